@@ -1,0 +1,6 @@
+-- The laws of the name hash. Published for the crates above: `Answers`, `Rotation` and `Rows`.
+mod Mixing
+mod Blocks
+pub mod Answers
+pub mod Rotation
+pub mod Rows

@@ -1,0 +1,35 @@
+-- For readers of lookup3 who think of a rotation as a product: by a power of two, split at 2 ^ 32, the two halves added.
+-- Assumes nothing.
+use mathlib.Core.Path.{_≡_, refl, sym, ap, ap₂, _∙_, subst}
+use Prim.Native.Nat.{ℕ, _+_, _-_, _*_, _/_, _%_, _^_, _≤_, _<_}
+use native.Mathlib.Nat.{add-comm, add-zero, le-of-lt, mul-mod-left, mul-div-mul-right, sub-add-cancel}
+use lib.Bits.{bitOr, or-shifted}
+use lib.Pow.{pow-add, pow-pos, mod-pow-add, shl-shr, shr-lt}
+use Rattle.jhash.specs.Lookup3.{rotl32}
+
+-- the lower half of the product is a multiple of the power
+lower : (x j k : ℕ) → x * 2 ^ k % 2 ^ (j + k) ≡ x % 2 ^ j * 2 ^ k
+lower x j k =
+    mod-pow-add (x * 2 ^ k) j k
+    ∙ ap₂ (λ (a b : ℕ). a % 2 ^ j * 2 ^ k + b) (shl-shr x k) (mul-mod-left x (2 ^ k))
+    ∙ add-zero (x % 2 ^ j * 2 ^ k)
+
+-- its upper half is what a right shift leaves
+upper : (x j k : ℕ) → x * 2 ^ k / 2 ^ (j + k) ≡ x / 2 ^ j
+upper x j k = rw pow-add (mul-div-mul-right x (2 ^ j) (pow-pos k))
+
+-- for words of j + k bits
+halves : (x j k : ℕ) → x < 2 ^ (j + k)
+    → bitOr (x * 2 ^ k % 2 ^ (j + k)) (x / 2 ^ j) ≡ x * 2 ^ k % 2 ^ (j + k) + x * 2 ^ k / 2 ^ (j + k)
+halves x j k h =
+    ap (λ (a : ℕ). bitOr a (x / 2 ^ j)) (lower x j k)
+    ∙ or-shifted (x % 2 ^ j) k (x / 2 ^ j) (shr-lt k j (subst (λ (n : ℕ). x < 2 ^ n) (add-comm j k) h))
+    ∙ ap₂ (λ (a b : ℕ). a + b) (sym (lower x j k)) (sym (upper x j k))
+
+pub rotation : (x k : ℕ) → x < 2 ^ 32 → k < 32 → rotl32 x k ≡ x * 2 ^ k % 2 ^ 32 + x * 2 ^ k / 2 ^ 32
+rotation x k h below =
+    subst
+    (λ (n : ℕ). x < 2 ^ n → bitOr (x * 2 ^ k % 2 ^ n) (x / 2 ^ (32 - k)) ≡ x * 2 ^ k % 2 ^ n + x * 2 ^ k / 2 ^ n)
+    (sub-add-cancel (le-of-lt below))
+    (halves x (32 - k) k)
+    h

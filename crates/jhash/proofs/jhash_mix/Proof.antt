@@ -1,0 +1,40 @@
+-- `jhash::jhash_mix` meets its contract. Assumes nothing.
+use Rattle.jhash.proofs.Mixing.{mixed}
+use borrow.Author.Needs.{needs}
+use Rattle.jhash.proofs.jhash_mix.Statement.{statement}
+use Rattle.jhash.proofs.jhash_mix.Tie as tie
+
+mix-round-requires : tie.Need-mix-round-requires
+mix-round-requires c κs = search needs
+
+mix-round-requires-2 : tie.Need-mix-round-requires-2
+mix-round-requires-2 c κs = search needs
+
+mix-round-requires-3 : tie.Need-mix-round-requires-3
+mix-round-requires-3 c κs = search needs
+
+mix-round-requires-4 : tie.Need-mix-round-requires-4
+mix-round-requires-4 c κs = search needs
+
+mix-round-requires-5 : tie.Need-mix-round-requires-5
+mix-round-requires-5 c κs = search needs
+
+mix-round-requires-6 : tie.Need-mix-round-requires-6
+mix-round-requires-6 c κs = search needs
+
+returns : tie.Need-returns
+returns c =
+    mixed (c .before .before .before .before .before .before .args .w) (c .before .before .before .before .before .mix-round .result) (c .before .before .before .before .mix-round2 .result) (c .before .before .before .mix-round3 .result) (c .before .before .mix-round4 .result) (c .before .mix-round5 .result) (c .mix-round6 .result)
+    (c .before .before .before .before .before .mix-round .ensures) (c .before .before .before .before .mix-round2 .ensures) (c .before .before .before .mix-round3 .ensures) (c .before .before .mix-round4 .ensures) (c .before .mix-round5 .ensures) (c .mix-round6 .ensures)
+
+pub jhash-mix-spec : {M : Type 1} → statement M
+jhash-mix-spec =
+    tie.close
+    (tie.spec
+    mix-round-requires
+    mix-round-requires-2
+    mix-round-requires-3
+    mix-round-requires-4
+    mix-round-requires-5
+    mix-round-requires-6
+    returns)

@@ -1,0 +1,3 @@
+-- The definitions of the name hash: lookup3's hashlittle, and the hash of a name with its refusal.
+pub mod Lookup3
+pub mod NameHash

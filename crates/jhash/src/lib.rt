@@ -1,0 +1,187 @@
+// The name hash: Bob Jenkins's hashlittle (lookup3) over a name and one zero byte.
+ghost use mathlib.Core.Path.{_≡_};
+ghost use Prim.Native.Nat.{_+_, _*_, _<_, _≤_};
+ghost use mathlib.Core.List.{[], _∷_, _++_};
+ghost use lib.ListN.{length, getD};
+ghost use Rattle.jhash.specs.Lookup3.{sub32, rotl32, wordAt, plus, added, round, mix, step, stepped, final, initial, hashRest};
+ghost use Rattle.jhash.specs.NameHash.{outcome, hashOutcome};
+
+// lookup3's three words a, b, c.
+pub struct Words {
+    pub a: u32,
+    pub b: u32,
+    pub c: u32,
+}
+
+// The answer: the hash, or the refusal of a name that is too long.
+pub enum Hashed {
+    Hash(u32),
+    Refused,
+}
+
+// What the three words begin with, before length and start value are added.
+const JHASH_INITVAL: u32 = 0xdeadbeef;
+
+// A byte as a word.
+fn wide(x: u8) -> u32
+    ensures { λ r. ⌜ (r ≡ x) × (r < 256) ⌝ }
+{
+    x as u32
+}
+
+// x rotated left by k bits: the two shifts joined.
+fn rotate_left(x: u32, k: u32) -> u32
+    requires { ⌜ (0 < k) × (k < 32) ⌝ }
+    ensures { λ r. ⌜ r ≡ rotl32 x k ⌝ }
+{
+    (x << k) | (x >> (32 - k))
+}
+
+// x - y, modulo 2^32.
+fn minus(x: u32, y: u32) -> u32
+    ensures { λ r. ⌜ r ≡ sub32 x y ⌝ }
+{
+    std::num::wrapping_sub_u32(x, y)
+}
+
+// One round of mixing; the words change their names for the next round.
+fn mix_round(w: Words, k: u32) -> Words
+    requires { ⌜ (0 < k) × (k < 32) ⌝ }
+    ensures { λ r. ⌜ r ≡ round w k ⌝ }
+{
+    Words {
+        a: w.b,
+        b: std::num::wrapping_add_u32(w.c, w.b),
+        c: minus(w.a, w.c) ^ rotate_left(w.c, k),
+    }
+}
+
+// All six rounds.
+fn jhash_mix(w: Words) -> Words
+    ensures { λ r. ⌜ r ≡ mix w ⌝ }
+{
+    let first = mix_round(mix_round(mix_round(w, 4), 6), 8);
+    mix_round(mix_round(mix_round(first, 16), 19), 4)
+}
+
+// The word that a finishing step changes.
+fn final_word(w: Words, k: u32) -> u32
+    requires { ⌜ (0 < k) × (k < 32) ⌝ }
+    ensures { λ r. ⌜ r ≡ stepped w k ⌝ }
+{
+    minus(w.c ^ w.b, rotate_left(w.b, k))
+}
+
+// One finishing step; the words change their names for the next step.
+fn final_step(w: Words, k: u32) -> Words
+    requires { ⌜ (0 < k) × (k < 32) ⌝ }
+    ensures { λ r. ⌜ r ≡ step w k ⌝ }
+{
+    Words {
+        a: w.b,
+        b: final_word(w, k),
+        c: w.a,
+    }
+}
+
+// All seven finishing steps.
+fn jhash_final(w: Words) -> u32
+    ensures { λ r. ⌜ r ≡ final w ⌝ }
+{
+    let third = final_step(final_step(final_step(w, 14), 11), 25);
+    let sixth = final_step(final_step(final_step(third, 16), 4), 14);
+    final_word(sixth, 24)
+}
+
+// The little-endian word at `at`.
+fn word(s: &[u8], at: usize) -> u32
+    requires { ⌜ at + 4 ≤ length (now s) ⌝ }
+    ensures { λ r. ⌜ r ≡ wordAt (now (s .entry)) at ⌝ }
+{
+    wide(s[at]) + wide(s[at + 1]) * 256 + wide(s[at + 2]) * 65536 + wide(s[at + 3]) * 16777216
+}
+
+// Three words added.
+fn plus(w: Words, x: u32, y: u32, z: u32) -> Words
+    ensures { λ r. ⌜ r ≡ plus w x y z ⌝ }
+{
+    Words {
+        a: std::num::wrapping_add_u32(w.a, x),
+        b: std::num::wrapping_add_u32(w.b, y),
+        c: std::num::wrapping_add_u32(w.c, z),
+    }
+}
+
+// The next 12 bytes, added as three words.
+fn added_block(w: Words, s: &[u8]) -> Words
+    requires { ⌜ 12 ≤ length (now s) ⌝ }
+    ensures { λ r. ⌜ r ≡ added w (now (s .entry)) ⌝ }
+{
+    plus(w, word(s, 0), word(s, 4), word(s, 8))
+}
+
+// The byte at `at`, 0 past the end.
+fn byte_or_zero(s: &[u8], at: usize) -> u32
+    ensures { λ r. ⌜ (r ≡ getD (now (s .entry)) at 0) × (r < 256) ⌝ }
+{
+    if at < s.len() { wide(s[at]) } else { 0 }
+}
+
+// The little-endian word at `at`, with zeros past the end.
+fn word_or_zeros(s: &[u8], at: usize) -> u32
+    requires { ⌜ at < 12 ⌝ }
+    ensures { λ r. ⌜ r ≡ wordAt (now (s .entry)) at ⌝ }
+{
+    if s.len() <= at {
+        return 0;
+    }
+    if at + 4 <= s.len() {
+        return word(s, at);
+    }
+    wide(s[at]) + byte_or_zero(s, at + 1) * 256 + byte_or_zero(s, at + 2) * 65536
+}
+
+// The last bytes, fewer than 12, added as three words; the zero byte after them adds nothing.
+fn added_tail(w: Words, s: &[u8]) -> Words
+    ensures { λ r. ⌜ r ≡ added w (now (s .entry)) ⌝ }
+{
+    plus(
+        w,
+        word_or_zeros(s, 0),
+        word_or_zeros(s, 4),
+        word_or_zeros(s, 8),
+    )
+}
+
+// The hash of the name and its zero byte, from three words on.
+fn hash_rest(w: Words, name: &[u8]) -> u32
+    ensures { λ r. ⌜ r ≡ hashRest w (now (name .entry) ++ 0 ∷ []) ⌝ }
+{
+    let mut now_words = w;
+    let mut t = name;
+    while 12 <= t.len() {
+        now_words = jhash_mix(added_block(now_words, t));
+        t = &t[12..];
+    }
+    jhash_final(added_tail(now_words, t))
+}
+
+// The three words that hashing `count` bytes begins with.
+fn initial_words(count: u32, start: u32) -> Words
+    ensures { λ r. ⌜ r ≡ initial count start ⌝ }
+{
+    let x = std::num::wrapping_add_u32(std::num::wrapping_add_u32(JHASH_INITVAL, count), start);
+    Words { a: x, b: x, c: x }
+}
+
+// The hash of a name with a start value: hashlittle over the name and one zero byte. A name of 4,294,967,295 bytes or
+// more is refused with 9.
+pub fn jhash(name: &[u8], initval: u32) -> Hashed
+    ensures { λ r. ⌜ outcome r ≡ hashOutcome (now (name .entry)) initval ⌝ }
+{
+    if 4294967295 <= name.len() {
+        return Hashed::Refused;
+    }
+    let count = name.len() as u32 + 1;
+    Hashed::Hash(hash_rest(initial_words(count, initval), name))
+}
