@@ -7,10 +7,10 @@ ghost use Rattle.jhash.specs.Lookup3.{sub32, rotl32, wordAt, plus, added
 ghost use Rattle.jhash.specs.NameHash.{outcome, hashOutcome};
 
 // lookup3's three words a, b, c.
-pub struct Words {
-    pub a: u32,
-    pub b: u32,
-    pub c: u32,
+struct Words {
+    a: u32,
+    b: u32,
+    c: u32,
 }
 
 // The answer: the hash, or the refusal of a name that is too long.
