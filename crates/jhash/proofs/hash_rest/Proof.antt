@@ -13,12 +13,6 @@ use Rattle.jhash.specs.declared.Words.{Words}
 use Rattle.jhash.proofs.Blocks.{turn, last}
 use Rattle.jhash.proofs.hash_rest.Statement.{statement}
 use Rattle.jhash.proofs.hash_rest.Tie as tie
-use Rattle.jhash.proofs.hash_rest.Reads as reads
-use Rattle.jhash.proofs.hash_rest.Lts as lts
-use Rattle.jhash.proofs.added_block.Reads as added-block-reads
-use Rattle.jhash.proofs.added_tail.Reads as added-tail-reads
-use Rattle.jhash.proofs.jhash_final.Reads as jhash-final-reads
-use Rattle.jhash.proofs.jhash_mix.Reads as jhash-mix-reads
 
 abbrev Inv-loop : tie.InvT-loop
 Inv-loop name now-words₀ t₀ now-words t = hashRest now-words (t ++ 0 ∷ []) ≡ hashRest now-words₀ (name ++ 0 ∷ [])
@@ -26,35 +20,27 @@ Inv-loop name now-words₀ t₀ now-words t = hashRest now-words (t ++ 0 ∷ [])
 abbrev μ-loop : tie.MeasureT-loop
 μ-loop name now-words₀ t₀ now-words t = length t
 
--- src/lib.rt:154:5
 loop-holds : tie.Need-loop-holds Inv-loop μ-loop
 loop-holds c = search needs
 
--- src/lib.rt:155:31
 added-block-requires : tie.Need-added-block-requires Inv-loop μ-loop
 added-block-requires c κs = search needs
 
--- src/lib.rt:155:9
 jhash-mix-requires : tie.Need-jhash-mix-requires Inv-loop μ-loop
 jhash-mix-requires c κs = search needs
 
--- src/lib.rt:156:13
 sub-t : tie.Need-sub-t Inv-loop μ-loop
 sub-t c = search needs
 
--- src/lib.rt:156:13
 part-t-start : tie.Need-part-t-start Inv-loop μ-loop
 part-t-start c = search needs
 
--- src/lib.rt:156:13
 part-t-end : tie.Need-part-t-end Inv-loop μ-loop
 part-t-end c = search needs
 
--- src/lib.rt:154:5
 loop-less : tie.Need-loop-less Inv-loop μ-loop
 loop-less c = simp (length-take, length-drop) (omega arith)
 
--- src/lib.rt:154:5
 loop-again : tie.Need-loop-again Inv-loop μ-loop
 loop-again c =
     let t : List ℕ = c .before .before .before .before .loop .t .now in
@@ -63,15 +49,12 @@ loop-again c =
     rw (take-all (length t - 12) (drop 12 t) (simp length-drop (omega arith)), e)
     (turn w t (c .before .before .before .loop-test .taken) ∙ c .before .before .before .before .loop .inv)
 
--- src/lib.rt:158:17
 added-tail-requires : tie.Need-added-tail-requires Inv-loop μ-loop
 added-tail-requires c κs = search needs
 
--- src/lib.rt:158:5
 jhash-final-requires : tie.Need-jhash-final-requires Inv-loop μ-loop
 jhash-final-requires c κs = search needs
 
--- src/lib.rt:149:1
 returns : tie.Need-returns Inv-loop μ-loop
 returns c =
     let t : List ℕ = c .before .before .before .loop .t .now in
