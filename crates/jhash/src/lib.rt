@@ -157,13 +157,13 @@ fn added_tail(w: Words, s: &[u8]) -> Words
 fn hash_rest(w: Words, name: &[u8]) -> u32
     ensures { λ r. ⌜ r ≡ hashRest w (now (name .entry) ++ 0 ∷ []) ⌝ }
 {
-    let mut now_words = w;
+    let mut words = w;
     let mut t = name;
     while 12 <= t.len() {
-        now_words = jhash_mix(added_block(now_words, t));
+        words = jhash_mix(added_block(words, t));
         t = &t[12..];
     }
-    jhash_final(added_tail(now_words, t))
+    jhash_final(added_tail(words, t))
 }
 
 // The three words that hashing `count` bytes begins with.

@@ -15,10 +15,10 @@ use Rattle.jhash.proofs.hash_rest.Statement.{statement}
 use Rattle.jhash.proofs.hash_rest.Tie as tie
 
 abbrev Inv-loop : tie.InvT-loop
-Inv-loop name now-words₀ t₀ now-words t = hashRest now-words (t ++ 0 ∷ []) ≡ hashRest now-words₀ (name ++ 0 ∷ [])
+Inv-loop name words₀ t₀ words t = hashRest words (t ++ 0 ∷ []) ≡ hashRest words₀ (name ++ 0 ∷ [])
 
 abbrev μ-loop : tie.MeasureT-loop
-μ-loop name now-words₀ t₀ now-words t = length t
+μ-loop name words₀ t₀ words t = length t
 
 loop-holds : tie.Need-loop-holds Inv-loop μ-loop
 loop-holds c = search needs
@@ -44,7 +44,7 @@ loop-less c = simp (length-take, length-drop) (omega arith)
 loop-again : tie.Need-loop-again Inv-loop μ-loop
 loop-again c =
     let t : List ℕ = c .before .before .before .before .loop .t .now in
-    let w : Words = c .before .before .before .before .loop .now-words in
+    let w : Words = c .before .before .before .before .loop .words in
     let e : c .before .jhash-mix .result ≡ mix (added w t) = c .before .jhash-mix .ensures ∙ ap mix (c .before .before .added-block .ensures) in
     rw (take-all (length t - 12) (drop 12 t) (simp length-drop (omega arith)), e)
     (turn w t (c .before .before .before .loop-test .taken) ∙ c .before .before .before .before .loop .inv)
@@ -58,7 +58,7 @@ jhash-final-requires c κs = search needs
 returns : tie.Need-returns Inv-loop μ-loop
 returns c =
     let t : List ℕ = c .before .before .before .loop .t .now in
-    let w : Words = c .before .before .before .loop .now-words in
+    let w : Words = c .before .before .before .loop .words in
     c .jhash-final .ensures ∙ ap final (c .before .added-tail .ensures) ∙ last w t (c .before .before .loop-test .left)
     ∙ c .before .before .before .loop .inv
 
