@@ -1,7 +1,7 @@
 // The name hash: nanoseconds a call, ours against the Rust's `jhash` and C's `hashlittle`, in one run.
 // Each time is the best of several repetitions; the three take turns.
-#[path = "../tests/compare/cqdb.rs"]
-mod cqdb;
+#[path = "../tests/compare/ours.rs"]
+mod ours;
 #[path = "../target/oracle/src/hash.rs"]
 mod rust;
 
@@ -34,12 +34,12 @@ fn main() {
         let names: [Vec<u8>; NAMES] = std::array::from_fn(|k| (0..size).map(|i| (i * 37) as u8 ^ k as u8).collect());
         let closed: [Vec<u8>; NAMES] = std::array::from_fn(|k| names[k].iter().copied().chain([0]).collect());
         let calls = (3_000_000 / (size + 16)) as u32;
-        let (mut ours, mut rust, mut c) = (f64::MAX, f64::MAX, f64::MAX);
+        let (mut own, mut rust, mut c) = (f64::MAX, f64::MAX, f64::MAX);
         for _ in 0..REPETITIONS {
-            ours = ours.min(best(calls, &names, |n| cqdb::hash(n, 0).hash));
+            own = own.min(best(calls, &names, |n| ours::hash(n, 0).hash));
             rust = rust.min(best(calls, &names, |n| rust::jhash(n, n.len() as u32 + 1, 0)));
             c = c.min(best(calls, &closed, |n| unsafe { jenkins_hashlittle(n.as_ptr(), n.len(), 0) }));
         }
-        println!("{size:>5} bytes: ours {ours:8.2}   Rust {rust:8.2}   C {c:8.2}   ratio {:.2}", rust / ours);
+        println!("{size:>5} bytes: ours {own:8.2}   Rust {rust:8.2}   C {c:8.2}   ratio {:.2}", rust / own);
     }
 }

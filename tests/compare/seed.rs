@@ -1,0 +1,27 @@
+// Random numbers for the comparisons, from a seed that is printed: CQDB_SEED=N runs the same ones again.
+use std::time::{SystemTime, UNIX_EPOCH};
+
+pub struct Random {
+    pub seed: u64,
+    state: u64,
+}
+
+impl Random {
+    pub fn new() -> Random {
+        let clock = || SystemTime::now().duration_since(UNIX_EPOCH).expect("a clock after 1970").as_nanos() as u64;
+        let seed = match std::env::var("CQDB_SEED") {
+            Ok(text) => text.parse().expect("CQDB_SEED is a decimal number"),
+            Err(_) => clock(),
+        };
+        Random { seed, state: seed }
+    }
+
+    /// splitmix64.
+    pub fn next(&mut self) -> u64 {
+        self.state = self.state.wrapping_add(0x9e37_79b9_7f4a_7c15);
+        let mut z = self.state;
+        z = (z ^ (z >> 30)).wrapping_mul(0xbf58_476d_1ce4_e5b9);
+        z = (z ^ (z >> 27)).wrapping_mul(0x94d0_49bb_1331_11eb);
+        z ^ (z >> 31)
+    }
+}

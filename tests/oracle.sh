@@ -1,0 +1,22 @@
+# For the scripts that compare with the original: where it is, and how a driver is built with it and with our archive.
+# They run in the repository's root and source this file.
+
+# The folder that holds `build`, which makes the unchanged Rust as a library and a C build of lookup3.
+oracle=${CQDB_ORACLE:-../shared/oracle}
+
+oracle_found() {
+    [ -x "$oracle/build" ]
+}
+
+# The original below target/oracle, and our archive below target/staticlib.
+build_both() {
+    "$oracle/build" target/oracle || return 1
+    rt staticlib cqdb_c >target/staticlib.log 2>&1 || { cat target/staticlib.log >&2; return 1; }
+}
+
+# build_driver SOURCE PROGRAM: a Rust program over both, in release settings.
+build_driver() {
+    mkdir -p "$(dirname "$2")" &&
+        rustc -C opt-level=3 --edition 2021 -L target/oracle --extern cqdb=target/oracle/libcqdb.rlib \
+            -L native=target/staticlib -l static=cqdb_c -l static=lookup3 "$1" -o "$2"
+}
