@@ -17,7 +17,7 @@ const LIMIT: usize = 4_294_967_295;
 
 // lookup3's hash of bytes that include the zero byte.
 fn c(closed: &[u8], start: u32) -> u32 {
-    // The slice is valid for its length; lookup3 may read up to three bytes more of an aligned word, never past it.
+    // The slice is valid for its length; of an aligned word lookup3 may read bytes behind it, in the same word.
     unsafe { jenkins_hashlittle(closed.as_ptr(), closed.len(), start) }
 }
 
@@ -33,13 +33,8 @@ fn byte(kind: usize, x: u64) -> u8 {
 // Whether all three agree on a name, which stands in `closed` with its zero byte after it.
 fn agree(closed: &[u8], start: u32) -> bool {
     let name = &closed[..closed.len() - 1];
-    let ours = ours::hash(name, start);
     let want = HashAnswer { refusal: 0, hash: c(closed, start) };
-    let same = ours == want && rust::jhash(name, closed.len() as u32, start) == want.hash;
-    if !same {
-        println!("hash: different at start {start:#x}, name {name:02x?}");
-    }
-    same
+    ours::hash(name, start) == want && rust::jhash(name, closed.len() as u32, start) == want.hash
 }
 
 // Names of every length, of several kinds of bytes, at every alignment of a word, with several start values.
@@ -53,34 +48,27 @@ fn names(random: &mut Random) -> (usize, usize) {
                 *b = byte(round % 4, random.next());
             }
             room[at + n] = 0;
-            let starts = [0, 1, 0xdeadbeef, 0xffffffff, random.next() as u32];
-            let same = starts.iter().all(|&start| agree(&room[at..at + n + 1], start));
-            compared += 1;
-            different += usize::from(!same);
+            for start in [0, 1, 0xdeadbeef, 0xffffffff, random.next() as u32] {
+                compared += 1;
+                if !agree(&room[at..at + n + 1], start) {
+                    different += 1;
+                    println!("hash: different at start {start:#x}, name {:02x?}", &room[at..at + n]);
+                }
+            }
         }
     }
     (compared, different)
 }
 
-// The longest name that is accepted, and the shortest that is refused: zero bytes, of which the system lends one page.
+// The longest name that is accepted and the shortest that is refused. All zero bytes: the system lends one page for them.
 fn limit() -> (usize, usize) {
     let closed = vec![0u8; LIMIT];
-    let accepted = agree_at_limit(&closed);
+    let accepted = agree(&closed, 0);
     let refused = ours::hash(&closed, 0) == HashAnswer { refusal: 9, hash: 0 };
-    if !refused {
-        println!("hash: a name of {LIMIT} bytes is not refused with 9");
+    if !accepted || !refused {
+        println!("hash: at the limit: {} bytes agree: {accepted}; {LIMIT} bytes are refused with 9: {refused}", LIMIT - 1);
     }
     (2, usize::from(!accepted) + usize::from(!refused))
-}
-
-fn agree_at_limit(closed: &[u8]) -> bool {
-    let name = &closed[..LIMIT - 1];
-    let ours = ours::hash(name, 0);
-    let same = ours == HashAnswer { refusal: 0, hash: c(closed, 0) };
-    if !same {
-        println!("hash: different on a name of {} zero bytes", LIMIT - 1);
-    }
-    same
 }
 
 fn main() {
@@ -89,7 +77,8 @@ fn main() {
     let (compared, different) = names(&mut random);
     let (at_limit, wrong) = limit();
     println!(
-        "hash: {compared} names of 0 to {LONGEST} bytes with 5 start values each, and {at_limit} at the limit: {} different from lookup3 or the Rust",
+        "hash: {} names of 0 to {LONGEST} bytes, {compared} answers, and {at_limit} at the limit: {} different from lookup3 or the Rust",
+        ROUNDS * (LONGEST + 1),
         different + wrong
     );
     if different + wrong > 0 {

@@ -1,18 +1,18 @@
 // Numbers and bytes written as hexadecimal digits, in lower case.
 ghost use Prim.Native.Nat.{_≤_};
 
-pub enum Number {
+pub(crate) enum Number {
     Value(u32),
     Bad,
 }
 
-pub enum Bytes {
+pub(crate) enum Bytes {
     Count(usize),
     Bad,
 }
 
 // The value of a digit, and 16 of any other byte.
-pub fn digit(b: u8) -> u8
+pub(crate) fn digit(b: u8) -> u8
     ensures { λ r. ⌜ r ≤ 16 ⌝ }
 {
     if b < b'0' {
@@ -31,7 +31,7 @@ pub fn digit(b: u8) -> u8
 }
 
 // Eight digits as a number.
-pub fn word(text: &[u8]) -> Number {
+pub(crate) fn word(text: &[u8]) -> Number {
     if text.len() != 8 {
         return Number::Bad;
     }
@@ -49,7 +49,7 @@ pub fn word(text: &[u8]) -> Number {
 }
 
 // Two digits for each byte, written to the start of `out`, and how many bytes that were.
-pub fn decode(text: &[u8], out: &mut [u8]) -> Bytes {
+pub(crate) fn decode(text: &[u8], out: &mut [u8]) -> Bytes {
     let n = text.len() / 2;
     if text.len() % 2 != 0 {
         return Bytes::Bad;

@@ -11,17 +11,17 @@ ghost use mathlib.Core.Path.{_≡_};
 ghost use Prim.Native.Nat.{_+_, _-_, _≤_, _<_, _^_};
 ghost use lib.ListN.{length};
 
-pub enum Verdict {
+enum Verdict {
     Equal,
     Different,
     Malformed,
     Comment,
 }
 
-pub struct Counts {
-    pub equal: u64,
-    pub different: u64,
-    pub malformed: u64,
+struct Counts {
+    equal: u64,
+    different: u64,
+    malformed: u64,
 }
 
 // The name's bytes: none where the line ends after the hash, else the digits after one more space.

@@ -1,21 +1,28 @@
--- Mixing and finishing, from what each call gives. Assumes nothing.
-use mathlib.Core.Path.{_≡_}
-use Prim.Native.Nat.{ℕ}
+-- Mixing, finishing and adding, from what each call gives. Assumes nothing.
+use mathlib.Core.Path.{_≡_, refl, _∙_}
 use mathlib.Core.List.{List}
-use Rattle.jhash.specs.Lookup3.{wordAt, plus, added, round, mix, step, stepped, final}
+use Prim.Native.Nat.{ℕ}
+use Rattle.jhash.specs.Lookup3.{wordAt, plus, added, mix, finished, final}
+use Rattle.jhash.specs.Rounds.{round, step}
 use Rattle.jhash.specs.declared.Words.{Words}
 
--- six rounds in a row mix
-pub mixed : (w w₁ w₂ w₃ w₄ w₅ w₆ : Words) → w₁ ≡ round w 4 → w₂ ≡ round w₁ 6 → w₃ ≡ round w₂ 8 → w₄ ≡ round w₃ 16
-    → w₅ ≡ round w₄ 19 → w₆ ≡ round w₅ 4 → w₆ ≡ mix w
-unfolding mix
-mixed w w₁ w₂ w₃ w₄ w₅ w₆ e₁ e₂ e₃ e₄ e₅ e₆ = cc
+-- six rounds in a row are lookup3's mix
+six : (w : Words) → round (round (round (round (round (round w 4) 6) 8) 16) 19) 4 ≡ mix w
+unfolding round mix
+six w = refl
 
--- seven steps in a row finish
-pub finished : (w w₁ w₂ w₃ w₄ w₅ w₆ : Words) (c : ℕ) → w₁ ≡ step w 14 → w₂ ≡ step w₁ 11 → w₃ ≡ step w₂ 25 → w₄ ≡ step w₃ 16
-    → w₅ ≡ step w₄ 4 → w₆ ≡ step w₅ 14 → c ≡ stepped w₆ 24 → c ≡ final w
-unfolding final
-finished w w₁ w₂ w₃ w₄ w₅ w₆ c e₁ e₂ e₃ e₄ e₅ e₆ e = cc
+pub six-rounds : (w w₁ w₂ w₃ w₄ w₅ w₆ : Words) → w₁ ≡ round w 4 → w₂ ≡ round w₁ 6 → w₃ ≡ round w₂ 8 → w₄ ≡ round w₃ 16
+    → w₅ ≡ round w₄ 19 → w₆ ≡ round w₅ 4 → w₆ ≡ mix w
+six-rounds w w₁ w₂ w₃ w₄ w₅ w₆ e₁ e₂ e₃ e₄ e₅ e₆ = cc (six w)
+
+-- seven steps in a row are its final
+seven : (w : Words) (w₆ : Words) → w₆ ≡ step (step (step (step (step (step w 14) 11) 25) 16) 4) 14 → finished (w₆ .c) (w₆ .b) 24 ≡ final w
+unfolding step final
+seven w w₆ e = rw e
+
+pub seven-steps : (w w₁ w₂ w₃ w₄ w₅ w₆ : Words) (c : ℕ) → w₁ ≡ step w 14 → w₂ ≡ step w₁ 11 → w₃ ≡ step w₂ 25 → w₄ ≡ step w₃ 16
+    → w₅ ≡ step w₄ 4 → w₆ ≡ step w₅ 14 → c ≡ finished (w₆ .c) (w₆ .b) 24 → c ≡ final w
+seven-steps w w₁ w₂ w₃ w₄ w₅ w₆ c e₁ e₂ e₃ e₄ e₅ e₆ e = e ∙ seven w w₆ (cc)
 
 -- three words of a list added are its first 12 bytes added
 pub words-added : (w r : Words) (l : List ℕ) (x y z : ℕ) → x ≡ wordAt l 0 → y ≡ wordAt l 4 → z ≡ wordAt l 8 → r ≡ plus w x y z

@@ -33,30 +33,40 @@ unfoldable pub added : Words → List ℕ → Words
 unfolding plus
 added w l = plus w (wordAt l 0) (wordAt l 4) (wordAt l 8)
 
--- A round of mixing on (a, c, b): c is taken from a, a is xored with c rotated by k, then b is added to c.
--- The words are handed on under the names that they have in the next round: what is b, c, a here is a, b, c there.
--- So three rounds in a row are those on (a, c, b), (b, a, c) and (c, b, a), and each word has its name again.
-unfoldable pub round : Words → ℕ → Words
-round w k =
-    record { a = w .b; b = add32 (w .c) (w .b); c = bitXor (sub32 (w .a) (w .c)) (rotl32 (w .c) k) }
+-- A round on (p, q, r) takes q from p and xors p with q rotated by k: this is the new p. It then adds r to q.
+abbrev pub mixed : ℕ → ℕ → ℕ → ℕ
+mixed p q k = bitXor (sub32 p q) (rotl32 q k)
 
--- lookup3's `mix`: six rounds.
+-- lookup3's `mix`: rounds on (a, c, b), (b, a, c), (c, b, a), then these again.
 unfoldable pub mix : Words → Words
-unfolding round
-mix w = round (round (round (round (round (round w 4) 6) 8) 16) 19) 4
+mix w =
+    let a₁ : ℕ = mixed (w .a) (w .c) 4 in
+    let c₁ : ℕ = add32 (w .c) (w .b) in
+    let b₁ : ℕ = mixed (w .b) a₁ 6 in
+    let a₂ : ℕ = add32 a₁ c₁ in
+    let c₂ : ℕ = mixed c₁ b₁ 8 in
+    let b₂ : ℕ = add32 b₁ a₂ in
+    let a₃ : ℕ = mixed a₂ c₂ 16 in
+    let c₃ : ℕ = add32 c₂ b₂ in
+    let b₃ : ℕ = mixed b₂ a₃ 19 in
+    let a₄ : ℕ = add32 a₃ c₃ in
+    let c₄ : ℕ = mixed c₃ b₃ 4 in
+    record { a = a₄; b = add32 b₃ a₄; c = c₄ }
 
--- A finishing step on (c, b): c is xored with b, then b rotated by k is taken from it. This is the new c.
-abbrev pub stepped : Words → ℕ → ℕ
-stepped w k = sub32 (bitXor (w .c) (w .b)) (rotl32 (w .b) k)
+-- A finishing step on (p, q) xors p with q, then takes q rotated by k from p.
+abbrev pub finished : ℕ → ℕ → ℕ → ℕ
+finished p q k = sub32 (bitXor p q) (rotl32 q k)
 
--- The words after it, again under their names in the next step: steps in a row are those on (c, b), (a, c), (b, a).
-unfoldable pub step : Words → ℕ → Words
-step w k = record { a = w .b; b = stepped w k; c = w .a }
-
--- lookup3's `final`: seven steps, of which the last gives the answer c.
+-- lookup3's `final`: steps on (c, b), (a, c), (b, a), (c, b), (a, c), (b, a), (c, b). The answer is c.
 unfoldable pub final : Words → ℕ
-unfolding step
-final w = stepped (step (step (step (step (step (step w 14) 11) 25) 16) 4) 14) 24
+final w =
+    let c₁ : ℕ = finished (w .c) (w .b) 14 in
+    let a₁ : ℕ = finished (w .a) c₁ 11 in
+    let b₁ : ℕ = finished (w .b) a₁ 25 in
+    let c₂ : ℕ = finished c₁ b₁ 16 in
+    let a₂ : ℕ = finished a₁ c₂ 4 in
+    let b₂ : ℕ = finished b₁ a₂ 14 in
+    finished c₂ b₂ 24
 
 -- While more than 12 bytes remain, they are added in blocks of 12, each followed by mixing; the last 1 to 12 are
 -- added without mixing, and the words are finished. n bounds the number of blocks.
@@ -69,11 +79,8 @@ rest (suc n) w l =
 -- The three equal words that hashing n bytes begins with.
 unfoldable pub initial : ℕ → ℕ → Words
 initial n start =
-    record {
-      a = (0xdeadbeef + n + start) % 2 ^ 32;
-      b = (0xdeadbeef + n + start) % 2 ^ 32;
-      c = (0xdeadbeef + n + start) % 2 ^ 32;
-    }
+    let x : ℕ = (0xdeadbeef + n + start) % 2 ^ 32 in
+    record { a = x; b = x; c = x }
 
 -- All of it from three words on.
 unfoldable pub hashRest : Words → List ℕ → ℕ

@@ -3,7 +3,8 @@ ghost use mathlib.Core.Path.{_≡_};
 ghost use Prim.Native.Nat.{_+_, _*_, _<_, _≤_};
 ghost use mathlib.Core.List.{[], _∷_, _++_};
 ghost use lib.ListN.{length, getD};
-ghost use Rattle.jhash.specs.Lookup3.{sub32, rotl32, wordAt, plus, added, round, mix, step, stepped, final, initial, hashRest};
+ghost use Rattle.jhash.specs.Lookup3.{sub32, rotl32, wordAt, plus, added, mix, finished, final, initial, hashRest};
+ghost use Rattle.jhash.specs.Rounds.{round, step};
 ghost use Rattle.jhash.specs.NameHash.{outcome, hashOutcome};
 
 // lookup3's three words a, b, c.
@@ -67,7 +68,7 @@ fn jhash_mix(w: Words) -> Words
 // The word that a finishing step changes.
 fn final_word(w: Words, k: u32) -> u32
     requires { ⌜ (0 < k) × (k < 32) ⌝ }
-    ensures { λ r. ⌜ r ≡ stepped w k ⌝ }
+    ensures { λ r. ⌜ r ≡ finished (w .c) (w .b) k ⌝ }
 {
     minus(w.c ^ w.b, rotate_left(w.b, k))
 }

@@ -1,5 +1,4 @@
 -- `hash_replay::replay` meets its contract: each line has a byte of the text, or its line feed, to itself. Assumes nothing.
-use borrow.Author.Needs.{needs}
 use mathlib.Core.Path.{_≡_}
 use Prim.Native.Nat.{_≤_, _<_, _-_, _+_}
 use native.Mathlib.Omega.{arith}
@@ -14,40 +13,40 @@ abbrev μ-loop : tie.MeasureT-loop
 μ-loop text room₀ counts₀ at₀ room counts at = length text - at
 
 loop-holds : tie.Need-loop-holds Inv-loop μ-loop
-loop-holds c = search needs
+loop-holds c = omega arith
 
 line-end-requires : tie.Need-line-end-requires Inv-loop μ-loop
-line-end-requires c κs = search needs
+line-end-requires c κs = omega arith
 
 sub-verdict-of : tie.Need-sub-verdict-of Inv-loop μ-loop
-sub-verdict-of c = search needs
+sub-verdict-of c = omega arith
 
 part-verdict-of-start : tie.Need-part-verdict-of-start Inv-loop μ-loop
-part-verdict-of-start c = search needs
+part-verdict-of-start c = omega arith
 
 part-verdict-of-end : tie.Need-part-verdict-of-end Inv-loop μ-loop
-part-verdict-of-end c = search needs
+part-verdict-of-end c = omega arith
 
 verdict-of-requires : tie.Need-verdict-of-requires Inv-loop μ-loop
-verdict-of-requires c κs = search needs
+verdict-of-requires c κs = omega arith
 
 counted-requires : tie.Need-counted-requires Inv-loop μ-loop
-counted-requires c κs = search needs
+counted-requires c κs = omega arith
 
 add-at : tie.Need-add-at Inv-loop μ-loop
-add-at c = search needs
+add-at c = omega arith
 
 loop-less : tie.Need-loop-less Inv-loop μ-loop
-loop-less c = search needs
+loop-less c = omega arith
 
 loop-again : tie.Need-loop-again Inv-loop μ-loop
-loop-again c = search needs
+loop-again c = omega arith
 
 same-length : tie.Need-same-length Inv-loop μ-loop
-same-length c = search needs
+same-length c = omega arith
 
 returns : tie.Need-returns Inv-loop μ-loop
-returns c = search needs
+returns c = omega arith
 
 pub replay-spec : {M : Type 1} → statement M
 replay-spec =

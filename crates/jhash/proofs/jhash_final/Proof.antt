@@ -1,5 +1,5 @@
 -- `jhash::jhash_final` meets its contract. Assumes nothing.
-use Rattle.jhash.proofs.Mixing.{finished}
+use Rattle.jhash.proofs.Mixing.{seven-steps}
 use borrow.Author.Needs.{needs}
 use Rattle.jhash.proofs.jhash_final.Statement.{statement}
 use Rattle.jhash.proofs.jhash_final.Tie as tie
@@ -27,7 +27,7 @@ final-word-requires c κs = search needs
 
 returns : tie.Need-returns
 returns c =
-    finished (c .before .before .before .before .before .before .before .args .w) (c .before .before .before .before .before .before .final-step .result) (c .before .before .before .before .before .final-step2 .result) (c .before .before .before .before .final-step3 .result) (c .before .before .before .final-step4 .result) (c .before .before .final-step5 .result) (c .before .final-step6 .result) (c .final-word .result)
+    seven-steps (c .before .before .before .before .before .before .before .args .w) (c .before .before .before .before .before .before .final-step .result) (c .before .before .before .before .before .final-step2 .result) (c .before .before .before .before .final-step3 .result) (c .before .before .before .final-step4 .result) (c .before .before .final-step5 .result) (c .before .final-step6 .result) (c .final-word .result)
     (c .before .before .before .before .before .before .final-step .ensures) (c .before .before .before .before .before .final-step2 .ensures) (c .before .before .before .before .final-step3 .ensures) (c .before .before .before .final-step4 .ensures) (c .before .before .final-step5 .ensures) (c .before .final-step6 .ensures) (c .final-word .ensures)
 
 pub jhash-final-spec : {M : Type 1} → statement M

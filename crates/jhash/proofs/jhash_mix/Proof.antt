@@ -1,5 +1,5 @@
 -- `jhash::jhash_mix` meets its contract. Assumes nothing.
-use Rattle.jhash.proofs.Mixing.{mixed}
+use Rattle.jhash.proofs.Mixing.{six-rounds}
 use borrow.Author.Needs.{needs}
 use Rattle.jhash.proofs.jhash_mix.Statement.{statement}
 use Rattle.jhash.proofs.jhash_mix.Tie as tie
@@ -24,7 +24,7 @@ mix-round-requires-6 c κs = search needs
 
 returns : tie.Need-returns
 returns c =
-    mixed (c .before .before .before .before .before .before .args .w) (c .before .before .before .before .before .mix-round .result) (c .before .before .before .before .mix-round2 .result) (c .before .before .before .mix-round3 .result) (c .before .before .mix-round4 .result) (c .before .mix-round5 .result) (c .mix-round6 .result)
+    six-rounds (c .before .before .before .before .before .before .args .w) (c .before .before .before .before .before .mix-round .result) (c .before .before .before .before .mix-round2 .result) (c .before .before .before .mix-round3 .result) (c .before .before .mix-round4 .result) (c .before .mix-round5 .result) (c .mix-round6 .result)
     (c .before .before .before .before .before .mix-round .ensures) (c .before .before .before .before .mix-round2 .ensures) (c .before .before .before .mix-round3 .ensures) (c .before .before .mix-round4 .ensures) (c .before .mix-round5 .ensures) (c .mix-round6 .ensures)
 
 pub jhash-mix-spec : {M : Type 1} → statement M
