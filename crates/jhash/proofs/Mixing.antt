@@ -11,21 +11,21 @@ six : (w : Words) → round (round (round (round (round (round w 4) 6) 8) 16) 19
 unfolding round mix
 six w = refl
 
-pub six-rounds : (w w₁ w₂ w₃ w₄ w₅ w₆ : Words) → w₁ ≡ round w 4 → w₂ ≡ round w₁ 6 → w₃ ≡ round w₂ 8 → w₄ ≡ round w₃ 16
+pub six-rounds : (w : Words) {w₁ w₂ w₃ w₄ w₅ w₆ : Words} → w₁ ≡ round w 4 → w₂ ≡ round w₁ 6 → w₃ ≡ round w₂ 8 → w₄ ≡ round w₃ 16
     → w₅ ≡ round w₄ 19 → w₆ ≡ round w₅ 4 → w₆ ≡ mix w
-six-rounds w w₁ w₂ w₃ w₄ w₅ w₆ e₁ e₂ e₃ e₄ e₅ e₆ = cc (six w)
+six-rounds w e₁ e₂ e₃ e₄ e₅ e₆ = cc (six w)
 
 -- seven steps in a row are its final
-seven : (w : Words) (w₆ : Words) → w₆ ≡ step (step (step (step (step (step w 14) 11) 25) 16) 4) 14 → finished (w₆ .c) (w₆ .b) 24 ≡ final w
+seven : (w w₆ : Words) → w₆ ≡ step (step (step (step (step (step w 14) 11) 25) 16) 4) 14 → finished (w₆ .c) (w₆ .b) 24 ≡ final w
 unfolding step final
 seven w w₆ e = rw e
 
-pub seven-steps : (w w₁ w₂ w₃ w₄ w₅ w₆ : Words) (c : ℕ) → w₁ ≡ step w 14 → w₂ ≡ step w₁ 11 → w₃ ≡ step w₂ 25 → w₄ ≡ step w₃ 16
+pub seven-steps : (w : Words) {w₁ w₂ w₃ w₄ w₅ w₆ : Words} {c : ℕ} → w₁ ≡ step w 14 → w₂ ≡ step w₁ 11 → w₃ ≡ step w₂ 25 → w₄ ≡ step w₃ 16
     → w₅ ≡ step w₄ 4 → w₆ ≡ step w₅ 14 → c ≡ finished (w₆ .c) (w₆ .b) 24 → c ≡ final w
-seven-steps w w₁ w₂ w₃ w₄ w₅ w₆ c e₁ e₂ e₃ e₄ e₅ e₆ e = e ∙ seven w w₆ (cc)
+seven-steps w {w₆ = w₆} e₁ e₂ e₃ e₄ e₅ e₆ e = e ∙ seven w w₆ (cc)
 
 -- three words of a list added are its first 12 bytes added
-pub words-added : (w r : Words) (l : List ℕ) (x y z : ℕ) → x ≡ wordAt l 0 → y ≡ wordAt l 4 → z ≡ wordAt l 8 → r ≡ plus w x y z
+pub words-added : (w : Words) (l : List ℕ) {r : Words} {x y z : ℕ} → x ≡ wordAt l 0 → y ≡ wordAt l 4 → z ≡ wordAt l 8 → r ≡ plus w x y z
     → r ≡ added w l
 unfolding added
-words-added w r l x y z e₁ e₂ e₃ e = cc
+words-added w l e₁ e₂ e₃ e = cc

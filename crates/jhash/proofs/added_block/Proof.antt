@@ -19,7 +19,7 @@ plus-requires c κs = search needs
 
 returns : tie.Need-returns
 returns c =
-    words-added (c .before .before .before .before .before .args .w) (c .plus .result) (now (c .before .before .before .before .before .args .s)) _ _ _
+    words-added (c .before .before .before .before .before .args .w) (now (c .before .before .before .before .before .args .s))
     (c .before .before .before .word .ensures)
     (c .before .before .word2 .ensures)
     (c .before .word3 .ensures)

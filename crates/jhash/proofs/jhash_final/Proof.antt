@@ -27,8 +27,14 @@ final-word-requires c κs = search needs
 
 returns : tie.Need-returns
 returns c =
-    seven-steps (c .before .before .before .before .before .before .before .args .w) (c .before .before .before .before .before .before .final-step .result) (c .before .before .before .before .before .final-step2 .result) (c .before .before .before .before .final-step3 .result) (c .before .before .before .final-step4 .result) (c .before .before .final-step5 .result) (c .before .final-step6 .result) (c .final-word .result)
-    (c .before .before .before .before .before .before .final-step .ensures) (c .before .before .before .before .before .final-step2 .ensures) (c .before .before .before .before .final-step3 .ensures) (c .before .before .before .final-step4 .ensures) (c .before .before .final-step5 .ensures) (c .before .final-step6 .ensures) (c .final-word .ensures)
+    seven-steps (c .before .before .before .before .before .before .before .args .w)
+    (c .before .before .before .before .before .before .final-step .ensures)
+    (c .before .before .before .before .before .final-step2 .ensures)
+    (c .before .before .before .before .final-step3 .ensures)
+    (c .before .before .before .final-step4 .ensures)
+    (c .before .before .final-step5 .ensures)
+    (c .before .final-step6 .ensures)
+    (c .final-word .ensures)
 
 pub jhash-final-spec : {M : Type 1} → statement M
 jhash-final-spec =

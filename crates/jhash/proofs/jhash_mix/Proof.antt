@@ -24,8 +24,13 @@ mix-round-requires-6 c κs = search needs
 
 returns : tie.Need-returns
 returns c =
-    six-rounds (c .before .before .before .before .before .before .args .w) (c .before .before .before .before .before .mix-round .result) (c .before .before .before .before .mix-round2 .result) (c .before .before .before .mix-round3 .result) (c .before .before .mix-round4 .result) (c .before .mix-round5 .result) (c .mix-round6 .result)
-    (c .before .before .before .before .before .mix-round .ensures) (c .before .before .before .before .mix-round2 .ensures) (c .before .before .before .mix-round3 .ensures) (c .before .before .mix-round4 .ensures) (c .before .mix-round5 .ensures) (c .mix-round6 .ensures)
+    six-rounds (c .before .before .before .before .before .before .args .w)
+    (c .before .before .before .before .before .mix-round .ensures)
+    (c .before .before .before .before .mix-round2 .ensures)
+    (c .before .before .before .mix-round3 .ensures)
+    (c .before .before .mix-round4 .ensures)
+    (c .before .mix-round5 .ensures)
+    (c .mix-round6 .ensures)
 
 pub jhash-mix-spec : {M : Type 1} → statement M
 jhash-mix-spec =
