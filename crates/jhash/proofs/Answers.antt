@@ -1,6 +1,6 @@
 -- What hashing a name answers: the laws that the crates above cite, so that none of them opens a definition of the hash.
 -- Assumes nothing.
-use mathlib.Core.Path.{_≡_, refl, sym, ap, _∙_}
+use mathlib.Core.Path.{_≡_, sym, ap, _∙_}
 use mathlib.Core.List.{List, [], _∷_, _++_}
 use mathlib.Core.Bool.{true, false}
 use Prim.Native.Nat.{ℕ, zero, suc, _+_, _≤_, _<_, _^_}
@@ -10,7 +10,7 @@ use borrow.Author.Tests.{lt-ltb, le-ltb}
 use lib.Dec.{ltb}
 use lib.ListN.{length, drop}
 use Rattle.jhash.specs.Lookup3.{added, mix, final, rest, hashRest, initial}
-use Rattle.jhash.specs.NameHash.{nameHash, hashOf, Outcome, hash, refusal, outcome, hashOutcome}
+use Rattle.jhash.specs.NameHash.{nameHash, hashOf, hash, refusal, outcome, hashOutcome}
 use Rattle.jhash.specs.declared.Words.{Words}
 use Rattle.jhash.specs.declared.Hashed.{Hashed}
 use Rattle.jhash.specs.declared.Hashed.the-variants.{Hash, Refused}

@@ -1,7 +1,7 @@
 -- For readers of lookup3 who think of a rotation as a product: by a power of two, split at 2 ^ 32, the two halves added.
 -- Assumes nothing.
-use mathlib.Core.Path.{_≡_, refl, sym, ap, ap₂, _∙_, subst}
-use Prim.Native.Nat.{ℕ, _+_, _-_, _*_, _/_, _%_, _^_, _≤_, _<_}
+use mathlib.Core.Path.{_≡_, sym, ap, ap₂, _∙_, subst}
+use Prim.Native.Nat.{ℕ, _+_, _-_, _*_, _/_, _%_, _^_, _<_}
 use native.Mathlib.Nat.{add-comm, add-zero, le-of-lt, mul-mod-left, mul-div-mul-right, sub-add-cancel}
 use lib.Bits.{bitOr, or-shifted}
 use lib.Pow.{pow-add, pow-pos, mod-pow-add, shl-shr, shr-lt}

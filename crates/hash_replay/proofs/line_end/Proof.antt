@@ -1,5 +1,5 @@
 -- `hash_replay::line_end` meets its contract. Assumes nothing.
-use Prim.Native.Nat.{_≤_, _<_, _-_, _*_}
+use Prim.Native.Nat.{_≤_, _-_}
 use native.Mathlib.Omega.{arith}
 use lib.ListN.{length}
 use Rattle.hash_replay.proofs.line_end.Statement.{statement}

@@ -1,6 +1,6 @@
 -- `hash_replay::replay` meets its contract: each line has a byte of the text, or its line feed, to itself. Assumes nothing.
 use mathlib.Core.Path.{_≡_}
-use Prim.Native.Nat.{_≤_, _<_, _-_, _+_}
+use Prim.Native.Nat.{_≤_, _-_, _+_}
 use native.Mathlib.Omega.{arith}
 use lib.ListN.{length}
 use Rattle.hash_replay.proofs.replay.Statement.{statement}

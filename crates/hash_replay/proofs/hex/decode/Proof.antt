@@ -1,6 +1,6 @@
 -- `hash_replay::hex::decode` is safe and ends: the output keeps its length, and each byte has its two digits. Assumes nothing.
 use mathlib.Core.Path.{_≡_}
-use Prim.Native.Nat.{_≤_, _<_, _-_, _*_}
+use Prim.Native.Nat.{_≤_, _-_, _*_}
 use native.Mathlib.Omega.{arith}
 use lib.ListN.{length, length-set}
 use Rattle.hash_replay.proofs.hex.decode.Statement.{statement}

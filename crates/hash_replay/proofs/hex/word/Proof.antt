@@ -1,5 +1,5 @@
 -- `hash_replay::hex::word` is safe and ends. Assumes nothing.
-use Prim.Native.Nat.{_≤_, _<_, _-_, _*_}
+use Prim.Native.Nat.{_≤_, _-_}
 use native.Mathlib.Omega.{arith}
 use lib.ListN.{length}
 use Rattle.hash_replay.proofs.hex.word.Statement.{statement}
