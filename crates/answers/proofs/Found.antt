@@ -1,0 +1,202 @@
+-- Looking up a name in an image of entries: the first entry of that name, and how many buckets are read. Assumes nothing.
+use mathlib.Core.Path.{_≡_, refl, sym, ap, _∙_}
+use mathlib.Core.Bool.{Bool, true, false, cond}
+use mathlib.Core.List.{List, [], _∷_, map, map-map}
+use mathlib.Core.Option.{Option, none}
+use Prim.Native.Nat.{ℕ, _+_, _*_, _/_, _^_, _≤_, _<_}
+use native.Mathlib.Nat.{mod-lt}
+use native.Mathlib.Decide.{decLt}
+use native.Mathlib.Omega.{arith}
+use borrow.Author.Tests.{eq-eqb, ne-eqb, lt-leb, le-leb, eqb-true, eqb-false}
+use lib.Dec.{eqb, ltb, lit<}
+use lib.ListN.{length, getD, length-map}
+use Rattle.jhash.specs.NameHash.{hashOf}
+use Rattle.jhash.proofs.Answers.{hashOf-below}
+use Rattle.image.specs.Bytes.{le32, same}
+use Rattle.image.specs.Tables.{Bucket, empty, tableOf, start, order, filled}
+use Rattle.image.specs.Record.{Entry, Placed, headSize, ofTable, inTable, count, bucketOf, bucketBytes, table, entriesBefore, tableOffset, backSize, entriesEnd, imageSize, image}
+use Rattle.image.specs.declared.Flag.{Flag}
+use Rattle.image.proofs.Sizes.{length-image}
+use Rattle.reader.specs.Lookup.{nothing, Seen, pass, hit, seeEntry, see, probe, searchTable, lookupHash, lookup}
+use Rattle.answers.specs.Answer.{ofName, firstId, tablePuts}
+use Rattle.layout.proofs.Every.{All, all-map, all-both, all-keep, all-image, map-alike}
+use Rattle.layout.proofs.Buckets.{filled-all}
+use Rattle.answers.proofs.Scan.{Taken}
+use Rattle.answers.proofs.Order.{probe-alike}
+use Rattle.answers.proofs.Filling.{firstHit}
+use Rattle.answers.proofs.Searched.{look, Searched, searched-same, searched}
+use Rattle.layout.proofs.At.{at-left, at-word, at-second}
+use Rattle.layout.proofs.Parts.{placedIn, most, tableAt-image, bucketNumber-image, bucket-at}
+use Rattle.answers.proofs.Opened.{long-enough, table-inside}
+use Rattle.layout.proofs.Entries.{Stands, entry-fits, all-stand, all-placed, ids-below}
+use Rattle.answers.proofs.Entries.{seen-entry}
+use Rattle.answers.proofs.Names.{same-true, verdict, first-of-name, none-of-name, names-short, count-puts}
+
+-- an answer of nothing without a read, where nothing is to be found
+pub nothing-searched : (id : Option ℕ) (m : ℕ) → id ≡ none → Searched id m (nothing 0)
+nothing-searched id m e = record {
+  finds = sym e;
+  most = omega arith;
+  found-most = λ i r q. let z : _≡_ {A = ℕ} 0 1 = cc in omega arith;
+}
+
+-- a name that is too long for a hash, in any bytes
+pub lookup-long : (image name : List ℕ) → 4294967295 ≤ length name → lookup image name ≡ nothing 0
+unfolding lookup
+lookup-long image name h = rw (le-leb 4294967295 (length name) h) (go (ltb (length image) headSize))
+  where
+    go : (b : Bool) → cond b (nothing 0) (nothing 0) ≡ nothing 0
+    go true = refl
+    go false = refl
+
+module _ (flag : Flag) (es : List Entry) (fits : imageSize flag es ≤ 4294967295) (ids : backSize es ≤ 2 ^ 32) (name : List ℕ) where
+  small : length (image flag es) ≤ 4294967295
+  small = omega (arith, length-image flag es)
+
+  t-below : tableOf (hashOf name) < 256
+  t-below = mod-lt (hashOf name) (lit< tt)
+
+  -- the entries of the name's table, and the verdict on an offset
+  qs : List Placed
+  qs = ofTable (tableOf (hashOf name)) (placedIn es)
+
+  v : ℕ → Seen
+  v = seeEntry (image flag es) name
+
+  abbrev Read : Placed → Type 0
+  Read p = Stands (image flag es) p × (p .entry .id < 2 ^ 32)
+
+  all-read : All Read qs
+  unfolding qs ofTable
+  all-read =
+      all-keep Read (inTable (tableOf (hashOf name))) (placedIn es)
+      (all-both (Stands (image flag es)) (λ (p : Placed). p .entry .id < 2 ^ 32) (placedIn es) (all-stand flag es)
+      (all-placed (λ (e : Entry). e .id < 2 ^ 32) headSize es (ids-below es (2 ^ 32) ids)))
+
+  -- ---- what is seen in an entry's bucket
+
+  look-entry : (p : Placed) → Read p → look (hashOf name) v (bucketOf p) ≡ verdict name p
+  unfolding v
+  look-entry p (s, i) =
+      rw (ne-eqb (p .at) 0 (λ z. let a = s .after in omega arith), seen-entry (p .entry) (s .there) small name i)
+      (go (same (p .entry .name) name) refl)
+    where
+      go : (b : Bool) → same (p .entry .name) name ≡ b
+          → cond (eqb (hashOf (p .entry .name)) (hashOf name)) (cond b (hit (p .entry .id)) pass) pass ≡ cond b (hit (p .entry .id)) pass
+      go true e = rw (eq-eqb (hashOf (p .entry .name)) (hashOf name) (ap hashOf (same-true (p .entry .name) name e)))
+      go false e = other (eqb (hashOf (p .entry .name)) (hashOf name))
+        where
+          other : (c : Bool) → cond c pass pass ≡ pass
+          other true = refl
+          other false = refl
+
+  taken-entry : (p : Placed) → Read p → Taken (look (hashOf name) v (bucketOf p))
+  taken-entry p r = rw (look-entry p r) (go (same (p .entry .name) name))
+    where
+      go : (b : Bool) → Taken (cond b (hit (p .entry .id)) pass)
+      go true = tt
+      go false = tt
+
+  all-taken : All (λ (b : Bucket). Taken (look (hashOf name) v b)) (map bucketOf qs)
+  all-taken = all-image (λ (b : Bucket). Taken (look (hashOf name) v b)) bucketOf taken-entry qs all-read
+
+  looks : map (look (hashOf name) v) (map bucketOf qs) ≡ map (verdict name) qs
+  looks = map-map (look (hashOf name) v) bucketOf qs ∙ map-alike (λ (p : Placed). look (hashOf name) v (bucketOf p)) (verdict name) look-entry qs all-read
+
+  -- ---- the buckets as they are read
+
+  abbrev Words : Bucket → Type 0
+  Words b = (b .hash < 2 ^ 32) × (b .at < 2 ^ 32)
+
+  bucket-words : (k : ℕ) → Words (getD (table (tableOf (hashOf name)) (placedIn es)) k empty)
+  unfolding table qs
+  bucket-words =
+      filled-all Words (2 * count (tableOf (hashOf name)) (placedIn es)) (map bucketOf qs) (omega arith)
+      (all-image Words bucketOf (λ p r. (hashOf-below (p .entry .name), omega (arith, small, entry-fits (p .entry) (r .0 .there)))) qs all-read)
+
+  at : ℕ
+  at = entriesEnd es + 16 * entriesBefore (tableOf (hashOf name)) (placedIn es)
+
+  n : ℕ
+  n = 2 * count (tableOf (hashOf name)) (placedIn es)
+
+  seen-bucket : (k : ℕ) → k < n
+      → see (image flag es) name (hashOf name) (at + 8 * k) ≡ look (hashOf name) v (getD (table (tableOf (hashOf name)) (placedIn es)) k empty)
+  unfolding see bucketBytes n at v
+  seen-bucket k i =
+      let b = getD (table (tableOf (hashOf name)) (placedIn es)) k empty in
+      let a = bucket-at flag es fits (tableOf (hashOf name)) k t-below i in
+      let w = bucket-words k in
+      rw (at-word (b .at) (at-second (b .hash) (b .at) a) (w .1), at-word (b .hash) (at-left (le32 (b .hash)) (le32 (b .at)) a) (w .0))
+
+  -- ---- the search in the name's table
+
+  length-qs : length (map bucketOf qs) ≡ count (tableOf (hashOf name)) (placedIn es)
+  unfolding qs
+  length-qs = length-map qs bucketOf
+
+  first-hit : firstHit (map (look (hashOf name) v) (map bucketOf qs)) ≡ firstId (ofName name es)
+  unfolding qs
+  first-hit = ap firstHit looks ∙ first-of-name name headSize es
+
+  -- each bucket is seen as the table has it
+  search-alike : 0 < count (tableOf (hashOf name)) (placedIn es)
+      → searchTable (image flag es) name (hashOf name) at n
+      ≡ probe (λ (k : ℕ). look (hashOf name) v (getD (filled n (map bucketOf qs)) k empty)) (order n n (start (hashOf name) n)) 0
+  unfolding searchTable table n qs
+  search-alike some-entry =
+      probe-alike (λ (k : ℕ). see (image flag es) name (hashOf name) (at + 8 * k))
+      (λ (k : ℕ). look (hashOf name) v (getD (table (tableOf (hashOf name)) (placedIn es)) k empty))
+      n seen-bucket n (start (hashOf name) n) 0 (mod-lt (hashOf name / 256) (omega arith))
+
+  in-table : 0 < count (tableOf (hashOf name)) (placedIn es)
+      → Searched (firstId (ofName name es)) (tablePuts name es) (searchTable (image flag es) name (hashOf name) at n)
+  unfolding n
+  in-table some-entry =
+      searched-same first-hit (length-qs ∙ count-puts name headSize es) (sym (search-alike some-entry))
+      (searched n (hashOf name) v (map bucketOf qs) (omega arith) (omega (arith, length-qs)) all-taken)
+
+  -- ---- the table's row decides whether it is searched
+
+  no-entry : count (tableOf (hashOf name)) (placedIn es) ≡ 0 → firstId (ofName name es) ≡ none
+  no-entry e = sym (first-of-name name headSize es) ∙ go (ofTable (tableOf (hashOf name)) (placedIn es)) e
+    where
+      go : (ps : List Placed) → length ps ≡ 0 → firstHit (map (verdict name) ps) ≡ none
+      go [] z = refl
+      go (p ∷ ps) z = absurd (omega arith)
+
+  by-count : (b : Bool) → eqb (count (tableOf (hashOf name)) (placedIn es)) 0 ≡ b
+      → Searched (firstId (ofName name es)) (tablePuts name es) (lookupHash (image flag es) name (hashOf name))
+  unfolding lookupHash tableOffset at n
+  by-count true e =
+      rw (tableAt-image flag es fits (tableOf (hashOf name)) t-below, e)
+      (nothing-searched (firstId (ofName name es)) (tablePuts name es) (no-entry (eqb-true (count (tableOf (hashOf name)) (placedIn es)) 0 e)))
+  by-count false e =
+      let c : 0 < count (tableOf (hashOf name)) (placedIn es) = let ne = eqb-false (count (tableOf (hashOf name)) (placedIn es)) 0 e in omega arith in
+      rw (
+        table-inside flag es fits (tableOf (hashOf name)) t-below,
+        tableAt-image flag es fits (tableOf (hashOf name)) t-below,
+        bucketNumber-image flag es fits (tableOf (hashOf name)) t-below,
+        e,
+        ne-eqb (entriesEnd es + 16 * entriesBefore (tableOf (hashOf name)) (placedIn es)) 0 (λ z. omega arith),
+        ne-eqb (2 * count (tableOf (hashOf name)) (placedIn es)) 0 (λ z. omega arith),
+      )
+      (in-table c)
+
+  pub lookup-searched : Searched (firstId (ofName name es)) (tablePuts name es) (lookup (image flag es) name)
+  unfolding lookup
+  lookup-searched = go (decLt (length name) 4294967295)
+    where
+      long : 4294967295 ≤ length name → firstId (ofName name es) ≡ none
+      long l =
+          ap firstId
+          (none-of-name name es
+          (all-map (λ e q. omega arith) es (names-short 4294967295 es (omega arith))))
+
+      go : Dec (length name < 4294967295) → Searched (firstId (ofName name es)) (tablePuts name es) (lookup (image flag es) name)
+      go (yes l) =
+          rw (long-enough flag es fits, lt-leb 4294967295 (length name) l)
+          (by-count (eqb (count (tableOf (hashOf name)) (placedIn es)) 0) refl)
+      go (no l) =
+          let m : 4294967295 ≤ length name = omega arith in
+          rw (lookup-long (image flag es) name m) (nothing-searched (firstId (ofName name es)) (tablePuts name es) (long m))

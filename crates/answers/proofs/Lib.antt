@@ -1,0 +1,14 @@
+-- The laws of answers on images.
+pub mod Scan
+pub mod Order
+pub mod Filling
+pub mod Table
+pub mod Searched
+pub mod Opened
+pub mod Entries
+pub mod Names
+pub mod Found
+pub mod Named
+pub mod Images
+pub mod Inverse
+pub mod Rows

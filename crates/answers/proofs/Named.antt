@@ -1,0 +1,150 @@
+-- Naming an id in a two-way image of entries: the name of the last entry of that id. Assumes nothing.
+use mathlib.Core.Path.{_≡_, refl, sym, ap, _∙_}
+use mathlib.Core.Bool.{Bool, true, false, cond}
+use mathlib.Core.List.{List, [], _∷_, map}
+use mathlib.Core.Option.{Option, none, some}
+use Prim.Native.Nat.{ℕ, _+_, _*_, _^_, _≤_, _<_}
+use native.Mathlib.Decide.{decLt}
+use native.Mathlib.Omega.{arith}
+use borrow.Author.Tests.{ne-eqb, le-leb, lt-leb}
+use lib.Dec.{eqb}
+use lib.ListN.{length}
+use Rattle.image.specs.Bytes.{word, keep}
+use Rattle.image.specs.Record.{Entry, Placed, headSize, entrySize, placed, lastFrom, link, backSize, backOffset, entriesEnd, imageSize, image}
+use Rattle.image.specs.Record.{hasId as placedHasId, ofId as placedOfId}
+use Rattle.image.specs.declared.Flag.the-variants.{None, Oneway}
+use Rattle.image.proofs.Sizes.{length-image}
+use Rattle.reader.specs.Open.{backSizeAt}
+use Rattle.reader.specs.Naming.{unnamed, noBack, namingAt, naming}
+use Rattle.answers.specs.Answer.{heldAt, nameGiven, hasId, ofId, lastName}
+use Rattle.layout.proofs.Every.{All, all-keep}
+use Rattle.layout.proofs.At.{at-word}
+use Rattle.layout.proofs.Parts.{placedIn, link-at}
+use Rattle.answers.proofs.Opened.{backSizeAt-image, backOffsetAt-image, long-enough, back-inside}
+use Rattle.layout.proofs.Entries.{Stands, entry-fits, all-stand}
+use Rattle.answers.proofs.Entries.{named-entry}
+
+-- ---- the entries of an id
+
+pub none-of-id : (id : ℕ) (es : List Entry) → backSize es ≤ id → ofId id es ≡ []
+unfolding ofId keep backSize
+none-of-id id [] h = refl
+none-of-id id (e ∷ es) h = rw (ne-eqb (e .id) id (λ z. omega arith)) (none-of-id id es (omega arith))
+
+placed-of-id : (id o : ℕ) (es : List Entry) → map (λ (p : Placed). p .entry) (placedOfId id (placed o es)) ≡ ofId id es
+unfolding placed placedOfId keep ofId
+placed-of-id id o [] = refl
+placed-of-id id o (e ∷ es) = go (eqb (e .id) id) (placed-of-id id (o + entrySize e) es)
+  where
+    K : List Placed
+    K = keep (placedHasId id) (placed (o + entrySize e) es)
+
+    N : List Entry
+    N = keep (hasId id) es
+
+    go : (t : Bool) → map (λ (p : Placed). p .entry) K ≡ N → map (λ (p : Placed). p .entry) (cond t (record { entry = e; at = o } ∷ K) K) ≡ cond t (e ∷ N) N
+    go true ih = ap (λ (l : List Entry). e ∷ l) ih
+    go false ih = ih
+
+-- the last name, or d without one
+lastNameFrom : Option (List ℕ) → List Entry → Option (List ℕ)
+lastNameFrom d [] = d
+lastNameFrom d (e ∷ es) = lastNameFrom (some (e .name)) es
+
+last-name : (d : Option (List ℕ)) (e : Entry) (es : List Entry) → lastNameFrom d (e ∷ es) ≡ lastName (e ∷ es)
+unfolding lastNameFrom
+last-name d e [] = refl
+last-name d e (f ∷ es) = last-name (some (e .name)) f es
+
+last-of-all : (es : List Entry) → lastNameFrom none es ≡ lastName es
+unfolding lastNameFrom
+last-of-all [] = refl
+last-of-all (e ∷ es) = last-name none e es
+
+-- ---- the last entry's name is held at its offset
+
+module _ (img : List ℕ) (small : length img ≤ 4294967295) where
+  held : ℕ → Option (List ℕ)
+  held o = heldAt img (namingAt img o)
+
+  held-none : held 0 ≡ none
+  unfolding held namingAt
+  held-none = refl
+
+  held-last : (o : ℕ) (ps : List Placed) → All (Stands img) ps → held (lastFrom o ps) ≡ lastNameFrom (held o) (map (λ (p : Placed). p .entry) ps)
+  unfolding lastFrom lastNameFrom held
+  held-last o [] all = refl
+  held-last o (p ∷ ps) all =
+      held-last (p .at) ps (all .1)
+      ∙ ap (λ (d : Option (List ℕ)). lastNameFrom d (map (λ (q : Placed). q .entry) ps)) (named-entry (p .entry) (all .0 .there) small (all .0 .after))
+
+  last-below : (o : ℕ) (ps : List Placed) → o < 2 ^ 32 → All (Stands img) ps → lastFrom o ps < 2 ^ 32
+  unfolding lastFrom
+  last-below o [] h all = h
+  last-below o (p ∷ ps) h all = last-below (p .at) ps (omega (arith, small, entry-fits (p .entry) (all .0 .there))) (all .1)
+
+-- ---- naming
+
+module _ (es : List Entry) (fits : imageSize None es ≤ 4294967295) (id : ℕ) where
+  img-small : length (image None es) ≤ 4294967295
+  img-small = omega (arith, length-image None es)
+
+  of-id : All (Stands (image None es)) (placedOfId id (placedIn es))
+  unfolding placedOfId
+  of-id = all-keep (Stands (image None es)) (placedHasId id) (placedIn es) (all-stand None es)
+
+  pub link-named : heldAt (image None es) (namingAt (image None es) (link (placedIn es) id)) ≡ lastName (ofId id es)
+  unfolding link held
+  link-named =
+      held-last (image None es) img-small 0 (placedOfId id (placedIn es)) of-id
+      ∙ ap (λ (d : Option (List ℕ)). lastNameFrom d (map (λ (p : Placed). p .entry) (placedOfId id (placedIn es)))) (held-none (image None es) img-small)
+      ∙ ap (lastNameFrom none) (placed-of-id id headSize es)
+      ∙ last-of-all (ofId id es)
+
+  link-word : id < backSize es → word (image None es) (entriesEnd es + 16 * length es + 4 * id) ≡ link (placedIn es) id
+  unfolding link
+  link-word h =
+      at-word (link (placedIn es) id) (link-at None es fits id h) (last-below (image None es) img-small 0 (placedOfId id (placedIn es)) (omega arith) of-id)
+
+  back-there : 0 < backSize es → backOffset None es ≡ entriesEnd es + 16 * length es
+  unfolding backOffset
+  back-there h = rw (ne-eqb (backSize es) 0 (λ z. omega arith))
+
+  -- an id that no entry reaches
+  beyond : backSize es ≤ id → nameGiven (image None es) id ≡ none
+  unfolding naming
+  beyond h =
+      rw (le-leb (backSizeAt (image None es)) id (rw (backSizeAt-image None es fits) h)) (go (noBack (image None es)))
+    where
+      go : (b : Bool) → heldAt (image None es) (cond b unnamed unnamed) ≡ none
+      go true = refl
+      go false = refl
+
+  within : id < backSize es → nameGiven (image None es) id ≡ lastName (ofId id es)
+  unfolding naming
+  within h =
+      rw (
+        long-enough None es fits,
+        back-inside None es fits,
+        backSizeAt-image None es fits,
+        backOffsetAt-image None es fits,
+        back-there (omega arith),
+        ne-eqb (entriesEnd es + 16 * length es) 0 (λ z. omega arith),
+        lt-leb (backSize es) id h,
+        link-word h,
+      )
+      link-named
+
+  pub naming-image : nameGiven (image None es) id ≡ lastName (ofId id es)
+  naming-image = go (decLt id (backSize es))
+    where
+      go : Dec (id < backSize es) → nameGiven (image None es) id ≡ lastName (ofId id es)
+      go (yes h) = within h
+      go (no h) =
+          let q : backSize es ≤ id = omega arith in
+          beyond q ∙ sym (ap lastName (none-of-id id es q))
+
+-- a one-way image names no id
+pub naming-oneway : (es : List Entry) → imageSize Oneway es ≤ 4294967295 → (id : ℕ) → nameGiven (image Oneway es) id ≡ none
+unfolding naming backOffset
+naming-oneway es fits id = rw (long-enough Oneway es fits, backOffsetAt-image Oneway es fits)

@@ -1,0 +1,177 @@
+-- An image of entries is opened, and num is their number. Assumes nothing.
+use mathlib.Core.Path.{_≡_, refl, ap, _∙_}
+use mathlib.Core.Bool.{Bool, true, false, cond, _&&_, _||_, and-false}
+use mathlib.Core.List.{List, [], _∷_, _++_}
+use Prim.Native.Nat.{ℕ, zero, suc, _+_, _*_, _/_, _^_, _≤_, _<_}
+use native.Mathlib.Nat.{mod-eq-of-lt}
+use native.Mathlib.Omega.{arith}
+use borrow.Author.Tests.{le-ltb, eq-eqb}
+use lib.Dec.{eqb, ltb}
+use lib.ListN.{length, length-append}
+use Rattle.image.specs.Bytes.{word, le32}
+use Rattle.image.specs.Record.{Entry, headSize, count, entriesBefore, tableOffset, flagWord, back, entriesEnd, imageSize, backOffset, headWords, image}
+use Rattle.image.specs.declared.Flag.{Flag}
+use Rattle.image.specs.declared.Flag.the-variants.{None, Oneway}
+use Rattle.image.proofs.Words.{length-le32}
+use Rattle.image.proofs.Sizes.{length-placed, before-suc, before-all, length-image}
+use Rattle.reader.specs.Open.{num, tableAt, bucketNumber, backSizeAt, backOffsetAt, tableLeaves, backLeaves, someLeaves, halves, hasLetters, opening}
+use Rattle.layout.proofs.At.{At, at-same, at-left, at-right, at-word}
+use Rattle.layout.proofs.Parts.{placedIn, head-at, most, tableAt-image, bucketNumber-image}
+
+-- ---- the words of the head
+
+abbrev letters : List ℕ
+letters = 67 ∷ 81 ∷ 68 ∷ 66 ∷ []
+
+abbrev magic : ℕ
+magic = 0x62445371
+
+module _ (flag : Flag) (es : List Entry) where
+  -- the head to the word at 12, to 16, to 20
+  to-12 : List ℕ
+  to-12 = letters ++ le32 (imageSize flag es) ++ le32 (flagWord flag)
+
+  to-16 : List ℕ
+  to-16 = letters ++ le32 (imageSize flag es) ++ le32 (flagWord flag) ++ le32 magic
+
+  to-20 : List ℕ
+  to-20 = letters ++ le32 (imageSize flag es) ++ le32 (flagWord flag) ++ le32 magic ++ le32 (back flag es)
+
+  six : At (image flag es) 0 (to-20 ++ le32 (backOffset flag es))
+  unfolding headWords to-20
+  six = head-at flag es
+
+  five : At (image flag es) 0 (to-16 ++ le32 (back flag es))
+  unfolding to-20 to-16
+  five = at-left to-20 (le32 (backOffset flag es)) six
+
+  four : At (image flag es) 0 (to-12 ++ le32 magic)
+  unfolding to-16 to-12
+  four = at-left to-16 (le32 (back flag es)) five
+
+  three : At (image flag es) 0 (letters ++ le32 (imageSize flag es) ++ le32 (flagWord flag))
+  unfolding to-12
+  three = at-left to-12 (le32 magic) four
+
+  two : At (image flag es) 0 (letters ++ le32 (imageSize flag es))
+  two = at-left (letters ++ le32 (imageSize flag es)) (le32 (flagWord flag)) three
+
+  letters-at : At (image flag es) 0 letters
+  letters-at = at-left letters (le32 (imageSize flag es)) two
+
+  pub letters-image : hasLetters (image flag es) ≡ true
+  letters-image = ap hasLetters (letters-at .stands)
+
+  pub magic-image : word (image flag es) 12 ≡ magic
+  unfolding to-12
+  magic-image = at-word magic (at-same twelve (at-right to-12 (le32 magic) four)) (omega arith)
+    where
+      twelve : 0 + length to-12 ≡ 12
+      twelve = simp (length-append, length-le32)
+
+  pub flag-image : word (image flag es) 8 ≡ flagWord flag
+  flag-image = at-word (flagWord flag) (at-same eight (at-right (letters ++ le32 (imageSize flag es)) (le32 (flagWord flag)) three)) (below flag)
+    where
+      eight : 0 + length (letters ++ le32 (imageSize flag es)) ≡ 8
+      eight = simp length-le32
+
+      below : (f : Flag) → flagWord f < 2 ^ 32
+      below None = omega arith
+      below Oneway = omega arith
+
+  module _ (fits : imageSize flag es ≤ 4294967295) where
+    pub size-image : word (image flag es) 4 ≡ imageSize flag es
+    size-image = at-word (imageSize flag es) (at-right letters (le32 (imageSize flag es)) two) (omega arith)
+
+    pub backSizeAt-image : backSizeAt (image flag es) ≡ back flag es
+    unfolding to-16
+    backSizeAt-image = at-word (back flag es) (at-same sixteen (at-right to-16 (le32 (back flag es)) five)) (omega arith)
+      where
+        sixteen : 0 + length to-16 ≡ 16
+        sixteen = simp (length-append, length-le32)
+
+    pub backOffsetAt-image : backOffsetAt (image flag es) ≡ backOffset flag es
+    unfolding to-20 backOffset
+    backOffsetAt-image = at-word (backOffset flag es) (at-same twenty (at-right to-20 (le32 (backOffset flag es)) six)) (below (eqb (back flag es) 0))
+      where
+        twenty : 0 + length to-20 ≡ 20
+        twenty = simp (length-append, length-le32)
+
+        below : (b : Bool) → cond b 0 (entriesEnd es + 16 * length es) < 2 ^ 32
+        below true = omega arith
+        below false = omega arith
+
+    -- ---- nothing leaves the image
+
+    pub long-enough : ltb (length (image flag es)) headSize ≡ false
+    long-enough = le-ltb (length (image flag es)) headSize (omega (arith, length-image flag es))
+
+    pub table-inside : (t : ℕ) → t < 256 → tableLeaves (image flag es) t ≡ false
+    unfolding tableOffset
+    table-inside t h =
+        le-ltb (length (image flag es)) (tableAt (image flag es) t + 8 * bucketNumber (image flag es) t)
+        (rw (tableAt-image flag es fits t h, bucketNumber-image flag es fits t h, length-image flag es) (go (eqb (count t (placedIn es)) 0)))
+      where
+        go : (b : Bool) → cond b 0 (entriesEnd es + 16 * entriesBefore t (placedIn es)) + 8 * (2 * count t (placedIn es)) ≤ imageSize flag es
+        go true = omega (arith, most flag es fits t h)
+        go false = omega (arith, most flag es fits t h)
+
+    pub back-inside : backLeaves (image flag es) ≡ false
+    unfolding backOffset
+    back-inside =
+        le-ltb (length (image flag es)) (backOffsetAt (image flag es) + 4 * backSizeAt (image flag es))
+        (rw (backOffsetAt-image, backSizeAt-image, length-image flag es) (go (eqb (back flag es) 0)))
+      where
+        go : (b : Bool) → cond b 0 (entriesEnd es + 16 * length es) + 4 * back flag es ≤ imageSize flag es
+        go true = omega arith
+        go false = omega arith
+
+    tables-inside : (m t : ℕ) → t + m ≤ 256 → someLeaves (image flag es) t m ≡ false
+    unfolding someLeaves
+    tables-inside zero t h = refl
+    tables-inside (suc m) t h =
+        ap (λ (b : Bool). (ltb 0 (tableAt (image flag es) t) && b) || someLeaves (image flag es) (suc t) m) (table-inside t (omega arith))
+        ∙ ap (λ (b : Bool). b || someLeaves (image flag es) (suc t) m) (and-false (ltb 0 (tableAt (image flag es) t)))
+        ∙ tables-inside m (suc t) (omega arith)
+
+    -- ---- the number of entries
+
+    halves-image : (m t : ℕ) → t + m ≤ 256 → entriesBefore t (placedIn es) + halves (image flag es) t m ≡ entriesBefore (t + m) (placedIn es)
+    unfolding halves
+    halves-image zero t h =
+        let e : t ≡ t + 0 = omega arith in
+        rw (← e) (omega arith)
+    halves-image (suc m) t h =
+        let e : suc t + m ≡ t + suc m = omega arith in
+        let s = before-suc t (placedIn es) in
+        let b = bucketNumber-image flag es fits t (omega arith) in
+        let i = halves-image m (suc t) (omega arith) in
+        rw (← e)
+        (sum (bucketNumber (image flag es) t) (count t (placedIn es)) (entriesBefore t (placedIn es)) (entriesBefore (suc t) (placedIn es))
+        (halves (image flag es) (suc t) m) (entriesBefore (suc t + m) (placedIn es)) b s i)
+      where
+        sum : (b c p q r a : ℕ) → b ≡ 2 * c → q ≡ p + c → q + r ≡ a → p + (b / 2 + r) ≡ a
+        sum b c p q r a e f g = omega arith
+
+    none-before : entriesBefore 0 (placedIn es) ≡ 0
+    unfolding entriesBefore
+    none-before = refl
+
+    all-halves : halves (image flag es) 0 256 ≡ length es
+    all-halves =
+        let i : entriesBefore 0 (placedIn es) + halves (image flag es) 0 256 ≡ entriesBefore 256 (placedIn es) = halves-image 256 0 (omega arith) in
+        omega (arith, none-before, before-all (placedIn es), length-placed headSize es)
+
+    pub opening-image : opening (image flag es) ≡ num (length es)
+    unfolding opening
+    opening-image =
+        rw (
+          long-enough,
+          letters-image,
+          eq-eqb (word (image flag es) 12) magic magic-image,
+          tables-inside 256 0 (omega arith),
+          back-inside,
+          and-false (ltb 0 (backOffsetAt (image flag es))),
+          all-halves,
+        )
+        (ap num (mod-eq-of-lt (omega arith)))

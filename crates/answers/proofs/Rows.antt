@@ -1,0 +1,78 @@
+-- Small tables and images, computed: each case of the theorems occurs. Assumes nothing.
+use mathlib.Core.Path.{_≡_, refl}
+use mathlib.Core.Bool.{cond}
+use mathlib.Core.List.{List, [], _∷_}
+use mathlib.Core.Option.{none, some}
+use Prim.Native.Nat.{ℕ, _≤_}
+use lib.Dec.{eqb, lit≤}
+use lib.ListN.{getD}
+use Rattle.jhash.specs.NameHash.{hashOf}
+use Rattle.image.specs.Bytes.{keep, same, word, le32, cat, range}
+use Rattle.image.specs.Tables.{Bucket, empty, start, order, firstEmpty, insert, insertAll, filled}
+use Rattle.image.specs.Record.{Entry, entryBytes, entriesSize, placed, ofTable, bucketBytes, table, tableBytes, entriesBefore, tableOffset}
+use Rattle.image.specs.Record.{tableRow, tableRows, tables, backSize, lastFrom, link, links, backOffset, imageSize, headWords, image}
+use Rattle.image.specs.Record.{ofId as placedOfId}
+use Rattle.image.specs.declared.Flag.the-variants.{None}
+use Rattle.reader.specs.Lookup.{Lookup, found, nothing, Seen, pass, hit, probe, lookup, lookupHash, searchTable, see, seeEntry}
+use Rattle.answers.specs.Answer.{foundId, nameGiven, ofName, ofId}
+use Rattle.answers.proofs.Searched.{look}
+use Rattle.answers.proofs.Images.{name-gives, id-gives, ids-fit}
+
+-- three entries of one start in a table of six: two of hash 256, one of hash 1792
+abbrev three : List Bucket
+three = record { hash = 256; at = 10 } ∷ record { hash = 1792; at = 20 } ∷ record { hash = 256; at = 30 } ∷ []
+
+abbrev search : ℕ → (ℕ → Seen) → Lookup
+search h v = probe (λ (k : ℕ). look h v (getD (filled 6 three) k empty)) (order 6 6 (start h 6)) 0
+
+-- the first of two hits; the later one, where the first is passed; one of another hash; none, after one bucket more than there are entries
+first-hit : search 256 (λ (o : ℕ). hit o) ≡ found 10 1
+unfolding filled insertAll insert firstEmpty order probe
+first-hit = refl
+
+later-hit : search 256 (λ (o : ℕ). cond (eqb o 10) pass (hit o)) ≡ found 30 3
+unfolding filled insertAll insert firstEmpty order probe
+later-hit = refl
+
+other-hash : search 1792 (λ (o : ℕ). hit o) ≡ found 20 2
+unfolding filled insertAll insert firstEmpty order probe
+other-hash = refl
+
+no-hit : search 3328 (λ (o : ℕ). hit o) ≡ nothing 4
+unfolding filled insertAll insert firstEmpty order probe
+no-hit = refl
+
+-- A twice, with 5 and with 9: A finds 5, B nothing; 9 gives A, 7 nothing
+abbrev A : List ℕ
+A = 65 ∷ []
+
+abbrev B : List ℕ
+B = 66 ∷ []
+
+abbrev twice : List Entry
+twice = record { name = A; id = 5 } ∷ record { name = A; id = 9 } ∷ []
+
+fits : imageSize None twice ≤ 4294967295
+unfolding entriesSize backSize
+fits = lit≤ tt
+
+A-finds : foundId (lookup (image None twice) A) ≡ some 5
+unfolding ofName keep same
+A-finds = name-gives None twice fits (ids-fit twice fits) A
+
+B-finds : foundId (lookup (image None twice) B) ≡ none
+unfolding ofName keep same
+B-finds = name-gives None twice fits (ids-fit twice fits) B
+
+id-9 : nameGiven (image None twice) 9 ≡ some A
+unfolding ofId keep
+id-9 = id-gives twice fits 9
+
+id-7 : nameGiven (image None twice) 7 ≡ none
+unfolding ofId keep
+id-7 = id-gives twice fits 7
+
+-- and the search itself, with the real hash
+A-computed : lookup (image None twice) A ≡ found 5 1
+unfolding lookup lookupHash searchTable probe see seeEntry word image headWords le32 tableRows tableRow tableOffset cat range placed ofTable keep entriesBefore tables tableBytes table filled insertAll insert firstEmpty order bucketBytes entryBytes entriesSize backSize links link placedOfId lastFrom backOffset same hashOf
+A-computed = refl

@@ -1,0 +1,128 @@
+-- A search in a filled table finds the first entry, in the order in which the table took them, whose hash is the one sought and whose offset
+-- has a hit; it reads at most one bucket more than there are entries, and no more than there are when it finds one. Assumes nothing.
+use mathlib.Core.Path.{_≡_, refl, sym, ap, _∙_, fun-ext}
+use mathlib.Core.Bool.{Bool, true, false, cond}
+use mathlib.Core.List.{List, map}
+use mathlib.Core.Option.{Option}
+use mathlib.Core.Logic.{inl, inr}
+use Prim.Native.Nat.{ℕ, _+_, _/_, _≤_, _<_}
+use native.Mathlib.Nat.{mod-lt}
+use native.Mathlib.Decide.{ℕ-discrete}
+use native.Mathlib.Omega.{arith}
+use borrow.Author.Tests.{eq-eqb, ne-eqb}
+use lib.Dec.{eqb}
+use lib.ListN.{length, getD}
+use Rattle.image.specs.Tables.{Bucket, empty, start, order, filled}
+use Rattle.reader.specs.Lookup.{Lookup, found, Seen, pass, ends, hit, probe}
+use Rattle.answers.specs.Answer.{foundId, reads}
+use Rattle.layout.proofs.Every.{All, all-map, map-alike}
+use Rattle.layout.proofs.Buckets.{filled-all}
+use Rattle.answers.proofs.Scan.{probe-scan, scan-answer, scan-reads, scan-found, answer, used, Taken}
+use Rattle.answers.proofs.Order.{view}
+use Rattle.answers.proofs.Filling.{firstHit, Sees}
+use Rattle.answers.proofs.Table.{Apart, NotEmpty, filled-holds, filled-answer}
+
+-- ---- what a search for a hash sees in a bucket, by a verdict on the offsets of entries with that hash
+
+abbrev pub look : ℕ → (ℕ → Seen) → Bucket → Seen
+look h v b = cond (eqb (b .at) 0) ends (cond (eqb (b .hash) h) (v (b .at)) pass)
+
+-- a verdict that never ends
+abbrev settle : Seen → Seen
+settle pass = pass
+settle ends = pass
+settle (hit id) = hit id
+
+settle-taken : (x : Seen) → Taken (settle x)
+settle-taken pass = tt
+settle-taken ends = tt
+settle-taken (hit id) = tt
+
+settle-same : (x : Seen) → Taken x → settle x ≡ x
+settle-same pass t = refl
+settle-same ends t = absurd t
+settle-same (hit id) t = refl
+
+module _ (h : ℕ) (v : ℕ → Seen) where
+  look-sees : ((o : ℕ) → Taken (v o)) → Sees (look h v)
+  look-sees never = record {
+    empties = λ b e. ap (λ (t : Bool). cond t ends (cond (eqb (b .hash) h) (v (b .at)) pass)) (eq-eqb (b .at) 0 e);
+    takes = λ b e. rw (ne-eqb (b .at) 0 e) (either b (eqb (b .hash) h));
+  }
+    where
+      either : (b : Bucket) (t : Bool) → Taken (cond t (v (b .at)) pass)
+      either b true = never (b .at)
+      either b false = tt
+
+  look-apart : (n : ℕ) → Apart (look h v) n (start h n)
+  look-apart n b full = elim (ℕ-discrete (b .hash) h) [
+    | yes e ↦ inl (ap (λ (x : ℕ). start x n) e)
+    | no e ↦ inr (rw (ne-eqb (b .at) 0 full, ne-eqb (b .hash) h e))
+  ]
+
+  -- where the entries have a verdict, the two looks agree
+  settled : (b : Bucket) → Taken (look h v b) → look h (λ (o : ℕ). settle (v o)) b ≡ look h v b
+  settled b t = go (eqb (b .at) 0) (eqb (b .hash) h) t
+    where
+      go : (p q : Bool) → Taken (cond p ends (cond q (v (b .at)) pass)) → cond p ends (cond q (settle (v (b .at))) pass) ≡ cond p ends (cond q (v (b .at)) pass)
+      go true q t = refl
+      go false true t = settle-same (v (b .at)) t
+      go false false t = refl
+
+  full-bucket : (b : Bucket) → Taken (look h v b) → NotEmpty b
+  full-bucket b t e = rw e at t
+
+-- ---- the search
+
+-- an answer: its id, and how many buckets were read in a table of m entries
+pub record Searched (id : Option ℕ) (m : ℕ) (l : Lookup) : Type 0 where
+  pub finds : foundId l ≡ id
+  pub most : reads l ≤ m + 1
+  pub found-most : (i r : ℕ) → l ≡ found i r → r ≤ m
+
+pub searched-same : {a b : Option ℕ} {m n : ℕ} {k l : Lookup} → a ≡ b → m ≡ n → k ≡ l → Searched a m k → Searched b n l
+searched-same {a} {b} {m} {n} {k} {l} p q r s = rw (p, q, r) at s
+
+module _ (n h : ℕ) (v : ℕ → Seen) (bs : List Bucket) (some-bucket : 0 < n) (room : length bs ≤ n)
+    (each : All (λ (b : Bucket). Taken (look h v b)) bs) where
+  f : Bucket → Seen
+  f = look h (λ (o : ℕ). settle (v o))
+
+  seen : List Seen
+  seen = map (λ (k : ℕ). look h v (getD (filled n bs) k empty)) (order n n (start h n))
+
+  -- every bucket of the table is empty or has a verdict
+  seen-view : view n f (filled n bs) (start h n) ≡ seen
+  unfolding view f seen
+  seen-view =
+      ap (λ (g : ℕ → Seen). map g (order n n (start h n)))
+      (fun-ext λ k. filled-all (λ (b : Bucket). f b ≡ look h v b) n bs refl (all-map (settled h v) bs each) k)
+
+  inside : start h n < n
+  inside = mod-lt (h / 256) some-bucket
+
+  full : All NotEmpty bs
+  full = all-map (full-bucket h v) bs each
+
+  seen-used : used seen ≡ length bs
+  unfolding f
+  seen-used =
+      ap used (sym seen-view)
+      ∙ filled-holds f (look-sees h (λ (o : ℕ). settle (v o)) (λ o. settle-taken (v o))) n (start h n) inside (look-apart h (λ (o : ℕ). settle (v o)) n) bs room full
+
+  seen-answer : answer seen ≡ firstHit (map (look h v) bs)
+  unfolding f
+  seen-answer =
+      ap answer (sym seen-view)
+      ∙ filled-answer f (look-sees h (λ (o : ℕ). settle (v o)) (λ o. settle-taken (v o))) n (start h n) inside (look-apart h (λ (o : ℕ). settle (v o)) n) bs room full
+      ∙ ap firstHit (map-alike f (look h v) (settled h v) bs each)
+
+  pub searched : Searched (firstHit (map (look h v) bs)) (length bs) (probe (λ (k : ℕ). look h v (getD (filled n bs) k empty)) (order n n (start h n)) 0)
+  unfolding seen
+  searched =
+      rw (probe-scan (λ (k : ℕ). look h v (getD (filled n bs) k empty)) (order n n (start h n)) 0)
+      record {
+        finds = scan-answer seen 0 ∙ seen-answer;
+        most = omega (arith, scan-reads seen 0, seen-used);
+        found-most = λ i r e. let q = scan-found seen 0 i r e in omega (arith, seen-used);
+      }

@@ -1,0 +1,2 @@
+-- The words in which demand 3 speaks of answers, entries and tables.
+pub mod Answer

@@ -1,0 +1,41 @@
+-- Bytes and words. A byte string is a list of numbers.
+use Prim.Native.Nat.{ℕ, zero, suc, _+_, _*_, _/_, _%_}
+use mathlib.Core.Bool.{Bool, true, false, cond, _&&_}
+use mathlib.Core.List.{List, [], _∷_, _++_}
+use lib.ListN.{getD}
+use lib.Dec.{eqb}
+
+-- 01, "The image record": all words are 32-bit unsigned, little-endian. The word that stands at offset o of a byte string
+unfoldable pub word : List ℕ → ℕ → ℕ
+word s o = getD s o 0 + getD s (o + 1) 0 * 256 + getD s (o + 2) 0 * 65536 + getD s (o + 3) 0 * 16777216
+
+-- the four bytes of a word
+unfoldable pub le32 : ℕ → List ℕ
+le32 w = w % 256 ∷ w / 256 % 256 ∷ w / 65536 % 256 ∷ w / 16777216 % 256 ∷ []
+
+-- the bytes of a list of parts, one after the other
+unfoldable pub cat : {A : Type 0} → (A → List ℕ) → List A → List ℕ
+cat f [] = []
+cat f (x ∷ xs) = f x ++ cat f xs
+
+-- the elements for which a test holds, in their order
+unfoldable pub keep : {A : Type 0} → (A → Bool) → List A → List A
+keep test [] = []
+keep test (x ∷ xs) = cond (test x) (x ∷ keep test xs) (keep test xs)
+
+-- the n numbers from s on
+unfoldable pub range : ℕ → ℕ → List ℕ
+range s zero = []
+range s (suc n) = s ∷ range (suc s) n
+
+-- are two byte strings equal?
+unfoldable pub same : List ℕ → List ℕ → Bool
+same [] [] = true
+same [] (y ∷ ys) = false
+same (x ∷ xs) [] = false
+same (x ∷ xs) (y ∷ ys) = eqb x y && same xs ys
+
+-- does a test hold of each of the m numbers from t on?
+unfoldable pub all : (ℕ → Bool) → ℕ → ℕ → Bool
+all test t zero = true
+all test t (suc m) = test t && all test (suc t) m

@@ -1,0 +1,4 @@
+-- What an image is, as 01 says it: words and lists, tables of buckets, and the image record.
+pub mod Bytes
+pub mod Tables
+pub mod Record

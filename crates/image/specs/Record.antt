@@ -1,0 +1,155 @@
+-- The image record: 01, "The image record", from top to bottom.
+use Prim.Native.Nat.{ℕ, zero, suc, _+_, _*_, max}
+use mathlib.Core.Bool.{Bool, cond}
+use mathlib.Core.List.{List, [], _∷_, _++_, map}
+use lib.ListN.{length}
+use lib.Dec.{eqb}
+use Rattle.jhash.specs.NameHash.{hashOf}
+use Rattle.image.specs.Bytes.{le32, cat, keep, range}
+use Rattle.image.specs.Tables.{Bucket, tableOf, filled}
+use Rattle.image.specs.declared.Flag.{Flag}
+use Rattle.image.specs.declared.Flag.the-variants.{None, Oneway}
+
+-- what a put stores: a name of any bytes, and its id
+pub record Entry : Type 0 where
+  pub name : List ℕ
+  pub id : ℕ
+
+-- the head is 2,072 bytes
+abbrev pub headSize : ℕ
+headSize = 2072
+
+-- entries: id, name length plus 1, the name, one zero byte
+unfoldable pub entryBytes : Entry → List ℕ
+entryBytes e = le32 (e .id) ++ le32 (length (e .name) + 1) ++ e .name ++ (0 ∷ [])
+
+abbrev pub entrySize : Entry → ℕ
+entrySize e = length (e .name) + 9
+
+unfoldable pub entriesSize : List Entry → ℕ
+entriesSize [] = 0
+entriesSize (e ∷ es) = entrySize e + entriesSize es
+
+-- an entry and the offset at which it stands
+pub record Placed : Type 0 where
+  pub entry : Entry
+  pub at : ℕ
+
+-- the entries one after the other from an offset on
+unfoldable pub placed : ℕ → List Entry → List Placed
+placed o [] = []
+placed o (e ∷ es) = record { entry = e; at = o } ∷ placed (o + entrySize e) es
+
+-- the entries of table t, in put order
+abbrev pub inTable : ℕ → Placed → Bool
+inTable t p = eqb (tableOf (hashOf (p .entry .name))) t
+
+unfoldable pub ofTable : ℕ → List Placed → List Placed
+unfolding keep
+ofTable t ps = keep (inTable t) ps
+
+abbrev pub count : ℕ → List Placed → ℕ
+count t ps = length (ofTable t ps)
+
+-- the bucket of an entry
+abbrev pub bucketOf : Placed → Bucket
+bucketOf p = record { hash = hashOf (p .entry .name); at = p .at }
+
+unfoldable pub bucketBytes : Bucket → List ℕ
+bucketBytes b = le32 (b .hash) ++ le32 (b .at)
+
+-- a table: twice as many buckets as entries
+unfoldable pub table : ℕ → List Placed → List Bucket
+table t ps = filled (2 * count t ps) (map bucketOf (ofTable t ps))
+
+unfoldable pub tableBytes : List Placed → ℕ → List ℕ
+tableBytes ps t = cat bucketBytes (table t ps)
+
+-- how many entries the tables before t have
+unfoldable pub entriesBefore : ℕ → List Placed → ℕ
+entriesBefore zero ps = 0
+entriesBefore (suc t) ps = entriesBefore t ps + count t ps
+
+-- table t's offset, then its bucket number; both 0 without entries. `end` is the end of the entries
+unfoldable pub tableOffset : ℕ → List Placed → ℕ → ℕ
+tableOffset end ps t = cond (eqb (count t ps) 0) 0 (end + 16 * entriesBefore t ps)
+
+unfoldable pub tableRow : ℕ → List Placed → ℕ → List ℕ
+tableRow end ps t = le32 (tableOffset end ps t) ++ le32 (2 * count t ps)
+
+-- back size is the largest id plus 1
+unfoldable pub backSize : List Entry → ℕ
+backSize [] = 0
+backSize (e ∷ es) = max (e .id + 1) (backSize es)
+
+-- the entries of an id, in put order
+abbrev pub hasId : ℕ → Placed → Bool
+hasId i p = eqb (p .entry .id) i
+
+unfoldable pub ofId : ℕ → List Placed → List Placed
+ofId i ps = keep (hasId i) ps
+
+-- the offset of the last entry of a list, or o without one
+unfoldable pub lastFrom : ℕ → List Placed → ℕ
+lastFrom o [] = o
+lastFrom o (p ∷ ps) = lastFrom (p .at) ps
+
+-- the offset of an id's last entry, 0 if it has none
+unfoldable pub link : List Placed → ℕ → ℕ
+link ps i = lastFrom 0 (ofId i ps)
+
+-- what depends on the mode: the flag word, and the back size, which is 0 in a one-way image
+abbrev pub flagWord : Flag → ℕ
+flagWord None = 0
+flagWord Oneway = 1
+
+abbrev pub backIn : Flag → ℕ → ℕ
+backIn None n = n
+backIn Oneway n = 0
+
+-- where the entries end
+abbrev pub entriesEnd : List Entry → ℕ
+entriesEnd es = headSize + entriesSize es
+
+-- the back size in an image
+abbrev pub back : Flag → List Entry → ℕ
+back flag es = backIn flag (backSize es)
+
+-- the size of the whole image
+abbrev pub imageSize : Flag → List Entry → ℕ
+imageSize flag es = entriesEnd es + 16 * length es + 4 * back flag es
+
+-- the back array stands after the tables; its offset is 0 in a one-way image and in an empty one
+unfoldable pub backOffset : Flag → List Entry → ℕ
+backOffset flag es = cond (eqb (back flag es) 0) 0 (entriesEnd es + 16 * length es)
+
+-- 0: the letters CQDB. 4: size of the whole image. 8: flag word. 12: 62445371 hexadecimal. 16: back size. 20: back offset
+unfoldable pub headBytes : ℕ → ℕ → ℕ → ℕ → List ℕ
+headBytes size flag n o =
+    67 ∷ 81 ∷ 68 ∷ 66 ∷ [] ++ le32 size ++ le32 flag ++ le32 0x62445371 ++ le32 n ++ le32 o
+
+unfoldable pub headWords : Flag → List Entry → List ℕ
+unfolding headBytes
+headWords flag es = headBytes (imageSize flag es) (flagWord flag) (back flag es) (backOffset flag es)
+
+-- 24 + 8t, for t = 0 to 255: table t's offset, then its bucket number
+unfoldable pub tableRows : ℕ → List Placed → List ℕ
+tableRows end ps = cat (tableRow end ps) (range 0 256)
+
+-- tables in rising t, only those with entries (one without has no bucket)
+unfoldable pub tables : List Placed → List ℕ
+tables ps = cat (tableBytes ps) (range 0 256)
+
+-- the back array: for each id below back size the offset of its last entry
+unfoldable pub links : List Placed → ℕ → List ℕ
+links ps n = cat (λ (i : ℕ). le32 (link ps i)) (range 0 n)
+
+-- the image that entries close to
+unfoldable pub image : Flag → List Entry → List ℕ
+image flag es =
+    let ps = placed headSize es in
+    headWords flag es
+    ++ tableRows (entriesEnd es) ps
+    ++ cat entryBytes es
+    ++ tables ps
+    ++ links ps (back flag es)

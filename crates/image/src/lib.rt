@@ -1,0 +1,89 @@
+// The words of an image, read and stored little-endian anywhere in a slice, and the writer's flag.
+ghost use mathlib.Core.Path.{_≡_};
+ghost use Prim.Native.Nat.{_+_, _<_, _≤_};
+ghost use lib.ListN.{length, getD, set};
+ghost use lib.Seq.{sets};
+ghost use Rattle.image.specs.Bytes.{word, le32};
+
+// The writer's flag (`Flag` of cqdb-rs): None is two-way, Oneway leaves the back array out.
+pub enum Flag {
+    None,
+    Oneway,
+}
+
+// A byte as a word.
+fn wide(x: u8) -> u32
+    ensures { λ r. ⌜ (r ≡ x) × (r < 256) ⌝ }
+{
+    x as u32
+}
+
+// The byte at `at`, 0 past the end.
+fn byte_at(s: &[u8], at: usize) -> u32
+    ensures { λ r. ⌜ (r ≡ getD (now (s .entry)) at 0) × (r < 256) ⌝ }
+{
+    if at < s.len() { wide(s[at]) } else { 0 }
+}
+
+// The word at `at`, where its last bytes may be past the end.
+fn get_near_end(s: &[u8], at: usize) -> u32
+    ensures { λ r. ⌜ r ≡ word (now (s .entry)) at ⌝ }
+{
+    if s.len() <= at {
+        return 0;
+    }
+    byte_at(s, at)
+        + byte_at(s, at + 1) * 256
+        + byte_at(s, at + 2) * 65536
+        + byte_at(s, at + 3) * 16777216
+}
+
+// The little-endian word at `at`; bytes past the end count as 0.
+pub fn get_u32(s: &[u8], at: usize) -> u32
+    ensures { λ r. ⌜ r ≡ word (now (s .entry)) at ⌝ }
+{
+    if s.len() <= at {
+        return 0;
+    }
+    if s.len() - at < 4 {
+        return get_near_end(s, at);
+    }
+    wide(s[at]) + wide(s[at + 1]) * 256 + wide(s[at + 2]) * 65536 + wide(s[at + 3]) * 16777216
+}
+
+// A byte stored at `at`; past the end nothing is stored.
+fn put_byte(buf: &mut [u8], at: usize, b: u8)
+    ensures { λ _. ⌜ now (buf .exit) ≡ set (now (buf .entry)) at b ⌝ }
+{
+    if at < buf.len() {
+        buf[at] = b;
+    }
+}
+
+// The four bytes of v stored from `at` on, where the last may be past the end.
+fn put_near_end(buf: &mut [u8], at: usize, v: u32)
+    requires { ⌜ at < length (now buf) ⌝ }
+    ensures { λ _. ⌜ now (buf .exit) ≡ sets (now (buf .entry)) at (le32 v) ⌝ }
+{
+    put_byte(&mut *buf, at, (v % 256) as u8);
+    put_byte(&mut *buf, at + 1, (v / 256 % 256) as u8);
+    put_byte(&mut *buf, at + 2, (v / 65536 % 256) as u8);
+    put_byte(&mut *buf, at + 3, (v / 16777216 % 256) as u8);
+}
+
+// The four bytes of v stored from `at` on, little-endian; past the end nothing is stored.
+pub fn put_u32(buf: &mut [u8], at: usize, v: u32)
+    ensures { λ _. ⌜ now (buf .exit) ≡ sets (now (buf .entry)) at (le32 v) ⌝ }
+{
+    if buf.len() <= at {
+        return;
+    }
+    if buf.len() - at < 4 {
+        put_near_end(&mut *buf, at, v);
+        return;
+    }
+    buf[at] = (v % 256) as u8;
+    buf[at + 1] = (v / 256 % 256) as u8;
+    buf[at + 2] = (v / 65536 % 256) as u8;
+    buf[at + 3] = (v / 16777216 % 256) as u8;
+}

@@ -1,0 +1,37 @@
+-- The buckets of a filled table, one by one. Assumes nothing.
+use mathlib.Core.Path.{_≡_, refl}
+use mathlib.Core.List.{List, [], _∷_}
+use Prim.Native.Nat.{ℕ, zero, suc, _≤_, _<_}
+use native.Mathlib.Decide.{ℕ-discrete, decLt}
+use native.Mathlib.Omega.{arith}
+use lib.ListN.{length, getD, set, replicate}
+use lib.Seq.{getD-set-same, getD-set-other, set-out}
+use Rattle.image.specs.Tables.{Bucket, empty, atOf, start, order, firstEmpty, insert, insertAll, filled}
+use Rattle.layout.proofs.Every.{All}
+
+pub getD-empties : (n k : ℕ) → getD (replicate n empty) k empty ≡ empty
+getD-empties zero k = refl
+getD-empties (suc n) zero = refl
+getD-empties (suc n) (suc k) = getD-empties n k
+
+-- what holds of the empty bucket and of every entry holds of every bucket of a filled table
+module _ (P : Bucket → Type 0) where
+  set-all : (table : List Bucket) (i : ℕ) (b : Bucket) → ((k : ℕ) → P (getD table k empty)) → P b → (k : ℕ) → P (getD (set table i b) k empty)
+  set-all table i b all one k = go (ℕ-discrete k i) (decLt i (length table))
+    where
+      go : Dec (k ≡ i) → Dec (i < length table) → P (getD (set table i b) k empty)
+      go (no e) d = rw (getD-set-other table i k b empty e) (all k)
+      go (yes e) (yes h) = rw (e, getD-set-same table i b empty h) one
+      go (yes e) (no h) = let q : length table ≤ i = omega arith in rw (set-out table i b q) (all k)
+
+  insertAll-all : (n : ℕ) (table bs : List Bucket) → ((k : ℕ) → P (getD table k empty)) → All P bs → (k : ℕ) → P (getD (insertAll n table bs) k empty)
+  unfolding insertAll insert
+  insertAll-all n table [] all each = all
+  insertAll-all n table (b ∷ bs) all each =
+      insertAll-all n (insert n table b) bs
+      (set-all table (firstEmpty (atOf table) (order n n (start (b .hash) n))) b all (each .0))
+      (each .1)
+
+  pub filled-all : (n : ℕ) (bs : List Bucket) → P empty → All P bs → (k : ℕ) → P (getD (filled n bs) k empty)
+  unfolding filled
+  filled-all n bs none each = insertAll-all n (replicate n empty) bs (λ k. rw (getD-empties n k) none) each

@@ -1,0 +1,43 @@
+-- What holds of every element of a list. Assumes nothing.
+use mathlib.Core.Path.{_≡_, refl, ap, _∙_}
+use mathlib.Core.Bool.{Bool, true, false, cond}
+use mathlib.Core.List.{List, [], _∷_, _++_, map}
+use Rattle.image.specs.Bytes.{keep}
+
+abbrev pub All : {A : Type 0} → (A → Type 0) → List A → Type 0
+All P [] = Unit {0}
+All P (x ∷ xs) = P x × All P xs
+
+pub all-map : {A : Type 0} {P Q : A → Type 0} → ((x : A) → P x → Q x) → (xs : List A) → All P xs → All Q xs
+all-map f [] all = tt
+all-map f (x ∷ xs) all = (f x (all .0), all-map f xs (all .1))
+
+pub all-both : {A : Type 0} (P Q : A → Type 0) (xs : List A) → All P xs → All Q xs → All (λ (x : A). P x × Q x) xs
+all-both P Q [] p q = tt
+all-both P Q (x ∷ xs) p q = ((p .0, q .0), all-both P Q xs (p .1) (q .1))
+
+-- of one among them
+pub all-middle : {A : Type 0} (P : A → Type 0) (xs ys : List A) (y : A) → All P (xs ++ y ∷ ys) → P y
+all-middle P [] ys y all = all .0
+all-middle P (x ∷ xs) ys y all = all-middle P xs ys y (all .1)
+
+-- of those that pass a test
+pub all-keep : {A : Type 0} (P : A → Type 0) (test : A → Bool) (xs : List A) → All P xs → All P (keep test xs)
+unfolding keep
+all-keep P test [] all = tt
+all-keep P test (x ∷ xs) all = go (test x) (all-keep P test xs (all .1))
+  where
+    go : (t : Bool) → All P (keep test xs) → All P (cond t (x ∷ keep test xs) (keep test xs))
+    go true rest = (all .0, rest)
+    go false rest = rest
+
+-- of what a function makes of them
+pub all-image : {A B : Type 0} {P : A → Type 0} (Q : B → Type 0) (f : A → B) → ((x : A) → P x → Q (f x)) → (xs : List A) → All P xs → All Q (map f xs)
+all-image Q f h [] all = tt
+all-image Q f h (x ∷ xs) all = (h x (all .0), all-image Q f h xs (all .1))
+
+-- functions that agree on every element
+pub map-alike : {A B : Type 0} {P : A → Type 0} (f g : A → B) → ((x : A) → P x → f x ≡ g x) → (xs : List A) → All P xs → map f xs ≡ map g xs
+map-alike f g h [] all = refl
+map-alike {B} f g h (x ∷ xs) all =
+    ap (λ (y : B). y ∷ map f xs) (h x (all .0)) ∙ ap (λ (ys : List B). g x ∷ ys) (map-alike f g h xs (all .1))

@@ -1,0 +1,1 @@
+// Where the parts of an image stand in its bytes: laws alone, no function.

@@ -1,0 +1,11 @@
+-- The laws of lists of calls.
+pub mod Parse
+pub mod Appended
+pub mod Puts
+pub mod Closes
+pub mod Along
+pub mod OneMore
+pub mod Members
+pub mod Reading
+pub mod Theorem
+pub mod Rows

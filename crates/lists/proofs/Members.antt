@@ -1,0 +1,94 @@
+-- Entries of a list: first and last of those that pass a test, and lists in which at most one does. Assumes nothing.
+use Prim.Native.Nat.{ℕ, _≤_}
+use native.Mathlib.Omega.{arith}
+use mathlib.Core.Path.{_≡_, refl, sym, ap, _∙_}
+use mathlib.Core.Logic.{_⊎_, inl, inr}
+use mathlib.Core.Bool.{Bool, true, false, cond}
+use mathlib.Core.List.{List, [], _∷_}
+use mathlib.Core.Option.{Option, some}
+use lib.ListN.{length}
+use borrow.Author.Tests.{eq-eqb, eqb-true}
+use Rattle.image.specs.Bytes.{keep, same}
+use Rattle.image.specs.Record.{Entry}
+use Rattle.image.proofs.Lists.{keep-yes, keep-cons}
+use Rattle.answers.proofs.Names.{same-self, same-true}
+use Rattle.answers.specs.Answer.{hasName, hasId, ofName, ofId, firstId, lastName}
+
+-- ---- an entry of a list
+
+abbrev In : Entry → List Entry → Type 0
+In e [] = ⊥
+In e (x ∷ xs) = (x ≡ e) ⊎ In e xs
+
+module _ (test : Entry → Bool) (e : Entry) where
+  kept : (xs : List Entry) → In e xs → test e ≡ true → In e (keep test xs)
+  kept [] m h = absurd m
+  kept (x ∷ xs) (inl p) h = rw (keep-yes test x xs (ap test p ∙ h)) (inl p)
+  kept (x ∷ xs) (inr m) h = rw (keep-cons test x xs) (go (test x) (kept xs m h))
+    where
+      go : (b : Bool) → In e (keep test xs) → In e (cond b (x ∷ keep test xs) (keep test xs))
+      go true k = inr k
+      go false k = k
+
+  kept-from : (xs : List Entry) → In e (keep test xs) → In e xs × (test e ≡ true)
+  unfolding keep
+  kept-from [] m = absurd m
+  kept-from (x ∷ xs) m = go (test x) refl (kept-from xs) m
+    where
+      go : (b : Bool) → test x ≡ b → (In e (keep test xs) → In e xs × (test e ≡ true)) → In e (cond b (x ∷ keep test xs) (keep test xs))
+          → In e (x ∷ xs) × (test e ≡ true)
+      go true t rest (inl p) = (inl p, sym (ap test p) ∙ t)
+      go true t rest (inr k) = (inr (rest k .0), rest k .1)
+      go false t rest k = (inr (rest k .0), rest k .1)
+
+-- a list of at most one entry, with an entry
+only-one : (e : Entry) (xs : List Entry) → In e xs → length xs ≤ 1 → xs ≡ e ∷ []
+only-one e [] m h = absurd m
+only-one e (x ∷ []) (inl p) h = ap {B = List Entry} (λ (y : Entry). y ∷ []) p
+only-one e (x ∷ []) (inr m) h = absurd m
+only-one e (x ∷ y ∷ xs) m h = absurd (omega arith)
+
+-- ---- first and last
+
+first-in : (xs : List Entry) (id : ℕ) → firstId xs ≡ some id → (e : Entry) × In e xs × (e .id ≡ id)
+first-in [] id h = absurd (let z : _≡_ {A = ℕ} 0 1 = cc in omega arith)
+first-in (x ∷ xs) id h = (x, inl refl, cc)
+
+last-in : (xs : List Entry) (name : List ℕ) → lastName xs ≡ some name → (e : Entry) × In e xs × (e .name ≡ name)
+last-in [] name h = absurd (let z : _≡_ {A = ℕ} 0 1 = cc in omega arith)
+last-in (x ∷ []) name h = (x, inl refl, cc)
+last-in (x ∷ y ∷ xs) name h = let m = last-in (y ∷ xs) name h in (m .0, inr (m .1), m .2)
+
+in-first : (e : Entry) (xs : List Entry) → In e xs → (id : ℕ) × (firstId xs ≡ some id)
+in-first e [] m = absurd m
+in-first e (x ∷ xs) m = (x .id, refl)
+
+-- ---- names and ids
+
+module _ (es : List Entry) (name : List ℕ) (id : ℕ) where
+  -- an id's last name is the name of some entry, so that name has a first
+  pub named-first : lastName (ofId id es) ≡ some name → (first : ℕ) × (firstId (ofName name es) ≡ some first)
+  unfolding ofName ofId
+  named-first h =
+      let m = last-in (keep (hasId id) es) name h in
+      let there = kept-from (hasId id) (m .0) es (m .1) in
+      in-first (m .0) (keep (hasName name) es) (kept (hasName name) (m .0) es (there .0) (ap (λ (l : List ℕ). same l name) (m .2) ∙ same-self name))
+
+  -- where an id was put at most once, the entry by which a name gives it names it
+  pub first-last : length (ofId id es) ≤ 1 → firstId (ofName name es) ≡ some id → lastName (ofId id es) ≡ some name
+  unfolding ofName ofId
+  first-last one h =
+      let m = first-in (keep (hasName name) es) id h in
+      let there = kept-from (hasName name) (m .0) es (m .1) in
+      let single = only-one (m .0) (keep (hasId id) es) (kept (hasId id) (m .0) es (there .0) (eq-eqb (m .0 .id) id (m .2))) one in
+      ap lastName single ∙ ap {B = Option (List ℕ)} (λ (l : List ℕ). some l) (same-true (m .0 .name) name (there .1))
+
+  pub last-first : length (ofName name es) ≤ 1 → lastName (ofId id es) ≡ some name → firstId (ofName name es) ≡ some id
+  unfolding ofName ofId
+  last-first one h =
+      let m = last-in (keep (hasId id) es) name h in
+      let there = kept-from (hasId id) (m .0) es (m .1) in
+      let single =
+      only-one (m .0) (keep (hasName name) es)
+      (kept (hasName name) (m .0) es (there .0) (ap (λ (l : List ℕ). same l name) (m .2) ∙ same-self name)) one in
+      ap firstId single ∙ ap {B = Option ℕ} (λ (i : ℕ). some i) (eqb-true (m .0 .id) id (there .1))

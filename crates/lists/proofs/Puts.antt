@@ -1,0 +1,202 @@
+-- One put in a list: it is refused exactly when the size by 01's formula exceeds a limit, and what it leaves is written. Assumes nothing.
+use Prim.Native.Nat.{ℕ, zero, suc, _+_, _^_, _≤_, _<_, max}
+use native.Mathlib.Omega.{arith}
+use native.Mathlib.Decide.{ℕ-discrete}
+use mathlib.Core.Path.{_≡_, refl, sym, ap, ap₂, _∙_}
+use mathlib.Core.Bool.{Bool, true, false, cond, _&&_, _||_}
+use mathlib.Core.List.{List, [], _∷_, _++_, append-assoc, append-nil}
+use lib.ListN.{length, getD, take, drop, set, length-append, length-set, length-replicate, getD-replicate}
+use lib.Seq.{sets, length-sets, sets-eq, take-add, drop-at, take-at, length-take-le, getD-set-same, getD-set-other}
+use lib.Dec.{eqb, ltb, leb}
+use borrow.Author.Tests.{eq-eqb, le-leb, ltb-false}
+use Rattle.jhash.specs.NameHash.{hashOf}
+use Rattle.image.specs.declared.Flag.{Flag}
+use Rattle.image.specs.declared.Flag.the-variants.{None, Oneway}
+use Rattle.image.specs.Bytes.{cat}
+use Rattle.image.specs.Tables.{tableOf}
+use Rattle.image.specs.Record.{Entry, headSize, entryBytes, entrySize, entriesSize, placed, count, ofTable, backSize, backIn, imageSize}
+use Rattle.writer.specs.State.{State, noneAbove, fits, finishedSize, fresh}
+use Rattle.writer.specs.Put.{raised, writerAfter, countsAfter, putRefusal, appended, afterPut}
+use Rattle.lists.specs.Calls.{put, sizeOf, refused, acceptedAfter, dueTo}
+use Rattle.lists.specs.Written.{Written, WordId}
+use Rattle.image.proofs.All.{all-true}
+use Rattle.image.proofs.Lists.{cat-append}
+use Rattle.image.proofs.Sizes.{length-entryBytes, length-entries, length-placed}
+use Rattle.lists.proofs.Appended.{entriesSize-snoc, backSize-snoc, sizeOf-is, count-within, count-same, count-other}
+
+-- ---- a written record fits
+
+module _ (flag : Flag) (n : ℕ) (es : List Entry) (s : State) (w : Written flag n es s) where
+  count-below : (k : ℕ) → k < 256 → getD (s .counts) k 0 ≤ s .writer .entries
+  count-below k h = omega (arith, w .counts k h, count-within k (placed headSize es), length-placed headSize es, w .entries)
+
+  pub written-fits : fits s ≡ true
+  unfolding fits
+  written-fits =
+      let none : noneAbove (s .counts) (s .writer .entries) ≡ true =
+      all-true (λ (t : ℕ). leb (getD (s .counts) t 0) (s .writer .entries)) 0 256
+      (λ i h. le-leb (getD (s .counts) (0 + i) 0) (s .writer .entries) (count-below (0 + i) (omega arith))) in
+      let cap : s .writer .capacity ≡ length (s .buffer) = w .capacity ∙ sym (w .length-kept) in
+      let low : headSize ≤ s .writer .end = omega (arith, w .end) in
+      let high : s .writer .end ≤ s .writer .capacity = omega (arith, w .end, w .capacity, w .within) in
+      simp
+      (eq-eqb (s .writer .capacity) (length (s .buffer)) cap, le-leb headSize (s .writer .end) low, le-leb (s .writer .end) (s .writer .capacity) high, none)
+
+-- ---- what the mode changes
+
+pub backIn-twice : (flag : Flag) (b : ℕ) → backIn flag (backIn flag b) ≡ backIn flag b
+backIn-twice None b = refl
+backIn-twice Oneway b = refl
+
+raised-back : (flag : Flag) (b : ℕ) (es : List Entry) (e : Entry) → b ≡ backIn flag (backSize es)
+    → raised flag b (e .id) ≡ backIn flag (backSize (es ++ (e ∷ [])))
+raised-back None b es e h = ap (λ (k : ℕ). max k (e .id + 1)) h ∙ sym (backSize-snoc es e)
+raised-back Oneway b es e h = h
+
+-- ---- the decision
+
+module _ (flag : Flag) (n : ℕ) (es : List Entry) (s : State) (w : Written flag n es s) (e : Entry) where
+  back-then : raised (s .writer .flag) (s .writer .back) (e .id) ≡ backIn flag (backSize (es ++ (e ∷ [])))
+  back-then =
+      ap (λ (f : Flag). raised f (s .writer .back) (e .id)) (w .mode) ∙ raised-back flag (s .writer .back) es e (w .back-size)
+
+  finished-then : finishedSize (writerAfter (s .writer) e) ≡ sizeOf flag (es ++ (e ∷ []))
+  unfolding writerAfter
+  finished-then =
+      let b : backIn (s .writer .flag) (raised (s .writer .flag) (s .writer .back) (e .id)) ≡ backIn flag (backSize (es ++ (e ∷ []))) =
+      ap₂ backIn (w .mode) back-then ∙ backIn-twice flag (backSize (es ++ (e ∷ []))) in
+      omega (arith, b, w .end, w .entries, entriesSize-snoc es e, length-append es (e ∷ []), sizeOf-is flag (es ++ (e ∷ [])))
+
+  pub put-due : putRefusal s e ≡ dueTo flag n es (put e)
+  unfolding putRefusal refused
+  put-due = simp (written-fits flag n es s w, finished-then, w .capacity)
+
+-- ---- the bytes
+
+-- bytes stored where an area ends make it longer
+stored-after : (o E : ℕ) (l area vs : List ℕ) → length area ≡ E → take E (drop o l) ≡ area → o + E + length vs ≤ length l
+    → take (E + length vs) (drop o (sets l (o + E) vs)) ≡ area ++ vs
+stored-after o E l area vs size stands room =
+    let D : List ℕ = drop (o + E + length vs) l in
+    let front : take (o + E) l ≡ take o l ++ area = take-add o E l ∙ ap (λ (m : List ℕ). take o l ++ m) stands in
+    let now : sets l (o + E) vs ≡ take o l ++ ((area ++ vs) ++ D) =
+    sets-eq vs l (o + E) room ∙ ap (λ (m : List ℕ). m ++ vs ++ D) front ∙ simp append-assoc in
+    let cut : drop o (sets l (o + E) vs) ≡ (area ++ vs) ++ D =
+    ap (drop o) now ∙ drop-at (take o l) ((area ++ vs) ++ D) o (length-take-le o l (omega arith)) in
+    let whole : length (area ++ vs) ≡ E + length vs = omega (arith, length-append area vs) in
+    ap (take (E + length vs)) cut ∙ take-at (area ++ vs) D (E + length vs) whole
+
+-- ---- what an accepted put leaves
+
+or-false : (a b : Bool) → (a || b) ≡ false → (a ≡ false) × (b ≡ false)
+or-false true b h = (h, cc)
+or-false false b h = (refl, h)
+
+-- the ids stay words: in a two-way list by the size, in a one-way list by the premise
+ids-then : (flag : Flag) (es : List Entry) (e : Entry) → WordId flag (put e) → backSize es ≤ 2 ^ 32 → imageSize flag (es ++ (e ∷ [])) ≤ 4294967295
+    → backSize (es ++ (e ∷ [])) ≤ 2 ^ 32
+ids-then None es e word h small = omega arith
+ids-then Oneway es e word h small = omega (arith, backSize-snoc es e)
+
+module _ (flag : Flag) (n : ℕ) (es : List Entry) (s : State) (w : Written flag n es s) (e : Entry) (room : refused flag n es e ≡ false) where
+  within-then : imageSize flag (es ++ (e ∷ [])) ≤ n
+  unfolding refused
+  within-then =
+      let size = sizeOf flag (es ++ (e ∷ [])) in
+      omega (arith, ltb-false n size (or-false (ltb n size) (ltb 4294967295 size) room .0), sizeOf-is flag (es ++ (e ∷ [])))
+
+  below-then : imageSize flag (es ++ (e ∷ [])) ≤ 4294967295
+  unfolding refused
+  below-then =
+      let size = sizeOf flag (es ++ (e ∷ [])) in
+      omega (arith, ltb-false 4294967295 size (or-false (ltb n size) (ltb 4294967295 size) room .1), sizeOf-is flag (es ++ (e ∷ [])))
+
+  -- the entries' area after appending is the old area and the entry's bytes
+  pub area-then : take (entriesSize es + entrySize e) (drop headSize (sets (s .buffer) (s .writer .end) (entryBytes e))) ≡ cat entryBytes es ++ entryBytes e
+  area-then =
+      let fit : headSize + entriesSize es + length (entryBytes e) ≤ length (s .buffer) =
+      omega (arith, within-then, entriesSize-snoc es e, length-entryBytes e, w .length-kept) in
+      let size : entriesSize es + entrySize e ≡ entriesSize es + length (entryBytes e) = omega (arith, length-entryBytes e) in
+      ap₂ (λ (k i : ℕ). take k (drop headSize (sets (s .buffer) i (entryBytes e)))) size (w .end)
+      ∙ stored-after headSize (entriesSize es) (s .buffer) (cat entryBytes es) (entryBytes e) (length-entries es) (w .area) fit
+
+  area-all : take (entriesSize (es ++ (e ∷ []))) (drop headSize (sets (s .buffer) (s .writer .end) (entryBytes e))) ≡ cat entryBytes (es ++ (e ∷ []))
+  unfolding cat
+  area-all =
+      ap (λ (k : ℕ). take k (drop headSize (sets (s .buffer) (s .writer .end) (entryBytes e)))) (entriesSize-snoc es e)
+      ∙ area-then
+      ∙ ap (λ (m : List ℕ). cat entryBytes es ++ m) (sym (append-nil (entryBytes e)))
+      ∙ sym (cat-append entryBytes es (e ∷ []))
+
+  counts-then : (t : ℕ) → t < 256 → getD (countsAfter (s .counts) e) t 0 ≡ count t (placed headSize (es ++ (e ∷ [])))
+  unfolding countsAfter
+  counts-then t h = go (ℕ-discrete (tableOf (hashOf (e .name))) t)
+    where
+      go : Dec (tableOf (hashOf (e .name)) ≡ t) → getD (countsAfter (s .counts) e) t 0 ≡ count t (placed headSize (es ++ (e ∷ [])))
+      go (yes p) =
+          ap (λ (k : ℕ). getD (set (s .counts) k (getD (s .counts) k 0 + 1)) t 0) p
+          ∙ getD-set-same (s .counts) t (getD (s .counts) t 0 + 1) 0 (omega (arith, w .tables))
+          ∙ ap (λ (k : ℕ). k + 1) (w .counts t h)
+          ∙ sym (count-same t headSize es e p)
+      go (no q) =
+          getD-set-other (s .counts) (tableOf (hashOf (e .name))) t (getD (s .counts) (tableOf (hashOf (e .name))) 0 + 1) 0 (λ r. q (sym r))
+          ∙ w .counts t h
+          ∙ sym (count-other t headSize es e q)
+
+  tables-then : length (countsAfter (s .counts) e) ≡ 256
+  unfolding countsAfter
+  tables-then = length-set (s .counts) (tableOf (hashOf (e .name))) (getD (s .counts) (tableOf (hashOf (e .name))) 0 + 1) ∙ w .tables
+
+  pub appended-written : WordId flag (put e) → Written flag n (es ++ (e ∷ [])) (appended s e)
+  unfolding appended writerAfter
+  appended-written word =
+      record {
+        mode = w .mode;
+        capacity = w .capacity;
+        length-kept = length-sets (s .buffer) (s .writer .end) (entryBytes e) ∙ w .length-kept;
+        end = omega (arith, w .end, entriesSize-snoc es e);
+        entries = omega (arith, w .entries, length-append es (e ∷ []));
+        back-size = back-then flag n es s w e;
+        tables = tables-then;
+        counts = counts-then;
+        area = area-all;
+        within = within-then;
+        below = below-then;
+        ids = ids-then flag es e word (w .ids) below-then;
+      }
+
+-- ---- the put, accepted or refused
+
+module _ (flag : Flag) (n : ℕ) (es : List Entry) (s : State) (w : Written flag n es s) (e : Entry) where
+  pub put-written : WordId flag (put e) → Written flag n (acceptedAfter flag n es (put e)) (afterPut s e)
+  unfolding afterPut
+  put-written word = go (refused flag n es e) refl (put-due flag n es s w e)
+    where
+      go : (b : Bool) → refused flag n es e ≡ b → putRefusal s e ≡ cond b 3 0
+          → Written flag n (cond b es (es ++ (e ∷ []))) (cond (eqb (putRefusal s e) 0) (appended s e) s)
+      go true r d = rw d w
+      go false r d = rw d (appended-written flag n es s w e r word)
+
+-- ---- a fresh record
+
+pub fresh-written : (flag : Flag) (buffer : List ℕ) → headSize ≤ length buffer → Written flag (length buffer) [] (fresh flag buffer)
+unfolding fresh entriesSize placed ofTable backSize cat Rattle.image.specs.Bytes.keep
+fresh-written flag buffer room =
+    record {
+      mode = refl;
+      capacity = refl;
+      length-kept = refl;
+      end = refl;
+      entries = refl;
+      back-size = sym (no-back flag);
+      tables = length-replicate {A = ℕ} 256 0;
+      counts = λ t h. getD-replicate 256 t 0 0 h;
+      area = refl;
+      within = omega (arith, no-back flag);
+      below = omega (arith, no-back flag);
+      ids = omega arith;
+    }
+  where
+    no-back : (f : Flag) → backIn f 0 ≡ 0
+    no-back None = refl
+    no-back Oneway = refl

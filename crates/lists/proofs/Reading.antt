@@ -1,0 +1,72 @@
+-- What the reader answers on an image of entries, and on the image of a list of calls in either mode. Assumes nothing.
+use Prim.Native.Nat.{ℕ, _^_, _≤_}
+use native.Mathlib.Omega.{arith}
+use mathlib.Core.Path.{_≡_, refl, ap, _∙_}
+use mathlib.Core.List.{List}
+use mathlib.Core.Option.{Option, some}
+use lib.ListN.{length, take, drop}
+use Rattle.image.specs.declared.Flag.{Flag}
+use Rattle.image.specs.declared.Flag.the-variants.{None, Oneway}
+use Rattle.image.specs.Record.{Entry, headSize, backSize, imageSize, image}
+use Rattle.reader.specs.Lookup.{Lookup, found, nothing, lookup}
+use Rattle.reader.specs.Naming.{Naming, place, unnamed, naming}
+use Rattle.reader.specs.Walk.{finds, homeBy as homePlaced, home}
+use Rattle.answers.specs.Answer.{foundId, reads, heldAt, nameGiven, firstId, ofName, tablePuts}
+use Rattle.answers.proofs.Images.{image-opens, name-gives, name-reads, found-reads, long-reads, id-gives}
+use Rattle.answers.proofs.Named.{naming-oneway}
+use Rattle.writer.specs.State.{fresh}
+use Rattle.writer.specs.Close.{closedSize, afterClose}
+use Rattle.lists.specs.Calls.{Call, after, accepted}
+use Rattle.lists.specs.Written.{WordIds}
+use Rattle.lists.specs.Read.{namedIn, isId, homeBy, Read}
+use Rattle.lists.proofs.Along.{list-written}
+use Rattle.lists.proofs.OneMore.{list-image, list-below}
+
+-- ---- reads of a lookup that finds
+
+found-most : (l : Lookup) (m id : ℕ) → ((i r : ℕ) → l ≡ found i r → r ≤ m) → foundId l ≡ some id → reads l ≤ m
+found-most (found i r) m id most h = most i r refl
+found-most (nothing r) m id most h = absurd (let z : _≡_ {A = ℕ} 0 1 = cc in omega arith)
+
+-- ---- home
+
+found-is : (id : ℕ) (l : Lookup) → finds id l ≡ isId id (foundId l)
+found-is id (found i r) = refl
+found-is id (nothing r) = refl
+
+module _ (img : List ℕ) (es : List Entry) (names : (name : List ℕ) → foundId (lookup img name) ≡ firstId (ofName name es)) (id : ℕ) where
+  home-placed : (p : Naming) → homePlaced img id p ≡ homeBy es id (heldAt img p)
+  home-placed (place s n) =
+      found-is id (lookup img (take n (drop s img))) ∙ ap (isId id) (names (take n (drop s img)))
+  home-placed unnamed = refl
+
+  home-is : (given : Option (List ℕ)) → nameGiven img id ≡ given → home img id ≡ homeBy es id given
+  unfolding home
+  home-is given h = home-placed (naming img id) ∙ ap (homeBy es id) h
+
+-- ---- an image of entries
+
+module _ (es : List Entry) (ids : backSize es ≤ 2 ^ 32) where
+  image-names : (flag : Flag) → imageSize flag es ≤ 4294967295 → (id : ℕ) → nameGiven (image flag es) id ≡ namedIn flag es id
+  image-names None small id = id-gives es small id
+  image-names Oneway small id = naming-oneway es small id
+
+  pub read-image : (flag : Flag) → imageSize flag es ≤ 4294967295 → Read flag es (image flag es)
+  read-image flag small =
+      record {
+        opened = image-opens flag es small;
+        name-gives = name-gives flag es small ids;
+        id-gives = image-names flag small;
+        id-home = λ id. home-is (image flag es) es (name-gives flag es small ids) id (namedIn flag es id) (image-names flag small id);
+        bounded = name-reads flag es small ids;
+        found-bounded = λ name id h. found-most (lookup (image flag es) name) (tablePuts name es) id (found-reads flag es small ids name) h;
+        long-unread = λ name h. ap reads (long-reads (image flag es) name h);
+      }
+
+-- ---- the image of a list of calls
+
+pub list-read : (flag : Flag) (buffer : List ℕ) → headSize ≤ length buffer → (cs : List Call) → WordIds flag cs
+    → Read flag (accepted flag (length buffer) cs) (take (closedSize (after (fresh flag buffer) cs)) (afterClose (after (fresh flag buffer) cs) .buffer))
+list-read flag buffer room cs word =
+    rw (list-image flag buffer room cs word)
+    (read-image (accepted flag (length buffer) cs) (list-written flag buffer room cs word .ids) flag (list-below flag buffer room cs word))

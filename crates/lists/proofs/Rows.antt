@@ -1,0 +1,146 @@
+-- The examples C1 to C7 and C11 hold: one theorem says what is computed of a row, from the calls and the buffer's length alone, and that it holds then of
+-- begin, put, close and the reader on every buffer of that length. Assumes nothing.
+use Prim.Native.Nat.{ℕ, zero, suc, _+_, _*_, _^_, _≤_, _<_}
+use native.Mathlib.Omega.{arith}
+use mathlib.Core.Path.{_≡_, refl, ap, ap₂, _∙_}
+use mathlib.Core.Bool.{Bool, true, false, cond}
+use mathlib.Core.List.{List, [], _∷_, map}
+use lib.ListN.{length}
+use lib.Dec.{eqb, lit≤, lit<}
+use borrow.Author.Tests.{ne-eqb}
+use Rattle.image.specs.declared.Flag.{Flag}
+use Rattle.image.specs.Bytes.{word, keep, range, same}
+use Rattle.image.specs.Record.{Entry, headSize, entrySize, entriesSize, placed, hasId, ofId, lastFrom, link, backSize, back, backOffset, imageSize, image}
+use Rattle.reader.specs.Open.{num, backOffsetAt}
+use Rattle.answers.specs.Answer.{ofName, firstId, ofId as entriesOfId}
+use Rattle.layout.proofs.At.{at-word}
+use Rattle.layout.proofs.Parts.{link-at}
+use Rattle.answers.proofs.Opened.{backSizeAt-image, backOffsetAt-image}
+use Rattle.writer.specs.State.{fresh}
+use Rattle.writer.specs.Close.{size}
+use Rattle.lists.specs.Calls.{after, acceptedFrom, dueFrom, accepted, due, refused, putsSize, sizeOf}
+use Rattle.lists.specs.Written.{WordIds}
+use Rattle.lists.specs.Read.{namedIn, homeIn, Read}
+use Rattle.lists.specs.Rows.{NameRow, IdRow, Row, Each, closedImage, backArray, ImageHolds, RowHolds, Right, rows}
+use Rattle.lists.proofs.Along.{list-answers}
+use Rattle.lists.proofs.OneMore.{list-gives, list-formula, list-image, list-below}
+use Rattle.lists.proofs.Reading.{list-read}
+
+each-map : {A : Type 0} {P Q : A → Type 0} → ((x : A) → P x → Q x) → (xs : List A) → Each P xs → Each Q xs
+each-map f [] h = tt
+each-map f (x ∷ xs) h = (f x (h .0), each-map f xs (h .1))
+
+-- ---- the back array of an image
+
+map-range : (f g : ℕ → ℕ) (s n : ℕ) → ((i : ℕ) → i < s + n → f i ≡ g i) → map f (range s n) ≡ map g (range s n)
+unfolding range
+map-range f g s zero h = refl
+map-range f g s (suc n) h =
+    ap₂ {C = List ℕ} (λ (x : ℕ) (xs : List ℕ). x ∷ xs) (h s (omega arith)) (map-range f g (suc s) n (λ i p. h i (omega arith)))
+
+last-small : (i k d o : ℕ) (es : List Entry) → d < k → o + entriesSize es < k → lastFrom d (keep (hasId i) (placed o es)) < k
+unfolding lastFrom keep placed entriesSize
+last-small i k d o [] h room = h
+last-small i k d o (e ∷ es) h room =
+    go (eqb (e .id) i) (last-small i k d (o + entrySize e) es h (omega arith)) (last-small i k o (o + entrySize e) es (omega arith) (omega arith))
+  where
+    go : (b : Bool) → lastFrom d (keep (hasId i) (placed (o + entrySize e) es)) < k → lastFrom o (keep (hasId i) (placed (o + entrySize e) es)) < k
+        → lastFrom d (cond b (record { entry = e; at = o } ∷ keep (hasId i) (placed (o + entrySize e) es)) (keep (hasId i) (placed (o + entrySize e) es))) < k
+    go true p q = q
+    go false p q = p
+
+module _ (flag : Flag) (es : List Entry) (small : imageSize flag es ≤ 4294967295) where
+  link-small : (i : ℕ) → link (placed headSize es) i < 2 ^ 32
+  unfolding link ofId
+  link-small i = last-small i (2 ^ 32) 0 headSize es (omega arith) (omega arith)
+
+  link-word : (i : ℕ) → i < back flag es → word (image flag es) (backOffset flag es + 4 * i) ≡ link (placed headSize es) i
+  unfolding backOffset
+  link-word i h =
+      rw (ne-eqb (back flag es) 0 (λ z. omega arith)) (at-word (link (placed headSize es) i) (link-at flag es small i h) (link-small i))
+
+  back-array : backArray (image flag es) ≡ map (link (placed headSize es)) (range 0 (back flag es))
+  back-array =
+      rw (backOffsetAt-image flag es small, backSizeAt-image flag es small)
+      (map-range (λ (i : ℕ). word (image flag es) (backOffset flag es + 4 * i)) (link (placed headSize es)) 0 (back flag es) (λ i p. link-word i (omega arith)))
+
+-- ---- what is computed of a row
+
+abbrev entries : Row → List Entry
+entries r = accepted (r .flag) (r .capacity) (r .calls)
+
+-- room for a head, the ids, each call's refusal, size, num, back offset, back array, what names give, what ids give and whether they are home
+abbrev Computed : Row → Type 0
+Computed r =
+    (headSize ≤ r .capacity)
+    × WordIds (r .flag) (r .calls)
+    × (due (r .flag) (r .capacity) (r .calls) ≡ r .refusals)
+    × (sizeOf (r .flag) (entries r) ≡ r .size)
+    × (length (entries r) ≡ r .number)
+    × (backOffset (r .flag) (entries r) ≡ r .backOffset)
+    × (map (link (placed headSize (entries r))) (range 0 (back (r .flag) (entries r))) ≡ r .links)
+    × Each (λ (a : NameRow). firstId (ofName (a .name) (entries r)) ≡ a .gives) (r .names)
+    × Each (λ (a : IdRow). (namedIn (r .flag) (entries r) (a .id) ≡ a .gives) × (homeIn (r .flag) (entries r) (a .id) ≡ a .isHome)) (r .ids)
+
+-- it holds of every buffer of that length
+module _ (r : Row) (c : Computed r) where
+  image-holds : (img : List ℕ) → img ≡ image (r .flag) (entries r) → imageSize (r .flag) (entries r) ≤ 4294967295 → Read (r .flag) (entries r) img → ImageHolds r img
+  image-holds img is small read =
+      record {
+        opened = read .opened ∙ ap num (c .4);
+        back-offset = ap backOffsetAt is ∙ backOffsetAt-image (r .flag) (entries r) small ∙ c .5;
+        back-array = ap backArray is ∙ back-array (r .flag) (entries r) small ∙ c .6;
+        named = each-map (λ a h. read .name-gives (a .name) ∙ h) (r .names) (c .7);
+        placed = each-map (λ a h. (read .id-gives (a .id) ∙ h .0, read .id-home (a .id) ∙ h .1)) (r .ids) (c .8);
+      }
+
+  holds-in : (buffer : List ℕ) → length buffer ≡ r .capacity → RowHolds r buffer
+  holds-in buffer long =
+      let fits : headSize ≤ length buffer = omega (arith, c .0) in
+      let same-entries : accepted (r .flag) (length buffer) (r .calls) ≡ entries r = ap (λ (n : ℕ). accepted (r .flag) n (r .calls)) long in
+      record {
+        answered = list-answers (r .flag) buffer fits (r .calls) (c .1) ∙ ap (λ (n : ℕ). due (r .flag) n (r .calls)) long ∙ c .2;
+        closes = list-gives (r .flag) buffer fits (r .calls) (c .1)
+            ∙ ap size (list-formula (r .flag) buffer fits (r .calls) (c .1) ∙ ap (sizeOf (r .flag)) same-entries ∙ c .3);
+        imaged =
+            image-holds (closedImage (after (fresh (r .flag) buffer) (r .calls)))
+            (list-image (r .flag) buffer fits (r .calls) (c .1) ∙ ap (image (r .flag)) same-entries)
+            (rw same-entries at (list-below (r .flag) buffer fits (r .calls) (c .1)))
+            (rw same-entries at (list-read (r .flag) buffer fits (r .calls) (c .1)));
+      }
+
+-- ---- the rows
+
+computed : Each Computed rows
+unfolding accepted acceptedFrom due dueFrom refused sizeOf putsSize backSize entriesSize backOffset placed ofId keep link lastFrom range ofName entriesOfId same
+computed = (
+  (lit≤ tt, tt, refl, refl, refl, refl, refl, (refl, tt), ((refl, refl), tt)),
+  (
+    (lit≤ tt, (tt, tt), refl, refl, refl, refl, refl, (refl, tt), ((refl, refl), tt)),
+    (
+      (lit≤ tt, (tt, tt), refl, refl, refl, refl, refl, (refl, tt), ((refl, refl), tt)),
+      (
+        (lit≤ tt, (tt, (tt, tt)), refl, refl, refl, refl, refl, (refl, (refl, tt)), ((refl, refl), ((refl, refl), ((refl, refl), tt)))),
+        (
+          (lit≤ tt, (lit< tt, (lit< tt, tt)), refl, refl, refl, refl, refl, (refl, (refl, tt)), ((refl, refl), tt)),
+          (
+            (lit≤ tt, (tt, (tt, tt)), refl, refl, refl, refl, refl, (refl, tt), ((refl, refl), ((refl, refl), tt))),
+            (
+              (lit≤ tt, (tt, (tt, tt)), refl, refl, refl, refl, refl, (refl, (refl, tt)), ((refl, refl), tt)),
+              (
+                (lit≤ tt, (tt, tt), refl, refl, refl, refl, refl, (refl, tt), ((refl, refl), tt)),
+                (
+                  (lit≤ tt, (lit< tt, tt), refl, refl, refl, refl, refl, (refl, tt), ((refl, refl), tt)),
+                  tt,
+                ),
+              ),
+            ),
+          ),
+        ),
+      ),
+    ),
+  ),
+)
+
+pub rows-right : Each Right rows
+rows-right = each-map holds-in rows computed

@@ -1,0 +1,103 @@
+-- Lists of calls: 01, "Whole lists (demand 3)". What happens along a list is told twice: by the rules of the single calls, each lent record and buffer
+-- as the call before left them (`after`, `answers`); and by the calls and the buffer's length alone (`accepted`, `due`). Demand 3 says that both agree.
+use Prim.Native.Nat.{ℕ, _+_, _*_}
+use mathlib.Core.Path.{_≡_}
+use mathlib.Core.Logic.{_⊎_}
+use mathlib.Core.Bool.{Bool, cond}
+use mathlib.Core.List.{List, [], _∷_, _++_}
+use lib.ListN.{length}
+use lib.Dec.{eqb}
+use Rattle.image.specs.declared.Flag.{Flag}
+use Rattle.image.specs.Record.{Entry, backSize, backIn}
+use Rattle.writer.specs.State.{State, tooLarge}
+use Rattle.writer.specs.Put.{putRefusal, afterPut}
+use Rattle.writer.specs.Close.{closeRefusal, afterClose}
+
+-- a list has put and close calls in any number and order
+pub data Call : Type 0 where
+  put : Entry → Call
+  close : Call
+
+-- what a call leaves, and the number of its refusal (0: none), by the rules of "Writing" and "When a call is refused"
+abbrev pub afterCall : State → Call → State
+afterCall s (put e) = afterPut s e
+afterCall s close = afterClose s
+
+abbrev pub answer : State → Call → ℕ
+answer s (put e) = putRefusal s e
+answer s close = closeRefusal s
+
+-- each call is lent record and buffer as the call before left them; refused ones stay in the list
+unfoldable pub after : State → List Call → State
+after s [] = s
+after s (c ∷ cs) = after (afterCall s c) cs
+
+unfoldable pub answers : State → List Call → List ℕ
+answers s [] = []
+answers s (c ∷ cs) = answer s c ∷ answers (afterCall s c) cs
+
+-- a put is accepted when its answer is no refusal: the puts of a list of calls that these answers accept, in their order
+abbrev pub acceptedOne : Call → ℕ → List Entry
+acceptedOne (put e) r = cond (eqb r 0) (e ∷ []) []
+acceptedOne close r = []
+
+unfoldable pub acceptedBy : List Call → List ℕ → List Entry
+acceptedBy [] rs = []
+acceptedBy (c ∷ cs) [] = []
+acceptedBy (c ∷ cs) (r ∷ rs) = acceptedOne c r ++ acceptedBy cs rs
+
+-- 25 + name length for each accepted put
+unfoldable pub putsSize : List Entry → ℕ
+putsSize [] = 0
+putsSize (e ∷ es) = 25 + length (e .name) + putsSize es
+
+-- the finished size follows from the calls: 2,072, plus 25 + name length for each accepted put, plus 4 × (the largest id of these + 1) if there are
+-- any (`backSize`, which is 0 without any). In one-way mode the last term is 0
+unfoldable pub sizeOf : Flag → List Entry → ℕ
+sizeOf flag es = 2072 + putsSize es + 4 * backIn flag (backSize es)
+
+-- is a put refused after the accepted puts es, in a buffer of n bytes? The size counts the put at hand
+unfoldable pub refused : Flag → ℕ → List Entry → Entry → Bool
+refused flag n es e = tooLarge n (sizeOf flag (es ++ (e ∷ [])))
+
+-- the accepted puts after one call more
+abbrev pub acceptedAfter : Flag → ℕ → List Entry → Call → List Entry
+acceptedAfter flag n es (put e) = cond (refused flag n es e) es (es ++ (e ∷ []))
+acceptedAfter flag n es close = es
+
+-- the refusal that is due to a call: 3 to a put whose size exceeds either limit, none to any other call
+abbrev pub dueTo : Flag → ℕ → List Entry → Call → ℕ
+dueTo flag n es (put e) = cond (refused flag n es e) 3 0
+dueTo flag n es close = 0
+
+unfoldable pub acceptedFrom : Flag → ℕ → List Entry → List Call → List Entry
+acceptedFrom flag n es [] = es
+acceptedFrom flag n es (c ∷ cs) = acceptedFrom flag n (acceptedAfter flag n es c) cs
+
+unfoldable pub dueFrom : Flag → ℕ → List Entry → List Call → List ℕ
+dueFrom flag n es [] = []
+dueFrom flag n es (c ∷ cs) = dueTo flag n es c ∷ dueFrom flag n (acceptedAfter flag n es c) cs
+
+-- the accepted puts of a list of calls, and the refusal due to each call, by the buffer's length and the calls alone
+unfoldable pub accepted : Flag → ℕ → List Call → List Entry
+accepted flag n cs = acceptedFrom flag n [] cs
+
+unfoldable pub due : Flag → ℕ → List Call → List ℕ
+due flag n cs = dueFrom flag n [] cs
+
+-- no call of a list gives 2 or 4, and no close is refused there: a put may be answered by 0 or 3, a close by 0, and there is one answer for each call
+abbrev pub Permitted : Call → ℕ → Type 0
+Permitted (put e) r = (r ≡ 0) ⊎ (r ≡ 3)
+Permitted close r = r ≡ 0
+
+abbrev pub AllPermitted : List Call → List ℕ → Type 0
+AllPermitted [] [] = Unit {0}
+AllPermitted [] (r ∷ rs) = ⊥
+AllPermitted (c ∷ cs) [] = ⊥
+AllPermitted (c ∷ cs) (r ∷ rs) = Permitted c r × AllPermitted cs rs
+
+-- the puts of a list, refused ones included
+unfoldable pub puts : List Call → List Entry
+puts [] = []
+puts (put e ∷ cs) = e ∷ puts cs
+puts (close ∷ cs) = puts cs

@@ -1,0 +1,26 @@
+-- What an engineer asks next, of every list as in demand 3.
+use Prim.Native.Nat.{ℕ, _≤_}
+use mathlib.Core.Path.{_≡_}
+use mathlib.Core.Logic.{_↔_}
+use mathlib.Core.List.{List, []}
+use mathlib.Core.Option.{some}
+use lib.ListN.{length}
+use Rattle.image.specs.declared.Flag.the-variants.{None}
+use Rattle.image.specs.Record.{image}
+use Rattle.reader.specs.Lookup.{lookup}
+use Rattle.answers.specs.Answer.{foundId, nameGiven, ofName, ofId, firstId}
+use Rattle.writer.specs.Close.{afterClose}
+use Rattle.lists.specs.Calls.{Call, puts}
+use Rattle.lists.specs.Demand3.{left, acceptedPuts, imageOf}
+
+pub record Corollaries (buffer : List ℕ) (cs : List Call) : Type 0 where
+  -- an id's name, looked up, is found, and gives the id of that name's first accepted put
+  pub back-and-forth : (id : ℕ) (name : List ℕ) → nameGiven (imageOf buffer cs) id ≡ some name
+      → (first : ℕ) × (foundId (lookup (imageOf buffer cs) name) ≡ some first) × (firstId (ofName name (acceptedPuts buffer cs)) ≡ some first)
+  -- where each name was put once and each id once, lookup and naming are inverse
+  pub inverse : ((name : List ℕ) → length (ofName name (acceptedPuts buffer cs)) ≤ 1) → ((id : ℕ) → length (ofId id (acceptedPuts buffer cs)) ≤ 1)
+      → (name : List ℕ) (id : ℕ) → (foundId (lookup (imageOf buffer cs) name) ≡ some id) ↔ (nameGiven (imageOf buffer cs) id ≡ some name)
+  -- a list without puts gives the empty image
+  pub empty-image : puts cs ≡ [] → imageOf buffer cs ≡ image None []
+  -- closing twice gives the same image, and changes nothing more
+  pub closed-twice : afterClose (afterClose (left buffer cs)) ≡ afterClose (left buffer cs)

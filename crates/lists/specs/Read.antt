@@ -1,0 +1,42 @@
+-- What the reader answers on an image of entries, two-way or one-way: 01, "Whole lists (demand 3)".
+use Prim.Native.Nat.{ℕ, _+_, _≤_}
+use mathlib.Core.Path.{_≡_}
+use mathlib.Core.Bool.{Bool, false}
+use mathlib.Core.List.{List}
+use mathlib.Core.Option.{Option, none, some}
+use lib.ListN.{length}
+use lib.Dec.{eqb}
+use Rattle.image.specs.declared.Flag.{Flag}
+use Rattle.image.specs.declared.Flag.the-variants.{None, Oneway}
+use Rattle.image.specs.Record.{Entry}
+use Rattle.reader.specs.Open.{opening, num}
+use Rattle.reader.specs.Lookup.{lookup}
+use Rattle.reader.specs.Walk.{home}
+use Rattle.answers.specs.Answer.{foundId, reads, nameGiven, ofName, ofId, tablePuts, firstId, lastName}
+
+-- an id gives the name of its last entry; in a one-way image, none
+abbrev pub namedIn : Flag → List Entry → ℕ → Option (List ℕ)
+namedIn None es id = lastName (ofId id es)
+namedIn Oneway es id = none
+
+-- is this the id?
+abbrev pub isId : ℕ → Option ℕ → Bool
+isId id (some i) = eqb i id
+isId id none = false
+
+-- an id is home (01's term) exactly when it has a name and the first entry of that name has this id
+abbrev pub homeBy : List Entry → ℕ → Option (List ℕ) → Bool
+homeBy es id (some name) = isId id (firstId (ofName name es))
+homeBy es id none = false
+
+abbrev pub homeIn : Flag → List Entry → ℕ → Bool
+homeIn flag es id = homeBy es id (namedIn flag es id)
+
+pub record Read (flag : Flag) (es : List Entry) (img : List ℕ) : Type 0 where
+  pub opened : opening img ≡ num (length es)
+  pub name-gives : (name : List ℕ) → foundId (lookup img name) ≡ firstId (ofName name es)
+  pub id-gives : (id : ℕ) → nameGiven img id ≡ namedIn flag es id
+  pub id-home : (id : ℕ) → home img id ≡ homeIn flag es id
+  pub bounded : (name : List ℕ) → reads (lookup img name) ≤ tablePuts name es + 1
+  pub found-bounded : (name : List ℕ) (id : ℕ) → foundId (lookup img name) ≡ some id → reads (lookup img name) ≤ tablePuts name es
+  pub long-unread : (name : List ℕ) → 4294967295 ≤ length name → reads (lookup img name) ≡ 0

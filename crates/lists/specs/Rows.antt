@@ -1,0 +1,220 @@
+-- The examples C1 to C7 and C11 of 01, "Examples from the quay", as rows: a list of calls on a buffer, and what it gives.
+use Prim.Native.Nat.{ℕ, _+_, _*_}
+use mathlib.Core.Path.{_≡_}
+use mathlib.Core.Bool.{Bool, true, false}
+use mathlib.Core.List.{List, [], _∷_, map}
+use mathlib.Core.Option.{Option, none, some}
+use lib.ListN.{length, take}
+use Rattle.image.specs.declared.Flag.{Flag}
+use Rattle.image.specs.declared.Flag.the-variants.{None, Oneway}
+use Rattle.image.specs.Bytes.{word, range}
+use Rattle.reader.specs.Open.{opening, num, backSizeAt, backOffsetAt}
+use Rattle.reader.specs.Lookup.{lookup}
+use Rattle.reader.specs.Walk.{home}
+use Rattle.answers.specs.Answer.{foundId, nameGiven}
+use Rattle.writer.specs.State.{State, fresh}
+use Rattle.writer.specs.Close.{size, closing, closedSize, afterClose}
+use Rattle.lists.specs.Calls.{Call, put, after, answers}
+
+-- what a name gives; what an id gives, and whether it is home
+pub record NameRow : Type 0 where
+  pub name : List ℕ
+  pub gives : Option ℕ
+
+pub record IdRow : Type 0 where
+  pub id : ℕ
+  pub gives : Option (List ℕ)
+  pub isHome : Bool
+
+-- calls on a buffer of `capacity` bytes; the refusal of each, the size that one more close gives, num, the back array's offset and words, and answers
+pub record Row : Type 0 where
+  pub flag : Flag
+  pub capacity : ℕ
+  pub calls : List Call
+  pub refusals : List ℕ
+  pub size : ℕ
+  pub number : ℕ
+  pub backOffset : ℕ
+  pub links : List ℕ
+  pub names : List NameRow
+  pub ids : List IdRow
+
+-- each of a list
+abbrev pub Each : {A : Type 0} → (A → Type 0) → List A → Type 0
+Each P [] = Unit {0}
+Each P (x ∷ xs) = P x × Each P xs
+
+-- the image of one more close
+abbrev pub closedImage : State → List ℕ
+closedImage s = take (closedSize s) (afterClose s .buffer)
+
+-- the words of an image's back array
+abbrev pub backArray : List ℕ → List ℕ
+backArray img = map (λ (i : ℕ). word img (backOffsetAt img + 4 * i)) (range 0 (backSizeAt img))
+
+-- a row holds of an image, and of a buffer
+pub record ImageHolds (r : Row) (img : List ℕ) : Type 0 where
+  pub opened : opening img ≡ num (r .number)
+  pub back-offset : backOffsetAt img ≡ r .backOffset
+  pub back-array : backArray img ≡ r .links
+  pub named : Each (λ (a : NameRow). foundId (lookup img (a .name)) ≡ a .gives) (r .names)
+  pub placed : Each (λ (a : IdRow). (nameGiven img (a .id) ≡ a .gives) × (home img (a .id) ≡ a .isHome)) (r .ids)
+
+pub record RowHolds (r : Row) (buffer : List ℕ) : Type 0 where
+  pub answered : answers (fresh (r .flag) buffer) (r .calls) ≡ r .refusals
+  pub closes : closing (after (fresh (r .flag) buffer) (r .calls)) ≡ size (r .size)
+  pub imaged : ImageHolds r (closedImage (after (fresh (r .flag) buffer) (r .calls)))
+
+-- whatever bytes stand in the buffer
+abbrev pub Right : Row → Type 0
+Right r = (buffer : List ℕ) → length buffer ≡ r .capacity → RowHolds r buffer
+
+-- ---- the rows
+
+abbrev pub A : List ℕ
+A = 65 ∷ []
+
+abbrev pub B : List ℕ
+B = 66 ∷ []
+
+abbrev pub entered : List ℕ → ℕ → Call
+entered name id = put (record { name = name; id = id })
+
+abbrev pub c1 : Row
+c1 =
+    record {
+      flag = None;
+      capacity = 2072;
+      calls = [];
+      refusals = [];
+      size = 2072;
+      number = 0;
+      backOffset = 0;
+      links = [];
+      names = record { name = A; gives = none } ∷ [];
+      ids = record { id = 0; gives = none; isHome = false } ∷ [];
+    }
+
+abbrev pub c2 : Row
+c2 =
+    record {
+      flag = None;
+      capacity = 2101;
+      calls = entered [] 0 ∷ [];
+      refusals = 0 ∷ [];
+      size = 2101;
+      number = 1;
+      backOffset = 2097;
+      links = 2072 ∷ [];
+      names = record { name = []; gives = some 0 } ∷ [];
+      ids = record { id = 0; gives = some []; isHome = true } ∷ [];
+    }
+
+abbrev pub c3 : Row
+c3 =
+    record {
+      flag = None;
+      capacity = 2100;
+      calls = entered [] 0 ∷ [];
+      refusals = 3 ∷ [];
+      size = 2072;
+      number = 0;
+      backOffset = 0;
+      links = [];
+      names = record { name = []; gives = none } ∷ [];
+      ids = record { id = 0; gives = none; isHome = false } ∷ [];
+    }
+
+abbrev pub c4 : Row
+c4 =
+    record {
+      flag = None;
+      capacity = 2140;
+      calls = entered A 0 ∷ entered B 3 ∷ [];
+      refusals = 0 ∷ 0 ∷ [];
+      size = 2140;
+      number = 2;
+      backOffset = 2124;
+      links = 2072 ∷ 0 ∷ 0 ∷ 2082 ∷ [];
+      names = record { name = A; gives = some 0 } ∷ record { name = B; gives = some 3 } ∷ [];
+      ids = record { id = 0; gives = some A; isHome = true } ∷ record { id = 1; gives = none; isHome = false } ∷ record { id = 3; gives = some B; isHome = true } ∷ [];
+    }
+
+abbrev pub c5 : Row
+c5 =
+    record {
+      flag = Oneway;
+      capacity = 2140;
+      calls = entered A 0 ∷ entered B 3 ∷ [];
+      refusals = 0 ∷ 0 ∷ [];
+      size = 2124;
+      number = 2;
+      backOffset = 0;
+      links = [];
+      names = record { name = A; gives = some 0 } ∷ record { name = B; gives = some 3 } ∷ [];
+      ids = record { id = 0; gives = none; isHome = false } ∷ [];
+    }
+
+abbrev pub c6 : Row
+c6 =
+    record {
+      flag = None;
+      capacity = 3000;
+      calls = entered A 5 ∷ entered A 9 ∷ [];
+      refusals = 0 ∷ 0 ∷ [];
+      size = 2164;
+      number = 2;
+      backOffset = 2124;
+      links = 0 ∷ 0 ∷ 0 ∷ 0 ∷ 0 ∷ 2072 ∷ 0 ∷ 0 ∷ 0 ∷ 2082 ∷ [];
+      names = record { name = A; gives = some 5 } ∷ [];
+      ids = record { id = 5; gives = some A; isHome = true } ∷ record { id = 9; gives = some A; isHome = false } ∷ [];
+    }
+
+abbrev pub c7 : Row
+c7 =
+    record {
+      flag = None;
+      capacity = 3000;
+      calls = entered A 0 ∷ entered B 0 ∷ [];
+      refusals = 0 ∷ 0 ∷ [];
+      size = 2128;
+      number = 2;
+      backOffset = 2124;
+      links = 2082 ∷ [];
+      names = record { name = A; gives = some 0 } ∷ record { name = B; gives = some 0 } ∷ [];
+      ids = record { id = 0; gives = some B; isHome = true } ∷ [];
+    }
+
+-- C11, two-way and one-way
+abbrev pub c11 : Row
+c11 =
+    record {
+      flag = None;
+      capacity = 3000;
+      calls = entered A 4294967295 ∷ [];
+      refusals = 3 ∷ [];
+      size = 2072;
+      number = 0;
+      backOffset = 0;
+      links = [];
+      names = record { name = A; gives = none } ∷ [];
+      ids = record { id = 4294967295; gives = none; isHome = false } ∷ [];
+    }
+
+abbrev pub c11-one-way : Row
+c11-one-way =
+    record {
+      flag = Oneway;
+      capacity = 3000;
+      calls = entered A 4294967295 ∷ [];
+      refusals = 0 ∷ [];
+      size = 2098;
+      number = 1;
+      backOffset = 0;
+      links = [];
+      names = record { name = A; gives = some 4294967295 } ∷ [];
+      ids = record { id = 4294967295; gives = none; isHome = false } ∷ [];
+    }
+
+abbrev pub rows : List Row
+rows = c1 ∷ c2 ∷ c3 ∷ c4 ∷ c5 ∷ c6 ∷ c7 ∷ c11 ∷ c11-one-way ∷ []

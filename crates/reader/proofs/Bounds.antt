@@ -1,0 +1,80 @@
+-- A lookup reads no more buckets than its table has, and each of them lies in the image. Assumes nothing.
+use Prim.Native.Nat.{ℕ, zero, suc, _+_, _*_, _/_, _≤_, _<_, zero-le}
+use native.Mathlib.Omega.{arith}
+use native.Mathlib.Nat.{mod-lt}
+use mathlib.Core.Path.{_≡_, refl, sym, ap, _∙_}
+use mathlib.Core.Bool.{Bool, true, false, cond, _||_}
+use mathlib.Core.List.{List, [], _∷_}
+use borrow.Author.Tests.{ltb-false, eqb-false}
+use lib.Dec.{eqb, ltb, leb}
+use lib.ListN.{length, getD}
+use Rattle.jhash.specs.NameHash.{hashOf}
+use Rattle.image.specs.Tables.{tableOf, start, next, order}
+use Rattle.image.proofs.Bools.{neither-first, neither-second}
+use Rattle.reader.specs.Open.{tableAt, bucketNumber, tableLeaves}
+use Rattle.reader.specs.Lookup.{Lookup, found, nothing, Seen, pass, ends, hit, see, decide, probe, searchTable, lookupHash, lookup}
+use Rattle.reader.specs.Answers.{reads}
+
+-- ---- how many buckets are read
+
+pub length-order : (n m k : ℕ) → length (order n m k) ≡ m
+unfolding order
+length-order n zero k = refl
+length-order n (suc m) k = ap suc (length-order n m (next n k))
+
+pub probe-reads : (look : ℕ → Seen) (ks : List ℕ) (r : ℕ) → reads (probe look ks r) ≤ r + length ks
+unfolding probe
+probe-reads look [] r = omega arith
+probe-reads look (k ∷ ks) r = decided (look k) (probe-reads look ks (r + 1))
+  where
+    decided : (s : Seen) → reads (probe look ks (r + 1)) ≤ r + 1 + length ks → reads (decide s (r + 1) (probe look ks (r + 1))) ≤ r + suc (length ks)
+    decided pass h = omega arith
+    decided ends h = omega arith
+    decided (hit id) h = omega arith
+
+pub search-reads : (image name : List ℕ) (h o n : ℕ) → reads (searchTable image name h o n) ≤ n
+unfolding searchTable
+search-reads image name h o n =
+    omega (arith, probe-reads (λ (k : ℕ). see image name h (o + 8 * k)) (order n n (start h n)) 0, length-order n n (start h n))
+
+-- at most n, where n is the number of buckets of the name's table; and none where nothing is searched
+pub lookup-reads : (image name : List ℕ) → reads (lookup image name) ≤ bucketNumber image (tableOf (hashOf name))
+unfolding lookup lookupHash
+lookup-reads image name =
+    either (ltb (length image) 2072) (cond (leb 4294967295 (length name)) (nothing 0) (lookupHash image name (hashOf name)))
+    (either (leb 4294967295 (length name)) (lookupHash image name (hashOf name))
+    (either (eqb (tableAt image t) 0 || eqb (bucketNumber image t) 0 || tableLeaves image t) (searchTable image name (hashOf name) (tableAt image t) (bucketNumber image t))
+    (search-reads image name (hashOf name) (tableAt image t) (bucketNumber image t))))
+  where
+    t : ℕ
+    t = tableOf (hashOf name)
+
+    either : (b : Bool) (a : Lookup) → reads a ≤ bucketNumber image t → reads (cond b (nothing 0) a) ≤ bucketNumber image t
+    either true a h = zero-le
+    either false a h = h
+
+-- ---- where they lie
+
+-- each bucket of a search is one of the table's
+pub order-below : (n m k i : ℕ) → k < n → i < m → getD (order n m k) i 0 < n
+unfolding order
+order-below n zero k i h l = absurd (omega arith)
+order-below n (suc m) k zero h l = h
+order-below n (suc m) k (suc i) h l = order-below n m (next n k) i (mod-lt (k + 1) {m = n} (omega arith)) (omega arith)
+
+-- the i-th bucket that the search for a hash meets in a table that does not leave the image
+pub bucket-inside : (image : List ℕ) (h o n i : ℕ) → o + 8 * n ≤ length image → i < n
+    → o + 8 * getD (order n n (start h n)) i 0 + 8 ≤ length image
+bucket-inside image h o n i fits l =
+    let b = order-below n n (start h n) i (mod-lt (h / 256) {m = n} (omega arith)) l in
+    inside (getD (order n n (start h n)) i 0) b
+  where
+    inside : (k : ℕ) → k < n → o + 8 * k + 8 ≤ length image
+    inside k b = omega arith
+
+-- the same for the tables that a lookup searches
+pub table-inside : (image : List ℕ) (h i : ℕ) → tableLeaves image (tableOf h) ≡ false → i < bucketNumber image (tableOf h)
+    → tableAt image (tableOf h) + 8 * getD (order (bucketNumber image (tableOf h)) (bucketNumber image (tableOf h)) (start h (bucketNumber image (tableOf h)))) i 0 + 8 ≤ length image
+table-inside image h i e l =
+    bucket-inside image h (tableAt image (tableOf h)) (bucketNumber image (tableOf h)) i
+    (ltb-false (length image) (tableAt image (tableOf h) + 8 * bucketNumber image (tableOf h)) e) l

@@ -1,0 +1,44 @@
+-- An entry that is not broken lies in the image with its first 8 bytes and its name. Assumes nothing.
+use Prim.Native.Nat.{ℕ, _+_, _-_, _≤_, _<_}
+use native.Mathlib.Omega.{arith}
+use mathlib.Core.Path.{_≡_, refl, sym, _∙_}
+use mathlib.Core.Bool.{Bool, true, false, _||_}
+use mathlib.Core.List.{List}
+use borrow.Author.Tests.{lt-ltb, le-ltb, eq-eqb, ne-eqb, ltb-false, eqb-false}
+use lib.Dec.{eqb, ltb}
+use lib.ListN.{length}
+use Rattle.image.specs.Bytes.{word}
+use Rattle.image.proofs.Bools.{neither-first, neither-second}
+use Rattle.reader.specs.Lookup.{broken}
+
+-- the cases of `broken`, for a length word w
+module _ (image : List ℕ) (at : ℕ) where
+  pub broken-short : length image < at + 8 → true ≡ broken image at
+  broken-short h = simp (lt-ltb (length image) (at + 8) h)
+
+  pub broken-none : (w : ℕ) → at + 8 ≤ length image → w ≡ word image (at + 4) → w ≡ 0 → true ≡ broken image at
+  broken-none w h e z = simp (le-ltb (length image) (at + 8) h, eq-eqb (word image (at + 4)) 0 (sym e ∙ z))
+
+  pub broken-name : (w : ℕ) → at + 8 ≤ length image → w ≡ word image (at + 4) → (w ≡ 0 → ⊥)
+      → ltb (length image) (at + 8 + (w - 1)) ≡ broken image at
+  broken-name w h e z = rw e (simp (le-ltb (length image) (at + 8) h, ne-eqb (word image (at + 4)) 0 (λ q. z (e ∙ q))))
+
+pub record Whole (image : List ℕ) (at : ℕ) : Type 0 where
+  pub head : at + 8 ≤ length image
+  pub long : 1 ≤ word image (at + 4)
+  pub name : at + 8 + (word image (at + 4) - 1) ≤ length image
+
+pub whole : (image : List ℕ) (at : ℕ) → broken image at ≡ false → Whole image at
+whole image at e =
+    let short = ltb (length image) (at + 8) in
+    let none = eqb (word image (at + 4)) 0 in
+    let first = neither-first (short || none) (ltb (length image) (at + 8 + (word image (at + 4) - 1))) e in
+    let z = eqb-false (word image (at + 4)) 0 (neither-second short none first) in
+    record {
+      head = ltb-false (length image) (at + 8) (neither-first short none first);
+      long = positive (word image (at + 4)) z;
+      name = ltb-false (length image) (at + 8 + (word image (at + 4) - 1)) (neither-second (short || none) (ltb (length image) (at + 8 + (word image (at + 4) - 1))) e);
+    }
+  where
+    positive : (w : ℕ) → (w ≡ 0 → ⊥) → 1 ≤ w
+    positive w z = omega arith

@@ -1,0 +1,100 @@
+-- When two byte strings are equal, step by step: by bytes and by words. Assumes nothing.
+use Prim.Native.Nat.{ℕ, zero, suc, _+_, _*_, _^_, _≤_, _<_}
+use native.Mathlib.Omega.{arith}
+use native.Mathlib.Numerals.{add-one}
+use mathlib.Core.Path.{_≡_, refl, sym, ap, _∙_}
+use mathlib.Core.Bool.{Bool, true, false, _&&_, and-false}
+use mathlib.Core.List.{List, [], _∷_}
+use borrow.Author.Tests.{eq-eqb, ne-eqb, eqb-true}
+use lib.Dec.{eqb}
+use lib.ListN.{length, getD, drop, drop-of-length-le}
+use lib.Seq.{drop-cons}
+use Rattle.image.specs.Bytes.{word, le32, same}
+use Rattle.image.proofs.Words.{word-of, le32-bytes}
+
+-- strings of different lengths
+pub same-lengths : (a b : List ℕ) → (length a ≡ length b → ⊥) → same a b ≡ false
+unfolding same
+same-lengths [] [] h = absurd (h refl)
+same-lengths [] (y ∷ ys) h = refl
+same-lengths (x ∷ xs) [] h = refl
+same-lengths (x ∷ xs) (y ∷ ys) h =
+    ap (λ (t : Bool). eqb x y && t) (same-lengths xs ys (λ e. h (ap suc e))) ∙ and-false (eqb x y)
+
+-- nothing is left
+pub same-none : (a b : List ℕ) (i : ℕ) → length a ≤ i → length b ≤ i → same (drop i a) (drop i b) ≡ true
+unfolding same
+same-none a b i p q = rw (drop-of-length-le a {i = i} p, drop-of-length-le b {i = i} q)
+
+-- one byte at i, where j is the next
+module _ (a b : List ℕ) (i j : ℕ) (e : i + 1 ≡ j) (p : i < length a) (q : i < length b) where
+  pub same-byte : same (drop i a) (drop i b) ≡ eqb (getD a i 0) (getD b i 0) && same (drop j a) (drop j b)
+  unfolding same
+  same-byte = rw (← e, add-one, drop-cons a i 0 p, drop-cons b i 0 q)
+
+  pub other-byte : (getD a i 0 ≡ getD b i 0 → ⊥) → false ≡ same (drop i a) (drop i b)
+  other-byte h = sym (same-byte ∙ ap (λ (t : Bool). t && same (drop j a) (drop j b)) (ne-eqb (getD a i 0) (getD b i 0) h))
+
+  pub equal-byte : getD a i 0 ≡ getD b i 0 → same (drop j a) (drop j b) ≡ same (drop i a) (drop i b)
+  equal-byte h = sym (same-byte ∙ ap (λ (t : Bool). t && same (drop j a) (drop j b)) (eq-eqb (getD a i 0) (getD b i 0) h))
+
+-- a slice's elements are bytes, and its words are below 2^32
+abbrev pub Bytes : List ℕ → Type 0
+Bytes s = (k : ℕ) → getD s k 0 < 256
+
+pub word-below : (s : List ℕ) (i : ℕ) → Bytes s → word s i < 2 ^ 32
+word-below s i h =
+    let e = word-of s i (getD s i 0) (getD s (i + 1) 0) (getD s (i + 2) 0) (getD s (i + 3) 0) refl refl refl refl in
+    omega (arith, h i, h (i + 1), h (i + 2), h (i + 3))
+
+bytes-of : (s : List ℕ) (i : ℕ) → Bytes s → le32 (word s i) ≡ getD s i 0 ∷ getD s (i + 1) 0 ∷ getD s (i + 2) 0 ∷ getD s (i + 3) 0 ∷ []
+bytes-of s i h =
+    ap le32 (sym (word-of s i (getD s i 0) (getD s (i + 1) 0) (getD s (i + 2) 0) (getD s (i + 3) 0) refl refl refl refl))
+    ∙ le32-bytes (getD s i 0) (getD s (i + 1) 0) (getD s (i + 2) 0) (getD s (i + 3) 0) (h i) (h (i + 1)) (h (i + 2)) (h (i + 3))
+
+-- a test that fails in one of four parts
+and-four : (p q r s t : Bool) → (p ≡ true → q ≡ true → r ≡ true → s ≡ true → ⊥) → p && (q && (r && (s && t))) ≡ false
+and-four false q r s t h = refl
+and-four true false r s t h = refl
+and-four true true false s t h = refl
+and-four true true true false t h = refl
+and-four true true true true t h = absurd (h refl refl refl refl)
+
+module _ (a b : List ℕ) (i : ℕ) (p : i + 4 ≤ length a) (q : i + 4 ≤ length b) where
+  four : same (drop i a) (drop i b) ≡ eqb (getD a i 0) (getD b i 0)
+      && (eqb (getD a (i + 1) 0) (getD b (i + 1) 0)
+      && (eqb (getD a (i + 2) 0) (getD b (i + 2) 0)
+      && (eqb (getD a (i + 3) 0) (getD b (i + 3) 0) && same (drop (i + 4) a) (drop (i + 4) b))))
+  four =
+      same-byte a b i (i + 1) refl (omega arith) (omega arith)
+      ∙ ap (λ (t : Bool). eqb (getD a i 0) (getD b i 0) && t)
+      (same-byte a b (i + 1) (i + 2) (omega arith) (omega arith) (omega arith)
+      ∙ ap (λ (t : Bool). eqb (getD a (i + 1) 0) (getD b (i + 1) 0) && t)
+      (same-byte a b (i + 2) (i + 3) (omega arith) (omega arith) (omega arith)
+      ∙ ap (λ (t : Bool). eqb (getD a (i + 2) 0) (getD b (i + 2) 0) && t)
+      (same-byte a b (i + 3) (i + 4) (omega arith) (omega arith) (omega arith))))
+
+  -- another word
+  pub other-word : (word a i ≡ word b i → ⊥) → same (drop i a) (drop i b) ≡ false
+  other-word h =
+      four
+      ∙ and-four (eqb (getD a i 0) (getD b i 0)) (eqb (getD a (i + 1) 0) (getD b (i + 1) 0)) (eqb (getD a (i + 2) 0) (getD b (i + 2) 0)) (eqb (getD a (i + 3) 0) (getD b (i + 3) 0)) (same (drop (i + 4) a) (drop (i + 4) b))
+      (λ d0 d1 d2 d3. h
+      (sym (word-of a i (getD b i 0) (getD b (i + 1) 0) (getD b (i + 2) 0) (getD b (i + 3) 0) (sym (eqb-true (getD a i 0) (getD b i 0) d0)) (sym (eqb-true (getD a (i + 1) 0) (getD b (i + 1) 0) d1)) (sym (eqb-true (getD a (i + 2) 0) (getD b (i + 2) 0) d2)) (sym (eqb-true (getD a (i + 3) 0) (getD b (i + 3) 0) d3)))
+      ∙ word-of b i (getD b i 0) (getD b (i + 1) 0) (getD b (i + 2) 0) (getD b (i + 3) 0) refl refl refl refl))
+
+  -- the same word
+  pub same-word : Bytes a → Bytes b → word a i ≡ word b i → same (drop i a) (drop i b) ≡ same (drop (i + 4) a) (drop (i + 4) b)
+  same-word ha hb e =
+      let l = sym (bytes-of a i ha) ∙ ap le32 e ∙ bytes-of b i hb in
+      four
+      ∙ all (getD a i 0) (getD a (i + 1) 0) (getD a (i + 2) 0) (getD a (i + 3) 0) (getD b i 0) (getD b (i + 1) 0) (getD b (i + 2) 0) (getD b (i + 3) 0) (same (drop (i + 4) a) (drop (i + 4) b)) l
+    where
+      all : (a0 a1 a2 a3 b0 b1 b2 b3 : ℕ) (t : Bool) → _≡_ {A = List ℕ} (a0 ∷ a1 ∷ a2 ∷ a3 ∷ []) (b0 ∷ b1 ∷ b2 ∷ b3 ∷ [])
+          → eqb a0 b0 && (eqb a1 b1 && (eqb a2 b2 && (eqb a3 b3 && t))) ≡ t
+      all a0 a1 a2 a3 b0 b1 b2 b3 t l =
+          let e0 : a0 ≡ b0 = cc in
+          let e1 : a1 ≡ b1 = cc in
+          let e2 : a2 ≡ b2 = cc in
+          let e3 : a3 ≡ b3 = cc in
+          rw (eq-eqb a0 b0 e0, eq-eqb a1 b1 e1, eq-eqb a2 b2 e2, eq-eqb a3 b3 e3)

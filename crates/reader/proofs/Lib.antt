@@ -1,0 +1,9 @@
+-- Laws of reading. `Bounds` and `Walks` say of the rules what users ask besides the answers; `Examples` has 01's rows about reading.
+pub mod Equal
+pub mod Entries
+pub mod Opens
+pub mod Searches
+pub mod Names
+pub mod Walks
+pub mod Bounds
+pub mod Examples

@@ -1,0 +1,109 @@
+-- Naming: what is known where the back array can be read, and where a name has its place. Assumes nothing.
+use Prim.Native.Nat.{ℕ, _+_, _*_, _-_, _≤_, _<_}
+use native.Mathlib.Omega.{arith}
+use mathlib.Core.Path.{_≡_, refl, sym, ap, _∙_}
+use mathlib.Core.Bool.{Bool, true, false, cond, _||_}
+use mathlib.Core.List.{List, []}
+use borrow.Author.Tests.{ltb-false, leb-false}
+use lib.Dec.{eqb, ltb, leb}
+use lib.ListN.{length, take, drop}
+use Rattle.image.specs.Bytes.{word}
+use Rattle.image.proofs.Bools.{neither-first, neither-second}
+use Rattle.reader.specs.Open.{backSizeAt, backOffsetAt, backLeaves}
+use Rattle.reader.specs.Lookup.{Lookup, lookup, broken}
+use Rattle.reader.specs.Naming.{Naming, place, unnamed, noBack, namingAt, naming, partOr}
+use Rattle.reader.specs.Walk.{upperHint, finds, homeBy, home}
+use Rattle.reader.proofs.Entries.{Whole, whole}
+
+-- a back array that can be read lies in the image
+pub record Back (image : List ℕ) : Type 0 where
+  pub head : 2072 ≤ length image
+  pub array : backOffsetAt image + 4 * backSizeAt image ≤ length image
+
+pub back : (image : List ℕ) → noBack image ≡ false → Back image
+back image e =
+    let short = ltb (length image) 2072 in
+    let none = eqb (backOffsetAt image) 0 in
+    record {
+      head = ltb-false (length image) 2072 (neither-first short none (neither-first (short || none) (backLeaves image) e));
+      array = ltb-false (length image) (backOffsetAt image + 4 * backSizeAt image) (neither-second (short || none) (backLeaves image) e);
+    }
+
+-- the entry's offset, read by way of the back offset o
+pub link : (image : List ℕ) (id o at : ℕ) → o ≡ backOffsetAt image → at ≡ word image (o + 4 * id) → at ≡ word image (backOffsetAt image + 4 * id)
+link image id o at e f = f ∙ ap (λ (k : ℕ). word image (k + 4 * id)) e
+
+-- naming by its four tests, for an entry at `at`
+module _ (image : List ℕ) (id at : ℕ) where
+  naming-at : at ≡ word image (backOffsetAt image + 4 * id) → cond (noBack image) unnamed (cond (leb (backSizeAt image) id) unnamed (namingAt image at)) ≡ naming image id
+  unfolding naming
+  naming-at e = ap (λ (k : ℕ). cond (noBack image) unnamed (cond (leb (backSizeAt image) id) unnamed (namingAt image k))) e
+
+  pub naming-by : (b l z x : Bool) → at ≡ word image (backOffsetAt image + 4 * id) → noBack image ≡ b → leb (backSizeAt image) id ≡ l → eqb at 0 ≡ z → broken image at ≡ x
+      → cond b unnamed (cond l unnamed (cond (z || x) unnamed (place (at + 8) (word image (at + 4) - 1)))) ≡ naming image id
+  unfolding namingAt
+  naming-by b l z x e eb el ez ex =
+      sym (λ i. cond (eb i) unnamed (cond (el i) unnamed (cond (ez i || ex i) unnamed (place (at + 8) (word image (at + 4) - 1))))) ∙ naming-at e
+
+-- a place is that of a name in the image, of an id below back size
+pub record Named (image : List ℕ) (id s n : ℕ) : Type 0 where
+  pub array : noBack image ≡ false
+  pub below : id < backSizeAt image
+  pub inside : s + n ≤ length image
+
+pub never : {P : Type 0} (s n : ℕ) → unnamed ≡ place s n → P
+never s n e = let z : _≡_ {A = ℕ} 0 1 = cc in absurd (omega arith)
+
+pub named : (image : List ℕ) (id s n : ℕ) → naming image id ≡ place s n → Named image id s n
+unfolding naming namingAt
+named image id s n e = backed (noBack image) refl e
+  where
+    at : ℕ
+    at = word image (backOffsetAt image + 4 * id)
+
+    placed : (t : Bool) → (eqb at 0 || broken image at) ≡ t → noBack image ≡ false → id < backSizeAt image
+        → cond t unnamed (place (at + 8) (word image (at + 4) - 1)) ≡ place s n → Named image id s n
+    placed true p a l e = never s n e
+    placed false p a l e =
+        let w = whole image at (neither-second (eqb at 0) (broken image at) p) in
+        let es : at + 8 ≡ s = cc in
+        let en : word image (at + 4) - 1 ≡ n = cc in
+        record { array = a; below = l; inside = omega (arith, w .name) }
+
+    below : (t : Bool) → leb (backSizeAt image) id ≡ t → noBack image ≡ false → cond t unnamed (namingAt image at) ≡ place s n → Named image id s n
+    below true p a e = never s n e
+    below false p a e = placed (eqb at 0 || broken image at) refl a (leb-false (backSizeAt image) id p) e
+
+    backed : (t : Bool) → noBack image ≡ t → cond t unnamed (cond (leb (backSizeAt image) id) unnamed (namingAt image at)) ≡ place s n → Named image id s n
+    backed true p e = never s n e
+    backed false p e = below (leb (backSizeAt image) id) refl p e
+
+-- the part of the image that is the name, by its start and end
+pub part : (image other : List ℕ) (id s n : ℕ) → place s n ≡ naming image id → take (s + n - s) (drop s image) ≡ partOr image other (naming image id)
+part image other id s n e =
+    let k : s + n - s ≡ n = omega arith in
+    ap (λ (m : ℕ). take m (drop s image)) k ∙ ap (partOr image other) e
+
+pub no-part : (image other : List ℕ) (id : ℕ) → unnamed ≡ naming image id → other ≡ partOr image other (naming image id)
+no-part image other id e = ap (partOr image other) e
+
+-- the upper hint, for a back size w
+pub hint-none : (image : List ℕ) (n : ℕ) → noBack image ≡ true → 0 ≡ upperHint image n
+unfolding upperHint
+hint-none image n e = sym (ap (λ (t : Bool). cond t 0 (backSizeAt image - n)) e)
+
+pub hint-back : (image : List ℕ) (n w r : ℕ) → noBack image ≡ false → w ≡ backSizeAt image → r ≡ w - n → r ≡ upperHint image n
+unfolding upperHint
+hint-back image n w r e f g = g ∙ ap (λ (k : ℕ). k - n) f ∙ sym (ap (λ (t : Bool). cond t 0 (backSizeAt image - n)) e)
+
+-- the home check, by the part of the image that is looked up
+pub home-by : (image : List ℕ) (id s n : ℕ) (answer : Lookup) → place s n ≡ naming image id → answer ≡ lookup image (take (s + n - s) (drop s image))
+    → finds id answer ≡ home image id
+unfolding home
+home-by image id s n answer e f =
+    let k : s + n - s ≡ n = omega arith in
+    ap (finds id) (f ∙ ap (λ (m : ℕ). lookup image (take m (drop s image))) k) ∙ ap (homeBy image id) e
+
+pub not-home : (image : List ℕ) (id : ℕ) → unnamed ≡ naming image id → false ≡ home image id
+unfolding home
+not-home image id e = ap (homeBy image id) e

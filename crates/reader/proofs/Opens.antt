@@ -1,0 +1,76 @@
+-- The pass over the tables' rows, a turn at a time, and the cases of opening. Assumes nothing.
+use Prim.Native.Nat.{ℕ, zero, suc, _+_, _*_, _/_, _%_, _-_, _^_, _<_}
+use native.Mathlib.Omega.{arith}
+use native.Mathlib.Numerals.{add-one}
+use mathlib.Core.Path.{_≡_, refl, sym, ap, _∙_}
+use mathlib.Core.Bool.{Bool, true, false, cond, not, _&&_, _||_, or-assoc}
+use mathlib.Core.List.{List}
+use lib.Dec.{eqb, ltb}
+use lib.ListN.{length}
+use Rattle.image.specs.Bytes.{word}
+use Rattle.reader.specs.Open.{num, refusal, tableAt, bucketNumber, backOffsetAt, tableLeaves, backLeaves, someLeaves, halves, hasLetters, opening}
+
+-- one table more of m that are left
+left-one : (t m : ℕ) → t < m → m - t ≡ suc (m - (t + 1))
+left-one t m h = omega arith
+
+halves-more : (image : List ℕ) (t k : ℕ) → halves image t (suc k) ≡ bucketNumber image t / 2 + halves image (suc t) k
+unfolding halves
+halves-more image t k = refl
+
+leaves-more : (image : List ℕ) (t k : ℕ) → someLeaves image t (suc k) ≡ (ltb 0 (tableAt image t) && tableLeaves image t) || someLeaves image (suc t) k
+unfolding someLeaves
+leaves-more image t k = refl
+
+pub halves-turn : (image : List ℕ) (t m : ℕ) → t < m → halves image t (m - t) ≡ bucketNumber image t / 2 + halves image (t + 1) (m - (t + 1))
+halves-turn image t m h =
+    ap (halves image t) (left-one t m h) ∙ halves-more image t (m - (t + 1))
+    ∙ ap (λ (k : ℕ). bucketNumber image t / 2 + halves image k (m - (t + 1))) (sym (add-one t))
+
+pub leaves-turn : (image : List ℕ) (t m : ℕ) → t < m
+    → someLeaves image t (m - t) ≡ (ltb 0 (tableAt image t) && tableLeaves image t) || someLeaves image (t + 1) (m - (t + 1))
+leaves-turn image t m h =
+    ap (someLeaves image t) (left-one t m h) ∙ leaves-more image t (m - (t + 1))
+    ∙ ap (λ (k : ℕ). (ltb 0 (tableAt image t) && tableLeaves image t) || someLeaves image k (m - (t + 1))) (sym (add-one t))
+
+-- one turn of a loop that joins what it found, for a table at a with n buckets
+pub leaves-join : (image : List ℕ) (t m a n : ℕ) (b x y : Bool) → t < m → a ≡ tableAt image t → n ≡ bucketNumber image t
+    → y ≡ (b || (ltb 0 a && ltb (length image) (a + 8 * n)))
+    → (b || someLeaves image t (m - t)) ≡ x → (y || someLeaves image (t + 1) (m - (t + 1))) ≡ x
+leaves-join image t m a n b x y h ea en ey e =
+    (ap (λ (c : Bool). c || someLeaves image (t + 1) (m - (t + 1)))
+    (ey ∙ (λ i. b || (ltb 0 (ea i) && ltb (length image) (ea i + 8 * en i)))))
+    ∙ or-assoc b (ltb 0 (tableAt image t) && tableLeaves image t) (someLeaves image (t + 1) (m - (t + 1)))
+    ∙ ap (λ (c : Bool). b || c) (sym (leaves-turn image t m h))
+    ∙ e
+
+-- no table is left
+pub halves-none : (image : List ℕ) (t : ℕ) → halves image t 0 ≡ 0
+unfolding halves
+halves-none image t = refl
+
+pub leaves-none : (image : List ℕ) (t : ℕ) → someLeaves image t 0 ≡ false
+unfolding someLeaves
+leaves-none image t = refl
+
+-- a sum modulo 2^32 takes one more, and at its end is the whole
+pub sum-turn : (k half r rest now all : ℕ) → (k + now) % 2 ^ 32 ≡ all % 2 ^ 32 → now ≡ half + rest → r ≡ (k + half) % 2 ^ 32 → (r + rest) % 2 ^ 32 ≡ all % 2 ^ 32
+sum-turn k half r rest now all e f g = omega arith
+
+pub sum-end : (k now all : ℕ) → k < 2 ^ 32 → (k + now) % 2 ^ 32 ≡ all % 2 ^ 32 → now ≡ 0 → k ≡ all % 2 ^ 32
+sum-end k now all l e f = omega arith
+
+-- opening by its five tests
+pub opening-by : (image : List ℕ) (s l w t b : Bool)
+    → ltb (length image) 2072 ≡ s → hasLetters image ≡ l → eqb (word image 12) 0x62445371 ≡ w → someLeaves image 0 256 ≡ t
+    → (ltb 0 (backOffsetAt image) && backLeaves image) ≡ b
+    → cond s (refusal 1)
+    (cond (not l) (refusal 5)
+    (cond (not w) (refusal 6) (cond t (refusal 7) (cond b (refusal 8) (num (halves image 0 256 % 2 ^ 32))))))
+    ≡ opening image
+unfolding opening
+opening-by image s l w t b es el ew et eb =
+    sym
+    (λ i. cond (es i) (refusal 1)
+    (cond (not (el i)) (refusal 5)
+    (cond (not (ew i)) (refusal 6) (cond (et i) (refusal 7) (cond (eb i) (refusal 8) (num (halves image 0 256 % 2 ^ 32)))))))

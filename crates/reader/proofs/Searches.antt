@@ -1,0 +1,96 @@
+-- The search along the buckets, a turn at a time. Assumes nothing.
+use Prim.Native.Nat.{ℕ, zero, suc, _+_, _*_, _%_, _-_, _≤_, _<_}
+use native.Mathlib.Omega.{arith}
+use native.Mathlib.Nat.{mod-self, mod-eq-of-lt}
+use mathlib.Core.Path.{_≡_, refl, sym, ap, _∙_}
+use mathlib.Core.Bool.{Bool, cond, _||_}
+use mathlib.Core.List.{List, [], _∷_}
+use lib.Dec.{eqb, ltb, leb}
+use lib.ListN.{length, take, drop}
+use Rattle.jhash.specs.NameHash.{hashOf}
+use Rattle.image.specs.Bytes.{word, same}
+use Rattle.image.specs.Tables.{tableOf, start, next, order}
+use Rattle.reader.specs.Open.{tableAt, bucketNumber}
+use Rattle.reader.specs.Lookup.{Lookup, found, nothing, Seen, pass, ends, hit, nameOf, broken, seeEntry, see, decide, probe, searchTable, lookupHash, lookup}
+
+-- ---- what is seen in an entry and in a bucket
+
+-- the part of the image that is compared with the name, for a length word w
+pub name-part : (image : List ℕ) (at w : ℕ) → w ≡ word image (at + 4) → take (at + 8 + (w - 1) - (at + 8)) (drop (at + 8) image) ≡ nameOf image at
+name-part image at w e =
+    let f : at + 8 + (w - 1) - (at + 8) ≡ w - 1 = omega arith in
+    ap (λ (k : ℕ). take k (drop (at + 8) image)) (f ∙ ap (λ (k : ℕ). k - 1) e)
+
+module _ (image name : List ℕ) (at : ℕ) where
+  pub see-entry-by : (x s : Bool) → broken image at ≡ x → same (nameOf image at) name ≡ s
+      → cond x ends (cond s (hit (word image at)) pass) ≡ seeEntry image name at
+  unfolding seeEntry
+  see-entry-by x s ex es = sym (λ i. cond (ex i) ends (cond (es i) (hit (word image at)) pass))
+
+  -- for the bucket at b with this entry
+  pub see-by : (h b : ℕ) (z e : Bool) → at ≡ word image (b + 4) → eqb at 0 ≡ z → eqb (word image b) h ≡ e
+      → cond z ends (cond e (seeEntry image name at) pass) ≡ see image name h b
+  unfolding see
+  see-by h b z e ea ez ee =
+      sym (λ i. cond (ez i) ends (cond (ee i) (seeEntry image name at) pass))
+      ∙ ap (λ (k : ℕ). cond (eqb k 0) ends (cond (eqb (word image b) h) (seeEntry image name k) pass)) ea
+
+-- ---- the search
+
+-- the step from bucket to bucket needs no division
+pub next-more : (n k : ℕ) → k + 1 < n → k + 1 ≡ next n k
+next-more n k h = sym (mod-eq-of-lt h)
+
+pub next-first : (n k : ℕ) → k + 1 ≡ n → 0 ≡ next n k
+next-first n k e = sym (ap (λ (m : ℕ). m % n) e ∙ mod-self n)
+
+-- what is left of the search in the table of n buckets at o, before bucket k and with m buckets left
+abbrev pub rest : List ℕ → List ℕ → ℕ → ℕ → ℕ → ℕ → ℕ → Lookup
+rest image name h o n k m = probe (λ (j : ℕ). see image name h (o + 8 * j)) (order n m k) (n - m)
+
+module _ (image name : List ℕ) (h o n : ℕ) where
+  pub rest-start : rest image name h o n (start h n) n ≡ searchTable image name h o n
+  unfolding searchTable
+  rest-start =
+      let e : n - n ≡ 0 = omega arith in
+      ap (probe (λ (j : ℕ). see image name h (o + 8 * j)) (order n n (start h n))) e
+
+  over : (k r : ℕ) → probe (λ (j : ℕ). see image name h (o + 8 * j)) (order n 0 k) r ≡ nothing r
+  unfolding probe order
+  over k r = refl
+
+  more : (m k r : ℕ) → probe (λ (j : ℕ). see image name h (o + 8 * j)) (order n (suc m) k) r
+      ≡ decide (see image name h (o + 8 * k)) (r + 1) (probe (λ (j : ℕ). see image name h (o + 8 * j)) (order n m (next n k)) (r + 1))
+  unfolding probe order
+  more m k r = refl
+
+  pub rest-over : (k m : ℕ) → m ≤ 0 → nothing (n - m) ≡ rest image name h o n k m
+  rest-over k m l =
+      let e : m ≡ 0 = omega arith in
+      sym (ap (λ (i : ℕ). probe (λ (j : ℕ). see image name h (o + 8 * j)) (order n i k) (n - m)) e ∙ over k (n - m))
+
+  -- a turn, by what is seen
+  pub rest-seen : (k m : ℕ) (seen : Seen) → 0 < m → m ≤ n → seen ≡ see image name h (o + 8 * k)
+      → decide seen (n - (m - 1)) (rest image name h o n (next n k) (m - 1)) ≡ rest image name h o n k m
+  rest-seen k m seen l f e =
+      let p : m ≡ suc (m - 1) = omega arith in
+      let r : n - (m - 1) ≡ n - m + 1 = omega arith in
+      ap (λ (s : Seen). decide s (n - (m - 1)) (rest image name h o n (next n k) (m - 1))) e
+      ∙ ap (λ (i : ℕ). decide (see image name h (o + 8 * k)) i (probe (λ (j : ℕ). see image name h (o + 8 * j)) (order n (m - 1) (next n k)) i)) r
+      ∙ sym (ap (λ (i : ℕ). probe (λ (j : ℕ). see image name h (o + 8 * j)) (order n i k) (n - m)) p ∙ more (m - 1) k (n - m))
+
+-- ---- the lookup
+
+-- by its tests, for a table at `at` with n buckets
+pub lookup-hash-by : (image name : List ℕ) (h at n : ℕ) (z y x : Bool) → at ≡ tableAt image (tableOf h) → n ≡ bucketNumber image (tableOf h)
+    → eqb at 0 ≡ z → eqb n 0 ≡ y → ltb (length image) (at + 8 * n) ≡ x
+    → cond (z || y || x) (nothing 0) (searchTable image name h at n) ≡ lookupHash image name h
+unfolding lookupHash
+lookup-hash-by image name h at n z y x ea en ez ey ex =
+    sym (λ i. cond (ez i || ey i || ex i) (nothing 0) (searchTable image name h at n))
+    ∙ (λ i. cond (eqb (ea i) 0 || eqb (en i) 0 || ltb (length image) (ea i + 8 * en i)) (nothing 0) (searchTable image name h (ea i) (en i)))
+
+pub lookup-by : (image name : List ℕ) (s l : Bool) → ltb (length image) 2072 ≡ s → leb 4294967295 (length name) ≡ l
+    → cond s (nothing 0) (cond l (nothing 0) (lookupHash image name (hashOf name))) ≡ lookup image name
+unfolding lookup
+lookup-by image name s l es el = sym (λ i. cond (es i) (nothing 0) (cond (el i) (nothing 0) (lookupHash image name (hashOf name))))

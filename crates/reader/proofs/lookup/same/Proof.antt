@@ -1,0 +1,85 @@
+-- `reader::lookup::same` meets its contract. The loop's invariant: what is left is equal exactly where the whole is. Assumes nothing.
+use Prim.Native.Nat.{_-_, _≤_}
+use native.Mathlib.Omega.{arith}
+use mathlib.Core.Path.{_≡_, refl, sym, _∙_}
+use lib.ListN.{length, drop}
+use Rattle.image.specs.Bytes.{same}
+use Rattle.reader.proofs.Equal.{same-lengths, other-word, same-word}
+use borrow.Author.Needs.{needs}
+use Rattle.reader.proofs.lookup.same.Statement.{statement}
+use Rattle.reader.proofs.lookup.same.Tie as tie
+
+abbrev Inv-loop : tie.InvT-loop
+Inv-loop a b i₀ i = (i ≤ length a) × (same (drop i a) (drop i b) ≡ same a b)
+
+abbrev μ-loop : tie.MeasureT-loop
+μ-loop a b i₀ i = length a - i
+
+returns : tie.Need-returns Inv-loop μ-loop
+returns c = sym (same-lengths (c .before .before .before .args .a .now) (c .before .before .before .args .b .now) (c .if1 .taken))
+
+loop-holds : tie.Need-loop-holds Inv-loop μ-loop
+loop-holds c = (search needs, refl)
+
+sub-loop : tie.Need-sub-loop Inv-loop μ-loop
+sub-loop c = search needs
+
+word-requires : tie.Need-word-requires Inv-loop μ-loop
+word-requires c κs = search needs
+
+word-requires-2 : tie.Need-word-requires-2 Inv-loop μ-loop
+word-requires-2 c κs = search needs
+
+returns-2 : tie.Need-returns-2 Inv-loop μ-loop
+returns-2 c =
+    let a = c .before .before .before .before .before .before .before .before .args in
+    let of-loop = c .before .before .before .before .loop in
+    let of-if1 = c .before .before .before .before .before .if1 in
+    let of-word = c .before .before .word in
+    sym
+    (other-word (a .a .now) (a .b .now) (of-loop .i) (omega arith) (omega (arith, of-if1 .left)) (λ e. c .if2 .taken (of-word .ensures ∙ e ∙ sym (c .before .word2 .ensures))))
+    ∙ of-loop .inv .1
+
+add-i : tie.Need-add-i Inv-loop μ-loop
+add-i c = search needs
+
+loop-less : tie.Need-loop-less Inv-loop μ-loop
+loop-less c = omega arith
+
+loop-again : tie.Need-loop-again Inv-loop μ-loop
+loop-again c =
+    let a = c .before .before .before .before .before .before .before .before .args in
+    let of-loop = c .before .before .before .before .loop in
+    let of-if1 = c .before .before .before .before .before .if1 in
+    let of-shared-slice-known = c .before .before .before .before .before .before .before .shared-slice-known in
+    let of-shared-slice-known2 = c .before .before .before .before .before .before .shared-slice-known2 in
+    let of-word = c .before .before .word in (
+      omega arith,
+      sym
+          (same-word (a .a .now) (a .b .now) (of-loop .i) (omega arith) (omega (arith, of-if1 .left)) (λ k. of-shared-slice-known .given k .fits) (λ k. of-shared-slice-known2 .given k .fits) (sym (of-word .ensures) ∙ c .if2 .left ∙ c .before .word2 .ensures))
+          ∙ of-loop .inv .1,
+    )
+
+same-from-requires : tie.Need-same-from-requires Inv-loop μ-loop
+same-from-requires c κs = search needs
+
+returns-3 : tie.Need-returns-3 Inv-loop μ-loop
+returns-3 c = c .same-from .ensures ∙ c .before .before .loop .inv .1
+
+pub same-spec : {M : Type 1} → statement M
+same-spec =
+    tie.close
+    (tie.spec
+    Inv-loop
+    μ-loop
+    returns
+    loop-holds
+    sub-loop
+    word-requires
+    word-requires-2
+    returns-2
+    add-i
+    loop-less
+    loop-again
+    same-from-requires
+    returns-3)

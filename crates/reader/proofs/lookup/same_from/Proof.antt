@@ -1,0 +1,64 @@
+use borrow.Author.Needs.{needs}
+-- `reader::lookup::same_from` meets its contract. The loop's invariant: what is left from here on is equal exactly where all from the start on is.
+-- Assumes nothing.
+use Prim.Native.Nat.{_+_, _-_, _≤_}
+use native.Mathlib.Omega.{arith}
+use mathlib.Core.Path.{_≡_, refl, sym, _∙_}
+use lib.ListN.{length, drop}
+use Rattle.image.specs.Bytes.{same}
+use Rattle.reader.proofs.Equal.{other-byte, equal-byte, same-none}
+use Rattle.reader.proofs.lookup.same_from.Statement.{statement}
+use Rattle.reader.proofs.lookup.same_from.Tie as tie
+
+abbrev Inv-loop : tie.InvT-loop
+Inv-loop a b from i₀ i = (i ≤ length a) × (same (drop i a) (drop i b) ≡ same (drop from a) (drop from b))
+
+abbrev μ-loop : tie.MeasureT-loop
+μ-loop a b from i₀ i = length a - i
+
+loop-holds : tie.Need-loop-holds Inv-loop μ-loop
+loop-holds c = (search needs, refl)
+
+shared-slice-read-if1 : tie.Need-shared-slice-read-if1 Inv-loop μ-loop
+shared-slice-read-if1 c = search needs
+
+shared-slice-read-if1-2 : tie.Need-shared-slice-read-if1-2 Inv-loop μ-loop
+shared-slice-read-if1-2 c = search needs
+
+returns : tie.Need-returns Inv-loop μ-loop
+returns c =
+    let a = c .before .before .before .before .before .args in
+    let of-loop = c .before .before .before .before .loop in
+    other-byte (a .a .now) (a .b .now) (of-loop .i) (of-loop .i + 1) refl (omega arith) (omega arith) (c .if1 .taken) ∙ of-loop .inv .1
+
+add-i : tie.Need-add-i Inv-loop μ-loop
+add-i c = search needs
+
+loop-less : tie.Need-loop-less Inv-loop μ-loop
+loop-less c = omega arith
+
+loop-again : tie.Need-loop-again Inv-loop μ-loop
+loop-again c =
+    let a = c .before .before .before .before .before .args in
+    let of-loop = c .before .before .before .before .loop in
+    (omega arith, equal-byte (a .a .now) (a .b .now) (of-loop .i) (of-loop .i + 1) refl (omega arith) (omega arith) (c .if1 .left) ∙ of-loop .inv .1)
+
+returns-2 : tie.Need-returns-2 Inv-loop μ-loop
+returns-2 c =
+    let a = c .before .before .args in
+    sym (same-none (a .a .now) (a .b .now) (c .before .loop .i) (omega arith) (omega arith)) ∙ c .before .loop .inv .1
+
+pub same-from-spec : {M : Type 1} → statement M
+same-from-spec =
+    tie.close
+    (tie.spec
+    Inv-loop
+    μ-loop
+    loop-holds
+    shared-slice-read-if1
+    shared-slice-read-if1-2
+    returns
+    add-i
+    loop-less
+    loop-again
+    returns-2)

@@ -1,0 +1,64 @@
+-- `reader::lookup::to_id` meets its contract. Assumes nothing.
+use mathlib.Core.Path.{_≡_, refl, ap, _∙_}
+use mathlib.Core.Bool.{true, false}
+use borrow.Author.Tests.{lt-ltb, le-ltb, le-leb, lt-leb}
+use lib.ListN.{length}
+use Rattle.jhash.proofs.Answers.{told-image-hash, told-refused}
+use Rattle.reader.specs.Lookup.{lookupHash}
+use Rattle.reader.proofs.Searches.{lookup-by}
+use borrow.Author.Needs.{needs}
+use Rattle.reader.proofs.lookup.to_id.Statement.{statement}
+use Rattle.reader.proofs.lookup.to_id.Tie as tie
+
+returns : tie.Need-returns
+returns c =
+    let a = c .before .before .before .args in
+    let image = a .image .now in
+    let name = a .name .now in
+    lookup-by image name true _ (lt-ltb (length image) 2072 (c .if1 .taken)) refl
+
+jhash-requires : tie.Need-jhash-requires
+jhash-requires c κs = search needs
+
+enum-known-h : tie.Need-enum-known-h
+enum-known-h c = search needs
+
+to-id-hashed-requires : tie.Need-to-id-hashed-requires
+to-id-hashed-requires c κs = search needs
+
+enum-told : tie.Need-enum-told
+enum-told c = search needs
+
+returns-2 : tie.Need-returns-2
+returns-2 c =
+    let a = c .before .before .before .before .before .before .before .before .args in
+    let image = a .image .now in
+    let name = a .name .now in
+    let of-jhash = c .before .before .before .before .jhash in
+    let of-h = c .before .before .h in
+    let of-if1 = c .before .before .before .before .before .if1 in
+    let told = told-image-hash name (of-jhash .result) (of-h .given .0 .0) (of-jhash .ensures) (of-h .given .1) in
+    c .to-id-hashed .ensures ∙ ap (lookupHash image name) (told .1)
+    ∙ lookup-by image name false false (le-ltb (length image) 2072 (of-if1 .left)) (lt-leb 4294967295 (length name) (told .0))
+
+returns-3 : tie.Need-returns-3
+returns-3 c =
+    let a = c .before .before .before .before .before .before .args in
+    let image = a .image .now in
+    let name = a .name .now in
+    let of-if1 = c .before .before .before .if1 in
+    let of-jhash = c .before .before .jhash in
+    lookup-by image name false true (le-ltb (length image) 2072 (of-if1 .left))
+    (le-leb 4294967295 (length name) (told-refused name 0 (of-jhash .result) (of-jhash .ensures) (c .enum-told .given .1)))
+
+pub to-id-spec : {M : Type 1} → statement M
+to-id-spec =
+    tie.close
+    (tie.spec
+    returns
+    jhash-requires
+    enum-known-h
+    to-id-hashed-requires
+    enum-told
+    returns-2
+    returns-3)

@@ -1,0 +1,140 @@
+-- `reader::naming::to_str` meets its contract. Assumes nothing.
+use Prim.Native.Nat.{ℕ, _+_, _*_, _-_, _<_, _≤_}
+use native.Mathlib.Omega.{arith}
+use mathlib.Core.Path.{_≡_, refl, sym, ap, _∙_}
+use mathlib.Core.Bool.{Bool, true, false, cond, _||_}
+use borrow.Author.Tests.{le-leb, lt-leb, eq-eqb, ne-eqb}
+use lib.Dec.{eqb}
+use Rattle.image.specs.Bytes.{word}
+use Rattle.reader.specs.Lookup.{broken}
+use Rattle.reader.specs.Naming.{place, unnamed, naming}
+use Rattle.reader.proofs.Entries.{whole}
+use Rattle.reader.proofs.Names.{back, link, naming-by}
+use borrow.Author.Needs.{needs}
+use Rattle.reader.proofs.naming.to_str.Statement.{statement}
+use Rattle.reader.proofs.naming.to_str.Tie as tie
+
+-- once the entry's offset is read, the entry decides
+answer : (c : tie.After-word3) (z x : Bool) → eqb (c .word3 .result) 0 ≡ z → broken (c .before .before .before .before .before .before .before .args .image .now) (c .word3 .result) ≡ x
+    → cond (z || x) unnamed (place (c .word3 .result + 8) (word (c .before .before .before .before .before .before .before .args .image .now) (c .word3 .result + 4) - 1))
+    ≡ naming (c .before .before .before .before .before .before .before .args .image .now) (c .before .before .before .before .before .before .before .args .id)
+answer c z x ez ex =
+    let a = c .before .before .before .before .before .before .before .args in
+    let image = a .image .now in
+    naming-by image (a .id) (c .word3 .result) false false z x
+    (link image (a .id) (c .before .word2 .result) (c .word3 .result) (c .before .word2 .ensures) (c .word3 .ensures))
+    (sym (c .before .before .before .before .before .no-back .ensures) ∙ c .before .before .before .before .if1 .left)
+    (lt-leb (word image 16) (a .id) (omega (arith, c .before .before .before .word .ensures)))
+    ez ex
+
+no-back-requires : tie.Need-no-back-requires
+no-back-requires c κs = search needs
+
+returns : tie.Need-returns
+returns c =
+    let a = c .before .before .before .args in
+    let image = a .image .now in
+    naming-by image (a .id) _ true _ _ _ refl (sym (c .before .no-back .ensures) ∙ c .if1 .taken) refl refl refl
+
+word-requires : tie.Need-word-requires
+word-requires c κs = omega (arith, back (c .before .before .before .args .image .now) (sym (c .before .no-back .ensures) ∙ c .if1 .left))
+
+returns-2 : tie.Need-returns-2
+returns-2 c =
+    let a = c .before .before .before .before .before .args in
+    let image = a .image .now in
+    let of-no-back = c .before .before .before .no-back in
+    let of-if1 = c .before .before .if1 in
+    naming-by image (a .id) _ false true _ _ refl (sym (of-no-back .ensures) ∙ of-if1 .left)
+    (le-leb (word image 16) (a .id) (omega (arith, c .before .word .ensures))) refl refl
+
+word-requires-2 : tie.Need-word-requires-2
+word-requires-2 c κs =
+    let a = c .before .before .before .before .before .args in
+    let image = a .image .now in
+    let of-no-back = c .before .before .before .no-back in
+    let of-if1 = c .before .before .if1 in
+    omega (arith, back image (sym (of-no-back .ensures) ∙ of-if1 .left))
+
+cast-word : tie.Need-cast-word
+cast-word c = search needs
+
+mul-word : tie.Need-mul-word
+mul-word c = search needs
+
+add-word : tie.Need-add-word
+add-word c = search needs
+
+word-requires-3 : tie.Need-word-requires-3
+word-requires-3 c κs =
+    let a = c .before .before .before .before .before .before .args in
+    let image = a .image .now in
+    let of-no-back = c .before .before .before .before .no-back in
+    let of-if1 = c .before .before .before .if1 in
+    let of-word = c .before .before .word in
+    omega (arith, back image (sym (of-no-back .ensures) ∙ of-if1 .left), of-word .ensures, c .word2 .ensures)
+
+returns-3 : tie.Need-returns-3
+returns-3 c = answer (c .before) true _ (eq-eqb (c .before .word3 .result) 0 (c .if3 .taken)) refl
+
+broken-requires : tie.Need-broken-requires
+broken-requires c κs = search needs
+
+returns-4 : tie.Need-returns-4
+returns-4 c = answer (c .before .before .before) false true (ne-eqb (c .before .before .before .word3 .result) 0 (c .before .before .if3 .left)) (sym (c .before .broken .ensures) ∙ c .if4 .taken)
+
+cast-entry : tie.Need-cast-entry
+cast-entry c = search needs
+
+add-t11 : tie.Need-add-t11
+add-t11 c = search needs
+
+add-word-2 : tie.Need-add-word-2
+add-word-2 c = search needs
+
+word-requires-4 : tie.Need-word-requires-4
+word-requires-4 c κs =
+    let a = c .before .before .before .before .before .before .before .before .before .before .args in
+    let image = a .image .now in
+    let of-word3 = c .before .before .before .word3 in
+    omega (arith, whole image (of-word3 .result) (sym (c .before .broken .ensures) ∙ c .if4 .left))
+
+cast-t9 : tie.Need-cast-t9
+cast-t9 c = search needs
+
+sub-t8 : tie.Need-sub-t8
+sub-t8 c =
+    let a = c .before .before .before .before .before .before .before .before .before .before .before .args in
+    let image = a .image .now in
+    let of-word3 = c .before .before .before .before .word3 in
+    let of-broken = c .before .before .broken in
+    omega (arith, whole image (of-word3 .result) (sym (of-broken .ensures) ∙ c .before .if4 .left), c .word4 .ensures)
+
+returns-5 : tie.Need-returns-5
+returns-5 c =
+    ap (λ (w : ℕ). place (c .before .before .before .before .word3 .result + 8) (w - 1)) (c .word4 .ensures)
+    ∙ answer (c .before .before .before .before) false false (ne-eqb (c .before .before .before .before .word3 .result) 0 (c .before .before .before .if3 .left)) (sym (c .before .before .broken .ensures) ∙ c .before .if4 .left)
+
+pub to-str-spec : {M : Type 1} → statement M
+to-str-spec =
+    tie.close
+    (tie.spec
+    no-back-requires
+    returns
+    word-requires
+    returns-2
+    word-requires-2
+    cast-word
+    mul-word
+    add-word
+    word-requires-3
+    returns-3
+    broken-requires
+    returns-4
+    cast-entry
+    add-t11
+    add-word-2
+    word-requires-4
+    cast-t9
+    sub-t8
+    returns-5)

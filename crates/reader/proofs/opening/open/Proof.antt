@@ -1,0 +1,118 @@
+-- `reader::opening::open` meets its contract. Assumes nothing.
+use Prim.Native.Nat.{_%_, _^_}
+use native.Mathlib.Omega.{arith}
+use mathlib.Core.Path.{_≡_, refl, sym, ap, _∙_}
+use mathlib.Core.Bool.{Bool, true, false, cond, _&&_, and-false}
+use borrow.Author.Tests.{lt-ltb, le-ltb, eq-eqb, ne-eqb, not-true, not-false}
+use lib.Dec.{ltb}
+use lib.ListN.{length}
+use Rattle.image.specs.Bytes.{word}
+use Rattle.image.proofs.Bools.{both}
+use Rattle.reader.specs.Open.{num, refusal, halves, backOffsetAt, backLeaves, opening}
+use Rattle.reader.proofs.Opens.{opening-by}
+use borrow.Author.Needs.{needs}
+use Rattle.reader.proofs.opening.open.Statement.{statement}
+use Rattle.reader.proofs.opening.open.Tie as tie
+
+-- where no table leaves the image, the back array alone decides
+passed : (c : tie.Else4) (b : Bool) → (ltb 0 (backOffsetAt (c .before .before .before .before .before .before .before .before .args .image .now)) && backLeaves (c .before .before .before .before .before .before .before .before .args .image .now)) ≡ b
+    → cond b (refusal 8) (num (halves (c .before .before .before .before .before .before .before .before .args .image .now) 0 256 % 2 ^ 32)) ≡ opening (c .before .before .before .before .before .before .before .before .args .image .now)
+passed c b e =
+    let image = c .before .before .before .before .before .before .before .before .args .image .now in
+    opening-by image false true true false b
+    (le-ltb (length image) 2072 (c .before .before .before .before .before .before .if1 .left))
+    (sym (c .before .before .before .before .before .has-letters .ensures) ∙ not-false (c .before .before .before .before .before .has-letters .result) (c .before .before .before .before .if2 .left))
+    (eq-eqb (word image 12) 0x62445371 (sym (c .before .before .before .word .ensures) ∙ c .before .before .if3 .left))
+    (sym (c .before .all-tables .ensures .1) ∙ c .if4 .left)
+    e
+
+returns : tie.Need-returns
+returns c =
+    let a = c .before .before .args in
+    let image = a .image .now in
+    opening-by image true _ _ _ _ (lt-ltb (length image) 2072 (c .if1 .taken)) refl refl refl refl
+
+has-letters-requires : tie.Need-has-letters-requires
+has-letters-requires c κs = search needs
+
+returns-2 : tie.Need-returns-2
+returns-2 c =
+    let a = c .before .before .before .before .args in
+    let image = a .image .now in
+    let of-if1 = c .before .before .if1 in
+    opening-by image false false _ _ _ (le-ltb (length image) 2072 (of-if1 .left))
+    (sym (c .before .has-letters .ensures) ∙ not-true (c .before .has-letters .result) (c .if2 .taken)) refl refl refl
+
+word-requires : tie.Need-word-requires
+word-requires c κs = search needs
+
+returns-3 : tie.Need-returns-3
+returns-3 c =
+    let a = c .before .before .before .before .before .before .args in
+    let image = a .image .now in
+    let of-if1 = c .before .before .before .before .if1 in
+    let of-has-letters = c .before .before .before .has-letters in
+    let of-if2 = c .before .before .if2 in
+    opening-by image false true false _ _ (le-ltb (length image) 2072 (of-if1 .left))
+    (sym (of-has-letters .ensures) ∙ not-false (of-has-letters .result) (of-if2 .left))
+    (ne-eqb (word image 12) 0x62445371 (λ e. c .if3 .taken (c .before .word .ensures ∙ e))) refl refl
+
+all-tables-requires : tie.Need-all-tables-requires
+all-tables-requires c κs = search needs
+
+returns-4 : tie.Need-returns-4
+returns-4 c =
+    let a = c .before .before .before .before .before .before .before .before .args in
+    let image = a .image .now in
+    let of-if1 = c .before .before .before .before .before .before .if1 in
+    let of-has-letters = c .before .before .before .before .before .has-letters in
+    let of-if2 = c .before .before .before .before .if2 in
+    let of-word = c .before .before .before .word in
+    let of-if3 = c .before .before .if3 in
+    opening-by image false true true true _ (le-ltb (length image) 2072 (of-if1 .left))
+    (sym (of-has-letters .ensures) ∙ not-false (of-has-letters .result) (of-if2 .left))
+    (eq-eqb (word image 12) 0x62445371 (sym (of-word .ensures) ∙ of-if3 .left)) (sym (c .before .all-tables .ensures .1) ∙ c .if4 .taken) refl
+
+word-requires-2 : tie.Need-word-requires-2
+word-requires-2 c κs = search needs
+
+back-leaves-requires : tie.Need-back-leaves-requires
+back-leaves-requires c κs = search needs
+
+returns-5 : tie.Need-returns-5
+returns-5 c =
+    passed (c .before .before .before .before) true
+    (both (ltb 0 (word (c .before .before .before .before .before .before .before .before .before .before .before .before .args .image .now) 20)) (backLeaves (c .before .before .before .before .before .before .before .before .before .before .before .before .args .image .now))
+    (lt-ltb 0 (word (c .before .before .before .before .before .before .before .before .before .before .before .before .args .image .now) 20) (omega (arith, c .before .before .before .word2 .ensures)))
+    (sym (c .before .back-leaves .ensures) ∙ c .if6 .taken))
+
+returns-6 : tie.Need-returns-6
+returns-6 c =
+    let image = c .before .before .before .before .before .before .before .before .before .before .before .before .args .image .now in
+    ap num (c .before .before .before .before .before .all-tables .ensures .0)
+    ∙ passed (c .before .before .before .before) false
+    (ap (λ (t : Bool). ltb 0 (word image 20) && t) (sym (c .before .back-leaves .ensures) ∙ c .if6 .left) ∙ and-false (ltb 0 (word image 20)))
+
+returns-7 : tie.Need-returns-7
+returns-7 c =
+    let image = c .before .before .before .before .before .before .before .before .before .before .args .image .now in
+    ap num (c .before .before .before .all-tables .ensures .0)
+    ∙ passed (c .before .before) false
+    (ap (λ (t : Bool). t && backLeaves image) (le-ltb 0 (word image 20) (omega (arith, c .before .word2 .ensures))))
+
+pub open-spec : {M : Type 1} → statement M
+open-spec =
+    tie.close
+    (tie.spec
+    returns
+    has-letters-requires
+    returns-2
+    word-requires
+    returns-3
+    all-tables-requires
+    returns-4
+    word-requires-2
+    back-leaves-requires
+    returns-5
+    returns-6
+    returns-7)

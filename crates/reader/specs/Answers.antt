@@ -1,0 +1,52 @@
+-- The answers' cases: for each enum that a call answers, 01's number and values of its cases.
+use Prim.Native.Nat.{ℕ}
+use Rattle.reader.specs.Open.{Opening, num, refusal}
+use Rattle.reader.specs.Lookup.{Lookup, found, nothing}
+use Rattle.reader.specs.Lookup as spec
+use Rattle.reader.specs.Naming.{Naming, place, unnamed}
+use Rattle.reader.specs.Walk.{Step, item, done}
+use Rattle.reader.specs.declared.Opened.{Opened}
+use Rattle.reader.specs.declared.Opened.the-variants.{Num, TooShort, WrongLetters, WrongByteOrder, TableLeaves, BackLeaves}
+use Rattle.reader.specs.declared.ToId.{ToId}
+use Rattle.reader.specs.declared.ToId.the-variants as toid
+use Rattle.reader.specs.declared.Seen.{Seen}
+use Rattle.reader.specs.declared.Seen.the-variants.{Pass, Ends, Hit}
+use Rattle.reader.specs.declared.Named.{Named}
+use Rattle.reader.specs.declared.Named.the-variants as named
+use Rattle.reader.specs.declared.Stepped.{Stepped}
+use Rattle.reader.specs.declared.Stepped.the-variants.{Item, Done}
+
+-- 01, "When a call is refused": the number of each refusal of open
+abbrev pub openedOf : Opened → Opening
+openedOf (Num n) = num n
+openedOf TooShort = refusal 1
+openedOf WrongLetters = refusal 5
+openedOf WrongByteOrder = refusal 6
+openedOf TableLeaves = refusal 7
+openedOf BackLeaves = refusal 8
+
+-- found with its id, or nothing; both carry the buckets read
+abbrev pub lookupOf : ToId → Lookup
+lookupOf (toid.Found id buckets) = found id buckets
+lookupOf (toid.Nothing buckets) = nothing buckets
+
+-- the buckets read that a lookup's answer carries
+abbrev pub reads : Lookup → ℕ
+reads (found id n) = n
+reads (nothing n) = n
+
+-- what is seen in a bucket
+abbrev pub seenOf : Seen → spec.Seen
+seenOf Pass = spec.pass
+seenOf Ends = spec.ends
+seenOf (Hit id) = spec.hit id
+
+-- the place of the name, or nothing
+abbrev pub namingOf : Named → Naming
+namingOf (named.Place start len) = place start len
+namingOf named.Nothing = unnamed
+
+-- the step of a walk: id, place, and the id before which the walk then stands; or the end
+abbrev pub steppedOf : Stepped → Step
+steppedOf (Item id start len iter) = item id start len (iter .next)
+steppedOf Done = done

@@ -1,0 +1,7 @@
+-- What reading gives, as 01 says it, on every slice of bytes.
+pub mod Open
+pub mod Lookup
+pub mod Naming
+pub mod Walk
+pub mod Steps
+pub mod Answers

@@ -1,0 +1,67 @@
+-- Looking up a name: 01, "Looking up a name".
+use Prim.Native.Nat.{ℕ, zero, suc, _+_, _*_, _-_}
+use mathlib.Core.Bool.{Bool, true, false, cond, not, _&&_, _||_}
+use mathlib.Core.List.{List, [], _∷_}
+use lib.ListN.{length, take, drop}
+use lib.Dec.{eqb, ltb, leb}
+use Rattle.jhash.specs.NameHash.{hashOf}
+use Rattle.image.specs.Bytes.{word, same}
+use Rattle.image.specs.Tables.{tableOf, start, order}
+use Rattle.image.specs.Record.{headSize}
+use Rattle.reader.specs.Open.{tableAt, bucketNumber, tableLeaves}
+
+-- the answer: found with its id, or nothing; both carry the number of buckets read, the deciding one included
+pub data Lookup : Type 0 where
+  found : ℕ → ℕ → Lookup
+  nothing : ℕ → Lookup
+
+-- what a search sees in a bucket: it passes it, or ends with nothing, or with an id
+pub data Seen : Type 0 where
+  pass : Seen
+  ends : Seen
+  hit : ℕ → Seen
+
+-- the name of an entry whose length word says its length plus 1
+abbrev pub nameOf : List ℕ → ℕ → List ℕ
+nameOf image at = take (word image (at + 4) - 1) (drop (at + 8) image)
+
+-- an entry is broken where its first 8 bytes or its name leave the image, or its length word is 0
+abbrev pub broken : List ℕ → ℕ → Bool
+broken image at = ltb (length image) (at + 8) || eqb (word image (at + 4)) 0 || ltb (length image) (at + 8 + (word image (at + 4) - 1))
+
+-- a broken entry ends with nothing; an equal name ends with its id; another name is passed
+unfoldable pub seeEntry : List ℕ → List ℕ → ℕ → Seen
+seeEntry image name at =
+    cond (broken image at) ends (cond (same (nameOf image at) name) (hit (word image at)) pass)
+
+-- an empty bucket ends with nothing; a bucket with another hash is passed
+unfoldable pub see : List ℕ → List ℕ → ℕ → ℕ → Seen
+see image name h b =
+    cond (eqb (word image (b + 4)) 0) ends
+    (cond (eqb (word image b) h) (seeEntry image name (word image (b + 4))) pass)
+
+-- one more bucket was read: what was seen decides, or the search goes on
+abbrev pub decide : Seen → ℕ → Lookup → Lookup
+decide pass reads rest = rest
+decide ends reads rest = nothing reads
+decide (hit id) reads rest = found id reads
+
+-- the search along a list of buckets, `reads` being those read before. After the last the answer is nothing
+unfoldable pub probe : (ℕ → Seen) → List ℕ → ℕ → Lookup
+probe look [] reads = nothing reads
+probe look (k ∷ ks) reads = decide (look k) (reads + 1) (probe look ks (reads + 1))
+
+-- the search in a table of n buckets at offset o
+unfoldable pub searchTable : List ℕ → List ℕ → ℕ → ℕ → ℕ → Lookup
+searchTable image name h o n = probe (λ (k : ℕ). see image name h (o + 8 * k)) (order n n (start h n)) 0
+
+-- nothing after 0 reads: a table with offset 0, bucket number 0 or an end past the image
+unfoldable pub lookupHash : List ℕ → List ℕ → ℕ → Lookup
+lookupHash image name h =
+    cond (eqb (tableAt image (tableOf h)) 0 || eqb (bucketNumber image (tableOf h)) 0 || tableLeaves image (tableOf h)) (nothing 0)
+    (searchTable image name h (tableAt image (tableOf h)) (bucketNumber image (tableOf h)))
+
+-- an image under 2,072 bytes, a name of 4,294,967,295 bytes or more
+unfoldable pub lookup : List ℕ → List ℕ → Lookup
+lookup image name =
+    cond (ltb (length image) headSize) (nothing 0) (cond (leb 4294967295 (length name)) (nothing 0) (lookupHash image name (hashOf name)))

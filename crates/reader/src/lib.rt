@@ -1,0 +1,62 @@
+// Reading: open, look up, name, walk, home, on every slice of bytes. No call has a `requires`, and each answers what 01
+// fixes for the bytes that it is lent, whether an open accepted them or not.
+mod words; // words.rt: the words of an image
+pub mod opening; // opening.rt: open
+pub mod lookup; // lookup.rt: to_id
+pub mod naming; // naming.rt: to_str, name, name_or
+pub mod walk; // walk.rt: iter, next, size_hint, home
+
+pub use lookup::to_id;
+pub use naming::name;
+pub use naming::name_or;
+pub use naming::to_str;
+pub use opening::open;
+pub use walk::home;
+
+// The head is 2,072 bytes.
+const HEAD_SIZE: usize = 2072;
+
+// What opening answers: the number of associations (`num`), or the refusal that applies first.
+pub enum Opened {
+    Num(u32),
+    TooShort,
+    WrongLetters,
+    WrongByteOrder,
+    TableLeaves,
+    BackLeaves,
+}
+
+// What a lookup answers: the id, or nothing; both with the number of buckets read, the deciding one included.
+pub enum ToId {
+    Found { id: u32, buckets: u32 },
+    Nothing { buckets: u32 },
+}
+
+// What a search sees in a bucket: it passes it, or ends with nothing, or with an id.
+pub enum Seen {
+    Pass,
+    Ends,
+    Hit(u32),
+}
+
+// What naming an id answers: the place of the name in the image, or nothing.
+pub enum Named {
+    Place { start: usize, len: usize },
+    Nothing,
+}
+
+// A walk over the ids, which stands before the id `next`.
+pub struct Iter {
+    pub next: u32,
+}
+
+// A step of a walk: the id, the place of its name, and the walk to go on with; or the end.
+pub enum Stepped {
+    Item {
+        id: u32,
+        start: usize,
+        len: usize,
+        iter: Iter,
+    },
+    Done,
+}

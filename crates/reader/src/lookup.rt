@@ -1,0 +1,153 @@
+// Looking up a name (reference `to_id`): what a bucket shows, the search along the buckets, and the call.
+ghost use mathlib.Core.Path.{_≡_};
+ghost use Prim.Native.Nat.{_+_, _*_, _<_, _≤_};
+ghost use lib.ListN.{length, drop};
+ghost use Rattle.image.specs.Bytes.{same};
+ghost use Rattle.reader.specs.Lookup.{broken, seeEntry, see, searchTable, lookupHash, lookup};
+ghost use Rattle.reader.specs.Answers.{seenOf, lookupOf};
+use super::HEAD_SIZE;
+use super::Seen;
+use super::ToId;
+use super::words::word;
+use jhash::Hashed;
+
+// Are two byte strings of one length equal from `from` on?
+fn same_from(a: &[u8], b: &[u8], from: usize) -> bool
+    requires { ⌜ (length (now a) ≡ length (now b)) × (from ≤ length (now a)) ⌝ }
+    ensures { λ r. ⌜ r ≡ same (drop from (now (a .entry))) (drop from (now (b .entry))) ⌝ }
+{
+    let mut i = from;
+    while i < a.len() {
+        if a[i] != b[i] {
+            return false;
+        }
+        i += 1;
+    }
+    true
+}
+
+// Are two byte strings equal? They are compared word by word, and the last bytes one by one.
+fn same(a: &[u8], b: &[u8]) -> bool
+    ensures { λ r. ⌜ r ≡ same (now (a .entry)) (now (b .entry)) ⌝ }
+{
+    if a.len() != b.len() {
+        return false;
+    }
+    let mut i: usize = 0;
+    while 4 <= a.len() - i {
+        if word(a, i) != word(b, i) {
+            return false;
+        }
+        i += 4;
+    }
+    same_from(a, b, i)
+}
+
+// Does the entry at `at` leave the image with its first 8 bytes or its name, or is its length word 0?
+pub(crate) fn broken(image: &[u8], at: u32) -> bool
+    ensures { λ r. ⌜ r ≡ broken (now (image .entry)) at ⌝ }
+{
+    let start = at as usize + 8;
+    if image.len() < start {
+        return true;
+    }
+    let len = word(image, at as usize + 4) as usize;
+    if len == 0 {
+        return true;
+    }
+    image.len() < start + (len - 1)
+}
+
+// What a search for a name sees in the entry at `at`.
+fn see_entry(image: &[u8], name: &[u8], at: u32) -> Seen
+    ensures { λ r. ⌜ seenOf r ≡ seeEntry (now (image .entry)) (now (name .entry)) at ⌝ }
+{
+    if broken(image, at) {
+        return Seen::Ends;
+    }
+    let entry = at as usize;
+    let start = entry + 8;
+    let end = start + (word(image, entry + 4) as usize - 1);
+    if same(&image[start..end], name) {
+        return Seen::Hit(word(image, entry));
+    }
+    Seen::Pass
+}
+
+// What a search for a name with the hash h sees in the bucket at `at`.
+fn see(image: &[u8], name: &[u8], h: u32, at: usize) -> Seen
+    requires { ⌜ at + 8 ≤ length (now image) ⌝ }
+    ensures { λ r. ⌜ seenOf r ≡ see (now (image .entry)) (now (name .entry)) h at ⌝ }
+{
+    let entry = word(image, at + 4);
+    if entry == 0 {
+        return Seen::Ends;
+    }
+    if word(image, at) != h {
+        return Seen::Pass;
+    }
+    see_entry(image, name, entry)
+}
+
+// The search for a name in the table of n buckets at `at`: from bucket (hash / 256) modulo n on by one, from the last to
+// the first, and no further than n buckets.
+fn search(image: &[u8], name: &[u8], h: u32, at: u32, n: u32) -> ToId
+    requires { ⌜ (0 < n) × (at + 8 * n ≤ length (now image)) ⌝ }
+    ensures { λ r. ⌜ lookupOf r ≡ searchTable (now (image .entry)) (now (name .entry)) h at n ⌝ }
+{
+    let mut k = h / 256 % n;
+    let mut left = n;
+    while 0 < left {
+        left -= 1;
+        match see(image, name, h, at as usize + 8 * (k as usize)) {
+            Seen::Pass => {}
+            Seen::Ends => {
+                return ToId::Nothing { buckets: n - left };
+            }
+            Seen::Hit(id) => {
+                return ToId::Found {
+                    id,
+                    buckets: n - left,
+                };
+            }
+        }
+        k += 1;
+        if k == n {
+            k = 0;
+        }
+    }
+    ToId::Nothing { buckets: n - left }
+}
+
+// The lookup of a name whose hash is h.
+fn to_id_hashed(image: &[u8], name: &[u8], h: u32) -> ToId
+    requires { ⌜ 2072 ≤ length (now image) ⌝ }
+    ensures { λ r. ⌜ lookupOf r ≡ lookupHash (now (image .entry)) (now (name .entry)) h ⌝ }
+{
+    let t = (h % 256) as usize;
+    let at = word(image, 24 + 8 * t);
+    let n = word(image, 28 + 8 * t);
+    if at == 0 {
+        return ToId::Nothing { buckets: 0 };
+    }
+    if n == 0 {
+        return ToId::Nothing { buckets: 0 };
+    }
+    if image.len() < at as usize + 8 * (n as usize) {
+        return ToId::Nothing { buckets: 0 };
+    }
+    search(image, name, h, at, n)
+}
+
+// The id of a name, or nothing, with the number of buckets read.
+pub fn to_id(image: &[u8], name: &[u8]) -> ToId
+    ensures { λ r. ⌜ lookupOf r ≡ lookup (now (image .entry)) (now (name .entry)) ⌝ }
+{
+    if image.len() < HEAD_SIZE {
+        return ToId::Nothing { buckets: 0 };
+    }
+    match jhash::jhash(name, 0) {
+        Hashed::Hash(h) => to_id_hashed(image, name, h),
+        Hashed::Refused => ToId::Nothing { buckets: 0 },
+    }
+}

@@ -1,0 +1,66 @@
+// Naming an id (reference `to_str`).
+ghost use mathlib.Core.Path.{_≡_};
+ghost use Rattle.reader.specs.Naming.{noBack, naming, namePart, nameOr};
+ghost use Rattle.reader.specs.Answers.{namingOf};
+use super::HEAD_SIZE;
+use super::Named;
+use super::lookup::broken;
+use super::opening::back_leaves;
+use super::words::word;
+
+// Has the image no back array that can be read?
+pub(crate) fn no_back(image: &[u8]) -> bool
+    ensures { λ r. ⌜ r ≡ noBack (now (image .entry)) ⌝ }
+{
+    if image.len() < HEAD_SIZE {
+        return true;
+    }
+    if word(image, 20) == 0 {
+        return true;
+    }
+    back_leaves(image)
+}
+
+// The place of an id's name, or nothing.
+pub fn to_str(image: &[u8], id: u32) -> Named
+    ensures { λ r. ⌜ namingOf r ≡ naming (now (image .entry)) id ⌝ }
+{
+    if no_back(image) {
+        return Named::Nothing;
+    }
+    if word(image, 16) <= id {
+        return Named::Nothing;
+    }
+    let at = word(image, word(image, 20) as usize + 4 * (id as usize));
+    if at == 0 {
+        return Named::Nothing;
+    }
+    if broken(image, at) {
+        return Named::Nothing;
+    }
+    let entry = at as usize;
+    Named::Place {
+        start: entry + 8,
+        len: word(image, entry + 4) as usize - 1,
+    }
+}
+
+// The part of the image that is an id's name, empty if it has none.
+pub fn name<'a>(image: &'a [u8], id: u32) -> &'a [u8]
+    ensures { λ r. ⌜ now r ≡ namePart (now (image .entry)) id ⌝ }
+{
+    match to_str(image, id) {
+        Named::Place { start, len } => &image[start..start + len],
+        Named::Nothing => &image[0..0],
+    }
+}
+
+// The part of the image that is an id's name, or the stand-in if it has none.
+pub fn name_or<'a>(image: &'a [u8], id: u32, stand_in: &'a [u8]) -> &'a [u8]
+    ensures { λ r. ⌜ now r ≡ nameOr (now (image .entry)) id (now (stand_in .entry)) ⌝ }
+{
+    match to_str(image, id) {
+        Named::Place { start, len } => &image[start..start + len],
+        Named::Nothing => stand_in,
+    }
+}

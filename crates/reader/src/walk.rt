@@ -1,0 +1,70 @@
+// Walking over the ids, and the home check (reference `iter`, `next`, `size_hint`).
+ghost use mathlib.Core.Path.{_≡_};
+ghost use Rattle.reader.specs.Walk.{step, upperHint, home};
+ghost use Rattle.reader.specs.Answers.{steppedOf};
+use super::Iter;
+use super::Named;
+use super::Stepped;
+use super::ToId;
+use super::lookup::to_id;
+use super::naming::no_back;
+use super::naming::to_str;
+use super::words::word;
+
+// A walk that stands before id 0.
+pub fn iter() -> Iter
+    ensures { λ r. ⌜ r .next ≡ 0 ⌝ }
+{
+    Iter { next: 0 }
+}
+
+// The next step of a walk. It ends at the first id without a name, and who goes on there with the same walk meets the
+// end again.
+pub fn next(image: &[u8], walk: Iter) -> Stepped
+    ensures { λ r. ⌜ steppedOf r ≡ step (now (image .entry)) (walk .next) ⌝ }
+{
+    let id = walk.next;
+    match to_str(image, id) {
+        Named::Place { start, len } => Stepped::Item {
+            id,
+            start,
+            len,
+            iter: Iter { next: id + 1 },
+        },
+        Named::Nothing => Stepped::Done,
+    }
+}
+
+// How many steps a walk has left at most.
+pub fn size_hint(image: &[u8], walk: Iter) -> u32
+    ensures { λ r. ⌜ r ≡ upperHint (now (image .entry)) (walk .next) ⌝ }
+{
+    if no_back(image) {
+        return 0;
+    }
+    let size = word(image, 16);
+    let id = walk.next;
+    if size <= id {
+        return 0;
+    }
+    size - id
+}
+
+// Has the id a name whose lookup finds this id?
+pub fn home(image: &[u8], id: u32) -> bool
+    ensures { λ r. ⌜ r ≡ home (now (image .entry)) id ⌝ }
+{
+    match to_str(image, id) {
+        Named::Place { start, len } => {
+            let end = start + len;
+            match to_id(image, &image[start..end]) {
+                ToId::Found {
+                    id: found,
+                    buckets: _,
+                } => found == id,
+                ToId::Nothing { buckets: _ } => false,
+            }
+        }
+        Named::Nothing => false,
+    }
+}

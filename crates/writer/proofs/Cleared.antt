@@ -1,0 +1,107 @@
+-- Head and rows written, tables and back array cleared: the image before any entry is taken. Assumes nothing.
+use Prim.Native.Nat.{ℕ, _+_, _-_, _*_, _≤_}
+use native.Mathlib.Omega.{arith}
+use mathlib.Core.Path.{_≡_, refl, sym, ap, _∙_}
+use mathlib.Core.Bool.{cond}
+use mathlib.Core.List.{List, [], _++_, append-assoc}
+use lib.ListN.{length, drop, replicate, length-append, length-drop, length-replicate}
+use lib.Seq.{sets, sets-eq, drop-drop}
+use lib.Dec.{eqb}
+use Rattle.image.specs.Bytes.{cat}
+use Rattle.image.specs.Record.{Entry, headSize, entryBytes, placed, flagWord, backIn, backSize, back, entriesEnd, imageSize, backOffset, headBytes, headWords, tableRows, links}
+use Rattle.image.specs.declared.Flag.{Flag}
+use Rattle.image.specs.declared.Flag.the-variants.{None, Oneway}
+use Rattle.image.proofs.Sizes.{length-placed, length-headWords, length-tableRows}
+use Rattle.image.proofs.Stores.{sets-then, sets-right-at}
+use Rattle.layout.proofs.Parts.{placedIn}
+use Rattle.writer.specs.declared.CQDBWriter.{CQDBWriter}
+use Rattle.writer.specs.State.{finishedSize}
+use Rattle.writer.specs.Working.{between, rowsFrom, backAt, cleared}
+use Rattle.writer.proofs.Rows.{Counts, rows-image}
+use Rattle.writer.proofs.Partial.{tablesWith, upToEntries, partial, zeros-both}
+
+-- ---- three stores: head, rows, and what follows the entries
+
+stores : (buf h r z : List ℕ) (end size : ℕ) → length h ≡ 24 → length r ≡ 2048 → 2072 ≤ end → length z ≡ size - end → end ≤ size
+    → size ≤ length buf
+    → sets (sets (sets buf 0 h) 24 r) end z ≡ h ++ r ++ between buf 2072 end ++ z ++ drop size buf
+stores buf h r z end size lh lr low lz high room =
+    let rest = drop 2072 buf in
+    let both : length (h ++ r) ≡ 2072 = omega (arith, length-append h r) in
+    let place : end ≡ length (h ++ r) + (end - 2072) = omega arith in
+    let over : 2072 + (end - 2072 + length z) ≡ size = omega arith in
+    let front : sets (sets buf 0 h) 24 r ≡ h ++ r ++ rest =
+    sets-then h r buf 0 24 (omega arith)
+    ∙ sets-eq (h ++ r) buf 0 (omega arith)
+    ∙ ap (λ (n : ℕ). h ++ r ++ drop (0 + n) buf) both in
+    let behind : sets rest (end - 2072) z ≡ between buf 2072 end ++ z ++ drop size buf =
+    sets-eq z rest (end - 2072) (omega (arith, length-drop 2072 buf))
+    ∙ ap (λ (l : List ℕ). between buf 2072 end ++ z ++ l)
+    (drop-drop (end - 2072 + length z) 2072 buf ∙ ap (λ (n : ℕ). drop n buf) over) in
+    ap (λ (l : List ℕ). sets l end z) front
+    ∙ sets-right-at z (h ++ r) rest (end - 2072) end place
+    ∙ ap (λ (l : List ℕ). h ++ r ++ l) behind
+    ∙ regroup (h ++ r) (between buf 2072 end) z (drop size buf)
+  where
+    regroup : (a b c d : List ℕ) → a ++ (b ++ c ++ d) ≡ a ++ b ++ c ++ d
+    regroup a b c d = simp append-assoc
+
+-- ---- a record that says what its entries are
+
+pub record Tells (w : CQDBWriter) (counts buf : List ℕ) (es : List Entry) : Type 0 where
+  pub ends : w .end ≡ entriesEnd es
+  pub number : w .entries ≡ length es
+  pub backs : w .back ≡ back (w .flag) es
+  pub tallies : Counts counts (placedIn es)
+  pub area : between buf headSize (w .end) ≡ cat entryBytes es
+  pub room : finishedSize w ≤ length buf
+
+backIn-twice : (flag : Flag) (n : ℕ) → backIn flag (backIn flag n) ≡ backIn flag n
+backIn-twice None n = refl
+backIn-twice Oneway n = refl
+
+module _ (w : CQDBWriter) (counts buf : List ℕ) (es : List Entry) (tells : Tells w counts buf es) where
+  told-back : backIn (w .flag) (w .back) ≡ back (w .flag) es
+  told-back = ap (backIn (w .flag)) (tells .backs) ∙ backIn-twice (w .flag) (backSize es)
+
+  pub told-size : finishedSize w ≡ imageSize (w .flag) es
+  told-size = omega (arith, told-back, tells .ends, tells .number)
+
+  pub told-links : backAt w ≡ backOffset (w .flag) es
+  unfolding backAt backOffset
+  told-links =
+      let e : w .end + 16 * w .entries ≡ entriesEnd es + 16 * length es = omega (arith, tells .ends, tells .number) in
+      ap (λ (n : ℕ). cond (eqb n 0) 0 (w .end + 16 * w .entries)) told-back
+      ∙ ap (λ (o : ℕ). cond (eqb (back (w .flag) es) 0) 0 o) e
+
+  head-told : headBytes (finishedSize w) (flagWord (w .flag)) (backIn (w .flag) (w .back)) (backAt w) ≡ headWords (w .flag) es
+  unfolding headWords
+  head-told =
+      ap (λ (n : ℕ). headBytes n (flagWord (w .flag)) (backIn (w .flag) (w .back)) (backAt w)) told-size
+      ∙ ap (λ (n : ℕ). headBytes (imageSize (w .flag) es) (flagWord (w .flag)) n (backAt w)) told-back
+      ∙ ap (headBytes (imageSize (w .flag) es) (flagWord (w .flag)) (back (w .flag) es)) told-links
+
+  rows-told : rowsFrom counts (w .end) 0 256 ≡ tableRows (entriesEnd es) (placedIn es)
+  rows-told = ap (λ (o : ℕ). rowsFrom counts o 0 256) (tells .ends) ∙ rows-image counts (entriesEnd es) (placedIn es) (tells .tallies)
+
+  zeros-told : replicate (finishedSize w - w .end) 0 ≡ tablesWith (placedIn es) [] ++ links [] (back (w .flag) es)
+  zeros-told =
+      zeros-both (placedIn es) (back (w .flag) es) (finishedSize w - w .end)
+      (omega (arith, told-back, tells .number, length-placed headSize es))
+
+  pub cleared-partial : cleared w counts buf ≡ partial (w .flag) es [] ++ drop (finishedSize w) buf
+  unfolding cleared partial upToEntries placed
+  cleared-partial =
+      let h = headBytes (finishedSize w) (flagWord (w .flag)) (backIn (w .flag) (w .back)) (backAt w) in
+      let r = rowsFrom counts (w .end) 0 256 in
+      let z : List ℕ = replicate (finishedSize w - w .end) 0 in
+      let tail = drop (finishedSize w) buf in
+      stores buf h r z (w .end) (finishedSize w)
+      (ap length head-told ∙ length-headWords (w .flag) es)
+      (ap length rows-told ∙ length-tableRows (entriesEnd es) (placedIn es))
+      (omega (arith, tells .ends)) (length-replicate (finishedSize w - w .end) 0) (omega arith) (tells .room)
+      ∙ ap (λ (l : List ℕ). l ++ r ++ between buf headSize (w .end) ++ z ++ tail) head-told
+      ∙ ap (λ (l : List ℕ). headWords (w .flag) es ++ l ++ between buf headSize (w .end) ++ z ++ tail) rows-told
+      ∙ ap (λ (l : List ℕ). headWords (w .flag) es ++ tableRows (entriesEnd es) (placedIn es) ++ l ++ z ++ tail) (tells .area)
+      ∙ ap (λ (l : List ℕ). upToEntries (w .flag) es ++ l ++ tail) zeros-told
+      ∙ ap (λ (l : List ℕ). l ++ tail) (sym (append-assoc (upToEntries (w .flag) es) (tablesWith (placedIn es) []) (links [] (back (w .flag) es))))

@@ -1,0 +1,71 @@
+-- What close answers in each case, as its checks go. Assumes nothing.
+use Prim.Native.Nat.{ℕ, _+_, _-_, _*_, _≤_, _<_}
+use native.Mathlib.Omega.{arith}
+use mathlib.Core.Path.{_≡_, refl, sym, ap, ap₂, _∙_}
+use mathlib.Core.Bool.{Bool, true, false, cond, not, _&&_, and-false, and-true}
+use mathlib.Core.List.{List, _++_}
+use lib.ListN.{length, drop, replicate}
+use lib.Seq.{sets}
+use borrow.Author.Tests.{eq-eqb, ne-eqb}
+use lib.Dec.{eqb}
+use Rattle.image.specs.Record.{backIn, backSize, flagWord, headBytes, image}
+use Rattle.writer.specs.State.{State, lent, fits, finishedSize, tooLarge}
+use Rattle.writer.specs.Close.{Closing, size, refusal, whole, entryArea, recorded, countsAgree, closeRefusal, closedSize, closed, afterClose, closing}
+use Rattle.writer.specs.Working.{backAt, rowsFrom, cleared, takenFrom, written}
+use Rattle.writer.specs.declared.CQDBWriter.{CQDBWriter}
+
+-- are the entries whole, and have they the record's counts and back size?
+abbrev pub consistent : State → Bool
+consistent s =
+    whole (s .writer .entries) (entryArea s)
+    && countsAgree (s .counts) (recorded s)
+    && eqb (s .writer .back) (backIn (s .writer .flag) (backSize (recorded s)))
+
+module _ (s : State) where
+  pub unfit : fits s ≡ false → (refusal 2 ≡ closing s) × (s ≡ afterClose s)
+  unfolding closeRefusal closing afterClose
+  unfit h = rw h (refl, refl)
+
+  pub too-big : fits s ≡ true → tooLarge (s .writer .capacity) (finishedSize (s .writer)) ≡ true → (refusal 4 ≡ closing s) × (s ≡ afterClose s)
+  unfolding closeRefusal closing afterClose
+  too-big h k = rw (h, k, and-false (consistent s)) (refl, refl)
+
+  pub differs : fits s ≡ true → consistent s ≡ false → (refusal 4 ≡ closing s) × (s ≡ afterClose s)
+  unfolding closeRefusal closing afterClose
+  differs h k = rw (h, k) (refl, refl)
+
+  pub closes : fits s ≡ true → tooLarge (s .writer .capacity) (finishedSize (s .writer)) ≡ false → consistent s ≡ true
+      → (size (closedSize s) ≡ closing s) × (closed s ≡ afterClose s)
+  unfolding closeRefusal closing afterClose
+  closes h k l = rw (h, k, l) (refl, refl)
+
+-- where the back array stands
+pub backAt-none : (w : CQDBWriter) (n : ℕ) → n ≡ backIn (w .flag) (w .back) → n ≡ 0 → 0 ≡ backAt w
+unfolding backAt
+backAt-none w n e z = rw (eq-eqb (backIn (w .flag) (w .back)) 0 (sym e ∙ z))
+
+pub backAt-some : (w : CQDBWriter) (n : ℕ) → n ≡ backIn (w .flag) (w .back) → (n ≡ 0 → ⊥) → w .end + 16 * w .entries ≡ backAt w
+unfolding backAt
+backAt-some w n e z = rw (ne-eqb (backIn (w .flag) (w .back)) 0 (λ y. z (e ∙ y)))
+
+pub backAt-le : (w : CQDBWriter) → backAt w ≤ w .end + 16 * w .entries
+unfolding backAt
+backAt-le w = go (eqb (backIn (w .flag) (w .back)) 0)
+  where
+    go : (b : Bool) → cond b 0 (w .end + 16 * w .entries) ≤ w .end + 16 * w .entries
+    go true = omega arith
+    go false = omega arith
+
+-- all steps of writing
+pub written-parts : (w : CQDBWriter) (counts buf b1 b2 b3 b4 : List ℕ) (n f k l : ℕ)
+    → n ≡ finishedSize w → f ≡ flagWord (w .flag) → k ≡ backIn (w .flag) (w .back) → l ≡ backAt w
+    → b1 ≡ sets buf 0 (headBytes n f k l) → b2 ≡ sets b1 24 (rowsFrom counts (w .end) 0 256) → b3 ≡ sets b2 (w .end) (replicate (n - w .end) 0)
+    → b4 ≡ takenFrom (w .flag) l (w .end) (w .entries) 2072 b3 → b4 ≡ written w counts buf
+unfolding written cleared
+written-parts w counts buf b1 b2 b3 b4 n f k l en ef ek el p q r s =
+    let first : b1 ≡ sets buf 0 (headBytes (finishedSize w) (flagWord (w .flag)) (backIn (w .flag) (w .back)) (backAt w)) =
+    p ∙ ap (λ (x : ℕ). sets buf 0 (headBytes x f k l)) en ∙ ap (λ (x : ℕ). sets buf 0 (headBytes (finishedSize w) x k l)) ef
+    ∙ ap₂ (λ (x : ℕ) (y : ℕ). sets buf 0 (headBytes (finishedSize w) (flagWord (w .flag)) x y)) ek el in
+    let second = q ∙ ap (λ (x : List ℕ). sets x 24 (rowsFrom counts (w .end) 0 256)) first in
+    let third = r ∙ ap₂ (λ (x : List ℕ) (y : ℕ). sets x (w .end) (replicate (y - w .end) 0)) second en in
+    s ∙ ap₂ (λ (x : List ℕ) (y : ℕ). takenFrom (w .flag) y (w .end) (w .entries) 2072 x) third el

@@ -1,0 +1,19 @@
+-- Laws about the writer's rules.
+pub mod Fits
+pub mod Entries
+pub mod Puts
+pub mod Area
+pub mod Between
+pub mod Walk
+pub mod Agree
+pub mod Heads
+pub mod Empties
+pub mod Taking
+pub mod Closes
+pub mod Rows
+pub mod Partial
+pub mod Cleared
+pub mod OneMore
+pub mod Turn
+pub mod Written
+pub mod Accepted

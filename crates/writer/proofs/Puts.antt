@@ -1,0 +1,83 @@
+-- What put answers in each case, as its checks go. Assumes nothing.
+use Prim.Native.Nat.{ℕ, _+_, _*_, _≤_, _<_}
+use native.Mathlib.Omega.{arith}
+use mathlib.Core.Path.{_≡_, refl, sym, ap, _∙_}
+use mathlib.Core.Bool.{Bool, true, false, cond, not, _||_, or-true}
+use mathlib.Core.List.{List}
+use lib.ListN.{length, getD}
+use native.Mathlib.Nat.{mod-lt}
+use lib.Seq.{sets}
+use lib.Dec.{eqb, leb, ltb, lit<}
+use borrow.Author.Tests.{lt-ltb, leb-true}
+use Rattle.jhash.specs.NameHash.{hashOf}
+use Rattle.image.specs.Tables.{tableOf}
+use Rattle.image.specs.Record.{Entry, entryBytes}
+use Rattle.writer.specs.State.{State, lent, fits, finishedSize, tooLarge}
+use Rattle.writer.specs.Put.{entryOf, writerWith, writerAfter, raisedCounts, countsAfter, putRefusal, appended, afterPut}
+use Rattle.writer.specs.declared.CQDBWriter.{CQDBWriter}
+use Rattle.image.proofs.All.{all-each}
+use Rattle.writer.proofs.Fits.{Fitting, fitting, not-too-large}
+
+module _ (s : State) (e : Entry) where
+  pub misfit : fits s ≡ false → (2 ≡ putRefusal s e) × (s ≡ afterPut s e)
+  unfolding putRefusal afterPut
+  misfit h = rw h (refl, refl)
+
+  pub no-room : fits s ≡ true → tooLarge (s .writer .capacity) (finishedSize (writerAfter (s .writer) e)) ≡ true
+      → (3 ≡ putRefusal s e) × (s ≡ afterPut s e)
+  unfolding putRefusal afterPut
+  no-room h k = rw (h, k) (refl, refl)
+
+  pub accepts : fits s ≡ true → tooLarge (s .writer .capacity) (finishedSize (writerAfter (s .writer) e)) ≡ false
+      → (0 ≡ putRefusal s e) × (appended s e ≡ afterPut s e)
+  unfolding putRefusal afterPut
+  accepts h k = rw (h, k) (refl, refl)
+
+-- a name that is too long for a hash is too long for any image
+pub long-name : (w : CQDBWriter) (name : List ℕ) (id : ℕ) → 4294967295 ≤ length name
+    → tooLarge (w .capacity) (finishedSize (writerAfter w (entryOf name id))) ≡ true
+unfolding writerAfter
+long-name w name id h =
+    let size = finishedSize (writerAfter w (entryOf name id)) in
+    let k : 4294967295 < size = omega arith in
+    ap (λ (b : Bool). ltb (w .capacity) size || b) (lt-ltb 4294967295 size k) ∙ or-true (ltb (w .capacity) size)
+
+-- what an accepted put leaves, part by part
+pub appended-parts : (w v : CQDBWriter) (counts counts′ buf buf′ name : List ℕ) (id h : ℕ) → h ≡ hashOf name
+    → v ≡ writerWith w (length name) id → counts′ ≡ raisedCounts counts h
+    → buf′ ≡ sets buf (w .end) (entryBytes (entryOf name id))
+    → lent v counts′ buf′ ≡ appended (lent w counts buf) (entryOf name id)
+unfolding appended writerAfter countsAfter
+appended-parts w v counts counts′ buf buf′ name id h e p q r =
+    λ i. record {
+      writer = p i;
+      counts = (q ∙ ap (λ (k : ℕ). raisedCounts counts k) e) i;
+      buffer = r i;
+    }
+
+-- what the checks leave for the stores
+module _ (w : CQDBWriter) (counts buf : List ℕ) (n id : ℕ) (yes : fits (lent w counts buf) ≡ true)
+    (fine : tooLarge (w .capacity) (finishedSize (writerWith w n id)) ≡ false) where
+  pub size-small : finishedSize (writerWith w n id) ≤ 4294967295
+  size-small = not-too-large (w .capacity) (finishedSize (writerWith w n id)) fine .1
+
+  pub entry-fits : w .end + (n + 9) ≤ length buf
+  unfolding writerWith
+  entry-fits =
+      let f = fitting w counts buf yes in
+      let h = not-too-large (w .capacity) (finishedSize (writerWith w n id)) fine .0 in
+      let e = f .same-length in
+      omega arith
+
+  pub count-small : (h : ℕ) → getD counts (tableOf h) 0 < 4294967295
+  unfolding writerWith
+  count-small h =
+      let f = fitting w counts buf yes in
+      let s = size-small in
+      let t : tableOf h < 256 = mod-lt h (lit< tt) in
+      let z : 0 + tableOf h ≡ tableOf h = omega arith in
+      let k : getD counts (0 + tableOf h) 0 ≤ w .entries =
+      leb-true (getD counts (0 + tableOf h) 0) (w .entries)
+      (all-each (λ (i : ℕ). leb (getD counts i 0) (w .entries)) 0 256 (tableOf h) (f .none) t) in
+      let l : getD counts (tableOf h) 0 ≤ w .entries = rw z at k in
+      omega arith

@@ -1,0 +1,172 @@
+-- One entry of a walk over entries. Assumes nothing.
+use Prim.Native.Nat.{ℕ, zero, suc, _+_, _-_, _*_, _≤_, _<_, max}
+use native.Mathlib.Omega.{arith}
+use native.Mathlib.Decide.{decLt, ℕ-discrete}
+use mathlib.Core.Path.{_≡_, refl, sym, ap, ap₂, _∙_}
+use mathlib.Core.Bool.{Bool, true, false, cond, _&&_}
+use mathlib.Core.List.{List, [], _∷_}
+use lib.ListN.{length, getD, take, drop, set}
+use lib.Seq.{getD-set-same, getD-set-other, set-out}
+use lib.Dec.{eqb}
+use borrow.Author.Tests.{eq-eqb, ne-eqb}
+use Rattle.jhash.specs.NameHash.{hashOf}
+use Rattle.image.specs.Bytes.{word}
+use Rattle.image.specs.Tables.{tableOf}
+use Rattle.image.specs.Record.{Entry, backSize}
+use Rattle.writer.specs.Close.{firstWhole, firstEntry, afterFirst, whole, entriesIn}
+use Rattle.writer.specs.Put.{raisedCounts, countsAfter}
+use Rattle.writer.specs.Working.{between, wholeLength, tallied}
+use Rattle.writer.proofs.Between.{Front, front, not-whole, length-between, drop-between, word-between, name-between}
+
+-- one more in one table raises no count by more than one
+set-one : (l : List ℕ) (u : ℕ) → getD (set l u (getD l u 0 + 1)) u 0 ≤ getD l u 0 + 1
+set-one l u =
+    elim (decLt u (length l)) [
+      | yes h ↦ omega (arith, getD-set-same l u (getD l u 0 + 1) 0 h)
+      | no h ↦ omega (arith, ap (λ (k : List ℕ). getD k u 0) (set-out l u (getD l u 0 + 1) (omega arith)))
+    ]
+
+pub raised-one : (counts : List ℕ) (h t : ℕ) → getD (raisedCounts counts h) t 0 ≤ getD counts t 0 + 1
+unfolding raisedCounts
+raised-one counts h t =
+    elim (ℕ-discrete t (tableOf h)) [
+      | yes e ↦ rw e (set-one counts (tableOf h))
+      | no n ↦ omega (arith, getD-set-other counts (tableOf h) t (getD counts (tableOf h) 0 + 1) 0 n)
+    ]
+
+-- what is to be found of the entries from `at` on
+pub record Rest (buf : List ℕ) (end entries : ℕ) (counts₀ : List ℕ) (at left back : ℕ) (counts : List ℕ) : Type 0 where
+  pub inside : at ≤ end
+  pub fewer : left ≤ entries
+  pub whole-same : whole left (between buf at end) ≡ whole entries (between buf 2072 end)
+  pub back-same : max back (backSize (entriesIn left (between buf at end))) ≡ backSize (entriesIn entries (between buf 2072 end))
+  pub counts-same : tallied counts (entriesIn left (between buf at end)) ≡ tallied counts₀ (entriesIn entries (between buf 2072 end))
+  pub counts-small : (t : ℕ) → getD counts t 0 + left ≤ entries
+  pub back-small : back ≤ 4294967296
+
+pub walk-start : (buf : List ℕ) (end entries : ℕ) (counts : List ℕ) → 2072 ≤ end → ((t : ℕ) → getD counts t 0 ≡ 0)
+    → Rest buf end entries counts 2072 entries 0 counts
+walk-start buf end entries counts h z =
+    record {
+      inside = h;
+      fewer = omega arith;
+      whole-same = refl;
+      back-same = omega arith;
+      counts-same = refl;
+      counts-small = λ t. omega (arith, z t);
+      back-small = omega arith;
+    }
+
+whole-suc : (m : ℕ) (bytes : List ℕ) → whole (suc m) bytes ≡ (firstWhole bytes && whole m (afterFirst bytes))
+unfolding whole
+whole-suc m bytes = refl
+
+entriesIn-suc : (m : ℕ) (bytes : List ℕ) → entriesIn (suc m) bytes ≡ firstEntry bytes ∷ entriesIn m (afterFirst bytes)
+unfolding entriesIn
+entriesIn-suc m bytes = refl
+
+backSize-cons : (e : Entry) (es : List Entry) → backSize (e ∷ es) ≡ max (e .id + 1) (backSize es)
+unfolding backSize
+backSize-cons e es = refl
+
+tallied-cons : (counts : List ℕ) (e : Entry) (es : List Entry) → tallied counts (e ∷ es) ≡ tallied (raisedCounts counts (hashOf (e .name))) es
+unfolding tallied countsAfter
+tallied-cons counts e es = refl
+
+-- the bytes and the entries after the first
+module _ (buf : List ℕ) (at end n m : ℕ) (h : at ≤ end) (k : end ≤ length buf) (f : Front (between buf at end) n) where
+  rest-of : List ℕ
+  rest-of = between buf at end
+
+  inner : 8 + n ≤ end - at
+  inner = let i = f .inside in let e = length-between buf at end h k in omega arith
+
+  pub after-first : afterFirst (between buf at end) ≡ between buf (at + (8 + n)) end
+  after-first =
+      ap (λ (w : ℕ). drop (8 + w) (between buf at end)) (f .is) ∙ drop-between buf at end (8 + n)
+
+  pub whole-rest : whole (suc m) (between buf at end) ≡ whole m (between buf (at + (8 + n)) end)
+  whole-rest =
+      whole-suc m (between buf at end)
+      ∙ ap (λ (b : Bool). b && whole m (afterFirst (between buf at end))) (f .yes)
+      ∙ ap (λ (l : List ℕ). whole m l) after-first
+
+  pub first-id : firstEntry (between buf at end) .id ≡ word buf at
+  first-id =
+      let e : at + 0 ≡ at = omega arith in
+      let j = inner in
+      word-between buf at end 0 (omega arith) ∙ ap (λ (o : ℕ). word buf o) e
+
+  pub first-name : firstEntry (between buf at end) .name ≡ take (at + 7 + n - (at + 8)) (drop (at + 8) buf)
+  first-name =
+      ap (λ (w : ℕ). take (w - 1) (drop 8 (between buf at end))) (f .is) ∙ name-between buf at end n inner (f .some)
+
+  pub entries-rest : entriesIn (suc m) (between buf at end) ≡ firstEntry (between buf at end) ∷ entriesIn m (between buf (at + (8 + n)) end)
+  entries-rest =
+      entriesIn-suc m (between buf at end)
+      ∙ ap (λ (l : List ℕ). firstEntry (between buf at end) ∷ entriesIn m l) after-first
+
+-- one turn
+pub walk-turn : (buf : List ℕ) (end entries : ℕ) (counts₀ : List ℕ) (at left back : ℕ) (counts : List ℕ) → end ≤ length buf
+    → Rest buf end entries counts₀ at left back counts → 0 < left
+    → (n h id : ℕ) (name counts′ : List ℕ) → Front (between buf at end) n → n < 4294967296 → id < 4294967296
+    → name ≡ take (at + 7 + n - (at + 8)) (drop (at + 8) buf) → h ≡ hashOf name → id ≡ word buf at → counts′ ≡ raisedCounts counts h
+    → Rest buf end entries counts₀ (at + (8 + n)) (left - 1) (max back (id + 1)) counts′
+walk-turn buf end entries counts₀ at left back counts k r some n h id name counts′ f small idsmall en eh ei ec =
+    let m = left - 1 in
+    let l : left ≡ suc m = omega arith in
+    let a = r .inside in
+    let fi = f .inside in
+    let le = length-between buf at end a k in
+    let first = firstEntry (between buf at end) in
+    let later = entriesIn m (between buf (at + (8 + n)) end) in
+    let es : entriesIn left (between buf at end) ≡ first ∷ later =
+    ap (λ (q : ℕ). entriesIn q (between buf at end)) l ∙ entries-rest buf at end n m a k f in
+    let fid : first .id ≡ id = first-id buf at end n m a k f ∙ sym ei in
+    let fh : hashOf (first .name) ≡ h = ap hashOf (first-name buf at end n m a k f ∙ sym en) ∙ sym eh in
+    let bs : backSize (entriesIn left (between buf at end)) ≡ max (id + 1) (backSize later) =
+    ap backSize es ∙ backSize-cons first later ∙ ap (λ (q : ℕ). max (q + 1) (backSize later)) fid in
+    let ts : tallied counts (entriesIn left (between buf at end)) ≡ tallied counts′ later =
+    ap (λ (q : List Entry). tallied counts q) es ∙ tallied-cons counts first later
+    ∙ ap (λ (q : ℕ). tallied (raisedCounts counts q) later) fh ∙ ap (λ (q : List ℕ). tallied q later) (sym ec) in
+    record {
+      inside = omega arith;
+      fewer = omega (arith, r .fewer);
+      whole-same = sym (whole-rest buf at end n m a k f) ∙ ap (λ (q : ℕ). whole q (between buf at end)) (sym l) ∙ r .whole-same;
+      back-same = omega (arith, r .back-same);
+      counts-same = sym ts ∙ r .counts-same;
+      counts-small = λ t. small-count t (raised-one counts h t) (r .counts-small t);
+      back-small = omega (arith, r .back-small);
+    }
+  where
+    small-count : (t : ℕ) → getD (raisedCounts counts h) t 0 ≤ getD counts t 0 + 1 → getD counts t 0 + left ≤ entries
+        → getD counts′ t 0 + (left - 1) ≤ entries
+    small-count t p q = let e = ap (λ (c : List ℕ). getD c t 0) ec in omega arith
+
+-- a broken entry
+pub walk-broken : (buf : List ℕ) (end entries : ℕ) (counts₀ : List ℕ) (at left back : ℕ) (counts : List ℕ)
+    → Rest buf end entries counts₀ at left back counts → 0 < left → 0 ≡ wholeLength (between buf at end)
+    → false ≡ whole entries (between buf 2072 end)
+walk-broken buf end entries counts₀ at left back counts r some z =
+    let l : left ≡ suc (left - 1) = omega arith in
+    sym
+    (sym (r .whole-same)
+    ∙ ap (λ (q : ℕ). whole q (between buf at end)) l
+    ∙ whole-suc (left - 1) (between buf at end)
+    ∙ ap (λ (b : Bool). b && whole (left - 1) (afterFirst (between buf at end))) (not-whole (between buf at end) z))
+
+-- the end of the walk
+pub walk-end : (buf : List ℕ) (end entries : ℕ) (counts₀ : List ℕ) (at back : ℕ) (counts : List ℕ) → end ≤ length buf
+    → Rest buf end entries counts₀ at 0 back counts
+    → (eqb at end ≡ whole entries (between buf 2072 end)) × (back ≡ backSize (entriesIn entries (between buf 2072 end)))
+    × (counts ≡ tallied counts₀ (entriesIn entries (between buf 2072 end)))
+unfolding whole entriesIn tallied backSize
+walk-end buf end entries counts₀ at back counts k r =
+    (same-place ∙ ap (λ (n : ℕ). eqb n 0) (sym (length-between buf at end (r .inside) k)) ∙ r .whole-same, omega (arith, r .back-same), r .counts-same)
+  where
+    same-place : eqb at end ≡ eqb (end - at) 0
+    same-place =
+        elim (ℕ-discrete at end) [
+          | yes e ↦ eq-eqb at end e ∙ sym (eq-eqb (end - at) 0 (omega arith))
+          | no n ↦ ne-eqb at end n ∙ sym (ne-eqb (end - at) 0 (λ z. n (omega (arith, r .inside))))
+        ]

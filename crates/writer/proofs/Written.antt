@@ -1,0 +1,112 @@
+-- All that close writes is the image of the entries that stand in the buffer. Assumes nothing.
+use Prim.Native.Nat.{ℕ, _+_, _-_, _^_, _≤_, _<_}
+use native.Mathlib.Omega.{arith}
+use mathlib.Core.Path.{_≡_, refl, sym, ap, _∙_}
+use mathlib.Core.Bool.{Bool, true, cond}
+use mathlib.Core.List.{List, [], _∷_, _++_, append-nil, append-assoc}
+use lib.ListN.{length, drop, length-take, length-drop}
+use lib.Dec.{eqb}
+use borrow.Author.Tests.{ne-eqb}
+use Rattle.image.specs.Bytes.{cat}
+use Rattle.image.specs.Record.{Entry, headSize, entryBytes, entriesSize, backIn, backSize, backOffset, entriesEnd, imageSize, image}
+use Rattle.image.specs.declared.Flag.{Flag}
+use Rattle.image.proofs.Sizes.{length-entries, entriesSize-append}
+use Rattle.layout.proofs.Every.{All}
+use Rattle.writer.specs.declared.CQDBWriter.{CQDBWriter}
+use Rattle.writer.specs.State.{lent, fits, finishedSize}
+use Rattle.writer.specs.Close.{whole, entryArea, recorded, countsAgree, closed}
+use Rattle.writer.specs.Working.{backAt, taken, takenFrom, written}
+use Rattle.writer.proofs.Fits.{fitting}
+use Rattle.writer.proofs.Area.{Bytes, bytes-drop, bytes-take, length-entriesIn, whole-bytes, ids-words}
+use Rattle.writer.proofs.Rows.{counts-agree}
+use Rattle.writer.proofs.Partial.{partial, partial-all}
+use Rattle.writer.proofs.Cleared.{Tells, told-size, told-links, cleared-partial}
+use Rattle.writer.proofs.Turn.{length-found, turn}
+
+-- ---- the walk, from any entry on
+
+module _ (flag : Flag) (es : List Entry) (tail : List ℕ) (small : imageSize flag es ≤ 4294967295)
+    (ids : All (λ (e : Entry). e .id < 2 ^ 32) es) where
+  next-at : (qs : List Entry) (e : Entry) → headSize + entriesSize qs + (8 + (length (e .name) + 1)) ≡ headSize + entriesSize (qs ++ e ∷ [])
+  unfolding entriesSize
+  next-at qs e = omega (arith, entriesSize-append qs (e ∷ []))
+
+  pub walked : (rest qs : List Entry) → es ≡ qs ++ rest
+      → takenFrom flag (backOffset flag es) (entriesEnd es) (length rest) (headSize + entriesSize qs) (partial flag es qs ++ tail)
+      ≡ partial flag es es ++ tail
+  unfolding takenFrom
+  walked [] qs split = ap (λ (l : List Entry). partial flag es l ++ tail) (sym (split ∙ append-nil qs))
+  walked (e ∷ rest) qs split =
+      let at = headSize + entriesSize qs in
+      let B = partial flag es qs ++ tail in
+      let o = backOffset flag es in
+      let end = entriesEnd es in
+      let n = length (e .name) + 1 in
+      ap (λ (k : ℕ). cond (eqb k 0) B (takenFrom flag o end (length rest) (at + (8 + k)) (taken flag o B at k)))
+      (length-found flag es qs rest e tail split small ids)
+      ∙ ap (λ (b : Bool). cond b B (takenFrom flag o end (length rest) (at + (8 + n)) (taken flag o B at n)))
+      (ne-eqb n 0 (λ z. omega arith))
+      ∙ ap (λ (l : List ℕ). takenFrom flag o end (length rest) (at + (8 + n)) l) (turn flag es qs rest e tail split small ids)
+      ∙ ap (λ (k : ℕ). takenFrom flag o end (length rest) k (partial flag es (qs ++ e ∷ []) ++ tail)) (next-at qs e)
+      ∙ walked rest (qs ++ e ∷ []) (split ∙ sym (append-assoc qs (e ∷ []) rest))
+
+-- ---- what the checks of close say
+
+module _ (w : CQDBWriter) (counts buf : List ℕ) (bytes : Bytes buf) (fit : fits (lent w counts buf) ≡ true)
+    (entire : whole (w .entries) (entryArea (lent w counts buf)) ≡ true) where
+  es : List Entry
+  es = recorded (lent w counts buf)
+
+  area-bytes : Bytes (entryArea (lent w counts buf))
+  area-bytes = bytes-take (w .end - headSize) (drop headSize buf) (bytes-drop headSize buf bytes)
+
+  -- the bytes of the entries are kept
+  pub area-kept : entryArea (lent w counts buf) ≡ cat entryBytes (recorded (lent w counts buf))
+  area-kept = whole-bytes (w .entries) (entryArea (lent w counts buf)) area-bytes entire
+
+  pub recorded-number : length (recorded (lent w counts buf)) ≡ w .entries
+  recorded-number = length-entriesIn (w .entries) (entryArea (lent w counts buf))
+
+  pub recorded-end : w .end ≡ entriesEnd (recorded (lent w counts buf))
+  recorded-end =
+      let f = fitting w counts buf fit in
+      let area = length (entryArea (lent w counts buf)) in
+      let n : area ≡ entriesSize (recorded (lent w counts buf)) = ap length area-kept ∙ length-entries (recorded (lent w counts buf)) in
+      let m : area ≡ w .end - headSize = simp (length-take, length-drop) (omega (arith, f .same-length, f .high)) in
+      let l = f .low in
+      omega arith
+
+  module _ (agree : countsAgree counts (recorded (lent w counts buf)) ≡ true)
+      (backs : w .back ≡ backIn (w .flag) (backSize (recorded (lent w counts buf))))
+      (small : finishedSize w ≤ 4294967295) (room : finishedSize w ≤ length buf) where
+    tells : Tells w counts buf es
+    unfolding es
+    tells = record {
+      ends = recorded-end;
+      number = sym recorded-number;
+      backs = backs;
+      tallies = counts-agree counts (recorded (lent w counts buf)) agree;
+      area = area-kept;
+      room = room;
+    }
+
+    pub size-image : finishedSize w ≡ imageSize (w .flag) (recorded (lent w counts buf))
+    unfolding es
+    size-image = told-size w counts buf es tells
+
+    pub written-image : written w counts buf ≡ image (w .flag) (recorded (lent w counts buf)) ++ drop (finishedSize w) buf
+    unfolding written es entriesSize
+    written-image =
+        let flag = w .flag in
+        let tail = drop (finishedSize w) buf in
+        ap (takenFrom flag (backAt w) (w .end) (w .entries) headSize) (cleared-partial w counts buf es tells)
+        ∙ ap (λ (o : ℕ). takenFrom flag o (w .end) (w .entries) headSize (partial flag es [] ++ tail)) (told-links w counts buf es tells)
+        ∙ ap (λ (o : ℕ). takenFrom flag (backOffset flag es) o (w .entries) headSize (partial flag es [] ++ tail)) recorded-end
+        ∙ ap (λ (n : ℕ). takenFrom flag (backOffset flag es) (entriesEnd es) n headSize (partial flag es [] ++ tail)) (sym recorded-number)
+        ∙ walked flag es tail (rw (← size-image) small) (ids-words (w .entries) (entryArea (lent w counts buf)) area-bytes) es [] refl
+        ∙ ap (λ (l : List ℕ). l ++ tail) (partial-all flag es)
+
+    -- as the rule of close says it
+    pub written-closed : lent w counts (written w counts buf) ≡ closed (lent w counts buf)
+    unfolding closed
+    written-closed = ap (lent w counts) written-image

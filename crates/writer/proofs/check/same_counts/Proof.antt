@@ -1,0 +1,68 @@
+-- `writer::check::same_counts` meets its contract. Assumes nothing.
+use native.Mathlib.Omega.{arith}
+use Prim.Native.Nat.{ℕ, _<_, _≤_, _-_}
+use mathlib.Core.Path.{_≡_, refl}
+use mathlib.Core.Bool.{_&&_}
+use lib.ListN.{getD}
+use lib.Dec.{eqb}
+use Rattle.image.specs.Bytes.{all}
+use Rattle.writer.specs.Working.{sameCounts}
+use Rattle.image.proofs.All.{all-more, all-end}
+use Rattle.writer.proofs.check.same_counts.Statement.{statement}
+use Rattle.writer.proofs.check.same_counts.Tie as tie
+
+abbrev Inv-loop : tie.InvT-loop
+Inv-loop a b same₀ t₀ same t = (t ≤ 256) × ((same && all (λ (i : ℕ). eqb (getD a i 0) (getD b i 0)) t (256 - t)) ≡ sameCounts a b)
+
+abbrev μ-loop : tie.MeasureT-loop
+μ-loop a b same₀ t₀ same t = 256 - t
+
+loop-holds : tie.Need-loop-holds Inv-loop μ-loop
+loop-holds c = (omega arith, refl)
+
+mul-same : tie.Need-mul-same Inv-loop μ-loop
+mul-same c = omega arith
+
+element-copy-out-same : tie.Need-element-copy-out-same Inv-loop μ-loop
+element-copy-out-same c = omega arith
+
+mul-same-2 : tie.Need-mul-same-2 Inv-loop μ-loop
+mul-same-2 c = omega arith
+
+element-copy-out-same-2 : tie.Need-element-copy-out-same-2 Inv-loop μ-loop
+element-copy-out-same-2 c = omega arith
+
+add-t : tie.Need-add-t Inv-loop μ-loop
+add-t c = omega arith
+
+loop-less : tie.Need-loop-less Inv-loop μ-loop
+loop-less c = omega arith
+
+loop-again : tie.Need-loop-again Inv-loop μ-loop
+loop-again c =
+    let a = c .before .before .before .before .args in
+    let i = c .before .before .before .loop in
+    let h : i .t < 256 = omega arith in
+    (omega arith, all-more (λ (k : ℕ). eqb (getD (a .a .now) k 0) (getD (a .b .now) k 0)) (i .t) 256 (i .same) _ h (i .inv .1))
+
+returns : tie.Need-returns Inv-loop μ-loop
+returns c =
+    let a = c .before .before .args in
+    let z : 256 - c .before .loop .t ≡ 0 = omega arith in
+    all-end (λ (k : ℕ). eqb (getD (a .a .now) k 0) (getD (a .b .now) k 0)) (c .before .loop .t) _ _ (rw z at (c .before .loop .inv .1))
+
+pub same-counts-spec : {M : Type 1} → statement M
+same-counts-spec =
+    tie.close
+    (tie.spec
+    Inv-loop
+    μ-loop
+    loop-holds
+    mul-same
+    element-copy-out-same
+    mul-same-2
+    element-copy-out-same-2
+    add-t
+    loop-less
+    loop-again
+    returns)

@@ -1,0 +1,132 @@
+-- `writer::close` meets its contract. Assumes nothing.
+use native.Mathlib.Omega.{arith}
+use Prim.Native.Nat.{ℕ, _≤_, _<_}
+use mathlib.Core.List.{List}
+use lib.ListN.{length, getD}
+use mathlib.Core.Path.{_≡_, sym, ap, _∙_}
+use mathlib.Core.Bool.{true, false}
+use borrow.Author.Tests.{not-true, not-false}
+use Rattle.writer.specs.State.{lent, fits, tooLarge, finishedSize}
+use Rattle.writer.specs.Close.{size}
+use Rattle.writer.proofs.Fits.{Fitting, fitting, not-too-large}
+use Rattle.writer.proofs.Accepted.{closes-image}
+use Rattle.writer.proofs.Closes.{consistent, unfit, too-big, differs, closes}
+use borrow.Author.Needs.{needs}
+use Rattle.writer.proofs.close.Statement.{statement}
+use Rattle.writer.proofs.close.Tie as tie
+use Rattle.writer.proofs.close.Reads as reads
+use Rattle.writer.proofs.close.Lts as lts
+use Rattle.writer.proofs.check.agrees.Reads as agrees-reads
+use Rattle.writer.proofs.record.finished_size.Reads as finished-size-reads
+use Rattle.writer.proofs.record.fits.Reads as fits-reads
+use Rattle.writer.proofs.record.too_large.Reads as too-large-reads
+use Rattle.writer.proofs.write_image.Reads as write-image-reads
+
+-- src/lib.rt:140:9
+fits-requires : tie.Need-fits-requires
+fits-requires c κs = search needs
+
+-- src/lib.rt:141:9
+same-length : tie.Need-same-length
+same-length c = search needs
+
+-- src/lib.rt:141:9
+returns : tie.Need-returns
+returns c = unfit (lent (c .before .before .before .before .args .w) (c .before .before .before .before .args .counts .now) (c .before .before .before .before .args .buf .now)) (sym (c .before .fits2 .ensures) ∙ not-true _ (c .if1 .taken))
+
+-- src/lib.rt:146:9
+finished-size-requires : tie.Need-finished-size-requires
+finished-size-requires c κs =
+    let yes : fits (lent (c .before .before .before .before .args .w) (c .before .before .before .before .args .counts .now) (c .before .before .before .before .args .buf .now)) ≡ true = sym (c .before .fits2 .ensures) ∙ not-false _ (c .if1 .left) in
+    let f = fitting (c .before .before .before .before .args .w) (c .before .before .before .before .args .counts .now) (c .before .before .before .before .args .buf .now) yes in
+    omega (arith, f, c .before .before .before .before .good)
+
+-- src/lib.rt:147:8
+too-large-requires : tie.Need-too-large-requires
+too-large-requires c κs = search needs
+
+-- src/lib.rt:148:9
+same-length-2 : tie.Need-same-length-2
+same-length-2 c = search needs
+
+-- src/lib.rt:148:9
+returns-2 : tie.Need-returns-2
+returns-2 c =
+    let yes : fits (lent (c .before .before .before .before .before .before .before .args .w) (c .before .before .before .before .before .before .before .args .counts .now) (c .before .before .before .before .before .before .before .args .buf .now)) ≡ true = sym (c .before .before .before .before .fits2 .ensures) ∙ not-false _ (c .before .before .before .if1 .left) in
+    let fine : tooLarge (c .before .before .before .before .before .before .before .args .w .capacity) (finishedSize (c .before .before .before .before .before .before .before .args .w)) ≡ true =
+    ap (λ (m : ℕ). tooLarge (c .before .before .before .before .before .before .before .args .w .capacity) m) (sym (c .before .before .finished-size .ensures)) ∙ sym (c .before .too-large .ensures) ∙ c .if2 .taken in
+    too-big (lent (c .before .before .before .before .before .before .before .args .w) (c .before .before .before .before .before .before .before .args .counts .now) (c .before .before .before .before .before .before .before .args .buf .now)) yes fine
+
+-- src/lib.rt:153:9
+agrees-requires : tie.Need-agrees-requires
+agrees-requires c κs =
+    let yes : fits (lent (c .before .before .before .before .before .before .before .before .args .w) (c .before .before .before .before .before .before .before .before .args .counts .now) (c .before .before .before .before .before .before .before .before .args .buf .now)) ≡ true = sym (c .before .before .before .before .before .fits2 .ensures) ∙ not-false _ (c .before .before .before .before .if1 .left) in
+    let f = fitting (c .before .before .before .before .before .before .before .before .args .w) (c .before .before .before .before .before .before .before .before .args .counts .now) (c .before .before .before .before .before .before .before .before .args .buf .now) yes in
+    (f .low, omega (arith, f .high, f .same-length))
+
+-- src/lib.rt:154:9
+same-length-3 : tie.Need-same-length-3
+same-length-3 c = search needs
+
+-- src/lib.rt:154:9
+returns-3 : tie.Need-returns-3
+returns-3 c =
+    let yes : fits (lent (c .before .before .before .before .before .before .before .before .before .before .args .w) (c .before .before .before .before .before .before .before .before .before .before .args .counts .now) (c .before .before .before .before .before .before .before .before .before .before .args .buf .now)) ≡ true = sym (c .before .before .before .before .before .before .before .fits2 .ensures) ∙ not-false _ (c .before .before .before .before .before .before .if1 .left) in
+    differs (lent (c .before .before .before .before .before .before .before .before .before .before .args .w) (c .before .before .before .before .before .before .before .before .before .before .args .counts .now) (c .before .before .before .before .before .before .before .before .before .before .args .buf .now)) yes (sym (c .before .agrees .ensures) ∙ not-true _ (c .if3 .taken))
+
+-- src/lib.rt:159:5
+write-image-requires : tie.Need-write-image-requires
+write-image-requires c κs =
+    let yes : fits (lent (c .before .before .before .before .before .before .before .before .before .before .before .args .w) (c .before .before .before .before .before .before .before .before .before .before .before .args .counts .now) (c .before .before .before .before .before .before .before .before .before .before .before .args .buf .now)) ≡ true = sym (c .before .before .before .before .before .before .before .before .fits2 .ensures) ∙ not-false _ (c .before .before .before .before .before .before .before .if1 .left) in
+    let fine : tooLarge (c .before .before .before .before .before .before .before .before .before .before .before .args .w .capacity) (finishedSize (c .before .before .before .before .before .before .before .before .before .before .before .args .w)) ≡ false =
+    ap (λ (m : ℕ). tooLarge (c .before .before .before .before .before .before .before .before .before .before .before .args .w .capacity) m) (sym (c .before .before .before .before .before .before .finished-size .ensures)) ∙ sym (c .before .before .before .before .before .too-large .ensures) ∙ c .before .before .before .before .if2 .left in
+    let f = fitting (c .before .before .before .before .before .before .before .before .before .before .before .args .w) (c .before .before .before .before .before .before .before .before .before .before .before .args .counts .now) (c .before .before .before .before .before .before .before .before .before .before .before .args .buf .now) yes in
+    let l = not-too-large (c .before .before .before .before .before .before .before .before .before .before .before .args .w .capacity) (finishedSize (c .before .before .before .before .before .before .before .before .before .before .before .args .w)) fine in
+    (f .low, omega (arith, l .0, f .same-length), l .1)
+
+-- src/lib.rt:161:30
+cast-t18 : tie.Need-cast-t18
+cast-t18 c =
+    let fine : tooLarge (c .before .before .before .before .before .before .before .before .before .before .before .before .before .before .args .w .capacity) (finishedSize (c .before .before .before .before .before .before .before .before .before .before .before .before .before .before .args .w)) ≡ false =
+    ap (λ (m : ℕ). tooLarge (c .before .before .before .before .before .before .before .before .before .before .before .before .before .before .args .w .capacity) m) (sym (c .before .before .before .before .before .before .before .before .before .finished-size .ensures)) ∙ sym (c .before .before .before .before .before .before .before .before .too-large .ensures) ∙ c .before .before .before .before .before .before .before .if2 .left in
+    let l = not-too-large (c .before .before .before .before .before .before .before .before .before .before .before .before .before .before .args .w .capacity) (finishedSize (c .before .before .before .before .before .before .before .before .before .before .before .before .before .before .args .w)) fine in
+    omega (arith, l .1, c .before .before .before .before .before .before .before .before .before .finished-size .ensures)
+
+-- src/lib.rt:136:1
+same-length-4 : tie.Need-same-length-4
+same-length-4 c = search needs
+
+-- src/lib.rt:136:1
+returns-4 : tie.Need-returns-4
+returns-4 c =
+    let yes : fits (lent (c .before .before .before .before .before .before .before .before .before .before .before .before .before .before .args .w) (c .before .before .before .before .before .before .before .before .before .before .before .before .before .before .args .counts .now) (c .before .before .before .before .before .before .before .before .before .before .before .before .before .before .args .buf .now)) ≡ true = sym (c .before .before .before .before .before .before .before .before .before .before .before .fits2 .ensures) ∙ not-false _ (c .before .before .before .before .before .before .before .before .before .before .if1 .left) in
+    let fine : tooLarge (c .before .before .before .before .before .before .before .before .before .before .before .before .before .before .args .w .capacity) (finishedSize (c .before .before .before .before .before .before .before .before .before .before .before .before .before .before .args .w)) ≡ false =
+    ap (λ (m : ℕ). tooLarge (c .before .before .before .before .before .before .before .before .before .before .before .before .before .before .args .w .capacity) m) (sym (c .before .before .before .before .before .before .before .before .before .finished-size .ensures)) ∙ sym (c .before .before .before .before .before .before .before .before .too-large .ensures) ∙ c .before .before .before .before .before .before .before .if2 .left in
+    let a = c .before .before .before .before .before .before .before .before .before .before .before .before .before .before .args in
+    let all : consistent (lent (c .before .before .before .before .before .before .before .before .before .before .before .before .before .before .args .w) (c .before .before .before .before .before .before .before .before .before .before .before .before .before .before .args .counts .now) (c .before .before .before .before .before .before .before .before .before .before .before .before .before .before .args .buf .now)) ≡ true = sym (c .before .before .before .before .before .agrees .ensures) ∙ not-false _ (c .before .before .before .before .if3 .left) in
+    let l = not-too-large (a .w .capacity) (finishedSize (a .w)) fine in
+    let bytes : (i : ℕ) → getD (a .buf .now) i 0 < 256 = λ i. omega (arith, c .before .before .before .before .before .before .before .before .before .before .before .before .before .slice-known .given i) in
+    let done = closes (lent (c .before .before .before .before .before .before .before .before .before .before .before .before .before .before .args .w) (c .before .before .before .before .before .before .before .before .before .before .before .before .before .before .args .counts .now) (c .before .before .before .before .before .before .before .before .before .before .before .before .before .before .args .buf .now)) yes fine all in (
+      ap size (c .before .before .before .before .before .before .before .before .before .finished-size .ensures) ∙ done .0,
+      ap (λ (l : List ℕ). lent (a .w) (a .counts .now) l) (c .before .before .write-image .ensures)
+          ∙ closes-image (a .w) (a .counts .now) (a .buf .now) bytes yes fine all,
+    )
+
+pub close-spec : {M : Type 1} → statement M
+close-spec =
+    tie.close
+    (tie.spec
+    fits-requires
+    same-length
+    returns
+    finished-size-requires
+    too-large-requires
+    same-length-2
+    returns-2
+    agrees-requires
+    same-length-3
+    returns-3
+    write-image-requires
+    cast-t18
+    same-length-4
+    returns-4)

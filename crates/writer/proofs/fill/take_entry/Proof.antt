@@ -1,0 +1,119 @@
+-- `writer::fill::take_entry` meets its contract. Assumes nothing.
+use native.Mathlib.Omega.{arith}
+use Prim.Native.Nat.{_+_, _-_}
+use mathlib.Core.Path.{refl}
+use lib.ListN.{take, drop, length-take}
+use Rattle.jhash.proofs.Answers.{told-refused, told-image-hash}
+use Rattle.writer.proofs.Taking.{taken-parts}
+use borrow.Author.Needs.{needs}
+use Rattle.writer.proofs.fill.take_entry.Statement.{statement}
+use Rattle.writer.proofs.fill.take_entry.Tie as tie
+use Rattle.writer.proofs.fill.take_entry.Reads as reads
+use Rattle.writer.proofs.fill.take_entry.Lts as lts
+use Rattle.image.proofs.get_u32.Reads as get-u32-reads
+use Rattle.jhash.proofs.jhash.Reads as jhash-reads
+use Rattle.writer.proofs.fill.store_bucket.Reads as store-bucket-reads
+use Rattle.writer.proofs.fill.store_link.Reads as store-link-reads
+
+-- src/fill.rt:60:9
+get-u32-requires : tie.Need-get-u32-requires
+get-u32-requires c κs = search needs
+
+-- src/fill.rt:61:36
+add-jhash : tie.Need-add-jhash
+add-jhash c = search needs
+
+-- src/fill.rt:61:44
+add-jhash-2 : tie.Need-add-jhash-2
+add-jhash-2 c = search needs
+
+-- src/fill.rt:61:44
+add-jhash-3 : tie.Need-add-jhash-3
+add-jhash-3 c = search needs
+
+-- src/fill.rt:61:31
+sub-jhash : tie.Need-sub-jhash
+sub-jhash c = search needs
+
+-- src/fill.rt:61:31
+part-jhash-start : tie.Need-part-jhash-start
+part-jhash-start c = search needs
+
+-- src/fill.rt:61:31
+part-jhash-end : tie.Need-part-jhash-end
+part-jhash-end c = search needs
+
+-- src/fill.rt:61:9
+jhash-requires : tie.Need-jhash-requires
+jhash-requires c κs = search needs
+
+-- src/fill.rt:62:29
+enum-known-hashed : tie.Need-enum-known-hashed
+enum-known-hashed c = search needs
+
+-- src/fill.rt:63:9
+enum-told : tie.Need-enum-told
+enum-told c = search needs
+
+-- src/fill.rt:63:9
+same-length : tie.Need-same-length
+same-length c = search needs
+
+-- src/fill.rt:63:9
+returns : tie.Need-returns
+returns c =
+    let long = told-refused (take (c .before .before .before .before .before .before .before .before .args .at + 7 + c .before .before .before .before .before .before .before .before .args .n - (c .before .before .before .before .before .before .before .before .args .at + 8)) (drop (c .before .before .before .before .before .before .before .before .args .at + 8) (c .before .before .before .before .before .before .before .before .args .buf .now))) 0 (c .before .before .jhash .result) (c .before .before .jhash .ensures) (c .enum-told .given .1) in
+    let l = simp length-take at long in
+    let s = c .before .before .before .before .before .before .before .before .pre .2 in
+    absurd (omega arith)
+
+-- src/fill.rt:65:32
+cast-store-bucket : tie.Need-cast-store-bucket
+cast-store-bucket c = search needs
+
+-- src/fill.rt:65:5
+store-bucket-requires : tie.Need-store-bucket-requires
+store-bucket-requires c κs = search needs
+
+-- src/fill.rt:66:44
+cast-store-link : tie.Need-cast-store-link
+cast-store-link c = search needs
+
+-- src/fill.rt:66:5
+store-link-requires : tie.Need-store-link-requires
+store-link-requires c κs = search needs
+
+-- src/fill.rt:56:1
+same-length-2 : tie.Need-same-length-2
+same-length-2 c = search needs
+
+-- src/fill.rt:56:1
+returns-2 : tie.Need-returns-2
+returns-2 c =
+    let a = c .before .before .before .before .before .before .before .before .before .before .before .before .before .before .before .before .before .args in
+    let told = told-image-hash (take (c .before .before .before .before .before .before .before .before .before .before .before .before .before .before .before .before .before .args .at + 7 + c .before .before .before .before .before .before .before .before .before .before .before .before .before .before .before .before .before .args .n - (c .before .before .before .before .before .before .before .before .before .before .before .before .before .before .before .before .before .args .at + 8)) (drop (c .before .before .before .before .before .before .before .before .before .before .before .before .before .before .before .before .before .args .at + 8) (c .before .before .before .before .before .before .before .before .before .before .before .before .before .before .before .before .before .args .buf .now))) (c .before .before .before .before .before .before .before .before .before .before .before .jhash .result) (c .before .before .before .before .before .before .before .before .before .hashed .given .0 .0) (c .before .before .before .before .before .before .before .before .before .before .before .jhash .ensures) (c .before .before .before .before .before .before .before .before .before .hashed .given .1) in
+    taken-parts (a .flag) (a .links) (a .buf .now) (a .at) (a .n) (c .before .before .before .before .before .before .before .before .before .before .before .before .before .before .get-u32 .result) (c .before .before .before .before .before .before .before .before .before .hashed .given .0 .0) (take (c .before .before .before .before .before .before .before .before .before .before .before .before .before .before .before .before .before .args .at + 7 + c .before .before .before .before .before .before .before .before .before .before .before .before .before .before .before .before .before .args .n - (c .before .before .before .before .before .before .before .before .before .before .before .before .before .before .before .before .before .args .at + 8)) (drop (c .before .before .before .before .before .before .before .before .before .before .before .before .before .before .before .before .before .args .at + 8) (c .before .before .before .before .before .before .before .before .before .before .before .before .before .before .before .before .before .args .buf .now))) (c .before .before .before .before .before .before .store-bucket .last .0) (c .before .before .store-link .last .1 .0)
+    (c .before .before .before .before .before .before .before .before .before .before .before .before .before .before .before .before .before .pre .1) refl (told .1) (c .before .before .before .before .before .before .before .before .before .before .before .before .before .before .get-u32 .ensures) (c .before .before .before .before .before .before .store-bucket .ensures) (c .before .before .store-link .ensures)
+
+pub take-entry-spec : {M : Type 1} → statement M
+take-entry-spec =
+    tie.close
+    (tie.spec
+    get-u32-requires
+    add-jhash
+    add-jhash-2
+    add-jhash-3
+    sub-jhash
+    part-jhash-start
+    part-jhash-end
+    jhash-requires
+    enum-known-hashed
+    enum-told
+    same-length
+    returns
+    cast-store-bucket
+    store-bucket-requires
+    cast-store-link
+    store-link-requires
+    same-length-2
+    returns-2)

@@ -1,0 +1,108 @@
+-- `writer::write_image` meets its contract. Assumes nothing.
+use native.Mathlib.Omega.{arith}
+use Rattle.writer.proofs.Closes.{backAt-le, written-parts}
+use borrow.Author.Needs.{needs}
+use Rattle.writer.proofs.write_image.Statement.{statement}
+use Rattle.writer.proofs.write_image.Tie as tie
+use Rattle.writer.proofs.write_image.Reads as reads
+use Rattle.writer.proofs.write_image.Lts as lts
+use Rattle.writer.proofs.fill.take_entries.Reads as take-entries-reads
+use Rattle.writer.proofs.head.clear.Reads as clear-reads
+use Rattle.writer.proofs.head.write_head.Reads as write-head-reads
+use Rattle.writer.proofs.head.write_rows.Reads as write-rows-reads
+use Rattle.writer.proofs.record.back_at.Reads as back-at-reads
+use Rattle.writer.proofs.record.back_in.Reads as back-in-reads
+use Rattle.writer.proofs.record.finished_size.Reads as finished-size-reads
+use Rattle.writer.proofs.record.flag_word.Reads as flag-word-reads
+
+-- src/lib.rt:120:9
+finished-size-requires : tie.Need-finished-size-requires
+finished-size-requires c κs = search needs
+
+-- src/lib.rt:121:38
+cast-back-in : tie.Need-cast-back-in
+cast-back-in c = search needs
+
+-- src/lib.rt:121:9
+back-in-requires : tie.Need-back-in-requires
+back-in-requires c κs = search needs
+
+-- src/lib.rt:122:9
+back-at-requires : tie.Need-back-at-requires
+back-at-requires c κs = search needs
+
+-- src/lib.rt:125:9
+cast-write-head : tie.Need-cast-write-head
+cast-write-head c = search needs
+
+-- src/lib.rt:126:9
+flag-word-requires : tie.Need-flag-word-requires
+flag-word-requires c κs = search needs
+
+-- src/lib.rt:127:9
+cast-write-head-2 : tie.Need-cast-write-head-2
+cast-write-head-2 c = search needs
+
+-- src/lib.rt:128:9
+cast-write-head-3 : tie.Need-cast-write-head-3
+cast-write-head-3 c = omega (arith, c .before .before .back-at .ensures, backAt-le (c .before .before .before .before .before .before .before .args .w), c .before .before .before .before .before .before .before .pre .2)
+
+-- src/lib.rt:123:5
+write-head-requires : tie.Need-write-head-requires
+write-head-requires c κs = search needs
+
+-- src/lib.rt:130:41
+cast-write-rows : tie.Need-cast-write-rows
+cast-write-rows c = search needs
+
+-- src/lib.rt:130:5
+write-rows-requires : tie.Need-write-rows-requires
+write-rows-requires c κs = search needs
+
+-- src/lib.rt:131:5
+clear-requires : tie.Need-clear-requires
+clear-requires c κs = search needs
+
+-- src/lib.rt:132:5
+take-entries-requires : tie.Need-take-entries-requires
+take-entries-requires c κs =
+    let a = c .before .before .before .before .before .before .before .before .before .before .before .before .before .before .before .before .before .before .before .before .args in
+    let k = c .before .before .before .clear .kept .0 in
+    let l = c .before .before .before .before .before .before .before .write-rows .kept .0 in
+    let m = c .before .before .before .before .before .before .before .before .before .before .before .before .write-head .kept .0 in
+    let small = c .before .before .before .before .before .before .before .before .before .before .before .before .before .before .before .before .before .before .before .before .pre .2 in
+    let fits = c .before .before .before .before .before .before .before .before .before .before .before .before .before .before .before .before .before .before .before .before .pre .1 in
+    (c .before .before .before .before .before .before .before .before .before .before .before .before .before .before .before .before .before .before .before .before .pre .0, omega arith, omega arith, omega (arith, c .before .before .before .before .before .before .before .before .before .before .before .before .before .before .before .back-at .ensures, backAt-le (a .w)))
+
+-- src/lib.rt:115:1
+same-length : tie.Need-same-length
+same-length c = search needs
+
+-- src/lib.rt:115:1
+returns : tie.Need-returns
+returns c =
+    let a = c .before .before .before .before .before .before .before .before .before .before .before .before .before .before .before .before .before .before .before .before .before .before .before .args in
+    written-parts (a .w) (a .counts .now) (a .buf .now) (c .before .before .before .before .before .before .before .before .before .before .before .before .before .before .before .write-head .last .0) (c .before .before .before .before .before .before .before .before .before .before .write-rows .last .0) (c .before .before .before .before .before .before .clear .last .0) (c .before .before .take-entries .last .1 .1 .0)
+    (c .before .before .before .before .before .before .before .before .before .before .before .before .before .before .before .before .before .before .before .before .before .finished-size .result) (c .before .before .before .before .before .before .before .before .before .before .before .before .before .before .before .before .flag-word .result) (c .before .before .before .before .before .before .before .before .before .before .before .before .before .before .before .before .before .before .before .back-in .result) (c .before .before .before .before .before .before .before .before .before .before .before .before .before .before .before .before .before .before .back-at .result)
+    (c .before .before .before .before .before .before .before .before .before .before .before .before .before .before .before .before .before .before .before .before .before .finished-size .ensures) (c .before .before .before .before .before .before .before .before .before .before .before .before .before .before .before .before .flag-word .ensures) (c .before .before .before .before .before .before .before .before .before .before .before .before .before .before .before .before .before .before .before .back-in .ensures) (c .before .before .before .before .before .before .before .before .before .before .before .before .before .before .before .before .before .before .back-at .ensures)
+    (c .before .before .before .before .before .before .before .before .before .before .before .before .before .before .before .write-head .ensures) (c .before .before .before .before .before .before .before .before .before .before .write-rows .ensures) (c .before .before .before .before .before .before .clear .ensures) (c .before .before .take-entries .ensures)
+
+pub write-image-spec : {M : Type 1} → statement M
+write-image-spec =
+    tie.close
+    (tie.spec
+    finished-size-requires
+    cast-back-in
+    back-in-requires
+    back-at-requires
+    cast-write-head
+    flag-word-requires
+    cast-write-head-2
+    cast-write-head-3
+    write-head-requires
+    cast-write-rows
+    write-rows-requires
+    clear-requires
+    take-entries-requires
+    same-length
+    returns)

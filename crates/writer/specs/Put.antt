@@ -1,0 +1,73 @@
+-- Put: 01, "Writing" and "When a call is refused". The decision is apart from the effect.
+use Prim.Native.Nat.{ℕ, _+_, _*_, _%_, max}
+use mathlib.Core.Bool.{Bool, cond, not}
+use mathlib.Core.List.{List}
+use lib.ListN.{length, getD, set}
+use lib.Seq.{sets}
+use lib.Dec.{eqb}
+use Rattle.jhash.specs.NameHash.{hashOf}
+use Rattle.image.specs.Tables.{tableOf}
+use Rattle.image.specs.Record.{Entry, entryBytes, entrySize}
+use Rattle.image.specs.declared.Flag.{Flag}
+use Rattle.image.specs.declared.Flag.the-variants.{None, Oneway}
+use Rattle.writer.specs.declared.CQDBWriter.{CQDBWriter}
+use Rattle.writer.specs.declared.Stored.{Stored}
+use Rattle.writer.specs.declared.Stored.the-variants.{Accepted, Misfit, NoRoom}
+use Rattle.writer.specs.State.{State, fits, finishedSize, tooLarge}
+
+-- in two-way mode the back size becomes the larger of itself and id + 1
+abbrev pub raised : Flag → ℕ → ℕ → ℕ
+raised None back id = max back (id + 1)
+raised Oneway back id = back
+
+-- what a put of a name and an id stores
+abbrev pub entryOf : List ℕ → ℕ → Entry
+entryOf name id = record { name = name; id = id }
+
+-- the record after a put of an id and a name of n bytes
+unfoldable pub writerWith : CQDBWriter → ℕ → ℕ → CQDBWriter
+writerWith w n id =
+    record {
+      flag = w .flag;
+      capacity = w .capacity;
+      end = w .end + (n + 9);
+      entries = w .entries + 1;
+      back = raised (w .flag) (w .back) id;
+    }
+
+-- the record after this put
+unfoldable pub writerAfter : CQDBWriter → Entry → CQDBWriter
+unfolding writerWith
+writerAfter w e = writerWith w (length (e .name)) (e .id)
+
+-- one more in the table of a hash
+unfoldable pub raisedCounts : List ℕ → ℕ → List ℕ
+raisedCounts counts h = set counts (tableOf h) (getD counts (tableOf h) 0 + 1)
+
+-- the counts after this put
+unfoldable pub countsAfter : List ℕ → Entry → List ℕ
+unfolding raisedCounts
+countsAfter counts e = raisedCounts counts (hashOf (e .name))
+
+-- 2 when the record doesn't fit the buffer; then 3 when the finished size, all after this put, exceeds the buffer or 4,294,967,295. 0: no refusal
+unfoldable pub putRefusal : State → Entry → ℕ
+putRefusal s e = cond (not (fits s)) 2 (cond (tooLarge (s .writer .capacity) (finishedSize (writerAfter (s .writer) e))) 3 0)
+
+-- put appends an entry and raises the counts; only that entry's bytes change
+unfoldable pub appended : State → Entry → State
+appended s e =
+    record {
+      writer = writerAfter (s .writer) e;
+      counts = countsAfter (s .counts) e;
+      buffer = sets (s .buffer) (s .writer .end) (entryBytes e);
+    }
+
+-- a refused put hands the record back unaltered, and no refusal changes a byte
+unfoldable pub afterPut : State → Entry → State
+afterPut s e = cond (eqb (putRefusal s e) 0) (appended s e) s
+
+-- 01's number for each case of put's answer
+abbrev pub storedOf : Stored → ℕ
+storedOf Accepted = 0
+storedOf Misfit = 2
+storedOf NoRoom = 3

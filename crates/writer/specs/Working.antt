@@ -1,0 +1,85 @@
+-- What the steps of close leave, as the code goes. No rule of 01 stands here: proofs/ shows that all of them together leave the image that
+-- specs/Close says.
+use Prim.Native.Nat.{ℕ, zero, suc, _+_, _*_, _-_}
+use mathlib.Core.Bool.{Bool, true, false, cond, _&&_}
+use mathlib.Core.List.{List, [], _∷_, _++_}
+use lib.ListN.{length, getD, take, drop, replicate}
+use lib.Seq.{sets}
+use lib.Dec.{eqb}
+use Rattle.jhash.specs.NameHash.{hashOf}
+use Rattle.image.specs.Bytes.{word, le32, all}
+use Rattle.image.specs.Tables.{tableOf, start, order, firstEmpty}
+use Rattle.image.specs.Record.{Entry, headSize, headBytes, flagWord, backIn, backSize}
+use Rattle.image.specs.declared.Flag.{Flag}
+use Rattle.image.specs.declared.Flag.the-variants.{None, Oneway}
+use Rattle.writer.specs.declared.CQDBWriter.{CQDBWriter}
+use Rattle.writer.specs.State.{State, finishedSize}
+use Rattle.writer.specs.Put.{countsAfter}
+use Rattle.writer.specs.Close.{firstWhole, whole, entriesIn}
+
+-- the bytes from `at` to `end`
+abbrev pub between : List ℕ → ℕ → ℕ → List ℕ
+between buf at end = take (end - at) (drop at buf)
+
+-- the length word of the entry at the front of some bytes, 0 where it is not whole
+unfoldable pub wholeLength : List ℕ → ℕ
+wholeLength bytes = cond (firstWhole bytes) (word bytes 4) 0
+
+-- the counts after entries
+unfoldable pub tallied : List ℕ → List Entry → List ℕ
+tallied counts [] = counts
+tallied counts (e ∷ es) = tallied (countsAfter counts e) es
+
+-- do two lists agree at the 256 tables?
+abbrev pub sameCounts : List ℕ → List ℕ → Bool
+sameCounts a b = all (λ (t : ℕ). eqb (getD a t 0) (getD b t 0)) 0 256
+
+-- the rows of the m tables from t on, the first with entries standing at o
+unfoldable pub rowsFrom : List ℕ → ℕ → ℕ → ℕ → List ℕ
+rowsFrom counts o t zero = []
+rowsFrom counts o t (suc m) =
+    le32 (cond (eqb (getD counts t 0) 0) 0 o)
+    ++ le32 (2 * getD counts t 0)
+    ++ rowsFrom counts (o + 16 * getD counts t 0) (suc t) m
+
+-- where the back array stands, 0 where there is none
+unfoldable pub backAt : CQDBWriter → ℕ
+backAt w = cond (eqb (backIn (w .flag) (w .back)) 0) 0 (w .end + 16 * w .entries)
+
+-- head and rows written, tables and back array cleared
+unfoldable pub cleared : CQDBWriter → List ℕ → List ℕ → List ℕ
+cleared w counts buf =
+    sets
+    (sets (sets buf 0 (headBytes (finishedSize w) (flagWord (w .flag)) (backIn (w .flag) (w .back)) (backAt w))) 24 (rowsFrom counts (w .end) 0 256))
+    (w .end)
+    (replicate (finishedSize w - w .end) 0)
+
+-- the bucket that takes an entry of hash h: its place in the buffer
+unfoldable pub slot : List ℕ → ℕ → ℕ
+slot buf h =
+    let o = word buf (24 + 8 * tableOf h) in
+    let n = word buf (28 + 8 * tableOf h) in
+    o + 8 * firstEmpty (λ (k : ℕ). word buf (o + 8 * k + 4)) (order n n (start h n))
+
+-- an entry of hash h at `at` stored in its table, and its link under its id
+unfoldable pub withBucket : List ℕ → ℕ → ℕ → List ℕ
+withBucket buf h at = cond (eqb (word buf (28 + 8 * tableOf h)) 0) buf (sets buf (slot buf h) (le32 h ++ le32 at))
+
+abbrev pub withLink : Flag → List ℕ → ℕ → ℕ → ℕ → List ℕ
+withLink None buf links id at = sets buf (links + 4 * id) (le32 at)
+withLink Oneway buf links id at = buf
+
+-- the entry at `at` with length word n taken into table and back array, which stands at `links`
+unfoldable pub taken : Flag → ℕ → List ℕ → ℕ → ℕ → List ℕ
+taken flag links buf at n = withLink flag (withBucket buf (hashOf (take (n - 1) (drop (at + 8) buf))) at) links (word buf at) at
+
+-- and so m entries, one after the other
+unfoldable pub takenFrom : Flag → ℕ → ℕ → ℕ → ℕ → List ℕ → List ℕ
+takenFrom flag links end zero at buf = buf
+takenFrom flag links end (suc m) at buf =
+    let n = wholeLength (between buf at end) in
+    cond (eqb n 0) buf (takenFrom flag links end m (at + (8 + n)) (taken flag links buf at n))
+
+-- all that close writes
+unfoldable pub written : CQDBWriter → List ℕ → List ℕ → List ℕ
+written w counts buf = takenFrom (w .flag) (backAt w) (w .end) (w .entries) headSize (cleared w counts buf)

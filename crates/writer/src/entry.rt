@@ -1,0 +1,30 @@
+// An entry's bytes, stored.
+ghost use mathlib.Core.Path.{_≡_};
+ghost use Prim.Native.Nat.{_+_, _<_, _≤_};
+ghost use lib.ListN.{length};
+ghost use lib.Seq.{sets};
+ghost use Rattle.image.specs.Record.{entryBytes};
+ghost use Rattle.writer.specs.Put.{entryOf};
+
+// The bytes of src stored from `at` on.
+fn copy(buf: &mut [u8], at: usize, src: &[u8])
+    requires { ⌜ at + length (now src) ≤ length (now buf) ⌝ }
+    ensures { λ _. ⌜ now (buf .exit) ≡ sets (now (buf .entry)) at (now (src .entry)) ⌝ }
+{
+    let mut j = 0;
+    while j < src.len() {
+        buf[at + j] = src[j];
+        j += 1;
+    }
+}
+
+// An entry stored from `at` on: id, name length plus 1, the name, one zero byte.
+pub(super) fn store(buf: &mut [u8], at: usize, name: &[u8], id: u32)
+    requires { ⌜ (at + (length (now name) + 9) ≤ length (now buf)) × (length (now name) < 4294967295) ⌝ }
+    ensures { λ _. ⌜ now (buf .exit) ≡ sets (now (buf .entry)) at (entryBytes (entryOf (now (name .entry)) id)) ⌝ }
+{
+    image::put_u32(&mut *buf, at, id);
+    image::put_u32(&mut *buf, at + 4, name.len() as u32 + 1);
+    copy(&mut *buf, at + 8, name);
+    buf[at + 8 + name.len()] = 0;
+}

@@ -1,0 +1,85 @@
+// The entries taken into the hash tables and the back array.
+ghost use mathlib.Core.Path.{_≡_};
+ghost use Prim.Native.Nat.{ℕ, _+_, _*_, _<_, _≤_};
+ghost use lib.ListN.{length};
+ghost use lib.Seq.{sets};
+ghost use Rattle.image.specs.Bytes.{word, le32};
+ghost use Rattle.image.specs.Tables.{order, firstEmpty};
+ghost use Rattle.writer.specs.Working.{withBucket, withLink, taken, takenFrom};
+use super::check;
+use image::Flag;
+
+// The first empty of the n buckets at o, from bucket k on; bucket 0 where none is empty.
+fn first_empty(buf: &[u8], o: usize, n: usize, k: usize) -> usize
+    requires { ⌜ (k < n) × (o < 4294967296) × (n < 4294967296) ⌝ }
+    ensures { λ r. ⌜ (r ≡ firstEmpty (λ (i : ℕ). word (now (buf .entry)) (o + 8 * i + 4)) (order n n k)) × (r < n) ⌝ }
+{
+    let mut i = k;
+    let mut left = n;
+    while left > 0 {
+        if image::get_u32(buf, o + 8 * i + 4) == 0 {
+            return i;
+        }
+        i = if i + 1 < n { i + 1 } else { 0 };
+        left -= 1;
+    }
+    0
+}
+
+// An entry of hash h at `at`, stored in the first empty bucket of its search.
+fn store_bucket(buf: &mut [u8], h: u32, at: u32)
+    ensures { λ _. ⌜ now (buf .exit) ≡ withBucket (now (buf .entry)) h at ⌝ }
+{
+    let t = (h % 256) as usize;
+    let o = image::get_u32(&*buf, 24 + 8 * t) as usize;
+    let n = image::get_u32(&*buf, 28 + 8 * t) as usize;
+    if n == 0 {
+        return;
+    }
+    let k = first_empty(&*buf, o, n, (h / 256) as usize % n);
+    image::put_u32(&mut *buf, o + 8 * k, h);
+    image::put_u32(&mut *buf, o + 8 * k + 4, at);
+}
+
+// The link of an id; a one-way image has none.
+fn store_link(flag: Flag, buf: &mut [u8], links: usize, id: u32, at: u32)
+    requires { ⌜ links < 4294967296 ⌝ }
+    ensures { λ _. ⌜ now (buf .exit) ≡ withLink flag (now (buf .entry)) links id at ⌝ }
+{
+    match flag {
+        Flag::None => image::put_u32(&mut *buf, links + 4 * (id as usize), at),
+        Flag::Oneway => {}
+    }
+}
+
+// The entry at `at`, whose length word is n, taken into its table and the back array.
+fn take_entry(flag: Flag, links: usize, buf: &mut [u8], at: usize, n: usize)
+    requires { ⌜ (at + (8 + n) ≤ length (now buf)) × (1 ≤ n) × (n < 4294967296) × (at < 4294967296) × (links < 4294967296) ⌝ }
+    ensures { λ _. ⌜ now (buf .exit) ≡ taken flag links (now (buf .entry)) at n ⌝ }
+{
+    let id = image::get_u32(&*buf, at);
+    let hashed = jhash::jhash(&buf[at + 8..at + 7 + n], 0);
+    let jhash::Hashed::Hash(h) = hashed else {
+        return;
+    };
+    store_bucket(&mut *buf, h, at as u32);
+    store_link(flag, &mut *buf, links, id, at as u32);
+}
+
+// The entries from 2,072 on, one after the other.
+pub(super) fn take_entries(flag: Flag, links: usize, buf: &mut [u8], end: usize, entries: u32)
+    requires { ⌜ (2072 ≤ end) × (end ≤ length (now buf)) × (end < 4294967296) × (links < 4294967296) ⌝ }
+    ensures { λ _. ⌜ now (buf .exit) ≡ takenFrom flag links end entries 2072 (now (buf .entry)) ⌝ }
+{
+    let mut at = 2072;
+    let mut left = entries;
+    while left > 0 {
+        let n = check::whole_length(&*buf, at, end);
+        if n == 0 {
+            return;
+        }
+        take_entry(flag, links, &mut *buf, at, n);
+        at += 8 + n;
+        left -= 1;
+    }
+}

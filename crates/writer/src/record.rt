@@ -1,0 +1,140 @@
+// The writer record: whether it fits a buffer, and its numbers after a put.
+ghost use mathlib.Core.Path.{_≡_};
+ghost use Prim.Native.Nat.{_+_, _<_, _≤_, _^_, max};
+ghost use lib.ListN.{length, getD};
+ghost use Rattle.image.specs.Tables.{tableOf};
+ghost use Rattle.image.specs.Record.{backIn, flagWord};
+ghost use Rattle.writer.specs.State.{lent, noneAbove, fits, tooLarge, finishedSize};
+ghost use Rattle.writer.specs.Put.{raised, writerWith, raisedCounts};
+ghost use Rattle.writer.specs.Working.{backAt};
+use super::CQDBWriter;
+use image::Flag;
+
+// Whether no table count exceeds the number of entries. All 256 are looked at, without a branch for each.
+pub(super) fn none_above(counts: &[u32; 256], entries: u32) -> bool
+    ensures { λ r. ⌜ r ≡ noneAbove (now (counts .entry)) entries ⌝ }
+{
+    let mut none = true;
+    let mut t = 0;
+    while t < 256 {
+        none = none & (counts[t] <= entries);
+        t += 1;
+    }
+    none
+}
+
+// Whether the record fits the buffer.
+pub(super) fn fits(w: CQDBWriter, counts: &[u32; 256], buf: &[u8]) -> bool
+    ensures { λ r. ⌜ r ≡ fits (lent w (now (counts .entry)) (now (buf .entry))) ⌝ }
+{
+    if w.capacity != buf.len() as u64 {
+        return false;
+    }
+    if w.end < 2072 {
+        return false;
+    }
+    if w.end > w.capacity {
+        return false;
+    }
+    none_above(counts, w.entries)
+}
+
+// Whether a size exceeds the buffer or 4,294,967,295.
+pub(super) fn too_large(capacity: u64, size: u64) -> bool
+    ensures { λ r. ⌜ r ≡ tooLarge capacity size ⌝ }
+{
+    capacity < size || 4294967295 < size
+}
+
+// The larger of two numbers.
+pub(super) fn larger(a: u64, b: u64) -> u64
+    ensures { λ r. ⌜ r ≡ max a b ⌝ }
+{
+    if a < b { b } else { a }
+}
+
+// The back size after a put, which may be 2^32.
+fn raised(flag: Flag, back: u32, id: u32) -> u64
+    ensures { λ r. ⌜ r ≡ raised flag back id ⌝ }
+{
+    match flag {
+        Flag::None => larger(back as u64, id as u64 + 1),
+        Flag::Oneway => back as u64,
+    }
+}
+
+// The back size that counts in a size: none in one-way mode.
+pub(super) fn back_in(flag: Flag, back: u64) -> u64
+    ensures { λ r. ⌜ r ≡ backIn flag back ⌝ }
+{
+    match flag {
+        Flag::None => back,
+        Flag::Oneway => 0,
+    }
+}
+
+// The finished size of a record's own numbers.
+pub(super) fn finished_size(w: CQDBWriter) -> u64
+    requires { ⌜ w .end < 2 ^ 63 ⌝ }
+    ensures { λ r. ⌜ r ≡ finishedSize w ⌝ }
+{
+    let flag = w.flag;
+    w.end + 16 * (w.entries as u64) + 4 * back_in(flag, w.back as u64)
+}
+
+// The flag word of a mode.
+pub(super) fn flag_word(flag: Flag) -> u32
+    ensures { λ r. ⌜ r ≡ flagWord flag ⌝ }
+{
+    match flag {
+        Flag::None => 0,
+        Flag::Oneway => 1,
+    }
+}
+
+// Where the back array stands, 0 where there is none.
+pub(super) fn back_at(w: CQDBWriter) -> u64
+    requires { ⌜ w .end < 2 ^ 63 ⌝ }
+    ensures { λ r. ⌜ r ≡ backAt w ⌝ }
+{
+    let flag = w.flag;
+    if back_in(flag, w.back as u64) == 0 {
+        return 0;
+    }
+    w.end + 16 * (w.entries as u64)
+}
+
+// The finished size after a put of an id and a name of n bytes.
+pub(super) fn size_with(w: CQDBWriter, n: usize, id: u32) -> u64
+    requires { ⌜ (w .end < 2 ^ 63) × (n < 4294967295) ⌝ }
+    ensures { λ r. ⌜ r ≡ finishedSize (writerWith w n id) ⌝ }
+{
+    let flag = w.flag;
+    let back = back_in(flag, raised(flag, w.back, id));
+    w.end + (n as u64 + 9) + 16 * (w.entries as u64 + 1) + 4 * back
+}
+
+// The record after a put of an id and a name of n bytes, where the finished size is no more than 4,294,967,295.
+pub(super) fn after(w: CQDBWriter, n: usize, id: u32) -> CQDBWriter
+    requires { ⌜ finishedSize (writerWith w n id) ≤ 4294967295 ⌝ }
+    ensures { λ r. ⌜ r ≡ writerWith w n id ⌝ }
+{
+    let flag = w.flag;
+    CQDBWriter {
+        flag,
+        capacity: w.capacity,
+        end: w.end + (n as u64 + 9),
+        entries: w.entries + 1,
+        back: raised(flag, w.back, id) as u32,
+    }
+}
+
+// One more in the table of a hash.
+pub(super) fn raise(counts: &mut [u32; 256], h: u32)
+    requires { ⌜ getD (now counts) (tableOf h) 0 < 4294967295 ⌝ }
+    ensures { λ _. ⌜ now (counts .exit) ≡ raisedCounts (now (counts .entry)) h ⌝ }
+{
+    let t = (h % 256) as usize;
+    let c = counts[t];
+    counts[t] = c + 1;
+}
