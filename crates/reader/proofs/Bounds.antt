@@ -2,17 +2,17 @@
 use Prim.Native.Nat.{ℕ, zero, suc, _+_, _*_, _/_, _≤_, _<_, zero-le}
 use native.Mathlib.Omega.{arith}
 use native.Mathlib.Nat.{mod-lt}
-use mathlib.Core.Path.{_≡_, refl, sym, ap, _∙_}
+use mathlib.Core.Path.{_≡_, refl, ap}
 use mathlib.Core.Bool.{Bool, true, false, cond, _||_}
 use mathlib.Core.List.{List, [], _∷_}
-use borrow.Author.Tests.{ltb-false, eqb-false}
+use borrow.Author.Tests.{ltb-false}
 use lib.Dec.{eqb, ltb, leb}
 use lib.ListN.{length, getD}
 use Rattle.jhash.specs.NameHash.{hashOf}
 use Rattle.image.specs.Tables.{tableOf, start, next, order}
-use Rattle.image.proofs.Bools.{neither-first, neither-second}
+use Rattle.image.proofs.Bools.{not-both}
 use Rattle.reader.specs.Open.{tableAt, bucketNumber, tableLeaves}
-use Rattle.reader.specs.Lookup.{Lookup, found, nothing, Seen, pass, ends, hit, see, decide, probe, searchTable, lookupHash, lookup}
+use Rattle.reader.specs.Lookup.{Lookup, nothing, Seen, pass, ends, hit, see, decide, probe, searchTable, lookupHash, lookup}
 use Rattle.reader.specs.Answers.{reads}
 
 -- ---- how many buckets are read
@@ -52,6 +52,25 @@ lookup-reads image name =
     either : (b : Bool) (a : Lookup) → reads a ≤ bucketNumber image t → reads (cond b (nothing 0) a) ≤ bucketNumber image t
     either true a h = zero-le
     either false a h = h
+
+-- no bucket is read: an image under 2,072 bytes, a name of 4,294,967,295 bytes or more, a table with offset 0, bucket number 0 or an end past the image
+pub lookup-unsearched : (image name : List ℕ)
+    → (ltb (length image) 2072 || leb 4294967295 (length name) || (eqb (tableAt image (tableOf (hashOf name))) 0 || eqb (bucketNumber image (tableOf (hashOf name))) 0 || tableLeaves image (tableOf (hashOf name)))) ≡ true
+    → lookup image name ≡ nothing 0
+unfolding lookup lookupHash
+lookup-unsearched image name e =
+    either (ltb (length image) 2072) (leb 4294967295 (length name))
+    (eqb (tableAt image t) 0 || eqb (bucketNumber image t) 0 || tableLeaves image t)
+    (searchTable image name (hashOf name) (tableAt image t) (bucketNumber image t)) e
+  where
+    t : ℕ
+    t = tableOf (hashOf name)
+
+    either : (a b c : Bool) (x : Lookup) → (a || b || c) ≡ true → cond a (nothing 0) (cond b (nothing 0) (cond c (nothing 0) x)) ≡ nothing 0
+    either true b c x e = refl
+    either false true c x e = refl
+    either false false true x e = refl
+    either false false false x e = absurd (not-both e)
 
 -- ---- where they lie
 

@@ -4,7 +4,7 @@ use native.Mathlib.Omega.{arith}
 use native.Mathlib.Nat.{mod-one}
 use mathlib.Core.Path.{_≡_, refl, sym, ap, _∙_}
 use mathlib.Core.Bool.{Bool, true, false, _&&_, _||_}
-use mathlib.Core.List.{List, [], _∷_, _++_}
+use mathlib.Core.List.{List, [], _++_}
 use borrow.Author.Tests.{lt-ltb, le-ltb, lt-leb, ne-eqb, eqb-false}
 use lib.Dec.{ltb, lit<, lit≤}
 use lib.ListN.{length, drop, replicate}
@@ -14,8 +14,8 @@ use Rattle.image.specs.Bytes.{word, le32}
 use Rattle.image.specs.Tables.{tableOf, next}
 use Rattle.image.specs.Record.{headBytes}
 use Rattle.image.proofs.Words.{word-drop}
-use Rattle.reader.specs.Open.{Opening, num, refusal, tableAt, bucketNumber, someLeaves, halves, opening}
-use Rattle.reader.specs.Lookup.{Lookup, nothing, pass, see, lookup}
+use Rattle.reader.specs.Open.{num, refusal, tableAt, bucketNumber, someLeaves, halves, opening}
+use Rattle.reader.specs.Lookup.{nothing, pass, see, lookup}
 use Rattle.reader.proofs.Opens.{opening-by}
 use Rattle.reader.proofs.Searches.{see-by, rest, rest-start, rest-over, rest-seen, lookup-hash-by, lookup-by}
 

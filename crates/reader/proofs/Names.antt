@@ -3,7 +3,7 @@ use Prim.Native.Nat.{ℕ, _+_, _*_, _-_, _≤_, _<_}
 use native.Mathlib.Omega.{arith}
 use mathlib.Core.Path.{_≡_, refl, sym, ap, _∙_}
 use mathlib.Core.Bool.{Bool, true, false, cond, _||_}
-use mathlib.Core.List.{List, []}
+use mathlib.Core.List.{List}
 use borrow.Author.Tests.{ltb-false, leb-false}
 use lib.Dec.{eqb, ltb, leb}
 use lib.ListN.{length, take, drop}
@@ -11,9 +11,9 @@ use Rattle.image.specs.Bytes.{word}
 use Rattle.image.proofs.Bools.{neither-first, neither-second}
 use Rattle.reader.specs.Open.{backSizeAt, backOffsetAt, backLeaves}
 use Rattle.reader.specs.Lookup.{Lookup, lookup, broken}
-use Rattle.reader.specs.Naming.{Naming, place, unnamed, noBack, namingAt, naming, partOr}
+use Rattle.reader.specs.Naming.{place, unnamed, noBack, namingAt, naming, partOr}
 use Rattle.reader.specs.Walk.{upperHint, finds, homeBy, home}
-use Rattle.reader.proofs.Entries.{Whole, whole}
+use Rattle.reader.proofs.Entries.{whole}
 
 -- a back array that can be read lies in the image
 pub record Back (image : List ℕ) : Type 0 where

@@ -1,17 +1,17 @@
 -- The search along the buckets, a turn at a time. Assumes nothing.
-use Prim.Native.Nat.{ℕ, zero, suc, _+_, _*_, _%_, _-_, _≤_, _<_}
+use Prim.Native.Nat.{ℕ, suc, _+_, _*_, _%_, _-_, _≤_, _<_}
 use native.Mathlib.Omega.{arith}
 use native.Mathlib.Nat.{mod-self, mod-eq-of-lt}
 use mathlib.Core.Path.{_≡_, refl, sym, ap, _∙_}
 use mathlib.Core.Bool.{Bool, cond, _||_}
-use mathlib.Core.List.{List, [], _∷_}
+use mathlib.Core.List.{List}
 use lib.Dec.{eqb, ltb, leb}
 use lib.ListN.{length, take, drop}
 use Rattle.jhash.specs.NameHash.{hashOf}
 use Rattle.image.specs.Bytes.{word, same}
 use Rattle.image.specs.Tables.{tableOf, start, next, order}
 use Rattle.reader.specs.Open.{tableAt, bucketNumber}
-use Rattle.reader.specs.Lookup.{Lookup, found, nothing, Seen, pass, ends, hit, nameOf, broken, seeEntry, see, decide, probe, searchTable, lookupHash, lookup}
+use Rattle.reader.specs.Lookup.{Lookup, nothing, Seen, pass, ends, hit, nameOf, broken, seeEntry, see, decide, probe, searchTable, lookupHash, lookup}
 
 -- ---- what is seen in an entry and in a bucket
 

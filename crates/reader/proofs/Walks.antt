@@ -4,15 +4,15 @@ use native.Mathlib.Omega.{arith}
 use native.Mathlib.Numerals.{add-one}
 use mathlib.Core.Path.{_≡_, refl, sym, ap, _∙_}
 use mathlib.Core.Bool.{false}
-use mathlib.Core.Logic.{_⊎_, ⊎-elim}
-use mathlib.Core.List.{List, [], _∷_, _++_, map}
+use mathlib.Core.Logic.{⊎-elim}
+use mathlib.Core.List.{List, _∷_, _++_, map}
 use native.Mathlib.Decide.{decLt}
 use native.Mathlib.Nat.{eq-or-lt-of-le}
-use lib.ListN.{length, replicate}
+use lib.ListN.{replicate}
 use Rattle.image.specs.Bytes.{range}
 use Rattle.reader.specs.Open.{backSizeAt}
 use Rattle.reader.specs.Naming.{Naming, place, unnamed, noBack, naming}
-use Rattle.reader.specs.Walk.{Step, item, done, stepOf, step, upperHint}
+use Rattle.reader.specs.Walk.{Step, done, stepOf, step, upperHint}
 use Rattle.reader.specs.Steps.{standsAfter, steps}
 use Rattle.reader.proofs.Names.{named, never, hint-back}
 

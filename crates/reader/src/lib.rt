@@ -33,7 +33,7 @@ pub enum ToId {
 }
 
 // What a search sees in a bucket: it passes it, or ends with nothing, or with an id.
-pub enum Seen {
+enum Seen {
     Pass,
     Ends,
     Hit(u32),

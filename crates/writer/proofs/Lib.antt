@@ -17,3 +17,4 @@ pub mod OneMore
 pub mod Turn
 pub mod Written
 pub mod Accepted
+pub mod Kept

@@ -1,7 +1,7 @@
 -- `reader::naming::name` meets its contract. Assumes nothing.
 use native.Mathlib.Omega.{arith}
-use mathlib.Core.Path.{_≡_, refl, sym, ap, _∙_}
 use mathlib.Core.List.{[]}
+use mathlib.Core.Path.{sym, ap, _∙_}
 use Rattle.reader.specs.Answers.{namingOf}
 use Rattle.reader.proofs.Names.{named, part, no-part}
 use borrow.Author.Needs.{needs}

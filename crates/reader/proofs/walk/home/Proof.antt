@@ -1,6 +1,6 @@
 -- `reader::walk::home` meets its contract. Assumes nothing.
 use native.Mathlib.Omega.{arith}
-use mathlib.Core.Path.{_≡_, sym, ap, _∙_}
+use mathlib.Core.Path.{sym, ap, _∙_}
 use Rattle.reader.specs.declared.ToId.{ToId}
 use Rattle.reader.specs.Answers.{lookupOf, namingOf}
 use Rattle.reader.specs.Walk.{finds}

@@ -1,6 +1,6 @@
 -- `reader::walk::next` meets its contract. Assumes nothing.
 use native.Mathlib.Omega.{arith}
-use mathlib.Core.Path.{_≡_, sym, ap, _∙_}
+use mathlib.Core.Path.{sym, ap, _∙_}
 use Rattle.reader.specs.Walk.{step, stepOf}
 use Rattle.reader.specs.Answers.{namingOf}
 use Rattle.reader.proofs.Equal.{word-below}

@@ -1,7 +1,7 @@
 -- `reader::walk::size_hint` meets its contract. Assumes nothing.
 use Prim.Native.Nat.{_-_}
 use native.Mathlib.Omega.{arith}
-use mathlib.Core.Path.{_≡_, refl, sym, ap, _∙_}
+use mathlib.Core.Path.{refl, sym, _∙_}
 use Rattle.reader.proofs.Names.{back, hint-none, hint-back}
 use borrow.Author.Needs.{needs}
 use Rattle.reader.proofs.walk.size_hint.Statement.{statement}
