@@ -11,7 +11,8 @@ use Rattle.image.specs.declared.Flag.{Flag}
 use Rattle.image.specs.declared.Flag.the-variants.{None}
 use Rattle.reader.specs.Open.{num, opening}
 use Rattle.reader.specs.Lookup.{found, nothing, lookup}
-use Rattle.answers.specs.Answer.{foundId, reads, nameGiven, ofName, ofId, tablePuts, firstId, lastName}
+use Rattle.answers.specs.Answer.{foundId, nameGiven, ofName, ofId, tablePuts, firstId, lastName}
+use Rattle.reader.specs.Answers.{reads}
 use Rattle.answers.proofs.Opened.{opening-image}
 use Rattle.answers.proofs.Found.{lookup-long, lookup-searched}
 use Rattle.answers.proofs.Named.{naming-image}

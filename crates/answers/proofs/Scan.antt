@@ -7,7 +7,8 @@ use Prim.Native.Nat.{ℕ, zero, suc, _+_, _≤_, _<_}
 use native.Mathlib.Omega.{arith}
 use lib.ListN.{length, getD, set}
 use Rattle.reader.specs.Lookup.{Lookup, found, nothing, Seen, pass, ends, hit, decide, probe}
-use Rattle.answers.specs.Answer.{foundId, reads}
+use Rattle.answers.specs.Answer.{foundId}
+use Rattle.reader.specs.Answers.{reads}
 
 -- ---- the search along a list
 

@@ -17,11 +17,6 @@ abbrev pub foundId : Lookup → Option ℕ
 foundId (found id reads) = some id
 foundId (nothing reads) = none
 
--- buckets read are those that the lookup's answer carries
-abbrev pub reads : Lookup → ℕ
-reads (found id n) = n
-reads (nothing n) = n
-
 -- an id gives a name when naming it answers a place that holds exactly that name's bytes
 abbrev pub heldAt : List ℕ → Naming → Option (List ℕ)
 heldAt image (place s n) = some (take n (drop s image))

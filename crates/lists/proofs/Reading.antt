@@ -11,7 +11,8 @@ use Rattle.image.specs.Record.{Entry, headSize, backSize, imageSize, image}
 use Rattle.reader.specs.Lookup.{Lookup, found, nothing, lookup}
 use Rattle.reader.specs.Naming.{Naming, place, unnamed, naming}
 use Rattle.reader.specs.Walk.{finds, homeBy as homePlaced, home}
-use Rattle.answers.specs.Answer.{foundId, reads, heldAt, nameGiven, firstId, ofName, tablePuts}
+use Rattle.answers.specs.Answer.{foundId, heldAt, nameGiven, firstId, ofName, tablePuts}
+use Rattle.reader.specs.Answers.{reads}
 use Rattle.answers.proofs.Images.{image-opens, name-gives, name-reads, found-reads, long-reads, id-gives}
 use Rattle.answers.proofs.Named.{naming-oneway}
 use Rattle.writer.specs.State.{fresh}

@@ -11,7 +11,8 @@ use Rattle.image.specs.declared.Flag.the-variants.{None}
 use Rattle.image.specs.Record.{Entry, headSize, image}
 use Rattle.reader.specs.Open.{opening, num}
 use Rattle.reader.specs.Lookup.{lookup}
-use Rattle.answers.specs.Answer.{foundId, reads, nameGiven, ofName, ofId, tablePuts, firstId, lastName}
+use Rattle.answers.specs.Answer.{foundId, nameGiven, ofName, ofId, tablePuts, firstId, lastName}
+use Rattle.reader.specs.Answers.{reads}
 use Rattle.writer.specs.State.{State, fresh, begun, beginning, countsBegun}
 use Rattle.writer.specs.Close.{size, closing, closedSize, afterClose}
 use Rattle.lists.specs.Calls.{Call, after, answers, acceptedBy, accepted, due, sizeOf, AllPermitted}

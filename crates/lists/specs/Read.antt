@@ -12,7 +12,8 @@ use Rattle.image.specs.Record.{Entry}
 use Rattle.reader.specs.Open.{opening, num}
 use Rattle.reader.specs.Lookup.{lookup}
 use Rattle.reader.specs.Walk.{home}
-use Rattle.answers.specs.Answer.{foundId, reads, nameGiven, ofName, ofId, tablePuts, firstId, lastName}
+use Rattle.answers.specs.Answer.{foundId, nameGiven, ofName, ofId, tablePuts, firstId, lastName}
+use Rattle.reader.specs.Answers.{reads}
 
 -- an id gives the name of its last entry; in a one-way image, none
 abbrev pub namedIn : Flag → List Entry → ℕ → Option (List ℕ)
