@@ -9,3 +9,4 @@ pub mod Members
 pub mod Reading
 pub mod Theorem
 pub mod Rows
+pub mod Examples
