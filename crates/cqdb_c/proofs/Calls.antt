@@ -3,6 +3,7 @@ use Prim.Native.Nat.{ℕ, _<_, _≤_}
 use mathlib.Core.Path.{_≡_, refl, sym, ap, _∙_}
 use mathlib.Core.Bool.{Bool, true, false, cond}
 use mathlib.Core.List.{List}
+use lib.ListN.{replicate}
 use lib.Dec.{eqb, leb}
 use native.Mathlib.Omega.{arith}
 use borrow.Author.Tests.{le-leb, lt-leb, leb-true, eqb-true, eqb-false, ne-eqb}
@@ -10,13 +11,12 @@ use Rattle.image.specs.Record.{Entry, flagWord}
 use Rattle.image.specs.declared.Flag.{Flag}
 use Rattle.image.specs.declared.Flag.the-variants.{None, Oneway}
 use Rattle.writer.specs.declared.CQDBWriter.{CQDBWriter}
-use Rattle.writer.specs.State.{State, lent, Beginning, beginning, begun, countsBegun}
+use Rattle.writer.specs.State.{State, lent, Beginning, begun, beginning, beginRefusal, freshWriter, countsBegun}
 use Rattle.writer.specs.State as state
 use Rattle.writer.specs.Put.{putRefusal, appended, afterPut}
 use Rattle.writer.specs.Close.{Closing, size, refusal, closing, closeRefusal, closedSize, closed, afterClose}
 use Rattle.cqdb_c.specs.declared.record.Record.{Record}
-use Rattle.cqdb_c.specs.declared.writing.BeginAnswer.{BeginAnswer}
-use Rattle.cqdb_c.specs.Record.{known, flagOf, writerOf, recordOf, Held, held, stateOf, heldOf}
+use Rattle.cqdb_c.specs.Record.{flagOf, writerOf, recordOf, Held, held, stateOf, heldOf}
 use Rattle.cqdb_c.specs.Writing.{notBegun, begunAnswer, beginAnswer, countsLeft, putNumber, leftByPut, closingHeld, refusalIn, sizeIn, leftByClose}
 
 -- begin with a mode above 1
@@ -93,7 +93,17 @@ back-and-forth h fine =
     (h .buffer))
     (mode-of-flag (h .writer .mode) fine)
 
--- no refusal changes the record, the counts or a byte: put
+-- no refusal changes the record, the counts or a byte: begin
+pub begin-refused : (mode n : ℕ) (counts : List ℕ) → (beginAnswer mode n .refusal ≡ 0 → ⊥) → countsLeft mode n counts ≡ counts
+unfolding beginAnswer beginning countsLeft countsBegun
+begin-refused mode n counts = go (leb mode 1) (eqb (beginRefusal n) 0)
+  where
+    go : (t b : Bool) → (cond t (begunAnswer (cond b (begun (freshWriter (flagOf mode) n)) (state.refusal (beginRefusal n)))) (notBegun 2) .refusal ≡ 0 → ⊥) → cond t (cond b (replicate 256 0) counts) counts ≡ counts
+    go true true refused = absurd (refused refl)
+    go true false refused = refl
+    go false b refused = refl
+
+-- put
 pub put-refused : (h : Held) (e : Entry) → (putNumber h e ≡ 0 → ⊥) → leftByPut h e ≡ h
 unfolding putNumber leftByPut afterPut
 put-refused h e = go (leb (h .writer .mode) 1) refl
