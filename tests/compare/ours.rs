@@ -40,7 +40,6 @@ pub struct Record {
     pub mode: u32,
     pub entries: u32,
     pub back: u32,
-    pub reserved: u32,
     pub length: u64,
     pub end: u64,
 }
