@@ -74,7 +74,7 @@ pub fn put(s: &State, name: &[u8], id: u32) -> Result<State, u32> {
 
 /// The recorded number of whole entries, where the bytes from 2,072 to end are these.
 pub fn entries(s: &State) -> Option<Vec<Put>> {
-    let mut rest = &s.buf[HEAD..s.record.end as usize];
+    let mut rest = s.buf.get(HEAD..s.record.end as usize)?;
     let mut found = Vec::new();
     for _ in 0..s.record.entries {
         let word = |at: usize| Some(u32::from_le_bytes(rest.get(at..at + 4)?.try_into().ok()?));
