@@ -1,8 +1,30 @@
-/* The C interface of Lithwennog: constant quark database images, proved in Rattle.
+/* The C interface of Lithwennog: constant quark database (CQDB) images, proved in Rattle.
    Link with target/staticlib/libcqdb_c.a, which `rt staticlib cqdb_c` makes (x86-64 Linux).
 
-   Bytes are lent as a pointer and a length. The pointer is valid for that many bytes and is not NULL, also where the
-   length is 0. No function keeps a pointer after it has returned. */
+   What every call promises: for all bytes and numbers it ends, answers as said below, and reads and writes nothing but
+   what it is lent. No function keeps a pointer after it has returned, allocates, or touches anything global; calls on
+   different buffers may run at the same time.
+
+   What the caller owes:
+   - Bytes are lent as a pointer and a length. The pointer is valid for that many bytes and is not NULL, also where the
+     length is 0.
+   - `counts` points to 256 words, and `w` to a whole cqdb_writer.
+   - What a call writes (the buffer of cqdb_put and cqdb_close, the counts, the writer) overlaps nothing else that the
+     same call is lent: no name, no buffer and no counts. What calls only read may overlap, and a buffer is an image as
+     soon as cqdb_close has been accepted.
+   - Nobody else writes to what is lent while the call runs.
+
+   Refusals, the same numbers in all calls; 0 is none:
+     1  begin, open: under 2,072 bytes
+     2  put, close: the writer does not fit the buffer; begin, put, close: the mode is neither 0 nor 1
+     3  put: no room, the finished image would exceed the buffer or 4,294,967,295 bytes
+     4  close: the buffer's entries are not those of the writer, or there is no room for the finished image
+     5  open: does not begin with the letters CQDB
+     6  open: wrong word at 12 (another byte order)
+     7  open: a table with an offset above 0 leaves the image
+     8  open: a back array with an offset above 0 leaves the image
+     9  hash: the name has 4,294,967,295 bytes or more
+   A refused call changes no byte of what it is lent, the writer included. */
 #ifndef CQDB_H
 #define CQDB_H
 
@@ -13,6 +35,8 @@
 extern "C" {
 #endif
 
+/* The name hash. */
+
 /* refusal is 0 when the call was accepted; hash is 0 when it was refused. */
 typedef struct {
     uint32_t refusal;
@@ -22,6 +46,144 @@ typedef struct {
 /* The hash of a name with a start value (images use 0): lookup3's hashlittle over the name and one zero byte, which the
    caller does not append. Refusal 9: the name has 4,294,967,295 bytes or more; none of them is then read. */
 cqdb_hash_answer cqdb_hash(const uint8_t *name, size_t len, uint32_t start);
+
+/* Reading. Every call takes any bytes as an image, opened or not; bytes may follow the image. */
+
+/* refusal is 0 when the image was accepted; num is 0 when it was refused. */
+typedef struct {
+    uint32_t refusal;
+    uint32_t num;
+} cqdb_open_answer;
+
+/* The number of associations: the sum of each table's bucket number divided by 2, modulo 2^32. Refusals, the first that
+   applies: 1, 5, 6, 7, 8. The size and flag words are not checked. */
+cqdb_open_answer cqdb_open(const uint8_t *image, size_t len);
+
+/* found is 1 or 0; id is 0 where nothing was found; buckets is how many buckets were read, the deciding one included. */
+typedef struct {
+    uint32_t found;
+    uint32_t id;
+    uint32_t buckets;
+} cqdb_id_answer;
+
+/* The id of a name (of its first put). Never refused: a damaged image or a name too long for a hash gives nothing. */
+cqdb_id_answer cqdb_to_id(const uint8_t *image, size_t len, const uint8_t *name, size_t name_len);
+
+/* found is 1 or 0. The name is the len bytes from image + start on, and lies in the image; 0 and 0 where there is none. */
+typedef struct {
+    uint64_t found;
+    uint64_t start;
+    uint64_t len;
+} cqdb_str_answer;
+
+/* The place of an id's name (of its last put). Never refused: a one-way or damaged image gives nothing. */
+cqdb_str_answer cqdb_to_str(const uint8_t *image, size_t len, uint32_t id);
+
+/* A walk names the ids from 0 on and ends at the first that has no name. How many steps one that stands before the id
+   `next` has left at most: back size minus next, at least 0; 0 where there is no back array that can be read. */
+uint32_t cqdb_size_hint(const uint8_t *image, size_t len, uint32_t next);
+
+/* 1 when the id has a name and looking up that name finds this id, else 0. */
+uint32_t cqdb_home(const uint8_t *image, size_t len, uint32_t id);
+
+/* Writing. One buffer takes the entries and, at close, becomes the image. The writer is the caller's, all of its fields
+   are open, and every value of them is answered: a writer fits a buffer when its mode is 0 or 1, length is the buffer's,
+   2,072 <= end <= length, and no count exceeds entries. */
+
+typedef struct {
+    uint32_t mode;        /* CQDB_TWOWAY or CQDB_ONEWAY, as the image's flag word */
+    uint32_t entries;     /* the number of entries */
+    uint32_t back;        /* the back size: the largest id plus 1; 0 in a one-way image */
+    uint64_t length;      /* the buffer's length */
+    uint64_t end;         /* the end of the entries, which begin at 2,072 */
+    uint32_t counts[256]; /* the number of entries of each table */
+} cqdb_writer;
+
+#define CQDB_TWOWAY 0u
+#define CQDB_ONEWAY 1u
+
+/* The writer without its counts, by value, and what the parts of the calls answer. They are what the archive exports:
+   cqdb_begin, cqdb_put and cqdb_close below call them, and programs in other languages may. The counts are lent apart and
+   changed in place. */
+typedef struct {
+    uint32_t mode;
+    uint32_t entries;
+    uint32_t back;
+    uint64_t length;
+    uint64_t end;
+} cqdb_record;
+
+/* The fresh record, zeros where refused. */
+typedef struct {
+    uint32_t refusal;
+    cqdb_record record;
+} cqdb_begin_answer;
+
+/* The record to go on with: the one that was lent where refused. */
+typedef struct {
+    uint32_t refusal;
+    cqdb_record record;
+} cqdb_put_answer;
+
+/* size is 0 where refused; the record is always the one that was lent. */
+typedef struct {
+    uint32_t refusal;
+    uint32_t size;
+    cqdb_record record;
+} cqdb_close_parts_answer;
+
+cqdb_begin_answer cqdb_begin_parts(uint32_t mode, uint32_t *counts, const uint8_t *buf, size_t len);
+cqdb_put_answer cqdb_put_parts(cqdb_record record, uint32_t *counts, uint8_t *buf, size_t len,
+                               const uint8_t *name, size_t name_len, uint32_t id);
+cqdb_close_parts_answer cqdb_close_parts(cqdb_record record, const uint32_t *counts, uint8_t *buf, size_t len);
+
+/* refusal is 0 when the call was accepted; size, the image's, is 0 when it was refused. */
+typedef struct {
+    uint32_t refusal;
+    uint32_t size;
+} cqdb_close_answer;
+
+static inline cqdb_record cqdb_record_of(const cqdb_writer *w) {
+    cqdb_record r = {w->mode, w->entries, w->back, w->length, w->end};
+    return r;
+}
+
+static inline void cqdb_keep(cqdb_writer *w, cqdb_record r) {
+    w->mode = r.mode;
+    w->entries = r.entries;
+    w->back = r.back;
+    w->length = r.length;
+    w->end = r.end;
+}
+
+/* Makes *w, whatever it held, a fresh writer for the buffer: mode, the buffer's length, end 2,072, otherwise zeros. Reads
+   and changes no byte of the buffer. Gives 0; 2 when the mode is neither 0 nor 1; 1 when the buffer is under 2,072 bytes. */
+static inline uint32_t cqdb_begin(cqdb_writer *w, uint32_t mode, const uint8_t *buf, size_t len) {
+    cqdb_begin_answer a = cqdb_begin_parts(mode, w->counts, buf, len);
+    if (a.refusal == 0) {
+        cqdb_keep(w, a.record);
+    }
+    return a.refusal;
+}
+
+/* Appends an entry of name_len + 9 bytes at w->end, and changes no other byte of the buffer; raises the writer's numbers.
+   Gives 0; 2 when the writer does not fit the buffer; 3 when the finished size exceeds the buffer or 4,294,967,295. The
+   finished size is, after this put, end + 16 x entries + 4 x back (0 for back in one-way mode). */
+static inline uint32_t cqdb_put(cqdb_writer *w, uint8_t *buf, size_t len, const uint8_t *name, size_t name_len, uint32_t id) {
+    cqdb_put_answer a = cqdb_put_parts(cqdb_record_of(w), w->counts, buf, len, name, name_len, id);
+    cqdb_keep(w, a.record);
+    return a.refusal;
+}
+
+/* Writes head, tables and back array: the buffer's first `size` bytes are then the image. Entries, and bytes from size on,
+   keep their content, and the writer stays as it is: puts and closes may follow. Refusals: 2 when the writer does not fit
+   the buffer; 4 when the bytes from 2,072 to end are not the writer's number of whole entries with its counts and back
+   size, or the finished size exceeds the buffer or 4,294,967,295. */
+static inline cqdb_close_answer cqdb_close(const cqdb_writer *w, uint8_t *buf, size_t len) {
+    cqdb_close_parts_answer a = cqdb_close_parts(cqdb_record_of(w), w->counts, buf, len);
+    cqdb_close_answer c = {a.refusal, a.size};
+    return c;
+}
 
 #ifdef __cplusplus
 }

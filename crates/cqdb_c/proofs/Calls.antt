@@ -1,0 +1,134 @@
+-- The writing calls as C has them: a mode above 1 changes nothing; with a mode of 01's, what the writer's calls promise. Assumes nothing.
+use Prim.Native.Nat.{ℕ, _<_, _≤_}
+use mathlib.Core.Path.{_≡_, refl, sym, ap, _∙_}
+use mathlib.Core.Bool.{Bool, true, false, cond}
+use mathlib.Core.List.{List}
+use lib.Dec.{eqb, leb}
+use native.Mathlib.Omega.{arith}
+use borrow.Author.Tests.{le-leb, lt-leb, leb-true, eqb-true, eqb-false, ne-eqb}
+use Rattle.image.specs.Record.{Entry, flagWord}
+use Rattle.image.specs.declared.Flag.{Flag}
+use Rattle.image.specs.declared.Flag.the-variants.{None, Oneway}
+use Rattle.writer.specs.declared.CQDBWriter.{CQDBWriter}
+use Rattle.writer.specs.State.{State, lent, Beginning, beginning, begun, countsBegun}
+use Rattle.writer.specs.State as state
+use Rattle.writer.specs.Put.{putRefusal, appended, afterPut}
+use Rattle.writer.specs.Close.{Closing, size, refusal, closing, closeRefusal, closedSize, closed, afterClose}
+use Rattle.cqdb_c.specs.declared.record.Record.{Record}
+use Rattle.cqdb_c.specs.declared.writing.BeginAnswer.{BeginAnswer}
+use Rattle.cqdb_c.specs.Record.{known, flagOf, writerOf, recordOf, Held, held, stateOf, heldOf}
+use Rattle.cqdb_c.specs.Writing.{notBegun, begunAnswer, beginAnswer, countsLeft, putNumber, leftByPut, closingHeld, refusalIn, sizeIn, leftByClose}
+
+-- begin with a mode above 1
+pub begin-unknown : (mode n : ℕ) (counts : List ℕ) → 1 < mode → (notBegun 2 ≡ beginAnswer mode n) × (counts ≡ countsLeft mode n counts)
+unfolding beginAnswer countsLeft
+begin-unknown mode n counts over = rw (lt-leb mode 1 over) (refl, refl)
+
+-- begin with a mode of 01's: b is what the writer's begin answers, and after the counts that it leaves
+pub begin-known : (mode n : ℕ) (counts after : List ℕ) (flag : Flag) (b : Beginning) →
+    mode ≤ 1 → flag ≡ flagOf mode → b ≡ beginning flag n → after ≡ countsBegun n counts →
+    (begunAnswer b ≡ beginAnswer mode n) × (after ≡ countsLeft mode n counts)
+unfolding beginAnswer countsLeft
+begin-known mode n counts after flag b fine f e left =
+    rw (le-leb mode 1 fine) (ap begunAnswer (e ∙ ap (λ (g : Flag). beginning g n) f), left)
+
+-- put with a mode above 1
+pub put-unknown : (h : Held) (e : Entry) → 1 < h .writer .mode → (2 ≡ putNumber h e) × (h ≡ leftByPut h e)
+unfolding putNumber leftByPut
+put-unknown h e over = rw (lt-leb (h .writer .mode) 1 over) (refl, refl)
+
+-- put with a mode of 01's: the writer's record v goes in, w' comes back
+pub put-known : (h : Held) (e : Entry) (v w' : CQDBWriter) (r : Record) (counts buffer : List ℕ) (n k : ℕ) →
+    h .writer .mode ≤ 1 → v ≡ writerOf (h .writer) →
+    n ≡ putRefusal (lent v (h .counts) (h .buffer)) e →
+    lent w' counts buffer ≡ afterPut (lent v (h .counts) (h .buffer)) e →
+    k ≡ n → r ≡ recordOf w' →
+    (k ≡ putNumber h e) × (held r counts buffer ≡ leftByPut h e)
+unfolding putNumber leftByPut
+put-known h e v w' r counts buffer n k fine is answer leaves number back =
+    let same : lent v (h .counts) (h .buffer) ≡ stateOf h = ap (λ (w : CQDBWriter). lent w (h .counts) (h .buffer)) is in
+    rw (le-leb (h .writer .mode) 1 fine) (
+      number ∙ answer ∙ ap (λ (s : State). putRefusal s e) same,
+      ap (λ (x : Record). held x counts buffer) back ∙ ap heldOf (leaves ∙ ap (λ (s : State). afterPut s e) same),
+    )
+
+-- close with a mode above 1
+pub close-unknown : (h : Held) → 1 < h .writer .mode →
+    ((2 ≡ refusalIn (closingHeld h)) × (0 ≡ sizeIn (closingHeld h))) × (h ≡ leftByClose h)
+unfolding closingHeld leftByClose
+close-unknown h over = rw (lt-leb (h .writer .mode) 1 over) ((refl, refl), refl)
+
+-- close with a mode of 01's: the writer's record v goes in, w' comes back, and d is what the writer's close answers
+pub close-known : (h : Held) (v w' : CQDBWriter) (r : Record) (buffer : List ℕ) (d : Closing) (k n : ℕ) →
+    h .writer .mode ≤ 1 → v ≡ writerOf (h .writer) →
+    d ≡ closing (lent v (h .counts) (h .buffer)) →
+    lent w' (h .counts) buffer ≡ afterClose (lent v (h .counts) (h .buffer)) →
+    k ≡ refusalIn d → n ≡ sizeIn d → r ≡ recordOf w' →
+    ((k ≡ refusalIn (closingHeld h)) × (n ≡ sizeIn (closingHeld h))) × (held r (h .counts) buffer ≡ leftByClose h)
+unfolding closingHeld leftByClose
+close-known h v w' r buffer d k n fine is answer leaves number told back =
+    let same : lent v (h .counts) (h .buffer) ≡ stateOf h = ap (λ (w : CQDBWriter). lent w (h .counts) (h .buffer)) is in
+    let d-is : d ≡ closing (stateOf h) = answer ∙ ap closing same in
+    rw (le-leb (h .writer .mode) 1 fine) (
+      (number ∙ ap refusalIn d-is, told ∙ ap sizeIn d-is),
+      ap (λ (x : Record). held x (h .counts) buffer) back ∙ ap heldOf (leaves ∙ ap afterClose same),
+    )
+
+-- a mode of 01's is that of its flag
+mode-of-flag : (mode : ℕ) → mode ≤ 1 → flagWord (flagOf mode) ≡ mode
+mode-of-flag mode fine = go (eqb mode 0) refl
+  where
+    go : (t : Bool) → eqb mode 0 ≡ t → flagWord (cond t None Oneway) ≡ mode
+    go true e = sym (eqb-true mode 0 e)
+    go false e = omega (arith, eqb-false mode 0 e)
+
+-- C's record and 01's stand for each other, so that a refused call hands back the very record
+pub back-and-forth : (h : Held) → h .writer .mode ≤ 1 → heldOf (stateOf h) ≡ h
+back-and-forth h fine =
+    ap
+    (λ (m : ℕ).
+    held
+    (record { mode = m; entries = h .writer .entries; back = h .writer .back; length = h .writer .length; end = h .writer .end })
+    (h .counts)
+    (h .buffer))
+    (mode-of-flag (h .writer .mode) fine)
+
+-- no refusal changes the record, the counts or a byte: put
+pub put-refused : (h : Held) (e : Entry) → (putNumber h e ≡ 0 → ⊥) → leftByPut h e ≡ h
+unfolding putNumber leftByPut afterPut
+put-refused h e = go (leb (h .writer .mode) 1) refl
+  where
+    go : (t : Bool) → leb (h .writer .mode) 1 ≡ t → (cond t (putRefusal (stateOf h) e) 2 ≡ 0 → ⊥) → cond t (heldOf (afterPut (stateOf h) e)) h ≡ h
+    go true fine refused =
+        ap (λ (b : Bool). heldOf (cond b (appended (stateOf h) e) (stateOf h))) (ne-eqb (putRefusal (stateOf h) e) 0 refused)
+        ∙ back-and-forth h (leb-true (h .writer .mode) 1 fine)
+    go false over refused = refl
+
+-- and close
+pub close-refused : (h : Held) → (refusalIn (closingHeld h) ≡ 0 → ⊥) → leftByClose h ≡ h
+unfolding closingHeld leftByClose closing afterClose
+close-refused h = go (leb (h .writer .mode) 1) refl
+  where
+    go : (t : Bool) → leb (h .writer .mode) 1 ≡ t → (refusalIn (cond t (closing (stateOf h)) (refusal 2)) ≡ 0 → ⊥) → cond t (heldOf (afterClose (stateOf h))) h ≡ h
+    go true fine refused = by (eqb (closeRefusal (stateOf h)) 0) refused ∙ back-and-forth h (leb-true (h .writer .mode) 1 fine)
+      where
+        by : (b : Bool) → (refusalIn (cond b (size (closedSize (stateOf h))) (refusal (closeRefusal (stateOf h)))) ≡ 0 → ⊥) →
+            heldOf (cond b (closed (stateOf h)) (stateOf h)) ≡ heldOf (stateOf h)
+        by true never = absurd (never refl)
+        by false never = refl
+    go false over refused = refl
+
+-- close hands back the record that it was lent, and the counts
+pub close-keeps : (h : Held) → (leftByClose h .writer ≡ h .writer) × (leftByClose h .counts ≡ h .counts)
+unfolding leftByClose afterClose closed
+close-keeps h = go (leb (h .writer .mode) 1) refl
+  where
+    kept : h .writer .mode ≤ 1 → (b : Bool) →
+        (heldOf (cond b (closed (stateOf h)) (stateOf h)) .writer ≡ h .writer) × (heldOf (cond b (closed (stateOf h)) (stateOf h)) .counts ≡ h .counts)
+    kept fine true = (ap (λ (x : Held). x .writer) (back-and-forth h fine), refl)
+    kept fine false = (ap (λ (x : Held). x .writer) (back-and-forth h fine), refl)
+
+    go : (t : Bool) → leb (h .writer .mode) 1 ≡ t →
+        (cond t (heldOf (afterClose (stateOf h))) h .writer ≡ h .writer) × (cond t (heldOf (afterClose (stateOf h))) h .counts ≡ h .counts)
+    go true fine = kept (leb-true (h .writer .mode) 1 fine) (eqb (closeRefusal (stateOf h)) 0)
+    go false over = (refl, refl)

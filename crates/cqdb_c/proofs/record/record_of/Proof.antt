@@ -1,0 +1,20 @@
+-- `cqdb_c::record::record_of` meets its contract. Assumes nothing.
+use Prim.Native.Nat.{ℕ}
+use mathlib.Core.Path.{ap}
+use Rattle.cqdb_c.specs.declared.record.Record.{Record}
+use borrow.Author.Needs.{needs}
+use Rattle.cqdb_c.proofs.record.record_of.Statement.{statement}
+use Rattle.cqdb_c.proofs.record.record_of.Tie as tie
+
+mode-of-requires : tie.Need-mode-of-requires
+mode-of-requires c κs = search needs
+
+returns : tie.Need-returns
+returns c =
+    let w = c .before .args .w in
+    ap {B = Record}
+    (λ (m : ℕ). record { mode = m; entries = w .entries; back = w .back; length = w .capacity; end = w .end })
+    (c .mode-of .ensures)
+
+pub record-of-spec : {M : Type 1} → statement M
+record-of-spec = tie.close (tie.spec mode-of-requires returns)

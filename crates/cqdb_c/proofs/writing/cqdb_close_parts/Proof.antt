@@ -1,0 +1,52 @@
+-- `cqdb_c::writing::cqdb_close_parts` meets its contract: what `close` promises, put into the struct. Assumes nothing.
+use Rattle.writer.specs.Close.{closedOf}
+use Rattle.cqdb_c.specs.Record.{held}
+use Rattle.cqdb_c.proofs.Calls.{close-unknown, close-known}
+use borrow.Author.Needs.{needs}
+use Rattle.cqdb_c.proofs.writing.cqdb_close_parts.Statement.{statement}
+use Rattle.cqdb_c.proofs.writing.cqdb_close_parts.Tie as tie
+
+returns : tie.Need-returns
+returns c =
+    let a = c .before .before .before .args in
+    close-unknown (held (a .w) (a .counts .now) (a .buf .now)) (c .if1 .taken)
+
+writer-of-requires : tie.Need-writer-of-requires
+writer-of-requires c κs = search needs
+
+close-requires : tie.Need-close-requires
+close-requires c κs = search needs
+
+close-number-requires : tie.Need-close-number-requires
+close-number-requires c κs = search needs
+
+close-size-requires : tie.Need-close-size-requires
+close-size-requires c κs = search needs
+
+record-of-requires : tie.Need-record-of-requires
+record-of-requires c κs = search needs
+
+same-length : tie.Need-same-length
+same-length c = search needs
+
+returns-2 : tie.Need-returns-2
+returns-2 c =
+    let a = c .before .before .before .before .before .before .before .before .before .before .before .before .args in
+    let of-close = c .before .before .before .before .before .before .close in
+    let of-writer-of = c .before .before .before .before .before .before .before .before .writer-of in
+    close-known (held (a .w) (a .counts .now) (a .buf .now)) (of-writer-of .result) (of-close .result .writer) (c .record-of .result)
+    (of-close .last .1 .1 .0) (closedOf (of-close .result .answer)) (c .before .before .close-number .result) (c .before .close-size .result)
+    (c .before .before .before .before .before .before .before .before .before .if1 .left) (of-writer-of .ensures) (of-close .ensures .0) (of-close .ensures .1) (c .before .before .close-number .ensures) (c .before .close-size .ensures) (c .record-of .ensures)
+
+pub cqdb-close-parts-spec : {M : Type 1} → statement M
+cqdb-close-parts-spec =
+    tie.close
+    (tie.spec
+    returns
+    writer-of-requires
+    close-requires
+    close-number-requires
+    close-size-requires
+    record-of-requires
+    same-length
+    returns-2)

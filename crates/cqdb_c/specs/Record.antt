@@ -1,0 +1,55 @@
+-- The writer record as C has it: 01, "The writer record". Assumes nothing.
+use Prim.Native.Nat.{ℕ}
+use mathlib.Core.Bool.{Bool, cond}
+use mathlib.Core.List.{List}
+use lib.Dec.{eqb, leb}
+use Rattle.image.specs.Record.{flagWord}
+use Rattle.image.specs.declared.Flag.{Flag}
+use Rattle.image.specs.declared.Flag.the-variants.{None, Oneway}
+use Rattle.writer.specs.declared.CQDBWriter.{CQDBWriter}
+use Rattle.writer.specs.State.{State, lent}
+use Rattle.cqdb_c.specs.declared.record.Record.{Record}
+
+-- a mode is 0, two-way, or 1, one-way, as the flag word; a record with another number is none of 01's
+abbrev pub known : ℕ → Bool
+known mode = leb mode 1
+
+abbrev pub flagOf : ℕ → Flag
+flagOf mode = cond (eqb mode 0) None Oneway
+
+-- the writer record that C's stands for, and the other way round
+abbrev pub writerOf : Record → CQDBWriter
+writerOf r =
+    record {
+      flag = flagOf (r .mode);
+      capacity = r .length;
+      end = r .end;
+      entries = r .entries;
+      back = r .back;
+    }
+
+abbrev pub recordOf : CQDBWriter → Record
+recordOf w =
+    record {
+      mode = flagWord (w .flag);
+      entries = w .entries;
+      back = w .back;
+      length = w .capacity;
+      end = w .end;
+    }
+
+-- what a call is lent, as C has it: the record, its 256 table counts and the buffer
+pub record Held : Type 0 where
+  pub writer : Record
+  pub counts : List ℕ
+  pub buffer : List ℕ
+
+abbrev pub held : Record → List ℕ → List ℕ → Held
+held w counts buffer = record { writer = w; counts = counts; buffer = buffer }
+
+-- the state of 01's rules that it stands for, and the other way round
+abbrev pub stateOf : Held → State
+stateOf h = lent (writerOf (h .writer)) (h .counts) (h .buffer)
+
+abbrev pub heldOf : State → Held
+heldOf s = held (recordOf (s .writer)) (s .counts) (s .buffer)

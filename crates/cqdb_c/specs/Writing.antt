@@ -1,0 +1,51 @@
+-- The exported writing calls: each rule's answer as numbers, and what it leaves. A record with a mode that is neither 0 nor 1 fits no buffer:
+-- refusal 2, and nothing changes. Assumes nothing.
+use Prim.Native.Nat.{ℕ}
+use mathlib.Core.Bool.{cond}
+use mathlib.Core.List.{List}
+use Rattle.image.specs.Record.{Entry}
+use Rattle.writer.specs.State.{Beginning, begun, beginning, countsBegun}
+use Rattle.writer.specs.State as state
+use Rattle.writer.specs.Put.{putRefusal, afterPut}
+use Rattle.writer.specs.Close.{Closing, size, refusal, closing, afterClose}
+use Rattle.cqdb_c.specs.declared.writing.BeginAnswer.{BeginAnswer}
+use Rattle.cqdb_c.specs.Record.{known, flagOf, recordOf, Held, stateOf, heldOf}
+
+-- a refused begin has the refusal's number, and zeros for the record
+abbrev pub notBegun : ℕ → BeginAnswer
+notBegun k = record { refusal = k; writer = record { mode = 0; entries = 0; back = 0; length = 0; end = 0 } }
+
+-- a begin is accepted, 0, and the fresh record stands beside it
+abbrev pub begunAnswer : Beginning → BeginAnswer
+begunAnswer (begun w) = record { refusal = 0; writer = recordOf w }
+begunAnswer (state.refusal k) = notBegun k
+
+-- the rule of begin, so answered, for a buffer of n bytes
+unfoldable pub beginAnswer : ℕ → ℕ → BeginAnswer
+beginAnswer mode n = cond (known mode) (begunAnswer (beginning (flagOf mode) n)) (notBegun 2)
+
+-- the counts that begin leaves
+unfoldable pub countsLeft : ℕ → ℕ → List ℕ → List ℕ
+countsLeft mode n counts = cond (known mode) (countsBegun n counts) counts
+
+-- the rule of put: the refusal's number, 0 when accepted; and what put leaves
+unfoldable pub putNumber : Held → Entry → ℕ
+putNumber h e = cond (known (h .writer .mode)) (putRefusal (stateOf h) e) 2
+
+unfoldable pub leftByPut : Held → Entry → Held
+leftByPut h e = cond (known (h .writer .mode)) (heldOf (afterPut (stateOf h) e)) h
+
+-- the rule of close: the image's size or the refusal's number, each 0 where it is the other; and what close leaves
+unfoldable pub closingHeld : Held → Closing
+closingHeld h = cond (known (h .writer .mode)) (closing (stateOf h)) (refusal 2)
+
+abbrev pub refusalIn : Closing → ℕ
+refusalIn (size n) = 0
+refusalIn (refusal k) = k
+
+abbrev pub sizeIn : Closing → ℕ
+sizeIn (size n) = n
+sizeIn (refusal k) = 0
+
+unfoldable pub leftByClose : Held → Held
+leftByClose h = cond (known (h .writer .mode)) (heldOf (afterClose (stateOf h))) h

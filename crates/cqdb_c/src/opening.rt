@@ -1,0 +1,27 @@
+// Opening an image, for C.
+use reader::Opened;
+ghost use mathlib.Core.Path.{_≡_};
+ghost use Rattle.cqdb_c.specs.Reading.{openAnswer};
+
+// The refusal's number, 0 when accepted; the number of associations, 0 when refused.
+#[repr(C)]
+pub struct OpenAnswer {
+    pub refusal: u32,
+    pub num: u32,
+}
+
+// The number of associations of an image, or refusal 1, 5, 6, 7 or 8.
+#[no_mangle]
+pub extern "C" fn cqdb_open(image: &[u8]) -> OpenAnswer
+    ensures { λ r. ⌜ r ≡ openAnswer (now (image .entry)) ⌝ }
+{
+    let opened = reader::open(image);
+    match opened {
+        Opened::Num(n) => OpenAnswer { refusal: 0, num: n },
+        Opened::TooShort => OpenAnswer { refusal: 1, num: 0 },
+        Opened::WrongLetters => OpenAnswer { refusal: 5, num: 0 },
+        Opened::WrongByteOrder => OpenAnswer { refusal: 6, num: 0 },
+        Opened::TableLeaves => OpenAnswer { refusal: 7, num: 0 },
+        Opened::BackLeaves => OpenAnswer { refusal: 8, num: 0 },
+    }
+}

@@ -1,0 +1,155 @@
+// Writing, for C: the record goes in and comes back by value, the 256 table counts and the buffer are lent. A record whose
+// mode is neither 0 nor 1 is none of 01's and fits no buffer.
+use super::record::Record;
+use super::record::flag_of;
+use super::record::record_of;
+use super::record::writer_of;
+use writer::Begun;
+use writer::Closed;
+use writer::Stored;
+ghost use mathlib.Core.Path.{_≡_};
+ghost use lib.ListN.{length};
+ghost use Rattle.writer.specs.Put.{entryOf, storedOf};
+ghost use Rattle.writer.specs.Close.{closedOf};
+ghost use Rattle.cqdb_c.specs.Record.{held};
+ghost use Rattle.cqdb_c.specs.Writing.{notBegun, beginAnswer, countsLeft, putNumber, leftByPut, closingHeld, refusalIn, sizeIn, leftByClose};
+
+// The refusal's number, 0 when accepted; the fresh record, all zeros when refused.
+#[repr(C)]
+pub struct BeginAnswer {
+    pub refusal: u32,
+    pub writer: Record,
+}
+
+// The refusal's number, 0 when accepted; the record to go on with.
+#[repr(C)]
+pub struct PutAnswer {
+    pub refusal: u32,
+    pub writer: Record,
+}
+
+// The refusal's number, 0 when accepted; the image's size, 0 when refused; the record to go on with.
+#[repr(C)]
+pub struct CloseAnswer {
+    pub refusal: u32,
+    pub size: u32,
+    pub writer: Record,
+}
+
+// A begin that is refused with a number.
+fn not_begun(refusal: u32) -> BeginAnswer
+    ensures { λ r. ⌜ r ≡ notBegun refusal ⌝ }
+{
+    BeginAnswer {
+        refusal,
+        writer: Record {
+            mode: 0,
+            entries: 0,
+            back: 0,
+            length: 0,
+            end: 0,
+        },
+    }
+}
+
+// A fresh record for a buffer, whose counts are made 0; or refusal 1, or 2 for a mode that is neither 0 nor 1.
+#[no_mangle]
+pub extern "C" fn cqdb_begin_parts(mode: u32, counts: &mut [u32; 256], buf: &[u8]) -> BeginAnswer
+    ensures answer { λ r. ⌜ r ≡ beginAnswer mode (length (now (buf .entry))) ⌝ }
+    ensures counts { λ r. ⌜ now (counts .exit) ≡ countsLeft mode (length (now (buf .entry))) (now (counts .entry)) ⌝ }
+{
+    if 1 < mode {
+        return not_begun(2);
+    }
+    let begun = writer::begin(flag_of(mode), &mut *counts, buf);
+    match begun {
+        Begun::Fresh(w) => BeginAnswer {
+            refusal: 0,
+            writer: record_of(w),
+        },
+        Begun::TooShort => not_begun(1),
+    }
+}
+
+// The number of put's answer.
+fn put_number(answer: Stored) -> u32
+    ensures { λ r. ⌜ r ≡ storedOf answer ⌝ }
+{
+    match answer {
+        Stored::Accepted => 0,
+        Stored::Misfit => 2,
+        Stored::NoRoom => 3,
+    }
+}
+
+// Appends an entry and raises the counts; or refusal 2 or 3.
+#[no_mangle]
+pub extern "C" fn cqdb_put_parts(
+    w: Record,
+    counts: &mut [u32; 256],
+    buf: &mut [u8],
+    name: &[u8],
+    id: u32,
+) -> PutAnswer
+    ensures answer { λ r. ⌜ r .refusal ≡ putNumber (held w (now (counts .entry)) (now (buf .entry))) (entryOf (now (name .entry)) id) ⌝ }
+    ensures leaves { λ r. ⌜ held (r .writer) (now (counts .exit)) (now (buf .exit)) ≡ leftByPut (held w (now (counts .entry)) (now (buf .entry))) (entryOf (now (name .entry)) id) ⌝ }
+{
+    if 1 < w.mode {
+        return PutAnswer {
+            refusal: 2,
+            writer: w,
+        };
+    }
+    let done = writer::put(writer_of(w), &mut *counts, &mut *buf, name, id);
+    let answer = done.answer;
+    let after = done.writer;
+    PutAnswer {
+        refusal: put_number(answer),
+        writer: record_of(after),
+    }
+}
+
+// The number of close's refusal.
+fn close_number(answer: Closed) -> u32
+    ensures { λ r. ⌜ r ≡ refusalIn (closedOf answer) ⌝ }
+{
+    match answer {
+        Closed::Size(_) => 0,
+        Closed::Unfit => 2,
+        Closed::Inconsistent => 4,
+    }
+}
+
+// The size that close gives.
+fn close_size(answer: Closed) -> u32
+    ensures { λ r. ⌜ r ≡ sizeIn (closedOf answer) ⌝ }
+{
+    match answer {
+        Closed::Size(n) => n,
+        Closed::Unfit => 0,
+        Closed::Inconsistent => 0,
+    }
+}
+
+// Writes head, tables and back array, and gives the image's size; or refusal 2 or 4.
+#[no_mangle]
+pub extern "C" fn cqdb_close_parts(w: Record, counts: &[u32; 256], buf: &mut [u8]) -> CloseAnswer
+    ensures answer { λ r. ⌜ (r .refusal ≡ refusalIn (closingHeld (held w (now (counts .entry)) (now (buf .entry))))) × (r .size ≡ sizeIn (closingHeld (held w (now (counts .entry)) (now (buf .entry))))) ⌝ }
+    ensures leaves { λ r. ⌜ held (r .writer) (now (counts .entry)) (now (buf .exit)) ≡ leftByClose (held w (now (counts .entry)) (now (buf .entry))) ⌝ }
+{
+    if 1 < w.mode {
+        return CloseAnswer {
+            refusal: 2,
+            size: 0,
+            writer: w,
+        };
+    }
+    let done = writer::close(writer_of(w), counts, &mut *buf);
+    let answer = done.answer;
+    let after = done.writer;
+    CloseAnswer {
+        refusal: close_number(answer),
+        size: close_size(answer),
+        writer: record_of(after),
+    }
+}
