@@ -51,7 +51,8 @@ impl Run {
                 Some(State { record, counts, buf })
             }
             Err(refusal) => {
-                self.tally.rule(answer.refusal, refusal, what);
+                let record = Record { mode: 0, entries: 0, back: 0, length: 0, end: 0 };
+                self.tally.rule(answer, WriterAnswer { refusal, record }, what);
                 self.tally.rule(counts, before, what);
                 None
             }
