@@ -1,6 +1,8 @@
 // The exported functions of the archive, declared as include/cqdb.h has them, each behind a safe function.
 #![allow(dead_code)]
 
+pub type Counts = [u32; 256];
+
 #[repr(C)]
 #[derive(Clone, Copy, Debug, PartialEq, Eq)]
 pub struct HashAnswer {
@@ -8,12 +10,130 @@ pub struct HashAnswer {
     pub hash: u32,
 }
 
+#[repr(C)]
+#[derive(Clone, Copy, Debug, PartialEq, Eq)]
+pub struct OpenAnswer {
+    pub refusal: u32,
+    pub num: u32,
+}
+
+#[repr(C)]
+#[derive(Clone, Copy, Debug, PartialEq, Eq)]
+pub struct IdAnswer {
+    pub found: u32,
+    pub id: u32,
+    pub buckets: u32,
+}
+
+#[repr(C)]
+#[derive(Clone, Copy, Debug, PartialEq, Eq)]
+pub struct StrAnswer {
+    pub found: u64,
+    pub start: u64,
+    pub len: u64,
+}
+
+// The writer record, but for the 256 table counts, which are lent beside it.
+#[repr(C)]
+#[derive(Clone, Copy, Debug, PartialEq, Eq)]
+pub struct Record {
+    pub mode: u32,
+    pub entries: u32,
+    pub back: u32,
+    pub length: u64,
+    pub end: u64,
+}
+
+#[repr(C)]
+#[derive(Clone, Copy, Debug, PartialEq, Eq)]
+pub struct WriterAnswer {
+    pub refusal: u32,
+    pub record: Record,
+}
+
+#[repr(C)]
+#[derive(Clone, Copy, Debug, PartialEq, Eq)]
+pub struct CloseAnswer {
+    pub refusal: u32,
+    pub size: u32,
+    pub record: Record,
+}
+
 extern "C" {
     fn cqdb_hash(name: *const u8, len: usize, start: u32) -> HashAnswer;
+    fn cqdb_open(image: *const u8, len: usize) -> OpenAnswer;
+    fn cqdb_to_id(image: *const u8, len: usize, name: *const u8, name_len: usize) -> IdAnswer;
+    fn cqdb_to_str(image: *const u8, len: usize, id: u32) -> StrAnswer;
+    fn cqdb_size_hint(image: *const u8, len: usize, next: u32) -> u32;
+    fn cqdb_home(image: *const u8, len: usize, id: u32) -> u32;
+    fn cqdb_begin_parts(mode: u32, counts: *mut u32, buf: *const u8, len: usize) -> WriterAnswer;
+    fn cqdb_put_parts(
+        record: Record,
+        counts: *mut u32,
+        buf: *mut u8,
+        len: usize,
+        name: *const u8,
+        name_len: usize,
+        id: u32,
+    ) -> WriterAnswer;
+    fn cqdb_close_parts(record: Record, counts: *const u32, buf: *mut u8, len: usize) -> CloseAnswer;
 }
+
+// In all of them each slice is valid for its length, and the functions write only to what is lent as `&mut`.
 
 /// The hash of a name with a start value, or its refusal.
 pub fn hash(name: &[u8], start: u32) -> HashAnswer {
-    // The slice is valid for `len` bytes, and the function only reads them.
     unsafe { cqdb_hash(name.as_ptr(), name.len(), start) }
+}
+
+/// num, or the refusal.
+pub fn open(image: &[u8]) -> OpenAnswer {
+    unsafe { cqdb_open(image.as_ptr(), image.len()) }
+}
+
+/// The id of a name, or nothing, with the buckets read.
+pub fn to_id(image: &[u8], name: &[u8]) -> IdAnswer {
+    unsafe { cqdb_to_id(image.as_ptr(), image.len(), name.as_ptr(), name.len()) }
+}
+
+/// The place of an id's name, or nothing.
+pub fn to_str(image: &[u8], id: u32) -> StrAnswer {
+    unsafe { cqdb_to_str(image.as_ptr(), image.len(), id) }
+}
+
+/// The upper hint of a walk that stands before the id `next`.
+pub fn size_hint(image: &[u8], next: u32) -> u32 {
+    unsafe { cqdb_size_hint(image.as_ptr(), image.len(), next) }
+}
+
+/// Whether an id is home, as 0 or 1.
+pub fn home(image: &[u8], id: u32) -> u32 {
+    unsafe { cqdb_home(image.as_ptr(), image.len(), id) }
+}
+
+/// A fresh record, or the refusal.
+pub fn begin(mode: u32, counts: &mut Counts, buf: &[u8]) -> WriterAnswer {
+    unsafe { cqdb_begin_parts(mode, counts.as_mut_ptr(), buf.as_ptr(), buf.len()) }
+}
+
+/// One put.
+pub fn put(record: Record, counts: &mut Counts, buf: &mut [u8], name: &[u8], id: u32) -> WriterAnswer {
+    unsafe { cqdb_put_parts(record, counts.as_mut_ptr(), buf.as_mut_ptr(), buf.len(), name.as_ptr(), name.len(), id) }
+}
+
+/// One close.
+pub fn close(record: Record, counts: &Counts, buf: &mut [u8]) -> CloseAnswer {
+    unsafe { cqdb_close_parts(record, counts.as_ptr(), buf.as_mut_ptr(), buf.len()) }
+}
+
+/// The id that a lookup found.
+pub fn found_id(image: &[u8], name: &[u8]) -> Option<u32> {
+    let answer = to_id(image, name);
+    (answer.found == 1).then_some(answer.id)
+}
+
+/// The name that an id has.
+pub fn named(image: &[u8], id: u32) -> Option<&[u8]> {
+    let answer = to_str(image, id);
+    (answer.found == 1).then(|| &image[answer.start as usize..][..answer.len as usize])
 }

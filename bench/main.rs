@@ -1,0 +1,23 @@
+// The benchmarks: ours against the Rust's release build, in one run and one table. Each time is the best of several repetitions,
+// in which the two take turns.   main [hash | reading | building]
+mod building;
+mod hash;
+#[path = "../tests/compare/ours.rs"]
+mod ours;
+mod reading;
+mod table;
+
+fn main() {
+    let part = std::env::args().nth(1);
+    let wanted = |name: &str| part.as_deref().is_none_or(|part| part == name);
+    table::head();
+    if wanted("hash") {
+        hash::run();
+    }
+    if wanted("reading") {
+        reading::run();
+    }
+    if wanted("building") {
+        building::run();
+    }
+}

@@ -1,0 +1,166 @@
+// Hostile calls, to be run under valgrind: damaged images, random bytes, records that do not fit and broken buffers. Every byte
+// string stands in a heap block of exactly its length, so that a read or write beside it is reported. A refusal changes no byte,
+// reading changes none, and every place that is answered lies in the image.   hostile [CALLS | too-much]
+mod damage;
+mod names;
+mod original;
+mod ours;
+mod rules;
+mod seed;
+mod spoil;
+mod tally;
+mod writing;
+
+use ours::Counts;
+use rules::HEAD;
+use seed::Random;
+use tally::Tally;
+use writing::State;
+
+const CALLS: u64 = 1_000_000;
+
+struct Run {
+    tally: Tally,
+    calls: u64,
+    refused: u64,
+    images: u64,
+    states: u64,
+}
+
+// A heap block of exactly these bytes.
+fn exact(bytes: &[u8]) -> Box<[u8]> {
+    bytes.into()
+}
+
+impl Run {
+    fn read(&mut self, random: &mut Random, image: &[u8], names: &[Box<[u8]>]) {
+        let refusal = ours::open(image).refusal;
+        self.tally.rule([0, 1, 5, 6, 7, 8].contains(&refusal), true, || format!("opening gave {refusal}"));
+        self.refused += u64::from(refusal > 0);
+        for name in names {
+            let answer = ours::to_id(image, name);
+            self.tally.rule(answer.found <= 1, true, || format!("{answer:?}"));
+        }
+        let back = if image.len() < HEAD { 0 } else { rules::back_size(image) as u32 };
+        let ids = [0, 1, back.wrapping_sub(1), back, random.word(), u32::MAX, random.below(20) as u32];
+        for id in ids {
+            let answer = ours::to_str(image, id);
+            self.tally.rule(answer.start + answer.len <= image.len() as u64, true, || format!("{answer:?}"));
+            let home = ours::home(image, id);
+            self.tally.rule(home <= answer.found as u32, true, || format!("home gave {home}"));
+            ours::size_hint(image, id);
+        }
+        self.calls += 1 + names.len() as u64 + 3 * ids.len() as u64;
+    }
+
+    // One image and what is asked of it; afterwards it has the same bytes.
+    fn image(&mut self, random: &mut Random, bytes: &[u8], names: &[Box<[u8]>]) {
+        let image = exact(bytes);
+        self.read(random, &image, names);
+        self.images += 1;
+        self.tally.bytes(&image, bytes, || "an image that was read".into());
+    }
+
+    // A put and a close on one state.
+    fn write(&mut self, random: &mut Random, s: &State) {
+        let mut buf = exact(&s.buf);
+        let mut counts: Box<Counts> = Box::new(s.counts);
+        let name = exact(&names::any(random));
+        let id = random.pick(&[0, 9, s.record.back, 0xffff_fffe, 0xffff_ffff]);
+        let answer = ours::put(s.record, &mut counts, &mut buf, &name, id);
+        if answer.refusal > 0 {
+            self.unchanged((answer.record, &counts, &buf), s, "a refused put");
+        }
+        let after = State { record: answer.record, counts: *counts, buf: buf.to_vec() };
+        let answer = ours::close(after.record, &counts, &mut buf);
+        if answer.refusal > 0 {
+            self.unchanged((answer.record, &counts, &buf), &after, "a refused close");
+        } else {
+            let (size, end) = (answer.size as usize, after.record.end as usize);
+            self.tally.bytes(&buf[HEAD..end], &after.buf[HEAD..end], || "the entries after a close".into());
+            self.tally.bytes(&buf[size..], &after.buf[size..], || "the bytes behind an image".into());
+        }
+        self.calls += 2;
+        self.states += 1;
+    }
+
+    fn unchanged(&mut self, (record, counts, buf): (ours::Record, &Counts, &[u8]), s: &State, what: &str) {
+        self.refused += 1;
+        self.tally.rule(record, s.record, || format!("the record after {what}"));
+        self.tally.rule(*counts == s.counts, true, || format!("the counts after {what}"));
+        self.tally.bytes(buf, &s.buf, || format!("the bytes after {what}"));
+    }
+
+    // A buffer that is too short or a mode that is none; or a state with some puts.
+    fn begin(&mut self, random: &mut Random) -> Option<State> {
+        let length = random.pick(&[0, 1, 2071, 2072, 2073, 2300, 2300, 2600, 2600, 3000]);
+        let mode = random.pick(&[0, 0, 0, 0, 1, 1, 1, 2]);
+        let buf = exact(&random.bytes(length));
+        let mut counts: Box<Counts> = Box::new([random.word(); 256]);
+        let before = counts.clone();
+        let begun = ours::begin(mode, &mut counts, &buf);
+        self.calls += 1;
+        if begun.refusal > 0 {
+            self.refused += 1;
+            self.tally.rule(counts, before, || "the counts after a refused begin".into());
+            return None;
+        }
+        let mut s = State { record: begun.record, counts: *counts, buf: buf.into_vec() };
+        for i in 0..random.below(12) as u32 {
+            let name = names::any(random);
+            s.record = ours::put(s.record, &mut s.counts, &mut s.buf, &name, i + random.below(3) as u32).record;
+            self.calls += 1;
+        }
+        Some(s)
+    }
+}
+
+// One state that calls left: it is closed and read in damaged copies, and spoilt and written on.
+fn round(run: &mut Run, random: &mut Random) {
+    let Some(state) = run.begin(random) else { return };
+    let names: Vec<Box<[u8]>> = match writing::entries(&state) {
+        Some(puts) => puts.iter().take(6).map(|put| exact(&put.0)).chain([exact(&names::any(random)), exact(b"")]).collect(),
+        None => vec![exact(b"")],
+    };
+    let mut closed = state.clone();
+    let size = ours::close(closed.record, &closed.counts, &mut closed.buf).size as usize;
+    for kind in 0..damage::KINDS {
+        let copy = damage::copy(random, &closed.buf[..size], kind);
+        run.image(random, &copy, &names);
+    }
+    let n = random.below(4000);
+    let noise = random.bytes(n);
+    run.image(random, &noise, &names);
+    for _ in 0..60 {
+        let mut odd = if random.once_in(2) { state.clone() } else { closed.clone() };
+        for _ in 0..1 + random.below(3) {
+            spoil::state(random, &mut odd);
+        }
+        run.write(random, &odd);
+    }
+}
+
+// Lends one byte more than its heap block has, which valgrind has to report: so it is seen that it looks.
+fn lend_too_much() {
+    let name = exact(&[7; 40]);
+    let more = unsafe { std::slice::from_raw_parts(name.as_ptr(), 41) };
+    println!("hostile: the hash of one byte too much is {:x}", ours::hash(more, 0).hash);
+}
+
+fn main() {
+    if std::env::args().nth(1).as_deref() == Some("too-much") {
+        return lend_too_much();
+    }
+    let calls = std::env::args().nth(1).map_or(CALLS, |text| text.parse().expect("a number of calls"));
+    let mut random = Random::new();
+    println!("hostile: seed {}", random.seed);
+    let mut run = Run { tally: Tally::default(), calls: 0, refused: 0, images: 0, states: 0 };
+    while run.calls < calls {
+        round(&mut run, &mut random);
+    }
+    println!(
+        "hostile: {} calls on {} images and {} records with their buffers; {} refused; {} of {} checks failed",
+        run.calls, run.images, run.states, run.refused, run.tally.different, run.tally.rule
+    );
+    std::process::exit(i32::from(run.tally.different > 0));
+}

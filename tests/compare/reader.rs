@@ -1,0 +1,165 @@
+// Reading, compared live: images made by the Rust, and damaged copies of them, read by the archive, by the Rust where it ends,
+// and by 01's rules.   reader [COPIES]
+mod damage;
+mod names;
+mod original;
+mod ours;
+mod rules;
+mod seed;
+mod tally;
+
+use cqdb::CQDB;
+use names::Names;
+use original::Put;
+use ours::{IdAnswer, OpenAnswer, StrAnswer};
+use seed::Random;
+use tally::Tally;
+
+const COPIES: usize = 60_060;
+const COPIES_OF_ONE: usize = 3 * damage::KINDS;
+
+struct Run {
+    tally: Tally,
+    // Searches that the Rust never ends.
+    unending: u64,
+    // How often each refusal of opening, and none, was met.
+    refusals: [u64; 9],
+}
+
+// What is asked of an image and of its copies.
+struct Questions {
+    names: Vec<Vec<u8>>,
+    ids: Vec<u32>,
+}
+
+fn questions(names: &Names, random: &mut Random, image: &[u8], puts: &[Put]) -> Questions {
+    let mut asked: Vec<Vec<u8>> = puts.iter().take(10).map(|(name, _)| name.clone()).collect();
+    for (t, _) in damage::tables(image).into_iter().take(5) {
+        asked.push(names.of_table(random, t));
+    }
+    let (a, b) = names.pair(random);
+    asked.extend([a, b, Vec::new(), names::any(random), names::any(random)]);
+    let back = rules::back_size(image) as u32;
+    let mut ids = vec![0, 1, 2, back.wrapping_sub(1), back, back.wrapping_add(1), u32::MAX, random.word()];
+    ids.extend(puts.iter().rev().take(6).map(|put| put.1));
+    Questions { names: asked, ids }
+}
+
+impl Run {
+    fn opening(&mut self, image: &[u8], db: &Result<CQDB, u32>) {
+        let ours = ours::open(image);
+        let theirs = match db {
+            Ok(db) => OpenAnswer { refusal: 0, num: db.num() },
+            Err(n) => OpenAnswer { refusal: *n, num: 0 },
+        };
+        let rule = match rules::open(image) {
+            Ok(num) => OpenAnswer { refusal: 0, num },
+            Err(refusal) => OpenAnswer { refusal, num: 0 },
+        };
+        self.refusals[ours.refusal.min(8) as usize] += 1;
+        self.tally.rust(ours, theirs, || "opening".into());
+        self.tally.rule(ours, rule, || "opening".into());
+    }
+
+    fn lookup(&mut self, image: &[u8], db: Option<&CQDB>, name: &[u8]) {
+        let ours = ours::to_id(image, name);
+        let rule = rules::to_id(image, name);
+        let (found, id) = rule.id.map_or((0, 0), |id| (1, id));
+        let want = IdAnswer { found, id, buckets: rule.buckets };
+        self.tally.rule(ours, want, || format!("lookup of {name:02x?}"));
+        let (Some(db), Ok(text)) = (db, std::str::from_utf8(name)) else { return };
+        if rule.unending {
+            self.unending += 1;
+        } else {
+            let ours = (ours.found == 1).then_some(ours.id);
+            self.tally.rust(ours, db.to_id(text), || format!("lookup of {text:?}"));
+        }
+    }
+
+    fn naming(&mut self, image: &[u8], db: Option<&CQDB>, id: u32) {
+        let ours = ours::to_str(image, id);
+        let want = match rules::to_str(image, id) {
+            Some((start, len)) => StrAnswer { found: 1, start: start as u64, len: len as u64 },
+            None => StrAnswer { found: 0, start: 0, len: 0 },
+        };
+        self.tally.rule(ours, want, || format!("naming {id}"));
+        if let Some(db) = db {
+            let ours = (ours.found == 1).then_some((ours.start as usize, ours.len as usize));
+            self.tally.rust(ours, original::place(db, image, id), || format!("naming {id}"));
+        }
+    }
+
+    // The Rust has no home check: it is asked for the name, and for that name's id.
+    fn home(&mut self, image: &[u8], db: Option<&CQDB>, id: u32) {
+        let ours = ours::home(image, id);
+        self.tally.rule(ours, u32::from(rules::home(image, id)), || format!("home {id}"));
+        let Some(db) = db else { return };
+        let text = match db.to_str(id) {
+            Some(name) => std::str::from_utf8(name).ok().filter(|text| !rules::to_id(image, text.as_bytes()).unending),
+            None => return self.tally.rust(ours, 0, || format!("home {id}")),
+        };
+        if let Some(text) = text {
+            self.tally.rust(ours, u32::from(db.to_id(text) == Some(id)), || format!("home {id}"));
+        }
+    }
+
+    // A walk from id 0 with the hint before each step, to its end and one step more.
+    fn walk(&mut self, image: &[u8], db: Option<&CQDB>) {
+        let mut theirs = db.map(|db| db.iter());
+        for next in 0.. {
+            let hint = ours::size_hint(image, next);
+            let name = ours::named(image, next);
+            self.tally.rule(hint, rules::upper_hint(image, next), || format!("hint before {next}"));
+            if let Some(iter) = &mut theirs {
+                self.tally.rust((0, Some(hint as usize)), iter.size_hint(), || format!("hint before {next}"));
+                let step = iter.next().map(|item| item.expect("an item"));
+                let step = step.map(|(id, name)| (id, original::place_of(image, name)));
+                let ours = name.map(|name| (next, original::place_of(image, name)));
+                self.tally.rust(ours, step, || format!("step {next} of a walk"));
+            }
+            if name.is_none() {
+                let again = theirs.and_then(|mut iter| iter.next());
+                return self.tally.rule(again.is_none(), true, || "a step after the end".into());
+            }
+        }
+    }
+
+    fn image(&mut self, image: &[u8], asked: &Questions) {
+        let db = original::open(image);
+        self.opening(image, &db);
+        let db = db.ok();
+        for name in &asked.names {
+            self.lookup(image, db.as_ref(), name);
+        }
+        for &id in &asked.ids {
+            self.naming(image, db.as_ref(), id);
+            self.home(image, db.as_ref(), id);
+            let hint = rules::upper_hint(image, id);
+            self.tally.rule(ours::size_hint(image, id), hint, || format!("hint before {id}"));
+        }
+        self.walk(image, db.as_ref());
+    }
+}
+
+fn main() {
+    let copies = std::env::args().nth(1).map_or(COPIES, |text| text.parse().expect("a number of copies"));
+    let mut random = Random::new();
+    println!("reader: seed {}", random.seed);
+    let names = Names::new(&mut random);
+    let mut run = Run { tally: Tally::default(), unending: 0, refusals: [0; 9] };
+    let bases = copies.div_ceil(COPIES_OF_ONE);
+    for base in 0..bases {
+        let most = if base % 50 == 49 { 600 } else { 30 };
+        let puts = names.list(&mut random, most);
+        let image = original::image(random.once_in(5), &puts);
+        let asked = questions(&names, &mut random, &image, &puts);
+        run.image(&image, &asked);
+        for i in 0..COPIES_OF_ONE {
+            run.image(&damage::copy(&mut random, &image, i % damage::KINDS), &asked);
+        }
+    }
+    println!("reader: {bases} images and {} damaged copies; {} searches that the Rust never ends", bases * COPIES_OF_ONE, run.unending);
+    let [opened, r1, _, _, _, r5, r6, r7, r8] = run.refusals;
+    println!("reader: opened {opened}; refused with 1: {r1}, 5: {r5}, 6: {r6}, 7: {r7}, 8: {r8}");
+    run.tally.end("reader");
+}

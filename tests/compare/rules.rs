@@ -1,0 +1,155 @@
+// Document 01's rules for reading, written down once more, straight from its paragraphs and in their order. They share no
+// line with the product; the comparisons take their word where the Rust cannot be asked.
+#![allow(dead_code)]
+
+pub const HEAD: usize = 2072;
+pub const LONGEST: u64 = 4_294_967_294;
+
+extern "C" {
+    fn jenkins_hashlittle(key: *const u8, length: usize, initval: u32) -> u32;
+}
+
+/// lookup3's hash of a name and one zero byte.
+pub fn hash(name: &[u8]) -> u32 {
+    let closed: Vec<u8> = name.iter().copied().chain([0, 0, 0, 0]).collect();
+    // Three bytes more than are counted are there: of an aligned word lookup3 may read bytes behind the counted ones.
+    unsafe { jenkins_hashlittle(closed.as_ptr(), name.len() + 1, 0) }
+}
+
+pub fn word(s: &[u8], at: usize) -> u32 {
+    u32::from_le_bytes([s[at], s[at + 1], s[at + 2], s[at + 3]])
+}
+
+/// Table t's offset and bucket number.
+pub fn table(image: &[u8], t: usize) -> (u64, u64) {
+    (word(image, 24 + 8 * t) as u64, word(image, 28 + 8 * t) as u64)
+}
+
+pub fn back_size(image: &[u8]) -> u64 {
+    word(image, 16) as u64
+}
+
+pub fn back_offset(image: &[u8]) -> u64 {
+    word(image, 20) as u64
+}
+
+fn table_leaves(image: &[u8], (offset, number): (u64, u64)) -> bool {
+    offset + 8 * number > image.len() as u64
+}
+
+fn back_leaves(image: &[u8]) -> bool {
+    back_offset(image) + 4 * back_size(image) > image.len() as u64
+}
+
+/// Opening: num, or the first refusal that applies.
+pub fn open(image: &[u8]) -> Result<u32, u32> {
+    if image.len() < HEAD {
+        return Err(1);
+    }
+    let tables = || (0..256).map(|t| table(image, t));
+    if &image[..4] != b"CQDB" {
+        Err(5)
+    } else if word(image, 12) != 0x62445371 {
+        Err(6)
+    } else if tables().any(|row| row.0 > 0 && table_leaves(image, row)) {
+        Err(7)
+    } else if back_offset(image) > 0 && back_leaves(image) {
+        Err(8)
+    } else {
+        Ok((tables().map(|(_, number)| number / 2).sum::<u64>() % (1 << 32)) as u32)
+    }
+}
+
+/// What a lookup answers.
+#[derive(Clone, Copy, Debug, PartialEq, Eq)]
+pub struct Lookup {
+    pub id: Option<u32>,
+    pub buckets: u32,
+    /// All n buckets were read and none decided: there the Rust never returns.
+    pub unending: bool,
+}
+
+enum Seen {
+    Pass,
+    Nothing,
+    Found(u32),
+}
+
+// An entry whose first 8 bytes or name leave the image, or whose length word is 0, has none.
+fn entry_name(image: &[u8], at: u64) -> Option<(usize, usize)> {
+    let size = image.len() as u64;
+    if at + 8 > size {
+        return None;
+    }
+    let length = word(image, at as usize + 4) as u64;
+    if length == 0 || at + 8 + (length - 1) > size {
+        return None;
+    }
+    Some((at as usize + 8, length as usize - 1))
+}
+
+fn see(image: &[u8], name: &[u8], h: u32, bucket: usize) -> Seen {
+    let at = word(image, bucket + 4);
+    if at == 0 {
+        return Seen::Nothing;
+    }
+    if word(image, bucket) != h {
+        return Seen::Pass;
+    }
+    match entry_name(image, at as u64) {
+        None => Seen::Nothing,
+        Some((start, len)) if &image[start..start + len] == name => Seen::Found(word(image, at as usize)),
+        Some(_) => Seen::Pass,
+    }
+}
+
+/// Looking up a name.
+pub fn to_id(image: &[u8], name: &[u8]) -> Lookup {
+    let nothing = Lookup { id: None, buckets: 0, unending: false };
+    if image.len() < HEAD || name.len() as u64 > LONGEST {
+        return nothing;
+    }
+    let h = hash(name);
+    let (offset, n) = table(image, h as usize % 256);
+    if offset == 0 || n == 0 || table_leaves(image, (offset, n)) {
+        return nothing;
+    }
+    let start = (h as u64 / 256) % n;
+    for read in 0..n {
+        let bucket = offset + 8 * ((start + read) % n);
+        let buckets = read as u32 + 1;
+        match see(image, name, h, bucket as usize) {
+            Seen::Pass => {}
+            Seen::Nothing => return Lookup { buckets, ..nothing },
+            Seen::Found(id) => return Lookup { id: Some(id), buckets, unending: false },
+        }
+    }
+    Lookup { id: None, buckets: n as u32, unending: true }
+}
+
+/// Naming an id: the place of the name.
+pub fn to_str(image: &[u8], id: u32) -> Option<(usize, usize)> {
+    if image.len() < HEAD || back_offset(image) == 0 || back_leaves(image) || id as u64 >= back_size(image) {
+        return None;
+    }
+    match word(image, (back_offset(image) + 4 * id as u64) as usize) {
+        0 => None,
+        at => entry_name(image, at as u64),
+    }
+}
+
+/// The upper hint of a walk that stands before the id `next`.
+pub fn upper_hint(image: &[u8], next: u32) -> u32 {
+    if image.len() < HEAD || back_offset(image) == 0 || back_leaves(image) {
+        return 0;
+    }
+    back_size(image).saturating_sub(next as u64) as u32
+}
+
+/// The home check.
+pub fn home(image: &[u8], id: u32) -> bool {
+    match to_str(image, id) {
+        Some((start, len)) => to_id(image, &image[start..start + len]).id == Some(id),
+        None => false,
+    }
+}

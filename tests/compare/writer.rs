@@ -1,0 +1,208 @@
+// Writing, compared live: lists of puts in both modes, whose image is the Rust's for the accepted ones, byte for byte; and
+// records, buffers and entries that do not go together, answered by 01's rules.   writer [LISTS]
+mod names;
+mod original;
+mod ours;
+mod rules;
+mod seed;
+mod spoil;
+mod tally;
+mod writing;
+
+use names::Names;
+use original::Put;
+use ours::{CloseAnswer, Record, WriterAnswer};
+use rules::HEAD;
+use seed::Random;
+use tally::Tally;
+use writing::State;
+
+const LISTS: usize = 24_000;
+const ODD_STATES_OF_ONE: usize = 4;
+
+struct Run {
+    tally: Tally,
+    images: u64,
+    // Accepted calls, and how often each refusal was met.
+    begins: [u64; 5],
+    puts: [u64; 5],
+    closes: [u64; 5],
+}
+
+impl Run {
+    fn state(&mut self, ours: &State, want: &State, what: impl Fn() -> String) {
+        self.tally.rule(ours.record, want.record, || format!("record after {}", what()));
+        self.tally.rule(ours.counts == want.counts, true, || format!("counts after {}", what()));
+        self.tally.bytes(&ours.buf, &want.buf, || format!("buffer after {}", what()));
+    }
+
+    // A begin on bytes and counts of any content.
+    fn begin(&mut self, random: &mut Random, mode: u32, length: usize) -> Option<State> {
+        let buf = random.bytes(length);
+        let before = [random.word(); 256];
+        let mut counts = before;
+        let answer = ours::begin(mode, &mut counts, &buf);
+        self.begins[answer.refusal.min(4) as usize] += 1;
+        let what = || format!("begin in {length} bytes");
+        match writing::begin(mode, length) {
+            Ok(record) => {
+                self.tally.rule(answer, WriterAnswer { refusal: 0, record }, what);
+                self.tally.rule(counts, [0; 256], what);
+                Some(State { record, counts, buf })
+            }
+            Err(refusal) => {
+                let record = Record { mode: 0, entries: 0, back: 0, length: 0, end: 0 };
+                self.tally.rule(answer, WriterAnswer { refusal, record }, what);
+                self.tally.rule(counts, before, what);
+                None
+            }
+        }
+    }
+
+    // A put, and whether it was accepted. The state before it is left behind as the state after it.
+    fn put(&mut self, s: &mut State, name: &[u8], id: u32) -> bool {
+        let rule = writing::put(s, name, id);
+        let refusal = rule.as_ref().err().copied().unwrap_or(0);
+        let want = rule.unwrap_or_else(|_| s.clone());
+        let answer = ours::put(s.record, &mut s.counts, &mut s.buf, name, id);
+        let what = || format!("put of {} bytes, id {id}, on {:?}", name.len(), s.record);
+        self.puts[refusal as usize] += 1;
+        self.tally.rule(answer.refusal, refusal, what);
+        s.record = answer.record;
+        self.state(s, &want, || "a put".into());
+        *s = want;
+        refusal == 0
+    }
+
+    // A close. What it writes is the Rust's image of the entries; the bytes behind it keep their content.
+    fn close(&mut self, s: &mut State, in_slice: bool) -> Option<u32> {
+        let rule = writing::close(s);
+        let mut want = s.clone();
+        let answer = ours::close(s.record, &s.counts, &mut s.buf);
+        let (refusal, size) = match &rule {
+            Ok((size, puts)) => {
+                let image = self.image(&want, puts, *size as usize, in_slice);
+                want.buf[..image.len()].copy_from_slice(&image);
+                self.tally.rust(s.buf == want.buf, true, || format!("image of {} puts", puts.len()));
+                (0, *size)
+            }
+            Err(refusal) => (*refusal, 0),
+        };
+        self.closes[refusal as usize] += 1;
+        self.tally.rule(answer, CloseAnswer { refusal, size, record: want.record }, || format!("close on {:?}", want.record));
+        self.state(s, &want, || "a close".into());
+        *s = want;
+        (refusal == 0).then_some(size)
+    }
+
+    // The Rust's image, whose size and entries are the rules'.
+    fn image(&mut self, s: &State, puts: &[Put], size: usize, in_slice: bool) -> Vec<u8> {
+        let oneway = s.record.mode == 1;
+        let image = if in_slice { original::image_in_slice(oneway, puts, size) } else { original::image(oneway, puts) };
+        let end = s.record.end as usize;
+        self.images += 1;
+        self.tally.rule(image.len(), size, || "size of the Rust's image".into());
+        self.tally.rule(image[HEAD..end] == s.buf[HEAD..end], true, || "entries of the Rust's image".into());
+        image
+    }
+
+    // A list from its begin to its close, then states that are beside the one that it left.
+    fn list(&mut self, random: &mut Random, mode: u32, length: usize, puts: &[Put]) {
+        let Some(mut s) = self.begin(random, mode, length) else { return };
+        for (name, id) in puts {
+            self.put(&mut s, name, *id);
+        }
+        let in_slice = random.once_in(2);
+        self.close(&mut s, in_slice);
+        for _ in 0..ODD_STATES_OF_ONE {
+            let mut odd = s.clone();
+            spoil::state(random, &mut odd);
+            let (name, id) = (names::any(random), random.pick(&[0, 7, odd.record.back, 0xffff_fffe, 0xffff_ffff]));
+            if random.once_in(2) {
+                self.put(&mut odd, &name, id);
+            }
+            self.close(&mut odd, false);
+        }
+    }
+}
+
+// The finished size of all puts of a list.
+fn size_of(mode: u32, puts: &[Put]) -> u64 {
+    let entries: u64 = puts.iter().map(|(name, _)| name.len() as u64 + 25).sum();
+    let back = puts.iter().map(|put| put.1 as u64 + 1).max().unwrap_or(0);
+    HEAD as u64 + entries + if mode == 1 { 0 } else { 4 * back }
+}
+
+// A buffer's length: exactly full, one short, one over, full after some of the puts, any more, none, or under the head.
+fn length_for(random: &mut Random, mode: u32, puts: &[Put]) -> usize {
+    let some = random.below(puts.len() + 1);
+    let exact = |puts: &[Put]| size_of(mode, puts).min(1 << 20) as usize;
+    match random.below(10) {
+        0..=2 => exact(puts),
+        3 => exact(puts) - 1,
+        4 => exact(puts) + 1,
+        5 => exact(&puts[..some]) + random.below(30),
+        6 | 7 => exact(puts) + random.below(600),
+        8 => HEAD + random.below(3),
+        _ => random.pick(&[2071, 2072, 2071, 2070, 1]),
+    }
+}
+
+// Some ids are too large for any buffer here: two-way their put is refused, one-way it is not.
+fn with_large_ids(random: &mut Random, mut puts: Vec<Put>) -> Vec<Put> {
+    if random.once_in(4) {
+        for put in &mut puts {
+            if random.once_in(5) {
+                put.1 = random.pick(&[0xffff_ffff, 0xffff_fffe, 0x8000_0000, 0x4000_0000, 20_000]);
+            }
+        }
+    }
+    puts
+}
+
+// The limits that need more than a small buffer. The bytes are all zero and mostly never touched, and none is closed.
+fn limits(run: &mut Run) {
+    let mut counts = [0; 256];
+    let mut room = vec![0u8; (1 << 32) + 5000];
+    let fresh = ours::begin(0, &mut counts, &room).record;
+    let mut put = |record: Record, name: &[u8], id: u32, refusal: u32| {
+        let mut counts = [0; 256];
+        let answer = ours::put(record, &mut counts, &mut room, name, id);
+        run.tally.rule(answer.refusal, refusal, || format!("put of {} bytes, id {id}, on {record:?}", name.len()));
+        if refusal > 0 {
+            run.tally.rule((answer.record, counts), (record, [0; 256]), || "a refused put".into());
+        }
+    };
+    // 2,072 + 26 + 4 x 1,073,741,299 is 4,294,967,294; one id more exceeds 4,294,967,295, and not the buffer.
+    put(fresh, b"A", 1_073_741_298, 0);
+    put(fresh, b"A", 1_073_741_299, 3);
+    put(fresh, b"A", u32::MAX, 3);
+    put(Record { mode: 1, ..fresh }, b"A", u32::MAX, 0);
+    put(Record { mode: 1, end: 4_294_967_295 - 26, ..fresh }, b"A", 0, 0);
+    put(Record { mode: 1, end: 4_294_967_295 - 25, ..fresh }, b"A", 0, 3);
+    put(Record { mode: 1, entries: u32::MAX, ..fresh }, b"A", 0, 3);
+    put(Record { back: u32::MAX, ..fresh }, b"A", 0, 3);
+    // Names at the hash's own limit. They are longer than any image.
+    let long = vec![0u8; 1 << 32];
+    put(Record { mode: 1, ..fresh }, &long, 0, 3);
+    put(Record { mode: 1, ..fresh }, &long[..u32::MAX as usize], 0, 3);
+}
+
+fn main() {
+    let lists = std::env::args().nth(1).map_or(LISTS, |text| text.parse().expect("a number of lists"));
+    let mut random = Random::new();
+    println!("writer: seed {}", random.seed);
+    let names = Names::new(&mut random);
+    let mut run = Run { tally: Tally::default(), images: 0, begins: [0; 5], puts: [0; 5], closes: [0; 5] };
+    limits(&mut run);
+    for i in 0..lists {
+        let mode = if random.once_in(100) { 2 + random.word() / 2 } else { random.below(2) as u32 };
+        let puts = names.list(&mut random, if i % 100 == 99 { 300 } else { 16 });
+        let puts = with_large_ids(&mut random, puts);
+        let length = length_for(&mut random, mode, &puts);
+        run.list(&mut random, mode, length, &puts);
+    }
+    println!("writer: {lists} lists, {} images held to the Rust's in every byte", run.images);
+    println!("writer: by refusal 0 to 4: begins {:?}, puts {:?}, closes {:?}", run.begins, run.puts, run.closes);
+    run.tally.end("writer");
+}
