@@ -114,7 +114,7 @@ takes (b ∷ xs) = takes-more b xs (takes xs)
 
 -- ---- pieces
 
-piece-append : (g : Gathering) (xs ys : List ℕ) → takePiece g (xs ++ ys) ≡ takePiece (takePiece g xs) ys
+pub piece-append : (g : Gathering) (xs ys : List ℕ) → takePiece g (xs ++ ys) ≡ takePiece (takePiece g xs) ys
 unfolding takePiece
 piece-append g [] ys = refl
 piece-append g (b ∷ xs) ys = piece-append (takeByte g b) xs ys
@@ -124,8 +124,9 @@ unfolding takePieces takePiece joined
 pieces-joined g [] = refl
 pieces-joined g (p ∷ ps) = pieces-joined (takePiece g p) ps ∙ sym (piece-append g p (joined ps))
 
+pub in-one : (s : State) (room input : List ℕ) → s .writer .capacity ≤ length room → inputEnded (takePiece (started s room) input) ≡ afterInput s input
+in-one s room input h = takes input (started s room) [] (record { short = λ k. (refl, refl); long = λ k. k; enough = h }) tt
+
 pub in-pieces : (s : State) (room : List ℕ) (ps : List (List ℕ)) → s .writer .capacity ≤ length room
     → inputEnded (takePieces (started s room) ps) ≡ afterInput s (joined ps)
-in-pieces s room ps h =
-    ap inputEnded (pieces-joined (started s room) ps)
-    ∙ takes (joined ps) (started s room) [] (record { short = λ k. (refl, refl); long = λ k. k; enough = h }) tt
+in-pieces s room ps h = ap inputEnded (pieces-joined (started s room) ps) ∙ in-one s room (joined ps) h
