@@ -1,0 +1,2 @@
+-- Laws about what the program reads and prints.
+pub mod Reading

@@ -1,0 +1,57 @@
+-- `catalogue::print_image` is safe and ends. Assumes nothing.
+use Prim.Native.Nat.{_≤_}
+use native.Mathlib.Omega.{arith}
+use mathlib.Core.Path.{sym}
+use lib.ListN.{length}
+use lib.Seq.{length-take-le}
+use borrow.Author.Needs.{needs}
+use Rattle.catalogue.proofs.print_image.Statement.{statement}
+use Rattle.catalogue.proofs.print_image.Tie as tie
+
+print-decimal-requires : tie.Need-print-decimal-requires
+print-decimal-requires c κs = search needs
+
+slice-aggregate-write-all : tie.Need-slice-aggregate-write-all
+slice-aggregate-write-all c = search needs
+
+write-all-requires : tie.Need-write-all-requires
+write-all-requires c κs = search needs
+
+print-decimal-requires-2 : tie.Need-print-decimal-requires-2
+print-decimal-requires-2 c κs = search needs
+
+slice-aggregate-write-all-2 : tie.Need-slice-aggregate-write-all-2
+slice-aggregate-write-all-2 c = search needs
+
+write-all-requires-2 : tie.Need-write-all-requires-2
+write-all-requires-2 c κs = search needs
+
+slice-aggregate-print-walk : tie.Need-slice-aggregate-print-walk
+slice-aggregate-print-walk c =
+    let a = c .before .before .before .before .before .before .before .before .before .args in
+    let inside : a .size ≤ length (a .buf .now) = omega arith in
+    sym (length-take-le (a .size) (a .buf .now) inside)
+
+print-walk-requires : tie.Need-print-walk-requires
+print-walk-requires c κs = search needs
+
+returns : tie.Need-returns
+returns c = search needs
+
+returns-2 : tie.Need-returns-2
+returns-2 c = search needs
+
+pub print-image-spec : {M : Type 1} → statement M
+print-image-spec =
+    tie.close
+    (tie.spec
+    print-decimal-requires
+    slice-aggregate-write-all
+    write-all-requires
+    print-decimal-requires-2
+    slice-aggregate-write-all-2
+    write-all-requires-2
+    slice-aggregate-print-walk
+    print-walk-requires
+    returns
+    returns-2)

@@ -1,0 +1,90 @@
+-- `catalogue::print_walk` is safe and ends: each step goes on at the next id. Assumes nothing.
+use Prim.Native.Nat.{_-_, _^_}
+use native.Mathlib.Omega.{arith}
+use mathlib.Core.Path.{_≡_, sym, ap, _∙_}
+use borrow.Author.Needs.{needs}
+use Rattle.reader.specs.Answers.{steppedOf}
+use Rattle.catalogue.proofs.Reading.{Stepping, stepping}
+use Rattle.catalogue.proofs.print_walk.Statement.{statement}
+use Rattle.catalogue.proofs.print_walk.Tie as tie
+
+abbrev Inv-loop : tie.InvT-loop
+Inv-loop image walk₀ walk = Unit {0}
+
+abbrev μ-loop : tie.MeasureT-loop
+μ-loop image walk₀ walk = 2 ^ 32 - walk .next
+
+iter-requires : tie.Need-iter-requires Inv-loop μ-loop
+iter-requires c κs = search needs
+
+loop-holds : tie.Need-loop-holds Inv-loop μ-loop
+loop-holds c = tt
+
+next-requires : tie.Need-next-requires Inv-loop μ-loop
+next-requires c κs = search needs
+
+enum-known-id : tie.Need-enum-known-id Inv-loop μ-loop
+enum-known-id c = search needs
+
+enum-told : tie.Need-enum-told Inv-loop μ-loop
+enum-told c = search needs
+
+returns : tie.Need-returns Inv-loop μ-loop
+returns c = tt
+
+cast-print-line : tie.Need-cast-print-line Inv-loop μ-loop
+cast-print-line c = search needs
+
+add-print-line : tie.Need-add-print-line Inv-loop μ-loop
+add-print-line c =
+    let g = c .before .id .given in
+    let s = stepping (c .before .before .before .before .before .before .before .args .image .now) (c .before .before .before .before .loop .walk .next) (g .0 .0) (g .0 .1 .0) (g .0 .1 .1 .0) (g .0 .1 .1 .1 .0 .next) (sym (c .before .before .before .next .ensures) ∙ ap steppedOf (g .1)) in
+    let inside = s .inside in
+    omega arith
+
+sub-print-line : tie.Need-sub-print-line Inv-loop μ-loop
+sub-print-line c = search needs
+
+part-print-line-start : tie.Need-part-print-line-start Inv-loop μ-loop
+part-print-line-start c = search needs
+
+part-print-line-end : tie.Need-part-print-line-end Inv-loop μ-loop
+part-print-line-end c =
+    let g = c .before .id .given in
+    let s = stepping (c .before .before .before .before .before .before .before .args .image .now) (c .before .before .before .before .loop .walk .next) (g .0 .0) (g .0 .1 .0) (g .0 .1 .1 .0) (g .0 .1 .1 .1 .0 .next) (sym (c .before .before .before .next .ensures) ∙ ap steppedOf (g .1)) in
+    let inside = s .inside in
+    omega arith
+
+print-line-requires : tie.Need-print-line-requires Inv-loop μ-loop
+print-line-requires c κs = search needs
+
+loop-less : tie.Need-loop-less Inv-loop μ-loop
+loop-less c =
+    let g = c .before .before .before .id .given in
+    let s = stepping (c .before .before .before .before .before .before .before .before .before .args .image .now) (c .before .before .before .before .before .before .loop .walk .next) (g .0 .0) (g .0 .1 .0) (g .0 .1 .1 .0) (g .0 .1 .1 .1 .0 .next) (sym (c .before .before .before .before .before .next .ensures) ∙ ap steppedOf (g .1)) in
+    let onward = s .onward in
+    omega arith
+
+loop-again : tie.Need-loop-again Inv-loop μ-loop
+loop-again c = tt
+
+pub print-walk-spec : {M : Type 1} → statement M
+print-walk-spec =
+    tie.close
+    (tie.spec
+    Inv-loop
+    μ-loop
+    iter-requires
+    loop-holds
+    next-requires
+    enum-known-id
+    enum-told
+    returns
+    cast-print-line
+    add-print-line
+    sub-print-line
+    part-print-line-start
+    part-print-line-end
+    print-line-requires
+    loop-less
+    loop-again)

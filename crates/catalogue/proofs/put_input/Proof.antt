@@ -1,0 +1,95 @@
+-- `catalogue::put_input` meets its contract: what the loop has is what the pieces read so far leave. Assumes nothing.
+use native.Mathlib.Omega.{arith}
+use mathlib.Core.Path.{_≡_, refl, sym, ap, _∙_}
+use mathlib.Core.Logic.{⊎-elim}
+use lib.ListN.{length}
+use borrow.Author.Needs.{needs}
+use Rattle.writer.specs.State.{lent}
+use Rattle.lines.specs.Pieces.{gathering}
+use Rattle.catalogue.proofs.Reading.{Taken, none-taken, more-taken, taken-left}
+use Rattle.catalogue.proofs.put_input.Statement.{statement}
+use Rattle.catalogue.proofs.put_input.Tie as tie
+
+abbrev Inv-loop : tie.InvT-loop
+Inv-loop counts₀ buf₀ room₀ piece₀ t₀ turns₀ counts buf room piece t turns =
+    Taken (gathering t₀ counts₀ buf₀ room₀) (gathering t counts buf room)
+    × (length buf ≡ length buf₀)
+    × (length room ≡ length room₀)
+    × (length piece ≡ length piece₀)
+
+abbrev μ-loop : tie.MeasureT-loop
+μ-loop counts₀ buf₀ room₀ piece₀ t₀ turns₀ counts buf room piece t turns = turns
+
+loop-holds : tie.Need-loop-holds Inv-loop μ-loop
+loop-holds c = (none-taken _, refl, refl, refl)
+
+read-requires : tie.Need-read-requires Inv-loop μ-loop
+read-requires c κs = search needs
+
+count-requires : tie.Need-count-requires Inv-loop μ-loop
+count-requires c κs = search needs
+
+slice-reshare-prefix-take-piece : tie.Need-slice-reshare-prefix-take-piece Inv-loop μ-loop
+slice-reshare-prefix-take-piece c = search needs
+
+slice-aggregate-take-piece : tie.Need-slice-aggregate-take-piece Inv-loop μ-loop
+slice-aggregate-take-piece c = search needs
+
+take-piece-requires : tie.Need-take-piece-requires Inv-loop μ-loop
+take-piece-requires c κs = search needs
+
+sub-turns : tie.Need-sub-turns Inv-loop μ-loop
+sub-turns c = omega arith
+
+loop-less : tie.Need-loop-less Inv-loop μ-loop
+loop-less c = omega arith
+
+loop-again : tie.Need-loop-again Inv-loop μ-loop
+loop-again c =
+    let at = c .before .before .before .before .before .before .before .before .before .before .before .before .before .before .before .before .before .loop in (
+      more-taken _ (gathering (at .t) (at .counts) (at .buf) (at .room)) _ _ (at .inv .0) (c .before .before .before .before .take-piece .ensures),
+      search needs,
+      search needs,
+      search needs,
+    )
+
+end-input-requires : tie.Need-end-input-requires Inv-loop μ-loop
+end-input-requires c κs = search needs
+
+same-length : tie.Need-same-length Inv-loop μ-loop
+same-length c = search needs
+
+same-length-2 : tie.Need-same-length-2 Inv-loop μ-loop
+same-length-2 c = search needs
+
+same-length-3 : tie.Need-same-length-3 Inv-loop μ-loop
+same-length-3 c =
+    let kept = c .before .before .before .before .before .before .before .loop .inv .3 in
+    ⊎-elim (λ w. ap length (w .1) ∙ kept) (λ w. let e = ap length (w .8) in let g = w .3 .given in omega arith) (c .before .before .before .before .before .before .loop-test .came)
+
+returns : tie.Need-returns Inv-loop μ-loop
+returns c =
+    let at = c .before .before .before .before .before .before .before .loop in
+    let a = c .before .before .before .before .before .before .before .before .before .before .before .args in
+    taken-left (lent (a .w) (a .counts .now) (a .buf .now)) _ (a .room .now) (gathering (at .t) (at .counts) (at .buf) (at .room)) (at .inv .0) (c .before .before .end-input .ensures)
+
+pub put-input-spec : {M : Type 1} → statement M
+put-input-spec =
+    tie.close
+    (tie.spec
+    Inv-loop
+    μ-loop
+    loop-holds
+    read-requires
+    count-requires
+    slice-reshare-prefix-take-piece
+    slice-aggregate-take-piece
+    take-piece-requires
+    sub-turns
+    loop-less
+    loop-again
+    end-input-requires
+    same-length
+    same-length-2
+    same-length-3
+    returns)

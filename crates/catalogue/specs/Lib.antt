@@ -1,0 +1,2 @@
+-- What the program's reading leaves.
+pub mod Left

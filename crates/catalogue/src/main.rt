@@ -1,0 +1,91 @@
+// Reads lines (decimal id, space, name), puts them two-way in 65,536 bytes, and prints entries and size, then the walk as
+// id and name.
+ghost use Prim.Native.Nat.{_≤_};
+ghost use lib.ListN.{length};
+ghost use Rattle.writer.specs.State.{lent};
+ghost use Rattle.catalogue.specs.Left.{Left};
+use image::Flag;
+use libc::STDIN_FILENO;
+use libc::STDOUT_FILENO;
+use lines::Intake;
+use reader::Stepped;
+use writer::CQDBWriter;
+
+// Puts the lines of standard input, read piece by piece. A proved loop has to end, and nothing says that an input does: it
+// counts its turns down from a number that no run uses up.
+fn put_input(
+    w: CQDBWriter,
+    counts: &mut [u32; 256],
+    buf: &mut [u8],
+    room: &mut [u8],
+    piece: &mut [u8],
+) -> CQDBWriter
+    ensures { λ r. ⌜ (w .capacity ≤ length (now (room .entry)) → Left (lent w (now (counts .entry)) (now (buf .entry))) (lent r (now (counts .exit)) (now (buf .exit)))) ⌝ }
+{
+    let mut t = Intake { writer: w, have: 0 };
+    let mut turns = u64::MAX;
+    while turns > 0 {
+        let n = io::count(libc::read(STDIN_FILENO, &mut *piece), &*piece);
+        if n == 0 {
+            break;
+        }
+        t = lines::take_piece(t, &mut *counts, &mut *buf, &mut *room, &piece[..n]);
+        turns -= 1;
+    }
+    lines::end_input(t, counts, buf, &*room)
+}
+
+// Two things on a line, with a space between them: a number, and bytes.
+fn print_line(n: u64, rest: &[u8]) {
+    io::print_decimal(STDOUT_FILENO, n);
+    io::write_all(STDOUT_FILENO, b" ");
+    io::write_all(STDOUT_FILENO, rest);
+    io::write_all(STDOUT_FILENO, b"\n");
+}
+
+// The walk, as id and name.
+fn print_walk(image: &[u8]) {
+    let mut walk = reader::walk::iter();
+    loop {
+        let Stepped::Item {
+            id,
+            start,
+            len,
+            iter,
+        } = reader::walk::next(image, walk)
+        else {
+            return;
+        };
+        print_line(id as u64, &image[start..start + len]);
+        walk = iter;
+    }
+}
+
+// Entries and size, then the walk of the image, which is the buffer's first bytes.
+fn print_image(entries: u32, size: u32, buf: &[u8]) {
+    let n = size as usize;
+    if n <= buf.len() {
+        io::print_decimal(STDOUT_FILENO, entries as u64);
+        io::write_all(STDOUT_FILENO, b" ");
+        io::print_decimal(STDOUT_FILENO, size as u64);
+        io::write_all(STDOUT_FILENO, b"\n");
+        print_walk(&buf[..n]);
+    }
+}
+
+fn main() {
+    let mut counts = [0u32; 256];
+    let mut buf = io::large_buffer();
+    let mut room = io::large_buffer();
+    let mut piece = io::large_buffer();
+    let writer::Begun::Fresh(fresh) = writer::begin(Flag::None, &mut counts, &buf) else {
+        return;
+    };
+    let w = put_input(fresh, &mut counts, &mut buf, &mut room, &mut piece);
+    let closed = writer::close(w, &counts, &mut buf);
+    let answer = closed.answer;
+    let writer::Closed::Size(size) = answer else {
+        return;
+    };
+    print_image(w.entries, size, &buf);
+}

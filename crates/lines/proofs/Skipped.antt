@@ -1,0 +1,86 @@
+-- What one line leaves; and a line that is as long as the buffer is skipped, whatever it says. Assumes nothing.
+use Prim.Native.Nat.{ℕ, _+_, _*_, _-_, _≤_, _<_}
+use native.Mathlib.Omega.{arith}
+use mathlib.Core.Path.{_≡_, refl, sym, ap, _∙_}
+use mathlib.Core.Bool.{Bool, true, false, cond, _||_}
+use mathlib.Core.List.{List, []}
+use lib.ListN.{length, drop, length-drop}
+use lib.Dec.{eqb, ltb}
+use borrow.Author.Tests.{lt-ltb}
+use Rattle.image.specs.Record.{Entry}
+use Rattle.writer.specs.State.{State, fits, finishedSize, tooLarge}
+use Rattle.writer.specs.Put.{entryOf, writerAfter, putRefusal, appended, afterPut}
+use Rattle.writer.proofs.Fits.{fitting}
+use Rattle.writer.proofs.Puts.{misfit, no-room}
+use Rattle.lists.specs.Calls.{after}
+use Rattle.lines.specs.Lines.{Form, entry, other, parseLine, callsBy, lineCalls, afterLine}
+use Rattle.lines.proofs.Forms.{Named, named}
+
+-- what a line leaves, by its form
+abbrev leaves : State → List ℕ → Form → State
+leaves s line (entry id at) = afterPut s (entryOf (drop at line) id)
+leaves s line other = s
+
+leaves-calls : (s : State) (line : List ℕ) (f : Form) → after s (callsBy line f) ≡ leaves s line f
+unfolding after
+leaves-calls s line (entry id at) = refl
+leaves-calls s line other = refl
+
+after-form : (s : State) (line : List ℕ) → afterLine s line ≡ leaves s line (parseLine line)
+unfolding afterLine
+after-form s line = leaves-calls s line (parseLine line)
+
+pub after-entry : (s : State) (line : List ℕ) (id at : ℕ) → parseLine line ≡ entry id at → afterLine s line ≡ afterPut s (entryOf (drop at line) id)
+after-entry s line id at e = after-form s line ∙ ap (leaves s line) e
+
+pub after-other : (s : State) (line : List ℕ) → parseLine line ≡ other → afterLine s line ≡ s
+after-other s line e = after-form s line ∙ ap (leaves s line) e
+
+-- ---- a put whose name is too long
+
+-- the finished size exceeds the buffer where the name alone does with a head
+too-long : (s : State) (e : Entry) → s .writer .capacity < length (e .name) + 2097 → afterPut s e ≡ s
+unfolding writerAfter
+too-long s e h = go (fits s) refl
+  where
+    size : ℕ
+    size = finishedSize (writerAfter (s .writer) e)
+
+    go : (t : Bool) → fits s ≡ t → afterPut s e ≡ s
+    go false p = sym (misfit s e p .1)
+    go true p =
+        let f = fitting (s .writer) (s .counts) (s .buffer) p in
+        let low = f .low in
+        let over : s .writer .capacity < size = omega arith in
+        sym (no-room s e p (ap (λ (b : Bool). b || ltb 4294967295 size) (lt-ltb (s .writer .capacity) size over)) .1)
+
+-- ---- a long line
+
+pub long-line : (s : State) (line : List ℕ) → s .writer .capacity ≤ length line → afterLine s line ≡ s
+long-line s line h = go (parseLine line) refl
+  where
+    go : (f : Form) → parseLine line ≡ f → afterLine s line ≡ s
+    go (entry id at) e =
+        let n = named line id at e in
+        let in-line = n .inside in
+        let low = n .low in
+        let l = length-drop at line in
+        after-entry s line id at e ∙ too-long s (entryOf (drop at line) id) (omega arith)
+    go other e = after-other s line e
+
+-- ---- the buffer's length is kept
+
+put-capacity : (s : State) (e : Entry) → afterPut s e .writer .capacity ≡ s .writer .capacity
+unfolding afterPut appended writerAfter
+put-capacity s e = go (eqb (putRefusal s e) 0)
+  where
+    go : (b : Bool) → cond b (appended s e) s .writer .capacity ≡ s .writer .capacity
+    go true = refl
+    go false = refl
+
+pub line-capacity : (s : State) (line : List ℕ) → afterLine s line .writer .capacity ≡ s .writer .capacity
+line-capacity s line = ap (λ (x : State). x .writer .capacity) (after-form s line) ∙ go (parseLine line)
+  where
+    go : (f : Form) → leaves s line f .writer .capacity ≡ s .writer .capacity
+    go (entry id at) = put-capacity s (entryOf (drop at line) id)
+    go other = refl

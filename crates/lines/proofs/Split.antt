@@ -1,0 +1,54 @@
+-- An input split into its lines. Assumes nothing.
+use Prim.Native.Nat.{ℕ}
+use mathlib.Core.Path.{_≡_, refl, sym, ap, _∙_}
+use mathlib.Core.Bool.{Bool, true, false, cond}
+use mathlib.Core.List.{List, [], _∷_, _++_, append-assoc, append-nil}
+use lib.Dec.{eqb}
+use Rattle.writer.specs.State.{State}
+use Rattle.lists.specs.Calls.{Call, afterCall, after}
+use Rattle.lines.specs.Lines.{withByte, linesOf, leadingDigits, parseLine, lineCalls, linesCalls, inputCalls, afterLine, afterInput}
+
+-- bytes without a line feed
+abbrev pub NoFeed : List ℕ → Type 0
+NoFeed [] = Unit {0}
+NoFeed (b ∷ bs) = (eqb b 10 ≡ false) × NoFeed bs
+
+pub no-feed-more : (p : List ℕ) (b : ℕ) → NoFeed p → eqb b 10 ≡ false → NoFeed (p ++ (b ∷ []))
+no-feed-more [] b h e = (e, tt)
+no-feed-more (x ∷ xs) b h e = (h .0, no-feed-more xs b (h .1) e)
+
+-- ---- the first line
+
+pub lines-feed : (p rest : List ℕ) → NoFeed p → linesOf (p ++ 10 ∷ rest) ≡ p ∷ linesOf rest
+unfolding linesOf withByte
+lines-feed [] rest h = refl
+lines-feed (b ∷ bs) rest h =
+    ap (λ (t : Bool). cond t ([] ∷ linesOf (bs ++ 10 ∷ rest)) (withByte b (linesOf (bs ++ 10 ∷ rest)))) (h .0)
+    ∙ ap (withByte b) (lines-feed bs rest (h .1))
+
+lines-last : (b : ℕ) (bs : List ℕ) → NoFeed (b ∷ bs) → linesOf (b ∷ bs) ≡ (b ∷ bs) ∷ []
+unfolding linesOf withByte
+lines-last b [] h = ap (λ (t : Bool). cond t ([] ∷ []) ((b ∷ []) ∷ [])) (h .0)
+lines-last b (x ∷ xs) h =
+    ap (λ (t : Bool). cond t ([] ∷ linesOf (x ∷ xs)) (withByte b (linesOf (x ∷ xs)))) (h .0)
+    ∙ ap (withByte b) (lines-last x xs (h .1))
+
+-- ---- calls one after the other
+
+pub after-append : (s : State) (xs ys : List Call) → after s (xs ++ ys) ≡ after (after s xs) ys
+unfolding after
+after-append s [] ys = refl
+after-append s (c ∷ cs) ys = after-append (afterCall s c) cs ys
+
+-- what an input leaves whose first line ends here
+pub input-feed : (s : State) (p rest : List ℕ) → NoFeed p → afterInput s (p ++ 10 ∷ rest) ≡ afterInput (afterLine s p) rest
+unfolding afterInput inputCalls linesCalls afterLine
+input-feed s p rest h =
+    ap (λ (ls : List (List ℕ)). after s (linesCalls ls)) (lines-feed p rest h) ∙ after-append s (lineCalls p) (linesCalls (linesOf rest))
+
+-- and one that has no line feed: an empty one has no line, which leaves what an empty line leaves
+pub input-last : (s : State) (p : List ℕ) → NoFeed p → afterInput s p ≡ afterLine s p
+unfolding afterInput inputCalls linesCalls linesOf afterLine lineCalls parseLine leadingDigits
+input-last s [] h = refl
+input-last s (b ∷ bs) h =
+    ap (λ (ls : List (List ℕ)). after s (linesCalls ls)) (lines-last b bs h) ∙ ap (after s) (append-nil (lineCalls (b ∷ bs)))

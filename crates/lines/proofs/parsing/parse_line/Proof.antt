@@ -1,0 +1,93 @@
+-- `lines::parsing::parse_line` meets its contract. Assumes nothing.
+use Prim.Native.Nat.{ℕ, _+_, _<_, _≤_}
+use native.Mathlib.Omega.{arith}
+use mathlib.Core.Path.{_≡_, refl, sym, ap, _∙_}
+use mathlib.Core.Bool.{true, false}
+use lib.ListN.{length, getD, take, List·getD-eq-default}
+use lib.Seq.{length-take-le}
+use lib.Dec.{leb}
+use borrow.Author.Needs.{needs}
+use borrow.Author.Tests.{le-leb, lt-leb, eq-eqb, ne-eqb}
+use Rattle.lines.specs.Lines.{number, entry}
+use Rattle.lines.proofs.Forms.{form-by}
+use Rattle.lines.proofs.parsing.parse_line.Statement.{statement}
+use Rattle.lines.proofs.parsing.parse_line.Tie as tie
+
+leading-digits-requires : tie.Need-leading-digits-requires
+leading-digits-requires c κs = search needs
+
+returns : tie.Need-returns
+returns c =
+    let n = c .before .leading-digits .result in
+    form-by (c .before .before .before .args .line .now) n false _ _ _ (c .before .leading-digits .ensures .0) (lt-leb 1 n (c .if1 .taken)) refl refl refl
+
+returns-2 : tie.Need-returns-2
+returns-2 c =
+    let n = c .before .before .leading-digits .result in
+    form-by (c .before .before .before .before .args .line .now) n true false _ _ (c .before .before .leading-digits .ensures .0) (le-leb 1 n (c .before .if1 .left)) (lt-leb n 10 (c .if2 .taken)) refl refl
+
+returns-3 : tie.Need-returns-3
+returns-3 c =
+    let n = c .before .before .before .leading-digits .result in
+    let line = c .before .before .before .before .before .args .line .now in
+    let e = List·getD-eq-default line 0 (c .if3 .taken) in
+    form-by line n true true false _ (c .before .before .before .leading-digits .ensures .0) (le-leb 1 n (c .before .before .if1 .left)) (le-leb n 10 (c .before .if2 .left))
+    (ne-eqb (getD line n 0) 32 (λ f. omega arith)) refl
+
+shared-slice-read-if4 : tie.Need-shared-slice-read-if4
+shared-slice-read-if4 c = search needs
+
+returns-4 : tie.Need-returns-4
+returns-4 c =
+    let n = c .before .before .before .before .before .leading-digits .result in
+    let line = c .before .before .before .before .before .before .before .args .line .now in
+    form-by line n true true false _ (c .before .before .before .before .before .leading-digits .ensures .0) (le-leb 1 n (c .before .before .before .before .if1 .left)) (le-leb n 10 (c .before .before .before .if2 .left))
+    (ne-eqb (getD line n 0) 32 (c .if4 .taken)) refl
+
+slice-aggregate-number : tie.Need-slice-aggregate-number
+slice-aggregate-number c =
+    sym (length-take-le (c .before .before .before .before .before .before .leading-digits .result) (c .before .before .before .before .before .before .before .before .args .line .now) (c .before .before .before .before .before .before .leading-digits .ensures .1))
+
+number-requires : tie.Need-number-requires
+number-requires c κs =
+    let e = length-take-le (c .before .before .before .before .before .before .leading-digits .result) (c .before .before .before .before .before .before .before .before .args .line .now) (c .before .before .before .before .before .before .leading-digits .ensures .1) in
+    let few = c .before .before .before .before .if2 .left in
+    omega arith
+
+returns-5 : tie.Need-returns-5
+returns-5 c =
+    let n = c .before .before .before .before .before .before .before .before .leading-digits .result in
+    let line = c .before .before .before .before .before .before .before .before .before .before .args .line .now in
+    form-by line n true true true false (c .before .before .before .before .before .before .before .before .leading-digits .ensures .0) (le-leb 1 n (c .before .before .before .before .before .before .before .if1 .left)) (le-leb n 10 (c .before .before .before .before .before .before .if2 .left))
+    (eq-eqb (getD line n 0) 32 (c .before .before .before .if4 .left)) (ap (λ (v : ℕ). leb v 4294967295) (sym (c .before .number .ensures)) ∙ lt-leb (c .before .number .result) 4294967295 (c .if5 .taken))
+
+cast-t10 : tie.Need-cast-t10
+cast-t10 c = search needs
+
+add-t5 : tie.Need-add-t5
+add-t5 c = search needs
+
+returns-6 : tie.Need-returns-6
+returns-6 c =
+    let n = c .before .before .before .before .before .before .before .before .leading-digits .result in
+    let line = c .before .before .before .before .before .before .before .before .before .before .args .line .now in
+    ap (λ (v : ℕ). entry v (n + 1)) (c .before .number .ensures)
+    ∙ form-by line n true true true true (c .before .before .before .before .before .before .before .before .leading-digits .ensures .0) (le-leb 1 n (c .before .before .before .before .before .before .before .if1 .left)) (le-leb n 10 (c .before .before .before .before .before .before .if2 .left))
+    (eq-eqb (getD line n 0) 32 (c .before .before .before .if4 .left)) (ap (λ (v : ℕ). leb v 4294967295) (sym (c .before .number .ensures)) ∙ le-leb (c .before .number .result) 4294967295 (c .if5 .left))
+
+pub parse-line-spec : {M : Type 1} → statement M
+parse-line-spec =
+    tie.close
+    (tie.spec
+    leading-digits-requires
+    returns
+    returns-2
+    returns-3
+    shared-slice-read-if4
+    returns-4
+    slice-aggregate-number
+    number-requires
+    returns-5
+    cast-t10
+    add-t5
+    returns-6)

@@ -1,0 +1,37 @@
+-- `lines::pieces::end_line` meets its contract. Assumes nothing.
+use native.Mathlib.Omega.{arith}
+use mathlib.Core.Path.{_≡_, sym, ap, _∙_}
+use Prim.Native.Nat.{_≤_}
+use lib.ListN.{length}
+use lib.Seq.{length-take-le}
+use borrow.Author.Needs.{needs}
+use Rattle.writer.specs.State.{lent}
+use Rattle.lines.proofs.Taking.{ended-put, ended-dropped}
+use Rattle.lines.proofs.pieces.end_line.Statement.{statement}
+use Rattle.lines.proofs.pieces.end_line.Tie as tie
+
+returns : tie.Need-returns
+returns c =
+    let a = c .before .before .before .before .args in
+    ended-dropped (lent (a .t .writer) (a .counts .now) (a .buf .now)) (a .room .now) (a .t .have) (c .if1 .taken)
+
+slice-aggregate-put-line : tie.Need-slice-aggregate-put-line
+slice-aggregate-put-line c =
+    let a = c .before .before .before .before .before .before .before .args in
+    let inside : a .t .have ≤ length (a .room .now) = omega arith in
+    sym (length-take-le (a .t .have) (a .room .now) inside)
+
+put-line-requires : tie.Need-put-line-requires
+put-line-requires c κs = search needs
+
+same-length : tie.Need-same-length
+same-length c = search needs
+
+returns-2 : tie.Need-returns-2
+returns-2 c =
+    let a = c .before .before .before .before .before .before .before .before .before .before .args in
+    ended-put (lent (a .t .writer) (a .counts .now) (a .buf .now)) (a .room .now) (a .t .have) _ (c .before .before .before .before .before .before .if1 .left) (c .before .before .put-line .ensures)
+
+pub end-line-spec : {M : Type 1} → statement M
+end-line-spec =
+    tie.close (tie.spec returns slice-aggregate-put-line put-line-requires same-length returns-2)

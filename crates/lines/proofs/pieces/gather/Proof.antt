@@ -1,0 +1,30 @@
+-- `lines::pieces::gather` meets its contract. Assumes nothing.
+use mathlib.Core.Path.{_≡_, refl, sym}
+use lib.ListN.{length}
+use lib.Seq.{set-out}
+use borrow.Author.Needs.{needs}
+use borrow.Author.Tests.{lt-ltb, le-ltb}
+use Rattle.lines.proofs.pieces.gather.Statement.{statement}
+use Rattle.lines.proofs.pieces.gather.Tie as tie
+
+slice-write-room : tie.Need-slice-write-room
+slice-write-room c = search needs
+
+add-result : tie.Need-add-result
+add-result c = search needs
+
+same-length : tie.Need-same-length
+same-length c = search needs
+
+returns : tie.Need-returns
+returns c =
+    let a = c .before .args in
+    (rw (lt-ltb (a .have) (length (a .room .now)) (c .if1 .taken)), refl)
+
+returns-2 : tie.Need-returns-2
+returns-2 c =
+    let a = c .before .args in
+    (rw (le-ltb (a .have) (length (a .room .now)) (c .if1 .left)), sym (set-out (a .room .now) (a .have) (a .b) (c .if1 .left)))
+
+pub gather-spec : {M : Type 1} → statement M
+gather-spec = tie.close (tie.spec slice-write-room add-result same-length returns returns-2)

@@ -1,0 +1,71 @@
+-- `lines::pieces::put_line` meets its contract. Assumes nothing.
+use native.Mathlib.Omega.{arith}
+use mathlib.Core.Path.{_≡_, sym, ap, _∙_}
+use borrow.Author.Needs.{needs}
+use Rattle.writer.specs.State.{lent}
+use Rattle.lines.specs.Lines.{formOf}
+use Rattle.lines.proofs.Forms.{named}
+use Rattle.lines.proofs.Skipped.{after-other}
+use Rattle.lines.proofs.Taking.{put-part}
+use Rattle.lines.proofs.pieces.put_line.Statement.{statement}
+use Rattle.lines.proofs.pieces.put_line.Tie as tie
+
+parse-line-requires : tie.Need-parse-line-requires
+parse-line-requires c κs = search needs
+
+enum-known-id : tie.Need-enum-known-id
+enum-known-id c = search needs
+
+sub-put : tie.Need-sub-put
+sub-put c =
+    let of-id = c .before .before .before .id in
+    let n = named (c .before .before .before .before .before .before .before .before .args .line .now) (of-id .given .0 .0) (of-id .given .0 .1 .0) (sym (c .before .before .before .before .before .parse-line .ensures) ∙ ap formOf (of-id .given .1)) in
+    let inside = n .inside in
+    omega arith
+
+part-put-start : tie.Need-part-put-start
+part-put-start c =
+    let of-id = c .before .before .before .id in
+    let n = named (c .before .before .before .before .before .before .before .before .args .line .now) (of-id .given .0 .0) (of-id .given .0 .1 .0) (sym (c .before .before .before .before .before .parse-line .ensures) ∙ ap formOf (of-id .given .1)) in
+    let inside = n .inside in
+    omega arith
+
+part-put-end : tie.Need-part-put-end
+part-put-end c = search needs
+
+put-requires : tie.Need-put-requires
+put-requires c κs = search needs
+
+enum-told : tie.Need-enum-told
+enum-told c = search needs
+
+same-length : tie.Need-same-length
+same-length c = search needs
+
+returns : tie.Need-returns
+returns c =
+    let a = c .before .before .before .before .before .before .before .before .before .before .before .before .before .args in
+    let of-id = c .before .before .before .before .before .before .before .before .id in
+    c .before .before .before .put .ensures .1
+    ∙ put-part (lent (a .w) (a .counts .now) (a .buf .now)) (a .line .now) (of-id .given .0 .0) (of-id .given .0 .1 .0)
+    (sym (c .before .before .before .before .before .before .before .before .before .before .parse-line .ensures) ∙ ap formOf (of-id .given .1))
+
+returns-2 : tie.Need-returns-2
+returns-2 c =
+    let a = c .before .before .before .before .before .args in
+    sym (after-other (lent (a .w) (a .counts .now) (a .buf .now)) (a .line .now) (sym (c .before .before .parse-line .ensures) ∙ ap formOf (c .enum-told .given .1)))
+
+pub put-line-spec : {M : Type 1} → statement M
+put-line-spec =
+    tie.close
+    (tie.spec
+    parse-line-requires
+    enum-known-id
+    sub-put
+    part-put-start
+    part-put-end
+    put-requires
+    enum-told
+    same-length
+    returns
+    returns-2)

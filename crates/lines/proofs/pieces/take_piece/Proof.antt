@@ -1,0 +1,75 @@
+-- `lines::pieces::take_piece` meets its contract: what is still to be taken makes of what was taken what the whole piece leaves. Assumes nothing.
+use Prim.Native.Nat.{_+_, _-_, _≤_}
+use native.Mathlib.Omega.{arith}
+use mathlib.Core.Path.{_≡_, refl, sym, ap, _∙_}
+use mathlib.Core.List.{List}
+use lib.ListN.{length, getD, drop}
+use borrow.Author.Needs.{needs}
+use Rattle.lines.specs.Pieces.{Gathering, gathering, takePiece}
+use Rattle.lines.proofs.Taking.{piece-turn, piece-end}
+use Rattle.lines.proofs.pieces.take_piece.Statement.{statement}
+use Rattle.lines.proofs.pieces.take_piece.Tie as tie
+
+abbrev Inv-loop : tie.InvT-loop
+Inv-loop counts₀ buf₀ room₀ piece after₀ i₀ counts buf room after i =
+    (i ≤ length piece)
+    × (takePiece (gathering after counts buf room) (drop i piece) ≡ takePiece (gathering after₀ counts₀ buf₀ room₀) piece)
+    × (length buf ≡ length buf₀)
+    × (length room ≡ length room₀)
+
+abbrev μ-loop : tie.MeasureT-loop
+μ-loop counts₀ buf₀ room₀ piece after₀ i₀ counts buf room after i = length piece - i
+
+loop-holds : tie.Need-loop-holds Inv-loop μ-loop
+loop-holds c = (omega arith, refl, refl, refl)
+
+shared-slice-read-take-byte : tie.Need-shared-slice-read-take-byte Inv-loop μ-loop
+shared-slice-read-take-byte c = omega arith
+
+take-byte-requires : tie.Need-take-byte-requires Inv-loop μ-loop
+take-byte-requires c κs = search needs
+
+add-i : tie.Need-add-i Inv-loop μ-loop
+add-i c = omega arith
+
+loop-less : tie.Need-loop-less Inv-loop μ-loop
+loop-less c = omega arith
+
+loop-again : tie.Need-loop-again Inv-loop μ-loop
+loop-again c =
+    let at = c .before .before .before .before .before .before .before .before .before .before .loop in
+    let piece = c .before .before .before .before .before .before .before .before .before .before .before .before .before .before .args .piece .now in (
+      omega arith,
+      ap (λ (g : Gathering). takePiece g (drop (at .i + 1) piece)) (c .before .before .before .before .take-byte .ensures)
+          ∙ sym (piece-turn (gathering (at .after) (at .counts) (at .buf) (at .room)) piece (at .i) (c .before .before .before .before .before .before .before .before .before .loop-test .taken))
+          ∙ at .inv .1,
+      search needs,
+      search needs,
+    )
+
+same-length : tie.Need-same-length Inv-loop μ-loop
+same-length c = search needs
+
+same-length-2 : tie.Need-same-length-2 Inv-loop μ-loop
+same-length-2 c = search needs
+
+returns : tie.Need-returns Inv-loop μ-loop
+returns c =
+    let at = c .before .loop in
+    sym (piece-end (gathering (at .after) (at .counts) (at .buf) (at .room)) (c .before .before .before .before .before .args .piece .now) (at .i) (c .loop-test .left)) ∙ at .inv .1
+
+pub take-piece-spec : {M : Type 1} → statement M
+take-piece-spec =
+    tie.close
+    (tie.spec
+    Inv-loop
+    μ-loop
+    loop-holds
+    shared-slice-read-take-byte
+    take-byte-requires
+    add-i
+    loop-less
+    loop-again
+    same-length
+    same-length-2
+    returns)

@@ -1,0 +1,64 @@
+-- An input that comes in pieces, as the code takes it. No rule of 01 stands here: proofs/Whole shows that pieces of any sizes leave what specs/Lines
+-- says that the whole input leaves.
+use Prim.Native.Nat.{ℕ, _+_}
+use mathlib.Core.Bool.{cond}
+use mathlib.Core.List.{List, [], _∷_, _++_}
+use lib.ListN.{length, take, set}
+use lib.Dec.{eqb, ltb}
+use Rattle.writer.specs.State.{State, lent}
+use Rattle.lines.specs.declared.Intake.{Intake}
+use Rattle.lines.specs.Lines.{afterLine}
+
+-- what is kept between the pieces: the writer record and its buffer, the room in which the line at hand is gathered, and how many of its bytes have come,
+-- or the room's length where the line fills it or is longer
+pub record Gathering : Type 0 where
+  pub state : State
+  pub room : List ℕ
+  pub have : ℕ
+
+-- what a call is lent, and what it leaves
+abbrev pub gathering : Intake → List ℕ → List ℕ → List ℕ → Gathering
+gathering t counts buffer room = record { state = lent (t .writer) counts buffer; room = room; have = t .have }
+
+-- at an input's start
+abbrev pub started : State → List ℕ → Gathering
+started s room = record { state = s; room = room; have = 0 }
+
+-- one byte more of the line at hand: it is stored and counted while there is room (`set` past the end of a list changes nothing)
+abbrev pub counted : List ℕ → ℕ → ℕ
+counted room have = cond (ltb have (length room)) (have + 1) have
+
+unfoldable pub gathered : Gathering → ℕ → Gathering
+gathered g b = record { state = g .state; room = set (g .room) (g .have) b; have = counted (g .room) (g .have) }
+
+-- the line at hand has ended; one that fills the room is dropped
+unfoldable pub lineEnded : Gathering → Gathering
+lineEnded g =
+    record {
+      state = cond (ltb (g .have) (length (g .room))) (afterLine (g .state) (take (g .have) (g .room))) (g .state);
+      room = g .room;
+      have = 0;
+    }
+
+unfoldable pub takeByte : Gathering → ℕ → Gathering
+takeByte g b = cond (eqb b 10) (lineEnded g) (gathered g b)
+
+-- the bytes of a piece, one after the other
+unfoldable pub takePiece : Gathering → List ℕ → Gathering
+takePiece g [] = g
+takePiece g (b ∷ bs) = takePiece (takeByte g b) bs
+
+-- pieces
+unfoldable pub takePieces : Gathering → List (List ℕ) → Gathering
+takePieces g [] = g
+takePieces g (p ∷ ps) = takePieces (takePiece g p) ps
+
+-- the input that they make up
+unfoldable pub joined : List (List ℕ) → List ℕ
+joined [] = []
+joined (p ∷ ps) = p ++ joined ps
+
+-- the input's end ends the last line, too
+unfoldable pub inputEnded : Gathering → State
+unfolding lineEnded
+inputEnded g = lineEnded g .state
