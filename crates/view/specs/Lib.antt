@@ -1,0 +1,2 @@
+-- What the view adds to the definitions of reading.
+pub mod Num

@@ -1,0 +1,90 @@
+// A view of an image (reference `CQDB`): a struct that holds the slice, and thin calls of the functions on plain slices, whose
+// promises are theirs.
+ghost use mathlib.Core.Path.{_≡_};
+ghost use Rattle.reader.specs.Open.{opening};
+ghost use Rattle.reader.specs.Lookup.{lookup};
+ghost use Rattle.reader.specs.Naming.{naming, namePart};
+ghost use Rattle.reader.specs.Walk.{step, home};
+ghost use Rattle.reader.specs.Answers.{openedOf, lookupOf, namingOf, steppedOf};
+ghost use Rattle.view.specs.Num.{numOf};
+use reader::Iter;
+use reader::Named;
+use reader::Opened;
+use reader::Stepped;
+use reader::ToId;
+
+pub struct CQDB<'a> {
+    pub image: &'a [u8],
+}
+
+// The number of associations that opening answers, 0 where it refuses.
+pub fn num_of(image: &[u8]) -> u32
+    ensures { λ r. ⌜ r ≡ numOf (opening (now (image .entry))) ⌝ }
+{
+    match reader::open(image) {
+        Opened::Num(n) => n,
+        Opened::TooShort => 0,
+        Opened::WrongLetters => 0,
+        Opened::WrongByteOrder => 0,
+        Opened::TableLeaves => 0,
+        Opened::BackLeaves => 0,
+    }
+}
+
+impl<'a> CQDB<'a> {
+    // A view of the slice, whatever its bytes.
+    pub fn new(image: &'a [u8]) -> CQDB<'a>
+        ensures { λ r. ⌜ r .image ≡ image .entry ⌝ }
+    {
+        CQDB { image }
+    }
+
+    pub fn open(self) -> Opened
+        ensures { λ r. ⌜ openedOf r ≡ opening (now (self .entry .image)) ⌝ }
+    {
+        reader::open(self.image)
+    }
+
+    pub fn num(self) -> u32
+        ensures { λ r. ⌜ r ≡ numOf (opening (now (self .entry .image))) ⌝ }
+    {
+        num_of(self.image)
+    }
+
+    pub fn to_id(self, name: &[u8]) -> ToId
+        ensures { λ r. ⌜ lookupOf r ≡ lookup (now (self .entry .image)) (now (name .entry)) ⌝ }
+    {
+        reader::to_id(self.image, name)
+    }
+
+    pub fn to_str(self, id: u32) -> Named
+        ensures { λ r. ⌜ namingOf r ≡ naming (now (self .entry .image)) id ⌝ }
+    {
+        reader::to_str(self.image, id)
+    }
+
+    pub fn name(self, id: u32) -> &'a [u8]
+        ensures { λ r. ⌜ now r ≡ namePart (now (self .entry .image)) id ⌝ }
+    {
+        reader::name(self.image, id)
+    }
+
+    pub fn next(self, walk: Iter) -> Stepped
+        ensures { λ r. ⌜ steppedOf r ≡ step (now (self .entry .image)) (walk .next) ⌝ }
+    {
+        reader::walk::next(self.image, walk)
+    }
+
+    pub fn home(self, id: u32) -> bool
+        ensures { λ r. ⌜ r ≡ home (now (self .entry .image)) id ⌝ }
+    {
+        reader::home(self.image, id)
+    }
+}
+
+// The part of an image that is an id's name, by a view. Whoever calls it needs nothing of a view.
+pub fn name_of<'a>(image: &'a [u8], id: u32) -> &'a [u8]
+    ensures { λ r. ⌜ now r ≡ namePart (now (image .entry)) id ⌝ }
+{
+    CQDB::new(image).name(id)
+}
