@@ -1,52 +1,58 @@
--- `hash_replay::replay` meets its contract: each line has a byte of the text, or its line feed, to itself. Assumes nothing.
+-- `hash_replay::replay` is safe and ends. The measure is what is left of the text. Assumes nothing.
 use mathlib.Core.Path.{_≡_}
-use Prim.Native.Nat.{_≤_, _-_, _+_}
-use native.Mathlib.Omega.{arith}
+use Prim.Native.Nat.{_-_}
 use lib.ListN.{length}
+use borrow.Author.Needs.{needs}
 use Rattle.hash_replay.proofs.replay.Statement.{statement}
 use Rattle.hash_replay.proofs.replay.Tie as tie
 
 abbrev Inv-loop : tie.InvT-loop
-Inv-loop text room₀ counts₀ at₀ room counts at = (counts .equal + counts .different + counts .malformed ≤ at) × (counts .equal + counts .different + counts .malformed ≤ length text) × (length room ≡ length room₀)
+Inv-loop text room₀ counts₀ at₀ room counts at = length room ≡ length room₀
 
 abbrev μ-loop : tie.MeasureT-loop
 μ-loop text room₀ counts₀ at₀ room counts at = length text - at
 
+no-lines-requires : tie.Need-no-lines-requires Inv-loop μ-loop
+no-lines-requires c κs = search needs
+
 loop-holds : tie.Need-loop-holds Inv-loop μ-loop
-loop-holds c = omega arith
+loop-holds c = search needs
 
-line-end-requires : tie.Need-line-end-requires Inv-loop μ-loop
-line-end-requires c κs = omega arith
+find-requires : tie.Need-find-requires Inv-loop μ-loop
+find-requires c κs = search needs
 
-sub-verdict-of : tie.Need-sub-verdict-of Inv-loop μ-loop
-sub-verdict-of c = omega arith
+sub-line : tie.Need-sub-line Inv-loop μ-loop
+sub-line c = search needs
 
-part-verdict-of-start : tie.Need-part-verdict-of-start Inv-loop μ-loop
-part-verdict-of-start c = omega arith
+part-line-start : tie.Need-part-line-start Inv-loop μ-loop
+part-line-start c = search needs
 
-part-verdict-of-end : tie.Need-part-verdict-of-end Inv-loop μ-loop
-part-verdict-of-end c = omega arith
-
-verdict-of-requires : tie.Need-verdict-of-requires Inv-loop μ-loop
-verdict-of-requires c κs = omega arith
-
-counted-requires : tie.Need-counted-requires Inv-loop μ-loop
-counted-requires c κs = omega arith
+part-line-end : tie.Need-part-line-end Inv-loop μ-loop
+part-line-end c = search needs
 
 add-at : tie.Need-add-at Inv-loop μ-loop
-add-at c = omega arith
+add-at c = search needs
+
+verdict-of-requires : tie.Need-verdict-of-requires Inv-loop μ-loop
+verdict-of-requires c κs = search needs
+
+report-requires : tie.Need-report-requires Inv-loop μ-loop
+report-requires c κs = search needs
+
+counted-requires : tie.Need-counted-requires Inv-loop μ-loop
+counted-requires c κs = search needs
 
 loop-less : tie.Need-loop-less Inv-loop μ-loop
-loop-less c = omega arith
+loop-less c = search needs
 
 loop-again : tie.Need-loop-again Inv-loop μ-loop
-loop-again c = omega arith
+loop-again c = search needs
 
 same-length : tie.Need-same-length Inv-loop μ-loop
-same-length c = omega arith
+same-length c = search needs
 
 returns : tie.Need-returns Inv-loop μ-loop
-returns c = omega arith
+returns c = search needs
 
 pub replay-spec : {M : Type 1} → statement M
 replay-spec =
@@ -54,14 +60,16 @@ replay-spec =
     (tie.spec
     Inv-loop
     μ-loop
+    no-lines-requires
     loop-holds
-    line-end-requires
-    sub-verdict-of
-    part-verdict-of-start
-    part-verdict-of-end
-    verdict-of-requires
-    counted-requires
+    find-requires
+    sub-line
+    part-line-start
+    part-line-end
     add-at
+    verdict-of-requires
+    report-requires
+    counted-requires
     loop-less
     loop-again
     same-length

@@ -1,0 +1,2 @@
+-- Laws of the definitions, step by step as the loops go.
+pub mod Steps

@@ -1,0 +1,3 @@
+-- What the lines of a replay mean: numbers and bytes in hexadecimal digits, and the counts of verdicts.
+pub mod Hex
+pub mod Verdicts

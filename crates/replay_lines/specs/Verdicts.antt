@@ -1,0 +1,18 @@
+-- How many lines had each verdict.
+use Prim.Native.Nat.{ℕ, _+_}
+use mathlib.Core.Bool.{cond}
+use lib.Dec.{ltb}
+use Rattle.replay_lines.specs.declared.Counts.{Counts}
+use Rattle.replay_lines.specs.declared.Verdict.{Verdict}
+use Rattle.replay_lines.specs.declared.Verdict.the-variants.{Equal, Different, Malformed, Silent}
+
+-- one more; the largest number of 64 bits stays
+abbrev pub more : ℕ → ℕ
+more n = cond (ltb n 18446744073709551615) (n + 1) n
+
+-- a line that asks for no answer is not counted
+abbrev pub countedWith : Counts → Verdict → Counts
+countedWith c Equal = record { equal = more (c .equal); different = c .different; malformed = c .malformed }
+countedWith c Different = record { equal = c .equal; different = more (c .different); malformed = c .malformed }
+countedWith c Malformed = record { equal = c .equal; different = c .different; malformed = more (c .malformed) }
+countedWith c Silent = c
