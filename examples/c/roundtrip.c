@@ -1,0 +1,130 @@
+/* Builds images in one buffer, reads them back, and checks what it gets. Ends with status 1 where something differs.
+
+       rt staticlib cqdb_c
+       cc -I include examples/c/roundtrip.c target/staticlib/libcqdb_c.a -o roundtrip && ./roundtrip */
+#include <stdio.h>
+#include <string.h>
+
+#include "cqdb.h"
+
+static unsigned checked, different;
+
+static void expect(int so, const char *what) {
+    checked++;
+    if (!so) {
+        different++;
+        fprintf(stderr, "roundtrip: not so: %s\n", what);
+    }
+}
+
+static const uint8_t *bytes(const char *name) {
+    return (const uint8_t *)name;
+}
+
+typedef struct {
+    const char *name;
+    uint32_t id;
+} pair;
+
+static const pair puts_in_order[] = {{"A", 0}, {"B", 3}, {"C", 0}, {"", 1}, {"prism 7", 2}};
+#define PUTS (sizeof puts_in_order / sizeof puts_in_order[0])
+
+/* Each put adds 25 bytes and its name; the back array of a two-way image has a word for each id up to the largest. */
+#define SIZE_ONEWAY (2072 + PUTS * 25 + 10)
+#define SIZE_TWOWAY (SIZE_ONEWAY + 4 * 4)
+
+/* Begins, puts, closes: gives the image's size, 0 where a call was refused. */
+static uint32_t build(cqdb_writer *w, uint32_t mode, uint8_t *buf, size_t len) {
+    if (cqdb_begin(w, mode, buf, len) != 0) {
+        return 0;
+    }
+    for (size_t i = 0; i < PUTS; i++) {
+        const pair *p = &puts_in_order[i];
+        if (cqdb_put(w, buf, len, bytes(p->name), strlen(p->name), p->id) != 0) {
+            return 0;
+        }
+    }
+    cqdb_close_answer closed = cqdb_close(w, buf, len);
+    return closed.refusal == 0 ? closed.size : 0;
+}
+
+static int finds(const uint8_t *image, size_t len, const char *name, uint32_t id) {
+    cqdb_id_answer a = cqdb_to_id(image, len, bytes(name), strlen(name));
+    return a.found == 1 && a.id == id && a.buckets >= 1;
+}
+
+static int gives(const uint8_t *image, size_t len, uint32_t id, const char *name) {
+    cqdb_str_answer a = cqdb_to_str(image, len, id);
+    return a.found == 1 && a.len == strlen(name) && memcmp(image + a.start, name, a.len) == 0;
+}
+
+static void check_names(const uint8_t *image, size_t len) {
+    cqdb_open_answer opened = cqdb_open(image, len);
+    expect(opened.refusal == 0 && opened.num == PUTS, "the image opens and has five associations");
+    for (size_t i = 0; i < PUTS; i++) {
+        expect(finds(image, len, puts_in_order[i].name, puts_in_order[i].id), "a name finds its id");
+    }
+    cqdb_id_answer none = cqdb_to_id(image, len, bytes("D"), 1);
+    expect(none.found == 0 && none.id == 0, "a name that was never put finds nothing");
+}
+
+static void check_two_way(cqdb_writer *w, uint8_t *buf, size_t len) {
+    uint32_t size = build(w, CQDB_TWOWAY, buf, len);
+    expect(size == SIZE_TWOWAY, "the two-way image's size");
+    check_names(buf, size);
+    expect(gives(buf, size, 0, "C"), "id 0 gives the name of its last put");
+    expect(gives(buf, size, 1, ""), "id 1 gives the empty name");
+    expect(gives(buf, size, 2, "prism 7") && gives(buf, size, 3, "B"), "ids 2 and 3 give their names");
+    cqdb_str_answer none = cqdb_to_str(buf, size, 4);
+    expect(none.found == 0 && none.start == 0 && none.len == 0, "id 4 gives nothing");
+    uint32_t steps = 0;
+    while (cqdb_to_str(buf, size, steps).found) {
+        expect(cqdb_size_hint(buf, size, steps) == 4 - steps, "the hint counts down");
+        steps++;
+    }
+    expect(steps == 4 && cqdb_size_hint(buf, size, steps) == 0, "a walk has four steps");
+    expect(cqdb_home(buf, size, 0) == 1 && cqdb_home(buf, size, 4) == 0, "0 is home, 4 is not");
+}
+
+static void check_one_way(cqdb_writer *w, uint8_t *buf, size_t len) {
+    uint32_t size = build(w, CQDB_ONEWAY, buf, len);
+    expect(size == SIZE_ONEWAY, "the one-way image's size");
+    check_names(buf, size);
+    expect(cqdb_to_str(buf, size, 0).found == 0, "a one-way image names no id");
+    expect(cqdb_size_hint(buf, size, 0) == 0, "nor is there anything to walk");
+    expect(w->mode == CQDB_ONEWAY && w->entries == PUTS && w->back == 0, "the writer's numbers");
+    expect(w->length == len && w->end == 2072 + PUTS * 9 + 10, "and its length and end");
+}
+
+/* Refused calls give their number and change neither the buffer nor the writer. */
+static void check_refused(cqdb_writer *w, uint8_t *buf, size_t len) {
+    static uint8_t buf_before[4096];
+    expect(build(w, CQDB_TWOWAY, buf, len) == SIZE_TWOWAY, "the image is built again");
+    cqdb_writer w_before = *w;
+    memcpy(buf_before, buf, len);
+    expect(cqdb_begin(w, CQDB_TWOWAY, buf, 2071) == 1, "begin: a buffer of 2,071 bytes");
+    expect(cqdb_begin(w, 2, buf, len) == 2, "begin: a mode that is none");
+    expect(cqdb_put(w, buf, len - 1, bytes("E"), 1, 5) == 2, "put: another buffer's writer");
+    expect(cqdb_put(w, buf, len, bytes("E"), 1, UINT32_MAX) == 3, "put: no room for 2^32 ids");
+    expect(cqdb_close(w, buf, len - 1).refusal == 2, "close: another buffer's writer");
+    expect(memcmp(w, &w_before, sizeof *w) == 0, "the writer is as it was");
+    w->back = 5;
+    expect(cqdb_close(w, buf, len).refusal == 4, "close: a back size that the entries do not have");
+    w->back = 4;
+    expect(memcmp(buf, buf_before, len) == 0, "the buffer is as it was");
+    buf[0] = 'c';
+    expect(cqdb_open(buf, len).refusal == 5, "open: wrong letters");
+    expect(cqdb_open(buf, 2071).refusal == 1, "open: 2,071 bytes");
+}
+
+int main(void) {
+    static uint8_t buf[4096];
+    static cqdb_writer w;
+    cqdb_hash_answer hashed = cqdb_hash(bytes("A"), 1, 0);
+    expect(hashed.refusal == 0 && hashed.hash == 0x89284101, "the hash of A");
+    check_two_way(&w, buf, sizeof buf);
+    check_one_way(&w, buf, sizeof buf);
+    check_refused(&w, buf, sizeof buf);
+    printf("roundtrip: %u checked, %u different\n", checked, different);
+    return different > 0;
+}

@@ -1,0 +1,112 @@
+//! The archive's functions as include/cqdb.h declares them, each behind a safe one: a slice is a pointer that is valid for
+//! its length and not null, a `&mut` overlaps nothing, and no function keeps a pointer.
+
+#[repr(C)]
+pub struct HashAnswer {
+    pub refusal: u32,
+    pub hash: u32,
+}
+
+#[repr(C)]
+pub struct OpenAnswer {
+    pub refusal: u32,
+    pub num: u32,
+}
+
+#[repr(C)]
+pub struct IdAnswer {
+    pub found: u32,
+    pub id: u32,
+    pub buckets: u32,
+}
+
+#[repr(C)]
+pub struct StrAnswer {
+    pub found: u64,
+    pub start: u64,
+    pub len: u64,
+}
+
+#[repr(C)]
+#[derive(Clone, Copy, Debug)]
+pub struct Record {
+    pub mode: u32,
+    pub entries: u32,
+    pub back: u32,
+    pub length: u64,
+    pub end: u64,
+}
+
+/// What begin and put answer.
+#[repr(C)]
+pub struct RecordAnswer {
+    pub refusal: u32,
+    pub record: Record,
+}
+
+#[repr(C)]
+pub struct CloseAnswer {
+    pub refusal: u32,
+    pub size: u32,
+    pub record: Record,
+}
+
+/// The table counts of a writer.
+pub type Counts = [u32; 256];
+
+extern "C" {
+    fn cqdb_hash(name: *const u8, len: usize, start: u32) -> HashAnswer;
+    fn cqdb_open(image: *const u8, len: usize) -> OpenAnswer;
+    fn cqdb_to_id(image: *const u8, len: usize, name: *const u8, name_len: usize) -> IdAnswer;
+    fn cqdb_to_str(image: *const u8, len: usize, id: u32) -> StrAnswer;
+    fn cqdb_size_hint(image: *const u8, len: usize, next: u32) -> u32;
+    fn cqdb_home(image: *const u8, len: usize, id: u32) -> u32;
+    fn cqdb_begin_parts(mode: u32, counts: *mut u32, buf: *const u8, len: usize) -> RecordAnswer;
+    fn cqdb_put_parts(
+        record: Record,
+        counts: *mut u32,
+        buf: *mut u8,
+        len: usize,
+        name: *const u8,
+        name_len: usize,
+        id: u32,
+    ) -> RecordAnswer;
+    fn cqdb_close_parts(record: Record, counts: *const u32, buf: *mut u8, len: usize) -> CloseAnswer;
+}
+
+pub fn hash(name: &[u8], start: u32) -> HashAnswer {
+    unsafe { cqdb_hash(name.as_ptr(), name.len(), start) }
+}
+
+pub fn open(image: &[u8]) -> OpenAnswer {
+    unsafe { cqdb_open(image.as_ptr(), image.len()) }
+}
+
+pub fn to_id(image: &[u8], name: &[u8]) -> IdAnswer {
+    unsafe { cqdb_to_id(image.as_ptr(), image.len(), name.as_ptr(), name.len()) }
+}
+
+pub fn to_str(image: &[u8], id: u32) -> StrAnswer {
+    unsafe { cqdb_to_str(image.as_ptr(), image.len(), id) }
+}
+
+pub fn size_hint(image: &[u8], next: u32) -> u32 {
+    unsafe { cqdb_size_hint(image.as_ptr(), image.len(), next) }
+}
+
+pub fn home(image: &[u8], id: u32) -> bool {
+    unsafe { cqdb_home(image.as_ptr(), image.len(), id) == 1 }
+}
+
+pub fn begin(mode: u32, counts: &mut Counts, buf: &[u8]) -> RecordAnswer {
+    unsafe { cqdb_begin_parts(mode, counts.as_mut_ptr(), buf.as_ptr(), buf.len()) }
+}
+
+pub fn put(record: Record, counts: &mut Counts, buf: &mut [u8], name: &[u8], id: u32) -> RecordAnswer {
+    let (buf, len) = (buf.as_mut_ptr(), buf.len());
+    unsafe { cqdb_put_parts(record, counts.as_mut_ptr(), buf, len, name.as_ptr(), name.len(), id) }
+}
+
+pub fn close(record: Record, counts: &Counts, buf: &mut [u8]) -> CloseAnswer {
+    unsafe { cqdb_close_parts(record, counts.as_ptr(), buf.as_mut_ptr(), buf.len()) }
+}

@@ -1,0 +1,100 @@
+//! Reading an image.
+use std::fmt;
+use std::iter::FusedIterator;
+
+use crate::archive;
+use crate::refusal::{self, Refusal};
+
+/// An opened image.
+#[derive(Clone, Copy)]
+pub struct CQDB<'a> {
+    image: &'a [u8],
+    num: u32,
+}
+
+impl<'a> CQDB<'a> {
+    /// Opens an image; bytes may follow it.
+    pub fn new(image: &'a [u8]) -> Result<Self, Refusal> {
+        let answer = archive::open(image);
+        refusal::or(answer.refusal, CQDB { image, num: answer.num })
+    }
+
+    /// The number of associations.
+    pub fn num(&self) -> u32 {
+        self.num
+    }
+
+    /// The id of a name, of its first put.
+    pub fn to_id(&self, name: &str) -> Option<u32> {
+        self.to_id_bytes(name.as_bytes())
+    }
+
+    /// The id of a name that may be any bytes.
+    pub fn to_id_bytes(&self, name: &[u8]) -> Option<u32> {
+        self.lookup(name).0
+    }
+
+    /// The id of a name, and how many buckets were read to find out, the deciding one included.
+    pub fn lookup(&self, name: &[u8]) -> (Option<u32>, u32) {
+        let answer = archive::to_id(self.image, name);
+        ((answer.found == 1).then_some(answer.id), answer.buckets)
+    }
+
+    /// The name of an id, of its last put. A one-way image names none.
+    pub fn to_str(&self, id: u32) -> Option<&'a [u8]> {
+        let answer = archive::to_str(self.image, id);
+        let (start, len) = (answer.start as usize, answer.len as usize);
+        (answer.found == 1).then(|| &self.image[start..start + len])
+    }
+
+    /// Has the id a name whose lookup finds this id?
+    pub fn home(&self, id: u32) -> bool {
+        archive::home(self.image, id)
+    }
+
+    /// The ids and their names from id 0 on, up to the first id that has none.
+    pub fn iter(&self) -> Iter<'a> {
+        Iter { db: *self, next: 0 }
+    }
+}
+
+impl fmt::Debug for CQDB<'_> {
+    fn fmt(&self, f: &mut fmt::Formatter<'_>) -> fmt::Result {
+        f.debug_struct("CQDB").field("len", &self.image.len()).field("num", &self.num).finish()
+    }
+}
+
+/// A walk over the ids and names of an image.
+#[derive(Clone, Debug)]
+pub struct Iter<'a> {
+    db: CQDB<'a>,
+    next: u32,
+}
+
+impl<'a> Iterator for Iter<'a> {
+    type Item = (u32, &'a [u8]);
+
+    fn next(&mut self) -> Option<Self::Item> {
+        let id = self.next;
+        let name = self.db.to_str(id)?;
+        // An id that has a name is below the back size, and so below 4,294,967,295.
+        self.next += 1;
+        Some((id, name))
+    }
+
+    fn size_hint(&self) -> (usize, Option<usize>) {
+        (0, Some(archive::size_hint(self.db.image, self.next) as usize))
+    }
+}
+
+// A walk that ended stands before an id that has no name, and stays there.
+impl FusedIterator for Iter<'_> {}
+
+impl<'a> IntoIterator for &CQDB<'a> {
+    type Item = (u32, &'a [u8]);
+    type IntoIter = Iter<'a>;
+
+    fn into_iter(self) -> Iter<'a> {
+        self.iter()
+    }
+}

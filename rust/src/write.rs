@@ -1,0 +1,107 @@
+//! Writing an image.
+use std::fmt;
+
+use crate::archive::{self, Counts, Record};
+use crate::refusal::{self, Refusal};
+
+/// The head of an image, which the entries follow.
+const HEAD: usize = 2_072;
+/// The first buffer; it grows by need.
+const FIRST: usize = 4_096;
+/// No image is larger.
+const LIMIT: u64 = 4_294_967_295;
+
+/// Whether an image names ids.
+#[derive(Clone, Copy, Debug, Default, PartialEq, Eq, Hash)]
+pub enum Flag {
+    /// Two-way: names to ids and ids to names.
+    #[default]
+    NONE,
+    /// One-way: the array that names ids is left out.
+    ONEWAY,
+}
+
+/// Builds an image in memory.
+#[derive(Clone)]
+pub struct CQDBWriter {
+    buffer: Vec<u8>,
+    record: Record,
+    counts: Counts,
+}
+
+impl CQDBWriter {
+    /// A writer of a two-way image.
+    pub fn new() -> Self {
+        Self::with_flag(Flag::NONE)
+    }
+
+    /// A writer with a flag.
+    pub fn with_flag(flag: Flag) -> Self {
+        let buffer = vec![0; FIRST];
+        let mut counts = [0; 256];
+        let begun = archive::begin(flag as u32, &mut counts, &buffer);
+        assert_eq!(begun.refusal, 0, "begin accepts every buffer of 2,072 bytes or more");
+        CQDBWriter { buffer, record: begun.record, counts }
+    }
+
+    /// Puts a name, any bytes, under an id. Of a name's puts the first gives its id, of an id's puts the last gives its
+    /// name. Refused with [`Refusal::NoRoom`], and nothing changes, when the image would exceed 4,294,967,295 bytes; a
+    /// two-way image has four bytes for each id up to the largest.
+    pub fn put<K: AsRef<[u8]>>(&mut self, name: K, id: u32) -> Result<(), Refusal> {
+        let name = name.as_ref();
+        match self.put_here(name, id) {
+            Err(Refusal::NoRoom) if self.grow(name.len(), id) => self.put_here(name, id),
+            answer => answer,
+        }
+    }
+
+    /// The finished image.
+    pub fn finish(mut self) -> Result<Vec<u8>, Refusal> {
+        let closed = archive::close(self.record, &self.counts, &mut self.buffer);
+        self.buffer.truncate(closed.size as usize);
+        refusal::or(closed.refusal, self.buffer)
+    }
+
+    fn put_here(&mut self, name: &[u8], id: u32) -> Result<(), Refusal> {
+        let answer = archive::put(self.record, &mut self.counts, &mut self.buffer, name, id);
+        self.record = answer.record;
+        refusal::or(answer.refusal, ())
+    }
+
+    /// A larger buffer with the same entries, where one can hold the image after this put; the writer is then as if it
+    /// had begun with that buffer. Whether the put is accepted there, the archive says.
+    fn grow(&mut self, name_len: usize, id: u32) -> bool {
+        let needed = self.size_with(name_len, id);
+        if needed > LIMIT {
+            return false;
+        }
+        let end = self.record.end as usize;
+        let length = needed.max(2 * self.record.length).min(LIMIT);
+        let mut larger = vec![0; length as usize];
+        larger[HEAD..end].copy_from_slice(&self.buffer[HEAD..end]);
+        self.buffer = larger;
+        self.record.length = length;
+        true
+    }
+
+    /// The size of the finished image after a put.
+    fn size_with(&self, name_len: usize, id: u32) -> u64 {
+        let back = match self.record.mode {
+            0 => u64::from(self.record.back).max(u64::from(id) + 1),
+            _ => 0,
+        };
+        self.record.end + (name_len as u64 + 9) + 16 * (u64::from(self.record.entries) + 1) + 4 * back
+    }
+}
+
+impl Default for CQDBWriter {
+    fn default() -> Self {
+        Self::new()
+    }
+}
+
+impl fmt::Debug for CQDBWriter {
+    fn fmt(&self, f: &mut fmt::Formatter<'_>) -> fmt::Result {
+        f.debug_struct("CQDBWriter").field("record", &self.record).finish_non_exhaustive()
+    }
+}

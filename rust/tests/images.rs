@@ -1,0 +1,172 @@
+//! Images built and read back through the safe calls.
+use cqdb::{jhash, CQDBWriter, Flag, Refusal, CQDB};
+
+fn image(flag: Flag, puts: &[(&[u8], u32)]) -> Vec<u8> {
+    let mut writer = CQDBWriter::with_flag(flag);
+    for (name, id) in puts {
+        writer.put(name, *id).expect("there is room");
+    }
+    writer.finish().expect("a finished writer is consistent")
+}
+
+#[test]
+fn first_name_last_id() {
+    let image = image(Flag::NONE, &[(b"A", 0), (b"B", 3), (b"C", 0)]);
+    assert_eq!(image.len(), 2_166);
+    let db = CQDB::new(&image).unwrap();
+    assert_eq!(db.num(), 3);
+    assert_eq!([db.to_id("A"), db.to_id("B"), db.to_id("C"), db.to_id("D")], [Some(0), Some(3), Some(0), None]);
+    assert_eq!([db.to_str(0), db.to_str(3)], [Some(&b"C"[..]), Some(&b"B"[..])]);
+    assert_eq!([db.to_str(1), db.to_str(4), db.to_str(u32::MAX)], [None; 3]);
+    assert_eq!(db.iter().collect::<Vec<_>>(), [(0, &b"C"[..])]);
+}
+
+#[test]
+fn home() {
+    let image = image(Flag::NONE, &[(b"A", 5), (b"A", 9)]);
+    let db = CQDB::new(&image).unwrap();
+    assert_eq!((db.to_id("A"), db.to_str(9)), (Some(5), Some(&b"A"[..])));
+    assert_eq!([db.home(5), db.home(9), db.home(0)], [true, false, false]);
+}
+
+#[test]
+fn any_bytes_are_a_name() {
+    let long = vec![0xff; 100_000];
+    let names: [&[u8]; 5] = [b"", b"\0", b"\xff\xfe", "Grüße".as_bytes(), &long];
+    let puts: Vec<_> = names.iter().zip(0..).map(|(name, id)| (*name, id)).collect();
+    let image = image(Flag::NONE, &puts);
+    let db = CQDB::new(&image).unwrap();
+    for (name, id) in puts {
+        assert_eq!(db.to_id_bytes(name), Some(id));
+        assert_eq!(db.to_str(id), Some(name));
+    }
+    assert_eq!(db.to_id("Grüße"), Some(3));
+}
+
+#[test]
+fn the_buffer_grows() {
+    let name = |id: u32| format!("prism {id}");
+    for flag in [Flag::NONE, Flag::ONEWAY] {
+        let mut writer = CQDBWriter::with_flag(flag);
+        for id in 0..20_000 {
+            writer.put(name(id), id).unwrap();
+        }
+        let image = writer.finish().unwrap();
+        let names: usize = (0..20_000).map(|id| 25 + name(id).len()).sum();
+        assert_eq!(image.len(), 2_072 + names + if flag == Flag::NONE { 80_000 } else { 0 });
+        let db = CQDB::new(&image).unwrap();
+        assert_eq!(db.num(), 20_000);
+        for id in 0..20_000 {
+            let (found, buckets) = db.lookup(name(id).as_bytes());
+            assert_eq!(found, Some(id));
+            assert!((1..=20_000).contains(&buckets));
+            assert_eq!(db.to_str(id), (flag == Flag::NONE).then_some(name(id).as_bytes()));
+        }
+    }
+}
+
+#[test]
+fn one_put_may_need_much_room() {
+    let image = image(Flag::NONE, &[(b"far", 1_000_000)]);
+    assert_eq!(image.len(), 2_072 + 28 + 4 * 1_000_001);
+    assert_eq!(CQDB::new(&image).unwrap().to_str(1_000_000), Some(&b"far"[..]));
+}
+
+#[test]
+fn too_large_is_refused_and_changes_nothing() {
+    let mut writer = CQDBWriter::new();
+    writer.put("A", 5).unwrap();
+    for id in [u32::MAX, u32::MAX - 1, 1 << 30, (1 << 30) - 532] {
+        assert_eq!(writer.put("B", id), Err(Refusal::NoRoom));
+    }
+    writer.put("C", 6).unwrap();
+    assert_eq!(writer.finish().unwrap(), image(Flag::NONE, &[(b"A", 5), (b"C", 6)]));
+    let one_way = image(Flag::ONEWAY, &[(b"A", u32::MAX)]);
+    assert_eq!(one_way.len(), 2_098);
+    assert_eq!(CQDB::new(&one_way).unwrap().to_id("A"), Some(u32::MAX));
+}
+
+#[test]
+fn walks_and_their_hints() {
+    let image = image(Flag::NONE, &[(b"zero", 0), (b"one", 1), (b"five", 5)]);
+    let db = CQDB::new(&image).unwrap();
+    let mut walk = db.iter();
+    assert_eq!(walk.size_hint(), (0, Some(6)));
+    assert_eq!(walk.next(), Some((0, &b"zero"[..])));
+    assert_eq!(walk.next(), Some((1, &b"one"[..])));
+    assert_eq!(walk.size_hint(), (0, Some(4)));
+    assert_eq!([walk.next(), walk.next()], [None, None]);
+    assert_eq!((&db).into_iter().map(|(id, _)| id).collect::<Vec<_>>(), [0, 1]);
+}
+
+#[test]
+fn a_one_way_image_has_no_walk() {
+    let one_way = image(Flag::ONEWAY, &[(b"zero", 0)]);
+    let mut none = CQDB::new(&one_way).unwrap().iter();
+    assert_eq!((none.size_hint(), none.next()), ((0, Some(0)), None));
+}
+
+#[test]
+fn an_empty_image() {
+    let image = CQDBWriter::default().finish().unwrap();
+    assert_eq!(image.len(), 2_072);
+    let db = CQDB::new(&image).unwrap();
+    assert_eq!((db.num(), db.to_id(""), db.to_str(0), db.iter().next()), (0, None, None, None));
+}
+
+#[test]
+fn what_open_refuses() {
+    let good = image(Flag::NONE, &[(b"A", 0)]);
+    let refused = |at: usize, value: u32| {
+        let mut bad = good.clone();
+        bad[at..at + 4].copy_from_slice(&value.to_le_bytes());
+        CQDB::new(&bad).map(|db| db.num())
+    };
+    assert_eq!(CQDB::new(&good[..2_071]).err(), Some(Refusal::TooShort));
+    assert_eq!(refused(0, 0), Err(Refusal::WrongLetters));
+    assert_eq!(refused(12, 0), Err(Refusal::WrongByteOrder));
+    assert_eq!(refused(24, good.len() as u32 + 1), Err(Refusal::TableLeaves));
+    assert_eq!(refused(20, good.len() as u32 - 3), Err(Refusal::BackLeaves));
+    assert_eq!(refused(4, 0), Ok(1));
+    let numbers = [Refusal::TooShort, Refusal::WrongLetters, Refusal::BackLeaves].map(Refusal::number);
+    assert_eq!(numbers, [1, 5, 8]);
+}
+
+#[test]
+fn a_refusal_is_an_io_error() {
+    let open = |bytes: &[u8]| -> std::io::Result<u32> { Ok(CQDB::new(bytes)?.num()) };
+    let error = open(b"CQDB").unwrap_err();
+    let inner = error.get_ref().and_then(|e| e.downcast_ref::<Refusal>());
+    assert_eq!(inner, Some(&Refusal::TooShort));
+}
+
+/// Every byte of an image changed, one at a time: whatever opens is searched, named and walked without a fault.
+#[test]
+fn damaged_images() {
+    let good = image(Flag::NONE, &[(b"A", 0), (b"B", 1), (b"C", 2)]);
+    let mut opened = 0;
+    for at in 0..good.len() {
+        for change in [1, 0x80, 0xff] {
+            let mut bad = good.clone();
+            bad[at] ^= change;
+            let Ok(db) = CQDB::new(&bad) else { continue };
+            opened += 1;
+            for name in ["A", "B", "C", "D"] {
+                let (found, buckets) = db.lookup(name.as_bytes());
+                assert!(buckets > 0 || found.is_none());
+            }
+            for id in 0..4 {
+                assert!(db.to_str(id).is_none_or(|name| name.len() < bad.len()));
+                assert!(!db.home(id) || db.to_str(id).is_some());
+            }
+            assert!(db.iter().count() <= 3);
+        }
+    }
+    assert!(opened > good.len());
+}
+
+#[test]
+fn hashes_of_lookup3() {
+    assert_eq!(jhash(b"A", 0), Ok(0x8928_4101));
+    assert_eq!(jhash(b"", 0), Ok(0x8ba9_414b));
+}
