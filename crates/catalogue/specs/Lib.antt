@@ -1,2 +1,3 @@
--- What the program's reading leaves.
+-- What the program leaves and prints: 01, "Examples from the quay", the paragraph on the demonstration program.
 pub mod Left
+pub mod Printed

@@ -3,13 +3,15 @@
 ghost use Prim.Native.Nat.{_≤_};
 ghost use lib.ListN.{length};
 ghost use Rattle.writer.specs.State.{lent};
-ghost use Rattle.catalogue.specs.Left.{Left};
+ghost use Rattle.image.specs.Record.{headSize};
+ghost use Rattle.catalogue.specs.Left.{Left, Built};
 use image::Flag;
 use libc::STDIN_FILENO;
 use libc::STDOUT_FILENO;
 use lines::Intake;
 use reader::Stepped;
 use writer::CQDBWriter;
+use writer::Closed;
 
 // Puts the lines of standard input, read piece by piece. A proved loop has to end, and nothing says that an input does: it
 // counts its turns down from a number that no run uses up.
@@ -33,6 +35,41 @@ fn put_input(
         turns -= 1;
     }
     lines::end_input(t, counts, buf, &*room)
+}
+
+// What is printed first; the image is the buffer's first bytes.
+struct Image {
+    entries: u32,
+    size: u32,
+}
+
+// Builds the image of the lines of standard input in a lent buffer. Where the buffer takes a head, neither begin nor close
+// refuses.
+fn build(counts: &mut [u32; 256], buf: &mut [u8], room: &mut [u8], piece: &mut [u8]) -> Image
+    ensures { λ r. ⌜ (headSize ≤ length (now (buf .entry)) → length (now (buf .entry)) ≤ length (now (room .entry)) → Built (length (now (buf .entry))) (r .entries) (r .size) (now (buf .exit))) ⌝ }
+{
+    let writer::Begun::Fresh(fresh) = writer::begin(Flag::None, &mut *counts, &*buf) else {
+        return Image {
+            entries: 0,
+            size: 0,
+        };
+    };
+    let w = put_input(fresh, &mut *counts, &mut *buf, room, piece);
+    let answer = writer::close(w, &*counts, buf).answer;
+    match answer {
+        Closed::Size(size) => Image {
+            entries: w.entries,
+            size,
+        },
+        Closed::Unfit => Image {
+            entries: 0,
+            size: 0,
+        },
+        Closed::Inconsistent => Image {
+            entries: 0,
+            size: 0,
+        },
+    }
 }
 
 // Two things on a line, with a space between them: a number, and bytes.
@@ -78,14 +115,6 @@ fn main() {
     let mut buf = io::large_buffer();
     let mut room = io::large_buffer();
     let mut piece = io::large_buffer();
-    let writer::Begun::Fresh(fresh) = writer::begin(Flag::None, &mut counts, &buf) else {
-        return;
-    };
-    let w = put_input(fresh, &mut counts, &mut buf, &mut room, &mut piece);
-    let closed = writer::close(w, &counts, &mut buf);
-    let answer = closed.answer;
-    let writer::Closed::Size(size) = answer else {
-        return;
-    };
-    print_image(w.entries, size, &buf);
+    let image = build(&mut counts, &mut buf, &mut room, &mut piece);
+    print_image(image.entries, image.size, &buf);
 }

@@ -1,0 +1,83 @@
+-- From begin over the puts of an input to close: the image that the program prints from. Assumes nothing.
+use Prim.Native.Nat.{ℕ, _≤_}
+use native.Mathlib.Omega.{arith}
+use mathlib.Core.Path.{_≡_, refl, sym, ap, _∙_}
+use mathlib.Core.List.{List}
+use lib.ListN.{length, take}
+use Rattle.image.specs.declared.Flag.the-variants.{None}
+use Rattle.image.specs.Record.{Entry, headSize, image}
+use Rattle.writer.specs.State.{State, lent, fresh, begun, Beginning, refusal, beginning, countsBegun}
+use Rattle.writer.specs.Close.{Closing, size, refusal as refusedClose, closedSize, closing, afterClose}
+use Rattle.writer.specs.declared.CQDBWriter.{CQDBWriter}
+use Rattle.lists.specs.Calls.{Call, after, accepted, sizeOf}
+use Rattle.lists.specs.Demand3.{imageOf}
+use Rattle.lists.proofs.Along.{two-way, list-begins, list-counts, list-written}
+use Rattle.lists.proofs.OneMore.{list-gives, list-formula, list-image}
+use Rattle.lines.specs.Lines.{inputCalls, afterInput}
+use Rattle.catalogue.specs.Left.{putsOf, Left, Built}
+
+-- begin does not refuse, and leaves a fresh record
+module _ (buffer : List ℕ) (room : headSize ≤ length buffer) where
+  fresh-writer : (w : CQDBWriter) → begun w ≡ begun (fresh None buffer .writer) → w ≡ fresh None buffer .writer
+  fresh-writer w e = cc
+
+  begin-fresh : (w : CQDBWriter) (given counts : List ℕ) → begun w ≡ beginning None (length buffer) → counts ≡ countsBegun (length buffer) given
+      → lent w counts buffer ≡ fresh None buffer
+  unfolding fresh
+  begin-fresh w given counts e f =
+      let same = fresh-writer w (e ∙ list-begins None buffer room) in
+      let cleared = f ∙ list-counts None buffer room given in
+      λ i. record { writer = same i; counts = cleared i; buffer = buffer }
+
+  pub begin-accepted : {P : Type 0} (n : ℕ) → refusal n ≡ beginning None (length buffer) → P
+  begin-accepted n e = let z : _≡_ {A = ℕ} 0 1 = cc (e ∙ list-begins None buffer room) in absurd (omega arith)
+
+  begin-capacity : (w : CQDBWriter) → begun w ≡ beginning None (length buffer) → w .capacity ≡ length buffer
+  unfolding fresh
+  begin-capacity w e = ap (λ (x : CQDBWriter). x .capacity) (fresh-writer w (e ∙ list-begins None buffer room))
+
+-- the puts of an input from a fresh record, and the close after them
+module _ (buffer : List ℕ) (room : headSize ≤ length buffer) (input : List ℕ) (s : State) (e : s ≡ afterInput (fresh None buffer) input) where
+  so : s ≡ after (fresh None buffer) (inputCalls input)
+  unfolding afterInput
+  so = e
+
+  closes : closing s ≡ size (closedSize s)
+  closes = rw so (list-gives None buffer room (inputCalls input) (two-way (inputCalls input)))
+
+  close-accepted : {P : Type 0} (n : ℕ) → refusedClose n ≡ closing s → P
+  close-accepted n f = let z : _≡_ {A = ℕ} 0 1 = cc (f ∙ closes) in absurd (omega arith)
+
+  close-built : (n : ℕ) (t : State) → size n ≡ closing s → t ≡ afterClose s → Built (length buffer) (s .writer .entries) n (t .buffer)
+  unfolding putsOf
+  close-built n t f g =
+      let cs = inputCalls input in
+      let es : n ≡ closedSize s = inside (f ∙ closes) in
+      record {
+        input = input;
+        counted = ap (λ (x : State). x .writer .entries) so ∙ list-written None buffer room cs (two-way cs) .entries;
+        sized = es ∙ ap closedSize so ∙ list-formula None buffer room cs (two-way cs);
+        imaged =
+            ap (λ (k : ℕ). take k (t .buffer)) es
+            ∙ ap (λ (x : State). take (closedSize s) (x .buffer)) g
+            ∙ ap (λ (x : State). take (closedSize x) (afterClose x .buffer)) so
+            ∙ list-image None buffer room cs (two-way cs);
+      }
+    where
+      inside : {k : ℕ} → size n ≡ size k → n ≡ k
+      inside p = cc
+
+-- all of it, in a room for lines that is no shorter than the buffer
+module _ (buffer room given counts : List ℕ) (w : CQDBWriter) (e : begun w ≡ beginning None (length buffer)) (f : counts ≡ countsBegun (length buffer) given)
+    (s : State) (put : w .capacity ≤ length room → Left (lent w counts buffer) s) (big : headSize ≤ length buffer) (enough : length buffer ≤ length room) where
+  put-left : Left (lent w counts buffer) s
+  put-left = let same = begin-capacity buffer big w e in put (omega arith)
+
+  from-fresh : s ≡ afterInput (fresh None buffer) (put-left .input)
+  from-fresh = put-left .left ∙ ap (λ (x : State). afterInput x (put-left .input)) (begin-fresh buffer big w given counts e f)
+
+  pub built : (n : ℕ) (t : State) → size n ≡ closing s → t ≡ afterClose s → Built (length buffer) (s .writer .entries) n (t .buffer)
+  built = close-built buffer big (put-left .input) s from-fresh
+
+  pub never-refused : {P : Type 0} (n : ℕ) → refusedClose n ≡ closing s → P
+  never-refused = close-accepted buffer big (put-left .input) s from-fresh
