@@ -8,10 +8,15 @@ oracle_found() {
     [ -x "$oracle/build" ]
 }
 
-# The original below target/oracle, and our archive below target/staticlib.
+# Our archive, below target/staticlib.
+build_archive() {
+    mkdir -p target &&
+        { rt staticlib cqdb_c >target/staticlib.log 2>&1 || { cat target/staticlib.log >&2; return 1; }; }
+}
+
+# The original, below target/oracle, and our archive.
 build_both() {
-    "$oracle/build" target/oracle || return 1
-    rt staticlib cqdb_c >target/staticlib.log 2>&1 || { cat target/staticlib.log >&2; return 1; }
+    "$oracle/build" target/oracle && build_archive
 }
 
 # build_driver SOURCE PROGRAM: a Rust program over both, in release settings.
