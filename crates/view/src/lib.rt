@@ -1,5 +1,5 @@
-// A view of an image (reference `CQDB`): a struct that holds the slice, and thin calls of the functions on plain slices, whose
-// promises are theirs.
+// A view of an image (reference `CQDB`): a struct that holds the slice, and thin calls of the functions on plain slices, each with
+// that function's promise, read off the struct. A view can be copied, and its calls take it by value.
 ghost use mathlib.Core.Path.{_≡_};
 ghost use Rattle.reader.specs.Open.{opening};
 ghost use Rattle.reader.specs.Lookup.{lookup};
@@ -17,7 +17,7 @@ pub struct CQDB<'a> {
     pub image: &'a [u8],
 }
 
-// The number of associations that opening answers, 0 where it refuses.
+// The number of associations that opening answers, 0 where it refuses: what `CQDB::num` calls.
 pub fn num_of(image: &[u8]) -> u32
     ensures { λ r. ⌜ r ≡ numOf (opening (now (image .entry))) ⌝ }
 {
@@ -32,49 +32,56 @@ pub fn num_of(image: &[u8]) -> u32
 }
 
 impl<'a> CQDB<'a> {
-    // A view of the slice, whatever its bytes.
+    // A view of the slice, whatever its bytes. Whether they are an image is what `open` answers.
     pub fn new(image: &'a [u8]) -> CQDB<'a>
         ensures { λ r. ⌜ r .image ≡ image .entry ⌝ }
     {
         CQDB { image }
     }
 
+    // The number of associations, or why opening is refused.
     pub fn open(self) -> Opened
         ensures { λ r. ⌜ openedOf r ≡ opening (now (self .entry .image)) ⌝ }
     {
         reader::open(self.image)
     }
 
+    // The number of associations that opening answers, 0 where it refuses.
     pub fn num(self) -> u32
         ensures { λ r. ⌜ r ≡ numOf (opening (now (self .entry .image))) ⌝ }
     {
         num_of(self.image)
     }
 
+    // The id of a name, or nothing, with the number of buckets read.
     pub fn to_id(self, name: &[u8]) -> ToId
         ensures { λ r. ⌜ lookupOf r ≡ lookup (now (self .entry .image)) (now (name .entry)) ⌝ }
     {
         reader::to_id(self.image, name)
     }
 
+    // The place of an id's name, or nothing.
     pub fn to_str(self, id: u32) -> Named
         ensures { λ r. ⌜ namingOf r ≡ naming (now (self .entry .image)) id ⌝ }
     {
         reader::to_str(self.image, id)
     }
 
+    // The part of the image that is an id's name, empty if it has none. It lives as long as the image, and may outlive the view.
     pub fn name(self, id: u32) -> &'a [u8]
         ensures { λ r. ⌜ now r ≡ namePart (now (self .entry .image)) id ⌝ }
     {
         reader::name(self.image, id)
     }
 
+    // The next step of a walk, which begins with `reader::walk::iter`.
     pub fn next(self, walk: Iter) -> Stepped
         ensures { λ r. ⌜ steppedOf r ≡ step (now (self .entry .image)) (walk .next) ⌝ }
     {
         reader::walk::next(self.image, walk)
     }
 
+    // Has the id a name whose lookup finds this id?
     pub fn home(self, id: u32) -> bool
         ensures { λ r. ⌜ r ≡ home (now (self .entry .image)) id ⌝ }
     {
@@ -82,7 +89,8 @@ impl<'a> CQDB<'a> {
     }
 }
 
-// The part of an image that is an id's name, by a view. Whoever calls it needs nothing of a view.
+// The part of an image that is an id's name, empty if it has none, by a view that is made for it. Its parameters are plain, so
+// that the borrow checker covers whoever calls it.
 pub fn name_of<'a>(image: &'a [u8], id: u32) -> &'a [u8]
     ensures { λ r. ⌜ now r ≡ namePart (now (image .entry)) id ⌝ }
 {

@@ -1,8 +1,11 @@
 -- `CQDB::next` promises of its image what `reader::walk::next` does: it is a thin call of it.
 use mathlib.Core.Path.{_≡_, refl}
+use base.Logic.{id⊢}
+use contract.Monad.{fact}
 use contract.Running.{givenOf}
 use denote.Enum.Laws as EL
 use denote.Struct.Laws as LL
+use denote.Ref.{now}
 use denote.Signature.{plain}
 use Rattle.reader.specs.Walk.{step}
 use Rattle.reader.specs.Answers.{steppedOf}
@@ -10,9 +13,11 @@ use Rattle.reader.proofs.Stepped as S
 use Rattle.reader.proofs.Stepped.Laws as S′
 use Rattle.reader.proofs.Iter as I
 use Rattle.reader.proofs.Iter.Laws as I′
+use Rattle.reader.proofs.walk.next as on-image
 use Rattle.reader.proofs.walk.next.Symbol as callee
 use Rattle.reader.proofs.walk.next.Met as kept
 use Rattle.view.proofs.Thin.{keeps₁}
+use Rattle.view.proofs.CQDB.next as on-view
 use Rattle.view.proofs.CQDB.next.Key.{name as #view·next}
 use Rattle.view.proofs.CQDB.next.Statement as stated
 use Rattle.view.proofs.CQDB.next.Code as code
@@ -28,5 +33,6 @@ next-spec 𝓤 H 𝓜 𝓖 𝓡 =
       val = λ κs x. I′.lowered x;
       tells = λ κs. LL.tells I.the-type I′.the-laws;
     })
-    (λ κs image a r. steppedOf r ≡ step image (a .0 .next))
+    (λ κs a r e. on-image.clauses 𝓤 H (𝓖 .A) (𝓜 .mem) (𝓡 .run) κs a .ensures tt r e) (λ κs a r e. on-view.clauses 𝓤 H (𝓖 .A) (𝓜 .mem) (𝓡 .run) κs a .ensures tt r e)
+    (λ κs d a r e e′. id⊢ 𝓤 (fact 𝓤 (steppedOf r ≡ step (now (d .image)) (a .0 .next))))
     (code.unfolded 𝓤 H 𝓜 𝓡) (kept.met 𝓤 H 𝓜 𝓖 𝓡)

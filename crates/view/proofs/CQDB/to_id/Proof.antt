@@ -1,5 +1,7 @@
 -- `CQDB::to_id` promises of its image what `reader::to_id` does: it is a thin call of it. The name has a lifetime of its own, the second.
 use mathlib.Core.Path.{_≡_, refl}
+use base.Logic.{id⊢}
+use contract.Monad.{fact}
 use mathlib.Core.List.{[], _∷_}
 use lib.ListN.{length}
 use mir.Syntax.{named, imm, w8, tyInt, tyRef}
@@ -13,9 +15,11 @@ use Rattle.reader.specs.Lookup.{lookup}
 use Rattle.reader.specs.Answers.{lookupOf}
 use Rattle.reader.proofs.ToId as S
 use Rattle.reader.proofs.ToId.Laws as S′
+use Rattle.reader.proofs.to_id as on-image
 use Rattle.reader.proofs.to_id.Symbol as callee
 use Rattle.reader.proofs.to_id.Met as kept
 use Rattle.view.proofs.Thin.{keeps₁}
+use Rattle.view.proofs.CQDB.to_id as on-view
 use Rattle.view.proofs.CQDB.to_id.Key.{name as #view·to-id}
 use Rattle.view.proofs.CQDB.to_id.Statement as stated
 use Rattle.view.proofs.CQDB.to_id.Code as code
@@ -31,5 +35,6 @@ to-id-spec 𝓤 H 𝓜 𝓖 𝓡 =
       val = λ κs x. sliceVal (x .ptr) (length (now x));
       tells = λ κs. shr-slice-tells (named 1) (κs .1 .0) u8;
     })
-    (λ κs image a r. lookupOf r ≡ lookup image (now (a .0)))
+    (λ κs a r e. on-image.clauses 𝓤 H (𝓖 .A) (𝓜 .mem) (𝓡 .run) κs a .ensures tt r e) (λ κs a r e. on-view.clauses 𝓤 H (𝓖 .A) (𝓜 .mem) (𝓡 .run) κs a .ensures tt r e)
+    (λ κs d a r e e′. id⊢ 𝓤 (fact 𝓤 (lookupOf r ≡ lookup (now (d .image)) (now (a .0)))))
     (code.unfolded 𝓤 H 𝓜 𝓡) (kept.met 𝓤 H 𝓜 𝓖 𝓡)
