@@ -2,6 +2,7 @@
 // in which the two take turns.   main [hash | reading | building]
 mod building;
 mod hash;
+mod names;
 #[path = "../tests/compare/ours.rs"]
 mod ours;
 mod reading;

@@ -4,7 +4,7 @@ use crate::rules::{self, word, HEAD};
 use crate::seed::Random;
 
 /// How many kinds of damage there are; a copy of each kind follows the one before.
-pub const KINDS: usize = 22;
+pub const KINDS: usize = 24;
 
 type Table = (usize, usize);
 
@@ -36,6 +36,8 @@ fn apply(random: &mut Random, image: &mut Vec<u8>, kind: usize) {
         18 => extend(random, image),
         19 => some_bytes(random, image),
         20 => image.truncate(random.pick(&[0, 1, 23, 2070, 2071, 2072, 2073]).min(image.len())),
+        21 => entry_at_end(random, image),
+        22 => numbers_alone(random, image),
         _ => several(random, image),
     }
 }
@@ -151,6 +153,37 @@ fn some_entry(random: &mut Random, image: &[u8]) -> Option<usize> {
     let at = |k: usize| word(image, offset as usize + 8 * k + 4) as usize;
     let used: Vec<usize> = (0..n as usize).map(at).filter(|&at| at > 0 && at + 8 <= image.len()).collect();
     (!used.is_empty()).then(|| used[random.below(used.len())])
+}
+
+// A bucket or link that held an entry's offset takes a copy of it at the image's end: without its zero byte, which need not
+// lie in the image, and with one byte more or less.
+fn entry_at_end(random: &mut Random, image: &mut Vec<u8>) {
+    let Some(at) = some_entry(random, image) else { return };
+    let mut length = word(image, at + 4) as usize;
+    if length == 0 || at + 8 + length > image.len() {
+        return;
+    }
+    let end = image.len();
+    let words: Vec<usize> = (HEAD..end - 3).filter(|&i| word(image, i) as usize == at).collect();
+    image.extend_from_within(at..at + 8);
+    if random.once_in(3) {
+        store(image, end + 4, 1);
+        length = 1;
+    }
+    image.extend_from_within(at + 8..at + 7 + length);
+    image.truncate(image.len() - random.below(2));
+    image.extend(random.bytes(1).into_iter().take(random.below(2)));
+    words.into_iter().for_each(|i| store(image, i, end as u32));
+}
+
+// Tables with bucket numbers and offset 0: they count in num, which may pass 2^32, and are never searched.
+fn numbers_alone(random: &mut Random, image: &mut [u8]) {
+    for _ in 0..1 + random.below(4) {
+        let t = random.below(256);
+        let number = random.pick(&[1, 7, 0x8000_0000, 0xffff_fffe, 0xffff_ffff]);
+        store(image, 24 + 8 * t, 0);
+        store(image, 28 + 8 * t, number);
+    }
 }
 
 // An entry's length word, also such that its name ends with the image; or its id, name and zero byte.

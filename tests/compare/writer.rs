@@ -160,11 +160,12 @@ fn with_large_ids(random: &mut Random, mut puts: Vec<Put>) -> Vec<Put> {
     puts
 }
 
-// The limits that need more than a small buffer. The bytes are all zero and mostly never touched, and none is closed.
+// The limits that need more than a small buffer. The bytes are all zero and mostly never touched; no close is accepted.
 fn limits(run: &mut Run) {
     let mut counts = [0; 256];
     let mut room = vec![0u8; (1 << 32) + 5000];
     let fresh = ours::begin(0, &mut counts, &room).record;
+    let oneway = Record { mode: 1, ..fresh };
     let mut put = |record: Record, name: &[u8], id: u32, refusal: u32| {
         let mut counts = [0; 256];
         let answer = ours::put(record, &mut counts, &mut room, name, id);
@@ -177,15 +178,20 @@ fn limits(run: &mut Run) {
     put(fresh, b"A", 1_073_741_298, 0);
     put(fresh, b"A", 1_073_741_299, 3);
     put(fresh, b"A", u32::MAX, 3);
-    put(Record { mode: 1, ..fresh }, b"A", u32::MAX, 0);
-    put(Record { mode: 1, end: 4_294_967_295 - 26, ..fresh }, b"A", 0, 0);
-    put(Record { mode: 1, end: 4_294_967_295 - 25, ..fresh }, b"A", 0, 3);
-    put(Record { mode: 1, entries: u32::MAX, ..fresh }, b"A", 0, 3);
+    put(oneway, b"A", u32::MAX, 0);
+    put(Record { end: 4_294_967_295 - 26, ..oneway }, b"A", 0, 0);
+    put(Record { end: 4_294_967_295 - 25, ..oneway }, b"A", 0, 3);
+    put(Record { entries: u32::MAX, ..oneway }, b"A", 0, 3);
     put(Record { back: u32::MAX, ..fresh }, b"A", 0, 3);
     // Names at the hash's own limit. They are longer than any image.
     let long = vec![0u8; 1 << 32];
-    put(Record { mode: 1, ..fresh }, &long, 0, 3);
-    put(Record { mode: 1, ..fresh }, &long[..u32::MAX as usize], 0, 3);
+    put(oneway, &long, 0, 3);
+    put(oneway, &long[..u32::MAX as usize], 0, 3);
+    // An entry of that id under a two-way record that has its count and back size: only the limit is against its close.
+    let entry = ours::put(oneway, &mut counts, &mut room, b"A", 1_073_741_299).record;
+    let record = Record { mode: 0, back: 1_073_741_300, ..entry };
+    let answer = ours::close(record, &counts, &mut room);
+    run.tally.rule(answer, CloseAnswer { refusal: 4, size: 0, record }, || "a close above the limit".into());
 }
 
 fn main() {

@@ -1,0 +1,188 @@
+// The gaps between the Rust and document 01 that docs/DIFFERENCES.md lists, tried on both. Each case runs the Rust in a process
+// of its own with limits on time and memory, since some never end and some want more than there is.   gaps [CASE]
+mod ours;
+
+use cqdb::{CQDBWriter, Flag, CQDB};
+use ours::Record;
+use std::io::{Cursor, Seek, SeekFrom, Write};
+use std::process::Command;
+
+struct Case {
+    name: &'static str,
+    seconds: u32,
+    /// What the Rust does, and what is answered here.
+    rust: fn() -> String,
+    ours: fn() -> String,
+    want: (&'static str, &'static str),
+}
+
+const NEVER: &str = "no answer within the time";
+const NO_MEMORY: &str = "aborted for want of memory";
+// Bytes of address space for the Rust: a name of 2^32 bytes that is never written fits in.
+const MEMORY: u64 = 6 << 30;
+
+const CASES: [Case; 10] = [
+    Case { name: "full table", seconds: 3, rust: full_table_rust, ours: full_table, want: (NEVER, "nothing, 1 read") },
+    Case { name: "id 4294967294", seconds: 3, rust: || put_rust(0xffff_fffe), ours: || put(0xffff_fffe), want: (NEVER, "3") },
+    Case { name: "id 4294967295", seconds: 3, rust: || put_rust(0xffff_ffff), ours: || put(0xffff_ffff), want: (NEVER, "3") },
+    Case { name: "id 2147483646", seconds: 60, rust: || put_rust(0x7fff_fffe), ours: || put(0x7fff_fffe), want: (NO_MEMORY, "3") },
+    Case { name: "size 4294967296", seconds: 120, rust: || long_rust(4_294_965_199), ours: || long(4_294_965_199), want: ("size word 0, length word 4294965200", "3") },
+    Case { name: "name of 4294967295 bytes", seconds: 120, rust: || long_rust(4_294_967_295), ours: || long(4_294_967_295), want: ("size word 2096, length word 0", "3") },
+    Case { name: "no room for the close", seconds: 3, rust: || room_rust(2100, b""), ours: || room(2100, b""), want: ("put accepted, no head", "3, no byte changed") },
+    Case { name: "no room for the entry", seconds: 3, rust: || room_rust(2081, b"A"), ours: || room(2081, b"A"), want: ("put in error, 9 bytes changed", "3, no byte changed") },
+    Case { name: "buffer of 2071 bytes", seconds: 3, rust: short_rust, ours: short, want: ("accepted", "1") },
+    Case { name: "flag word 2", seconds: 3, rust: flag_rust, ours: flag, want: ("flag word 2", "2") },
+];
+
+// The table of the name A has one bucket, which another hash has taken (C12).
+fn full_image() -> Vec<u8> {
+    let t = ours::hash(b"A", 0).hash as usize % 256;
+    let mut image = vec![0; 2080];
+    image[..4].copy_from_slice(b"CQDB");
+    image[12..16].copy_from_slice(&0x6244_5371u32.to_le_bytes());
+    image[24 + 8 * t..][..4].copy_from_slice(&2072u32.to_le_bytes());
+    image[28 + 8 * t] = 1;
+    image[2076] = 1;
+    image
+}
+
+fn full_table_rust() -> String {
+    let image = full_image();
+    format!("{:?}", CQDB::new(&image).expect("an image").to_id("A"))
+}
+
+fn full_table() -> String {
+    let answer = ours::to_id(&full_image(), b"A");
+    format!("{}, {} read", if answer.found == 1 { "found" } else { "nothing" }, answer.buckets)
+}
+
+fn put_rust(id: u32) -> String {
+    let mut writer = CQDBWriter::new(Cursor::new(Vec::new())).expect("a stream");
+    format!("{:?}", writer.put("A", id))
+}
+
+fn put(id: u32) -> String {
+    refusal(0, 3000, b"A", id)
+}
+
+fn refusal(mode: u32, length: usize, name: &[u8], id: u32) -> String {
+    let mut buf = vec![0; length];
+    let mut counts = [0; 256];
+    let record: Record = ours::begin(mode, &mut counts, &buf).record;
+    ours::put(record, &mut counts, &mut buf, name, id).refusal.to_string()
+}
+
+// A stream that keeps its first bytes and forgets the others.
+struct Head {
+    bytes: [u8; 2080],
+    at: u64,
+}
+
+impl Write for Head {
+    fn write(&mut self, from: &[u8]) -> std::io::Result<usize> {
+        let at = self.at.min(2080) as usize;
+        let n = from.len().min(2080 - at);
+        self.bytes[at..at + n].copy_from_slice(&from[..n]);
+        self.at += from.len() as u64;
+        Ok(from.len())
+    }
+
+    fn flush(&mut self) -> std::io::Result<()> {
+        Ok(())
+    }
+}
+
+impl Seek for Head {
+    fn seek(&mut self, to: SeekFrom) -> std::io::Result<u64> {
+        self.at = match to {
+            SeekFrom::Start(at) => at,
+            SeekFrom::Current(by) => self.at.wrapping_add_signed(by),
+            SeekFrom::End(_) => panic!("the Rust seeks from no end"),
+        };
+        Ok(self.at)
+    }
+}
+
+// One-way, so that nothing but the name is large. Its bytes are zero and never written, so they take no memory.
+fn long_rust(n: usize) -> String {
+    let mut head = Head { bytes: [0; 2080], at: 0 };
+    let mut writer = CQDBWriter::with_flag(&mut head, Flag::ONEWAY).expect("a stream");
+    writer.put(vec![0u8; n], 0).expect("a stream without an end");
+    drop(writer);
+    let word = |at: usize| u32::from_le_bytes(head.bytes[at..at + 4].try_into().expect("four bytes"));
+    format!("size word {}, length word {}", word(4), word(2076))
+}
+
+fn long(n: usize) -> String {
+    refusal(1, (1 << 32) + 5000, &vec![0; n], 0)
+}
+
+fn room_rust(length: usize, name: &[u8]) -> String {
+    let mut buf = vec![0xa5; length];
+    let mut writer = CQDBWriter::new(Cursor::new(&mut buf[..])).expect("a stream");
+    let accepted = writer.put(name, 0).is_ok();
+    if !accepted {
+        std::mem::forget(writer);
+        let changed = buf.iter().filter(|&&b| b != 0xa5).count();
+        return format!("put in error, {changed} bytes changed");
+    }
+    drop(writer);
+    format!("put accepted, {}", if &buf[..4] == b"CQDB" { "a head" } else { "no head" })
+}
+
+fn room(length: usize, name: &[u8]) -> String {
+    let mut buf = vec![0xa5; length];
+    let mut counts = [0; 256];
+    let record = ours::begin(0, &mut counts, &buf).record;
+    let refusal = ours::put(record, &mut counts, &mut buf, name, 0).refusal;
+    format!("{refusal}, {}", if buf.iter().all(|&b| b == 0xa5) { "no byte changed" } else { "bytes changed" })
+}
+
+fn short_rust() -> String {
+    let mut buf = vec![0; 2071];
+    let made = CQDBWriter::new(Cursor::new(&mut buf[..])).is_ok();
+    String::from(if made { "accepted" } else { "in error" })
+}
+
+fn short() -> String {
+    ours::begin(0, &mut [0; 256], &[0; 2071]).refusal.to_string()
+}
+
+fn flag_rust() -> String {
+    let mut stream = Cursor::new(Vec::new());
+    drop(CQDBWriter::with_flag(&mut stream, Flag::from_bits_retain(2)));
+    format!("flag word {}", stream.into_inner()[8])
+}
+
+fn flag() -> String {
+    ours::begin(2, &mut [0; 256], &[0; 2072]).refusal.to_string()
+}
+
+// The Rust's answer, made in a process that is limited.
+fn apart(case: &Case) -> String {
+    let program = std::env::current_exe().expect("this program");
+    let limited = format!("ulimit -c 0; ulimit -v {}; exec timeout {} \"$0\" \"$1\"", MEMORY / 1024, case.seconds);
+    let made = Command::new("sh").arg("-c").arg(limited).arg(program).arg(case.name).output().expect("a shell");
+    match made.status.code() {
+        Some(0) => String::from_utf8_lossy(&made.stdout).trim().to_string(),
+        Some(124) => NEVER.into(),
+        _ if String::from_utf8_lossy(&made.stderr).contains("memory allocation") => NO_MEMORY.into(),
+        other => format!("ended with {other:?}: {}", String::from_utf8_lossy(&made.stderr).trim()),
+    }
+}
+
+fn main() {
+    if let Some(name) = std::env::args().nth(1) {
+        let case = CASES.iter().find(|case| case.name == name).expect("a case");
+        return println!("{}", (case.rust)());
+    }
+    let mut failed = 0;
+    for case in &CASES {
+        let (rust, ours) = (apart(case), (case.ours)());
+        let as_listed = (rust.as_str(), ours.as_str()) == case.want;
+        failed += i32::from(!as_listed);
+        println!("gaps: {}: the Rust: {rust}; here: {ours}{}", case.name, if as_listed { "" } else { "   NOT AS LISTED" });
+    }
+    println!("gaps: {} tried, {failed} not as listed", CASES.len());
+    std::process::exit(i32::from(failed > 0));
+}
