@@ -21,6 +21,17 @@ fn image(names: &[&str]) -> Vec<u8> {
     stream.into_inner()
 }
 
+// The Rust behind a call, as ours always is: an archive that is linked later cannot be inlined into its caller.
+#[inline(never)]
+fn called_to_id(db: &CQDB, name: &str) -> Option<u32> {
+    db.to_id(name)
+}
+
+#[inline(never)]
+fn called_to_str<'a>(db: &'a CQDB<'a>, id: u32) -> Option<(*const u8, usize)> {
+    db.to_str(id).map(|name| (name.as_ptr(), name.len()))
+}
+
 // A call for each item, whose answer has to be made. Ours is a call into the archive; the Rust's may be inlined here.
 fn each<T, R>(items: impl IntoIterator<Item = T>, mut call: impl FnMut(T) -> R) {
     for item in items {
@@ -39,8 +50,10 @@ fn lookups(what: &str, image: &[u8], names: &[&str], repetitions: usize) {
     let db = CQDB::new(image).expect("an image");
     let ours = || each(names, |name| ours::to_id(image, name.as_bytes()));
     let rust = || each(names, |name| black_box(&db).to_id(name));
+    let called = || each(names, |name| called_to_id(black_box(&db), name));
     let what = format!("{what}, {} entries, {} bytes", names.len(), names[0].len());
     table::row(&what, best(repetitions, names.len(), ours, rust), None);
+    table::row(&format!("{what}, the Rust called"), best(repetitions, names.len(), ours, called), None);
 }
 
 fn namings(image: &[u8], n: usize, repetitions: usize) {
@@ -48,7 +61,9 @@ fn namings(image: &[u8], n: usize, repetitions: usize) {
     let db = CQDB::new(image).expect("an image");
     let ours = || each(&ids, |&id| ours::to_str(image, id));
     let rust = || each(&ids, |&id| black_box(&db).to_str(id));
+    let called = || each(&ids, |&id| called_to_str(black_box(&db), id));
     table::row(&format!("naming, {n} entries"), best(repetitions, n, ours, rust), None);
+    table::row(&format!("naming, {n} entries, the Rust called"), best(repetitions, n, ours, called), None);
 }
 
 pub fn run() {
