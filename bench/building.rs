@@ -55,7 +55,7 @@ fn count_check() {
 }
 
 pub fn run() {
-    for (n, repetitions) in [(4_096, 400), (100_000, 30), (1_000_000, 9)] {
+    for (n, repetitions) in [(4_096, 400), (100_000, 100), (1_000_000, 21)] {
         building(n, repetitions);
     }
     count_check();

@@ -67,7 +67,7 @@ fn namings(image: &[u8], n: usize, repetitions: usize) {
 }
 
 pub fn run() {
-    for (n, repetitions) in [(4_096, 400), (1_000_000, 9)] {
+    for (n, repetitions) in [(4_096, 400), (1_000_000, 21)] {
         for length in [9, 32] {
             let image = image(&Names::new('p', length, 0..n).all());
             lookups("hit", &image, &Names::new('p', length, mixed(n)).all(), repetitions);
