@@ -1,16 +1,15 @@
 -- From begin over the puts of an input to close: the image that the program prints from. Assumes nothing.
 use Prim.Native.Nat.{ℕ, _≤_}
 use native.Mathlib.Omega.{arith}
-use mathlib.Core.Path.{_≡_, refl, sym, ap, _∙_}
+use mathlib.Core.Path.{_≡_, ap, _∙_}
 use mathlib.Core.List.{List}
 use lib.ListN.{length, take}
 use Rattle.image.specs.declared.Flag.the-variants.{None}
-use Rattle.image.specs.Record.{Entry, headSize, image}
-use Rattle.writer.specs.State.{State, lent, fresh, begun, Beginning, refusal, beginning, countsBegun}
-use Rattle.writer.specs.Close.{Closing, size, refusal as refusedClose, closedSize, closing, afterClose}
+use Rattle.image.specs.Record.{headSize}
+use Rattle.writer.specs.State.{State, lent, fresh, begun, refusal, beginning, countsBegun}
+use Rattle.writer.specs.Close.{size, refusal as refusedClose, closedSize, closing, afterClose}
 use Rattle.writer.specs.declared.CQDBWriter.{CQDBWriter}
-use Rattle.lists.specs.Calls.{Call, after, accepted, sizeOf}
-use Rattle.lists.specs.Demand3.{imageOf}
+use Rattle.lists.specs.Calls.{after}
 use Rattle.lists.proofs.Along.{two-way, list-begins, list-counts, list-written}
 use Rattle.lists.proofs.OneMore.{list-gives, list-formula, list-image}
 use Rattle.lines.specs.Lines.{inputCalls, afterInput}

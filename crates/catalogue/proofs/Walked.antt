@@ -14,7 +14,6 @@ use Rattle.reader.specs.Walk.{stepOf, step}
 use Rattle.answers.specs.Answer.{heldAt, nameGiven, ofId, lastName}
 use Rattle.writer.specs.Put.{entryOf}
 use Rattle.lists.specs.Calls.{Call, refused, acceptedFrom, accepted, putsSize, sizeOf}
-use Rattle.lists.specs.Demand3.{acceptedPuts, imageOf}
 use Rattle.lists.proofs.Theorem.{one-list}
 use Rattle.lines.specs.Lines.{withByte, linesOf, leadingDigits, numberFrom, parseLine, lineCalls, linesCalls, inputCalls}
 use Rattle.catalogue.specs.Left.{putsOf}

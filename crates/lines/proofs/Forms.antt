@@ -9,7 +9,7 @@ use lib.ListN.{length, getD, take, List·getD-eq-default}
 use lib.Dec.{eqb, leb}
 use borrow.Author.Tests.{leb-true, eqb-true}
 use Rattle.image.proofs.Bools.{first, second}
-use Rattle.lines.specs.Lines.{leadingDigits, number, Form, entry, other, formWith, parseLine}
+use Rattle.lines.specs.Lines.{leadingDigits, number, entry, other, formWith, parseLine}
 
 -- a line's form by its four tests, n being the digits in front
 pub form-by : (line : List ℕ) (n : ℕ) (a b c d : Bool) → n ≡ leadingDigits line → leb 1 n ≡ a → leb n 10 ≡ b → eqb (getD line n 0) 32 ≡ c

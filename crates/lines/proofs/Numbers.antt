@@ -1,15 +1,15 @@
 -- Digits in front of a line, and the number that they write. Assumes nothing.
-use Prim.Native.Nat.{ℕ, zero, suc, _+_, _*_, _-_, _^_, _≤_, _<_}
+use Prim.Native.Nat.{ℕ, suc, _+_, _*_, _-_, _^_, _≤_, _<_}
 use native.Mathlib.Omega.{arith}
 use native.Mathlib.Numerals.{add-one}
 use native.Mathlib.Nat.{pow-succ', pow-le-pow-right}
 use mathlib.Core.Path.{_≡_, refl, sym, ap, _∙_}
 use mathlib.Core.Bool.{Bool, true, false, cond}
-use mathlib.Core.List.{List, [], _∷_}
+use mathlib.Core.List.{List}
 use lib.ListN.{length, getD, drop, drop-of-length-le}
 use lib.Seq.{drop-cons}
 use lib.Dec.{lit<}
-use Rattle.lines.specs.Lines.{isDigit, leadingDigits, numberFrom, number}
+use Rattle.lines.specs.Lines.{isDigit, leadingDigits, numberFrom}
 
 -- ---- how many digits
 

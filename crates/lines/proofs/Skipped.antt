@@ -1,20 +1,20 @@
 -- What one line leaves; and a line that is as long as the buffer is skipped, whatever it says. Assumes nothing.
-use Prim.Native.Nat.{ℕ, _+_, _*_, _-_, _≤_, _<_}
+use Prim.Native.Nat.{ℕ, _+_, _-_, _≤_, _<_}
 use native.Mathlib.Omega.{arith}
 use mathlib.Core.Path.{_≡_, refl, sym, ap, _∙_}
 use mathlib.Core.Bool.{Bool, true, false, cond, _||_}
-use mathlib.Core.List.{List, []}
+use mathlib.Core.List.{List}
 use lib.ListN.{length, drop, length-drop}
 use lib.Dec.{eqb, ltb}
 use borrow.Author.Tests.{lt-ltb}
 use Rattle.image.specs.Record.{Entry}
-use Rattle.writer.specs.State.{State, fits, finishedSize, tooLarge}
+use Rattle.writer.specs.State.{State, fits, finishedSize}
 use Rattle.writer.specs.Put.{entryOf, writerAfter, putRefusal, appended, afterPut}
 use Rattle.writer.proofs.Fits.{fitting}
 use Rattle.writer.proofs.Puts.{misfit, no-room}
 use Rattle.lists.specs.Calls.{after}
-use Rattle.lines.specs.Lines.{Form, entry, other, parseLine, callsBy, lineCalls, afterLine}
-use Rattle.lines.proofs.Forms.{Named, named}
+use Rattle.lines.specs.Lines.{Form, entry, other, parseLine, callsBy, afterLine}
+use Rattle.lines.proofs.Forms.{named}
 
 -- what a line leaves, by its form
 abbrev leaves : State → List ℕ → Form → State

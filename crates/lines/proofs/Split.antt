@@ -4,6 +4,7 @@ use mathlib.Core.Path.{_≡_, refl, sym, ap, _∙_}
 use mathlib.Core.Bool.{Bool, true, false, cond}
 use mathlib.Core.List.{List, [], _∷_, _++_, append-assoc, append-nil}
 use lib.Dec.{eqb}
+use borrow.Author.Tests.{eqb-true}
 use Rattle.writer.specs.State.{State}
 use Rattle.lists.specs.Calls.{Call, afterCall, after}
 use Rattle.lines.specs.Lines.{withByte, linesOf, leadingDigits, parseLine, lineCalls, linesCalls, inputCalls, afterLine, afterInput}
@@ -52,3 +53,34 @@ unfolding afterInput inputCalls linesCalls linesOf afterLine lineCalls parseLine
 input-last s [] h = refl
 input-last s (b ∷ bs) h =
     ap (λ (ls : List (List ℕ)). after s (linesCalls ls)) (lines-last b bs h) ∙ ap (after s) (append-nil (lineCalls (b ∷ bs)))
+
+-- ---- an input that is cut at a line's end, p being what the line at hand has before the first of xs
+
+abbrev Cuts : List ℕ → Type 0
+Cuts xs = (s : State) (p ys : List ℕ) → NoFeed p → afterInput s (p ++ (xs ++ 10 ∷ ys)) ≡ afterInput (afterInput s (p ++ xs)) ys
+
+cuts-none : Cuts []
+cuts-none s p ys n =
+    input-feed s p ys n ∙ ap (λ (t : State). afterInput t ys) (sym (ap (afterInput s) (append-nil p) ∙ input-last s p n))
+
+cuts-more : (b : ℕ) (xs : List ℕ) → Cuts xs → Cuts (b ∷ xs)
+cuts-more b xs ih s p ys n = go (eqb b 10) refl
+  where
+    go : (t : Bool) → eqb b 10 ≡ t → afterInput s (p ++ b ∷ (xs ++ 10 ∷ ys)) ≡ afterInput (afterInput s (p ++ b ∷ xs)) ys
+    go true e =
+        let f = eqb-true b 10 e in
+        ap (λ (k : ℕ). afterInput s (p ++ k ∷ (xs ++ 10 ∷ ys))) f
+        ∙ input-feed s p (xs ++ 10 ∷ ys) n
+        ∙ ih (afterLine s p) [] ys tt
+        ∙ ap (λ (t : State). afterInput t ys) (sym (ap (λ (k : ℕ). afterInput s (p ++ k ∷ xs)) f ∙ input-feed s p xs n))
+    go false e =
+        ap (afterInput s) (sym (append-assoc p (b ∷ []) (xs ++ 10 ∷ ys)))
+        ∙ ih s (p ++ (b ∷ [])) ys (no-feed-more p b n e)
+        ∙ ap (λ (l : List ℕ). afterInput (afterInput s l) ys) (append-assoc p (b ∷ []) xs)
+
+cuts : (xs : List ℕ) → Cuts xs
+cuts [] = cuts-none
+cuts (b ∷ xs) = cuts-more b xs (cuts xs)
+
+pub input-cut : (s : State) (xs ys : List ℕ) → afterInput s (xs ++ 10 ∷ ys) ≡ afterInput (afterInput s xs) ys
+input-cut s xs ys = cuts xs s [] ys tt

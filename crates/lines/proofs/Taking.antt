@@ -1,13 +1,12 @@
 -- A piece taken byte by byte, and what the calls on the way leave. Assumes nothing.
-use Prim.Native.Nat.{ℕ, suc, _+_, _-_, _≤_, _<_}
+use Prim.Native.Nat.{ℕ, _+_, _-_, _≤_, _<_}
 use native.Mathlib.Omega.{arith}
 use native.Mathlib.Numerals.{add-one}
-use mathlib.Core.Path.{_≡_, refl, sym, ap, _∙_}
-use mathlib.Core.Bool.{Bool, true, false, cond}
-use mathlib.Core.List.{List, [], _∷_}
+use mathlib.Core.Path.{_≡_, sym, ap, _∙_}
+use mathlib.Core.Bool.{Bool, cond}
+use mathlib.Core.List.{List}
 use lib.ListN.{length, getD, take, drop, set, length-drop, drop-of-length-le}
 use lib.Seq.{drop-cons, take-all}
-use lib.Dec.{eqb, ltb}
 use borrow.Author.Tests.{lt-ltb, le-ltb, eq-eqb, ne-eqb}
 use Rattle.writer.specs.State.{State}
 use Rattle.writer.specs.Put.{entryOf, afterPut}
@@ -25,9 +24,6 @@ put-part s line id at e =
 
 -- the line at hand, ended: put where it has room, dropped where it has not
 module _ (s : State) (room : List ℕ) (have : ℕ) where
-  abbrev at-hand : Gathering
-  at-hand = record { state = s; room = room; have = have }
-
   pub ended-put : (t : State) → have < length room → t ≡ afterLine s (take have room)
       → _≡_ {A = Gathering} (record { state = t; room = room; have = 0 }) (lineEnded (record { state = s; room = room; have = have }))
   unfolding lineEnded

@@ -1,5 +1,5 @@
 -- An input in pieces of any sizes leaves what the whole input leaves, where the room for a line is no shorter than the buffer. Assumes nothing.
-use Prim.Native.Nat.{ℕ, suc, _+_, _≤_, _<_}
+use Prim.Native.Nat.{ℕ, _+_, _≤_, _<_}
 use native.Mathlib.Omega.{arith}
 use native.Mathlib.Numerals.{add-one}
 use mathlib.Core.Path.{_≡_, refl, sym, ap, _∙_}
@@ -8,12 +8,12 @@ use mathlib.Core.List.{List, [], _∷_, _++_, append-assoc, append-nil}
 use lib.ListN.{length, take, set, length-append, length-set}
 use lib.Seq.{take-suc-set}
 use lib.Dec.{eqb, ltb}
-use borrow.Author.Tests.{lt-ltb, le-ltb, ltb-true, ltb-false, eqb-true}
+use borrow.Author.Tests.{ltb-true, ltb-false, eqb-true}
 use Rattle.writer.specs.State.{State}
 use Rattle.lines.specs.Lines.{afterLine, afterInput}
-use Rattle.lines.specs.Pieces.{Gathering, started, gathered, lineEnded, takeByte, takePiece, takePieces, joined, inputEnded}
+use Rattle.lines.specs.Pieces.{Gathering, started, gathered, lineEnded, takeByte, takePiece, takePieces, joined, inputEnded, AnyPieces}
 use Rattle.lines.proofs.Skipped.{long-line, line-capacity}
-use Rattle.lines.proofs.Split.{NoFeed, no-feed-more, input-feed, input-last}
+use Rattle.lines.proofs.Split.{NoFeed, no-feed-more, input-feed, input-last, input-cut}
 
 -- the line at hand has the bytes p so far
 pub record Holds (g : Gathering) (p : List ℕ) : Type 0 where
@@ -127,6 +127,9 @@ pieces-joined g (p ∷ ps) = pieces-joined (takePiece g p) ps ∙ sym (piece-app
 pub in-one : (s : State) (room input : List ℕ) → s .writer .capacity ≤ length room → inputEnded (takePiece (started s room) input) ≡ afterInput s input
 in-one s room input h = takes input (started s room) [] (record { short = λ k. (refl, refl); long = λ k. k; enough = h }) tt
 
-pub in-pieces : (s : State) (room : List ℕ) (ps : List (List ℕ)) → s .writer .capacity ≤ length room
+in-pieces : (s : State) (room : List ℕ) (ps : List (List ℕ)) → s .writer .capacity ≤ length room
     → inputEnded (takePieces (started s room) ps) ≡ afterInput s (joined ps)
 in-pieces s room ps h = ap inputEnded (pieces-joined (started s room) ps) ∙ in-one s room (joined ps) h
+
+pub any-pieces : AnyPieces
+any-pieces = record { whole = in-pieces; cut = input-cut; long = long-line }

@@ -1,13 +1,14 @@
 -- An input that comes in pieces, as the code takes it. No rule of 01 stands here: proofs/Whole shows that pieces of any sizes leave what specs/Lines
 -- says that the whole input leaves.
-use Prim.Native.Nat.{ℕ, _+_}
+use Prim.Native.Nat.{ℕ, _+_, _≤_}
+use mathlib.Core.Path.{_≡_}
 use mathlib.Core.Bool.{cond}
 use mathlib.Core.List.{List, [], _∷_, _++_}
 use lib.ListN.{length, take, set}
 use lib.Dec.{eqb, ltb}
 use Rattle.writer.specs.State.{State, lent}
 use Rattle.lines.specs.declared.Intake.{Intake}
-use Rattle.lines.specs.Lines.{afterLine}
+use Rattle.lines.specs.Lines.{afterLine, afterInput}
 
 -- what is kept between the pieces: the writer record and its buffer, the room in which the line at hand is gathered, and how many of its bytes have come,
 -- or the room's length where the line fills it or is longer
@@ -62,3 +63,13 @@ joined (p ∷ ps) = p ++ joined ps
 unfoldable pub inputEnded : Gathering → State
 unfolding lineEnded
 inputEnded g = lineEnded g .state
+
+-- what holds of every input
+pub record AnyPieces : Type 0 where
+  -- in whatever pieces it comes, they leave what the rule of 01 leaves of the whole, where the room for a line is no shorter than the buffer
+  pub whole : (s : State) (room : List ℕ) (ps : List (List ℕ)) → s .writer .capacity ≤ length room
+      → inputEnded (takePieces (started s room) ps) ≡ afterInput s (joined ps)
+  -- by the rule itself, an input that is cut at a line feed is put part by part
+  pub cut : (s : State) (xs ys : List ℕ) → afterInput s (xs ++ 10 ∷ ys) ≡ afterInput (afterInput s xs) ys
+  -- and a line that is as long as the buffer is skipped: its put is refused, or it is of another form
+  pub long : (s : State) (line : List ℕ) → s .writer .capacity ≤ length line → afterLine s line ≡ s

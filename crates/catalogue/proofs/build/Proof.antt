@@ -1,5 +1,5 @@
 -- `catalogue::build` meets its contract. Assumes nothing.
-use mathlib.Core.Path.{_≡_, sym, ap, _∙_}
+use mathlib.Core.Path.{sym, ap, _∙_}
 use Rattle.writer.specs.State.{begunOf}
 use Rattle.writer.specs.Close.{closedOf}
 use Rattle.catalogue.proofs.Building.{begin-accepted, built, never-refused}

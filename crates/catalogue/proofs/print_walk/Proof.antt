@@ -1,10 +1,10 @@
 -- `catalogue::print_walk` is safe and ends: each step goes on at the next id. Assumes nothing.
 use Prim.Native.Nat.{_-_, _^_}
 use native.Mathlib.Omega.{arith}
-use mathlib.Core.Path.{_≡_, sym, ap, _∙_}
+use mathlib.Core.Path.{sym, ap, _∙_}
 use borrow.Author.Needs.{needs}
 use Rattle.reader.specs.Answers.{steppedOf}
-use Rattle.catalogue.proofs.Reading.{Stepping, stepping}
+use Rattle.catalogue.proofs.Reading.{stepping}
 use Rattle.catalogue.proofs.print_walk.Statement.{statement}
 use Rattle.catalogue.proofs.print_walk.Tie as tie
 

@@ -1,5 +1,5 @@
 -- `lines::pieces::end_input` meets its contract. Assumes nothing.
-use mathlib.Core.Path.{_≡_, ap}
+use mathlib.Core.Path.{ap}
 use borrow.Author.Needs.{needs}
 use Rattle.lines.specs.Pieces.{Gathering, inputEnded}
 use Rattle.lines.proofs.pieces.end_input.Statement.{statement}

@@ -1,6 +1,6 @@
 -- `lines::pieces::put_line` meets its contract. Assumes nothing.
 use native.Mathlib.Omega.{arith}
-use mathlib.Core.Path.{_≡_, sym, ap, _∙_}
+use mathlib.Core.Path.{sym, ap, _∙_}
 use borrow.Author.Needs.{needs}
 use Rattle.writer.specs.State.{lent}
 use Rattle.lines.specs.Lines.{formOf}

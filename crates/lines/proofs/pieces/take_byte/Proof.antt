@@ -1,5 +1,4 @@
 -- `lines::pieces::take_byte` meets its contract. Assumes nothing.
-use mathlib.Core.Path.{_≡_, ap}
 use borrow.Author.Needs.{needs}
 use Rattle.writer.specs.State.{lent}
 use Rattle.lines.proofs.Taking.{byte-feed, byte-more}
