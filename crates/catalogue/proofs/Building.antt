@@ -3,13 +3,15 @@ use Prim.Native.Nat.{ℕ, _≤_}
 use native.Mathlib.Omega.{arith}
 use mathlib.Core.Path.{_≡_, ap, _∙_}
 use mathlib.Core.List.{List}
-use lib.ListN.{length, take}
+use lib.ListN.{length, take, length-take}
 use Rattle.image.specs.declared.Flag.the-variants.{None}
 use Rattle.image.specs.Record.{headSize}
 use Rattle.writer.specs.State.{State, lent, fresh, begun, refusal, beginning, countsBegun}
 use Rattle.writer.specs.Close.{size, refusal as refusedClose, closedSize, closing, afterClose}
 use Rattle.writer.specs.declared.CQDBWriter.{CQDBWriter}
 use Rattle.lists.specs.Calls.{after}
+use Rattle.image.proofs.Sizes.{length-image}
+use Rattle.lists.proofs.Appended.{sizeOf-is}
 use Rattle.lists.proofs.Along.{two-way, list-begins, list-counts, list-written}
 use Rattle.lists.proofs.OneMore.{list-gives, list-formula, list-image}
 use Rattle.lines.specs.Lines.{inputCalls, afterInput}
@@ -80,3 +82,19 @@ module _ (buffer room given counts : List ℕ) (w : CQDBWriter) (e : begun w ≡
 
   pub never-refused : {P : Type 0} (n : ℕ) → refusedClose n ≡ closing s → P
   never-refused = close-accepted buffer big (put-left .input) s from-fresh
+
+-- the image lies in the buffer
+pub built-inside : (n entries k : ℕ) (buffer : List ℕ) → Built n entries k buffer → k ≤ length buffer
+built-inside n entries k buffer b =
+    let es = putsOf n (b .input) in
+    let took = length-take k buffer in
+    let same = ap length (b .imaged) in
+    let long = length-image None es in
+    let formula = sizeOf-is None es in
+    let sized = b .sized in
+    omega arith
+
+-- in a buffer and a room of k bytes
+pub built-in : (k entries n : ℕ) (buffer room after : List ℕ) → k ≡ length buffer → k ≡ length room → headSize ≤ k
+    → (headSize ≤ length buffer → length buffer ≤ length room → Built (length buffer) entries n after) → Built k entries n after
+built-in k entries n buffer room after p q big built = rw p (built (omega arith) (omega arith))

@@ -98,16 +98,17 @@ fn print_walk(image: &[u8]) {
     }
 }
 
-// Entries and size, then the walk of the image, which is the buffer's first bytes.
-fn print_image(entries: u32, size: u32, buf: &[u8]) {
+// Entries and size, then the walk of the image, which is the buffer's first bytes. It asks for what it is handed to be the
+// image of some input, in 65,536 bytes.
+fn print_image(entries: u32, size: u32, buf: &[u8])
+    requires { ⌜ Built 65536 entries size (now buf) ⌝ }
+{
+    io::print_decimal(STDOUT_FILENO, entries as u64);
+    io::write_all(STDOUT_FILENO, b" ");
+    io::print_decimal(STDOUT_FILENO, size as u64);
+    io::write_all(STDOUT_FILENO, b"\n");
     let n = size as usize;
-    if n <= buf.len() {
-        io::print_decimal(STDOUT_FILENO, entries as u64);
-        io::write_all(STDOUT_FILENO, b" ");
-        io::print_decimal(STDOUT_FILENO, size as u64);
-        io::write_all(STDOUT_FILENO, b"\n");
-        print_walk(&buf[..n]);
-    }
+    print_walk(&buf[..n]);
 }
 
 fn main() {

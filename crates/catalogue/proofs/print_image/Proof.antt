@@ -1,9 +1,7 @@
--- `catalogue::print_image` is safe and ends. Assumes nothing.
-use Prim.Native.Nat.{_≤_}
-use native.Mathlib.Omega.{arith}
+-- `catalogue::print_image` is safe and ends: the image lies in the buffer. Assumes nothing.
 use mathlib.Core.Path.{sym}
-use lib.ListN.{length}
 use lib.Seq.{length-take-le}
+use Rattle.catalogue.proofs.Building.{built-inside}
 use borrow.Author.Needs.{needs}
 use Rattle.catalogue.proofs.print_image.Statement.{statement}
 use Rattle.catalogue.proofs.print_image.Tie as tie
@@ -28,18 +26,14 @@ write-all-requires-2 c κs = search needs
 
 slice-aggregate-print-walk : tie.Need-slice-aggregate-print-walk
 slice-aggregate-print-walk c =
-    let a = c .before .before .before .before .before .before .before .before .before .args in
-    let inside : a .size ≤ length (a .buf .now) = omega arith in
-    sym (length-take-le (a .size) (a .buf .now) inside)
+    let a = c .before .before .before .before .before .before .before .before .args in
+    sym (length-take-le (a .size) (a .buf .now) (built-inside 65536 (a .entries) (a .size) (a .buf .now) (c .before .before .before .before .before .before .before .before .pre)))
 
 print-walk-requires : tie.Need-print-walk-requires
 print-walk-requires c κs = search needs
 
 returns : tie.Need-returns
 returns c = search needs
-
-returns-2 : tie.Need-returns-2
-returns-2 c = search needs
 
 pub print-image-spec : {M : Type 1} → statement M
 print-image-spec =
@@ -53,5 +47,4 @@ print-image-spec =
     write-all-requires-2
     slice-aggregate-print-walk
     print-walk-requires
-    returns
-    returns-2)
+    returns)

@@ -1,0 +1,54 @@
+-- `catalogue::main` is safe and ends, and what it prints is taken from the image of some input in 65,536 bytes. Assumes nothing.
+use lib.Dec.{lit≤}
+use Rattle.catalogue.proofs.Building.{built-in}
+use borrow.Author.Needs.{needs}
+use Rattle.catalogue.proofs.main.Statement.{statement}
+use Rattle.catalogue.proofs.main.Tie as tie
+
+large-buffer-requires : tie.Need-large-buffer-requires
+large-buffer-requires c κs = search needs
+
+large-buffer-requires-2 : tie.Need-large-buffer-requires-2
+large-buffer-requires-2 c κs = search needs
+
+large-buffer-requires-3 : tie.Need-large-buffer-requires-3
+large-buffer-requires-3 c κs = search needs
+
+slice-aggregate-build : tie.Need-slice-aggregate-build
+slice-aggregate-build c = search needs
+
+slice-aggregate-build-2 : tie.Need-slice-aggregate-build-2
+slice-aggregate-build-2 c = search needs
+
+slice-aggregate-build-3 : tie.Need-slice-aggregate-build-3
+slice-aggregate-build-3 c = search needs
+
+build-requires : tie.Need-build-requires
+build-requires c κs = search needs
+
+slice-aggregate-print-image : tie.Need-slice-aggregate-print-image
+slice-aggregate-print-image c = search needs
+
+print-image-requires : tie.Need-print-image-requires
+print-image-requires c κs =
+    let b = c .before .before .before .before .build in
+    built-in 65536 (b .result .entries) (b .result .size) (c .before .before .before .before .before .before .before .before .before .before .before .large-buffer .result) (c .before .before .before .before .before .before .before .before .before .before .large-buffer2 .result) (b .last .1 .0)
+    (c .before .before .before .before .before .before .before .before .before .before .before .large-buffer .ensures) (c .before .before .before .before .before .before .before .before .before .before .large-buffer2 .ensures) (lit≤ tt) (b .ensures)
+
+returns : tie.Need-returns
+returns c = search needs
+
+pub main-spec : {M : Type 1} → statement M
+main-spec =
+    tie.close
+    (tie.spec
+    large-buffer-requires
+    large-buffer-requires-2
+    large-buffer-requires-3
+    slice-aggregate-build
+    slice-aggregate-build-2
+    slice-aggregate-build-3
+    build-requires
+    slice-aggregate-print-image
+    print-image-requires
+    returns)
