@@ -1,16 +1,16 @@
--- `image_replay::replay` is safe and ends. The measure is what is left of the text. Assumes nothing.
+-- `writer_replay::replay` is safe and ends. The measure is what is left of the text. Assumes nothing.
 use mathlib.Core.Path.{_≡_}
 use Prim.Native.Nat.{_-_}
 use lib.ListN.{length}
 use borrow.Author.Needs.{needs}
-use Rattle.image_replay.proofs.replay.Statement.{statement}
-use Rattle.image_replay.proofs.replay.Tie as tie
+use Rattle.writer_replay.proofs.replay.Statement.{statement}
+use Rattle.writer_replay.proofs.replay.Tie as tie
 
 abbrev Inv-loop : tie.InvT-loop
-Inv-loop text counts₀ made₀ copy₀ room₀ all₀ state₀ at₀ counts made copy room all state at = (length made ≡ length made₀) × (length copy ≡ length copy₀) × (length room ≡ length room₀)
+Inv-loop text counts₀ buf₀ all₀ state₀ at₀ counts buf all state at = length buf ≡ length buf₀
 
 abbrev μ-loop : tie.MeasureT-loop
-μ-loop text counts₀ made₀ copy₀ room₀ all₀ state₀ at₀ counts made copy room all state at = length text - at
+μ-loop text counts₀ buf₀ all₀ state₀ at₀ counts buf all state at = length text - at
 
 no-lines-requires : tie.Need-no-lines-requires Inv-loop μ-loop
 no-lines-requires c κs = search needs
@@ -54,12 +54,6 @@ loop-again c = search needs
 same-length : tie.Need-same-length Inv-loop μ-loop
 same-length c = search needs
 
-same-length-2 : tie.Need-same-length-2 Inv-loop μ-loop
-same-length-2 c = search needs
-
-same-length-3 : tie.Need-same-length-3 Inv-loop μ-loop
-same-length-3 c = search needs
-
 returns : tie.Need-returns Inv-loop μ-loop
 returns c = search needs
 
@@ -83,6 +77,4 @@ replay-spec =
     loop-less
     loop-again
     same-length
-    same-length-2
-    same-length-3
     returns)
