@@ -1,3 +1,4 @@
--- What the lines of a replay mean: numbers and bytes in hexadecimal digits, and the counts of verdicts.
+-- What the lines of a replay mean: words, numbers and bytes in hexadecimal digits, and the counts of verdicts.
 pub mod Hex
 pub mod Verdicts
+pub mod Words

@@ -1,10 +1,15 @@
 -- How many lines had each verdict.
 use Prim.Native.Nat.{ℕ, _+_}
-use mathlib.Core.Bool.{cond}
+use mathlib.Core.Bool.{Bool, true, false, cond}
 use lib.Dec.{ltb}
 use Rattle.replay_lines.specs.declared.Counts.{Counts}
 use Rattle.replay_lines.specs.declared.Verdict.{Verdict}
 use Rattle.replay_lines.specs.declared.Verdict.the-variants.{Equal, Different, Malformed, Silent}
+
+-- an answer that is the stored one, or not
+abbrev pub verdictIf : Bool → Verdict
+verdictIf true = Equal
+verdictIf false = Different
 
 -- one more; the largest number of 64 bits stays
 abbrev pub more : ℕ → ℕ

@@ -1,9 +1,10 @@
 // What the programs that replay stored answers share: numbers and bytes written as hexadecimal digits, the verdict on a
 // line, and how many lines had each.
 pub mod hex; // hex.rt: word, decode
+pub mod words; // words.rt: tag, after
 
 ghost use mathlib.Core.Path.{_≡_};
-ghost use Rattle.replay_lines.specs.Verdicts.{more, countedWith};
+ghost use Rattle.replay_lines.specs.Verdicts.{more, verdictIf, countedWith};
 use libc::STDOUT_FILENO;
 
 // Eight digits as a number, or a text of another form.
@@ -25,6 +26,17 @@ pub enum Verdict {
     Different,
     Malformed,
     Silent,
+}
+
+// Whether an answer is the stored one.
+pub fn equal_if(same: bool) -> Verdict
+    ensures { λ r. ⌜ r ≡ verdictIf same ⌝ }
+{
+    if same {
+        Verdict::Equal
+    } else {
+        Verdict::Different
+    }
 }
 
 // How many lines had a stored answer that was given, that was not, and how many could not be read.

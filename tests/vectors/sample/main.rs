@@ -1,0 +1,133 @@
+// Writes a stored sample of the original's answers: `writing`, what the Rust's writer makes of lists of puts, or `reading`,
+// what its reader answers on some of these images and on damaged copies of them. The lines are those that the programs
+// writer_replay and reader_replay read.
+mod damage;
+#[path = "../../../target/oracle/src/hash.rs"]
+mod hash;
+mod lists;
+mod names;
+mod questions;
+
+use lists::List;
+use names::Names;
+use questions::Questions;
+
+/// A fixed sequence (splitmix64): the same sample at every run.
+pub struct Random(u64);
+
+impl Random {
+    pub fn below(&mut self, n: usize) -> usize {
+        self.0 = self.0.wrapping_add(0x9e37_79b9_7f4a_7c15);
+        let mut z = self.0;
+        z = (z ^ (z >> 30)).wrapping_mul(0xbf58_476d_1ce4_e5b9);
+        z = (z ^ (z >> 27)).wrapping_mul(0x94d0_49bb_1331_11eb);
+        ((z ^ (z >> 31)) % n as u64) as usize
+    }
+}
+
+pub fn hex(bytes: &[u8]) -> String {
+    bytes.iter().map(|b| format!("{b:02x}")).collect()
+}
+
+// A number, and a name where it has any bytes.
+pub fn numbered(word: &str, n: u32, name: &[u8]) -> String {
+    format!("{word} {n:08x} {}", hex(name)).trim_end().to_string()
+}
+
+// The calls of a list, and the size that the Rust's image has.
+fn print_calls(list: &List, image: &[u8]) {
+    println!("new{} {:08x}", if list.oneway { 1 } else { 2 }, list.capacity);
+    for ((id, name), accepted) in list.puts.iter().zip(list.accepted()) {
+        println!("{}", numbered(if accepted { "puts" } else { "full" }, *id, name));
+    }
+    println!("size {:08x}", image.len());
+}
+
+/// An image as runs of at least eight zeros, and what stands between them in parts of at most 64 bytes.
+fn parts(image: &[u8]) -> Vec<(usize, &[u8])> {
+    let mut parts = Vec::new();
+    let mut at = 0;
+    while at < image.len() {
+        let zeros = image[at..].iter().take_while(|b| **b == 0).count();
+        let run = (at..image.len()).take_while(|i| *i < at + 64 && !image[*i..].starts_with(&[0; 8])).count();
+        let n = if zeros >= 8 { zeros } else { run };
+        parts.push((at, &image[at..at + n]));
+        at += n;
+    }
+    parts
+}
+
+fn is_zeros(part: &[u8]) -> bool {
+    part.len() >= 8 && part.iter().all(|b| *b == 0)
+}
+
+// All bytes of an image, to be compared.
+fn print_bytes(image: &[u8]) {
+    for (_, part) in parts(image) {
+        if is_zeros(part) {
+            println!("zero {:08x}", part.len());
+        } else {
+            println!("part {}", hex(part));
+        }
+    }
+    println!("ends");
+}
+
+// Two hashes of an image, as the Rust hashes a name.
+fn print_hashes(image: &[u8]) {
+    let hashed = |start| hash::jhash(image, image.len() as u32 + 1, start);
+    println!("hash {:08x} {:08x}", hashed(0), hashed(0xdead_beef));
+}
+
+// All bytes of an image, to be read.
+fn print_image(image: &[u8]) {
+    println!("zero {:08x}", image.len());
+    for (at, part) in parts(image) {
+        if !is_zeros(part) {
+            println!("edit {at:08x} {}", hex(part));
+        }
+    }
+}
+
+fn writing(lists: &[List]) {
+    println!("# Lists of puts, and the images that the Rust makes of them. tests/vectors/sample/make makes these lines,");
+    println!("# crates/writer_replay/src/main.rt says what they mean.");
+    for (i, list) in lists.iter().enumerate() {
+        let image = list.image();
+        println!("# {i}: {}", list.title);
+        print_calls(list, &image);
+        if i % 5 == 0 {
+            print_bytes(&image);
+        } else {
+            print_hashes(&image);
+        }
+    }
+    eprintln!("sample: {} lists, the images of {} whole, of the others by two hashes", lists.len(), lists.len().div_ceil(5));
+}
+
+fn reading(lists: &[List], names: &Names, random: &mut Random) {
+    let mut questions = Questions::new();
+    let (mut images, mut damaged) = (0, 0);
+    println!("# Images that the Rust made, damaged ones, and what it answers on them. tests/vectors/sample/make makes these");
+    println!("# lines, crates/reader_replay/src/main.rt says what they mean.");
+    for (i, list) in lists.iter().enumerate().filter(|(i, _)| i % 5 == 2) {
+        let image = list.image();
+        println!("# {i}: {}", list.title);
+        print_image(&image);
+        questions.about(&image, &list.asked_names(names), &list.asked_ids());
+        damaged += damage::copies(&image, list, names, i, random, &mut questions);
+        images += 1;
+    }
+    eprintln!("sample: {} answers on {images} images and {damaged} damaged ones", questions.asked);
+}
+
+fn main() {
+    let names = Names::new();
+    let mut random = Random(20170401);
+    let lists = lists::all(&names, &mut random);
+    match std::env::args().nth(1).as_deref() {
+        Some("writing") => writing(&lists),
+        Some("reading") => reading(&lists, &names, &mut random),
+        _ => panic!("which sample? writing or reading"),
+    }
+}
