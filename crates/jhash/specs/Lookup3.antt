@@ -76,11 +76,17 @@ rest zero w l = final (added w l)
 rest (suc n) w l =
     elim (ltb 12 (length l)) [ true ↦ rest n (mix (added w l)) (drop 12 l) | false ↦ final (added w l) ]
 
+-- Three equal words.
+abbrev pub alike : ℕ → Words
+alike x = record { a = x; b = x; c = x }
+
+-- What each of the three words begins with when n bytes are hashed.
+abbrev pub initialWord : ℕ → ℕ → ℕ
+initialWord n start = (0xdeadbeef + n + start) % 2 ^ 32
+
 -- The three equal words that hashing n bytes begins with.
 unfoldable pub initial : ℕ → ℕ → Words
-initial n start =
-    let x : ℕ = (0xdeadbeef + n + start) % 2 ^ 32 in
-    record { a = x; b = x; c = x }
+initial n start = alike (initialWord n start)
 
 -- All of it from three words on.
 unfoldable pub hashRest : Words → List ℕ → ℕ

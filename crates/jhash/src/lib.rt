@@ -1,9 +1,10 @@
 // The name hash: Bob Jenkins's hashlittle (lookup3) over a name and one zero byte.
 ghost use mathlib.Core.Path.{_≡_};
 ghost use Prim.Native.Nat.{_+_, _*_, _<_, _≤_};
+ghost use lib.Dec.{leb};
 ghost use mathlib.Core.List.{[], _∷_, _++_};
 ghost use lib.ListN.{length, getD};
-ghost use Rattle.jhash.specs.Lookup3.{sub32, rotl32, wordAt, plus, added, mix, finished, final, initial, hashRest};
+ghost use Rattle.jhash.specs.Lookup3.{sub32, rotl32, wordAt, plus, added, mix, finished, final, alike, initialWord, hashRest};
 ghost use Rattle.jhash.specs.Rounds.{round, step};
 ghost use Rattle.jhash.specs.NameHash.{outcome, hashOutcome};
 
@@ -154,12 +155,15 @@ fn added_tail(w: Words, s: &[u8]) -> Words
     )
 }
 
-// The hash of the name and its zero byte, from three words on.
-fn hash_rest(w: Words, name: &[u8]) -> u32
-    ensures { λ r. ⌜ r ≡ hashRest w (now (name .entry) ++ 0 ∷ []) ⌝ }
+// The hash of the name and its zero byte; all three words begin with x.
+fn hash_from(name: &[u8], x: u32) -> u32
+    ensures { λ r. ⌜ r ≡ hashRest (alike x) (now (name .entry) ++ 0 ∷ []) ⌝ }
 {
-    let mut words = w;
-    let mut t = name;
+    let mut words = Words { a: x, b: x, c: x };
+    // The whole name as a part: place and length are read one by one, and the compiler then hands them in as two numbers
+    // in place of a pointer to both.
+    let n = name.len();
+    let mut t = &name[0..n];
     while 12 <= t.len() {
         words = jhash_mix(added_block(words, t));
         t = &t[12..];
@@ -167,12 +171,20 @@ fn hash_rest(w: Words, name: &[u8]) -> u32
     jhash_final(added_tail(words, t))
 }
 
-// The three words that hashing `count` bytes begins with.
-fn initial_words(count: u32, start: u32) -> Words
-    ensures { λ r. ⌜ r ≡ initial count start ⌝ }
+// Has a name 4,294,967,295 bytes or more?
+fn too_long(name: &[u8]) -> bool
+    ensures { λ r. ⌜ r ≡ leb 4294967295 (length (now (name .entry))) ⌝ }
 {
-    let x = std::num::wrapping_add_u32(std::num::wrapping_add_u32(JHASH_INITVAL, count), start);
-    Words { a: x, b: x, c: x }
+    4294967295 <= name.len()
+}
+
+// The word that hashing a name and its zero byte begins with.
+fn initial_word(name: &[u8], start: u32) -> u32
+    requires { ⌜ length (now name) < 4294967295 ⌝ }
+    ensures { λ r. ⌜ r ≡ initialWord (length (now (name .entry)) + 1) start ⌝ }
+{
+    let count = name.len() as u32 + 1;
+    std::num::wrapping_add_u32(std::num::wrapping_add_u32(JHASH_INITVAL, count), start)
 }
 
 // The hash of a name with a start value: hashlittle over the name and one zero byte. A name of 4,294,967,295 bytes or
@@ -180,9 +192,19 @@ fn initial_words(count: u32, start: u32) -> Words
 pub fn jhash(name: &[u8], initval: u32) -> Hashed
     ensures { λ r. ⌜ outcome r ≡ hashOutcome (now (name .entry)) initval ⌝ }
 {
-    if 4294967295 <= name.len() {
+    if too_long(name) {
         return Hashed::Refused;
     }
-    let count = name.len() as u32 + 1;
-    Hashed::Hash(hash_rest(initial_words(count, initval), name))
+    Hashed::Hash(hash_from(name, initial_word(name, initval)))
+}
+
+// The hash that images use: start value 0. It does not call `jhash`: with two places that call it, `hash_from` stays a
+// function of its own, and both small ones around it go into their callers.
+pub fn name_hash(name: &[u8]) -> Hashed
+    ensures { λ r. ⌜ outcome r ≡ hashOutcome (now (name .entry)) 0 ⌝ }
+{
+    if too_long(name) {
+        return Hashed::Refused;
+    }
+    Hashed::Hash(hash_from(name, initial_word(name, 0)))
 }
