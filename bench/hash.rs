@@ -1,6 +1,8 @@
 // The name hash: ours, the Rust's `jhash` and C's `hashlittle`.
 #[path = "../target/oracle/src/hash.rs"]
 mod rust;
+#[path = "../target/oracle/src/hash.rs"]
+mod rust_again;
 
 use crate::ours;
 use crate::table::{self, best, time};
@@ -10,7 +12,7 @@ extern "C" {
     fn jenkins_hashlittle(key: *const u8, length: usize, initval: u32) -> u32;
 }
 
-const REPETITIONS: usize = 300;
+const REPETITIONS: usize = 1_500;
 const NAMES: usize = 8;
 
 fn all(calls: usize, names: &[Vec<u8>; NAMES], mut hash: impl FnMut(&[u8]) -> u32) {
@@ -30,10 +32,16 @@ pub fn run() {
         let closed: [Vec<u8>; NAMES] = std::array::from_fn(|k| names[k].iter().copied().chain([0]).collect());
         let calls = 3_000_000 / (size + 16) / NAMES * NAMES;
         let ours = || all(calls, &names, |n| ours::hash(n, 0).hash);
-        let rust = || all(calls, &names, |n| rust::jhash(n, n.len() as u32 + 1, 0));
-        let times = best(REPETITIONS, calls, ours, rust);
+        // The Rust's `jhash` as its library has it: compiled by itself, and called by `to_id` and `put`. The library keeps it to
+        // itself, so no user's compiler can inline it.
+        let jhash: fn(&[u8], u32, u32) -> u32 = black_box(rust::jhash);
+        let called = || all(calls, &names, |n| jhash(n, n.len() as u32 + 1, 0));
+        let times = best(REPETITIONS, calls, ours, called);
         let mut c = || all(calls, &closed, |n| unsafe { jenkins_hashlittle(n.as_ptr(), n.len(), 0) });
         let c = (0..REPETITIONS).map(|_| time(calls, &mut c)).fold(f64::MAX, f64::min);
         table::row(&format!("hash of {size} bytes"), times, Some(c));
+        // A second copy of the Rust's source, which the compiler inlines into this loop.
+        let inlined = || all(calls, &names, |n| rust_again::jhash(n, n.len() as u32 + 1, 0));
+        table::row(&format!("hash of {size} bytes, the Rust inlined"), best(REPETITIONS, calls, ours, inlined), None);
     }
 }

@@ -21,54 +21,66 @@ fn image(names: &[&str]) -> Vec<u8> {
     stream.into_inner()
 }
 
-// The Rust behind a call, as ours always is: an archive that is linked later cannot be inlined into its caller.
-#[inline(never)]
-fn called_to_id(db: &CQDB, name: &str) -> Option<u32> {
-    db.to_id(name)
-}
-
-#[inline(never)]
-fn called_to_str<'a>(db: &'a CQDB<'a>, id: u32) -> Option<(*const u8, usize)> {
-    db.to_str(id).map(|name| (name.as_ptr(), name.len()))
-}
-
-// A call for each item, whose answer has to be made. Ours is a call into the archive; the Rust's may be inlined here.
-fn each<T, R>(items: impl IntoIterator<Item = T>, mut call: impl FnMut(T) -> R) {
+// Calls for all items, whose answers are added up. Ours is a call into the archive; the Rust's may be inlined here.
+fn each<T>(items: impl IntoIterator<Item = T>, mut call: impl FnMut(T) -> usize) {
+    let mut sum = 0usize;
     for item in items {
-        let _ = black_box(call(item));
+        sum = sum.wrapping_add(call(item));
     }
+    black_box(sum);
 }
 
 fn opening(image: &[u8], n: usize) {
     let calls = 1000;
-    let ours = || each(0..calls, |_| ours::open(image));
-    let rust = || each(0..calls, |_| CQDB::new(black_box(image)));
-    table::row(&format!("open, {n} entries"), best(200, calls, ours, rust), None);
+    let ours = || each(0..calls, |_| ours::open(black_box(image)).num as usize);
+    let rust = || each(0..calls, |_| CQDB::new(black_box(image)).map_or(0, |db| db.num() as usize));
+    table::row(&format!("open, {n} entries"), best(2000, calls, ours, rust), None);
 }
 
+// Of a lookup the id is added up, 0 for nothing.
 fn lookups(what: &str, image: &[u8], names: &[&str], repetitions: usize) {
     let db = CQDB::new(image).expect("an image");
-    let ours = || each(names, |name| ours::to_id(image, name.as_bytes()));
-    let rust = || each(names, |name| black_box(&db).to_id(name));
-    let called = || each(names, |name| called_to_id(black_box(&db), name));
+    let ours = || each(names, |name| ours::to_id(image, name.as_bytes()).id as usize);
+    let rust = || each(names, |name| black_box(&db).to_id(name).unwrap_or(0) as usize);
     let what = format!("{what}, {} entries, {} bytes", names.len(), names[0].len());
     table::row(&what, best(repetitions, names.len(), ours, rust), None);
-    table::row(&format!("{what}, the Rust called"), best(repetitions, names.len(), ours, called), None);
+}
+
+type Place = Option<(*const u8, usize)>;
+
+// Of a naming the name's place and length are added up.
+fn placed(name: Place) -> usize {
+    name.map_or(0, |(start, len)| (start as usize).wrapping_add(len))
+}
+
+fn own_place(image: &[u8], id: u32) -> Place {
+    let answer = ours::to_str(image, id);
+    (answer.found == 1).then(|| (image.as_ptr().wrapping_add(answer.start as usize), answer.len as usize))
+}
+
+fn rust_place<'a>(db: &'a CQDB<'a>, id: u32) -> Place {
+    db.to_str(id).map(|name| (name.as_ptr(), name.len()))
+}
+
+// The Rust behind a call, as ours always is: an archive that is linked later cannot be inlined into its caller.
+#[inline(never)]
+fn called_place<'a>(db: &'a CQDB<'a>, id: u32) -> Place {
+    rust_place(db, id)
 }
 
 fn namings(image: &[u8], n: usize, repetitions: usize) {
     let ids: Vec<u32> = mixed(n).map(|i| i as u32).collect();
     let db = CQDB::new(image).expect("an image");
-    let ours = || each(&ids, |&id| ours::to_str(image, id));
-    let rust = || each(&ids, |&id| black_box(&db).to_str(id));
-    let called = || each(&ids, |&id| called_to_str(black_box(&db), id));
+    let ours = || each(&ids, |&id| placed(own_place(image, id)));
+    let rust = || each(&ids, |&id| placed(rust_place(black_box(&db), id)));
+    let called = || each(&ids, |&id| placed(called_place(black_box(&db), id)));
     table::row(&format!("naming, {n} entries"), best(repetitions, n, ours, rust), None);
     table::row(&format!("naming, {n} entries, the Rust called"), best(repetitions, n, ours, called), None);
 }
 
 pub fn run() {
-    for (n, repetitions) in [(4_096, 400), (1_000_000, 21)] {
-        for length in [9, 32] {
+    for (n, repetitions) in [(4_096, 6_000), (1_000_000, 31)] {
+        for length in [9, 16, 32] {
             let image = image(&Names::new('p', length, 0..n).all());
             lookups("hit", &image, &Names::new('p', length, mixed(n)).all(), repetitions);
             lookups("miss", &image, &Names::new('m', length, mixed(n)).all(), repetitions);
