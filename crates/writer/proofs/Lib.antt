@@ -1,4 +1,5 @@
 -- Laws about the writer's rules.
+pub mod Joined
 pub mod Fits
 pub mod Entries
 pub mod Puts
