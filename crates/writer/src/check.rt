@@ -57,7 +57,7 @@ fn walk(buf: &[u8], end: usize, entries: u32, counts: &mut [u32; 256]) -> Walked
             };
         }
         let name = &buf[at + 8..at + 7 + n];
-        let jhash::Hashed::Hash(h) = jhash::jhash(name, 0) else {
+        let jhash::Hashed::Hash(h) = jhash::name_hash(name) else {
             return Walked {
                 whole: false,
                 back: 0,

@@ -91,7 +91,7 @@ pub fn put(
             writer: w,
         };
     }
-    let jhash::Hashed::Hash(h) = jhash::jhash(name, 0) else {
+    let jhash::Hashed::Hash(h) = jhash::name_hash(name) else {
         return PutAnswer {
             answer: Stored::NoRoom,
             writer: w,

@@ -27,8 +27,8 @@ same-length c = search needs
 returns : tie.Need-returns
 returns c = misfit (lent (c .before .before .before .before .before .before .args .w) (c .before .before .before .before .before .before .args .counts .now) (c .before .before .before .before .before .before .args .buf .now)) (entryOf (c .before .before .before .before .before .before .args .name .now) (c .before .before .before .before .before .before .args .id)) (sym (c .before .fits2 .ensures) ∙ not-true _ (c .if1 .taken))
 
-jhash-requires : tie.Need-jhash-requires
-jhash-requires c κs = search needs
+name-hash-requires : tie.Need-name-hash-requires
+name-hash-requires c κs = search needs
 
 enum-known-h : tie.Need-enum-known-h
 enum-known-h c = search needs
@@ -43,14 +43,14 @@ returns-2 : tie.Need-returns-2
 returns-2 c =
     let a = c .before .before .before .before .before .before .before .before .before .args in
     let yes : fits (lent (c .before .before .before .before .before .before .before .before .before .args .w) (c .before .before .before .before .before .before .before .before .before .args .counts .now) (c .before .before .before .before .before .before .before .before .before .args .buf .now)) ≡ true = sym (c .before .before .before .before .fits2 .ensures) ∙ not-false _ (c .before .before .before .if1 .left) in
-    let long = told-refused (a .name .now) 0 (c .before .before .jhash .result) (c .before .before .jhash .ensures) (c .enum-told .given .1) in
+    let long = told-refused (a .name .now) 0 (c .before .before .name-hash .result) (c .before .before .name-hash .ensures) (c .enum-told .given .1) in
     no-room (lent (c .before .before .before .before .before .before .before .before .before .args .w) (c .before .before .before .before .before .before .before .before .before .args .counts .now) (c .before .before .before .before .before .before .before .before .before .args .buf .now)) (entryOf (c .before .before .before .before .before .before .before .before .before .args .name .now) (c .before .before .before .before .before .before .before .before .before .args .id)) yes (long-name (a .w) (a .name .now) (a .id) long)
 
 size-with-requires : tie.Need-size-with-requires
 size-with-requires c κs =
     let yes : fits (lent (c .before .before .before .before .before .before .before .before .before .before .args .w) (c .before .before .before .before .before .before .before .before .before .before .args .counts .now) (c .before .before .before .before .before .before .before .before .before .before .args .buf .now)) ≡ true = sym (c .before .before .before .before .before .fits2 .ensures) ∙ not-false _ (c .before .before .before .before .if1 .left) in
     let f = fitting (c .before .before .before .before .before .before .before .before .before .before .args .w) (c .before .before .before .before .before .before .before .before .before .before .args .counts .now) (c .before .before .before .before .before .before .before .before .before .before .args .buf .now) yes in
-    let told = told-image-hash (c .before .before .before .before .before .before .before .before .before .before .args .name .now) (c .before .before .before .jhash .result) (c .before .h .given .0 .0) (c .before .before .before .jhash .ensures) (c .before .h .given .1) in
+    let told = told-image-hash (c .before .before .before .before .before .before .before .before .before .before .args .name .now) (c .before .before .before .name-hash .result) (c .before .h .given .0 .0) (c .before .before .before .name-hash .ensures) (c .before .h .given .1) in
     let e = f .same-length in
     let h = f .high in
     (omega (arith, c .before .before .before .before .before .before .before .before .before .before .good), told .0)
@@ -81,7 +81,7 @@ store-requires c κs =
     let yes : fits (lent (c .before .before .before .before .before .before .before .before .before .before .before .before .before .before .before .before .args .w) (c .before .before .before .before .before .before .before .before .before .before .before .before .before .before .before .before .args .counts .now) (c .before .before .before .before .before .before .before .before .before .before .before .before .before .before .before .before .args .buf .now)) ≡ true = sym (c .before .before .before .before .before .before .before .before .before .before .before .fits2 .ensures) ∙ not-false _ (c .before .before .before .before .before .before .before .before .before .before .if1 .left) in
     let fine : tooLarge (c .before .before .before .before .before .before .before .before .before .before .before .before .before .before .before .before .args .w .capacity) (finishedSize (writerWith (c .before .before .before .before .before .before .before .before .before .before .before .before .before .before .before .before .args .w) (length (c .before .before .before .before .before .before .before .before .before .before .before .before .before .before .before .before .args .name .now)) (c .before .before .before .before .before .before .before .before .before .before .before .before .before .before .before .before .args .id))) ≡ false =
     ap (λ (n : ℕ). tooLarge (c .before .before .before .before .before .before .before .before .before .before .before .before .before .before .before .before .args .w .capacity) n) (sym (c .before .before .before .before .before .size-with .ensures)) ∙ sym (c .before .before .before .before .too-large .ensures) ∙ c .before .before .before .if2 .left in
-    let told = told-image-hash (c .before .before .before .before .before .before .before .before .before .before .before .before .before .before .before .before .args .name .now) (c .before .before .before .before .before .before .before .before .before .jhash .result) (c .before .before .before .before .before .before .before .h .given .0 .0) (c .before .before .before .before .before .before .before .before .before .jhash .ensures) (c .before .before .before .before .before .before .before .h .given .1) in
+    let told = told-image-hash (c .before .before .before .before .before .before .before .before .before .before .before .before .before .before .before .before .args .name .now) (c .before .before .before .before .before .before .before .before .before .name-hash .result) (c .before .before .before .before .before .before .before .h .given .0 .0) (c .before .before .before .before .before .before .before .before .before .name-hash .ensures) (c .before .before .before .before .before .before .before .h .given .1) in
     (entry-fits (c .before .before .before .before .before .before .before .before .before .before .before .before .before .before .before .before .args .w) (c .before .before .before .before .before .before .before .before .before .before .before .before .before .before .before .before .args .counts .now) (c .before .before .before .before .before .before .before .before .before .before .before .before .before .before .before .before .args .buf .now) (length (c .before .before .before .before .before .before .before .before .before .before .before .before .before .before .before .before .args .name .now)) (c .before .before .before .before .before .before .before .before .before .before .before .before .before .before .before .before .args .id) yes fine, told .0)
 
 after-requires : tie.Need-after-requires
@@ -100,7 +100,7 @@ returns-4 c =
     let yes : fits (lent (c .before .before .before .before .before .before .before .before .before .before .before .before .before .before .before .before .before .before .before .before .args .w) (c .before .before .before .before .before .before .before .before .before .before .before .before .before .before .before .before .before .before .before .before .args .counts .now) (c .before .before .before .before .before .before .before .before .before .before .before .before .before .before .before .before .before .before .before .before .args .buf .now)) ≡ true = sym (c .before .before .before .before .before .before .before .before .before .before .before .before .before .before .before .fits2 .ensures) ∙ not-false _ (c .before .before .before .before .before .before .before .before .before .before .before .before .before .before .if1 .left) in
     let fine : tooLarge (c .before .before .before .before .before .before .before .before .before .before .before .before .before .before .before .before .before .before .before .before .args .w .capacity) (finishedSize (writerWith (c .before .before .before .before .before .before .before .before .before .before .before .before .before .before .before .before .before .before .before .before .args .w) (length (c .before .before .before .before .before .before .before .before .before .before .before .before .before .before .before .before .before .before .before .before .args .name .now)) (c .before .before .before .before .before .before .before .before .before .before .before .before .before .before .before .before .before .before .before .before .args .id))) ≡ false =
     ap (λ (n : ℕ). tooLarge (c .before .before .before .before .before .before .before .before .before .before .before .before .before .before .before .before .before .before .before .before .args .w .capacity) n) (sym (c .before .before .before .before .before .before .before .before .before .size-with .ensures)) ∙ sym (c .before .before .before .before .before .before .before .before .too-large .ensures) ∙ c .before .before .before .before .before .before .before .if2 .left in
-    let told = told-image-hash (c .before .before .before .before .before .before .before .before .before .before .before .before .before .before .before .before .before .before .before .before .args .name .now) (c .before .before .before .before .before .before .before .before .before .before .before .before .before .jhash .result) (c .before .before .before .before .before .before .before .before .before .before .before .h .given .0 .0) (c .before .before .before .before .before .before .before .before .before .before .before .before .before .jhash .ensures) (c .before .before .before .before .before .before .before .before .before .before .before .h .given .1) in
+    let told = told-image-hash (c .before .before .before .before .before .before .before .before .before .before .before .before .before .before .before .before .before .before .before .before .args .name .now) (c .before .before .before .before .before .before .before .before .before .before .before .before .before .name-hash .result) (c .before .before .before .before .before .before .before .before .before .before .before .h .given .0 .0) (c .before .before .before .before .before .before .before .before .before .before .before .before .before .name-hash .ensures) (c .before .before .before .before .before .before .before .before .before .before .before .h .given .1) in
     let a = c .before .before .before .before .before .before .before .before .before .before .before .before .before .before .before .before .before .before .before .before .args in
     let done = accepts (lent (c .before .before .before .before .before .before .before .before .before .before .before .before .before .before .before .before .before .before .before .before .args .w) (c .before .before .before .before .before .before .before .before .before .before .before .before .before .before .before .before .before .before .before .before .args .counts .now) (c .before .before .before .before .before .before .before .before .before .before .before .before .before .before .before .before .before .before .before .before .args .buf .now)) (entryOf (c .before .before .before .before .before .before .before .before .before .before .before .before .before .before .before .before .before .before .before .before .args .name .now) (c .before .before .before .before .before .before .before .before .before .before .before .before .before .before .before .before .before .before .before .before .args .id)) yes fine in (
       done .0,
@@ -115,7 +115,7 @@ put-spec =
     fits-requires
     same-length
     returns
-    jhash-requires
+    name-hash-requires
     enum-known-h
     enum-told
     same-length-2

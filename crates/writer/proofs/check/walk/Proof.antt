@@ -17,7 +17,7 @@ use Rattle.writer.proofs.check.walk.Tie as tie
 use Rattle.writer.proofs.check.walk.Reads as reads
 use Rattle.writer.proofs.check.walk.Lts as lts
 use Rattle.image.proofs.get_u32.Reads as get-u32-reads
-use Rattle.jhash.proofs.jhash.Reads as jhash-reads
+use Rattle.jhash.proofs.name_hash.Reads as name-hash-reads
 use Rattle.writer.proofs.check.whole_length.Reads as whole-length-reads
 use Rattle.writer.proofs.record.larger.Reads as larger-reads
 use Rattle.writer.proofs.record.raise.Reads as raise-reads
@@ -95,8 +95,8 @@ part-name-end c =
     omega (arith, c .before .before .before .before .before .pre .1)
 
 -- src/check.rt:60:38
-jhash-requires : tie.Need-jhash-requires Inv-loop μ-loop
-jhash-requires c κs = search needs
+name-hash-requires : tie.Need-name-hash-requires Inv-loop μ-loop
+name-hash-requires c κs = search needs
 
 -- src/check.rt:60:33
 enum-known-h : tie.Need-enum-known-h Inv-loop μ-loop
@@ -110,7 +110,7 @@ enum-told c = search needs
 returns-2 : tie.Need-returns-2 Inv-loop μ-loop
 returns-2 c =
     let r = room (c .before .before .before .before) in
-    let long = told-refused (take (c .before .before .before .before .before .before .before .loop .at + 7 + c .before .before .before .before .before .whole-length .result - (c .before .before .before .before .before .before .before .loop .at + 8)) (drop (c .before .before .before .before .before .before .before .loop .at + 8) (c .before .before .before .before .before .before .before .before .before .args .buf .now))) 0 (c .before .before .jhash .result) (c .before .before .jhash .ensures) (c .enum-told .given .1) in
+    let long = told-refused (take (c .before .before .before .before .before .before .before .loop .at + 7 + c .before .before .before .before .before .whole-length .result - (c .before .before .before .before .before .before .before .loop .at + 8)) (drop (c .before .before .before .before .before .before .before .loop .at + 8) (c .before .before .before .before .before .before .before .before .before .args .buf .now))) 0 (c .before .before .name-hash .result) (c .before .before .name-hash .ensures) (c .enum-told .given .1) in
     let l = simp length-take at long in
     let s = c .before .before .before .before .before .whole-length .ensures .1 in
     absurd (omega arith)
@@ -161,7 +161,7 @@ loop-less c = omega arith
 loop-again : tie.Need-loop-again Inv-loop μ-loop
 loop-again c =
     let f = known (c .before .before .before .before .before .before .before .before .before) in
-    let told = told-image-hash (take (c .before .before .before .before .before .before .before .before .before .before .before .before .loop .at + 7 + c .before .before .before .before .before .before .before .before .before .before .whole-length .result - (c .before .before .before .before .before .before .before .before .before .before .before .before .loop .at + 8)) (drop (c .before .before .before .before .before .before .before .before .before .before .before .before .loop .at + 8) (c .before .before .before .before .before .before .before .before .before .before .before .before .before .before .args .buf .now))) (c .before .before .before .before .before .before .before .jhash .result) (c .before .before .before .before .before .h .given .0 .0) (c .before .before .before .before .before .before .before .jhash .ensures) (c .before .before .before .before .before .h .given .1) in
+    let told = told-image-hash (take (c .before .before .before .before .before .before .before .before .before .before .before .before .loop .at + 7 + c .before .before .before .before .before .before .before .before .before .before .whole-length .result - (c .before .before .before .before .before .before .before .before .before .before .before .before .loop .at + 8)) (drop (c .before .before .before .before .before .before .before .before .before .before .before .before .loop .at + 8) (c .before .before .before .before .before .before .before .before .before .before .before .before .before .before .args .buf .now))) (c .before .before .before .before .before .before .before .name-hash .result) (c .before .before .before .before .before .h .given .0 .0) (c .before .before .before .before .before .before .before .name-hash .ensures) (c .before .before .before .before .before .h .given .1) in
     let small : c .before .get-u32 .result < 4294967296 = omega (arith, c .before .get-u32 .ok) in
     let t = walk-turn (c .before .before .before .before .before .before .before .before .before .before .before .before .before .before .args .buf .now) (c .before .before .before .before .before .before .before .before .before .before .before .before .before .before .args .end) (c .before .before .before .before .before .before .before .before .before .before .before .before .before .before .args .entries) (c .before .before .before .before .before .before .before .before .before .before .before .before .before .before .args .counts .now) (c .before .before .before .before .before .before .before .before .before .before .before .before .loop .at) (c .before .before .before .before .before .before .before .before .before .before .before .before .loop .left) (c .before .before .before .before .before .before .before .before .before .before .before .before .loop .back) (c .before .before .before .before .before .before .before .before .before .before .before .before .loop .counts) (c .before .before .before .before .before .before .before .before .before .before .before .before .before .before .pre .1) (c .before .before .before .before .before .before .before .before .before .before .before .before .loop .inv) (c .before .before .before .before .before .before .before .before .before .before .before .loop-test .taken)
     (c .before .before .before .before .before .before .before .before .before .before .whole-length .result) (c .before .before .before .before .before .h .given .0 .0) (c .before .get-u32 .result) (take (c .before .before .before .before .before .before .before .before .before .before .before .before .loop .at + 7 + c .before .before .before .before .before .before .before .before .before .before .whole-length .result - (c .before .before .before .before .before .before .before .before .before .before .before .before .loop .at + 8)) (drop (c .before .before .before .before .before .before .before .before .before .before .before .before .loop .at + 8) (c .before .before .before .before .before .before .before .before .before .before .before .before .before .before .args .buf .now))) (c .before .before .raise .last .0) f (c .before .before .before .before .before .before .before .before .before .before .whole-length .ensures .1) small refl (told .1) (c .before .get-u32 .ensures) (c .before .before .raise .ensures) in
@@ -189,7 +189,7 @@ walk-spec =
     sub-name
     part-name-start
     part-name-end
-    jhash-requires
+    name-hash-requires
     enum-known-h
     enum-told
     returns-2
