@@ -8,6 +8,7 @@ ghost use Rattle.reader.specs.Answers.{seenOf, lookupOf};
 use super::HEAD_SIZE;
 use super::Seen;
 use super::ToId;
+use super::start::start;
 use super::words::word;
 use jhash::Hashed;
 
@@ -95,7 +96,7 @@ fn search(image: &[u8], name: &[u8], h: u32, at: u32, n: u32) -> ToId
     requires { ⌜ (0 < n) × (at + 8 * n ≤ length (now image)) ⌝ }
     ensures { λ r. ⌜ lookupOf r ≡ searchTable (now (image .entry)) (now (name .entry)) h at n ⌝ }
 {
-    let mut k = h / 256 % n;
+    let mut k = start(h, n);
     let mut left = n;
     while 0 < left {
         left -= 1;
