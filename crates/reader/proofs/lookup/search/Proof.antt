@@ -1,8 +1,7 @@
 -- `reader::lookup::search` meets its contract. The loop's invariant: what is left of the search, from here on, answers what the whole search answers.
 -- Assumes nothing.
-use Prim.Native.Nat.{ℕ, _-_, _/_, _≤_, _<_}
+use Prim.Native.Nat.{ℕ, _-_, _≤_, _<_}
 use native.Mathlib.Omega.{arith}
-use native.Mathlib.Nat.{mod-lt}
 use mathlib.Core.Path.{_≡_, sym, ap, _∙_}
 use Rattle.image.specs.Tables.{next}
 use Rattle.reader.specs.Lookup.{Lookup, Seen, pass, ends, hit, decide, searchTable}
@@ -20,27 +19,30 @@ abbrev μ-loop : tie.MeasureT-loop
 
 -- after a bucket was looked at: what is left from bucket j on, and the turn by what was seen
 abbrev left-of : (c : tie.After-see Inv-loop μ-loop) → ℕ → Lookup
-left-of c j = rest (c .before .before .before .before .before .args .image .now) (c .before .before .before .before .before .args .name .now) (c .before .before .before .before .before .args .h) (c .before .before .before .before .before .args .at) (c .before .before .before .before .before .args .n) j (c .before .before .loop .left - 1)
+left-of c j = rest (c .before .before .before .before .before .before .args .image .now) (c .before .before .before .before .before .before .args .name .now) (c .before .before .before .before .before .before .args .h) (c .before .before .before .before .before .before .args .at) (c .before .before .before .before .before .before .args .n) j (c .before .before .loop .left - 1)
 
 turn : (c : tie.After-see Inv-loop μ-loop) (s : Seen) → seenOf (c .see .result) ≡ s
-    → decide s (c .before .before .before .before .before .args .n - (c .before .before .loop .left - 1)) (left-of c (next (c .before .before .before .before .before .args .n) (c .before .before .loop .k)))
-    ≡ searchTable (c .before .before .before .before .before .args .image .now) (c .before .before .before .before .before .args .name .now) (c .before .before .before .before .before .args .h) (c .before .before .before .before .before .args .at) (c .before .before .before .before .before .args .n)
+    → decide s (c .before .before .before .before .before .before .args .n - (c .before .before .loop .left - 1)) (left-of c (next (c .before .before .before .before .before .before .args .n) (c .before .before .loop .k)))
+    ≡ searchTable (c .before .before .before .before .before .before .args .image .now) (c .before .before .before .before .before .before .args .name .now) (c .before .before .before .before .before .before .args .h) (c .before .before .before .before .before .before .args .at) (c .before .before .before .before .before .before .args .n)
 turn c s e =
-    let a = c .before .before .before .before .before .args in
+    let a = c .before .before .before .before .before .before .args in
     rest-seen (a .image .now) (a .name .now) (a .h) (a .at) (a .n) (c .before .before .loop .k) (c .before .before .loop .left) s (omega arith) (c .before .before .loop .inv .1)
     (sym e ∙ c .see .ensures)
     ∙ c .before .before .loop .inv .2
 
-rem-k : tie.Need-rem-k Inv-loop μ-loop
-rem-k c = search needs
+start-requires : tie.Need-start-requires Inv-loop μ-loop
+start-requires c κs = search needs
 
 loop-holds : tie.Need-loop-holds Inv-loop μ-loop
 loop-holds c =
-    let a = c .before .before .args in
+    let a = c .before .before .before .args in
     let image = a .image .now in
     let name = a .name .now in
-    let pre = c .before .before .pre in
-    (mod-lt (a .h / 256) {m = a .n} (pre .0), search needs, rest-start image name (a .h) (a .at) (a .n))
+    let of-start = c .start in (
+      of-start .ensures .1,
+      search needs,
+      ap (λ (j : ℕ). rest image name (a .h) (a .at) (a .n) j (a .n)) (of-start .ensures .0) ∙ rest-start image name (a .h) (a .at) (a .n),
+    )
 
 sub-left : tie.Need-sub-left Inv-loop μ-loop
 sub-left c = search needs
@@ -52,10 +54,10 @@ mul-see : tie.Need-mul-see Inv-loop μ-loop
 mul-see c = search needs
 
 add-see : tie.Need-add-see Inv-loop μ-loop
-add-see c = omega (arith, c .before .before .before .before .pre .1)
+add-see c = omega (arith, c .before .before .before .before .before .pre .1)
 
 see-requires : tie.Need-see-requires Inv-loop μ-loop
-see-requires c κs = omega (arith, c .before .before .before .before .pre .1)
+see-requires c κs = omega (arith, c .before .before .before .before .before .pre .1)
 
 enum-told : tie.Need-enum-told Inv-loop μ-loop
 enum-told c = search needs
@@ -63,8 +65,8 @@ enum-told c = search needs
 enum-told-2 : tie.Need-enum-told-2 Inv-loop μ-loop
 enum-told-2 c = search needs
 
-sub-t16 : tie.Need-sub-t16 Inv-loop μ-loop
-sub-t16 c = search needs
+sub-t15 : tie.Need-sub-t15 Inv-loop μ-loop
+sub-t15 c = search needs
 
 returns : tie.Need-returns Inv-loop μ-loop
 returns c = turn (c .before .before) ends (ap seenOf (c .enum-told2 .given .1))
@@ -72,8 +74,8 @@ returns c = turn (c .before .before) ends (ap seenOf (c .enum-told2 .given .1))
 enum-known-id : tie.Need-enum-known-id Inv-loop μ-loop
 enum-known-id c = search needs
 
-sub-t17 : tie.Need-sub-t17 Inv-loop μ-loop
-sub-t17 c = search needs
+sub-t16 : tie.Need-sub-t16 Inv-loop μ-loop
+sub-t16 c = search needs
 
 returns-2 : tie.Need-returns-2 Inv-loop μ-loop
 returns-2 c = turn (c .before .before .before) (hit (c .before .id .given .0 .0)) (ap seenOf (c .before .id .given .1))
@@ -86,9 +88,9 @@ loop-less c = omega arith
 
 loop-again : tie.Need-loop-again Inv-loop μ-loop
 loop-again c = (
-  c .before .before .before .before .before .before .before .before .pre .0,
+  c .before .before .before .before .before .before .before .before .before .pre .0,
   omega arith,
-  ap (λ (j : ℕ). left-of (c .before .before .before) j) (next-first (c .before .before .before .before .before .before .before .before .args .n) (c .before .before .before .before .before .loop .k) (c .if1 .taken)) ∙ turn (c .before .before .before) pass (ap seenOf (c .before .enum-told .given .1)),
+  ap (λ (j : ℕ). left-of (c .before .before .before) j) (next-first (c .before .before .before .before .before .before .before .before .before .args .n) (c .before .before .before .before .before .loop .k) (c .if1 .taken)) ∙ turn (c .before .before .before) pass (ap seenOf (c .before .enum-told .given .1)),
 )
 
 loop-less-2 : tie.Need-loop-less-2 Inv-loop μ-loop
@@ -98,15 +100,15 @@ loop-again-2 : tie.Need-loop-again-2 Inv-loop μ-loop
 loop-again-2 c = (
   omega arith,
   omega arith,
-  ap (λ (j : ℕ). left-of (c .before .before .before) j) (next-more (c .before .before .before .before .before .before .before .before .args .n) (c .before .before .before .before .before .loop .k) (omega arith)) ∙ turn (c .before .before .before) pass (ap seenOf (c .before .enum-told .given .1)),
+  ap (λ (j : ℕ). left-of (c .before .before .before) j) (next-more (c .before .before .before .before .before .before .before .before .before .args .n) (c .before .before .before .before .before .loop .k) (omega arith)) ∙ turn (c .before .before .before) pass (ap seenOf (c .before .enum-told .given .1)),
 )
 
-sub-t9 : tie.Need-sub-t9 Inv-loop μ-loop
-sub-t9 c = search needs
+sub-t17 : tie.Need-sub-t17 Inv-loop μ-loop
+sub-t17 c = search needs
 
 returns-3 : tie.Need-returns-3 Inv-loop μ-loop
 returns-3 c =
-    let a = c .before .before .before .before .args in
+    let a = c .before .before .before .before .before .args in
     rest-over (a .image .now) (a .name .now) (a .h) (a .at) (a .n) (c .before .loop .k) (c .before .loop .left) (omega arith) ∙ c .before .loop .inv .2
 
 pub search-spec : {M : Type 1} → statement M
@@ -115,7 +117,7 @@ search-spec =
     (tie.spec
     Inv-loop
     μ-loop
-    rem-k
+    start-requires
     loop-holds
     sub-left
     cast-see
@@ -124,15 +126,15 @@ search-spec =
     see-requires
     enum-told
     enum-told-2
-    sub-t16
+    sub-t15
     returns
     enum-known-id
-    sub-t17
+    sub-t16
     returns-2
     add-k
     loop-less
     loop-again
     loop-less-2
     loop-again-2
-    sub-t9
+    sub-t17
     returns-3)
