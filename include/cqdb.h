@@ -69,11 +69,12 @@ typedef struct {
 /* The id of a name (of its first put). Never refused: a damaged image or a name too long for a hash gives nothing. */
 cqdb_id_answer cqdb_to_id(const uint8_t *image, size_t len, const uint8_t *name, size_t name_len);
 
-/* found is 1 or 0. The name is the len bytes from image + start on, and lies in the image; 0 and 0 where there is none. */
+/* found is 1 or 0. The name is the len bytes from image + start on, and lies in the image; 0 and 0 where there is none. A
+   name has at most 4,294,967,294 bytes; start may be as large as 4,294,967,303, which takes 33 bits. */
 typedef struct {
-    uint64_t found;
+    uint32_t found;
+    uint32_t len;
     uint64_t start;
-    uint64_t len;
 } cqdb_str_answer;
 
 /* The place of an id's name (of its last put). Never refused: a one-way or damaged image gives nothing. */

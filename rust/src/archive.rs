@@ -22,9 +22,9 @@ pub struct IdAnswer {
 
 #[repr(C)]
 pub struct StrAnswer {
-    pub found: u64,
+    pub found: u32,
+    pub len: u32,
     pub start: u64,
-    pub len: u64,
 }
 
 #[repr(C)]

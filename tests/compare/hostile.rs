@@ -45,9 +45,9 @@ impl Run {
         let ids = [0, 1, back.wrapping_sub(1), back, random.word(), u32::MAX, random.below(20) as u32];
         for id in ids {
             let answer = ours::to_str(image, id);
-            self.tally.rule(answer.start + answer.len <= image.len() as u64, true, || format!("{answer:?}"));
+            self.tally.rule(answer.start + u64::from(answer.len) <= image.len() as u64, true, || format!("{answer:?}"));
             let home = ours::home(image, id);
-            self.tally.rule(home <= answer.found as u32, true, || format!("home gave {home}"));
+            self.tally.rule(home <= answer.found, true, || format!("home gave {home}"));
             ours::size_hint(image, id);
         }
         self.calls += 1 + names.len() as u64 + 3 * ids.len() as u64;

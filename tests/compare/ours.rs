@@ -28,9 +28,9 @@ pub struct IdAnswer {
 #[repr(C)]
 #[derive(Clone, Copy, Debug, PartialEq, Eq)]
 pub struct StrAnswer {
-    pub found: u64,
+    pub found: u32,
+    pub len: u32,
     pub start: u64,
-    pub len: u64,
 }
 
 // The writer record, but for the 256 table counts, which are lent beside it.

@@ -79,8 +79,8 @@ impl Run {
     fn naming(&mut self, image: &[u8], db: Option<&CQDB>, id: u32) {
         let ours = ours::to_str(image, id);
         let want = match rules::to_str(image, id) {
-            Some((start, len)) => StrAnswer { found: 1, start: start as u64, len: len as u64 },
-            None => StrAnswer { found: 0, start: 0, len: 0 },
+            Some((start, len)) => StrAnswer { found: 1, len: len as u32, start: start as u64 },
+            None => StrAnswer { found: 0, len: 0, start: 0 },
         };
         self.tally.rule(ours, want, || format!("naming {id}"));
         if let Some(db) = db {

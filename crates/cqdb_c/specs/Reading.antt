@@ -30,8 +30,8 @@ idAnswer image name = idAnswerOf (lookup image name)
 
 -- 1 and the place of the name, or three zeros
 abbrev pub placeAnswerOf : Naming → PlaceAnswer
-placeAnswerOf (place s n) = record { found = 1; start = s; len = n }
-placeAnswerOf unnamed = record { found = 0; start = 0; len = 0 }
+placeAnswerOf (place s n) = record { found = 1; len = n; start = s }
+placeAnswerOf unnamed = record { found = 0; len = 0; start = 0 }
 
 -- the rule of naming an id, so answered
 abbrev pub placeAnswer : List ℕ → ℕ → PlaceAnswer

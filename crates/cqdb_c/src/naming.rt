@@ -5,12 +5,14 @@ ghost use mathlib.Core.Path.{_≡_};
 ghost use Rattle.reader.specs.Walk.{upperHint};
 ghost use Rattle.cqdb_c.specs.Reading.{placeAnswer, homeAnswer};
 
-// 1 and the place of the name in the image, its first byte's offset and its length; or three zeros.
+// 1 and the place of the name in the image, its length and its first byte's offset; or three zeros. The length is below
+// 2^32, since it is an entry's length word minus 1; the offset may lie above. So the answer has 16 bytes, which C hands back
+// in two registers.
 #[repr(C)]
 pub struct PlaceAnswer {
-    pub found: u64,
+    pub found: u32,
+    pub len: u32,
     pub start: u64,
-    pub len: u64,
 }
 
 // The place of an id's name, or nothing.
@@ -22,13 +24,13 @@ pub extern "C" fn cqdb_to_str(image: &[u8], id: u32) -> PlaceAnswer
     match named {
         Named::Place { start, len } => PlaceAnswer {
             found: 1,
+            len: len as u32,
             start: start as u64,
-            len: len as u64,
         },
         Named::Nothing => PlaceAnswer {
             found: 0,
-            start: 0,
             len: 0,
+            start: 0,
         },
     }
 }
