@@ -148,10 +148,7 @@ pub fn to_id(image: &[u8], name: &[u8]) -> ToId
     if image.len() < HEAD_SIZE {
         return ToId::Nothing { buckets: 0 };
     }
-    // The whole name as a part: its place and length are handed on as two numbers, which a processor passes from store to
-    // load at once. As one pair of 16 bytes they would wait for all that runs before them.
-    let n = name.len();
-    match jhash::jhash(&name[0..n], 0) {
+    match jhash::name_hash(name) {
         Hashed::Hash(h) => to_id_hashed(image, name, h),
         Hashed::Refused => ToId::Nothing { buckets: 0 },
     }
