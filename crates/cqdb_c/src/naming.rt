@@ -1,5 +1,4 @@
 // Naming an id, the hint of a walk, and the home check, for C.
-use super::lookup::cqdb_to_id;
 use reader::Iter;
 use reader::Named;
 ghost use mathlib.Core.Path.{_≡_};
@@ -44,22 +43,10 @@ pub extern "C" fn cqdb_size_hint(image: &[u8], next: u32) -> u32
     reader::walk::size_hint(image, Iter { next })
 }
 
-// 1 when the id has a name whose lookup finds this id, else 0. It asks this crate's two functions, and not the reader's home,
-// so that the archive calls the reader's lookup in one place alone, this crate's cqdb_to_id, whose code then holds all of the
-// search. The compiler makes that a function of its own, which the exported symbol and this one call.
+// 1 when the id has a name whose lookup finds this id, else 0.
 #[no_mangle]
 pub extern "C" fn cqdb_home(image: &[u8], id: u32) -> u32
     ensures { λ r. ⌜ r ≡ homeAnswer (now (image .entry)) id ⌝ }
 {
-    let place = cqdb_to_str(image, id);
-    if place.found == 0 {
-        return 0;
-    }
-    let start = place.start as usize;
-    let end = start + place.len as usize;
-    let answer = cqdb_to_id(image, &image[start..end]);
-    if answer.found == 0 {
-        return 0;
-    }
-    if answer.id == id { 1 } else { 0 }
+    if reader::home(image, id) { 1 } else { 0 }
 }
