@@ -145,11 +145,17 @@ fn to_id_hashed(image: &[u8], name: &[u8], h: u32) -> ToId
 pub fn to_id(image: &[u8], name: &[u8]) -> ToId
     ensures { λ r. ⌜ lookupOf r ≡ lookup (now (image .entry)) (now (name .entry)) ⌝ }
 {
-    if image.len() < HEAD_SIZE {
+    // Image and name as parts, each the whole: place and length are read one by one, and the compiler then hands them in as
+    // four numbers in place of two pointers to pairs.
+    let all = image.len();
+    let bytes = &image[0..all];
+    let n = name.len();
+    let wanted = &name[0..n];
+    if all < HEAD_SIZE {
         return ToId::Nothing { buckets: 0 };
     }
-    match jhash::name_hash(name) {
-        Hashed::Hash(h) => to_id_hashed(image, name, h),
+    match jhash::name_hash(wanted) {
+        Hashed::Hash(h) => to_id_hashed(bytes, wanted, h),
         Hashed::Refused => ToId::Nothing { buckets: 0 },
     }
 }

@@ -1,8 +1,14 @@
--- `reader::lookup::to_id` meets its contract. Assumes nothing.
-use mathlib.Core.Path.{refl, ap, _∙_}
+-- `reader::lookup::to_id` meets its contract. Image and name as parts are the whole of each. Assumes nothing.
+use Prim.Native.Nat.{ℕ, _-_}
+use mathlib.Core.Path.{_≡_, refl, sym, ap, _∙_}
 use mathlib.Core.Bool.{true, false}
+use mathlib.Core.List.{List}
+use native.Mathlib.Omega.{arith}
 use borrow.Author.Tests.{lt-ltb, le-ltb, le-leb, lt-leb}
-use lib.ListN.{length}
+use lib.ListN.{length, take}
+use lib.Seq.{take-all}
+use Rattle.jhash.specs.NameHash.{outcome, hashOutcome}
+use Rattle.jhash.specs.declared.Hashed.{Hashed}
 use Rattle.jhash.proofs.Answers.{told-image-hash, told-refused}
 use Rattle.reader.specs.Lookup.{lookupHash}
 use Rattle.reader.proofs.Searches.{lookup-by}
@@ -10,9 +16,34 @@ use borrow.Author.Needs.{needs}
 use Rattle.reader.proofs.lookup.to_id.Statement.{statement}
 use Rattle.reader.proofs.lookup.to_id.Tie as tie
 
+whole : (l : List ℕ) → take (length l - 0) l ≡ l
+whole l = take-all (length l - 0) l (omega arith)
+
+-- what the hash promises of the part is a promise of the name
+of-name : (name : List ℕ) (r : Hashed) → outcome r ≡ hashOutcome (take (length name - 0) name) 0 → outcome r ≡ hashOutcome name 0
+of-name name r h = h ∙ ap (λ (l : List ℕ). hashOutcome l 0) (whole name)
+
+sub-bytes : tie.Need-sub-bytes
+sub-bytes c = search needs
+
+part-bytes-start : tie.Need-part-bytes-start
+part-bytes-start c = search needs
+
+part-bytes-end : tie.Need-part-bytes-end
+part-bytes-end c = search needs
+
+sub-wanted : tie.Need-sub-wanted
+sub-wanted c = search needs
+
+part-wanted-start : tie.Need-part-wanted-start
+part-wanted-start c = search needs
+
+part-wanted-end : tie.Need-part-wanted-end
+part-wanted-end c = search needs
+
 returns : tie.Need-returns
 returns c =
-    let a = c .before .before .before .args in
+    let a = c .before .before .before .before .before .args in
     let image = a .image .now in
     let name = a .name .now in
     lookup-by image name true _ (lt-ltb (length image) 2072 (c .if1 .taken)) refl
@@ -24,37 +55,46 @@ enum-known-h : tie.Need-enum-known-h
 enum-known-h c = search needs
 
 to-id-hashed-requires : tie.Need-to-id-hashed-requires
-to-id-hashed-requires c κs = search needs
+to-id-hashed-requires c κs = rw (whole (c .before .before .before .before .before .before .before .before .before .args .image .now)) (c .before .before .before .before .if1 .left)
 
 enum-told : tie.Need-enum-told
 enum-told c = search needs
 
 returns-2 : tie.Need-returns-2
 returns-2 c =
-    let a = c .before .before .before .before .before .before .before .before .args in
+    let a = c .before .before .before .before .before .before .before .before .before .before .args in
     let image = a .image .now in
     let name = a .name .now in
     let of-hash = c .before .before .before .before .name-hash in
     let of-h = c .before .before .h in
     let of-if1 = c .before .before .before .before .before .if1 in
-    let told = told-image-hash name (of-hash .result) (of-h .given .0 .0) (of-hash .ensures) (of-h .given .1) in
-    c .to-id-hashed .ensures ∙ ap (lookupHash image name) (told .1)
+    let told = told-image-hash name (of-hash .result) (of-h .given .0 .0) (of-name name (of-hash .result) (of-hash .ensures)) (of-h .given .1) in
+    c .to-id-hashed .ensures
+    ∙ ap (λ (l : List ℕ). lookupHash l (take (length name - 0) name) (of-h .given .0 .0)) (whole image)
+    ∙ ap (λ (l : List ℕ). lookupHash image l (of-h .given .0 .0)) (whole name)
+    ∙ ap (lookupHash image name) (told .1)
     ∙ lookup-by image name false false (le-ltb (length image) 2072 (of-if1 .left)) (lt-leb 4294967295 (length name) (told .0))
 
 returns-3 : tie.Need-returns-3
 returns-3 c =
-    let a = c .before .before .before .before .before .before .args in
+    let a = c .before .before .before .before .before .before .before .before .args in
     let image = a .image .now in
     let name = a .name .now in
     let of-if1 = c .before .before .before .if1 in
     let of-hash = c .before .before .name-hash in
     lookup-by image name false true (le-ltb (length image) 2072 (of-if1 .left))
-    (le-leb 4294967295 (length name) (told-refused name 0 (of-hash .result) (of-hash .ensures) (c .enum-told .given .1)))
+    (le-leb 4294967295 (length name) (told-refused name 0 (of-hash .result) (of-name name (of-hash .result) (of-hash .ensures)) (c .enum-told .given .1)))
 
 pub to-id-spec : {M : Type 1} → statement M
 to-id-spec =
     tie.close
     (tie.spec
+    sub-bytes
+    part-bytes-start
+    part-bytes-end
+    sub-wanted
+    part-wanted-start
+    part-wanted-end
     returns
     name-hash-requires
     enum-known-h
