@@ -1,7 +1,8 @@
 -- When two byte strings are equal, step by step: by bytes and by words. Assumes nothing.
-use Prim.Native.Nat.{ℕ, suc, _+_, _^_, _≤_, _<_}
+use Prim.Native.Nat.{ℕ, suc, _+_, _*_, _^_, _≤_, _<_}
 use native.Mathlib.Omega.{arith}
 use native.Mathlib.Numerals.{add-one}
+use native.Mathlib.Decide.{ℕ-discrete}
 use mathlib.Core.Path.{_≡_, refl, sym, ap, _∙_}
 use mathlib.Core.Bool.{Bool, true, false, _&&_, and-false}
 use mathlib.Core.List.{List, [], _∷_}
@@ -98,3 +99,44 @@ module _ (a b : List ℕ) (i : ℕ) (p : i + 4 ≤ length a) (q : i + 4 ≤ leng
           let e2 : a2 ≡ b2 = cc in
           let e3 : a3 ≡ b3 = cc in
           rw (eq-eqb a0 b0 e0, eq-eqb a1 b1 e1, eq-eqb a2 b2 e2, eq-eqb a3 b3 e3)
+
+-- two words as one number, the second above the first
+abbrev pub word8 : List ℕ → ℕ → ℕ
+word8 s i = word s i + word s (i + 4) * 4294967296
+
+-- from its eight bytes
+pub word8-of : (s : List ℕ) (o a b c d e f g h : ℕ) → a ≡ getD s o 0 → b ≡ getD s (o + 1) 0 → c ≡ getD s (o + 2) 0 → d ≡ getD s (o + 3) 0
+    → e ≡ getD s (o + 4) 0 → f ≡ getD s (o + 5) 0 → g ≡ getD s (o + 6) 0 → h ≡ getD s (o + 7) 0
+    → a + b * 256 + c * 65536 + d * 16777216 + e * 4294967296 + f * 1099511627776 + g * 281474976710656 + h * 72057594037927936 ≡ word8 s o
+word8-of s o a b c d e f g h pa pb pc pd pe pf pg ph =
+    let low = word-of s o a b c d pa pb pc pd in
+    let high = word-of s (o + 4) e f g h pe (pf ∙ at (o + 5) (o + 4 + 1) (omega arith)) (pg ∙ at (o + 6) (o + 4 + 2) (omega arith)) (ph ∙ at (o + 7) (o + 4 + 3) (omega arith)) in
+    omega arith
+  where
+    at : (j k : ℕ) → j ≡ k → getD s j 0 ≡ getD s k 0
+    at j k l = ap (λ (i : ℕ). getD s i 0) l
+
+module _ (a b : List ℕ) (i : ℕ) (p : i + 8 ≤ length a) (q : i + 8 ≤ length b) (ha : Bytes a) (hb : Bytes b) where
+  -- one word equal: the next decides
+  then : word a i ≡ word b i → same (drop i a) (drop i b) ≡ same (drop (i + 4) a) (drop (i + 4) b)
+  then e = same-word a b i (omega arith) (omega arith) ha hb e
+
+  -- other eight bytes
+  pub other-word8 : (word8 a i ≡ word8 b i → ⊥) → same (drop i a) (drop i b) ≡ false
+  other-word8 h =
+      elim (ℕ-discrete (word a i) (word b i)) [
+        | yes e ↦ then e ∙ other-word a b (i + 4) (omega arith) (omega arith) (λ f. h (omega (arith, e, f)))
+        | no n ↦ other-word a b i (omega arith) (omega arith) n
+      ]
+
+  -- the same eight bytes
+  pub same-word8 : word8 a i ≡ word8 b i → same (drop i a) (drop i b) ≡ same (drop (i + 8) a) (drop (i + 8) b)
+  same-word8 e =
+      let la = word-below a i ha in
+      let lb = word-below b i hb in
+      let low : word a i ≡ word b i = omega arith in
+      let high : word a (i + 4) ≡ word b (i + 4) = omega arith in
+      let j : i + 4 + 4 ≡ i + 8 = omega arith in
+      then low
+      ∙ same-word a b (i + 4) (omega arith) (omega arith) ha hb high
+      ∙ ap (λ (k : ℕ). same (drop k a) (drop k b)) j

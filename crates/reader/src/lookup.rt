@@ -10,6 +10,7 @@ use super::Seen;
 use super::ToId;
 use super::start::start;
 use super::words::word;
+use super::words::word8;
 use jhash::Hashed;
 
 // Are two byte strings of one length equal from `from` on?
@@ -27,7 +28,7 @@ fn same_from(a: &[u8], b: &[u8], from: usize) -> bool
     true
 }
 
-// Are two byte strings equal? They are compared word by word, and the last bytes one by one.
+// Are two byte strings equal? They are compared eight bytes at a time, and the last ones one by one.
 fn same(a: &[u8], b: &[u8]) -> bool
     ensures { λ r. ⌜ r ≡ same (now (a .entry)) (now (b .entry)) ⌝ }
 {
@@ -35,11 +36,11 @@ fn same(a: &[u8], b: &[u8]) -> bool
         return false;
     }
     let mut i: usize = 0;
-    while 4 <= a.len() - i {
-        if word(a, i) != word(b, i) {
+    while 8 <= a.len() - i {
+        if word8(a, i) != word8(b, i) {
             return false;
         }
-        i += 4;
+        i += 8;
     }
     same_from(a, b, i)
 }

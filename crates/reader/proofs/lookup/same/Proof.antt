@@ -4,7 +4,7 @@ use native.Mathlib.Omega.{arith}
 use mathlib.Core.Path.{_≡_, refl, sym, _∙_}
 use lib.ListN.{length, drop}
 use Rattle.image.specs.Bytes.{same}
-use Rattle.reader.proofs.Equal.{same-lengths, other-word, same-word}
+use Rattle.reader.proofs.Equal.{same-lengths, other-word8, same-word8}
 use borrow.Author.Needs.{needs}
 use Rattle.reader.proofs.lookup.same.Statement.{statement}
 use Rattle.reader.proofs.lookup.same.Tie as tie
@@ -24,20 +24,22 @@ loop-holds c = (search needs, refl)
 sub-loop : tie.Need-sub-loop Inv-loop μ-loop
 sub-loop c = search needs
 
-word-requires : tie.Need-word-requires Inv-loop μ-loop
-word-requires c κs = search needs
+word8-requires : tie.Need-word8-requires Inv-loop μ-loop
+word8-requires c κs = search needs
 
-word-requires-2 : tie.Need-word-requires-2 Inv-loop μ-loop
-word-requires-2 c κs = search needs
+word8-requires-2 : tie.Need-word8-requires-2 Inv-loop μ-loop
+word8-requires-2 c κs = search needs
 
 returns-2 : tie.Need-returns-2 Inv-loop μ-loop
 returns-2 c =
     let a = c .before .before .before .before .before .before .before .before .args in
     let of-loop = c .before .before .before .before .loop in
     let of-if1 = c .before .before .before .before .before .if1 in
-    let of-word = c .before .before .word in
+    let of-shared-slice-known = c .before .before .before .before .before .before .before .shared-slice-known in
+    let of-shared-slice-known2 = c .before .before .before .before .before .before .shared-slice-known2 in
+    let of-word8 = c .before .before .word8 in
     sym
-    (other-word (a .a .now) (a .b .now) (of-loop .i) (omega arith) (omega (arith, of-if1 .left)) (λ e. c .if2 .taken (of-word .ensures ∙ e ∙ sym (c .before .word2 .ensures))))
+    (other-word8 (a .a .now) (a .b .now) (of-loop .i) (omega arith) (omega (arith, of-if1 .left)) (λ k. of-shared-slice-known .given k .fits) (λ k. of-shared-slice-known2 .given k .fits) (λ e. c .if2 .taken (of-word8 .ensures ∙ e ∙ sym (c .before .word82 .ensures))))
     ∙ of-loop .inv .1
 
 add-i : tie.Need-add-i Inv-loop μ-loop
@@ -53,10 +55,10 @@ loop-again c =
     let of-if1 = c .before .before .before .before .before .if1 in
     let of-shared-slice-known = c .before .before .before .before .before .before .before .shared-slice-known in
     let of-shared-slice-known2 = c .before .before .before .before .before .before .shared-slice-known2 in
-    let of-word = c .before .before .word in (
+    let of-word8 = c .before .before .word8 in (
       omega arith,
       sym
-          (same-word (a .a .now) (a .b .now) (of-loop .i) (omega arith) (omega (arith, of-if1 .left)) (λ k. of-shared-slice-known .given k .fits) (λ k. of-shared-slice-known2 .given k .fits) (sym (of-word .ensures) ∙ c .if2 .left ∙ c .before .word2 .ensures))
+          (same-word8 (a .a .now) (a .b .now) (of-loop .i) (omega arith) (omega (arith, of-if1 .left)) (λ k. of-shared-slice-known .given k .fits) (λ k. of-shared-slice-known2 .given k .fits) (sym (of-word8 .ensures) ∙ c .if2 .left ∙ c .before .word82 .ensures))
           ∙ of-loop .inv .1,
     )
 
@@ -75,8 +77,8 @@ same-spec =
     returns
     loop-holds
     sub-loop
-    word-requires
-    word-requires-2
+    word8-requires
+    word8-requires-2
     returns-2
     add-i
     loop-less
