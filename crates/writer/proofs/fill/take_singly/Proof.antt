@@ -1,4 +1,4 @@
--- `writer::fill::take_entries` meets its contract. Assumes nothing.
+-- `writer::fill::take_singly` meets its contract. Assumes nothing.
 use native.Mathlib.Omega.{arith}
 use borrow.Author.Needs.{needs}
 use Prim.Native.Nat.{_+_, _≤_}
@@ -7,10 +7,10 @@ use lib.ListN.{length}
 use Rattle.writer.specs.Working.{between, takenFrom}
 use Rattle.writer.proofs.Between.{Front, front, length-between}
 use Rattle.writer.proofs.Taking.{from-broken, from-turn, from-none}
-use Rattle.writer.proofs.fill.take_entries.Statement.{statement}
-use Rattle.writer.proofs.fill.take_entries.Tie as tie
-use Rattle.writer.proofs.fill.take_entries.Reads as reads
-use Rattle.writer.proofs.fill.take_entries.Lts as lts
+use Rattle.writer.proofs.fill.take_singly.Statement.{statement}
+use Rattle.writer.proofs.fill.take_singly.Tie as tie
+use Rattle.writer.proofs.fill.take_singly.Reads as reads
+use Rattle.writer.proofs.fill.take_singly.Lts as lts
 use Rattle.writer.proofs.check.whole_length.Reads as whole-length-reads
 use Rattle.writer.proofs.fill.take_entry.Reads as take-entry-reads
 
@@ -93,8 +93,8 @@ returns-2 c =
     let z : c .before .loop .left ≡ 0 = omega arith in
     from-none (c .before .before .before .args .flag) (c .before .before .before .args .links) (c .before .before .before .args .end) (c .before .loop .at) (c .before .loop .buf) _ (rw z at (c .before .loop .inv .2))
 
-pub take-entries-spec : {M : Type 1} → statement M
-take-entries-spec =
+pub take-singly-spec : {M : Type 1} → statement M
+take-singly-spec =
     tie.close
     (tie.spec
     Inv-loop
