@@ -1,3 +1,7 @@
+-- `writer::fill::links_apart` meets its contract. Assumes nothing.
+use mathlib.Core.Path.{sym, ap}
+use Rattle.image.specs.declared.Flag.{Flag}
+use Rattle.writer.specs.Working.{linksApart}
 use borrow.Author.Needs.{needs}
 use Rattle.writer.proofs.fill.links_apart.Statement.{statement}
 use Rattle.writer.proofs.fill.links_apart.Tie as tie
@@ -14,7 +18,7 @@ enum-told-2 c = search needs
 
 -- src/fill.rt:89:1
 returns : tie.Need-returns
-returns c = ?
+returns c = ap (λ (f : Flag). linksApart f (c .before .before .args .links) (c .before .before .args .end)) (sym (c .enum-told .given .1))
 
 -- src/fill.rt:89:1
 returns-2 : tie.Need-returns-2

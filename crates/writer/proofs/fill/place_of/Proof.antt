@@ -1,9 +1,17 @@
+-- `writer::fill::place_of` meets its contract. Assumes nothing.
+use native.Mathlib.Omega.{arith}
+use native.Mathlib.Nat.{mod-lt}
+use Prim.Native.Nat.{ℕ, _/_, _%_, _<_}
+use mathlib.Core.Path.{_≡_}
 use borrow.Author.Needs.{needs}
 use Rattle.writer.proofs.fill.place_of.Statement.{statement}
 use Rattle.writer.proofs.fill.place_of.Tie as tie
 use Rattle.writer.proofs.fill.place_of.Reads as reads
 use Rattle.writer.proofs.fill.place_of.Lts as lts
 use Rattle.image.proofs.get_u32.Reads as get-u32-reads
+
+pos-of : (n : ℕ) → (n ≡ 0 → ⊥) → 0 < n
+pos-of n h = omega arith
 
 -- src/fill.rt:103:13
 cast-t : tie.Need-cast-t
@@ -59,15 +67,24 @@ rem-result c = search needs
 
 -- src/fill.rt:112:9
 mul-result : tie.Need-mul-result
-mul-result c = ?
+mul-result c =
+    let pos : 0 < c .before .before .get-u322 .result = pos-of _ (c .if2 .left) in
+    let r : c .before .before .before .before .before .args .h / 256 % c .before .before .get-u322 .result < c .before .before .get-u322 .result = mod-lt (c .before .before .before .before .before .args .h / 256) pos in
+    omega (arith, c .before .before .get-u322 .ok, c .before .before .before .get-u32 .ok)
 
 -- src/fill.rt:112:5
 add-result : tie.Need-add-result
-add-result c = ?
+add-result c =
+    let pos : 0 < c .before .before .get-u322 .result = pos-of _ (c .if2 .left) in
+    let r : c .before .before .before .before .before .args .h / 256 % c .before .before .get-u322 .result < c .before .before .get-u322 .result = mod-lt (c .before .before .before .before .before .args .h / 256) pos in
+    omega (arith, c .before .before .get-u322 .ok, c .before .before .before .get-u32 .ok)
 
 -- src/fill.rt:112:5
 add-result-2 : tie.Need-add-result-2
-add-result-2 c = ?
+add-result-2 c =
+    let pos : 0 < c .before .before .get-u322 .result = pos-of _ (c .if2 .left) in
+    let r : c .before .before .before .before .before .args .h / 256 % c .before .before .get-u322 .result < c .before .before .get-u322 .result = mod-lt (c .before .before .before .before .before .args .h / 256) pos in
+    omega (arith, c .before .before .get-u322 .ok, c .before .before .before .get-u32 .ok)
 
 -- src/fill.rt:100:1
 returns-3 : tie.Need-returns-3

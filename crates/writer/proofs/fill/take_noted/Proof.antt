@@ -1,3 +1,9 @@
+-- `writer::fill::take_noted` meets its contract. Assumes nothing.
+use native.Mathlib.Omega.{arith}
+use Prim.Native.Nat.{ℕ}
+use mathlib.Core.Path.{ap₂, _∙_}
+use mathlib.Core.List.{List}
+use Rattle.writer.specs.Working.{withLink}
 use borrow.Author.Needs.{needs}
 use Rattle.writer.proofs.fill.take_noted.Statement.{statement}
 use Rattle.writer.proofs.fill.take_noted.Tie as tie
@@ -45,7 +51,12 @@ same-length c = search needs
 
 -- src/fill.rt:166:1
 returns : tie.Need-returns
-returns c = ?
+returns c =
+    let a = c .before .before .before .before .before .before .before .before .before .before .before .before .before .args in (
+      c .before .before .store-link .ensures ∙ ap₂ (λ (l : List ℕ) (i : ℕ). withLink (a .flag) l (a .links) i (a .at)) (c .before .before .before .before .before .before .store-bucket .ensures) (c .before .before .before .before .before .before .before .before .before .before .get-u32 .ensures),
+      c .before .before .before .before .before .before .before .before .get-u322 .ensures,
+      omega (arith, c .before .before .before .before .before .before .before .before .get-u322 .ok),
+    )
 
 pub take-noted-spec : {M : Type 1} → statement M
 take-noted-spec =

@@ -15,10 +15,10 @@ use Rattle.writer.proofs.check.whole_length.Reads as whole-length-reads
 use Rattle.writer.proofs.fill.take_entry.Reads as take-entry-reads
 
 abbrev Inv-loop : tie.InvT-loop
-Inv-loop flag links buf₀ end entries at₀ left₀ buf at left = (at ≤ end) × (length buf ≡ length buf₀) × (takenFrom flag links end left at buf ≡ takenFrom flag links end entries 2072 buf₀)
+Inv-loop flag links buf₀ from end entries at₀ left₀ buf at left = (at ≤ end) × (length buf ≡ length buf₀) × (takenFrom flag links end left at buf ≡ takenFrom flag links end entries from buf₀)
 
 abbrev μ-loop : tie.MeasureT-loop
-μ-loop flag links buf₀ end entries at₀ left₀ buf at left = left
+μ-loop flag links buf₀ from end entries at₀ left₀ buf at left = left
 
 -- a whole entry lies before the end
 room : (c : tie.Else1 Inv-loop μ-loop) → (c .before .before .before .before .loop .at + (8 + c .before .whole-length .result) ≤ c .before .before .before .before .before .before .args .end) × (1 ≤ c .before .whole-length .result)
