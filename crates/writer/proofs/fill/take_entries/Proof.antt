@@ -1,3 +1,12 @@
+-- `writer::fill::take_entries` meets its contract. Assumes nothing.
+use native.Mathlib.Omega.{arith}
+use borrow.Author.Needs.{needs}
+use borrow.Author.Tests.{not-false}
+use Prim.Native.Nat.{ℕ, _+_, _-_, _≤_, _<_}
+use mathlib.Core.Path.{_≡_, refl, sym, ap, _∙_}
+use lib.ListN.{length}
+use Rattle.writer.specs.Working.{takenFrom}
+use Rattle.writer.proofs.Taking.{from-none}
 use Rattle.writer.proofs.fill.take_entries.Statement.{statement}
 use Rattle.writer.proofs.fill.take_entries.Tie as tie
 use Rattle.writer.proofs.fill.take_entries.Reads as reads
@@ -11,83 +20,106 @@ use Rattle.writer.proofs.fill.take_singly.Reads as take-singly-reads
 
 abbrev Inv-loop : tie.InvT-loop
 Inv-loop flag links buf₀ end entries hashes₀ places₀ at₀ left₀ most₀ buf hashes places at left most =
-    ?
+    (at ≤ end) × (length buf ≡ length buf₀) × (length hashes ≡ 16) × (most ≤ 16) × (takenFrom flag links end left at buf ≡ takenFrom flag links end entries 2072 buf₀)
 
 abbrev μ-loop : tie.MeasureT-loop
-μ-loop flag links buf₀ end entries hashes₀ places₀ at₀ left₀ most₀ buf hashes places at left most =
-    ?
+μ-loop flag links buf₀ end entries hashes₀ places₀ at₀ left₀ most₀ buf hashes places at left most = left
+
+pos-of : (n : ℕ) → (n ≡ 0 → ⊥) → 0 < n
+pos-of n h = omega arith
 
 -- src/fill.rt:215:9
 links-apart-requires : tie.Need-links-apart-requires Inv-loop μ-loop
-links-apart-requires c κs = ?
+links-apart-requires c κs = search needs
 
 -- src/fill.rt:216:9
 take-singly-requires : tie.Need-take-singly-requires Inv-loop μ-loop
-take-singly-requires c κs = ?
+take-singly-requires c κs = (c .before .before .before .before .pre .0, c .before .before .before .before .pre .1, c .before .before .before .before .pre .2, c .before .before .before .before .pre .3)
 
 -- src/fill.rt:217:9
 same-length : tie.Need-same-length Inv-loop μ-loop
-same-length c = ?
+same-length c = search needs
 
 -- src/fill.rt:217:9
 returns : tie.Need-returns Inv-loop μ-loop
-returns c = ?
+returns c = c .before .before .take-singly .ensures
 
 -- src/fill.rt:224:5
 loop-holds : tie.Need-loop-holds Inv-loop μ-loop
-loop-holds c = ?
+loop-holds c = (c .before .before .before .pre .0, refl, refl, omega arith, refl)
 
 -- src/fill.rt:225:38
 smaller-requires : tie.Need-smaller-requires Inv-loop μ-loop
-smaller-requires c κs = ?
+smaller-requires c κs = c .before .before .loop .inv .3
 
 -- src/fill.rt:225:13
 plan-requires : tie.Need-plan-requires Inv-loop μ-loop
-plan-requires c κs = ?
+plan-requires c κs = (c .before .before .before .before .before .loop .inv .0, omega (arith, c .before .before .before .before .before .loop .inv .1, c .before .before .before .before .before .before .before .before .before .pre .1), c .before .before .before .before .before .before .before .before .before .pre .2, c .before .before .smaller .ensures .1, c .before .before .before .before .before .loop .inv .2)
 
 -- src/fill.rt:227:13
 take-singly-requires-2 : tie.Need-take-singly-requires-2 Inv-loop μ-loop
-take-singly-requires-2 c κs = ?
+take-singly-requires-2 c κs = (c .before .before .before .before .before .before .before .before .loop .inv .0, omega (arith, c .before .before .before .before .before .before .before .before .loop .inv .1, c .before .before .before .before .before .before .before .before .before .before .before .before .pre .1), c .before .before .before .before .before .before .before .before .before .before .before .before .pre .2, c .before .before .before .before .before .before .before .before .before .before .before .before .pre .3)
 
 -- src/fill.rt:228:13
 same-length-2 : tie.Need-same-length-2 Inv-loop μ-loop
-same-length-2 c = ?
+same-length-2 c = search needs
 
 -- src/fill.rt:228:13
 returns-2 : tie.Need-returns-2 Inv-loop μ-loop
-returns-2 c = ?
+returns-2 c = c .before .before .take-singly2 .ensures ∙ c .before .before .before .before .before .before .before .before .before .before .before .loop .inv .4
 
 -- src/fill.rt:230:9
 look-requires : tie.Need-look-requires Inv-loop μ-loop
-look-requires c κs = ?
+look-requires c κs = search needs
 
 -- src/fill.rt:231:9
 take-planned-requires : tie.Need-take-planned-requires Inv-loop μ-loop
-take-planned-requires c κs = ?
+take-planned-requires c κs = (
+  c .before .before .before .before .before .before .before .before .before .before .before .before .loop .inv .0,
+  c .before .before .before .before .before .before .before .before .before .before .before .before .before .before .before .before .pre .0,
+  omega (arith, c .before .before .before .before .before .before .before .before .before .before .before .before .loop .inv .1, c .before .before .before .before .before .before .before .before .before .before .before .before .before .before .before .before .pre .1),
+  c .before .before .before .before .before .before .before .before .before .before .before .before .before .before .before .before .pre .2,
+  c .before .before .before .before .before .before .before .before .before .before .before .before .before .before .before .before .pre .3,
+  omega (arith, c .before .before .before .before .before .before .plan .ensures .0, c .before .before .before .before .before .before .before .before .before .smaller .ensures .1),
+  sym (c .before .before .before .before .before .before .before .before .before .before .before .before .before .before .links-apart .ensures) ∙ not-false _ (c .before .before .before .before .before .before .before .before .before .before .before .before .before .if1 .left),
+  c .before .before .before .before .before .before .plan .ensures .2,
+)
 
 -- src/fill.rt:232:17
 cast-left : tie.Need-cast-left Inv-loop μ-loop
-cast-left c = ?
+cast-left c = omega (arith, c .before .before .before .before .before .before .before .before .before .plan .ensures .0, c .before .before .before .before .before .before .before .before .before .before .before .before .smaller .ensures .1)
 
 -- src/fill.rt:232:9
 sub-left : tie.Need-sub-left Inv-loop μ-loop
-sub-left c = ?
+sub-left c = omega (arith, c .before .before .before .before .before .before .before .before .before .plan .ensures .0, c .before .before .before .before .before .before .before .before .before .before .before .before .smaller .ensures .0)
 
 -- src/fill.rt:224:5
 loop-less : tie.Need-loop-less Inv-loop μ-loop
-loop-less c = ?
+loop-less c = omega (arith, c .before .before .before .before .before .before .before .before .before .plan .ensures .0, c .before .before .before .before .before .before .before .before .before .before .before .before .smaller .ensures .0, pos-of _ (c .before .before .before .before .before .before .before .before .if2 .left))
 
 -- src/fill.rt:224:5
 loop-again : tie.Need-loop-again Inv-loop μ-loop
-loop-again c = ?
+loop-again c =
+    let a = c .before .before .before .before .before .before .before .before .before .before .before .before .before .before .before .before .before .before .before .args in
+    let i = c .before .before .before .before .before .before .before .before .before .before .before .before .before .before .before .loop in
+    let m = c .before .before .before .before .before .before .before .before .before .plan .result in
+    let e : m + (i .left - m) ≡ i .left = omega (arith, c .before .before .before .before .before .before .before .before .before .plan .ensures .0, c .before .before .before .before .before .before .before .before .before .before .before .before .smaller .ensures .0) in (
+      c .before .before .take-planned .ensures .0,
+      c .before .before .take-planned .kept .1 .1 .0 ∙ i .inv .1,
+      c .before .before .before .before .before .before .before .before .before .plan .ensures .1,
+      c .before .before .before .before .before .look .ensures,
+      c .before .before .take-planned .ensures .1 (i .left - m) ∙ ap (λ (k : ℕ). takenFrom (a .flag) (a .links) (a .end) k (i .at) (i .buf)) e ∙ i .inv .4,
+    )
 
 -- src/fill.rt:211:1
 same-length-3 : tie.Need-same-length-3 Inv-loop μ-loop
-same-length-3 c = ?
+same-length-3 c = search needs
 
 -- src/fill.rt:211:1
 returns-3 : tie.Need-returns-3 Inv-loop μ-loop
-returns-3 c = ?
+returns-3 c =
+    let z : c .before .loop .left ≡ 0 = omega arith in
+    from-none (c .before .before .before .before .before .args .flag) (c .before .before .before .before .before .args .links) (c .before .before .before .before .before .args .end) (c .before .loop .at) (c .before .loop .buf) _ (rw z at (c .before .loop .inv .4))
 
 pub take-entries-spec : {M : Type 1} → statement M
 take-entries-spec =
