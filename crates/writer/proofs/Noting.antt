@@ -64,10 +64,10 @@ first-noted buf at end n h name i l e z en eh =
     record {
       some = λ y. z (e ∙ y);
       is =
-        eh
-        ∙ ap hashOf
-        (en ∙ sym (name-between buf at end n r (f .some))
-        ∙ ap (λ (k : ℕ). take (k - 1) (drop 8 (between buf at end))) e);
+          eh
+          ∙ ap hashOf
+          (en ∙ sym (name-between buf at end n r (f .some))
+          ∙ ap (λ (k : ℕ). take (k - 1) (drop 8 (between buf at end))) e);
     }
 
 module _ (buf : List ℕ) (end from most : ℕ) (hashes : List ℕ) (at i : ℕ) (p : Planned buf end from most hashes at i) where
@@ -101,8 +101,8 @@ module _ (buf : List ℕ) (end from most : ℕ) (hashes : List ℕ) (at i : ℕ)
           let o : Noted buf end from (set hashes i h) i =
           record {
             first =
-              subst (λ (a : ℕ). NotedFirst (between buf a end) (getD (set hashes i h) i 0)) (p .stands)
-              (subst (NotedFirst (between buf at end)) (sym own) (first-noted buf at end n h name (p .inside) l e z en eh));
+                subst (λ (a : ℕ). NotedFirst (between buf a end) (getD (set hashes i h) i 0)) (p .stands)
+                (subst (NotedFirst (between buf at end)) (sym own) (first-noted buf at end n h name (p .inside) l e z en eh));
             apart = subst (λ (x : ℕ). end ≤ word buf (24 + 8 * tableOf x)) (sym own) ea;
           } in
           subst (Noted buf end from (set hashes i h)) w o
@@ -208,12 +208,12 @@ module _ (flag : Flag) (links end from m : ℕ) (buf₀ : List ℕ) where
           stands = place-next buf₀ end from i at n (r .stands) there;
           long = sized ∙ r .long;
           same =
-            ap (take end) t
-            ∙ link-keeps flag links end (withBucket buf h at) (word buf at) at apart
-            ∙ bucket-keeps buf end h at now-apart
-            ∙ r .same;
+              ap (take end) t
+              ∙ link-keeps flag links end (withBucket buf h at) (word buf at) at apart
+              ∙ bucket-keeps buf end h at now-apart
+              ∙ r .same;
           gives = λ k.
-            let left : m - (i + 1) + k ≡ m - i + k - 1 = omega arith in
-            ap (λ (j : ℕ). takenFrom flag links end j (at + (8 + n)) buf′) left
-            ∙ from-turn flag links end (m - i + k) at n buf buf′ (takenFrom flag links end (m + k) from buf₀) (omega arith) w z tk (r .gives k);
+              let left : m - (i + 1) + k ≡ m - i + k - 1 = omega arith in
+              ap (λ (j : ℕ). takenFrom flag links end j (at + (8 + n)) buf′) left
+              ∙ from-turn flag links end (m - i + k) at n buf buf′ (takenFrom flag links end (m + k) from buf₀) (omega arith) w z tk (r .gives k);
         }

@@ -203,7 +203,11 @@ fn smaller(left: u32, most: usize) -> usize
     requires { ⌜ most ≤ 16 ⌝ }
     ensures { λ r. ⌜ (r ≤ left) × (r ≤ 16) ⌝ }
 {
-    if (left as usize) < most { left as usize } else { most }
+    if (left as usize) < most {
+        left as usize
+    } else {
+        most
+    }
 }
 
 // The entries from 2,072 on, in batches of up to 16: noted, looked at and stored. Where a batch cannot be noted, the rest
@@ -222,7 +226,14 @@ pub(super) fn take_entries(flag: Flag, links: usize, buf: &mut [u8], end: usize,
     let mut left = entries;
     let mut most = 16;
     while left > 0 {
-        let m = plan(&*buf, at, end, smaller(left, most), &mut hashes, &mut places);
+        let m = plan(
+            &*buf,
+            at,
+            end,
+            smaller(left, most),
+            &mut hashes,
+            &mut places,
+        );
         if m == 0 {
             take_singly(flag, links, &mut *buf, at, end, left);
             return;
