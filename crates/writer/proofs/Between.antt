@@ -4,8 +4,8 @@ use native.Mathlib.Omega.{arith}
 use mathlib.Core.Path.{_≡_, refl, sym, ap, _∙_}
 use mathlib.Core.Bool.{Bool, true, false, cond}
 use mathlib.Core.List.{List, [], _∷_}
-use lib.ListN.{length, getD, take, drop, length-take, length-drop}
-use lib.Seq.{getD-take, getD-drop, drop-drop}
+use lib.ListN.{length, getD, take, drop, set, length-take, length-drop}
+use lib.Seq.{sets, getD-take, getD-drop, drop-drop, take-set-le}
 use borrow.Author.Tests.{le-leb, lt-leb, eq-eqb, ne-eqb}
 use Rattle.image.specs.Bytes.{word}
 use Rattle.writer.specs.Close.{firstWhole, whole}
@@ -29,7 +29,7 @@ word-between buf at end o h =
         let e : at + (o + k) ≡ at + o + k = omega arith in
         getD-between buf at end (o + k) l ∙ ap (λ (i : ℕ). getD buf i 0) e
 
-drop-take : (n m : ℕ) (l : List ℕ) → drop n (take m l) ≡ take (m - n) (drop n l)
+pub drop-take : (n m : ℕ) (l : List ℕ) → drop n (take m l) ≡ take (m - n) (drop n l)
 drop-take zero m l = let e : m ≡ m - 0 = omega arith in ap (λ (k : ℕ). take k l) e
 drop-take (suc n) zero l = let e : 0 ≡ 0 - suc n = omega arith in ap (λ (k : ℕ). take k (drop (suc n) l)) e
 drop-take (suc n) (suc m) [] = none (suc m - suc n)
@@ -55,6 +55,26 @@ take-take-min (suc n) (suc m) [] h = refl
 take-take-min (suc n) (suc m) (x ∷ l) h =
     let k : n ≤ m = omega arith in
     ap (λ (r : List ℕ). x ∷ r) (take-take-min n m l k)
+
+word-take : (buf : List ℕ) (end o : ℕ) → o + 4 ≤ end → word (take end buf) o ≡ word buf o
+unfolding word
+word-take buf end o h =
+    omega
+    (arith, getD-take end buf o 0 (omega arith), getD-take end buf (o + 1) 0 (omega arith), getD-take end buf (o + 2) 0 (omega arith), getD-take end buf (o + 3) 0 (omega arith))
+
+-- ---- what depends on the bytes before `end` alone
+
+module _ (a b : List ℕ) (end : ℕ) (same : take end a ≡ take end b) where
+  pub between-same : (at : ℕ) → between a at end ≡ between b at end
+  between-same at = sym (drop-take at end a) ∙ ap (drop at) same ∙ drop-take at end b
+
+  pub word-same : (o : ℕ) → o + 4 ≤ end → word a o ≡ word b o
+  word-same o h = sym (word-take a end o h) ∙ ap (λ (l : List ℕ). word l o) same ∙ word-take b end o h
+
+-- stores from a place on leave what is before it
+pub take-sets : (vs l : List ℕ) (n i : ℕ) → n ≤ i → take n (sets l i vs) ≡ take n l
+take-sets [] l n i h = refl
+take-sets (v ∷ vs) l n i h = take-sets vs (set l i v) n (suc i) (omega arith) ∙ take-set-le n l i v h
 
 -- the name of the entry at the front
 pub name-between : (buf : List ℕ) (at end n : ℕ) → 8 + n ≤ end - at → 1 ≤ n

@@ -6,7 +6,7 @@ use mathlib.Core.Path.{_≡_, refl, sym, ap, _∙_}
 use mathlib.Core.Bool.{Bool, true, false, cond, not, _&&_}
 use mathlib.Core.List.{List, [], _∷_, _++_}
 use lib.ListN.{length, getD, take, drop, set, length-drop}
-use lib.Seq.{sets, take-set-le, drop-set-lt, take-append-le, drop-append-le}
+use lib.Seq.{sets, drop-set-lt, take-append-le, drop-append-le}
 use lib.Dec.{eqb}
 use Rattle.image.specs.Bytes.{cat}
 use Rattle.image.specs.Record.{Entry, headSize, entryBytes, entrySize, entriesSize, entriesEnd, backIn, backSize, imageSize, image}
@@ -17,13 +17,10 @@ use Rattle.layout.proofs.Parts.{entries-at}
 use Rattle.writer.specs.State.{State, lent, fits, finishedSize, tooLarge}
 use Rattle.writer.specs.Put.{putRefusal, appended, afterPut}
 use Rattle.writer.specs.Close.{whole, entryArea, recorded, countsAgree, closeRefusal, closedSize, closed, afterClose}
+use Rattle.writer.proofs.Between.{take-sets}
 use Rattle.writer.proofs.Written.{area-kept, recorded-end}
 
 -- ---- runs of stores
-
-take-sets : (vs l : List ℕ) (n i : ℕ) → n ≤ i → take n (sets l i vs) ≡ take n l
-take-sets [] l n i h = refl
-take-sets (v ∷ vs) l n i h = take-sets vs (set l i v) n (suc i) (omega arith) ∙ take-set-le n l i v h
 
 drop-sets : (vs l : List ℕ) (n i : ℕ) → i + length vs ≤ n → drop n (sets l i vs) ≡ drop n l
 drop-sets [] l n i h = refl

@@ -10,6 +10,7 @@ pub mod Agree
 pub mod Heads
 pub mod Empties
 pub mod Taking
+pub mod Noting
 pub mod Closes
 pub mod Rows
 pub mod Partial

@@ -1,97 +1,125 @@
 -- `writer::fill::take_entries` meets its contract. Assumes nothing.
 use native.Mathlib.Omega.{arith}
 use borrow.Author.Needs.{needs}
-use Prim.Native.Nat.{_+_, _≤_}
-use mathlib.Core.Path.{_≡_, refl, _∙_}
+use borrow.Author.Tests.{not-false}
+use Prim.Native.Nat.{ℕ, _+_, _-_, _≤_, _<_}
+use mathlib.Core.Path.{_≡_, refl, sym, ap, _∙_}
 use lib.ListN.{length}
-use Rattle.writer.specs.Working.{between, takenFrom}
-use Rattle.writer.proofs.Between.{Front, front, length-between}
-use Rattle.writer.proofs.Taking.{from-broken, from-turn, from-none}
+use Rattle.writer.specs.Working.{takenFrom}
+use Rattle.writer.proofs.Taking.{from-none}
 use Rattle.writer.proofs.fill.take_entries.Statement.{statement}
 use Rattle.writer.proofs.fill.take_entries.Tie as tie
 use Rattle.writer.proofs.fill.take_entries.Reads as reads
 use Rattle.writer.proofs.fill.take_entries.Lts as lts
-use Rattle.writer.proofs.check.whole_length.Reads as whole-length-reads
-use Rattle.writer.proofs.fill.take_entry.Reads as take-entry-reads
+use Rattle.writer.proofs.fill.links_apart.Reads as links-apart-reads
+use Rattle.writer.proofs.fill.look.Reads as look-reads
+use Rattle.writer.proofs.fill.plan.Reads as plan-reads
+use Rattle.writer.proofs.fill.smaller.Reads as smaller-reads
+use Rattle.writer.proofs.fill.take_planned.Reads as take-planned-reads
+use Rattle.writer.proofs.fill.take_singly.Reads as take-singly-reads
 
 abbrev Inv-loop : tie.InvT-loop
-Inv-loop flag links buf₀ end entries at₀ left₀ buf at left = (at ≤ end) × (length buf ≡ length buf₀) × (takenFrom flag links end left at buf ≡ takenFrom flag links end entries 2072 buf₀)
+Inv-loop flag links buf₀ end entries hashes₀ places₀ at₀ left₀ most₀ buf hashes places at left most =
+    (at ≤ end) × (length buf ≡ length buf₀) × (length hashes ≡ 16) × (most ≤ 16) × (takenFrom flag links end left at buf ≡ takenFrom flag links end entries 2072 buf₀)
 
 abbrev μ-loop : tie.MeasureT-loop
-μ-loop flag links buf₀ end entries at₀ left₀ buf at left = left
+μ-loop flag links buf₀ end entries hashes₀ places₀ at₀ left₀ most₀ buf hashes places at left most = left
 
--- a whole entry lies before the end
-room : (c : tie.Else1 Inv-loop μ-loop) → (c .before .before .before .before .loop .at + (8 + c .before .whole-length .result) ≤ c .before .before .before .before .before .before .args .end) × (1 ≤ c .before .whole-length .result)
-room c =
-    let f = front (between (c .before .before .before .before .loop .buf) (c .before .before .before .before .loop .at) (c .before .before .before .before .before .before .args .end)) (c .before .whole-length .result) (c .before .whole-length .ensures .0) (c .if1 .left) in
-    let i = f .inside in
-    let j = c .before .before .before .before .loop .inv .0 in
-    let k : c .before .before .before .before .before .before .args .end ≤ length (c .before .before .before .before .loop .buf) = omega (arith, c .before .before .before .before .loop .inv .1, c .before .before .before .before .before .before .pre .1) in
-    let l = length-between (c .before .before .before .before .loop .buf) (c .before .before .before .before .loop .at) (c .before .before .before .before .before .before .args .end) j k in
-    (omega arith, f .some)
+pos-of : (n : ℕ) → (n ≡ 0 → ⊥) → 0 < n
+pos-of n h = omega arith
 
--- src/fill.rt:76:5
-loop-holds : tie.Need-loop-holds Inv-loop μ-loop
-loop-holds c = (c .before .pre .0, refl, refl)
+-- src/fill.rt:215:9
+links-apart-requires : tie.Need-links-apart-requires Inv-loop μ-loop
+links-apart-requires c κs = search needs
 
--- src/fill.rt:77:13
-whole-length-requires : tie.Need-whole-length-requires Inv-loop μ-loop
-whole-length-requires c κs = (c .before .before .loop .inv .0, omega (arith, c .before .before .loop .inv .1, c .before .before .before .before .pre .1))
+-- src/fill.rt:216:9
+take-singly-requires : tie.Need-take-singly-requires Inv-loop μ-loop
+take-singly-requires c κs = (c .before .before .before .before .pre .0, c .before .before .before .before .pre .1, c .before .before .before .before .pre .2, c .before .before .before .before .pre .3)
 
--- src/fill.rt:79:13
+-- src/fill.rt:217:9
 same-length : tie.Need-same-length Inv-loop μ-loop
 same-length c = search needs
 
--- src/fill.rt:79:13
+-- src/fill.rt:217:9
 returns : tie.Need-returns Inv-loop μ-loop
-returns c = from-broken (c .before .before .before .before .before .before .args .flag) (c .before .before .before .before .before .before .args .links) (c .before .before .before .before .before .before .args .end) (c .before .before .before .before .loop .left) (c .before .before .before .before .loop .at) (c .before .whole-length .result) (c .before .before .before .before .loop .buf) _ (c .before .before .before .loop-test .taken) (c .before .whole-length .ensures .0) (c .if1 .taken) (c .before .before .before .before .loop .inv .2)
+returns c = c .before .before .take-singly .ensures
 
--- src/fill.rt:81:9
-take-entry-requires : tie.Need-take-entry-requires Inv-loop μ-loop
-take-entry-requires c κs =
-    let r = room (c .before) in
-    (omega (arith, c .before .before .before .before .before .loop .inv .1, c .before .before .before .before .before .before .before .pre .1), r .1, c .before .before .whole-length .ensures .1, omega (arith, c .before .before .before .before .before .before .before .pre .2), c .before .before .before .before .before .before .before .pre .3)
+-- src/fill.rt:224:5
+loop-holds : tie.Need-loop-holds Inv-loop μ-loop
+loop-holds c = (c .before .before .before .pre .0, refl, refl, omega arith, refl)
 
--- src/fill.rt:82:15
-add-at : tie.Need-add-at Inv-loop μ-loop
-add-at c =
-    let r = room (c .before .before .before .before) in
-    omega (arith, c .before .before .before .before .before .before .before .before .before .before .pre)
+-- src/fill.rt:225:38
+smaller-requires : tie.Need-smaller-requires Inv-loop μ-loop
+smaller-requires c κs = c .before .before .loop .inv .3
 
--- src/fill.rt:82:9
-add-at-2 : tie.Need-add-at-2 Inv-loop μ-loop
-add-at-2 c =
-    let r = room (c .before .before .before .before) in
-    omega (arith, c .before .before .before .before .before .before .before .before .before .before .pre)
+-- src/fill.rt:225:13
+plan-requires : tie.Need-plan-requires Inv-loop μ-loop
+plan-requires c κs = (c .before .before .before .before .before .loop .inv .0, omega (arith, c .before .before .before .before .before .loop .inv .1, c .before .before .before .before .before .before .before .before .before .pre .1), c .before .before .before .before .before .before .before .before .before .pre .2, c .before .before .smaller .ensures .1, c .before .before .before .before .before .loop .inv .2)
 
--- src/fill.rt:83:9
-sub-left : tie.Need-sub-left Inv-loop μ-loop
-sub-left c = omega arith
+-- src/fill.rt:227:13
+take-singly-requires-2 : tie.Need-take-singly-requires-2 Inv-loop μ-loop
+take-singly-requires-2 c κs = (c .before .before .before .before .before .before .before .before .loop .inv .0, omega (arith, c .before .before .before .before .before .before .before .before .loop .inv .1, c .before .before .before .before .before .before .before .before .before .before .before .before .pre .1), c .before .before .before .before .before .before .before .before .before .before .before .before .pre .2, c .before .before .before .before .before .before .before .before .before .before .before .before .pre .3)
 
--- src/fill.rt:76:5
-loop-less : tie.Need-loop-less Inv-loop μ-loop
-loop-less c = omega arith
-
--- src/fill.rt:76:5
-loop-again : tie.Need-loop-again Inv-loop μ-loop
-loop-again c =
-    let r = room (c .before .before .before .before) in
-    let a = c .before .before .before .before .before .before .before .before .before .before .args in
-    let i = c .before .before .before .before .before .before .before .before .loop in (
-      r .0,
-      c .before .before .take-entry .kept .1 .1 .0 ∙ i .inv .1,
-      from-turn (a .flag) (a .links) (a .end) (i .left) (i .at) (c .before .before .before .before .before .whole-length .result) (i .buf) (c .before .before .take-entry .last .1 .1 .0) _ (c .before .before .before .before .before .before .before .loop-test .taken) (c .before .before .before .before .before .whole-length .ensures .0) (c .before .before .before .before .if1 .left) (c .before .before .take-entry .ensures) (i .inv .2),
-    )
-
--- src/fill.rt:70:1
+-- src/fill.rt:228:13
 same-length-2 : tie.Need-same-length-2 Inv-loop μ-loop
 same-length-2 c = search needs
 
--- src/fill.rt:70:1
+-- src/fill.rt:228:13
 returns-2 : tie.Need-returns-2 Inv-loop μ-loop
-returns-2 c =
+returns-2 c = c .before .before .take-singly2 .ensures ∙ c .before .before .before .before .before .before .before .before .before .before .before .loop .inv .4
+
+-- src/fill.rt:230:9
+look-requires : tie.Need-look-requires Inv-loop μ-loop
+look-requires c κs = search needs
+
+-- src/fill.rt:231:9
+take-planned-requires : tie.Need-take-planned-requires Inv-loop μ-loop
+take-planned-requires c κs = (
+  c .before .before .before .before .before .before .before .before .before .before .before .before .loop .inv .0,
+  c .before .before .before .before .before .before .before .before .before .before .before .before .before .before .before .before .pre .0,
+  omega (arith, c .before .before .before .before .before .before .before .before .before .before .before .before .loop .inv .1, c .before .before .before .before .before .before .before .before .before .before .before .before .before .before .before .before .pre .1),
+  c .before .before .before .before .before .before .before .before .before .before .before .before .before .before .before .before .pre .2,
+  c .before .before .before .before .before .before .before .before .before .before .before .before .before .before .before .before .pre .3,
+  omega (arith, c .before .before .before .before .before .before .plan .ensures .0, c .before .before .before .before .before .before .before .before .before .smaller .ensures .1),
+  sym (c .before .before .before .before .before .before .before .before .before .before .before .before .before .before .links-apart .ensures) ∙ not-false _ (c .before .before .before .before .before .before .before .before .before .before .before .before .before .if1 .left),
+  c .before .before .before .before .before .before .plan .ensures .2,
+)
+
+-- src/fill.rt:232:17
+cast-left : tie.Need-cast-left Inv-loop μ-loop
+cast-left c = omega (arith, c .before .before .before .before .before .before .before .before .before .plan .ensures .0, c .before .before .before .before .before .before .before .before .before .before .before .before .smaller .ensures .1)
+
+-- src/fill.rt:232:9
+sub-left : tie.Need-sub-left Inv-loop μ-loop
+sub-left c = omega (arith, c .before .before .before .before .before .before .before .before .before .plan .ensures .0, c .before .before .before .before .before .before .before .before .before .before .before .before .smaller .ensures .0)
+
+-- src/fill.rt:224:5
+loop-less : tie.Need-loop-less Inv-loop μ-loop
+loop-less c = omega (arith, c .before .before .before .before .before .before .before .before .before .plan .ensures .0, c .before .before .before .before .before .before .before .before .before .before .before .before .smaller .ensures .0, pos-of _ (c .before .before .before .before .before .before .before .before .if2 .left))
+
+-- src/fill.rt:224:5
+loop-again : tie.Need-loop-again Inv-loop μ-loop
+loop-again c =
+    let a = c .before .before .before .before .before .before .before .before .before .before .before .before .before .before .before .before .before .before .before .args in
+    let i = c .before .before .before .before .before .before .before .before .before .before .before .before .before .before .before .loop in
+    let m = c .before .before .before .before .before .before .before .before .before .plan .result in
+    let e : m + (i .left - m) ≡ i .left = omega (arith, c .before .before .before .before .before .before .before .before .before .plan .ensures .0, c .before .before .before .before .before .before .before .before .before .before .before .before .smaller .ensures .0) in (
+      c .before .before .take-planned .ensures .0,
+      c .before .before .take-planned .kept .1 .1 .0 ∙ i .inv .1,
+      c .before .before .before .before .before .before .before .before .before .plan .ensures .1,
+      c .before .before .before .before .before .look .ensures,
+      c .before .before .take-planned .ensures .1 (i .left - m) ∙ ap (λ (k : ℕ). takenFrom (a .flag) (a .links) (a .end) k (i .at) (i .buf)) e ∙ i .inv .4,
+    )
+
+-- src/fill.rt:211:1
+same-length-3 : tie.Need-same-length-3 Inv-loop μ-loop
+same-length-3 c = search needs
+
+-- src/fill.rt:211:1
+returns-3 : tie.Need-returns-3 Inv-loop μ-loop
+returns-3 c =
     let z : c .before .loop .left ≡ 0 = omega arith in
-    from-none (c .before .before .before .args .flag) (c .before .before .before .args .links) (c .before .before .before .args .end) (c .before .loop .at) (c .before .loop .buf) _ (rw z at (c .before .loop .inv .2))
+    from-none (c .before .before .before .before .before .args .flag) (c .before .before .before .before .before .args .links) (c .before .before .before .before .before .args .end) (c .before .loop .at) (c .before .loop .buf) _ (rw z at (c .before .loop .inv .4))
 
 pub take-entries-spec : {M : Type 1} → statement M
 take-entries-spec =
@@ -99,15 +127,21 @@ take-entries-spec =
     (tie.spec
     Inv-loop
     μ-loop
-    loop-holds
-    whole-length-requires
+    links-apart-requires
+    take-singly-requires
     same-length
     returns
-    take-entry-requires
-    add-at
-    add-at-2
+    loop-holds
+    smaller-requires
+    plan-requires
+    take-singly-requires-2
+    same-length-2
+    returns-2
+    look-requires
+    take-planned-requires
+    cast-left
     sub-left
     loop-less
     loop-again
-    same-length-2
-    returns-2)
+    same-length-3
+    returns-3)

@@ -1,0 +1,74 @@
+-- `writer::fill::take_noted` meets its contract. Assumes nothing.
+use native.Mathlib.Omega.{arith}
+use Prim.Native.Nat.{ℕ}
+use mathlib.Core.Path.{ap₂, _∙_}
+use mathlib.Core.List.{List}
+use Rattle.writer.specs.Working.{withLink}
+use borrow.Author.Needs.{needs}
+use Rattle.writer.proofs.fill.take_noted.Statement.{statement}
+use Rattle.writer.proofs.fill.take_noted.Tie as tie
+use Rattle.writer.proofs.fill.take_noted.Reads as reads
+use Rattle.writer.proofs.fill.take_noted.Lts as lts
+use Rattle.image.proofs.get_u32.Reads as get-u32-reads
+use Rattle.writer.proofs.fill.store_bucket.Reads as store-bucket-reads
+use Rattle.writer.proofs.fill.store_link.Reads as store-link-reads
+
+-- src/fill.rt:170:9
+get-u32-requires : tie.Need-get-u32-requires
+get-u32-requires c κs = search needs
+
+-- src/fill.rt:171:35
+add-get-u32 : tie.Need-add-get-u32
+add-get-u32 c = search needs
+
+-- src/fill.rt:171:13
+get-u32-requires-2 : tie.Need-get-u32-requires-2
+get-u32-requires-2 c κs = search needs
+
+-- src/fill.rt:171:13
+cast-n : tie.Need-cast-n
+cast-n c = search needs
+
+-- src/fill.rt:172:32
+cast-store-bucket : tie.Need-cast-store-bucket
+cast-store-bucket c = search needs
+
+-- src/fill.rt:172:5
+store-bucket-requires : tie.Need-store-bucket-requires
+store-bucket-requires c κs = search needs
+
+-- src/fill.rt:173:44
+cast-store-link : tie.Need-cast-store-link
+cast-store-link c = search needs
+
+-- src/fill.rt:173:5
+store-link-requires : tie.Need-store-link-requires
+store-link-requires c κs = search needs
+
+-- src/fill.rt:166:1
+same-length : tie.Need-same-length
+same-length c = search needs
+
+-- src/fill.rt:166:1
+returns : tie.Need-returns
+returns c =
+    let a = c .before .before .before .before .before .before .before .before .before .before .before .before .before .args in (
+      c .before .before .store-link .ensures ∙ ap₂ (λ (l : List ℕ) (i : ℕ). withLink (a .flag) l (a .links) i (a .at)) (c .before .before .before .before .before .before .store-bucket .ensures) (c .before .before .before .before .before .before .before .before .before .before .get-u32 .ensures),
+      c .before .before .before .before .before .before .before .before .get-u322 .ensures,
+      omega (arith, c .before .before .before .before .before .before .before .before .get-u322 .ok),
+    )
+
+pub take-noted-spec : {M : Type 1} → statement M
+take-noted-spec =
+    tie.close
+    (tie.spec
+    get-u32-requires
+    add-get-u32
+    get-u32-requires-2
+    cast-n
+    cast-store-bucket
+    store-bucket-requires
+    cast-store-link
+    store-link-requires
+    same-length
+    returns)

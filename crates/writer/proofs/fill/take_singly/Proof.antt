@@ -1,0 +1,113 @@
+-- `writer::fill::take_singly` meets its contract. Assumes nothing.
+use native.Mathlib.Omega.{arith}
+use borrow.Author.Needs.{needs}
+use Prim.Native.Nat.{_+_, _≤_}
+use mathlib.Core.Path.{_≡_, refl, _∙_}
+use lib.ListN.{length}
+use Rattle.writer.specs.Working.{between, takenFrom}
+use Rattle.writer.proofs.Between.{Front, front, length-between}
+use Rattle.writer.proofs.Taking.{from-broken, from-turn, from-none}
+use Rattle.writer.proofs.fill.take_singly.Statement.{statement}
+use Rattle.writer.proofs.fill.take_singly.Tie as tie
+use Rattle.writer.proofs.fill.take_singly.Reads as reads
+use Rattle.writer.proofs.fill.take_singly.Lts as lts
+use Rattle.writer.proofs.check.whole_length.Reads as whole-length-reads
+use Rattle.writer.proofs.fill.take_entry.Reads as take-entry-reads
+
+abbrev Inv-loop : tie.InvT-loop
+Inv-loop flag links buf₀ from end entries at₀ left₀ buf at left = (at ≤ end) × (length buf ≡ length buf₀) × (takenFrom flag links end left at buf ≡ takenFrom flag links end entries from buf₀)
+
+abbrev μ-loop : tie.MeasureT-loop
+μ-loop flag links buf₀ from end entries at₀ left₀ buf at left = left
+
+-- a whole entry lies before the end
+room : (c : tie.Else1 Inv-loop μ-loop) → (c .before .before .before .before .loop .at + (8 + c .before .whole-length .result) ≤ c .before .before .before .before .before .before .args .end) × (1 ≤ c .before .whole-length .result)
+room c =
+    let f = front (between (c .before .before .before .before .loop .buf) (c .before .before .before .before .loop .at) (c .before .before .before .before .before .before .args .end)) (c .before .whole-length .result) (c .before .whole-length .ensures .0) (c .if1 .left) in
+    let i = f .inside in
+    let j = c .before .before .before .before .loop .inv .0 in
+    let k : c .before .before .before .before .before .before .args .end ≤ length (c .before .before .before .before .loop .buf) = omega (arith, c .before .before .before .before .loop .inv .1, c .before .before .before .before .before .before .pre .1) in
+    let l = length-between (c .before .before .before .before .loop .buf) (c .before .before .before .before .loop .at) (c .before .before .before .before .before .before .args .end) j k in
+    (omega arith, f .some)
+
+-- src/fill.rt:76:5
+loop-holds : tie.Need-loop-holds Inv-loop μ-loop
+loop-holds c = (c .before .pre .0, refl, refl)
+
+-- src/fill.rt:77:13
+whole-length-requires : tie.Need-whole-length-requires Inv-loop μ-loop
+whole-length-requires c κs = (c .before .before .loop .inv .0, omega (arith, c .before .before .loop .inv .1, c .before .before .before .before .pre .1))
+
+-- src/fill.rt:79:13
+same-length : tie.Need-same-length Inv-loop μ-loop
+same-length c = search needs
+
+-- src/fill.rt:79:13
+returns : tie.Need-returns Inv-loop μ-loop
+returns c = from-broken (c .before .before .before .before .before .before .args .flag) (c .before .before .before .before .before .before .args .links) (c .before .before .before .before .before .before .args .end) (c .before .before .before .before .loop .left) (c .before .before .before .before .loop .at) (c .before .whole-length .result) (c .before .before .before .before .loop .buf) _ (c .before .before .before .loop-test .taken) (c .before .whole-length .ensures .0) (c .if1 .taken) (c .before .before .before .before .loop .inv .2)
+
+-- src/fill.rt:81:9
+take-entry-requires : tie.Need-take-entry-requires Inv-loop μ-loop
+take-entry-requires c κs =
+    let r = room (c .before) in
+    (omega (arith, c .before .before .before .before .before .loop .inv .1, c .before .before .before .before .before .before .before .pre .1), r .1, c .before .before .whole-length .ensures .1, omega (arith, c .before .before .before .before .before .before .before .pre .2), c .before .before .before .before .before .before .before .pre .3)
+
+-- src/fill.rt:82:15
+add-at : tie.Need-add-at Inv-loop μ-loop
+add-at c =
+    let r = room (c .before .before .before .before) in
+    omega (arith, c .before .before .before .before .before .before .before .before .before .before .pre)
+
+-- src/fill.rt:82:9
+add-at-2 : tie.Need-add-at-2 Inv-loop μ-loop
+add-at-2 c =
+    let r = room (c .before .before .before .before) in
+    omega (arith, c .before .before .before .before .before .before .before .before .before .before .pre)
+
+-- src/fill.rt:83:9
+sub-left : tie.Need-sub-left Inv-loop μ-loop
+sub-left c = omega arith
+
+-- src/fill.rt:76:5
+loop-less : tie.Need-loop-less Inv-loop μ-loop
+loop-less c = omega arith
+
+-- src/fill.rt:76:5
+loop-again : tie.Need-loop-again Inv-loop μ-loop
+loop-again c =
+    let r = room (c .before .before .before .before) in
+    let a = c .before .before .before .before .before .before .before .before .before .before .args in
+    let i = c .before .before .before .before .before .before .before .before .loop in (
+      r .0,
+      c .before .before .take-entry .kept .1 .1 .0 ∙ i .inv .1,
+      from-turn (a .flag) (a .links) (a .end) (i .left) (i .at) (c .before .before .before .before .before .whole-length .result) (i .buf) (c .before .before .take-entry .last .1 .1 .0) _ (c .before .before .before .before .before .before .before .loop-test .taken) (c .before .before .before .before .before .whole-length .ensures .0) (c .before .before .before .before .if1 .left) (c .before .before .take-entry .ensures) (i .inv .2),
+    )
+
+-- src/fill.rt:70:1
+same-length-2 : tie.Need-same-length-2 Inv-loop μ-loop
+same-length-2 c = search needs
+
+-- src/fill.rt:70:1
+returns-2 : tie.Need-returns-2 Inv-loop μ-loop
+returns-2 c =
+    let z : c .before .loop .left ≡ 0 = omega arith in
+    from-none (c .before .before .before .args .flag) (c .before .before .before .args .links) (c .before .before .before .args .end) (c .before .loop .at) (c .before .loop .buf) _ (rw z at (c .before .loop .inv .2))
+
+pub take-singly-spec : {M : Type 1} → statement M
+take-singly-spec =
+    tie.close
+    (tie.spec
+    Inv-loop
+    μ-loop
+    loop-holds
+    whole-length-requires
+    same-length
+    returns
+    take-entry-requires
+    add-at
+    add-at-2
+    sub-left
+    loop-less
+    loop-again
+    same-length-2
+    returns-2)
