@@ -8,6 +8,7 @@ ghost use Rattle.writer.specs.Close.{closing, closedOf, afterClose};
 ghost use Rattle.writer.specs.Working.{written};
 use image::Flag;
 
+mod batch;
 mod check;
 mod entry;
 mod fill;
@@ -129,7 +130,7 @@ fn write_image(w: CQDBWriter, counts: &[u32; 256], buf: &mut [u8])
     );
     head::write_rows(&mut *buf, counts, w.end as u32);
     head::clear(&mut *buf, w.end as usize, size as usize);
-    fill::take_entries(flag, links as usize, &mut *buf, w.end as usize, w.entries);
+    batch::take_entries(flag, links as usize, &mut *buf, w.end as usize, w.entries);
 }
 
 // Writes head, tables and back array into the lent buffer, and gives the image's size. May be called often.

@@ -6,7 +6,7 @@ use Rattle.writer.proofs.write_image.Statement.{statement}
 use Rattle.writer.proofs.write_image.Tie as tie
 use Rattle.writer.proofs.write_image.Reads as reads
 use Rattle.writer.proofs.write_image.Lts as lts
-use Rattle.writer.proofs.fill.take_entries.Reads as take-entries-reads
+use Rattle.writer.proofs.batch.take_entries.Reads as take-entries-reads
 use Rattle.writer.proofs.head.clear.Reads as clear-reads
 use Rattle.writer.proofs.head.write_head.Reads as write-head-reads
 use Rattle.writer.proofs.head.write_rows.Reads as write-rows-reads

@@ -11,7 +11,7 @@ use Rattle.writer.proofs.fill.take_entry.Tie as tie
 use Rattle.writer.proofs.fill.take_entry.Reads as reads
 use Rattle.writer.proofs.fill.take_entry.Lts as lts
 use Rattle.image.proofs.get_u32.Reads as get-u32-reads
-use Rattle.jhash.proofs.jhash.Reads as jhash-reads
+use Rattle.jhash.proofs.name_hash.Reads as name-hash-reads
 use Rattle.writer.proofs.fill.store_bucket.Reads as store-bucket-reads
 use Rattle.writer.proofs.fill.store_link.Reads as store-link-reads
 
@@ -20,32 +20,32 @@ get-u32-requires : tie.Need-get-u32-requires
 get-u32-requires c κs = search needs
 
 -- src/fill.rt:61:36
-add-jhash : tie.Need-add-jhash
-add-jhash c = search needs
+add-name-hash : tie.Need-add-name-hash
+add-name-hash c = search needs
 
 -- src/fill.rt:61:44
-add-jhash-2 : tie.Need-add-jhash-2
-add-jhash-2 c = search needs
+add-name-hash-2 : tie.Need-add-name-hash-2
+add-name-hash-2 c = search needs
 
 -- src/fill.rt:61:44
-add-jhash-3 : tie.Need-add-jhash-3
-add-jhash-3 c = search needs
+add-name-hash-3 : tie.Need-add-name-hash-3
+add-name-hash-3 c = search needs
 
 -- src/fill.rt:61:31
-sub-jhash : tie.Need-sub-jhash
-sub-jhash c = search needs
+sub-name-hash : tie.Need-sub-name-hash
+sub-name-hash c = search needs
 
 -- src/fill.rt:61:31
-part-jhash-start : tie.Need-part-jhash-start
-part-jhash-start c = search needs
+part-name-hash-start : tie.Need-part-name-hash-start
+part-name-hash-start c = search needs
 
 -- src/fill.rt:61:31
-part-jhash-end : tie.Need-part-jhash-end
-part-jhash-end c = search needs
+part-name-hash-end : tie.Need-part-name-hash-end
+part-name-hash-end c = search needs
 
 -- src/fill.rt:61:9
-jhash-requires : tie.Need-jhash-requires
-jhash-requires c κs = search needs
+name-hash-requires : tie.Need-name-hash-requires
+name-hash-requires c κs = search needs
 
 -- src/fill.rt:62:29
 enum-known-hashed : tie.Need-enum-known-hashed
@@ -62,7 +62,7 @@ same-length c = search needs
 -- src/fill.rt:63:9
 returns : tie.Need-returns
 returns c =
-    let long = told-refused (take (c .before .before .before .before .before .before .before .before .args .at + 7 + c .before .before .before .before .before .before .before .before .args .n - (c .before .before .before .before .before .before .before .before .args .at + 8)) (drop (c .before .before .before .before .before .before .before .before .args .at + 8) (c .before .before .before .before .before .before .before .before .args .buf .now))) 0 (c .before .before .jhash .result) (c .before .before .jhash .ensures) (c .enum-told .given .1) in
+    let long = told-refused (take (c .before .before .before .before .before .before .before .before .args .at + 7 + c .before .before .before .before .before .before .before .before .args .n - (c .before .before .before .before .before .before .before .before .args .at + 8)) (drop (c .before .before .before .before .before .before .before .before .args .at + 8) (c .before .before .before .before .before .before .before .before .args .buf .now))) 0 (c .before .before .name-hash .result) (c .before .before .name-hash .ensures) (c .enum-told .given .1) in
     let l = simp length-take at long in
     let s = c .before .before .before .before .before .before .before .before .pre .2 in
     absurd (omega arith)
@@ -91,7 +91,7 @@ same-length-2 c = search needs
 returns-2 : tie.Need-returns-2
 returns-2 c =
     let a = c .before .before .before .before .before .before .before .before .before .before .before .before .before .before .before .before .before .args in
-    let told = told-image-hash (take (c .before .before .before .before .before .before .before .before .before .before .before .before .before .before .before .before .before .args .at + 7 + c .before .before .before .before .before .before .before .before .before .before .before .before .before .before .before .before .before .args .n - (c .before .before .before .before .before .before .before .before .before .before .before .before .before .before .before .before .before .args .at + 8)) (drop (c .before .before .before .before .before .before .before .before .before .before .before .before .before .before .before .before .before .args .at + 8) (c .before .before .before .before .before .before .before .before .before .before .before .before .before .before .before .before .before .args .buf .now))) (c .before .before .before .before .before .before .before .before .before .before .before .jhash .result) (c .before .before .before .before .before .before .before .before .before .hashed .given .0 .0) (c .before .before .before .before .before .before .before .before .before .before .before .jhash .ensures) (c .before .before .before .before .before .before .before .before .before .hashed .given .1) in
+    let told = told-image-hash (take (c .before .before .before .before .before .before .before .before .before .before .before .before .before .before .before .before .before .args .at + 7 + c .before .before .before .before .before .before .before .before .before .before .before .before .before .before .before .before .before .args .n - (c .before .before .before .before .before .before .before .before .before .before .before .before .before .before .before .before .before .args .at + 8)) (drop (c .before .before .before .before .before .before .before .before .before .before .before .before .before .before .before .before .before .args .at + 8) (c .before .before .before .before .before .before .before .before .before .before .before .before .before .before .before .before .before .args .buf .now))) (c .before .before .before .before .before .before .before .before .before .before .before .name-hash .result) (c .before .before .before .before .before .before .before .before .before .hashed .given .0 .0) (c .before .before .before .before .before .before .before .before .before .before .before .name-hash .ensures) (c .before .before .before .before .before .before .before .before .before .hashed .given .1) in
     taken-parts (a .flag) (a .links) (a .buf .now) (a .at) (a .n) (c .before .before .before .before .before .before .before .before .before .before .before .before .before .before .get-u32 .result) (c .before .before .before .before .before .before .before .before .before .hashed .given .0 .0) (take (c .before .before .before .before .before .before .before .before .before .before .before .before .before .before .before .before .before .args .at + 7 + c .before .before .before .before .before .before .before .before .before .before .before .before .before .before .before .before .before .args .n - (c .before .before .before .before .before .before .before .before .before .before .before .before .before .before .before .before .before .args .at + 8)) (drop (c .before .before .before .before .before .before .before .before .before .before .before .before .before .before .before .before .before .args .at + 8) (c .before .before .before .before .before .before .before .before .before .before .before .before .before .before .before .before .before .args .buf .now))) (c .before .before .before .before .before .before .store-bucket .last .0) (c .before .before .store-link .last .1 .0)
     (c .before .before .before .before .before .before .before .before .before .before .before .before .before .before .before .before .before .pre .1) refl (told .1) (c .before .before .before .before .before .before .before .before .before .before .before .before .before .before .get-u32 .ensures) (c .before .before .before .before .before .before .store-bucket .ensures) (c .before .before .store-link .ensures)
 
@@ -100,13 +100,13 @@ take-entry-spec =
     tie.close
     (tie.spec
     get-u32-requires
-    add-jhash
-    add-jhash-2
-    add-jhash-3
-    sub-jhash
-    part-jhash-start
-    part-jhash-end
-    jhash-requires
+    add-name-hash
+    add-name-hash-2
+    add-name-hash-3
+    sub-name-hash
+    part-name-hash-start
+    part-name-hash-end
+    name-hash-requires
     enum-known-hashed
     enum-told
     same-length

@@ -1,4 +1,4 @@
--- `writer::fill::take_entries` meets its contract. Assumes nothing.
+-- `writer::batch::take_entries` meets its contract. Assumes nothing.
 use native.Mathlib.Omega.{arith}
 use borrow.Author.Needs.{needs}
 use borrow.Author.Tests.{not-false}
@@ -7,15 +7,15 @@ use mathlib.Core.Path.{_≡_, refl, sym, ap, _∙_}
 use lib.ListN.{length}
 use Rattle.writer.specs.Working.{takenFrom}
 use Rattle.writer.proofs.Taking.{from-none}
-use Rattle.writer.proofs.fill.take_entries.Statement.{statement}
-use Rattle.writer.proofs.fill.take_entries.Tie as tie
-use Rattle.writer.proofs.fill.take_entries.Reads as reads
-use Rattle.writer.proofs.fill.take_entries.Lts as lts
-use Rattle.writer.proofs.fill.links_apart.Reads as links-apart-reads
-use Rattle.writer.proofs.fill.look.Reads as look-reads
-use Rattle.writer.proofs.fill.plan.Reads as plan-reads
-use Rattle.writer.proofs.fill.smaller.Reads as smaller-reads
-use Rattle.writer.proofs.fill.take_planned.Reads as take-planned-reads
+use Rattle.writer.proofs.batch.take_entries.Statement.{statement}
+use Rattle.writer.proofs.batch.take_entries.Tie as tie
+use Rattle.writer.proofs.batch.take_entries.Reads as reads
+use Rattle.writer.proofs.batch.take_entries.Lts as lts
+use Rattle.writer.proofs.batch.links_apart.Reads as links-apart-reads
+use Rattle.writer.proofs.batch.look.Reads as look-reads
+use Rattle.writer.proofs.batch.plan.Reads as plan-reads
+use Rattle.writer.proofs.batch.smaller.Reads as smaller-reads
+use Rattle.writer.proofs.batch.take_planned.Reads as take-planned-reads
 use Rattle.writer.proofs.fill.take_singly.Reads as take-singly-reads
 
 abbrev Inv-loop : tie.InvT-loop

@@ -1,12 +1,12 @@
--- `writer::fill::links_apart` meets its contract. Assumes nothing.
+-- `writer::batch::links_apart` meets its contract. Assumes nothing.
 use mathlib.Core.Path.{sym, ap}
 use Rattle.image.specs.declared.Flag.{Flag}
 use Rattle.writer.specs.Working.{linksApart}
 use borrow.Author.Needs.{needs}
-use Rattle.writer.proofs.fill.links_apart.Statement.{statement}
-use Rattle.writer.proofs.fill.links_apart.Tie as tie
-use Rattle.writer.proofs.fill.links_apart.Reads as reads
-use Rattle.writer.proofs.fill.links_apart.Lts as lts
+use Rattle.writer.proofs.batch.links_apart.Statement.{statement}
+use Rattle.writer.proofs.batch.links_apart.Tie as tie
+use Rattle.writer.proofs.batch.links_apart.Reads as reads
+use Rattle.writer.proofs.batch.links_apart.Lts as lts
 
 -- src/fill.rt:93:23
 enum-told : tie.Need-enum-told

@@ -1,4 +1,4 @@
--- `writer::fill::plan` meets its contract. Assumes nothing.
+-- `writer::batch::plan` meets its contract. Assumes nothing.
 use native.Mathlib.Omega.{arith}
 use borrow.Author.Needs.{needs}
 use Prim.Native.Nat.{ℕ, _+_, _-_, _<_, _≤_}
@@ -9,13 +9,13 @@ use Rattle.jhash.proofs.Answers.{told-image-hash}
 use Rattle.writer.specs.Working.{between}
 use Rattle.writer.proofs.Between.{Front, front, length-between}
 use Rattle.writer.proofs.Noting.{Planned, plan-start, plan-turn}
-use Rattle.writer.proofs.fill.plan.Statement.{statement}
-use Rattle.writer.proofs.fill.plan.Tie as tie
-use Rattle.writer.proofs.fill.plan.Reads as reads
-use Rattle.writer.proofs.fill.plan.Lts as lts
+use Rattle.writer.proofs.batch.plan.Statement.{statement}
+use Rattle.writer.proofs.batch.plan.Tie as tie
+use Rattle.writer.proofs.batch.plan.Reads as reads
+use Rattle.writer.proofs.batch.plan.Lts as lts
 use Rattle.jhash.proofs.name_hash.Reads as name-hash-reads
 use Rattle.writer.proofs.check.whole_length.Reads as whole-length-reads
-use Rattle.writer.proofs.fill.place_of.Reads as place-of-reads
+use Rattle.writer.proofs.batch.place_of.Reads as place-of-reads
 
 abbrev Inv-loop : tie.InvT-loop
 Inv-loop buf from end most hashes₀ places₀ at₀ i₀ hashes places at i = Planned buf end from most hashes at i

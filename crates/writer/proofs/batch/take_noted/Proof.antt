@@ -1,14 +1,14 @@
--- `writer::fill::take_noted` meets its contract. Assumes nothing.
+-- `writer::batch::take_noted` meets its contract. Assumes nothing.
 use native.Mathlib.Omega.{arith}
 use Prim.Native.Nat.{ℕ}
 use mathlib.Core.Path.{ap₂, _∙_}
 use mathlib.Core.List.{List}
 use Rattle.writer.specs.Working.{withLink}
 use borrow.Author.Needs.{needs}
-use Rattle.writer.proofs.fill.take_noted.Statement.{statement}
-use Rattle.writer.proofs.fill.take_noted.Tie as tie
-use Rattle.writer.proofs.fill.take_noted.Reads as reads
-use Rattle.writer.proofs.fill.take_noted.Lts as lts
+use Rattle.writer.proofs.batch.take_noted.Statement.{statement}
+use Rattle.writer.proofs.batch.take_noted.Tie as tie
+use Rattle.writer.proofs.batch.take_noted.Reads as reads
+use Rattle.writer.proofs.batch.take_noted.Lts as lts
 use Rattle.image.proofs.get_u32.Reads as get-u32-reads
 use Rattle.writer.proofs.fill.store_bucket.Reads as store-bucket-reads
 use Rattle.writer.proofs.fill.store_link.Reads as store-link-reads

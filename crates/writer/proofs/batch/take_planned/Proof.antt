@@ -1,15 +1,15 @@
--- `writer::fill::take_planned` meets its contract. Assumes nothing.
+-- `writer::batch::take_planned` meets its contract. Assumes nothing.
 use native.Mathlib.Omega.{arith}
 use borrow.Author.Needs.{needs}
 use Prim.Native.Nat.{_-_, _≤_}
 use mathlib.Core.Path.{refl}
 use lib.ListN.{getD}
 use Rattle.writer.proofs.Noting.{Rest, rest-start, rest-turn, rest-end}
-use Rattle.writer.proofs.fill.take_planned.Statement.{statement}
-use Rattle.writer.proofs.fill.take_planned.Tie as tie
-use Rattle.writer.proofs.fill.take_planned.Reads as reads
-use Rattle.writer.proofs.fill.take_planned.Lts as lts
-use Rattle.writer.proofs.fill.take_noted.Reads as take-noted-reads
+use Rattle.writer.proofs.batch.take_planned.Statement.{statement}
+use Rattle.writer.proofs.batch.take_planned.Tie as tie
+use Rattle.writer.proofs.batch.take_planned.Reads as reads
+use Rattle.writer.proofs.batch.take_planned.Lts as lts
+use Rattle.writer.proofs.batch.take_noted.Reads as take-noted-reads
 
 abbrev Inv-loop : tie.InvT-loop
 Inv-loop flag links buf₀ from end m hashes at₀ i₀ buf at i = Rest flag links end from m buf₀ i at buf

@@ -1,11 +1,11 @@
--- `writer::fill::look` meets its contract. Assumes nothing.
+-- `writer::batch::look` meets its contract. Assumes nothing.
 use native.Mathlib.Omega.{arith}
 use borrow.Author.Needs.{needs}
 use Prim.Native.Nat.{_≤_, _-_}
-use Rattle.writer.proofs.fill.look.Statement.{statement}
-use Rattle.writer.proofs.fill.look.Tie as tie
-use Rattle.writer.proofs.fill.look.Reads as reads
-use Rattle.writer.proofs.fill.look.Lts as lts
+use Rattle.writer.proofs.batch.look.Statement.{statement}
+use Rattle.writer.proofs.batch.look.Tie as tie
+use Rattle.writer.proofs.batch.look.Reads as reads
+use Rattle.writer.proofs.batch.look.Lts as lts
 use Rattle.image.proofs.get_u32.Reads as get-u32-reads
 
 abbrev Inv-loop : tie.InvT-loop

@@ -1,13 +1,13 @@
--- `writer::fill::place_of` meets its contract. Assumes nothing.
+-- `writer::batch::place_of` meets its contract. Assumes nothing.
 use native.Mathlib.Omega.{arith}
 use native.Mathlib.Nat.{mod-lt}
 use Prim.Native.Nat.{ℕ, _/_, _%_, _<_}
 use mathlib.Core.Path.{_≡_}
 use borrow.Author.Needs.{needs}
-use Rattle.writer.proofs.fill.place_of.Statement.{statement}
-use Rattle.writer.proofs.fill.place_of.Tie as tie
-use Rattle.writer.proofs.fill.place_of.Reads as reads
-use Rattle.writer.proofs.fill.place_of.Lts as lts
+use Rattle.writer.proofs.batch.place_of.Statement.{statement}
+use Rattle.writer.proofs.batch.place_of.Tie as tie
+use Rattle.writer.proofs.batch.place_of.Reads as reads
+use Rattle.writer.proofs.batch.place_of.Lts as lts
 use Rattle.image.proofs.get_u32.Reads as get-u32-reads
 
 pos-of : (n : ℕ) → (n ≡ 0 → ⊥) → 0 < n
