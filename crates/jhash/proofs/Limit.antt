@@ -13,7 +13,6 @@ use Rattle.jhash.proofs.Blocks.{name-begin}
 use Rattle.jhash.proofs.Answers.{short-answer, long-answer}
 
 module _ (name : List ℕ) (start : ℕ) (long : Bool) (tested : long ≡ leb 4294967295 (length name)) where
-
   pub refuses : long ≡ true → refusal 9 ≡ hashOutcome name start
   refuses p = sym (long-answer name start (leb-true 4294967295 (length name) (sym tested ∙ p)))
 
@@ -24,5 +23,5 @@ module _ (name : List ℕ) (start : ℕ) (long : Bool) (tested : long ≡ leb 42
       → hash h ≡ hashOutcome name start
   unfolding initial
   hashes p x h xe he =
-    ap hash (he ∙ ap (λ (y : ℕ). hashRest (alike y) (name ++ 0 ∷ [])) xe ∙ sym (name-begin name start))
-    ∙ sym (short-answer name start (short p))
+      ap hash (he ∙ ap (λ (y : ℕ). hashRest (alike y) (name ++ 0 ∷ [])) xe ∙ sym (name-begin name start))
+      ∙ sym (short-answer name start (short p))
