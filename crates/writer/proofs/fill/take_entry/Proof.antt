@@ -15,51 +15,51 @@ use Rattle.jhash.proofs.jhash.Reads as jhash-reads
 use Rattle.writer.proofs.fill.store_bucket.Reads as store-bucket-reads
 use Rattle.writer.proofs.fill.store_link.Reads as store-link-reads
 
--- src/fill.rt:60:9
+-- src/fill.rt:61:9
 get-u32-requires : tie.Need-get-u32-requires
 get-u32-requires c κs = search needs
 
--- src/fill.rt:61:36
+-- src/fill.rt:62:36
 add-jhash : tie.Need-add-jhash
 add-jhash c = search needs
 
--- src/fill.rt:61:44
+-- src/fill.rt:62:44
 add-jhash-2 : tie.Need-add-jhash-2
 add-jhash-2 c = search needs
 
--- src/fill.rt:61:44
+-- src/fill.rt:62:44
 add-jhash-3 : tie.Need-add-jhash-3
 add-jhash-3 c = search needs
 
--- src/fill.rt:61:31
+-- src/fill.rt:62:31
 sub-jhash : tie.Need-sub-jhash
 sub-jhash c = search needs
 
--- src/fill.rt:61:31
+-- src/fill.rt:62:31
 part-jhash-start : tie.Need-part-jhash-start
 part-jhash-start c = search needs
 
--- src/fill.rt:61:31
+-- src/fill.rt:62:31
 part-jhash-end : tie.Need-part-jhash-end
 part-jhash-end c = search needs
 
--- src/fill.rt:61:9
+-- src/fill.rt:62:9
 jhash-requires : tie.Need-jhash-requires
 jhash-requires c κs = search needs
 
--- src/fill.rt:62:29
+-- src/fill.rt:63:29
 enum-known-hashed : tie.Need-enum-known-hashed
 enum-known-hashed c = search needs
 
--- src/fill.rt:63:9
+-- src/fill.rt:64:9
 enum-told : tie.Need-enum-told
 enum-told c = search needs
 
--- src/fill.rt:63:9
+-- src/fill.rt:64:9
 same-length : tie.Need-same-length
 same-length c = search needs
 
--- src/fill.rt:63:9
+-- src/fill.rt:64:9
 returns : tie.Need-returns
 returns c =
     let long = told-refused (take (c .before .before .before .before .before .before .before .before .args .at + 7 + c .before .before .before .before .before .before .before .before .args .n - (c .before .before .before .before .before .before .before .before .args .at + 8)) (drop (c .before .before .before .before .before .before .before .before .args .at + 8) (c .before .before .before .before .before .before .before .before .args .buf .now))) 0 (c .before .before .jhash .result) (c .before .before .jhash .ensures) (c .enum-told .given .1) in
@@ -67,27 +67,27 @@ returns c =
     let s = c .before .before .before .before .before .before .before .before .pre .2 in
     absurd (omega arith)
 
--- src/fill.rt:65:32
+-- src/fill.rt:66:32
 cast-store-bucket : tie.Need-cast-store-bucket
 cast-store-bucket c = search needs
 
--- src/fill.rt:65:5
+-- src/fill.rt:66:5
 store-bucket-requires : tie.Need-store-bucket-requires
 store-bucket-requires c κs = search needs
 
--- src/fill.rt:66:44
+-- src/fill.rt:67:44
 cast-store-link : tie.Need-cast-store-link
 cast-store-link c = search needs
 
--- src/fill.rt:66:5
+-- src/fill.rt:67:5
 store-link-requires : tie.Need-store-link-requires
 store-link-requires c κs = search needs
 
--- src/fill.rt:56:1
+-- src/fill.rt:57:1
 same-length-2 : tie.Need-same-length-2
 same-length-2 c = search needs
 
--- src/fill.rt:56:1
+-- src/fill.rt:57:1
 returns-2 : tie.Need-returns-2
 returns-2 c =
     let a = c .before .before .before .before .before .before .before .before .before .before .before .before .before .before .before .before .before .args in
