@@ -15,55 +15,42 @@ use Rattle.writer.proofs.record.back_in.Reads as back-in-reads
 use Rattle.writer.proofs.record.finished_size.Reads as finished-size-reads
 use Rattle.writer.proofs.record.flag_word.Reads as flag-word-reads
 
--- src/lib.rt:120:9
 finished-size-requires : tie.Need-finished-size-requires
 finished-size-requires c κs = search needs
 
--- src/lib.rt:121:38
 cast-back-in : tie.Need-cast-back-in
 cast-back-in c = search needs
 
--- src/lib.rt:121:9
 back-in-requires : tie.Need-back-in-requires
 back-in-requires c κs = search needs
 
--- src/lib.rt:122:9
 back-at-requires : tie.Need-back-at-requires
 back-at-requires c κs = search needs
 
--- src/lib.rt:125:9
 cast-write-head : tie.Need-cast-write-head
 cast-write-head c = search needs
 
--- src/lib.rt:126:9
 flag-word-requires : tie.Need-flag-word-requires
 flag-word-requires c κs = search needs
 
--- src/lib.rt:127:9
 cast-write-head-2 : tie.Need-cast-write-head-2
 cast-write-head-2 c = search needs
 
--- src/lib.rt:128:9
 cast-write-head-3 : tie.Need-cast-write-head-3
 cast-write-head-3 c = omega (arith, c .before .before .back-at .ensures, backAt-le (c .before .before .before .before .before .before .before .args .w), c .before .before .before .before .before .before .before .pre .2)
 
--- src/lib.rt:123:5
 write-head-requires : tie.Need-write-head-requires
 write-head-requires c κs = search needs
 
--- src/lib.rt:130:41
 cast-write-rows : tie.Need-cast-write-rows
 cast-write-rows c = search needs
 
--- src/lib.rt:130:5
 write-rows-requires : tie.Need-write-rows-requires
 write-rows-requires c κs = search needs
 
--- src/lib.rt:131:5
 clear-requires : tie.Need-clear-requires
 clear-requires c κs = search needs
 
--- src/lib.rt:132:5
 take-entries-requires : tie.Need-take-entries-requires
 take-entries-requires c κs =
     let a = c .before .before .before .before .before .before .before .before .before .before .before .before .before .before .before .before .before .before .before .before .args in
@@ -74,11 +61,9 @@ take-entries-requires c κs =
     let fits = c .before .before .before .before .before .before .before .before .before .before .before .before .before .before .before .before .before .before .before .before .pre .1 in
     (c .before .before .before .before .before .before .before .before .before .before .before .before .before .before .before .before .before .before .before .before .pre .0, omega arith, omega arith, omega (arith, c .before .before .before .before .before .before .before .before .before .before .before .before .before .before .before .back-at .ensures, backAt-le (a .w)))
 
--- src/lib.rt:115:1
 same-length : tie.Need-same-length
 same-length c = search needs
 
--- src/lib.rt:115:1
 returns : tie.Need-returns
 returns c =
     let a = c .before .before .before .before .before .before .before .before .before .before .before .before .before .before .before .before .before .before .before .before .before .before .before .args in

@@ -8,19 +8,15 @@ use Rattle.writer.proofs.batch.links_apart.Tie as tie
 use Rattle.writer.proofs.batch.links_apart.Reads as reads
 use Rattle.writer.proofs.batch.links_apart.Lts as lts
 
--- src/fill.rt:93:23
 enum-told : tie.Need-enum-told
 enum-told c = search needs
 
--- src/fill.rt:94:25
 enum-told-2 : tie.Need-enum-told-2
 enum-told-2 c = search needs
 
--- src/fill.rt:89:1
 returns : tie.Need-returns
 returns c = ap (λ (f : Flag). linksApart f (c .before .before .args .links) (c .before .before .args .end)) (sym (c .enum-told .given .1))
 
--- src/fill.rt:89:1
 returns-2 : tie.Need-returns-2
 returns-2 c = search needs
 

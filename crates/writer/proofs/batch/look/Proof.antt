@@ -14,39 +14,30 @@ Inv-loop buf places all₀ i₀ all i = i ≤ 16
 abbrev μ-loop : tie.MeasureT-loop
 μ-loop buf places all₀ i₀ all i = 16 - i
 
--- src/fill.rt:158:5
 loop-holds : tie.Need-loop-holds Inv-loop μ-loop
 loop-holds c = omega arith
 
--- src/fill.rt:159:41
 mul-get-u32 : tie.Need-mul-get-u32 Inv-loop μ-loop
 mul-get-u32 c = search needs
 
--- src/fill.rt:159:41
 element-copy-out-get-u32 : tie.Need-element-copy-out-get-u32 Inv-loop μ-loop
 element-copy-out-get-u32 c = search needs
 
--- src/fill.rt:159:21
 get-u32-requires : tie.Need-get-u32-requires Inv-loop μ-loop
 get-u32-requires c κs = search needs
 
--- src/fill.rt:160:9
 add-i : tie.Need-add-i Inv-loop μ-loop
 add-i c = omega arith
 
--- src/fill.rt:158:5
 loop-less : tie.Need-loop-less Inv-loop μ-loop
 loop-less c = omega arith
 
--- src/fill.rt:158:5
 loop-again : tie.Need-loop-again Inv-loop μ-loop
 loop-again c = omega arith
 
--- src/fill.rt:153:1
 returns : tie.Need-returns Inv-loop μ-loop
 returns c = omega arith
 
--- src/fill.rt:153:1
 returns-2 : tie.Need-returns-2 Inv-loop μ-loop
 returns-2 c = omega arith
 

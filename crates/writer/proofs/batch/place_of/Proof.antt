@@ -13,80 +13,63 @@ use Rattle.image.proofs.get_u32.Reads as get-u32-reads
 pos-of : (n : ℕ) → (n ≡ 0 → ⊥) → 0 < n
 pos-of n h = omega arith
 
--- src/fill.rt:103:13
 cast-t : tie.Need-cast-t
 cast-t c = search needs
 
--- src/fill.rt:104:38
 mul-get-u32 : tie.Need-mul-get-u32
 mul-get-u32 c = search needs
 
--- src/fill.rt:104:33
 add-get-u32 : tie.Need-add-get-u32
 add-get-u32 c = search needs
 
--- src/fill.rt:104:13
 get-u32-requires : tie.Need-get-u32-requires
 get-u32-requires c κs = search needs
 
--- src/fill.rt:104:13
 cast-o : tie.Need-cast-o
 cast-o c = search needs
 
--- src/fill.rt:105:38
 mul-get-u32-2 : tie.Need-mul-get-u32-2
 mul-get-u32-2 c = search needs
 
--- src/fill.rt:105:33
 add-get-u32-2 : tie.Need-add-get-u32-2
 add-get-u32-2 c = search needs
 
--- src/fill.rt:105:13
 get-u32-requires-2 : tie.Need-get-u32-requires-2
 get-u32-requires-2 c κs = search needs
 
--- src/fill.rt:105:13
 cast-n : tie.Need-cast-n
 cast-n c = search needs
 
--- src/fill.rt:107:9
 returns : tie.Need-returns
 returns c = search needs
 
--- src/fill.rt:110:9
 returns-2 : tie.Need-returns-2
 returns-2 c = search needs
 
--- src/fill.rt:112:14
 cast-result : tie.Need-cast-result
 cast-result c = search needs
 
--- src/fill.rt:112:14
 rem-result : tie.Need-rem-result
 rem-result c = search needs
 
--- src/fill.rt:112:9
 mul-result : tie.Need-mul-result
 mul-result c =
     let pos : 0 < c .before .before .get-u322 .result = pos-of _ (c .if2 .left) in
     let r : c .before .before .before .before .before .args .h / 256 % c .before .before .get-u322 .result < c .before .before .get-u322 .result = mod-lt (c .before .before .before .before .before .args .h / 256) pos in
     omega (arith, c .before .before .get-u322 .ok, c .before .before .before .get-u32 .ok)
 
--- src/fill.rt:112:5
 add-result : tie.Need-add-result
 add-result c =
     let pos : 0 < c .before .before .get-u322 .result = pos-of _ (c .if2 .left) in
     let r : c .before .before .before .before .before .args .h / 256 % c .before .before .get-u322 .result < c .before .before .get-u322 .result = mod-lt (c .before .before .before .before .before .args .h / 256) pos in
     omega (arith, c .before .before .get-u322 .ok, c .before .before .before .get-u32 .ok)
 
--- src/fill.rt:112:5
 add-result-2 : tie.Need-add-result-2
 add-result-2 c =
     let pos : 0 < c .before .before .get-u322 .result = pos-of _ (c .if2 .left) in
     let r : c .before .before .before .before .before .args .h / 256 % c .before .before .get-u322 .result < c .before .before .get-u322 .result = mod-lt (c .before .before .before .before .before .args .h / 256) pos in
     omega (arith, c .before .before .get-u322 .ok, c .before .before .before .get-u32 .ok)
 
--- src/fill.rt:100:1
 returns-3 : tie.Need-returns-3
 returns-3 c = search needs
 

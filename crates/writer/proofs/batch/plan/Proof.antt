@@ -35,99 +35,75 @@ room c =
     let l = length-between (c .before .before .before .before .before .args .buf .now) (c .before .before .before .loop .at) (c .before .before .before .before .before .args .end) j (c .before .before .before .before .before .pre .1) in
     (omega arith, f .some)
 
--- src/fill.rt:130:5
 loop-holds : tie.Need-loop-holds Inv-loop μ-loop
 loop-holds c = plan-start (c .before .args .buf .now) (c .before .args .end) (c .before .args .from) (c .before .args .most) (c .before .args .hashes .now) (c .before .pre .0) (c .before .pre .4)
 
--- src/fill.rt:131:13
 whole-length-requires : tie.Need-whole-length-requires Inv-loop μ-loop
 whole-length-requires c κs = (c .before .loop .inv .inside, c .before .before .before .pre .1)
 
--- src/fill.rt:133:13
 returns : tie.Need-returns Inv-loop μ-loop
 returns c = (c .before .before .before .loop .inv .few, c .before .before .before .loop .inv .sixteen, c .before .before .before .loop .inv .noted)
 
--- src/fill.rt:135:60
 add-name-hash : tie.Need-add-name-hash Inv-loop μ-loop
 add-name-hash c = let r = room c in omega (arith, c .before .before .before .before .before .pre .2)
 
--- src/fill.rt:135:68
 add-name-hash-2 : tie.Need-add-name-hash-2 Inv-loop μ-loop
 add-name-hash-2 c = let r = room c in omega (arith, c .before .before .before .before .before .pre .2)
 
--- src/fill.rt:135:68
 add-name-hash-3 : tie.Need-add-name-hash-3 Inv-loop μ-loop
 add-name-hash-3 c = let r = room c in omega (arith, c .before .before .before .before .before .pre .2)
 
--- src/fill.rt:135:55
 sub-name-hash : tie.Need-sub-name-hash Inv-loop μ-loop
 sub-name-hash c = let r = room c in omega arith
 
--- src/fill.rt:135:55
 part-name-hash-start : tie.Need-part-name-hash-start Inv-loop μ-loop
 part-name-hash-start c = let r = room c in omega arith
 
--- src/fill.rt:135:55
 part-name-hash-end : tie.Need-part-name-hash-end Inv-loop μ-loop
 part-name-hash-end c = let r = room c in omega (arith, c .before .before .before .before .before .pre .1)
 
--- src/fill.rt:135:38
 name-hash-requires : tie.Need-name-hash-requires Inv-loop μ-loop
 name-hash-requires c κs = search needs
 
--- src/fill.rt:135:33
 enum-known-h : tie.Need-enum-known-h Inv-loop μ-loop
 enum-known-h c = search needs
 
--- src/fill.rt:136:13
 enum-told : tie.Need-enum-told Inv-loop μ-loop
 enum-told c = search needs
 
--- src/fill.rt:136:13
 returns-2 : tie.Need-returns-2 Inv-loop μ-loop
 returns-2 c = (c .before .before .before .before .before .before .before .loop .inv .few, c .before .before .before .before .before .before .before .loop .inv .sixteen, c .before .before .before .before .before .before .before .loop .inv .noted)
 
--- src/fill.rt:138:13
 place-of-requires : tie.Need-place-of-requires Inv-loop μ-loop
 place-of-requires c κs = search needs
 
--- src/fill.rt:140:13
 returns-3 : tie.Need-returns-3 Inv-loop μ-loop
 returns-3 c = (c .before .before .before .before .before .before .before .before .before .before .loop .inv .few, c .before .before .before .before .before .before .before .before .before .before .loop .inv .sixteen, c .before .before .before .before .before .before .before .before .before .before .loop .inv .noted)
 
--- src/fill.rt:142:9
 mul-hashes : tie.Need-mul-hashes Inv-loop μ-loop
 mul-hashes c = omega (arith, c .before .before .before .before .before .before .before .before .before .loop-test .taken, c .before .before .before .before .before .before .before .before .before .before .before .before .pre .3)
 
--- src/fill.rt:142:9
 element-write-hashes : tie.Need-element-write-hashes Inv-loop μ-loop
 element-write-hashes c = omega (arith, c .before .before .before .before .before .before .before .before .before .loop-test .taken, c .before .before .before .before .before .before .before .before .before .before .before .before .pre .3)
 
--- src/fill.rt:143:9
 mul-places : tie.Need-mul-places Inv-loop μ-loop
 mul-places c = omega (arith, c .before .before .before .before .before .before .before .before .before .loop-test .taken, c .before .before .before .before .before .before .before .before .before .before .before .before .pre .3)
 
--- src/fill.rt:143:9
 element-write-places : tie.Need-element-write-places Inv-loop μ-loop
 element-write-places c = omega (arith, c .before .before .before .before .before .before .before .before .before .loop-test .taken, c .before .before .before .before .before .before .before .before .before .before .before .before .pre .3)
 
--- src/fill.rt:144:15
 add-at : tie.Need-add-at Inv-loop μ-loop
 add-at c = let r = room (c .before .before .before .before .before .before .before) in omega (arith, c .before .before .before .before .before .before .before .before .before .before .before .before .pre .2)
 
--- src/fill.rt:144:9
 add-at-2 : tie.Need-add-at-2 Inv-loop μ-loop
 add-at-2 c = let r = room (c .before .before .before .before .before .before .before) in omega (arith, c .before .before .before .before .before .before .before .before .before .before .before .before .pre .2)
 
--- src/fill.rt:145:9
 add-i : tie.Need-add-i Inv-loop μ-loop
 add-i c = omega (arith, c .before .before .before .before .before .before .before .before .before .loop-test .taken, c .before .before .before .before .before .before .before .before .before .before .before .before .pre .3)
 
--- src/fill.rt:130:5
 loop-less : tie.Need-loop-less Inv-loop μ-loop
 loop-less c = omega (arith, c .before .before .before .before .before .before .before .before .before .loop-test .taken)
 
--- src/fill.rt:130:5
 loop-again : tie.Need-loop-again Inv-loop μ-loop
 loop-again c =
     let a = c .before .before .before .before .before .before .before .before .before .before .before .before .args in
@@ -135,7 +111,6 @@ loop-again c =
     let told = told-image-hash (take (i .at + 7 + c .before .before .before .before .before .before .before .before .whole-length .result - (i .at + 8)) (drop (i .at + 8) (a .buf .now))) (c .before .before .before .before .before .name-hash .result) (c .before .before .before .h .given .0 .0) (c .before .before .before .before .before .name-hash .ensures) (c .before .before .before .h .given .1) in
     plan-turn (a .buf .now) (a .end) (a .from) (a .most) (i .hashes) (i .at) (i .i) (i .inv) (c .before .before .before .before .before .before .before .before .before .before .before .before .pre .1) (c .before .before .before .before .before .before .before .before .before .before .before .before .pre .3) (c .before .before .before .before .before .before .before .before .before .loop-test .taken) (c .before .before .before .before .before .before .before .before .whole-length .result) (c .before .before .before .h .given .0 .0) (take (i .at + 7 + c .before .before .before .before .before .before .before .before .whole-length .result - (i .at + 8)) (drop (i .at + 8) (a .buf .now))) (c .before .before .before .before .before .before .before .before .whole-length .ensures .0) (c .before .before .before .before .before .before .before .if1 .left) refl (told .1) (c .before .place-of .ensures (pos-of _ (c .if2 .left)))
 
--- src/fill.rt:117:1
 returns-4 : tie.Need-returns-4 Inv-loop μ-loop
 returns-4 c = (c .before .loop .inv .few, c .before .loop .inv .sixteen, c .before .loop .inv .noted)
 

@@ -28,51 +28,39 @@ abbrev μ-loop : tie.MeasureT-loop
 pos-of : (n : ℕ) → (n ≡ 0 → ⊥) → 0 < n
 pos-of n h = omega arith
 
--- src/fill.rt:215:9
 links-apart-requires : tie.Need-links-apart-requires Inv-loop μ-loop
 links-apart-requires c κs = search needs
 
--- src/fill.rt:216:9
 take-singly-requires : tie.Need-take-singly-requires Inv-loop μ-loop
 take-singly-requires c κs = (c .before .before .before .before .pre .0, c .before .before .before .before .pre .1, c .before .before .before .before .pre .2, c .before .before .before .before .pre .3)
 
--- src/fill.rt:217:9
 same-length : tie.Need-same-length Inv-loop μ-loop
 same-length c = search needs
 
--- src/fill.rt:217:9
 returns : tie.Need-returns Inv-loop μ-loop
 returns c = c .before .before .take-singly .ensures
 
--- src/fill.rt:224:5
 loop-holds : tie.Need-loop-holds Inv-loop μ-loop
 loop-holds c = (c .before .before .before .pre .0, refl, refl, omega arith, refl)
 
--- src/fill.rt:225:38
 smaller-requires : tie.Need-smaller-requires Inv-loop μ-loop
 smaller-requires c κs = c .before .before .loop .inv .3
 
--- src/fill.rt:225:13
 plan-requires : tie.Need-plan-requires Inv-loop μ-loop
 plan-requires c κs = (c .before .before .before .before .before .loop .inv .0, omega (arith, c .before .before .before .before .before .loop .inv .1, c .before .before .before .before .before .before .before .before .before .pre .1), c .before .before .before .before .before .before .before .before .before .pre .2, c .before .before .smaller .ensures .1, c .before .before .before .before .before .loop .inv .2)
 
--- src/fill.rt:227:13
 take-singly-requires-2 : tie.Need-take-singly-requires-2 Inv-loop μ-loop
 take-singly-requires-2 c κs = (c .before .before .before .before .before .before .before .before .loop .inv .0, omega (arith, c .before .before .before .before .before .before .before .before .loop .inv .1, c .before .before .before .before .before .before .before .before .before .before .before .before .pre .1), c .before .before .before .before .before .before .before .before .before .before .before .before .pre .2, c .before .before .before .before .before .before .before .before .before .before .before .before .pre .3)
 
--- src/fill.rt:228:13
 same-length-2 : tie.Need-same-length-2 Inv-loop μ-loop
 same-length-2 c = search needs
 
--- src/fill.rt:228:13
 returns-2 : tie.Need-returns-2 Inv-loop μ-loop
 returns-2 c = c .before .before .take-singly2 .ensures ∙ c .before .before .before .before .before .before .before .before .before .before .before .loop .inv .4
 
--- src/fill.rt:230:9
 look-requires : tie.Need-look-requires Inv-loop μ-loop
 look-requires c κs = search needs
 
--- src/fill.rt:231:9
 take-planned-requires : tie.Need-take-planned-requires Inv-loop μ-loop
 take-planned-requires c κs = (
   c .before .before .before .before .before .before .before .before .before .before .before .before .loop .inv .0,
@@ -85,19 +73,15 @@ take-planned-requires c κs = (
   c .before .before .before .before .before .before .plan .ensures .2,
 )
 
--- src/fill.rt:232:17
 cast-left : tie.Need-cast-left Inv-loop μ-loop
 cast-left c = omega (arith, c .before .before .before .before .before .before .before .before .before .plan .ensures .0, c .before .before .before .before .before .before .before .before .before .before .before .before .smaller .ensures .1)
 
--- src/fill.rt:232:9
 sub-left : tie.Need-sub-left Inv-loop μ-loop
 sub-left c = omega (arith, c .before .before .before .before .before .before .before .before .before .plan .ensures .0, c .before .before .before .before .before .before .before .before .before .before .before .before .smaller .ensures .0)
 
--- src/fill.rt:224:5
 loop-less : tie.Need-loop-less Inv-loop μ-loop
 loop-less c = omega (arith, c .before .before .before .before .before .before .before .before .before .plan .ensures .0, c .before .before .before .before .before .before .before .before .before .before .before .before .smaller .ensures .0, pos-of _ (c .before .before .before .before .before .before .before .before .if2 .left))
 
--- src/fill.rt:224:5
 loop-again : tie.Need-loop-again Inv-loop μ-loop
 loop-again c =
     let a = c .before .before .before .before .before .before .before .before .before .before .before .before .before .before .before .before .before .before .before .args in
@@ -111,11 +95,9 @@ loop-again c =
       c .before .before .take-planned .ensures .1 (i .left - m) ∙ ap (λ (k : ℕ). takenFrom (a .flag) (a .links) (a .end) k (i .at) (i .buf)) e ∙ i .inv .4,
     )
 
--- src/fill.rt:211:1
 same-length-3 : tie.Need-same-length-3 Inv-loop μ-loop
 same-length-3 c = search needs
 
--- src/fill.rt:211:1
 returns-3 : tie.Need-returns-3 Inv-loop μ-loop
 returns-3 c =
     let z : c .before .loop .left ≡ 0 = omega arith in

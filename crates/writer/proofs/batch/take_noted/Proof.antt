@@ -13,43 +13,33 @@ use Rattle.image.proofs.get_u32.Reads as get-u32-reads
 use Rattle.writer.proofs.fill.store_bucket.Reads as store-bucket-reads
 use Rattle.writer.proofs.fill.store_link.Reads as store-link-reads
 
--- src/fill.rt:170:9
 get-u32-requires : tie.Need-get-u32-requires
 get-u32-requires c κs = search needs
 
--- src/fill.rt:171:35
 add-get-u32 : tie.Need-add-get-u32
 add-get-u32 c = search needs
 
--- src/fill.rt:171:13
 get-u32-requires-2 : tie.Need-get-u32-requires-2
 get-u32-requires-2 c κs = search needs
 
--- src/fill.rt:171:13
 cast-n : tie.Need-cast-n
 cast-n c = search needs
 
--- src/fill.rt:172:32
 cast-store-bucket : tie.Need-cast-store-bucket
 cast-store-bucket c = search needs
 
--- src/fill.rt:172:5
 store-bucket-requires : tie.Need-store-bucket-requires
 store-bucket-requires c κs = search needs
 
--- src/fill.rt:173:44
 cast-store-link : tie.Need-cast-store-link
 cast-store-link c = search needs
 
--- src/fill.rt:173:5
 store-link-requires : tie.Need-store-link-requires
 store-link-requires c κs = search needs
 
--- src/fill.rt:166:1
 same-length : tie.Need-same-length
 same-length c = search needs
 
--- src/fill.rt:166:1
 returns : tie.Need-returns
 returns c =
     let a = c .before .before .before .before .before .before .before .before .before .before .before .before .before .args in (

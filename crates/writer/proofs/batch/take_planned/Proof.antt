@@ -17,50 +17,39 @@ Inv-loop flag links buf₀ from end m hashes at₀ i₀ buf at i = Rest flag lin
 abbrev μ-loop : tie.MeasureT-loop
 μ-loop flag links buf₀ from end m hashes at₀ i₀ buf at i = m - i
 
--- src/fill.rt:193:5
 loop-holds : tie.Need-loop-holds Inv-loop μ-loop
 loop-holds c = rest-start (c .before .args .flag) (c .before .args .links) (c .before .args .end) (c .before .args .from) (c .before .args .m) (c .before .args .buf .now) (c .before .pre .0)
 
--- src/fill.rt:194:56
 mul-take-noted : tie.Need-mul-take-noted Inv-loop μ-loop
 mul-take-noted c = omega (arith, c .before .loop-test .taken, c .before .before .before .before .pre .5)
 
--- src/fill.rt:194:56
 element-copy-out-take-noted : tie.Need-element-copy-out-take-noted Inv-loop μ-loop
 element-copy-out-take-noted c = omega (arith, c .before .loop-test .taken, c .before .before .before .before .pre .5)
 
--- src/fill.rt:194:13
 take-noted-requires : tie.Need-take-noted-requires Inv-loop μ-loop
 take-noted-requires c κs = (omega (arith, c .before .before .before .loop .inv .inside, c .before .before .before .before .before .pre .3), c .before .before .before .before .before .pre .4)
 
--- src/fill.rt:195:15
 add-at : tie.Need-add-at Inv-loop μ-loop
 add-at c = omega (arith, c .before .before .take-noted .ensures .2)
 
--- src/fill.rt:195:9
 add-at-2 : tie.Need-add-at-2 Inv-loop μ-loop
 add-at-2 c = omega (arith, c .before .before .take-noted .ensures .2, c .before .before .before .before .before .before .loop .inv .inside, c .before .before .before .before .before .before .before .before .pre .3)
 
--- src/fill.rt:196:9
 add-i : tie.Need-add-i Inv-loop μ-loop
 add-i c = omega (arith, c .before .before .before .before .before .loop-test .taken, c .before .before .before .before .before .before .before .before .pre .5)
 
--- src/fill.rt:193:5
 loop-less : tie.Need-loop-less Inv-loop μ-loop
 loop-less c = omega (arith, c .before .before .before .before .before .loop-test .taken)
 
--- src/fill.rt:193:5
 loop-again : tie.Need-loop-again Inv-loop μ-loop
 loop-again c =
     let a = c .before .before .before .before .before .before .before .before .args in
     let i = c .before .before .before .before .before .before .loop in
     rest-turn (a .flag) (a .links) (a .end) (a .from) (a .m) (a .buf .now) (i .i) (i .at) (i .buf) (i .inv) (c .before .before .before .before .before .before .before .before .pre .2) (c .before .before .before .before .before .before .before .before .pre .1) (c .before .before .before .before .before .before .before .before .pre .6) (c .before .before .before .before .before .loop-test .taken) (a .hashes .now) (c .before .before .before .before .before .before .before .before .pre .7 (i .i) (c .before .before .before .before .before .loop-test .taken)) (getD (a .hashes .now) (i .i) 0) refl (c .before .before .take-noted .result) (c .before .before .take-noted .ensures .1) (c .before .before .take-noted .last .1 .1 .0) (c .before .before .take-noted .kept .1 .1 .0) (c .before .before .take-noted .ensures .0)
 
--- src/fill.rt:179:1
 same-length : tie.Need-same-length Inv-loop μ-loop
 same-length c = search needs
 
--- src/fill.rt:179:1
 returns : tie.Need-returns Inv-loop μ-loop
 returns c =
     let a = c .before .before .before .args in

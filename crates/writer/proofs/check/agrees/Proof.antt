@@ -18,19 +18,15 @@ use Rattle.writer.proofs.check.same_counts.Reads as same-counts-reads
 use Rattle.writer.proofs.check.walk.Reads as walk-reads
 use Rattle.writer.proofs.record.back_in.Reads as back-in-reads
 
--- src/check.rt:96:9
 walk-requires : tie.Need-walk-requires
 walk-requires c κs = (c .before .before .pre .0, c .before .before .pre .1, zeros 256)
 
--- src/check.rt:98:9
 returns : tie.Need-returns
 returns c = first-fails (whole (c .before .before .before .before .before .args .w .entries) (entryArea (lent (c .before .before .before .before .before .args .w) (c .before .before .before .before .before .args .counts .now) (c .before .before .before .before .before .args .buf .now)))) (countsAgree (c .before .before .before .before .before .args .counts .now) (recorded (lent (c .before .before .before .before .before .args .w) (c .before .before .before .before .before .args .counts .now) (c .before .before .before .before .before .args .buf .now)))) (eqb (c .before .before .before .before .before .args .w .back) (backIn (c .before .before .before .before .before .args .w .flag) (backSize (recorded (lent (c .before .before .before .before .before .args .w) (c .before .before .before .before .before .args .counts .now) (c .before .before .before .before .before .args .buf .now)))))) (sym (c .before .before .walk .ensures .0) ∙ not-true _ (c .if1 .taken))
 
--- src/check.rt:100:9
 same-counts-requires : tie.Need-same-counts-requires
 same-counts-requires c κs = search needs
 
--- src/check.rt:101:9
 returns-2 : tie.Need-returns-2
 returns-2 c =
     let w = sym (c .before .before .before .before .before .walk .ensures .0) ∙ not-false _ (c .before .before .before .if1 .left) in
@@ -38,15 +34,12 @@ returns-2 c =
     second-fails (whole (c .before .before .before .before .before .before .before .before .args .w .entries) (entryArea (lent (c .before .before .before .before .before .before .before .before .args .w) (c .before .before .before .before .before .before .before .before .args .counts .now) (c .before .before .before .before .before .before .before .before .args .buf .now)))) (countsAgree (c .before .before .before .before .before .before .before .before .args .counts .now) (recorded (lent (c .before .before .before .before .before .before .before .before .args .w) (c .before .before .before .before .before .before .before .before .args .counts .now) (c .before .before .before .before .before .before .before .before .args .buf .now)))) (eqb (c .before .before .before .before .before .before .before .before .args .w .back) (backIn (c .before .before .before .before .before .before .before .before .args .w .flag) (backSize (recorded (lent (c .before .before .before .before .before .before .before .before .args .w) (c .before .before .before .before .before .before .before .before .args .counts .now) (c .before .before .before .before .before .before .before .before .args .buf .now)))))) w
     (sym (same-agree (c .before .before .before .before .before .before .before .before .args .counts .now) (recorded (lent (c .before .before .before .before .before .before .before .before .args .w) (c .before .before .before .before .before .before .before .before .args .counts .now) (c .before .before .before .before .before .before .before .before .args .buf .now))) _ t) ∙ sym (c .before .same-counts .ensures) ∙ not-true _ (c .if2 .taken))
 
--- src/check.rt:104:5
 cast-result : tie.Need-cast-result
 cast-result c = search needs
 
--- src/check.rt:104:22
 back-in-requires : tie.Need-back-in-requires
 back-in-requires c κs = search needs
 
--- src/check.rt:91:1
 returns-3 : tie.Need-returns-3
 returns-3 c =
     let y = not-false _ (c .before .before .before .before .before .if1 .left) in

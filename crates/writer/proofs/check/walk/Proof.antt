@@ -28,7 +28,6 @@ Inv-loop buf end entries counts₀ at₀ left₀ back₀ counts at left back = R
 abbrev μ-loop : tie.MeasureT-loop
 μ-loop buf end entries counts₀ at₀ left₀ back₀ counts at left back = left
 
--- src/check.rt:51:5
 -- what the entry's length word says, where it is not 0
 known : (c : tie.Else1 Inv-loop μ-loop)
     → Front (between (c .before .before .before .before .before .args .buf .now) (c .before .before .before .loop .at) (c .before .before .before .before .before .args .end)) (c .before .whole-length .result)
@@ -47,66 +46,54 @@ room c =
 loop-holds : tie.Need-loop-holds Inv-loop μ-loop
 loop-holds c = walk-start (c .before .args .buf .now) (c .before .args .end) (c .before .args .entries) (c .before .args .counts .now) (c .before .pre .0) (c .before .pre .2)
 
--- src/check.rt:52:13
 whole-length-requires : tie.Need-whole-length-requires Inv-loop μ-loop
 whole-length-requires c κs = (c .before .loop .inv .inside, c .before .before .before .pre .1)
 
--- src/check.rt:54:13
 returns : tie.Need-returns Inv-loop μ-loop
 returns c = (
   walk-broken (c .before .before .before .before .before .args .buf .now) (c .before .before .before .before .before .args .end) (c .before .before .before .before .before .args .entries) (c .before .before .before .before .before .args .counts .now) (c .before .before .before .loop .at) (c .before .before .before .loop .left) (c .before .before .before .loop .back) (c .before .before .before .loop .counts) (c .before .before .before .loop .inv) (c .before .before .loop-test .taken) (sym (c .if1 .taken) ∙ c .before .whole-length .ensures .0),
   ((λ z. absurd (not-both z)), (λ z. absurd (not-both z))),
 )
 
--- src/check.rt:59:25
 add-name : tie.Need-add-name Inv-loop μ-loop
 add-name c =
     let r = room c in
     omega (arith, c .before .before .before .before .before .good, c .before .before .before .before .before .pre .1)
 
--- src/check.rt:59:33
 add-name-2 : tie.Need-add-name-2 Inv-loop μ-loop
 add-name-2 c =
     let r = room c in
     omega (arith, c .before .before .before .before .before .good, c .before .before .before .before .before .pre .1)
 
--- src/check.rt:59:33
 add-name-3 : tie.Need-add-name-3 Inv-loop μ-loop
 add-name-3 c =
     let r = room c in
     omega (arith, c .before .before .before .before .before .good, c .before .before .before .before .before .pre .1)
 
--- src/check.rt:59:20
 sub-name : tie.Need-sub-name Inv-loop μ-loop
 sub-name c =
     let r = room c in
     omega arith
 
--- src/check.rt:59:20
 part-name-start : tie.Need-part-name-start Inv-loop μ-loop
 part-name-start c =
     let r = room c in
     omega arith
 
--- src/check.rt:59:20
 part-name-end : tie.Need-part-name-end Inv-loop μ-loop
 part-name-end c =
     let r = room c in
     omega (arith, c .before .before .before .before .before .pre .1)
 
--- src/check.rt:60:38
 name-hash-requires : tie.Need-name-hash-requires Inv-loop μ-loop
 name-hash-requires c κs = search needs
 
--- src/check.rt:60:33
 enum-known-h : tie.Need-enum-known-h Inv-loop μ-loop
 enum-known-h c = search needs
 
--- src/check.rt:61:13
 enum-told : tie.Need-enum-told Inv-loop μ-loop
 enum-told c = search needs
 
--- src/check.rt:61:13
 returns-2 : tie.Need-returns-2 Inv-loop μ-loop
 returns-2 c =
     let r = room (c .before .before .before .before) in
@@ -115,49 +102,39 @@ returns-2 c =
     let s = c .before .before .before .before .before .whole-length .ensures .1 in
     absurd (omega arith)
 
--- src/check.rt:66:9
 raise-requires : tie.Need-raise-requires Inv-loop μ-loop
 raise-requires c κs =
     let k = c .before .before .before .before .before .before .before .before .before .loop .inv .counts-small (tableOf (c .before .before .h .given .0 .0)) in
     omega (arith, c .before .before .before .before .before .before .before .before .loop-test .taken, c .before .before .before .before .before .before .before .before .before .before .before .fits .entries)
 
--- src/check.rt:67:37
 get-u32-requires : tie.Need-get-u32-requires Inv-loop μ-loop
 get-u32-requires c κs = search needs
 
--- src/check.rt:67:37
 cast-larger : tie.Need-cast-larger Inv-loop μ-loop
 cast-larger c = search needs
 
--- src/check.rt:67:37
 add-larger : tie.Need-add-larger Inv-loop μ-loop
 add-larger c = omega (arith, c .get-u32 .ok)
 
--- src/check.rt:67:9
 larger-requires : tie.Need-larger-requires Inv-loop μ-loop
 larger-requires c κs = search needs
 
--- src/check.rt:68:15
 add-at : tie.Need-add-at Inv-loop μ-loop
 add-at c =
     let r = room (c .before .before .before .before .before .before .before .before .before) in
     omega (arith, c .before .before .before .before .before .before .before .before .before .before .before .before .before .before .good, c .before .before .before .before .before .before .before .before .before .before .before .before .before .before .pre .1)
 
--- src/check.rt:68:9
 add-at-2 : tie.Need-add-at-2 Inv-loop μ-loop
 add-at-2 c =
     let r = room (c .before .before .before .before .before .before .before .before .before) in
     omega (arith, c .before .before .before .before .before .before .before .before .before .before .before .before .before .before .good, c .before .before .before .before .before .before .before .before .before .before .before .before .before .before .pre .1)
 
--- src/check.rt:69:9
 sub-left : tie.Need-sub-left Inv-loop μ-loop
 sub-left c = omega arith
 
--- src/check.rt:51:5
 loop-less : tie.Need-loop-less Inv-loop μ-loop
 loop-less c = omega arith
 
--- src/check.rt:51:5
 loop-again : tie.Need-loop-again Inv-loop μ-loop
 loop-again c =
     let f = known (c .before .before .before .before .before .before .before .before .before) in
@@ -167,7 +144,6 @@ loop-again c =
     (c .before .before .before .before .before .before .before .before .before .before .whole-length .result) (c .before .before .before .before .before .h .given .0 .0) (c .before .get-u32 .result) (take (c .before .before .before .before .before .before .before .before .before .before .before .before .loop .at + 7 + c .before .before .before .before .before .before .before .before .before .before .whole-length .result - (c .before .before .before .before .before .before .before .before .before .before .before .before .loop .at + 8)) (drop (c .before .before .before .before .before .before .before .before .before .before .before .before .loop .at + 8) (c .before .before .before .before .before .before .before .before .before .before .before .before .before .before .args .buf .now))) (c .before .before .raise .last .0) f (c .before .before .before .before .before .before .before .before .before .before .whole-length .ensures .1) small refl (told .1) (c .before .get-u32 .ensures) (c .before .before .raise .ensures) in
     rw (c .larger .ensures) t
 
--- src/check.rt:42:1
 returns-3 : tie.Need-returns-3 Inv-loop μ-loop
 returns-3 c =
     let z : c .before .loop .left ≡ 0 = omega arith in

@@ -8,59 +8,45 @@ use Rattle.writer.proofs.check.whole_length.Reads as reads
 use Rattle.writer.proofs.check.whole_length.Lts as lts
 use Rattle.image.proofs.get_u32.Reads as get-u32-reads
 
--- src/check.rt:25:8
 sub-if1 : tie.Need-sub-if1
 sub-if1 c = search needs
 
--- src/check.rt:26:9
 returns : tie.Need-returns
 returns c = (short-there (c .before .before .args .buf .now) (c .before .before .args .at) (c .before .before .args .end) (c .before .before .pre .0) (c .before .before .pre .1) (c .if1 .taken), omega arith)
 
--- src/check.rt:28:33
 add-get-u32 : tie.Need-add-get-u32
 add-get-u32 c = search needs
 
--- src/check.rt:28:13
 get-u32-requires : tie.Need-get-u32-requires
 get-u32-requires c κs = search needs
 
--- src/check.rt:28:13
 cast-n : tie.Need-cast-n
 cast-n c = search needs
 
--- src/check.rt:30:9
 returns-2 : tie.Need-returns-2
 returns-2 c = (none-there (c .before .before .before .before .args .buf .now) (c .before .before .before .before .args .at) (c .before .before .before .before .args .end) (c .before .before .before .before .pre .0) (c .before .before .before .before .pre .1) (c .before .before .if1 .left) (c .before .get-u32 .result) (c .before .get-u32 .ensures) (c .if2 .taken), omega arith)
 
--- src/check.rt:32:8
 sub-if3 : tie.Need-sub-if3
 sub-if3 c = search needs
 
--- src/check.rt:32:19
 add-if3 : tie.Need-add-if3
 add-if3 c = search needs
 
--- src/check.rt:33:9
 returns-3 : tie.Need-returns-3
 returns-3 c = (cut-there (c .before .before .before .before .before .args .buf .now) (c .before .before .before .before .before .args .at) (c .before .before .before .before .before .args .end) (c .before .before .before .before .before .pre .0) (c .before .before .before .before .before .pre .1) (c .before .before .before .if1 .left) (c .before .before .get-u32 .result) (c .before .before .get-u32 .ensures) (c .before .if2 .left) (c .if3 .taken), omega arith)
 
--- src/check.rt:35:12
 add-if4 : tie.Need-add-if4
 add-if4 c = search needs
 
--- src/check.rt:35:12
 add-if4-2 : tie.Need-add-if4-2
 add-if4-2 c = search needs
 
--- src/check.rt:35:8
 shared-slice-read-if4 : tie.Need-shared-slice-read-if4
 shared-slice-read-if4 c = search needs
 
--- src/check.rt:36:9
 returns-4 : tie.Need-returns-4
 returns-4 c = (open-there (c .before .before .before .before .before .before .before .args .buf .now) (c .before .before .before .before .before .before .before .args .at) (c .before .before .before .before .before .before .before .args .end) (c .before .before .before .before .before .before .before .pre .0) (c .before .before .before .before .before .before .before .pre .1) (c .before .before .before .before .before .if1 .left) (c .before .before .before .before .get-u32 .result) (c .before .before .before .before .get-u32 .ensures) (c .before .before .before .if2 .left) (c .before .before .if3 .left) (c .if4 .taken), omega arith)
 
--- src/check.rt:21:1
 returns-5 : tie.Need-returns-5
 returns-5 c = (whole-there (c .before .before .before .before .before .before .before .args .buf .now) (c .before .before .before .before .before .before .before .args .at) (c .before .before .before .before .before .before .before .args .end) (c .before .before .before .before .before .before .before .pre .0) (c .before .before .before .before .before .before .before .pre .1) (c .before .before .before .before .before .if1 .left) (c .before .before .before .before .get-u32 .result) (c .before .before .before .before .get-u32 .ensures) (c .before .before .before .if2 .left) (c .before .before .if3 .left) (c .if4 .left), omega (arith, c .before .before .before .before .get-u32 .ok))
 

@@ -19,47 +19,36 @@ Inv-loop buf o n k i₀ left₀ i left = (i < n) × (left ≤ n) × (firstEmpty 
 abbrev μ-loop : tie.MeasureT-loop
 μ-loop buf o n k i₀ left₀ i left = left
 
--- src/fill.rt:19:5
 loop-holds : tie.Need-loop-holds Inv-loop μ-loop
 loop-holds c = (c .before .pre .0, omega arith, refl)
 
--- src/fill.rt:20:36
 mul-get-u32 : tie.Need-mul-get-u32 Inv-loop μ-loop
 mul-get-u32 c = omega arith
 
--- src/fill.rt:20:32
 add-get-u32 : tie.Need-add-get-u32 Inv-loop μ-loop
 add-get-u32 c = omega arith
 
--- src/fill.rt:20:32
 add-get-u32-2 : tie.Need-add-get-u32-2 Inv-loop μ-loop
 add-get-u32-2 c = omega arith
 
--- src/fill.rt:20:12
 get-u32-requires : tie.Need-get-u32-requires Inv-loop μ-loop
 get-u32-requires c κs = search needs
 
--- src/fill.rt:21:13
 returns : tie.Need-returns Inv-loop μ-loop
 returns c = (empty-here (λ (j : ℕ). word (c .before .before .before .before .before .args .buf .now) (c .before .before .before .before .before .args .o + 8 * j + 4)) (c .before .before .before .before .before .args .n) (c .before .before .before .loop .left) (c .before .before .before .loop .i) _ (c .before .before .loop-test .taken) (sym (c .before .get-u32 .ensures) ∙ c .if1 .taken) (c .before .before .before .loop .inv .2), c .before .before .before .loop .inv .0)
 
--- src/fill.rt:23:16
 add-if2 : tie.Need-add-if2 Inv-loop μ-loop
 add-if2 c = omega arith
 
--- src/fill.rt:23:28
 add-i : tie.Need-add-i Inv-loop μ-loop
 add-i c = omega arith
 
--- src/fill.rt:24:9
 sub-left : tie.Need-sub-left Inv-loop μ-loop
 sub-left c = omega arith
 
--- src/fill.rt:19:5
 loop-less : tie.Need-loop-less Inv-loop μ-loop
 loop-less c = omega arith
 
--- src/fill.rt:19:5
 loop-again : tie.Need-loop-again Inv-loop μ-loop
 loop-again c =
     let a = c .before .before .before .before .before .before .args in
@@ -70,7 +59,6 @@ loop-again c =
     (λ w. let e : c .if2 .i ≡ next (a .n) (i .i) = w .1 ∙ next-first (a .n) (i .i) (i .inv .0) (w .0 .left) in (omega (arith, w .1), omega arith, rw e later))
     (c .if2 .came)
 
--- src/fill.rt:13:1
 returns-2 : tie.Need-returns-2 Inv-loop μ-loop
 returns-2 c =
     let z : c .before .loop .left ≡ 0 = omega arith in

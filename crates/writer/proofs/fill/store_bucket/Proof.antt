@@ -16,97 +16,74 @@ use Rattle.writer.proofs.fill.first_empty.Reads as first-empty-reads
 pos-of : (n : ℕ) → (n ≡ 0 → ⊥) → 0 < n
 pos-of n h = omega arith
 
--- src/fill.rt:33:13
 cast-t : tie.Need-cast-t
 cast-t c = search needs
 
--- src/fill.rt:34:40
 mul-get-u32 : tie.Need-mul-get-u32
 mul-get-u32 c = search needs
 
--- src/fill.rt:34:35
 add-get-u32 : tie.Need-add-get-u32
 add-get-u32 c = search needs
 
--- src/fill.rt:34:13
 get-u32-requires : tie.Need-get-u32-requires
 get-u32-requires c κs = search needs
 
--- src/fill.rt:34:13
 cast-o : tie.Need-cast-o
 cast-o c = search needs
 
--- src/fill.rt:35:40
 mul-get-u32-2 : tie.Need-mul-get-u32-2
 mul-get-u32-2 c = search needs
 
--- src/fill.rt:35:35
 add-get-u32-2 : tie.Need-add-get-u32-2
 add-get-u32-2 c = search needs
 
--- src/fill.rt:35:13
 get-u32-requires-2 : tie.Need-get-u32-requires-2
 get-u32-requires-2 c κs = search needs
 
--- src/fill.rt:35:13
 cast-n : tie.Need-cast-n
 cast-n c = search needs
 
--- src/fill.rt:37:9
 same-length : tie.Need-same-length
 same-length c = search needs
 
--- src/fill.rt:37:9
 returns : tie.Need-returns
 returns c = bucket-none (c .before .before .before .before .before .before .args .buf .now) (c .before .before .before .before .before .before .args .h) (c .before .before .before .before .before .before .args .at) (c .before .get-u322 .result) (c .before .get-u322 .ensures) (c .if1 .taken)
 
--- src/fill.rt:39:38
 cast-first-empty : tie.Need-cast-first-empty
 cast-first-empty c = search needs
 
--- src/fill.rt:39:38
 rem-first-empty : tie.Need-rem-first-empty
 rem-first-empty c = search needs
 
--- src/fill.rt:39:9
 first-empty-requires : tie.Need-first-empty-requires
 first-empty-requires c κs =
     let pos : 0 < c .before .before .get-u322 .result = pos-of _ (c .before .if1 .left) in
     (mod-lt _ pos, omega (arith, c .before .before .before .before .get-u32 .ok), omega (arith, c .before .before .get-u322 .ok))
 
--- src/fill.rt:40:35
 mul-put-u32 : tie.Need-mul-put-u32
 mul-put-u32 c = search needs
 
--- src/fill.rt:40:31
 add-put-u32 : tie.Need-add-put-u32
 add-put-u32 c = search needs
 
--- src/fill.rt:40:5
 put-u32-requires : tie.Need-put-u32-requires
 put-u32-requires c κs = search needs
 
--- src/fill.rt:41:35
 mul-put-u32-2 : tie.Need-mul-put-u32-2
 mul-put-u32-2 c = search needs
 
--- src/fill.rt:41:31
 add-put-u32-2 : tie.Need-add-put-u32-2
 add-put-u32-2 c = search needs
 
--- src/fill.rt:41:31
 add-put-u32-3 : tie.Need-add-put-u32-3
 add-put-u32-3 c = search needs
 
--- src/fill.rt:41:5
 put-u32-requires-2 : tie.Need-put-u32-requires-2
 put-u32-requires-2 c κs = search needs
 
--- src/fill.rt:30:1
 same-length-2 : tie.Need-same-length-2
 same-length-2 c = search needs
 
--- src/fill.rt:30:1
 returns-2 : tie.Need-returns-2
 returns-2 c =
     let a = c .before .before .before .before .before .before .before .before .before .before .before .before .before .before .before .before .args in

@@ -9,36 +9,29 @@ use Rattle.writer.proofs.fill.store_link.Reads as reads
 use Rattle.writer.proofs.fill.store_link.Lts as lts
 use Rattle.image.proofs.put_u32.Reads as put-u32-reads
 
--- src/fill.rt:50:38
 enum-told : tie.Need-enum-told
 enum-told c = search needs
 
--- src/fill.rt:50:57
 mul-put-u32 : tie.Need-mul-put-u32
 mul-put-u32 c = search needs
 
--- src/fill.rt:50:49
 add-put-u32 : tie.Need-add-put-u32
 add-put-u32 c = search needs
 
--- src/fill.rt:50:23
 put-u32-requires : tie.Need-put-u32-requires
 put-u32-requires c κs = search needs
 
 enum-told-2 : tie.Need-enum-told-2
 enum-told-2 c = search needs
 
--- src/fill.rt:45:1
 same-length : tie.Need-same-length
 same-length c = search needs
 
--- src/fill.rt:45:1
 returns : tie.Need-returns
 returns c =
     let a = c .before .before .before .before .before .before .before .args in
     c .before .before .put-u32 .ensures ∙ ap (λ (f : Flag). withLink f (a .buf .now) (a .links) (a .id) (a .at)) (sym (c .before .before .before .before .enum-told .given .1))
 
--- src/fill.rt:45:1
 returns-2 : tie.Need-returns-2
 returns-2 c = search needs
 

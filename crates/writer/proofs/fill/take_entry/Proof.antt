@@ -15,51 +15,39 @@ use Rattle.jhash.proofs.name_hash.Reads as name-hash-reads
 use Rattle.writer.proofs.fill.store_bucket.Reads as store-bucket-reads
 use Rattle.writer.proofs.fill.store_link.Reads as store-link-reads
 
--- src/fill.rt:60:9
 get-u32-requires : tie.Need-get-u32-requires
 get-u32-requires c κs = search needs
 
--- src/fill.rt:61:36
 add-name-hash : tie.Need-add-name-hash
 add-name-hash c = search needs
 
--- src/fill.rt:61:44
 add-name-hash-2 : tie.Need-add-name-hash-2
 add-name-hash-2 c = search needs
 
--- src/fill.rt:61:44
 add-name-hash-3 : tie.Need-add-name-hash-3
 add-name-hash-3 c = search needs
 
--- src/fill.rt:61:31
 sub-name-hash : tie.Need-sub-name-hash
 sub-name-hash c = search needs
 
--- src/fill.rt:61:31
 part-name-hash-start : tie.Need-part-name-hash-start
 part-name-hash-start c = search needs
 
--- src/fill.rt:61:31
 part-name-hash-end : tie.Need-part-name-hash-end
 part-name-hash-end c = search needs
 
--- src/fill.rt:61:9
 name-hash-requires : tie.Need-name-hash-requires
 name-hash-requires c κs = search needs
 
--- src/fill.rt:62:29
 enum-known-hashed : tie.Need-enum-known-hashed
 enum-known-hashed c = search needs
 
--- src/fill.rt:63:9
 enum-told : tie.Need-enum-told
 enum-told c = search needs
 
--- src/fill.rt:63:9
 same-length : tie.Need-same-length
 same-length c = search needs
 
--- src/fill.rt:63:9
 returns : tie.Need-returns
 returns c =
     let long = told-refused (take (c .before .before .before .before .before .before .before .before .args .at + 7 + c .before .before .before .before .before .before .before .before .args .n - (c .before .before .before .before .before .before .before .before .args .at + 8)) (drop (c .before .before .before .before .before .before .before .before .args .at + 8) (c .before .before .before .before .before .before .before .before .args .buf .now))) 0 (c .before .before .name-hash .result) (c .before .before .name-hash .ensures) (c .enum-told .given .1) in
@@ -67,27 +55,21 @@ returns c =
     let s = c .before .before .before .before .before .before .before .before .pre .2 in
     absurd (omega arith)
 
--- src/fill.rt:65:32
 cast-store-bucket : tie.Need-cast-store-bucket
 cast-store-bucket c = search needs
 
--- src/fill.rt:65:5
 store-bucket-requires : tie.Need-store-bucket-requires
 store-bucket-requires c κs = search needs
 
--- src/fill.rt:66:44
 cast-store-link : tie.Need-cast-store-link
 cast-store-link c = search needs
 
--- src/fill.rt:66:5
 store-link-requires : tie.Need-store-link-requires
 store-link-requires c κs = search needs
 
--- src/fill.rt:56:1
 same-length-2 : tie.Need-same-length-2
 same-length-2 c = search needs
 
--- src/fill.rt:56:1
 returns-2 : tie.Need-returns-2
 returns-2 c =
     let a = c .before .before .before .before .before .before .before .before .before .before .before .before .before .before .before .before .before .args in

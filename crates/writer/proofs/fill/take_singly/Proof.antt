@@ -30,49 +30,39 @@ room c =
     let l = length-between (c .before .before .before .before .loop .buf) (c .before .before .before .before .loop .at) (c .before .before .before .before .before .before .args .end) j k in
     (omega arith, f .some)
 
--- src/fill.rt:76:5
 loop-holds : tie.Need-loop-holds Inv-loop μ-loop
 loop-holds c = (c .before .pre .0, refl, refl)
 
--- src/fill.rt:77:13
 whole-length-requires : tie.Need-whole-length-requires Inv-loop μ-loop
 whole-length-requires c κs = (c .before .before .loop .inv .0, omega (arith, c .before .before .loop .inv .1, c .before .before .before .before .pre .1))
 
--- src/fill.rt:79:13
 same-length : tie.Need-same-length Inv-loop μ-loop
 same-length c = search needs
 
--- src/fill.rt:79:13
 returns : tie.Need-returns Inv-loop μ-loop
 returns c = from-broken (c .before .before .before .before .before .before .args .flag) (c .before .before .before .before .before .before .args .links) (c .before .before .before .before .before .before .args .end) (c .before .before .before .before .loop .left) (c .before .before .before .before .loop .at) (c .before .whole-length .result) (c .before .before .before .before .loop .buf) _ (c .before .before .before .loop-test .taken) (c .before .whole-length .ensures .0) (c .if1 .taken) (c .before .before .before .before .loop .inv .2)
 
--- src/fill.rt:81:9
 take-entry-requires : tie.Need-take-entry-requires Inv-loop μ-loop
 take-entry-requires c κs =
     let r = room (c .before) in
     (omega (arith, c .before .before .before .before .before .loop .inv .1, c .before .before .before .before .before .before .before .pre .1), r .1, c .before .before .whole-length .ensures .1, omega (arith, c .before .before .before .before .before .before .before .pre .2), c .before .before .before .before .before .before .before .pre .3)
 
--- src/fill.rt:82:15
 add-at : tie.Need-add-at Inv-loop μ-loop
 add-at c =
     let r = room (c .before .before .before .before) in
     omega (arith, c .before .before .before .before .before .before .before .before .before .before .pre)
 
--- src/fill.rt:82:9
 add-at-2 : tie.Need-add-at-2 Inv-loop μ-loop
 add-at-2 c =
     let r = room (c .before .before .before .before) in
     omega (arith, c .before .before .before .before .before .before .before .before .before .before .pre)
 
--- src/fill.rt:83:9
 sub-left : tie.Need-sub-left Inv-loop μ-loop
 sub-left c = omega arith
 
--- src/fill.rt:76:5
 loop-less : tie.Need-loop-less Inv-loop μ-loop
 loop-less c = omega arith
 
--- src/fill.rt:76:5
 loop-again : tie.Need-loop-again Inv-loop μ-loop
 loop-again c =
     let r = room (c .before .before .before .before) in
@@ -83,11 +73,9 @@ loop-again c =
       from-turn (a .flag) (a .links) (a .end) (i .left) (i .at) (c .before .before .before .before .before .whole-length .result) (i .buf) (c .before .before .take-entry .last .1 .1 .0) _ (c .before .before .before .before .before .before .before .loop-test .taken) (c .before .before .before .before .before .whole-length .ensures .0) (c .before .before .before .before .if1 .left) (c .before .before .take-entry .ensures) (i .inv .2),
     )
 
--- src/fill.rt:70:1
 same-length-2 : tie.Need-same-length-2 Inv-loop μ-loop
 same-length-2 c = search needs
 
--- src/fill.rt:70:1
 returns-2 : tie.Need-returns-2 Inv-loop μ-loop
 returns-2 c =
     let z : c .before .loop .left ≡ 0 = omega arith in

@@ -17,31 +17,24 @@ Inv-loop buf₀ from to i₀ buf i = (i ≤ to) × (length buf ≡ length buf₀
 abbrev μ-loop : tie.MeasureT-loop
 μ-loop buf₀ from to i₀ buf i = to - i
 
--- src/head.rt:64:5
 loop-holds : tie.Need-loop-holds Inv-loop μ-loop
 loop-holds c = (c .pre .0, refl, refl)
 
--- src/head.rt:65:9
 slice-write-buf : tie.Need-slice-write-buf Inv-loop μ-loop
 slice-write-buf c = omega arith
 
--- src/head.rt:66:9
 add-i : tie.Need-add-i Inv-loop μ-loop
 add-i c = omega arith
 
--- src/head.rt:64:5
 loop-less : tie.Need-loop-less Inv-loop μ-loop
 loop-less c = omega arith
 
--- src/head.rt:64:5
 loop-again : tie.Need-loop-again Inv-loop μ-loop
 loop-again c = (omega arith, simp length-set (c .before .loop .inv .1), zero-turn (c .before .loop .buf) _ (c .before .loop .i) (c .before .before .args .to) (c .loop-test .taken) (c .before .loop .inv .2))
 
--- src/head.rt:59:1
 same-length : tie.Need-same-length Inv-loop μ-loop
 same-length c = search needs
 
--- src/head.rt:59:1
 returns : tie.Need-returns Inv-loop μ-loop
 returns c = zero-end (c .before .loop .buf) _ (c .before .loop .i) (c .before .before .args .to) (c .loop-test .left) (c .before .loop .inv .2)
 

@@ -7,35 +7,27 @@ use Rattle.writer.proofs.head.write_head.Reads as reads
 use Rattle.writer.proofs.head.write_head.Lts as lts
 use Rattle.image.proofs.put_u32.Reads as put-u32-reads
 
--- src/head.rt:21:5
 put-u32-requires : tie.Need-put-u32-requires
 put-u32-requires c κs = search needs
 
--- src/head.rt:22:5
 put-u32-requires-2 : tie.Need-put-u32-requires-2
 put-u32-requires-2 c κs = search needs
 
--- src/head.rt:23:5
 put-u32-requires-3 : tie.Need-put-u32-requires-3
 put-u32-requires-3 c κs = search needs
 
--- src/head.rt:24:5
 put-u32-requires-4 : tie.Need-put-u32-requires-4
 put-u32-requires-4 c κs = search needs
 
--- src/head.rt:25:5
 put-u32-requires-5 : tie.Need-put-u32-requires-5
 put-u32-requires-5 c κs = search needs
 
--- src/head.rt:26:5
 put-u32-requires-6 : tie.Need-put-u32-requires-6
 put-u32-requires-6 c κs = search needs
 
--- src/head.rt:18:1
 same-length : tie.Need-same-length
 same-length c = search needs
 
--- src/head.rt:18:1
 returns : tie.Need-returns
 returns c =
     let a = c .before .before .before .before .before .before .before .before .before .before .before .before .before .before .before .before .before .before .before .before .before .before .before .before .before .args in

@@ -22,79 +22,60 @@ Inv-loop buf₀ counts end o₀ t₀ buf o t = (t ≤ 256) × (length buf ≡ le
 abbrev μ-loop : tie.MeasureT-loop
 μ-loop buf₀ counts end o₀ t₀ buf o t = 256 - t
 
--- src/head.rt:56:5
 loop-holds : tie.Need-loop-holds Inv-loop μ-loop
 loop-holds c = (omega arith, refl, refl, omega arith)
 
--- src/head.rt:57:26
 mul-wide : tie.Need-mul-wide Inv-loop μ-loop
 mul-wide c = omega arith
 
--- src/head.rt:57:26
 element-copy-out-wide : tie.Need-element-copy-out-wide Inv-loop μ-loop
 element-copy-out-wide c = omega arith
 
--- src/head.rt:57:13
 wide-requires : tie.Need-wide-requires Inv-loop μ-loop
 wide-requires c κs = search needs
 
--- src/head.rt:58:40
 mul-put-u32 : tie.Need-mul-put-u32 Inv-loop μ-loop
 mul-put-u32 c = omega arith
 
--- src/head.rt:58:35
 add-put-u32 : tie.Need-add-put-u32 Inv-loop μ-loop
 add-put-u32 c = omega arith
 
--- src/head.rt:58:51
 row-offset-requires : tie.Need-row-offset-requires Inv-loop μ-loop
 row-offset-requires c κs = search needs
 
--- src/head.rt:58:47
 low-requires : tie.Need-low-requires Inv-loop μ-loop
 low-requires c κs = search needs
 
--- src/head.rt:58:9
 put-u32-requires : tie.Need-put-u32-requires Inv-loop μ-loop
 put-u32-requires c κs = search needs
 
--- src/head.rt:59:40
 mul-put-u32-2 : tie.Need-mul-put-u32-2 Inv-loop μ-loop
 mul-put-u32-2 c = omega arith
 
--- src/head.rt:59:35
 add-put-u32-2 : tie.Need-add-put-u32-2 Inv-loop μ-loop
 add-put-u32-2 c = omega arith
 
--- src/head.rt:59:51
 mul-low : tie.Need-mul-low Inv-loop μ-loop
 mul-low c = omega (arith, c .before .before .before .before .before .before .before .wide .ensures)
 
--- src/head.rt:59:47
 low-requires-2 : tie.Need-low-requires-2 Inv-loop μ-loop
 low-requires-2 c κs = search needs
 
--- src/head.rt:59:9
 put-u32-requires-2 : tie.Need-put-u32-requires-2 Inv-loop μ-loop
 put-u32-requires-2 c κs = search needs
 
--- src/head.rt:60:14
 mul-o : tie.Need-mul-o Inv-loop μ-loop
 mul-o c = omega (arith, c .before .before .before .before .before .before .before .before .before .before .before .wide .ensures)
 
--- src/head.rt:60:9
 add-o : tie.Need-add-o Inv-loop μ-loop
 add-o c = omega (arith, c .before .before .before .before .before .before .before .before .before .before .before .wide .ensures, c .before .before .before .before .before .before .before .before .before .before .before .before .before .before .loop .inv)
 
--- src/head.rt:61:9
 add-t : tie.Need-add-t Inv-loop μ-loop
 add-t c = omega arith
 
--- src/head.rt:56:5
 loop-less : tie.Need-loop-less Inv-loop μ-loop
 loop-less c = omega arith
 
--- src/head.rt:56:5
 loop-again : tie.Need-loop-again Inv-loop μ-loop
 loop-again c =
     let a = c .before .before .before .before .before .before .before .before .before .before .before .before .before .before .before .before .args in
@@ -106,11 +87,9 @@ loop-again c =
       omega (arith, c .before .before .before .before .before .before .before .before .before .before .before .wide .ensures, i .inv .3),
     )
 
--- src/head.rt:51:1
 same-length : tie.Need-same-length Inv-loop μ-loop
 same-length c = search needs
 
--- src/head.rt:51:1
 returns : tie.Need-returns Inv-loop μ-loop
 returns c =
     let z : 256 - c .before .loop .t ≡ 0 = omega arith in
