@@ -104,18 +104,6 @@ module _ (a b : List ℕ) (i : ℕ) (p : i + 4 ≤ length a) (q : i + 4 ≤ leng
 abbrev pub word8 : List ℕ → ℕ → ℕ
 word8 s i = word s i + word s (i + 4) * 4294967296
 
--- from its eight bytes
-pub word8-of : (s : List ℕ) (o a b c d e f g h : ℕ) → a ≡ getD s o 0 → b ≡ getD s (o + 1) 0 → c ≡ getD s (o + 2) 0 → d ≡ getD s (o + 3) 0
-    → e ≡ getD s (o + 4) 0 → f ≡ getD s (o + 5) 0 → g ≡ getD s (o + 6) 0 → h ≡ getD s (o + 7) 0
-    → a + b * 256 + c * 65536 + d * 16777216 + e * 4294967296 + f * 1099511627776 + g * 281474976710656 + h * 72057594037927936 ≡ word8 s o
-word8-of s o a b c d e f g h pa pb pc pd pe pf pg ph =
-    let low = word-of s o a b c d pa pb pc pd in
-    let high = word-of s (o + 4) e f g h pe (pf ∙ at (o + 5) (o + 4 + 1) (omega arith)) (pg ∙ at (o + 6) (o + 4 + 2) (omega arith)) (ph ∙ at (o + 7) (o + 4 + 3) (omega arith)) in
-    omega arith
-  where
-    at : (j k : ℕ) → j ≡ k → getD s j 0 ≡ getD s k 0
-    at j k l = ap (λ (i : ℕ). getD s i 0) l
-
 module _ (a b : List ℕ) (i : ℕ) (p : i + 8 ≤ length a) (q : i + 8 ≤ length b) (ha : Bytes a) (hb : Bytes b) where
   -- one word equal: the next decides
   then : word a i ≡ word b i → same (drop i a) (drop i b) ≡ same (drop (i + 4) a) (drop (i + 4) b)

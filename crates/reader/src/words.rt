@@ -19,24 +19,10 @@ pub(crate) fn word(s: &[u8], at: usize) -> u32
     wide(s[at]) + wide(s[at + 1]) * 256 + wide(s[at + 2]) * 65536 + wide(s[at + 3]) * 16777216
 }
 
-// A byte as a number of 64 bits.
-fn wide8(x: u8) -> u64
-    ensures { λ r. ⌜ (r ≡ x) × (r < 256) ⌝ }
-{
-    x as u64
-}
-
 // The two little-endian words at `at` as one number, the second above the first.
 pub(crate) fn word8(s: &[u8], at: usize) -> u64
     requires { ⌜ at + 8 ≤ length (now s) ⌝ }
     ensures { λ r. ⌜ r ≡ word (now (s .entry)) at + word (now (s .entry)) (at + 4) * 4294967296 ⌝ }
 {
-    wide8(s[at])
-        + wide8(s[at + 1]) * 256
-        + wide8(s[at + 2]) * 65536
-        + wide8(s[at + 3]) * 16777216
-        + wide8(s[at + 4]) * 4294967296
-        + wide8(s[at + 5]) * 1099511627776
-        + wide8(s[at + 6]) * 281474976710656
-        + wide8(s[at + 7]) * 72057594037927936
+    word(s, at) as u64 + word(s, at + 4) as u64 * 4294967296
 }
