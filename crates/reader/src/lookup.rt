@@ -28,7 +28,21 @@ fn same_from(a: &[u8], b: &[u8], from: usize) -> bool
     true
 }
 
-// Are two byte strings equal? They are compared eight bytes at a time, and the last ones one by one.
+// The same, with four bytes at once if there are as many: for the last bytes, fewer than eight.
+fn same_last(a: &[u8], b: &[u8], from: usize) -> bool
+    requires { ⌜ (length (now a) ≡ length (now b)) × (from ≤ length (now a)) ⌝ }
+    ensures { λ r. ⌜ r ≡ same (drop from (now (a .entry))) (drop from (now (b .entry))) ⌝ }
+{
+    if a.len() - from < 4 {
+        return same_from(a, b, from);
+    }
+    if word(a, from) != word(b, from) {
+        return false;
+    }
+    same_from(a, b, from + 4)
+}
+
+// Are two byte strings equal? They are compared eight bytes at a time, then four, and the last ones one by one.
 fn same(a: &[u8], b: &[u8]) -> bool
     ensures { λ r. ⌜ r ≡ same (now (a .entry)) (now (b .entry)) ⌝ }
 {
@@ -42,7 +56,7 @@ fn same(a: &[u8], b: &[u8]) -> bool
         }
         i += 8;
     }
-    same_from(a, b, i)
+    same_last(a, b, i)
 }
 
 // Does the entry at `at` leave the image with its first 8 bytes or its name, or is its length word 0?

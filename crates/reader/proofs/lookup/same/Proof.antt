@@ -62,11 +62,11 @@ loop-again c =
           ∙ of-loop .inv .1,
     )
 
-same-from-requires : tie.Need-same-from-requires Inv-loop μ-loop
-same-from-requires c κs = search needs
+same-last-requires : tie.Need-same-last-requires Inv-loop μ-loop
+same-last-requires c κs = search needs
 
 returns-3 : tie.Need-returns-3 Inv-loop μ-loop
-returns-3 c = c .same-from .ensures ∙ c .before .before .loop .inv .1
+returns-3 c = c .same-last .ensures ∙ c .before .before .loop .inv .1
 
 pub same-spec : {M : Type 1} → statement M
 same-spec =
@@ -83,5 +83,5 @@ same-spec =
     add-i
     loop-less
     loop-again
-    same-from-requires
+    same-last-requires
     returns-3)
