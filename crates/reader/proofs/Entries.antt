@@ -1,6 +1,7 @@
 -- An entry that is not broken lies in the image with its first 8 bytes and its name. Assumes nothing.
 use Prim.Native.Nat.{ℕ, _+_, _-_, _≤_, _<_}
 use native.Mathlib.Omega.{arith}
+use native.Mathlib.Decide.{decLt, ℕ-discrete}
 use mathlib.Core.Path.{_≡_, sym, _∙_}
 use mathlib.Core.Bool.{true, false, _||_}
 use mathlib.Core.List.{List}
@@ -22,6 +23,22 @@ module _ (image : List ℕ) (at : ℕ) where
   pub broken-name : (w : ℕ) → at + 8 ≤ length image → w ≡ word image (at + 4) → (w ≡ 0 → ⊥)
       → ltb (length image) (at + 8 + (w - 1)) ≡ broken image at
   broken-name w h e z = rw e (simp (le-ltb (length image) (at + 8) h, ne-eqb (word image (at + 4)) 0 (λ q. z (e ∙ q))))
+
+  -- room and name compared, with the length word minus 1 so large where the word is 0 that no image has room for it
+  shifted : (n : ℕ) → at + 8 ≤ length image → ltb (length image - (at + 8)) n ≡ ltb (length image) (at + 8 + n)
+  shifted n h =
+      elim (decLt (length image - (at + 8)) n) [
+        | yes l ↦ lt-ltb (length image - (at + 8)) n l ∙ sym (lt-ltb (length image) (at + 8 + n) (omega (arith, h, l)))
+        | no l ↦ le-ltb (length image - (at + 8)) n (omega (arith, l)) ∙ sym (le-ltb (length image) (at + 8 + n) (omega (arith, h, l)))
+      ]
+
+  pub broken-rest : (w r : ℕ) → at + 8 ≤ length image → length image < 18446744073709551615 → w ≡ word image (at + 4)
+      → (w ≡ 0 → r ≡ 18446744073709551615) → (0 < w → r ≡ w - 1) → ltb (length image - (at + 8)) r ≡ broken image at
+  broken-rest w r h l e z p =
+      elim (ℕ-discrete w 0) [
+        | yes q ↦ rw (z q) (lt-ltb (length image - (at + 8)) 18446744073709551615 (omega (arith, l)) ∙ broken-none w h e q)
+        | no q ↦ rw (p (omega (arith, q))) (shifted (w - 1) h ∙ broken-name w h e q)
+      ]
 
 pub record Whole (image : List ℕ) (at : ℕ) : Type 0 where
   pub head : at + 8 ≤ length image

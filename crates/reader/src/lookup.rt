@@ -1,6 +1,6 @@
 // Looking up a name (reference `to_id`): what a bucket shows, the search along the buckets, and the call.
 ghost use mathlib.Core.Path.{_≡_};
-ghost use Prim.Native.Nat.{_+_, _*_, _<_, _≤_};
+ghost use Prim.Native.Nat.{_+_, _-_, _*_, _<_, _≤_};
 ghost use lib.ListN.{length, drop};
 ghost use Rattle.image.specs.Bytes.{same};
 ghost use Rattle.reader.specs.Lookup.{broken, seeEntry, see, searchTable, lookupHash, lookup};
@@ -59,7 +59,15 @@ fn same(a: &[u8], b: &[u8]) -> bool
     same_last(a, b, i)
 }
 
-// Does the entry at `at` leave the image with its first 8 bytes or its name, or is its length word 0?
+// A length word minus 1; of 0 the largest number of all, more than any image has room for.
+fn less_one(len: u32) -> u64
+    ensures { λ r. ⌜ ((len ≡ 0 → r ≡ 18446744073709551615) × (0 < len → r ≡ len - 1)) ⌝ }
+{
+    std::num::wrapping_sub_u64(len as u64, 1)
+}
+
+// Does the entry at `at` leave the image with its first 8 bytes or its name, or is its length word 0? The last two are one
+// comparison.
 pub(crate) fn broken(image: &[u8], at: u32) -> bool
     ensures { λ r. ⌜ r ≡ broken (now (image .entry)) at ⌝ }
 {
@@ -67,11 +75,8 @@ pub(crate) fn broken(image: &[u8], at: u32) -> bool
     if image.len() < start {
         return true;
     }
-    let len = word(image, at as usize + 4) as usize;
-    if len == 0 {
-        return true;
-    }
-    image.len() < start + (len - 1)
+    let room = image.len() - start;
+    (room as u64) < less_one(word(image, at as usize + 4))
 }
 
 // What a search for a name sees in the entry at `at`.
