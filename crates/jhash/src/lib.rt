@@ -46,15 +46,18 @@ fn minus(x: u32, y: u32) -> u32
     std::num::wrapping_sub_u32(x, y)
 }
 
-// One round of mixing; the words change their names for the next round.
+// One round of mixing; the words change their names for the next round. The rotation comes first and the sum last, and the
+// compiler keeps that order: the next round waits for the rotation, not for the sum.
 fn mix_round(w: Words, k: u32) -> Words
     requires { ⌜ (0 < k) × (k < 32) ⌝ }
     ensures { λ r. ⌜ r ≡ round w k ⌝ }
 {
+    let rotated = rotate_left(w.c, k);
+    let c = minus(w.a, w.c) ^ rotated;
     Words {
         a: w.b,
         b: std::num::wrapping_add_u32(w.c, w.b),
-        c: minus(w.a, w.c) ^ rotate_left(w.c, k),
+        c,
     }
 }
 

@@ -5,24 +5,24 @@ use borrow.Author.Needs.{needs}
 use Rattle.jhash.proofs.mix_round.Statement.{statement}
 use Rattle.jhash.proofs.mix_round.Tie as tie
 
-wrapping-add-u32-requires : tie.Need-wrapping-add-u32-requires
-wrapping-add-u32-requires c κs = search needs
+rotate-left-requires : tie.Need-rotate-left-requires
+rotate-left-requires c κs = search needs
 
 minus-requires : tie.Need-minus-requires
 minus-requires c κs = search needs
 
-rotate-left-requires : tie.Need-rotate-left-requires
-rotate-left-requires c κs = search needs
+wrapping-add-u32-requires : tie.Need-wrapping-add-u32-requires
+wrapping-add-u32-requires c κs = search needs
 
 returns : tie.Need-returns
 unfolding round
 returns c =
     λ i. record {
       a = c .before .before .before .args .w .b;
-      b = c .before .before .wrapping-add-u32 .ensures i;
-      c = bitXor (c .before .minus .ensures i) (c .rotate-left .ensures i);
+      b = c .wrapping-add-u32 .ensures i;
+      c = bitXor (c .before .minus .ensures i) (c .before .before .rotate-left .ensures i);
     }
 
 pub mix-round-spec : {M : Type 1} → statement M
 mix-round-spec =
-    tie.close (tie.spec wrapping-add-u32-requires minus-requires rotate-left-requires returns)
+    tie.close (tie.spec rotate-left-requires minus-requires wrapping-add-u32-requires returns)
