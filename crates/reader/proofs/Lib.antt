@@ -4,6 +4,7 @@ pub mod Reciprocal
 pub mod Entries
 pub mod Opens
 pub mod Searches
+pub mod Near
 pub mod Names
 pub mod Walks
 pub mod Bounds

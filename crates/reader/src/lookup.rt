@@ -1,9 +1,11 @@
 // Looking up a name (reference `to_id`): what a bucket shows, the search along the buckets, and the call.
 ghost use mathlib.Core.Path.{_≡_};
-ghost use Prim.Native.Nat.{_+_, _-_, _*_, _<_, _≤_};
+ghost use Prim.Native.Nat.{ℕ, _+_, _-_, _*_, _<_, _≤_};
+ghost use mathlib.Core.List.{List};
 ghost use lib.ListN.{length, drop};
 ghost use Rattle.image.specs.Bytes.{same};
-ghost use Rattle.reader.specs.Lookup.{broken, seeEntry, see, searchTable, lookupHash, lookup};
+ghost use Rattle.image.specs.Tables.{start, next};
+ghost use Rattle.reader.specs.Lookup.{nothing, broken, seeEntry, see, searchTable, lookupHash, lookup};
 ghost use Rattle.reader.specs.Answers.{seenOf, lookupOf};
 use super::HEAD_SIZE;
 use super::Seen;
@@ -110,6 +112,61 @@ fn see(image: &[u8], name: &[u8], h: u32, at: usize) -> Seen
     see_entry(image, name, entry)
 }
 
+// The bucket after k: by one, from the last to the first.
+fn next(k: u32, n: u32) -> u32
+    requires { ⌜ k < n ⌝ }
+    ensures { λ r. ⌜ (r ≡ next n k) × (r < n) ⌝ }
+{
+    if k + 1 == n { 0 } else { k + 1 }
+}
+
+// The smaller of two numbers: when it is 0 and the first is not, the second is.
+fn smaller(x: u32, y: u32) -> u32
+    ensures { λ r. ⌜ (0 < x → r ≡ 0 → y ≡ 0) ⌝ }
+{
+    if x < y { x } else { y }
+}
+
+// Which of three numbers is the first that is 0, counted from 1; 0 if none is. One branch, on the smallest, tells whether any is.
+fn first_zero(x: u32, y: u32, z: u32) -> u32
+    ensures { λ r. ⌜ (r < 4) × (r ≡ 1 → x ≡ 0) × (r ≡ 2 → (0 < x) × (y ≡ 0)) × (r ≡ 3 → (0 < x) × (0 < y) × (z ≡ 0)) ⌝ }
+{
+    if smaller(x, smaller(y, z)) != 0 {
+        return 0;
+    }
+    if x == 0 {
+        return 1;
+    }
+    if y == 0 { 2 } else { 3 }
+}
+
+// Of the first three buckets of a search, from bucket k on, the number of the first empty one, if none of the three has the
+// hash h: there the search ends with nothing, whatever the name. Else 0, which tells nothing. One bucket in two is empty where
+// a name is missing, which no processor foresees; so the three are told apart without a branch.
+fn near_empty(image: &[u8], h: u32, at: u32, n: u32, k: u32) -> u32
+    requires { ⌜ (k ≡ start h n) × (k < n) × (at + 8 * n ≤ length (now image)) ⌝ }
+    ensures { λ r. ⌜ (0 < r → (name : List ℕ) → searchTable (now (image .entry)) name h at n ≡ nothing r) ⌝ }
+{
+    let first = at as usize + 8 * (k as usize);
+    if word(image, first) == h {
+        return 0;
+    }
+    let k1 = next(k, n);
+    let second = at as usize + 8 * (k1 as usize);
+    if word(image, second) == h {
+        return 0;
+    }
+    let third = at as usize + 8 * (next(k1, n) as usize);
+    if word(image, third) == h {
+        return 0;
+    }
+    first_zero(
+        word(image, first + 4),
+        word(image, second + 4),
+        word(image, third + 4),
+    )
+}
+
 // The search for a name in the table of n buckets at `at`: from bucket (hash / 256) modulo n on by one, from the last to
 // the first, and no further than n buckets.
 fn search(image: &[u8], name: &[u8], h: u32, at: u32, n: u32) -> ToId
@@ -117,6 +174,10 @@ fn search(image: &[u8], name: &[u8], h: u32, at: u32, n: u32) -> ToId
     ensures { λ r. ⌜ lookupOf r ≡ searchTable (now (image .entry)) (now (name .entry)) h at n ⌝ }
 {
     let mut k = start(h, n);
+    let near = near_empty(image, h, at, n, k);
+    if near != 0 {
+        return ToId::Nothing { buckets: near };
+    }
     let mut left = n;
     while 0 < left {
         left -= 1;
@@ -132,10 +193,7 @@ fn search(image: &[u8], name: &[u8], h: u32, at: u32, n: u32) -> ToId
                 };
             }
         }
-        k += 1;
-        if k == n {
-            k = 0;
-        }
+        k = next(k, n);
     }
     ToId::Nothing { buckets: n - left }
 }

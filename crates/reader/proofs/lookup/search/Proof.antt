@@ -6,26 +6,26 @@ use mathlib.Core.Path.{_≡_, sym, ap, _∙_}
 use Rattle.image.specs.Tables.{next}
 use Rattle.reader.specs.Lookup.{Lookup, Seen, pass, ends, hit, decide, searchTable}
 use Rattle.reader.specs.Answers.{seenOf}
-use Rattle.reader.proofs.Searches.{next-more, next-first, rest, rest-start, rest-over, rest-seen}
+use Rattle.reader.proofs.Searches.{rest, rest-start, rest-over, rest-seen}
 use borrow.Author.Needs.{needs}
 use Rattle.reader.proofs.lookup.search.Statement.{statement}
 use Rattle.reader.proofs.lookup.search.Tie as tie
 
 abbrev Inv-loop : tie.InvT-loop
-Inv-loop image name h at n k₀ left₀ k left = (k < n) × (left ≤ n) × (rest image name h at n k left ≡ searchTable image name h at n)
+Inv-loop image name h at n k₀ near left₀ k left = (k < n) × (left ≤ n) × (rest image name h at n k left ≡ searchTable image name h at n)
 
 abbrev μ-loop : tie.MeasureT-loop
-μ-loop image name h at n k₀ left₀ k left = left
+μ-loop image name h at n k₀ near left₀ k left = left
 
 -- after a bucket was looked at: what is left from bucket j on, and the turn by what was seen
 abbrev left-of : (c : tie.After-see Inv-loop μ-loop) → ℕ → Lookup
-left-of c j = rest (c .before .before .before .before .before .before .args .image .now) (c .before .before .before .before .before .before .args .name .now) (c .before .before .before .before .before .before .args .h) (c .before .before .before .before .before .before .args .at) (c .before .before .before .before .before .before .args .n) j (c .before .before .loop .left - 1)
+left-of c j = let a = c .before .before .before .before .before .before .before .before .args in rest (a .image .now) (a .name .now) (a .h) (a .at) (a .n) j (c .before .before .loop .left - 1)
 
 turn : (c : tie.After-see Inv-loop μ-loop) (s : Seen) → seenOf (c .see .result) ≡ s
-    → decide s (c .before .before .before .before .before .before .args .n - (c .before .before .loop .left - 1)) (left-of c (next (c .before .before .before .before .before .before .args .n) (c .before .before .loop .k)))
-    ≡ searchTable (c .before .before .before .before .before .before .args .image .now) (c .before .before .before .before .before .before .args .name .now) (c .before .before .before .before .before .before .args .h) (c .before .before .before .before .before .before .args .at) (c .before .before .before .before .before .before .args .n)
+    → decide s (c .before .before .before .before .before .before .before .before .args .n - (c .before .before .loop .left - 1)) (left-of c (next (c .before .before .before .before .before .before .before .before .args .n) (c .before .before .loop .k)))
+    ≡ searchTable (c .before .before .before .before .before .before .before .before .args .image .now) (c .before .before .before .before .before .before .before .before .args .name .now) (c .before .before .before .before .before .before .before .before .args .h) (c .before .before .before .before .before .before .before .before .args .at) (c .before .before .before .before .before .before .before .before .args .n)
 turn c s e =
-    let a = c .before .before .before .before .before .before .args in
+    let a = c .before .before .before .before .before .before .before .before .args in
     rest-seen (a .image .now) (a .name .now) (a .h) (a .at) (a .n) (c .before .before .loop .k) (c .before .before .loop .left) s (omega arith) (c .before .before .loop .inv .1)
     (sym e ∙ c .see .ensures)
     ∙ c .before .before .loop .inv .2
@@ -33,12 +33,19 @@ turn c s e =
 start-requires : tie.Need-start-requires Inv-loop μ-loop
 start-requires c κs = search needs
 
+near-empty-requires : tie.Need-near-empty-requires Inv-loop μ-loop
+near-empty-requires c κs = (c .start .ensures .0, c .start .ensures .1, c .before .before .before .pre .1)
+
+-- an empty bucket near the start decides
+returns : tie.Need-returns Inv-loop μ-loop
+returns c = sym (c .before .near-empty .ensures (omega arith) (c .before .before .before .before .before .args .name .now))
+
 loop-holds : tie.Need-loop-holds Inv-loop μ-loop
 loop-holds c =
-    let a = c .before .before .before .args in
+    let a = c .before .before .before .before .before .args in
     let image = a .image .now in
     let name = a .name .now in
-    let of-start = c .start in (
+    let of-start = c .before .before .start in (
       of-start .ensures .1,
       search needs,
       ap (λ (j : ℕ). rest image name (a .h) (a .at) (a .n) j (a .n)) (of-start .ensures .0) ∙ rest-start image name (a .h) (a .at) (a .n),
@@ -54,10 +61,10 @@ mul-see : tie.Need-mul-see Inv-loop μ-loop
 mul-see c = search needs
 
 add-see : tie.Need-add-see Inv-loop μ-loop
-add-see c = omega (arith, c .before .before .before .before .before .pre .1)
+add-see c = omega (arith, c .before .before .before .before .before .before .before .pre .1)
 
 see-requires : tie.Need-see-requires Inv-loop μ-loop
-see-requires c κs = omega (arith, c .before .before .before .before .before .pre .1)
+see-requires c κs = omega (arith, c .before .before .before .before .before .before .before .pre .1)
 
 enum-told : tie.Need-enum-told Inv-loop μ-loop
 enum-told c = search needs
@@ -65,50 +72,40 @@ enum-told c = search needs
 enum-told-2 : tie.Need-enum-told-2 Inv-loop μ-loop
 enum-told-2 c = search needs
 
-sub-t15 : tie.Need-sub-t15 Inv-loop μ-loop
-sub-t15 c = search needs
+sub-t17 : tie.Need-sub-t17 Inv-loop μ-loop
+sub-t17 c = search needs
 
-returns : tie.Need-returns Inv-loop μ-loop
-returns c = turn (c .before .before) ends (ap seenOf (c .enum-told2 .given .1))
+returns-2 : tie.Need-returns-2 Inv-loop μ-loop
+returns-2 c = turn (c .before .before) ends (ap seenOf (c .enum-told2 .given .1))
 
 enum-known-id : tie.Need-enum-known-id Inv-loop μ-loop
 enum-known-id c = search needs
 
-sub-t16 : tie.Need-sub-t16 Inv-loop μ-loop
-sub-t16 c = search needs
+sub-t18 : tie.Need-sub-t18 Inv-loop μ-loop
+sub-t18 c = search needs
 
-returns-2 : tie.Need-returns-2 Inv-loop μ-loop
-returns-2 c = turn (c .before .before .before) (hit (c .before .id .given .0 .0)) (ap seenOf (c .before .id .given .1))
+returns-3 : tie.Need-returns-3 Inv-loop μ-loop
+returns-3 c = turn (c .before .before .before) (hit (c .before .id .given .0 .0)) (ap seenOf (c .before .id .given .1))
 
-add-k : tie.Need-add-k Inv-loop μ-loop
-add-k c = search needs
+next-requires : tie.Need-next-requires Inv-loop μ-loop
+next-requires c κs = search needs
 
 loop-less : tie.Need-loop-less Inv-loop μ-loop
 loop-less c = omega arith
 
 loop-again : tie.Need-loop-again Inv-loop μ-loop
 loop-again c = (
-  c .before .before .before .before .before .before .before .before .before .pre .0,
+  c .next .ensures .1,
   omega arith,
-  ap (λ (j : ℕ). left-of (c .before .before .before) j) (next-first (c .before .before .before .before .before .before .before .before .before .args .n) (c .before .before .before .before .before .loop .k) (c .if1 .taken)) ∙ turn (c .before .before .before) pass (ap seenOf (c .before .enum-told .given .1)),
+  ap (λ (j : ℕ). left-of (c .before .before .before) j) (c .next .ensures .0) ∙ turn (c .before .before .before) pass (ap seenOf (c .before .enum-told .given .1)),
 )
 
-loop-less-2 : tie.Need-loop-less-2 Inv-loop μ-loop
-loop-less-2 c = omega arith
+sub-t19 : tie.Need-sub-t19 Inv-loop μ-loop
+sub-t19 c = search needs
 
-loop-again-2 : tie.Need-loop-again-2 Inv-loop μ-loop
-loop-again-2 c = (
-  omega arith,
-  omega arith,
-  ap (λ (j : ℕ). left-of (c .before .before .before) j) (next-more (c .before .before .before .before .before .before .before .before .before .args .n) (c .before .before .before .before .before .loop .k) (omega arith)) ∙ turn (c .before .before .before) pass (ap seenOf (c .before .enum-told .given .1)),
-)
-
-sub-t17 : tie.Need-sub-t17 Inv-loop μ-loop
-sub-t17 c = search needs
-
-returns-3 : tie.Need-returns-3 Inv-loop μ-loop
-returns-3 c =
-    let a = c .before .before .before .before .before .args in
+returns-4 : tie.Need-returns-4 Inv-loop μ-loop
+returns-4 c =
+    let a = c .before .before .before .before .before .before .before .args in
     rest-over (a .image .now) (a .name .now) (a .h) (a .at) (a .n) (c .before .loop .k) (c .before .loop .left) (omega arith) ∙ c .before .loop .inv .2
 
 pub search-spec : {M : Type 1} → statement M
@@ -118,6 +115,8 @@ search-spec =
     Inv-loop
     μ-loop
     start-requires
+    near-empty-requires
+    returns
     loop-holds
     sub-left
     cast-see
@@ -126,15 +125,13 @@ search-spec =
     see-requires
     enum-told
     enum-told-2
-    sub-t15
-    returns
-    enum-known-id
-    sub-t16
+    sub-t17
     returns-2
-    add-k
+    enum-known-id
+    sub-t18
+    returns-3
+    next-requires
     loop-less
     loop-again
-    loop-less-2
-    loop-again-2
-    sub-t17
-    returns-3)
+    sub-t19
+    returns-4)

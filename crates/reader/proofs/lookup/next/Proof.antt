@@ -1,0 +1,23 @@
+-- `reader::lookup::next` meets its contract. Assumes nothing.
+use Prim.Native.Nat.{_+_, _<_}
+use native.Mathlib.Omega.{arith}
+use mathlib.Core.Path.{_≡_}
+use Rattle.reader.proofs.Searches.{next-more, next-first}
+use borrow.Author.Needs.{needs}
+use Rattle.reader.proofs.lookup.next.Statement.{statement}
+use Rattle.reader.proofs.lookup.next.Tie as tie
+
+add-if1 : tie.Need-add-if1
+add-if1 c = search needs
+
+add-result : tie.Need-add-result
+add-result c = search needs
+
+returns : tie.Need-returns
+returns c = let a = c .before .args in (next-first (a .n) (a .k) (c .if1 .taken), omega arith)
+
+returns-2 : tie.Need-returns-2
+returns-2 c = let a = c .before .args in let l : a .k + 1 < a .n = omega arith in (next-more (a .n) (a .k) l, l)
+
+pub next-spec : {M : Type 1} → statement M
+next-spec = tie.close (tie.spec add-if1 add-result returns returns-2)
