@@ -1,64 +1,92 @@
 // The bucket that a search begins with, without a division where the table is small.
 ghost use mathlib.Core.Path.{_≡_};
-ghost use Prim.Native.Nat.{_<_, _≤_};
+ghost use Prim.Native.Nat.{_*_, _<_, _≤_};
 ghost use Rattle.image.specs.Tables.{start};
 
-// 2^40 divided by 2k, rounded up, for k from 1 to 31; 0 for all others. Only the bound is promised of it: `start` tests what
-// it uses. A match and no array, since an array would be built anew in each call.
-fn reciprocal(k: u32) -> u64
-    ensures { λ r. ⌜ r ≤ 1099511627776 ⌝ }
+// 2^32 divided by n, rounded up, for n from 2 to 63; 0 for all others. A match and no array, since an array would be built
+// anew in each call.
+fn reciprocal(n: u32) -> u32
+    ensures { λ r. ⌜ (0 < r → (4294967296 ≤ r * n) × (r * n < 4294967552)) ⌝ }
 {
-    match k {
-        0 => 0,
-        1 => 549755813888,
-        2 => 274877906944,
-        3 => 183251937963,
-        4 => 137438953472,
-        5 => 109951162778,
-        6 => 91625968982,
-        7 => 78536544842,
-        8 => 68719476736,
-        9 => 61083979321,
-        10 => 54975581389,
-        11 => 49977801263,
-        12 => 45812984491,
-        13 => 42288908761,
-        14 => 39268272421,
-        15 => 36650387593,
-        16 => 34359738368,
-        17 => 32338577288,
-        18 => 30541989661,
-        19 => 28934516521,
-        20 => 27487790695,
-        21 => 26178848281,
-        22 => 24988900632,
-        23 => 23902426691,
-        24 => 22906492246,
-        25 => 21990232556,
-        26 => 21144454381,
-        27 => 20361326441,
-        28 => 19634136211,
-        29 => 18957097031,
-        30 => 18325193797,
-        31 => 17734058513,
+    match n {
+        2 => 2147483648,
+        3 => 1431655766,
+        4 => 1073741824,
+        5 => 858993460,
+        6 => 715827883,
+        7 => 613566757,
+        8 => 536870912,
+        9 => 477218589,
+        10 => 429496730,
+        11 => 390451573,
+        12 => 357913942,
+        13 => 330382100,
+        14 => 306783379,
+        15 => 286331154,
+        16 => 268435456,
+        17 => 252645136,
+        18 => 238609295,
+        19 => 226050911,
+        20 => 214748365,
+        21 => 204522253,
+        22 => 195225787,
+        23 => 186737709,
+        24 => 178956971,
+        25 => 171798692,
+        26 => 165191050,
+        27 => 159072863,
+        28 => 153391690,
+        29 => 148102321,
+        30 => 143165577,
+        31 => 138547333,
+        32 => 134217728,
+        33 => 130150525,
+        34 => 126322568,
+        35 => 122713352,
+        36 => 119304648,
+        37 => 116080198,
+        38 => 113025456,
+        39 => 110127367,
+        40 => 107374183,
+        41 => 104755300,
+        42 => 102261127,
+        43 => 99882961,
+        44 => 97612894,
+        45 => 95443718,
+        46 => 93368855,
+        47 => 91382283,
+        48 => 89478486,
+        49 => 87652394,
+        50 => 85899346,
+        51 => 84215046,
+        52 => 82595525,
+        53 => 81037119,
+        54 => 79536432,
+        55 => 78090315,
+        56 => 76695845,
+        57 => 75350304,
+        58 => 74051161,
+        59 => 72796056,
+        60 => 71582789,
+        61 => 70409300,
+        62 => 69273667,
+        63 => 68174085,
         _ => 0,
     }
 }
 
-// The bucket that a search in a table of n buckets begins with: (hash / 256) modulo n. Where m * n is at least 2^40 and
-// less than 2^16 above it, multiplying by m and dividing by 2^40 divides each number below 2^24 by n. A table that `close`
-// wrote has twice as many buckets as entries, so an even number.
+// The bucket that a search in a table of n buckets begins with: x modulo n, with x = hash / 256. Where m is 2^32 / n rounded
+// up, m * x modulo 2^32 is 2^32 times the part of x / n behind the point, a little above; so n times it, divided by 2^32, is
+// the remainder. It is exact for n below 64, since x is below 2^24.
 pub(crate) fn start(h: u32, n: u32) -> u32
     requires { ⌜ 0 < n ⌝ }
     ensures { λ r. ⌜ (r ≡ start h n) × (r < n) ⌝ }
 {
     let x = h / 256;
-    if n < 64 {
-        let m = reciprocal(n / 2);
-        if m * (n as u64) / 65536 == 16777216 {
-            let q = x as u64 * m / 1099511627776;
-            return x - q as u32 * n;
-        }
+    let m = reciprocal(n);
+    if m == 0 {
+        return x % n;
     }
-    x % n
+    let low = (m as u64 * x as u64) % 4294967296;
+    (low * n as u64 / 4294967296) as u32
 }
