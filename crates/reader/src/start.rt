@@ -3,43 +3,11 @@ ghost use mathlib.Core.Path.{_≡_};
 ghost use Prim.Native.Nat.{_*_, _<_, _≤_};
 ghost use Rattle.image.specs.Tables.{start};
 
-// 2^32 divided by n, rounded up, for n from 2 to 63; 0 for all others. A match and no array, since an array would be built
-// anew in each call.
-fn reciprocal(n: u32) -> u32
+// `reciprocal` for n from 33 to 63; 0 for all others.
+fn reciprocal_above(n: u32) -> u32
     ensures { λ r. ⌜ (0 < r → (4294967296 ≤ r * n) × (r * n < 4294967552)) ⌝ }
 {
     match n {
-        2 => 2147483648,
-        3 => 1431655766,
-        4 => 1073741824,
-        5 => 858993460,
-        6 => 715827883,
-        7 => 613566757,
-        8 => 536870912,
-        9 => 477218589,
-        10 => 429496730,
-        11 => 390451573,
-        12 => 357913942,
-        13 => 330382100,
-        14 => 306783379,
-        15 => 286331154,
-        16 => 268435456,
-        17 => 252645136,
-        18 => 238609295,
-        19 => 226050911,
-        20 => 214748365,
-        21 => 204522253,
-        22 => 195225787,
-        23 => 186737709,
-        24 => 178956971,
-        25 => 171798692,
-        26 => 165191050,
-        27 => 159072863,
-        28 => 153391690,
-        29 => 148102321,
-        30 => 143165577,
-        31 => 138547333,
-        32 => 134217728,
         33 => 130150525,
         34 => 126322568,
         35 => 122713352,
@@ -75,9 +43,50 @@ fn reciprocal(n: u32) -> u32
     }
 }
 
-// The bucket that a search in a table of n buckets begins with: x modulo n, with x = hash / 256. Where m is 2^32 / n rounded
-// up, m * x modulo 2^32 is 2^32 times the part of x / n behind the point, a little above; so n times it, divided by 2^32, is
-// the remainder. It is exact for n below 64, since x is below 2^24.
+// 2^32 divided by n, rounded up, for n from 2 to 63; 0 for all others. A match and no array, since an array would be built anew
+// in each call; the compiler makes one table of the two matches.
+fn reciprocal(n: u32) -> u32
+    ensures { λ r. ⌜ (0 < r → (4294967296 ≤ r * n) × (r * n < 4294967552)) ⌝ }
+{
+    match n {
+        2 => 2147483648,
+        3 => 1431655766,
+        4 => 1073741824,
+        5 => 858993460,
+        6 => 715827883,
+        7 => 613566757,
+        8 => 536870912,
+        9 => 477218589,
+        10 => 429496730,
+        11 => 390451573,
+        12 => 357913942,
+        13 => 330382100,
+        14 => 306783379,
+        15 => 286331154,
+        16 => 268435456,
+        17 => 252645136,
+        18 => 238609295,
+        19 => 226050911,
+        20 => 214748365,
+        21 => 204522253,
+        22 => 195225787,
+        23 => 186737709,
+        24 => 178956971,
+        25 => 171798692,
+        26 => 165191050,
+        27 => 159072863,
+        28 => 153391690,
+        29 => 148102321,
+        30 => 143165577,
+        31 => 138547333,
+        32 => 134217728,
+        _ => reciprocal_above(n),
+    }
+}
+
+// The bucket that a search in a table of n buckets begins with: x modulo n, with x = hash / 256. Where m * n is at least 2^32
+// and less than 2^8 above it, m * x divided by 2^32 is x / n for each x below 2^24, and what that division leaves, times n and
+// divided by 2^32 again, is x modulo n.
 pub(crate) fn start(h: u32, n: u32) -> u32
     requires { ⌜ 0 < n ⌝ }
     ensures { λ r. ⌜ (r ≡ start h n) × (r < n) ⌝ }
