@@ -1,10 +1,12 @@
 -- The pass over the tables' rows, a turn at a time, and the cases of opening. Assumes nothing.
-use Prim.Native.Nat.{ℕ, suc, _+_, _*_, _/_, _%_, _-_, _^_, _<_}
+use Prim.Native.Nat.{ℕ, suc, _+_, _*_, _/_, _%_, _-_, _^_, _≤_, _<_}
 use native.Mathlib.Omega.{arith}
 use native.Mathlib.Numerals.{add-one}
 use mathlib.Core.Path.{_≡_, refl, sym, ap, _∙_}
-use mathlib.Core.Bool.{Bool, false, cond, not, _&&_, _||_, or-assoc}
+use mathlib.Core.Bool.{Bool, false, cond, not, _&&_, _||_, or-assoc, and-false}
 use mathlib.Core.List.{List}
+use borrow.Author.Tests.{le-ltb}
+use lib.Bits.{bitOr, or-add-and, and-le-l, and-le-r}
 use lib.Dec.{eqb, ltb}
 use lib.ListN.{length}
 use Rattle.image.specs.Bytes.{word}
@@ -33,16 +35,30 @@ leaves-turn image t m h =
     ap (someLeaves image t) (left-one t m h) ∙ leaves-more image t (m - (t + 1))
     ∙ ap (λ (k : ℕ). (ltb 0 (tableAt image t) && tableLeaves image t) || someLeaves image k (m - (t + 1))) (sym (add-one t))
 
--- one turn of a loop that joins what it found, for a table at a with n buckets
-pub leaves-join : (image : List ℕ) (t m a n : ℕ) (b x y : Bool) → t < m → a ≡ tableAt image t → n ≡ bucketNumber image t
-    → y ≡ (b || (ltb 0 a && ltb (length image) (a + 8 * n)))
-    → (b || someLeaves image t (m - t)) ≡ x → (y || someLeaves image (t + 1) (m - (t + 1))) ≡ x
-leaves-join image t m a n b x y h ea en ey e =
-    (ap (λ (c : Bool). c || someLeaves image (t + 1) (m - (t + 1)))
-    (ey ∙ (λ i. b || (ltb 0 (ea i) && ltb (length image) (ea i + 8 * en i)))))
+-- one turn of the loop that joins what it found, for a table at a with n buckets
+pub leaves-join : (image : List ℕ) (t m a n : ℕ) (b r x : Bool) → t < m → a ≡ tableAt image t → n ≡ bucketNumber image t
+    → r ≡ (ltb 0 a && ltb (length image) (a + 8 * n))
+    → (b || someLeaves image t (m - t)) ≡ x → ((b || r) || someLeaves image (t + 1) (m - (t + 1))) ≡ x
+leaves-join image t m a n b r x h ea en er e =
+    (ap (λ (c : Bool). (b || c) || someLeaves image (t + 1) (m - (t + 1)))
+    (er ∙ (λ i. ltb 0 (ea i) && ltb (length image) (ea i + 8 * en i))))
     ∙ or-assoc b (ltb 0 (tableAt image t) && tableLeaves image t) (someLeaves image (t + 1) (m - (t + 1)))
     ∙ ap (λ (c : Bool). b || c) (sym (leaves-turn image t m h))
     ∙ e
+
+-- a table that ends in the image changes nothing
+pub leaves-pass : (image : List ℕ) (t m a n : ℕ) → t < m → a ≡ tableAt image t → n ≡ bucketNumber image t → a + 8 * n ≤ length image
+    → someLeaves image (t + 1) (m - (t + 1)) ≡ someLeaves image t (m - t)
+leaves-pass image t m a n h ea en l =
+    sym
+    (leaves-turn image t m h
+    ∙ ap (λ (c : Bool). (ltb 0 (tableAt image t) && c) || someLeaves image (t + 1) (m - (t + 1)))
+    ((λ i. ltb (length image) (sym ea i + 8 * sym en i)) ∙ le-ltb (length image) (a + 8 * n) l)
+    ∙ ap (λ (c : Bool). c || someLeaves image (t + 1) (m - (t + 1))) (and-false (ltb 0 (tableAt image t))))
+
+-- `|` never makes a number smaller: where the join is below k, both are
+pub both-below : (a b k : ℕ) → bitOr a b < k → (a < k) × (b < k)
+both-below a b k h = (omega (arith, or-add-and a b, and-le-r a b), omega (arith, or-add-and a b, and-le-l a b))
 
 -- no table is left
 pub halves-none : (image : List ℕ) (t : ℕ) → halves image t 0 ≡ 0

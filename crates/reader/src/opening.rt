@@ -1,7 +1,7 @@
 // Opening an image (reference `CQDB::new`).
 ghost use mathlib.Core.Path.{_≡_};
-ghost use mathlib.Core.Bool.{_&&_, _||_};
-ghost use Prim.Native.Nat.{_+_, _*_, _/_, _%_, _^_, _≤_};
+ghost use mathlib.Core.Bool.{false, _&&_};
+ghost use Prim.Native.Nat.{_+_, _*_, _/_, _%_, _^_, _<_, _≤_};
 ghost use lib.Dec.{ltb};
 ghost use lib.ListN.{length};
 ghost use Rattle.reader.specs.Open.{hasLetters, someLeaves, halves, backLeaves, opening};
@@ -10,11 +10,10 @@ use super::HEAD_SIZE;
 use super::Opened;
 use super::words::word;
 
-// What the tables met so far tell: the halves of their bucket numbers, summed modulo 2^32, and whether one of them, with an
-// offset above 0, leaves the image.
+// What the tables met so far tell: the halves of their bucket numbers, summed modulo 2^32, and their rooms joined bit by bit.
 struct Tables {
     num: u32,
-    leaves: bool,
+    rooms: u64,
 }
 
 const NUM_TABLES: usize = 256;
@@ -29,25 +28,38 @@ fn has_letters(image: &[u8]) -> bool
     (image[0] == 67) & (image[1] == 81) & (image[2] == 68) & (image[3] == 66)
 }
 
-// One table more, at `at` with n buckets, in an image of `size` bytes.
+// The room behind a table at `at` with n buckets, in an image of `size` bytes: the size minus the table's end, modulo 2^64. No
+// end reaches 2^36, so below 2^63 it is a true difference, and the table ends in the image.
+fn room(size: usize, at: u32, n: u32) -> u64
+    ensures { λ r. ⌜ (r < 2 ^ 63 → at + 8 * n ≤ size) ⌝ }
+{
+    std::num::wrapping_sub_u64(size as u64, at as u64 + 8 * (n as u64))
+}
+
+// One room more, of such a table. A join by `|` is never below what it joins, so no room exceeds it.
+fn with_room(rooms: u64, size: usize, at: u32, n: u32) -> u64
+    ensures { λ r. ⌜ (r < 2 ^ 63 → (rooms < 2 ^ 63) × (at + 8 * n ≤ size)) ⌝ }
+{
+    rooms | room(size, at, n)
+}
+
+// One table more.
 fn with_table(all: Tables, size: usize, at: u32, n: u32) -> Tables
-    ensures { λ r. ⌜ (r .num ≡ (all .num + n / 2) % 2 ^ 32) × (r .leaves ≡ (all .leaves || (ltb 0 at && ltb size (at + 8 * n)))) ⌝ }
+    ensures { λ r. ⌜ (r .num ≡ (all .num + n / 2) % 2 ^ 32) × (r .rooms < 2 ^ 63 → (all .rooms < 2 ^ 63) × (at + 8 * n ≤ size)) ⌝ }
 {
     Tables {
         num: std::num::wrapping_add_u32(all.num, n / 2),
-        leaves: all.leaves | ((0 < at) & (size < at as usize + 8 * (n as usize))),
+        rooms: with_room(all.rooms, size, at, n),
     }
 }
 
-// All 256 tables, in a loop that has no way out but its end.
+// All 256 tables, in a loop that has neither a way out but its end nor a comparison of 64 bits, so the compiler makes vector
+// code of it.
 fn all_tables(image: &[u8]) -> Tables
     requires { ⌜ 2072 ≤ length (now image) ⌝ }
-    ensures { λ r. ⌜ (r .num ≡ halves (now (image .entry)) 0 256 % 2 ^ 32) × (r .leaves ≡ someLeaves (now (image .entry)) 0 256) ⌝ }
+    ensures { λ r. ⌜ (r .num ≡ halves (now (image .entry)) 0 256 % 2 ^ 32) × (r .rooms < 2 ^ 63 → someLeaves (now (image .entry)) 0 256 ≡ false) ⌝ }
 {
-    let mut all = Tables {
-        num: 0,
-        leaves: false,
-    };
+    let mut all = Tables { num: 0, rooms: 0 };
     let mut t: usize = 0;
     while t < NUM_TABLES {
         all = with_table(
@@ -59,6 +71,43 @@ fn all_tables(image: &[u8]) -> Tables
         t += 1;
     }
     all
+}
+
+// Does a table at `at` with n buckets, with an offset above 0, leave an image of `size` bytes?
+fn leaves(size: usize, at: u32, n: u32) -> bool
+    ensures { λ r. ⌜ r ≡ (ltb 0 at && ltb size (at + 8 * n)) ⌝ }
+{
+    (0 < at) & (size < at as usize + 8 * (n as usize))
+}
+
+// Does one of the 256 tables, with an offset above 0, leave the image?
+fn one_leaves(image: &[u8]) -> bool
+    requires { ⌜ 2072 ≤ length (now image) ⌝ }
+    ensures { λ r. ⌜ r ≡ someLeaves (now (image .entry)) 0 256 ⌝ }
+{
+    let mut one = false;
+    let mut t: usize = 0;
+    while t < NUM_TABLES {
+        one = one
+            | leaves(
+                image.len(),
+                word(image, 24 + 8 * t),
+                word(image, 28 + 8 * t),
+            );
+        t += 1;
+    }
+    one
+}
+
+// The same, where the joined rooms are known. A join of 2^63 or more does not settle it: the table may have offset 0.
+fn some_leaves(image: &[u8], rooms: u64) -> bool
+    requires { ⌜ (2072 ≤ length (now image)) × (rooms < 2 ^ 63 → someLeaves (now image) 0 256 ≡ false) ⌝ }
+    ensures { λ r. ⌜ r ≡ someLeaves (now (image .entry)) 0 256 ⌝ }
+{
+    if 9223372036854775807 < rooms {
+        return one_leaves(image);
+    }
+    false
 }
 
 // Does the back array leave the image?
@@ -86,7 +135,7 @@ pub fn open(image: &[u8]) -> Opened
         return Opened::WrongByteOrder;
     }
     let all = all_tables(image);
-    if all.leaves {
+    if some_leaves(image, all.rooms) {
         return Opened::TableLeaves;
     }
     if 0 < word(image, 20) {

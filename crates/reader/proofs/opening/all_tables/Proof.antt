@@ -1,12 +1,11 @@
--- `reader::opening::all_tables` meets its contract. The loop's invariant: the sum so far and the halves that are left are the sum of all, and a table
--- that leaves the image was met or is still to come exactly where there is one. Assumes nothing.
+-- `reader::opening::all_tables` meets its contract. The loop's invariant: the sum so far and the halves that are left are the sum of all, and while
+-- the joined rooms are below 2^63, a table that leaves the image is still to come exactly where there is one. Assumes nothing.
 use Prim.Native.Nat.{ℕ, _+_, _-_, _/_, _%_, _^_, _≤_, _<_}
 use native.Mathlib.Omega.{arith}
 use native.Mathlib.Nat.{zero-add}
 use mathlib.Core.Path.{_≡_, refl, sym, ap, _∙_}
-use mathlib.Core.Bool.{Bool, _||_, or-false}
 use Rattle.reader.specs.Open.{bucketNumber, someLeaves, halves}
-use Rattle.reader.proofs.Opens.{halves-turn, halves-none, leaves-join, leaves-none, sum-turn, sum-end}
+use Rattle.reader.proofs.Opens.{halves-turn, halves-none, leaves-pass, leaves-none, sum-turn, sum-end}
 use borrow.Author.Needs.{needs}
 use Rattle.reader.proofs.opening.all_tables.Statement.{statement}
 use Rattle.reader.proofs.opening.all_tables.Tie as tie
@@ -14,13 +13,13 @@ use Rattle.reader.proofs.opening.all_tables.Tie as tie
 abbrev Inv-loop : tie.InvT-loop
 Inv-loop image all₀ t₀ all t =
     (t ≤ 256) × (all .num < 2 ^ 32) × ((all .num + halves image t (256 - t)) % 2 ^ 32 ≡ halves image 0 256 % 2 ^ 32)
-    × ((all .leaves || someLeaves image t (256 - t)) ≡ someLeaves image 0 256)
+    × (all .rooms < 2 ^ 63 → someLeaves image t (256 - t) ≡ someLeaves image 0 256)
 
 abbrev μ-loop : tie.MeasureT-loop
 μ-loop image all₀ t₀ all t = 256 - t
 
 loop-holds : tie.Need-loop-holds Inv-loop μ-loop
-loop-holds c = (search needs, search needs, ap (λ (k : ℕ). k % 2 ^ 32) (zero-add (halves (c .before .args .image .now) 0 256)), refl)
+loop-holds c = (search needs, search needs, ap (λ (k : ℕ). k % 2 ^ 32) (zero-add (halves (c .before .args .image .now) 0 256)), λ h. refl)
 
 mul-word : tie.Need-mul-word Inv-loop μ-loop
 mul-word c = search needs
@@ -64,8 +63,10 @@ loop-again c =
       sum-turn (of-loop .all .num) (bucketNumber image t / 2) (c .with-table .result .num) (halves image (t + 1) (256 - (t + 1)))
           (halves image t (256 - t)) (halves image 0 256) (inv .2) (halves-turn image t 256 h)
           (c .with-table .ensures .0 ∙ ap (λ (n : ℕ). (of-loop .all .num + n / 2) % 2 ^ 32) (c .before .word2 .ensures)),
-      leaves-join image t 256 (of-word .result) (c .before .word2 .result) (of-loop .all .leaves) (someLeaves image 0 256)
-          (c .with-table .result .leaves) h (of-word .ensures) (c .before .word2 .ensures) (c .with-table .ensures .1) (inv .3),
+      λ k.
+          let told = c .with-table .ensures .1 k in
+          leaves-pass image t 256 (of-word .result) (c .before .word2 .result) h (of-word .ensures) (c .before .word2 .ensures) (told .1)
+          ∙ inv .3 (told .0),
     )
 
 returns : tie.Need-returns Inv-loop μ-loop
@@ -77,9 +78,7 @@ returns c =
     let e : t ≡ 256 = omega arith in (
       sum-end (c .before .loop .all .num) (halves image t (256 - t)) (halves image 0 256) (inv .1) (inv .2)
           (ap (λ (k : ℕ). halves image k (256 - k)) e ∙ halves-none image 256),
-      sym (or-false (c .before .loop .all .leaves))
-          ∙ ap (λ (b : Bool). c .before .loop .all .leaves || b) (sym (ap (λ (k : ℕ). someLeaves image k (256 - k)) e ∙ leaves-none image 256))
-          ∙ inv .3,
+      λ k. sym (inv .3 k) ∙ ap (λ (k : ℕ). someLeaves image k (256 - k)) e ∙ leaves-none image 256,
     )
 
 pub all-tables-spec : {M : Type 1} → statement M

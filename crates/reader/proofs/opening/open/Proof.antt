@@ -15,15 +15,15 @@ use Rattle.reader.proofs.opening.open.Statement.{statement}
 use Rattle.reader.proofs.opening.open.Tie as tie
 
 -- where no table leaves the image, the back array alone decides
-passed : (c : tie.Else4) (b : Bool) → (ltb 0 (backOffsetAt (c .before .before .before .before .before .before .before .before .args .image .now)) && backLeaves (c .before .before .before .before .before .before .before .before .args .image .now)) ≡ b
-    → cond b (refusal 8) (num (halves (c .before .before .before .before .before .before .before .before .args .image .now) 0 256 % 2 ^ 32)) ≡ opening (c .before .before .before .before .before .before .before .before .args .image .now)
+passed : (c : tie.Else4) (b : Bool) → (ltb 0 (backOffsetAt (c .before .before .before .before .before .before .before .before .before .args .image .now)) && backLeaves (c .before .before .before .before .before .before .before .before .before .args .image .now)) ≡ b
+    → cond b (refusal 8) (num (halves (c .before .before .before .before .before .before .before .before .before .args .image .now) 0 256 % 2 ^ 32)) ≡ opening (c .before .before .before .before .before .before .before .before .before .args .image .now)
 passed c b e =
-    let image = c .before .before .before .before .before .before .before .before .args .image .now in
+    let image = c .before .before .before .before .before .before .before .before .before .args .image .now in
     opening-by image false true true false b
-    (le-ltb (length image) 2072 (c .before .before .before .before .before .before .if1 .left))
-    (sym (c .before .before .before .before .before .has-letters .ensures) ∙ not-false (c .before .before .before .before .before .has-letters .result) (c .before .before .before .before .if2 .left))
-    (eq-eqb (word image 12) 0x62445371 (sym (c .before .before .before .word .ensures) ∙ c .before .before .if3 .left))
-    (sym (c .before .all-tables .ensures .1) ∙ c .if4 .left)
+    (le-ltb (length image) 2072 (c .before .before .before .before .before .before .before .if1 .left))
+    (sym (c .before .before .before .before .before .before .has-letters .ensures) ∙ not-false (c .before .before .before .before .before .before .has-letters .result) (c .before .before .before .before .before .if2 .left))
+    (eq-eqb (word image 12) 0x62445371 (sym (c .before .before .before .before .word .ensures) ∙ c .before .before .before .if3 .left))
+    (sym (c .before .some-leaves .ensures) ∙ c .if4 .left)
     e
 
 returns : tie.Need-returns
@@ -60,18 +60,21 @@ returns-3 c =
 all-tables-requires : tie.Need-all-tables-requires
 all-tables-requires c κs = search needs
 
+some-leaves-requires : tie.Need-some-leaves-requires
+some-leaves-requires c κs = search needs
+
 returns-4 : tie.Need-returns-4
 returns-4 c =
-    let a = c .before .before .before .before .before .before .before .before .args in
+    let a = c .before .before .before .before .before .before .before .before .before .args in
     let image = a .image .now in
-    let of-if1 = c .before .before .before .before .before .before .if1 in
-    let of-has-letters = c .before .before .before .before .before .has-letters in
-    let of-if2 = c .before .before .before .before .if2 in
-    let of-word = c .before .before .before .word in
-    let of-if3 = c .before .before .if3 in
+    let of-if1 = c .before .before .before .before .before .before .before .if1 in
+    let of-has-letters = c .before .before .before .before .before .before .has-letters in
+    let of-if2 = c .before .before .before .before .before .if2 in
+    let of-word = c .before .before .before .before .word in
+    let of-if3 = c .before .before .before .if3 in
     opening-by image false true true true _ (le-ltb (length image) 2072 (of-if1 .left))
     (sym (of-has-letters .ensures) ∙ not-false (of-has-letters .result) (of-if2 .left))
-    (eq-eqb (word image 12) 0x62445371 (sym (of-word .ensures) ∙ of-if3 .left)) (sym (c .before .all-tables .ensures .1) ∙ c .if4 .taken) refl
+    (eq-eqb (word image 12) 0x62445371 (sym (of-word .ensures) ∙ of-if3 .left)) (sym (c .before .some-leaves .ensures) ∙ c .if4 .taken) refl
 
 word-requires-2 : tie.Need-word-requires-2
 word-requires-2 c κs = search needs
@@ -82,21 +85,21 @@ back-leaves-requires c κs = search needs
 returns-5 : tie.Need-returns-5
 returns-5 c =
     passed (c .before .before .before .before) true
-    (both (ltb 0 (word (c .before .before .before .before .before .before .before .before .before .before .before .before .args .image .now) 20)) (backLeaves (c .before .before .before .before .before .before .before .before .before .before .before .before .args .image .now))
-    (lt-ltb 0 (word (c .before .before .before .before .before .before .before .before .before .before .before .before .args .image .now) 20) (omega (arith, c .before .before .before .word2 .ensures)))
+    (both (ltb 0 (word (c .before .before .before .before .before .before .before .before .before .before .before .before .before .args .image .now) 20)) (backLeaves (c .before .before .before .before .before .before .before .before .before .before .before .before .before .args .image .now))
+    (lt-ltb 0 (word (c .before .before .before .before .before .before .before .before .before .before .before .before .before .args .image .now) 20) (omega (arith, c .before .before .before .word2 .ensures)))
     (sym (c .before .back-leaves .ensures) ∙ c .if6 .taken))
 
 returns-6 : tie.Need-returns-6
 returns-6 c =
-    let image = c .before .before .before .before .before .before .before .before .before .before .before .before .args .image .now in
-    ap num (c .before .before .before .before .before .all-tables .ensures .0)
+    let image = c .before .before .before .before .before .before .before .before .before .before .before .before .before .args .image .now in
+    ap num (c .before .before .before .before .before .before .all-tables .ensures .0)
     ∙ passed (c .before .before .before .before) false
     (ap (λ (t : Bool). ltb 0 (word image 20) && t) (sym (c .before .back-leaves .ensures) ∙ c .if6 .left) ∙ and-false (ltb 0 (word image 20)))
 
 returns-7 : tie.Need-returns-7
 returns-7 c =
-    let image = c .before .before .before .before .before .before .before .before .before .before .args .image .now in
-    ap num (c .before .before .before .all-tables .ensures .0)
+    let image = c .before .before .before .before .before .before .before .before .before .before .before .args .image .now in
+    ap num (c .before .before .before .before .all-tables .ensures .0)
     ∙ passed (c .before .before) false
     (ap (λ (t : Bool). t && backLeaves image) (le-ltb 0 (word image 20) (omega (arith, c .before .word2 .ensures))))
 
@@ -110,6 +113,7 @@ open-spec =
     word-requires
     returns-3
     all-tables-requires
+    some-leaves-requires
     returns-4
     word-requires-2
     back-leaves-requires

@@ -1,0 +1,86 @@
+-- `reader::opening::one_leaves` meets its contract. The loop's invariant: a table that leaves the image was met or is still to come exactly where there
+-- is one. Assumes nothing.
+use Prim.Native.Nat.{ℕ, _+_, _-_, _≤_}
+use native.Mathlib.Omega.{arith}
+use mathlib.Core.Path.{_≡_, refl, sym, ap, _∙_}
+use mathlib.Core.Bool.{Bool, _||_, or-false}
+use Rattle.reader.specs.Open.{someLeaves}
+use Rattle.reader.proofs.Opens.{leaves-join, leaves-none}
+use borrow.Author.Needs.{needs}
+use Rattle.reader.proofs.opening.one_leaves.Statement.{statement}
+use Rattle.reader.proofs.opening.one_leaves.Tie as tie
+
+abbrev Inv-loop : tie.InvT-loop
+Inv-loop image one₀ t₀ one t = (t ≤ 256) × ((one || someLeaves image t (256 - t)) ≡ someLeaves image 0 256)
+
+abbrev μ-loop : tie.MeasureT-loop
+μ-loop image one₀ t₀ one t = 256 - t
+
+loop-holds : tie.Need-loop-holds Inv-loop μ-loop
+loop-holds c = (search needs, refl)
+
+mul-word : tie.Need-mul-word Inv-loop μ-loop
+mul-word c = search needs
+
+add-word : tie.Need-add-word Inv-loop μ-loop
+add-word c = search needs
+
+word-requires : tie.Need-word-requires Inv-loop μ-loop
+word-requires c κs = search needs
+
+mul-word-2 : tie.Need-mul-word-2 Inv-loop μ-loop
+mul-word-2 c = search needs
+
+add-word-2 : tie.Need-add-word-2 Inv-loop μ-loop
+add-word-2 c = search needs
+
+word-requires-2 : tie.Need-word-requires-2 Inv-loop μ-loop
+word-requires-2 c κs = search needs
+
+leaves-requires : tie.Need-leaves-requires Inv-loop μ-loop
+leaves-requires c κs = search needs
+
+add-t : tie.Need-add-t Inv-loop μ-loop
+add-t c = search needs
+
+loop-less : tie.Need-loop-less Inv-loop μ-loop
+loop-less c = omega arith
+
+loop-again : tie.Need-loop-again Inv-loop μ-loop
+loop-again c =
+    let image = c .before .before .before .before .before .before .args .image .now in
+    let of-loop = c .before .before .before .before .loop in
+    let of-word = c .before .before .word in
+    let of-word2 = c .before .word2 in (
+      omega arith,
+      leaves-join image (of-loop .t) 256 (of-word .result) (of-word2 .result) (of-loop .one) (c .leaves .result) (someLeaves image 0 256)
+          (c .before .before .before .loop-test .taken) (of-word .ensures) (of-word2 .ensures) (c .leaves .ensures) (of-loop .inv .1),
+    )
+
+returns : tie.Need-returns Inv-loop μ-loop
+returns c =
+    let image = c .before .before .before .args .image .now in
+    let one = c .before .loop .one in
+    let e : c .before .loop .t ≡ 256 = omega arith in
+    sym (or-false one)
+    ∙ ap (λ (b : Bool). one || b) (sym (ap (λ (k : ℕ). someLeaves image k (256 - k)) e ∙ leaves-none image 256))
+    ∙ c .before .loop .inv .1
+
+pub one-leaves-spec : {M : Type 1} → statement M
+one-leaves-spec =
+    tie.close
+    (tie.spec
+    Inv-loop
+    μ-loop
+    loop-holds
+    mul-word
+    add-word
+    word-requires
+    mul-word-2
+    add-word-2
+    word-requires-2
+    leaves-requires
+    add-t
+    loop-less
+    loop-again
+    returns)
