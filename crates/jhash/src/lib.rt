@@ -146,16 +146,18 @@ fn word_or_zeros(s: &[u8], at: usize) -> u32
     wide(s[at]) + byte_or_zero(s, at + 1) * 256 + byte_or_zero(s, at + 2) * 65536
 }
 
-// The last bytes, fewer than 12, added as three words; the zero byte after them adds nothing.
+// The last bytes, fewer than 12, added as three words, by how many of the words have bytes; the zero byte after them adds
+// nothing.
 fn added_tail(w: Words, s: &[u8]) -> Words
     ensures { λ r. ⌜ r ≡ added w (now (s .entry)) ⌝ }
 {
-    plus(
-        w,
-        word_or_zeros(s, 0),
-        word_or_zeros(s, 4),
-        word_or_zeros(s, 8),
-    )
+    if 8 <= s.len() {
+        return plus(w, word(s, 0), word(s, 4), word_or_zeros(s, 8));
+    }
+    if 4 <= s.len() {
+        return plus(w, word(s, 0), word_or_zeros(s, 4), 0);
+    }
+    plus(w, word_or_zeros(s, 0), 0, 0)
 }
 
 // The hash of the name and its zero byte; all three words begin with x.
