@@ -1,5 +1,5 @@
 /* The C interface of Lithwennog: constant quark database (CQDB) images, proved in Rattle.
-   Link with target/staticlib/libcqdb_c.a, which `rt staticlib cqdb_c` makes (x86-64 Linux).
+   Link with target/staticlib/libcqdb_c.a, which `./make-archive` makes (x86-64 Linux).
 
    What every call promises: for all bytes and numbers it ends, answers as said below, and reads and writes nothing but
    what it is lent. No function keeps a pointer after it has returned, allocates, or touches anything global; calls on

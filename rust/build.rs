@@ -1,5 +1,5 @@
 //! Links the archive. `CQDB_ARCHIVE` names its folder; without it, target/staticlib of the repository is taken, where
-//! `rt staticlib cqdb_c` writes it.
+//! `./make-archive` writes it.
 use std::path::{Path, PathBuf};
 use std::{env, process};
 
@@ -11,7 +11,7 @@ fn main() {
     let archive = folder.join("libcqdb_c.a");
     if !archive.is_file() {
         eprintln!(
-            "{} is missing: `rt staticlib cqdb_c` makes it, CQDB_ARCHIVE=DIR names another folder",
+            "{} is missing: `./make-archive` makes it, CQDB_ARCHIVE=DIR names another folder",
             archive.display()
         );
         process::exit(1);

@@ -11,7 +11,7 @@ oracle_found() {
 # Our archive, below target/staticlib.
 build_archive() {
     mkdir -p target &&
-        { rt staticlib cqdb_c >target/staticlib.log 2>&1 || { cat target/staticlib.log >&2; return 1; }; }
+        { ./make-archive >target/staticlib.log 2>&1 || { cat target/staticlib.log >&2; return 1; }; }
 }
 
 # The original, below target/oracle, and our archive.

@@ -1,6 +1,6 @@
 /* Builds images in one buffer, reads them back, and checks what it gets. Ends with status 1 where something differs.
 
-       rt staticlib cqdb_c
+       ./make-archive
        cc -I include examples/c/roundtrip.c target/staticlib/libcqdb_c.a -o roundtrip && ./roundtrip */
 #include <stdio.h>
 #include <string.h>

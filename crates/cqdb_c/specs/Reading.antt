@@ -1,13 +1,11 @@
--- The exported reading calls: each rule's answer as numbers. Assumes nothing.
+-- The exported reading calls but the lookup: each rule's answer as numbers. Assumes nothing.
 use Prim.Native.Nat.{ℕ}
 use mathlib.Core.Bool.{cond}
 use mathlib.Core.List.{List}
 use Rattle.reader.specs.Open.{Opening, num, refusal, opening}
-use Rattle.reader.specs.Lookup.{Lookup, found, nothing, lookup}
 use Rattle.reader.specs.Naming.{Naming, place, unnamed, naming}
 use Rattle.reader.specs.Walk.{home}
 use Rattle.cqdb_c.specs.declared.opening.OpenAnswer.{OpenAnswer}
-use Rattle.cqdb_c.specs.declared.lookup.IdAnswer.{IdAnswer}
 use Rattle.cqdb_c.specs.declared.naming.PlaceAnswer.{PlaceAnswer}
 
 -- an opened image is accepted, 0, and its num stands beside it; a refusal has its number, and 0 for num
@@ -18,15 +16,6 @@ openAnswerOf (refusal k) = record { refusal = k; num = 0 }
 -- the rule of opening, so answered
 abbrev pub openAnswer : List ℕ → OpenAnswer
 openAnswer image = openAnswerOf (opening image)
-
--- 1 and the id, or 0 and 0; both with the buckets read
-abbrev pub idAnswerOf : Lookup → IdAnswer
-idAnswerOf (found id n) = record { found = 1; id = id; buckets = n }
-idAnswerOf (nothing n) = record { found = 0; id = 0; buckets = n }
-
--- the rule of looking up a name, so answered
-abbrev pub idAnswer : List ℕ → List ℕ → IdAnswer
-idAnswer image name = idAnswerOf (lookup image name)
 
 -- 1 and the place of the name, or three zeros
 abbrev pub placeAnswerOf : Naming → PlaceAnswer

@@ -1,10 +1,10 @@
--- `cqdb_c::lookup::cqdb_to_id` meets its contract: what `to_id` promises of the answer, put into the struct. Assumes nothing.
+-- `lookup_c::cqdb_to_id` meets its contract: what `to_id` promises of the answer, put into the struct. Assumes nothing.
 use mathlib.Core.Path.{sym, ap, _∙_}
 use Rattle.reader.specs.Answers.{lookupOf}
-use Rattle.cqdb_c.specs.Reading.{idAnswerOf}
+use Rattle.lookup_c.specs.Lookup.{idAnswerOf}
 use borrow.Author.Needs.{needs}
-use Rattle.cqdb_c.proofs.lookup.cqdb_to_id.Statement.{statement}
-use Rattle.cqdb_c.proofs.lookup.cqdb_to_id.Tie as tie
+use Rattle.lookup_c.proofs.cqdb_to_id.Statement.{statement}
+use Rattle.lookup_c.proofs.cqdb_to_id.Tie as tie
 
 to-id-requires : tie.Need-to-id-requires
 to-id-requires c κs = search needs

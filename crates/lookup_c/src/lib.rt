@@ -1,7 +1,9 @@
-// Looking up a name, for C.
+// Looking up a name, for C: the part of the archive that is called most, compiled by itself. Beside the home check, which looks up
+// too, and the writer, which hashes, the compiler would leave the search and the hash functions of their own; here all of it
+// is one.
 use reader::ToId;
 ghost use mathlib.Core.Path.{_≡_};
-ghost use Rattle.cqdb_c.specs.Reading.{idAnswer};
+ghost use Rattle.lookup_c.specs.Lookup.{idAnswer};
 
 // 1 and the id when the name was found, 0 and 0 when not; and the number of buckets read.
 #[repr(C)]

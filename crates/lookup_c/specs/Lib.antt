@@ -1,0 +1,2 @@
+-- What the exported lookup answers.
+pub mod Lookup
