@@ -59,7 +59,7 @@ typedef struct {
    applies: 1, 5, 6, 7, 8. The size and flag words are not checked. */
 cqdb_open_answer cqdb_open(const uint8_t *image, size_t len);
 
-/* found is 1 or 0; id is 0 where nothing was found; buckets is how many buckets were read, the deciding one included. */
+/* found is 1 or 0; id is 0 where nothing was found; buckets is how many buckets the search reads, the deciding one included. */
 typedef struct {
     uint32_t found;
     uint32_t id;

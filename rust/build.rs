@@ -11,7 +11,7 @@ fn main() {
     let archive = folder.join("libcqdb_c.a");
     if !archive.is_file() {
         eprintln!(
-            "{} is missing: `./make-archive` makes it, CQDB_ARCHIVE=DIR names another folder",
+            "{} is missing: make-archive in the repository's root makes it, CQDB_ARCHIVE=DIR names another folder",
             archive.display()
         );
         process::exit(1);

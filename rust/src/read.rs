@@ -34,7 +34,7 @@ impl<'a> CQDB<'a> {
         self.lookup(name).0
     }
 
-    /// The id of a name, and how many buckets were read to find out, the deciding one included.
+    /// The id of a name, and how many buckets the search reads, the deciding one included.
     pub fn lookup(&self, name: &[u8]) -> (Option<u32>, u32) {
         let answer = archive::to_id(self.image, name);
         ((answer.found == 1).then_some(answer.id), answer.buckets)

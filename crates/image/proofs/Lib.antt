@@ -5,3 +5,5 @@ pub mod Bools
 pub mod All
 pub mod Sizes
 pub mod Stores
+pub mod Turns
+pub mod Joins

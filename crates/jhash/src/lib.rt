@@ -47,7 +47,7 @@ fn minus(x: u32, y: u32) -> u32
 }
 
 // One round of mixing; the words change their names for the next round. The rotation comes first and the sum last, and the
-// compiler keeps that order: the next round waits for the rotation, not for the sum.
+// compiler keeps that order: the next round waits for the rotated word and the difference, not for the sum.
 fn mix_round(w: Words, k: u32) -> Words
     requires { ⌜ (0 < k) × (k < 32) ⌝ }
     ensures { λ r. ⌜ r ≡ round w k ⌝ }
@@ -132,23 +132,21 @@ fn byte_or_zero(s: &[u8], at: usize) -> u32
     if at < s.len() { wide(s[at]) } else { 0 }
 }
 
-// The little-endian word at `at`, with zeros past the end.
+// The little-endian word at `at` of which at most three bytes are there, with zeros past the end.
 fn word_or_zeros(s: &[u8], at: usize) -> u32
-    requires { ⌜ at < 12 ⌝ }
+    requires { ⌜ (at < 12) × (length (now s) < at + 4) ⌝ }
     ensures { λ r. ⌜ r ≡ wordAt (now (s .entry)) at ⌝ }
 {
     if s.len() <= at {
         return 0;
     }
-    if at + 4 <= s.len() {
-        return word(s, at);
-    }
     wide(s[at]) + byte_or_zero(s, at + 1) * 256 + byte_or_zero(s, at + 2) * 65536
 }
 
-// The last bytes, fewer than 12, added as three words, by how many of the words have bytes; the zero byte after them adds
+// The last bytes, fewer than 12, added as three words, by how many of the words they fill; the zero byte after them adds
 // nothing.
 fn added_tail(w: Words, s: &[u8]) -> Words
+    requires { ⌜ length (now s) < 12 ⌝ }
     ensures { λ r. ⌜ r ≡ added w (now (s .entry)) ⌝ }
 {
     if 8 <= s.len() {
@@ -203,7 +201,7 @@ pub fn jhash(name: &[u8], initval: u32) -> Hashed
     Hashed::Hash(hash_from(name, initial_word(name, initval)))
 }
 
-// The hash that images use: start value 0. It does not call `jhash`: with two places that call it, `hash_from` stays a
+// The hash that images use: start value 0. It does not call `jhash`: where both are used, `hash_from` then stays a
 // function of its own, and both small ones around it go into their callers.
 pub fn name_hash(name: &[u8]) -> Hashed
     ensures { λ r. ⌜ outcome r ≡ hashOutcome (now (name .entry)) 0 ⌝ }

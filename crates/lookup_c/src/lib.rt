@@ -1,11 +1,10 @@
-// Looking up a name, for C: the part of the archive that is called most, compiled by itself. Beside the home check, which looks up
-// too, and the writer, which hashes, the compiler would leave the search and the hash functions of their own; here all of it
-// is one.
+// Looking up a name, for C, compiled by itself: in one crate with the home check, which searches too, and the writer, which
+// hashes, the compiler would keep search and hash as functions of their own.
 use reader::ToId;
 ghost use mathlib.Core.Path.{_≡_};
 ghost use Rattle.lookup_c.specs.Lookup.{idAnswer};
 
-// 1 and the id when the name was found, 0 and 0 when not; and the number of buckets read.
+// 1 and the id when the name was found, 0 and 0 when not; and the number of buckets that the search reads.
 #[repr(C)]
 pub struct IdAnswer {
     pub found: u32,

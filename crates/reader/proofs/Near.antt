@@ -8,16 +8,17 @@ use mathlib.Core.List.{List}
 use borrow.Author.Tests.{eq-eqb, ne-eqb}
 use Rattle.image.specs.Bytes.{word}
 use Rattle.image.specs.Tables.{start, next}
+use Rattle.image.proofs.Turns.{next-more, next-first}
 use Rattle.reader.specs.Lookup.{Lookup, nothing, pass, ends, see, searchTable}
-use Rattle.reader.proofs.Searches.{see-by, next-more, next-first, rest, rest-start, rest-seen}
+use Rattle.reader.proofs.Searches.{see-by, rest, rest-start, rest-seen}
 
 -- ---- among fewer than three buckets a search comes back to where it was
 
-alone : (n k : ℕ) → k < n → n < 2 → next n k ≡ k
-alone n k h l = let e = next-first n k (omega arith) in omega (arith, e)
+one-bucket : (n k : ℕ) → k < n → n < 2 → next n k ≡ k
+one-bucket n k h l = let e = next-first n k (omega arith) in omega (arith, e)
 
-pair : (n k : ℕ) → k < n → n < 3 → next n (next n k) ≡ k
-pair n k h l = elim (decLt (k + 1) n) [
+two-buckets : (n k : ℕ) → k < n → n < 3 → next n (next n k) ≡ k
+two-buckets n k h l = elim (decLt (k + 1) n) [
   | yes p ↦
       let e = next-more n k p in
       let f = next-first n (next n k) (omega arith) in omega arith
@@ -25,7 +26,7 @@ pair n k h l = elim (decLt (k + 1) n) [
       let e = next-first n k (omega arith) in
       elim (decLt 1 n) [
         | yes q ↦ let f = next-more n (next n k) (omega arith) in omega arith
-        | no q ↦ let f = alone n k h (omega arith) in ap (next n) f ∙ f
+        | no q ↦ let f = one-bucket n k h (omega arith) in ap (next n) f ∙ f
       ]
 ]
 
@@ -68,7 +69,7 @@ module _ (image name : List ℕ) (h o n : ℕ) where
       | yes q ↦
           let r : n - (n - 1 - 1) ≡ 2 = omega arith in
           whole ∙ other-passes k n (omega arith) (omega arith) p d ∙ empty-ends (next n k) (n - 1) (omega arith) (omega arith) z ∙ ap nothing r
-      | no q ↦ absurd (apart k (next n k) p z (alone n k l (omega arith)))
+      | no q ↦ absurd (apart k (next n k) p z (one-bucket n k l (omega arith)))
     ]
 
     at-third : (hash k ≡ h → ⊥) → (hash (next n k) ≡ h → ⊥) → 0 < offset k → 0 < offset (next n k) → offset (next n (next n k)) ≡ 0
@@ -81,7 +82,7 @@ module _ (image name : List ℕ) (h o n : ℕ) where
           ∙ other-passes (next n k) (n - 1) (omega arith) (omega arith) p₁ d₁
           ∙ empty-ends (next n (next n k)) (n - 1 - 1) (omega arith) (omega arith) z
           ∙ ap nothing r
-      | no q ↦ absurd (apart k (next n (next n k)) p₀ z (pair n k l (omega arith)))
+      | no q ↦ absurd (apart k (next n (next n k)) p₀ z (two-buckets n k l (omega arith)))
     ]
 
     -- by the first offset that is 0, x, y, z being the three that the search meets, in the buckets k, i, j

@@ -6,7 +6,6 @@ use mathlib.Core.Path.{_≡_, refl, sym, ap, _∙_}
 use mathlib.Core.Bool.{Bool, false, cond, not, _&&_, _||_, or-assoc, and-false}
 use mathlib.Core.List.{List}
 use borrow.Author.Tests.{le-ltb}
-use lib.Bits.{bitOr, or-add-and, and-le-l, and-le-r}
 use lib.Dec.{eqb, ltb}
 use lib.ListN.{length}
 use Rattle.image.specs.Bytes.{word}
@@ -55,10 +54,6 @@ leaves-pass image t m a n h ea en l =
     ∙ ap (λ (c : Bool). (ltb 0 (tableAt image t) && c) || someLeaves image (t + 1) (m - (t + 1)))
     ((λ i. ltb (length image) (sym ea i + 8 * sym en i)) ∙ le-ltb (length image) (a + 8 * n) l)
     ∙ ap (λ (c : Bool). c || someLeaves image (t + 1) (m - (t + 1))) (and-false (ltb 0 (tableAt image t))))
-
--- `|` never makes a number smaller: where the join is below k, both are
-pub both-below : (a b k : ℕ) → bitOr a b < k → (a < k) × (b < k)
-both-below a b k h = (omega (arith, or-add-and a b, and-le-r a b), omega (arith, or-add-and a b, and-le-l a b))
 
 -- no table is left
 pub halves-none : (image : List ℕ) (t : ℕ) → halves image t 0 ≡ 0

@@ -1,7 +1,6 @@
 -- The search along the buckets, a turn at a time. Assumes nothing.
-use Prim.Native.Nat.{ℕ, suc, _+_, _*_, _%_, _-_, _≤_, _<_}
+use Prim.Native.Nat.{ℕ, suc, _+_, _*_, _-_, _≤_, _<_}
 use native.Mathlib.Omega.{arith}
-use native.Mathlib.Nat.{mod-self, mod-eq-of-lt}
 use mathlib.Core.Path.{_≡_, refl, sym, ap, _∙_}
 use mathlib.Core.Bool.{Bool, cond, _||_}
 use mathlib.Core.List.{List}
@@ -36,13 +35,6 @@ module _ (image name : List ℕ) (at : ℕ) where
       ∙ ap (λ (k : ℕ). cond (eqb k 0) ends (cond (eqb (word image b) h) (seeEntry image name k) pass)) ea
 
 -- ---- the search
-
--- the step from bucket to bucket needs no division
-pub next-more : (n k : ℕ) → k + 1 < n → k + 1 ≡ next n k
-next-more n k h = sym (mod-eq-of-lt h)
-
-pub next-first : (n k : ℕ) → k + 1 ≡ n → 0 ≡ next n k
-next-first n k e = sym (ap (λ (m : ℕ). m % n) e ∙ mod-self n)
 
 -- what is left of the search in the table of n buckets at o, before bucket k and with m buckets left
 abbrev pub rest : List ℕ → List ℕ → ℕ → ℕ → ℕ → ℕ → ℕ → Lookup

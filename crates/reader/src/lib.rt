@@ -27,7 +27,7 @@ pub enum Opened {
     BackLeaves,
 }
 
-// What a lookup answers: the id, or nothing; both with the number of buckets read, the deciding one included.
+// What a lookup answers: the id, or nothing; both with the number of buckets that the search reads, the deciding one included.
 pub enum ToId {
     Found { id: u32, buckets: u32 },
     Nothing { buckets: u32 },

@@ -121,7 +121,7 @@ fn see(image: &[u8], name: &[u8], h: u32, at: usize) -> Seen
 }
 
 // The bucket after k: by one, from the last to the first.
-fn next(k: u32, n: u32) -> u32
+fn next_bucket(k: u32, n: u32) -> u32
     requires { ⌜ k < n ⌝ }
     ensures { λ r. ⌜ (r ≡ next n k) × (r < n) ⌝ }
 {
@@ -135,7 +135,8 @@ fn smaller(x: u32, y: u32) -> u32
     if x < y { x } else { y }
 }
 
-// Which of three numbers is the first that is 0, counted from 1; 0 if none is. One branch, on the smallest, tells whether any is.
+// Which of three numbers is the first that is 0, counted from 1; 0 tells nothing. One branch, on the smallest, decides whether any
+// is 0.
 fn first_zero(x: u32, y: u32, z: u32) -> u32
     ensures { λ r. ⌜ (r < 4) × (r ≡ 1 → x ≡ 0) × (r ≡ 2 → (0 < x) × (y ≡ 0)) × (r ≡ 3 → (0 < x) × (0 < y) × (z ≡ 0)) ⌝ }
 {
@@ -148,9 +149,9 @@ fn first_zero(x: u32, y: u32, z: u32) -> u32
     if y == 0 { 2 } else { 3 }
 }
 
-// Of the first three buckets of a search, from bucket k on, the number of the first empty one, if none of the three has the
-// hash h: there the search ends with nothing, whatever the name. Else 0, which tells nothing. One bucket in two is empty where
-// a name is missing, which no processor foresees; so the three are told apart without a branch.
+// Of the first three buckets of a search, from bucket k on, the number of the first empty one, if neither of the first two has
+// the hash h: there the search ends with nothing, whatever the name. Else 0, which tells nothing. Half of a table's buckets
+// are empty, so a branch on each is often foreseen wrongly; here one branch, on the smallest of three offsets, decides.
 fn near_empty(image: &[u8], h: u32, at: u32, n: u32, k: u32) -> u32
     requires { ⌜ (k ≡ start h n) × (k < n) × (at + 8 * n ≤ length (now image)) ⌝ }
     ensures { λ r. ⌜ (0 < r → (name : List ℕ) → searchTable (now (image .entry)) name h at n ≡ nothing r) ⌝ }
@@ -159,15 +160,12 @@ fn near_empty(image: &[u8], h: u32, at: u32, n: u32, k: u32) -> u32
     if word(image, first) == h {
         return 0;
     }
-    let k1 = next(k, n);
+    let k1 = next_bucket(k, n);
     let second = at as usize + 8 * (k1 as usize);
     if word(image, second) == h {
         return 0;
     }
-    let third = at as usize + 8 * (next(k1, n) as usize);
-    if word(image, third) == h {
-        return 0;
-    }
+    let third = at as usize + 8 * (next_bucket(k1, n) as usize);
     first_zero(
         word(image, first + 4),
         word(image, second + 4),
@@ -182,9 +180,11 @@ fn search(image: &[u8], name: &[u8], h: u32, at: u32, n: u32) -> ToId
     ensures { λ r. ⌜ lookupOf r ≡ searchTable (now (image .entry)) (now (name .entry)) h at n ⌝ }
 {
     let mut k = start(h, n);
-    let near = near_empty(image, h, at, n, k);
-    if near != 0 {
-        return ToId::Nothing { buckets: near };
+    let ended_after = near_empty(image, h, at, n, k);
+    if ended_after != 0 {
+        return ToId::Nothing {
+            buckets: ended_after,
+        };
     }
     let mut left = n;
     while 0 < left {
@@ -201,7 +201,7 @@ fn search(image: &[u8], name: &[u8], h: u32, at: u32, n: u32) -> ToId
                 };
             }
         }
-        k = next(k, n);
+        k = next_bucket(k, n);
     }
     ToId::Nothing { buckets: n - left }
 }
@@ -226,7 +226,7 @@ fn to_id_hashed(image: &[u8], name: &[u8], h: u32) -> ToId
     search(image, name, h, at, n)
 }
 
-// The id of a name, or nothing, with the number of buckets read.
+// The id of a name, or nothing, with the number of buckets that the search reads.
 pub fn to_id(image: &[u8], name: &[u8]) -> ToId
     ensures { λ r. ⌜ lookupOf r ≡ lookup (now (image .entry)) (now (name .entry)) ⌝ }
 {

@@ -81,7 +81,7 @@ fn leaves(size: usize, at: u32, n: u32) -> bool
 }
 
 // Does one of the 256 tables, with an offset above 0, leave the image?
-fn one_leaves(image: &[u8]) -> bool
+fn some_leaves_by_each(image: &[u8]) -> bool
     requires { ⌜ 2072 ≤ length (now image) ⌝ }
     ensures { λ r. ⌜ r ≡ someLeaves (now (image .entry)) 0 256 ⌝ }
 {
@@ -99,13 +99,14 @@ fn one_leaves(image: &[u8]) -> bool
     one
 }
 
-// The same, where the joined rooms are known. A join of 2^63 or more does not settle it: the table may have offset 0.
+// The same, where the joined rooms are known. A join of 2^63 or more does not settle it: a table that leaves may have
+// offset 0.
 fn some_leaves(image: &[u8], rooms: u64) -> bool
     requires { ⌜ (2072 ≤ length (now image)) × (rooms < 2 ^ 63 → someLeaves (now image) 0 256 ≡ false) ⌝ }
     ensures { λ r. ⌜ r ≡ someLeaves (now (image .entry)) 0 256 ⌝ }
 {
-    if 9223372036854775807 < rooms {
-        return one_leaves(image);
+    if 9223372036854775808 <= rooms {
+        return some_leaves_by_each(image);
     }
     false
 }

@@ -9,13 +9,6 @@ use lib.Dec.{eqb}
 use borrow.Author.Tests.{eq-eqb, ne-eqb}
 use Rattle.image.specs.Tables.{next, order, firstEmpty}
 
--- the next bucket, without a division
-pub next-on : (n i : ℕ) → i + 1 < n → i + 1 ≡ next n i
-next-on n i h = sym (mod-eq-of-lt h)
-
-pub next-first : (n i : ℕ) → i < n → n ≤ i + 1 → 0 ≡ next n i
-next-first n i h k = let e : i + 1 ≡ n = omega arith in sym (ap (λ (x : ℕ). x % n) e ∙ mod-self n)
-
 order-turn : (n left i : ℕ) → 0 < left → order n left i ≡ i ∷ order n (left - 1) (next n i)
 unfolding order
 order-turn n left i h = let e : left ≡ suc (left - 1) = omega arith in ap (λ (m : ℕ). order n m i) e

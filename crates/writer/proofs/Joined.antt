@@ -7,17 +7,11 @@ use mathlib.Core.Bool.{Bool, true}
 use mathlib.Core.List.{List}
 use lib.ListN.{getD}
 use lib.Dec.{leb}
-use lib.Bits.{bitOr, bitAnd, or-add-and, and-le-l, and-le-r}
+use lib.Bits.{bitOr}
 use borrow.Author.Tests.{le-leb}
 use Rattle.image.proofs.All.{all-true}
+use Rattle.image.proofs.Joins.{le-or-l, le-or-r}
 use Rattle.writer.specs.State.{noneAbove}
-
--- `|` never makes a number smaller
-le-or-l : (a b : ℕ) → a ≤ bitOr a b
-le-or-l a b = omega (arith, or-add-and a b, and-le-r a b)
-
-le-or-r : (a b : ℕ) → b ≤ bitOr a b
-le-or-r a b = omega (arith, or-add-and a b, and-le-l a b)
 
 module _ (counts : List ℕ) where
   -- one turn of the loop: one more count is joined

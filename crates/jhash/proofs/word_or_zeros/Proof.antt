@@ -13,15 +13,6 @@ use Rattle.jhash.proofs.word_or_zeros.Tie as tie
 returns : tie.Need-returns
 returns c = sym (word-past (now (c .before .before .args .s)) (c .before .before .args .at) (c .if1 .taken))
 
-add-if2 : tie.Need-add-if2
-add-if2 c = search needs
-
-word-requires : tie.Need-word-requires
-word-requires c κs = search needs
-
-returns-2 : tie.Need-returns-2
-returns-2 c = search needs
-
 shared-slice-read-wide : tie.Need-shared-slice-read-wide
 shared-slice-read-wide c = search needs
 
@@ -52,10 +43,10 @@ mul-result-2 c = search needs
 add-result-2 : tie.Need-add-result-2
 add-result-2 c = search needs
 
-returns-3 : tie.Need-returns-3
-returns-3 c =
-    let s : List ℕ = now (c .before .before .before .before .before .before .before .args .s) in
-    let at : ℕ = c .before .before .before .before .before .before .before .args .at in
+returns-2 : tie.Need-returns-2
+returns-2 c =
+    let s : List ℕ = now (c .before .before .before .before .before .before .args .s) in
+    let at : ℕ = c .before .before .before .before .before .before .args .at in
     omega (arith, List·getD-eq-default s 0 {n = at + 3} (omega arith))
 
 pub word-or-zeros-spec : {M : Type 1} → statement M
@@ -63,9 +54,6 @@ word-or-zeros-spec =
     tie.close
     (tie.spec
     returns
-    add-if2
-    word-requires
-    returns-2
     shared-slice-read-wide
     wide-requires
     add-byte-or-zero
@@ -76,4 +64,4 @@ word-or-zeros-spec =
     byte-or-zero-requires-2
     mul-result-2
     add-result-2
-    returns-3)
+    returns-2)

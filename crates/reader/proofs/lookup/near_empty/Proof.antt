@@ -18,8 +18,8 @@ word-requires c κs = search needs
 returns : tie.Need-returns
 returns c = λ l. absurd (omega arith)
 
-next-requires : tie.Need-next-requires
-next-requires c κs = search needs
+next-bucket-requires : tie.Need-next-bucket-requires
+next-bucket-requires c κs = search needs
 
 cast-second : tie.Need-cast-second
 cast-second c = search needs
@@ -36,8 +36,8 @@ word-requires-2 c κs = search needs
 returns-2 : tie.Need-returns-2
 returns-2 c = λ l. absurd (omega arith)
 
-next-requires-2 : tie.Need-next-requires-2
-next-requires-2 c κs = search needs
+next-bucket-requires-2 : tie.Need-next-bucket-requires-2
+next-bucket-requires-2 c κs = search needs
 
 cast-third : tie.Need-cast-third
 cast-third c = search needs
@@ -48,47 +48,41 @@ mul-third c = search needs
 add-third : tie.Need-add-third
 add-third c = search needs
 
-word-requires-3 : tie.Need-word-requires-3
-word-requires-3 c κs = search needs
-
-returns-3 : tie.Need-returns-3
-returns-3 c = λ l. absurd (omega arith)
-
 add-word : tie.Need-add-word
 add-word c = search needs
 
-word-requires-4 : tie.Need-word-requires-4
-word-requires-4 c κs = search needs
+word-requires-3 : tie.Need-word-requires-3
+word-requires-3 c κs = search needs
 
 add-word-2 : tie.Need-add-word-2
 add-word-2 c = search needs
 
-word-requires-5 : tie.Need-word-requires-5
-word-requires-5 c κs = search needs
+word-requires-4 : tie.Need-word-requires-4
+word-requires-4 c κs = search needs
 
 add-word-3 : tie.Need-add-word-3
 add-word-3 c = search needs
 
-word-requires-6 : tie.Need-word-requires-6
-word-requires-6 c κs = search needs
+word-requires-5 : tie.Need-word-requires-5
+word-requires-5 c κs = search needs
 
 first-zero-requires : tie.Need-first-zero-requires
 first-zero-requires c κs = search needs
 
-returns-4 : tie.Need-returns-4
-returns-4 c = λ l name.
-    let a = c .before .before .before .before .before .before .before .before .before .before .before .before .before .args in
-    let pre = c .before .before .before .before .before .before .before .before .before .before .before .before .before .pre in
-    let of-next = c .before .before .before .before .before .before .before .before .before .next in
-    let of-next2 = c .before .before .before .before .before .before .next2 in
-    let of-word4 = c .before .before .before .word4 in
-    let of-word5 = c .before .before .word5 in
-    let of-word6 = c .before .word6 in
+returns-3 : tie.Need-returns-3
+returns-3 c = λ l name.
+    let a = c .before .before .before .before .before .before .before .before .before .before .before .args in
+    let pre = c .before .before .before .before .before .before .before .before .before .before .before .pre in
+    let of-next = c .before .before .before .before .before .before .before .next-bucket in
+    let of-next2 = c .before .before .before .before .next-bucket2 in
+    let of-word3 = c .before .before .before .word3 in
+    let of-word4 = c .before .before .word4 in
+    let of-word5 = c .before .word5 in
     near (a .image .now) name (a .h) (a .at) (a .n) (a .k) (pre .0) (pre .1)
-    (of-next .result) (of-next2 .result) (of-word4 .result) (of-word5 .result) (of-word6 .result) (c .first-zero .result)
-    (of-next .ensures .0) (of-next2 .ensures .0) (of-word4 .ensures) (of-word5 .ensures) (of-word6 .ensures)
-    (λ e. c .before .before .before .before .before .before .before .before .before .before .if1 .left (c .before .before .before .before .before .before .before .before .before .before .before .word .ensures ∙ e))
-    (λ e. c .before .before .before .before .before .before .before .if2 .left (c .before .before .before .before .before .before .before .before .word2 .ensures ∙ e))
+    (of-next .result) (of-next2 .result) (of-word3 .result) (of-word4 .result) (of-word5 .result) (c .first-zero .result)
+    (of-next .ensures .0) (of-next2 .ensures .0) (of-word3 .ensures) (of-word4 .ensures) (of-word5 .ensures)
+    (λ e. c .before .before .before .before .before .before .before .before .if1 .left (c .before .before .before .before .before .before .before .before .before .word .ensures ∙ e))
+    (λ e. c .before .before .before .before .before .if2 .left (c .before .before .before .before .before .before .word2 .ensures ∙ e))
     (c .first-zero .ensures)
     l
 
@@ -100,23 +94,21 @@ near-empty-spec =
     add-first
     word-requires
     returns
-    next-requires
+    next-bucket-requires
     cast-second
     mul-second
     add-second
     word-requires-2
     returns-2
-    next-requires-2
+    next-bucket-requires-2
     cast-third
     mul-third
     add-third
-    word-requires-3
-    returns-3
     add-word
-    word-requires-4
+    word-requires-3
     add-word-2
-    word-requires-5
+    word-requires-4
     add-word-3
-    word-requires-6
+    word-requires-5
     first-zero-requires
-    returns-4)
+    returns-3)

@@ -12,10 +12,10 @@ use Rattle.reader.proofs.lookup.search.Statement.{statement}
 use Rattle.reader.proofs.lookup.search.Tie as tie
 
 abbrev Inv-loop : tie.InvT-loop
-Inv-loop image name h at n k₀ near left₀ k left = (k < n) × (left ≤ n) × (rest image name h at n k left ≡ searchTable image name h at n)
+Inv-loop image name h at n k₀ ended-after left₀ k left = (k < n) × (left ≤ n) × (rest image name h at n k left ≡ searchTable image name h at n)
 
 abbrev μ-loop : tie.MeasureT-loop
-μ-loop image name h at n k₀ near left₀ k left = left
+μ-loop image name h at n k₀ ended-after left₀ k left = left
 
 -- after a bucket was looked at: what is left from bucket j on, and the turn by what was seen
 abbrev left-of : (c : tie.After-see Inv-loop μ-loop) → ℕ → Lookup
@@ -87,17 +87,17 @@ sub-t18 c = search needs
 returns-3 : tie.Need-returns-3 Inv-loop μ-loop
 returns-3 c = turn (c .before .before .before) (hit (c .before .id .given .0 .0)) (ap seenOf (c .before .id .given .1))
 
-next-requires : tie.Need-next-requires Inv-loop μ-loop
-next-requires c κs = search needs
+next-bucket-requires : tie.Need-next-bucket-requires Inv-loop μ-loop
+next-bucket-requires c κs = search needs
 
 loop-less : tie.Need-loop-less Inv-loop μ-loop
 loop-less c = omega arith
 
 loop-again : tie.Need-loop-again Inv-loop μ-loop
 loop-again c = (
-  c .next .ensures .1,
+  c .next-bucket .ensures .1,
   omega arith,
-  ap (λ (j : ℕ). left-of (c .before .before .before) j) (c .next .ensures .0) ∙ turn (c .before .before .before) pass (ap seenOf (c .before .enum-told .given .1)),
+  ap (λ (j : ℕ). left-of (c .before .before .before) j) (c .next-bucket .ensures .0) ∙ turn (c .before .before .before) pass (ap seenOf (c .before .enum-told .given .1)),
 )
 
 sub-t19 : tie.Need-sub-t19 Inv-loop μ-loop
@@ -130,7 +130,7 @@ search-spec =
     enum-known-id
     sub-t18
     returns-3
-    next-requires
+    next-bucket-requires
     loop-less
     loop-again
     sub-t19

@@ -6,7 +6,8 @@ use mathlib.Core.Path.{_≡_, refl, sym, _∙_}
 use mathlib.Core.Logic.{⊎-elim}
 use Rattle.image.specs.Bytes.{word}
 use Rattle.image.specs.Tables.{next, order, firstEmpty}
-use Rattle.writer.proofs.Empties.{next-on, next-first, empty-here, empty-later, empty-none}
+use Rattle.image.proofs.Turns.{next-more, next-first}
+use Rattle.writer.proofs.Empties.{empty-here, empty-later, empty-none}
 use Rattle.writer.proofs.fill.first_empty.Statement.{statement}
 use Rattle.writer.proofs.fill.first_empty.Tie as tie
 use Rattle.writer.proofs.fill.first_empty.Reads as reads
@@ -55,8 +56,8 @@ loop-again c =
     let i = c .before .before .before .before .loop in
     let later = empty-later (λ (j : ℕ). word (c .before .before .before .before .before .before .args .buf .now) (c .before .before .before .before .before .before .args .o + 8 * j + 4)) (a .n) (i .left) (i .i) _ (c .before .before .before .loop-test .taken) (λ z. c .before .if1 .left (c .before .before .get-u32 .ensures ∙ z)) (i .inv .2) in
     ⊎-elim
-    (λ w. let e : c .if2 .i ≡ next (a .n) (i .i) = w .1 ∙ next-on (a .n) (i .i) (w .0 .taken) in (omega (arith, w .0 .taken, w .1), omega arith, rw e later))
-    (λ w. let e : c .if2 .i ≡ next (a .n) (i .i) = w .1 ∙ next-first (a .n) (i .i) (i .inv .0) (w .0 .left) in (omega (arith, w .1), omega arith, rw e later))
+    (λ w. let e : c .if2 .i ≡ next (a .n) (i .i) = w .1 ∙ next-more (a .n) (i .i) (w .0 .taken) in (omega (arith, w .0 .taken, w .1), omega arith, rw e later))
+    (λ w. let e : c .if2 .i ≡ next (a .n) (i .i) = w .1 ∙ next-first (a .n) (i .i) (omega (arith, i .inv .0, w .0 .left)) in (omega (arith, w .1), omega arith, rw e later))
     (c .if2 .came)
 
 returns-2 : tie.Need-returns-2 Inv-loop μ-loop

@@ -1,11 +1,11 @@
--- `reader::lookup::next` meets its contract. Assumes nothing.
+-- `reader::lookup::next_bucket` meets its contract. Assumes nothing.
 use Prim.Native.Nat.{_+_, _<_}
 use native.Mathlib.Omega.{arith}
 use mathlib.Core.Path.{_≡_}
-use Rattle.reader.proofs.Searches.{next-more, next-first}
+use Rattle.image.proofs.Turns.{next-more, next-first}
 use borrow.Author.Needs.{needs}
-use Rattle.reader.proofs.lookup.next.Statement.{statement}
-use Rattle.reader.proofs.lookup.next.Tie as tie
+use Rattle.reader.proofs.lookup.next_bucket.Statement.{statement}
+use Rattle.reader.proofs.lookup.next_bucket.Tie as tie
 
 add-if1 : tie.Need-add-if1
 add-if1 c = search needs
@@ -19,5 +19,5 @@ returns c = let a = c .before .args in (next-first (a .n) (a .k) (c .if1 .taken)
 returns-2 : tie.Need-returns-2
 returns-2 c = let a = c .before .args in let l : a .k + 1 < a .n = omega arith in (next-more (a .n) (a .k) l, l)
 
-pub next-spec : {M : Type 1} → statement M
-next-spec = tie.close (tie.spec add-if1 add-result returns returns-2)
+pub next-bucket-spec : {M : Type 1} → statement M
+next-bucket-spec = tie.close (tie.spec add-if1 add-result returns returns-2)

@@ -1,4 +1,4 @@
--- `reader::opening::one_leaves` meets its contract. The loop's invariant: a table that leaves the image was met or is still to come exactly where there
+-- `reader::opening::some_leaves_by_each` meets its contract. The loop's invariant: a table that leaves the image was met or is still to come exactly where there
 -- is one. Assumes nothing.
 use Prim.Native.Nat.{ℕ, _+_, _-_, _≤_}
 use native.Mathlib.Omega.{arith}
@@ -7,8 +7,8 @@ use mathlib.Core.Bool.{Bool, _||_, or-false}
 use Rattle.reader.specs.Open.{someLeaves}
 use Rattle.reader.proofs.Opens.{leaves-join, leaves-none}
 use borrow.Author.Needs.{needs}
-use Rattle.reader.proofs.opening.one_leaves.Statement.{statement}
-use Rattle.reader.proofs.opening.one_leaves.Tie as tie
+use Rattle.reader.proofs.opening.some_leaves_by_each.Statement.{statement}
+use Rattle.reader.proofs.opening.some_leaves_by_each.Tie as tie
 
 abbrev Inv-loop : tie.InvT-loop
 Inv-loop image one₀ t₀ one t = (t ≤ 256) × ((one || someLeaves image t (256 - t)) ≡ someLeaves image 0 256)
@@ -66,8 +66,8 @@ returns c =
     ∙ ap (λ (b : Bool). one || b) (sym (ap (λ (k : ℕ). someLeaves image k (256 - k)) e ∙ leaves-none image 256))
     ∙ c .before .loop .inv .1
 
-pub one-leaves-spec : {M : Type 1} → statement M
-one-leaves-spec =
+pub some-leaves-by-each-spec : {M : Type 1} → statement M
+some-leaves-by-each-spec =
     tie.close
     (tie.spec
     Inv-loop
