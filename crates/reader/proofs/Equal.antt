@@ -1,5 +1,5 @@
 -- When two byte strings are equal, step by step: by bytes and by words. Assumes nothing.
-use Prim.Native.Nat.{ℕ, zero, suc, _+_, _-_, _*_, _^_, _≤_, _<_}
+use Prim.Native.Nat.{ℕ, suc, _+_, _*_, _^_, _≤_, _<_}
 use native.Mathlib.Omega.{arith}
 use native.Mathlib.Numerals.{add-one}
 use native.Mathlib.Decide.{ℕ-discrete}
@@ -9,7 +9,7 @@ use mathlib.Core.List.{List, [], _∷_}
 use borrow.Author.Tests.{eq-eqb, ne-eqb, eqb-true}
 use lib.Dec.{eqb}
 use lib.ListN.{length, getD, drop, drop-of-length-le}
-use lib.Seq.{drop-cons, drop-drop}
+use lib.Seq.{drop-cons}
 use Rattle.image.specs.Bytes.{word, le32, same}
 use Rattle.image.proofs.Words.{word-of, le32-bytes}
 
@@ -26,30 +26,6 @@ same-lengths (x ∷ xs) (y ∷ ys) h =
 pub same-none : (a b : List ℕ) (i : ℕ) → length a ≤ i → length b ≤ i → same (drop i a) (drop i b) ≡ true
 unfolding same
 same-none a b i p q = rw (drop-of-length-le a {i = i} p, drop-of-length-le b {i = i} q)
-
--- what differs behind j bytes differs, and what is equal is so behind them
-pub other-behind : (j : ℕ) (a b : List ℕ) → same (drop j a) (drop j b) ≡ false → same a b ≡ false
-unfolding same
-other-behind zero a b h = h
-other-behind (suc j) [] [] h = h
-other-behind (suc j) [] (y ∷ ys) h = refl
-other-behind (suc j) (x ∷ xs) [] h = refl
-other-behind (suc j) (x ∷ xs) (y ∷ ys) h = ap (λ (t : Bool). eqb x y && t) (other-behind j xs ys h) ∙ and-false (eqb x y)
-
-same-behind : (j : ℕ) (a b : List ℕ) → same a b ≡ true → same (drop j a) (drop j b) ≡ true
-same-behind j a b h = go (same (drop j a) (drop j b)) refl
-  where
-    go : (t : Bool) → same (drop j a) (drop j b) ≡ t → t ≡ true
-    go true e = refl
-    go false e = sym (other-behind j a b e) ∙ h
-
--- so with two places, one behind the other
-pub same-further : (a b : List ℕ) (j i : ℕ) → j ≤ i → same (drop j a) (drop j b) ≡ true → same (drop i a) (drop i b) ≡ true
-same-further a b j i l h =
-    let e : j + (i - j) ≡ i = omega arith in
-    ap (λ (k : ℕ). same (drop k a) (drop k b)) (sym e)
-    ∙ (λ t. same (sym (drop-drop (i - j) j a) t) (sym (drop-drop (i - j) j b) t))
-    ∙ same-behind (i - j) (drop j a) (drop j b) h
 
 -- one byte at i, where j is the next
 module _ (a b : List ℕ) (i j : ℕ) (e : i + 1 ≡ j) (p : i < length a) (q : i < length b) where

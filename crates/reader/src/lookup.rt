@@ -30,43 +30,35 @@ fn same_from(a: &[u8], b: &[u8], from: usize) -> bool
     true
 }
 
-// Are two byte strings of one length equal? Four bytes at once, if there are as many, and the others one by one.
-fn same_few(a: &[u8], b: &[u8]) -> bool
-    requires { ⌜ length (now a) ≡ length (now b) ⌝ }
-    ensures { λ r. ⌜ r ≡ same (now (a .entry)) (now (b .entry)) ⌝ }
+// The same, with four bytes at once if there are as many: for the last bytes, fewer than eight.
+fn same_last(a: &[u8], b: &[u8], from: usize) -> bool
+    requires { ⌜ (length (now a) ≡ length (now b)) × (from ≤ length (now a)) ⌝ }
+    ensures { λ r. ⌜ r ≡ same (drop from (now (a .entry))) (drop from (now (b .entry))) ⌝ }
 {
-    if a.len() < 4 {
-        return same_from(a, b, 0);
+    if a.len() - from < 4 {
+        return same_from(a, b, from);
     }
-    if word(a, 0) != word(b, 0) {
+    if word(a, from) != word(b, from) {
         return false;
     }
-    same_from(a, b, 4)
+    same_from(a, b, from + 4)
 }
 
-// Are two byte strings equal? They are compared eight bytes at a time. The last eight are compared as they stand, also where
-// some of them were compared before.
+// Are two byte strings equal? They are compared eight bytes at a time, then four, and the last ones one by one.
 fn same(a: &[u8], b: &[u8]) -> bool
     ensures { λ r. ⌜ r ≡ same (now (a .entry)) (now (b .entry)) ⌝ }
 {
     if a.len() != b.len() {
         return false;
     }
-    if a.len() < 8 {
-        return same_few(a, b);
-    }
-    let last = a.len() - 8;
     let mut i: usize = 0;
-    while i < last {
+    while 8 <= a.len() - i {
         if word8(a, i) != word8(b, i) {
             return false;
         }
         i += 8;
     }
-    if word8(a, last) != word8(b, last) {
-        return false;
-    }
-    true
+    same_last(a, b, i)
 }
 
 // A length word minus 1; of 0 the largest number of all, more than any image has room for.

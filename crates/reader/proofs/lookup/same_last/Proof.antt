@@ -1,10 +1,13 @@
--- `reader::lookup::same_few` meets its contract. Assumes nothing.
+-- `reader::lookup::same_last` meets its contract. Assumes nothing.
 use native.Mathlib.Omega.{arith}
 use mathlib.Core.Path.{_≡_, sym, _∙_}
 use Rattle.reader.proofs.Equal.{other-word, same-word}
 use borrow.Author.Needs.{needs}
-use Rattle.reader.proofs.lookup.same_few.Statement.{statement}
-use Rattle.reader.proofs.lookup.same_few.Tie as tie
+use Rattle.reader.proofs.lookup.same_last.Statement.{statement}
+use Rattle.reader.proofs.lookup.same_last.Tie as tie
+
+sub-if1 : tie.Need-sub-if1
+sub-if1 c = search needs
 
 same-from-requires : tie.Need-same-from-requires
 same-from-requires c κs = search needs
@@ -21,7 +24,10 @@ word-requires-2 c κs = search needs
 returns-2 : tie.Need-returns-2
 returns-2 c =
     let a = c .before .before .before .before .before .before .args in
-    sym (other-word (a .a .now) (a .b .now) 0 (omega arith) (omega arith) (λ w. c .if2 .taken (c .before .before .word .ensures ∙ w ∙ sym (c .before .word2 .ensures))))
+    sym (other-word (a .a .now) (a .b .now) (a .from) (omega arith) (omega arith) (λ w. c .if2 .taken (c .before .before .word .ensures ∙ w ∙ sym (c .before .word2 .ensures))))
+
+add-same-from : tie.Need-add-same-from
+add-same-from c = search needs
 
 same-from-requires-2 : tie.Need-same-from-requires-2
 same-from-requires-2 c κs = search needs
@@ -31,16 +37,18 @@ returns-3 c =
     let a = c .before .before .before .before .before .before .before .args in
     c .same-from2 .ensures
     ∙ sym
-    (same-word (a .a .now) (a .b .now) 0 (omega arith) (omega arith) (λ k. c .before .before .before .before .before .before .shared-slice-known .given k .fits) (λ k. c .before .before .before .before .before .shared-slice-known2 .given k .fits) (sym (c .before .before .before .word .ensures) ∙ c .before .if2 .left ∙ c .before .before .word2 .ensures))
+    (same-word (a .a .now) (a .b .now) (a .from) (omega arith) (omega arith) (λ k. c .before .before .before .before .before .before .shared-slice-known .given k .fits) (λ k. c .before .before .before .before .before .shared-slice-known2 .given k .fits) (sym (c .before .before .before .word .ensures) ∙ c .before .if2 .left ∙ c .before .before .word2 .ensures))
 
-pub same-few-spec : {M : Type 1} → statement M
-same-few-spec =
+pub same-last-spec : {M : Type 1} → statement M
+same-last-spec =
     tie.close
     (tie.spec
+    sub-if1
     same-from-requires
     returns
     word-requires
     word-requires-2
     returns-2
+    add-same-from
     same-from-requires-2
     returns-3)
