@@ -1,6 +1,7 @@
 -- An entry taken into its table and the back array, and entries one after the other. Assumes nothing.
 use Prim.Native.Nat.{ℕ, zero, suc, _+_, _-_, _*_, _/_, _%_, _≤_, _<_}
 use native.Mathlib.Omega.{arith}
+use native.Mathlib.Nat.{mod-lt}
 use mathlib.Core.Path.{_≡_, refl, sym, ap, ap₂, _∙_}
 use mathlib.Core.Bool.{Bool, true, false, cond}
 use mathlib.Core.List.{List, [], _∷_, _++_}
@@ -15,6 +16,10 @@ use Rattle.image.specs.declared.Flag.{Flag}
 use Rattle.image.proofs.Words.{length-le32}
 use Rattle.image.proofs.Stores.{sets-then}
 use Rattle.writer.specs.Working.{between, wholeLength, slot, withBucket, withLink, taken, takenFrom}
+
+-- a search among some buckets begins at one of them
+pub start-below : (x n : ℕ) → (n ≡ 0 → ⊥) → x % n < n
+start-below x n h = mod-lt x (omega arith)
 
 module _ (buf : List ℕ) (h at : ℕ) where
   pub bucket-none : (n : ℕ) → n ≡ word buf (28 + 8 * (h % 256)) → n ≡ 0 → buf ≡ withBucket buf h at

@@ -9,8 +9,10 @@ ghost use Rattle.image.specs.Bytes.{word};
 ghost use Rattle.image.specs.Tables.{tableOf};
 ghost use Rattle.writer.specs.Working.{withBucket, withLink, takenFrom, linksApart, Noted};
 use super::check;
+use super::fill::bucket_number;
 use super::fill::store_bucket;
 use super::fill::store_link;
+use super::fill::table_at;
 use super::fill::take_singly;
 use image::Flag;
 
@@ -29,9 +31,8 @@ fn links_apart(flag: Flag, links: usize, end: usize) -> bool
 fn place_of(buf: &[u8], h: u32, end: usize) -> usize
     ensures { λ r. ⌜ (0 < r → end ≤ word (now (buf .entry)) (24 + 8 * tableOf h)) ⌝ }
 {
-    let t = (h % 256) as usize;
-    let o = image::get_u32(buf, 24 + 8 * t) as usize;
-    let n = image::get_u32(buf, 28 + 8 * t) as usize;
+    let o = table_at(buf, h);
+    let n = bucket_number(buf, h);
     if o < end {
         return 0;
     }

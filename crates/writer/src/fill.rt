@@ -4,7 +4,7 @@ ghost use Prim.Native.Nat.{ℕ, _+_, _*_, _<_, _≤_};
 ghost use lib.ListN.{length};
 ghost use lib.Seq.{sets};
 ghost use Rattle.image.specs.Bytes.{word, le32};
-ghost use Rattle.image.specs.Tables.{order, firstEmpty};
+ghost use Rattle.image.specs.Tables.{tableOf, order, firstEmpty};
 ghost use Rattle.writer.specs.Working.{withBucket, withLink, taken, takenFrom};
 use super::check;
 use image::Flag;
@@ -26,13 +26,26 @@ fn first_empty(buf: &[u8], o: usize, n: usize, k: usize) -> usize
     0
 }
 
+// The offset of a hash's table, by its row in the head.
+pub(super) fn table_at(buf: &[u8], h: u32) -> usize
+    ensures { λ r. ⌜ (r ≡ word (now (buf .entry)) (24 + 8 * tableOf h)) × (r < 4294967296) ⌝ }
+{
+    image::get_u32(buf, 24 + 8 * ((h % 256) as usize)) as usize
+}
+
+// How many buckets it has.
+pub(super) fn bucket_number(buf: &[u8], h: u32) -> usize
+    ensures { λ r. ⌜ (r ≡ word (now (buf .entry)) (28 + 8 * tableOf h)) × (r < 4294967296) ⌝ }
+{
+    image::get_u32(buf, 28 + 8 * ((h % 256) as usize)) as usize
+}
+
 // An entry of hash h at `at`, stored in the first empty bucket of its search.
 pub(super) fn store_bucket(buf: &mut [u8], h: u32, at: u32)
     ensures { λ _. ⌜ now (buf .exit) ≡ withBucket (now (buf .entry)) h at ⌝ }
 {
-    let t = (h % 256) as usize;
-    let o = image::get_u32(&*buf, 24 + 8 * t) as usize;
-    let n = image::get_u32(&*buf, 28 + 8 * t) as usize;
+    let o = table_at(&*buf, h);
+    let n = bucket_number(&*buf, h);
     if n == 0 {
         return;
     }

@@ -1,44 +1,17 @@
 -- `writer::batch::place_of` meets its contract. Assumes nothing.
 use native.Mathlib.Omega.{arith}
-use native.Mathlib.Nat.{mod-lt}
-use Prim.Native.Nat.{ℕ, _/_, _%_, _<_}
+use Prim.Native.Nat.{_/_}
 use mathlib.Core.Path.{_≡_}
+use Rattle.writer.proofs.Taking.{start-below}
 use borrow.Author.Needs.{needs}
 use Rattle.writer.proofs.batch.place_of.Statement.{statement}
 use Rattle.writer.proofs.batch.place_of.Tie as tie
-use Rattle.writer.proofs.batch.place_of.Reads as reads
-use Rattle.writer.proofs.batch.place_of.Lts as lts
-use Rattle.image.proofs.get_u32.Reads as get-u32-reads
 
-pos-of : (n : ℕ) → (n ≡ 0 → ⊥) → 0 < n
-pos-of n h = omega arith
+table-at-requires : tie.Need-table-at-requires
+table-at-requires c κs = search needs
 
-cast-t : tie.Need-cast-t
-cast-t c = search needs
-
-mul-get-u32 : tie.Need-mul-get-u32
-mul-get-u32 c = search needs
-
-add-get-u32 : tie.Need-add-get-u32
-add-get-u32 c = search needs
-
-get-u32-requires : tie.Need-get-u32-requires
-get-u32-requires c κs = search needs
-
-cast-o : tie.Need-cast-o
-cast-o c = search needs
-
-mul-get-u32-2 : tie.Need-mul-get-u32-2
-mul-get-u32-2 c = search needs
-
-add-get-u32-2 : tie.Need-add-get-u32-2
-add-get-u32-2 c = search needs
-
-get-u32-requires-2 : tie.Need-get-u32-requires-2
-get-u32-requires-2 c κs = search needs
-
-cast-n : tie.Need-cast-n
-cast-n c = search needs
+bucket-number-requires : tie.Need-bucket-number-requires
+bucket-number-requires c κs = search needs
 
 returns : tie.Need-returns
 returns c = search needs
@@ -54,21 +27,18 @@ rem-result c = search needs
 
 mul-result : tie.Need-mul-result
 mul-result c =
-    let pos : 0 < c .before .before .get-u322 .result = pos-of _ (c .if2 .left) in
-    let r : c .before .before .before .before .before .args .h / 256 % c .before .before .get-u322 .result < c .before .before .get-u322 .result = mod-lt (c .before .before .before .before .before .args .h / 256) pos in
-    omega (arith, c .before .before .get-u322 .ok, c .before .before .before .get-u32 .ok)
+    let of-n = c .before .before .bucket-number in
+    omega (arith, start-below (c .before .before .before .before .before .args .h / 256) (of-n .result) (c .if2 .left), of-n .ensures .1, c .before .before .before .table-at .ensures .1)
 
 add-result : tie.Need-add-result
 add-result c =
-    let pos : 0 < c .before .before .get-u322 .result = pos-of _ (c .if2 .left) in
-    let r : c .before .before .before .before .before .args .h / 256 % c .before .before .get-u322 .result < c .before .before .get-u322 .result = mod-lt (c .before .before .before .before .before .args .h / 256) pos in
-    omega (arith, c .before .before .get-u322 .ok, c .before .before .before .get-u32 .ok)
+    let of-n = c .before .before .bucket-number in
+    omega (arith, start-below (c .before .before .before .before .before .args .h / 256) (of-n .result) (c .if2 .left), of-n .ensures .1, c .before .before .before .table-at .ensures .1)
 
 add-result-2 : tie.Need-add-result-2
 add-result-2 c =
-    let pos : 0 < c .before .before .get-u322 .result = pos-of _ (c .if2 .left) in
-    let r : c .before .before .before .before .before .args .h / 256 % c .before .before .get-u322 .result < c .before .before .get-u322 .result = mod-lt (c .before .before .before .before .before .args .h / 256) pos in
-    omega (arith, c .before .before .get-u322 .ok, c .before .before .before .get-u32 .ok)
+    let of-n = c .before .before .bucket-number in
+    omega (arith, start-below (c .before .before .before .before .before .args .h / 256) (of-n .result) (c .if2 .left), of-n .ensures .1, c .before .before .before .table-at .ensures .1)
 
 returns-3 : tie.Need-returns-3
 returns-3 c = search needs
@@ -77,15 +47,8 @@ pub place-of-spec : {M : Type 1} → statement M
 place-of-spec =
     tie.close
     (tie.spec
-    cast-t
-    mul-get-u32
-    add-get-u32
-    get-u32-requires
-    cast-o
-    mul-get-u32-2
-    add-get-u32-2
-    get-u32-requires-2
-    cast-n
+    table-at-requires
+    bucket-number-requires
     returns
     returns-2
     cast-result
