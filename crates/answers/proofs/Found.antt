@@ -15,7 +15,7 @@ use Rattle.jhash.proofs.Answers.{hashOf-below}
 use Rattle.image.specs.Bytes.{le32, same}
 use Rattle.image.specs.Tables.{Bucket, empty, tableOf, start, order, filled}
 use Rattle.image.specs.Record.{Entry, Placed, headSize, ofTable, inTable, count, bucketOf, bucketBytes, table, entriesBefore, tableOffset, backSize, entriesEnd, imageSize, image}
-use Rattle.image.specs.declared.Flag.{Flag}
+use Rattle.image.specs.declared.Mode.{Mode}
 use Rattle.image.proofs.Sizes.{length-image}
 use Rattle.reader.specs.Lookup.{nothing, Seen, pass, hit, seeEntry, see, probe, searchTable, lookupHash, lookup}
 use Rattle.answers.specs.Answer.{ofName, firstId, tablePuts}
@@ -49,9 +49,9 @@ lookup-long image name h = rw (le-leb 4294967295 (length name) h) (go (ltb (leng
     go true = refl
     go false = refl
 
-module _ (flag : Flag) (es : List Entry) (fits : imageSize flag es ≤ 4294967295) (ids : backSize es ≤ 2 ^ 32) (name : List ℕ) where
-  small : length (image flag es) ≤ 4294967295
-  small = omega (arith, length-image flag es)
+module _ (mode : Mode) (es : List Entry) (fits : imageSize mode es ≤ 4294967295) (ids : backSize es ≤ 2 ^ 32) (name : List ℕ) where
+  small : length (image mode es) ≤ 4294967295
+  small = omega (arith, length-image mode es)
 
   t-below : tableOf (hashOf name) < 256
   t-below = mod-lt (hashOf name) (lit< tt)
@@ -61,16 +61,16 @@ module _ (flag : Flag) (es : List Entry) (fits : imageSize flag es ≤ 429496729
   qs = ofTable (tableOf (hashOf name)) (placedIn es)
 
   v : ℕ → Seen
-  v = seeEntry (image flag es) name
+  v = seeEntry (image mode es) name
 
   abbrev Read : Placed → Type 0
-  Read p = Stands (image flag es) p × (p .entry .id < 2 ^ 32)
+  Read p = Stands (image mode es) p × (p .entry .id < 2 ^ 32)
 
   all-read : All Read qs
   unfolding qs ofTable
   all-read =
       all-keep Read (inTable (tableOf (hashOf name))) (placedIn es)
-      (all-both (Stands (image flag es)) (λ (p : Placed). p .entry .id < 2 ^ 32) (placedIn es) (all-stand flag es)
+      (all-both (Stands (image mode es)) (λ (p : Placed). p .entry .id < 2 ^ 32) (placedIn es) (all-stand mode es)
       (all-placed (λ (e : Entry). e .id < 2 ^ 32) headSize es (ids-below es (2 ^ 32) ids)))
 
   -- ---- what is seen in an entry's bucket
@@ -121,11 +121,11 @@ module _ (flag : Flag) (es : List Entry) (fits : imageSize flag es ≤ 429496729
   n = 2 * count (tableOf (hashOf name)) (placedIn es)
 
   seen-bucket : (k : ℕ) → k < n
-      → see (image flag es) name (hashOf name) (at + 8 * k) ≡ look (hashOf name) v (getD (table (tableOf (hashOf name)) (placedIn es)) k empty)
+      → see (image mode es) name (hashOf name) (at + 8 * k) ≡ look (hashOf name) v (getD (table (tableOf (hashOf name)) (placedIn es)) k empty)
   unfolding see bucketBytes n at v
   seen-bucket k i =
       let b = getD (table (tableOf (hashOf name)) (placedIn es)) k empty in
-      let a = bucket-at flag es fits (tableOf (hashOf name)) k t-below i in
+      let a = bucket-at mode es fits (tableOf (hashOf name)) k t-below i in
       let w = bucket-words k in
       rw (at-word (b .at) (at-second (b .hash) (b .at) a) (w .1), at-word (b .hash) (at-left (le32 (b .hash)) (le32 (b .at)) a) (w .0))
 
@@ -141,16 +141,16 @@ module _ (flag : Flag) (es : List Entry) (fits : imageSize flag es ≤ 429496729
 
   -- each bucket is seen as the table has it
   search-alike : 0 < count (tableOf (hashOf name)) (placedIn es)
-      → searchTable (image flag es) name (hashOf name) at n
+      → searchTable (image mode es) name (hashOf name) at n
       ≡ probe (λ (k : ℕ). look (hashOf name) v (getD (filled n (map bucketOf qs)) k empty)) (order n n (start (hashOf name) n)) 0
   unfolding searchTable table n qs
   search-alike some-entry =
-      probe-alike (λ (k : ℕ). see (image flag es) name (hashOf name) (at + 8 * k))
+      probe-alike (λ (k : ℕ). see (image mode es) name (hashOf name) (at + 8 * k))
       (λ (k : ℕ). look (hashOf name) v (getD (table (tableOf (hashOf name)) (placedIn es)) k empty))
       n seen-bucket n (start (hashOf name) n) 0 (mod-lt (hashOf name / 256) (omega arith))
 
   in-table : 0 < count (tableOf (hashOf name)) (placedIn es)
-      → Searched (firstId (ofName name es)) (tablePuts name es) (searchTable (image flag es) name (hashOf name) at n)
+      → Searched (firstId (ofName name es)) (tablePuts name es) (searchTable (image mode es) name (hashOf name) at n)
   unfolding n
   in-table some-entry =
       searched-same first-hit (length-qs ∙ count-puts name headSize es) (sym (search-alike some-entry))
@@ -166,24 +166,24 @@ module _ (flag : Flag) (es : List Entry) (fits : imageSize flag es ≤ 429496729
       go (p ∷ ps) z = absurd (omega arith)
 
   by-count : (b : Bool) → eqb (count (tableOf (hashOf name)) (placedIn es)) 0 ≡ b
-      → Searched (firstId (ofName name es)) (tablePuts name es) (lookupHash (image flag es) name (hashOf name))
+      → Searched (firstId (ofName name es)) (tablePuts name es) (lookupHash (image mode es) name (hashOf name))
   unfolding lookupHash tableOffset at n
   by-count true e =
-      rw (tableAt-image flag es fits (tableOf (hashOf name)) t-below, e)
+      rw (tableAt-image mode es fits (tableOf (hashOf name)) t-below, e)
       (nothing-searched (firstId (ofName name es)) (tablePuts name es) (no-entry (eqb-true (count (tableOf (hashOf name)) (placedIn es)) 0 e)))
   by-count false e =
       let c : 0 < count (tableOf (hashOf name)) (placedIn es) = let ne = eqb-false (count (tableOf (hashOf name)) (placedIn es)) 0 e in omega arith in
       rw (
-        table-inside flag es fits (tableOf (hashOf name)) t-below,
-        tableAt-image flag es fits (tableOf (hashOf name)) t-below,
-        bucketNumber-image flag es fits (tableOf (hashOf name)) t-below,
+        table-inside mode es fits (tableOf (hashOf name)) t-below,
+        tableAt-image mode es fits (tableOf (hashOf name)) t-below,
+        bucketNumber-image mode es fits (tableOf (hashOf name)) t-below,
         e,
         ne-eqb (entriesEnd es + 16 * entriesBefore (tableOf (hashOf name)) (placedIn es)) 0 (λ z. omega arith),
         ne-eqb (2 * count (tableOf (hashOf name)) (placedIn es)) 0 (λ z. omega arith),
       )
       (in-table c)
 
-  pub lookup-searched : Searched (firstId (ofName name es)) (tablePuts name es) (lookup (image flag es) name)
+  pub lookup-searched : Searched (firstId (ofName name es)) (tablePuts name es) (lookup (image mode es) name)
   unfolding lookup
   lookup-searched = go (decLt (length name) 4294967295)
     where
@@ -193,10 +193,10 @@ module _ (flag : Flag) (es : List Entry) (fits : imageSize flag es ≤ 429496729
           (none-of-name name es
           (all-map (λ e q. omega arith) es (names-short 4294967295 es (omega arith))))
 
-      go : Dec (length name < 4294967295) → Searched (firstId (ofName name es)) (tablePuts name es) (lookup (image flag es) name)
+      go : Dec (length name < 4294967295) → Searched (firstId (ofName name es)) (tablePuts name es) (lookup (image mode es) name)
       go (yes l) =
-          rw (long-enough flag es fits, lt-leb 4294967295 (length name) l)
+          rw (long-enough mode es fits, lt-leb 4294967295 (length name) l)
           (by-count (eqb (count (tableOf (hashOf name)) (placedIn es)) 0) refl)
       go (no l) =
           let m : 4294967295 ≤ length name = omega arith in
-          rw (lookup-long (image flag es) name m) (nothing-searched (firstId (ofName name es)) (tablePuts name es) (long m))
+          rw (lookup-long (image mode es) name m) (nothing-searched (firstId (ofName name es)) (tablePuts name es) (long m))

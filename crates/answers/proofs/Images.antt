@@ -7,8 +7,8 @@ use Prim.Native.Nat.{ℕ, _+_, _^_, _≤_}
 use native.Mathlib.Omega.{arith}
 use lib.ListN.{length}
 use Rattle.image.specs.Record.{Entry, backSize, imageSize, image}
-use Rattle.image.specs.declared.Flag.{Flag}
-use Rattle.image.specs.declared.Flag.the-variants.{None}
+use Rattle.image.specs.declared.Mode.{Mode}
+use Rattle.image.specs.declared.Mode.the-variants.{Twoway}
 use Rattle.reader.specs.Open.{num, opening}
 use Rattle.reader.specs.Lookup.{found, nothing, lookup}
 use Rattle.answers.specs.Answer.{foundId, nameGiven, ofName, ofId, tablePuts, firstId, lastName}
@@ -35,27 +35,27 @@ last-none (e ∷ f ∷ es) = (
 
 -- ---- every image: one-way and two-way
 
-module _ (flag : Flag) (es : List Entry) (fits : imageSize flag es ≤ 4294967295) where
+module _ (mode : Mode) (es : List Entry) (fits : imageSize mode es ≤ 4294967295) where
   -- it is opened, and num is the number of entries
-  pub image-opens : opening (image flag es) ≡ num (length es)
-  image-opens = opening-image flag es fits
+  pub image-opens : opening (image mode es) ≡ num (length es)
+  image-opens = opening-image mode es fits
 
   -- every id is a word where the back size, the largest id plus 1, is at most 2 ^ 32
   module _ (ids : backSize es ≤ 2 ^ 32) (name : List ℕ) where
     -- a name gives the id of its first entry, and nothing exactly when none has it
-    pub name-gives : foundId (lookup (image flag es) name) ≡ firstId (ofName name es)
-    name-gives = lookup-searched flag es fits ids name .finds
+    pub name-gives : foundId (lookup (image mode es) name) ≡ firstId (ofName name es)
+    name-gives = lookup-searched mode es fits ids name .finds
 
-    pub name-nothing : (foundId (lookup (image flag es) name) ≡ none) ↔ (ofName name es ≡ [])
+    pub name-nothing : (foundId (lookup (image mode es) name) ≡ none) ↔ (ofName name es ≡ [])
     name-nothing =
         (λ q. first-none (ofName name es) .0 (sym name-gives ∙ q), λ q. name-gives ∙ first-none (ofName name es) .1 q)
 
     -- buckets read: at most one more than the entries of the name's table, and no more than those when it is found
-    pub name-reads : reads (lookup (image flag es) name) ≤ tablePuts name es + 1
-    name-reads = lookup-searched flag es fits ids name .most
+    pub name-reads : reads (lookup (image mode es) name) ≤ tablePuts name es + 1
+    name-reads = lookup-searched mode es fits ids name .most
 
-    pub found-reads : (id r : ℕ) → lookup (image flag es) name ≡ found id r → r ≤ tablePuts name es
-    found-reads = lookup-searched flag es fits ids name .found-most
+    pub found-reads : (id r : ℕ) → lookup (image mode es) name ≡ found id r → r ≤ tablePuts name es
+    found-reads = lookup-searched mode es fits ids name .found-most
 
 -- a name that is too long for a hash reads no bucket, whatever the bytes
 pub long-reads : (bytes name : List ℕ) → 4294967295 ≤ length name → lookup bytes name ≡ nothing 0
@@ -63,25 +63,25 @@ long-reads = lookup-long
 
 -- ---- two-way images: the size bounds the ids
 
-pub ids-fit : (es : List Entry) → imageSize None es ≤ 4294967295 → backSize es ≤ 2 ^ 32
+pub ids-fit : (es : List Entry) → imageSize Twoway es ≤ 4294967295 → backSize es ≤ 2 ^ 32
 ids-fit es fits = omega arith
 
-module _ (es : List Entry) (fits : imageSize None es ≤ 4294967295) where
+module _ (es : List Entry) (fits : imageSize Twoway es ≤ 4294967295) where
   -- an id gives exactly the name of its last entry, and nothing exactly when none has it
-  pub id-gives : (id : ℕ) → nameGiven (image None es) id ≡ lastName (ofId id es)
+  pub id-gives : (id : ℕ) → nameGiven (image Twoway es) id ≡ lastName (ofId id es)
   id-gives = naming-image es fits
 
-  pub id-nothing : (id : ℕ) → (nameGiven (image None es) id ≡ none) ↔ (ofId id es ≡ [])
+  pub id-nothing : (id : ℕ) → (nameGiven (image Twoway es) id ≡ none) ↔ (ofId id es ≡ [])
   id-nothing id =
       (λ q. last-none (ofId id es) .0 (sym (id-gives id) ∙ q), λ q. id-gives id ∙ last-none (ofId id es) .1 q)
 
 -- ---- two lists
 
-module _ (es fs : List Entry) (fits : imageSize None es ≤ 4294967295) (fits′ : imageSize None fs ≤ 4294967295) where
+module _ (es fs : List Entry) (fits : imageSize Twoway es ≤ 4294967295) (fits′ : imageSize Twoway fs ≤ 4294967295) where
   -- the same entries of a name, in the same order: both images answer it alike; and so for an id
-  pub names-alike : (name : List ℕ) → ofName name es ≡ ofName name fs → foundId (lookup (image None es) name) ≡ foundId (lookup (image None fs) name)
+  pub names-alike : (name : List ℕ) → ofName name es ≡ ofName name fs → foundId (lookup (image Twoway es) name) ≡ foundId (lookup (image Twoway fs) name)
   names-alike name e =
-      name-gives None es fits (ids-fit es fits) name ∙ ap firstId e ∙ sym (name-gives None fs fits′ (ids-fit fs fits′) name)
+      name-gives Twoway es fits (ids-fit es fits) name ∙ ap firstId e ∙ sym (name-gives Twoway fs fits′ (ids-fit fs fits′) name)
 
-  pub ids-alike : (id : ℕ) → ofId id es ≡ ofId id fs → nameGiven (image None es) id ≡ nameGiven (image None fs) id
+  pub ids-alike : (id : ℕ) → ofId id es ≡ ofId id fs → nameGiven (image Twoway es) id ≡ nameGiven (image Twoway fs) id
   ids-alike id e = id-gives es fits id ∙ ap lastName e ∙ sym (id-gives fs fits′ id)

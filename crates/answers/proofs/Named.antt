@@ -12,7 +12,7 @@ use lib.ListN.{length}
 use Rattle.image.specs.Bytes.{word, keep}
 use Rattle.image.specs.Record.{Entry, Placed, headSize, entrySize, placed, lastFrom, link, backSize, backOffset, entriesEnd, imageSize, image}
 use Rattle.image.specs.Record.{hasId as placedHasId, ofId as placedOfId}
-use Rattle.image.specs.declared.Flag.the-variants.{None, Oneway}
+use Rattle.image.specs.declared.Mode.the-variants.{Twoway, Oneway}
 use Rattle.image.proofs.Sizes.{length-image}
 use Rattle.reader.specs.Open.{backSizeAt}
 use Rattle.reader.specs.Naming.{unnamed, noBack, namingAt, naming}
@@ -85,49 +85,49 @@ module _ (img : List ℕ) (small : length img ≤ 4294967295) where
 
 -- ---- naming
 
-module _ (es : List Entry) (fits : imageSize None es ≤ 4294967295) (id : ℕ) where
-  img-small : length (image None es) ≤ 4294967295
-  img-small = omega (arith, length-image None es)
+module _ (es : List Entry) (fits : imageSize Twoway es ≤ 4294967295) (id : ℕ) where
+  img-small : length (image Twoway es) ≤ 4294967295
+  img-small = omega (arith, length-image Twoway es)
 
-  of-id : All (Stands (image None es)) (placedOfId id (placedIn es))
+  of-id : All (Stands (image Twoway es)) (placedOfId id (placedIn es))
   unfolding placedOfId
-  of-id = all-keep (Stands (image None es)) (placedHasId id) (placedIn es) (all-stand None es)
+  of-id = all-keep (Stands (image Twoway es)) (placedHasId id) (placedIn es) (all-stand Twoway es)
 
-  pub link-named : heldAt (image None es) (namingAt (image None es) (link (placedIn es) id)) ≡ lastName (ofId id es)
+  pub link-named : heldAt (image Twoway es) (namingAt (image Twoway es) (link (placedIn es) id)) ≡ lastName (ofId id es)
   unfolding link held
   link-named =
-      held-last (image None es) img-small 0 (placedOfId id (placedIn es)) of-id
-      ∙ ap (λ (d : Option (List ℕ)). lastNameFrom d (map (λ (p : Placed). p .entry) (placedOfId id (placedIn es)))) (held-none (image None es) img-small)
+      held-last (image Twoway es) img-small 0 (placedOfId id (placedIn es)) of-id
+      ∙ ap (λ (d : Option (List ℕ)). lastNameFrom d (map (λ (p : Placed). p .entry) (placedOfId id (placedIn es)))) (held-none (image Twoway es) img-small)
       ∙ ap (lastNameFrom none) (placed-of-id id headSize es)
       ∙ last-of-all (ofId id es)
 
-  link-word : id < backSize es → word (image None es) (entriesEnd es + 16 * length es + 4 * id) ≡ link (placedIn es) id
+  link-word : id < backSize es → word (image Twoway es) (entriesEnd es + 16 * length es + 4 * id) ≡ link (placedIn es) id
   unfolding link
   link-word h =
-      at-word (link (placedIn es) id) (link-at None es fits id h) (last-below (image None es) img-small 0 (placedOfId id (placedIn es)) (omega arith) of-id)
+      at-word (link (placedIn es) id) (link-at Twoway es fits id h) (last-below (image Twoway es) img-small 0 (placedOfId id (placedIn es)) (omega arith) of-id)
 
-  back-there : 0 < backSize es → backOffset None es ≡ entriesEnd es + 16 * length es
+  back-there : 0 < backSize es → backOffset Twoway es ≡ entriesEnd es + 16 * length es
   unfolding backOffset
   back-there h = rw (ne-eqb (backSize es) 0 (λ z. omega arith))
 
   -- an id that no entry reaches
-  beyond : backSize es ≤ id → nameGiven (image None es) id ≡ none
+  beyond : backSize es ≤ id → nameGiven (image Twoway es) id ≡ none
   unfolding naming
   beyond h =
-      rw (le-leb (backSizeAt (image None es)) id (rw (backSizeAt-image None es fits) h)) (go (noBack (image None es)))
+      rw (le-leb (backSizeAt (image Twoway es)) id (rw (backSizeAt-image Twoway es fits) h)) (go (noBack (image Twoway es)))
     where
-      go : (b : Bool) → heldAt (image None es) (cond b unnamed unnamed) ≡ none
+      go : (b : Bool) → heldAt (image Twoway es) (cond b unnamed unnamed) ≡ none
       go true = refl
       go false = refl
 
-  within : id < backSize es → nameGiven (image None es) id ≡ lastName (ofId id es)
+  within : id < backSize es → nameGiven (image Twoway es) id ≡ lastName (ofId id es)
   unfolding naming
   within h =
       rw (
-        long-enough None es fits,
-        back-inside None es fits,
-        backSizeAt-image None es fits,
-        backOffsetAt-image None es fits,
+        long-enough Twoway es fits,
+        back-inside Twoway es fits,
+        backSizeAt-image Twoway es fits,
+        backOffsetAt-image Twoway es fits,
         back-there (omega arith),
         ne-eqb (entriesEnd es + 16 * length es) 0 (λ z. omega arith),
         lt-leb (backSize es) id h,
@@ -135,10 +135,10 @@ module _ (es : List Entry) (fits : imageSize None es ≤ 4294967295) (id : ℕ) 
       )
       link-named
 
-  pub naming-image : nameGiven (image None es) id ≡ lastName (ofId id es)
+  pub naming-image : nameGiven (image Twoway es) id ≡ lastName (ofId id es)
   naming-image = go (decLt id (backSize es))
     where
-      go : Dec (id < backSize es) → nameGiven (image None es) id ≡ lastName (ofId id es)
+      go : Dec (id < backSize es) → nameGiven (image Twoway es) id ≡ lastName (ofId id es)
       go (yes h) = within h
       go (no h) =
           let q : backSize es ≤ id = omega arith in

@@ -10,8 +10,8 @@ use lib.Dec.{eqb, ltb}
 use lib.ListN.{length, length-append}
 use Rattle.image.specs.Bytes.{word, le32}
 use Rattle.image.specs.Record.{Entry, headSize, count, entriesBefore, tableOffset, flagWord, back, entriesEnd, imageSize, backOffset, headWords, image}
-use Rattle.image.specs.declared.Flag.{Flag}
-use Rattle.image.specs.declared.Flag.the-variants.{None, Oneway}
+use Rattle.image.specs.declared.Mode.{Mode}
+use Rattle.image.specs.declared.Mode.the-variants.{Twoway, Oneway}
 use Rattle.image.proofs.Words.{length-le32}
 use Rattle.image.proofs.Sizes.{length-placed, before-suc, before-all, length-image}
 use Rattle.reader.specs.Open.{num, tableAt, bucketNumber, backSizeAt, backOffsetAt, tableLeaves, backLeaves, someLeaves, halves, hasLetters, opening}
@@ -26,73 +26,73 @@ letters = 67 ∷ 81 ∷ 68 ∷ 66 ∷ []
 abbrev magic : ℕ
 magic = 0x62445371
 
-module _ (flag : Flag) (es : List Entry) where
+module _ (mode : Mode) (es : List Entry) where
   -- the head to the word at 12, to 16, to 20
   to-12 : List ℕ
-  to-12 = letters ++ le32 (imageSize flag es) ++ le32 (flagWord flag)
+  to-12 = letters ++ le32 (imageSize mode es) ++ le32 (flagWord mode)
 
   to-16 : List ℕ
-  to-16 = letters ++ le32 (imageSize flag es) ++ le32 (flagWord flag) ++ le32 magic
+  to-16 = letters ++ le32 (imageSize mode es) ++ le32 (flagWord mode) ++ le32 magic
 
   to-20 : List ℕ
-  to-20 = letters ++ le32 (imageSize flag es) ++ le32 (flagWord flag) ++ le32 magic ++ le32 (back flag es)
+  to-20 = letters ++ le32 (imageSize mode es) ++ le32 (flagWord mode) ++ le32 magic ++ le32 (back mode es)
 
-  six : At (image flag es) 0 (to-20 ++ le32 (backOffset flag es))
+  six : At (image mode es) 0 (to-20 ++ le32 (backOffset mode es))
   unfolding headWords to-20
-  six = head-at flag es
+  six = head-at mode es
 
-  five : At (image flag es) 0 (to-16 ++ le32 (back flag es))
+  five : At (image mode es) 0 (to-16 ++ le32 (back mode es))
   unfolding to-20 to-16
-  five = at-left to-20 (le32 (backOffset flag es)) six
+  five = at-left to-20 (le32 (backOffset mode es)) six
 
-  four : At (image flag es) 0 (to-12 ++ le32 magic)
+  four : At (image mode es) 0 (to-12 ++ le32 magic)
   unfolding to-16 to-12
-  four = at-left to-16 (le32 (back flag es)) five
+  four = at-left to-16 (le32 (back mode es)) five
 
-  three : At (image flag es) 0 (letters ++ le32 (imageSize flag es) ++ le32 (flagWord flag))
+  three : At (image mode es) 0 (letters ++ le32 (imageSize mode es) ++ le32 (flagWord mode))
   unfolding to-12
   three = at-left to-12 (le32 magic) four
 
-  two : At (image flag es) 0 (letters ++ le32 (imageSize flag es))
-  two = at-left (letters ++ le32 (imageSize flag es)) (le32 (flagWord flag)) three
+  two : At (image mode es) 0 (letters ++ le32 (imageSize mode es))
+  two = at-left (letters ++ le32 (imageSize mode es)) (le32 (flagWord mode)) three
 
-  letters-at : At (image flag es) 0 letters
-  letters-at = at-left letters (le32 (imageSize flag es)) two
+  letters-at : At (image mode es) 0 letters
+  letters-at = at-left letters (le32 (imageSize mode es)) two
 
-  pub letters-image : hasLetters (image flag es) ≡ true
+  pub letters-image : hasLetters (image mode es) ≡ true
   letters-image = ap hasLetters (letters-at .stands)
 
-  pub magic-image : word (image flag es) 12 ≡ magic
+  pub magic-image : word (image mode es) 12 ≡ magic
   unfolding to-12
   magic-image = at-word magic (at-same twelve (at-right to-12 (le32 magic) four)) (omega arith)
     where
       twelve : 0 + length to-12 ≡ 12
       twelve = simp (length-append, length-le32)
 
-  pub flag-image : word (image flag es) 8 ≡ flagWord flag
-  flag-image = at-word (flagWord flag) (at-same eight (at-right (letters ++ le32 (imageSize flag es)) (le32 (flagWord flag)) three)) (below flag)
+  pub flag-image : word (image mode es) 8 ≡ flagWord mode
+  flag-image = at-word (flagWord mode) (at-same eight (at-right (letters ++ le32 (imageSize mode es)) (le32 (flagWord mode)) three)) (below mode)
     where
-      eight : 0 + length (letters ++ le32 (imageSize flag es)) ≡ 8
+      eight : 0 + length (letters ++ le32 (imageSize mode es)) ≡ 8
       eight = simp length-le32
 
-      below : (f : Flag) → flagWord f < 2 ^ 32
-      below None = omega arith
+      below : (f : Mode) → flagWord f < 2 ^ 32
+      below Twoway = omega arith
       below Oneway = omega arith
 
-  module _ (fits : imageSize flag es ≤ 4294967295) where
-    pub size-image : word (image flag es) 4 ≡ imageSize flag es
-    size-image = at-word (imageSize flag es) (at-right letters (le32 (imageSize flag es)) two) (omega arith)
+  module _ (fits : imageSize mode es ≤ 4294967295) where
+    pub size-image : word (image mode es) 4 ≡ imageSize mode es
+    size-image = at-word (imageSize mode es) (at-right letters (le32 (imageSize mode es)) two) (omega arith)
 
-    pub backSizeAt-image : backSizeAt (image flag es) ≡ back flag es
+    pub backSizeAt-image : backSizeAt (image mode es) ≡ back mode es
     unfolding to-16
-    backSizeAt-image = at-word (back flag es) (at-same sixteen (at-right to-16 (le32 (back flag es)) five)) (omega arith)
+    backSizeAt-image = at-word (back mode es) (at-same sixteen (at-right to-16 (le32 (back mode es)) five)) (omega arith)
       where
         sixteen : 0 + length to-16 ≡ 16
         sixteen = simp (length-append, length-le32)
 
-    pub backOffsetAt-image : backOffsetAt (image flag es) ≡ backOffset flag es
+    pub backOffsetAt-image : backOffsetAt (image mode es) ≡ backOffset mode es
     unfolding to-20 backOffset
-    backOffsetAt-image = at-word (backOffset flag es) (at-same twenty (at-right to-20 (le32 (backOffset flag es)) six)) (below (eqb (back flag es) 0))
+    backOffsetAt-image = at-word (backOffset mode es) (at-same twenty (at-right to-20 (le32 (backOffset mode es)) six)) (below (eqb (back mode es) 0))
       where
         twenty : 0 + length to-20 ≡ 20
         twenty = simp (length-append, length-le32)
@@ -103,40 +103,40 @@ module _ (flag : Flag) (es : List Entry) where
 
     -- ---- nothing leaves the image
 
-    pub long-enough : ltb (length (image flag es)) headSize ≡ false
-    long-enough = le-ltb (length (image flag es)) headSize (omega (arith, length-image flag es))
+    pub long-enough : ltb (length (image mode es)) headSize ≡ false
+    long-enough = le-ltb (length (image mode es)) headSize (omega (arith, length-image mode es))
 
-    pub table-inside : (t : ℕ) → t < 256 → tableLeaves (image flag es) t ≡ false
+    pub table-inside : (t : ℕ) → t < 256 → tableLeaves (image mode es) t ≡ false
     unfolding tableOffset
     table-inside t h =
-        le-ltb (length (image flag es)) (tableAt (image flag es) t + 8 * bucketNumber (image flag es) t)
-        (rw (tableAt-image flag es fits t h, bucketNumber-image flag es fits t h, length-image flag es) (go (eqb (count t (placedIn es)) 0)))
+        le-ltb (length (image mode es)) (tableAt (image mode es) t + 8 * bucketNumber (image mode es) t)
+        (rw (tableAt-image mode es fits t h, bucketNumber-image mode es fits t h, length-image mode es) (go (eqb (count t (placedIn es)) 0)))
       where
-        go : (b : Bool) → cond b 0 (entriesEnd es + 16 * entriesBefore t (placedIn es)) + 8 * (2 * count t (placedIn es)) ≤ imageSize flag es
-        go true = omega (arith, most flag es fits t h)
-        go false = omega (arith, most flag es fits t h)
+        go : (b : Bool) → cond b 0 (entriesEnd es + 16 * entriesBefore t (placedIn es)) + 8 * (2 * count t (placedIn es)) ≤ imageSize mode es
+        go true = omega (arith, most mode es fits t h)
+        go false = omega (arith, most mode es fits t h)
 
-    pub back-inside : backLeaves (image flag es) ≡ false
+    pub back-inside : backLeaves (image mode es) ≡ false
     unfolding backOffset
     back-inside =
-        le-ltb (length (image flag es)) (backOffsetAt (image flag es) + 4 * backSizeAt (image flag es))
-        (rw (backOffsetAt-image, backSizeAt-image, length-image flag es) (go (eqb (back flag es) 0)))
+        le-ltb (length (image mode es)) (backOffsetAt (image mode es) + 4 * backSizeAt (image mode es))
+        (rw (backOffsetAt-image, backSizeAt-image, length-image mode es) (go (eqb (back mode es) 0)))
       where
-        go : (b : Bool) → cond b 0 (entriesEnd es + 16 * length es) + 4 * back flag es ≤ imageSize flag es
+        go : (b : Bool) → cond b 0 (entriesEnd es + 16 * length es) + 4 * back mode es ≤ imageSize mode es
         go true = omega arith
         go false = omega arith
 
-    tables-inside : (m t : ℕ) → t + m ≤ 256 → someLeaves (image flag es) t m ≡ false
+    tables-inside : (m t : ℕ) → t + m ≤ 256 → someLeaves (image mode es) t m ≡ false
     unfolding someLeaves
     tables-inside zero t h = refl
     tables-inside (suc m) t h =
-        ap (λ (b : Bool). (ltb 0 (tableAt (image flag es) t) && b) || someLeaves (image flag es) (suc t) m) (table-inside t (omega arith))
-        ∙ ap (λ (b : Bool). b || someLeaves (image flag es) (suc t) m) (and-false (ltb 0 (tableAt (image flag es) t)))
+        ap (λ (b : Bool). (ltb 0 (tableAt (image mode es) t) && b) || someLeaves (image mode es) (suc t) m) (table-inside t (omega arith))
+        ∙ ap (λ (b : Bool). b || someLeaves (image mode es) (suc t) m) (and-false (ltb 0 (tableAt (image mode es) t)))
         ∙ tables-inside m (suc t) (omega arith)
 
     -- ---- the number of entries
 
-    halves-image : (m t : ℕ) → t + m ≤ 256 → entriesBefore t (placedIn es) + halves (image flag es) t m ≡ entriesBefore (t + m) (placedIn es)
+    halves-image : (m t : ℕ) → t + m ≤ 256 → entriesBefore t (placedIn es) + halves (image mode es) t m ≡ entriesBefore (t + m) (placedIn es)
     unfolding halves
     halves-image zero t h =
         let e : t ≡ t + 0 = omega arith in
@@ -144,11 +144,11 @@ module _ (flag : Flag) (es : List Entry) where
     halves-image (suc m) t h =
         let e : suc t + m ≡ t + suc m = omega arith in
         let s = before-suc t (placedIn es) in
-        let b = bucketNumber-image flag es fits t (omega arith) in
+        let b = bucketNumber-image mode es fits t (omega arith) in
         let i = halves-image m (suc t) (omega arith) in
         rw (← e)
-        (sum (bucketNumber (image flag es) t) (count t (placedIn es)) (entriesBefore t (placedIn es)) (entriesBefore (suc t) (placedIn es))
-        (halves (image flag es) (suc t) m) (entriesBefore (suc t + m) (placedIn es)) b s i)
+        (sum (bucketNumber (image mode es) t) (count t (placedIn es)) (entriesBefore t (placedIn es)) (entriesBefore (suc t) (placedIn es))
+        (halves (image mode es) (suc t) m) (entriesBefore (suc t + m) (placedIn es)) b s i)
       where
         sum : (b c p q r a : ℕ) → b ≡ 2 * c → q ≡ p + c → q + r ≡ a → p + (b / 2 + r) ≡ a
         sum b c p q r a e f g = omega arith
@@ -157,21 +157,21 @@ module _ (flag : Flag) (es : List Entry) where
     unfolding entriesBefore
     none-before = refl
 
-    all-halves : halves (image flag es) 0 256 ≡ length es
+    all-halves : halves (image mode es) 0 256 ≡ length es
     all-halves =
-        let i : entriesBefore 0 (placedIn es) + halves (image flag es) 0 256 ≡ entriesBefore 256 (placedIn es) = halves-image 256 0 (omega arith) in
+        let i : entriesBefore 0 (placedIn es) + halves (image mode es) 0 256 ≡ entriesBefore 256 (placedIn es) = halves-image 256 0 (omega arith) in
         omega (arith, none-before, before-all (placedIn es), length-placed headSize es)
 
-    pub opening-image : opening (image flag es) ≡ num (length es)
+    pub opening-image : opening (image mode es) ≡ num (length es)
     unfolding opening
     opening-image =
         rw (
           long-enough,
           letters-image,
-          eq-eqb (word (image flag es) 12) magic magic-image,
+          eq-eqb (word (image mode es) 12) magic magic-image,
           tables-inside 256 0 (omega arith),
           back-inside,
-          and-false (ltb 0 (backOffsetAt (image flag es))),
+          and-false (ltb 0 (backOffsetAt (image mode es))),
           all-halves,
         )
         (ap num (mod-eq-of-lt (omega arith)))

@@ -12,7 +12,7 @@ use Rattle.image.specs.Tables.{Bucket, empty, start, order, firstEmpty, insert,
 use Rattle.image.specs.Record.{Entry, entryBytes, entriesSize, placed, ofTable, bucketBytes, table, tableBytes, entriesBefore, tableOffset}
 use Rattle.image.specs.Record.{tableRow, tableRows, tables, backSize, lastFrom, link, links, backOffset, imageSize, headWords, image}
 use Rattle.image.specs.Record.{ofId as placedOfId}
-use Rattle.image.specs.declared.Flag.the-variants.{None}
+use Rattle.image.specs.declared.Mode.the-variants.{Twoway}
 use Rattle.reader.specs.Lookup.{Lookup, found, nothing, Seen, pass, hit, probe, lookup, lookupHash, searchTable, see, seeEntry}
 use Rattle.answers.specs.Answer.{foundId, nameGiven, ofName, ofId}
 use Rattle.answers.proofs.Searched.{look}
@@ -52,27 +52,27 @@ B = 66 ∷ []
 abbrev twice : List Entry
 twice = record { name = A; id = 5 } ∷ record { name = A; id = 9 } ∷ []
 
-fits : imageSize None twice ≤ 4294967295
+fits : imageSize Twoway twice ≤ 4294967295
 unfolding entriesSize backSize
 fits = lit≤ tt
 
-A-finds : foundId (lookup (image None twice) A) ≡ some 5
+A-finds : foundId (lookup (image Twoway twice) A) ≡ some 5
 unfolding ofName keep same
-A-finds = name-gives None twice fits (ids-fit twice fits) A
+A-finds = name-gives Twoway twice fits (ids-fit twice fits) A
 
-B-finds : foundId (lookup (image None twice) B) ≡ none
+B-finds : foundId (lookup (image Twoway twice) B) ≡ none
 unfolding ofName keep same
-B-finds = name-gives None twice fits (ids-fit twice fits) B
+B-finds = name-gives Twoway twice fits (ids-fit twice fits) B
 
-id-9 : nameGiven (image None twice) 9 ≡ some A
+id-9 : nameGiven (image Twoway twice) 9 ≡ some A
 unfolding ofId keep
 id-9 = id-gives twice fits 9
 
-id-7 : nameGiven (image None twice) 7 ≡ none
+id-7 : nameGiven (image Twoway twice) 7 ≡ none
 unfolding ofId keep
 id-7 = id-gives twice fits 7
 
 -- and the search itself, with the real hash
-A-computed : lookup (image None twice) A ≡ found 5 1
+A-computed : lookup (image Twoway twice) A ≡ found 5 1
 unfolding lookup lookupHash searchTable probe see seeEntry word image headWords le32 tableRows tableRow tableOffset cat range placed ofTable keep entriesBefore tables tableBytes table filled insertAll insert firstEmpty order bucketBytes entryBytes entriesSize backSize links link placedOfId lastFrom backOffset same hashOf
 A-computed = refl

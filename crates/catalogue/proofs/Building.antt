@@ -4,7 +4,7 @@ use native.Mathlib.Omega.{arith}
 use mathlib.Core.Path.{_≡_, ap, _∙_}
 use mathlib.Core.List.{List}
 use lib.ListN.{length, take, length-take}
-use Rattle.image.specs.declared.Flag.the-variants.{None}
+use Rattle.image.specs.declared.Mode.the-variants.{Twoway}
 use Rattle.image.specs.Record.{headSize}
 use Rattle.writer.specs.State.{State, lent, fresh, begun, refusal, beginning, countsBegun}
 use Rattle.writer.specs.Close.{size, refusal as refusedClose, closedSize, closing, afterClose}
@@ -19,32 +19,32 @@ use Rattle.catalogue.specs.Left.{putsOf, Left, Built}
 
 -- begin does not refuse, and leaves a fresh record
 module _ (buffer : List ℕ) (room : headSize ≤ length buffer) where
-  fresh-writer : (w : CQDBWriter) → begun w ≡ begun (fresh None buffer .writer) → w ≡ fresh None buffer .writer
+  fresh-writer : (w : CQDBWriter) → begun w ≡ begun (fresh Twoway buffer .writer) → w ≡ fresh Twoway buffer .writer
   fresh-writer w e = cc
 
-  begin-fresh : (w : CQDBWriter) (given counts : List ℕ) → begun w ≡ beginning None (length buffer) → counts ≡ countsBegun (length buffer) given
-      → lent w counts buffer ≡ fresh None buffer
+  begin-fresh : (w : CQDBWriter) (given counts : List ℕ) → begun w ≡ beginning Twoway (length buffer) → counts ≡ countsBegun (length buffer) given
+      → lent w counts buffer ≡ fresh Twoway buffer
   unfolding fresh
   begin-fresh w given counts e f =
-      let same = fresh-writer w (e ∙ list-begins None buffer room) in
-      let cleared = f ∙ list-counts None buffer room given in
+      let same = fresh-writer w (e ∙ list-begins Twoway buffer room) in
+      let cleared = f ∙ list-counts Twoway buffer room given in
       λ i. record { writer = same i; counts = cleared i; buffer = buffer }
 
-  pub begin-accepted : {P : Type 0} (n : ℕ) → refusal n ≡ beginning None (length buffer) → P
-  begin-accepted n e = let z : _≡_ {A = ℕ} 0 1 = cc (e ∙ list-begins None buffer room) in absurd (omega arith)
+  pub begin-accepted : {P : Type 0} (n : ℕ) → refusal n ≡ beginning Twoway (length buffer) → P
+  begin-accepted n e = let z : _≡_ {A = ℕ} 0 1 = cc (e ∙ list-begins Twoway buffer room) in absurd (omega arith)
 
-  begin-capacity : (w : CQDBWriter) → begun w ≡ beginning None (length buffer) → w .capacity ≡ length buffer
+  begin-capacity : (w : CQDBWriter) → begun w ≡ beginning Twoway (length buffer) → w .length ≡ length buffer
   unfolding fresh
-  begin-capacity w e = ap (λ (x : CQDBWriter). x .capacity) (fresh-writer w (e ∙ list-begins None buffer room))
+  begin-capacity w e = ap (λ (x : CQDBWriter). x .length) (fresh-writer w (e ∙ list-begins Twoway buffer room))
 
 -- the puts of an input from a fresh record, and the close after them
-module _ (buffer : List ℕ) (room : headSize ≤ length buffer) (input : List ℕ) (s : State) (e : s ≡ afterInput (fresh None buffer) input) where
-  so : s ≡ after (fresh None buffer) (inputCalls input)
+module _ (buffer : List ℕ) (room : headSize ≤ length buffer) (input : List ℕ) (s : State) (e : s ≡ afterInput (fresh Twoway buffer) input) where
+  so : s ≡ after (fresh Twoway buffer) (inputCalls input)
   unfolding afterInput
   so = e
 
   closes : closing s ≡ size (closedSize s)
-  closes = rw so (list-gives None buffer room (inputCalls input) (two-way (inputCalls input)))
+  closes = rw so (list-gives Twoway buffer room (inputCalls input) (two-way (inputCalls input)))
 
   close-accepted : {P : Type 0} (n : ℕ) → refusedClose n ≡ closing s → P
   close-accepted n f = let z : _≡_ {A = ℕ} 0 1 = cc (f ∙ closes) in absurd (omega arith)
@@ -56,25 +56,25 @@ module _ (buffer : List ℕ) (room : headSize ≤ length buffer) (input : List �
       let es : n ≡ closedSize s = inside (f ∙ closes) in
       record {
         input = input;
-        counted = ap (λ (x : State). x .writer .entries) so ∙ list-written None buffer room cs (two-way cs) .entries;
-        sized = es ∙ ap closedSize so ∙ list-formula None buffer room cs (two-way cs);
+        counted = ap (λ (x : State). x .writer .entries) so ∙ list-written Twoway buffer room cs (two-way cs) .entries;
+        sized = es ∙ ap closedSize so ∙ list-formula Twoway buffer room cs (two-way cs);
         imaged =
             ap (λ (k : ℕ). take k (t .buffer)) es
             ∙ ap (λ (x : State). take (closedSize s) (x .buffer)) g
             ∙ ap (λ (x : State). take (closedSize x) (afterClose x .buffer)) so
-            ∙ list-image None buffer room cs (two-way cs);
+            ∙ list-image Twoway buffer room cs (two-way cs);
       }
     where
       inside : {k : ℕ} → size n ≡ size k → n ≡ k
       inside p = cc
 
 -- all of it, in a room for lines that is no shorter than the buffer
-module _ (buffer room given counts : List ℕ) (w : CQDBWriter) (e : begun w ≡ beginning None (length buffer)) (f : counts ≡ countsBegun (length buffer) given)
-    (s : State) (put : w .capacity ≤ length room → Left (lent w counts buffer) s) (big : headSize ≤ length buffer) (enough : length buffer ≤ length room) where
+module _ (buffer room given counts : List ℕ) (w : CQDBWriter) (e : begun w ≡ beginning Twoway (length buffer)) (f : counts ≡ countsBegun (length buffer) given)
+    (s : State) (put : w .length ≤ length room → Left (lent w counts buffer) s) (big : headSize ≤ length buffer) (enough : length buffer ≤ length room) where
   put-left : Left (lent w counts buffer) s
   put-left = let same = begin-capacity buffer big w e in put (omega arith)
 
-  from-fresh : s ≡ afterInput (fresh None buffer) (put-left .input)
+  from-fresh : s ≡ afterInput (fresh Twoway buffer) (put-left .input)
   from-fresh = put-left .left ∙ ap (λ (x : State). afterInput x (put-left .input)) (begin-fresh buffer big w given counts e f)
 
   pub built : (n : ℕ) (t : State) → size n ≡ closing s → t ≡ afterClose s → Built (length buffer) (s .writer .entries) n (t .buffer)
@@ -89,8 +89,8 @@ built-inside n entries k buffer b =
     let es = putsOf n (b .input) in
     let took = length-take k buffer in
     let same = ap length (b .imaged) in
-    let long = length-image None es in
-    let formula = sizeOf-is None es in
+    let long = length-image Twoway es in
+    let formula = sizeOf-is Twoway es in
     let sized = b .sized in
     omega arith
 

@@ -25,7 +25,7 @@ pub more-taken : (g h k : Gathering) (piece : List ℕ) → Taken g h → k ≡ 
 more-taken g h k piece t e =
     record { bytes = t .bytes ++ piece; so = e ∙ ap (λ (x : Gathering). takePiece x piece) (t .so) ∙ sym (piece-append g (t .bytes) piece) }
 
-pub taken-left : (s r : State) (room : List ℕ) (h : Gathering) → Taken (started s room) h → r ≡ inputEnded h → s .writer .capacity ≤ length room → Left s r
+pub taken-left : (s r : State) (room : List ℕ) (h : Gathering) → Taken (started s room) h → r ≡ inputEnded h → s .writer .length ≤ length room → Left s r
 taken-left s r room h t e enough =
     record { input = t .bytes; left = e ∙ ap inputEnded (t .so) ∙ in-one s room (t .bytes) enough }
 

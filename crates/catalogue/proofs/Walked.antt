@@ -7,7 +7,7 @@ use mathlib.Core.Option.{Option}
 use lib.ListN.{length, replicate, length-replicate}
 use lib.Dec.{lit≤}
 use Rattle.image.specs.Bytes.{keep}
-use Rattle.image.specs.declared.Flag.the-variants.{None}
+use Rattle.image.specs.declared.Mode.the-variants.{Twoway}
 use Rattle.image.specs.Record.{Entry, headSize, backSize, image}
 use Rattle.reader.specs.Naming.{Naming, place, unnamed, naming}
 use Rattle.reader.specs.Walk.{stepOf, step}
@@ -34,20 +34,20 @@ items-by img es h n (suc m) =
 
 -- on the image of a list of calls
 module _ (buffer : List ℕ) (cs : List Call) (room : headSize ≤ length buffer) where
-  image-named : (id : ℕ) → nameGiven (image None (accepted None (length buffer) cs)) id ≡ lastName (ofId id (accepted None (length buffer) cs))
+  image-named : (id : ℕ) → nameGiven (image Twoway (accepted Twoway (length buffer) cs)) id ≡ lastName (ofId id (accepted Twoway (length buffer) cs))
   image-named id =
       let one = one-list buffer cs room in
-      ap (λ (img : List ℕ). nameGiven img id) (sym (one .imaged ∙ ap (image None) (one .decided)))
+      ap (λ (img : List ℕ). nameGiven img id) (sym (one .imaged ∙ ap (image Twoway) (one .decided)))
       ∙ one .id-gives id
       ∙ ap (λ (es : List Entry). lastName (ofId id es)) (one .decided)
 
-walk : (n : ℕ) (input : List ℕ) (m : ℕ) → headSize ≤ n → items (image None (putsOf n input)) 0 m ≡ itemsOf (putsOf n input) 0 m
+walk : (n : ℕ) (input : List ℕ) (m : ℕ) → headSize ≤ n → items (image Twoway (putsOf n input)) 0 m ≡ itemsOf (putsOf n input) 0 m
 unfolding putsOf
 walk n input m h =
     let buffer : List ℕ = replicate n 0 in
     let e : length buffer ≡ n = length-replicate n 0 in
     let room : headSize ≤ length buffer = omega arith in
-    items-by (image None (accepted None n (inputCalls input))) (accepted None n (inputCalls input)) (rw e at (image-named buffer (inputCalls input) room)) 0 m
+    items-by (image Twoway (accepted Twoway n (inputCalls input))) (accepted Twoway n (inputCalls input)) (rw e at (image-named buffer (inputCalls input) room)) 0 m
 
 -- ---- the example, computed of the rules
 
@@ -58,7 +58,7 @@ example-puts : putsOf 65536 example ≡ puts
 unfolding puts putsOf inputCalls linesOf withByte linesCalls lineCalls parseLine leadingDigits numberFrom accepted acceptedFrom refused sizeOf putsSize backSize
 example-puts = refl
 
-example-size : sizeOf None puts ≡ 2166
+example-size : sizeOf Twoway puts ≡ 2166
 unfolding puts sizeOf putsSize backSize
 example-size = refl
 
@@ -72,6 +72,6 @@ demonstration =
     record {
       walk = walk;
       example-entries = ap length example-puts;
-      example-size = ap (sizeOf None) example-puts ∙ example-size;
+      example-size = ap (sizeOf Twoway) example-puts ∙ example-size;
       example-walk = λ m. walk 65536 example (suc (suc m)) (lit≤ tt) ∙ ap (λ (es : List Entry). itemsOf es 0 (suc (suc m))) example-puts ∙ example-walk m;
     }

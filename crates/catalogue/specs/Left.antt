@@ -4,7 +4,7 @@ use Prim.Native.Nat.{ℕ}
 use mathlib.Core.Path.{_≡_}
 use mathlib.Core.List.{List}
 use lib.ListN.{length, take}
-use Rattle.image.specs.declared.Flag.the-variants.{None}
+use Rattle.image.specs.declared.Mode.the-variants.{Twoway}
 use Rattle.image.specs.Record.{Entry, image}
 use Rattle.writer.specs.State.{State}
 use Rattle.lists.specs.Calls.{accepted, sizeOf}
@@ -12,7 +12,7 @@ use Rattle.lines.specs.Lines.{inputCalls, afterInput}
 
 -- the puts of an input that are accepted two-way in a buffer of n bytes, in their order
 unfoldable pub putsOf : ℕ → List ℕ → List Entry
-putsOf n input = accepted None n (inputCalls input)
+putsOf n input = accepted Twoway n (inputCalls input)
 
 -- what putting an input leaves of a writer record and its buffer
 pub record Left (before after : State) : Type 0 where
@@ -23,5 +23,5 @@ pub record Left (before after : State) : Type 0 where
 pub record Built (n entries size : ℕ) (buffer : List ℕ) : Type 0 where
   pub input : List ℕ
   pub counted : entries ≡ length (putsOf n input)
-  pub sized : size ≡ sizeOf None (putsOf n input)
-  pub imaged : take size buffer ≡ image None (putsOf n input)
+  pub sized : size ≡ sizeOf Twoway (putsOf n input)
+  pub imaged : take size buffer ≡ image Twoway (putsOf n input)

@@ -4,7 +4,7 @@ use mathlib.Core.Path.{_≡_}
 use mathlib.Core.List.{List, [], _∷_}
 use mathlib.Core.Option.{Option, none, some}
 use lib.ListN.{length, take, drop}
-use Rattle.image.specs.declared.Flag.the-variants.{None}
+use Rattle.image.specs.declared.Mode.the-variants.{Twoway}
 use Rattle.image.specs.Record.{Entry, headSize, image}
 use Rattle.reader.specs.Walk.{Step, item, done, step}
 use Rattle.answers.specs.Answer.{ofId, lastName}
@@ -36,8 +36,8 @@ example = 48 ∷ 32 ∷ 65 ∷ 10 ∷ 51 ∷ 32 ∷ 66 ∷ 10 ∷ 48 ∷ 32 ∷ 
 
 pub record Demonstration : Type 0 where
   -- the walk of an input's image, however many steps are taken
-  pub walk : (n : ℕ) (input : List ℕ) (m : ℕ) → headSize ≤ n → items (image None (putsOf n input)) 0 m ≡ itemsOf (putsOf n input) 0 m
+  pub walk : (n : ℕ) (input : List ℕ) (m : ℕ) → headSize ≤ n → items (image Twoway (putsOf n input)) 0 m ≡ itemsOf (putsOf n input) 0 m
   -- from the example it prints the lines `3 2166` and `0 C`: its entries, its size, and the walk, which ends at the second step
   pub example-entries : length (putsOf 65536 example) ≡ 3
-  pub example-size : sizeOf None (putsOf 65536 example) ≡ 2166
-  pub example-walk : (m : ℕ) → items (image None (putsOf 65536 example)) 0 (suc (suc m)) ≡ entryOf (67 ∷ []) 0 ∷ []
+  pub example-size : sizeOf Twoway (putsOf 65536 example) ≡ 2166
+  pub example-walk : (m : ℕ) → items (image Twoway (putsOf 65536 example)) 0 (suc (suc m)) ≡ entryOf (67 ∷ []) 0 ∷ []

@@ -5,7 +5,7 @@ ghost use lib.ListN.{length};
 ghost use Rattle.writer.specs.State.{lent};
 ghost use Rattle.image.specs.Record.{headSize};
 ghost use Rattle.catalogue.specs.Left.{Left, Built};
-use image::Flag;
+use image::Mode;
 use libc::STDIN_FILENO;
 use libc::STDOUT_FILENO;
 use lines::Intake;
@@ -22,7 +22,7 @@ fn put_input(
     room: &mut [u8],
     piece: &mut [u8],
 ) -> CQDBWriter
-    ensures { λ r. ⌜ (w .capacity ≤ length (now (room .entry)) → Left (lent w (now (counts .entry)) (now (buf .entry))) (lent r (now (counts .exit)) (now (buf .exit)))) ⌝ }
+    ensures { λ r. ⌜ (w .length ≤ length (now (room .entry)) → Left (lent w (now (counts .entry)) (now (buf .entry))) (lent r (now (counts .exit)) (now (buf .exit)))) ⌝ }
 {
     let mut t = Intake { writer: w, have: 0 };
     let mut turns = u64::MAX;
@@ -48,7 +48,7 @@ struct Image {
 fn build(counts: &mut [u32; 256], buf: &mut [u8], room: &mut [u8], piece: &mut [u8]) -> Image
     ensures { λ r. ⌜ (headSize ≤ length (now (buf .entry)) → length (now (buf .entry)) ≤ length (now (room .entry)) → Built (length (now (buf .entry))) (r .entries) (r .size) (now (buf .exit))) ⌝ }
 {
-    let writer::Begun::Fresh(fresh) = writer::begin(Flag::None, &mut *counts, &*buf) else {
+    let writer::Begun::Fresh(fresh) = writer::begin(Mode::Twoway, &mut *counts, &*buf) else {
         return Image {
             entries: 0,
             size: 0,

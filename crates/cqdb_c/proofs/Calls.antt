@@ -8,15 +8,15 @@ use lib.Dec.{eqb, leb}
 use native.Mathlib.Omega.{arith}
 use borrow.Author.Tests.{le-leb, lt-leb, leb-true, eqb-true, eqb-false, ne-eqb}
 use Rattle.image.specs.Record.{Entry, flagWord}
-use Rattle.image.specs.declared.Flag.{Flag}
-use Rattle.image.specs.declared.Flag.the-variants.{None, Oneway}
+use Rattle.image.specs.declared.Mode.{Mode}
+use Rattle.image.specs.declared.Mode.the-variants.{Twoway, Oneway}
 use Rattle.writer.specs.declared.CQDBWriter.{CQDBWriter}
 use Rattle.writer.specs.State.{State, lent, Beginning, begun, beginning, beginRefusal, freshWriter, countsBegun}
 use Rattle.writer.specs.State as state
 use Rattle.writer.specs.Put.{putRefusal, appended, afterPut}
 use Rattle.writer.specs.Close.{Closing, size, refusal, closing, closeRefusal, closedSize, closed, afterClose}
 use Rattle.cqdb_c.specs.declared.record.Record.{Record}
-use Rattle.cqdb_c.specs.Record.{flagOf, writerOf, recordOf, Held, held, stateOf, heldOf}
+use Rattle.cqdb_c.specs.Record.{modeOf, writerOf, recordOf, Held, held, stateOf, heldOf}
 use Rattle.cqdb_c.specs.Writing.{notBegun, begunAnswer, beginAnswer, countsLeft, putNumber, leftByPut, closingHeld, refusalIn, sizeIn, leftByClose}
 
 -- begin with a mode above 1
@@ -25,12 +25,12 @@ unfolding beginAnswer countsLeft
 begin-unknown mode n counts over = rw (lt-leb mode 1 over) (refl, refl)
 
 -- begin with a mode of 01's: b is what the writer's begin answers, and after the counts that it leaves
-pub begin-known : (mode n : ℕ) (counts after : List ℕ) (flag : Flag) (b : Beginning) →
-    mode ≤ 1 → flag ≡ flagOf mode → b ≡ beginning flag n → after ≡ countsBegun n counts →
+pub begin-known : (mode n : ℕ) (counts after : List ℕ) (mode : Mode) (b : Beginning) →
+    mode ≤ 1 → mode ≡ modeOf mode → b ≡ beginning mode n → after ≡ countsBegun n counts →
     (begunAnswer b ≡ beginAnswer mode n) × (after ≡ countsLeft mode n counts)
 unfolding beginAnswer countsLeft
-begin-known mode n counts after flag b fine f e left =
-    rw (le-leb mode 1 fine) (ap begunAnswer (e ∙ ap (λ (g : Flag). beginning g n) f), left)
+begin-known mode n counts after mode b fine f e left =
+    rw (le-leb mode 1 fine) (ap begunAnswer (e ∙ ap (λ (g : Mode). beginning g n) f), left)
 
 -- put with a mode above 1
 pub put-unknown : (h : Held) (e : Entry) → 1 < h .writer .mode → (2 ≡ putNumber h e) × (h ≡ leftByPut h e)
@@ -74,11 +74,11 @@ close-known h v w' r buffer d k n fine is answer leaves number told back =
       ap (λ (x : Record). held x (h .counts) buffer) back ∙ ap heldOf (leaves ∙ ap afterClose same),
     )
 
--- a mode of 01's is that of its flag
-mode-of-flag : (mode : ℕ) → mode ≤ 1 → flagWord (flagOf mode) ≡ mode
+-- a mode of 01's is that of its mode
+mode-of-flag : (mode : ℕ) → mode ≤ 1 → flagWord (modeOf mode) ≡ mode
 mode-of-flag mode fine = go (eqb mode 0) refl
   where
-    go : (t : Bool) → eqb mode 0 ≡ t → flagWord (cond t None Oneway) ≡ mode
+    go : (t : Bool) → eqb mode 0 ≡ t → flagWord (cond t Twoway Oneway) ≡ mode
     go true e = sym (eqb-true mode 0 e)
     go false e = omega (arith, eqb-false mode 0 e)
 
@@ -98,7 +98,7 @@ pub begin-refused : (mode n : ℕ) (counts : List ℕ) → (beginAnswer mode n .
 unfolding beginAnswer beginning countsLeft countsBegun
 begin-refused mode n counts = go (leb mode 1) (eqb (beginRefusal n) 0)
   where
-    go : (t b : Bool) → (cond t (begunAnswer (cond b (begun (freshWriter (flagOf mode) n)) (state.refusal (beginRefusal n)))) (notBegun 2) .refusal ≡ 0 → ⊥) → cond t (cond b (replicate 256 0) counts) counts ≡ counts
+    go : (t b : Bool) → (cond t (begunAnswer (cond b (begun (freshWriter (modeOf mode) n)) (state.refusal (beginRefusal n)))) (notBegun 2) .refusal ≡ 0 → ⊥) → cond t (cond b (replicate 256 0) counts) counts ≡ counts
     go true true refused = absurd (refused refl)
     go true false refused = refl
     go false b refused = refl

@@ -4,8 +4,8 @@ use mathlib.Core.Bool.{Bool, cond}
 use mathlib.Core.List.{List}
 use lib.Dec.{eqb, leb}
 use Rattle.image.specs.Record.{flagWord}
-use Rattle.image.specs.declared.Flag.{Flag}
-use Rattle.image.specs.declared.Flag.the-variants.{None, Oneway}
+use Rattle.image.specs.declared.Mode.{Mode}
+use Rattle.image.specs.declared.Mode.the-variants.{Twoway, Oneway}
 use Rattle.writer.specs.declared.CQDBWriter.{CQDBWriter}
 use Rattle.writer.specs.State.{State, lent}
 use Rattle.cqdb_c.specs.declared.record.Record.{Record}
@@ -14,15 +14,15 @@ use Rattle.cqdb_c.specs.declared.record.Record.{Record}
 abbrev pub known : ℕ → Bool
 known mode = leb mode 1
 
-abbrev pub flagOf : ℕ → Flag
-flagOf mode = cond (eqb mode 0) None Oneway
+abbrev pub modeOf : ℕ → Mode
+modeOf mode = cond (eqb mode 0) Twoway Oneway
 
 -- the writer record that C's stands for, and the other way round
 abbrev pub writerOf : Record → CQDBWriter
 writerOf r =
     record {
-      flag = flagOf (r .mode);
-      capacity = r .length;
+      mode = modeOf (r .mode);
+      length = r .length;
       end = r .end;
       entries = r .entries;
       back = r .back;
@@ -31,10 +31,10 @@ writerOf r =
 abbrev pub recordOf : CQDBWriter → Record
 recordOf w =
     record {
-      mode = flagWord (w .flag);
+      mode = flagWord (w .mode);
       entries = w .entries;
       back = w .back;
-      length = w .capacity;
+      length = w .length;
       end = w .end;
     }
 

@@ -9,7 +9,7 @@ use Rattle.writer.specs.State as state
 use Rattle.writer.specs.Put.{putRefusal, afterPut}
 use Rattle.writer.specs.Close.{Closing, size, refusal, closing, afterClose}
 use Rattle.cqdb_c.specs.declared.writing.BeginAnswer.{BeginAnswer}
-use Rattle.cqdb_c.specs.Record.{known, flagOf, recordOf, Held, stateOf, heldOf}
+use Rattle.cqdb_c.specs.Record.{known, modeOf, recordOf, Held, stateOf, heldOf}
 
 -- a refused begin has the refusal's number, and zeros for the record
 abbrev pub notBegun : ℕ → BeginAnswer
@@ -22,7 +22,7 @@ begunAnswer (state.refusal k) = notBegun k
 
 -- the rule of begin, so answered, for a buffer of n bytes
 unfoldable pub beginAnswer : ℕ → ℕ → BeginAnswer
-beginAnswer mode n = cond (known mode) (begunAnswer (beginning (flagOf mode) n)) (notBegun 2)
+beginAnswer mode n = cond (known mode) (begunAnswer (beginning (modeOf mode) n)) (notBegun 2)
 
 -- the counts that begin leaves
 unfoldable pub countsLeft : ℕ → ℕ → List ℕ → List ℕ

@@ -1,9 +1,9 @@
 // The writer record as C has it, but for the 256 table counts, which are lent apart.
-use image::Flag;
+use image::Mode;
 use writer::CQDBWriter;
 ghost use mathlib.Core.Path.{_≡_};
 ghost use Rattle.image.specs.Record.{flagWord};
-ghost use Rattle.cqdb_c.specs.Record.{flagOf, writerOf, recordOf};
+ghost use Rattle.cqdb_c.specs.Record.{modeOf, writerOf, recordOf};
 
 // The mode (0 two-way, 1 one-way), the number of entries, the back size, the buffer's length and the end of the entries.
 #[repr(C)]
@@ -15,20 +15,20 @@ pub struct Record {
     pub end: u64,
 }
 
-// The flag of a mode.
-pub(crate) fn flag_of(mode: u32) -> Flag
-    ensures { λ r. ⌜ r ≡ flagOf mode ⌝ }
+// The mode of a mode.
+pub(crate) fn mode_of(mode: u32) -> Mode
+    ensures { λ r. ⌜ r ≡ modeOf mode ⌝ }
 {
-    if mode == 0 { Flag::None } else { Flag::Oneway }
+    if mode == 0 { Mode::Twoway } else { Mode::Oneway }
 }
 
-// The mode of a flag.
-fn mode_of(flag: Flag) -> u32
-    ensures { λ r. ⌜ r ≡ flagWord flag ⌝ }
+// The mode of a mode.
+fn flag_word(mode: Mode) -> u32
+    ensures { λ r. ⌜ r ≡ flagWord mode ⌝ }
 {
-    match flag {
-        Flag::None => 0,
-        Flag::Oneway => 1,
+    match mode {
+        Mode::Twoway => 0,
+        Mode::Oneway => 1,
     }
 }
 
@@ -36,10 +36,10 @@ fn mode_of(flag: Flag) -> u32
 pub(crate) fn writer_of(r: Record) -> CQDBWriter
     ensures { λ w. ⌜ w ≡ writerOf r ⌝ }
 {
-    let flag = flag_of(r.mode);
+    let mode = mode_of(r.mode);
     CQDBWriter {
-        flag,
-        capacity: r.length,
+        mode,
+        length: r.length,
         end: r.end,
         entries: r.entries,
         back: r.back,
@@ -50,12 +50,12 @@ pub(crate) fn writer_of(r: Record) -> CQDBWriter
 pub(crate) fn record_of(w: CQDBWriter) -> Record
     ensures { λ r. ⌜ r ≡ recordOf w ⌝ }
 {
-    let flag = w.flag;
+    let mode = w.mode;
     Record {
-        mode: mode_of(flag),
+        mode: flag_word(mode),
         entries: w.entries,
         back: w.back,
-        length: w.capacity,
+        length: w.length,
         end: w.end,
     }
 }

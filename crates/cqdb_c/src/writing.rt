@@ -1,7 +1,7 @@
 // Writing, for C: the record goes in and comes back by value, the 256 table counts and the buffer are lent. A record whose
 // mode is neither 0 nor 1 is none of 01's and fits no buffer.
 use super::record::Record;
-use super::record::flag_of;
+use super::record::mode_of;
 use super::record::record_of;
 use super::record::writer_of;
 use writer::Begun;
@@ -61,7 +61,7 @@ pub extern "C" fn cqdb_begin_parts(mode: u32, counts: &mut [u32; 256], buf: &[u8
     if 1 < mode {
         return not_begun(2);
     }
-    let begun = writer::begin(flag_of(mode), &mut *counts, buf);
+    let begun = writer::begin(mode_of(mode), &mut *counts, buf);
     match begun {
         Begun::Fresh(w) => BeginAnswer {
             refusal: 0,

@@ -13,7 +13,7 @@ use Rattle.image.specs.Bytes.{le32, cat, keep, range}
 use Rattle.image.specs.Tables.{Bucket, empty, tableOf, start, order, firstEmpty, atOf, insert, insertAll, filled}
 use Rattle.image.specs.Record.{Entry, Placed, headSize, entryBytes, entrySize, entriesSize, placed, inTable, ofTable, count, bucketOf, bucketBytes}
 use Rattle.image.specs.Record.{table, tableBytes, entriesBefore, tableRow, tableRows, tables, link, links, back, imageSize, headBytes, headWords, flagWord, backOffset, image}
-use Rattle.image.specs.declared.Flag.{Flag}
+use Rattle.image.specs.declared.Mode.{Mode}
 use Rattle.image.proofs.Words.{length-le32}
 use Rattle.image.proofs.Lists.{cat-append, length-cat, keep-nil, keep-cons, keep-append, length-range, range-more}
 
@@ -185,13 +185,13 @@ length-tables ps = length-tables-to 256 ps ∙ ap (λ (n : ℕ). 16 * n) (before
 
 -- ---- head, rows, links, and the whole
 
-pub length-headBytes : (size flag n o : ℕ) → length (headBytes size flag n o) ≡ 24
+pub length-headBytes : (size mode n o : ℕ) → length (headBytes size mode n o) ≡ 24
 unfolding headBytes
-length-headBytes size flag n o = simp (length-append, length-le32)
+length-headBytes size mode n o = simp (length-append, length-le32)
 
-pub length-headWords : (flag : Flag) (es : List Entry) → length (headWords flag es) ≡ 24
+pub length-headWords : (mode : Mode) (es : List Entry) → length (headWords mode es) ≡ 24
 unfolding headWords
-length-headWords flag es = length-headBytes (imageSize flag es) (flagWord flag) (back flag es) (backOffset flag es)
+length-headWords mode es = length-headBytes (imageSize mode es) (flagWord mode) (back mode es) (backOffset mode es)
 
 pub length-tableRow : (end : ℕ) (ps : List Placed) (t : ℕ) → length (tableRow end ps t) ≡ 8
 unfolding tableRow
@@ -207,10 +207,10 @@ unfolding links
 length-links ps n =
     length-cat (λ (i : ℕ). le32 (link ps i)) 4 (λ i. length-le32 (link ps i)) (range 0 n) ∙ ap (λ (k : ℕ). 4 * k) (length-range 0 n)
 
-pub length-image : (flag : Flag) (es : List Entry) → length (image flag es) ≡ imageSize flag es
+pub length-image : (mode : Mode) (es : List Entry) → length (image mode es) ≡ imageSize mode es
 unfolding image
-length-image flag es =
+length-image mode es =
     let ps = placed headSize es in
     simp length-append
     (omega
-    (arith, length-headWords flag es, length-tableRows (headSize + entriesSize es) ps, length-entries es, length-tables ps, length-placed headSize es, length-links ps (back flag es)))
+    (arith, length-headWords mode es, length-tableRows (headSize + entriesSize es) ps, length-entries es, length-tables ps, length-placed headSize es, length-links ps (back mode es)))

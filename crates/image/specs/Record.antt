@@ -7,8 +7,8 @@ use lib.Dec.{eqb}
 use Rattle.jhash.specs.NameHash.{hashOf}
 use Rattle.image.specs.Bytes.{le32, cat, keep, range}
 use Rattle.image.specs.Tables.{Bucket, tableOf, filled}
-use Rattle.image.specs.declared.Flag.{Flag}
-use Rattle.image.specs.declared.Flag.the-variants.{None, Oneway}
+use Rattle.image.specs.declared.Mode.{Mode}
+use Rattle.image.specs.declared.Mode.the-variants.{Twoway, Oneway}
 
 -- what a put stores: a name of any bytes, and its id
 pub record Entry : Type 0 where
@@ -99,12 +99,12 @@ unfoldable pub link : List Placed → ℕ → ℕ
 link ps i = lastFrom 0 (ofId i ps)
 
 -- what depends on the mode: the flag word, and the back size, which is 0 in a one-way image
-abbrev pub flagWord : Flag → ℕ
-flagWord None = 0
+abbrev pub flagWord : Mode → ℕ
+flagWord Twoway = 0
 flagWord Oneway = 1
 
-abbrev pub backIn : Flag → ℕ → ℕ
-backIn None n = n
+abbrev pub backIn : Mode → ℕ → ℕ
+backIn Twoway n = n
 backIn Oneway n = 0
 
 -- where the entries end
@@ -112,25 +112,25 @@ abbrev pub entriesEnd : List Entry → ℕ
 entriesEnd es = headSize + entriesSize es
 
 -- the back size in an image
-abbrev pub back : Flag → List Entry → ℕ
-back flag es = backIn flag (backSize es)
+abbrev pub back : Mode → List Entry → ℕ
+back mode es = backIn mode (backSize es)
 
 -- the size of the whole image
-abbrev pub imageSize : Flag → List Entry → ℕ
-imageSize flag es = entriesEnd es + 16 * length es + 4 * back flag es
+abbrev pub imageSize : Mode → List Entry → ℕ
+imageSize mode es = entriesEnd es + 16 * length es + 4 * back mode es
 
 -- the back array stands after the tables; its offset is 0 in a one-way image and in an empty one
-unfoldable pub backOffset : Flag → List Entry → ℕ
-backOffset flag es = cond (eqb (back flag es) 0) 0 (entriesEnd es + 16 * length es)
+unfoldable pub backOffset : Mode → List Entry → ℕ
+backOffset mode es = cond (eqb (back mode es) 0) 0 (entriesEnd es + 16 * length es)
 
 -- 0: the letters CQDB. 4: size of the whole image. 8: flag word. 12: 62445371 hexadecimal. 16: back size. 20: back offset
 unfoldable pub headBytes : ℕ → ℕ → ℕ → ℕ → List ℕ
-headBytes size flag n o =
-    67 ∷ 81 ∷ 68 ∷ 66 ∷ [] ++ le32 size ++ le32 flag ++ le32 0x62445371 ++ le32 n ++ le32 o
+headBytes size mode n o =
+    67 ∷ 81 ∷ 68 ∷ 66 ∷ [] ++ le32 size ++ le32 mode ++ le32 0x62445371 ++ le32 n ++ le32 o
 
-unfoldable pub headWords : Flag → List Entry → List ℕ
+unfoldable pub headWords : Mode → List Entry → List ℕ
 unfolding headBytes
-headWords flag es = headBytes (imageSize flag es) (flagWord flag) (back flag es) (backOffset flag es)
+headWords mode es = headBytes (imageSize mode es) (flagWord mode) (back mode es) (backOffset mode es)
 
 -- 24 + 8t, for t = 0 to 255: table t's offset, then its bucket number
 unfoldable pub tableRows : ℕ → List Placed → List ℕ
@@ -145,11 +145,11 @@ unfoldable pub links : List Placed → ℕ → List ℕ
 links ps n = cat (λ (i : ℕ). le32 (link ps i)) (range 0 n)
 
 -- the image that entries close to
-unfoldable pub image : Flag → List Entry → List ℕ
-image flag es =
+unfoldable pub image : Mode → List Entry → List ℕ
+image mode es =
     let ps = placed headSize es in
-    headWords flag es
+    headWords mode es
     ++ tableRows (entriesEnd es) ps
     ++ cat entryBytes es
     ++ tables ps
-    ++ links ps (back flag es)
+    ++ links ps (back mode es)

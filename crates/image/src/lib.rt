@@ -1,13 +1,13 @@
-// The words of an image, read and stored little-endian anywhere in a slice, and the writer's flag.
+// The words of an image, read and stored little-endian anywhere in a slice, and the writer's mode.
 ghost use mathlib.Core.Path.{_≡_};
 ghost use Prim.Native.Nat.{_+_, _<_, _≤_};
 ghost use lib.ListN.{length, getD, set};
 ghost use lib.Seq.{sets};
 ghost use Rattle.image.specs.Bytes.{word, le32};
 
-// The writer's flag (`Flag` of cqdb-rs): None is two-way, Oneway leaves the back array out.
-pub enum Flag {
-    None,
+// The writer's mode (`Mode` of cqdb-rs): Twoway is two-way, Oneway leaves the back array out.
+pub enum Mode {
+    Twoway,
     Oneway,
 }
 

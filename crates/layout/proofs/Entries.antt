@@ -6,7 +6,7 @@ use native.Mathlib.Omega.{arith}
 use lib.ListN.{length, take, drop, length-append}
 use Rattle.image.specs.Bytes.{word, le32, cat}
 use Rattle.image.specs.Record.{Entry, Placed, headSize, entryBytes, entrySize, placed, backSize, image}
-use Rattle.image.specs.declared.Flag.{Flag}
+use Rattle.image.specs.declared.Mode.{Mode}
 use Rattle.image.proofs.Words.{length-le32}
 use Rattle.image.proofs.Lists.{cat-cons}
 use Rattle.image.proofs.Sizes.{length-entryBytes}
@@ -61,8 +61,8 @@ standing img o (e ∷ es) h a =
           (at-same (ap (λ (n : ℕ). o + n) (length-entryBytes e)) (at-right (entryBytes e) (cat entryBytes es) b)),
     )
 
-pub all-stand : (flag : Flag) (es : List Entry) → All (Stands (image flag es)) (placedIn es)
-all-stand flag es = standing (image flag es) headSize es (omega arith) (entries-at flag es)
+pub all-stand : (mode : Mode) (es : List Entry) → All (Stands (image mode es)) (placedIn es)
+all-stand mode es = standing (image mode es) headSize es (omega arith) (entries-at mode es)
 
 -- what holds of the entries holds of them where they stand
 pub all-placed : (Q : Entry → Type 0) (o : ℕ) (es : List Entry) → All Q es → All (λ (p : Placed). Q (p .entry)) (placed o es)

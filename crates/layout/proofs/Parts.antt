@@ -10,7 +10,7 @@ use Rattle.image.specs.Bytes.{word, le32, cat, range}
 use Rattle.image.specs.Tables.{Bucket, empty}
 use Rattle.image.specs.Record.{Entry, Placed, headSize, entryBytes, placed, count, bucketBytes, table, tableBytes, entriesBefore}
 use Rattle.image.specs.Record.{tableOffset, tableRow, tableRows, tables, link, links, back, entriesEnd, imageSize, headWords, image}
-use Rattle.image.specs.declared.Flag.{Flag}
+use Rattle.image.specs.declared.Mode.{Mode}
 use Rattle.image.proofs.Words.{length-le32}
 use Rattle.image.proofs.Lists.{length-cat, length-cat-alike, length-range, range-at, getD-range}
 use Rattle.image.proofs.Sizes.{length-entries, length-placed, length-bucketBytes, length-table, before-suc, before-all, length-tables-to, length-tables}
@@ -40,9 +40,9 @@ module _ (h r e t l : List ℕ) where
   pub five-5 : {img : List ℕ} → At img 0 (h ++ r ++ e ++ t ++ l) → At img (length h + length r + length e + length t) l
   five-5 a = at-same (simp length-append (omega arith)) (at-right (h ++ r ++ e ++ t) l a)
 
-module _ (flag : Flag) (es : List Entry) where
+module _ (mode : Mode) (es : List Entry) where
   H : List ℕ
-  H = headWords flag es
+  H = headWords mode es
 
   R : List ℕ
   R = tableRows (entriesEnd es) (placedIn es)
@@ -54,42 +54,42 @@ module _ (flag : Flag) (es : List Entry) where
   T = tables (placedIn es)
 
   L : List ℕ
-  L = links (placedIn es) (back flag es)
+  L = links (placedIn es) (back mode es)
 
-  whole : At (image flag es) 0 (H ++ R ++ E ++ T ++ L)
+  whole : At (image mode es) 0 (H ++ R ++ E ++ T ++ L)
   unfolding image H R E T L
-  whole = at-whole (image flag es)
+  whole = at-whole (image mode es)
 
-  pub head-at : At (image flag es) 0 (headWords flag es)
+  pub head-at : At (image mode es) 0 (headWords mode es)
   unfolding H
   head-at = five-1 H R E T L whole
 
-  pub rows-at : At (image flag es) 24 (tableRows (entriesEnd es) (placedIn es))
+  pub rows-at : At (image mode es) 24 (tableRows (entriesEnd es) (placedIn es))
   unfolding H R
-  rows-at = at-same (length-headWords flag es) (five-2 H R E T L whole)
+  rows-at = at-same (length-headWords mode es) (five-2 H R E T L whole)
 
-  pub entries-at : At (image flag es) headSize (cat entryBytes es)
+  pub entries-at : At (image mode es) headSize (cat entryBytes es)
   unfolding H R E
   entries-at = at-same sum (five-3 H R E T L whole)
     where
       sum : length H + length R ≡ 2072
-      sum = omega (arith, length-headWords flag es, length-tableRows (entriesEnd es) (placedIn es))
+      sum = omega (arith, length-headWords mode es, length-tableRows (entriesEnd es) (placedIn es))
 
-  pub tables-at : At (image flag es) (entriesEnd es) (tables (placedIn es))
+  pub tables-at : At (image mode es) (entriesEnd es) (tables (placedIn es))
   unfolding H R E T
   tables-at = at-same sum (five-4 H R E T L whole)
     where
       sum : length H + length R + length E ≡ entriesEnd es
-      sum = omega (arith, length-headWords flag es, length-tableRows (entriesEnd es) (placedIn es), length-entries es)
+      sum = omega (arith, length-headWords mode es, length-tableRows (entriesEnd es) (placedIn es), length-entries es)
 
-  pub links-at : At (image flag es) (entriesEnd es + 16 * length es) (links (placedIn es) (back flag es))
+  pub links-at : At (image mode es) (entriesEnd es + 16 * length es) (links (placedIn es) (back mode es))
   unfolding H R E T L
   links-at = at-same sum (five-5 H R E T L whole)
     where
       sum : length H + length R + length E + length T ≡ entriesEnd es + 16 * length es
       sum =
           omega
-          (arith, length-headWords flag es, length-tableRows (entriesEnd es) (placedIn es), length-entries es, length-tables (placedIn es), length-placed headSize es)
+          (arith, length-headWords mode es, length-tableRows (entriesEnd es) (placedIn es), length-entries es, length-tables (placedIn es), length-placed headSize es)
 
 -- ---- how far the tables go
 
@@ -166,31 +166,31 @@ module _ (ps : List Placed) (of : ℕ → List Bucket) (sized : (t : ℕ) → le
 
 -- ---- the words of an image, where its size is one
 
-module _ (flag : Flag) (es : List Entry) (fits : imageSize flag es ≤ 4294967295) where
+module _ (mode : Mode) (es : List Entry) (fits : imageSize mode es ≤ 4294967295) where
   pub most : (t : ℕ) → t < 256 → entriesBefore t (placedIn es) + count t (placedIn es) ≤ length es
   most t h = omega (arith, before-most (placedIn es) t h, length-placed headSize es)
 
   tables-fit : entriesEnd es + 16 * length (placedIn es) ≤ 4294967295
   tables-fit = omega (arith, length-placed headSize es)
 
-  pub tableAt-image : (t : ℕ) → t < 256 → word (image flag es) (24 + 8 * t) ≡ tableOffset (entriesEnd es) (placedIn es) t
-  tableAt-image = offset-word (entriesEnd es) (placedIn es) (rows-at flag es) tables-fit
+  pub tableAt-image : (t : ℕ) → t < 256 → word (image mode es) (24 + 8 * t) ≡ tableOffset (entriesEnd es) (placedIn es) t
+  tableAt-image = offset-word (entriesEnd es) (placedIn es) (rows-at mode es) tables-fit
 
-  pub bucketNumber-image : (t : ℕ) → t < 256 → word (image flag es) (28 + 8 * t) ≡ 2 * count t (placedIn es)
-  bucketNumber-image = number-word (entriesEnd es) (placedIn es) (rows-at flag es) tables-fit
+  pub bucketNumber-image : (t : ℕ) → t < 256 → word (image mode es) (28 + 8 * t) ≡ 2 * count t (placedIn es)
+  bucketNumber-image = number-word (entriesEnd es) (placedIn es) (rows-at mode es) tables-fit
 
   -- the buckets of table t
   pub bucket-at : (t k : ℕ) → t < 256 → k < 2 * count t (placedIn es)
-      → At (image flag es) (entriesEnd es + 16 * entriesBefore t (placedIn es) + 8 * k) (bucketBytes (getD (table t (placedIn es)) k empty))
+      → At (image mode es) (entriesEnd es + 16 * entriesBefore t (placedIn es) + 8 * k) (bucketBytes (getD (table t (placedIn es)) k empty))
   unfolding tables tableBytes
   bucket-at =
-      bucket-of (placedIn es) (λ (t : ℕ). table t (placedIn es)) (λ t. length-table t (placedIn es)) (entriesEnd es) (tables-at flag es)
+      bucket-of (placedIn es) (λ (t : ℕ). table t (placedIn es)) (λ t. length-table t (placedIn es)) (entriesEnd es) (tables-at mode es)
 
   -- the back links
-  pub link-at : (i : ℕ) → i < back flag es → At (image flag es) (entriesEnd es + 16 * length es + 4 * i) (le32 (link (placedIn es) i))
+  pub link-at : (i : ℕ) → i < back mode es → At (image mode es) (entriesEnd es + 16 * length es + 4 * i) (le32 (link (placedIn es) i))
   unfolding links
   link-at i h =
       let e : 0 + i ≡ i = omega arith in
-      at-equal (ap (λ (k : ℕ). le32 (link (placedIn es) k)) (getD-range 0 (back flag es) i h ∙ e))
+      at-equal (ap (λ (k : ℕ). le32 (link (placedIn es) k)) (getD-range 0 (back mode es) i h ∙ e))
       (at-part (λ (k : ℕ). le32 (link (placedIn es) k)) 4 (λ k. length-le32 (link (placedIn es) k)) (entriesEnd es + 16 * length es)
-      (range 0 (back flag es)) i 0 (links-at flag es) (rw (length-range 0 (back flag es)) h))
+      (range 0 (back mode es)) i 0 (links-at mode es) (rw (length-range 0 (back mode es)) h))

@@ -39,7 +39,7 @@ after-other s line e = after-form s line ∙ ap (leaves s line) e
 -- ---- a put whose name is too long
 
 -- the finished size exceeds the buffer where the name alone does with a head
-too-long : (s : State) (e : Entry) → s .writer .capacity < length (e .name) + 2097 → afterPut s e ≡ s
+too-long : (s : State) (e : Entry) → s .writer .length < length (e .name) + 2097 → afterPut s e ≡ s
 unfolding writerAfter
 too-long s e h = go (fits s) refl
   where
@@ -51,12 +51,12 @@ too-long s e h = go (fits s) refl
     go true p =
         let f = fitting (s .writer) (s .counts) (s .buffer) p in
         let low = f .low in
-        let over : s .writer .capacity < size = omega arith in
-        sym (no-room s e p (ap (λ (b : Bool). b || ltb 4294967295 size) (lt-ltb (s .writer .capacity) size over)) .1)
+        let over : s .writer .length < size = omega arith in
+        sym (no-room s e p (ap (λ (b : Bool). b || ltb 4294967295 size) (lt-ltb (s .writer .length) size over)) .1)
 
 -- ---- a long line
 
-pub long-line : (s : State) (line : List ℕ) → s .writer .capacity ≤ length line → afterLine s line ≡ s
+pub long-line : (s : State) (line : List ℕ) → s .writer .length ≤ length line → afterLine s line ≡ s
 long-line s line h = go (parseLine line) refl
   where
     go : (f : Form) → parseLine line ≡ f → afterLine s line ≡ s
@@ -70,17 +70,17 @@ long-line s line h = go (parseLine line) refl
 
 -- ---- the buffer's length is kept
 
-put-capacity : (s : State) (e : Entry) → afterPut s e .writer .capacity ≡ s .writer .capacity
+put-capacity : (s : State) (e : Entry) → afterPut s e .writer .length ≡ s .writer .length
 unfolding afterPut appended writerAfter
 put-capacity s e = go (eqb (putRefusal s e) 0)
   where
-    go : (b : Bool) → cond b (appended s e) s .writer .capacity ≡ s .writer .capacity
+    go : (b : Bool) → cond b (appended s e) s .writer .length ≡ s .writer .length
     go true = refl
     go false = refl
 
-pub line-capacity : (s : State) (line : List ℕ) → afterLine s line .writer .capacity ≡ s .writer .capacity
-line-capacity s line = ap (λ (x : State). x .writer .capacity) (after-form s line) ∙ go (parseLine line)
+pub line-capacity : (s : State) (line : List ℕ) → afterLine s line .writer .length ≡ s .writer .length
+line-capacity s line = ap (λ (x : State). x .writer .length) (after-form s line) ∙ go (parseLine line)
   where
-    go : (f : Form) → leaves s line f .writer .capacity ≡ s .writer .capacity
+    go : (f : Form) → leaves s line f .writer .length ≡ s .writer .length
     go (entry id at) = put-capacity s (entryOf (drop at line) id)
     go other = refl

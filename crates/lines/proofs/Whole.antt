@@ -19,7 +19,7 @@ use Rattle.lines.proofs.Split.{NoFeed, no-feed-more, input-feed, input-
 pub record Holds (g : Gathering) (p : List ℕ) : Type 0 where
   pub short : g .have < length (g .room) → (g .have ≡ length p) × (take (g .have) (g .room) ≡ p)
   pub long : length (g .room) ≤ g .have → length (g .room) ≤ length p
-  pub enough : g .state .writer .capacity ≤ length (g .room)
+  pub enough : g .state .writer .length ≤ length (g .room)
 
 -- ---- a line that has ended
 
@@ -42,7 +42,7 @@ holds-ended g p h =
       short = λ k. (refl, refl);
       long = λ k. k;
       enough =
-          let e = ap (λ (s : State). s .writer .capacity) (ended g p h) ∙ line-capacity (g .state) p in
+          let e = ap (λ (s : State). s .writer .length) (ended g p h) ∙ line-capacity (g .state) p in
           let c = h .enough in
           omega arith;
     }
@@ -124,10 +124,10 @@ unfolding takePieces takePiece joined
 pieces-joined g [] = refl
 pieces-joined g (p ∷ ps) = pieces-joined (takePiece g p) ps ∙ sym (piece-append g p (joined ps))
 
-pub in-one : (s : State) (room input : List ℕ) → s .writer .capacity ≤ length room → inputEnded (takePiece (started s room) input) ≡ afterInput s input
+pub in-one : (s : State) (room input : List ℕ) → s .writer .length ≤ length room → inputEnded (takePiece (started s room) input) ≡ afterInput s input
 in-one s room input h = takes input (started s room) [] (record { short = λ k. (refl, refl); long = λ k. k; enough = h }) tt
 
-in-pieces : (s : State) (room : List ℕ) (ps : List (List ℕ)) → s .writer .capacity ≤ length room
+in-pieces : (s : State) (room : List ℕ) (ps : List (List ℕ)) → s .writer .length ≤ length room
     → inputEnded (takePieces (started s room) ps) ≡ afterInput s (joined ps)
 in-pieces s room ps h = ap inputEnded (pieces-joined (started s room) ps) ∙ in-one s room (joined ps) h
 

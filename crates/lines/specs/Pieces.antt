@@ -67,9 +67,9 @@ inputEnded g = lineEnded g .state
 -- what holds of every input
 pub record AnyPieces : Type 0 where
   -- in whatever pieces it comes, they leave what the rule of 01 leaves of the whole, where the room for a line is no shorter than the buffer
-  pub whole : (s : State) (room : List ℕ) (ps : List (List ℕ)) → s .writer .capacity ≤ length room
+  pub whole : (s : State) (room : List ℕ) (ps : List (List ℕ)) → s .writer .length ≤ length room
       → inputEnded (takePieces (started s room) ps) ≡ afterInput s (joined ps)
   -- by the rule itself, an input that is cut at a line feed is put part by part
   pub cut : (s : State) (xs ys : List ℕ) → afterInput s (xs ++ 10 ∷ ys) ≡ afterInput (afterInput s xs) ys
   -- and a line that is as long as the buffer is skipped: its put is refused, or it is of another form
-  pub long : (s : State) (line : List ℕ) → s .writer .capacity ≤ length line → afterLine s line ≡ s
+  pub long : (s : State) (line : List ℕ) → s .writer .length ≤ length line → afterLine s line ≡ s

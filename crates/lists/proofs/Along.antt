@@ -7,8 +7,8 @@ use mathlib.Core.List.{List, [], _∷_, _++_, append-assoc, append-nil}
 use lib.ListN.{length}
 use lib.Dec.{eqb}
 use borrow.Author.Tests.{le-ltb}
-use Rattle.image.specs.declared.Flag.{Flag}
-use Rattle.image.specs.declared.Flag.the-variants.{None}
+use Rattle.image.specs.declared.Mode.{Mode}
+use Rattle.image.specs.declared.Mode.the-variants.{Twoway}
 use Rattle.image.specs.Record.{Entry, headSize}
 use Rattle.writer.specs.State.{State, fresh, beginRefusal, begun, beginning, countsBegun}
 use Rattle.lists.specs.Calls.{Call, put, close, afterCall, answer, after, answers, acceptedOne, acceptedBy, refused, acceptedAfter, dueTo, acceptedFrom, dueFrom, accepted, due, Permitted, AllPermitted}
@@ -18,78 +18,78 @@ use Rattle.lists.proofs.Closes.{close-accepted, close-written}
 
 -- ---- one call
 
-module _ (flag : Flag) (n : ℕ) (es : List Entry) (s : State) (w : Written flag n es s) where
-  pub call-due : (c : Call) → answer s c ≡ dueTo flag n es c
-  call-due (put e) = put-due flag n es s w e
-  call-due close = close-accepted flag n es s w
+module _ (mode : Mode) (n : ℕ) (es : List Entry) (s : State) (w : Written mode n es s) where
+  pub call-due : (c : Call) → answer s c ≡ dueTo mode n es c
+  call-due (put e) = put-due mode n es s w e
+  call-due close = close-accepted mode n es s w
 
-  pub call-written : (c : Call) → WordId flag c → Written flag n (acceptedAfter flag n es c) (afterCall s c)
-  call-written (put e) word = put-written flag n es s w e word
-  call-written close word = close-written flag n es s w
+  pub call-written : (c : Call) → WordId mode c → Written mode n (acceptedAfter mode n es c) (afterCall s c)
+  call-written (put e) word = put-written mode n es s w e word
+  call-written close word = close-written mode n es s w
 
 -- ---- every list
 
-pub answers-due : (flag : Flag) (n : ℕ) (es : List Entry) (s : State) → Written flag n es s → (cs : List Call) → WordIds flag cs
-    → answers s cs ≡ dueFrom flag n es cs
+pub answers-due : (mode : Mode) (n : ℕ) (es : List Entry) (s : State) → Written mode n es s → (cs : List Call) → WordIds mode cs
+    → answers s cs ≡ dueFrom mode n es cs
 unfolding answers dueFrom
-answers-due flag n es s w [] word = refl
-answers-due flag n es s w (c ∷ cs) word =
-    ap₂ {C = List ℕ} (λ (r : ℕ) (rs : List ℕ). r ∷ rs) (call-due flag n es s w c)
-    (answers-due flag n (acceptedAfter flag n es c) (afterCall s c) (call-written flag n es s w c (word .0)) cs (word .1))
+answers-due mode n es s w [] word = refl
+answers-due mode n es s w (c ∷ cs) word =
+    ap₂ {C = List ℕ} (λ (r : ℕ) (rs : List ℕ). r ∷ rs) (call-due mode n es s w c)
+    (answers-due mode n (acceptedAfter mode n es c) (afterCall s c) (call-written mode n es s w c (word .0)) cs (word .1))
 
-pub after-written : (flag : Flag) (n : ℕ) (es : List Entry) (s : State) → Written flag n es s → (cs : List Call) → WordIds flag cs
-    → Written flag n (acceptedFrom flag n es cs) (after s cs)
+pub after-written : (mode : Mode) (n : ℕ) (es : List Entry) (s : State) → Written mode n es s → (cs : List Call) → WordIds mode cs
+    → Written mode n (acceptedFrom mode n es cs) (after s cs)
 unfolding after acceptedFrom
-after-written flag n es s w [] word = w
-after-written flag n es s w (c ∷ cs) word =
-    after-written flag n (acceptedAfter flag n es c) (afterCall s c) (call-written flag n es s w c (word .0)) cs (word .1)
+after-written mode n es s w [] word = w
+after-written mode n es s w (c ∷ cs) word =
+    after-written mode n (acceptedAfter mode n es c) (afterCall s c) (call-written mode n es s w c (word .0)) cs (word .1)
 
 -- ---- what is due
 
 -- 0 or 3 to a put, 0 to a close
-one-permitted : (flag : Flag) (n : ℕ) (es : List Entry) (c : Call) → Permitted c (dueTo flag n es c)
-one-permitted flag n es (put e) = go (refused flag n es e)
+one-permitted : (mode : Mode) (n : ℕ) (es : List Entry) (c : Call) → Permitted c (dueTo mode n es c)
+one-permitted mode n es (put e) = go (refused mode n es e)
   where
     go : (b : Bool) → (_≡_ {A = ℕ} (cond b 3 0) 0) ⊎ (_≡_ {A = ℕ} (cond b 3 0) 3)
     go true = inr refl
     go false = inl refl
-one-permitted flag n es close = refl
+one-permitted mode n es close = refl
 
-permitted-from : (flag : Flag) (n : ℕ) (es : List Entry) (cs : List Call) → AllPermitted cs (dueFrom flag n es cs)
+permitted-from : (mode : Mode) (n : ℕ) (es : List Entry) (cs : List Call) → AllPermitted cs (dueFrom mode n es cs)
 unfolding dueFrom
-permitted-from flag n es [] = tt
-permitted-from flag n es (c ∷ cs) = (one-permitted flag n es c, permitted-from flag n (acceptedAfter flag n es c) cs)
+permitted-from mode n es [] = tt
+permitted-from mode n es (c ∷ cs) = (one-permitted mode n es c, permitted-from mode n (acceptedAfter mode n es c) cs)
 
-pub due-permitted : (flag : Flag) (n : ℕ) (cs : List Call) → AllPermitted cs (due flag n cs)
+pub due-permitted : (mode : Mode) (n : ℕ) (cs : List Call) → AllPermitted cs (due mode n cs)
 unfolding due
-due-permitted flag n cs = permitted-from flag n [] cs
+due-permitted mode n cs = permitted-from mode n [] cs
 
 -- the accepted puts are those whose answer is no refusal
-accepted-one : (flag : Flag) (n : ℕ) (es : List Entry) (c : Call) → acceptedAfter flag n es c ≡ es ++ acceptedOne c (dueTo flag n es c)
-accepted-one flag n es (put e) = go (refused flag n es e)
+accepted-one : (mode : Mode) (n : ℕ) (es : List Entry) (c : Call) → acceptedAfter mode n es c ≡ es ++ acceptedOne c (dueTo mode n es c)
+accepted-one mode n es (put e) = go (refused mode n es e)
   where
     go : (b : Bool) → cond b es (es ++ (e ∷ [])) ≡ es ++ cond (eqb (cond b 3 0) 0) (e ∷ []) []
     go true = sym (append-nil es)
     go false = refl
-accepted-one flag n es close = sym (append-nil es)
+accepted-one mode n es close = sym (append-nil es)
 
-accepted-from : (flag : Flag) (n : ℕ) (es : List Entry) (cs : List Call) → acceptedFrom flag n es cs ≡ es ++ acceptedBy cs (dueFrom flag n es cs)
+accepted-from : (mode : Mode) (n : ℕ) (es : List Entry) (cs : List Call) → acceptedFrom mode n es cs ≡ es ++ acceptedBy cs (dueFrom mode n es cs)
 unfolding acceptedFrom acceptedBy dueFrom
-accepted-from flag n es [] = sym (append-nil es)
-accepted-from flag n es (c ∷ cs) =
-    let next : List Entry = acceptedAfter flag n es c in
-    accepted-from flag n next cs
-    ∙ ap (λ (l : List Entry). l ++ acceptedBy cs (dueFrom flag n next cs)) (accepted-one flag n es c)
-    ∙ append-assoc es (acceptedOne c (dueTo flag n es c)) (acceptedBy cs (dueFrom flag n next cs))
+accepted-from mode n es [] = sym (append-nil es)
+accepted-from mode n es (c ∷ cs) =
+    let next : List Entry = acceptedAfter mode n es c in
+    accepted-from mode n next cs
+    ∙ ap (λ (l : List Entry). l ++ acceptedBy cs (dueFrom mode n next cs)) (accepted-one mode n es c)
+    ∙ append-assoc es (acceptedOne c (dueTo mode n es c)) (acceptedBy cs (dueFrom mode n next cs))
 
-pub accepted-by-due : (flag : Flag) (n : ℕ) (cs : List Call) → acceptedBy cs (due flag n cs) ≡ accepted flag n cs
+pub accepted-by-due : (mode : Mode) (n : ℕ) (cs : List Call) → acceptedBy cs (due mode n cs) ≡ accepted mode n cs
 unfolding accepted due
-accepted-by-due flag n cs = sym (accepted-from flag n [] cs)
+accepted-by-due mode n cs = sym (accepted-from mode n [] cs)
 
 -- ---- from a fresh record
 
 -- a two-way list needs no premise
-pub two-way : (cs : List Call) → WordIds None cs
+pub two-way : (cs : List Call) → WordIds Twoway cs
 two-way [] = tt
 two-way (c ∷ cs) = (tt, two-way cs)
 
@@ -97,26 +97,26 @@ pub begin-accepts : (n : ℕ) → headSize ≤ n → beginRefusal n ≡ 0
 begin-accepts n room = rw (le-ltb n headSize room)
 
 -- begin gives the record of a fresh state, and clears what was lent for its counts
-pub list-begins : (flag : Flag) (buffer : List ℕ) → headSize ≤ length buffer → beginning flag (length buffer) ≡ begun (fresh flag buffer .writer)
+pub list-begins : (mode : Mode) (buffer : List ℕ) → headSize ≤ length buffer → beginning mode (length buffer) ≡ begun (fresh mode buffer .writer)
 unfolding beginning fresh
-list-begins flag buffer room = rw (begin-accepts (length buffer) room)
+list-begins mode buffer room = rw (begin-accepts (length buffer) room)
 
-pub list-counts : (flag : Flag) (buffer : List ℕ) → headSize ≤ length buffer → (lent : List ℕ) → countsBegun (length buffer) lent ≡ fresh flag buffer .counts
+pub list-counts : (mode : Mode) (buffer : List ℕ) → headSize ≤ length buffer → (lent : List ℕ) → countsBegun (length buffer) lent ≡ fresh mode buffer .counts
 unfolding countsBegun fresh
-list-counts flag buffer room lent = rw (begin-accepts (length buffer) room)
+list-counts mode buffer room lent = rw (begin-accepts (length buffer) room)
 
-module _ (flag : Flag) (buffer : List ℕ) (room : headSize ≤ length buffer) (cs : List Call) (word : WordIds flag cs) where
-  pub list-answers : answers (fresh flag buffer) cs ≡ due flag (length buffer) cs
+module _ (mode : Mode) (buffer : List ℕ) (room : headSize ≤ length buffer) (cs : List Call) (word : WordIds mode cs) where
+  pub list-answers : answers (fresh mode buffer) cs ≡ due mode (length buffer) cs
   unfolding due
-  list-answers = answers-due flag (length buffer) [] (fresh flag buffer) (fresh-written flag buffer room) cs word
+  list-answers = answers-due mode (length buffer) [] (fresh mode buffer) (fresh-written mode buffer room) cs word
 
   -- no call gives 2 or 4, and no close is refused
-  pub list-permitted : AllPermitted cs (answers (fresh flag buffer) cs)
-  list-permitted = rw list-answers (due-permitted flag (length buffer) cs)
+  pub list-permitted : AllPermitted cs (answers (fresh mode buffer) cs)
+  list-permitted = rw list-answers (due-permitted mode (length buffer) cs)
 
-  pub list-accepted : acceptedBy cs (answers (fresh flag buffer) cs) ≡ accepted flag (length buffer) cs
-  list-accepted = ap (acceptedBy cs) list-answers ∙ accepted-by-due flag (length buffer) cs
+  pub list-accepted : acceptedBy cs (answers (fresh mode buffer) cs) ≡ accepted mode (length buffer) cs
+  list-accepted = ap (acceptedBy cs) list-answers ∙ accepted-by-due mode (length buffer) cs
 
-  pub list-written : Written flag (length buffer) (accepted flag (length buffer) cs) (after (fresh flag buffer) cs)
+  pub list-written : Written mode (length buffer) (accepted mode (length buffer) cs) (after (fresh mode buffer) cs)
   unfolding accepted
-  list-written = after-written flag (length buffer) [] (fresh flag buffer) (fresh-written flag buffer room) cs word
+  list-written = after-written mode (length buffer) [] (fresh mode buffer) (fresh-written mode buffer room) cs word

@@ -7,7 +7,7 @@ use mathlib.Core.List.{List, [], _∷_, _++_}
 use lib.ListN.{length}
 use borrow.Author.Tests.{eq-eqb, ne-eqb}
 use Rattle.jhash.specs.NameHash.{hashOf}
-use Rattle.image.specs.declared.Flag.{Flag}
+use Rattle.image.specs.declared.Mode.{Mode}
 use Rattle.image.specs.Tables.{tableOf}
 use Rattle.image.specs.Record.{Entry, Placed, entrySize, entriesSize, placed, inTable, count, backSize, imageSize}
 use Rattle.image.proofs.Sizes.{entriesSize-append, placed-append, count-nil, count-cons, count-append}
@@ -28,9 +28,9 @@ putsSize-is [] = refl
 putsSize-is (e ∷ es) = omega (arith, putsSize-is es)
 
 -- the size by 01's formula for lists is that of 01's image record
-pub sizeOf-is : (flag : Flag) (es : List Entry) → sizeOf flag es ≡ imageSize flag es
+pub sizeOf-is : (mode : Mode) (es : List Entry) → sizeOf mode es ≡ imageSize mode es
 unfolding sizeOf
-sizeOf-is flag es = omega (arith, putsSize-is es)
+sizeOf-is mode es = omega (arith, putsSize-is es)
 
 pub backSize-snoc : (es : List Entry) (e : Entry) → backSize (es ++ (e ∷ [])) ≡ max (backSize es) (e .id + 1)
 unfolding backSize

@@ -8,7 +8,7 @@ use lib.ListN.{length, getD, take, drop, length-append, length-drop}
 use lib.Seq.{drop-at, take-at}
 use lib.Dec.{eqb}
 use borrow.Author.Tests.{eq-eqb, le-ltb}
-use Rattle.image.specs.declared.Flag.{Flag}
+use Rattle.image.specs.declared.Mode.{Mode}
 use Rattle.image.specs.Bytes.{cat}
 use Rattle.image.specs.Record.{Entry, headSize, entryBytes, entriesSize, entriesEnd, placed, count, backSize, backIn, back, imageSize, headWords, tableRows, tables, links, image}
 use Rattle.image.proofs.All.{all-true}
@@ -29,28 +29,28 @@ all-wordly (e ∷ es) b s = (record { id-word = omega arith; length-word = omega
 -- ---- the entries in an image
 
 -- what follows the head of an image, and of bytes that begin with one
-image-split : (flag : Flag) (es : List Entry) (rest : List ℕ)
-    → image flag es ++ rest
-    ≡ (headWords flag es ++ tableRows (entriesEnd es) (placed headSize es))
-    ++ (cat entryBytes es ++ (tables (placed headSize es) ++ links (placed headSize es) (back flag es) ++ rest))
+image-split : (mode : Mode) (es : List Entry) (rest : List ℕ)
+    → image mode es ++ rest
+    ≡ (headWords mode es ++ tableRows (entriesEnd es) (placed headSize es))
+    ++ (cat entryBytes es ++ (tables (placed headSize es) ++ links (placed headSize es) (back mode es) ++ rest))
 unfolding image
-image-split flag es rest = simp append-assoc
+image-split mode es rest = simp append-assoc
 
-head-length : (flag : Flag) (es : List Entry) → length (headWords flag es ++ tableRows (entriesEnd es) (placed headSize es)) ≡ headSize
-head-length flag es =
-    omega (arith, length-append (headWords flag es) (tableRows (entriesEnd es) (placed headSize es)), length-headWords flag es, length-tableRows (entriesEnd es) (placed headSize es))
+head-length : (mode : Mode) (es : List Entry) → length (headWords mode es ++ tableRows (entriesEnd es) (placed headSize es)) ≡ headSize
+head-length mode es =
+    omega (arith, length-append (headWords mode es) (tableRows (entriesEnd es) (placed headSize es)), length-headWords mode es, length-tableRows (entriesEnd es) (placed headSize es))
 
-pub area-in-image : (flag : Flag) (es : List Entry) (rest : List ℕ) → take (entriesSize es) (drop headSize (image flag es ++ rest)) ≡ cat entryBytes es
-area-in-image flag es rest =
-    let after : List ℕ = tables (placed headSize es) ++ links (placed headSize es) (back flag es) ++ rest in
-    let head : List ℕ = headWords flag es ++ tableRows (entriesEnd es) (placed headSize es) in
-    ap (λ (l : List ℕ). take (entriesSize es) (drop headSize l)) (image-split flag es rest)
-    ∙ ap (take (entriesSize es)) (drop-at head (cat entryBytes es ++ after) headSize (head-length flag es))
+pub area-in-image : (mode : Mode) (es : List Entry) (rest : List ℕ) → take (entriesSize es) (drop headSize (image mode es ++ rest)) ≡ cat entryBytes es
+area-in-image mode es rest =
+    let after : List ℕ = tables (placed headSize es) ++ links (placed headSize es) (back mode es) ++ rest in
+    let head : List ℕ = headWords mode es ++ tableRows (entriesEnd es) (placed headSize es) in
+    ap (λ (l : List ℕ). take (entriesSize es) (drop headSize l)) (image-split mode es rest)
+    ∙ ap (take (entriesSize es)) (drop-at head (cat entryBytes es ++ after) headSize (head-length mode es))
     ∙ take-at (cat entryBytes es) after (entriesSize es) (length-entries es)
 
 -- ---- what is recorded
 
-module _ (flag : Flag) (n : ℕ) (es : List Entry) (s : State) (w : Written flag n es s) where
+module _ (mode : Mode) (n : ℕ) (es : List Entry) (s : State) (w : Written mode n es s) where
   pub written-area : entryArea s ≡ cat entryBytes es
   written-area =
       let size : s .writer .end - headSize ≡ entriesSize es = omega (arith, w .end) in
@@ -66,10 +66,10 @@ module _ (flag : Flag) (n : ℕ) (es : List Entry) (s : State) (w : Written flag
   written-recorded = ap₂ entriesIn (w .entries) written-area ∙ parsed es words
 
   -- the size that close gives
-  pub written-size : closedSize s ≡ imageSize flag es
+  pub written-size : closedSize s ≡ imageSize mode es
   written-size =
-      let b : backIn (s .writer .flag) (s .writer .back) ≡ back flag es =
-      ap₂ backIn (w .mode) (w .back-size) ∙ backIn-twice flag (backSize es) in
+      let b : backIn (s .writer .mode) (s .writer .back) ≡ back mode es =
+      ap₂ backIn (w .mode) (w .back-size) ∙ backIn-twice mode (backSize es) in
       omega (arith, b, w .end, w .entries)
 
   -- ---- the decision
@@ -80,20 +80,20 @@ module _ (flag : Flag) (n : ℕ) (es : List Entry) (s : State) (w : Written flag
       ∙ all-true (λ (t : ℕ). eqb (getD (s .counts) t 0) (count t (placed headSize es))) 0 256
       (λ i h. eq-eqb (getD (s .counts) (0 + i) 0) (count (0 + i) (placed headSize es)) (w .counts (0 + i) (omega arith)))
 
-  back-right : eqb (s .writer .back) (backIn (s .writer .flag) (backSize (recorded s))) ≡ true
+  back-right : eqb (s .writer .back) (backIn (s .writer .mode) (backSize (recorded s))) ≡ true
   back-right =
-      eq-eqb (s .writer .back) (backIn (s .writer .flag) (backSize (recorded s)))
-      (w .back-size ∙ sym (ap₂ (λ (f : Flag) (l : List Entry). backIn f (backSize l)) (w .mode) written-recorded))
+      eq-eqb (s .writer .back) (backIn (s .writer .mode) (backSize (recorded s)))
+      (w .back-size ∙ sym (ap₂ (λ (f : Mode) (l : List Entry). backIn f (backSize l)) (w .mode) written-recorded))
 
-  size-right : tooLarge (s .writer .capacity) (finishedSize (s .writer)) ≡ false
+  size-right : tooLarge (s .writer .length) (finishedSize (s .writer)) ≡ false
   size-right =
       ap₂ {C = Bool} (λ (x y : Bool). x || y)
-      (le-ltb (s .writer .capacity) (finishedSize (s .writer)) (omega (arith, written-size, w .capacity, w .within)))
+      (le-ltb (s .writer .length) (finishedSize (s .writer)) (omega (arith, written-size, w .length, w .within)))
       (le-ltb 4294967295 (finishedSize (s .writer)) (omega (arith, written-size, w .below)))
 
   pub close-accepted : closeRefusal s ≡ 0
   unfolding closeRefusal
-  close-accepted = simp (written-fits flag n es s w, written-whole, counts-right, back-right, size-right)
+  close-accepted = simp (written-fits mode n es s w, written-whole, counts-right, back-right, size-right)
 
   -- ---- the effect
 
@@ -101,65 +101,65 @@ module _ (flag : Flag) (n : ℕ) (es : List Entry) (s : State) (w : Written flag
   unfolding afterClose
   close-closed = rw close-accepted
 
-  pub closed-buffer : closed s .buffer ≡ image flag es ++ drop (imageSize flag es) (s .buffer)
+  pub closed-buffer : closed s .buffer ≡ image mode es ++ drop (imageSize mode es) (s .buffer)
   unfolding closed
   closed-buffer =
       ap₂ (λ (l : List ℕ) (k : ℕ). l ++ drop k (s .buffer)) (ap₂ image (w .mode) written-recorded) written-size
 
   -- the image is the buffer's first bytes, as many as the size that close gives
-  pub close-image : take (closedSize s) (afterClose s .buffer) ≡ image flag es
+  pub close-image : take (closedSize s) (afterClose s .buffer) ≡ image mode es
   close-image =
       ap₂ take written-size (ap (λ (r : State). r .buffer) close-closed ∙ closed-buffer)
-      ∙ take-at (image flag es) (drop (imageSize flag es) (s .buffer)) (imageSize flag es) (length-image flag es)
+      ∙ take-at (image mode es) (drop (imageSize mode es) (s .buffer)) (imageSize mode es) (length-image mode es)
 
   closed-length : length (closed s .buffer) ≡ n
   closed-length =
       ap length closed-buffer
-      ∙ length-append (image flag es) (drop (imageSize flag es) (s .buffer))
-      ∙ sum (length (image flag es)) (length (drop (imageSize flag es) (s .buffer))) (imageSize flag es) (length (s .buffer)) (length-image flag es) (length-drop (imageSize flag es) (s .buffer)) (w .length-kept) (w .within)
+      ∙ length-append (image mode es) (drop (imageSize mode es) (s .buffer))
+      ∙ sum (length (image mode es)) (length (drop (imageSize mode es) (s .buffer))) (imageSize mode es) (length (s .buffer)) (length-image mode es) (length-drop (imageSize mode es) (s .buffer)) (w .length-kept) (w .within)
     where
       sum : (a b k l : ℕ) → a ≡ k → b ≡ l - k → l ≡ n → k ≤ n → a + b ≡ n
       sum a b k l p q r h = omega arith
 
-  closed-written : Written flag n es (closed s)
+  closed-written : Written mode n es (closed s)
   unfolding closed
   closed-written =
       record {
         mode = w .mode;
-        capacity = w .capacity;
+        length = w .length;
         length-kept = closed-length;
         end = w .end;
         entries = w .entries;
         back-size = w .back-size;
         tables = w .tables;
         counts = w .counts;
-        area = ap (λ (l : List ℕ). take (entriesSize es) (drop headSize l)) closed-buffer ∙ area-in-image flag es (drop (imageSize flag es) (s .buffer));
+        area = ap (λ (l : List ℕ). take (entriesSize es) (drop headSize l)) closed-buffer ∙ area-in-image mode es (drop (imageSize mode es) (s .buffer));
         within = w .within;
         below = w .below;
         ids = w .ids;
       }
 
-  pub close-written : Written flag n es (afterClose s)
+  pub close-written : Written mode n es (afterClose s)
   close-written = rw close-closed closed-written
 
 -- ---- closing twice
 
-module _ (flag : Flag) (n : ℕ) (es : List Entry) (s : State) (w : Written flag n es s) where
+module _ (mode : Mode) (n : ℕ) (es : List Entry) (s : State) (w : Written mode n es s) where
   closed-again : closed (closed s) ≡ closed s
   unfolding closed
   closed-again = λ i. record { writer = s .writer; counts = s .counts; buffer = buffers i }
     where
       buffers : closed (closed s) .buffer ≡ closed s .buffer
       buffers =
-          closed-buffer flag n es (closed s) (closed-written flag n es s w)
-          ∙ ap (λ (l : List ℕ). image flag es ++ drop (imageSize flag es) l) (closed-buffer flag n es s w)
-          ∙ ap (λ (l : List ℕ). image flag es ++ l)
-          (drop-at (image flag es) (drop (imageSize flag es) (s .buffer)) (imageSize flag es) (length-image flag es))
-          ∙ sym (closed-buffer flag n es s w)
+          closed-buffer mode n es (closed s) (closed-written mode n es s w)
+          ∙ ap (λ (l : List ℕ). image mode es ++ drop (imageSize mode es) l) (closed-buffer mode n es s w)
+          ∙ ap (λ (l : List ℕ). image mode es ++ l)
+          (drop-at (image mode es) (drop (imageSize mode es) (s .buffer)) (imageSize mode es) (length-image mode es))
+          ∙ sym (closed-buffer mode n es s w)
 
   pub close-again : afterClose (afterClose s) ≡ afterClose s
   close-again =
-      ap afterClose (close-closed flag n es s w)
-      ∙ close-closed flag n es (closed s) (closed-written flag n es s w)
+      ap afterClose (close-closed mode n es s w)
+      ∙ close-closed mode n es (closed s) (closed-written mode n es s w)
       ∙ closed-again
-      ∙ sym (close-closed flag n es s w)
+      ∙ sym (close-closed mode n es s w)

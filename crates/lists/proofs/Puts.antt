@@ -10,8 +10,8 @@ use lib.Seq.{sets, length-sets, sets-eq, take-add, drop-at, take-at, length-take
 use lib.Dec.{eqb, ltb, leb}
 use borrow.Author.Tests.{eq-eqb, le-leb, ltb-false}
 use Rattle.jhash.specs.NameHash.{hashOf}
-use Rattle.image.specs.declared.Flag.{Flag}
-use Rattle.image.specs.declared.Flag.the-variants.{None, Oneway}
+use Rattle.image.specs.declared.Mode.{Mode}
+use Rattle.image.specs.declared.Mode.the-variants.{Twoway, Oneway}
 use Rattle.image.specs.Bytes.{cat}
 use Rattle.image.specs.Tables.{tableOf}
 use Rattle.image.specs.Record.{Entry, headSize, entryBytes, entrySize, entriesSize, placed, count, ofTable, backSize, backIn, imageSize}
@@ -26,7 +26,7 @@ use Rattle.lists.proofs.Appended.{entriesSize-snoc, backSize-snoc, size
 
 -- ---- a written record fits
 
-module _ (flag : Flag) (n : ℕ) (es : List Entry) (s : State) (w : Written flag n es s) where
+module _ (mode : Mode) (n : ℕ) (es : List Entry) (s : State) (w : Written mode n es s) where
   count-below : (k : ℕ) → k < 256 → getD (s .counts) k 0 ≤ s .writer .entries
   count-below k h = omega (arith, w .counts k h, count-within k (placed headSize es), length-placed headSize es, w .entries)
 
@@ -36,40 +36,40 @@ module _ (flag : Flag) (n : ℕ) (es : List Entry) (s : State) (w : Written flag
       let none : noneAbove (s .counts) (s .writer .entries) ≡ true =
       all-true (λ (t : ℕ). leb (getD (s .counts) t 0) (s .writer .entries)) 0 256
       (λ i h. le-leb (getD (s .counts) (0 + i) 0) (s .writer .entries) (count-below (0 + i) (omega arith))) in
-      let cap : s .writer .capacity ≡ length (s .buffer) = w .capacity ∙ sym (w .length-kept) in
+      let cap : s .writer .length ≡ length (s .buffer) = w .length ∙ sym (w .length-kept) in
       let low : headSize ≤ s .writer .end = omega (arith, w .end) in
-      let high : s .writer .end ≤ s .writer .capacity = omega (arith, w .end, w .capacity, w .within) in
+      let high : s .writer .end ≤ s .writer .length = omega (arith, w .end, w .length, w .within) in
       simp
-      (eq-eqb (s .writer .capacity) (length (s .buffer)) cap, le-leb headSize (s .writer .end) low, le-leb (s .writer .end) (s .writer .capacity) high, none)
+      (eq-eqb (s .writer .length) (length (s .buffer)) cap, le-leb headSize (s .writer .end) low, le-leb (s .writer .end) (s .writer .length) high, none)
 
 -- ---- what the mode changes
 
-pub backIn-twice : (flag : Flag) (b : ℕ) → backIn flag (backIn flag b) ≡ backIn flag b
-backIn-twice None b = refl
+pub backIn-twice : (mode : Mode) (b : ℕ) → backIn mode (backIn mode b) ≡ backIn mode b
+backIn-twice Twoway b = refl
 backIn-twice Oneway b = refl
 
-raised-back : (flag : Flag) (b : ℕ) (es : List Entry) (e : Entry) → b ≡ backIn flag (backSize es)
-    → raised flag b (e .id) ≡ backIn flag (backSize (es ++ (e ∷ [])))
-raised-back None b es e h = ap (λ (k : ℕ). max k (e .id + 1)) h ∙ sym (backSize-snoc es e)
+raised-back : (mode : Mode) (b : ℕ) (es : List Entry) (e : Entry) → b ≡ backIn mode (backSize es)
+    → raised mode b (e .id) ≡ backIn mode (backSize (es ++ (e ∷ [])))
+raised-back Twoway b es e h = ap (λ (k : ℕ). max k (e .id + 1)) h ∙ sym (backSize-snoc es e)
 raised-back Oneway b es e h = h
 
 -- ---- the decision
 
-module _ (flag : Flag) (n : ℕ) (es : List Entry) (s : State) (w : Written flag n es s) (e : Entry) where
-  back-then : raised (s .writer .flag) (s .writer .back) (e .id) ≡ backIn flag (backSize (es ++ (e ∷ [])))
+module _ (mode : Mode) (n : ℕ) (es : List Entry) (s : State) (w : Written mode n es s) (e : Entry) where
+  back-then : raised (s .writer .mode) (s .writer .back) (e .id) ≡ backIn mode (backSize (es ++ (e ∷ [])))
   back-then =
-      ap (λ (f : Flag). raised f (s .writer .back) (e .id)) (w .mode) ∙ raised-back flag (s .writer .back) es e (w .back-size)
+      ap (λ (f : Mode). raised f (s .writer .back) (e .id)) (w .mode) ∙ raised-back mode (s .writer .back) es e (w .back-size)
 
-  finished-then : finishedSize (writerAfter (s .writer) e) ≡ sizeOf flag (es ++ (e ∷ []))
+  finished-then : finishedSize (writerAfter (s .writer) e) ≡ sizeOf mode (es ++ (e ∷ []))
   unfolding writerAfter
   finished-then =
-      let b : backIn (s .writer .flag) (raised (s .writer .flag) (s .writer .back) (e .id)) ≡ backIn flag (backSize (es ++ (e ∷ []))) =
-      ap₂ backIn (w .mode) back-then ∙ backIn-twice flag (backSize (es ++ (e ∷ []))) in
-      omega (arith, b, w .end, w .entries, entriesSize-snoc es e, length-append es (e ∷ []), sizeOf-is flag (es ++ (e ∷ [])))
+      let b : backIn (s .writer .mode) (raised (s .writer .mode) (s .writer .back) (e .id)) ≡ backIn mode (backSize (es ++ (e ∷ []))) =
+      ap₂ backIn (w .mode) back-then ∙ backIn-twice mode (backSize (es ++ (e ∷ []))) in
+      omega (arith, b, w .end, w .entries, entriesSize-snoc es e, length-append es (e ∷ []), sizeOf-is mode (es ++ (e ∷ [])))
 
-  pub put-due : putRefusal s e ≡ dueTo flag n es (put e)
+  pub put-due : putRefusal s e ≡ dueTo mode n es (put e)
   unfolding putRefusal refused
-  put-due = simp (written-fits flag n es s w, finished-then, w .capacity)
+  put-due = simp (written-fits mode n es s w, finished-then, w .length)
 
 -- ---- the bytes
 
@@ -93,23 +93,23 @@ or-false true b h = (h, cc)
 or-false false b h = (refl, h)
 
 -- the ids stay words: in a two-way list by the size, in a one-way list by the premise
-ids-then : (flag : Flag) (es : List Entry) (e : Entry) → WordId flag (put e) → backSize es ≤ 2 ^ 32 → imageSize flag (es ++ (e ∷ [])) ≤ 4294967295
+ids-then : (mode : Mode) (es : List Entry) (e : Entry) → WordId mode (put e) → backSize es ≤ 2 ^ 32 → imageSize mode (es ++ (e ∷ [])) ≤ 4294967295
     → backSize (es ++ (e ∷ [])) ≤ 2 ^ 32
-ids-then None es e word h small = omega arith
+ids-then Twoway es e word h small = omega arith
 ids-then Oneway es e word h small = omega (arith, backSize-snoc es e)
 
-module _ (flag : Flag) (n : ℕ) (es : List Entry) (s : State) (w : Written flag n es s) (e : Entry) (room : refused flag n es e ≡ false) where
-  within-then : imageSize flag (es ++ (e ∷ [])) ≤ n
+module _ (mode : Mode) (n : ℕ) (es : List Entry) (s : State) (w : Written mode n es s) (e : Entry) (room : refused mode n es e ≡ false) where
+  within-then : imageSize mode (es ++ (e ∷ [])) ≤ n
   unfolding refused
   within-then =
-      let size = sizeOf flag (es ++ (e ∷ [])) in
-      omega (arith, ltb-false n size (or-false (ltb n size) (ltb 4294967295 size) room .0), sizeOf-is flag (es ++ (e ∷ [])))
+      let size = sizeOf mode (es ++ (e ∷ [])) in
+      omega (arith, ltb-false n size (or-false (ltb n size) (ltb 4294967295 size) room .0), sizeOf-is mode (es ++ (e ∷ [])))
 
-  below-then : imageSize flag (es ++ (e ∷ [])) ≤ 4294967295
+  below-then : imageSize mode (es ++ (e ∷ [])) ≤ 4294967295
   unfolding refused
   below-then =
-      let size = sizeOf flag (es ++ (e ∷ [])) in
-      omega (arith, ltb-false 4294967295 size (or-false (ltb n size) (ltb 4294967295 size) room .1), sizeOf-is flag (es ++ (e ∷ [])))
+      let size = sizeOf mode (es ++ (e ∷ [])) in
+      omega (arith, ltb-false 4294967295 size (or-false (ltb n size) (ltb 4294967295 size) room .1), sizeOf-is mode (es ++ (e ∷ [])))
 
   -- the entries' area after appending is the old area and the entry's bytes
   pub area-then : take (entriesSize es + entrySize e) (drop headSize (sets (s .buffer) (s .writer .end) (entryBytes e))) ≡ cat entryBytes es ++ entryBytes e
@@ -147,56 +147,56 @@ module _ (flag : Flag) (n : ℕ) (es : List Entry) (s : State) (w : Written flag
   unfolding countsAfter
   tables-then = length-set (s .counts) (tableOf (hashOf (e .name))) (getD (s .counts) (tableOf (hashOf (e .name))) 0 + 1) ∙ w .tables
 
-  pub appended-written : WordId flag (put e) → Written flag n (es ++ (e ∷ [])) (appended s e)
+  pub appended-written : WordId mode (put e) → Written mode n (es ++ (e ∷ [])) (appended s e)
   unfolding appended writerAfter
   appended-written word =
       record {
         mode = w .mode;
-        capacity = w .capacity;
+        length = w .length;
         length-kept = length-sets (s .buffer) (s .writer .end) (entryBytes e) ∙ w .length-kept;
         end = omega (arith, w .end, entriesSize-snoc es e);
         entries = omega (arith, w .entries, length-append es (e ∷ []));
-        back-size = back-then flag n es s w e;
+        back-size = back-then mode n es s w e;
         tables = tables-then;
         counts = counts-then;
         area = area-all;
         within = within-then;
         below = below-then;
-        ids = ids-then flag es e word (w .ids) below-then;
+        ids = ids-then mode es e word (w .ids) below-then;
       }
 
 -- ---- the put, accepted or refused
 
-module _ (flag : Flag) (n : ℕ) (es : List Entry) (s : State) (w : Written flag n es s) (e : Entry) where
-  pub put-written : WordId flag (put e) → Written flag n (acceptedAfter flag n es (put e)) (afterPut s e)
+module _ (mode : Mode) (n : ℕ) (es : List Entry) (s : State) (w : Written mode n es s) (e : Entry) where
+  pub put-written : WordId mode (put e) → Written mode n (acceptedAfter mode n es (put e)) (afterPut s e)
   unfolding afterPut
-  put-written word = go (refused flag n es e) refl (put-due flag n es s w e)
+  put-written word = go (refused mode n es e) refl (put-due mode n es s w e)
     where
-      go : (b : Bool) → refused flag n es e ≡ b → putRefusal s e ≡ cond b 3 0
-          → Written flag n (cond b es (es ++ (e ∷ []))) (cond (eqb (putRefusal s e) 0) (appended s e) s)
+      go : (b : Bool) → refused mode n es e ≡ b → putRefusal s e ≡ cond b 3 0
+          → Written mode n (cond b es (es ++ (e ∷ []))) (cond (eqb (putRefusal s e) 0) (appended s e) s)
       go true r d = rw d w
-      go false r d = rw d (appended-written flag n es s w e r word)
+      go false r d = rw d (appended-written mode n es s w e r word)
 
 -- ---- a fresh record
 
-pub fresh-written : (flag : Flag) (buffer : List ℕ) → headSize ≤ length buffer → Written flag (length buffer) [] (fresh flag buffer)
+pub fresh-written : (mode : Mode) (buffer : List ℕ) → headSize ≤ length buffer → Written mode (length buffer) [] (fresh mode buffer)
 unfolding fresh entriesSize placed ofTable backSize cat Rattle.image.specs.Bytes.keep
-fresh-written flag buffer room =
+fresh-written mode buffer room =
     record {
       mode = refl;
-      capacity = refl;
+      length = refl;
       length-kept = refl;
       end = refl;
       entries = refl;
-      back-size = sym (no-back flag);
+      back-size = sym (no-back mode);
       tables = length-replicate {A = ℕ} 256 0;
       counts = λ t h. getD-replicate 256 t 0 0 h;
       area = refl;
-      within = omega (arith, no-back flag);
-      below = omega (arith, no-back flag);
+      within = omega (arith, no-back mode);
+      below = omega (arith, no-back mode);
       ids = omega arith;
     }
   where
-    no-back : (f : Flag) → backIn f 0 ≡ 0
-    no-back None = refl
+    no-back : (f : Mode) → backIn f 0 ≡ 0
+    no-back Twoway = refl
     no-back Oneway = refl

@@ -5,8 +5,8 @@ use mathlib.Core.Path.{_≡_, refl, ap, _∙_}
 use mathlib.Core.List.{List}
 use mathlib.Core.Option.{Option, some}
 use lib.ListN.{length, take, drop}
-use Rattle.image.specs.declared.Flag.{Flag}
-use Rattle.image.specs.declared.Flag.the-variants.{None, Oneway}
+use Rattle.image.specs.declared.Mode.{Mode}
+use Rattle.image.specs.declared.Mode.the-variants.{Twoway, Oneway}
 use Rattle.image.specs.Record.{Entry, headSize, backSize, imageSize, image}
 use Rattle.reader.specs.Lookup.{Lookup, found, nothing, lookup}
 use Rattle.reader.specs.Naming.{Naming, place, unnamed, naming}
@@ -48,26 +48,26 @@ module _ (img : List ℕ) (es : List Entry) (names : (name : List ℕ) → found
 -- ---- an image of entries
 
 module _ (es : List Entry) (ids : backSize es ≤ 2 ^ 32) where
-  image-names : (flag : Flag) → imageSize flag es ≤ 4294967295 → (id : ℕ) → nameGiven (image flag es) id ≡ namedIn flag es id
-  image-names None small id = id-gives es small id
+  image-names : (mode : Mode) → imageSize mode es ≤ 4294967295 → (id : ℕ) → nameGiven (image mode es) id ≡ namedIn mode es id
+  image-names Twoway small id = id-gives es small id
   image-names Oneway small id = naming-oneway es small id
 
-  pub read-image : (flag : Flag) → imageSize flag es ≤ 4294967295 → Read flag es (image flag es)
-  read-image flag small =
+  pub read-image : (mode : Mode) → imageSize mode es ≤ 4294967295 → Read mode es (image mode es)
+  read-image mode small =
       record {
-        opened = image-opens flag es small;
-        name-gives = name-gives flag es small ids;
-        id-gives = image-names flag small;
-        id-home = λ id. home-is (image flag es) es (name-gives flag es small ids) id (namedIn flag es id) (image-names flag small id);
-        bounded = name-reads flag es small ids;
-        found-bounded = λ name id h. found-most (lookup (image flag es) name) (tablePuts name es) id (found-reads flag es small ids name) h;
-        long-unread = λ name h. ap reads (long-reads (image flag es) name h);
+        opened = image-opens mode es small;
+        name-gives = name-gives mode es small ids;
+        id-gives = image-names mode small;
+        id-home = λ id. home-is (image mode es) es (name-gives mode es small ids) id (namedIn mode es id) (image-names mode small id);
+        bounded = name-reads mode es small ids;
+        found-bounded = λ name id h. found-most (lookup (image mode es) name) (tablePuts name es) id (found-reads mode es small ids name) h;
+        long-unread = λ name h. ap reads (long-reads (image mode es) name h);
       }
 
 -- ---- the image of a list of calls
 
-pub list-read : (flag : Flag) (buffer : List ℕ) → headSize ≤ length buffer → (cs : List Call) → WordIds flag cs
-    → Read flag (accepted flag (length buffer) cs) (take (closedSize (after (fresh flag buffer) cs)) (afterClose (after (fresh flag buffer) cs) .buffer))
-list-read flag buffer room cs word =
-    rw (list-image flag buffer room cs word)
-    (read-image (accepted flag (length buffer) cs) (list-written flag buffer room cs word .ids) flag (list-below flag buffer room cs word))
+pub list-read : (mode : Mode) (buffer : List ℕ) → headSize ≤ length buffer → (cs : List Call) → WordIds mode cs
+    → Read mode (accepted mode (length buffer) cs) (take (closedSize (after (fresh mode buffer) cs)) (afterClose (after (fresh mode buffer) cs) .buffer))
+list-read mode buffer room cs word =
+    rw (list-image mode buffer room cs word)
+    (read-image (accepted mode (length buffer) cs) (list-written mode buffer room cs word .ids) mode (list-below mode buffer room cs word))

@@ -8,7 +8,7 @@ use mathlib.Core.List.{List, [], _∷_, map}
 use lib.ListN.{length}
 use lib.Dec.{eqb, lit≤, lit<}
 use borrow.Author.Tests.{ne-eqb}
-use Rattle.image.specs.declared.Flag.{Flag}
+use Rattle.image.specs.declared.Mode.{Mode}
 use Rattle.image.specs.Bytes.{word, keep, range, same}
 use Rattle.image.specs.Record.{Entry, headSize, entrySize, entriesSize, placed, hasId, ofId, lastFrom, link, backSize, back, backOffset, imageSize, image}
 use Rattle.reader.specs.Open.{num, backOffsetAt}
@@ -49,64 +49,64 @@ last-small i k d o (e ∷ es) h room =
     go true p q = q
     go false p q = p
 
-module _ (flag : Flag) (es : List Entry) (small : imageSize flag es ≤ 4294967295) where
+module _ (mode : Mode) (es : List Entry) (small : imageSize mode es ≤ 4294967295) where
   link-small : (i : ℕ) → link (placed headSize es) i < 2 ^ 32
   unfolding link ofId
   link-small i = last-small i (2 ^ 32) 0 headSize es (omega arith) (omega arith)
 
-  link-word : (i : ℕ) → i < back flag es → word (image flag es) (backOffset flag es + 4 * i) ≡ link (placed headSize es) i
+  link-word : (i : ℕ) → i < back mode es → word (image mode es) (backOffset mode es + 4 * i) ≡ link (placed headSize es) i
   unfolding backOffset
   link-word i h =
-      rw (ne-eqb (back flag es) 0 (λ z. omega arith)) (at-word (link (placed headSize es) i) (link-at flag es small i h) (link-small i))
+      rw (ne-eqb (back mode es) 0 (λ z. omega arith)) (at-word (link (placed headSize es) i) (link-at mode es small i h) (link-small i))
 
-  back-array : backArray (image flag es) ≡ map (link (placed headSize es)) (range 0 (back flag es))
+  back-array : backArray (image mode es) ≡ map (link (placed headSize es)) (range 0 (back mode es))
   back-array =
-      rw (backOffsetAt-image flag es small, backSizeAt-image flag es small)
-      (map-range (λ (i : ℕ). word (image flag es) (backOffset flag es + 4 * i)) (link (placed headSize es)) 0 (back flag es) (λ i p. link-word i (omega arith)))
+      rw (backOffsetAt-image mode es small, backSizeAt-image mode es small)
+      (map-range (λ (i : ℕ). word (image mode es) (backOffset mode es + 4 * i)) (link (placed headSize es)) 0 (back mode es) (λ i p. link-word i (omega arith)))
 
 -- ---- what is computed of a row
 
 abbrev entries : Row → List Entry
-entries r = accepted (r .flag) (r .capacity) (r .calls)
+entries r = accepted (r .mode) (r .bytes) (r .calls)
 
 -- room for a head, the ids, each call's refusal, size, num, back offset, back array, what names give, what ids give and whether they are home
 abbrev Computed : Row → Type 0
 Computed r =
-    (headSize ≤ r .capacity)
-    × WordIds (r .flag) (r .calls)
-    × (due (r .flag) (r .capacity) (r .calls) ≡ r .refusals)
-    × (sizeOf (r .flag) (entries r) ≡ r .size)
+    (headSize ≤ r .bytes)
+    × WordIds (r .mode) (r .calls)
+    × (due (r .mode) (r .bytes) (r .calls) ≡ r .refusals)
+    × (sizeOf (r .mode) (entries r) ≡ r .size)
     × (length (entries r) ≡ r .number)
-    × (backOffset (r .flag) (entries r) ≡ r .backOffset)
-    × (map (link (placed headSize (entries r))) (range 0 (back (r .flag) (entries r))) ≡ r .links)
+    × (backOffset (r .mode) (entries r) ≡ r .backOffset)
+    × (map (link (placed headSize (entries r))) (range 0 (back (r .mode) (entries r))) ≡ r .links)
     × Each (λ (a : NameRow). firstId (ofName (a .name) (entries r)) ≡ a .gives) (r .names)
-    × Each (λ (a : IdRow). (namedIn (r .flag) (entries r) (a .id) ≡ a .gives) × (homeIn (r .flag) (entries r) (a .id) ≡ a .isHome)) (r .ids)
+    × Each (λ (a : IdRow). (namedIn (r .mode) (entries r) (a .id) ≡ a .gives) × (homeIn (r .mode) (entries r) (a .id) ≡ a .isHome)) (r .ids)
 
 -- it holds of every buffer of that length
 module _ (r : Row) (c : Computed r) where
-  image-holds : (img : List ℕ) → img ≡ image (r .flag) (entries r) → imageSize (r .flag) (entries r) ≤ 4294967295 → Read (r .flag) (entries r) img → ImageHolds r img
+  image-holds : (img : List ℕ) → img ≡ image (r .mode) (entries r) → imageSize (r .mode) (entries r) ≤ 4294967295 → Read (r .mode) (entries r) img → ImageHolds r img
   image-holds img is small read =
       record {
         opened = read .opened ∙ ap num (c .4);
-        back-offset = ap backOffsetAt is ∙ backOffsetAt-image (r .flag) (entries r) small ∙ c .5;
-        back-array = ap backArray is ∙ back-array (r .flag) (entries r) small ∙ c .6;
+        back-offset = ap backOffsetAt is ∙ backOffsetAt-image (r .mode) (entries r) small ∙ c .5;
+        back-array = ap backArray is ∙ back-array (r .mode) (entries r) small ∙ c .6;
         named = each-map (λ a h. read .name-gives (a .name) ∙ h) (r .names) (c .7);
         placed = each-map (λ a h. (read .id-gives (a .id) ∙ h .0, read .id-home (a .id) ∙ h .1)) (r .ids) (c .8);
       }
 
-  holds-in : (buffer : List ℕ) → length buffer ≡ r .capacity → RowHolds r buffer
+  holds-in : (buffer : List ℕ) → length buffer ≡ r .bytes → RowHolds r buffer
   holds-in buffer long =
       let fits : headSize ≤ length buffer = omega (arith, c .0) in
-      let same-entries : accepted (r .flag) (length buffer) (r .calls) ≡ entries r = ap (λ (n : ℕ). accepted (r .flag) n (r .calls)) long in
+      let same-entries : accepted (r .mode) (length buffer) (r .calls) ≡ entries r = ap (λ (n : ℕ). accepted (r .mode) n (r .calls)) long in
       record {
-        answered = list-answers (r .flag) buffer fits (r .calls) (c .1) ∙ ap (λ (n : ℕ). due (r .flag) n (r .calls)) long ∙ c .2;
-        closes = list-gives (r .flag) buffer fits (r .calls) (c .1)
-            ∙ ap size (list-formula (r .flag) buffer fits (r .calls) (c .1) ∙ ap (sizeOf (r .flag)) same-entries ∙ c .3);
+        answered = list-answers (r .mode) buffer fits (r .calls) (c .1) ∙ ap (λ (n : ℕ). due (r .mode) n (r .calls)) long ∙ c .2;
+        closes = list-gives (r .mode) buffer fits (r .calls) (c .1)
+            ∙ ap size (list-formula (r .mode) buffer fits (r .calls) (c .1) ∙ ap (sizeOf (r .mode)) same-entries ∙ c .3);
         imaged =
-            image-holds (closedImage (after (fresh (r .flag) buffer) (r .calls)))
-            (list-image (r .flag) buffer fits (r .calls) (c .1) ∙ ap (image (r .flag)) same-entries)
-            (rw same-entries at (list-below (r .flag) buffer fits (r .calls) (c .1)))
-            (rw same-entries at (list-read (r .flag) buffer fits (r .calls) (c .1)));
+            image-holds (closedImage (after (fresh (r .mode) buffer) (r .calls)))
+            (list-image (r .mode) buffer fits (r .calls) (c .1) ∙ ap (image (r .mode)) same-entries)
+            (rw same-entries at (list-below (r .mode) buffer fits (r .calls) (c .1)))
+            (rw same-entries at (list-read (r .mode) buffer fits (r .calls) (c .1)));
       }
 
 -- ---- the rows

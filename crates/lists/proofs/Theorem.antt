@@ -3,7 +3,7 @@ use Prim.Native.Nat.{ℕ, _≤_}
 use mathlib.Core.Path.{_≡_, sym, ap, _∙_}
 use mathlib.Core.List.{List}
 use lib.ListN.{length}
-use Rattle.image.specs.declared.Flag.the-variants.{None}
+use Rattle.image.specs.declared.Mode.the-variants.{Twoway}
 use Rattle.image.specs.Record.{headSize, image}
 use Rattle.answers.specs.Answer.{ofName, ofId, firstId, lastName}
 use Rattle.answers.proofs.Images.{first-none, last-none}
@@ -17,28 +17,28 @@ use Rattle.lists.proofs.OneMore.{list-gives, list-formula, list-image, 
 use Rattle.lists.proofs.Reading.{list-read}
 
 module _ (buffer : List ℕ) (cs : List Call) (room : headSize ≤ length buffer) where
-  decided : acceptedPuts buffer cs ≡ accepted None (length buffer) cs
+  decided : acceptedPuts buffer cs ≡ accepted Twoway (length buffer) cs
   unfolding acceptedPuts
-  decided = list-accepted None buffer room cs (two-way cs)
+  decided = list-accepted Twoway buffer room cs (two-way cs)
 
-  imaged : imageOf buffer cs ≡ image None (acceptedPuts buffer cs)
+  imaged : imageOf buffer cs ≡ image Twoway (acceptedPuts buffer cs)
   unfolding imageOf
-  imaged = list-image None buffer room cs (two-way cs) ∙ ap (image None) (sym decided)
+  imaged = list-image Twoway buffer room cs (two-way cs) ∙ ap (image Twoway) (sym decided)
 
-  read : Read None (acceptedPuts buffer cs) (imageOf buffer cs)
+  read : Read Twoway (acceptedPuts buffer cs) (imageOf buffer cs)
   unfolding imageOf
-  read = rw decided (list-read None buffer room cs (two-way cs))
+  read = rw decided (list-read Twoway buffer room cs (two-way cs))
 
   pub one-list : OneList buffer cs
   one-list =
       record {
-        begins = list-begins None buffer room;
-        begins-counts = list-counts None buffer room;
-        answered = list-answers None buffer room cs (two-way cs);
-        permitted = list-permitted None buffer room cs (two-way cs);
+        begins = list-begins Twoway buffer room;
+        begins-counts = list-counts Twoway buffer room;
+        answered = list-answers Twoway buffer room cs (two-way cs);
+        permitted = list-permitted Twoway buffer room cs (two-way cs);
         decided = decided;
-        closes = list-gives None buffer room cs (two-way cs);
-        sized = list-formula None buffer room cs (two-way cs) ∙ ap (sizeOf None) (sym decided);
+        closes = list-gives Twoway buffer room cs (two-way cs);
+        sized = list-formula Twoway buffer room cs (two-way cs) ∙ ap (sizeOf Twoway) (sym decided);
         imaged = imaged;
         opened = read .opened;
         name-gives = read .name-gives;
@@ -60,8 +60,8 @@ module _ (buffer : List ℕ) (cs : List Call) (room : headSize ≤ length buffer
           λ h. read .id-gives id ∙ first-last (acceptedPuts buffer cs) name id (ids id) (sym (read .name-gives name) ∙ h),
           λ h. read .name-gives name ∙ last-first (acceptedPuts buffer cs) name id (names name) (sym (read .id-gives id) ∙ h),
         );
-        empty-image = λ h. imaged ∙ ap (image None) (decided ∙ none-accepted None (length buffer) cs h);
-        closed-twice = list-twice None buffer room cs (two-way cs);
+        empty-image = λ h. imaged ∙ ap (image Twoway) (decided ∙ none-accepted Twoway (length buffer) cs h);
+        closed-twice = list-twice Twoway buffer room cs (two-way cs);
       }
 
 pub two-lists : (buffer₁ : List ℕ) (cs₁ : List Call) (buffer₂ : List ℕ) (cs₂ : List Call) → headSize ≤ length buffer₁ → headSize ≤ length buffer₂

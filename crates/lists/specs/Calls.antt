@@ -7,7 +7,7 @@ use mathlib.Core.Bool.{Bool, cond}
 use mathlib.Core.List.{List, [], _∷_, _++_}
 use lib.ListN.{length}
 use lib.Dec.{eqb}
-use Rattle.image.specs.declared.Flag.{Flag}
+use Rattle.image.specs.declared.Mode.{Mode}
 use Rattle.image.specs.Record.{Entry, backSize, backIn}
 use Rattle.writer.specs.State.{State, tooLarge}
 use Rattle.writer.specs.Put.{putRefusal, afterPut}
@@ -53,37 +53,37 @@ putsSize (e ∷ es) = 25 + length (e .name) + putsSize es
 
 -- the finished size follows from the calls: 2,072, plus 25 + name length for each accepted put, plus 4 × (the largest id of these + 1) if there are
 -- any (`backSize`, which is 0 without any). In one-way mode the last term is 0
-unfoldable pub sizeOf : Flag → List Entry → ℕ
-sizeOf flag es = 2072 + putsSize es + 4 * backIn flag (backSize es)
+unfoldable pub sizeOf : Mode → List Entry → ℕ
+sizeOf mode es = 2072 + putsSize es + 4 * backIn mode (backSize es)
 
 -- is a put refused after the accepted puts es, in a buffer of n bytes? The size counts the put at hand
-unfoldable pub refused : Flag → ℕ → List Entry → Entry → Bool
-refused flag n es e = tooLarge n (sizeOf flag (es ++ (e ∷ [])))
+unfoldable pub refused : Mode → ℕ → List Entry → Entry → Bool
+refused mode n es e = tooLarge n (sizeOf mode (es ++ (e ∷ [])))
 
 -- the accepted puts after one call more
-abbrev pub acceptedAfter : Flag → ℕ → List Entry → Call → List Entry
-acceptedAfter flag n es (put e) = cond (refused flag n es e) es (es ++ (e ∷ []))
-acceptedAfter flag n es close = es
+abbrev pub acceptedAfter : Mode → ℕ → List Entry → Call → List Entry
+acceptedAfter mode n es (put e) = cond (refused mode n es e) es (es ++ (e ∷ []))
+acceptedAfter mode n es close = es
 
 -- the refusal that is due to a call: 3 to a put whose size exceeds either limit, none to any other call
-abbrev pub dueTo : Flag → ℕ → List Entry → Call → ℕ
-dueTo flag n es (put e) = cond (refused flag n es e) 3 0
-dueTo flag n es close = 0
+abbrev pub dueTo : Mode → ℕ → List Entry → Call → ℕ
+dueTo mode n es (put e) = cond (refused mode n es e) 3 0
+dueTo mode n es close = 0
 
-unfoldable pub acceptedFrom : Flag → ℕ → List Entry → List Call → List Entry
-acceptedFrom flag n es [] = es
-acceptedFrom flag n es (c ∷ cs) = acceptedFrom flag n (acceptedAfter flag n es c) cs
+unfoldable pub acceptedFrom : Mode → ℕ → List Entry → List Call → List Entry
+acceptedFrom mode n es [] = es
+acceptedFrom mode n es (c ∷ cs) = acceptedFrom mode n (acceptedAfter mode n es c) cs
 
-unfoldable pub dueFrom : Flag → ℕ → List Entry → List Call → List ℕ
-dueFrom flag n es [] = []
-dueFrom flag n es (c ∷ cs) = dueTo flag n es c ∷ dueFrom flag n (acceptedAfter flag n es c) cs
+unfoldable pub dueFrom : Mode → ℕ → List Entry → List Call → List ℕ
+dueFrom mode n es [] = []
+dueFrom mode n es (c ∷ cs) = dueTo mode n es c ∷ dueFrom mode n (acceptedAfter mode n es c) cs
 
 -- the accepted puts of a list of calls, and the refusal due to each call, by the buffer's length and the calls alone
-unfoldable pub accepted : Flag → ℕ → List Call → List Entry
-accepted flag n cs = acceptedFrom flag n [] cs
+unfoldable pub accepted : Mode → ℕ → List Call → List Entry
+accepted mode n cs = acceptedFrom mode n [] cs
 
-unfoldable pub due : Flag → ℕ → List Call → List ℕ
-due flag n cs = dueFrom flag n [] cs
+unfoldable pub due : Mode → ℕ → List Call → List ℕ
+due mode n cs = dueFrom mode n [] cs
 
 -- no call of a list gives 2 or 4, and no close is refused there: a put may be answered by 0 or 3, a close by 0, and there is one answer for each call
 abbrev pub Permitted : Call → ℕ → Type 0

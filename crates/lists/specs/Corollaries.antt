@@ -5,7 +5,7 @@ use mathlib.Core.Logic.{_↔_}
 use mathlib.Core.List.{List, []}
 use mathlib.Core.Option.{some}
 use lib.ListN.{length}
-use Rattle.image.specs.declared.Flag.the-variants.{None}
+use Rattle.image.specs.declared.Mode.the-variants.{Twoway}
 use Rattle.image.specs.Record.{image}
 use Rattle.reader.specs.Lookup.{lookup}
 use Rattle.answers.specs.Answer.{foundId, nameGiven, ofName, ofId, firstId}
@@ -21,6 +21,6 @@ pub record Corollaries (buffer : List ℕ) (cs : List Call) : Type 0 where
   pub inverse : ((name : List ℕ) → length (ofName name (acceptedPuts buffer cs)) ≤ 1) → ((id : ℕ) → length (ofId id (acceptedPuts buffer cs)) ≤ 1)
       → (name : List ℕ) (id : ℕ) → (foundId (lookup (imageOf buffer cs) name) ≡ some id) ↔ (nameGiven (imageOf buffer cs) id ≡ some name)
   -- a list without puts gives the empty image
-  pub empty-image : puts cs ≡ [] → imageOf buffer cs ≡ image None []
+  pub empty-image : puts cs ≡ [] → imageOf buffer cs ≡ image Twoway []
   -- closing twice gives the same image, and changes nothing more
   pub closed-twice : afterClose (afterClose (left buffer cs)) ≡ afterClose (left buffer cs)

@@ -7,7 +7,7 @@ use mathlib.Core.Logic.{_↔_}
 use mathlib.Core.List.{List, []}
 use mathlib.Core.Option.{none, some}
 use lib.ListN.{length, take}
-use Rattle.image.specs.declared.Flag.the-variants.{None}
+use Rattle.image.specs.declared.Mode.the-variants.{Twoway}
 use Rattle.image.specs.Record.{Entry, headSize, image}
 use Rattle.reader.specs.Open.{opening, num}
 use Rattle.reader.specs.Lookup.{lookup}
@@ -19,10 +19,10 @@ use Rattle.lists.specs.Calls.{Call, after, answers, acceptedBy, accepted
 
 -- a list starts from the record of an accepted two-way begin and that begin's buffer; what its calls answer, and what they leave
 abbrev pub given : List ℕ → List Call → List ℕ
-given buffer cs = answers (fresh None buffer) cs
+given buffer cs = answers (fresh Twoway buffer) cs
 
 abbrev pub left : List ℕ → List Call → State
-left buffer cs = after (fresh None buffer) cs
+left buffer cs = after (fresh Twoway buffer) cs
 
 -- its accepted puts: those whose answer is no refusal
 unfoldable pub acceptedPuts : List ℕ → List Call → List Entry
@@ -35,17 +35,17 @@ imageOf buffer cs = take (closedSize (left buffer cs)) (afterClose (left buffer 
 -- what demand 3 says of one list
 pub record OneList (buffer : List ℕ) (cs : List Call) : Type 0 where
   -- begin gives a fresh writer for this buffer: the record, and the table counts in what was lent for them
-  pub begins : beginning None (length buffer) ≡ begun (fresh None buffer .writer)
-  pub begins-counts : (lent : List ℕ) → countsBegun (length buffer) lent ≡ fresh None buffer .counts
+  pub begins : beginning Twoway (length buffer) ≡ begun (fresh Twoway buffer .writer)
+  pub begins-counts : (lent : List ℕ) → countsBegun (length buffer) lent ≡ fresh Twoway buffer .counts
   -- each call is refused exactly when 01 says: by the buffer's length and the calls alone, never by 2 or 4, and no close
-  pub answered : given buffer cs ≡ due None (length buffer) cs
+  pub answered : given buffer cs ≡ due Twoway (length buffer) cs
   pub permitted : AllPermitted cs (given buffer cs)
-  pub decided : acceptedPuts buffer cs ≡ accepted None (length buffer) cs
+  pub decided : acceptedPuts buffer cs ≡ accepted Twoway (length buffer) cs
   -- one more close is accepted, and gives the size of 01's formula
   pub closes : closing (left buffer cs) ≡ size (closedSize (left buffer cs))
-  pub sized : closedSize (left buffer cs) ≡ sizeOf None (acceptedPuts buffer cs)
+  pub sized : closedSize (left buffer cs) ≡ sizeOf Twoway (acceptedPuts buffer cs)
   -- its image is the one that 01's rules give for the accepted puts
-  pub imaged : imageOf buffer cs ≡ image None (acceptedPuts buffer cs)
+  pub imaged : imageOf buffer cs ≡ image Twoway (acceptedPuts buffer cs)
   -- the reader opens it, and num is their number: it cannot wrap
   pub opened : opening (imageOf buffer cs) ≡ num (length (acceptedPuts buffer cs))
   -- each name gives the id of its first accepted put, and nothing exactly when no accepted put has it

@@ -6,8 +6,8 @@ use mathlib.Core.List.{List}
 use mathlib.Core.Option.{Option, none, some}
 use lib.ListN.{length}
 use lib.Dec.{eqb}
-use Rattle.image.specs.declared.Flag.{Flag}
-use Rattle.image.specs.declared.Flag.the-variants.{None, Oneway}
+use Rattle.image.specs.declared.Mode.{Mode}
+use Rattle.image.specs.declared.Mode.the-variants.{Twoway, Oneway}
 use Rattle.image.specs.Record.{Entry}
 use Rattle.reader.specs.Open.{opening, num}
 use Rattle.reader.specs.Lookup.{lookup}
@@ -16,8 +16,8 @@ use Rattle.answers.specs.Answer.{foundId, nameGiven, ofName, ofId, tablePuts, f
 use Rattle.reader.specs.Answers.{reads}
 
 -- an id gives the name of its last entry; in a one-way image, none
-abbrev pub namedIn : Flag → List Entry → ℕ → Option (List ℕ)
-namedIn None es id = lastName (ofId id es)
+abbrev pub namedIn : Mode → List Entry → ℕ → Option (List ℕ)
+namedIn Twoway es id = lastName (ofId id es)
 namedIn Oneway es id = none
 
 -- is this the id?
@@ -30,14 +30,14 @@ abbrev pub homeBy : List Entry → ℕ → Option (List ℕ) → Bool
 homeBy es id (some name) = isId id (firstId (ofName name es))
 homeBy es id none = false
 
-abbrev pub homeIn : Flag → List Entry → ℕ → Bool
-homeIn flag es id = homeBy es id (namedIn flag es id)
+abbrev pub homeIn : Mode → List Entry → ℕ → Bool
+homeIn mode es id = homeBy es id (namedIn mode es id)
 
-pub record Read (flag : Flag) (es : List Entry) (img : List ℕ) : Type 0 where
+pub record Read (mode : Mode) (es : List Entry) (img : List ℕ) : Type 0 where
   pub opened : opening img ≡ num (length es)
   pub name-gives : (name : List ℕ) → foundId (lookup img name) ≡ firstId (ofName name es)
-  pub id-gives : (id : ℕ) → nameGiven img id ≡ namedIn flag es id
-  pub id-home : (id : ℕ) → home img id ≡ homeIn flag es id
+  pub id-gives : (id : ℕ) → nameGiven img id ≡ namedIn mode es id
+  pub id-home : (id : ℕ) → home img id ≡ homeIn mode es id
   pub bounded : (name : List ℕ) → reads (lookup img name) ≤ tablePuts name es + 1
   pub found-bounded : (name : List ℕ) (id : ℕ) → foundId (lookup img name) ≡ some id → reads (lookup img name) ≤ tablePuts name es
   pub long-unread : (name : List ℕ) → 4294967295 ≤ length name → reads (lookup img name) ≡ 0

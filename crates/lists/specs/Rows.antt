@@ -5,8 +5,8 @@ use mathlib.Core.Bool.{Bool, true, false}
 use mathlib.Core.List.{List, [], _∷_, map}
 use mathlib.Core.Option.{Option, none, some}
 use lib.ListN.{length, take}
-use Rattle.image.specs.declared.Flag.{Flag}
-use Rattle.image.specs.declared.Flag.the-variants.{None, Oneway}
+use Rattle.image.specs.declared.Mode.{Mode}
+use Rattle.image.specs.declared.Mode.the-variants.{Twoway, Oneway}
 use Rattle.image.specs.Bytes.{word, range}
 use Rattle.reader.specs.Open.{opening, num, backSizeAt, backOffsetAt}
 use Rattle.reader.specs.Lookup.{lookup}
@@ -26,10 +26,10 @@ pub record IdRow : Type 0 where
   pub gives : Option (List ℕ)
   pub isHome : Bool
 
--- calls on a buffer of `capacity` bytes; the refusal of each, the size that one more close gives, num, the back array's offset and words, and answers
+-- calls on a buffer of `bytes` bytes; the refusal of each, the size that one more close gives, num, the back array's offset and words, and answers
 pub record Row : Type 0 where
-  pub flag : Flag
-  pub capacity : ℕ
+  pub mode : Mode
+  pub bytes : ℕ
   pub calls : List Call
   pub refusals : List ℕ
   pub size : ℕ
@@ -61,13 +61,13 @@ pub record ImageHolds (r : Row) (img : List ℕ) : Type 0 where
   pub placed : Each (λ (a : IdRow). (nameGiven img (a .id) ≡ a .gives) × (home img (a .id) ≡ a .isHome)) (r .ids)
 
 pub record RowHolds (r : Row) (buffer : List ℕ) : Type 0 where
-  pub answered : answers (fresh (r .flag) buffer) (r .calls) ≡ r .refusals
-  pub closes : closing (after (fresh (r .flag) buffer) (r .calls)) ≡ size (r .size)
-  pub imaged : ImageHolds r (closedImage (after (fresh (r .flag) buffer) (r .calls)))
+  pub answered : answers (fresh (r .mode) buffer) (r .calls) ≡ r .refusals
+  pub closes : closing (after (fresh (r .mode) buffer) (r .calls)) ≡ size (r .size)
+  pub imaged : ImageHolds r (closedImage (after (fresh (r .mode) buffer) (r .calls)))
 
 -- whatever bytes stand in the buffer
 abbrev pub Right : Row → Type 0
-Right r = (buffer : List ℕ) → length buffer ≡ r .capacity → RowHolds r buffer
+Right r = (buffer : List ℕ) → length buffer ≡ r .bytes → RowHolds r buffer
 
 -- ---- the rows
 
@@ -83,8 +83,8 @@ entered name id = put (record { name = name; id = id })
 abbrev pub c1 : Row
 c1 =
     record {
-      flag = None;
-      capacity = 2072;
+      mode = Twoway;
+      bytes = 2072;
       calls = [];
       refusals = [];
       size = 2072;
@@ -98,8 +98,8 @@ c1 =
 abbrev pub c2 : Row
 c2 =
     record {
-      flag = None;
-      capacity = 2101;
+      mode = Twoway;
+      bytes = 2101;
       calls = entered [] 0 ∷ [];
       refusals = 0 ∷ [];
       size = 2101;
@@ -113,8 +113,8 @@ c2 =
 abbrev pub c3 : Row
 c3 =
     record {
-      flag = None;
-      capacity = 2100;
+      mode = Twoway;
+      bytes = 2100;
       calls = entered [] 0 ∷ [];
       refusals = 3 ∷ [];
       size = 2072;
@@ -128,8 +128,8 @@ c3 =
 abbrev pub c4 : Row
 c4 =
     record {
-      flag = None;
-      capacity = 2140;
+      mode = Twoway;
+      bytes = 2140;
       calls = entered A 0 ∷ entered B 3 ∷ [];
       refusals = 0 ∷ 0 ∷ [];
       size = 2140;
@@ -143,8 +143,8 @@ c4 =
 abbrev pub c5 : Row
 c5 =
     record {
-      flag = Oneway;
-      capacity = 2140;
+      mode = Oneway;
+      bytes = 2140;
       calls = entered A 0 ∷ entered B 3 ∷ [];
       refusals = 0 ∷ 0 ∷ [];
       size = 2124;
@@ -158,8 +158,8 @@ c5 =
 abbrev pub c6 : Row
 c6 =
     record {
-      flag = None;
-      capacity = 3000;
+      mode = Twoway;
+      bytes = 3000;
       calls = entered A 5 ∷ entered A 9 ∷ [];
       refusals = 0 ∷ 0 ∷ [];
       size = 2164;
@@ -173,8 +173,8 @@ c6 =
 abbrev pub c7 : Row
 c7 =
     record {
-      flag = None;
-      capacity = 3000;
+      mode = Twoway;
+      bytes = 3000;
       calls = entered A 0 ∷ entered B 0 ∷ [];
       refusals = 0 ∷ 0 ∷ [];
       size = 2128;
@@ -189,8 +189,8 @@ c7 =
 abbrev pub c11 : Row
 c11 =
     record {
-      flag = None;
-      capacity = 3000;
+      mode = Twoway;
+      bytes = 3000;
       calls = entered A 4294967295 ∷ [];
       refusals = 3 ∷ [];
       size = 2072;
@@ -204,8 +204,8 @@ c11 =
 abbrev pub c11-one-way : Row
 c11-one-way =
     record {
-      flag = Oneway;
-      capacity = 3000;
+      mode = Oneway;
+      bytes = 3000;
       calls = entered A 4294967295 ∷ [];
       refusals = 0 ∷ [];
       size = 2098;

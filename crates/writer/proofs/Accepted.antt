@@ -18,17 +18,17 @@ use Rattle.writer.proofs.Closes.{consistent, closes}
 use Rattle.writer.proofs.Written.{written-closed}
 
 pub closes-image : (w : CQDBWriter) (counts buf : List ℕ) → ((i : ℕ) → getD buf i 0 < 256) → fits (lent w counts buf) ≡ true
-    → tooLarge (w .capacity) (finishedSize w) ≡ false → consistent (lent w counts buf) ≡ true
+    → tooLarge (w .length) (finishedSize w) ≡ false → consistent (lent w counts buf) ≡ true
     → lent w counts (written w counts buf) ≡ afterClose (lent w counts buf)
 closes-image w counts buf bytes fit fine all =
     let s = lent w counts buf in
     let a : Bool = whole (w .entries) (entryArea s) in
     let b : Bool = countsAgree counts (recorded s) in
-    let c : Bool = eqb (w .back) (backIn (w .flag) (backSize (recorded s))) in
+    let c : Bool = eqb (w .back) (backIn (w .mode) (backSize (recorded s))) in
     let ab : (a && b) ≡ true = first (a && b) c all in
-    let l = not-too-large (w .capacity) (finishedSize w) fine in
+    let l = not-too-large (w .length) (finishedSize w) fine in
     let f = fitting w counts buf fit in
     let room : finishedSize w ≤ length buf = omega (arith, l .0, f .same-length) in
     written-closed w counts buf bytes fit (first a b ab) (second a b ab)
-    (eqb-true (w .back) (backIn (w .flag) (backSize (recorded s))) (second (a && b) c all)) (l .1) room
+    (eqb-true (w .back) (backIn (w .mode) (backSize (recorded s))) (second (a && b) c all)) (l .1) room
     ∙ closes s fit fine all .1

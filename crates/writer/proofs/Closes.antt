@@ -19,14 +19,14 @@ abbrev pub consistent : State → Bool
 consistent s =
     whole (s .writer .entries) (entryArea s)
     && countsAgree (s .counts) (recorded s)
-    && eqb (s .writer .back) (backIn (s .writer .flag) (backSize (recorded s)))
+    && eqb (s .writer .back) (backIn (s .writer .mode) (backSize (recorded s)))
 
 module _ (s : State) where
   pub unfit : fits s ≡ false → (refusal 2 ≡ closing s) × (s ≡ afterClose s)
   unfolding closeRefusal closing afterClose
   unfit h = rw h (refl, refl)
 
-  pub too-big : fits s ≡ true → tooLarge (s .writer .capacity) (finishedSize (s .writer)) ≡ true → (refusal 4 ≡ closing s) × (s ≡ afterClose s)
+  pub too-big : fits s ≡ true → tooLarge (s .writer .length) (finishedSize (s .writer)) ≡ true → (refusal 4 ≡ closing s) × (s ≡ afterClose s)
   unfolding closeRefusal closing afterClose
   too-big h k = rw (h, k, and-false (consistent s)) (refl, refl)
 
@@ -34,23 +34,23 @@ module _ (s : State) where
   unfolding closeRefusal closing afterClose
   differs h k = rw (h, k) (refl, refl)
 
-  pub closes : fits s ≡ true → tooLarge (s .writer .capacity) (finishedSize (s .writer)) ≡ false → consistent s ≡ true
+  pub closes : fits s ≡ true → tooLarge (s .writer .length) (finishedSize (s .writer)) ≡ false → consistent s ≡ true
       → (size (closedSize s) ≡ closing s) × (closed s ≡ afterClose s)
   unfolding closeRefusal closing afterClose
   closes h k l = rw (h, k, l) (refl, refl)
 
 -- where the back array stands
-pub backAt-none : (w : CQDBWriter) (n : ℕ) → n ≡ backIn (w .flag) (w .back) → n ≡ 0 → 0 ≡ backAt w
+pub backAt-none : (w : CQDBWriter) (n : ℕ) → n ≡ backIn (w .mode) (w .back) → n ≡ 0 → 0 ≡ backAt w
 unfolding backAt
-backAt-none w n e z = rw (eq-eqb (backIn (w .flag) (w .back)) 0 (sym e ∙ z))
+backAt-none w n e z = rw (eq-eqb (backIn (w .mode) (w .back)) 0 (sym e ∙ z))
 
-pub backAt-some : (w : CQDBWriter) (n : ℕ) → n ≡ backIn (w .flag) (w .back) → (n ≡ 0 → ⊥) → w .end + 16 * w .entries ≡ backAt w
+pub backAt-some : (w : CQDBWriter) (n : ℕ) → n ≡ backIn (w .mode) (w .back) → (n ≡ 0 → ⊥) → w .end + 16 * w .entries ≡ backAt w
 unfolding backAt
-backAt-some w n e z = rw (ne-eqb (backIn (w .flag) (w .back)) 0 (λ y. z (e ∙ y)))
+backAt-some w n e z = rw (ne-eqb (backIn (w .mode) (w .back)) 0 (λ y. z (e ∙ y)))
 
 pub backAt-le : (w : CQDBWriter) → backAt w ≤ w .end + 16 * w .entries
 unfolding backAt
-backAt-le w = go (eqb (backIn (w .flag) (w .back)) 0)
+backAt-le w = go (eqb (backIn (w .mode) (w .back)) 0)
   where
     go : (b : Bool) → cond b 0 (w .end + 16 * w .entries) ≤ w .end + 16 * w .entries
     go true = omega arith
@@ -58,14 +58,14 @@ backAt-le w = go (eqb (backIn (w .flag) (w .back)) 0)
 
 -- all steps of writing
 pub written-parts : (w : CQDBWriter) (counts buf b1 b2 b3 b4 : List ℕ) (n f k l : ℕ)
-    → n ≡ finishedSize w → f ≡ flagWord (w .flag) → k ≡ backIn (w .flag) (w .back) → l ≡ backAt w
+    → n ≡ finishedSize w → f ≡ flagWord (w .mode) → k ≡ backIn (w .mode) (w .back) → l ≡ backAt w
     → b1 ≡ sets buf 0 (headBytes n f k l) → b2 ≡ sets b1 24 (rowsFrom counts (w .end) 0 256) → b3 ≡ sets b2 (w .end) (replicate (n - w .end) 0)
-    → b4 ≡ takenFrom (w .flag) l (w .end) (w .entries) 2072 b3 → b4 ≡ written w counts buf
+    → b4 ≡ takenFrom (w .mode) l (w .end) (w .entries) 2072 b3 → b4 ≡ written w counts buf
 unfolding written cleared
 written-parts w counts buf b1 b2 b3 b4 n f k l en ef ek el p q r s =
-    let first : b1 ≡ sets buf 0 (headBytes (finishedSize w) (flagWord (w .flag)) (backIn (w .flag) (w .back)) (backAt w)) =
+    let first : b1 ≡ sets buf 0 (headBytes (finishedSize w) (flagWord (w .mode)) (backIn (w .mode) (w .back)) (backAt w)) =
     p ∙ ap (λ (x : ℕ). sets buf 0 (headBytes x f k l)) en ∙ ap (λ (x : ℕ). sets buf 0 (headBytes (finishedSize w) x k l)) ef
-    ∙ ap₂ (λ (x : ℕ) (y : ℕ). sets buf 0 (headBytes (finishedSize w) (flagWord (w .flag)) x y)) ek el in
+    ∙ ap₂ (λ (x : ℕ) (y : ℕ). sets buf 0 (headBytes (finishedSize w) (flagWord (w .mode)) x y)) ek el in
     let second = q ∙ ap (λ (x : List ℕ). sets x 24 (rowsFrom counts (w .end) 0 256)) first in
     let third = r ∙ ap₂ (λ (x : List ℕ) (y : ℕ). sets x (w .end) (replicate (y - w .end) 0)) second en in
-    s ∙ ap₂ (λ (x : List ℕ) (y : ℕ). takenFrom (w .flag) y (w .end) (w .entries) 2072 x) third el
+    s ∙ ap₂ (λ (x : List ℕ) (y : ℕ). takenFrom (w .mode) y (w .end) (w .entries) 2072 x) third el

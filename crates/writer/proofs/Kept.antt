@@ -10,7 +10,7 @@ use lib.Seq.{sets, drop-set-lt, take-append-le, drop-append-le}
 use lib.Dec.{eqb}
 use Rattle.image.specs.Bytes.{cat}
 use Rattle.image.specs.Record.{Entry, headSize, entryBytes, entrySize, entriesSize, entriesEnd, backIn, backSize, imageSize, image}
-use Rattle.image.specs.declared.Flag.{Flag}
+use Rattle.image.specs.declared.Mode.{Mode}
 use Rattle.image.proofs.Sizes.{length-entryBytes, length-entries, length-image}
 use Rattle.layout.proofs.At.{At, at-take}
 use Rattle.layout.proofs.Parts.{entries-at}
@@ -66,8 +66,8 @@ accepted-whole s h = go (fits s) refl (whole (s .writer .entries) (entryArea s))
 
     go : (f : Bool) → fits s ≡ f → (w : Bool) → whole (s .writer .entries) (entryArea s) ≡ w
         → _≡_ {A = ℕ} (cond (not f) 2
-        (cond (w && countsAgree (s .counts) (recorded s) && eqb (s .writer .back) (backIn (s .writer .flag) (backSize (recorded s)))
-        && not (tooLarge (s .writer .capacity) (finishedSize (s .writer)))) 0 4)) 0
+        (cond (w && countsAgree (s .counts) (recorded s) && eqb (s .writer .back) (backIn (s .writer .mode) (backSize (recorded s)))
+        && not (tooLarge (s .writer .length) (finishedSize (s .writer)))) 0 4)) 0
         → (fits s ≡ true) × (whole (s .writer .entries) (entryArea s) ≡ true)
     go true p true q e = (p, q)
     go true p false q e = absurd (no-four e)
@@ -75,19 +75,19 @@ accepted-whole s h = go (fits s) refl (whole (s .writer .entries) (entryArea s))
 
 -- the entries in bytes that begin with an image
 area-in-image : (s : State) (es : List Entry) (end : ℕ) (rest : List ℕ) → end ≡ entriesEnd es
-    → take (end - headSize) (drop headSize (image (s .writer .flag) es ++ rest)) ≡ cat entryBytes es
+    → take (end - headSize) (drop headSize (image (s .writer .mode) es ++ rest)) ≡ cat entryBytes es
 area-in-image s es end rest e =
-    let flag = s .writer .flag in
+    let mode = s .writer .mode in
     let n : end - headSize ≡ length (cat entryBytes es) = omega (arith, length-entries es) in
-    let at = entries-at flag es in
-    let l : headSize ≤ length (image flag es) = omega (arith, length-image flag es) in
-    ap (λ (k : ℕ). take k (drop headSize (image flag es ++ rest))) n
-    ∙ ap (take (length (cat entryBytes es))) (drop-append-le headSize (image flag es) rest l)
-    ∙ take-append-le (length (cat entryBytes es)) (drop headSize (image flag es)) rest (inside flag)
+    let at = entries-at mode es in
+    let l : headSize ≤ length (image mode es) = omega (arith, length-image mode es) in
+    ap (λ (k : ℕ). take k (drop headSize (image mode es ++ rest))) n
+    ∙ ap (take (length (cat entryBytes es))) (drop-append-le headSize (image mode es) rest l)
+    ∙ take-append-le (length (cat entryBytes es)) (drop headSize (image mode es)) rest (inside mode)
     ∙ at-take at
   where
-    inside : (flag : Flag) → length (cat entryBytes es) ≤ length (drop headSize (image flag es))
-    inside flag = simp length-drop (omega (arith, length-image flag es, length-entries es))
+    inside : (mode : Mode) → length (cat entryBytes es) ≤ length (drop headSize (image mode es))
+    inside mode = simp length-drop (omega (arith, length-image mode es, length-entries es))
 
 module _ (s : State) (bytes : (i : ℕ) → getD (s .buffer) i 0 < 256) (accepted : closeRefusal s ≡ 0) where
   is-closed : afterClose s ≡ closed s

@@ -13,8 +13,8 @@ use borrow.Author.Tests.{leb-true}
 use Rattle.jhash.specs.NameHash.{hashOf}
 use Rattle.image.specs.Bytes.{word, le32}
 use Rattle.image.specs.Tables.{tableOf, start, order, firstEmpty}
-use Rattle.image.specs.declared.Flag.{Flag}
-use Rattle.image.specs.declared.Flag.the-variants.{None, Oneway}
+use Rattle.image.specs.declared.Mode.{Mode}
+use Rattle.image.specs.declared.Mode.the-variants.{Twoway, Oneway}
 use Rattle.writer.specs.Working.{between, wholeLength, slot, withBucket, withLink, taken, takenFrom, placeOf, NotedFirst, Noted, linksApart}
 use Rattle.writer.proofs.Between.{Front, front, length-between, word-between, name-between, between-same, word-same, take-sets}
 use Rattle.writer.proofs.Taking.{taken-parts, from-turn}
@@ -125,22 +125,22 @@ bucket-keeps buf end h at a = go (eqb (word buf (28 + 8 * tableOf h)) 0)
     go true = refl
     go false = take-sets (le32 h ++ le32 at) buf end (slot buf h) (omega (arith, slot-above buf h))
 
-link-keeps : (flag : Flag) (links end : ℕ) (buf : List ℕ) (id at : ℕ) → linksApart flag links end ≡ true
-    → take end (withLink flag buf links id at) ≡ take end buf
-link-keeps None links end buf id at h = let l = leb-true end links h in take-sets (le32 at) buf end (links + 4 * id) (omega arith)
+link-keeps : (mode : Mode) (links end : ℕ) (buf : List ℕ) (id at : ℕ) → linksApart mode links end ≡ true
+    → take end (withLink mode buf links id at) ≡ take end buf
+link-keeps Twoway links end buf id at h = let l = leb-true end links h in take-sets (le32 at) buf end (links + 4 * id) (omega arith)
 link-keeps Oneway links end buf id at h = refl
 
 -- i of the m entries are taken, `at` is where the next stands, and nothing before `end` has changed
-pub record Rest (flag : Flag) (links end from m : ℕ) (buf₀ : List ℕ) (i at : ℕ) (buf : List ℕ) : Type 0 where
+pub record Rest (mode : Mode) (links end from m : ℕ) (buf₀ : List ℕ) (i at : ℕ) (buf : List ℕ) : Type 0 where
   pub few : i ≤ m
   pub inside : at ≤ end
   pub stands : at ≡ placeOf buf₀ end from i
   pub long : length buf ≡ length buf₀
   pub same : take end buf ≡ take end buf₀
-  pub gives : (k : ℕ) → takenFrom flag links end (m - i + k) at buf ≡ takenFrom flag links end (m + k) from buf₀
+  pub gives : (k : ℕ) → takenFrom mode links end (m - i + k) at buf ≡ takenFrom mode links end (m + k) from buf₀
 
-module _ (flag : Flag) (links end from m : ℕ) (buf₀ : List ℕ) where
-  pub rest-start : from ≤ end → Rest flag links end from m buf₀ 0 from buf₀
+module _ (mode : Mode) (links end from m : ℕ) (buf₀ : List ℕ) where
+  pub rest-start : from ≤ end → Rest mode links end from m buf₀ 0 from buf₀
   rest-start h =
       let e : m - 0 ≡ m = omega arith in
       record {
@@ -149,17 +149,17 @@ module _ (flag : Flag) (links end from m : ℕ) (buf₀ : List ℕ) where
         stands = place-first buf₀ end from;
         long = refl;
         same = refl;
-        gives = λ k. ap (λ (j : ℕ). takenFrom flag links end (j + k) from buf₀) e;
+        gives = λ k. ap (λ (j : ℕ). takenFrom mode links end (j + k) from buf₀) e;
       }
 
-  pub rest-end : (i at : ℕ) (buf : List ℕ) → Rest flag links end from m buf₀ i at buf → m ≤ i → (k : ℕ)
-      → takenFrom flag links end k at buf ≡ takenFrom flag links end (m + k) from buf₀
+  pub rest-end : (i at : ℕ) (buf : List ℕ) → Rest mode links end from m buf₀ i at buf → m ≤ i → (k : ℕ)
+      → takenFrom mode links end k at buf ≡ takenFrom mode links end (m + k) from buf₀
   rest-end i at buf r h k =
       let e : k ≡ m - i + k = omega arith in
-      ap (λ (j : ℕ). takenFrom flag links end j at buf) e ∙ r .gives k
+      ap (λ (j : ℕ). takenFrom mode links end j at buf) e ∙ r .gives k
 
-  module _ (i at : ℕ) (buf : List ℕ) (r : Rest flag links end from m buf₀ i at buf) (l : end ≤ length buf₀) (head : 2072 ≤ end)
-      (apart : linksApart flag links end ≡ true) (q : i < m) (hashes : List ℕ) (noted : Noted buf₀ end from hashes i) (h : ℕ)
+  module _ (i at : ℕ) (buf : List ℕ) (r : Rest mode links end from m buf₀ i at buf) (l : end ≤ length buf₀) (head : 2072 ≤ end)
+      (apart : linksApart mode links end ≡ true) (q : i < m) (hashes : List ℕ) (noted : Noted buf₀ end from hashes i) (h : ℕ)
       (eh : h ≡ getD hashes i 0) (n : ℕ) (e : n ≡ word buf (at + 4)) where
     -- what the noted hash says in the bytes as they are now
     now-noted : NotedFirst (between buf at end) h
@@ -187,7 +187,7 @@ module _ (flag : Flag) (links end from m : ℕ) (buf₀ : List ℕ) where
         e ∙ sym (word-between buf at end 4 (omega (arith, f .inside, f .some))) ∙ f .is
 
     pub rest-turn : (buf′ : List ℕ) → length buf′ ≡ length buf
-        → buf′ ≡ withLink flag (withBucket buf h at) links (word buf at) at → Rest flag links end from m buf₀ (i + 1) (at + (8 + n)) buf′
+        → buf′ ≡ withLink mode (withBucket buf h at) links (word buf at) at → Rest mode links end from m buf₀ (i + 1) (at + (8 + n)) buf′
     rest-turn buf′ sized t =
         let f = now-front in
         let s = now-size in
@@ -199,8 +199,8 @@ module _ (flag : Flag) (links end from m : ℕ) (buf₀ : List ℕ) where
         now-noted .is
         ∙ ap hashOf
         (ap (λ (k : ℕ). take (k - 1) (drop 8 (between buf at end))) (sym w) ∙ name-between buf at end n inn one) in
-        let tk : buf′ ≡ taken flag links buf at n =
-        taken-parts flag links buf at n (word buf at) h (take (at + 7 + n - (at + 8)) (drop (at + 8) buf)) (withBucket buf h at) buf′ one refl hash refl refl t in
+        let tk : buf′ ≡ taken mode links buf at n =
+        taken-parts mode links buf at n (word buf at) h (take (at + 7 + n - (at + 8)) (drop (at + 8) buf)) (withBucket buf h at) buf′ one refl hash refl refl t in
         let there : n ≡ wholeLength (between buf₀ at end) = w ∙ ap wholeLength (between-same buf buf₀ end (r .same) at) in
         record {
           few = omega arith;
@@ -209,11 +209,11 @@ module _ (flag : Flag) (links end from m : ℕ) (buf₀ : List ℕ) where
           long = sized ∙ r .long;
           same =
               ap (take end) t
-              ∙ link-keeps flag links end (withBucket buf h at) (word buf at) at apart
+              ∙ link-keeps mode links end (withBucket buf h at) (word buf at) at apart
               ∙ bucket-keeps buf end h at now-apart
               ∙ r .same;
           gives = λ k.
               let left : m - (i + 1) + k ≡ m - i + k - 1 = omega arith in
-              ap (λ (j : ℕ). takenFrom flag links end j (at + (8 + n)) buf′) left
-              ∙ from-turn flag links end (m - i + k) at n buf buf′ (takenFrom flag links end (m + k) from buf₀) (omega arith) w z tk (r .gives k);
+              ap (λ (j : ℕ). takenFrom mode links end j (at + (8 + n)) buf′) left
+              ∙ from-turn mode links end (m - i + k) at n buf buf′ (takenFrom mode links end (m + k) from buf₀) (omega arith) w z tk (r .gives k);
         }

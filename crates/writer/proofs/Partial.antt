@@ -9,7 +9,7 @@ use Rattle.image.specs.Bytes.{le32, cat, keep, range}
 use Rattle.image.specs.Tables.{Bucket, empty, filled, insertAll}
 use Rattle.image.specs.Record.{Entry, Placed, headSize, entryBytes, entriesSize, ofTable, count, bucketOf, bucketBytes, table, tableBytes, tables}
 use Rattle.image.specs.Record.{tableRows, ofId, lastFrom, link, links, back, entriesEnd, headWords, image}
-use Rattle.image.specs.declared.Flag.{Flag}
+use Rattle.image.specs.declared.Mode.{Mode}
 use Rattle.image.proofs.Lists.{cat-append}
 use Rattle.image.proofs.Sizes.{length-entries, length-filled, length-headWords, length-tableRows, length-links}
 use Rattle.layout.proofs.At.{At, at-same, at-equal, at-right}
@@ -31,28 +31,28 @@ unfolding tablesWith
 length-tablesWith ps rs = length-tablesOf ps (tableWith ps rs) (length-tableWith ps rs)
 
 -- what stands before the tables
-unfoldable pub upToEntries : Flag → List Entry → List ℕ
-upToEntries flag es = headWords flag es ++ tableRows (entriesEnd es) (placedIn es) ++ cat entryBytes es
+unfoldable pub upToEntries : Mode → List Entry → List ℕ
+upToEntries mode es = headWords mode es ++ tableRows (entriesEnd es) (placedIn es) ++ cat entryBytes es
 
-pub length-upToEntries : (flag : Flag) (es : List Entry) → length (upToEntries flag es) ≡ entriesEnd es
+pub length-upToEntries : (mode : Mode) (es : List Entry) → length (upToEntries mode es) ≡ entriesEnd es
 unfolding upToEntries
-length-upToEntries flag es =
+length-upToEntries mode es =
     simp length-append
-    (omega (arith, length-headWords flag es, length-tableRows (entriesEnd es) (placedIn es), length-entries es))
+    (omega (arith, length-headWords mode es, length-tableRows (entriesEnd es) (placedIn es), length-entries es))
 
 -- the image of the entries es whose tables and back array have taken the entries qs
-unfoldable pub partial : Flag → List Entry → List Entry → List ℕ
+unfoldable pub partial : Mode → List Entry → List Entry → List ℕ
 unfolding upToEntries
-partial flag es qs = upToEntries flag es ++ tablesWith (placedIn es) (placedIn qs) ++ links (placedIn qs) (back flag es)
+partial mode es qs = upToEntries mode es ++ tablesWith (placedIn es) (placedIn qs) ++ links (placedIn qs) (back mode es)
 
 -- ---- where its parts stand, whatever follows it
 
-module _ (flag : Flag) (es qs : List Entry) (tail : List ℕ) where
+module _ (mode : Mode) (es qs : List Entry) (tail : List ℕ) where
   B : List ℕ
-  B = partial flag es qs ++ tail
+  B = partial mode es qs ++ tail
 
   H : List ℕ
-  H = headWords flag es
+  H = headWords mode es
 
   R : List ℕ
   R = tableRows (entriesEnd es) (placedIn es)
@@ -64,43 +64,43 @@ module _ (flag : Flag) (es qs : List Entry) (tail : List ℕ) where
   T = tablesWith (placedIn es) (placedIn qs)
 
   L : List ℕ
-  L = links (placedIn qs) (back flag es)
+  L = links (placedIn qs) (back mode es)
 
   whole : At B 0 (H ++ R ++ E ++ T ++ L)
   unfolding B H R E T L partial upToEntries
   whole = record { post = tail; stands = refl }
 
-  pub rows-there : At (partial flag es qs ++ tail) 24 (tableRows (entriesEnd es) (placedIn es))
+  pub rows-there : At (partial mode es qs ++ tail) 24 (tableRows (entriesEnd es) (placedIn es))
   unfolding B H R
-  rows-there = at-same (length-headWords flag es) (five-2 H R E T L whole)
+  rows-there = at-same (length-headWords mode es) (five-2 H R E T L whole)
 
-  pub entries-there : At (partial flag es qs ++ tail) headSize (cat entryBytes es)
+  pub entries-there : At (partial mode es qs ++ tail) headSize (cat entryBytes es)
   unfolding B H R E
   entries-there = at-same sum (five-3 H R E T L whole)
     where
       sum : length H + length R ≡ 2072
-      sum = omega (arith, length-headWords flag es, length-tableRows (entriesEnd es) (placedIn es))
+      sum = omega (arith, length-headWords mode es, length-tableRows (entriesEnd es) (placedIn es))
 
-  pub tables-there : At (partial flag es qs ++ tail) (entriesEnd es) (tablesWith (placedIn es) (placedIn qs))
+  pub tables-there : At (partial mode es qs ++ tail) (entriesEnd es) (tablesWith (placedIn es) (placedIn qs))
   unfolding B H R E T
   tables-there = at-same sum (five-4 H R E T L whole)
     where
       sum : length H + length R + length E ≡ entriesEnd es
-      sum = omega (arith, length-headWords flag es, length-tableRows (entriesEnd es) (placedIn es), length-entries es)
+      sum = omega (arith, length-headWords mode es, length-tableRows (entriesEnd es) (placedIn es), length-entries es)
 
 -- the entries from one of them on
-pub entries-from : (flag : Flag) (es qs rest done : List Entry) (tail : List ℕ) → es ≡ done ++ rest
-    → At (partial flag es qs ++ tail) (headSize + entriesSize done) (cat entryBytes rest)
-entries-from flag es qs rest done tail e =
+pub entries-from : (mode : Mode) (es qs rest done : List Entry) (tail : List ℕ) → es ≡ done ++ rest
+    → At (partial mode es qs ++ tail) (headSize + entriesSize done) (cat entryBytes rest)
+entries-from mode es qs rest done tail e =
     at-same (ap (λ (n : ℕ). headSize + n) (length-entries done))
     (at-right (cat entryBytes done) (cat entryBytes rest)
-    (at-equal (ap (cat entryBytes) e ∙ cat-append entryBytes done rest) (entries-there flag es qs tail)))
+    (at-equal (ap (cat entryBytes) e ∙ cat-append entryBytes done rest) (entries-there mode es qs tail)))
 
 -- ---- when all entries are taken it is the image
 
-pub partial-all : (flag : Flag) (es : List Entry) → partial flag es es ≡ image flag es
+pub partial-all : (mode : Mode) (es : List Entry) → partial mode es es ≡ image mode es
 unfolding partial upToEntries tablesWith tableWith image tables tableBytes table
-partial-all flag es = refl
+partial-all mode es = refl
 
 -- ---- before any entry is taken, tables and back array are zeros
 

@@ -23,24 +23,24 @@ module _ (s : State) (e : Entry) where
   unfolding putRefusal afterPut
   misfit h = rw h (refl, refl)
 
-  pub no-room : fits s ≡ true → tooLarge (s .writer .capacity) (finishedSize (writerAfter (s .writer) e)) ≡ true
+  pub no-room : fits s ≡ true → tooLarge (s .writer .length) (finishedSize (writerAfter (s .writer) e)) ≡ true
       → (3 ≡ putRefusal s e) × (s ≡ afterPut s e)
   unfolding putRefusal afterPut
   no-room h k = rw (h, k) (refl, refl)
 
-  pub accepts : fits s ≡ true → tooLarge (s .writer .capacity) (finishedSize (writerAfter (s .writer) e)) ≡ false
+  pub accepts : fits s ≡ true → tooLarge (s .writer .length) (finishedSize (writerAfter (s .writer) e)) ≡ false
       → (0 ≡ putRefusal s e) × (appended s e ≡ afterPut s e)
   unfolding putRefusal afterPut
   accepts h k = rw (h, k) (refl, refl)
 
 -- a name that is too long for a hash is too long for any image
 pub long-name : (w : CQDBWriter) (name : List ℕ) (id : ℕ) → 4294967295 ≤ length name
-    → tooLarge (w .capacity) (finishedSize (writerAfter w (entryOf name id))) ≡ true
+    → tooLarge (w .length) (finishedSize (writerAfter w (entryOf name id))) ≡ true
 unfolding writerAfter
 long-name w name id h =
     let size = finishedSize (writerAfter w (entryOf name id)) in
     let k : 4294967295 < size = omega arith in
-    ap (λ (b : Bool). ltb (w .capacity) size || b) (lt-ltb 4294967295 size k) ∙ or-true (ltb (w .capacity) size)
+    ap (λ (b : Bool). ltb (w .length) size || b) (lt-ltb 4294967295 size k) ∙ or-true (ltb (w .length) size)
 
 -- what an accepted put leaves, part by part
 pub appended-parts : (w v : CQDBWriter) (counts counts′ buf buf′ name : List ℕ) (id h : ℕ) → h ≡ hashOf name
@@ -57,15 +57,15 @@ appended-parts w v counts counts′ buf buf′ name id h e p q r =
 
 -- what the checks leave for the stores
 module _ (w : CQDBWriter) (counts buf : List ℕ) (n id : ℕ) (yes : fits (lent w counts buf) ≡ true)
-    (fine : tooLarge (w .capacity) (finishedSize (writerWith w n id)) ≡ false) where
+    (fine : tooLarge (w .length) (finishedSize (writerWith w n id)) ≡ false) where
   pub size-small : finishedSize (writerWith w n id) ≤ 4294967295
-  size-small = not-too-large (w .capacity) (finishedSize (writerWith w n id)) fine .1
+  size-small = not-too-large (w .length) (finishedSize (writerWith w n id)) fine .1
 
   pub entry-fits : w .end + (n + 9) ≤ length buf
   unfolding writerWith
   entry-fits =
       let f = fitting w counts buf yes in
-      let h = not-too-large (w .capacity) (finishedSize (writerWith w n id)) fine .0 in
+      let h = not-too-large (w .length) (finishedSize (writerWith w n id)) fine .0 in
       let e = f .same-length in
       omega arith
 

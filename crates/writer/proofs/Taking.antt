@@ -12,7 +12,7 @@ use borrow.Author.Tests.{eq-eqb, ne-eqb}
 use Rattle.jhash.specs.NameHash.{hashOf}
 use Rattle.image.specs.Bytes.{word, le32}
 use Rattle.image.specs.Tables.{tableOf, start, order, firstEmpty}
-use Rattle.image.specs.declared.Flag.{Flag}
+use Rattle.image.specs.declared.Mode.{Mode}
 use Rattle.image.proofs.Words.{length-le32}
 use Rattle.image.proofs.Stores.{sets-then}
 use Rattle.writer.specs.Working.{between, wholeLength, slot, withBucket, withLink, taken, takenFrom}
@@ -44,46 +44,46 @@ module _ (buf : List ℕ) (h at : ℕ) where
       ∙ ap (λ (x : ℕ). sets buf x (le32 h ++ le32 at)) es
       ∙ sym (ap (λ (b : Bool). cond b buf (sets buf s (le32 h ++ le32 at))) (ne-eqb n′ 0 (λ z. nz (en ∙ z))))
 
-pub taken-parts : (flag : Flag) (links : ℕ) (buf : List ℕ) (at n id h : ℕ) (name b1 b2 : List ℕ) → 1 ≤ n
+pub taken-parts : (mode : Mode) (links : ℕ) (buf : List ℕ) (at n id h : ℕ) (name b1 b2 : List ℕ) → 1 ≤ n
     → name ≡ take (at + 7 + n - (at + 8)) (drop (at + 8) buf) → h ≡ hashOf name → id ≡ word buf at
-    → b1 ≡ withBucket buf h at → b2 ≡ withLink flag b1 links id at → b2 ≡ taken flag links buf at n
+    → b1 ≡ withBucket buf h at → b2 ≡ withLink mode b1 links id at → b2 ≡ taken mode links buf at n
 unfolding taken
-taken-parts flag links buf at n id h name b1 b2 some en eh ei p q =
+taken-parts mode links buf at n id h name b1 b2 some en eh ei p q =
     let m : at + 7 + n - (at + 8) ≡ n - 1 = omega arith in
     let nh : h ≡ hashOf (take (n - 1) (drop (at + 8) buf)) =
     eh ∙ ap hashOf (en ∙ ap (λ (k : ℕ). take k (drop (at + 8) buf)) m) in
     q
-    ∙ ap₂ (λ (l : List ℕ) (i : ℕ). withLink flag l links i at) (p ∙ ap (λ (k : ℕ). withBucket buf k at) nh) ei
+    ∙ ap₂ (λ (l : List ℕ) (i : ℕ). withLink mode l links i at) (p ∙ ap (λ (k : ℕ). withBucket buf k at) nh) ei
 
-module _ (flag : Flag) (links end : ℕ) where
+module _ (mode : Mode) (links end : ℕ) where
   from-suc : (m at : ℕ) (buf : List ℕ)
-      → takenFrom flag links end (suc m) at buf
+      → takenFrom mode links end (suc m) at buf
       ≡ cond (eqb (wholeLength (between buf at end)) 0) buf
-      (takenFrom flag links end m (at + (8 + wholeLength (between buf at end))) (taken flag links buf at (wholeLength (between buf at end))))
+      (takenFrom mode links end m (at + (8 + wholeLength (between buf at end))) (taken mode links buf at (wholeLength (between buf at end))))
   unfolding takenFrom
   from-suc m at buf = refl
 
   pub from-broken : (left at n : ℕ) (buf x : List ℕ) → 0 < left → n ≡ wholeLength (between buf at end) → n ≡ 0
-      → takenFrom flag links end left at buf ≡ x → buf ≡ x
+      → takenFrom mode links end left at buf ≡ x → buf ≡ x
   from-broken left at n buf x h e z p =
       let m : left ≡ suc (left - 1) = omega arith in
       let w = wholeLength (between buf at end) in
       sym
-      (sym p ∙ ap (λ (k : ℕ). takenFrom flag links end k at buf) m ∙ from-suc (left - 1) at buf
-      ∙ ap (λ (b : Bool). cond b buf (takenFrom flag links end (left - 1) (at + (8 + w)) (taken flag links buf at w))) (eq-eqb w 0 (sym e ∙ z)))
+      (sym p ∙ ap (λ (k : ℕ). takenFrom mode links end k at buf) m ∙ from-suc (left - 1) at buf
+      ∙ ap (λ (b : Bool). cond b buf (takenFrom mode links end (left - 1) (at + (8 + w)) (taken mode links buf at w))) (eq-eqb w 0 (sym e ∙ z)))
 
   pub from-turn : (left at n : ℕ) (buf buf′ x : List ℕ) → 0 < left → n ≡ wholeLength (between buf at end) → (n ≡ 0 → ⊥)
-      → buf′ ≡ taken flag links buf at n → takenFrom flag links end left at buf ≡ x
-      → takenFrom flag links end (left - 1) (at + (8 + n)) buf′ ≡ x
+      → buf′ ≡ taken mode links buf at n → takenFrom mode links end left at buf ≡ x
+      → takenFrom mode links end (left - 1) (at + (8 + n)) buf′ ≡ x
   from-turn left at n buf buf′ x h e z t p =
       let m : left ≡ suc (left - 1) = omega arith in
       let w = wholeLength (between buf at end) in
-      ap (λ (l : List ℕ). takenFrom flag links end (left - 1) (at + (8 + n)) l) t
-      ∙ ap (λ (k : ℕ). takenFrom flag links end (left - 1) (at + (8 + k)) (taken flag links buf at k)) e
-      ∙ sym (ap (λ (b : Bool). cond b buf (takenFrom flag links end (left - 1) (at + (8 + w)) (taken flag links buf at w))) (ne-eqb w 0 (λ y. z (e ∙ y))))
-      ∙ sym (ap (λ (k : ℕ). takenFrom flag links end k at buf) m ∙ from-suc (left - 1) at buf)
+      ap (λ (l : List ℕ). takenFrom mode links end (left - 1) (at + (8 + n)) l) t
+      ∙ ap (λ (k : ℕ). takenFrom mode links end (left - 1) (at + (8 + k)) (taken mode links buf at k)) e
+      ∙ sym (ap (λ (b : Bool). cond b buf (takenFrom mode links end (left - 1) (at + (8 + w)) (taken mode links buf at w))) (ne-eqb w 0 (λ y. z (e ∙ y))))
+      ∙ sym (ap (λ (k : ℕ). takenFrom mode links end k at buf) m ∙ from-suc (left - 1) at buf)
       ∙ p
 
-  pub from-none : (at : ℕ) (buf x : List ℕ) → takenFrom flag links end 0 at buf ≡ x → buf ≡ x
+  pub from-none : (at : ℕ) (buf x : List ℕ) → takenFrom mode links end 0 at buf ≡ x → buf ≡ x
   unfolding takenFrom
   from-none at buf x p = p

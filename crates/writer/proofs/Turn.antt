@@ -14,8 +14,8 @@ use Rattle.image.specs.Bytes.{word, le32, cat, range}
 use Rattle.image.specs.Tables.{Bucket, empty, tableOf, start, order, firstEmpty, atOf}
 use Rattle.image.specs.Record.{Entry, Placed, headSize, entryBytes, entrySize, entriesSize, placed, inTable, ofTable, count, bucketOf, bucketBytes}
 use Rattle.image.specs.Record.{entriesBefore, tableOffset, backSize, links, back, backOffset, entriesEnd, imageSize}
-use Rattle.image.specs.declared.Flag.{Flag}
-use Rattle.image.specs.declared.Flag.the-variants.{None, Oneway}
+use Rattle.image.specs.declared.Mode.{Mode}
+use Rattle.image.specs.declared.Mode.the-variants.{Twoway, Oneway}
 use Rattle.image.proofs.Words.{length-le32}
 use Rattle.image.proofs.Lists.{cat-cons}
 use Rattle.image.proofs.Sizes.{length-entries, length-entryBytes, entriesSize-append, length-placed, placed-append, count-append, count-cons, length-bucketBytes, length-links}
@@ -68,12 +68,12 @@ store-in a b c vs i j e h =
     ∙ sym (append-assoc a (sets b j vs) c)
 
 -- the link of an entry, behind what stands before the back array
-linked : (flag : Flag) (es : List Entry) (rs : List Placed) (p : Placed) (front tail : List ℕ) → length front ≡ entriesEnd es + 16 * length es
+linked : (mode : Mode) (es : List Entry) (rs : List Placed) (p : Placed) (front tail : List ℕ) → length front ≡ entriesEnd es + 16 * length es
     → p .entry .id < backSize es
-    → withLink flag (front ++ links rs (back flag es) ++ tail) (backOffset flag es) (p .entry .id) (p .at)
-    ≡ front ++ links (rs ++ p ∷ []) (back flag es) ++ tail
+    → withLink mode (front ++ links rs (back mode es) ++ tail) (backOffset mode es) (p .entry .id) (p .at)
+    ≡ front ++ links (rs ++ p ∷ []) (back mode es) ++ tail
 unfolding backOffset links range cat
-linked None es rs p front tail n h =
+linked Twoway es rs p front tail n h =
     let i = p .entry .id in
     let size = backSize es in
     ap (λ (b : Bool). sets (front ++ links rs size ++ tail) (cond b 0 (entriesEnd es + 16 * length es) + 4 * i) (le32 (p .at)))
@@ -99,10 +99,10 @@ unfolding placed entriesSize
 offsets o n [] h = tt
 offsets o n (e ∷ es) h = (omega arith, offsets (o + entrySize e) n es (omega arith))
 
-module _ (flag : Flag) (es qs rest : List Entry) (e : Entry) (tail : List ℕ) (split : es ≡ qs ++ e ∷ rest)
-    (fits : imageSize flag es ≤ 4294967295) (ids : All (λ (x : Entry). x .id < 2 ^ 32) es) where
+module _ (mode : Mode) (es qs rest : List Entry) (e : Entry) (tail : List ℕ) (split : es ≡ qs ++ e ∷ rest)
+    (fits : imageSize mode es ≤ 4294967295) (ids : All (λ (x : Entry). x .id < 2 ^ 32) es) where
   B : List ℕ
-  B = partial flag es qs ++ tail
+  B = partial mode es qs ++ tail
 
   ps : List Placed
   ps = placedIn es
@@ -150,19 +150,19 @@ module _ (flag : Flag) (es qs rest : List Entry) (e : Entry) (tail : List ℕ) (
   unfolding B
   here =
       at-left (entryBytes e) (cat entryBytes rest)
-      (at-equal (cat-cons entryBytes e rest) (entries-from flag es qs (e ∷ rest) qs tail split))
+      (at-equal (cat-cons entryBytes e rest) (entries-from mode es qs (e ∷ rest) qs tail split))
 
   name-short : length (e .name) + 1 < 2 ^ 32
   name-short = omega (arith, sizes)
 
-  pub length-found : wholeLength (between (partial flag es qs ++ tail) (headSize + entriesSize qs) (entriesEnd es)) ≡ length (e .name) + 1
+  pub length-found : wholeLength (between (partial mode es qs ++ tail) (headSize + entriesSize qs) (entriesEnd es)) ≡ length (e .name) + 1
   unfolding entriesSize
   length-found =
       let at = headSize + entriesSize qs in
       let n : entriesEnd es - at ≡ length (cat entryBytes (e ∷ rest)) = omega (arith, sizes, length-entries (e ∷ rest)) in
       ap wholeLength
-      (ap (λ (k : ℕ). take k (drop at (partial flag es qs ++ tail))) n
-      ∙ at-take (entries-from flag es qs (e ∷ rest) qs tail split)
+      (ap (λ (k : ℕ). take k (drop at (partial mode es qs ++ tail))) n
+      ∙ at-take (entries-from mode es qs (e ∷ rest) qs tail split)
       ∙ cat-cons entryBytes e rest)
       ∙ front-whole e (cat entryBytes rest) name-short
 
@@ -180,13 +180,13 @@ module _ (flag : Flag) (es qs rest : List Entry) (e : Entry) (tail : List ℕ) (
   table-there : word B (24 + 8 * u) ≡ entriesEnd es + 16 * entriesBefore u ps
   unfolding B ps tableOffset
   table-there =
-      offset-word (entriesEnd es) (placedIn es) (rows-there flag es qs tail) tables-fit u u-below
+      offset-word (entriesEnd es) (placedIn es) (rows-there mode es qs tail) tables-fit u u-below
       ∙ ap (λ (b : Bool). cond b 0 (entriesEnd es + 16 * entriesBefore u (placedIn es)))
       (ne-eqb (count u (placedIn es)) 0 (λ z. let s = some-there in omega arith))
 
   number-there : word B (28 + 8 * u) ≡ 2 * count u ps
   unfolding B ps
-  number-there = number-word (entriesEnd es) (placedIn es) (rows-there flag es qs tail) tables-fit u u-below
+  number-there = number-word (entriesEnd es) (placedIn es) (rows-there mode es qs tail) tables-fit u u-below
 
   offset-small : (k : ℕ) → atOf (tableWith ps rs u) k < 2 ^ 32
   unfolding tableWith rs ofTable
@@ -201,7 +201,7 @@ module _ (flag : Flag) (es qs rest : List Entry) (e : Entry) (tail : List ℕ) (
       let b = getD (tableWith ps rs u) k empty in
       at-word (b .at)
       (at-second (b .hash) (b .at)
-      (bucket-of (placedIn es) (tableWith ps rs) (length-tableWith ps rs) (entriesEnd es) (tables-there flag es qs tail) u k u-below h))
+      (bucket-of (placedIn es) (tableWith ps rs) (length-tableWith ps rs) (entriesEnd es) (tables-there mode es qs tail) u k u-below h))
       (offset-small k)
 
   slot-there : slot B (hashOf (e .name)) ≡ entriesEnd es + 16 * entriesBefore u ps + 8 * place ps rs p
@@ -219,9 +219,9 @@ module _ (flag : Flag) (es qs rest : List Entry) (e : Entry) (tail : List ℕ) (
   -- ---- the buffer with its bucket, and with its link
 
   U : List ℕ
-  U = upToEntries flag es
+  U = upToEntries mode es
 
-  with-bucket : withBucket B (hashOf (e .name)) (headSize + entriesSize qs) ≡ U ++ tablesWith ps (rs ++ p ∷ []) ++ links rs (back flag es) ++ tail
+  with-bucket : withBucket B (hashOf (e .name)) (headSize + entriesSize qs) ≡ U ++ tablesWith ps (rs ++ p ∷ []) ++ links rs (back mode es) ++ tail
   unfolding withBucket bucketBytes partial B U ps rs u p
   with-bucket =
       let h = hashOf (e .name) in
@@ -236,30 +236,30 @@ module _ (flag : Flag) (es qs rest : List Entry) (e : Entry) (tail : List ℕ) (
           omega (arith, length-bucketBytes (bucketOf p), length-tablesWith ps rs, before-most ps u u-below, place-below ps rs p some-there)
 
       bucket-stored : sets B (entriesEnd es + 16 * entriesBefore u ps + 8 * place ps rs p) (bucketBytes (bucketOf p))
-          ≡ U ++ tablesWith ps (rs ++ p ∷ []) ++ links rs (back flag es) ++ tail
+          ≡ U ++ tablesWith ps (rs ++ p ∷ []) ++ links rs (back mode es) ++ tail
       bucket-stored =
-          let L = links rs (back flag es) in
+          let L = links rs (back mode es) in
           let o = entriesEnd es + 16 * entriesBefore u ps + 8 * place ps rs p in
           let j = 16 * entriesBefore u ps + 8 * place ps rs p in
           ap (λ (l : List ℕ). sets l o (bucketBytes (bucketOf p))) (append-assoc (U ++ tablesWith ps rs) L tail)
-          ∙ store-in U (tablesWith ps rs) (L ++ tail) (bucketBytes (bucketOf p)) o j (omega (arith, length-upToEntries flag es)) inside
+          ∙ store-in U (tablesWith ps rs) (L ++ tail) (bucketBytes (bucketOf p)) o j (omega (arith, length-upToEntries mode es)) inside
           ∙ ap (λ (l : List ℕ). U ++ l ++ (L ++ tail)) (tables-more ps rs p some-there)
           ∙ sym (append-assoc (U ++ tablesWith ps (rs ++ p ∷ [])) L tail)
 
-  pub turn : taken flag (backOffset flag es) (partial flag es qs ++ tail) (headSize + entriesSize qs) (length (e .name) + 1)
-      ≡ partial flag es (qs ++ e ∷ []) ++ tail
+  pub turn : taken mode (backOffset mode es) (partial mode es qs ++ tail) (headSize + entriesSize qs) (length (e .name) + 1)
+      ≡ partial mode es (qs ++ e ∷ []) ++ tail
   unfolding taken partial B ps rs p U
   turn =
       let at = headSize + entriesSize qs in
-      let L = links rs (back flag es) in
+      let L = links rs (back mode es) in
       let F = U ++ tablesWith ps (rs ++ p ∷ []) in
       let n : length F ≡ entriesEnd es + 16 * length es =
-      length-append U (tablesWith ps (rs ++ p ∷ [])) ∙ sum (length U) (length (tablesWith ps (rs ++ p ∷ []))) (length-upToEntries flag es) (length-tablesWith ps (rs ++ p ∷ [])) in
-      ap (λ (name : List ℕ). withLink flag (withBucket B (hashOf name) at) (backOffset flag es) (word B at) at) name-read
-      ∙ ap (λ (l : List ℕ). withLink flag l (backOffset flag es) (word B at) at) with-bucket
-      ∙ ap (λ (i : ℕ). withLink flag (F ++ L ++ tail) (backOffset flag es) i at) (id-word e here id-small)
-      ∙ linked flag es rs p F tail n id-below
-      ∙ ap (λ (l : List Placed). U ++ tablesWith ps l ++ links l (back flag es) ++ tail) (sym (placed-more qs e))
+      length-append U (tablesWith ps (rs ++ p ∷ [])) ∙ sum (length U) (length (tablesWith ps (rs ++ p ∷ []))) (length-upToEntries mode es) (length-tablesWith ps (rs ++ p ∷ [])) in
+      ap (λ (name : List ℕ). withLink mode (withBucket B (hashOf name) at) (backOffset mode es) (word B at) at) name-read
+      ∙ ap (λ (l : List ℕ). withLink mode l (backOffset mode es) (word B at) at) with-bucket
+      ∙ ap (λ (i : ℕ). withLink mode (F ++ L ++ tail) (backOffset mode es) i at) (id-word e here id-small)
+      ∙ linked mode es rs p F tail n id-below
+      ∙ ap (λ (l : List Placed). U ++ tablesWith ps l ++ links l (back mode es) ++ tail) (sym (placed-more qs e))
     where
       sum : (a b : ℕ) → a ≡ entriesEnd es → b ≡ 16 * length (placedIn es) → a + b ≡ entriesEnd es + 16 * length es
       sum a b h k = omega (arith, length-placed headSize es)

@@ -9,7 +9,7 @@ use lib.Dec.{eqb}
 use borrow.Author.Tests.{ne-eqb}
 use Rattle.image.specs.Bytes.{cat}
 use Rattle.image.specs.Record.{Entry, headSize, entryBytes, entriesSize, backIn, backSize, backOffset, entriesEnd, imageSize, image}
-use Rattle.image.specs.declared.Flag.{Flag}
+use Rattle.image.specs.declared.Mode.{Mode}
 use Rattle.image.proofs.Sizes.{length-entries, entriesSize-append}
 use Rattle.layout.proofs.Every.{All}
 use Rattle.writer.specs.declared.CQDBWriter.{CQDBWriter}
@@ -25,29 +25,29 @@ use Rattle.writer.proofs.Turn.{length-found, turn}
 
 -- ---- the walk, from any entry on
 
-module _ (flag : Flag) (es : List Entry) (tail : List ℕ) (small : imageSize flag es ≤ 4294967295)
+module _ (mode : Mode) (es : List Entry) (tail : List ℕ) (small : imageSize mode es ≤ 4294967295)
     (ids : All (λ (e : Entry). e .id < 2 ^ 32) es) where
   next-at : (qs : List Entry) (e : Entry) → headSize + entriesSize qs + (8 + (length (e .name) + 1)) ≡ headSize + entriesSize (qs ++ e ∷ [])
   unfolding entriesSize
   next-at qs e = omega (arith, entriesSize-append qs (e ∷ []))
 
   pub walked : (rest qs : List Entry) → es ≡ qs ++ rest
-      → takenFrom flag (backOffset flag es) (entriesEnd es) (length rest) (headSize + entriesSize qs) (partial flag es qs ++ tail)
-      ≡ partial flag es es ++ tail
+      → takenFrom mode (backOffset mode es) (entriesEnd es) (length rest) (headSize + entriesSize qs) (partial mode es qs ++ tail)
+      ≡ partial mode es es ++ tail
   unfolding takenFrom
-  walked [] qs split = ap (λ (l : List Entry). partial flag es l ++ tail) (sym (split ∙ append-nil qs))
+  walked [] qs split = ap (λ (l : List Entry). partial mode es l ++ tail) (sym (split ∙ append-nil qs))
   walked (e ∷ rest) qs split =
       let at = headSize + entriesSize qs in
-      let B = partial flag es qs ++ tail in
-      let o = backOffset flag es in
+      let B = partial mode es qs ++ tail in
+      let o = backOffset mode es in
       let end = entriesEnd es in
       let n = length (e .name) + 1 in
-      ap (λ (k : ℕ). cond (eqb k 0) B (takenFrom flag o end (length rest) (at + (8 + k)) (taken flag o B at k)))
-      (length-found flag es qs rest e tail split small ids)
-      ∙ ap (λ (b : Bool). cond b B (takenFrom flag o end (length rest) (at + (8 + n)) (taken flag o B at n)))
+      ap (λ (k : ℕ). cond (eqb k 0) B (takenFrom mode o end (length rest) (at + (8 + k)) (taken mode o B at k)))
+      (length-found mode es qs rest e tail split small ids)
+      ∙ ap (λ (b : Bool). cond b B (takenFrom mode o end (length rest) (at + (8 + n)) (taken mode o B at n)))
       (ne-eqb n 0 (λ z. omega arith))
-      ∙ ap (λ (l : List ℕ). takenFrom flag o end (length rest) (at + (8 + n)) l) (turn flag es qs rest e tail split small ids)
-      ∙ ap (λ (k : ℕ). takenFrom flag o end (length rest) k (partial flag es (qs ++ e ∷ []) ++ tail)) (next-at qs e)
+      ∙ ap (λ (l : List ℕ). takenFrom mode o end (length rest) (at + (8 + n)) l) (turn mode es qs rest e tail split small ids)
+      ∙ ap (λ (k : ℕ). takenFrom mode o end (length rest) k (partial mode es (qs ++ e ∷ []) ++ tail)) (next-at qs e)
       ∙ walked rest (qs ++ e ∷ []) (split ∙ sym (append-assoc qs (e ∷ []) rest))
 
 -- ---- what the checks of close say
@@ -77,7 +77,7 @@ module _ (w : CQDBWriter) (counts buf : List ℕ) (bytes : Bytes buf) (fit : fit
       omega arith
 
   module _ (agree : countsAgree counts (recorded (lent w counts buf)) ≡ true)
-      (backs : w .back ≡ backIn (w .flag) (backSize (recorded (lent w counts buf))))
+      (backs : w .back ≡ backIn (w .mode) (backSize (recorded (lent w counts buf))))
       (small : finishedSize w ≤ 4294967295) (room : finishedSize w ≤ length buf) where
     tells : Tells w counts buf es
     unfolding es
@@ -90,21 +90,21 @@ module _ (w : CQDBWriter) (counts buf : List ℕ) (bytes : Bytes buf) (fit : fit
       room = room;
     }
 
-    pub size-image : finishedSize w ≡ imageSize (w .flag) (recorded (lent w counts buf))
+    pub size-image : finishedSize w ≡ imageSize (w .mode) (recorded (lent w counts buf))
     unfolding es
     size-image = told-size w counts buf es tells
 
-    pub written-image : written w counts buf ≡ image (w .flag) (recorded (lent w counts buf)) ++ drop (finishedSize w) buf
+    pub written-image : written w counts buf ≡ image (w .mode) (recorded (lent w counts buf)) ++ drop (finishedSize w) buf
     unfolding written es entriesSize
     written-image =
-        let flag = w .flag in
+        let mode = w .mode in
         let tail = drop (finishedSize w) buf in
-        ap (takenFrom flag (backAt w) (w .end) (w .entries) headSize) (cleared-partial w counts buf es tells)
-        ∙ ap (λ (o : ℕ). takenFrom flag o (w .end) (w .entries) headSize (partial flag es [] ++ tail)) (told-links w counts buf es tells)
-        ∙ ap (λ (o : ℕ). takenFrom flag (backOffset flag es) o (w .entries) headSize (partial flag es [] ++ tail)) recorded-end
-        ∙ ap (λ (n : ℕ). takenFrom flag (backOffset flag es) (entriesEnd es) n headSize (partial flag es [] ++ tail)) (sym recorded-number)
-        ∙ walked flag es tail (rw (← size-image) small) (ids-words (w .entries) (entryArea (lent w counts buf)) area-bytes) es [] refl
-        ∙ ap (λ (l : List ℕ). l ++ tail) (partial-all flag es)
+        ap (takenFrom mode (backAt w) (w .end) (w .entries) headSize) (cleared-partial w counts buf es tells)
+        ∙ ap (λ (o : ℕ). takenFrom mode o (w .end) (w .entries) headSize (partial mode es [] ++ tail)) (told-links w counts buf es tells)
+        ∙ ap (λ (o : ℕ). takenFrom mode (backOffset mode es) o (w .entries) headSize (partial mode es [] ++ tail)) recorded-end
+        ∙ ap (λ (n : ℕ). takenFrom mode (backOffset mode es) (entriesEnd es) n headSize (partial mode es [] ++ tail)) (sym recorded-number)
+        ∙ walked mode es tail (rw (← size-image) small) (ids-words (w .entries) (entryArea (lent w counts buf)) area-bytes) es [] refl
+        ∙ ap (λ (l : List ℕ). l ++ tail) (partial-all mode es)
 
     -- as the rule of close says it
     pub written-closed : lent w counts (written w counts buf) ≡ closed (lent w counts buf)

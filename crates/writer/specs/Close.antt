@@ -51,8 +51,8 @@ closeRefusal s =
     cond (not (fits s)) 2
     (cond (whole (s .writer .entries) (entryArea s)
     && countsAgree (s .counts) (recorded s)
-    && eqb (s .writer .back) (backIn (s .writer .flag) (backSize (recorded s)))
-    && not (tooLarge (s .writer .capacity) (finishedSize (s .writer)))) 0 4)
+    && eqb (s .writer .back) (backIn (s .writer .mode) (backSize (recorded s)))
+    && not (tooLarge (s .writer .length) (finishedSize (s .writer)))) 0 4)
 
 -- the size that an accepted close gives
 abbrev pub closedSize : State → ℕ
@@ -64,7 +64,7 @@ closed s =
     record {
       writer = s .writer;
       counts = s .counts;
-      buffer = image (s .writer .flag) (recorded s) ++ drop (closedSize s) (s .buffer);
+      buffer = image (s .writer .mode) (recorded s) ++ drop (closedSize s) (s .buffer);
     }
 
 -- no refusal changes a byte

@@ -8,16 +8,16 @@ use lib.Dec.{eqb}
 use Rattle.jhash.specs.NameHash.{hashOf}
 use Rattle.image.specs.Tables.{tableOf}
 use Rattle.image.specs.Record.{Entry, entryBytes, entrySize}
-use Rattle.image.specs.declared.Flag.{Flag}
-use Rattle.image.specs.declared.Flag.the-variants.{None, Oneway}
+use Rattle.image.specs.declared.Mode.{Mode}
+use Rattle.image.specs.declared.Mode.the-variants.{Twoway, Oneway}
 use Rattle.writer.specs.declared.CQDBWriter.{CQDBWriter}
 use Rattle.writer.specs.declared.Stored.{Stored}
 use Rattle.writer.specs.declared.Stored.the-variants.{Accepted, Misfit, NoRoom}
 use Rattle.writer.specs.State.{State, fits, finishedSize, tooLarge}
 
 -- in two-way mode the back size becomes the larger of itself and id + 1
-abbrev pub raised : Flag → ℕ → ℕ → ℕ
-raised None back id = max back (id + 1)
+abbrev pub raised : Mode → ℕ → ℕ → ℕ
+raised Twoway back id = max back (id + 1)
 raised Oneway back id = back
 
 -- what a put of a name and an id stores
@@ -28,11 +28,11 @@ entryOf name id = record { name = name; id = id }
 unfoldable pub writerWith : CQDBWriter → ℕ → ℕ → CQDBWriter
 writerWith w n id =
     record {
-      flag = w .flag;
-      capacity = w .capacity;
+      mode = w .mode;
+      length = w .length;
       end = w .end + (n + 9);
       entries = w .entries + 1;
-      back = raised (w .flag) (w .back) id;
+      back = raised (w .mode) (w .back) id;
     }
 
 -- the record after this put
@@ -51,7 +51,7 @@ countsAfter counts e = raisedCounts counts (hashOf (e .name))
 
 -- 2 when the record doesn't fit the buffer; then 3 when the finished size, all after this put, exceeds the buffer or 4,294,967,295. 0: no refusal
 unfoldable pub putRefusal : State → Entry → ℕ
-putRefusal s e = cond (not (fits s)) 2 (cond (tooLarge (s .writer .capacity) (finishedSize (writerAfter (s .writer) e))) 3 0)
+putRefusal s e = cond (not (fits s)) 2 (cond (tooLarge (s .writer .length) (finishedSize (writerAfter (s .writer) e))) 3 0)
 
 -- put appends an entry and raises the counts; only that entry's bytes change
 unfoldable pub appended : State → Entry → State

@@ -6,7 +6,7 @@ use lib.ListN.{length, getD, replicate}
 use lib.Dec.{eqb, ltb, leb}
 use Rattle.image.specs.Bytes.{all}
 use Rattle.image.specs.Record.{headSize, backIn}
-use Rattle.image.specs.declared.Flag.{Flag}
+use Rattle.image.specs.declared.Mode.{Mode}
 use Rattle.writer.specs.declared.CQDBWriter.{CQDBWriter}
 use Rattle.writer.specs.declared.Begun.{Begun}
 use Rattle.writer.specs.declared.Begun.the-variants.{Fresh, TooShort}
@@ -27,25 +27,25 @@ noneAbove counts entries = all (λ (t : ℕ). leb (getD counts t 0) entries) 0 2
 -- the record fits (01's term) a buffer when the lengths agree, 2,072 ≤ end ≤ length, and no table count exceeds the number of entries
 unfoldable pub fits : State → Bool
 fits s =
-    eqb (s .writer .capacity) (length (s .buffer))
+    eqb (s .writer .length) (length (s .buffer))
     && leb headSize (s .writer .end)
-    && leb (s .writer .end) (s .writer .capacity)
+    && leb (s .writer .end) (s .writer .length)
     && noneAbove (s .counts) (s .writer .entries)
 
 -- the finished size (01's term): end + 16 × entries + 4 × back size, the back term 0 in one-way mode
 abbrev pub finishedSize : CQDBWriter → ℕ
-finishedSize w = w .end + 16 * w .entries + 4 * backIn (w .flag) (w .back)
+finishedSize w = w .end + 16 * w .entries + 4 * backIn (w .mode) (w .back)
 
 -- a size that exceeds the buffer or 4,294,967,295
 abbrev pub tooLarge : ℕ → ℕ → Bool
-tooLarge capacity size = ltb capacity size || ltb 4294967295 size
+tooLarge room size = ltb room size || ltb 4294967295 size
 
 -- a fresh record: the chosen mode, the buffer's length, end 2,072 and otherwise zeros
-abbrev pub freshWriter : Flag → ℕ → CQDBWriter
-freshWriter flag n = record { flag = flag; capacity = n; end = headSize; entries = 0; back = 0 }
+abbrev pub freshWriter : Mode → ℕ → CQDBWriter
+freshWriter mode n = record { mode = mode; length = n; end = headSize; entries = 0; back = 0 }
 
-unfoldable pub fresh : Flag → List ℕ → State
-fresh flag buffer = record { writer = freshWriter flag (length buffer); counts = replicate 256 0; buffer = buffer }
+unfoldable pub fresh : Mode → List ℕ → State
+fresh mode buffer = record { writer = freshWriter mode (length buffer); counts = replicate 256 0; buffer = buffer }
 
 -- begin gives 1 when the buffer, of n bytes, is under 2,072 bytes; 0 stands for no refusal
 abbrev pub beginRefusal : ℕ → ℕ
@@ -56,8 +56,8 @@ pub data Beginning : Type 0 where
   begun : CQDBWriter → Beginning
   refusal : ℕ → Beginning
 
-unfoldable pub beginning : Flag → ℕ → Beginning
-beginning flag n = cond (eqb (beginRefusal n) 0) (begun (freshWriter flag n)) (refusal (beginRefusal n))
+unfoldable pub beginning : Mode → ℕ → Beginning
+beginning mode n = cond (eqb (beginRefusal n) 0) (begun (freshWriter mode n)) (refusal (beginRefusal n))
 
 -- the table counts of a fresh record; a refused begin leaves what was lent for them as it was
 unfoldable pub countsBegun : ℕ → List ℕ → List ℕ

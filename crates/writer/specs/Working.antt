@@ -11,8 +11,8 @@ use Rattle.jhash.specs.NameHash.{hashOf}
 use Rattle.image.specs.Bytes.{word, le32, all}
 use Rattle.image.specs.Tables.{tableOf, start, order, firstEmpty}
 use Rattle.image.specs.Record.{Entry, headSize, headBytes, flagWord, backIn, backSize}
-use Rattle.image.specs.declared.Flag.{Flag}
-use Rattle.image.specs.declared.Flag.the-variants.{None, Oneway}
+use Rattle.image.specs.declared.Mode.{Mode}
+use Rattle.image.specs.declared.Mode.the-variants.{Twoway, Oneway}
 use Rattle.writer.specs.declared.CQDBWriter.{CQDBWriter}
 use Rattle.writer.specs.State.{State, finishedSize}
 use Rattle.writer.specs.Put.{countsAfter}
@@ -45,13 +45,13 @@ rowsFrom counts o t (suc m) =
 
 -- where the back array stands, 0 where there is none
 unfoldable pub backAt : CQDBWriter → ℕ
-backAt w = cond (eqb (backIn (w .flag) (w .back)) 0) 0 (w .end + 16 * w .entries)
+backAt w = cond (eqb (backIn (w .mode) (w .back)) 0) 0 (w .end + 16 * w .entries)
 
 -- head and rows written, tables and back array cleared
 unfoldable pub cleared : CQDBWriter → List ℕ → List ℕ → List ℕ
 cleared w counts buf =
     sets
-    (sets (sets buf 0 (headBytes (finishedSize w) (flagWord (w .flag)) (backIn (w .flag) (w .back)) (backAt w))) 24 (rowsFrom counts (w .end) 0 256))
+    (sets (sets buf 0 (headBytes (finishedSize w) (flagWord (w .mode)) (backIn (w .mode) (w .back)) (backAt w))) 24 (rowsFrom counts (w .end) 0 256))
     (w .end)
     (replicate (finishedSize w - w .end) 0)
 
@@ -66,20 +66,20 @@ slot buf h =
 unfoldable pub withBucket : List ℕ → ℕ → ℕ → List ℕ
 withBucket buf h at = cond (eqb (word buf (28 + 8 * tableOf h)) 0) buf (sets buf (slot buf h) (le32 h ++ le32 at))
 
-abbrev pub withLink : Flag → List ℕ → ℕ → ℕ → ℕ → List ℕ
-withLink None buf links id at = sets buf (links + 4 * id) (le32 at)
+abbrev pub withLink : Mode → List ℕ → ℕ → ℕ → ℕ → List ℕ
+withLink Twoway buf links id at = sets buf (links + 4 * id) (le32 at)
 withLink Oneway buf links id at = buf
 
 -- the entry at `at` with length word n taken into table and back array, which stands at `links`
-unfoldable pub taken : Flag → ℕ → List ℕ → ℕ → ℕ → List ℕ
-taken flag links buf at n = withLink flag (withBucket buf (hashOf (take (n - 1) (drop (at + 8) buf))) at) links (word buf at) at
+unfoldable pub taken : Mode → ℕ → List ℕ → ℕ → ℕ → List ℕ
+taken mode links buf at n = withLink mode (withBucket buf (hashOf (take (n - 1) (drop (at + 8) buf))) at) links (word buf at) at
 
 -- and so m entries, one after the other
-unfoldable pub takenFrom : Flag → ℕ → ℕ → ℕ → ℕ → List ℕ → List ℕ
-takenFrom flag links end zero at buf = buf
-takenFrom flag links end (suc m) at buf =
+unfoldable pub takenFrom : Mode → ℕ → ℕ → ℕ → ℕ → List ℕ → List ℕ
+takenFrom mode links end zero at buf = buf
+takenFrom mode links end (suc m) at buf =
     let n = wholeLength (between buf at end) in
-    cond (eqb n 0) buf (takenFrom flag links end m (at + (8 + n)) (taken flag links buf at n))
+    cond (eqb n 0) buf (takenFrom mode links end m (at + (8 + n)) (taken mode links buf at n))
 
 -- where the k-th entry from `from` on stands, the first being number 0
 unfoldable pub placeOf : List ℕ → ℕ → ℕ → ℕ → ℕ
@@ -99,10 +99,10 @@ pub record Noted (buf : List ℕ) (end from : ℕ) (hashes : List ℕ) (k : ℕ)
   pub apart : end ≤ word buf (24 + 8 * tableOf (getD hashes k 0))
 
 -- does the back array, where there is one, stand behind the entries?
-abbrev pub linksApart : Flag → ℕ → ℕ → Bool
-linksApart None links end = leb end links
+abbrev pub linksApart : Mode → ℕ → ℕ → Bool
+linksApart Twoway links end = leb end links
 linksApart Oneway links end = true
 
 -- all that close writes
 unfoldable pub written : CQDBWriter → List ℕ → List ℕ → List ℕ
-written w counts buf = takenFrom (w .flag) (backAt w) (w .end) (w .entries) headSize (cleared w counts buf)
+written w counts buf = takenFrom (w .mode) (backAt w) (w .end) (w .entries) headSize (cleared w counts buf)

@@ -14,15 +14,15 @@ use super::fill::store_bucket;
 use super::fill::store_link;
 use super::fill::table_at;
 use super::fill::take_singly;
-use image::Flag;
+use image::Mode;
 
 // Whether the back array, where there is one, stands behind the entries.
-fn links_apart(flag: Flag, links: usize, end: usize) -> bool
-    ensures { λ r. ⌜ r ≡ linksApart flag links end ⌝ }
+fn links_apart(mode: Mode, links: usize, end: usize) -> bool
+    ensures { λ r. ⌜ r ≡ linksApart mode links end ⌝ }
 {
-    match flag {
-        Flag::None => end <= links,
-        Flag::Oneway => true,
+    match mode {
+        Mode::Twoway => end <= links,
+        Mode::Oneway => true,
     }
 }
 
@@ -93,21 +93,21 @@ fn look(buf: &[u8], places: &[usize; 16]) -> usize
 }
 
 // The entry at `at`, whose name has hash h, taken into its table and the back array. The result is its length word.
-fn take_noted(flag: Flag, links: usize, buf: &mut [u8], at: usize, h: u32) -> usize
+fn take_noted(mode: Mode, links: usize, buf: &mut [u8], at: usize, h: u32) -> usize
     requires { ⌜ (at < 4294967296) × (links < 4294967296) ⌝ }
-    ensures { λ r. ⌜ (now (buf .exit) ≡ withLink flag (withBucket (now (buf .entry)) h at) links (word (now (buf .entry)) at) at) × (r ≡ word (now (buf .entry)) (at + 4)) × (r < 4294967296) ⌝ }
+    ensures { λ r. ⌜ (now (buf .exit) ≡ withLink mode (withBucket (now (buf .entry)) h at) links (word (now (buf .entry)) at) at) × (r ≡ word (now (buf .entry)) (at + 4)) × (r < 4294967296) ⌝ }
 {
     let id = image::get_u32(&*buf, at);
     let n = image::get_u32(&*buf, at + 4) as usize;
     store_bucket(&mut *buf, h, at as u32);
-    store_link(flag, &mut *buf, links, id, at as u32);
+    store_link(mode, &mut *buf, links, id, at as u32);
     n
 }
 
 // The m entries from `from` on, whose hashes were noted: no store changes a byte before `end`, so each hash stays that
 // of its name. The result is where the entries after them begin.
 fn take_planned(
-    flag: Flag,
+    mode: Mode,
     links: usize,
     buf: &mut [u8],
     from: usize,
@@ -115,13 +115,13 @@ fn take_planned(
     m: usize,
     hashes: &[u32; 16],
 ) -> usize
-    requires { ⌜ (from ≤ end) × (2072 ≤ end) × (end ≤ length (now buf)) × (end < 4294967296) × (links < 4294967296) × (m ≤ 16) × (linksApart flag links end ≡ true) × ((k : ℕ) → k < m → Noted (now buf) end from (now hashes) k) ⌝ }
-    ensures { λ r. ⌜ (r ≤ end) × ((k : ℕ) → takenFrom flag links end k r (now (buf .exit)) ≡ takenFrom flag links end (m + k) from (now (buf .entry))) ⌝ }
+    requires { ⌜ (from ≤ end) × (2072 ≤ end) × (end ≤ length (now buf)) × (end < 4294967296) × (links < 4294967296) × (m ≤ 16) × (linksApart mode links end ≡ true) × ((k : ℕ) → k < m → Noted (now buf) end from (now hashes) k) ⌝ }
+    ensures { λ r. ⌜ (r ≤ end) × ((k : ℕ) → takenFrom mode links end k r (now (buf .exit)) ≡ takenFrom mode links end (m + k) from (now (buf .entry))) ⌝ }
 {
     let mut at = from;
     let mut i = 0;
     while i < m {
-        let n = take_noted(flag, links, &mut *buf, at, hashes[i]);
+        let n = take_noted(mode, links, &mut *buf, at, hashes[i]);
         at += 8 + n;
         i += 1;
     }
@@ -142,12 +142,12 @@ fn smaller(left: u32, most: usize) -> usize
 
 // The entries from 2,072 on, in batches of up to 16: noted, looked at and stored. Where a batch cannot be noted, the rest
 // goes one by one.
-pub(super) fn take_entries(flag: Flag, links: usize, buf: &mut [u8], end: usize, entries: u32)
+pub(super) fn take_entries(mode: Mode, links: usize, buf: &mut [u8], end: usize, entries: u32)
     requires { ⌜ (2072 ≤ end) × (end ≤ length (now buf)) × (end < 4294967296) × (links < 4294967296) ⌝ }
-    ensures { λ _. ⌜ now (buf .exit) ≡ takenFrom flag links end entries 2072 (now (buf .entry)) ⌝ }
+    ensures { λ _. ⌜ now (buf .exit) ≡ takenFrom mode links end entries 2072 (now (buf .entry)) ⌝ }
 {
-    if !links_apart(flag, links, end) {
-        take_singly(flag, links, &mut *buf, 2072, end, entries);
+    if !links_apart(mode, links, end) {
+        take_singly(mode, links, &mut *buf, 2072, end, entries);
         return;
     }
     let mut hashes = [0; 16];
@@ -165,11 +165,11 @@ pub(super) fn take_entries(flag: Flag, links: usize, buf: &mut [u8], end: usize,
             &mut places,
         );
         if m == 0 {
-            take_singly(flag, links, &mut *buf, at, end, left);
+            take_singly(mode, links, &mut *buf, at, end, left);
             return;
         }
         most = look(&*buf, &places);
-        at = take_planned(flag, links, &mut *buf, at, end, m, &hashes);
+        at = take_planned(mode, links, &mut *buf, at, end, m, &hashes);
         left -= m as u32;
     }
 }

@@ -90,7 +90,7 @@ fn same_counts(a: &[u32; 256], b: &[u32; 256]) -> bool
 // Whether the entries are whole and have the record's counts and back size.
 pub(super) fn agrees(w: CQDBWriter, counts: &[u32; 256], buf: &[u8]) -> bool
     requires { ⌜ (2072 ≤ w .end) × (w .end ≤ length (now buf)) ⌝ }
-    ensures { λ r. ⌜ r ≡ (whole (w .entries) (entryArea (lent w (now (counts .entry)) (now (buf .entry)))) && countsAgree (now (counts .entry)) (recorded (lent w (now (counts .entry)) (now (buf .entry)))) && eqb (w .back) (backIn (w .flag) (backSize (recorded (lent w (now (counts .entry)) (now (buf .entry))))))) ⌝ }
+    ensures { λ r. ⌜ r ≡ (whole (w .entries) (entryArea (lent w (now (counts .entry)) (now (buf .entry)))) && countsAgree (now (counts .entry)) (recorded (lent w (now (counts .entry)) (now (buf .entry)))) && eqb (w .back) (backIn (w .mode) (backSize (recorded (lent w (now (counts .entry)) (now (buf .entry))))))) ⌝ }
 {
     let mut tally = [0; 256];
     let walked = walk(buf, w.end as usize, w.entries, &mut tally);
@@ -100,6 +100,6 @@ pub(super) fn agrees(w: CQDBWriter, counts: &[u32; 256], buf: &[u8]) -> bool
     if !same_counts(counts, &tally) {
         return false;
     }
-    let flag = w.flag;
-    w.back as u64 == record::back_in(flag, walked.back)
+    let mode = w.mode;
+    w.back as u64 == record::back_in(mode, walked.back)
 }

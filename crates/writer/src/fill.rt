@@ -7,7 +7,7 @@ ghost use Rattle.image.specs.Bytes.{word, le32};
 ghost use Rattle.image.specs.Tables.{tableOf, order, firstEmpty};
 ghost use Rattle.writer.specs.Working.{withBucket, withLink, taken, takenFrom};
 use super::check;
-use image::Flag;
+use image::Mode;
 
 // The first empty of the n buckets at o, from bucket k on; bucket 0 where none is empty.
 fn first_empty(buf: &[u8], o: usize, n: usize, k: usize) -> usize
@@ -55,20 +55,20 @@ pub(super) fn store_bucket(buf: &mut [u8], h: u32, at: u32)
 }
 
 // The link of an id; a one-way image has none.
-pub(super) fn store_link(flag: Flag, buf: &mut [u8], links: usize, id: u32, at: u32)
+pub(super) fn store_link(mode: Mode, buf: &mut [u8], links: usize, id: u32, at: u32)
     requires { ⌜ links < 4294967296 ⌝ }
-    ensures { λ _. ⌜ now (buf .exit) ≡ withLink flag (now (buf .entry)) links id at ⌝ }
+    ensures { λ _. ⌜ now (buf .exit) ≡ withLink mode (now (buf .entry)) links id at ⌝ }
 {
-    match flag {
-        Flag::None => image::put_u32(&mut *buf, links + 4 * (id as usize), at),
-        Flag::Oneway => {}
+    match mode {
+        Mode::Twoway => image::put_u32(&mut *buf, links + 4 * (id as usize), at),
+        Mode::Oneway => {}
     }
 }
 
 // The entry at `at`, whose length word is n, taken into its table and the back array.
-fn take_entry(flag: Flag, links: usize, buf: &mut [u8], at: usize, n: usize)
+fn take_entry(mode: Mode, links: usize, buf: &mut [u8], at: usize, n: usize)
     requires { ⌜ (at + (8 + n) ≤ length (now buf)) × (1 ≤ n) × (n < 4294967296) × (at < 4294967296) × (links < 4294967296) ⌝ }
-    ensures { λ _. ⌜ now (buf .exit) ≡ taken flag links (now (buf .entry)) at n ⌝ }
+    ensures { λ _. ⌜ now (buf .exit) ≡ taken mode links (now (buf .entry)) at n ⌝ }
 {
     let id = image::get_u32(&*buf, at);
     let hashed = jhash::name_hash(&buf[at + 8..at + 7 + n]);
@@ -76,12 +76,12 @@ fn take_entry(flag: Flag, links: usize, buf: &mut [u8], at: usize, n: usize)
         return;
     };
     store_bucket(&mut *buf, h, at as u32);
-    store_link(flag, &mut *buf, links, id, at as u32);
+    store_link(mode, &mut *buf, links, id, at as u32);
 }
 
 // The entries from `from` on, one after the other.
 pub(super) fn take_singly(
-    flag: Flag,
+    mode: Mode,
     links: usize,
     buf: &mut [u8],
     from: usize,
@@ -89,7 +89,7 @@ pub(super) fn take_singly(
     entries: u32,
 )
     requires { ⌜ (from ≤ end) × (end ≤ length (now buf)) × (end < 4294967296) × (links < 4294967296) ⌝ }
-    ensures { λ _. ⌜ now (buf .exit) ≡ takenFrom flag links end entries from (now (buf .entry)) ⌝ }
+    ensures { λ _. ⌜ now (buf .exit) ≡ takenFrom mode links end entries from (now (buf .entry)) ⌝ }
 {
     let mut at = from;
     let mut left = entries;
@@ -98,7 +98,7 @@ pub(super) fn take_singly(
         if n == 0 {
             return;
         }
-        take_entry(flag, links, &mut *buf, at, n);
+        take_entry(mode, links, &mut *buf, at, n);
         at += 8 + n;
         left -= 1;
     }

@@ -6,7 +6,7 @@ ghost use Rattle.writer.specs.State.{lent, beginning, begunOf, countsBeg
 ghost use Rattle.writer.specs.Put.{putRefusal, afterPut, storedOf, entryOf};
 ghost use Rattle.writer.specs.Close.{closing, closedOf, afterClose};
 ghost use Rattle.writer.specs.Working.{written};
-use image::Flag;
+use image::Mode;
 
 mod batch;
 mod check;
@@ -18,8 +18,8 @@ mod record;
 // The writer record (`CQDBWriter` of cqdb-rs), but for its 256 table counts, which are lent apart: the mode, the buffer's
 // length, the end of the entries, the number of entries and the back size.
 pub struct CQDBWriter {
-    pub flag: Flag,
-    pub capacity: u64,
+    pub mode: Mode,
+    pub length: u64,
     pub end: u64,
     pub entries: u32,
     pub back: u32,
@@ -58,8 +58,8 @@ pub struct CloseAnswer {
 }
 
 // A fresh record for a buffer (`with_flag` of cqdb-rs). Changes no byte of the buffer.
-pub fn begin(flag: Flag, counts: &mut [u32; 256], buf: &[u8]) -> Begun
-    ensures answer { λ r. ⌜ begunOf r ≡ beginning flag (length (now (buf .entry))) ⌝ }
+pub fn begin(mode: Mode, counts: &mut [u32; 256], buf: &[u8]) -> Begun
+    ensures answer { λ r. ⌜ begunOf r ≡ beginning mode (length (now (buf .entry))) ⌝ }
     ensures fresh { λ r. ⌜ now (counts .exit) ≡ countsBegun (length (now (buf .entry))) (now (counts .entry)) ⌝ }
 {
     if buf.len() < 2072 {
@@ -67,8 +67,8 @@ pub fn begin(flag: Flag, counts: &mut [u32; 256], buf: &[u8]) -> Begun
     }
     *counts = [0; 256];
     Begun::Fresh(CQDBWriter {
-        flag,
-        capacity: buf.len() as u64,
+        mode,
+        length: buf.len() as u64,
         end: 2072,
         entries: 0,
         back: 0,
@@ -98,7 +98,7 @@ pub fn put(
             writer: w,
         };
     };
-    if record::too_large(w.capacity, record::size_with(w, name.len(), id)) {
+    if record::too_large(w.length, record::size_with(w, name.len(), id)) {
         return PutAnswer {
             answer: Stored::NoRoom,
             writer: w,
@@ -117,20 +117,20 @@ fn write_image(w: CQDBWriter, counts: &[u32; 256], buf: &mut [u8])
     requires { ⌜ (2072 ≤ w .end) × (finishedSize w ≤ length (now buf)) × (finishedSize w ≤ 4294967295) ⌝ }
     ensures { λ _. ⌜ now (buf .exit) ≡ written w (now (counts .entry)) (now (buf .entry)) ⌝ }
 {
-    let flag = w.flag;
+    let mode = w.mode;
     let size = record::finished_size(w);
-    let back = record::back_in(flag, w.back as u64);
+    let back = record::back_in(mode, w.back as u64);
     let links = record::back_at(w);
     head::write_head(
         &mut *buf,
         size as u32,
-        record::flag_word(flag),
+        record::flag_word(mode),
         back as u32,
         links as u32,
     );
     head::write_rows(&mut *buf, counts, w.end as u32);
     head::clear(&mut *buf, w.end as usize, size as usize);
-    batch::take_entries(flag, links as usize, &mut *buf, w.end as usize, w.entries);
+    batch::take_entries(mode, links as usize, &mut *buf, w.end as usize, w.entries);
 }
 
 // Writes head, tables and back array into the lent buffer, and gives the image's size. May be called often.
@@ -145,7 +145,7 @@ pub fn close(w: CQDBWriter, counts: &[u32; 256], buf: &mut [u8]) -> CloseAnswer
         };
     }
     let size = record::finished_size(w);
-    if record::too_large(w.capacity, size) {
+    if record::too_large(w.length, size) {
         return CloseAnswer {
             answer: Closed::Inconsistent,
             writer: w,

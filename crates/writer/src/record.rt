@@ -8,7 +8,7 @@ ghost use Rattle.writer.specs.State.{lent, noneAbove, fits, tooLarge, fi
 ghost use Rattle.writer.specs.Put.{raised, writerWith, raisedCounts};
 ghost use Rattle.writer.specs.Working.{backAt};
 use super::CQDBWriter;
-use image::Flag;
+use image::Mode;
 
 // All table counts joined bit by bit, a number that no count exceeds, since a join by `|` is never below what it joins. The
 // loop has no branch, so the compiler makes vector code of it.
@@ -55,23 +55,23 @@ pub(super) fn none_above(counts: &[u32; 256], entries: u32) -> bool
 pub(super) fn fits(w: CQDBWriter, counts: &[u32; 256], buf: &[u8]) -> bool
     ensures { λ r. ⌜ r ≡ fits (lent w (now (counts .entry)) (now (buf .entry))) ⌝ }
 {
-    if w.capacity != buf.len() as u64 {
+    if w.length != buf.len() as u64 {
         return false;
     }
     if w.end < 2072 {
         return false;
     }
-    if w.end > w.capacity {
+    if w.end > w.length {
         return false;
     }
     none_above(counts, w.entries)
 }
 
 // Whether a size exceeds the buffer or 4,294,967,295.
-pub(super) fn too_large(capacity: u64, size: u64) -> bool
-    ensures { λ r. ⌜ r ≡ tooLarge capacity size ⌝ }
+pub(super) fn too_large(length: u64, size: u64) -> bool
+    ensures { λ r. ⌜ r ≡ tooLarge room size ⌝ }
 {
-    capacity < size || 4294967295 < size
+    room < size || 4294967295 < size
 }
 
 // The larger of two numbers.
@@ -82,22 +82,22 @@ pub(super) fn larger(a: u64, b: u64) -> u64
 }
 
 // The back size after a put, which may be 2^32.
-fn raised(flag: Flag, back: u32, id: u32) -> u64
-    ensures { λ r. ⌜ r ≡ raised flag back id ⌝ }
+fn raised(mode: Mode, back: u32, id: u32) -> u64
+    ensures { λ r. ⌜ r ≡ raised mode back id ⌝ }
 {
-    match flag {
-        Flag::None => larger(back as u64, id as u64 + 1),
-        Flag::Oneway => back as u64,
+    match mode {
+        Mode::Twoway => larger(back as u64, id as u64 + 1),
+        Mode::Oneway => back as u64,
     }
 }
 
 // The back size that counts in a size: none in one-way mode.
-pub(super) fn back_in(flag: Flag, back: u64) -> u64
-    ensures { λ r. ⌜ r ≡ backIn flag back ⌝ }
+pub(super) fn back_in(mode: Mode, back: u64) -> u64
+    ensures { λ r. ⌜ r ≡ backIn mode back ⌝ }
 {
-    match flag {
-        Flag::None => back,
-        Flag::Oneway => 0,
+    match mode {
+        Mode::Twoway => back,
+        Mode::Oneway => 0,
     }
 }
 
@@ -106,17 +106,17 @@ pub(super) fn finished_size(w: CQDBWriter) -> u64
     requires { ⌜ w .end < 2 ^ 63 ⌝ }
     ensures { λ r. ⌜ r ≡ finishedSize w ⌝ }
 {
-    let flag = w.flag;
-    w.end + 16 * (w.entries as u64) + 4 * back_in(flag, w.back as u64)
+    let mode = w.mode;
+    w.end + 16 * (w.entries as u64) + 4 * back_in(mode, w.back as u64)
 }
 
 // The flag word of a mode.
-pub(super) fn flag_word(flag: Flag) -> u32
-    ensures { λ r. ⌜ r ≡ flagWord flag ⌝ }
+pub(super) fn flag_word(mode: Mode) -> u32
+    ensures { λ r. ⌜ r ≡ flagWord mode ⌝ }
 {
-    match flag {
-        Flag::None => 0,
-        Flag::Oneway => 1,
+    match mode {
+        Mode::Twoway => 0,
+        Mode::Oneway => 1,
     }
 }
 
@@ -125,8 +125,8 @@ pub(super) fn back_at(w: CQDBWriter) -> u64
     requires { ⌜ w .end < 2 ^ 63 ⌝ }
     ensures { λ r. ⌜ r ≡ backAt w ⌝ }
 {
-    let flag = w.flag;
-    if back_in(flag, w.back as u64) == 0 {
+    let mode = w.mode;
+    if back_in(mode, w.back as u64) == 0 {
         return 0;
     }
     w.end + 16 * (w.entries as u64)
@@ -137,8 +137,8 @@ pub(super) fn size_with(w: CQDBWriter, n: usize, id: u32) -> u64
     requires { ⌜ (w .end < 2 ^ 63) × (n < 4294967295) ⌝ }
     ensures { λ r. ⌜ r ≡ finishedSize (writerWith w n id) ⌝ }
 {
-    let flag = w.flag;
-    let back = back_in(flag, raised(flag, w.back, id));
+    let mode = w.mode;
+    let back = back_in(mode, raised(mode, w.back, id));
     w.end + (n as u64 + 9) + 16 * (w.entries as u64 + 1) + 4 * back
 }
 
@@ -147,13 +147,13 @@ pub(super) fn after(w: CQDBWriter, n: usize, id: u32) -> CQDBWriter
     requires { ⌜ finishedSize (writerWith w n id) ≤ 4294967295 ⌝ }
     ensures { λ r. ⌜ r ≡ writerWith w n id ⌝ }
 {
-    let flag = w.flag;
+    let mode = w.mode;
     CQDBWriter {
-        flag,
-        capacity: w.capacity,
+        mode,
+        length: w.length,
         end: w.end + (n as u64 + 9),
         entries: w.entries + 1,
-        back: raised(flag, w.back, id) as u32,
+        back: raised(mode, w.back, id) as u32,
     }
 }
 

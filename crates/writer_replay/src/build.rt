@@ -1,5 +1,5 @@
 // The writer's calls.
-use image::Flag;
+use image::Mode;
 use replay_lines::Bytes;
 use replay_lines::Number;
 use replay_lines::Verdict;
@@ -32,12 +32,12 @@ pub(super) fn judged(writer: CQDBWriter, size: usize, done: usize, verdict: Verd
 }
 
 // A fresh record for the first n bytes of the buffer.
-pub(super) fn begin(s: State, flag: Flag, n: usize, counts: &mut [u32; 256], buf: &[u8]) -> Built {
+pub(super) fn begin(s: State, mode: Mode, n: usize, counts: &mut [u32; 256], buf: &[u8]) -> Built {
     let w = s.writer;
     if buf.len() < n {
         return judged(w, s.size, s.done, Verdict::Malformed);
     }
-    match writer::begin(flag, &mut *counts, &buf[0..n]) {
+    match writer::begin(mode, &mut *counts, &buf[0..n]) {
         Begun::Fresh(fresh) => judged(fresh, 0, 0, Verdict::Silent),
         Begun::TooShort => judged(w, s.size, s.done, Verdict::Different),
     }
@@ -74,7 +74,7 @@ fn put_name(
     buf: &mut [u8],
 ) -> Built {
     let w = s.writer;
-    let n = w.capacity as usize;
+    let n = w.length as usize;
     if buf.len() < n {
         return judged(w, s.size, s.done, Verdict::Malformed);
     }
@@ -107,7 +107,7 @@ pub(super) fn put(
 // The size that close gives.
 pub(super) fn close(s: State, size: u32, counts: &[u32; 256], buf: &mut [u8]) -> Built {
     let w = s.writer;
-    let n = w.capacity as usize;
+    let n = w.length as usize;
     if buf.len() < n {
         return judged(w, s.size, s.done, Verdict::Malformed);
     }

@@ -19,7 +19,7 @@ mod look;
 use build::Built;
 use build::State;
 use build::judged;
-use image::Flag;
+use image::Mode;
 use libc::STDIN_FILENO;
 use replay_lines::Counts;
 use replay_lines::Number;
@@ -61,8 +61,8 @@ fn numbered(
     buf: &mut [u8],
 ) -> Built {
     match tag {
-        NEW2 => build::begin(s, Flag::None, n as usize, &mut *counts, &*buf),
-        NEW1 => build::begin(s, Flag::Oneway, n as usize, &mut *counts, &*buf),
+        NEW2 => build::begin(s, Mode::Twoway, n as usize, &mut *counts, &*buf),
+        NEW1 => build::begin(s, Mode::Oneway, n as usize, &mut *counts, &*buf),
         PUTS => build::put(s, false, n, second, &mut *counts, &mut *buf),
         FULL => build::put(s, true, n, second, &mut *counts, &mut *buf),
         SIZE => build::close(s, n, &*counts, &mut *buf),
@@ -116,8 +116,8 @@ fn any_line(s: State, line: &[u8], counts: &mut [u32; 256], buf: &mut [u8]) -> B
 fn nothing_yet() -> State {
     State {
         writer: CQDBWriter {
-            flag: Flag::None,
-            capacity: 0,
+            mode: Mode::Twoway,
+            length: 0,
             end: 0,
             entries: 0,
             back: 0,

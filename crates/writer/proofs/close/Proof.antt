@@ -46,8 +46,8 @@ same-length-2 c = search needs
 returns-2 : tie.Need-returns-2
 returns-2 c =
     let yes : fits (lent (c .before .before .before .before .before .before .before .args .w) (c .before .before .before .before .before .before .before .args .counts .now) (c .before .before .before .before .before .before .before .args .buf .now)) ≡ true = sym (c .before .before .before .before .fits2 .ensures) ∙ not-false _ (c .before .before .before .if1 .left) in
-    let fine : tooLarge (c .before .before .before .before .before .before .before .args .w .capacity) (finishedSize (c .before .before .before .before .before .before .before .args .w)) ≡ true =
-    ap (λ (m : ℕ). tooLarge (c .before .before .before .before .before .before .before .args .w .capacity) m) (sym (c .before .before .finished-size .ensures)) ∙ sym (c .before .too-large .ensures) ∙ c .if2 .taken in
+    let fine : tooLarge (c .before .before .before .before .before .before .before .args .w .length) (finishedSize (c .before .before .before .before .before .before .before .args .w)) ≡ true =
+    ap (λ (m : ℕ). tooLarge (c .before .before .before .before .before .before .before .args .w .length) m) (sym (c .before .before .finished-size .ensures)) ∙ sym (c .before .too-large .ensures) ∙ c .if2 .taken in
     too-big (lent (c .before .before .before .before .before .before .before .args .w) (c .before .before .before .before .before .before .before .args .counts .now) (c .before .before .before .before .before .before .before .args .buf .now)) yes fine
 
 agrees-requires : tie.Need-agrees-requires
@@ -67,17 +67,17 @@ returns-3 c =
 write-image-requires : tie.Need-write-image-requires
 write-image-requires c κs =
     let yes : fits (lent (c .before .before .before .before .before .before .before .before .before .before .before .args .w) (c .before .before .before .before .before .before .before .before .before .before .before .args .counts .now) (c .before .before .before .before .before .before .before .before .before .before .before .args .buf .now)) ≡ true = sym (c .before .before .before .before .before .before .before .before .fits2 .ensures) ∙ not-false _ (c .before .before .before .before .before .before .before .if1 .left) in
-    let fine : tooLarge (c .before .before .before .before .before .before .before .before .before .before .before .args .w .capacity) (finishedSize (c .before .before .before .before .before .before .before .before .before .before .before .args .w)) ≡ false =
-    ap (λ (m : ℕ). tooLarge (c .before .before .before .before .before .before .before .before .before .before .before .args .w .capacity) m) (sym (c .before .before .before .before .before .before .finished-size .ensures)) ∙ sym (c .before .before .before .before .before .too-large .ensures) ∙ c .before .before .before .before .if2 .left in
+    let fine : tooLarge (c .before .before .before .before .before .before .before .before .before .before .before .args .w .length) (finishedSize (c .before .before .before .before .before .before .before .before .before .before .before .args .w)) ≡ false =
+    ap (λ (m : ℕ). tooLarge (c .before .before .before .before .before .before .before .before .before .before .before .args .w .length) m) (sym (c .before .before .before .before .before .before .finished-size .ensures)) ∙ sym (c .before .before .before .before .before .too-large .ensures) ∙ c .before .before .before .before .if2 .left in
     let f = fitting (c .before .before .before .before .before .before .before .before .before .before .before .args .w) (c .before .before .before .before .before .before .before .before .before .before .before .args .counts .now) (c .before .before .before .before .before .before .before .before .before .before .before .args .buf .now) yes in
-    let l = not-too-large (c .before .before .before .before .before .before .before .before .before .before .before .args .w .capacity) (finishedSize (c .before .before .before .before .before .before .before .before .before .before .before .args .w)) fine in
+    let l = not-too-large (c .before .before .before .before .before .before .before .before .before .before .before .args .w .length) (finishedSize (c .before .before .before .before .before .before .before .before .before .before .before .args .w)) fine in
     (f .low, omega (arith, l .0, f .same-length), l .1)
 
 cast-t18 : tie.Need-cast-t18
 cast-t18 c =
-    let fine : tooLarge (c .before .before .before .before .before .before .before .before .before .before .before .before .before .before .args .w .capacity) (finishedSize (c .before .before .before .before .before .before .before .before .before .before .before .before .before .before .args .w)) ≡ false =
-    ap (λ (m : ℕ). tooLarge (c .before .before .before .before .before .before .before .before .before .before .before .before .before .before .args .w .capacity) m) (sym (c .before .before .before .before .before .before .before .before .before .finished-size .ensures)) ∙ sym (c .before .before .before .before .before .before .before .before .too-large .ensures) ∙ c .before .before .before .before .before .before .before .if2 .left in
-    let l = not-too-large (c .before .before .before .before .before .before .before .before .before .before .before .before .before .before .args .w .capacity) (finishedSize (c .before .before .before .before .before .before .before .before .before .before .before .before .before .before .args .w)) fine in
+    let fine : tooLarge (c .before .before .before .before .before .before .before .before .before .before .before .before .before .before .args .w .length) (finishedSize (c .before .before .before .before .before .before .before .before .before .before .before .before .before .before .args .w)) ≡ false =
+    ap (λ (m : ℕ). tooLarge (c .before .before .before .before .before .before .before .before .before .before .before .before .before .before .args .w .length) m) (sym (c .before .before .before .before .before .before .before .before .before .finished-size .ensures)) ∙ sym (c .before .before .before .before .before .before .before .before .too-large .ensures) ∙ c .before .before .before .before .before .before .before .if2 .left in
+    let l = not-too-large (c .before .before .before .before .before .before .before .before .before .before .before .before .before .before .args .w .length) (finishedSize (c .before .before .before .before .before .before .before .before .before .before .before .before .before .before .args .w)) fine in
     omega (arith, l .1, c .before .before .before .before .before .before .before .before .before .finished-size .ensures)
 
 same-length-4 : tie.Need-same-length-4
@@ -86,11 +86,11 @@ same-length-4 c = search needs
 returns-4 : tie.Need-returns-4
 returns-4 c =
     let yes : fits (lent (c .before .before .before .before .before .before .before .before .before .before .before .before .before .before .args .w) (c .before .before .before .before .before .before .before .before .before .before .before .before .before .before .args .counts .now) (c .before .before .before .before .before .before .before .before .before .before .before .before .before .before .args .buf .now)) ≡ true = sym (c .before .before .before .before .before .before .before .before .before .before .before .fits2 .ensures) ∙ not-false _ (c .before .before .before .before .before .before .before .before .before .before .if1 .left) in
-    let fine : tooLarge (c .before .before .before .before .before .before .before .before .before .before .before .before .before .before .args .w .capacity) (finishedSize (c .before .before .before .before .before .before .before .before .before .before .before .before .before .before .args .w)) ≡ false =
-    ap (λ (m : ℕ). tooLarge (c .before .before .before .before .before .before .before .before .before .before .before .before .before .before .args .w .capacity) m) (sym (c .before .before .before .before .before .before .before .before .before .finished-size .ensures)) ∙ sym (c .before .before .before .before .before .before .before .before .too-large .ensures) ∙ c .before .before .before .before .before .before .before .if2 .left in
+    let fine : tooLarge (c .before .before .before .before .before .before .before .before .before .before .before .before .before .before .args .w .length) (finishedSize (c .before .before .before .before .before .before .before .before .before .before .before .before .before .before .args .w)) ≡ false =
+    ap (λ (m : ℕ). tooLarge (c .before .before .before .before .before .before .before .before .before .before .before .before .before .before .args .w .length) m) (sym (c .before .before .before .before .before .before .before .before .before .finished-size .ensures)) ∙ sym (c .before .before .before .before .before .before .before .before .too-large .ensures) ∙ c .before .before .before .before .before .before .before .if2 .left in
     let a = c .before .before .before .before .before .before .before .before .before .before .before .before .before .before .args in
     let all : consistent (lent (c .before .before .before .before .before .before .before .before .before .before .before .before .before .before .args .w) (c .before .before .before .before .before .before .before .before .before .before .before .before .before .before .args .counts .now) (c .before .before .before .before .before .before .before .before .before .before .before .before .before .before .args .buf .now)) ≡ true = sym (c .before .before .before .before .before .agrees .ensures) ∙ not-false _ (c .before .before .before .before .if3 .left) in
-    let l = not-too-large (a .w .capacity) (finishedSize (a .w)) fine in
+    let l = not-too-large (a .w .length) (finishedSize (a .w)) fine in
     let bytes : (i : ℕ) → getD (a .buf .now) i 0 < 256 = λ i. omega (arith, c .before .before .before .before .before .before .before .before .before .before .before .before .before .slice-known .given i) in
     let done = closes (lent (c .before .before .before .before .before .before .before .before .before .before .before .before .before .before .args .w) (c .before .before .before .before .before .before .before .before .before .before .before .before .before .before .args .counts .now) (c .before .before .before .before .before .before .before .before .before .before .before .before .before .before .args .buf .now)) yes fine all in (
       ap size (c .before .before .before .before .before .before .before .before .before .finished-size .ensures) ∙ done .0,

@@ -65,30 +65,30 @@ returns-3 : tie.Need-returns-3
 unfolding writerAfter
 returns-3 c =
     let yes : fits (lent (c .before .before .before .before .before .before .before .before .before .before .before .before .before .args .w) (c .before .before .before .before .before .before .before .before .before .before .before .before .before .args .counts .now) (c .before .before .before .before .before .before .before .before .before .before .before .before .before .args .buf .now)) ≡ true = sym (c .before .before .before .before .before .before .before .before .fits2 .ensures) ∙ not-false _ (c .before .before .before .before .before .before .before .if1 .left) in
-    let fine : tooLarge (c .before .before .before .before .before .before .before .before .before .before .before .before .before .args .w .capacity) (finishedSize (writerWith (c .before .before .before .before .before .before .before .before .before .before .before .before .before .args .w) (length (c .before .before .before .before .before .before .before .before .before .before .before .before .before .args .name .now)) (c .before .before .before .before .before .before .before .before .before .before .before .before .before .args .id))) ≡ true =
-    ap (λ (n : ℕ). tooLarge (c .before .before .before .before .before .before .before .before .before .before .before .before .before .args .w .capacity) n) (sym (c .before .before .size-with .ensures)) ∙ sym (c .before .too-large .ensures) ∙ c .if2 .taken in
+    let fine : tooLarge (c .before .before .before .before .before .before .before .before .before .before .before .before .before .args .w .length) (finishedSize (writerWith (c .before .before .before .before .before .before .before .before .before .before .before .before .before .args .w) (length (c .before .before .before .before .before .before .before .before .before .before .before .before .before .args .name .now)) (c .before .before .before .before .before .before .before .before .before .before .before .before .before .args .id))) ≡ true =
+    ap (λ (n : ℕ). tooLarge (c .before .before .before .before .before .before .before .before .before .before .before .before .before .args .w .length) n) (sym (c .before .before .size-with .ensures)) ∙ sym (c .before .too-large .ensures) ∙ c .if2 .taken in
     no-room (lent (c .before .before .before .before .before .before .before .before .before .before .before .before .before .args .w) (c .before .before .before .before .before .before .before .before .before .before .before .before .before .args .counts .now) (c .before .before .before .before .before .before .before .before .before .before .before .before .before .args .buf .now)) (entryOf (c .before .before .before .before .before .before .before .before .before .before .before .before .before .args .name .now) (c .before .before .before .before .before .before .before .before .before .before .before .before .before .args .id)) yes fine
 
 raise-requires : tie.Need-raise-requires
 raise-requires c κs =
     let yes : fits (lent (c .before .before .before .before .before .before .before .before .before .before .before .before .before .before .args .w) (c .before .before .before .before .before .before .before .before .before .before .before .before .before .before .args .counts .now) (c .before .before .before .before .before .before .before .before .before .before .before .before .before .before .args .buf .now)) ≡ true = sym (c .before .before .before .before .before .before .before .before .before .fits2 .ensures) ∙ not-false _ (c .before .before .before .before .before .before .before .before .if1 .left) in
-    let fine : tooLarge (c .before .before .before .before .before .before .before .before .before .before .before .before .before .before .args .w .capacity) (finishedSize (writerWith (c .before .before .before .before .before .before .before .before .before .before .before .before .before .before .args .w) (length (c .before .before .before .before .before .before .before .before .before .before .before .before .before .before .args .name .now)) (c .before .before .before .before .before .before .before .before .before .before .before .before .before .before .args .id))) ≡ false =
-    ap (λ (n : ℕ). tooLarge (c .before .before .before .before .before .before .before .before .before .before .before .before .before .before .args .w .capacity) n) (sym (c .before .before .before .size-with .ensures)) ∙ sym (c .before .before .too-large .ensures) ∙ c .before .if2 .left in
+    let fine : tooLarge (c .before .before .before .before .before .before .before .before .before .before .before .before .before .before .args .w .length) (finishedSize (writerWith (c .before .before .before .before .before .before .before .before .before .before .before .before .before .before .args .w) (length (c .before .before .before .before .before .before .before .before .before .before .before .before .before .before .args .name .now)) (c .before .before .before .before .before .before .before .before .before .before .before .before .before .before .args .id))) ≡ false =
+    ap (λ (n : ℕ). tooLarge (c .before .before .before .before .before .before .before .before .before .before .before .before .before .before .args .w .length) n) (sym (c .before .before .before .size-with .ensures)) ∙ sym (c .before .before .too-large .ensures) ∙ c .before .if2 .left in
     count-small (c .before .before .before .before .before .before .before .before .before .before .before .before .before .before .args .w) (c .before .before .before .before .before .before .before .before .before .before .before .before .before .before .args .counts .now) (c .before .before .before .before .before .before .before .before .before .before .before .before .before .before .args .buf .now) (length (c .before .before .before .before .before .before .before .before .before .before .before .before .before .before .args .name .now)) (c .before .before .before .before .before .before .before .before .before .before .before .before .before .before .args .id) yes fine (c .before .before .before .before .before .h .given .0 .0)
 
 store-requires : tie.Need-store-requires
 store-requires c κs =
     let yes : fits (lent (c .before .before .before .before .before .before .before .before .before .before .before .before .before .before .before .before .args .w) (c .before .before .before .before .before .before .before .before .before .before .before .before .before .before .before .before .args .counts .now) (c .before .before .before .before .before .before .before .before .before .before .before .before .before .before .before .before .args .buf .now)) ≡ true = sym (c .before .before .before .before .before .before .before .before .before .before .before .fits2 .ensures) ∙ not-false _ (c .before .before .before .before .before .before .before .before .before .before .if1 .left) in
-    let fine : tooLarge (c .before .before .before .before .before .before .before .before .before .before .before .before .before .before .before .before .args .w .capacity) (finishedSize (writerWith (c .before .before .before .before .before .before .before .before .before .before .before .before .before .before .before .before .args .w) (length (c .before .before .before .before .before .before .before .before .before .before .before .before .before .before .before .before .args .name .now)) (c .before .before .before .before .before .before .before .before .before .before .before .before .before .before .before .before .args .id))) ≡ false =
-    ap (λ (n : ℕ). tooLarge (c .before .before .before .before .before .before .before .before .before .before .before .before .before .before .before .before .args .w .capacity) n) (sym (c .before .before .before .before .before .size-with .ensures)) ∙ sym (c .before .before .before .before .too-large .ensures) ∙ c .before .before .before .if2 .left in
+    let fine : tooLarge (c .before .before .before .before .before .before .before .before .before .before .before .before .before .before .before .before .args .w .length) (finishedSize (writerWith (c .before .before .before .before .before .before .before .before .before .before .before .before .before .before .before .before .args .w) (length (c .before .before .before .before .before .before .before .before .before .before .before .before .before .before .before .before .args .name .now)) (c .before .before .before .before .before .before .before .before .before .before .before .before .before .before .before .before .args .id))) ≡ false =
+    ap (λ (n : ℕ). tooLarge (c .before .before .before .before .before .before .before .before .before .before .before .before .before .before .before .before .args .w .length) n) (sym (c .before .before .before .before .before .size-with .ensures)) ∙ sym (c .before .before .before .before .too-large .ensures) ∙ c .before .before .before .if2 .left in
     let told = told-image-hash (c .before .before .before .before .before .before .before .before .before .before .before .before .before .before .before .before .args .name .now) (c .before .before .before .before .before .before .before .before .before .name-hash .result) (c .before .before .before .before .before .before .before .h .given .0 .0) (c .before .before .before .before .before .before .before .before .before .name-hash .ensures) (c .before .before .before .before .before .before .before .h .given .1) in
     (entry-fits (c .before .before .before .before .before .before .before .before .before .before .before .before .before .before .before .before .args .w) (c .before .before .before .before .before .before .before .before .before .before .before .before .before .before .before .before .args .counts .now) (c .before .before .before .before .before .before .before .before .before .before .before .before .before .before .before .before .args .buf .now) (length (c .before .before .before .before .before .before .before .before .before .before .before .before .before .before .before .before .args .name .now)) (c .before .before .before .before .before .before .before .before .before .before .before .before .before .before .before .before .args .id) yes fine, told .0)
 
 after-requires : tie.Need-after-requires
 after-requires c κs =
     let yes : fits (lent (c .before .before .before .before .before .before .before .before .before .before .before .before .before .before .before .before .before .before .before .args .w) (c .before .before .before .before .before .before .before .before .before .before .before .before .before .before .before .before .before .before .before .args .counts .now) (c .before .before .before .before .before .before .before .before .before .before .before .before .before .before .before .before .before .before .before .args .buf .now)) ≡ true = sym (c .before .before .before .before .before .before .before .before .before .before .before .before .before .before .fits2 .ensures) ∙ not-false _ (c .before .before .before .before .before .before .before .before .before .before .before .before .before .if1 .left) in
-    let fine : tooLarge (c .before .before .before .before .before .before .before .before .before .before .before .before .before .before .before .before .before .before .before .args .w .capacity) (finishedSize (writerWith (c .before .before .before .before .before .before .before .before .before .before .before .before .before .before .before .before .before .before .before .args .w) (length (c .before .before .before .before .before .before .before .before .before .before .before .before .before .before .before .before .before .before .before .args .name .now)) (c .before .before .before .before .before .before .before .before .before .before .before .before .before .before .before .before .before .before .before .args .id))) ≡ false =
-    ap (λ (n : ℕ). tooLarge (c .before .before .before .before .before .before .before .before .before .before .before .before .before .before .before .before .before .before .before .args .w .capacity) n) (sym (c .before .before .before .before .before .before .before .before .size-with .ensures)) ∙ sym (c .before .before .before .before .before .before .before .too-large .ensures) ∙ c .before .before .before .before .before .before .if2 .left in
+    let fine : tooLarge (c .before .before .before .before .before .before .before .before .before .before .before .before .before .before .before .before .before .before .before .args .w .length) (finishedSize (writerWith (c .before .before .before .before .before .before .before .before .before .before .before .before .before .before .before .before .before .before .before .args .w) (length (c .before .before .before .before .before .before .before .before .before .before .before .before .before .before .before .before .before .before .before .args .name .now)) (c .before .before .before .before .before .before .before .before .before .before .before .before .before .before .before .before .before .before .before .args .id))) ≡ false =
+    ap (λ (n : ℕ). tooLarge (c .before .before .before .before .before .before .before .before .before .before .before .before .before .before .before .before .before .before .before .args .w .length) n) (sym (c .before .before .before .before .before .before .before .before .size-with .ensures)) ∙ sym (c .before .before .before .before .before .before .before .too-large .ensures) ∙ c .before .before .before .before .before .before .if2 .left in
     size-small (c .before .before .before .before .before .before .before .before .before .before .before .before .before .before .before .before .before .before .before .args .w) (c .before .before .before .before .before .before .before .before .before .before .before .before .before .before .before .before .before .before .before .args .counts .now) (c .before .before .before .before .before .before .before .before .before .before .before .before .before .before .before .before .before .before .before .args .buf .now) (length (c .before .before .before .before .before .before .before .before .before .before .before .before .before .before .before .before .before .before .before .args .name .now)) (c .before .before .before .before .before .before .before .before .before .before .before .before .before .before .before .before .before .before .before .args .id) yes fine
 
 same-length-4 : tie.Need-same-length-4
@@ -98,8 +98,8 @@ returns-4 : tie.Need-returns-4
 unfolding writerAfter
 returns-4 c =
     let yes : fits (lent (c .before .before .before .before .before .before .before .before .before .before .before .before .before .before .before .before .before .before .before .before .args .w) (c .before .before .before .before .before .before .before .before .before .before .before .before .before .before .before .before .before .before .before .before .args .counts .now) (c .before .before .before .before .before .before .before .before .before .before .before .before .before .before .before .before .before .before .before .before .args .buf .now)) ≡ true = sym (c .before .before .before .before .before .before .before .before .before .before .before .before .before .before .before .fits2 .ensures) ∙ not-false _ (c .before .before .before .before .before .before .before .before .before .before .before .before .before .before .if1 .left) in
-    let fine : tooLarge (c .before .before .before .before .before .before .before .before .before .before .before .before .before .before .before .before .before .before .before .before .args .w .capacity) (finishedSize (writerWith (c .before .before .before .before .before .before .before .before .before .before .before .before .before .before .before .before .before .before .before .before .args .w) (length (c .before .before .before .before .before .before .before .before .before .before .before .before .before .before .before .before .before .before .before .before .args .name .now)) (c .before .before .before .before .before .before .before .before .before .before .before .before .before .before .before .before .before .before .before .before .args .id))) ≡ false =
-    ap (λ (n : ℕ). tooLarge (c .before .before .before .before .before .before .before .before .before .before .before .before .before .before .before .before .before .before .before .before .args .w .capacity) n) (sym (c .before .before .before .before .before .before .before .before .before .size-with .ensures)) ∙ sym (c .before .before .before .before .before .before .before .before .too-large .ensures) ∙ c .before .before .before .before .before .before .before .if2 .left in
+    let fine : tooLarge (c .before .before .before .before .before .before .before .before .before .before .before .before .before .before .before .before .before .before .before .before .args .w .length) (finishedSize (writerWith (c .before .before .before .before .before .before .before .before .before .before .before .before .before .before .before .before .before .before .before .before .args .w) (length (c .before .before .before .before .before .before .before .before .before .before .before .before .before .before .before .before .before .before .before .before .args .name .now)) (c .before .before .before .before .before .before .before .before .before .before .before .before .before .before .before .before .before .before .before .before .args .id))) ≡ false =
+    ap (λ (n : ℕ). tooLarge (c .before .before .before .before .before .before .before .before .before .before .before .before .before .before .before .before .before .before .before .before .args .w .length) n) (sym (c .before .before .before .before .before .before .before .before .before .size-with .ensures)) ∙ sym (c .before .before .before .before .before .before .before .before .too-large .ensures) ∙ c .before .before .before .before .before .before .before .if2 .left in
     let told = told-image-hash (c .before .before .before .before .before .before .before .before .before .before .before .before .before .before .before .before .before .before .before .before .args .name .now) (c .before .before .before .before .before .before .before .before .before .before .before .before .before .name-hash .result) (c .before .before .before .before .before .before .before .before .before .before .before .h .given .0 .0) (c .before .before .before .before .before .before .before .before .before .before .before .before .before .name-hash .ensures) (c .before .before .before .before .before .before .before .before .before .before .before .h .given .1) in
     let a = c .before .before .before .before .before .before .before .before .before .before .before .before .before .before .before .before .before .before .before .before .args in
     let done = accepts (lent (c .before .before .before .before .before .before .before .before .before .before .before .before .before .before .before .before .before .before .before .before .args .w) (c .before .before .before .before .before .before .before .before .before .before .before .before .before .before .before .before .before .before .before .before .args .counts .now) (c .before .before .before .before .before .before .before .before .before .before .before .before .before .before .before .before .before .before .before .before .args .buf .now)) (entryOf (c .before .before .before .before .before .before .before .before .before .before .before .before .before .before .before .before .before .before .before .before .args .name .now) (c .before .before .before .before .before .before .before .before .before .before .before .before .before .before .before .before .before .before .before .before .args .id)) yes fine in (

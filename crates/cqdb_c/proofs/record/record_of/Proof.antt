@@ -13,7 +13,7 @@ returns : tie.Need-returns
 returns c =
     let w = c .before .args .w in
     ap {B = Record}
-    (λ (m : ℕ). record { mode = m; entries = w .entries; back = w .back; length = w .capacity; end = w .end })
+    (λ (m : ℕ). record { mode = m; entries = w .entries; back = w .back; length = w .length; end = w .end })
     (c .mode-of .ensures)
 
 pub record-of-spec : {M : Type 1} → statement M

@@ -1,20 +1,20 @@
 -- `cqdb_c::record::writer_of` meets its contract. Assumes nothing.
 use mathlib.Core.Path.{ap}
-use Rattle.image.specs.declared.Flag.{Flag}
+use Rattle.image.specs.declared.Mode.{Mode}
 use Rattle.writer.specs.declared.CQDBWriter.{CQDBWriter}
 use borrow.Author.Needs.{needs}
 use Rattle.cqdb_c.proofs.record.writer_of.Statement.{statement}
 use Rattle.cqdb_c.proofs.record.writer_of.Tie as tie
 
-flag-of-requires : tie.Need-flag-of-requires
-flag-of-requires c κs = search needs
+mode-of-requires : tie.Need-mode-of-requires
+mode-of-requires c κs = search needs
 
 returns : tie.Need-returns
 returns c =
     let r = c .before .args .r in
     ap {B = CQDBWriter}
-    (λ (f : Flag). record { flag = f; capacity = r .length; end = r .end; entries = r .entries; back = r .back })
-    (c .flag-of .ensures)
+    (λ (f : Mode). record { mode = f; length = r .length; end = r .end; entries = r .entries; back = r .back })
+    (c .mode-of .ensures)
 
 pub writer-of-spec : {M : Type 1} → statement M
-writer-of-spec = tie.close (tie.spec flag-of-requires returns)
+writer-of-spec = tie.close (tie.spec mode-of-requires returns)

@@ -23,8 +23,8 @@ returns c =
     let told = begin-unknown (a .mode) (length (a .buf .now)) (a .counts .now) (c .before .if1 .taken) in
     (c .not-begun .ensures ∙ told .0, told .1)
 
-flag-of-requires : tie.Need-flag-of-requires
-flag-of-requires c κs = search needs
+mode-of-requires : tie.Need-mode-of-requires
+mode-of-requires c κs = search needs
 
 begin-requires : tie.Need-begin-requires
 begin-requires c κs = search needs
@@ -44,17 +44,17 @@ not-begun-requires-2 c κs = search needs
 returns-2 : tie.Need-returns-2
 returns-2 c =
     let a = c .before .before .before .before .before .before .before .before .before .args in
-    let of-flag-of = c .before .before .before .before .before .before .flag-of in
+    let of-mode-of = c .before .before .before .before .before .before .mode-of in
     let of-begin = c .before .before .before .before .begin in
-    let told = begin-known (a .mode) (length (a .buf .now)) (a .counts .now) (of-begin .last .1 .0) (of-flag-of .result) (begunOf (of-begin .result)) (c .before .before .before .before .before .before .before .if1 .left) (of-flag-of .ensures) (of-begin .ensures .0) (of-begin .ensures .1) in
+    let told = begin-known (a .mode) (length (a .buf .now)) (a .counts .now) (of-begin .last .1 .0) (of-mode-of .result) (begunOf (of-begin .result)) (c .before .before .before .before .before .before .before .if1 .left) (of-mode-of .ensures) (of-begin .ensures .0) (of-begin .ensures .1) in
     (ap (λ (r : Record). fresh r) (c .record-of .ensures) ∙ ap (λ (b : Begun). begunAnswer (begunOf b)) (sym (c .before .before .begun .given .1)) ∙ told .0, told .1)
 
 returns-3 : tie.Need-returns-3
 returns-3 c =
     let a = c .before .before .before .before .before .before .before .before .args in
-    let of-flag-of = c .before .before .before .before .before .flag-of in
+    let of-mode-of = c .before .before .before .before .before .mode-of in
     let of-begin = c .before .before .before .begin in
-    let told = begin-known (a .mode) (length (a .buf .now)) (a .counts .now) (of-begin .last .1 .0) (of-flag-of .result) (begunOf (of-begin .result)) (c .before .before .before .before .before .before .if1 .left) (of-flag-of .ensures) (of-begin .ensures .0) (of-begin .ensures .1) in
+    let told = begin-known (a .mode) (length (a .buf .now)) (a .counts .now) (of-begin .last .1 .0) (of-mode-of .result) (begunOf (of-begin .result)) (c .before .before .before .before .before .before .if1 .left) (of-mode-of .ensures) (of-begin .ensures .0) (of-begin .ensures .1) in
     (c .not-begun2 .ensures ∙ ap (λ (b : Begun). begunAnswer (begunOf b)) (sym (c .before .enum-told .given .1)) ∙ told .0, told .1)
 
 pub cqdb-begin-parts-spec : {M : Type 1} → statement M
@@ -63,7 +63,7 @@ cqdb-begin-parts-spec =
     (tie.spec
     not-begun-requires
     returns
-    flag-of-requires
+    mode-of-requires
     begin-requires
     enum-known-begun
     record-of-requires

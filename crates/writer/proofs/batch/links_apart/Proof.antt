@@ -1,6 +1,6 @@
 -- `writer::batch::links_apart` meets its contract. Assumes nothing.
 use mathlib.Core.Path.{sym, ap}
-use Rattle.image.specs.declared.Flag.{Flag}
+use Rattle.image.specs.declared.Mode.{Mode}
 use Rattle.writer.specs.Working.{linksApart}
 use borrow.Author.Needs.{needs}
 use Rattle.writer.proofs.batch.links_apart.Statement.{statement}
@@ -15,7 +15,7 @@ enum-told-2 : tie.Need-enum-told-2
 enum-told-2 c = search needs
 
 returns : tie.Need-returns
-returns c = ap (λ (f : Flag). linksApart f (c .before .before .args .links) (c .before .before .args .end)) (sym (c .enum-told .given .1))
+returns c = ap (λ (f : Mode). linksApart f (c .before .before .args .links) (c .before .before .args .end)) (sym (c .enum-told .given .1))
 
 returns-2 : tie.Need-returns-2
 returns-2 c = search needs

@@ -19,11 +19,11 @@ use Rattle.writer.proofs.batch.take_planned.Reads as take-planned-reads
 use Rattle.writer.proofs.fill.take_singly.Reads as take-singly-reads
 
 abbrev Inv-loop : tie.InvT-loop
-Inv-loop flag links buf₀ end entries hashes₀ places₀ at₀ left₀ most₀ buf hashes places at left most =
-    (at ≤ end) × (length buf ≡ length buf₀) × (length hashes ≡ 16) × (most ≤ 16) × (takenFrom flag links end left at buf ≡ takenFrom flag links end entries 2072 buf₀)
+Inv-loop mode links buf₀ end entries hashes₀ places₀ at₀ left₀ most₀ buf hashes places at left most =
+    (at ≤ end) × (length buf ≡ length buf₀) × (length hashes ≡ 16) × (most ≤ 16) × (takenFrom mode links end left at buf ≡ takenFrom mode links end entries 2072 buf₀)
 
 abbrev μ-loop : tie.MeasureT-loop
-μ-loop flag links buf₀ end entries hashes₀ places₀ at₀ left₀ most₀ buf hashes places at left most = left
+μ-loop mode links buf₀ end entries hashes₀ places₀ at₀ left₀ most₀ buf hashes places at left most = left
 
 pos-of : (n : ℕ) → (n ≡ 0 → ⊥) → 0 < n
 pos-of n h = omega arith
@@ -92,7 +92,7 @@ loop-again c =
       c .before .before .take-planned .kept .1 .1 .0 ∙ i .inv .1,
       c .before .before .before .before .before .before .before .before .before .plan .ensures .1,
       c .before .before .before .before .before .look .ensures,
-      c .before .before .take-planned .ensures .1 (i .left - m) ∙ ap (λ (k : ℕ). takenFrom (a .flag) (a .links) (a .end) k (i .at) (i .buf)) e ∙ i .inv .4,
+      c .before .before .take-planned .ensures .1 (i .left - m) ∙ ap (λ (k : ℕ). takenFrom (a .mode) (a .links) (a .end) k (i .at) (i .buf)) e ∙ i .inv .4,
     )
 
 same-length-3 : tie.Need-same-length-3 Inv-loop μ-loop
@@ -101,7 +101,7 @@ same-length-3 c = search needs
 returns-3 : tie.Need-returns-3 Inv-loop μ-loop
 returns-3 c =
     let z : c .before .loop .left ≡ 0 = omega arith in
-    from-none (c .before .before .before .before .before .args .flag) (c .before .before .before .before .before .args .links) (c .before .before .before .before .before .args .end) (c .before .loop .at) (c .before .loop .buf) _ (rw z at (c .before .loop .inv .4))
+    from-none (c .before .before .before .before .before .args .mode) (c .before .before .before .before .before .args .links) (c .before .before .before .before .before .args .end) (c .before .loop .at) (c .before .loop .buf) _ (rw z at (c .before .loop .inv .4))
 
 pub take-entries-spec : {M : Type 1} → statement M
 take-entries-spec =

@@ -43,7 +43,7 @@ same-length c = search needs
 returns : tie.Need-returns
 returns c =
     let a = c .before .before .before .before .before .before .before .before .before .before .before .before .before .args in (
-      c .before .before .store-link .ensures ∙ ap₂ (λ (l : List ℕ) (i : ℕ). withLink (a .flag) l (a .links) i (a .at)) (c .before .before .before .before .before .before .store-bucket .ensures) (c .before .before .before .before .before .before .before .before .before .before .get-u32 .ensures),
+      c .before .before .store-link .ensures ∙ ap₂ (λ (l : List ℕ) (i : ℕ). withLink (a .mode) l (a .links) i (a .at)) (c .before .before .before .before .before .before .store-bucket .ensures) (c .before .before .before .before .before .before .before .before .before .before .get-u32 .ensures),
       c .before .before .before .before .before .before .before .before .get-u322 .ensures,
       omega (arith, c .before .before .before .before .before .before .before .before .get-u322 .ok),
     )

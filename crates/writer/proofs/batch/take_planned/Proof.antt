@@ -12,13 +12,13 @@ use Rattle.writer.proofs.batch.take_planned.Lts as lts
 use Rattle.writer.proofs.batch.take_noted.Reads as take-noted-reads
 
 abbrev Inv-loop : tie.InvT-loop
-Inv-loop flag links buf₀ from end m hashes at₀ i₀ buf at i = Rest flag links end from m buf₀ i at buf
+Inv-loop mode links buf₀ from end m hashes at₀ i₀ buf at i = Rest mode links end from m buf₀ i at buf
 
 abbrev μ-loop : tie.MeasureT-loop
-μ-loop flag links buf₀ from end m hashes at₀ i₀ buf at i = m - i
+μ-loop mode links buf₀ from end m hashes at₀ i₀ buf at i = m - i
 
 loop-holds : tie.Need-loop-holds Inv-loop μ-loop
-loop-holds c = rest-start (c .before .args .flag) (c .before .args .links) (c .before .args .end) (c .before .args .from) (c .before .args .m) (c .before .args .buf .now) (c .before .pre .0)
+loop-holds c = rest-start (c .before .args .mode) (c .before .args .links) (c .before .args .end) (c .before .args .from) (c .before .args .m) (c .before .args .buf .now) (c .before .pre .0)
 
 mul-take-noted : tie.Need-mul-take-noted Inv-loop μ-loop
 mul-take-noted c = omega (arith, c .before .loop-test .taken, c .before .before .before .before .pre .5)
@@ -45,7 +45,7 @@ loop-again : tie.Need-loop-again Inv-loop μ-loop
 loop-again c =
     let a = c .before .before .before .before .before .before .before .before .args in
     let i = c .before .before .before .before .before .before .loop in
-    rest-turn (a .flag) (a .links) (a .end) (a .from) (a .m) (a .buf .now) (i .i) (i .at) (i .buf) (i .inv) (c .before .before .before .before .before .before .before .before .pre .2) (c .before .before .before .before .before .before .before .before .pre .1) (c .before .before .before .before .before .before .before .before .pre .6) (c .before .before .before .before .before .loop-test .taken) (a .hashes .now) (c .before .before .before .before .before .before .before .before .pre .7 (i .i) (c .before .before .before .before .before .loop-test .taken)) (getD (a .hashes .now) (i .i) 0) refl (c .before .before .take-noted .result) (c .before .before .take-noted .ensures .1) (c .before .before .take-noted .last .1 .1 .0) (c .before .before .take-noted .kept .1 .1 .0) (c .before .before .take-noted .ensures .0)
+    rest-turn (a .mode) (a .links) (a .end) (a .from) (a .m) (a .buf .now) (i .i) (i .at) (i .buf) (i .inv) (c .before .before .before .before .before .before .before .before .pre .2) (c .before .before .before .before .before .before .before .before .pre .1) (c .before .before .before .before .before .before .before .before .pre .6) (c .before .before .before .before .before .loop-test .taken) (a .hashes .now) (c .before .before .before .before .before .before .before .before .pre .7 (i .i) (c .before .before .before .before .before .loop-test .taken)) (getD (a .hashes .now) (i .i) 0) refl (c .before .before .take-noted .result) (c .before .before .take-noted .ensures .1) (c .before .before .take-noted .last .1 .1 .0) (c .before .before .take-noted .kept .1 .1 .0) (c .before .before .take-noted .ensures .0)
 
 same-length : tie.Need-same-length Inv-loop μ-loop
 same-length c = search needs
@@ -55,7 +55,7 @@ returns c =
     let a = c .before .before .before .args in
     let i = c .before .loop in
     let q : a .m ≤ i .i = omega (arith, c .loop-test .left) in
-    (i .inv .inside, rest-end (a .flag) (a .links) (a .end) (a .from) (a .m) (a .buf .now) (i .i) (i .at) (i .buf) (i .inv) q)
+    (i .inv .inside, rest-end (a .mode) (a .links) (a .end) (a .from) (a .m) (a .buf .now) (i .i) (i .at) (i .buf) (i .inv) q)
 
 pub take-planned-spec : {M : Type 1} → statement M
 take-planned-spec =

@@ -22,7 +22,7 @@ walk-requires : tie.Need-walk-requires
 walk-requires c κs = (c .before .before .pre .0, c .before .before .pre .1, zeros 256)
 
 returns : tie.Need-returns
-returns c = first-fails (whole (c .before .before .before .before .before .args .w .entries) (entryArea (lent (c .before .before .before .before .before .args .w) (c .before .before .before .before .before .args .counts .now) (c .before .before .before .before .before .args .buf .now)))) (countsAgree (c .before .before .before .before .before .args .counts .now) (recorded (lent (c .before .before .before .before .before .args .w) (c .before .before .before .before .before .args .counts .now) (c .before .before .before .before .before .args .buf .now)))) (eqb (c .before .before .before .before .before .args .w .back) (backIn (c .before .before .before .before .before .args .w .flag) (backSize (recorded (lent (c .before .before .before .before .before .args .w) (c .before .before .before .before .before .args .counts .now) (c .before .before .before .before .before .args .buf .now)))))) (sym (c .before .before .walk .ensures .0) ∙ not-true _ (c .if1 .taken))
+returns c = first-fails (whole (c .before .before .before .before .before .args .w .entries) (entryArea (lent (c .before .before .before .before .before .args .w) (c .before .before .before .before .before .args .counts .now) (c .before .before .before .before .before .args .buf .now)))) (countsAgree (c .before .before .before .before .before .args .counts .now) (recorded (lent (c .before .before .before .before .before .args .w) (c .before .before .before .before .before .args .counts .now) (c .before .before .before .before .before .args .buf .now)))) (eqb (c .before .before .before .before .before .args .w .back) (backIn (c .before .before .before .before .before .args .w .mode) (backSize (recorded (lent (c .before .before .before .before .before .args .w) (c .before .before .before .before .before .args .counts .now) (c .before .before .before .before .before .args .buf .now)))))) (sym (c .before .before .walk .ensures .0) ∙ not-true _ (c .if1 .taken))
 
 same-counts-requires : tie.Need-same-counts-requires
 same-counts-requires c κs = search needs
@@ -31,7 +31,7 @@ returns-2 : tie.Need-returns-2
 returns-2 c =
     let w = sym (c .before .before .before .before .before .walk .ensures .0) ∙ not-false _ (c .before .before .before .if1 .left) in
     let t = c .before .before .before .before .before .walk .ensures .1 .1 (not-false _ (c .before .before .before .if1 .left)) in
-    second-fails (whole (c .before .before .before .before .before .before .before .before .args .w .entries) (entryArea (lent (c .before .before .before .before .before .before .before .before .args .w) (c .before .before .before .before .before .before .before .before .args .counts .now) (c .before .before .before .before .before .before .before .before .args .buf .now)))) (countsAgree (c .before .before .before .before .before .before .before .before .args .counts .now) (recorded (lent (c .before .before .before .before .before .before .before .before .args .w) (c .before .before .before .before .before .before .before .before .args .counts .now) (c .before .before .before .before .before .before .before .before .args .buf .now)))) (eqb (c .before .before .before .before .before .before .before .before .args .w .back) (backIn (c .before .before .before .before .before .before .before .before .args .w .flag) (backSize (recorded (lent (c .before .before .before .before .before .before .before .before .args .w) (c .before .before .before .before .before .before .before .before .args .counts .now) (c .before .before .before .before .before .before .before .before .args .buf .now)))))) w
+    second-fails (whole (c .before .before .before .before .before .before .before .before .args .w .entries) (entryArea (lent (c .before .before .before .before .before .before .before .before .args .w) (c .before .before .before .before .before .before .before .before .args .counts .now) (c .before .before .before .before .before .before .before .before .args .buf .now)))) (countsAgree (c .before .before .before .before .before .before .before .before .args .counts .now) (recorded (lent (c .before .before .before .before .before .before .before .before .args .w) (c .before .before .before .before .before .before .before .before .args .counts .now) (c .before .before .before .before .before .before .before .before .args .buf .now)))) (eqb (c .before .before .before .before .before .before .before .before .args .w .back) (backIn (c .before .before .before .before .before .before .before .before .args .w .mode) (backSize (recorded (lent (c .before .before .before .before .before .before .before .before .args .w) (c .before .before .before .before .before .before .before .before .args .counts .now) (c .before .before .before .before .before .before .before .before .args .buf .now)))))) w
     (sym (same-agree (c .before .before .before .before .before .before .before .before .args .counts .now) (recorded (lent (c .before .before .before .before .before .before .before .before .args .w) (c .before .before .before .before .before .before .before .before .args .counts .now) (c .before .before .before .before .before .before .before .before .args .buf .now))) _ t) ∙ sym (c .before .same-counts .ensures) ∙ not-true _ (c .if2 .taken))
 
 cast-result : tie.Need-cast-result
@@ -46,9 +46,9 @@ returns-3 c =
     let w = sym (c .before .before .before .before .before .before .before .walk .ensures .0) ∙ y in
     let t = c .before .before .before .before .before .before .before .walk .ensures .1 .1 y in
     let k = c .before .before .before .before .before .before .before .walk .ensures .1 .0 y in
-    third-decides (whole (c .before .before .before .before .before .before .before .before .before .before .args .w .entries) (entryArea (lent (c .before .before .before .before .before .before .before .before .before .before .args .w) (c .before .before .before .before .before .before .before .before .before .before .args .counts .now) (c .before .before .before .before .before .before .before .before .before .before .args .buf .now)))) (countsAgree (c .before .before .before .before .before .before .before .before .before .before .args .counts .now) (recorded (lent (c .before .before .before .before .before .before .before .before .before .before .args .w) (c .before .before .before .before .before .before .before .before .before .before .args .counts .now) (c .before .before .before .before .before .before .before .before .before .before .args .buf .now)))) (eqb (c .before .before .before .before .before .before .before .before .before .before .args .w .back) (backIn (c .before .before .before .before .before .before .before .before .before .before .args .w .flag) (backSize (recorded (lent (c .before .before .before .before .before .before .before .before .before .before .args .w) (c .before .before .before .before .before .before .before .before .before .before .args .counts .now) (c .before .before .before .before .before .before .before .before .before .before .args .buf .now)))))) _ w
+    third-decides (whole (c .before .before .before .before .before .before .before .before .before .before .args .w .entries) (entryArea (lent (c .before .before .before .before .before .before .before .before .before .before .args .w) (c .before .before .before .before .before .before .before .before .before .before .args .counts .now) (c .before .before .before .before .before .before .before .before .before .before .args .buf .now)))) (countsAgree (c .before .before .before .before .before .before .before .before .before .before .args .counts .now) (recorded (lent (c .before .before .before .before .before .before .before .before .before .before .args .w) (c .before .before .before .before .before .before .before .before .before .before .args .counts .now) (c .before .before .before .before .before .before .before .before .before .before .args .buf .now)))) (eqb (c .before .before .before .before .before .before .before .before .before .before .args .w .back) (backIn (c .before .before .before .before .before .before .before .before .before .before .args .w .mode) (backSize (recorded (lent (c .before .before .before .before .before .before .before .before .before .before .args .w) (c .before .before .before .before .before .before .before .before .before .before .args .counts .now) (c .before .before .before .before .before .before .before .before .before .before .args .buf .now)))))) _ w
     (sym (same-agree (c .before .before .before .before .before .before .before .before .before .before .args .counts .now) (recorded (lent (c .before .before .before .before .before .before .before .before .before .before .args .w) (c .before .before .before .before .before .before .before .before .before .before .args .counts .now) (c .before .before .before .before .before .before .before .before .before .before .args .buf .now))) _ t) ∙ sym (c .before .before .before .same-counts .ensures) ∙ not-false _ (c .before .before .if2 .left))
-    (ap (λ (n : ℕ). eqb (c .before .before .before .before .before .before .before .before .before .before .args .w .back) n) (c .back-in .ensures ∙ ap (λ (n : ℕ). backIn (c .before .before .before .before .before .before .before .before .before .before .args .w .flag) n) k))
+    (ap (λ (n : ℕ). eqb (c .before .before .before .before .before .before .before .before .before .before .args .w .back) n) (c .back-in .ensures ∙ ap (λ (n : ℕ). backIn (c .before .before .before .before .before .before .before .before .before .before .args .w .mode) n) k))
 
 pub agrees-spec : {M : Type 1} → statement M
 agrees-spec =

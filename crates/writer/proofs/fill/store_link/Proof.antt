@@ -1,6 +1,6 @@
 -- `writer::fill::store_link` meets its contract. Assumes nothing.
 use mathlib.Core.Path.{sym, ap, _∙_}
-use Rattle.image.specs.declared.Flag.{Flag}
+use Rattle.image.specs.declared.Mode.{Mode}
 use Rattle.writer.specs.Working.{withLink}
 use borrow.Author.Needs.{needs}
 use Rattle.writer.proofs.fill.store_link.Statement.{statement}
@@ -30,7 +30,7 @@ same-length c = search needs
 returns : tie.Need-returns
 returns c =
     let a = c .before .before .before .before .before .before .before .args in
-    c .before .before .put-u32 .ensures ∙ ap (λ (f : Flag). withLink f (a .buf .now) (a .links) (a .id) (a .at)) (sym (c .before .before .before .before .enum-told .given .1))
+    c .before .before .put-u32 .ensures ∙ ap (λ (f : Mode). withLink f (a .buf .now) (a .links) (a .id) (a .at)) (sym (c .before .before .before .before .enum-told .given .1))
 
 returns-2 : tie.Need-returns-2
 returns-2 c = search needs

@@ -74,7 +74,7 @@ returns-2 : tie.Need-returns-2
 returns-2 c =
     let a = c .before .before .before .before .before .before .before .before .before .before .before .before .before .before .before .before .before .args in
     let told = told-image-hash (take (c .before .before .before .before .before .before .before .before .before .before .before .before .before .before .before .before .before .args .at + 7 + c .before .before .before .before .before .before .before .before .before .before .before .before .before .before .before .before .before .args .n - (c .before .before .before .before .before .before .before .before .before .before .before .before .before .before .before .before .before .args .at + 8)) (drop (c .before .before .before .before .before .before .before .before .before .before .before .before .before .before .before .before .before .args .at + 8) (c .before .before .before .before .before .before .before .before .before .before .before .before .before .before .before .before .before .args .buf .now))) (c .before .before .before .before .before .before .before .before .before .before .before .name-hash .result) (c .before .before .before .before .before .before .before .before .before .hashed .given .0 .0) (c .before .before .before .before .before .before .before .before .before .before .before .name-hash .ensures) (c .before .before .before .before .before .before .before .before .before .hashed .given .1) in
-    taken-parts (a .flag) (a .links) (a .buf .now) (a .at) (a .n) (c .before .before .before .before .before .before .before .before .before .before .before .before .before .before .get-u32 .result) (c .before .before .before .before .before .before .before .before .before .hashed .given .0 .0) (take (c .before .before .before .before .before .before .before .before .before .before .before .before .before .before .before .before .before .args .at + 7 + c .before .before .before .before .before .before .before .before .before .before .before .before .before .before .before .before .before .args .n - (c .before .before .before .before .before .before .before .before .before .before .before .before .before .before .before .before .before .args .at + 8)) (drop (c .before .before .before .before .before .before .before .before .before .before .before .before .before .before .before .before .before .args .at + 8) (c .before .before .before .before .before .before .before .before .before .before .before .before .before .before .before .before .before .args .buf .now))) (c .before .before .before .before .before .before .store-bucket .last .0) (c .before .before .store-link .last .1 .0)
+    taken-parts (a .mode) (a .links) (a .buf .now) (a .at) (a .n) (c .before .before .before .before .before .before .before .before .before .before .before .before .before .before .get-u32 .result) (c .before .before .before .before .before .before .before .before .before .hashed .given .0 .0) (take (c .before .before .before .before .before .before .before .before .before .before .before .before .before .before .before .before .before .args .at + 7 + c .before .before .before .before .before .before .before .before .before .before .before .before .before .before .before .before .before .args .n - (c .before .before .before .before .before .before .before .before .before .before .before .before .before .before .before .before .before .args .at + 8)) (drop (c .before .before .before .before .before .before .before .before .before .before .before .before .before .before .before .before .before .args .at + 8) (c .before .before .before .before .before .before .before .before .before .before .before .before .before .before .before .before .before .args .buf .now))) (c .before .before .before .before .before .before .store-bucket .last .0) (c .before .before .store-link .last .1 .0)
     (c .before .before .before .before .before .before .before .before .before .before .before .before .before .before .before .before .before .pre .1) refl (told .1) (c .before .before .before .before .before .before .before .before .before .before .before .before .before .before .get-u32 .ensures) (c .before .before .before .before .before .before .store-bucket .ensures) (c .before .before .store-link .ensures)
 
 pub take-entry-spec : {M : Type 1} → statement M

@@ -15,10 +15,10 @@ use Rattle.writer.proofs.check.whole_length.Reads as whole-length-reads
 use Rattle.writer.proofs.fill.take_entry.Reads as take-entry-reads
 
 abbrev Inv-loop : tie.InvT-loop
-Inv-loop flag links buf₀ from end entries at₀ left₀ buf at left = (at ≤ end) × (length buf ≡ length buf₀) × (takenFrom flag links end left at buf ≡ takenFrom flag links end entries from buf₀)
+Inv-loop mode links buf₀ from end entries at₀ left₀ buf at left = (at ≤ end) × (length buf ≡ length buf₀) × (takenFrom mode links end left at buf ≡ takenFrom mode links end entries from buf₀)
 
 abbrev μ-loop : tie.MeasureT-loop
-μ-loop flag links buf₀ from end entries at₀ left₀ buf at left = left
+μ-loop mode links buf₀ from end entries at₀ left₀ buf at left = left
 
 -- a whole entry lies before the end
 room : (c : tie.Else1 Inv-loop μ-loop) → (c .before .before .before .before .loop .at + (8 + c .before .whole-length .result) ≤ c .before .before .before .before .before .before .args .end) × (1 ≤ c .before .whole-length .result)
@@ -40,7 +40,7 @@ same-length : tie.Need-same-length Inv-loop μ-loop
 same-length c = search needs
 
 returns : tie.Need-returns Inv-loop μ-loop
-returns c = from-broken (c .before .before .before .before .before .before .args .flag) (c .before .before .before .before .before .before .args .links) (c .before .before .before .before .before .before .args .end) (c .before .before .before .before .loop .left) (c .before .before .before .before .loop .at) (c .before .whole-length .result) (c .before .before .before .before .loop .buf) _ (c .before .before .before .loop-test .taken) (c .before .whole-length .ensures .0) (c .if1 .taken) (c .before .before .before .before .loop .inv .2)
+returns c = from-broken (c .before .before .before .before .before .before .args .mode) (c .before .before .before .before .before .before .args .links) (c .before .before .before .before .before .before .args .end) (c .before .before .before .before .loop .left) (c .before .before .before .before .loop .at) (c .before .whole-length .result) (c .before .before .before .before .loop .buf) _ (c .before .before .before .loop-test .taken) (c .before .whole-length .ensures .0) (c .if1 .taken) (c .before .before .before .before .loop .inv .2)
 
 take-entry-requires : tie.Need-take-entry-requires Inv-loop μ-loop
 take-entry-requires c κs =
@@ -70,7 +70,7 @@ loop-again c =
     let i = c .before .before .before .before .before .before .before .before .loop in (
       r .0,
       c .before .before .take-entry .kept .1 .1 .0 ∙ i .inv .1,
-      from-turn (a .flag) (a .links) (a .end) (i .left) (i .at) (c .before .before .before .before .before .whole-length .result) (i .buf) (c .before .before .take-entry .last .1 .1 .0) _ (c .before .before .before .before .before .before .before .loop-test .taken) (c .before .before .before .before .before .whole-length .ensures .0) (c .before .before .before .before .if1 .left) (c .before .before .take-entry .ensures) (i .inv .2),
+      from-turn (a .mode) (a .links) (a .end) (i .left) (i .at) (c .before .before .before .before .before .whole-length .result) (i .buf) (c .before .before .take-entry .last .1 .1 .0) _ (c .before .before .before .before .before .before .before .loop-test .taken) (c .before .before .before .before .before .whole-length .ensures .0) (c .before .before .before .before .if1 .left) (c .before .before .take-entry .ensures) (i .inv .2),
     )
 
 same-length-2 : tie.Need-same-length-2 Inv-loop μ-loop
@@ -79,7 +79,7 @@ same-length-2 c = search needs
 returns-2 : tie.Need-returns-2 Inv-loop μ-loop
 returns-2 c =
     let z : c .before .loop .left ≡ 0 = omega arith in
-    from-none (c .before .before .before .args .flag) (c .before .before .before .args .links) (c .before .before .before .args .end) (c .before .loop .at) (c .before .loop .buf) _ (rw z at (c .before .loop .inv .2))
+    from-none (c .before .before .before .args .mode) (c .before .before .before .args .links) (c .before .before .before .args .end) (c .before .loop .at) (c .before .loop .buf) _ (rw z at (c .before .loop .inv .2))
 
 pub take-singly-spec : {M : Type 1} → statement M
 take-singly-spec =

@@ -29,8 +29,8 @@ cast-t10 : tie.Need-cast-t10
 unfolding writerWith
 cast-t10 c =
     let a = c .before .before .before .args in
-    let k : 4 * backIn (a .w .flag) (raised (a .w .flag) (a .w .back) (a .id)) ≤ 4294967295 = omega arith in
-    let f = raised-fits (a .w .flag) (a .w .back) (a .id) (omega arith) k in
+    let k : 4 * backIn (a .w .mode) (raised (a .w .mode) (a .w .back) (a .id)) ≤ 4294967295 = omega arith in
+    let f = raised-fits (a .w .mode) (a .w .back) (a .id) (omega arith) k in
     omega (arith, c .raised .ensures)
 
 returns : tie.Need-returns
@@ -39,8 +39,8 @@ returns c =
     let w = c .before .before .before .args .w in
     let n = c .before .before .before .args .n in
     λ i. record {
-      flag = w .flag;
-      capacity = w .capacity;
+      mode = w .mode;
+      length = w .length;
       end = w .end + (n + 9);
       entries = w .entries + 1;
       back = c .raised .ensures i;

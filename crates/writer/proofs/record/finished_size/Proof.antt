@@ -21,10 +21,10 @@ back-in-requires : tie.Need-back-in-requires
 back-in-requires c κs = search needs
 
 mul-result-2 : tie.Need-mul-result-2
-mul-result-2 c = omega (arith, c .back-in .ensures, backIn-le (c .before .before .before .before .args .w .flag) (c .before .before .before .before .args .w .back))
+mul-result-2 c = omega (arith, c .back-in .ensures, backIn-le (c .before .before .before .before .args .w .mode) (c .before .before .before .before .args .w .back))
 
 add-result-2 : tie.Need-add-result-2
-add-result-2 c = omega (arith, c .back-in .ensures, backIn-le (c .before .before .before .before .args .w .flag) (c .before .before .before .before .args .w .back))
+add-result-2 c = omega (arith, c .back-in .ensures, backIn-le (c .before .before .before .before .args .w .mode) (c .before .before .before .before .args .w .back))
 
 returns : tie.Need-returns
 returns c = search needs

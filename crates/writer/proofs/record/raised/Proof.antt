@@ -1,6 +1,6 @@
 -- `writer::record::raised` meets its contract. Assumes nothing.
 use mathlib.Core.Path.{sym, ap, _∙_}
-use Rattle.image.specs.declared.Flag.{Flag}
+use Rattle.image.specs.declared.Mode.{Mode}
 use Rattle.writer.specs.Put.{raised}
 use borrow.Author.Needs.{needs}
 use Rattle.writer.proofs.record.raised.Statement.{statement}
@@ -21,7 +21,7 @@ enum-told-2 c = search needs
 returns : tie.Need-returns
 returns c =
     let a = c .before .before .before .args in
-    c .larger .ensures ∙ ap (λ (f : Flag). raised f (a .back) (a .id)) (sym (c .before .enum-told .given .1))
+    c .larger .ensures ∙ ap (λ (f : Mode). raised f (a .back) (a .id)) (sym (c .before .enum-told .given .1))
 
 returns-2 : tie.Need-returns-2
 returns-2 c = search needs

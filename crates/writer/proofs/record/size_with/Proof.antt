@@ -36,19 +36,19 @@ add-result-4 c = search needs
 mul-result-2 : tie.Need-mul-result-2
 mul-result-2 c =
     let a = c .before .before .before .before .args in
-    omega (arith, c .before .before .back-in .ensures, backIn-le (a .w .flag) (c .before .before .before .raised .result), c .before .before .before .raised .ensures, raised-le (a .w .flag) (a .w .back) (a .id))
+    omega (arith, c .before .before .back-in .ensures, backIn-le (a .w .mode) (c .before .before .before .raised .result), c .before .before .before .raised .ensures, raised-le (a .w .mode) (a .w .back) (a .id))
 
 add-result-5 : tie.Need-add-result-5
 add-result-5 c =
     let a = c .before .before .before .before .args in
-    omega (arith, c .before .before .back-in .ensures, backIn-le (a .w .flag) (c .before .before .before .raised .result), c .before .before .before .raised .ensures, raised-le (a .w .flag) (a .w .back) (a .id))
+    omega (arith, c .before .before .back-in .ensures, backIn-le (a .w .mode) (c .before .before .before .raised .result), c .before .before .before .raised .ensures, raised-le (a .w .mode) (a .w .back) (a .id))
 
 returns : tie.Need-returns
 unfolding writerWith
 returns c =
     let a = c .before .before .before .before .args in
-    let e : c .before .before .back-in .result ≡ backIn (a .w .flag) (raised (a .w .flag) (a .w .back) (a .id)) =
-    c .before .before .back-in .ensures ∙ ap (λ (k : ℕ). backIn (a .w .flag) k) (c .before .before .before .raised .ensures) in
+    let e : c .before .before .back-in .result ≡ backIn (a .w .mode) (raised (a .w .mode) (a .w .back) (a .id)) =
+    c .before .before .back-in .ensures ∙ ap (λ (k : ℕ). backIn (a .w .mode) k) (c .before .before .before .raised .ensures) in
     ap (λ (k : ℕ). a .w .end + (a .n + 9) + 16 * (a .w .entries + 1) + 4 * k) e
 
 pub size-with-spec : {M : Type 1} → statement M
