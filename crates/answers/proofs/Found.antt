@@ -11,25 +11,25 @@ use borrow.Author.Tests.{eq-eqb, ne-eqb, lt-leb, le-leb, eqb-true, eqb-false}
 use lib.Dec.{eqb, ltb, lit<}
 use lib.ListN.{length, getD, length-map}
 use Rattle.jhash.specs.NameHash.{hashOf}
-use Rattle.jhash.proofs.Answers.{hashOf-below}
+use Rattle.jhash.proofs.Outcomes.{hashOf-below}
 use Rattle.image.specs.Bytes.{le32, same}
 use Rattle.image.specs.Tables.{Bucket, empty, tableOf, start, order, filled}
-use Rattle.image.specs.Record.{Entry, Placed, headSize, ofTable, inTable, count, bucketOf, bucketBytes, table, entriesBefore, tableOffset, backSize, entriesEnd, imageSize, image}
+use Rattle.image.specs.Image.{Entry, Placed, headSize, ofTable, inTable, count, bucketOf, bucketBytes, table, entriesBefore, tableOffset, backSize, entriesEnd, imageSize, image}
 use Rattle.image.specs.declared.Mode.{Mode}
 use Rattle.image.proofs.Sizes.{length-image}
 use Rattle.reader.specs.Lookup.{nothing, Seen, pass, hit, seeEntry, see, probe, searchTable, lookupHash, lookup}
 use Rattle.answers.specs.Answer.{ofName, firstId, tablePuts}
-use Rattle.layout.proofs.Every.{All, all-map, all-both, all-keep, all-image, map-alike}
-use Rattle.layout.proofs.Buckets.{filled-all}
+use Rattle.image.proofs.Every.{All, all-map, all-both, all-keep, all-image, map-alike}
+use Rattle.image.proofs.Buckets.{filled-all}
 use Rattle.answers.proofs.Scan.{Taken}
 use Rattle.answers.proofs.Order.{probe-alike}
 use Rattle.answers.proofs.Filling.{firstHit}
 use Rattle.answers.proofs.Searched.{look, Searched, searched-same, searched}
-use Rattle.layout.proofs.At.{at-left, at-word, at-second}
-use Rattle.layout.proofs.Parts.{placedIn, most, tableAt-image, bucketNumber-image, bucket-at}
+use Rattle.image.proofs.At.{at-left, at-word, at-second}
+use Rattle.image.proofs.Parts.{placedIn, most, tableAt-image, bucketNumber-image, bucket-at}
 use Rattle.answers.proofs.Opened.{long-enough, table-inside}
-use Rattle.layout.proofs.Entries.{Stands, entry-fits, all-stand, all-placed, ids-below}
-use Rattle.answers.proofs.Entries.{seen-entry}
+use Rattle.image.proofs.EntryAt.{Stands, entry-fits, all-stand, all-placed, ids-below}
+use Rattle.answers.proofs.EntrySeen.{seen-entry}
 use Rattle.answers.proofs.Names.{same-true, verdict, first-of-name, none-of-name, names-short, count-puts}
 
 -- an answer of nothing without a read, where nothing is to be found

@@ -6,13 +6,14 @@ use mathlib.Core.Logic.{_↔_}
 use Prim.Native.Nat.{ℕ, _+_, _^_, _≤_}
 use native.Mathlib.Omega.{arith}
 use lib.ListN.{length}
-use Rattle.image.specs.Record.{Entry, backSize, imageSize, image}
+use Rattle.jhash.specs.Outcome.{value}
+use Rattle.image.specs.Image.{Entry, backSize, imageSize, image}
 use Rattle.image.specs.declared.Mode.{Mode}
 use Rattle.image.specs.declared.Mode.the-variants.{Twoway}
-use Rattle.reader.specs.Open.{num, opening}
+use Rattle.reader.specs.Open.{opening}
 use Rattle.reader.specs.Lookup.{found, nothing, lookup}
 use Rattle.answers.specs.Answer.{foundId, nameGiven, ofName, ofId, tablePuts, firstId, lastName}
-use Rattle.reader.specs.Answers.{reads}
+use Rattle.reader.specs.Cases.{reads}
 use Rattle.answers.proofs.Opened.{opening-image}
 use Rattle.answers.proofs.Found.{lookup-long, lookup-searched}
 use Rattle.answers.proofs.Named.{naming-image}
@@ -37,7 +38,7 @@ last-none (e ∷ f ∷ es) = (
 
 module _ (mode : Mode) (es : List Entry) (fits : imageSize mode es ≤ 4294967295) where
   -- it is opened, and num is the number of entries
-  pub image-opens : opening (image mode es) ≡ num (length es)
+  pub image-opens : opening (image mode es) ≡ value (length es)
   image-opens = opening-image mode es fits
 
   -- every id is a word where the back size, the largest id plus 1, is at most 2 ^ 32

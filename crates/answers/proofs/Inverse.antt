@@ -10,7 +10,7 @@ use native.Mathlib.Omega.{arith}
 use borrow.Author.Tests.{eq-eqb, eqb-true}
 use lib.ListN.{length}
 use Rattle.image.specs.Bytes.{keep, same}
-use Rattle.image.specs.Record.{Entry, imageSize, image}
+use Rattle.image.specs.Image.{Entry, imageSize, image}
 use Rattle.image.specs.declared.Mode.the-variants.{Twoway}
 use Rattle.image.proofs.Lists.{keep-nil, keep-yes, keep-no}
 use Rattle.reader.specs.Lookup.{lookup}

@@ -5,10 +5,10 @@ pub mod Filling
 pub mod Table
 pub mod Searched
 pub mod Opened
-pub mod Entries
+pub mod EntrySeen
 pub mod Names
 pub mod Found
 pub mod Named
 pub mod Images
 pub mod Inverse
-pub mod Rows
+pub mod Small

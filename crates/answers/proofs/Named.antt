@@ -10,19 +10,19 @@ use borrow.Author.Tests.{ne-eqb, le-leb, lt-leb}
 use lib.Dec.{eqb}
 use lib.ListN.{length}
 use Rattle.image.specs.Bytes.{word, keep}
-use Rattle.image.specs.Record.{Entry, Placed, headSize, entrySize, placed, lastFrom, link, backSize, backOffset, entriesEnd, imageSize, image}
-use Rattle.image.specs.Record.{hasId as placedHasId, ofId as placedOfId}
+use Rattle.image.specs.Image.{Entry, Placed, headSize, entrySize, placed, lastFrom, link, backSize, backOffset, entriesEnd, imageSize, image}
+use Rattle.image.specs.Image.{hasId as placedHasId, ofId as placedOfId}
 use Rattle.image.specs.declared.Mode.the-variants.{Twoway, Oneway}
 use Rattle.image.proofs.Sizes.{length-image}
-use Rattle.reader.specs.Open.{backSizeAt}
+use Rattle.image.specs.Head.{backSizeAt}
 use Rattle.reader.specs.Naming.{unnamed, noBack, namingAt, naming}
 use Rattle.answers.specs.Answer.{heldAt, nameGiven, hasId, ofId, lastName}
-use Rattle.layout.proofs.Every.{All, all-keep}
-use Rattle.layout.proofs.At.{at-word}
-use Rattle.layout.proofs.Parts.{placedIn, link-at}
+use Rattle.image.proofs.Every.{All, all-keep}
+use Rattle.image.proofs.At.{at-word}
+use Rattle.image.proofs.Parts.{placedIn, link-at}
 use Rattle.answers.proofs.Opened.{backSizeAt-image, backOffsetAt-image, long-enough, back-inside}
-use Rattle.layout.proofs.Entries.{Stands, entry-fits, all-stand}
-use Rattle.answers.proofs.Entries.{named-entry}
+use Rattle.image.proofs.EntryAt.{Stands, entry-fits, all-stand}
+use Rattle.answers.proofs.EntrySeen.{named-entry}
 
 -- ---- the entries of an id
 

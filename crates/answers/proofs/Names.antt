@@ -11,10 +11,10 @@ use lib.ListN.{length}
 use Rattle.jhash.specs.NameHash.{hashOf}
 use Rattle.image.specs.Bytes.{keep, same}
 use Rattle.image.specs.Tables.{tableOf}
-use Rattle.image.specs.Record.{Entry, Placed, entrySize, entriesSize, placed, inTable, ofTable, count}
+use Rattle.image.specs.Image.{Entry, Placed, entrySize, entriesSize, placed, inTable, ofTable, count}
 use Rattle.reader.specs.Lookup.{Seen, pass, hit}
 use Rattle.answers.specs.Answer.{hasName, ofName, sharesTable, tablePuts, firstId}
-use Rattle.layout.proofs.Every.{All}
+use Rattle.image.proofs.Every.{All}
 use Rattle.answers.proofs.Filling.{firstHit}
 
 -- ---- equal names

@@ -8,15 +8,17 @@ use native.Mathlib.Omega.{arith}
 use borrow.Author.Tests.{le-ltb, eq-eqb}
 use lib.Dec.{eqb, ltb}
 use lib.ListN.{length, length-append}
+use Rattle.jhash.specs.Outcome.{value}
 use Rattle.image.specs.Bytes.{word, le32}
-use Rattle.image.specs.Record.{Entry, headSize, count, entriesBefore, tableOffset, flagWord, back, entriesEnd, imageSize, backOffset, headWords, image}
+use Rattle.image.specs.Image.{Entry, headSize, count, entriesBefore, tableOffset, flagWord, backSizeOf, entriesEnd, imageSize, backOffset, headWords, image}
 use Rattle.image.specs.declared.Mode.{Mode}
 use Rattle.image.specs.declared.Mode.the-variants.{Twoway, Oneway}
 use Rattle.image.proofs.Words.{length-le32}
 use Rattle.image.proofs.Sizes.{length-placed, before-suc, before-all, length-image}
-use Rattle.reader.specs.Open.{num, tableAt, bucketNumber, backSizeAt, backOffsetAt, tableLeaves, backLeaves, someLeaves, halves, hasLetters, opening}
-use Rattle.layout.proofs.At.{At, at-same, at-left, at-right, at-word}
-use Rattle.layout.proofs.Parts.{placedIn, head-at, most, tableAt-image, bucketNumber-image}
+use Rattle.image.specs.Head.{tableAt, bucketNumber, backSizeAt, backOffsetAt, tableLeaves, backLeaves}
+use Rattle.reader.specs.Open.{someLeaves, halves, hasLetters, opening}
+use Rattle.image.proofs.At.{At, at-same, at-left, at-right, at-word}
+use Rattle.image.proofs.Parts.{placedIn, head-at, most, tableAt-image, bucketNumber-image}
 
 -- ---- the words of the head
 
@@ -35,19 +37,19 @@ module _ (mode : Mode) (es : List Entry) where
   to-16 = letters ++ le32 (imageSize mode es) ++ le32 (flagWord mode) ++ le32 magic
 
   to-20 : List ℕ
-  to-20 = letters ++ le32 (imageSize mode es) ++ le32 (flagWord mode) ++ le32 magic ++ le32 (back mode es)
+  to-20 = letters ++ le32 (imageSize mode es) ++ le32 (flagWord mode) ++ le32 magic ++ le32 (backSizeOf mode es)
 
   six : At (image mode es) 0 (to-20 ++ le32 (backOffset mode es))
   unfolding headWords to-20
   six = head-at mode es
 
-  five : At (image mode es) 0 (to-16 ++ le32 (back mode es))
+  five : At (image mode es) 0 (to-16 ++ le32 (backSizeOf mode es))
   unfolding to-20 to-16
   five = at-left to-20 (le32 (backOffset mode es)) six
 
   four : At (image mode es) 0 (to-12 ++ le32 magic)
   unfolding to-16 to-12
-  four = at-left to-16 (le32 (back mode es)) five
+  four = at-left to-16 (le32 (backSizeOf mode es)) five
 
   three : At (image mode es) 0 (letters ++ le32 (imageSize mode es) ++ le32 (flagWord mode))
   unfolding to-12
@@ -83,16 +85,16 @@ module _ (mode : Mode) (es : List Entry) where
     pub size-image : word (image mode es) 4 ≡ imageSize mode es
     size-image = at-word (imageSize mode es) (at-right letters (le32 (imageSize mode es)) two) (omega arith)
 
-    pub backSizeAt-image : backSizeAt (image mode es) ≡ back mode es
+    pub backSizeAt-image : backSizeAt (image mode es) ≡ backSizeOf mode es
     unfolding to-16
-    backSizeAt-image = at-word (back mode es) (at-same sixteen (at-right to-16 (le32 (back mode es)) five)) (omega arith)
+    backSizeAt-image = at-word (backSizeOf mode es) (at-same sixteen (at-right to-16 (le32 (backSizeOf mode es)) five)) (omega arith)
       where
         sixteen : 0 + length to-16 ≡ 16
         sixteen = simp (length-append, length-le32)
 
     pub backOffsetAt-image : backOffsetAt (image mode es) ≡ backOffset mode es
     unfolding to-20 backOffset
-    backOffsetAt-image = at-word (backOffset mode es) (at-same twenty (at-right to-20 (le32 (backOffset mode es)) six)) (below (eqb (back mode es) 0))
+    backOffsetAt-image = at-word (backOffset mode es) (at-same twenty (at-right to-20 (le32 (backOffset mode es)) six)) (below (eqb (backSizeOf mode es) 0))
       where
         twenty : 0 + length to-20 ≡ 20
         twenty = simp (length-append, length-le32)
@@ -120,9 +122,9 @@ module _ (mode : Mode) (es : List Entry) where
     unfolding backOffset
     back-inside =
         le-ltb (length (image mode es)) (backOffsetAt (image mode es) + 4 * backSizeAt (image mode es))
-        (rw (backOffsetAt-image, backSizeAt-image, length-image mode es) (go (eqb (back mode es) 0)))
+        (rw (backOffsetAt-image, backSizeAt-image, length-image mode es) (go (eqb (backSizeOf mode es) 0)))
       where
-        go : (b : Bool) → cond b 0 (entriesEnd es + 16 * length es) + 4 * back mode es ≤ imageSize mode es
+        go : (b : Bool) → cond b 0 (entriesEnd es + 16 * length es) + 4 * backSizeOf mode es ≤ imageSize mode es
         go true = omega arith
         go false = omega arith
 
@@ -162,7 +164,7 @@ module _ (mode : Mode) (es : List Entry) where
         let i : entriesBefore 0 (placedIn es) + halves (image mode es) 0 256 ≡ entriesBefore 256 (placedIn es) = halves-image 256 0 (omega arith) in
         omega (arith, none-before, before-all (placedIn es), length-placed headSize es)
 
-    pub opening-image : opening (image mode es) ≡ num (length es)
+    pub opening-image : opening (image mode es) ≡ value (length es)
     unfolding opening
     opening-image =
         rw (
@@ -174,4 +176,4 @@ module _ (mode : Mode) (es : List Entry) where
           and-false (ltb 0 (backOffsetAt (image mode es))),
           all-halves,
         )
-        (ap num (mod-eq-of-lt (omega arith)))
+        (ap value (mod-eq-of-lt (omega arith)))

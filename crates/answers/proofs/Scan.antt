@@ -8,7 +8,7 @@ use native.Mathlib.Omega.{arith}
 use lib.ListN.{length, getD, set}
 use Rattle.reader.specs.Lookup.{Lookup, found, nothing, Seen, pass, ends, hit, decide, probe}
 use Rattle.answers.specs.Answer.{foundId}
-use Rattle.reader.specs.Answers.{reads}
+use Rattle.reader.specs.Cases.{reads}
 
 -- ---- the search along a list
 

@@ -15,9 +15,9 @@ use lib.ListN.{length, getD}
 use Rattle.image.specs.Tables.{Bucket, empty, start, order, filled}
 use Rattle.reader.specs.Lookup.{Lookup, found, Seen, pass, ends, hit, probe}
 use Rattle.answers.specs.Answer.{foundId}
-use Rattle.reader.specs.Answers.{reads}
-use Rattle.layout.proofs.Every.{All, all-map, map-alike}
-use Rattle.layout.proofs.Buckets.{filled-all}
+use Rattle.reader.specs.Cases.{reads}
+use Rattle.image.proofs.Every.{All, all-map, map-alike}
+use Rattle.image.proofs.Buckets.{filled-all}
 use Rattle.answers.proofs.Scan.{probe-scan, scan-answer, scan-reads, scan-found, answer, used, Taken}
 use Rattle.answers.proofs.Order.{view}
 use Rattle.answers.proofs.Filling.{firstHit, Sees}

@@ -10,8 +10,8 @@ use lib.ListN.{length, getD, set, replicate, length-replicate}
 use Rattle.image.specs.Tables.{Bucket, empty, start, order, insert, insertAll, filled}
 use Rattle.image.proofs.Sizes.{length-insert}
 use Rattle.reader.specs.Lookup.{Seen, pass, ends}
-use Rattle.layout.proofs.Every.{All}
-use Rattle.layout.proofs.Buckets.{getD-empties}
+use Rattle.image.proofs.Every.{All}
+use Rattle.image.proofs.Buckets.{getD-empties}
 use Rattle.answers.proofs.Scan.{answer, used, Good, hitOf, idx, idx-below, used-set}
 use Rattle.answers.proofs.Scan.{own-good, own-answer, other-good, other-answer}
 use Rattle.answers.proofs.Order.{view, view-length}

@@ -4,10 +4,11 @@ use native.Mathlib.Omega.{arith}
 use mathlib.Core.Path.{_≡_, ap, _∙_}
 use mathlib.Core.List.{List}
 use lib.ListN.{length, take, length-take}
+use Rattle.jhash.specs.Outcome.{Outcome, value, refusal}
 use Rattle.image.specs.declared.Mode.the-variants.{Twoway}
-use Rattle.image.specs.Record.{headSize}
-use Rattle.writer.specs.State.{State, lent, fresh, begun, refusal, beginning, countsBegun}
-use Rattle.writer.specs.Close.{size, refusal as refusedClose, closedSize, closing, afterClose}
+use Rattle.image.specs.Image.{headSize}
+use Rattle.writer.specs.State.{State, lent, fresh, beginning, countsBegun}
+use Rattle.writer.specs.Close.{closedSize, closing, afterClose}
 use Rattle.writer.specs.declared.CQDBWriter.{CQDBWriter}
 use Rattle.lists.specs.Calls.{after}
 use Rattle.image.proofs.Sizes.{length-image}
@@ -19,10 +20,10 @@ use Rattle.catalogue.specs.Left.{putsOf, Left, Built}
 
 -- begin does not refuse, and leaves a fresh record
 module _ (buffer : List ℕ) (room : headSize ≤ length buffer) where
-  fresh-writer : (w : CQDBWriter) → begun w ≡ begun (fresh Twoway buffer .writer) → w ≡ fresh Twoway buffer .writer
+  fresh-writer : (w : CQDBWriter) → value w ≡ value (fresh Twoway buffer .writer) → w ≡ fresh Twoway buffer .writer
   fresh-writer w e = cc
 
-  begin-fresh : (w : CQDBWriter) (given counts : List ℕ) → begun w ≡ beginning Twoway (length buffer) → counts ≡ countsBegun (length buffer) given
+  begin-fresh : (w : CQDBWriter) (given counts : List ℕ) → value w ≡ beginning Twoway (length buffer) → counts ≡ countsBegun (length buffer) given
       → lent w counts buffer ≡ fresh Twoway buffer
   unfolding fresh
   begin-fresh w given counts e f =
@@ -33,7 +34,7 @@ module _ (buffer : List ℕ) (room : headSize ≤ length buffer) where
   pub begin-accepted : {P : Type 0} (n : ℕ) → refusal n ≡ beginning Twoway (length buffer) → P
   begin-accepted n e = let z : _≡_ {A = ℕ} 0 1 = cc (e ∙ list-begins Twoway buffer room) in absurd (omega arith)
 
-  begin-capacity : (w : CQDBWriter) → begun w ≡ beginning Twoway (length buffer) → w .length ≡ length buffer
+  begin-capacity : (w : CQDBWriter) → value w ≡ beginning Twoway (length buffer) → w .length ≡ length buffer
   unfolding fresh
   begin-capacity w e = ap (λ (x : CQDBWriter). x .length) (fresh-writer w (e ∙ list-begins Twoway buffer room))
 
@@ -43,13 +44,13 @@ module _ (buffer : List ℕ) (room : headSize ≤ length buffer) (input : List �
   unfolding afterInput
   so = e
 
-  closes : closing s ≡ size (closedSize s)
+  closes : closing s ≡ value (closedSize s)
   closes = rw so (list-gives Twoway buffer room (inputCalls input) (two-way (inputCalls input)))
 
   close-accepted : {P : Type 0} (n : ℕ) → refusedClose n ≡ closing s → P
   close-accepted n f = let z : _≡_ {A = ℕ} 0 1 = cc (f ∙ closes) in absurd (omega arith)
 
-  close-built : (n : ℕ) (t : State) → size n ≡ closing s → t ≡ afterClose s → Built (length buffer) (s .writer .entries) n (t .buffer)
+  close-built : (n : ℕ) (t : State) → value n ≡ closing s → t ≡ afterClose s → Built (length buffer) (s .writer .entries) n (t .buffer)
   unfolding putsOf
   close-built n t f g =
       let cs = inputCalls input in
@@ -65,7 +66,7 @@ module _ (buffer : List ℕ) (room : headSize ≤ length buffer) (input : List �
             ∙ list-image Twoway buffer room cs (two-way cs);
       }
     where
-      inside : {k : ℕ} → size n ≡ size k → n ≡ k
+      inside : {k : ℕ} → value n ≡ value k → n ≡ k
       inside p = cc
 
 -- all of it, in a room for lines that is no shorter than the buffer
@@ -77,7 +78,7 @@ module _ (buffer room given counts : List ℕ) (w : CQDBWriter) (e : begun w ≡
   from-fresh : s ≡ afterInput (fresh Twoway buffer) (put-left .input)
   from-fresh = put-left .left ∙ ap (λ (x : State). afterInput x (put-left .input)) (begin-fresh buffer big w given counts e f)
 
-  pub built : (n : ℕ) (t : State) → size n ≡ closing s → t ≡ afterClose s → Built (length buffer) (s .writer .entries) n (t .buffer)
+  pub built : (n : ℕ) (t : State) → value n ≡ closing s → t ≡ afterClose s → Built (length buffer) (s .writer .entries) n (t .buffer)
   built = close-built buffer big (put-left .input) s from-fresh
 
   pub never-refused : {P : Type 0} (n : ℕ) → refusedClose n ≡ closing s → P

@@ -1,4 +1,4 @@
 -- Laws about what the program reads and prints.
-pub mod Reading
+pub mod InputRead
 pub mod Building
 pub mod Walked

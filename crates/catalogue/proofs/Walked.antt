@@ -8,7 +8,7 @@ use lib.ListN.{length, replicate, length-replicate}
 use lib.Dec.{lit≤}
 use Rattle.image.specs.Bytes.{keep}
 use Rattle.image.specs.declared.Mode.the-variants.{Twoway}
-use Rattle.image.specs.Record.{Entry, headSize, backSize, image}
+use Rattle.image.specs.Image.{Entry, headSize, backSize, image}
 use Rattle.reader.specs.Naming.{Naming, place, unnamed, naming}
 use Rattle.reader.specs.Walk.{stepOf, step}
 use Rattle.answers.specs.Answer.{heldAt, nameGiven, ofId, lastName}

@@ -5,7 +5,7 @@ use mathlib.Core.Path.{_≡_}
 use mathlib.Core.List.{List}
 use lib.ListN.{length, take}
 use Rattle.image.specs.declared.Mode.the-variants.{Twoway}
-use Rattle.image.specs.Record.{Entry, image}
+use Rattle.image.specs.Image.{Entry, image}
 use Rattle.writer.specs.State.{State}
 use Rattle.lists.specs.Calls.{accepted, sizeOf}
 use Rattle.lines.specs.Lines.{inputCalls, afterInput}

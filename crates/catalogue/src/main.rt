@@ -3,7 +3,7 @@
 ghost use Prim.Native.Nat.{_≤_};
 ghost use lib.ListN.{length};
 ghost use Rattle.writer.specs.State.{lent};
-ghost use Rattle.image.specs.Record.{headSize};
+ghost use Rattle.image.specs.Image.{headSize};
 ghost use Rattle.catalogue.specs.Left.{Left, Built};
 use image::Mode;
 use libc::STDIN_FILENO;

@@ -7,14 +7,15 @@ use lib.ListN.{replicate}
 use lib.Dec.{eqb, leb}
 use native.Mathlib.Omega.{arith}
 use borrow.Author.Tests.{le-leb, lt-leb, leb-true, eqb-true, eqb-false, ne-eqb}
-use Rattle.image.specs.Record.{Entry, flagWord}
+use Rattle.jhash.specs.Outcome.{Outcome, value, refusal}
+use Rattle.image.specs.Image.{Entry, flagWord}
 use Rattle.image.specs.declared.Mode.{Mode}
 use Rattle.image.specs.declared.Mode.the-variants.{Twoway, Oneway}
 use Rattle.writer.specs.declared.CQDBWriter.{CQDBWriter}
-use Rattle.writer.specs.State.{State, lent, Beginning, begun, beginning, beginRefusal, freshWriter, countsBegun}
+use Rattle.writer.specs.State.{State, lent, beginning, beginRefusal, freshWriter, countsBegun}
 use Rattle.writer.specs.State as state
 use Rattle.writer.specs.Put.{putRefusal, appended, afterPut}
-use Rattle.writer.specs.Close.{Closing, size, refusal, closing, closeRefusal, closedSize, closed, afterClose}
+use Rattle.writer.specs.Close.{closing, closeRefusal, closedSize, closed, afterClose}
 use Rattle.cqdb_c.specs.declared.record.Record.{Record}
 use Rattle.cqdb_c.specs.Record.{modeOf, writerOf, recordOf, Held, held, stateOf, heldOf}
 use Rattle.cqdb_c.specs.Writing.{notBegun, begunAnswer, beginAnswer, countsLeft, putNumber, leftByPut, closingHeld, refusalIn, sizeIn, leftByClose}
@@ -25,7 +26,7 @@ unfolding beginAnswer countsLeft
 begin-unknown mode n counts over = rw (lt-leb mode 1 over) (refl, refl)
 
 -- begin with a mode of 01's: b is what the writer's begin answers, and after the counts that it leaves
-pub begin-known : (mode n : ℕ) (counts after : List ℕ) (mode : Mode) (b : Beginning) →
+pub begin-known : (mode n : ℕ) (counts after : List ℕ) (mode : Mode) (b : Outcome CQDBWriter) →
     mode ≤ 1 → mode ≡ modeOf mode → b ≡ beginning mode n → after ≡ countsBegun n counts →
     (begunAnswer b ≡ beginAnswer mode n) × (after ≡ countsLeft mode n counts)
 unfolding beginAnswer countsLeft
@@ -59,7 +60,7 @@ unfolding closingHeld leftByClose
 close-unknown h over = rw (lt-leb (h .writer .mode) 1 over) ((refl, refl), refl)
 
 -- close with a mode of 01's: the writer's record v goes in, w' comes back, and d is what the writer's close answers
-pub close-known : (h : Held) (v w' : CQDBWriter) (r : Record) (buffer : List ℕ) (d : Closing) (k n : ℕ) →
+pub close-known : (h : Held) (v w' : CQDBWriter) (r : Record) (buffer : List ℕ) (d : Outcome ℕ) (k n : ℕ) →
     h .writer .mode ≤ 1 → v ≡ writerOf (h .writer) →
     d ≡ closing (lent v (h .counts) (h .buffer)) →
     lent w' (h .counts) buffer ≡ afterClose (lent v (h .counts) (h .buffer)) →
@@ -98,7 +99,7 @@ pub begin-refused : (mode n : ℕ) (counts : List ℕ) → (beginAnswer mode n .
 unfolding beginAnswer beginning countsLeft countsBegun
 begin-refused mode n counts = go (leb mode 1) (eqb (beginRefusal n) 0)
   where
-    go : (t b : Bool) → (cond t (begunAnswer (cond b (begun (freshWriter (modeOf mode) n)) (state.refusal (beginRefusal n)))) (notBegun 2) .refusal ≡ 0 → ⊥) → cond t (cond b (replicate 256 0) counts) counts ≡ counts
+    go : (t b : Bool) → (cond t (begunAnswer (cond b (value (freshWriter (modeOf mode) n)) (refusal (beginRefusal n)))) (notBegun 2) .refusal ≡ 0 → ⊥) → cond t (cond b (replicate 256 0) counts) counts ≡ counts
     go true true refused = absurd (refused refl)
     go true false refused = refl
     go false b refused = refl
@@ -122,7 +123,7 @@ close-refused h = go (leb (h .writer .mode) 1) refl
     go : (t : Bool) → leb (h .writer .mode) 1 ≡ t → (refusalIn (cond t (closing (stateOf h)) (refusal 2)) ≡ 0 → ⊥) → cond t (heldOf (afterClose (stateOf h))) h ≡ h
     go true fine refused = by (eqb (closeRefusal (stateOf h)) 0) refused ∙ back-and-forth h (leb-true (h .writer .mode) 1 fine)
       where
-        by : (b : Bool) → (refusalIn (cond b (size (closedSize (stateOf h))) (refusal (closeRefusal (stateOf h)))) ≡ 0 → ⊥) →
+        by : (b : Bool) → (refusalIn (cond b (value (closedSize (stateOf h))) (refusal (closeRefusal (stateOf h)))) ≡ 0 → ⊥) →
             heldOf (cond b (closed (stateOf h)) (stateOf h)) ≡ heldOf (stateOf h)
         by true never = absurd (never refl)
         by false never = refl

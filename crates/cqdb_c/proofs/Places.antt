@@ -7,10 +7,10 @@ use mathlib.Core.List.{List}
 use lib.Dec.{eqb, leb}
 use lib.ListN.{getD}
 use Rattle.image.specs.Bytes.{word}
-use Rattle.reader.specs.Open.{backSizeAt, backOffsetAt}
-use Rattle.reader.specs.Lookup.{broken}
+use Rattle.image.specs.Head.{backSizeAt, backOffsetAt}
+use Rattle.image.specs.Stored.{broken}
 use Rattle.reader.specs.Naming.{place, unnamed, noBack, namingAt, naming}
-use Rattle.reader.proofs.Names.{never}
+use Rattle.reader.proofs.Namings.{never}
 
 -- a word of bytes
 word-small : (image : List ℕ) (o : ℕ) → ((i : ℕ) → getD image i 0 < 256) → word image o < 4294967296

@@ -2,11 +2,12 @@
 use Prim.Native.Nat.{ℕ}
 use mathlib.Core.List.{List}
 use Rattle.cqdb_c.specs.declared.hash.HashAnswer.{HashAnswer}
-use Rattle.jhash.specs.NameHash.{Outcome, hash, refusal, hashOutcome}
+use Rattle.jhash.specs.Outcome.{Outcome, value, refusal}
+use Rattle.jhash.specs.NameHash.{hashOutcome}
 
 -- A hash is accepted, 0, and stands beside it; a refusal has its number, and 0 for the hash.
-abbrev pub answerOf : Outcome → HashAnswer
-answerOf (hash h) = record { refusal = 0; hash = h }
+abbrev pub answerOf : Outcome ℕ → HashAnswer
+answerOf (value h) = record { refusal = 0; hash = h }
 answerOf (refusal n) = record { refusal = n; hash = 0 }
 
 -- The rule of the name hash, so answered.

@@ -2,15 +2,16 @@
 use Prim.Native.Nat.{ℕ}
 use mathlib.Core.Bool.{cond}
 use mathlib.Core.List.{List}
-use Rattle.reader.specs.Open.{Opening, num, refusal, opening}
+use Rattle.jhash.specs.Outcome.{Outcome, value, refusal}
+use Rattle.reader.specs.Open.{opening}
 use Rattle.reader.specs.Naming.{Naming, place, unnamed, naming}
 use Rattle.reader.specs.Walk.{home}
 use Rattle.cqdb_c.specs.declared.opening.OpenAnswer.{OpenAnswer}
 use Rattle.cqdb_c.specs.declared.naming.PlaceAnswer.{PlaceAnswer}
 
 -- an opened image is accepted, 0, and its num stands beside it; a refusal has its number, and 0 for num
-abbrev pub openAnswerOf : Opening → OpenAnswer
-openAnswerOf (num n) = record { refusal = 0; num = n }
+abbrev pub openAnswerOf : Outcome ℕ → OpenAnswer
+openAnswerOf (value n) = record { refusal = 0; num = n }
 openAnswerOf (refusal k) = record { refusal = k; num = 0 }
 
 -- the rule of opening, so answered

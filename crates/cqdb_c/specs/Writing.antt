@@ -3,11 +3,11 @@
 use Prim.Native.Nat.{ℕ}
 use mathlib.Core.Bool.{cond}
 use mathlib.Core.List.{List}
-use Rattle.image.specs.Record.{Entry}
-use Rattle.writer.specs.State.{Beginning, begun, beginning, countsBegun}
-use Rattle.writer.specs.State as state
+use Rattle.jhash.specs.Outcome.{Outcome, value, refusal}
+use Rattle.image.specs.Image.{Entry}
+use Rattle.writer.specs.State.{beginning, countsBegun}
 use Rattle.writer.specs.Put.{putRefusal, afterPut}
-use Rattle.writer.specs.Close.{Closing, size, refusal, closing, afterClose}
+use Rattle.writer.specs.Close.{closing, afterClose}
 use Rattle.cqdb_c.specs.declared.writing.BeginAnswer.{BeginAnswer}
 use Rattle.cqdb_c.specs.Record.{known, modeOf, recordOf, Held, stateOf, heldOf}
 
@@ -16,9 +16,9 @@ abbrev pub notBegun : ℕ → BeginAnswer
 notBegun k = record { refusal = k; writer = record { mode = 0; entries = 0; back = 0; length = 0; end = 0 } }
 
 -- a begin is accepted, 0, and the fresh record stands beside it
-abbrev pub begunAnswer : Beginning → BeginAnswer
-begunAnswer (begun w) = record { refusal = 0; writer = recordOf w }
-begunAnswer (state.refusal k) = notBegun k
+abbrev pub begunAnswer : Outcome CQDBWriter → BeginAnswer
+begunAnswer (value w) = record { refusal = 0; writer = recordOf w }
+begunAnswer (refusal k) = notBegun k
 
 -- the rule of begin, so answered, for a buffer of n bytes
 unfoldable pub beginAnswer : ℕ → ℕ → BeginAnswer
@@ -36,15 +36,15 @@ unfoldable pub leftByPut : Held → Entry → Held
 leftByPut h e = cond (known (h .writer .mode)) (heldOf (afterPut (stateOf h) e)) h
 
 -- the rule of close: the image's size or the refusal's number, each 0 where it is the other; and what close leaves
-unfoldable pub closingHeld : Held → Closing
+unfoldable pub closingHeld : Held → Outcome ℕ
 closingHeld h = cond (known (h .writer .mode)) (closing (stateOf h)) (refusal 2)
 
-abbrev pub refusalIn : Closing → ℕ
-refusalIn (size n) = 0
+abbrev pub refusalIn : Outcome ℕ → ℕ
+refusalIn (value n) = 0
 refusalIn (refusal k) = k
 
-abbrev pub sizeIn : Closing → ℕ
-sizeIn (size n) = n
+abbrev pub sizeIn : Outcome ℕ → ℕ
+sizeIn (value n) = n
 sizeIn (refusal k) = 0
 
 unfoldable pub leftByClose : Held → Held

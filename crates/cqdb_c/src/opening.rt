@@ -18,10 +18,6 @@ pub extern "C" fn cqdb_open(image: &[u8]) -> OpenAnswer
     let opened = reader::open(image);
     match opened {
         Opened::Num(n) => OpenAnswer { refusal: 0, num: n },
-        Opened::TooShort => OpenAnswer { refusal: 1, num: 0 },
-        Opened::WrongLetters => OpenAnswer { refusal: 5, num: 0 },
-        Opened::WrongByteOrder => OpenAnswer { refusal: 6, num: 0 },
-        Opened::TableLeaves => OpenAnswer { refusal: 7, num: 0 },
-        Opened::BackLeaves => OpenAnswer { refusal: 8, num: 0 },
+        Opened::Refused(k) => OpenAnswer { refusal: k, num: 0 },
     }
 }

@@ -2,7 +2,7 @@
 use image::Mode;
 use writer::CQDBWriter;
 ghost use mathlib.Core.Path.{_≡_};
-ghost use Rattle.image.specs.Record.{flagWord};
+ghost use Rattle.image.specs.Image.{flagWord};
 ghost use Rattle.cqdb_c.specs.Record.{modeOf, writerOf, recordOf};
 
 // The mode (0 two-way, 1 one-way), the number of entries, the back size, the buffer's length and the end of the entries.

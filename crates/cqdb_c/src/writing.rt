@@ -6,10 +6,9 @@ use super::record::record_of;
 use super::record::writer_of;
 use writer::Begun;
 use writer::Closed;
-use writer::Stored;
 ghost use mathlib.Core.Path.{_≡_};
 ghost use lib.ListN.{length};
-ghost use Rattle.writer.specs.Put.{entryOf, storedOf};
+ghost use Rattle.writer.specs.Put.{entryOf};
 ghost use Rattle.writer.specs.Close.{closedOf};
 ghost use Rattle.cqdb_c.specs.Record.{held};
 ghost use Rattle.cqdb_c.specs.Writing.{notBegun, beginAnswer, countsLeft, putNumber, leftByPut, closingHeld, refusalIn, sizeIn, leftByClose};
@@ -67,18 +66,7 @@ pub extern "C" fn cqdb_begin_parts(mode: u32, counts: &mut [u32; 256], buf: &[u8
             refusal: 0,
             writer: record_of(w),
         },
-        Begun::TooShort => not_begun(1),
-    }
-}
-
-// The number of put's answer.
-fn put_number(answer: Stored) -> u32
-    ensures { λ r. ⌜ r ≡ storedOf answer ⌝ }
-{
-    match answer {
-        Stored::Accepted => 0,
-        Stored::Misfit => 2,
-        Stored::NoRoom => 3,
+        Begun::Refused(k) => not_begun(k),
     }
 }
 
@@ -101,10 +89,9 @@ pub extern "C" fn cqdb_put_parts(
         };
     }
     let done = writer::put(writer_of(w), &mut *counts, &mut *buf, name, id);
-    let answer = done.answer;
     let after = done.writer;
     PutAnswer {
-        refusal: put_number(answer),
+        refusal: done.refusal,
         writer: record_of(after),
     }
 }
@@ -115,8 +102,7 @@ fn close_number(answer: Closed) -> u32
 {
     match answer {
         Closed::Size(_) => 0,
-        Closed::Unfit => 2,
-        Closed::Inconsistent => 4,
+        Closed::Refused(k) => k,
     }
 }
 
@@ -126,8 +112,7 @@ fn close_size(answer: Closed) -> u32
 {
     match answer {
         Closed::Size(n) => n,
-        Closed::Unfit => 0,
-        Closed::Inconsistent => 0,
+        Closed::Refused(_) => 0,
     }
 }
 

@@ -7,3 +7,8 @@ pub mod Sizes
 pub mod Stores
 pub mod Turns
 pub mod Joins
+pub mod Every
+pub mod At
+pub mod Buckets
+pub mod Parts
+pub mod EntryAt

@@ -11,8 +11,8 @@ use borrow.Author.Tests.{lt-ltb, le-ltb, eq-eqb, ne-eqb, ltb-true, ltb-false, eq
 use Rattle.jhash.specs.NameHash.{hashOf}
 use Rattle.image.specs.Bytes.{le32, cat, keep, range}
 use Rattle.image.specs.Tables.{Bucket, empty, tableOf, start, order, firstEmpty, atOf, insert, insertAll, filled}
-use Rattle.image.specs.Record.{Entry, Placed, headSize, entryBytes, entrySize, entriesSize, placed, inTable, ofTable, count, bucketOf, bucketBytes}
-use Rattle.image.specs.Record.{table, tableBytes, entriesBefore, tableRow, tableRows, tables, link, links, back, imageSize, headBytes, headWords, flagWord, backOffset, image}
+use Rattle.image.specs.Image.{Entry, Placed, headSize, entryBytes, entrySize, entriesSize, placed, inTable, ofTable, count, bucketOf, bucketBytes}
+use Rattle.image.specs.Image.{table, tableBytes, entriesBefore, tableRow, tableRows, tables, link, links, backSizeOf, imageSize, headBytes, headWords, flagWord, backOffset, image}
 use Rattle.image.specs.declared.Mode.{Mode}
 use Rattle.image.proofs.Words.{length-le32}
 use Rattle.image.proofs.Lists.{cat-append, length-cat, keep-nil, keep-cons, keep-append, length-range, range-more}
@@ -191,7 +191,7 @@ length-headBytes size mode n o = simp (length-append, length-le32)
 
 pub length-headWords : (mode : Mode) (es : List Entry) → length (headWords mode es) ≡ 24
 unfolding headWords
-length-headWords mode es = length-headBytes (imageSize mode es) (flagWord mode) (back mode es) (backOffset mode es)
+length-headWords mode es = length-headBytes (imageSize mode es) (flagWord mode) (backSizeOf mode es) (backOffset mode es)
 
 pub length-tableRow : (end : ℕ) (ps : List Placed) (t : ℕ) → length (tableRow end ps t) ≡ 8
 unfolding tableRow
@@ -213,4 +213,4 @@ length-image mode es =
     let ps = placed headSize es in
     simp length-append
     (omega
-    (arith, length-headWords mode es, length-tableRows (headSize + entriesSize es) ps, length-entries es, length-tables ps, length-placed headSize es, length-links ps (back mode es)))
+    (arith, length-headWords mode es, length-tableRows (headSize + entriesSize es) ps, length-entries es, length-tables ps, length-placed headSize es, length-links ps (backSizeOf mode es)))

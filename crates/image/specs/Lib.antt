@@ -1,4 +1,7 @@
 -- What an image is, as 01 says it: words and lists, tables of buckets, and the image record.
 pub mod Bytes
 pub mod Tables
-pub mod Record
+pub mod Image
+pub mod Head
+pub mod Stored
+pub mod Tally

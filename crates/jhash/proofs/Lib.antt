@@ -1,7 +1,7 @@
--- The laws of the name hash. Published for the crates above: `Answers`, `Rotation` and `Rows`.
+-- The laws of the name hash. Published for the crates above: `Outcomes`, `Rotation` and `Vectors`.
 mod Mixing
 mod Blocks
 mod Limit
-pub mod Answers
+pub mod Outcomes
 pub mod Rotation
-pub mod Rows
+pub mod Vectors

@@ -8,9 +8,10 @@ use borrow.Author.Tests.{leb-true, leb-false}
 use lib.Dec.{leb}
 use lib.ListN.{length}
 use Rattle.jhash.specs.Lookup3.{alike, initialWord, initial, hashRest}
-use Rattle.jhash.specs.NameHash.{hash, refusal, hashOutcome}
+use Rattle.jhash.specs.Outcome.{Outcome, value, refusal}
+use Rattle.jhash.specs.NameHash.{hashOutcome}
 use Rattle.jhash.proofs.Blocks.{name-begin}
-use Rattle.jhash.proofs.Answers.{short-answer, long-answer}
+use Rattle.jhash.proofs.Outcomes.{short-answer, long-answer}
 
 module _ (name : List ℕ) (start : ℕ) (long : Bool) (tested : long ≡ leb 4294967295 (length name)) where
   pub refuses : long ≡ true → refusal 9 ≡ hashOutcome name start
@@ -20,8 +21,8 @@ module _ (name : List ℕ) (start : ℕ) (long : Bool) (tested : long ≡ leb 42
   short p = leb-false 4294967295 (length name) (sym tested ∙ p)
 
   pub hashes : long ≡ false → (x h : ℕ) → x ≡ initialWord (length name + 1) start → h ≡ hashRest (alike x) (name ++ 0 ∷ [])
-      → hash h ≡ hashOutcome name start
+      → value h ≡ hashOutcome name start
   unfolding initial
   hashes p x h xe he =
-      ap hash (he ∙ ap (λ (y : ℕ). hashRest (alike y) (name ++ 0 ∷ [])) xe ∙ sym (name-begin name start))
+      ap value (he ∙ ap (λ (y : ℕ). hashRest (alike y) (name ++ 0 ∷ [])) xe ∙ sym (name-begin name start))
       ∙ sym (short-answer name start (short p))

@@ -3,7 +3,7 @@ use mathlib.Core.Path.{_≡_, refl, _∙_}
 use mathlib.Core.List.{List}
 use Prim.Native.Nat.{ℕ}
 use Rattle.jhash.specs.Lookup3.{wordAt, plus, added, mix, finished, final}
-use Rattle.jhash.specs.Rounds.{round, step}
+use Rattle.jhash.specs.steps.Rounds.{round, step}
 use Rattle.jhash.specs.declared.Words.{Words}
 
 -- six rounds in a row are lookup3's mix

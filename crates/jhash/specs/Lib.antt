@@ -1,4 +1,5 @@
 -- The definitions of the name hash: lookup3's hashlittle, and the hash of a name with its refusal.
+pub mod Outcome
 pub mod Lookup3
-pub mod Rounds
+pub mod steps
 pub mod NameHash

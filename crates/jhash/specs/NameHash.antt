@@ -4,6 +4,7 @@ use mathlib.Core.List.{List, [], _∷_, _++_}
 use mathlib.Core.Bool.{cond}
 use lib.Dec.{ltb}
 use lib.ListN.{length}
+use Rattle.jhash.specs.Outcome.{Outcome, value, refusal}
 use Rattle.jhash.specs.Lookup3.{hashlittle}
 use Rattle.jhash.specs.declared.Hashed.{Hashed}
 use Rattle.jhash.specs.declared.Hashed.the-variants.{Hash, Refused}
@@ -18,16 +19,11 @@ unfoldable pub hashOf : List ℕ → ℕ
 unfolding nameHash
 hashOf name = nameHash name 0
 
--- What hashing a name gives: a hash, or a refusal by its number.
-pub data Outcome : Type 0 where
-  hash : ℕ → Outcome
-  refusal : ℕ → Outcome
-
 -- The number or value of each case of `Hashed`.
-abbrev pub outcome : Hashed → Outcome
-outcome (Hash h) = hash h
+abbrev pub outcome : Hashed → Outcome ℕ
+outcome (Hash h) = value h
 outcome Refused = refusal 9
 
 -- The rule: refusal 9 when the name has 4,294,967,295 bytes or more, otherwise its hash.
-unfoldable pub hashOutcome : List ℕ → ℕ → Outcome
-hashOutcome name start = cond (ltb (length name) 4294967295) (hash (nameHash name start)) (refusal 9)
+unfoldable pub hashOutcome : List ℕ → ℕ → Outcome ℕ
+hashOutcome name start = cond (ltb (length name) 4294967295) (value (nameHash name start)) (refusal 9)

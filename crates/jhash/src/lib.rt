@@ -5,7 +5,7 @@ ghost use lib.Dec.{leb};
 ghost use mathlib.Core.List.{[], _∷_, _++_};
 ghost use lib.ListN.{length, getD};
 ghost use Rattle.jhash.specs.Lookup3.{sub32, rotl32, wordAt, plus, added, mix, finished, final, alike, initialWord, hashRest};
-ghost use Rattle.jhash.specs.Rounds.{round, step};
+ghost use Rattle.jhash.specs.steps.Rounds.{round, step};
 ghost use Rattle.jhash.specs.NameHash.{outcome, hashOutcome};
 
 // lookup3's three words a, b, c.

@@ -7,7 +7,7 @@ use mathlib.Core.List.{List}
 use lib.ListN.{length, drop, length-drop}
 use lib.Dec.{eqb, ltb}
 use borrow.Author.Tests.{lt-ltb}
-use Rattle.image.specs.Record.{Entry}
+use Rattle.image.specs.Image.{Entry}
 use Rattle.writer.specs.State.{State, fits, finishedSize}
 use Rattle.writer.specs.Put.{entryOf, writerAfter, putRefusal, appended, afterPut}
 use Rattle.writer.proofs.Fits.{fitting}

@@ -11,7 +11,7 @@ use borrow.Author.Tests.{lt-ltb, le-ltb, eq-eqb, ne-eqb}
 use Rattle.writer.specs.State.{State}
 use Rattle.writer.specs.Put.{entryOf, afterPut}
 use Rattle.lines.specs.Lines.{entry, parseLine, afterLine}
-use Rattle.lines.specs.Pieces.{Gathering, counted, gathered, lineEnded, takeByte, takePiece}
+use Rattle.lines.specs.steps.Pieces.{Gathering, counted, gathered, lineEnded, takeByte, takePiece}
 use Rattle.lines.proofs.Skipped.{after-entry}
 
 -- a line's put, of the part of the line that is the name

@@ -11,7 +11,7 @@ use lib.Dec.{eqb, ltb}
 use borrow.Author.Tests.{ltb-true, ltb-false, eqb-true}
 use Rattle.writer.specs.State.{State}
 use Rattle.lines.specs.Lines.{afterLine, afterInput}
-use Rattle.lines.specs.Pieces.{Gathering, started, gathered, lineEnded, takeByte, takePiece, takePieces, joined, inputEnded, AnyPieces}
+use Rattle.lines.specs.steps.Pieces.{Gathering, started, gathered, lineEnded, takeByte, takePiece, takePieces, joined, inputEnded, AnyPieces}
 use Rattle.lines.proofs.Skipped.{long-line, line-capacity}
 use Rattle.lines.proofs.Split.{NoFeed, no-feed-more, input-feed, input-last, input-cut}
 

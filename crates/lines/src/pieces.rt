@@ -4,7 +4,7 @@ ghost use mathlib.Core.Path.{_≡_};
 ghost use lib.ListN.{set};
 ghost use Rattle.writer.specs.State.{lent};
 ghost use Rattle.lines.specs.Lines.{afterLine};
-ghost use Rattle.lines.specs.Pieces.{gathering, counted, lineEnded, takeByte, takePiece, inputEnded};
+ghost use Rattle.lines.specs.steps.Pieces.{gathering, counted, lineEnded, takeByte, takePiece, inputEnded};
 use super::Intake;
 use super::Line;
 use super::parsing::parse_line;

@@ -7,12 +7,13 @@ use mathlib.Core.List.{List, [], _∷_, _++_, append-assoc, append-nil}
 use lib.ListN.{length}
 use lib.Dec.{eqb}
 use borrow.Author.Tests.{le-ltb}
+use Rattle.jhash.specs.Outcome.{value}
 use Rattle.image.specs.declared.Mode.{Mode}
 use Rattle.image.specs.declared.Mode.the-variants.{Twoway}
-use Rattle.image.specs.Record.{Entry, headSize}
-use Rattle.writer.specs.State.{State, fresh, beginRefusal, begun, beginning, countsBegun}
+use Rattle.image.specs.Image.{Entry, headSize}
+use Rattle.writer.specs.State.{State, fresh, beginRefusal, beginning, countsBegun}
 use Rattle.lists.specs.Calls.{Call, put, close, afterCall, answer, after, answers, acceptedOne, acceptedBy, refused, acceptedAfter, dueTo, acceptedFrom, dueFrom, accepted, due, Permitted, AllPermitted}
-use Rattle.lists.specs.Written.{Written, WordId, WordIds}
+use Rattle.lists.proofs.Written.{Written, WordId, WordIds}
 use Rattle.lists.proofs.Puts.{put-due, put-written, fresh-written}
 use Rattle.lists.proofs.Closes.{close-accepted, close-written}
 
@@ -97,7 +98,7 @@ pub begin-accepts : (n : ℕ) → headSize ≤ n → beginRefusal n ≡ 0
 begin-accepts n room = rw (le-ltb n headSize room)
 
 -- begin gives the record of a fresh state, and clears what was lent for its counts
-pub list-begins : (mode : Mode) (buffer : List ℕ) → headSize ≤ length buffer → beginning mode (length buffer) ≡ begun (fresh mode buffer .writer)
+pub list-begins : (mode : Mode) (buffer : List ℕ) → headSize ≤ length buffer → beginning mode (length buffer) ≡ value (fresh mode buffer .writer)
 unfolding beginning fresh
 list-begins mode buffer room = rw (begin-accepts (length buffer) room)
 

@@ -9,7 +9,7 @@ use borrow.Author.Tests.{eq-eqb, ne-eqb}
 use Rattle.jhash.specs.NameHash.{hashOf}
 use Rattle.image.specs.declared.Mode.{Mode}
 use Rattle.image.specs.Tables.{tableOf}
-use Rattle.image.specs.Record.{Entry, Placed, entrySize, entriesSize, placed, inTable, count, backSize, imageSize}
+use Rattle.image.specs.Image.{Entry, Placed, entrySize, entriesSize, placed, inTable, count, backSize, imageSize}
 use Rattle.image.proofs.Sizes.{entriesSize-append, placed-append, count-nil, count-cons, count-append}
 use Rattle.lists.specs.Calls.{putsSize, sizeOf}
 

@@ -10,12 +10,13 @@ use lib.Dec.{eqb}
 use borrow.Author.Tests.{eq-eqb, le-ltb}
 use Rattle.image.specs.declared.Mode.{Mode}
 use Rattle.image.specs.Bytes.{cat}
-use Rattle.image.specs.Record.{Entry, headSize, entryBytes, entriesSize, entriesEnd, placed, count, backSize, backIn, back, imageSize, headWords, tableRows, tables, links, image}
+use Rattle.image.specs.Image.{Entry, headSize, entryBytes, entriesSize, entriesEnd, placed, count, backSize, backIn, backSizeOf, imageSize, headWords, tableRows, tables, links, image}
 use Rattle.image.proofs.All.{all-true}
 use Rattle.image.proofs.Sizes.{length-entries, length-headWords, length-tableRows, length-image}
 use Rattle.writer.specs.State.{State, finishedSize, tooLarge}
-use Rattle.writer.specs.Close.{whole, entriesIn, entryArea, recorded, countsAgree, closeRefusal, closedSize, closed, afterClose}
-use Rattle.lists.specs.Written.{Written}
+use Rattle.image.specs.Stored.{whole, entriesIn}
+use Rattle.writer.specs.Close.{entryArea, recorded, countsAgree, closeRefusal, closedSize, closed, afterClose}
+use Rattle.lists.proofs.Written.{Written}
 use Rattle.lists.proofs.Parse.{AllWordly, parsed, parsed-whole}
 use Rattle.lists.proofs.Puts.{written-fits, backIn-twice}
 
@@ -32,7 +33,7 @@ all-wordly (e ∷ es) b s = (record { id-word = omega arith; length-word = omega
 image-split : (mode : Mode) (es : List Entry) (rest : List ℕ)
     → image mode es ++ rest
     ≡ (headWords mode es ++ tableRows (entriesEnd es) (placed headSize es))
-    ++ (cat entryBytes es ++ (tables (placed headSize es) ++ links (placed headSize es) (back mode es) ++ rest))
+    ++ (cat entryBytes es ++ (tables (placed headSize es) ++ links (placed headSize es) (backSizeOf mode es) ++ rest))
 unfolding image
 image-split mode es rest = simp append-assoc
 
@@ -42,7 +43,7 @@ head-length mode es =
 
 pub area-in-image : (mode : Mode) (es : List Entry) (rest : List ℕ) → take (entriesSize es) (drop headSize (image mode es ++ rest)) ≡ cat entryBytes es
 area-in-image mode es rest =
-    let after : List ℕ = tables (placed headSize es) ++ links (placed headSize es) (back mode es) ++ rest in
+    let after : List ℕ = tables (placed headSize es) ++ links (placed headSize es) (backSizeOf mode es) ++ rest in
     let head : List ℕ = headWords mode es ++ tableRows (entriesEnd es) (placed headSize es) in
     ap (λ (l : List ℕ). take (entriesSize es) (drop headSize l)) (image-split mode es rest)
     ∙ ap (take (entriesSize es)) (drop-at head (cat entryBytes es ++ after) headSize (head-length mode es))
@@ -68,7 +69,7 @@ module _ (mode : Mode) (n : ℕ) (es : List Entry) (s : State) (w : Written mode
   -- the size that close gives
   pub written-size : closedSize s ≡ imageSize mode es
   written-size =
-      let b : backIn (s .writer .mode) (s .writer .back) ≡ back mode es =
+      let b : backIn (s .writer .mode) (s .writer .back) ≡ backSizeOf mode es =
       ap₂ backIn (w .mode) (w .back-size) ∙ backIn-twice mode (backSize es) in
       omega (arith, b, w .end, w .entries)
 

@@ -1,4 +1,6 @@
 -- The laws of lists of calls.
+pub mod Written
+pub mod Read
 pub mod Parse
 pub mod Appended
 pub mod Puts
@@ -8,5 +10,5 @@ pub mod OneMore
 pub mod Members
 pub mod Reading
 pub mod Theorem
-pub mod Rows
-pub mod Examples
+pub mod QuayRows
+pub mod Quay

@@ -5,13 +5,15 @@ use mathlib.Core.Path.{_≡_, refl, sym, ap, _∙_}
 use mathlib.Core.Bool.{true}
 use mathlib.Core.List.{List, [], _∷_}
 use lib.ListN.{length, take}
+use Rattle.jhash.specs.Outcome.{value}
 use Rattle.image.specs.declared.Mode.{Mode}
 use Rattle.image.specs.Bytes.{cat}
-use Rattle.image.specs.Record.{Entry, headSize, entryBytes, imageSize, image}
+use Rattle.image.specs.Image.{Entry, headSize, entryBytes, imageSize, image}
 use Rattle.writer.specs.State.{State, fits, fresh}
-use Rattle.writer.specs.Close.{whole, entryArea, recorded, closeRefusal, closedSize, size, closing, afterClose}
+use Rattle.image.specs.Stored.{whole}
+use Rattle.writer.specs.Close.{entryArea, recorded, closeRefusal, closedSize, closing, afterClose}
 use Rattle.lists.specs.Calls.{Call, put, close, after, acceptedFrom, accepted, sizeOf, puts}
-use Rattle.lists.specs.Written.{Written, WordIds}
+use Rattle.lists.proofs.Written.{Written, WordIds}
 use Rattle.lists.proofs.Appended.{sizeOf-is}
 use Rattle.lists.proofs.Puts.{written-fits}
 use Rattle.lists.proofs.Closes.{written-area, written-whole, written-recorded, written-size, close-accepted, close-image, close-again}
@@ -44,7 +46,7 @@ module _ (mode : Mode) (buffer : List ℕ) (room : headSize ≤ length buffer) (
   pub list-closes : closeRefusal (after (fresh mode buffer) cs) ≡ 0
   list-closes = close-accepted mode (length buffer) entered left stands
 
-  pub list-gives : closing (after (fresh mode buffer) cs) ≡ size (closedSize (after (fresh mode buffer) cs))
+  pub list-gives : closing (after (fresh mode buffer) cs) ≡ value (closedSize (after (fresh mode buffer) cs))
   unfolding closing
   list-gives = rw list-closes
 

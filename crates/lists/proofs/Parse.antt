@@ -8,9 +8,9 @@ use lib.ListN.{length, getD, take, drop, length-append}
 use lib.Seq.{drop-drop, drop-append-add, take-at, getD-drop, getD-append-seam}
 use borrow.Author.Tests.{le-leb, eq-eqb}
 use Rattle.image.specs.Bytes.{word, le32, cat}
-use Rattle.image.specs.Record.{Entry, entryBytes}
+use Rattle.image.specs.Image.{Entry, entryBytes}
 use Rattle.image.proofs.Words.{word-le32, word-drop}
-use Rattle.writer.specs.Close.{firstEntry, afterFirst, firstWhole, whole, entriesIn}
+use Rattle.image.specs.Stored.{firstEntry, afterFirst, firstWhole, whole, entriesIn}
 
 -- an entry whose id and length word are words
 pub record Wordly (e : Entry) : Type 0 where

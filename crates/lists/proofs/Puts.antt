@@ -14,11 +14,12 @@ use Rattle.image.specs.declared.Mode.{Mode}
 use Rattle.image.specs.declared.Mode.the-variants.{Twoway, Oneway}
 use Rattle.image.specs.Bytes.{cat}
 use Rattle.image.specs.Tables.{tableOf}
-use Rattle.image.specs.Record.{Entry, headSize, entryBytes, entrySize, entriesSize, placed, count, ofTable, backSize, backIn, imageSize}
+use Rattle.image.specs.Image.{Entry, headSize, entryBytes, entrySize, entriesSize, placed, count, ofTable, backSize, backIn, imageSize}
 use Rattle.writer.specs.State.{State, noneAbove, fits, finishedSize, fresh}
-use Rattle.writer.specs.Put.{raised, writerAfter, countsAfter, putRefusal, appended, afterPut}
+use Rattle.image.specs.Tally.{countsAfter}
+use Rattle.writer.specs.Put.{raised, writerAfter, putRefusal, appended, afterPut}
 use Rattle.lists.specs.Calls.{put, sizeOf, refused, acceptedAfter, dueTo}
-use Rattle.lists.specs.Written.{Written, WordId}
+use Rattle.lists.proofs.Written.{Written, WordId}
 use Rattle.image.proofs.All.{all-true}
 use Rattle.image.proofs.Lists.{cat-append}
 use Rattle.image.proofs.Sizes.{length-entryBytes, length-entries, length-placed}

@@ -7,19 +7,19 @@ use mathlib.Core.Option.{Option, some}
 use lib.ListN.{length, take, drop}
 use Rattle.image.specs.declared.Mode.{Mode}
 use Rattle.image.specs.declared.Mode.the-variants.{Twoway, Oneway}
-use Rattle.image.specs.Record.{Entry, headSize, backSize, imageSize, image}
+use Rattle.image.specs.Image.{Entry, headSize, backSize, imageSize, image}
 use Rattle.reader.specs.Lookup.{Lookup, found, nothing, lookup}
 use Rattle.reader.specs.Naming.{Naming, place, unnamed, naming}
 use Rattle.reader.specs.Walk.{finds, homeBy as homePlaced, home}
 use Rattle.answers.specs.Answer.{foundId, heldAt, nameGiven, firstId, ofName, tablePuts}
-use Rattle.reader.specs.Answers.{reads}
+use Rattle.reader.specs.Cases.{reads}
 use Rattle.answers.proofs.Images.{image-opens, name-gives, name-reads, found-reads, long-reads, id-gives}
 use Rattle.answers.proofs.Named.{naming-oneway}
 use Rattle.writer.specs.State.{fresh}
 use Rattle.writer.specs.Close.{closedSize, afterClose}
 use Rattle.lists.specs.Calls.{Call, after, accepted}
-use Rattle.lists.specs.Written.{WordIds}
-use Rattle.lists.specs.Read.{namedIn, isId, homeBy, Read}
+use Rattle.lists.proofs.Written.{WordIds}
+use Rattle.lists.proofs.Read.{namedIn, isId, homeBy, Read}
 use Rattle.lists.proofs.Along.{list-written}
 use Rattle.lists.proofs.OneMore.{list-image, list-below}
 

@@ -4,11 +4,11 @@ use mathlib.Core.Path.{_≡_, sym, ap, _∙_}
 use mathlib.Core.List.{List}
 use lib.ListN.{length}
 use Rattle.image.specs.declared.Mode.the-variants.{Twoway}
-use Rattle.image.specs.Record.{headSize, image}
+use Rattle.image.specs.Image.{headSize, image}
 use Rattle.answers.specs.Answer.{ofName, ofId, firstId, lastName}
 use Rattle.answers.proofs.Images.{first-none, last-none}
 use Rattle.lists.specs.Calls.{Call, accepted, sizeOf}
-use Rattle.lists.specs.Read.{Read}
+use Rattle.lists.proofs.Read.{Read}
 use Rattle.lists.specs.Demand3.{acceptedPuts, imageOf, OneList, TwoLists, Demand3}
 use Rattle.lists.specs.Corollaries.{Corollaries}
 use Rattle.lists.proofs.Members.{named-first, first-last, last-first}

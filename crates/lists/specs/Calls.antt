@@ -8,7 +8,7 @@ use mathlib.Core.List.{List, [], _∷_, _++_}
 use lib.ListN.{length}
 use lib.Dec.{eqb}
 use Rattle.image.specs.declared.Mode.{Mode}
-use Rattle.image.specs.Record.{Entry, backSize, backIn}
+use Rattle.image.specs.Image.{Entry, backSize, backIn}
 use Rattle.writer.specs.State.{State, tooLarge}
 use Rattle.writer.specs.Put.{putRefusal, afterPut}
 use Rattle.writer.specs.Close.{closeRefusal, afterClose}

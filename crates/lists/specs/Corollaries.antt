@@ -6,12 +6,12 @@ use mathlib.Core.List.{List, []}
 use mathlib.Core.Option.{some}
 use lib.ListN.{length}
 use Rattle.image.specs.declared.Mode.the-variants.{Twoway}
-use Rattle.image.specs.Record.{image}
+use Rattle.image.specs.Image.{image}
 use Rattle.reader.specs.Lookup.{lookup}
 use Rattle.answers.specs.Answer.{foundId, nameGiven, ofName, ofId, firstId}
 use Rattle.writer.specs.Close.{afterClose}
 use Rattle.lists.specs.Calls.{Call, puts}
-use Rattle.lists.specs.Demand3.{left, acceptedPuts, imageOf}
+use Rattle.lists.specs.Demand3.{stateLeft, acceptedPuts, imageOf}
 
 pub record Corollaries (buffer : List ℕ) (cs : List Call) : Type 0 where
   -- an id's name, looked up, is found, and gives the id of that name's first accepted put
@@ -23,4 +23,4 @@ pub record Corollaries (buffer : List ℕ) (cs : List Call) : Type 0 where
   -- a list without puts gives the empty image
   pub empty-image : puts cs ≡ [] → imageOf buffer cs ≡ image Twoway []
   -- closing twice gives the same image, and changes nothing more
-  pub closed-twice : afterClose (afterClose (left buffer cs)) ≡ afterClose (left buffer cs)
+  pub closed-twice : afterClose (afterClose (stateLeft buffer cs)) ≡ afterClose (stateLeft buffer cs)

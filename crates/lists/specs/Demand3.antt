@@ -7,47 +7,48 @@ use mathlib.Core.Logic.{_↔_}
 use mathlib.Core.List.{List, []}
 use mathlib.Core.Option.{none, some}
 use lib.ListN.{length, take}
+use Rattle.jhash.specs.Outcome.{value}
 use Rattle.image.specs.declared.Mode.the-variants.{Twoway}
-use Rattle.image.specs.Record.{Entry, headSize, image}
-use Rattle.reader.specs.Open.{opening, num}
+use Rattle.image.specs.Image.{Entry, headSize, image}
+use Rattle.reader.specs.Open.{opening}
 use Rattle.reader.specs.Lookup.{lookup}
 use Rattle.answers.specs.Answer.{foundId, nameGiven, ofName, ofId, tablePuts, firstId, lastName}
-use Rattle.reader.specs.Answers.{reads}
-use Rattle.writer.specs.State.{State, fresh, begun, beginning, countsBegun}
-use Rattle.writer.specs.Close.{size, closing, closedSize, afterClose}
+use Rattle.reader.specs.Cases.{reads}
+use Rattle.writer.specs.State.{State, fresh, beginning, countsBegun}
+use Rattle.writer.specs.Close.{closing, closedSize, afterClose}
 use Rattle.lists.specs.Calls.{Call, after, answers, acceptedBy, accepted, due, sizeOf, AllPermitted}
 
 -- a list starts from the record of an accepted two-way begin and that begin's buffer; what its calls answer, and what they leave
-abbrev pub given : List ℕ → List Call → List ℕ
-given buffer cs = answers (fresh Twoway buffer) cs
+abbrev pub answersGiven : List ℕ → List Call → List ℕ
+answersGiven buffer cs = answers (fresh Twoway buffer) cs
 
-abbrev pub left : List ℕ → List Call → State
-left buffer cs = after (fresh Twoway buffer) cs
+abbrev pub stateLeft : List ℕ → List Call → State
+stateLeft buffer cs = after (fresh Twoway buffer) cs
 
 -- its accepted puts: those whose answer is no refusal
 unfoldable pub acceptedPuts : List ℕ → List Call → List Entry
-acceptedPuts buffer cs = acceptedBy cs (given buffer cs)
+acceptedPuts buffer cs = acceptedBy cs (answersGiven buffer cs)
 
 -- the image of the one more close is the buffer's first bytes after it, as many as the size it gives
 unfoldable pub imageOf : List ℕ → List Call → List ℕ
-imageOf buffer cs = take (closedSize (left buffer cs)) (afterClose (left buffer cs) .buffer)
+imageOf buffer cs = take (closedSize (stateLeft buffer cs)) (afterClose (stateLeft buffer cs) .buffer)
 
 -- what demand 3 says of one list
 pub record OneList (buffer : List ℕ) (cs : List Call) : Type 0 where
   -- begin gives a fresh writer for this buffer: the record, and the table counts in what was lent for them
-  pub begins : beginning Twoway (length buffer) ≡ begun (fresh Twoway buffer .writer)
+  pub begins : beginning Twoway (length buffer) ≡ value (fresh Twoway buffer .writer)
   pub begins-counts : (lent : List ℕ) → countsBegun (length buffer) lent ≡ fresh Twoway buffer .counts
   -- each call is refused exactly when 01 says: by the buffer's length and the calls alone, never by 2 or 4, and no close
-  pub answered : given buffer cs ≡ due Twoway (length buffer) cs
-  pub permitted : AllPermitted cs (given buffer cs)
+  pub answered : answersGiven buffer cs ≡ due Twoway (length buffer) cs
+  pub permitted : AllPermitted cs (answersGiven buffer cs)
   pub decided : acceptedPuts buffer cs ≡ accepted Twoway (length buffer) cs
   -- one more close is accepted, and gives the size of 01's formula
-  pub closes : closing (left buffer cs) ≡ size (closedSize (left buffer cs))
-  pub sized : closedSize (left buffer cs) ≡ sizeOf Twoway (acceptedPuts buffer cs)
+  pub closes : closing (stateLeft buffer cs) ≡ value (closedSize (stateLeft buffer cs))
+  pub sized : closedSize (stateLeft buffer cs) ≡ sizeOf Twoway (acceptedPuts buffer cs)
   -- its image is the one that 01's rules give for the accepted puts
   pub imaged : imageOf buffer cs ≡ image Twoway (acceptedPuts buffer cs)
   -- the reader opens it, and num is their number: it cannot wrap
-  pub opened : opening (imageOf buffer cs) ≡ num (length (acceptedPuts buffer cs))
+  pub opened : opening (imageOf buffer cs) ≡ value (length (acceptedPuts buffer cs))
   -- each name gives the id of its first accepted put, and nothing exactly when no accepted put has it
   pub name-gives : (name : List ℕ) → foundId (lookup (imageOf buffer cs) name) ≡ firstId (ofName name (acceptedPuts buffer cs))
   pub name-nothing : (name : List ℕ) → (foundId (lookup (imageOf buffer cs) name) ≡ none) ↔ (ofName name (acceptedPuts buffer cs) ≡ [])

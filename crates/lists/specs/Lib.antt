@@ -1,7 +1,5 @@
 -- Lists of put and close calls, and what demand 3 says of them.
 pub mod Calls
-pub mod Written
-pub mod Read
 pub mod Demand3
 pub mod Corollaries
-pub mod Rows
+pub mod QuayRows

@@ -11,9 +11,9 @@ use lib.ListN.{length, getD}
 use Rattle.jhash.specs.NameHash.{hashOf}
 use Rattle.image.specs.Tables.{tableOf, start, next, order}
 use Rattle.image.proofs.Bools.{not-both}
-use Rattle.reader.specs.Open.{tableAt, bucketNumber, tableLeaves}
+use Rattle.image.specs.Head.{tableAt, bucketNumber, tableLeaves}
 use Rattle.reader.specs.Lookup.{Lookup, nothing, Seen, pass, ends, hit, see, decide, probe, searchTable, lookupHash, lookup}
-use Rattle.reader.specs.Answers.{reads}
+use Rattle.reader.specs.Cases.{reads}
 
 -- ---- how many buckets are read
 

@@ -9,12 +9,14 @@ use borrow.Author.Tests.{lt-ltb, le-ltb, lt-leb, ne-eqb, eqb-false}
 use lib.Dec.{ltb, lit<, lit≤}
 use lib.ListN.{length, drop, replicate}
 use lib.Seq.{drop-drop}
+use Rattle.jhash.specs.Outcome.{value, refusal}
 use Rattle.jhash.specs.NameHash.{hashOf}
 use Rattle.image.specs.Bytes.{word, le32}
 use Rattle.image.specs.Tables.{tableOf, next}
-use Rattle.image.specs.Record.{headBytes}
+use Rattle.image.specs.Image.{headBytes}
 use Rattle.image.proofs.Words.{word-drop}
-use Rattle.reader.specs.Open.{num, refusal, tableAt, bucketNumber, someLeaves, halves, opening}
+use Rattle.image.specs.Head.{tableAt, bucketNumber}
+use Rattle.reader.specs.Open.{someLeaves, halves, opening}
 use Rattle.reader.specs.Lookup.{nothing, pass, see, lookup}
 use Rattle.reader.proofs.Opens.{opening-by}
 use Rattle.reader.proofs.Searches.{see-by, rest, rest-start, rest-over, rest-seen, lookup-hash-by, lookup-by}
@@ -47,9 +49,9 @@ pub record Examples : Type 0 where
   -- C8: opening 2,071 bytes
   pub c8 : (image : List ℕ) → length image ≡ 2071 → opening image ≡ refusal 1
   -- C9: valid 2,072-byte head, table 0 with offset 0 and bucket number 7
-  pub c9 : opening (headOf (rowOf 0 7)) ≡ num 3
+  pub c9 : opening (headOf (rowOf 0 7)) ≡ value 3
   -- C10: three such with 4294967295
-  pub c10 : opening (headOf (rowOf 0 4294967295 ++ rowOf 0 4294967295 ++ rowOf 0 4294967295)) ≡ num 2147483645
+  pub c10 : opening (headOf (rowOf 0 4294967295 ++ rowOf 0 4294967295 ++ rowOf 0 4294967295)) ≡ value 2147483645
   -- C12: table with one bucket, taken by another hash. Of every image and name, and of one such image
   pub c12 : (image name : List ℕ) → OneTaken image name → lookup image name ≡ nothing 1
   pub c12-image : OneTaken oneBucket []
@@ -89,11 +91,11 @@ leaves-rows image (suc m) t =
 
 -- opening a head
 opens : (rows : List ℕ) (n : ℕ) → ltb (length (headOf rows)) 2072 ≡ false → rowLeaves (length (headOf rows)) 256 (drop 24 (headOf rows)) ≡ false
-    → rowHalves 256 (drop 24 (headOf rows)) % 2 ^ 32 ≡ n → opening (headOf rows) ≡ num n
+    → rowHalves 256 (drop 24 (headOf rows)) % 2 ^ 32 ≡ n → opening (headOf rows) ≡ value n
 unfolding headOf headBytes le32 word
 opens rows n e f g =
     sym (opening-by (headOf rows) false true true false false e refl refl (leaves-rows (headOf rows) 256 0 ∙ f) refl)
-    ∙ ap num (ap (λ (k : ℕ). k % 2 ^ 32) (halves-rows (headOf rows) 256 0) ∙ g)
+    ∙ ap value (ap (λ (k : ℕ). k % 2 ^ 32) (halves-rows (headOf rows) 256 0) ∙ g)
 
 -- ---- a table with one bucket
 

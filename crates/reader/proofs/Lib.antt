@@ -1,11 +1,11 @@
 -- Laws of reading. `Bounds` and `Walks` say of the rules what users ask besides the answers; `Examples` has 01's rows about reading.
 pub mod Equal
 pub mod Reciprocal
-pub mod Entries
+pub mod Unbroken
 pub mod Opens
 pub mod Searches
 pub mod Near
-pub mod Names
+pub mod Namings
 pub mod Walks
 pub mod Bounds
 pub mod Examples

@@ -8,8 +8,10 @@ use mathlib.Core.List.{List}
 use borrow.Author.Tests.{le-ltb}
 use lib.Dec.{eqb, ltb}
 use lib.ListN.{length}
+use Rattle.jhash.specs.Outcome.{Outcome, value, refusal}
 use Rattle.image.specs.Bytes.{word}
-use Rattle.reader.specs.Open.{num, refusal, tableAt, bucketNumber, backOffsetAt, tableLeaves, backLeaves, someLeaves, halves, hasLetters, opening}
+use Rattle.image.specs.Head.{tableAt, bucketNumber, backOffsetAt, tableLeaves, backLeaves}
+use Rattle.reader.specs.Open.{someLeaves, halves, hasLetters, opening}
 
 -- one table more of m that are left
 left-one : (t m : ℕ) → t < m → m - t ≡ suc (m - (t + 1))
@@ -77,11 +79,11 @@ pub opening-by : (image : List ℕ) (s l w t b : Bool)
     → (ltb 0 (backOffsetAt image) && backLeaves image) ≡ b
     → cond s (refusal 1)
     (cond (not l) (refusal 5)
-    (cond (not w) (refusal 6) (cond t (refusal 7) (cond b (refusal 8) (num (halves image 0 256 % 2 ^ 32))))))
+    (cond (not w) (refusal 6) (cond t (refusal 7) (cond b (refusal 8) (value (halves image 0 256 % 2 ^ 32))))))
     ≡ opening image
 unfolding opening
 opening-by image s l w t b es el ew et eb =
     sym
     (λ i. cond (es i) (refusal 1)
     (cond (not (el i)) (refusal 5)
-    (cond (not (ew i)) (refusal 6) (cond (et i) (refusal 7) (cond (eb i) (refusal 8) (num (halves image 0 256 % 2 ^ 32)))))))
+    (cond (not (ew i)) (refusal 6) (cond (et i) (refusal 7) (cond (eb i) (refusal 8) (value (halves image 0 256 % 2 ^ 32)))))))

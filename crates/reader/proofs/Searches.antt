@@ -9,8 +9,9 @@ use lib.ListN.{length, take, drop}
 use Rattle.jhash.specs.NameHash.{hashOf}
 use Rattle.image.specs.Bytes.{word, same}
 use Rattle.image.specs.Tables.{tableOf, start, next, order}
-use Rattle.reader.specs.Open.{tableAt, bucketNumber}
-use Rattle.reader.specs.Lookup.{Lookup, nothing, Seen, pass, ends, hit, nameOf, broken, seeEntry, see, decide, probe, searchTable, lookupHash, lookup}
+use Rattle.image.specs.Head.{tableAt, bucketNumber}
+use Rattle.image.specs.Stored.{nameOf, broken}
+use Rattle.reader.specs.Lookup.{Lookup, nothing, Seen, pass, ends, hit, seeEntry, see, decide, probe, searchTable, lookupHash, lookup}
 
 -- ---- what is seen in an entry and in a bucket
 

@@ -10,11 +10,11 @@ use native.Mathlib.Decide.{decLt}
 use native.Mathlib.Nat.{eq-or-lt-of-le}
 use lib.ListN.{replicate}
 use Rattle.image.specs.Bytes.{range}
-use Rattle.reader.specs.Open.{backSizeAt}
+use Rattle.image.specs.Head.{backSizeAt}
 use Rattle.reader.specs.Naming.{Naming, place, unnamed, noBack, naming}
 use Rattle.reader.specs.Walk.{Step, done, stepOf, step, upperHint}
-use Rattle.reader.specs.Steps.{standsAfter, steps}
-use Rattle.reader.proofs.Names.{named, never, hint-back}
+use Rattle.reader.specs.WalkSteps.{standsAfter, steps}
+use Rattle.reader.proofs.Namings.{named, never, hint-back}
 
 -- ---- one step
 

@@ -3,5 +3,5 @@ pub mod Open
 pub mod Lookup
 pub mod Naming
 pub mod Walk
-pub mod Steps
-pub mod Answers
+pub mod WalkSteps
+pub mod Cases

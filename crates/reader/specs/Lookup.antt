@@ -1,14 +1,15 @@
 -- Looking up a name: 01, "Looking up a name".
-use Prim.Native.Nat.{ℕ, zero, suc, _+_, _*_, _-_}
-use mathlib.Core.Bool.{Bool, true, false, cond, not, _&&_, _||_}
+use Prim.Native.Nat.{ℕ, _+_, _*_}
+use mathlib.Core.Bool.{cond, _||_}
 use mathlib.Core.List.{List, [], _∷_}
-use lib.ListN.{length, take, drop}
+use lib.ListN.{length}
 use lib.Dec.{eqb, ltb, leb}
 use Rattle.jhash.specs.NameHash.{hashOf}
 use Rattle.image.specs.Bytes.{word, same}
 use Rattle.image.specs.Tables.{tableOf, start, order}
-use Rattle.image.specs.Record.{headSize}
-use Rattle.reader.specs.Open.{tableAt, bucketNumber, tableLeaves}
+use Rattle.image.specs.Image.{headSize}
+use Rattle.image.specs.Head.{tableAt, bucketNumber, tableLeaves}
+use Rattle.image.specs.Stored.{nameOf, broken}
 
 -- the answer: found with its id, or nothing; both carry the number of buckets read, the deciding one included
 pub data Lookup : Type 0 where
@@ -20,14 +21,6 @@ pub data Seen : Type 0 where
   pass : Seen
   ends : Seen
   hit : ℕ → Seen
-
--- the name of an entry whose length word says its length plus 1
-abbrev pub nameOf : List ℕ → ℕ → List ℕ
-nameOf image at = take (word image (at + 4) - 1) (drop (at + 8) image)
-
--- an entry is broken where its first 8 bytes or its name leave the image, or its length word is 0
-abbrev pub broken : List ℕ → ℕ → Bool
-broken image at = ltb (length image) (at + 8) || eqb (word image (at + 4)) 0 || ltb (length image) (at + 8 + (word image (at + 4) - 1))
 
 -- a broken entry ends with nothing; an equal name ends with its id; another name is passed
 unfoldable pub seeEntry : List ℕ → List ℕ → ℕ → Seen

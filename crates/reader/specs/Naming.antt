@@ -5,9 +5,9 @@ use mathlib.Core.List.{List, []}
 use lib.ListN.{length, take, drop}
 use lib.Dec.{eqb, ltb, leb}
 use Rattle.image.specs.Bytes.{word}
-use Rattle.image.specs.Record.{headSize}
-use Rattle.reader.specs.Open.{backSizeAt, backOffsetAt, backLeaves}
-use Rattle.reader.specs.Lookup.{broken}
+use Rattle.image.specs.Image.{headSize}
+use Rattle.image.specs.Head.{backSizeAt, backOffsetAt, backLeaves}
+use Rattle.image.specs.Stored.{broken}
 
 -- the answer: the place of the name, its first byte's offset and its length; or nothing
 pub data Naming : Type 0 where

@@ -4,34 +4,10 @@ use mathlib.Core.Bool.{Bool, true, false, cond, not, _&&_, _||_}
 use mathlib.Core.List.{List}
 use lib.ListN.{length, getD}
 use lib.Dec.{eqb, ltb}
+use Rattle.jhash.specs.Outcome.{Outcome, value, refusal}
 use Rattle.image.specs.Bytes.{word}
-use Rattle.image.specs.Record.{headSize}
-
--- an opened image answers its number of associations, num; or opening is refused by a number
-pub data Opening : Type 0 where
-  num : ℕ → Opening
-  refusal : ℕ → Opening
-
--- 01, "The image record", 24 + 8t: table t's offset, then its bucket number
-abbrev pub tableAt : List ℕ → ℕ → ℕ
-tableAt image t = word image (24 + 8 * t)
-
-abbrev pub bucketNumber : List ℕ → ℕ → ℕ
-bucketNumber image t = word image (28 + 8 * t)
-
--- 16: back size. 20: back offset
-abbrev pub backSizeAt : List ℕ → ℕ
-backSizeAt image = word image 16
-
-abbrev pub backOffsetAt : List ℕ → ℕ
-backOffsetAt image = word image 20
-
--- a table leaves the image when offset + 8 × bucket number exceeds its length, a back array when offset + 4 × back size does, also at number 0
-abbrev pub tableLeaves : List ℕ → ℕ → Bool
-tableLeaves image t = ltb (length image) (tableAt image t + 8 * bucketNumber image t)
-
-abbrev pub backLeaves : List ℕ → Bool
-backLeaves image = ltb (length image) (backOffsetAt image + 4 * backSizeAt image)
+use Rattle.image.specs.Image.{headSize}
+use Rattle.image.specs.Head.{tableAt, bucketNumber, backOffsetAt, tableLeaves, backLeaves}
 
 -- does one of the m tables from t on, with an offset above 0, leave the image?
 unfoldable pub someLeaves : List ℕ → ℕ → ℕ → Bool
@@ -49,11 +25,11 @@ hasLetters image = eqb (getD image 0 0) 67 && eqb (getD image 1 0) 81 && eqb (ge
 
 -- the first that applies: 1 under 2,072 bytes, 5 for wrong letters, 6 for a wrong word at 12, 7 when a table with offset above 0 leaves the image,
 -- 8 when a back array with offset above 0 does. Otherwise num: the sum of halves over all 256 tables, modulo 2^32
-unfoldable pub opening : List ℕ → Opening
+unfoldable pub opening : List ℕ → Outcome ℕ
 opening image =
     cond (ltb (length image) headSize) (refusal 1)
     (cond (not (hasLetters image)) (refusal 5)
     (cond (not (eqb (word image 12) 0x62445371)) (refusal 6)
     (cond (someLeaves image 0 256) (refusal 7)
     (cond (ltb 0 (backOffsetAt image) && backLeaves image) (refusal 8)
-    (num (halves image 0 256 % 2 ^ 32))))))
+    (value (halves image 0 256 % 2 ^ 32))))))

@@ -17,14 +17,10 @@ pub use walk::home;
 // The head is 2,072 bytes.
 const HEAD_SIZE: usize = 2072;
 
-// What opening answers: the number of associations (`num`), or the refusal that applies first.
+// What opening answers: the number of associations (`num`), or the number of the refusal that applies first.
 pub enum Opened {
     Num(u32),
-    TooShort,
-    WrongLetters,
-    WrongByteOrder,
-    TableLeaves,
-    BackLeaves,
+    Refused(u32),
 }
 
 // What a lookup answers: the id, or nothing; both with the number of buckets that the search reads, the deciding one included.

@@ -1,7 +1,7 @@
 // Naming an id (reference `to_str`).
 ghost use mathlib.Core.Path.{_≡_};
 ghost use Rattle.reader.specs.Naming.{noBack, naming, namePart, nameOr};
-ghost use Rattle.reader.specs.Answers.{namingOf};
+ghost use Rattle.reader.specs.Cases.{namingOf};
 use super::HEAD_SIZE;
 use super::Named;
 use super::lookup::broken;

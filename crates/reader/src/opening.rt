@@ -4,8 +4,9 @@ ghost use mathlib.Core.Bool.{false, _&&_};
 ghost use Prim.Native.Nat.{_+_, _*_, _/_, _%_, _^_, _<_, _≤_};
 ghost use lib.Dec.{ltb};
 ghost use lib.ListN.{length};
-ghost use Rattle.reader.specs.Open.{hasLetters, someLeaves, halves, backLeaves, opening};
-ghost use Rattle.reader.specs.Answers.{openedOf};
+ghost use Rattle.image.specs.Head.{backLeaves};
+ghost use Rattle.reader.specs.Open.{hasLetters, someLeaves, halves, opening};
+ghost use Rattle.reader.specs.Cases.{openedOf};
 use super::HEAD_SIZE;
 use super::Opened;
 use super::words::word;
@@ -121,27 +122,28 @@ pub(crate) fn back_leaves(image: &[u8]) -> bool
     image.len() < at + 4 * n
 }
 
-// The number of associations of an image, or why it is refused. The size and flag words are not looked at, and bytes
+// The number of associations of an image, or why it is refused: 1 for too few bytes, 5 for other letters, 6 for another word at
+// 12, 7 for a table that leaves the image, 8 for such a back array. The size and flag words are not looked at, and bytes
 // may follow the image.
 pub fn open(image: &[u8]) -> Opened
     ensures { λ r. ⌜ openedOf r ≡ opening (now (image .entry)) ⌝ }
 {
     if image.len() < HEAD_SIZE {
-        return Opened::TooShort;
+        return Opened::Refused(1);
     }
     if !has_letters(image) {
-        return Opened::WrongLetters;
+        return Opened::Refused(5);
     }
     if word(image, 12) != BYTEORDER_CHECK {
-        return Opened::WrongByteOrder;
+        return Opened::Refused(6);
     }
     let all = all_tables(image);
     if some_leaves(image, all.rooms) {
-        return Opened::TableLeaves;
+        return Opened::Refused(7);
     }
     if 0 < word(image, 20) {
         if back_leaves(image) {
-            return Opened::BackLeaves;
+            return Opened::Refused(8);
         }
     }
     Opened::Num(all.num)

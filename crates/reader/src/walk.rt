@@ -1,7 +1,7 @@
 // Walking over the ids, and the home check (reference `iter`, `next`, `size_hint`).
 ghost use mathlib.Core.Path.{_≡_};
 ghost use Rattle.reader.specs.Walk.{step, upperHint, home};
-ghost use Rattle.reader.specs.Answers.{steppedOf};
+ghost use Rattle.reader.specs.Cases.{steppedOf};
 use super::Iter;
 use super::Named;
 use super::Stepped;

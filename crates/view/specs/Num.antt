@@ -1,8 +1,8 @@
 -- The number of an opened image: 01, "Opening".
 use Prim.Native.Nat.{ℕ}
-use Rattle.reader.specs.Open.{Opening, num, refusal}
+use Rattle.jhash.specs.Outcome.{Outcome, value, refusal}
 
 -- the number that opening answers, 0 where it is refused
-abbrev pub numOf : Opening → ℕ
-numOf (num n) = n
+abbrev pub numOf : Outcome ℕ → ℕ
+numOf (value n) = n
 numOf (refusal k) = 0

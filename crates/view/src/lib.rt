@@ -5,7 +5,7 @@ ghost use Rattle.reader.specs.Open.{opening};
 ghost use Rattle.reader.specs.Lookup.{lookup};
 ghost use Rattle.reader.specs.Naming.{naming, namePart};
 ghost use Rattle.reader.specs.Walk.{step, home};
-ghost use Rattle.reader.specs.Answers.{openedOf, lookupOf, namingOf, steppedOf};
+ghost use Rattle.reader.specs.Cases.{openedOf, lookupOf, namingOf, steppedOf};
 ghost use Rattle.view.specs.Num.{numOf};
 use reader::Iter;
 use reader::Named;
@@ -23,11 +23,7 @@ pub fn num_of(image: &[u8]) -> u32
 {
     match reader::open(image) {
         Opened::Num(n) => n,
-        Opened::TooShort => 0,
-        Opened::WrongLetters => 0,
-        Opened::WrongByteOrder => 0,
-        Opened::TableLeaves => 0,
-        Opened::BackLeaves => 0,
+        Opened::Refused(_) => 0,
     }
 }
 

@@ -7,15 +7,16 @@ use mathlib.Core.List.{List}
 use lib.ListN.{length, getD}
 use lib.Dec.{eqb}
 use borrow.Author.Tests.{eqb-true}
-use Rattle.image.specs.Record.{backIn, backSize}
+use Rattle.image.specs.Image.{backIn, backSize}
 use Rattle.image.proofs.Bools.{first, second}
 use Rattle.writer.specs.State.{State, lent, fits, finishedSize, tooLarge}
-use Rattle.writer.specs.Close.{whole, entryArea, recorded, countsAgree, afterClose}
-use Rattle.writer.specs.Working.{written}
+use Rattle.image.specs.Stored.{whole}
+use Rattle.writer.specs.Close.{entryArea, recorded, countsAgree, afterClose}
+use Rattle.writer.specs.steps.Working.{written}
 use Rattle.writer.specs.declared.CQDBWriter.{CQDBWriter}
 use Rattle.writer.proofs.Fits.{Fitting, fitting, not-too-large}
 use Rattle.writer.proofs.Closes.{consistent, closes}
-use Rattle.writer.proofs.Written.{written-closed}
+use Rattle.writer.proofs.WrittenImage.{written-closed}
 
 pub closes-image : (w : CQDBWriter) (counts buf : List ℕ) → ((i : ℕ) → getD buf i 0 < 256) → fits (lent w counts buf) ≡ true
     → tooLarge (w .length) (finishedSize w) ≡ false → consistent (lent w counts buf) ≡ true

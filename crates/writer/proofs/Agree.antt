@@ -11,12 +11,11 @@ use lib.Dec.{eqb}
 use borrow.Author.Tests.{eq-eqb, ne-eqb}
 use Rattle.jhash.specs.NameHash.{hashOf}
 use Rattle.image.specs.Tables.{tableOf}
-use Rattle.image.specs.Record.{Entry, Placed, headSize, entrySize, placed, count, inTable}
+use Rattle.image.specs.Image.{Entry, Placed, headSize, entrySize, placed, count, inTable}
 use Rattle.image.proofs.Sizes.{count-nil, count-cons}
 use Rattle.image.proofs.All.{all-ext}
-use Rattle.writer.specs.Put.{raisedCounts, countsAfter}
 use Rattle.writer.specs.Close.{countsAgree}
-use Rattle.writer.specs.Working.{tallied, sameCounts}
+use Rattle.image.specs.Tally.{tallied, sameCounts, raisedCounts, countsAfter}
 
 -- no entries, no counts
 pub zeros : (n t : ℕ) → getD {A = ℕ} (replicate n 0) t 0 ≡ 0

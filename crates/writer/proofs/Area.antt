@@ -10,11 +10,11 @@ use lib.Seq.{drop-cons, drop-drop, getD-take, getD-drop}
 use lib.Dec.{eqb, leb}
 use borrow.Author.Tests.{leb-true, eqb-true}
 use Rattle.image.specs.Bytes.{word, le32, cat}
-use Rattle.image.specs.Record.{Entry, entryBytes}
+use Rattle.image.specs.Image.{Entry, entryBytes}
 use Rattle.image.proofs.Words.{word-drop, le32-bytes}
 use Rattle.image.proofs.Bools.{first, second}
-use Rattle.layout.proofs.Every.{All}
-use Rattle.writer.specs.Close.{firstEntry, afterFirst, firstWhole, whole, entriesIn}
+use Rattle.image.proofs.Every.{All}
+use Rattle.image.specs.Stored.{firstEntry, afterFirst, firstWhole, whole, entriesIn}
 
 -- ---- bytes
 

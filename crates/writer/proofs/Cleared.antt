@@ -8,16 +8,17 @@ use lib.ListN.{length, drop, replicate, length-append, length-drop, length-repli
 use lib.Seq.{sets, sets-eq, drop-drop}
 use lib.Dec.{eqb}
 use Rattle.image.specs.Bytes.{cat}
-use Rattle.image.specs.Record.{Entry, headSize, entryBytes, placed, flagWord, backIn, backSize, back, entriesEnd, imageSize, backOffset, headBytes, headWords, tableRows, links}
+use Rattle.image.specs.Image.{Entry, headSize, entryBytes, placed, flagWord, backIn, backSize, backSizeOf, entriesEnd, imageSize, backOffset, headBytes, headWords, tableRows, links}
 use Rattle.image.specs.declared.Mode.{Mode}
 use Rattle.image.specs.declared.Mode.the-variants.{Twoway, Oneway}
 use Rattle.image.proofs.Sizes.{length-placed, length-headWords, length-tableRows}
 use Rattle.image.proofs.Stores.{sets-then, sets-right-at}
-use Rattle.layout.proofs.Parts.{placedIn}
+use Rattle.image.proofs.Parts.{placedIn}
 use Rattle.writer.specs.declared.CQDBWriter.{CQDBWriter}
 use Rattle.writer.specs.State.{finishedSize}
-use Rattle.writer.specs.Working.{between, rowsFrom, backAt, cleared}
-use Rattle.writer.proofs.Rows.{Counts, rows-image}
+use Rattle.image.specs.Stored.{between}
+use Rattle.writer.specs.steps.Working.{rowsFrom, linksAt, cleared}
+use Rattle.writer.proofs.HeadRows.{Counts, rows-image}
 use Rattle.writer.proofs.Partial.{tablesWith, upToEntries, partial, zeros-both}
 
 -- ---- three stores: head, rows, and what follows the entries
@@ -51,7 +52,7 @@ stores buf h r z end size lh lr low lz high room =
 pub record Tells (w : CQDBWriter) (counts buf : List ℕ) (es : List Entry) : Type 0 where
   pub ends : w .end ≡ entriesEnd es
   pub number : w .entries ≡ length es
-  pub backs : w .back ≡ back (w .mode) es
+  pub backs : w .back ≡ backSizeOf (w .mode) es
   pub tallies : Counts counts (placedIn es)
   pub area : between buf headSize (w .end) ≡ cat entryBytes es
   pub room : finishedSize w ≤ length buf
@@ -61,38 +62,38 @@ backIn-twice Twoway n = refl
 backIn-twice Oneway n = refl
 
 module _ (w : CQDBWriter) (counts buf : List ℕ) (es : List Entry) (tells : Tells w counts buf es) where
-  told-back : backIn (w .mode) (w .back) ≡ back (w .mode) es
+  told-back : backIn (w .mode) (w .back) ≡ backSizeOf (w .mode) es
   told-back = ap (backIn (w .mode)) (tells .backs) ∙ backIn-twice (w .mode) (backSize es)
 
   pub told-size : finishedSize w ≡ imageSize (w .mode) es
   told-size = omega (arith, told-back, tells .ends, tells .number)
 
-  pub told-links : backAt w ≡ backOffset (w .mode) es
-  unfolding backAt backOffset
+  pub told-links : linksAt w ≡ backOffset (w .mode) es
+  unfolding linksAt backOffset
   told-links =
       let e : w .end + 16 * w .entries ≡ entriesEnd es + 16 * length es = omega (arith, tells .ends, tells .number) in
       ap (λ (n : ℕ). cond (eqb n 0) 0 (w .end + 16 * w .entries)) told-back
-      ∙ ap (λ (o : ℕ). cond (eqb (back (w .mode) es) 0) 0 o) e
+      ∙ ap (λ (o : ℕ). cond (eqb (backSizeOf (w .mode) es) 0) 0 o) e
 
-  head-told : headBytes (finishedSize w) (flagWord (w .mode)) (backIn (w .mode) (w .back)) (backAt w) ≡ headWords (w .mode) es
+  head-told : headBytes (finishedSize w) (flagWord (w .mode)) (backIn (w .mode) (w .back)) (linksAt w) ≡ headWords (w .mode) es
   unfolding headWords
   head-told =
-      ap (λ (n : ℕ). headBytes n (flagWord (w .mode)) (backIn (w .mode) (w .back)) (backAt w)) told-size
-      ∙ ap (λ (n : ℕ). headBytes (imageSize (w .mode) es) (flagWord (w .mode)) n (backAt w)) told-back
-      ∙ ap (headBytes (imageSize (w .mode) es) (flagWord (w .mode)) (back (w .mode) es)) told-links
+      ap (λ (n : ℕ). headBytes n (flagWord (w .mode)) (backIn (w .mode) (w .back)) (linksAt w)) told-size
+      ∙ ap (λ (n : ℕ). headBytes (imageSize (w .mode) es) (flagWord (w .mode)) n (linksAt w)) told-back
+      ∙ ap (headBytes (imageSize (w .mode) es) (flagWord (w .mode)) (backSizeOf (w .mode) es)) told-links
 
   rows-told : rowsFrom counts (w .end) 0 256 ≡ tableRows (entriesEnd es) (placedIn es)
   rows-told = ap (λ (o : ℕ). rowsFrom counts o 0 256) (tells .ends) ∙ rows-image counts (entriesEnd es) (placedIn es) (tells .tallies)
 
-  zeros-told : replicate (finishedSize w - w .end) 0 ≡ tablesWith (placedIn es) [] ++ links [] (back (w .mode) es)
+  zeros-told : replicate (finishedSize w - w .end) 0 ≡ tablesWith (placedIn es) [] ++ links [] (backSizeOf (w .mode) es)
   zeros-told =
-      zeros-both (placedIn es) (back (w .mode) es) (finishedSize w - w .end)
+      zeros-both (placedIn es) (backSizeOf (w .mode) es) (finishedSize w - w .end)
       (omega (arith, told-back, tells .number, length-placed headSize es))
 
   pub cleared-partial : cleared w counts buf ≡ partial (w .mode) es [] ++ drop (finishedSize w) buf
   unfolding cleared partial upToEntries placed
   cleared-partial =
-      let h = headBytes (finishedSize w) (flagWord (w .mode)) (backIn (w .mode) (w .back)) (backAt w) in
+      let h = headBytes (finishedSize w) (flagWord (w .mode)) (backIn (w .mode) (w .back)) (linksAt w) in
       let r = rowsFrom counts (w .end) 0 256 in
       let z : List ℕ = replicate (finishedSize w - w .end) 0 in
       let tail = drop (finishedSize w) buf in
@@ -104,4 +105,4 @@ module _ (w : CQDBWriter) (counts buf : List ℕ) (es : List Entry) (tells : Tel
       ∙ ap (λ (l : List ℕ). headWords (w .mode) es ++ l ++ between buf headSize (w .end) ++ z ++ tail) rows-told
       ∙ ap (λ (l : List ℕ). headWords (w .mode) es ++ tableRows (entriesEnd es) (placedIn es) ++ l ++ z ++ tail) (tells .area)
       ∙ ap (λ (l : List ℕ). upToEntries (w .mode) es ++ l ++ tail) zeros-told
-      ∙ ap (λ (l : List ℕ). l ++ tail) (sym (append-assoc (upToEntries (w .mode) es) (tablesWith (placedIn es) []) (links [] (back (w .mode) es))))
+      ∙ ap (λ (l : List ℕ). l ++ tail) (sym (append-assoc (upToEntries (w .mode) es) (tablesWith (placedIn es) []) (links [] (backSizeOf (w .mode) es))))

@@ -8,10 +8,12 @@ use lib.ListN.{length, drop, replicate}
 use lib.Seq.{sets}
 use borrow.Author.Tests.{eq-eqb, ne-eqb}
 use lib.Dec.{eqb}
-use Rattle.image.specs.Record.{backIn, backSize, flagWord, headBytes, image}
+use Rattle.jhash.specs.Outcome.{Outcome, value, refusal}
+use Rattle.image.specs.Image.{backIn, backSize, flagWord, headBytes, image}
 use Rattle.writer.specs.State.{State, lent, fits, finishedSize, tooLarge}
-use Rattle.writer.specs.Close.{Closing, size, refusal, whole, entryArea, recorded, countsAgree, closeRefusal, closedSize, closed, afterClose, closing}
-use Rattle.writer.specs.Working.{backAt, rowsFrom, cleared, takenFrom, written}
+use Rattle.image.specs.Stored.{whole}
+use Rattle.writer.specs.Close.{entryArea, recorded, countsAgree, closeRefusal, closedSize, closed, afterClose, closing}
+use Rattle.writer.specs.steps.Working.{linksAt, rowsFrom, cleared, takenFrom, written}
 use Rattle.writer.specs.declared.CQDBWriter.{CQDBWriter}
 
 -- are the entries whole, and have they the record's counts and back size?
@@ -35,22 +37,22 @@ module _ (s : State) where
   differs h k = rw (h, k) (refl, refl)
 
   pub closes : fits s ≡ true → tooLarge (s .writer .length) (finishedSize (s .writer)) ≡ false → consistent s ≡ true
-      → (size (closedSize s) ≡ closing s) × (closed s ≡ afterClose s)
+      → (value (closedSize s) ≡ closing s) × (closed s ≡ afterClose s)
   unfolding closeRefusal closing afterClose
   closes h k l = rw (h, k, l) (refl, refl)
 
 -- where the back array stands
-pub backAt-none : (w : CQDBWriter) (n : ℕ) → n ≡ backIn (w .mode) (w .back) → n ≡ 0 → 0 ≡ backAt w
-unfolding backAt
-backAt-none w n e z = rw (eq-eqb (backIn (w .mode) (w .back)) 0 (sym e ∙ z))
+pub linksAt-none : (w : CQDBWriter) (n : ℕ) → n ≡ backIn (w .mode) (w .back) → n ≡ 0 → 0 ≡ linksAt w
+unfolding linksAt
+linksAt-none w n e z = rw (eq-eqb (backIn (w .mode) (w .back)) 0 (sym e ∙ z))
 
-pub backAt-some : (w : CQDBWriter) (n : ℕ) → n ≡ backIn (w .mode) (w .back) → (n ≡ 0 → ⊥) → w .end + 16 * w .entries ≡ backAt w
-unfolding backAt
-backAt-some w n e z = rw (ne-eqb (backIn (w .mode) (w .back)) 0 (λ y. z (e ∙ y)))
+pub linksAt-some : (w : CQDBWriter) (n : ℕ) → n ≡ backIn (w .mode) (w .back) → (n ≡ 0 → ⊥) → w .end + 16 * w .entries ≡ linksAt w
+unfolding linksAt
+linksAt-some w n e z = rw (ne-eqb (backIn (w .mode) (w .back)) 0 (λ y. z (e ∙ y)))
 
-pub backAt-le : (w : CQDBWriter) → backAt w ≤ w .end + 16 * w .entries
-unfolding backAt
-backAt-le w = go (eqb (backIn (w .mode) (w .back)) 0)
+pub linksAt-le : (w : CQDBWriter) → linksAt w ≤ w .end + 16 * w .entries
+unfolding linksAt
+linksAt-le w = go (eqb (backIn (w .mode) (w .back)) 0)
   where
     go : (b : Bool) → cond b 0 (w .end + 16 * w .entries) ≤ w .end + 16 * w .entries
     go true = omega arith
@@ -58,12 +60,12 @@ backAt-le w = go (eqb (backIn (w .mode) (w .back)) 0)
 
 -- all steps of writing
 pub written-parts : (w : CQDBWriter) (counts buf b1 b2 b3 b4 : List ℕ) (n f k l : ℕ)
-    → n ≡ finishedSize w → f ≡ flagWord (w .mode) → k ≡ backIn (w .mode) (w .back) → l ≡ backAt w
+    → n ≡ finishedSize w → f ≡ flagWord (w .mode) → k ≡ backIn (w .mode) (w .back) → l ≡ linksAt w
     → b1 ≡ sets buf 0 (headBytes n f k l) → b2 ≡ sets b1 24 (rowsFrom counts (w .end) 0 256) → b3 ≡ sets b2 (w .end) (replicate (n - w .end) 0)
     → b4 ≡ takenFrom (w .mode) l (w .end) (w .entries) 2072 b3 → b4 ≡ written w counts buf
 unfolding written cleared
 written-parts w counts buf b1 b2 b3 b4 n f k l en ef ek el p q r s =
-    let first : b1 ≡ sets buf 0 (headBytes (finishedSize w) (flagWord (w .mode)) (backIn (w .mode) (w .back)) (backAt w)) =
+    let first : b1 ≡ sets buf 0 (headBytes (finishedSize w) (flagWord (w .mode)) (backIn (w .mode) (w .back)) (linksAt w)) =
     p ∙ ap (λ (x : ℕ). sets buf 0 (headBytes x f k l)) en ∙ ap (λ (x : ℕ). sets buf 0 (headBytes (finishedSize w) x k l)) ef
     ∙ ap₂ (λ (x : ℕ) (y : ℕ). sets buf 0 (headBytes (finishedSize w) (flagWord (w .mode)) x y)) ek el in
     let second = q ∙ ap (λ (x : List ℕ). sets x 24 (rowsFrom counts (w .end) 0 256)) first in

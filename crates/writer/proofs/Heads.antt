@@ -9,10 +9,10 @@ use lib.ListN.{length, getD, set, replicate, length-append, length-set}
 use lib.Seq.{sets, length-sets}
 use lib.Dec.{eqb}
 use Rattle.image.specs.Bytes.{le32}
-use Rattle.image.specs.Record.{headBytes}
+use Rattle.image.specs.Image.{headBytes}
 use Rattle.image.proofs.Words.{length-le32}
 use Rattle.image.proofs.Stores.{sets-append, sets-then}
-use Rattle.writer.specs.Working.{rowsFrom}
+use Rattle.writer.specs.steps.Working.{rowsFrom}
 
 -- a digit of a word is that of its low 32 bits
 digit-one : (v q : ℕ) → (v + q * 4294967296) / 256 % 256 ≡ v / 256 % 256
@@ -56,12 +56,12 @@ le32-low w =
     sym (low-bytes (w % 4294967296) (w / 4294967296)) ∙ ap le32 e
 
 -- six words in a row
-pub head-stored : (b b1 b2 b3 b4 b5 b6 : List ℕ) (size mode back at : ℕ)
-    → b1 ≡ sets b 0 (le32 0x42445143) → b2 ≡ sets b1 4 (le32 size) → b3 ≡ sets b2 8 (le32 mode) → b4 ≡ sets b3 12 (le32 0x62445371)
-    → b5 ≡ sets b4 16 (le32 back) → b6 ≡ sets b5 20 (le32 at) → b6 ≡ sets b 0 (headBytes size mode back at)
+pub head-stored : (b b1 b2 b3 b4 b5 b6 : List ℕ) (size flag back at : ℕ)
+    → b1 ≡ sets b 0 (le32 0x42445143) → b2 ≡ sets b1 4 (le32 size) → b3 ≡ sets b2 8 (le32 flag) → b4 ≡ sets b3 12 (le32 0x62445371)
+    → b5 ≡ sets b4 16 (le32 back) → b6 ≡ sets b5 20 (le32 at) → b6 ≡ sets b 0 (headBytes size flag back at)
 unfolding headBytes le32
-head-stored b b1 b2 b3 b4 b5 b6 size mode back at p q r s t u =
-    u ∙ ap (λ (l : List ℕ). sets l 20 (le32 at)) (t ∙ ap (λ (l : List ℕ). sets l 16 (le32 back)) (s ∙ ap (λ (l : List ℕ). sets l 12 (le32 0x62445371)) (r ∙ ap (λ (l : List ℕ). sets l 8 (le32 mode)) (q ∙ ap (λ (l : List ℕ). sets l 4 (le32 size)) p))))
+head-stored b b1 b2 b3 b4 b5 b6 size flag back at p q r s t u =
+    u ∙ ap (λ (l : List ℕ). sets l 20 (le32 at)) (t ∙ ap (λ (l : List ℕ). sets l 16 (le32 back)) (s ∙ ap (λ (l : List ℕ). sets l 12 (le32 0x62445371)) (r ∙ ap (λ (l : List ℕ). sets l 8 (le32 flag)) (q ∙ ap (λ (l : List ℕ). sets l 4 (le32 size)) p))))
 
 -- ---- rows
 

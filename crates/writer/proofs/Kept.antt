@@ -9,16 +9,17 @@ use lib.ListN.{length, getD, take, drop, set, length-drop}
 use lib.Seq.{sets, drop-set-lt, take-append-le, drop-append-le}
 use lib.Dec.{eqb}
 use Rattle.image.specs.Bytes.{cat}
-use Rattle.image.specs.Record.{Entry, headSize, entryBytes, entrySize, entriesSize, entriesEnd, backIn, backSize, imageSize, image}
+use Rattle.image.specs.Image.{Entry, headSize, entryBytes, entrySize, entriesSize, entriesEnd, backIn, backSize, imageSize, image}
 use Rattle.image.specs.declared.Mode.{Mode}
 use Rattle.image.proofs.Sizes.{length-entryBytes, length-entries, length-image}
-use Rattle.layout.proofs.At.{At, at-take}
-use Rattle.layout.proofs.Parts.{entries-at}
+use Rattle.image.proofs.At.{At, at-take}
+use Rattle.image.proofs.Parts.{entries-at}
 use Rattle.writer.specs.State.{State, lent, fits, finishedSize, tooLarge}
 use Rattle.writer.specs.Put.{putRefusal, appended, afterPut}
-use Rattle.writer.specs.Close.{whole, entryArea, recorded, countsAgree, closeRefusal, closedSize, closed, afterClose}
+use Rattle.image.specs.Stored.{whole}
+use Rattle.writer.specs.Close.{entryArea, recorded, countsAgree, closeRefusal, closedSize, closed, afterClose}
 use Rattle.writer.proofs.Between.{take-sets}
-use Rattle.writer.proofs.Written.{area-kept, recorded-end}
+use Rattle.writer.proofs.WrittenImage.{area-kept, recorded-end}
 
 -- ---- runs of stores
 

@@ -1,22 +1,22 @@
 -- Laws about the writer's rules.
 pub mod Joined
 pub mod Fits
-pub mod Entries
+pub mod EntryStored
 pub mod Puts
 pub mod Area
 pub mod Between
-pub mod Walk
+pub mod EntryWalk
 pub mod Agree
 pub mod Heads
 pub mod Empties
 pub mod Taking
 pub mod Noting
 pub mod Closes
-pub mod Rows
+pub mod HeadRows
 pub mod Partial
 pub mod Cleared
 pub mod OneMore
 pub mod Turn
-pub mod Written
+pub mod WrittenImage
 pub mod Accepted
 pub mod Kept

@@ -15,7 +15,8 @@ use Rattle.image.specs.Bytes.{word, le32}
 use Rattle.image.specs.Tables.{tableOf, start, order, firstEmpty}
 use Rattle.image.specs.declared.Mode.{Mode}
 use Rattle.image.specs.declared.Mode.the-variants.{Twoway, Oneway}
-use Rattle.writer.specs.Working.{between, wholeLength, slot, withBucket, withLink, taken, takenFrom, placeOf, NotedFirst, Noted, linksApart}
+use Rattle.image.specs.Stored.{between, wholeLength}
+use Rattle.writer.specs.steps.Working.{slot, withBucket, withLink, taken, takenFrom, placeOf, NotedFirst, Noted, linksApart}
 use Rattle.writer.proofs.Between.{Front, front, length-between, word-between, name-between, between-same, word-same, take-sets}
 use Rattle.writer.proofs.Taking.{taken-parts, from-turn}
 

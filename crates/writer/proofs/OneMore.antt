@@ -12,12 +12,12 @@ use borrow.Author.Tests.{eq-eqb, ne-eqb}
 use Rattle.jhash.specs.NameHash.{hashOf}
 use Rattle.image.specs.Bytes.{le32, cat, keep, range}
 use Rattle.image.specs.Tables.{empty, tableOf, start, next, order, firstEmpty, atOf, insert, filled}
-use Rattle.image.specs.Record.{Placed, inTable, ofTable, count, bucketOf, bucketBytes, entriesBefore, hasId, ofId, lastFrom, link, links}
+use Rattle.image.specs.Image.{Placed, inTable, ofTable, count, bucketOf, bucketBytes, entriesBefore, hasId, ofId, lastFrom, link, links}
 use Rattle.image.proofs.Words.{length-le32}
 use Rattle.image.proofs.Lists.{length-cat, keep-yes, keep-no, keep-append, length-range}
 use Rattle.image.proofs.Sizes.{ofTable-append, filled-more, length-bucketBytes}
 use Rattle.image.proofs.Stores.{sets-part, sets-run}
-use Rattle.layout.proofs.Parts.{bucketsOf, length-tablesOf-to}
+use Rattle.image.proofs.Parts.{bucketsOf, length-tablesOf-to}
 use Rattle.writer.proofs.Partial.{tableWith, tablesWith, length-tableWith}
 
 -- ---- the first empty bucket of a search

@@ -7,13 +7,13 @@ use mathlib.Core.List.{List, [], _∷_, _++_, map}
 use lib.ListN.{length, replicate, length-append, replicate-append-replicate}
 use Rattle.image.specs.Bytes.{le32, cat, keep, range}
 use Rattle.image.specs.Tables.{Bucket, empty, filled, insertAll}
-use Rattle.image.specs.Record.{Entry, Placed, headSize, entryBytes, entriesSize, ofTable, count, bucketOf, bucketBytes, table, tableBytes, tables}
-use Rattle.image.specs.Record.{tableRows, ofId, lastFrom, link, links, back, entriesEnd, headWords, image}
+use Rattle.image.specs.Image.{Entry, Placed, headSize, entryBytes, entriesSize, ofTable, count, bucketOf, bucketBytes, table, tableBytes, tables}
+use Rattle.image.specs.Image.{tableRows, ofId, lastFrom, link, links, backSizeOf, entriesEnd, headWords, image}
 use Rattle.image.specs.declared.Mode.{Mode}
 use Rattle.image.proofs.Lists.{cat-append}
 use Rattle.image.proofs.Sizes.{length-entries, length-filled, length-headWords, length-tableRows, length-links}
-use Rattle.layout.proofs.At.{At, at-same, at-equal, at-right}
-use Rattle.layout.proofs.Parts.{placedIn, five-2, five-3, five-4, bucketsOf, length-tablesOf}
+use Rattle.image.proofs.At.{At, at-same, at-equal, at-right}
+use Rattle.image.proofs.Parts.{placedIn, five-2, five-3, five-4, bucketsOf, length-tablesOf}
 
 -- the tables of the entries ps that have taken the entries rs
 unfoldable pub tableWith : List Placed → List Placed → ℕ → List Bucket
@@ -43,7 +43,7 @@ length-upToEntries mode es =
 -- the image of the entries es whose tables and back array have taken the entries qs
 unfoldable pub partial : Mode → List Entry → List Entry → List ℕ
 unfolding upToEntries
-partial mode es qs = upToEntries mode es ++ tablesWith (placedIn es) (placedIn qs) ++ links (placedIn qs) (back mode es)
+partial mode es qs = upToEntries mode es ++ tablesWith (placedIn es) (placedIn qs) ++ links (placedIn qs) (backSizeOf mode es)
 
 -- ---- where its parts stand, whatever follows it
 
@@ -64,7 +64,7 @@ module _ (mode : Mode) (es qs : List Entry) (tail : List ℕ) where
   T = tablesWith (placedIn es) (placedIn qs)
 
   L : List ℕ
-  L = links (placedIn qs) (back mode es)
+  L = links (placedIn qs) (backSizeOf mode es)
 
   whole : At B 0 (H ++ R ++ E ++ T ++ L)
   unfolding B H R E T L partial upToEntries

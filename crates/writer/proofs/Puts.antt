@@ -11,9 +11,10 @@ use lib.Dec.{eqb, leb, ltb, lit<}
 use borrow.Author.Tests.{lt-ltb, leb-true}
 use Rattle.jhash.specs.NameHash.{hashOf}
 use Rattle.image.specs.Tables.{tableOf}
-use Rattle.image.specs.Record.{Entry, entryBytes}
+use Rattle.image.specs.Image.{Entry, entryBytes}
 use Rattle.writer.specs.State.{State, lent, fits, finishedSize, tooLarge}
-use Rattle.writer.specs.Put.{entryOf, writerWith, writerAfter, raisedCounts, countsAfter, putRefusal, appended, afterPut}
+use Rattle.image.specs.Tally.{raisedCounts, countsAfter}
+use Rattle.writer.specs.Put.{entryOf, writerWith, writerAfter, putRefusal, appended, afterPut}
 use Rattle.writer.specs.declared.CQDBWriter.{CQDBWriter}
 use Rattle.image.proofs.All.{all-each}
 use Rattle.writer.proofs.Fits.{Fitting, fitting, not-too-large}

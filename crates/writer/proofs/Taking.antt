@@ -15,7 +15,8 @@ use Rattle.image.specs.Tables.{tableOf, start, order, firstEmpty}
 use Rattle.image.specs.declared.Mode.{Mode}
 use Rattle.image.proofs.Words.{length-le32}
 use Rattle.image.proofs.Stores.{sets-then}
-use Rattle.writer.specs.Working.{between, wholeLength, slot, withBucket, withLink, taken, takenFrom}
+use Rattle.image.specs.Stored.{between, wholeLength}
+use Rattle.writer.specs.steps.Working.{slot, withBucket, withLink, taken, takenFrom}
 
 -- a search among some buckets begins at one of them
 pub start-below : (x n : ℕ) → (n ≡ 0 → ⊥) → x % n < n

@@ -12,20 +12,21 @@ use borrow.Author.Tests.{eq-eqb, ne-eqb}
 use Rattle.jhash.specs.NameHash.{hashOf}
 use Rattle.image.specs.Bytes.{word, le32, cat, range}
 use Rattle.image.specs.Tables.{Bucket, empty, tableOf, start, order, firstEmpty, atOf}
-use Rattle.image.specs.Record.{Entry, Placed, headSize, entryBytes, entrySize, entriesSize, placed, inTable, ofTable, count, bucketOf, bucketBytes}
-use Rattle.image.specs.Record.{entriesBefore, tableOffset, backSize, links, back, backOffset, entriesEnd, imageSize}
+use Rattle.image.specs.Image.{Entry, Placed, headSize, entryBytes, entrySize, entriesSize, placed, inTable, ofTable, count, bucketOf, bucketBytes}
+use Rattle.image.specs.Image.{entriesBefore, tableOffset, backSize, links, backSizeOf, backOffset, entriesEnd, imageSize}
 use Rattle.image.specs.declared.Mode.{Mode}
 use Rattle.image.specs.declared.Mode.the-variants.{Twoway, Oneway}
 use Rattle.image.proofs.Words.{length-le32}
 use Rattle.image.proofs.Lists.{cat-cons}
 use Rattle.image.proofs.Sizes.{length-entries, length-entryBytes, entriesSize-append, length-placed, placed-append, count-append, count-cons, length-bucketBytes, length-links}
 use Rattle.image.proofs.Stores.{sets-left, sets-right-at}
-use Rattle.layout.proofs.Every.{All, all-middle, all-keep, all-image}
-use Rattle.layout.proofs.Buckets.{filled-all}
-use Rattle.layout.proofs.At.{At, at-equal, at-left, at-take, at-word, at-second}
-use Rattle.layout.proofs.Parts.{placedIn, before-most, offset-word, number-word, bucket-of}
-use Rattle.layout.proofs.Entries.{id-word, length-word, name-bytes, ids-below}
-use Rattle.writer.specs.Working.{between, wholeLength, slot, withBucket, withLink, taken}
+use Rattle.image.proofs.Every.{All, all-middle, all-keep, all-image}
+use Rattle.image.proofs.Buckets.{filled-all}
+use Rattle.image.proofs.At.{At, at-equal, at-left, at-take, at-word, at-second}
+use Rattle.image.proofs.Parts.{placedIn, before-most, offset-word, number-word, bucket-of}
+use Rattle.image.proofs.EntryAt.{id-word, length-word, name-bytes, ids-below}
+use Rattle.image.specs.Stored.{between, wholeLength}
+use Rattle.writer.specs.steps.Working.{slot, withBucket, withLink, taken}
 use Rattle.writer.proofs.Between.{is-whole}
 use Rattle.writer.proofs.Partial.{tableWith, tablesWith, length-tableWith, length-tablesWith, upToEntries, length-upToEntries, partial}
 use Rattle.writer.proofs.Partial.{rows-there, tables-there, entries-from}
@@ -70,8 +71,8 @@ store-in a b c vs i j e h =
 -- the link of an entry, behind what stands before the back array
 linked : (mode : Mode) (es : List Entry) (rs : List Placed) (p : Placed) (front tail : List ℕ) → length front ≡ entriesEnd es + 16 * length es
     → p .entry .id < backSize es
-    → withLink mode (front ++ links rs (back mode es) ++ tail) (backOffset mode es) (p .entry .id) (p .at)
-    ≡ front ++ links (rs ++ p ∷ []) (back mode es) ++ tail
+    → withLink mode (front ++ links rs (backSizeOf mode es) ++ tail) (backOffset mode es) (p .entry .id) (p .at)
+    ≡ front ++ links (rs ++ p ∷ []) (backSizeOf mode es) ++ tail
 unfolding backOffset links range cat
 linked Twoway es rs p front tail n h =
     let i = p .entry .id in
@@ -221,7 +222,7 @@ module _ (mode : Mode) (es qs rest : List Entry) (e : Entry) (tail : List ℕ) (
   U : List ℕ
   U = upToEntries mode es
 
-  with-bucket : withBucket B (hashOf (e .name)) (headSize + entriesSize qs) ≡ U ++ tablesWith ps (rs ++ p ∷ []) ++ links rs (back mode es) ++ tail
+  with-bucket : withBucket B (hashOf (e .name)) (headSize + entriesSize qs) ≡ U ++ tablesWith ps (rs ++ p ∷ []) ++ links rs (backSizeOf mode es) ++ tail
   unfolding withBucket bucketBytes partial B U ps rs u p
   with-bucket =
       let h = hashOf (e .name) in
@@ -236,9 +237,9 @@ module _ (mode : Mode) (es qs rest : List Entry) (e : Entry) (tail : List ℕ) (
           omega (arith, length-bucketBytes (bucketOf p), length-tablesWith ps rs, before-most ps u u-below, place-below ps rs p some-there)
 
       bucket-stored : sets B (entriesEnd es + 16 * entriesBefore u ps + 8 * place ps rs p) (bucketBytes (bucketOf p))
-          ≡ U ++ tablesWith ps (rs ++ p ∷ []) ++ links rs (back mode es) ++ tail
+          ≡ U ++ tablesWith ps (rs ++ p ∷ []) ++ links rs (backSizeOf mode es) ++ tail
       bucket-stored =
-          let L = links rs (back mode es) in
+          let L = links rs (backSizeOf mode es) in
           let o = entriesEnd es + 16 * entriesBefore u ps + 8 * place ps rs p in
           let j = 16 * entriesBefore u ps + 8 * place ps rs p in
           ap (λ (l : List ℕ). sets l o (bucketBytes (bucketOf p))) (append-assoc (U ++ tablesWith ps rs) L tail)
@@ -251,7 +252,7 @@ module _ (mode : Mode) (es qs rest : List Entry) (e : Entry) (tail : List ℕ) (
   unfolding taken partial B ps rs p U
   turn =
       let at = headSize + entriesSize qs in
-      let L = links rs (back mode es) in
+      let L = links rs (backSizeOf mode es) in
       let F = U ++ tablesWith ps (rs ++ p ∷ []) in
       let n : length F ≡ entriesEnd es + 16 * length es =
       length-append U (tablesWith ps (rs ++ p ∷ [])) ∙ sum (length U) (length (tablesWith ps (rs ++ p ∷ []))) (length-upToEntries mode es) (length-tablesWith ps (rs ++ p ∷ [])) in
@@ -259,7 +260,7 @@ module _ (mode : Mode) (es qs rest : List Entry) (e : Entry) (tail : List ℕ) (
       ∙ ap (λ (l : List ℕ). withLink mode l (backOffset mode es) (word B at) at) with-bucket
       ∙ ap (λ (i : ℕ). withLink mode (F ++ L ++ tail) (backOffset mode es) i at) (id-word e here id-small)
       ∙ linked mode es rs p F tail n id-below
-      ∙ ap (λ (l : List Placed). U ++ tablesWith ps l ++ links l (back mode es) ++ tail) (sym (placed-more qs e))
+      ∙ ap (λ (l : List Placed). U ++ tablesWith ps l ++ links l (backSizeOf mode es) ++ tail) (sym (placed-more qs e))
     where
       sum : (a b : ℕ) → a ≡ entriesEnd es → b ≡ 16 * length (placedIn es) → a + b ≡ entriesEnd es + 16 * length es
       sum a b h k = omega (arith, length-placed headSize es)

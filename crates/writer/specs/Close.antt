@@ -1,37 +1,16 @@
 -- Close: 01, "Writing" and "When a call is refused".
-use Prim.Native.Nat.{ℕ, zero, suc, _+_, _*_, _-_}
-use mathlib.Core.Bool.{Bool, true, false, cond, not, _&&_, _||_}
-use mathlib.Core.List.{List, [], _∷_, _++_, map}
+use Prim.Native.Nat.{ℕ, _-_}
+use mathlib.Core.Bool.{Bool, cond, not, _&&_}
+use mathlib.Core.List.{List, _++_}
 use lib.ListN.{length, getD, take, drop}
-use lib.Dec.{eqb, leb}
-use Rattle.image.specs.Bytes.{word, all}
-use Rattle.image.specs.Record.{Entry, headSize, backSize, backIn, placed, count, image}
+use lib.Dec.{eqb}
+use Rattle.jhash.specs.Outcome.{Outcome, value, refusal}
+use Rattle.image.specs.Bytes.{all}
+use Rattle.image.specs.Image.{Entry, headSize, backSize, backIn, placed, count, image}
+use Rattle.image.specs.Stored.{whole, entriesIn}
 use Rattle.writer.specs.declared.Closed.{Closed}
-use Rattle.writer.specs.declared.Closed.the-variants.{Size, Unfit, Inconsistent}
+use Rattle.writer.specs.declared.Closed.the-variants.{Size, Refused}
 use Rattle.writer.specs.State.{State, fits, finishedSize, tooLarge}
-
--- the entry at the front of some bytes
-abbrev pub firstEntry : List ℕ → Entry
-firstEntry bytes = record { name = take (word bytes 4 - 1) (drop 8 bytes); id = word bytes 0 }
-
--- what follows it
-abbrev pub afterFirst : List ℕ → List ℕ
-afterFirst bytes = drop (8 + word bytes 4) bytes
-
--- is it whole? Length word at least 1, last byte zero
-abbrev pub firstWhole : List ℕ → Bool
-firstWhole bytes =
-    leb 8 (length bytes) && leb 1 (word bytes 4) && leb (8 + word bytes 4) (length bytes) && eqb (getD bytes (7 + word bytes 4) 0) 0
-
--- are the bytes this number of whole entries?
-unfoldable pub whole : ℕ → List ℕ → Bool
-whole zero bytes = eqb (length bytes) 0
-whole (suc n) bytes = firstWhole bytes && whole n (afterFirst bytes)
-
--- the entries that they are
-unfoldable pub entriesIn : ℕ → List ℕ → List Entry
-entriesIn zero bytes = []
-entriesIn (suc n) bytes = firstEntry bytes ∷ entriesIn n (afterFirst bytes)
 
 -- the bytes from 2,072 to end, and the entries there
 abbrev pub entryArea : State → List ℕ
@@ -72,15 +51,10 @@ unfoldable pub afterClose : State → State
 afterClose s = cond (eqb (closeRefusal s) 0) (closed s) s
 
 -- what close answers: the image's size, or the refusal's number
-pub data Closing : Type 0 where
-  size : ℕ → Closing
-  refusal : ℕ → Closing
-
-unfoldable pub closing : State → Closing
-closing s = cond (eqb (closeRefusal s) 0) (size (closedSize s)) (refusal (closeRefusal s))
+unfoldable pub closing : State → Outcome ℕ
+closing s = cond (eqb (closeRefusal s) 0) (value (closedSize s)) (refusal (closeRefusal s))
 
 -- 01's number and value for each case of close's answer
-abbrev pub closedOf : Closed → Closing
-closedOf (Size n) = size n
-closedOf Unfit = refusal 2
-closedOf Inconsistent = refusal 4
+abbrev pub closedOf : Closed → Outcome ℕ
+closedOf (Size n) = value n
+closedOf (Refused k) = refusal k

@@ -2,4 +2,4 @@
 pub mod State
 pub mod Put
 pub mod Close
-pub mod Working
+pub mod steps

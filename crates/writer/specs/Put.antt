@@ -2,17 +2,14 @@
 use Prim.Native.Nat.{ℕ, _+_, _*_, _%_, max}
 use mathlib.Core.Bool.{Bool, cond, not}
 use mathlib.Core.List.{List}
-use lib.ListN.{length, getD, set}
+use lib.ListN.{length}
 use lib.Seq.{sets}
 use lib.Dec.{eqb}
-use Rattle.jhash.specs.NameHash.{hashOf}
-use Rattle.image.specs.Tables.{tableOf}
-use Rattle.image.specs.Record.{Entry, entryBytes, entrySize}
+use Rattle.image.specs.Image.{Entry, entryBytes}
+use Rattle.image.specs.Tally.{countsAfter}
 use Rattle.image.specs.declared.Mode.{Mode}
 use Rattle.image.specs.declared.Mode.the-variants.{Twoway, Oneway}
 use Rattle.writer.specs.declared.CQDBWriter.{CQDBWriter}
-use Rattle.writer.specs.declared.Stored.{Stored}
-use Rattle.writer.specs.declared.Stored.the-variants.{Accepted, Misfit, NoRoom}
 use Rattle.writer.specs.State.{State, fits, finishedSize, tooLarge}
 
 -- in two-way mode the back size becomes the larger of itself and id + 1
@@ -40,15 +37,6 @@ unfoldable pub writerAfter : CQDBWriter → Entry → CQDBWriter
 unfolding writerWith
 writerAfter w e = writerWith w (length (e .name)) (e .id)
 
--- one more in the table of a hash
-unfoldable pub raisedCounts : List ℕ → ℕ → List ℕ
-raisedCounts counts h = set counts (tableOf h) (getD counts (tableOf h) 0 + 1)
-
--- the counts after this put
-unfoldable pub countsAfter : List ℕ → Entry → List ℕ
-unfolding raisedCounts
-countsAfter counts e = raisedCounts counts (hashOf (e .name))
-
 -- 2 when the record doesn't fit the buffer; then 3 when the finished size, all after this put, exceeds the buffer or 4,294,967,295. 0: no refusal
 unfoldable pub putRefusal : State → Entry → ℕ
 putRefusal s e = cond (not (fits s)) 2 (cond (tooLarge (s .writer .length) (finishedSize (writerAfter (s .writer) e))) 3 0)
@@ -65,9 +53,3 @@ appended s e =
 -- a refused put hands the record back unaltered, and no refusal changes a byte
 unfoldable pub afterPut : State → Entry → State
 afterPut s e = cond (eqb (putRefusal s e) 0) (appended s e) s
-
--- 01's number for each case of put's answer
-abbrev pub storedOf : Stored → ℕ
-storedOf Accepted = 0
-storedOf Misfit = 2
-storedOf NoRoom = 3

@@ -4,12 +4,13 @@ use mathlib.Core.Bool.{Bool, true, false, cond, not, _&&_, _||_}
 use mathlib.Core.List.{List}
 use lib.ListN.{length, getD, replicate}
 use lib.Dec.{eqb, ltb, leb}
+use Rattle.jhash.specs.Outcome.{Outcome, value, refusal}
 use Rattle.image.specs.Bytes.{all}
-use Rattle.image.specs.Record.{headSize, backIn}
+use Rattle.image.specs.Image.{headSize, backIn}
 use Rattle.image.specs.declared.Mode.{Mode}
 use Rattle.writer.specs.declared.CQDBWriter.{CQDBWriter}
 use Rattle.writer.specs.declared.Begun.{Begun}
-use Rattle.writer.specs.declared.Begun.the-variants.{Fresh, TooShort}
+use Rattle.writer.specs.declared.Begun.the-variants.{Fresh, Refused}
 
 -- what a call is lent: the writer record, of which the 256 table counts are lent apart, and the buffer
 pub record State : Type 0 where
@@ -52,18 +53,14 @@ abbrev pub beginRefusal : ℕ → ℕ
 beginRefusal n = cond (ltb n headSize) 1 0
 
 -- what begin answers: the fresh record, or only the refusal's number
-pub data Beginning : Type 0 where
-  begun : CQDBWriter → Beginning
-  refusal : ℕ → Beginning
-
-unfoldable pub beginning : Mode → ℕ → Beginning
-beginning mode n = cond (eqb (beginRefusal n) 0) (begun (freshWriter mode n)) (refusal (beginRefusal n))
+unfoldable pub beginning : Mode → ℕ → Outcome CQDBWriter
+beginning mode n = cond (eqb (beginRefusal n) 0) (value (freshWriter mode n)) (refusal (beginRefusal n))
 
 -- the table counts of a fresh record; a refused begin leaves what was lent for them as it was
 unfoldable pub countsBegun : ℕ → List ℕ → List ℕ
 countsBegun n counts = cond (eqb (beginRefusal n) 0) (replicate 256 0) counts
 
 -- 01's number and values for each case of begin's answer
-abbrev pub begunOf : Begun → Beginning
-begunOf (Fresh w) = begun w
-begunOf TooShort = refusal 1
+abbrev pub begunOf : Begun → Outcome CQDBWriter
+begunOf (Fresh w) = value w
+begunOf (Refused k) = refusal k

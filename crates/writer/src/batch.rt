@@ -7,7 +7,7 @@ ghost use Prim.Native.Nat.{ℕ, _+_, _*_, _<_, _≤_};
 ghost use lib.ListN.{length};
 ghost use Rattle.image.specs.Bytes.{word};
 ghost use Rattle.image.specs.Tables.{tableOf};
-ghost use Rattle.writer.specs.Working.{withBucket, withLink, takenFrom, linksApart, Noted};
+ghost use Rattle.writer.specs.steps.Working.{withBucket, withLink, takenFrom, linksApart, Noted};
 use super::check;
 use super::fill::bucket_number;
 use super::fill::store_bucket;

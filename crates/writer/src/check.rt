@@ -4,10 +4,11 @@ ghost use mathlib.Core.Bool.{true, _&&_};
 ghost use Prim.Native.Nat.{ℕ, _+_, _<_, _≤_};
 ghost use lib.ListN.{length, getD};
 ghost use lib.Dec.{eqb};
-ghost use Rattle.image.specs.Record.{backSize, backIn};
+ghost use Rattle.image.specs.Image.{backSize, backIn};
 ghost use Rattle.writer.specs.State.{lent};
-ghost use Rattle.writer.specs.Close.{whole, entriesIn, entryArea, recorded, countsAgree};
-ghost use Rattle.writer.specs.Working.{between, wholeLength, tallied, sameCounts};
+ghost use Rattle.image.specs.Stored.{whole, entriesIn, between, wholeLength};
+ghost use Rattle.writer.specs.Close.{entryArea, recorded, countsAgree};
+ghost use Rattle.image.specs.Tally.{tallied, sameCounts};
 use super::CQDBWriter;
 use super::record;
 

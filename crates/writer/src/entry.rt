@@ -3,7 +3,7 @@ ghost use mathlib.Core.Path.{_≡_};
 ghost use Prim.Native.Nat.{_+_, _<_, _≤_};
 ghost use lib.ListN.{length};
 ghost use lib.Seq.{sets};
-ghost use Rattle.image.specs.Record.{entryBytes};
+ghost use Rattle.image.specs.Image.{entryBytes};
 ghost use Rattle.writer.specs.Put.{entryOf};
 
 // The bytes of src stored from `at` on.

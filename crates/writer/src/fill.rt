@@ -5,7 +5,7 @@ ghost use lib.ListN.{length};
 ghost use lib.Seq.{sets};
 ghost use Rattle.image.specs.Bytes.{word, le32};
 ghost use Rattle.image.specs.Tables.{tableOf, order, firstEmpty};
-ghost use Rattle.writer.specs.Working.{withBucket, withLink, taken, takenFrom};
+ghost use Rattle.writer.specs.steps.Working.{withBucket, withLink, taken, takenFrom};
 use super::check;
 use image::Mode;
 

@@ -5,8 +5,8 @@ ghost use Prim.Native.Nat.{_-_, _%_, _<_, _≤_};
 ghost use lib.ListN.{length, replicate};
 ghost use lib.Seq.{sets};
 ghost use lib.Dec.{eqb};
-ghost use Rattle.image.specs.Record.{headBytes};
-ghost use Rattle.writer.specs.Working.{rowsFrom};
+ghost use Rattle.image.specs.Image.{headBytes};
+ghost use Rattle.writer.specs.steps.Working.{rowsFrom};
 
 // The letters CQDB as a word.
 const CHUNK_ID: u32 = 0x42445143;
@@ -15,12 +15,12 @@ const CHUNK_ID: u32 = 0x42445143;
 const BYTEORDER_CHECK: u32 = 0x62445371;
 
 // The first 24 bytes: letters, size, flag word, byte order, back size, back offset.
-pub(super) fn write_head(buf: &mut [u8], size: u32, mode: u32, back: u32, back_at: u32)
-    ensures { λ _. ⌜ now (buf .exit) ≡ sets (now (buf .entry)) 0 (headBytes size mode back «back_at») ⌝ }
+pub(super) fn write_head(buf: &mut [u8], size: u32, flag: u32, back: u32, back_at: u32)
+    ensures { λ _. ⌜ now (buf .exit) ≡ sets (now (buf .entry)) 0 (headBytes size flag back «back_at») ⌝ }
 {
     image::put_u32(&mut *buf, 0, CHUNK_ID);
     image::put_u32(&mut *buf, 4, size);
-    image::put_u32(&mut *buf, 8, mode);
+    image::put_u32(&mut *buf, 8, flag);
     image::put_u32(&mut *buf, 12, BYTEORDER_CHECK);
     image::put_u32(&mut *buf, 16, back);
     image::put_u32(&mut *buf, 20, back_at);

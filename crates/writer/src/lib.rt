@@ -3,9 +3,9 @@ ghost use mathlib.Core.Path.{_≡_};
 ghost use Prim.Native.Nat.{_≤_};
 ghost use lib.ListN.{length};
 ghost use Rattle.writer.specs.State.{lent, beginning, begunOf, countsBegun, finishedSize};
-ghost use Rattle.writer.specs.Put.{putRefusal, afterPut, storedOf, entryOf};
+ghost use Rattle.writer.specs.Put.{putRefusal, appended, afterPut, entryOf};
 ghost use Rattle.writer.specs.Close.{closing, closedOf, afterClose};
-ghost use Rattle.writer.specs.Working.{written};
+ghost use Rattle.writer.specs.steps.Working.{written};
 use image::Mode;
 
 mod batch;
@@ -25,30 +25,22 @@ pub struct CQDBWriter {
     pub back: u32,
 }
 
-// What begin answers.
+// What begin answers: the fresh record, or the refusal's number.
 pub enum Begun {
     Fresh(CQDBWriter),
-    TooShort,
+    Refused(u32),
 }
 
-// Whether a put was accepted.
-pub enum Stored {
-    Accepted,
-    Misfit,
-    NoRoom,
-}
-
-// What put answers, and the record that it hands back.
+// What put answers, the number of its refusal or 0 where it is accepted, and the record that it hands back.
 pub struct PutAnswer {
-    pub answer: Stored,
+    pub refusal: u32,
     pub writer: CQDBWriter,
 }
 
-// Whether a close was accepted, with the image's size.
+// What close answers: the image's size, or the refusal's number.
 pub enum Closed {
     Size(u32),
-    Unfit,
-    Inconsistent,
+    Refused(u32),
 }
 
 // What close answers, and the record that it hands back.
@@ -63,7 +55,7 @@ pub fn begin(mode: Mode, counts: &mut [u32; 256], buf: &[u8]) -> Begun
     ensures fresh { λ r. ⌜ now (counts .exit) ≡ countsBegun (length (now (buf .entry))) (now (counts .entry)) ⌝ }
 {
     if buf.len() < 2072 {
-        return Begun::TooShort;
+        return Begun::Refused(1);
     }
     *counts = [0; 256];
     Begun::Fresh(CQDBWriter {
@@ -75,7 +67,42 @@ pub fn begin(mode: Mode, counts: &mut [u32; 256], buf: &[u8]) -> Begun
     })
 }
 
-// Appends an entry: id, name length plus 1, the name, one zero byte; and raises the counts.
+// The number of the refusal that is due to a put, 0 where it is accepted. All of put's decision stands here.
+fn put_refusal(w: CQDBWriter, counts: &[u32; 256], buf: &[u8], name: &[u8], id: u32) -> u32
+    ensures { λ r. ⌜ r ≡ putRefusal (lent w (now (counts .entry)) (now (buf .entry))) (entryOf (now (name .entry)) id) ⌝ }
+{
+    if !record::fits(w, counts, buf) {
+        return 2;
+    }
+    if 4294967295 <= name.len() {
+        return 3;
+    }
+    if record::too_large(w.length, record::size_with(w, name.len(), id)) {
+        return 3;
+    }
+    0
+}
+
+// What an accepted put does: it appends an entry, id, name length plus 1, the name, one zero byte; and raises the counts.
+fn append(
+    w: CQDBWriter,
+    counts: &mut [u32; 256],
+    buf: &mut [u8],
+    name: &[u8],
+    id: u32,
+) -> CQDBWriter
+    requires { ⌜ putRefusal (lent w (now counts) (now buf)) (entryOf (now name) id) ≡ 0 ⌝ }
+    ensures { λ r. ⌜ lent r (now (counts .exit)) (now (buf .exit)) ≡ appended (lent w (now (counts .entry)) (now (buf .entry))) (entryOf (now (name .entry)) id) ⌝ }
+{
+    let jhash::Hashed::Hash(h) = jhash::name_hash(name) else {
+        return w;
+    };
+    record::raise(&mut *counts, h);
+    entry::store(&mut *buf, w.end as usize, name, id);
+    record::after(w, name.len(), id)
+}
+
+// Appends an entry, or is refused and changes nothing.
 pub fn put(
     w: CQDBWriter,
     counts: &mut [u32; 256],
@@ -83,33 +110,15 @@ pub fn put(
     name: &[u8],
     id: u32,
 ) -> PutAnswer
-    ensures answer { λ r. ⌜ storedOf (r .answer) ≡ putRefusal (lent w (now (counts .entry)) (now (buf .entry))) (entryOf (now (name .entry)) id) ⌝ }
+    ensures answer { λ r. ⌜ r .refusal ≡ putRefusal (lent w (now (counts .entry)) (now (buf .entry))) (entryOf (now (name .entry)) id) ⌝ }
     ensures leaves { λ r. ⌜ lent (r .writer) (now (counts .exit)) (now (buf .exit)) ≡ afterPut (lent w (now (counts .entry)) (now (buf .entry))) (entryOf (now (name .entry)) id) ⌝ }
 {
-    if !record::fits(w, &*counts, &*buf) {
-        return PutAnswer {
-            answer: Stored::Misfit,
-            writer: w,
-        };
+    let refusal = put_refusal(w, &*counts, &*buf, name, id);
+    if refusal != 0 {
+        return PutAnswer { refusal, writer: w };
     }
-    let jhash::Hashed::Hash(h) = jhash::name_hash(name) else {
-        return PutAnswer {
-            answer: Stored::NoRoom,
-            writer: w,
-        };
-    };
-    if record::too_large(w.length, record::size_with(w, name.len(), id)) {
-        return PutAnswer {
-            answer: Stored::NoRoom,
-            writer: w,
-        };
-    }
-    record::raise(&mut *counts, h);
-    entry::store(&mut *buf, w.end as usize, name, id);
-    PutAnswer {
-        answer: Stored::Accepted,
-        writer: record::after(w, name.len(), id),
-    }
+    let writer = append(w, &mut *counts, &mut *buf, name, id);
+    PutAnswer { refusal: 0, writer }
 }
 
 // Writes the image that the record's entries close to: head and rows, tables and back array.
@@ -140,20 +149,20 @@ pub fn close(w: CQDBWriter, counts: &[u32; 256], buf: &mut [u8]) -> CloseAnswer
 {
     if !record::fits(w, counts, &*buf) {
         return CloseAnswer {
-            answer: Closed::Unfit,
+            answer: Closed::Refused(2),
             writer: w,
         };
     }
     let size = record::finished_size(w);
     if record::too_large(w.length, size) {
         return CloseAnswer {
-            answer: Closed::Inconsistent,
+            answer: Closed::Refused(4),
             writer: w,
         };
     }
     if !check::agrees(w, counts, &*buf) {
         return CloseAnswer {
-            answer: Closed::Inconsistent,
+            answer: Closed::Refused(4),
             writer: w,
         };
     }

@@ -3,10 +3,11 @@ ghost use mathlib.Core.Path.{_≡_};
 ghost use Prim.Native.Nat.{ℕ, _+_, _<_, _≤_, _^_, max};
 ghost use lib.ListN.{length, getD};
 ghost use Rattle.image.specs.Tables.{tableOf};
-ghost use Rattle.image.specs.Record.{backIn, flagWord};
+ghost use Rattle.image.specs.Image.{backIn, flagWord};
 ghost use Rattle.writer.specs.State.{lent, noneAbove, fits, tooLarge, finishedSize};
-ghost use Rattle.writer.specs.Put.{raised, writerWith, raisedCounts};
-ghost use Rattle.writer.specs.Working.{backAt};
+ghost use Rattle.image.specs.Tally.{raisedCounts};
+ghost use Rattle.writer.specs.Put.{raised, writerWith};
+ghost use Rattle.writer.specs.steps.Working.{linksAt};
 use super::CQDBWriter;
 use image::Mode;
 
@@ -68,7 +69,7 @@ pub(super) fn fits(w: CQDBWriter, counts: &[u32; 256], buf: &[u8]) -> bool
 }
 
 // Whether a size exceeds the buffer or 4,294,967,295.
-pub(super) fn too_large(length: u64, size: u64) -> bool
+pub(super) fn too_large(room: u64, size: u64) -> bool
     ensures { λ r. ⌜ r ≡ tooLarge room size ⌝ }
 {
     room < size || 4294967295 < size
@@ -123,7 +124,7 @@ pub(super) fn flag_word(mode: Mode) -> u32
 // Where the back array stands, 0 where there is none.
 pub(super) fn back_at(w: CQDBWriter) -> u64
     requires { ⌜ w .end < 2 ^ 63 ⌝ }
-    ensures { λ r. ⌜ r ≡ backAt w ⌝ }
+    ensures { λ r. ⌜ r ≡ linksAt w ⌝ }
 {
     let mode = w.mode;
     if back_in(mode, w.back as u64) == 0 {

@@ -3,8 +3,8 @@ use Prim.Native.Nat.{_-_, _^_}
 use native.Mathlib.Omega.{arith}
 use mathlib.Core.Path.{sym, ap, _∙_}
 use borrow.Author.Needs.{needs}
-use Rattle.reader.specs.Answers.{steppedOf}
-use Rattle.catalogue.proofs.Reading.{stepping}
+use Rattle.reader.specs.Cases.{steppedOf}
+use Rattle.catalogue.proofs.InputRead.{stepping}
 use Rattle.catalogue.proofs.print_walk.Statement.{statement}
 use Rattle.catalogue.proofs.print_walk.Tie as tie
 

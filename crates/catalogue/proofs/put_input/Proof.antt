@@ -5,8 +5,8 @@ use mathlib.Core.Logic.{⊎-elim}
 use lib.ListN.{length}
 use borrow.Author.Needs.{needs}
 use Rattle.writer.specs.State.{lent}
-use Rattle.lines.specs.Pieces.{gathering}
-use Rattle.catalogue.proofs.Reading.{Taken, none-taken, more-taken, taken-left}
+use Rattle.lines.specs.steps.Pieces.{gathering}
+use Rattle.catalogue.proofs.InputRead.{Taken, none-taken, more-taken, taken-left}
 use Rattle.catalogue.proofs.put_input.Statement.{statement}
 use Rattle.catalogue.proofs.put_input.Tie as tie
 

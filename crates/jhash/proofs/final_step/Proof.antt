@@ -1,5 +1,5 @@
 -- `jhash::final_step` meets its contract, field by field. Assumes nothing.
-use Rattle.jhash.specs.Rounds.{step}
+use Rattle.jhash.specs.steps.Rounds.{step}
 use borrow.Author.Needs.{needs}
 use Rattle.jhash.proofs.final_step.Statement.{statement}
 use Rattle.jhash.proofs.final_step.Tie as tie

@@ -1,6 +1,6 @@
 -- `jhash::mix_round` meets its contract, field by field. Assumes nothing.
 use lib.Bits.{bitXor}
-use Rattle.jhash.specs.Rounds.{round}
+use Rattle.jhash.specs.steps.Rounds.{round}
 use borrow.Author.Needs.{needs}
 use Rattle.jhash.proofs.mix_round.Statement.{statement}
 use Rattle.jhash.proofs.mix_round.Tie as tie

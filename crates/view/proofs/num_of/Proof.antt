@@ -1,15 +1,15 @@
 -- `num_of` meets its contract: in each case the number is that of what `reader::open` answered.
 use mathlib.Core.Path.{_≡_, sym, ap, _∙_}
 use borrow.Author.Needs.{needs}
+use Rattle.jhash.specs.Outcome.{Outcome}
 use Rattle.reader.specs.declared.Opened.{Opened}
-use Rattle.reader.specs.Open.{Opening}
-use Rattle.reader.specs.Answers.{openedOf}
+use Rattle.reader.specs.Cases.{openedOf}
 use Rattle.view.specs.Num.{numOf}
 use Rattle.view.proofs.num_of.Statement.{statement}
 use Rattle.view.proofs.num_of.Tie as tie
 
 -- what was answered, x, is the case r, and is what opening gives, o
-number : (x r : Opened) (o : Opening) → x ≡ r → openedOf x ≡ o → numOf (openedOf r) ≡ numOf o
+number : (x r : Opened) (o : Outcome ℕ) → x ≡ r → openedOf x ≡ o → numOf (openedOf r) ≡ numOf o
 number x r o e p = ap (λ (y : Opened). numOf (openedOf y)) (sym e) ∙ ap numOf p
 
 open-requires : tie.Need-open-requires

@@ -6,8 +6,8 @@ use lib.ListN.{length, getD}
 use mathlib.Core.Path.{_≡_, sym, ap, _∙_}
 use mathlib.Core.Bool.{true, false}
 use borrow.Author.Tests.{not-true, not-false}
+use Rattle.jhash.specs.Outcome.{value}
 use Rattle.writer.specs.State.{lent, fits, tooLarge, finishedSize}
-use Rattle.writer.specs.Close.{size}
 use Rattle.writer.proofs.Fits.{Fitting, fitting, not-too-large}
 use Rattle.writer.proofs.Accepted.{closes-image}
 use Rattle.writer.proofs.Closes.{consistent, unfit, too-big, differs, closes}
@@ -93,7 +93,7 @@ returns-4 c =
     let l = not-too-large (a .w .length) (finishedSize (a .w)) fine in
     let bytes : (i : ℕ) → getD (a .buf .now) i 0 < 256 = λ i. omega (arith, c .before .before .before .before .before .before .before .before .before .before .before .before .before .slice-known .given i) in
     let done = closes (lent (c .before .before .before .before .before .before .before .before .before .before .before .before .before .before .args .w) (c .before .before .before .before .before .before .before .before .before .before .before .before .before .before .args .counts .now) (c .before .before .before .before .before .before .before .before .before .before .before .before .before .before .args .buf .now)) yes fine all in (
-      ap size (c .before .before .before .before .before .before .before .before .before .finished-size .ensures) ∙ done .0,
+      ap value (c .before .before .before .before .before .before .before .before .before .finished-size .ensures) ∙ done .0,
       ap (λ (l : List ℕ). lent (a .w) (a .counts .now) l) (c .before .before .write-image .ensures)
           ∙ closes-image (a .w) (a .counts .now) (a .buf .now) bytes yes fine all,
     )

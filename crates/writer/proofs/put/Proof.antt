@@ -9,7 +9,7 @@ use Prim.Native.Nat.{_≤_, _<_}
 use mathlib.Core.Path.{_≡_, sym, ap, _∙_}
 use mathlib.Core.Bool.{true, false}
 use borrow.Author.Tests.{not-true, not-false}
-use Rattle.jhash.proofs.Answers.{told-refused, told-image-hash}
+use Rattle.jhash.proofs.Outcomes.{told-refused, told-image-hash}
 use Rattle.writer.specs.State.{lent, fits}
 use Rattle.writer.specs.Put.{entryOf}
 use Rattle.writer.proofs.Puts.{misfit, no-room, accepts, long-name, appended-parts}

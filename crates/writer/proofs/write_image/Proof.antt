@@ -1,6 +1,6 @@
 -- `writer::write_image` meets its contract. Assumes nothing.
 use native.Mathlib.Omega.{arith}
-use Rattle.writer.proofs.Closes.{backAt-le, written-parts}
+use Rattle.writer.proofs.Closes.{linksAt-le, written-parts}
 use borrow.Author.Needs.{needs}
 use Rattle.writer.proofs.write_image.Statement.{statement}
 use Rattle.writer.proofs.write_image.Tie as tie
@@ -37,7 +37,7 @@ cast-write-head-2 : tie.Need-cast-write-head-2
 cast-write-head-2 c = search needs
 
 cast-write-head-3 : tie.Need-cast-write-head-3
-cast-write-head-3 c = omega (arith, c .before .before .back-at .ensures, backAt-le (c .before .before .before .before .before .before .before .args .w), c .before .before .before .before .before .before .before .pre .2)
+cast-write-head-3 c = omega (arith, c .before .before .back-at .ensures, linksAt-le (c .before .before .before .before .before .before .before .args .w), c .before .before .before .before .before .before .before .pre .2)
 
 write-head-requires : tie.Need-write-head-requires
 write-head-requires c κs = search needs
@@ -59,7 +59,7 @@ take-entries-requires c κs =
     let m = c .before .before .before .before .before .before .before .before .before .before .before .before .write-head .kept .0 in
     let small = c .before .before .before .before .before .before .before .before .before .before .before .before .before .before .before .before .before .before .before .before .pre .2 in
     let fits = c .before .before .before .before .before .before .before .before .before .before .before .before .before .before .before .before .before .before .before .before .pre .1 in
-    (c .before .before .before .before .before .before .before .before .before .before .before .before .before .before .before .before .before .before .before .before .pre .0, omega arith, omega arith, omega (arith, c .before .before .before .before .before .before .before .before .before .before .before .before .before .before .before .back-at .ensures, backAt-le (a .w)))
+    (c .before .before .before .before .before .before .before .before .before .before .before .before .before .before .before .before .before .before .before .before .pre .0, omega arith, omega arith, omega (arith, c .before .before .before .before .before .before .before .before .before .before .before .before .before .before .before .back-at .ensures, linksAt-le (a .w)))
 
 same-length : tie.Need-same-length
 same-length c = search needs

@@ -1,6 +1,6 @@
 -- `cqdb_c::opening::cqdb_open` meets its contract: what `open` promises of the answer, put into the struct. Assumes nothing.
 use mathlib.Core.Path.{sym, ap, _∙_}
-use Rattle.reader.specs.Answers.{openedOf}
+use Rattle.reader.specs.Cases.{openedOf}
 use Rattle.cqdb_c.specs.Reading.{openAnswerOf}
 use borrow.Author.Needs.{needs}
 use Rattle.cqdb_c.proofs.opening.cqdb_open.Statement.{statement}

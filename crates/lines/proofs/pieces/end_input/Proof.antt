@@ -1,7 +1,7 @@
 -- `lines::pieces::end_input` meets its contract. Assumes nothing.
 use mathlib.Core.Path.{ap}
 use borrow.Author.Needs.{needs}
-use Rattle.lines.specs.Pieces.{Gathering, inputEnded}
+use Rattle.lines.specs.steps.Pieces.{Gathering, inputEnded}
 use Rattle.lines.proofs.pieces.end_input.Statement.{statement}
 use Rattle.lines.proofs.pieces.end_input.Tie as tie
 

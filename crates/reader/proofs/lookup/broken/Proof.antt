@@ -1,6 +1,6 @@
 -- `reader::lookup::broken` meets its contract. Assumes nothing.
 use native.Mathlib.Omega.{arith}
-use Rattle.reader.proofs.Entries.{broken-short, broken-rest}
+use Rattle.reader.proofs.Unbroken.{broken-short, broken-rest}
 use borrow.Author.Needs.{needs}
 use Rattle.reader.proofs.lookup.broken.Statement.{statement}
 use Rattle.reader.proofs.lookup.broken.Tie as tie

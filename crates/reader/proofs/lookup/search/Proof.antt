@@ -5,7 +5,7 @@ use native.Mathlib.Omega.{arith}
 use mathlib.Core.Path.{_≡_, sym, ap, _∙_}
 use Rattle.image.specs.Tables.{next}
 use Rattle.reader.specs.Lookup.{Lookup, Seen, pass, ends, hit, decide, searchTable}
-use Rattle.reader.specs.Answers.{seenOf}
+use Rattle.reader.specs.Cases.{seenOf}
 use Rattle.reader.proofs.Searches.{rest, rest-start, rest-over, rest-seen}
 use borrow.Author.Needs.{needs}
 use Rattle.reader.proofs.lookup.search.Statement.{statement}

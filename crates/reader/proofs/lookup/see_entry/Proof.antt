@@ -6,7 +6,7 @@ use mathlib.Core.Bool.{true, false}
 use mathlib.Core.List.{List}
 use Rattle.image.specs.Bytes.{same}
 use Rattle.reader.specs.Lookup.{hit}
-use Rattle.reader.proofs.Entries.{whole}
+use Rattle.reader.proofs.Unbroken.{whole}
 use Rattle.reader.proofs.Searches.{name-part, see-entry-by}
 use borrow.Author.Needs.{needs}
 use Rattle.reader.proofs.lookup.see_entry.Statement.{statement}

@@ -9,7 +9,7 @@ use lib.ListN.{length, take}
 use lib.Seq.{take-all}
 use Rattle.jhash.specs.NameHash.{outcome, hashOutcome}
 use Rattle.jhash.specs.declared.Hashed.{Hashed}
-use Rattle.jhash.proofs.Answers.{told-image-hash, told-refused}
+use Rattle.jhash.proofs.Outcomes.{told-image-hash, told-refused}
 use Rattle.reader.specs.Lookup.{lookupHash}
 use Rattle.reader.proofs.Searches.{lookup-by}
 use borrow.Author.Needs.{needs}

@@ -2,8 +2,8 @@
 use native.Mathlib.Omega.{arith}
 use mathlib.Core.List.{[]}
 use mathlib.Core.Path.{sym, ap, _∙_}
-use Rattle.reader.specs.Answers.{namingOf}
-use Rattle.reader.proofs.Names.{named, part, no-part}
+use Rattle.reader.specs.Cases.{namingOf}
+use Rattle.reader.proofs.Namings.{named, part, no-part}
 use borrow.Author.Needs.{needs}
 use Rattle.reader.proofs.naming.name.Statement.{statement}
 use Rattle.reader.proofs.naming.name.Tie as tie

@@ -1,8 +1,8 @@
 -- `reader::naming::name_or` meets its contract. Assumes nothing.
 use native.Mathlib.Omega.{arith}
 use mathlib.Core.Path.{sym, ap, _∙_}
-use Rattle.reader.specs.Answers.{namingOf}
-use Rattle.reader.proofs.Names.{named, part, no-part}
+use Rattle.reader.specs.Cases.{namingOf}
+use Rattle.reader.proofs.Namings.{named, part, no-part}
 use borrow.Author.Needs.{needs}
 use Rattle.reader.proofs.naming.name_or.Statement.{statement}
 use Rattle.reader.proofs.naming.name_or.Tie as tie

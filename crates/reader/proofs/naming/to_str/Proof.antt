@@ -6,10 +6,10 @@ use mathlib.Core.Bool.{Bool, true, false, cond, _||_}
 use borrow.Author.Tests.{le-leb, lt-leb, eq-eqb, ne-eqb}
 use lib.Dec.{eqb}
 use Rattle.image.specs.Bytes.{word}
-use Rattle.reader.specs.Lookup.{broken}
+use Rattle.image.specs.Stored.{broken}
 use Rattle.reader.specs.Naming.{place, unnamed, naming}
-use Rattle.reader.proofs.Entries.{whole}
-use Rattle.reader.proofs.Names.{back, link, naming-by}
+use Rattle.reader.proofs.Unbroken.{whole}
+use Rattle.reader.proofs.Namings.{back, link, naming-by}
 use borrow.Author.Needs.{needs}
 use Rattle.reader.proofs.naming.to_str.Statement.{statement}
 use Rattle.reader.proofs.naming.to_str.Tie as tie

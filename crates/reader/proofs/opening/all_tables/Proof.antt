@@ -4,7 +4,8 @@ use Prim.Native.Nat.{ℕ, _+_, _-_, _/_, _%_, _^_, _≤_, _<_}
 use native.Mathlib.Omega.{arith}
 use native.Mathlib.Nat.{zero-add}
 use mathlib.Core.Path.{_≡_, refl, sym, ap, _∙_}
-use Rattle.reader.specs.Open.{bucketNumber, someLeaves, halves}
+use Rattle.image.specs.Head.{bucketNumber}
+use Rattle.reader.specs.Open.{someLeaves, halves}
 use Rattle.reader.proofs.Opens.{halves-turn, halves-none, leaves-pass, leaves-none, sum-turn, sum-end}
 use borrow.Author.Needs.{needs}
 use Rattle.reader.proofs.opening.all_tables.Statement.{statement}

@@ -6,9 +6,11 @@ use mathlib.Core.Bool.{Bool, true, false, cond, _&&_, and-false}
 use borrow.Author.Tests.{lt-ltb, le-ltb, eq-eqb, ne-eqb, not-true, not-false}
 use lib.Dec.{ltb}
 use lib.ListN.{length}
+use Rattle.jhash.specs.Outcome.{value, refusal}
 use Rattle.image.specs.Bytes.{word}
 use Rattle.image.proofs.Bools.{both}
-use Rattle.reader.specs.Open.{num, refusal, halves, backOffsetAt, backLeaves, opening}
+use Rattle.image.specs.Head.{backOffsetAt, backLeaves}
+use Rattle.reader.specs.Open.{halves, opening}
 use Rattle.reader.proofs.Opens.{opening-by}
 use borrow.Author.Needs.{needs}
 use Rattle.reader.proofs.opening.open.Statement.{statement}
@@ -16,7 +18,7 @@ use Rattle.reader.proofs.opening.open.Tie as tie
 
 -- where no table leaves the image, the back array alone decides
 passed : (c : tie.Else4) (b : Bool) → (ltb 0 (backOffsetAt (c .before .before .before .before .before .before .before .before .before .args .image .now)) && backLeaves (c .before .before .before .before .before .before .before .before .before .args .image .now)) ≡ b
-    → cond b (refusal 8) (num (halves (c .before .before .before .before .before .before .before .before .before .args .image .now) 0 256 % 2 ^ 32)) ≡ opening (c .before .before .before .before .before .before .before .before .before .args .image .now)
+    → cond b (refusal 8) (value (halves (c .before .before .before .before .before .before .before .before .before .args .image .now) 0 256 % 2 ^ 32)) ≡ opening (c .before .before .before .before .before .before .before .before .before .args .image .now)
 passed c b e =
     let image = c .before .before .before .before .before .before .before .before .before .args .image .now in
     opening-by image false true true false b
@@ -92,14 +94,14 @@ returns-5 c =
 returns-6 : tie.Need-returns-6
 returns-6 c =
     let image = c .before .before .before .before .before .before .before .before .before .before .before .before .before .args .image .now in
-    ap num (c .before .before .before .before .before .before .all-tables .ensures .0)
+    ap value (c .before .before .before .before .before .before .all-tables .ensures .0)
     ∙ passed (c .before .before .before .before) false
     (ap (λ (t : Bool). ltb 0 (word image 20) && t) (sym (c .before .back-leaves .ensures) ∙ c .if6 .left) ∙ and-false (ltb 0 (word image 20)))
 
 returns-7 : tie.Need-returns-7
 returns-7 c =
     let image = c .before .before .before .before .before .before .before .before .before .before .before .args .image .now in
-    ap num (c .before .before .before .before .all-tables .ensures .0)
+    ap value (c .before .before .before .before .all-tables .ensures .0)
     ∙ passed (c .before .before) false
     (ap (λ (t : Bool). t && backLeaves image) (le-ltb 0 (word image 20) (omega (arith, c .before .word2 .ensures))))
 

@@ -2,9 +2,9 @@
 use native.Mathlib.Omega.{arith}
 use mathlib.Core.Path.{sym, ap, _∙_}
 use Rattle.reader.specs.declared.ToId.{ToId}
-use Rattle.reader.specs.Answers.{lookupOf, namingOf}
+use Rattle.reader.specs.Cases.{lookupOf, namingOf}
 use Rattle.reader.specs.Walk.{finds}
-use Rattle.reader.proofs.Names.{named, home-by, not-home}
+use Rattle.reader.proofs.Namings.{named, home-by, not-home}
 use borrow.Author.Needs.{needs}
 use Rattle.reader.proofs.walk.home.Statement.{statement}
 use Rattle.reader.proofs.walk.home.Tie as tie

@@ -2,9 +2,9 @@
 use native.Mathlib.Omega.{arith}
 use mathlib.Core.Path.{sym, ap, _∙_}
 use Rattle.reader.specs.Walk.{step, stepOf}
-use Rattle.reader.specs.Answers.{namingOf}
+use Rattle.reader.specs.Cases.{namingOf}
 use Rattle.reader.proofs.Equal.{word-below}
-use Rattle.reader.proofs.Names.{named}
+use Rattle.reader.proofs.Namings.{named}
 use borrow.Author.Needs.{needs}
 use Rattle.reader.proofs.walk.next.Statement.{statement}
 use Rattle.reader.proofs.walk.next.Tie as tie

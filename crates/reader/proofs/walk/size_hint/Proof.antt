@@ -2,7 +2,7 @@
 use Prim.Native.Nat.{_-_}
 use native.Mathlib.Omega.{arith}
 use mathlib.Core.Path.{refl, sym, _∙_}
-use Rattle.reader.proofs.Names.{back, hint-none, hint-back}
+use Rattle.reader.proofs.Namings.{back, hint-none, hint-back}
 use borrow.Author.Needs.{needs}
 use Rattle.reader.proofs.walk.size_hint.Statement.{statement}
 use Rattle.reader.proofs.walk.size_hint.Tie as tie

@@ -8,7 +8,7 @@ use denote.Struct.Laws as LL
 use denote.Ref.{now}
 use denote.Signature.{plain}
 use Rattle.reader.specs.Walk.{step}
-use Rattle.reader.specs.Answers.{steppedOf}
+use Rattle.reader.specs.Cases.{steppedOf}
 use Rattle.reader.proofs.Stepped as S
 use Rattle.reader.proofs.Stepped.Laws as S′
 use Rattle.reader.proofs.Iter as I

@@ -7,7 +7,7 @@ use denote.Enum.Laws as EL
 use denote.Ref.{now}
 use denote.Signature.{plain}
 use Rattle.reader.specs.Open.{opening}
-use Rattle.reader.specs.Answers.{openedOf}
+use Rattle.reader.specs.Cases.{openedOf}
 use Rattle.reader.proofs.Opened as S
 use Rattle.reader.proofs.Opened.Laws as S′
 use Rattle.reader.proofs.«open» as on-image

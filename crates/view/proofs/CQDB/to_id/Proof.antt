@@ -12,7 +12,7 @@ use denote.Ref.{now}
 use denote.Signature.{plain, shrSliceOf}
 use denote.Slice.{sliceTy, sliceVal, shr-slice-tells, shr-slice-lawful}
 use Rattle.reader.specs.Lookup.{lookup}
-use Rattle.reader.specs.Answers.{lookupOf}
+use Rattle.reader.specs.Cases.{lookupOf}
 use Rattle.reader.proofs.ToId as S
 use Rattle.reader.proofs.ToId.Laws as S′
 use Rattle.reader.proofs.to_id as on-image

@@ -8,7 +8,7 @@ use denote.Enum.Laws as EL
 use denote.Ref.{now}
 use denote.Signature.{plain}
 use Rattle.reader.specs.Naming.{naming}
-use Rattle.reader.specs.Answers.{namingOf}
+use Rattle.reader.specs.Cases.{namingOf}
 use Rattle.reader.proofs.Named as S
 use Rattle.reader.proofs.Named.Laws as S′
 use Rattle.reader.proofs.to_str as on-image

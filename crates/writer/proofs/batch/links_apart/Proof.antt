@@ -1,7 +1,7 @@
 -- `writer::batch::links_apart` meets its contract. Assumes nothing.
 use mathlib.Core.Path.{sym, ap}
 use Rattle.image.specs.declared.Mode.{Mode}
-use Rattle.writer.specs.Working.{linksApart}
+use Rattle.writer.specs.steps.Working.{linksApart}
 use borrow.Author.Needs.{needs}
 use Rattle.writer.proofs.batch.links_apart.Statement.{statement}
 use Rattle.writer.proofs.batch.links_apart.Tie as tie

@@ -5,8 +5,8 @@ use Prim.Native.Nat.{ℕ, _+_, _-_, _<_, _≤_}
 use mathlib.Core.Path.{_≡_, refl}
 use mathlib.Core.List.{List}
 use lib.ListN.{take, drop}
-use Rattle.jhash.proofs.Answers.{told-image-hash}
-use Rattle.writer.specs.Working.{between}
+use Rattle.jhash.proofs.Outcomes.{told-image-hash}
+use Rattle.image.specs.Stored.{between}
 use Rattle.writer.proofs.Between.{Front, front, length-between}
 use Rattle.writer.proofs.Noting.{Planned, plan-start, plan-turn}
 use Rattle.writer.proofs.batch.plan.Statement.{statement}

@@ -5,7 +5,7 @@ use borrow.Author.Tests.{not-false}
 use Prim.Native.Nat.{ℕ, _+_, _-_, _≤_, _<_}
 use mathlib.Core.Path.{_≡_, refl, sym, ap, _∙_}
 use lib.ListN.{length}
-use Rattle.writer.specs.Working.{takenFrom}
+use Rattle.writer.specs.steps.Working.{takenFrom}
 use Rattle.writer.proofs.Taking.{from-none}
 use Rattle.writer.proofs.batch.take_entries.Statement.{statement}
 use Rattle.writer.proofs.batch.take_entries.Tie as tie

@@ -3,7 +3,7 @@ use native.Mathlib.Omega.{arith}
 use Prim.Native.Nat.{ℕ}
 use mathlib.Core.Path.{ap₂, _∙_}
 use mathlib.Core.List.{List}
-use Rattle.writer.specs.Working.{withLink}
+use Rattle.writer.specs.steps.Working.{withLink}
 use borrow.Author.Needs.{needs}
 use Rattle.writer.proofs.batch.take_noted.Statement.{statement}
 use Rattle.writer.proofs.batch.take_noted.Tie as tie

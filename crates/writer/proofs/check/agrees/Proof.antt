@@ -4,10 +4,11 @@ use Prim.Native.Nat.{ℕ}
 use mathlib.Core.Path.{sym, ap, _∙_}
 use lib.Dec.{eqb}
 use borrow.Author.Tests.{not-true, not-false}
-use Rattle.image.specs.Record.{backIn, backSize}
+use Rattle.image.specs.Image.{backIn, backSize}
 use Rattle.image.proofs.Bools.{first-fails, second-fails, third-decides}
 use Rattle.writer.specs.State.{lent}
-use Rattle.writer.specs.Close.{whole, entryArea, recorded, countsAgree}
+use Rattle.image.specs.Stored.{whole}
+use Rattle.writer.specs.Close.{entryArea, recorded, countsAgree}
 use Rattle.writer.proofs.Agree.{zeros, same-agree}
 use borrow.Author.Needs.{needs}
 use Rattle.writer.proofs.check.agrees.Statement.{statement}

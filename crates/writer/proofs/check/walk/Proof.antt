@@ -1,17 +1,17 @@
 -- `writer::check::walk` meets its contract. Assumes nothing.
 use lib.ListN.{take, drop, length-take}
 use Rattle.image.specs.Tables.{tableOf}
-use Rattle.jhash.proofs.Answers.{told-refused, told-image-hash}
+use Rattle.jhash.proofs.Outcomes.{told-refused, told-image-hash}
 use borrow.Author.Needs.{needs}
 use Prim.Native.Nat.{_+_}
 use mathlib.Core.Path.{sym, _∙_}
 use Rattle.image.proofs.Bools.{not-both}
-use Rattle.writer.specs.Working.{between}
+use Rattle.image.specs.Stored.{between}
 use Rattle.writer.proofs.Between.{Front, front, length-between}
 use native.Mathlib.Omega.{arith}
 use Prim.Native.Nat.{ℕ, _<_, _≤_, _-_}
 use mathlib.Core.Path.{_≡_, refl}
-use Rattle.writer.proofs.Walk.{Rest, walk-start, walk-turn, walk-broken, walk-end}
+use Rattle.writer.proofs.EntryWalk.{Rest, walk-start, walk-turn, walk-broken, walk-end}
 use Rattle.writer.proofs.check.walk.Statement.{statement}
 use Rattle.writer.proofs.check.walk.Tie as tie
 use Rattle.writer.proofs.check.walk.Reads as reads

@@ -1,7 +1,7 @@
 -- `writer::entry::store` meets its contract. Assumes nothing.
 use lib.ListN.{length-set}
 use native.Mathlib.Omega.{arith}
-use Rattle.writer.proofs.Entries.{stored-parts}
+use Rattle.writer.proofs.EntryStored.{stored-parts}
 use borrow.Author.Needs.{needs}
 use Rattle.writer.proofs.entry.store.Statement.{statement}
 use Rattle.writer.proofs.entry.store.Tie as tie

@@ -1,7 +1,7 @@
 -- `writer::fill::store_link` meets its contract. Assumes nothing.
 use mathlib.Core.Path.{sym, ap, _∙_}
 use Rattle.image.specs.declared.Mode.{Mode}
-use Rattle.writer.specs.Working.{withLink}
+use Rattle.writer.specs.steps.Working.{withLink}
 use borrow.Author.Needs.{needs}
 use Rattle.writer.proofs.fill.store_link.Statement.{statement}
 use Rattle.writer.proofs.fill.store_link.Tie as tie

@@ -3,7 +3,7 @@ use native.Mathlib.Omega.{arith}
 use Prim.Native.Nat.{_+_, _-_}
 use mathlib.Core.Path.{refl}
 use lib.ListN.{take, drop, length-take}
-use Rattle.jhash.proofs.Answers.{told-refused, told-image-hash}
+use Rattle.jhash.proofs.Outcomes.{told-refused, told-image-hash}
 use Rattle.writer.proofs.Taking.{taken-parts}
 use borrow.Author.Needs.{needs}
 use Rattle.writer.proofs.fill.take_entry.Statement.{statement}

@@ -4,7 +4,8 @@ use borrow.Author.Needs.{needs}
 use Prim.Native.Nat.{_+_, _≤_}
 use mathlib.Core.Path.{_≡_, refl, _∙_}
 use lib.ListN.{length}
-use Rattle.writer.specs.Working.{between, takenFrom}
+use Rattle.image.specs.Stored.{between}
+use Rattle.writer.specs.steps.Working.{takenFrom}
 use Rattle.writer.proofs.Between.{Front, front, length-between}
 use Rattle.writer.proofs.Taking.{from-broken, from-turn, from-none}
 use Rattle.writer.proofs.fill.take_singly.Statement.{statement}

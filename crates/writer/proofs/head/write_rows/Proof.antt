@@ -5,7 +5,7 @@ use Prim.Native.Nat.{_+_, _*_, _≤_, _-_}
 use mathlib.Core.Path.{_≡_, refl, _∙_}
 use lib.ListN.{length}
 use lib.Seq.{sets}
-use Rattle.writer.specs.Working.{rowsFrom}
+use Rattle.writer.specs.steps.Working.{rowsFrom}
 use Rattle.writer.proofs.Heads.{rows-turn, rows-end}
 use Rattle.writer.proofs.head.write_rows.Statement.{statement}
 use Rattle.writer.proofs.head.write_rows.Tie as tie

@@ -1,6 +1,6 @@
 -- `writer::record::after` meets its contract. Assumes nothing.
 use Prim.Native.Nat.{_+_, _*_, _≤_}
-use Rattle.image.specs.Record.{backIn}
+use Rattle.image.specs.Image.{backIn}
 use Rattle.writer.specs.Put.{raised}
 use Rattle.writer.proofs.Fits.{raised-fits}
 use native.Mathlib.Omega.{arith}

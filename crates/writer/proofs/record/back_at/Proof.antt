@@ -1,5 +1,5 @@
 -- `writer::record::back_at` meets its contract. Assumes nothing.
-use Rattle.writer.proofs.Closes.{backAt-none, backAt-some}
+use Rattle.writer.proofs.Closes.{linksAt-none, linksAt-some}
 use borrow.Author.Needs.{needs}
 use Rattle.writer.proofs.record.back_at.Statement.{statement}
 use Rattle.writer.proofs.record.back_at.Tie as tie
@@ -11,7 +11,7 @@ back-in-requires : tie.Need-back-in-requires
 back-in-requires c κs = search needs
 
 returns : tie.Need-returns
-returns c = backAt-none (c .before .before .before .args .w) (c .before .back-in .result) (c .before .back-in .ensures) (c .if1 .taken)
+returns c = linksAt-none (c .before .before .before .args .w) (c .before .back-in .result) (c .before .back-in .ensures) (c .if1 .taken)
 
 cast-result : tie.Need-cast-result
 cast-result c = search needs
@@ -23,7 +23,7 @@ add-result : tie.Need-add-result
 add-result c = search needs
 
 returns-2 : tie.Need-returns-2
-returns-2 c = backAt-some (c .before .before .before .before .before .args .w) (c .before .before .before .back-in .result) (c .before .before .before .back-in .ensures) (c .before .before .if1 .left)
+returns-2 c = linksAt-some (c .before .before .before .before .before .args .w) (c .before .before .before .back-in .result) (c .before .before .before .back-in .ensures) (c .before .before .if1 .left)
 
 pub back-at-spec : {M : Type 1} → statement M
 back-at-spec =

@@ -1,6 +1,6 @@
 -- `writer::record::raise` meets its contract. Assumes nothing.
 use mathlib.Core.Path.{refl}
-use Rattle.writer.specs.Put.{raisedCounts}
+use Rattle.image.specs.Tally.{raisedCounts}
 use borrow.Author.Needs.{needs}
 use Rattle.writer.proofs.record.raise.Statement.{statement}
 use Rattle.writer.proofs.record.raise.Tie as tie

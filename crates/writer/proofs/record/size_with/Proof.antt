@@ -2,7 +2,7 @@
 use native.Mathlib.Omega.{arith}
 use Prim.Native.Nat.{ℕ, _+_, _*_}
 use mathlib.Core.Path.{_≡_, ap, _∙_}
-use Rattle.image.specs.Record.{backIn}
+use Rattle.image.specs.Image.{backIn}
 use Rattle.writer.specs.Put.{raised, writerWith}
 use Rattle.writer.proofs.Fits.{backIn-le, raised-le}
 use borrow.Author.Needs.{needs}

@@ -8,20 +8,20 @@ use mathlib.Core.List.{List, [], _∷_, map}
 use lib.ListN.{length}
 use lib.Dec.{eqb, lit≤, lit<}
 use borrow.Author.Tests.{ne-eqb}
+use Rattle.jhash.specs.Outcome.{value}
 use Rattle.image.specs.declared.Mode.{Mode}
 use Rattle.image.specs.Bytes.{word, keep, range, same}
-use Rattle.image.specs.Record.{Entry, headSize, entrySize, entriesSize, placed, hasId, ofId, lastFrom, link, backSize, back, backOffset, imageSize, image}
-use Rattle.reader.specs.Open.{num, backOffsetAt}
+use Rattle.image.specs.Image.{Entry, headSize, entrySize, entriesSize, placed, hasId, ofId, lastFrom, link, backSize, backSizeOf, backOffset, imageSize, image}
+use Rattle.image.specs.Head.{backOffsetAt}
 use Rattle.answers.specs.Answer.{ofName, firstId, ofId as entriesOfId}
-use Rattle.layout.proofs.At.{at-word}
-use Rattle.layout.proofs.Parts.{link-at}
+use Rattle.image.proofs.At.{at-word}
+use Rattle.image.proofs.Parts.{link-at}
 use Rattle.answers.proofs.Opened.{backSizeAt-image, backOffsetAt-image}
 use Rattle.writer.specs.State.{fresh}
-use Rattle.writer.specs.Close.{size}
 use Rattle.lists.specs.Calls.{after, acceptedFrom, dueFrom, accepted, due, refused, putsSize, sizeOf}
-use Rattle.lists.specs.Written.{WordIds}
-use Rattle.lists.specs.Read.{namedIn, homeIn, Read}
-use Rattle.lists.specs.Rows.{NameRow, IdRow, Row, Each, closedImage, backArray, ImageHolds, RowHolds, Right, rows}
+use Rattle.lists.proofs.Written.{WordIds}
+use Rattle.lists.proofs.Read.{namedIn, homeIn, Read}
+use Rattle.lists.specs.QuayRows.{NameRow, IdRow, Row, Each, closedImage, backArray, ImageHolds, RowHolds, HoldsAnyway, rows}
 use Rattle.lists.proofs.Along.{list-answers}
 use Rattle.lists.proofs.OneMore.{list-gives, list-formula, list-image, list-below}
 use Rattle.lists.proofs.Reading.{list-read}
@@ -54,15 +54,15 @@ module _ (mode : Mode) (es : List Entry) (small : imageSize mode es ≤ 42949672
   unfolding link ofId
   link-small i = last-small i (2 ^ 32) 0 headSize es (omega arith) (omega arith)
 
-  link-word : (i : ℕ) → i < back mode es → word (image mode es) (backOffset mode es + 4 * i) ≡ link (placed headSize es) i
+  link-word : (i : ℕ) → i < backSizeOf mode es → word (image mode es) (backOffset mode es + 4 * i) ≡ link (placed headSize es) i
   unfolding backOffset
   link-word i h =
-      rw (ne-eqb (back mode es) 0 (λ z. omega arith)) (at-word (link (placed headSize es) i) (link-at mode es small i h) (link-small i))
+      rw (ne-eqb (backSizeOf mode es) 0 (λ z. omega arith)) (at-word (link (placed headSize es) i) (link-at mode es small i h) (link-small i))
 
-  back-array : backArray (image mode es) ≡ map (link (placed headSize es)) (range 0 (back mode es))
+  back-array : backArray (image mode es) ≡ map (link (placed headSize es)) (range 0 (backSizeOf mode es))
   back-array =
       rw (backOffsetAt-image mode es small, backSizeAt-image mode es small)
-      (map-range (λ (i : ℕ). word (image mode es) (backOffset mode es + 4 * i)) (link (placed headSize es)) 0 (back mode es) (λ i p. link-word i (omega arith)))
+      (map-range (λ (i : ℕ). word (image mode es) (backOffset mode es + 4 * i)) (link (placed headSize es)) 0 (backSizeOf mode es) (λ i p. link-word i (omega arith)))
 
 -- ---- what is computed of a row
 
@@ -78,7 +78,7 @@ Computed r =
     × (sizeOf (r .mode) (entries r) ≡ r .size)
     × (length (entries r) ≡ r .number)
     × (backOffset (r .mode) (entries r) ≡ r .backOffset)
-    × (map (link (placed headSize (entries r))) (range 0 (back (r .mode) (entries r))) ≡ r .links)
+    × (map (link (placed headSize (entries r))) (range 0 (backSizeOf (r .mode) (entries r))) ≡ r .links)
     × Each (λ (a : NameRow). firstId (ofName (a .name) (entries r)) ≡ a .gives) (r .names)
     × Each (λ (a : IdRow). (namedIn (r .mode) (entries r) (a .id) ≡ a .gives) × (homeIn (r .mode) (entries r) (a .id) ≡ a .isHome)) (r .ids)
 
@@ -87,7 +87,7 @@ module _ (r : Row) (c : Computed r) where
   image-holds : (img : List ℕ) → img ≡ image (r .mode) (entries r) → imageSize (r .mode) (entries r) ≤ 4294967295 → Read (r .mode) (entries r) img → ImageHolds r img
   image-holds img is small read =
       record {
-        opened = read .opened ∙ ap num (c .4);
+        opened = read .opened ∙ ap value (c .4);
         back-offset = ap backOffsetAt is ∙ backOffsetAt-image (r .mode) (entries r) small ∙ c .5;
         back-array = ap backArray is ∙ back-array (r .mode) (entries r) small ∙ c .6;
         named = each-map (λ a h. read .name-gives (a .name) ∙ h) (r .names) (c .7);
@@ -101,7 +101,7 @@ module _ (r : Row) (c : Computed r) where
       record {
         answered = list-answers (r .mode) buffer fits (r .calls) (c .1) ∙ ap (λ (n : ℕ). due (r .mode) n (r .calls)) long ∙ c .2;
         closes = list-gives (r .mode) buffer fits (r .calls) (c .1)
-            ∙ ap size (list-formula (r .mode) buffer fits (r .calls) (c .1) ∙ ap (sizeOf (r .mode)) same-entries ∙ c .3);
+            ∙ ap value (list-formula (r .mode) buffer fits (r .calls) (c .1) ∙ ap (sizeOf (r .mode)) same-entries ∙ c .3);
         imaged =
             image-holds (closedImage (after (fresh (r .mode) buffer) (r .calls)))
             (list-image (r .mode) buffer fits (r .calls) (c .1) ∙ ap (image (r .mode)) same-entries)
@@ -142,5 +142,5 @@ computed = (
   ),
 )
 
-pub rows-right : Each Right rows
+pub rows-right : Each HoldsAnyway rows
 rows-right = each-map holds-in rows computed

@@ -5,15 +5,17 @@ use mathlib.Core.Bool.{Bool, true, false}
 use mathlib.Core.List.{List, [], _∷_, map}
 use mathlib.Core.Option.{Option, none, some}
 use lib.ListN.{length, take}
+use Rattle.jhash.specs.Outcome.{value}
 use Rattle.image.specs.declared.Mode.{Mode}
 use Rattle.image.specs.declared.Mode.the-variants.{Twoway, Oneway}
 use Rattle.image.specs.Bytes.{word, range}
-use Rattle.reader.specs.Open.{opening, num, backSizeAt, backOffsetAt}
+use Rattle.image.specs.Head.{backSizeAt, backOffsetAt}
+use Rattle.reader.specs.Open.{opening}
 use Rattle.reader.specs.Lookup.{lookup}
 use Rattle.reader.specs.Walk.{home}
 use Rattle.answers.specs.Answer.{foundId, nameGiven}
 use Rattle.writer.specs.State.{State, fresh}
-use Rattle.writer.specs.Close.{size, closing, closedSize, afterClose}
+use Rattle.writer.specs.Close.{closing, closedSize, afterClose}
 use Rattle.lists.specs.Calls.{Call, put, after, answers}
 
 -- what a name gives; what an id gives, and whether it is home
@@ -54,7 +56,7 @@ backArray img = map (λ (i : ℕ). word img (backOffsetAt img + 4 * i)) (range 0
 
 -- a row holds of an image, and of a buffer
 pub record ImageHolds (r : Row) (img : List ℕ) : Type 0 where
-  pub opened : opening img ≡ num (r .number)
+  pub opened : opening img ≡ value (r .number)
   pub back-offset : backOffsetAt img ≡ r .backOffset
   pub back-array : backArray img ≡ r .links
   pub named : Each (λ (a : NameRow). foundId (lookup img (a .name)) ≡ a .gives) (r .names)
@@ -62,12 +64,12 @@ pub record ImageHolds (r : Row) (img : List ℕ) : Type 0 where
 
 pub record RowHolds (r : Row) (buffer : List ℕ) : Type 0 where
   pub answered : answers (fresh (r .mode) buffer) (r .calls) ≡ r .refusals
-  pub closes : closing (after (fresh (r .mode) buffer) (r .calls)) ≡ size (r .size)
+  pub closes : closing (after (fresh (r .mode) buffer) (r .calls)) ≡ value (r .size)
   pub imaged : ImageHolds r (closedImage (after (fresh (r .mode) buffer) (r .calls)))
 
 -- whatever bytes stand in the buffer
-abbrev pub Right : Row → Type 0
-Right r = (buffer : List ℕ) → length buffer ≡ r .bytes → RowHolds r buffer
+abbrev pub HoldsAnyway : Row → Type 0
+HoldsAnyway r = (buffer : List ℕ) → length buffer ≡ r .bytes → RowHolds r buffer
 
 -- ---- the rows
 

@@ -6,8 +6,8 @@ use native.Mathlib.Decide.{ℕ-discrete, decLt}
 use native.Mathlib.Omega.{arith}
 use lib.ListN.{length, getD, set, replicate}
 use lib.Seq.{getD-set-same, getD-set-other, set-out}
 use Rattle.image.specs.Tables.{Bucket, empty, atOf, start, order, firstEmpty, insert, insertAll, filled}
-use Rattle.layout.proofs.Every.{All}
+use Rattle.image.proofs.Every.{All}
 
 pub getD-empties : (n k : ℕ) → getD (replicate n empty) k empty ≡ empty
 getD-empties zero k = refl

@@ -8,17 +8,18 @@ use lib.ListN.{length, drop, length-take, length-drop}
 use lib.Dec.{eqb}
 use borrow.Author.Tests.{ne-eqb}
 use Rattle.image.specs.Bytes.{cat}
-use Rattle.image.specs.Record.{Entry, headSize, entryBytes, entriesSize, backIn, backSize, backOffset, entriesEnd, imageSize, image}
+use Rattle.image.specs.Image.{Entry, headSize, entryBytes, entriesSize, backIn, backSize, backOffset, entriesEnd, imageSize, image}
 use Rattle.image.specs.declared.Mode.{Mode}
 use Rattle.image.proofs.Sizes.{length-entries, entriesSize-append}
-use Rattle.layout.proofs.Every.{All}
+use Rattle.image.proofs.Every.{All}
 use Rattle.writer.specs.declared.CQDBWriter.{CQDBWriter}
 use Rattle.writer.specs.State.{lent, fits, finishedSize}
-use Rattle.writer.specs.Close.{whole, entryArea, recorded, countsAgree, closed}
-use Rattle.writer.specs.Working.{backAt, taken, takenFrom, written}
+use Rattle.image.specs.Stored.{whole}
+use Rattle.writer.specs.Close.{entryArea, recorded, countsAgree, closed}
+use Rattle.writer.specs.steps.Working.{linksAt, taken, takenFrom, written}
 use Rattle.writer.proofs.Fits.{fitting}
 use Rattle.writer.proofs.Area.{Bytes, bytes-drop, bytes-take, length-entriesIn, whole-bytes, ids-words}
-use Rattle.writer.proofs.Rows.{counts-agree}
+use Rattle.writer.proofs.HeadRows.{counts-agree}
 use Rattle.writer.proofs.Partial.{partial, partial-all}
 use Rattle.writer.proofs.Cleared.{Tells, told-size, told-links, cleared-partial}
 use Rattle.writer.proofs.Turn.{length-found, turn}
@@ -99,7 +100,7 @@ module _ (w : CQDBWriter) (counts buf : List ℕ) (bytes : Bytes buf) (fit : fit
     written-image =
         let mode = w .mode in
         let tail = drop (finishedSize w) buf in
-        ap (takenFrom mode (backAt w) (w .end) (w .entries) headSize) (cleared-partial w counts buf es tells)
+        ap (takenFrom mode (linksAt w) (w .end) (w .entries) headSize) (cleared-partial w counts buf es tells)
         ∙ ap (λ (o : ℕ). takenFrom mode o (w .end) (w .entries) headSize (partial mode es [] ++ tail)) (told-links w counts buf es tells)
         ∙ ap (λ (o : ℕ). takenFrom mode (backOffset mode es) o (w .entries) headSize (partial mode es [] ++ tail)) recorded-end
         ∙ ap (λ (n : ℕ). takenFrom mode (backOffset mode es) (entriesEnd es) n headSize (partial mode es [] ++ tail)) (sym recorded-number)

@@ -10,7 +10,8 @@ use borrow.Author.Tests.{lt-ltb, le-ltb}
 use lib.Dec.{ltb}
 use lib.ListN.{length, drop}
 use Rattle.jhash.specs.Lookup3.{added, mix, final, rest, hashRest, initial}
-use Rattle.jhash.specs.NameHash.{nameHash, hashOf, hash, refusal, outcome, hashOutcome}
+use Rattle.jhash.specs.Outcome.{Outcome, value, refusal}
+use Rattle.jhash.specs.NameHash.{nameHash, hashOf, outcome, hashOutcome}
 use Rattle.jhash.specs.declared.Words.{Words}
 use Rattle.jhash.specs.declared.Hashed.{Hashed}
 use Rattle.jhash.specs.declared.Hashed.the-variants.{Hash, Refused}
@@ -44,7 +45,7 @@ hashOf-below name = nameHash-below name 0
 
 -- ---- what is answered for a short name, and for one that is too long
 
-pub short-answer : (name : List ℕ) (start : ℕ) → length name < 4294967295 → hashOutcome name start ≡ hash (nameHash name start)
+pub short-answer : (name : List ℕ) (start : ℕ) → length name < 4294967295 → hashOutcome name start ≡ value (nameHash name start)
 unfolding hashOutcome
 short-answer name start h = simp (lt-ltb (length name) 4294967295 h)
 
@@ -53,7 +54,7 @@ unfolding hashOutcome
 long-answer name start h = simp (le-ltb (length name) 4294967295 h)
 
 -- with the start value of images
-pub image-answer : (name : List ℕ) → length name < 4294967295 → hashOutcome name 0 ≡ hash (hashOf name)
+pub image-answer : (name : List ℕ) → length name < 4294967295 → hashOutcome name 0 ≡ value (hashOf name)
 unfolding hashOf
 image-answer name h = short-answer name 0 h
 
@@ -65,10 +66,10 @@ pub told-hash : (name : List ℕ) (start : ℕ) (r : Hashed) (h : ℕ) → outco
 told-hash name start r h promise is =
     elim (decLt (length name) 4294967295) [
       | yes short ↦
-          let e : hash h ≡ hash (nameHash name start) = ap outcome (sym is) ∙ promise ∙ short-answer name start short in
+          let e : value h ≡ value (nameHash name start) = ap outcome (sym is) ∙ promise ∙ short-answer name start short in
           (short, cc)
       | no long ↦
-          let e : hash h ≡ refusal 9 = ap outcome (sym is) ∙ promise ∙ long-answer name start (omega arith) in
+          let e : value h ≡ refusal 9 = ap outcome (sym is) ∙ promise ∙ long-answer name start (omega arith) in
           let z : _≡_ {A = ℕ} 0 1 = cc in
           absurd (zero-one z)
     ]
@@ -85,14 +86,14 @@ pub told-refused : (name : List ℕ) (start : ℕ) (r : Hashed) → outcome r �
 told-refused name start r promise is =
     elim (decLt (length name) 4294967295) [
       | yes short ↦
-          let e : refusal 9 ≡ hash (nameHash name start) = ap outcome (sym is) ∙ promise ∙ short-answer name start short in
+          let e : refusal 9 ≡ value (nameHash name start) = ap outcome (sym is) ∙ promise ∙ short-answer name start short in
           let z : _≡_ {A = ℕ} 0 1 = cc in
           absurd (zero-one z)
       | no long ↦ omega arith
     ]
 
 -- the number or value of an answer tells the answer
-pub outcome-hash : (r : Hashed) (x h : ℕ) → r ≡ Hash x → outcome r ≡ hash h → x ≡ h
-outcome-hash r x h is told =
-    let e : hash x ≡ hash h = ap outcome (sym is) ∙ told in
+pub outcome-value : (r : Hashed) (x h : ℕ) → r ≡ Hash x → outcome r ≡ value h → x ≡ h
+outcome-value r x h is told =
+    let e : value x ≡ value h = ap outcome (sym is) ∙ told in
     cc

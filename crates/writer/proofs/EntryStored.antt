@@ -6,7 +6,7 @@ use mathlib.Core.List.{List, [], _∷_, _++_, append-assoc}
 use lib.ListN.{length, set, length-append}
 use lib.Seq.{sets}
 use Rattle.image.specs.Bytes.{le32}
-use Rattle.image.specs.Record.{entryBytes}
+use Rattle.image.specs.Image.{entryBytes}
 use Rattle.image.proofs.Words.{length-le32}
 use Rattle.image.proofs.Stores.{sets-then}
 use Rattle.writer.specs.Put.{entryOf}

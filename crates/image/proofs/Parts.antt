@@ -6,16 +6,16 @@ use Prim.Native.Nat.{ℕ, zero, suc, _+_, _*_, _-_, _^_, _≤_, _<_}
 use native.Mathlib.Omega.{arith}
 use lib.Dec.{eqb}
 use lib.ListN.{length, getD, length-append}
 use Rattle.image.specs.Bytes.{word, le32, cat, range}
 use Rattle.image.specs.Tables.{Bucket, empty}
-use Rattle.image.specs.Record.{Entry, Placed, headSize, entryBytes, placed, count, bucketBytes, table, tableBytes, entriesBefore}
-use Rattle.image.specs.Record.{tableOffset, tableRow, tableRows, tables, link, links, back, entriesEnd, imageSize, headWords, image}
+use Rattle.image.specs.Image.{Entry, Placed, headSize, entryBytes, placed, count, bucketBytes, table, tableBytes, entriesBefore}
+use Rattle.image.specs.Image.{tableOffset, tableRow, tableRows, tables, link, links, backSizeOf, entriesEnd, imageSize, headWords, image}
 use Rattle.image.specs.declared.Mode.{Mode}
 use Rattle.image.proofs.Words.{length-le32}
 use Rattle.image.proofs.Lists.{length-cat, length-cat-alike, length-range, range-at, getD-range}
 use Rattle.image.proofs.Sizes.{length-entries, length-placed, length-bucketBytes, length-table, before-suc, before-all, length-tables-to, length-tables}
 use Rattle.image.proofs.Sizes.{length-headWords, length-tableRow, length-tableRows, length-tableBytes}
-use Rattle.layout.proofs.At.{At, at-whole, at-same, at-equal, at-left, at-right, at-word, at-second, at-after, at-part}
+use Rattle.image.proofs.At.{At, at-whole, at-same, at-equal, at-left, at-right, at-word, at-second, at-after, at-part}
 
 -- the entries of an image, with their offsets
 abbrev pub placedIn : List Entry → List Placed
@@ -54,7 +54,7 @@ module _ (mode : Mode) (es : List Entry) where
   T = tables (placedIn es)
 
   L : List ℕ
-  L = links (placedIn es) (back mode es)
+  L = links (placedIn es) (backSizeOf mode es)
 
   whole : At (image mode es) 0 (H ++ R ++ E ++ T ++ L)
   unfolding image H R E T L
@@ -82,7 +82,7 @@ module _ (mode : Mode) (es : List Entry) where
       sum : length H + length R + length E ≡ entriesEnd es
       sum = omega (arith, length-headWords mode es, length-tableRows (entriesEnd es) (placedIn es), length-entries es)
 
-  pub links-at : At (image mode es) (entriesEnd es + 16 * length es) (links (placedIn es) (back mode es))
+  pub links-at : At (image mode es) (entriesEnd es + 16 * length es) (links (placedIn es) (backSizeOf mode es))
   unfolding H R E T L
   links-at = at-same sum (five-5 H R E T L whole)
     where
@@ -187,10 +187,10 @@ module _ (mode : Mode) (es : List Entry) (fits : imageSize mode es ≤ 429496729
       bucket-of (placedIn es) (λ (t : ℕ). table t (placedIn es)) (λ t. length-table t (placedIn es)) (entriesEnd es) (tables-at mode es)
 
   -- the back links
-  pub link-at : (i : ℕ) → i < back mode es → At (image mode es) (entriesEnd es + 16 * length es + 4 * i) (le32 (link (placedIn es) i))
+  pub link-at : (i : ℕ) → i < backSizeOf mode es → At (image mode es) (entriesEnd es + 16 * length es + 4 * i) (le32 (link (placedIn es) i))
   unfolding links
   link-at i h =
       let e : 0 + i ≡ i = omega arith in
-      at-equal (ap (λ (k : ℕ). le32 (link (placedIn es) k)) (getD-range 0 (back mode es) i h ∙ e))
+      at-equal (ap (λ (k : ℕ). le32 (link (placedIn es) k)) (getD-range 0 (backSizeOf mode es) i h ∙ e))
       (at-part (λ (k : ℕ). le32 (link (placedIn es) k)) 4 (λ k. length-le32 (link (placedIn es) k)) (entriesEnd es + 16 * length es)
-      (range 0 (back mode es)) i 0 (links-at mode es) (rw (length-range 0 (back mode es)) h))
+      (range 0 (backSizeOf mode es)) i 0 (links-at mode es) (rw (length-range 0 (backSizeOf mode es)) h))

@@ -112,25 +112,25 @@ abbrev pub entriesEnd : List Entry → ℕ
 entriesEnd es = headSize + entriesSize es
 
 -- the back size in an image
-abbrev pub back : Mode → List Entry → ℕ
-back mode es = backIn mode (backSize es)
+abbrev pub backSizeOf : Mode → List Entry → ℕ
+backSizeOf mode es = backIn mode (backSize es)
 
 -- the size of the whole image
 abbrev pub imageSize : Mode → List Entry → ℕ
-imageSize mode es = entriesEnd es + 16 * length es + 4 * back mode es
+imageSize mode es = entriesEnd es + 16 * length es + 4 * backSizeOf mode es
 
 -- the back array stands after the tables; its offset is 0 in a one-way image and in an empty one
 unfoldable pub backOffset : Mode → List Entry → ℕ
-backOffset mode es = cond (eqb (back mode es) 0) 0 (entriesEnd es + 16 * length es)
+backOffset mode es = cond (eqb (backSizeOf mode es) 0) 0 (entriesEnd es + 16 * length es)
 
 -- 0: the letters CQDB. 4: size of the whole image. 8: flag word. 12: 62445371 hexadecimal. 16: back size. 20: back offset
 unfoldable pub headBytes : ℕ → ℕ → ℕ → ℕ → List ℕ
-headBytes size mode n o =
-    67 ∷ 81 ∷ 68 ∷ 66 ∷ [] ++ le32 size ++ le32 mode ++ le32 0x62445371 ++ le32 n ++ le32 o
+headBytes size flag n o =
+    67 ∷ 81 ∷ 68 ∷ 66 ∷ [] ++ le32 size ++ le32 flag ++ le32 0x62445371 ++ le32 n ++ le32 o
 
 unfoldable pub headWords : Mode → List Entry → List ℕ
 unfolding headBytes
-headWords mode es = headBytes (imageSize mode es) (flagWord mode) (back mode es) (backOffset mode es)
+headWords mode es = headBytes (imageSize mode es) (flagWord mode) (backSizeOf mode es) (backOffset mode es)
 
 -- 24 + 8t, for t = 0 to 255: table t's offset, then its bucket number
 unfoldable pub tableRows : ℕ → List Placed → List ℕ
@@ -152,4 +152,4 @@ image mode es =
     ++ tableRows (entriesEnd es) ps
     ++ cat entryBytes es
     ++ tables ps
-    ++ links ps (back mode es)
+    ++ links ps (backSizeOf mode es)

@@ -8,11 +8,11 @@ use lib.ListN.{getD}
 use lib.Dec.{eqb}
 use borrow.Author.Tests.{eqb-true}
 use Rattle.image.specs.Bytes.{le32, cat, range}
-use Rattle.image.specs.Record.{Entry, Placed, headSize, placed, count, entriesBefore, tableOffset, tableRow, tableRows}
+use Rattle.image.specs.Image.{Entry, Placed, headSize, placed, count, entriesBefore, tableOffset, tableRow, tableRows}
 use Rattle.image.proofs.All.{all-each}
 use Rattle.image.proofs.Sizes.{before-suc}
 use Rattle.writer.specs.Close.{countsAgree}
-use Rattle.writer.specs.Working.{rowsFrom}
+use Rattle.writer.specs.steps.Working.{rowsFrom}
 
 -- the counts of entries, table by table
 abbrev pub Counts : List ℕ → List Placed → Type 0

@@ -10,7 +10,7 @@ use lib.Dec.{eqb, ltb}
 use lib.ListN.{length}
 use Rattle.image.specs.Bytes.{word}
 use Rattle.image.proofs.Bools.{neither-first, neither-second}
-use Rattle.reader.specs.Lookup.{broken}
+use Rattle.image.specs.Stored.{broken}
 
 -- the cases of `broken`, for a length word w
 module _ (image : List ℕ) (at : ℕ) where

@@ -6,7 +6,7 @@ use lib.ListN.{length, getD, take, drop}
 use Rattle.image.specs.declared.Mode.{Mode}
 use Rattle.image.specs.declared.Mode.the-variants.{Twoway, Oneway}
 use Rattle.image.specs.Bytes.{cat}
-use Rattle.image.specs.Record.{Entry, headSize, entryBytes, entriesSize, entriesEnd, placed, count, back, backSize, imageSize}
+use Rattle.image.specs.Image.{Entry, headSize, entryBytes, entriesSize, entriesEnd, placed, count, backSizeOf, backSize, imageSize}
 use Rattle.writer.specs.State.{State}
 use Rattle.lists.specs.Calls.{Call, put, close}
 
@@ -17,7 +17,7 @@ pub record Written (mode : Mode) (n : ℕ) (es : List Entry) (s : State) : Type 
   pub length-kept : length (s .buffer) ≡ n
   pub end : s .writer .end ≡ entriesEnd es
   pub entries : s .writer .entries ≡ length es
-  pub back-size : s .writer .back ≡ back mode es
+  pub back-size : s .writer .back ≡ backSizeOf mode es
   pub tables : length (s .counts) ≡ 256
   pub counts : (t : ℕ) → t < 256 → getD (s .counts) t 0 ≡ count t (placed headSize es)
   pub area : take (entriesSize es) (drop headSize (s .buffer)) ≡ cat entryBytes es

@@ -6,14 +6,15 @@ use mathlib.Core.List.{List}
 use mathlib.Core.Option.{Option, none, some}
 use lib.ListN.{length}
 use lib.Dec.{eqb}
+use Rattle.jhash.specs.Outcome.{value}
 use Rattle.image.specs.declared.Mode.{Mode}
 use Rattle.image.specs.declared.Mode.the-variants.{Twoway, Oneway}
-use Rattle.image.specs.Record.{Entry}
-use Rattle.reader.specs.Open.{opening, num}
+use Rattle.image.specs.Image.{Entry}
+use Rattle.reader.specs.Open.{opening}
 use Rattle.reader.specs.Lookup.{lookup}
 use Rattle.reader.specs.Walk.{home}
 use Rattle.answers.specs.Answer.{foundId, nameGiven, ofName, ofId, tablePuts, firstId, lastName}
-use Rattle.reader.specs.Answers.{reads}
+use Rattle.reader.specs.Cases.{reads}
 
 -- an id gives the name of its last entry; in a one-way image, none
 abbrev pub namedIn : Mode → List Entry → ℕ → Option (List ℕ)
@@ -34,7 +35,7 @@ abbrev pub homeIn : Mode → List Entry → ℕ → Bool
 homeIn mode es id = homeBy es id (namedIn mode es id)
 
 pub record Read (mode : Mode) (es : List Entry) (img : List ℕ) : Type 0 where
-  pub opened : opening img ≡ num (length es)
+  pub opened : opening img ≡ value (length es)
   pub name-gives : (name : List ℕ) → foundId (lookup img name) ≡ firstId (ofName name es)
   pub id-gives : (id : ℕ) → nameGiven img id ≡ namedIn mode es id
   pub id-home : (id : ℕ) → home img id ≡ homeIn mode es id

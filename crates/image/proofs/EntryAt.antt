@@ -4,15 +4,15 @@ use mathlib.Core.List.{List, [], _∷_, _++_}
 use Prim.Native.Nat.{ℕ, _+_, _^_, _≤_, _<_}
 use native.Mathlib.Omega.{arith}
 use lib.ListN.{length, take, drop, length-append}
 use Rattle.image.specs.Bytes.{word, le32, cat}
-use Rattle.image.specs.Record.{Entry, Placed, headSize, entryBytes, entrySize, placed, backSize, image}
+use Rattle.image.specs.Image.{Entry, Placed, headSize, entryBytes, entrySize, placed, backSize, image}
 use Rattle.image.specs.declared.Mode.{Mode}
 use Rattle.image.proofs.Words.{length-le32}
 use Rattle.image.proofs.Lists.{cat-cons}
 use Rattle.image.proofs.Sizes.{length-entryBytes}
-use Rattle.layout.proofs.Every.{All}
-use Rattle.layout.proofs.At.{At, at-same, at-equal, at-left, at-right, at-fits, at-take, at-word, at-second}
-use Rattle.layout.proofs.Parts.{placedIn, entries-at}
+use Rattle.image.proofs.Every.{All}
+use Rattle.image.proofs.At.{At, at-same, at-equal, at-left, at-right, at-fits, at-take, at-word, at-second}
+use Rattle.image.proofs.Parts.{placedIn, entries-at}
 
 -- ---- one entry
 

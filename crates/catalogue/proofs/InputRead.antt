@@ -7,8 +7,8 @@ use lib.ListN.{length}
 use Rattle.writer.specs.State.{State}
 use Rattle.reader.specs.Naming.{Naming, place, unnamed, naming}
 use Rattle.reader.specs.Walk.{item, done, stepOf, step}
-use Rattle.reader.proofs.Names.{named}
-use Rattle.lines.specs.Pieces.{Gathering, started, takePiece, inputEnded}
+use Rattle.reader.proofs.Namings.{named}
+use Rattle.lines.specs.steps.Pieces.{Gathering, started, takePiece, inputEnded}
 use Rattle.lines.proofs.Whole.{piece-append, in-one}
 use Rattle.catalogue.specs.Left.{Left}
 

@@ -8,32 +8,14 @@ use lib.ListN.{length, getD, take, drop, replicate}
 use lib.Seq.{sets}
 use lib.Dec.{eqb, leb}
 use Rattle.jhash.specs.NameHash.{hashOf}
-use Rattle.image.specs.Bytes.{word, le32, all}
+use Rattle.image.specs.Bytes.{word, le32}
 use Rattle.image.specs.Tables.{tableOf, start, order, firstEmpty}
-use Rattle.image.specs.Record.{Entry, headSize, headBytes, flagWord, backIn, backSize}
+use Rattle.image.specs.Image.{Entry, headSize, headBytes, flagWord, backIn, backSize}
 use Rattle.image.specs.declared.Mode.{Mode}
 use Rattle.image.specs.declared.Mode.the-variants.{Twoway, Oneway}
 use Rattle.writer.specs.declared.CQDBWriter.{CQDBWriter}
 use Rattle.writer.specs.State.{State, finishedSize}
-use Rattle.writer.specs.Put.{countsAfter}
-use Rattle.writer.specs.Close.{firstWhole, whole, entriesIn}
-
--- the bytes from `at` to `end`
-abbrev pub between : List ℕ → ℕ → ℕ → List ℕ
-between buf at end = take (end - at) (drop at buf)
-
--- the length word of the entry at the front of some bytes, 0 where it is not whole
-unfoldable pub wholeLength : List ℕ → ℕ
-wholeLength bytes = cond (firstWhole bytes) (word bytes 4) 0
-
--- the counts after entries
-unfoldable pub tallied : List ℕ → List Entry → List ℕ
-tallied counts [] = counts
-tallied counts (e ∷ es) = tallied (countsAfter counts e) es
-
--- do two lists agree at the 256 tables?
-abbrev pub sameCounts : List ℕ → List ℕ → Bool
-sameCounts a b = all (λ (t : ℕ). eqb (getD a t 0) (getD b t 0)) 0 256
+use Rattle.image.specs.Stored.{between, wholeLength}
 
 -- the rows of the m tables from t on, the first with entries standing at o
 unfoldable pub rowsFrom : List ℕ → ℕ → ℕ → ℕ → List ℕ
@@ -44,14 +26,14 @@ rowsFrom counts o t (suc m) =
     ++ rowsFrom counts (o + 16 * getD counts t 0) (suc t) m
 
 -- where the back array stands, 0 where there is none
-unfoldable pub backAt : CQDBWriter → ℕ
-backAt w = cond (eqb (backIn (w .mode) (w .back)) 0) 0 (w .end + 16 * w .entries)
+unfoldable pub linksAt : CQDBWriter → ℕ
+linksAt w = cond (eqb (backIn (w .mode) (w .back)) 0) 0 (w .end + 16 * w .entries)
 
 -- head and rows written, tables and back array cleared
 unfoldable pub cleared : CQDBWriter → List ℕ → List ℕ → List ℕ
 cleared w counts buf =
     sets
-    (sets (sets buf 0 (headBytes (finishedSize w) (flagWord (w .mode)) (backIn (w .mode) (w .back)) (backAt w))) 24 (rowsFrom counts (w .end) 0 256))
+    (sets (sets buf 0 (headBytes (finishedSize w) (flagWord (w .mode)) (backIn (w .mode) (w .back)) (linksAt w))) 24 (rowsFrom counts (w .end) 0 256))
     (w .end)
     (replicate (finishedSize w - w .end) 0)
 
@@ -105,4 +87,4 @@ linksApart Oneway links end = true
 
 -- all that close writes
 unfoldable pub written : CQDBWriter → List ℕ → List ℕ → List ℕ
-written w counts buf = takenFrom (w .mode) (backAt w) (w .end) (w .entries) headSize (cleared w counts buf)
+written w counts buf = takenFrom (w .mode) (linksAt w) (w .end) (w .entries) headSize (cleared w counts buf)

@@ -8,11 +8,12 @@ use native.Mathlib.Omega.{arith}
 use borrow.Author.Tests.{le-ltb, ne-eqb}
 use lib.ListN.{length, take, drop}
 use Rattle.image.specs.Bytes.{word, same}
-use Rattle.image.specs.Record.{Entry, entryBytes}
-use Rattle.reader.specs.Lookup.{pass, hit, nameOf, broken, seeEntry}
+use Rattle.image.specs.Image.{Entry, entryBytes}
+use Rattle.image.specs.Stored.{nameOf, broken}
+use Rattle.reader.specs.Lookup.{pass, hit, seeEntry}
 use Rattle.reader.specs.Naming.{namingAt}
-use Rattle.layout.proofs.At.{At}
-use Rattle.layout.proofs.Entries.{entry-fits, id-word, length-word, name-bytes}
+use Rattle.image.proofs.At.{At}
+use Rattle.image.proofs.EntryAt.{entry-fits, id-word, length-word, name-bytes}
 use Rattle.answers.specs.Answer.{heldAt}
 
 module _ {img : List ℕ} {o : ℕ} (e : Entry) (a : At img o (entryBytes e)) (small : length img ≤ 4294967295) where

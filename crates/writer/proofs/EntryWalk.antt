@@ -12,10 +12,9 @@ use borrow.Author.Tests.{eq-eqb, ne-eqb}
 use Rattle.jhash.specs.NameHash.{hashOf}
 use Rattle.image.specs.Bytes.{word}
 use Rattle.image.specs.Tables.{tableOf}
-use Rattle.image.specs.Record.{Entry, backSize}
-use Rattle.writer.specs.Close.{firstWhole, firstEntry, afterFirst, whole, entriesIn}
-use Rattle.writer.specs.Put.{raisedCounts, countsAfter}
-use Rattle.writer.specs.Working.{between, wholeLength, tallied}
+use Rattle.image.specs.Image.{Entry, backSize}
+use Rattle.image.specs.Stored.{firstWhole, firstEntry, afterFirst, whole, entriesIn, between, wholeLength}
+use Rattle.image.specs.Tally.{tallied, raisedCounts, countsAfter}
 use Rattle.writer.proofs.Between.{Front, front, not-whole, length-between, drop-between, word-between, name-between}
 
 -- one more in one table raises no count by more than one

@@ -9,11 +9,12 @@ use lib.Dec.{eqb, ltb, leb}
 use lib.ListN.{length, take, drop}
 use Rattle.image.specs.Bytes.{word}
 use Rattle.image.proofs.Bools.{neither-first, neither-second}
-use Rattle.reader.specs.Open.{backSizeAt, backOffsetAt, backLeaves}
-use Rattle.reader.specs.Lookup.{Lookup, lookup, broken}
+use Rattle.image.specs.Head.{backSizeAt, backOffsetAt, backLeaves}
+use Rattle.image.specs.Stored.{broken}
+use Rattle.reader.specs.Lookup.{Lookup, lookup}
 use Rattle.reader.specs.Naming.{place, unnamed, noBack, namingAt, naming, partOr}
 use Rattle.reader.specs.Walk.{upperHint, finds, homeBy, home}
-use Rattle.reader.proofs.Entries.{whole}
+use Rattle.reader.proofs.Unbroken.{whole}
 
 -- a back array that can be read lies in the image
 pub record Back (image : List ℕ) : Type 0 where

@@ -1,12 +1,12 @@
 -- The answers' cases: for each enum that a call answers, 01's number and values of its cases.
 use Prim.Native.Nat.{ℕ}
-use Rattle.reader.specs.Open.{Opening, num, refusal}
+use Rattle.jhash.specs.Outcome.{Outcome, value, refusal}
 use Rattle.reader.specs.Lookup.{Lookup, found, nothing}
 use Rattle.reader.specs.Lookup as spec
 use Rattle.reader.specs.Naming.{Naming, place, unnamed}
 use Rattle.reader.specs.Walk.{Step, item, done}
 use Rattle.reader.specs.declared.Opened.{Opened}
-use Rattle.reader.specs.declared.Opened.the-variants.{Num, TooShort, WrongLetters, WrongByteOrder, TableLeaves, BackLeaves}
+use Rattle.reader.specs.declared.Opened.the-variants.{Num, Refused}
 use Rattle.reader.specs.declared.ToId.{ToId}
 use Rattle.reader.specs.declared.ToId.the-variants as toid
 use Rattle.reader.specs.declared.Seen.{Seen}
@@ -16,14 +16,10 @@ use Rattle.reader.specs.declared.Named.the-variants as named
 use Rattle.reader.specs.declared.Stepped.{Stepped}
 use Rattle.reader.specs.declared.Stepped.the-variants.{Item, Done}
 
--- 01, "When a call is refused": the number of each refusal of open
-abbrev pub openedOf : Opened → Opening
-openedOf (Num n) = num n
-openedOf TooShort = refusal 1
-openedOf WrongLetters = refusal 5
-openedOf WrongByteOrder = refusal 6
-openedOf TableLeaves = refusal 7
-openedOf BackLeaves = refusal 8
+-- an opened image answers num, its number of associations; or opening is refused by a number
+abbrev pub openedOf : Opened → Outcome ℕ
+openedOf (Num n) = value n
+openedOf (Refused k) = refusal k
 
 -- found with its id, or nothing; both carry the buckets read
 abbrev pub lookupOf : ToId → Lookup

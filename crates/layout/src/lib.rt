@@ -1,1 +1,0 @@
-// Where the parts of an image stand in its bytes: laws alone, no function.
