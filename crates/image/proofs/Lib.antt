@@ -12,3 +12,5 @@ pub mod At
 pub mod Buckets
 pub mod Parts
 pub mod EntryAt
+pub mod Equal
+pub mod Unbroken
