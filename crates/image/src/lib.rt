@@ -5,8 +5,8 @@ ghost use Prim.Native.Nat.{_<_};
 ghost use lib.ListN.{length, set};
 ghost use lib.Seq.{sets};
 ghost use Rattle.image.specs.Bytes.{word, le32};
-use jhash::bytes::word;
-use jhash::bytes::word_near_end;
+use jhash::word::word;
+use jhash::word::word_near_end;
 
 pub mod equality; // equality.rt: same
 pub mod stored; // stored.rt: broken
