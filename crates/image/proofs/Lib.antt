@@ -12,3 +12,6 @@ pub mod At
 pub mod Buckets
 pub mod Parts
 pub mod EntryAt
+pub mod Area
+pub mod Between
+pub mod EntryWalk

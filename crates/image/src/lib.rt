@@ -5,7 +5,9 @@ ghost use lib.ListN.{length, getD, set};
 ghost use lib.Seq.{sets};
 ghost use Rattle.image.specs.Bytes.{word, le32};
 
-// The writer's mode (`Mode` of cqdb-rs): Twoway is two-way, Oneway leaves the back array out.
+pub mod entries; // entries.rt: whole entries, and a walk over them
+
+// The writer's mode (`Flag` of cqdb-rs, NONE and ONEWAY): one-way leaves the back array out.
 pub enum Mode {
     Twoway,
     Oneway,

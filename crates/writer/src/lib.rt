@@ -97,7 +97,7 @@ fn append(
     let jhash::Hashed::Hash(h) = jhash::name_hash(name) else {
         return w;
     };
-    record::raise(&mut *counts, h);
+    image::entries::raise(&mut *counts, h);
     entry::store(&mut *buf, w.end as usize, name, id);
     record::after(w, name.len(), id)
 }
