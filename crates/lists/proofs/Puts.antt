@@ -37,9 +37,9 @@ module _ (mode : Mode) (n : ℕ) (es : List Entry) (s : State) (w : Written mode
       let none : noneAbove (s .counts) (s .writer .entries) ≡ true =
       all-true (λ (t : ℕ). leb (getD (s .counts) t 0) (s .writer .entries)) 0 256
       (λ i h. le-leb (getD (s .counts) (0 + i) 0) (s .writer .entries) (count-below (0 + i) (omega arith))) in
-      let cap : s .writer .length ≡ length (s .buffer) = w .length ∙ sym (w .length-kept) in
+      let cap : s .writer .length ≡ length (s .buffer) = w .length-is ∙ sym (w .length-kept) in
       let low : headSize ≤ s .writer .end = omega (arith, w .end) in
-      let high : s .writer .end ≤ s .writer .length = omega (arith, w .end, w .length, w .within) in
+      let high : s .writer .end ≤ s .writer .length = omega (arith, w .end, w .length-is, w .within) in
       simp
       (eq-eqb (s .writer .length) (length (s .buffer)) cap, le-leb headSize (s .writer .end) low, le-leb (s .writer .end) (s .writer .length) high, none)
 
@@ -59,18 +59,18 @@ raised-back Oneway b es e h = h
 module _ (mode : Mode) (n : ℕ) (es : List Entry) (s : State) (w : Written mode n es s) (e : Entry) where
   back-then : raised (s .writer .mode) (s .writer .back) (e .id) ≡ backIn mode (backSize (es ++ (e ∷ [])))
   back-then =
-      ap (λ (f : Mode). raised f (s .writer .back) (e .id)) (w .mode) ∙ raised-back mode (s .writer .back) es e (w .back-size)
+      ap (λ (f : Mode). raised f (s .writer .back) (e .id)) (w .mode-is) ∙ raised-back mode (s .writer .back) es e (w .back-size)
 
   finished-then : finishedSize (writerAfter (s .writer) e) ≡ sizeOf mode (es ++ (e ∷ []))
   unfolding writerAfter
   finished-then =
       let b : backIn (s .writer .mode) (raised (s .writer .mode) (s .writer .back) (e .id)) ≡ backIn mode (backSize (es ++ (e ∷ []))) =
-      ap₂ backIn (w .mode) back-then ∙ backIn-twice mode (backSize (es ++ (e ∷ []))) in
+      ap₂ backIn (w .mode-is) back-then ∙ backIn-twice mode (backSize (es ++ (e ∷ []))) in
       omega (arith, b, w .end, w .entries, entriesSize-snoc es e, length-append es (e ∷ []), sizeOf-is mode (es ++ (e ∷ [])))
 
   pub put-due : putRefusal s e ≡ dueTo mode n es (put e)
   unfolding putRefusal refused
-  put-due = simp (written-fits mode n es s w, finished-then, w .length)
+  put-due = simp (written-fits mode n es s w, finished-then, w .length-is)
 
 -- ---- the bytes
 
@@ -152,8 +152,8 @@ module _ (mode : Mode) (n : ℕ) (es : List Entry) (s : State) (w : Written mode
   unfolding appended writerAfter
   appended-written word =
       record {
-        mode = w .mode;
-        length = w .length;
+        mode-is = w .mode-is;
+        length-is = w .length-is;
         length-kept = length-sets (s .buffer) (s .writer .end) (entryBytes e) ∙ w .length-kept;
         end = omega (arith, w .end, entriesSize-snoc es e);
         entries = omega (arith, w .entries, length-append es (e ∷ []));
@@ -184,8 +184,8 @@ pub fresh-written : (mode : Mode) (buffer : List ℕ) → headSize ≤ length bu
 unfolding fresh entriesSize placed ofTable backSize cat Rattle.image.specs.Bytes.keep
 fresh-written mode buffer room =
     record {
-      mode = refl;
-      length = refl;
+      mode-is = refl;
+      length-is = refl;
       length-kept = refl;
       end = refl;
       entries = refl;

@@ -21,7 +21,8 @@ use Rattle.writer.specs.State.{fresh}
 use Rattle.lists.specs.Calls.{after, acceptedFrom, dueFrom, accepted, due, refused, putsSize, sizeOf}
 use Rattle.lists.proofs.Written.{WordIds}
 use Rattle.lists.proofs.Read.{namedIn, homeIn, Read}
-use Rattle.lists.specs.QuayRows.{NameRow, IdRow, Row, Each, closedImage, backArray, ImageHolds, RowHolds, HoldsAnyway, rows}
+use Rattle.writer.specs.Close.{closedImage}
+use Rattle.lists.specs.QuayRows.{NameRow, IdRow, Row, Each, backArray, ImageHolds, RowHolds, HoldsAnyway, rows}
 use Rattle.lists.proofs.Along.{list-answers}
 use Rattle.lists.proofs.OneMore.{list-gives, list-formula, list-image, list-below}
 use Rattle.lists.proofs.Reading.{list-read}

@@ -12,7 +12,7 @@ use Rattle.lists.specs.Calls.{Call, put, close}
 
 -- record and buffer hold these entries, in a buffer of n bytes, and their image has room
 pub record Written (mode : Mode) (n : ℕ) (es : List Entry) (s : State) : Type 0 where
-  pub mode : s .writer .mode ≡ mode
+  pub mode-is : s .writer .mode ≡ mode
   pub length-is : s .writer .length ≡ n
   pub length-kept : length (s .buffer) ≡ n
   pub end : s .writer .end ≡ entriesEnd es

@@ -15,7 +15,7 @@ use Rattle.reader.specs.Lookup.{lookup}
 use Rattle.answers.specs.Answer.{foundId, nameGiven, ofName, ofId, tablePuts, firstId, lastName}
 use Rattle.reader.specs.Cases.{reads}
 use Rattle.writer.specs.State.{State, fresh, beginning, countsBegun}
-use Rattle.writer.specs.Close.{closing, closedSize, afterClose}
+use Rattle.writer.specs.Close.{closing, closedSize, closedImage}
 use Rattle.lists.specs.Calls.{Call, after, answers, acceptedBy, accepted, due, sizeOf, AllPermitted}
 
 -- a list starts from the record of an accepted two-way begin and that begin's buffer; what its calls answer, and what they leave
@@ -31,7 +31,7 @@ acceptedPuts buffer cs = acceptedBy cs (answersGiven buffer cs)
 
 -- the image of the one more close is the buffer's first bytes after it, as many as the size it gives
 unfoldable pub imageOf : List ℕ → List Call → List ℕ
-imageOf buffer cs = take (closedSize (stateLeft buffer cs)) (afterClose (stateLeft buffer cs) .buffer)
+imageOf buffer cs = closedImage (stateLeft buffer cs)
 
 -- what demand 3 says of one list
 pub record OneList (buffer : List ℕ) (cs : List Call) : Type 0 where

@@ -15,7 +15,7 @@ use Rattle.reader.specs.Lookup.{lookup}
 use Rattle.reader.specs.Walk.{home}
 use Rattle.answers.specs.Answer.{foundId, nameGiven}
 use Rattle.writer.specs.State.{State, fresh}
-use Rattle.writer.specs.Close.{closing, closedSize, afterClose}
+use Rattle.writer.specs.Close.{closing, closedImage}
 use Rattle.lists.specs.Calls.{Call, put, after, answers}
 
 -- what a name gives; what an id gives, and whether it is home
@@ -45,10 +45,6 @@ pub record Row : Type 0 where
 abbrev pub Each : {A : Type 0} → (A → Type 0) → List A → Type 0
 Each P [] = Unit {0}
 Each P (x ∷ xs) = P x × Each P xs
-
--- the image of one more close
-abbrev pub closedImage : State → List ℕ
-closedImage s = take (closedSize s) (afterClose s .buffer)
 
 -- the words of an image's back array
 abbrev pub backArray : List ℕ → List ℕ
