@@ -4,6 +4,7 @@ ghost use Prim.Native.Nat.{_+_, _<_, _≤_};
 ghost use lib.ListN.{length, getD, set};
 ghost use lib.Seq.{sets};
 ghost use Rattle.image.specs.Bytes.{word, le32};
+ghost use Rattle.image.specs.Image.{flagWord};
 
 pub mod entries; // entries.rt: whole entries, and a walk over them
 
@@ -11,6 +12,16 @@ pub mod entries; // entries.rt: whole entries, and a walk over them
 pub enum Mode {
     Twoway,
     Oneway,
+}
+
+// The flag word of a mode.
+pub fn flag_word(mode: Mode) -> u32
+    ensures { λ r. ⌜ r ≡ flagWord mode ⌝ }
+{
+    match mode {
+        Mode::Twoway => 0,
+        Mode::Oneway => 1,
+    }
 }
 
 // A byte as a word.
