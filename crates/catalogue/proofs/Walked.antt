@@ -13,7 +13,7 @@ use Rattle.reader.specs.Naming.{Naming, place, unnamed, naming}
 use Rattle.reader.specs.Walk.{stepOf, step}
 use Rattle.answers.specs.Answer.{heldAt, nameGiven, ofId, lastName}
 use Rattle.writer.specs.Put.{entryOf}
-use Rattle.lists.specs.Calls.{Call, refused, acceptedFrom, accepted, putsSize, sizeOf}
+use Rattle.lists.specs.Calls.{Call, putDue, acceptedFrom, accepted, putsSize, sizeOf}
 use Rattle.lists.proofs.Theorem.{one-list}
 use Rattle.lines.specs.Lines.{withByte, linesOf, leadingDigits, numberFrom, parseLine, lineCalls, linesCalls, inputCalls}
 use Rattle.catalogue.specs.Left.{putsOf}
@@ -55,7 +55,7 @@ puts : List Entry
 puts = entryOf (65 ∷ []) 0 ∷ entryOf (66 ∷ []) 3 ∷ entryOf (67 ∷ []) 0 ∷ []
 
 example-puts : putsOf 65536 example ≡ puts
-unfolding puts putsOf inputCalls linesOf withByte linesCalls lineCalls parseLine leadingDigits numberFrom accepted acceptedFrom refused sizeOf putsSize backSize
+unfolding puts putsOf inputCalls linesOf withByte linesCalls lineCalls parseLine leadingDigits numberFrom accepted acceptedFrom putDue sizeOf putsSize backSize
 example-puts = refl
 
 example-size : sizeOf Twoway puts ≡ 2166

@@ -1,20 +1,17 @@
 -- Lists of calls of every length: each call's answer is the one due, and what the list leaves is written. Assumes nothing.
 use Prim.Native.Nat.{ℕ, _≤_}
 use mathlib.Core.Path.{_≡_, refl, sym, ap, ap₂, _∙_}
-use mathlib.Core.Logic.{_⊎_, inl, inr}
-use mathlib.Core.Bool.{Bool, true, false, cond}
 use mathlib.Core.List.{List, [], _∷_, _++_, append-assoc, append-nil}
 use lib.ListN.{length}
-use lib.Dec.{eqb}
 use borrow.Author.Tests.{le-ltb}
 use Rattle.jhash.specs.Outcome.{value}
 use Rattle.image.specs.declared.Mode.{Mode}
 use Rattle.image.specs.declared.Mode.the-variants.{Twoway}
 use Rattle.image.specs.Image.{Entry, headSize}
 use Rattle.writer.specs.State.{State, fresh, beginRefusal, beginning, countsBegun}
-use Rattle.lists.specs.Calls.{Call, put, close, afterCall, answer, after, answers, acceptedOne, acceptedBy, refused, acceptedAfter, dueTo, acceptedFrom, dueFrom, accepted, due, Permitted, AllPermitted}
+use Rattle.lists.specs.Calls.{Call, put, close, afterCall, answer, after, answers, acceptedOne, acceptedBy, acceptedAfter, dueTo, acceptedFrom, dueFrom, accepted, due, Permitted, AllPermitted}
 use Rattle.lists.proofs.Written.{Written, WordId, WordIds}
-use Rattle.lists.proofs.Puts.{put-due, put-written, fresh-written}
+use Rattle.lists.proofs.Puts.{put-due, due-number, put-written, fresh-written}
 use Rattle.lists.proofs.Closes.{close-accepted, close-written}
 
 -- ---- one call
@@ -26,7 +23,7 @@ module _ (mode : Mode) (n : ℕ) (es : List Entry) (s : State) (w : Written mode
 
   pub call-written : (c : Call) → WordId mode c → Written mode n (acceptedAfter mode n es c) (afterCall s c)
   call-written (put e) word = put-written mode n es s w e word
-  call-written close word = close-written mode n es s w
+  call-written close word = rw (append-nil es) (close-written mode n es s w)
 
 -- ---- every list
 
@@ -49,11 +46,7 @@ after-written mode n es s w (c ∷ cs) word =
 
 -- 0 or 3 to a put, 0 to a close
 one-permitted : (mode : Mode) (n : ℕ) (es : List Entry) (c : Call) → Permitted c (dueTo mode n es c)
-one-permitted mode n es (put e) = go (refused mode n es e)
-  where
-    go : (b : Bool) → (_≡_ {A = ℕ} (cond b 3 0) 0) ⊎ (_≡_ {A = ℕ} (cond b 3 0) 3)
-    go true = inr refl
-    go false = inl refl
+one-permitted mode n es (put e) = due-number mode n es e
 one-permitted mode n es close = refl
 
 permitted-from : (mode : Mode) (n : ℕ) (es : List Entry) (cs : List Call) → AllPermitted cs (dueFrom mode n es cs)
@@ -66,21 +59,12 @@ unfolding due
 due-permitted mode n cs = permitted-from mode n [] cs
 
 -- the accepted puts are those whose answer is no refusal
-accepted-one : (mode : Mode) (n : ℕ) (es : List Entry) (c : Call) → acceptedAfter mode n es c ≡ es ++ acceptedOne c (dueTo mode n es c)
-accepted-one mode n es (put e) = go (refused mode n es e)
-  where
-    go : (b : Bool) → cond b es (es ++ (e ∷ [])) ≡ es ++ cond (eqb (cond b 3 0) 0) (e ∷ []) []
-    go true = sym (append-nil es)
-    go false = refl
-accepted-one mode n es close = sym (append-nil es)
-
 accepted-from : (mode : Mode) (n : ℕ) (es : List Entry) (cs : List Call) → acceptedFrom mode n es cs ≡ es ++ acceptedBy cs (dueFrom mode n es cs)
 unfolding acceptedFrom acceptedBy dueFrom
 accepted-from mode n es [] = sym (append-nil es)
 accepted-from mode n es (c ∷ cs) =
     let next : List Entry = acceptedAfter mode n es c in
     accepted-from mode n next cs
-    ∙ ap (λ (l : List Entry). l ++ acceptedBy cs (dueFrom mode n next cs)) (accepted-one mode n es c)
     ∙ append-assoc es (acceptedOne c (dueTo mode n es c)) (acceptedBy cs (dueFrom mode n next cs))
 
 pub accepted-by-due : (mode : Mode) (n : ℕ) (cs : List Call) → acceptedBy cs (due mode n cs) ≡ accepted mode n cs

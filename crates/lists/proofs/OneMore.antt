@@ -3,7 +3,7 @@ use Prim.Native.Nat.{ℕ, _≤_}
 use native.Mathlib.Omega.{arith}
 use mathlib.Core.Path.{_≡_, refl, sym, ap, _∙_}
 use mathlib.Core.Bool.{true}
-use mathlib.Core.List.{List, [], _∷_}
+use mathlib.Core.List.{List, [], _∷_, append-nil}
 use lib.ListN.{length, take}
 use Rattle.jhash.specs.Outcome.{value}
 use Rattle.image.specs.declared.Mode.{Mode}
@@ -78,7 +78,7 @@ none-from : (mode : Mode) (n : ℕ) (es : List Entry) (cs : List Call) → puts 
 unfolding acceptedFrom puts
 none-from mode n es [] h = refl
 none-from mode n es (put e ∷ cs) h = absurd (let z : _≡_ {A = ℕ} 0 1 = cc in omega arith)
-none-from mode n es (close ∷ cs) h = none-from mode n es cs h
+none-from mode n es (close ∷ cs) h = rw (append-nil es) (none-from mode n es cs h)
 
 pub none-accepted : (mode : Mode) (n : ℕ) (cs : List Call) → puts cs ≡ [] → accepted mode n cs ≡ []
 unfolding accepted

@@ -18,7 +18,7 @@ use Rattle.image.proofs.At.{at-word}
 use Rattle.image.proofs.Parts.{link-at}
 use Rattle.answers.proofs.Opened.{backSizeAt-image, backOffsetAt-image}
 use Rattle.writer.specs.State.{fresh}
-use Rattle.lists.specs.Calls.{after, acceptedFrom, dueFrom, accepted, due, refused, putsSize, sizeOf}
+use Rattle.lists.specs.Calls.{after, acceptedFrom, dueFrom, accepted, due, putDue, putsSize, sizeOf}
 use Rattle.lists.proofs.Written.{WordIds}
 use Rattle.lists.proofs.Read.{namedIn, homeIn, Read}
 use Rattle.writer.specs.Close.{closedImage}
@@ -113,7 +113,7 @@ module _ (r : Row) (c : Computed r) where
 -- ---- the rows
 
 computed : Each Computed rows
-unfolding accepted acceptedFrom due dueFrom refused sizeOf putsSize backSize entriesSize backOffset placed ofId keep link lastFrom range ofName entriesOfId same
+unfolding accepted acceptedFrom due dueFrom putDue sizeOf putsSize backSize entriesSize backOffset placed ofId keep link lastFrom range ofName entriesOfId same
 computed = (
   (lit≤ tt, tt, refl, refl, refl, refl, refl, (refl, tt), ((refl, refl), tt)),
   (

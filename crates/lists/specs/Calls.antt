@@ -3,7 +3,7 @@
 use Prim.Native.Nat.{ℕ, _+_, _*_}
 use mathlib.Core.Path.{_≡_}
 use mathlib.Core.Logic.{_⊎_}
-use mathlib.Core.Bool.{Bool, cond}
+use mathlib.Core.Bool.{cond}
 use mathlib.Core.List.{List, [], _∷_, _++_}
 use lib.ListN.{length}
 use lib.Dec.{eqb}
@@ -56,19 +56,19 @@ putsSize (e ∷ es) = 25 + length (e .name) + putsSize es
 unfoldable pub sizeOf : Mode → List Entry → ℕ
 sizeOf mode es = 2072 + putsSize es + 4 * backIn mode (backSize es)
 
--- is a put refused after the accepted puts es, in a buffer of n bytes? The size counts the put at hand
-unfoldable pub refused : Mode → ℕ → List Entry → Entry → Bool
-refused mode n es e = tooLarge n (sizeOf mode (es ++ (e ∷ [])))
+-- the refusal that is due to a put after the accepted puts es, in a buffer of n bytes: 3 when the size, which counts the put at hand, exceeds either
+-- limit. 0: none
+unfoldable pub putDue : Mode → ℕ → List Entry → Entry → ℕ
+putDue mode n es e = cond (tooLarge n (sizeOf mode (es ++ (e ∷ [])))) 3 0
+
+-- the refusal that is due to a call: none to a close
+abbrev pub dueTo : Mode → ℕ → List Entry → Call → ℕ
+dueTo mode n es (put e) = putDue mode n es e
+dueTo mode n es close = 0
 
 -- the accepted puts after one call more
 abbrev pub acceptedAfter : Mode → ℕ → List Entry → Call → List Entry
-acceptedAfter mode n es (put e) = cond (refused mode n es e) es (es ++ (e ∷ []))
-acceptedAfter mode n es close = es
-
--- the refusal that is due to a call: 3 to a put whose size exceeds either limit, none to any other call
-abbrev pub dueTo : Mode → ℕ → List Entry → Call → ℕ
-dueTo mode n es (put e) = cond (refused mode n es e) 3 0
-dueTo mode n es close = 0
+acceptedAfter mode n es c = es ++ acceptedOne c (dueTo mode n es c)
 
 unfoldable pub acceptedFrom : Mode → ℕ → List Entry → List Call → List Entry
 acceptedFrom mode n es [] = es
