@@ -49,7 +49,7 @@ impl<'a> CQDB<'a> {
 
     /// Has the id a name whose lookup finds this id?
     pub fn home(&self, id: u32) -> bool {
-        archive::home(self.image, id)
+        archive::home(self.image, id) == 1
     }
 
     /// The ids and their names from id 0 on, up to the first id that has none.

@@ -11,7 +11,7 @@ mod writing;
 
 use names::Names;
 use original::Put;
-use ours::{CloseAnswer, Record, WriterAnswer};
+use ours::{CloseAnswer, Record, RecordAnswer};
 use rules::HEAD;
 use seed::Random;
 use tally::Tally;
@@ -46,13 +46,13 @@ impl Run {
         let what = || format!("begin in {length} bytes");
         match writing::begin(mode, length) {
             Ok(record) => {
-                self.tally.rule(answer, WriterAnswer { refusal: 0, record }, what);
+                self.tally.rule(answer, RecordAnswer { refusal: 0, record }, what);
                 self.tally.rule(counts, [0; 256], what);
                 Some(State { record, counts, buf })
             }
             Err(refusal) => {
                 let record = Record { mode: 0, entries: 0, back: 0, length: 0, end: 0 };
-                self.tally.rule(answer, WriterAnswer { refusal, record }, what);
+                self.tally.rule(answer, RecordAnswer { refusal, record }, what);
                 self.tally.rule(counts, before, what);
                 None
             }
