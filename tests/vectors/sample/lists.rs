@@ -10,19 +10,19 @@ const COUNT: usize = 240;
 pub struct List {
     pub title: String,
     pub oneway: bool,
-    pub capacity: usize,
+    pub length: usize,
     pub puts: Vec<(u32, Vec<u8>)>,
 }
 
 impl List {
     fn new(title: &str, oneway: bool, puts: Vec<(u32, Vec<u8>)>) -> List {
         let mode = if oneway { "one-way" } else { "two-way" };
-        List { title: format!("{mode}, {title}"), oneway, capacity: 0x2000, puts }
+        List { title: format!("{mode}, {title}"), oneway, length: 0x2000, puts }
     }
 
-    fn in_bytes(mut self, capacity: usize) -> List {
-        self.title = format!("{}, in {capacity} bytes", self.title);
-        self.capacity = capacity;
+    fn in_bytes(mut self, length: usize) -> List {
+        self.title = format!("{}, in {length} bytes", self.title);
+        self.length = length;
         self
     }
 
@@ -39,7 +39,7 @@ impl List {
         let mut accepted = Vec::new();
         for put in &self.puts {
             kept.push(put);
-            accepted.push(self.size(&kept) <= self.capacity);
+            accepted.push(self.size(&kept) <= self.length);
             if !accepted[accepted.len() - 1] {
                 kept.pop();
             }

@@ -36,7 +36,7 @@ pub fn numbered(word: &str, n: u32, name: &[u8]) -> String {
 
 // The calls of a list, and the size that the Rust's image has.
 fn print_calls(list: &List, image: &[u8]) {
-    println!("new{} {:08x}", if list.oneway { 1 } else { 2 }, list.capacity);
+    println!("new{} {:08x}", if list.oneway { 1 } else { 2 }, list.length);
     for ((id, name), accepted) in list.puts.iter().zip(list.accepted()) {
         println!("{}", numbered(if accepted { "puts" } else { "full" }, *id, name));
     }
