@@ -20,7 +20,9 @@ fn built(image: u32) -> (Vec<u8>, Vec<Option<u32>>, Vec<Vec<u8>>) {
     }
     let bytes = writer.finish().unwrap();
     let db = CQDB::new(&bytes).unwrap();
-    let ids = (0..2 * NAMES).map(|id| db.to_id(&name(image, id))).collect();
+    let present = (0..NAMES).map(|id| name(image, id));
+    let absent = (0..NAMES).map(|id| name(IMAGES + image, id));
+    let ids = present.chain(absent).map(|name| db.to_id(&name)).collect();
     let names = db.iter().map(|(_, name)| name.to_vec()).collect();
     (bytes, ids, names)
 }
@@ -28,9 +30,9 @@ fn built(image: u32) -> (Vec<u8>, Vec<Option<u32>>, Vec<Vec<u8>>) {
 #[test]
 fn threads_get_what_one_gets_alone() {
     let alone: Vec<_> = (0..IMAGES).map(built).collect();
-    assert!(alone
-        .iter()
-        .all(|(_, ids, names)| ids[..NAMES as usize].iter().all(Option::is_some) && names.len() == NAMES as usize));
+    for (_, ids, names) in &alone {
+        assert_eq!((ids.iter().flatten().count(), names.len()), (NAMES as usize, NAMES as usize));
+    }
     let start = Barrier::new(THREADS as usize);
     thread::scope(|scope| {
         for thread in 0..THREADS {
