@@ -33,7 +33,7 @@ impl List {
         HEAD + entries + if self.oneway { 0 } else { 4 * back }
     }
 
-    /// Which puts find room. The Rust's stream has no end: it is given those alone.
+    /// Which puts find room. The Rust gets only those, since its stream has no end.
     pub fn accepted(&self) -> Vec<bool> {
         let mut kept = Vec::new();
         let mut accepted = Vec::new();
@@ -143,7 +143,7 @@ fn colliding(names: &Names) -> Vec<List> {
     lists
 }
 
-// Any list: few names and ids, so that both repeat, and gaps.
+// Any list: few names and few ids, so that both repeat, and with gaps between the ids.
 fn any(names: &[Vec<u8>], random: &mut Random, most: usize) -> List {
     let count = random.below(most + 1);
     let ids = [4, 12, 40][random.below(3)];
@@ -151,7 +151,7 @@ fn any(names: &[Vec<u8>], random: &mut Random, most: usize) -> List {
     List::new(&format!("{count} puts, ids below {ids}"), random.below(4) == 0, puts)
 }
 
-// Buffers that a list fills exactly, and one byte less.
+// Buffers that a list fills exactly, and buffers that are one byte shorter.
 fn exact(names: &[Vec<u8>], random: &mut Random) -> Vec<List> {
     let mut lists = Vec::new();
     for less in [0, 0, 0, 1, 1, 1, 2, 9, 30, 60] {

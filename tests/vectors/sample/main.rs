@@ -12,7 +12,7 @@ use lists::List;
 use names::Names;
 use questions::Questions;
 
-/// A fixed sequence (splitmix64): the same sample at every run.
+/// A fixed sequence (splitmix64), so that every run writes the same sample.
 pub struct Random(u64);
 
 impl Random {
@@ -29,7 +29,7 @@ pub fn hex(bytes: &[u8]) -> String {
     bytes.iter().map(|b| format!("{b:02x}")).collect()
 }
 
-// A number, and a name where it has any bytes.
+// A number, and the name if it is not empty.
 pub fn numbered(word: &str, n: u32, name: &[u8]) -> String {
     format!("{word} {n:08x} {}", hex(name)).trim_end().to_string()
 }

@@ -11,7 +11,7 @@ fn word(image: &[u8], at: usize) -> u32 {
     u32::from_le_bytes(image[at..at + 4].try_into().expect("four bytes"))
 }
 
-// Whether the Rust's search for a name ends: it goes round for ever where no bucket of the table is empty and none decides.
+// Does the Rust's search for a name end? It never does where no bucket of the table is empty and none decides.
 fn ends(image: &[u8], name: &[u8]) -> bool {
     let h = hash_of(name);
     let row = 24 + 8 * (h % 256) as usize;
@@ -24,7 +24,7 @@ fn ends(image: &[u8], name: &[u8]) -> bool {
     at == 0 || n == 0 || (0..n).any(decides)
 }
 
-// An entry that leaves the image, has length word 0 or is the name.
+// Does an entry decide the search? It does where it leaves the image, has length word 0 or has the name.
 fn entry_decides(image: &[u8], entry: usize, name: &[u8]) -> bool {
     if image.len() < entry + 8 || word(image, entry + 4) == 0 {
         return true;
@@ -35,7 +35,7 @@ fn entry_decides(image: &[u8], entry: usize, name: &[u8]) -> bool {
     }
 }
 
-// The lookup of a name, where it is UTF-8 and the Rust's search ends.
+// The lookup of a name; none where the name is not UTF-8 or the Rust's search never ends.
 fn to_id(db: &CQDB, image: &[u8], name: &[u8]) -> Option<Option<u32>> {
     let text = std::str::from_utf8(name).ok()?;
     ends(image, name).then(|| db.to_id(text))
@@ -100,7 +100,7 @@ impl Questions {
         }
     }
 
-    // All steps with the hints between them, and a step past the end.
+    // All steps with the hint before each, and a step past the end.
     fn walk(&mut self, db: &CQDB) {
         println!("walk");
         let mut iter = db.iter();
