@@ -6,6 +6,8 @@ mod damage;
 mod hash;
 mod lists;
 mod names;
+#[path = "../../compare/original.rs"]
+mod original;
 mod questions;
 
 use lists::List;

@@ -1,6 +1,6 @@
 // The Rust's answers on an image, as lines.
 use crate::names::hash_of;
-use crate::{hex, numbered};
+use crate::{hex, numbered, original};
 use cqdb::CQDB;
 
 pub struct Questions {
@@ -41,18 +41,6 @@ fn to_id(db: &CQDB, image: &[u8], name: &[u8]) -> Option<Option<u32>> {
     ends(image, name).then(|| db.to_id(text))
 }
 
-// The number of a refusal of open.
-fn refusal(error: &std::io::Error) -> u32 {
-    match error.to_string().as_str() {
-        "invalid file format" => 1,
-        "invalid file format, magic mismatch" => 5,
-        "invalid file format, byte order mismatch" => 6,
-        "invalid table data: out of bounds" => 7,
-        "invalid backward link data: out of bounds" => 8,
-        other => panic!("another refusal: {other}"),
-    }
-}
-
 impl Questions {
     pub fn new() -> Questions {
         Questions { asked: 0 }
@@ -64,7 +52,7 @@ impl Questions {
     }
 
     pub fn about(&mut self, image: &[u8], names: &[Vec<u8>], ids: &[u32]) {
-        match CQDB::new(image) {
+        match original::open(image) {
             Ok(db) => {
                 self.line(format!("open {:08x}", db.num()));
                 for name in names {
@@ -75,7 +63,7 @@ impl Questions {
                 }
                 self.walk(&db);
             }
-            Err(error) => self.line(format!("fail {:08x}", refusal(&error))),
+            Err(refusal) => self.line(format!("fail {refusal:08x}")),
         }
     }
 
