@@ -6,16 +6,12 @@ use mathlib.Core.Bool.{Bool, true, false, cond, _||_}
 use mathlib.Core.List.{List}
 use lib.Dec.{eqb, leb}
 use lib.ListN.{getD}
+use Rattle.jhash.proofs.WordRead.{word-below}
 use Rattle.image.specs.Bytes.{word}
 use Rattle.image.specs.Head.{backSizeAt, backOffsetAt}
 use Rattle.image.specs.Stored.{broken}
 use Rattle.reader.specs.Naming.{place, unnamed, noBack, namingAt, naming}
 use Rattle.reader.proofs.Namings.{never}
-
--- a word of bytes
-word-small : (image : List ℕ) (o : ℕ) → ((i : ℕ) → getD image i 0 < 256) → word image o < 4294967296
-unfolding word
-word-small image o bytes = omega (arith, bytes o, bytes (o + 1), bytes (o + 2), bytes (o + 3))
 
 -- the length of a name in an image of bytes
 pub length-small : (image : List ℕ) (id s n : ℕ) → ((i : ℕ) → getD image i 0 < 256) → naming image id ≡ place s n → n < 4294967296
@@ -29,7 +25,7 @@ length-small image id s n bytes e = backed (noBack image) e
     placed true e = never s n e
     placed false e =
         let en : word image (at + 4) - 1 ≡ n = cc in
-        omega (arith, word-small image (at + 4) bytes)
+        omega (arith, word-below image (at + 4) bytes)
 
     below : (t : Bool) → cond t unnamed (namingAt image at) ≡ place s n → n < 4294967296
     below true e = never s n e

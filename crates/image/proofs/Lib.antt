@@ -15,3 +15,5 @@ pub mod EntryAt
 pub mod Area
 pub mod Between
 pub mod EntryWalk
+pub mod Equal
+pub mod Unbroken

@@ -9,19 +9,6 @@ use lib.ListN.{length, getD, set, drop, length-set, List·getD-eq-default}
 use lib.Seq.{sets, set-out, getD-drop}
 use Rattle.image.specs.Bytes.{word, le32}
 
--- past the end stand zeros
-pub word-past : (s : List ℕ) (o : ℕ) → length s ≤ o → word s o ≡ 0
-unfolding word
-word-past s o h =
-    omega
-    (arith, List·getD-eq-default s 0 {n = o} h, List·getD-eq-default s 0 {n = o + 1} (omega arith), List·getD-eq-default s 0 {n = o + 2} (omega arith), List·getD-eq-default s 0 {n = o + 3} (omega arith))
-
--- a word from its four bytes
-pub word-of : (s : List ℕ) (o a b c d : ℕ) → a ≡ getD s o 0 → b ≡ getD s (o + 1) 0 → c ≡ getD s (o + 2) 0 → d ≡ getD s (o + 3) 0
-    → a + b * 256 + c * 65536 + d * 16777216 ≡ word s o
-unfolding word
-word-of s o a b c d p q r t = omega arith
-
 -- the word at o is the first of what is dropped to there
 pub word-drop : (s : List ℕ) (n o : ℕ) → word (drop n s) o ≡ word s (n + o)
 unfolding word

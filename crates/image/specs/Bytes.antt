@@ -2,12 +2,9 @@
 use Prim.Native.Nat.{ℕ, zero, suc, _+_, _*_, _/_, _%_}
 use mathlib.Core.Bool.{Bool, true, false, cond, _&&_}
 use mathlib.Core.List.{List, [], _∷_, _++_}
-use lib.ListN.{getD}
 use lib.Dec.{eqb}
-
--- 01, "The image record": all words are 32-bit unsigned, little-endian. The word that stands at offset o of a byte string
-unfoldable pub word : List ℕ → ℕ → ℕ
-word s o = getD s o 0 + getD s (o + 1) 0 * 256 + getD s (o + 2) 0 * 65536 + getD s (o + 3) 0 * 16777216
+-- 01, "The image record": all words are 32-bit unsigned, little-endian, as those that the hash reads
+unfoldable pub use Rattle.jhash.specs.Word.{word}
 
 -- the four bytes of a word
 unfoldable pub le32 : ℕ → List ℕ

@@ -1,11 +1,17 @@
-// The words of an image, read and stored little-endian anywhere in a slice, and the writer's mode.
+// What an image is made of: its words, read and stored little-endian anywhere in a slice, byte strings compared, the entries
+// that bytes hold, and the writer's mode.
 ghost use mathlib.Core.Path.{_≡_};
-ghost use Prim.Native.Nat.{_+_, _<_, _≤_};
-ghost use lib.ListN.{length, getD, set};
+ghost use Prim.Native.Nat.{_<_};
+ghost use lib.ListN.{length, set};
 ghost use lib.Seq.{sets};
 ghost use Rattle.image.specs.Bytes.{word, le32};
+ghost use Rattle.image.specs.Image.{flagWord};
+use jhash::bytes::word;
+use jhash::bytes::word_near_end;
 
 pub mod entries; // entries.rt: whole entries, and a walk over them
+pub mod equality; // equality.rt: same
+pub mod stored; // stored.rt: broken
 
 // The writer's mode (`Flag` of cqdb-rs, NONE and ONEWAY): one-way leaves the back array out.
 pub enum Mode {
@@ -13,31 +19,14 @@ pub enum Mode {
     Oneway,
 }
 
-// A byte as a word.
-fn wide(x: u8) -> u32
-    ensures { λ r. ⌜ (r ≡ x) × (r < 256) ⌝ }
+// The flag word of a mode.
+pub fn flag_word(mode: Mode) -> u32
+    ensures { λ r. ⌜ r ≡ flagWord mode ⌝ }
 {
-    x as u32
-}
-
-// The byte at `at`, 0 past the end.
-fn byte_at(s: &[u8], at: usize) -> u32
-    ensures { λ r. ⌜ (r ≡ getD (now (s .entry)) at 0) × (r < 256) ⌝ }
-{
-    if at < s.len() { wide(s[at]) } else { 0 }
-}
-
-// The word at `at`, where its last bytes may be past the end.
-fn get_near_end(s: &[u8], at: usize) -> u32
-    ensures { λ r. ⌜ r ≡ word (now (s .entry)) at ⌝ }
-{
-    if s.len() <= at {
-        return 0;
+    match mode {
+        Mode::Twoway => 0,
+        Mode::Oneway => 1,
     }
-    byte_at(s, at)
-        + byte_at(s, at + 1) * 256
-        + byte_at(s, at + 2) * 65536
-        + byte_at(s, at + 3) * 16777216
 }
 
 // The little-endian word at `at`; bytes past the end count as 0.
@@ -48,9 +37,9 @@ pub fn get_u32(s: &[u8], at: usize) -> u32
         return 0;
     }
     if s.len() - at < 4 {
-        return get_near_end(s, at);
+        return word_near_end(s, at);
     }
-    wide(s[at]) + wide(s[at + 1]) * 256 + wide(s[at + 2]) * 65536 + wide(s[at + 3]) * 16777216
+    word(s, at)
 }
 
 // A byte stored at `at`; past the end nothing is stored.

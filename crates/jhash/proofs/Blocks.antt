@@ -7,27 +7,27 @@ use Prim.Native.Nat.{ℕ, zero, suc, _+_, _-_, _≤_, _<_}
 use native.Mathlib.Omega.{arith}
 use native.Mathlib.Decide.{decLt}
 use borrow.Author.Tests.{lt-ltb, le-ltb}
-use lib.ListN.{length, getD, drop, length-append, length-drop, List·getD-eq-default}
+use lib.ListN.{length, getD, drop, length-append, length-drop}
 use lib.Seq.{drop-append-le}
-use Rattle.jhash.specs.Lookup3.{wordAt, added, mix, final, rest, hashRest, initial, hashlittle}
+use Rattle.jhash.specs.Word.{word}
+use Rattle.jhash.specs.Lookup3.{plus, added, mix, final, rest, hashRest, initial, hashlittle}
 use Rattle.jhash.specs.NameHash.{nameHash}
 use Rattle.jhash.specs.declared.Words.{Words}
 
--- past the end of a list stand zeros
-pub word-past : (l : List ℕ) (i : ℕ) → length l ≤ i → wordAt l i ≡ 0
-word-past l i h =
-    omega
-    (arith, List·getD-eq-default l 0 {n = i} h, List·getD-eq-default l 0 {n = i + 1} (omega arith), List·getD-eq-default l 0 {n = i + 2} (omega arith), List·getD-eq-default l 0 {n = i + 3} (omega arith))
-
+-- a zero byte more changes no word
 zero-after : (l : List ℕ) (i : ℕ) → getD (l ++ 0 ∷ []) i 0 ≡ getD l i 0
 zero-after [] zero = refl
 zero-after [] (suc i) = refl
 zero-after (x ∷ l) zero = refl
 zero-after (x ∷ l) (suc i) = zero-after l i
 
+word-zero : (l : List ℕ) (i : ℕ) → word (l ++ 0 ∷ []) i ≡ word l i
+unfolding word
+word-zero l i = simp zero-after
+
 added-zero : (w : Words) (l : List ℕ) → added w (l ++ 0 ∷ []) ≡ added w l
 unfolding added
-added-zero w l = simp zero-after
+added-zero w l = λ i. plus w (word-zero l 0 i) (word-zero l 4 i) (word-zero l 8 i)
 
 -- a block more, where more than 12 bytes remain, and the end, where not
 rest-more : (n : ℕ) (w : Words) (l : List ℕ) → 12 < length l → rest (suc n) w l ≡ rest n (mix (added w l)) (drop 12 l)

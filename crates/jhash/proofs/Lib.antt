@@ -1,4 +1,5 @@
--- The laws of the name hash. Published for the crates above: `Outcomes`, `Rotation` and `Vectors`.
+-- The laws of words and of the name hash. Published for the crates above: `WordRead`, `Outcomes`, `Rotation` and `Vectors`.
+pub mod WordRead
 mod Mixing
 mod Blocks
 mod Limit

@@ -2,7 +2,8 @@
 use mathlib.Core.Path.{_≡_, refl, _∙_}
 use mathlib.Core.List.{List}
 use Prim.Native.Nat.{ℕ}
-use Rattle.jhash.specs.Lookup3.{wordAt, plus, added, mix, finished, final}
+use Rattle.jhash.specs.Word.{word}
+use Rattle.jhash.specs.Lookup3.{plus, added, mix, finished, final}
 use Rattle.jhash.specs.steps.Rounds.{round, step}
 use Rattle.jhash.specs.declared.Words.{Words}
 
@@ -25,7 +26,7 @@ pub seven-steps : (w : Words) {w₁ w₂ w₃ w₄ w₅ w₆ : Words} {c : ℕ} 
 seven-steps w {w₆ = w₆} e₁ e₂ e₃ e₄ e₅ e₆ e = e ∙ seven w w₆ (cc)
 
 -- three words of a list added are its first 12 bytes added
-pub words-added : (w : Words) (l : List ℕ) {r : Words} {x y z : ℕ} → x ≡ wordAt l 0 → y ≡ wordAt l 4 → z ≡ wordAt l 8 → r ≡ plus w x y z
+pub words-added : (w : Words) (l : List ℕ) {r : Words} {x y z : ℕ} → x ≡ word l 0 → y ≡ word l 4 → z ≡ word l 8 → r ≡ plus w x y z
     → r ≡ added w l
 unfolding added
 words-added w l e₁ e₂ e₃ e = cc

@@ -1,4 +1,5 @@
--- The definitions of the name hash: lookup3's hashlittle, and the hash of a name with its refusal.
+-- The definitions of the name hash: words, lookup3's hashlittle, and the hash of a name with its refusal.
+pub mod Word
 pub mod Outcome
 pub mod Lookup3
 pub mod steps

@@ -5,7 +5,8 @@ use mathlib.Core.List.{List, [], _∷_}
 use mathlib.Core.Bool.{true, false}
 use lib.Bits.{bitOr, bitXor}
 use lib.Dec.{ltb}
-use lib.ListN.{length, getD, drop}
+use lib.ListN.{length, drop}
+use Rattle.jhash.specs.Word.{word}
 use Rattle.jhash.specs.declared.Words.{Words}
 
 -- Sum and difference modulo 2 ^ 32.
@@ -19,19 +20,14 @@ sub32 x y = (x + (2 ^ 32 - y)) % 2 ^ 32
 abbrev pub rotl32 : ℕ → ℕ → ℕ
 rotl32 x k = bitOr (x * 2 ^ k % 2 ^ 32) (x / 2 ^ (32 - k))
 
--- The little-endian word at byte i of l; past the end of l stand zeros.
-abbrev pub wordAt : List ℕ → ℕ → ℕ
-wordAt l i =
-    getD l i 0 + getD l (i + 1) 0 * 256 + getD l (i + 2) 0 * 65536 + getD l (i + 3) 0 * 16777216
-
 -- Three words added to a, b and c.
 unfoldable pub plus : Words → ℕ → ℕ → ℕ → Words
 plus w x y z = record { a = add32 (w .a) x; b = add32 (w .b) y; c = add32 (w .c) z }
 
 -- The first 12 bytes of l, as three little-endian words, added.
 unfoldable pub added : Words → List ℕ → Words
-unfolding plus
-added w l = plus w (wordAt l 0) (wordAt l 4) (wordAt l 8)
+unfolding plus word
+added w l = plus w (word l 0) (word l 4) (word l 8)
 
 -- A round on (p, q, r) takes q from p and xors p with q rotated by k: this is the new p. It then adds r to q.
 abbrev pub mixed : ℕ → ℕ → ℕ → ℕ

@@ -1,12 +1,16 @@
 // The name hash: Bob Jenkins's hashlittle (lookup3) over a name and one zero byte.
 ghost use mathlib.Core.Path.{_≡_};
-ghost use Prim.Native.Nat.{_+_, _*_, _<_, _≤_};
+ghost use Prim.Native.Nat.{_+_, _<_, _≤_};
 ghost use lib.Dec.{leb};
 ghost use mathlib.Core.List.{[], _∷_, _++_};
-ghost use lib.ListN.{length, getD};
-ghost use Rattle.jhash.specs.Lookup3.{sub32, rotl32, wordAt, plus, added, mix, finished, final, alike, initialWord, hashRest};
+ghost use lib.ListN.{length};
+ghost use Rattle.jhash.specs.Lookup3.{sub32, rotl32, plus, added, mix, finished, final, alike, initialWord, hashRest};
 ghost use Rattle.jhash.specs.steps.Rounds.{round, step};
 ghost use Rattle.jhash.specs.NameHash.{outcome, hashOutcome};
+use bytes::word;
+use bytes::word_near_end;
+
+pub mod bytes; // bytes.rt: words of a slice
 
 // lookup3's three words a, b, c.
 struct Words {
@@ -23,13 +27,6 @@ pub enum Hashed {
 
 // What the three words begin with, before length and start value are added.
 const JHASH_INITVAL: u32 = 0xdeadbeef;
-
-// A byte as a word.
-fn wide(x: u8) -> u32
-    ensures { λ r. ⌜ (r ≡ x) × (r < 256) ⌝ }
-{
-    x as u32
-}
 
 // x rotated left by k bits: the two shifts joined.
 fn rotate_left(x: u32, k: u32) -> u32
@@ -98,14 +95,6 @@ fn jhash_final(w: Words) -> u32
     final_word(sixth, 24)
 }
 
-// The little-endian word at `at`.
-fn word(s: &[u8], at: usize) -> u32
-    requires { ⌜ at + 4 ≤ length (now s) ⌝ }
-    ensures { λ r. ⌜ r ≡ wordAt (now (s .entry)) at ⌝ }
-{
-    wide(s[at]) + wide(s[at + 1]) * 256 + wide(s[at + 2]) * 65536 + wide(s[at + 3]) * 16777216
-}
-
 // Three words added.
 fn plus(w: Words, x: u32, y: u32, z: u32) -> Words
     ensures { λ r. ⌜ r ≡ plus w x y z ⌝ }
@@ -125,24 +114,6 @@ fn added_block(w: Words, s: &[u8]) -> Words
     plus(w, word(s, 0), word(s, 4), word(s, 8))
 }
 
-// The byte at `at`, 0 past the end.
-fn byte_or_zero(s: &[u8], at: usize) -> u32
-    ensures { λ r. ⌜ (r ≡ getD (now (s .entry)) at 0) × (r < 256) ⌝ }
-{
-    if at < s.len() { wide(s[at]) } else { 0 }
-}
-
-// The little-endian word at `at` of which at most three bytes are there, with zeros past the end.
-fn word_or_zeros(s: &[u8], at: usize) -> u32
-    requires { ⌜ (at < 12) × (length (now s) < at + 4) ⌝ }
-    ensures { λ r. ⌜ r ≡ wordAt (now (s .entry)) at ⌝ }
-{
-    if s.len() <= at {
-        return 0;
-    }
-    wide(s[at]) + byte_or_zero(s, at + 1) * 256 + byte_or_zero(s, at + 2) * 65536
-}
-
 // The last bytes, fewer than 12, added as three words, by how many of the words they fill; the zero byte after them adds
 // nothing.
 fn added_tail(w: Words, s: &[u8]) -> Words
@@ -150,12 +121,12 @@ fn added_tail(w: Words, s: &[u8]) -> Words
     ensures { λ r. ⌜ r ≡ added w (now (s .entry)) ⌝ }
 {
     if 8 <= s.len() {
-        return plus(w, word(s, 0), word(s, 4), word_or_zeros(s, 8));
+        return plus(w, word(s, 0), word(s, 4), word_near_end(s, 8));
     }
     if 4 <= s.len() {
-        return plus(w, word(s, 0), word_or_zeros(s, 4), 0);
+        return plus(w, word(s, 0), word_near_end(s, 4), 0);
     }
-    plus(w, word_or_zeros(s, 0), 0, 0)
+    plus(w, word_near_end(s, 0), 0, 0)
 }
 
 // The hash of the name and its zero byte; all three words begin with x.

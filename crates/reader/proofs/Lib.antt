@@ -1,7 +1,5 @@
 -- Laws of reading. `Bounds` and `Walks` say of the rules what users ask besides the answers; `Examples` has 01's rows about reading.
-pub mod Equal
 pub mod Reciprocal
-pub mod Unbroken
 pub mod Opens
 pub mod Searches
 pub mod Near

@@ -14,7 +14,7 @@ use Rattle.image.specs.Stored.{broken}
 use Rattle.reader.specs.Lookup.{Lookup, lookup}
 use Rattle.reader.specs.Naming.{place, unnamed, noBack, namingAt, naming, partOr}
 use Rattle.reader.specs.Walk.{upperHint, finds, homeBy, home}
-use Rattle.reader.proofs.Unbroken.{whole}
+use Rattle.image.proofs.Unbroken.{unbroken}
 
 -- a back array that can be read lies in the image
 pub record Back (image : List ℕ) : Type 0 where
@@ -66,7 +66,7 @@ named image id s n e = backed (noBack image) refl e
         → cond t unnamed (place (at + 8) (word image (at + 4) - 1)) ≡ place s n → Named image id s n
     placed true p a l e = never s n e
     placed false p a l e =
-        let w = whole image at (neither-second (eqb at 0) (broken image at) p) in
+        let w = unbroken image at (neither-second (eqb at 0) (broken image at) p) in
         let es : at + 8 ≡ s = cc in
         let en : word image (at + 4) - 1 ≡ n = cc in
         record { array = a; below = l; inside = omega (arith, w .name) }

@@ -1,6 +1,5 @@
 // Reading: open, look up, name, walk, home, on every slice of bytes. No call has a `requires`, and each answers what 01
 // fixes for the bytes that it is lent, whether an open accepted them or not.
-mod words; // words.rt: the words of an image
 mod start; // start.rt: the bucket that a search begins with
 pub mod opening; // opening.rt: open
 pub mod lookup; // lookup.rt: to_id

@@ -1,86 +1,19 @@
 // Looking up a name (reference `to_id`): what a bucket shows, the search along the buckets, and the call.
 ghost use mathlib.Core.Path.{_≡_};
-ghost use Prim.Native.Nat.{ℕ, _+_, _-_, _*_, _<_, _≤_};
+ghost use Prim.Native.Nat.{ℕ, _+_, _*_, _<_, _≤_};
 ghost use mathlib.Core.List.{List};
-ghost use lib.ListN.{length, drop};
-ghost use Rattle.image.specs.Bytes.{same};
+ghost use lib.ListN.{length};
 ghost use Rattle.image.specs.Tables.{start, next};
-ghost use Rattle.image.specs.Stored.{broken};
 ghost use Rattle.reader.specs.Lookup.{nothing, seeEntry, see, searchTable, lookupHash, lookup};
 ghost use Rattle.reader.specs.Cases.{seenOf, lookupOf};
 use super::HEAD_SIZE;
 use super::Seen;
 use super::ToId;
 use super::start::start;
-use super::words::word;
-use super::words::word8;
+use image::equality::same;
+use image::stored::broken;
 use jhash::Hashed;
-
-// Are two byte strings of one length equal from `from` on?
-fn same_from(a: &[u8], b: &[u8], from: usize) -> bool
-    requires { ⌜ (length (now a) ≡ length (now b)) × (from ≤ length (now a)) ⌝ }
-    ensures { λ r. ⌜ r ≡ same (drop from (now (a .entry))) (drop from (now (b .entry))) ⌝ }
-{
-    let mut i = from;
-    while i < a.len() {
-        if a[i] != b[i] {
-            return false;
-        }
-        i += 1;
-    }
-    true
-}
-
-// The same, with four bytes at once if there are as many: for the last bytes, fewer than eight.
-fn same_last(a: &[u8], b: &[u8], from: usize) -> bool
-    requires { ⌜ (length (now a) ≡ length (now b)) × (from ≤ length (now a)) ⌝ }
-    ensures { λ r. ⌜ r ≡ same (drop from (now (a .entry))) (drop from (now (b .entry))) ⌝ }
-{
-    if a.len() - from < 4 {
-        return same_from(a, b, from);
-    }
-    if word(a, from) != word(b, from) {
-        return false;
-    }
-    same_from(a, b, from + 4)
-}
-
-// Are two byte strings equal? They are compared eight bytes at a time, then four, and the last ones one by one.
-fn same(a: &[u8], b: &[u8]) -> bool
-    ensures { λ r. ⌜ r ≡ same (now (a .entry)) (now (b .entry)) ⌝ }
-{
-    if a.len() != b.len() {
-        return false;
-    }
-    let mut i: usize = 0;
-    while 8 <= a.len() - i {
-        if word8(a, i) != word8(b, i) {
-            return false;
-        }
-        i += 8;
-    }
-    same_last(a, b, i)
-}
-
-// A length word minus 1; of 0 the largest number of all, more than any image has room for.
-fn less_one(len: u32) -> u64
-    ensures { λ r. ⌜ ((len ≡ 0 → r ≡ 18446744073709551615) × (0 < len → r ≡ len - 1)) ⌝ }
-{
-    std::num::wrapping_sub_u64(len as u64, 1)
-}
-
-// Does the entry at `at` leave the image with its first 8 bytes or its name, or is its length word 0? The last two are one
-// comparison.
-pub(crate) fn broken(image: &[u8], at: u32) -> bool
-    ensures { λ r. ⌜ r ≡ broken (now (image .entry)) at ⌝ }
-{
-    let start = at as usize + 8;
-    if image.len() < start {
-        return true;
-    }
-    let room = image.len() - start;
-    (room as u64) < less_one(word(image, at as usize + 4))
-}
+use jhash::bytes::word;
 
 // What a search for a name sees in the entry at `at`.
 fn see_entry(image: &[u8], name: &[u8], at: u32) -> Seen

@@ -4,9 +4,9 @@ ghost use Rattle.reader.specs.Naming.{noBack, naming, namePart, nameOr};
 ghost use Rattle.reader.specs.Cases.{namingOf};
 use super::HEAD_SIZE;
 use super::Named;
-use super::lookup::broken;
 use super::opening::back_leaves;
-use super::words::word;
+use image::stored::broken;
+use jhash::bytes::word;
 
 // Has the image no back array that can be read?
 pub(crate) fn no_back(image: &[u8]) -> bool

@@ -9,7 +9,7 @@ use super::ToId;
 use super::lookup::to_id;
 use super::naming::no_back;
 use super::naming::to_str;
-use super::words::word;
+use jhash::bytes::word;
 
 // A walk that stands before id 0.
 pub fn iter() -> Iter

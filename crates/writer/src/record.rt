@@ -3,7 +3,7 @@ ghost use mathlib.Core.Path.{_≡_};
 ghost use Prim.Native.Nat.{ℕ, _+_, _<_, _≤_, _^_, max};
 ghost use lib.ListN.{length, getD};
 ghost use Rattle.image.specs.Tables.{tableOf};
-ghost use Rattle.image.specs.Image.{backIn, flagWord};
+ghost use Rattle.image.specs.Image.{backIn};
 ghost use Rattle.writer.specs.State.{lent, noneAbove, fits, tooLarge, finishedSize};
 ghost use Rattle.image.specs.Tally.{raisedCounts};
 ghost use Rattle.writer.specs.Put.{raised, writerWith};
@@ -102,16 +102,6 @@ pub(super) fn finished_size(w: CQDBWriter) -> u64
 {
     let mode = w.mode;
     w.end + 16 * (w.entries as u64) + 4 * back_in(mode, w.back as u64)
-}
-
-// The flag word of a mode.
-pub(super) fn flag_word(mode: Mode) -> u32
-    ensures { λ r. ⌜ r ≡ flagWord mode ⌝ }
-{
-    match mode {
-        Mode::Twoway => 0,
-        Mode::Oneway => 1,
-    }
 }
 
 // Where the back array stands, 0 where there is none.

@@ -1,101 +1,27 @@
 -- `image::get_u32` meets its contract. Assumes nothing.
-use Rattle.image.proofs.Words.{word-past, word-of}
 use mathlib.Core.Path.{sym}
+use Rattle.jhash.proofs.WordRead.{word-past}
 use borrow.Author.Needs.{needs}
 use Rattle.image.proofs.get_u32.Statement.{statement}
 use Rattle.image.proofs.get_u32.Tie as tie
 
 returns : tie.Need-returns
-returns c = sym (word-past (c .before .before .args .s .now) (c .before .before .args .at) (c .if1 .taken))
+returns c = let a = c .before .before .args in sym (word-past (a .s .now) (a .at) (c .if1 .taken))
 
 sub-if2 : tie.Need-sub-if2
 sub-if2 c = search needs
 
-get-near-end-requires : tie.Need-get-near-end-requires
-get-near-end-requires c κs = search needs
+word-near-end-requires : tie.Need-word-near-end-requires
+word-near-end-requires c κs = search needs
 
 returns-2 : tie.Need-returns-2
 returns-2 c = search needs
 
-shared-slice-read-wide : tie.Need-shared-slice-read-wide
-shared-slice-read-wide c = search needs
-
-wide-requires : tie.Need-wide-requires
-wide-requires c κs = search needs
-
-add-wide : tie.Need-add-wide
-add-wide c = search needs
-
-shared-slice-read-wide-2 : tie.Need-shared-slice-read-wide-2
-shared-slice-read-wide-2 c = search needs
-
-wide-requires-2 : tie.Need-wide-requires-2
-wide-requires-2 c κs = search needs
-
-mul-result : tie.Need-mul-result
-mul-result c = search needs
-
-add-result : tie.Need-add-result
-add-result c = search needs
-
-add-wide-2 : tie.Need-add-wide-2
-add-wide-2 c = search needs
-
-shared-slice-read-wide-3 : tie.Need-shared-slice-read-wide-3
-shared-slice-read-wide-3 c = search needs
-
-wide-requires-3 : tie.Need-wide-requires-3
-wide-requires-3 c κs = search needs
-
-mul-result-2 : tie.Need-mul-result-2
-mul-result-2 c = search needs
-
-add-result-2 : tie.Need-add-result-2
-add-result-2 c = search needs
-
-add-wide-3 : tie.Need-add-wide-3
-add-wide-3 c = search needs
-
-shared-slice-read-wide-4 : tie.Need-shared-slice-read-wide-4
-shared-slice-read-wide-4 c = search needs
-
-wide-requires-4 : tie.Need-wide-requires-4
-wide-requires-4 c κs = search needs
-
-mul-result-3 : tie.Need-mul-result-3
-mul-result-3 c = search needs
-
-add-result-3 : tie.Need-add-result-3
-add-result-3 c = search needs
+word-requires : tie.Need-word-requires
+word-requires c κs = search needs
 
 returns-3 : tie.Need-returns-3
-returns-3 c =
-    let a = c .before .before .before .before .before .before .before .before .before .before .before .args in
-    word-of (a .s .now) (a .at) _ _ _ _ (c .before .before .before .before .before .before .wide .ensures .0) (c .before .before .before .before .wide2 .ensures .0) (c .before .before .wide3 .ensures .0) (c .wide4 .ensures .0)
+returns-3 c = search needs
 
 pub get-u32-spec : {M : Type 1} → statement M
-get-u32-spec =
-    tie.close
-    (tie.spec
-    returns
-    sub-if2
-    get-near-end-requires
-    returns-2
-    shared-slice-read-wide
-    wide-requires
-    add-wide
-    shared-slice-read-wide-2
-    wide-requires-2
-    mul-result
-    add-result
-    add-wide-2
-    shared-slice-read-wide-3
-    wide-requires-3
-    mul-result-2
-    add-result-2
-    add-wide-3
-    shared-slice-read-wide-4
-    wide-requires-4
-    mul-result-3
-    add-result-3
-    returns-3)
+get-u32-spec = tie.close (tie.spec returns sub-if2 word-near-end-requires returns-2 word-requires returns-3)

@@ -2,7 +2,7 @@
 use native.Mathlib.Omega.{arith}
 use mathlib.Core.Path.{sym}
 use denote.Ref.{now}
-use Rattle.jhash.proofs.Blocks.{word-past}
+use Rattle.jhash.proofs.WordRead.{word-past}
 use Rattle.jhash.proofs.Mixing.{words-added}
 use borrow.Author.Needs.{needs}
 use Rattle.jhash.proofs.added_tail.Statement.{statement}
@@ -14,8 +14,8 @@ word-requires c κs = search needs
 word-requires-2 : tie.Need-word-requires-2
 word-requires-2 c κs = search needs
 
-word-or-zeros-requires : tie.Need-word-or-zeros-requires
-word-or-zeros-requires c κs = search needs
+word-near-end-requires : tie.Need-word-near-end-requires
+word-near-end-requires c κs = search needs
 
 plus-requires : tie.Need-plus-requires
 plus-requires c κs = search needs
@@ -23,13 +23,13 @@ plus-requires c κs = search needs
 returns : tie.Need-returns
 returns c =
     let a = c .before .before .before .before .before .before .args in
-    words-added (a .w) (now (a .s)) (c .before .before .before .word .ensures) (c .before .before .word2 .ensures) (c .before .word-or-zeros .ensures) (c .plus .ensures)
+    words-added (a .w) (now (a .s)) (c .before .before .before .word .ensures) (c .before .before .word2 .ensures) (c .before .word-near-end .ensures) (c .plus .ensures)
 
 word-requires-3 : tie.Need-word-requires-3
 word-requires-3 c κs = search needs
 
-word-or-zeros-requires-2 : tie.Need-word-or-zeros-requires-2
-word-or-zeros-requires-2 c κs = search needs
+word-near-end-requires-2 : tie.Need-word-near-end-requires-2
+word-near-end-requires-2 c κs = search needs
 
 plus-requires-2 : tie.Need-plus-requires-2
 plus-requires-2 c κs = search needs
@@ -38,10 +38,10 @@ returns-2 : tie.Need-returns-2
 returns-2 c =
     let a = c .before .before .before .before .before .before .args in
     let s = now (a .s) in
-    words-added (a .w) s (c .before .before .word3 .ensures) (c .before .word-or-zeros2 .ensures) (sym (word-past s 8 (omega arith))) (c .plus2 .ensures)
+    words-added (a .w) s (c .before .before .word3 .ensures) (c .before .word-near-end2 .ensures) (sym (word-past s 8 (omega arith))) (c .plus2 .ensures)
 
-word-or-zeros-requires-3 : tie.Need-word-or-zeros-requires-3
-word-or-zeros-requires-3 c κs = search needs
+word-near-end-requires-3 : tie.Need-word-near-end-requires-3
+word-near-end-requires-3 c κs = search needs
 
 plus-requires-3 : tie.Need-plus-requires-3
 plus-requires-3 c κs = search needs
@@ -50,7 +50,7 @@ returns-3 : tie.Need-returns-3
 returns-3 c =
     let a = c .before .before .before .before .before .args in
     let s = now (a .s) in
-    words-added (a .w) s (c .before .word-or-zeros3 .ensures) (sym (word-past s 4 (omega arith))) (sym (word-past s 8 (omega arith))) (c .plus3 .ensures)
+    words-added (a .w) s (c .before .word-near-end3 .ensures) (sym (word-past s 4 (omega arith))) (sym (word-past s 8 (omega arith))) (c .plus3 .ensures)
 
 pub added-tail-spec : {M : Type 1} → statement M
 added-tail-spec =
@@ -58,13 +58,13 @@ added-tail-spec =
     (tie.spec
     word-requires
     word-requires-2
-    word-or-zeros-requires
+    word-near-end-requires
     plus-requires
     returns
     word-requires-3
-    word-or-zeros-requires-2
+    word-near-end-requires-2
     plus-requires-2
     returns-2
-    word-or-zeros-requires-3
+    word-near-end-requires-3
     plus-requires-3
     returns-3)

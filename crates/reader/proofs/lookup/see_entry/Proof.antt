@@ -6,7 +6,7 @@ use mathlib.Core.Bool.{true, false}
 use mathlib.Core.List.{List}
 use Rattle.image.specs.Bytes.{same}
 use Rattle.reader.specs.Lookup.{hit}
-use Rattle.reader.proofs.Unbroken.{whole}
+use Rattle.image.proofs.Unbroken.{unbroken}
 use Rattle.reader.proofs.Searches.{name-part, see-entry-by}
 use borrow.Author.Needs.{needs}
 use Rattle.reader.proofs.lookup.see_entry.Statement.{statement}
@@ -32,7 +32,7 @@ word-requires : tie.Need-word-requires
 word-requires c κs =
     let a = c .before .before .before .before .args in
     let image = a .image .now in
-    omega (arith, whole image (a .at) (sym (c .before .broken .ensures) ∙ c .if1 .left))
+    omega (arith, unbroken image (a .at) (sym (c .before .broken .ensures) ∙ c .if1 .left))
 
 cast-end : tie.Need-cast-end
 cast-end c = search needs
@@ -42,7 +42,7 @@ sub-end c =
     let a = c .before .before .before .before .before .args in
     let image = a .image .now in
     let of-broken = c .before .before .broken in
-    omega (arith, whole image (a .at) (sym (of-broken .ensures) ∙ c .before .if1 .left), c .word .ensures)
+    omega (arith, unbroken image (a .at) (sym (of-broken .ensures) ∙ c .before .if1 .left), c .word .ensures)
 
 add-end : tie.Need-add-end
 add-end c = search needs
@@ -58,7 +58,7 @@ part-same-end c =
     let a = c .before .before .before .before .before .args in
     let image = a .image .now in
     let of-broken = c .before .before .broken in
-    omega (arith, whole image (a .at) (sym (of-broken .ensures) ∙ c .before .if1 .left), c .word .ensures)
+    omega (arith, unbroken image (a .at) (sym (of-broken .ensures) ∙ c .before .if1 .left), c .word .ensures)
 
 same-requires : tie.Need-same-requires
 same-requires c κs = search needs
@@ -69,7 +69,7 @@ word-requires-2 c κs =
     let image = a .image .now in
     let of-broken = c .before .before .before .before .before .broken in
     let of-if1 = c .before .before .before .before .if1 in
-    omega (arith, whole image (a .at) (sym (of-broken .ensures) ∙ of-if1 .left))
+    omega (arith, unbroken image (a .at) (sym (of-broken .ensures) ∙ of-if1 .left))
 
 returns-2 : tie.Need-returns-2
 returns-2 c =

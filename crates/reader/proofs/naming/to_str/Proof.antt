@@ -8,7 +8,7 @@ use lib.Dec.{eqb}
 use Rattle.image.specs.Bytes.{word}
 use Rattle.image.specs.Stored.{broken}
 use Rattle.reader.specs.Naming.{place, unnamed, naming}
-use Rattle.reader.proofs.Unbroken.{whole}
+use Rattle.image.proofs.Unbroken.{unbroken}
 use Rattle.reader.proofs.Namings.{back, link, naming-by}
 use borrow.Author.Needs.{needs}
 use Rattle.reader.proofs.naming.to_str.Statement.{statement}
@@ -97,7 +97,7 @@ word-requires-4 c κs =
     let a = c .before .before .before .before .before .before .before .before .before .before .args in
     let image = a .image .now in
     let of-word3 = c .before .before .before .word3 in
-    omega (arith, whole image (of-word3 .result) (sym (c .before .broken .ensures) ∙ c .if4 .left))
+    omega (arith, unbroken image (of-word3 .result) (sym (c .before .broken .ensures) ∙ c .if4 .left))
 
 cast-t9 : tie.Need-cast-t9
 cast-t9 c = search needs
@@ -108,7 +108,7 @@ sub-t8 c =
     let image = a .image .now in
     let of-word3 = c .before .before .before .before .word3 in
     let of-broken = c .before .before .broken in
-    omega (arith, whole image (of-word3 .result) (sym (of-broken .ensures) ∙ c .before .if4 .left), c .word4 .ensures)
+    omega (arith, unbroken image (of-word3 .result) (sym (of-broken .ensures) ∙ c .before .if4 .left), c .word4 .ensures)
 
 returns-5 : tie.Need-returns-5
 returns-5 c =

@@ -3,7 +3,7 @@ use native.Mathlib.Omega.{arith}
 use mathlib.Core.Path.{sym, ap, _∙_}
 use Rattle.reader.specs.Walk.{step, stepOf}
 use Rattle.reader.specs.Cases.{namingOf}
-use Rattle.reader.proofs.Equal.{word-below}
+use Rattle.jhash.proofs.WordRead.{word-below}
 use Rattle.reader.proofs.Namings.{named}
 use borrow.Author.Needs.{needs}
 use Rattle.reader.proofs.walk.next.Statement.{statement}

@@ -1,5 +1,5 @@
 -- When two byte strings are equal, step by step: by bytes and by words. Assumes nothing.
-use Prim.Native.Nat.{ℕ, suc, _+_, _*_, _^_, _≤_, _<_}
+use Prim.Native.Nat.{ℕ, suc, _+_, _*_, _≤_, _<_}
 use native.Mathlib.Omega.{arith}
 use native.Mathlib.Numerals.{add-one}
 use native.Mathlib.Decide.{ℕ-discrete}
@@ -10,8 +10,9 @@ use borrow.Author.Tests.{eq-eqb, ne-eqb, eqb-true}
 use lib.Dec.{eqb}
 use lib.ListN.{length, getD, drop, drop-of-length-le}
 use lib.Seq.{drop-cons}
+use Rattle.jhash.proofs.WordRead.{word-of, Bytes, word-below}
 use Rattle.image.specs.Bytes.{word, le32, same}
-use Rattle.image.proofs.Words.{word-of, le32-bytes}
+use Rattle.image.proofs.Words.{le32-bytes}
 
 -- strings of different lengths
 pub same-lengths : (a b : List ℕ) → (length a ≡ length b → ⊥) → same a b ≡ false
@@ -39,15 +40,7 @@ module _ (a b : List ℕ) (i j : ℕ) (e : i + 1 ≡ j) (p : i < length a) (q : 
   pub equal-byte : getD a i 0 ≡ getD b i 0 → same (drop j a) (drop j b) ≡ same (drop i a) (drop i b)
   equal-byte h = sym (same-byte ∙ ap (λ (t : Bool). t && same (drop j a) (drop j b)) (eq-eqb (getD a i 0) (getD b i 0) h))
 
--- a slice's elements are bytes, and its words are below 2^32
-abbrev pub Bytes : List ℕ → Type 0
-Bytes s = (k : ℕ) → getD s k 0 < 256
-
-pub word-below : (s : List ℕ) (i : ℕ) → Bytes s → word s i < 2 ^ 32
-word-below s i h =
-    let e = word-of s i (getD s i 0) (getD s (i + 1) 0) (getD s (i + 2) 0) (getD s (i + 3) 0) refl refl refl refl in
-    omega (arith, h i, h (i + 1), h (i + 2), h (i + 3))
-
+-- the four bytes of a word
 bytes-of : (s : List ℕ) (i : ℕ) → Bytes s → le32 (word s i) ≡ getD s i 0 ∷ getD s (i + 1) 0 ∷ getD s (i + 2) 0 ∷ getD s (i + 3) 0 ∷ []
 bytes-of s i h =
     ap le32 (sym (word-of s i (getD s i 0) (getD s (i + 1) 0) (getD s (i + 2) 0) (getD s (i + 3) 0) refl refl refl refl))

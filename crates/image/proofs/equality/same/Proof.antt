@@ -1,13 +1,13 @@
--- `reader::lookup::same` meets its contract. The loop's invariant: what is left is equal exactly where the whole is. Assumes nothing.
+-- `image::equality::same` meets its contract. The loop's invariant: what is left is equal exactly where the whole is. Assumes nothing.
 use Prim.Native.Nat.{_-_, _≤_}
 use native.Mathlib.Omega.{arith}
 use mathlib.Core.Path.{_≡_, refl, sym, _∙_}
 use lib.ListN.{length, drop}
 use Rattle.image.specs.Bytes.{same}
-use Rattle.reader.proofs.Equal.{same-lengths, other-word8, same-word8}
+use Rattle.image.proofs.Equal.{same-lengths, other-word8, same-word8}
 use borrow.Author.Needs.{needs}
-use Rattle.reader.proofs.lookup.same.Statement.{statement}
-use Rattle.reader.proofs.lookup.same.Tie as tie
+use Rattle.image.proofs.equality.same.Statement.{statement}
+use Rattle.image.proofs.equality.same.Tie as tie
 
 abbrev Inv-loop : tie.InvT-loop
 Inv-loop a b i₀ i = (i ≤ length a) × (same (drop i a) (drop i b) ≡ same a b)

@@ -40,13 +40,13 @@ module _ (image : List ℕ) (at : ℕ) where
         | no q ↦ rw (p (omega (arith, q))) (shifted (w - 1) h ∙ broken-name w h e q)
       ]
 
-pub record Whole (image : List ℕ) (at : ℕ) : Type 0 where
+pub record Unbroken (image : List ℕ) (at : ℕ) : Type 0 where
   pub head : at + 8 ≤ length image
   pub long : 1 ≤ word image (at + 4)
   pub name : at + 8 + (word image (at + 4) - 1) ≤ length image
 
-pub whole : (image : List ℕ) (at : ℕ) → broken image at ≡ false → Whole image at
-whole image at e =
+pub unbroken : (image : List ℕ) (at : ℕ) → broken image at ≡ false → Unbroken image at
+unbroken image at e =
     let short = ltb (length image) (at + 8) in
     let none = eqb (word image (at + 4)) 0 in
     let first = neither-first (short || none) (ltb (length image) (at + 8 + (word image (at + 4) - 1))) e in

@@ -1,8 +1,8 @@
--- `reader::words::word` meets its contract. Assumes nothing.
-use Rattle.image.proofs.Words.{word-of}
+-- `jhash::bytes::word` meets its contract. Assumes nothing.
+use Rattle.jhash.proofs.WordRead.{word-of}
 use borrow.Author.Needs.{needs}
-use Rattle.reader.proofs.words.word.Statement.{statement}
-use Rattle.reader.proofs.words.word.Tie as tie
+use Rattle.jhash.proofs.bytes.word.Statement.{statement}
+use Rattle.jhash.proofs.bytes.word.Tie as tie
 
 shared-slice-read-wide : tie.Need-shared-slice-read-wide
 shared-slice-read-wide c = search needs

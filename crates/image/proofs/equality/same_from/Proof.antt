@@ -1,14 +1,14 @@
-use borrow.Author.Needs.{needs}
--- `reader::lookup::same_from` meets its contract. The loop's invariant: what is left from here on is equal exactly where all from the start on is.
+-- `image::equality::same_from` meets its contract. The loop's invariant: what is left from here on is equal exactly where all from the start on is.
 -- Assumes nothing.
 use Prim.Native.Nat.{_+_, _-_, _≤_}
 use native.Mathlib.Omega.{arith}
 use mathlib.Core.Path.{_≡_, refl, sym, _∙_}
 use lib.ListN.{length, drop}
 use Rattle.image.specs.Bytes.{same}
-use Rattle.reader.proofs.Equal.{other-byte, equal-byte, same-none}
-use Rattle.reader.proofs.lookup.same_from.Statement.{statement}
-use Rattle.reader.proofs.lookup.same_from.Tie as tie
+use Rattle.image.proofs.Equal.{other-byte, equal-byte, same-none}
+use borrow.Author.Needs.{needs}
+use Rattle.image.proofs.equality.same_from.Statement.{statement}
+use Rattle.image.proofs.equality.same_from.Tie as tie
 
 abbrev Inv-loop : tie.InvT-loop
 Inv-loop a b from i₀ i = (i ≤ length a) × (same (drop i a) (drop i b) ≡ same (drop from a) (drop from b))

@@ -1,14 +1,11 @@
--- `jhash::word_or_zeros` meets its contract. Assumes nothing.
+-- `jhash::bytes::word_near_end` meets its contract. Assumes nothing.
 use mathlib.Core.Path.{sym}
-use mathlib.Core.List.{List}
-use Prim.Native.Nat.{ℕ, _+_}
 use native.Mathlib.Omega.{arith}
-use lib.ListN.{List·getD-eq-default}
 use denote.Ref.{now}
-use Rattle.jhash.proofs.Blocks.{word-past}
+use Rattle.jhash.proofs.WordRead.{word-past, word-short}
 use borrow.Author.Needs.{needs}
-use Rattle.jhash.proofs.word_or_zeros.Statement.{statement}
-use Rattle.jhash.proofs.word_or_zeros.Tie as tie
+use Rattle.jhash.proofs.bytes.word_near_end.Statement.{statement}
+use Rattle.jhash.proofs.bytes.word_near_end.Tie as tie
 
 returns : tie.Need-returns
 returns c = sym (word-past (now (c .before .before .args .s)) (c .before .before .args .at) (c .if1 .taken))
@@ -45,12 +42,11 @@ add-result-2 c = search needs
 
 returns-2 : tie.Need-returns-2
 returns-2 c =
-    let s : List ℕ = now (c .before .before .before .before .before .before .args .s) in
-    let at : ℕ = c .before .before .before .before .before .before .args .at in
-    omega (arith, List·getD-eq-default s 0 {n = at + 3} (omega arith))
+    let a = c .before .before .before .before .before .before .args in
+    word-short (a .s .now) (a .at) _ _ _ (omega arith) (c .before .before .wide .ensures .0) (c .before .byte-or-zero .ensures .0) (c .byte-or-zero2 .ensures .0)
 
-pub word-or-zeros-spec : {M : Type 1} → statement M
-word-or-zeros-spec =
+pub word-near-end-spec : {M : Type 1} → statement M
+word-near-end-spec =
     tie.close
     (tie.spec
     returns

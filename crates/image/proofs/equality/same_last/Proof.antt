@@ -1,10 +1,10 @@
--- `reader::lookup::same_last` meets its contract. Assumes nothing.
+-- `image::equality::same_last` meets its contract. Assumes nothing.
 use native.Mathlib.Omega.{arith}
 use mathlib.Core.Path.{_≡_, sym, _∙_}
-use Rattle.reader.proofs.Equal.{other-word, same-word}
+use Rattle.image.proofs.Equal.{other-word, same-word}
 use borrow.Author.Needs.{needs}
-use Rattle.reader.proofs.lookup.same_last.Statement.{statement}
-use Rattle.reader.proofs.lookup.same_last.Tie as tie
+use Rattle.image.proofs.equality.same_last.Statement.{statement}
+use Rattle.image.proofs.equality.same_last.Tie as tie
 
 sub-if1 : tie.Need-sub-if1
 sub-if1 c = search needs

@@ -1,0 +1,8 @@
+-- Little-endian words of 32 bits: 01, "Name hash" and "The image record". Assumes nothing.
+use Prim.Native.Nat.{ℕ, _+_, _*_}
+use mathlib.Core.List.{List}
+use lib.ListN.{getD}
+
+-- all words are 32-bit unsigned, little-endian: the word that stands at offset o of a byte string. Past its end stand zeros
+unfoldable pub word : List ℕ → ℕ → ℕ
+word s o = getD s o 0 + getD s (o + 1) 0 * 256 + getD s (o + 2) 0 * 65536 + getD s (o + 3) 0 * 16777216

@@ -1,0 +1,39 @@
+// The little-endian words of a slice: what the hash reads of a name, and the crates above of an image. These are leaves:
+// `word` and `word_near_end` ask that the place is known to be whole or not, so that no read is tested twice.
+ghost use mathlib.Core.Path.{_≡_};
+ghost use Prim.Native.Nat.{_+_, _<_, _≤_};
+ghost use lib.ListN.{length, getD};
+ghost use Rattle.jhash.specs.Word.{word};
+
+// A byte as a word.
+fn wide(x: u8) -> u32
+    ensures { λ r. ⌜ (r ≡ x) × (r < 256) ⌝ }
+{
+    x as u32
+}
+
+// The byte at `at`, 0 past the end.
+fn byte_or_zero(s: &[u8], at: usize) -> u32
+    ensures { λ r. ⌜ (r ≡ getD (now (s .entry)) at 0) × (r < 256) ⌝ }
+{
+    if at < s.len() { wide(s[at]) } else { 0 }
+}
+
+// The word at `at`, all of whose bytes are there. The compiler makes one load of it.
+pub fn word(s: &[u8], at: usize) -> u32
+    requires { ⌜ at + 4 ≤ length (now s) ⌝ }
+    ensures { λ r. ⌜ r ≡ word (now (s .entry)) at ⌝ }
+{
+    wide(s[at]) + wide(s[at + 1]) * 256 + wide(s[at + 2]) * 65536 + wide(s[at + 3]) * 16777216
+}
+
+// The word at `at`, of which at most three bytes are there: past the end stand zeros.
+pub fn word_near_end(s: &[u8], at: usize) -> u32
+    requires { ⌜ length (now s) < at + 4 ⌝ }
+    ensures { λ r. ⌜ r ≡ word (now (s .entry)) at ⌝ }
+{
+    if s.len() <= at {
+        return 0;
+    }
+    wide(s[at]) + byte_or_zero(s, at + 1) * 256 + byte_or_zero(s, at + 2) * 65536
+}
