@@ -36,7 +36,7 @@ module _ (img : List ℕ) (id : ℕ) where
   step-given given h = step-held (naming img id) ∙ ap (Option·map (λ (name : List ℕ). record { name = name; id = id })) h
 
   found-is : (l : Lookup) → finds id l ≡ isId id (foundId l)
-  found-is (found i r) = refl
+  found-is (found f) = refl
   found-is (nothing r) = refl
 
   module _ (es : List Entry) (names : (name : List ℕ) → foundId (lookup img name) ≡ firstId (ofName name es)) where

@@ -15,7 +15,7 @@ use Rattle.reader.specs.Walk.{Step, item, done}
 
 -- a name gives an id when its lookup finds the id
 abbrev pub foundId : Lookup → Option ℕ
-foundId (found id reads) = some id
+foundId (found f) = some (f .id)
 foundId (nothing reads) = none
 
 -- an id gives a name when naming it answers a place that holds exactly that name's bytes

@@ -9,6 +9,7 @@ use Rattle.image.specs.declared.Mode.{Mode}
 use Rattle.image.specs.declared.Mode.the-variants.{Twoway, Oneway}
 use Rattle.image.specs.Image.{Entry, headSize, backSize, imageSize, image}
 use Rattle.reader.specs.Lookup.{Lookup, found, nothing, lookup}
+use Rattle.reader.specs.declared.Found.{Found}
 use Rattle.reader.specs.Walk.{stepOf, step, homeBy, home}
 use Rattle.answers.specs.Answer.{foundId, heldAt, nameGiven, ofId, lastName, tablePuts}
 use Rattle.reader.specs.Cases.{reads}
@@ -25,8 +26,8 @@ use Rattle.lists.proofs.OneMore.{list-image, list-below}
 
 -- ---- reads of a lookup that finds
 
-found-most : (l : Lookup) (m id : ℕ) → ((i r : ℕ) → l ≡ found i r → r ≤ m) → foundId l ≡ some id → reads l ≤ m
-found-most (found i r) m id most h = most i r refl
+found-most : (l : Lookup) (m id : ℕ) → ((f : Found) → l ≡ found f → f .buckets ≤ m) → foundId l ≡ some id → reads l ≤ m
+found-most (found f) m id most h = most f refl
 found-most (nothing r) m id most h = absurd (let z : _≡_ {A = ℕ} 0 1 = cc in omega arith)
 
 -- ---- an image of entries, of either mode
