@@ -6,3 +6,4 @@ pub mod Naming
 pub mod Walk
 pub mod WalkSteps
 pub mod Cases
+pub mod QuayReads
