@@ -11,7 +11,7 @@ use Rattle.image.specs.Bytes.{keep, same, word, le32, cat, range}
 use Rattle.image.specs.Tables.{Bucket, empty, start, order, firstEmpty, insert, insertAll, filled}
 use Rattle.image.specs.Image.{Entry, entryBytes, entriesSize, placed, ofTable, bucketBytes, table, tableBytes, entriesBefore, tableOffset}
 use Rattle.image.specs.Image.{tableRow, tableRows, tables, backSize, lastFrom, link, links, backOffset, imageSize, headWords, image}
-use Rattle.image.specs.Image.{ofId as placedOfId}
+use Rattle.image.specs.Image.{placedOfId}
 use Rattle.image.specs.declared.Mode.the-variants.{Twoway}
 use Rattle.reader.specs.Lookup.{Lookup, found, nothing, Seen, pass, hit, probe, lookup, lookupHash, searchTable, see, seeEntry}
 use Rattle.answers.specs.Answer.{foundId, nameGiven, ofName, ofId}
