@@ -47,6 +47,10 @@ pub record AfterClose (buffer : List ℕ) (cs : List Call) (size : ℕ) : Type 0
 pub record CloseReadable : Type 0 where
   pub after-close : (buffer : List ℕ) (cs : List Call) (size : ℕ) → headSize ≤ length buffer → closing (afterList Twoway buffer cs) ≡ value size
       → AfterClose buffer cs size
+  -- calls of which no put is accepted, so refused puts and further closes, change neither record nor buffer
+  pub kept : (buffer : List ℕ) (cs more : List Call) → headSize ≤ length buffer
+      → acceptedPuts Twoway buffer (cs ++ (close ∷ more)) ≡ acceptedPuts Twoway buffer cs
+      → afterList Twoway buffer (cs ++ (close ∷ more)) ≡ afterList Twoway buffer (cs ++ (close ∷ []))
   -- whatever calls follow it, a put above all: one more close repairs everything, and the answers are by the accepted puts until then
   pub repaired : (buffer : List ℕ) (cs more : List Call) (size : ℕ) → headSize ≤ length buffer
       → closing (afterList Twoway buffer (cs ++ (close ∷ more))) ≡ value size → AfterClose buffer (cs ++ (close ∷ more)) size
