@@ -1,5 +1,5 @@
 // Writing: all puts and the close, names of 9 bytes, into a slice of exactly the image's size. Neither side clears its slice
-// between the repetitions. Then what a put's look at the 256 counts costs by itself.
+// between the repetitions. Then what the check of the 256 counts costs by itself.
 use crate::names::Names;
 use crate::ours::{self, Record};
 use crate::table::{self, best, time};
@@ -36,7 +36,7 @@ fn building(n: usize, repetitions: usize) -> (f64, f64) {
     times
 }
 
-// Two closes that are refused: one at the first number, one after all 256 counts, by the size.
+// Two closes that are refused: one by the record's length, before the counts are read, and one by the size, after it.
 fn count_check() {
     let mut counts = [0; 256];
     let mut buf = vec![0u8; 4096];
@@ -53,7 +53,7 @@ fn count_check() {
     };
     let before = refused(Record { length: 1, ..fresh }, 2);
     let after = refused(Record { entries: u32::MAX, ..fresh }, 4);
-    table::own_row("the look at 256 counts, in each put and close", after - before);
+    table::own_row("the check of 256 counts, in each put and close", after - before);
 }
 
 pub fn run() {

@@ -32,8 +32,8 @@ pub fn run() {
         let closed: [Vec<u8>; NAMES] = std::array::from_fn(|k| names[k].iter().copied().chain([0]).collect());
         let calls = 3_000_000 / (size + 16) / NAMES * NAMES;
         let ours = || all(calls, &names, |n| ours::hash(n, 0).hash);
-        // The Rust's `jhash` compiled by itself and called, as its `put` does. In its `to_id` the compiler has inlined it, with the
-        // length known to be the name's plus 1: that is the second row.
+        // The Rust's `jhash`, compiled by itself and called, as its `put` does. In its `to_id` the compiler inlines it, with the
+        // length known to be the name's plus 1: the second row.
         let jhash: fn(&[u8], u32, u32) -> u32 = black_box(rust::jhash);
         let called = || all(calls, &names, |n| jhash(n, n.len() as u32 + 1, 0));
         let times = best(REPETITIONS, calls, ours, called);

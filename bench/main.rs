@@ -1,5 +1,5 @@
-// The benchmarks: ours against the Rust's release build, in one run and one table. Each time is the best of several repetitions,
-// in which the two take turns.   main [hash | reading | building]
+// The benchmarks: ours and the Rust's release build, in one run and one table. The two take turns, and each time is the best of
+// several repetitions.   main [hash | reading | building]
 mod building;
 mod hash;
 mod names;

@@ -1,4 +1,4 @@
-// Names for the benchmarks: one block of memory, each of one length, which the compiler does not know.
+// Names for the benchmarks, in one block of memory. All have the same length, which the compiler does not know.
 use std::hint::black_box;
 
 pub struct Names {
@@ -7,7 +7,7 @@ pub struct Names {
 }
 
 impl Names {
-    /// A letter and the number, with zeros between.
+    /// Each name is the letter and a number, with zeros between.
     pub fn new(letter: char, length: usize, numbers: impl Iterator<Item = usize>) -> Names {
         let bytes = numbers.flat_map(|i| format!("{letter}{i:0width$}", width = length - 1).into_bytes()).collect();
         Names { bytes, length: black_box(length) }

@@ -21,7 +21,7 @@ fn image(names: &[&str]) -> Vec<u8> {
     stream.into_inner()
 }
 
-// Calls for all items, whose answers are added up. Ours is a call into the archive; the Rust's may be inlined here.
+// Calls for all items, and adds up the answers. Ours is a call into the archive; the Rust's may be inlined here.
 fn each<T>(items: impl IntoIterator<Item = T>, mut call: impl FnMut(T) -> usize) {
     let mut sum = 0usize;
     for item in items {
@@ -37,7 +37,7 @@ fn opening(image: &[u8], n: usize) {
     table::row(&format!("open, {n} entries"), best(2000, calls, ours, rust), None);
 }
 
-// Of a lookup the id is added up, 0 for nothing.
+// A lookup adds its id, or 0 for nothing.
 fn lookups(what: &str, image: &[u8], names: &[&str], repetitions: usize) {
     let db = CQDB::new(image).expect("an image");
     let ours = || each(names, |name| ours::to_id(image, name.as_bytes()).id as usize);
@@ -48,7 +48,7 @@ fn lookups(what: &str, image: &[u8], names: &[&str], repetitions: usize) {
 
 type Place = Option<(*const u8, usize)>;
 
-// Of a naming the name's place and length are added up.
+// A naming adds the place and the length of the name.
 fn placed(name: Place) -> usize {
     name.map_or(0, |(start, len)| (start as usize).wrapping_add(len))
 }

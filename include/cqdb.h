@@ -1,8 +1,8 @@
 /* The C interface of Lithwennog: constant quark database (CQDB) images, proved in Rattle.
-   Link with target/staticlib/libcqdb_c.a, which `./make-archive` makes (x86-64 Linux).
+   Link with target/staticlib/libcqdb_c.a, which `./make-archive` makes (x86-64 Linux). docs/FORMAT.md describes images.
 
-   What every call promises: for all bytes and numbers it ends, answers as said below, and reads and writes nothing but
-   what it is lent. No function keeps a pointer after it has returned, allocates, or touches anything global; calls on
+   What every call promises: it ends for all bytes and numbers, answers as said below, and reads and writes only what it
+   is lent. No function keeps a pointer after it has returned, allocates memory, or touches anything global. Calls on
    different buffers may run at the same time.
 
    What the caller owes:
@@ -10,21 +10,14 @@
      length is 0.
    - `counts` points to 256 words, and `w` to a whole cqdb_writer.
    - What a call writes (the buffer of cqdb_put and cqdb_close, the counts, the writer) overlaps nothing else that the
-     same call is lent: no name, no buffer and no counts. What calls only read may overlap, and a buffer is an image as
-     soon as cqdb_close has been accepted.
+     same call is lent: no name, no buffer and no counts. What a call only reads may overlap.
    - Nobody else writes to what is lent while the call runs.
 
-   Refusals, the same numbers in all calls; 0 is none:
-     1  begin, open: under 2,072 bytes
-     2  put, close: the writer does not fit the buffer; begin, put, close: the mode is neither 0 nor 1
-     3  put: no room, the finished image would exceed the buffer or 4,294,967,295 bytes
-     4  close: the buffer's entries are not those of the writer, or there is no room for the finished image
-     5  open: does not begin with the letters CQDB
-     6  open: wrong word at 12 (another byte order)
-     7  open: a table with an offset above 0 leaves the image
-     8  open: a back array with an offset above 0 leaves the image
-     9  hash: the name has 4,294,967,295 bytes or more
-   A refused call changes no byte of what it is lent, the writer included. */
+   When an image can be read: from the cqdb_close that made it to the next accepted cqdb_put in the same buffer, or from a
+   copy. That put writes where the close had placed the tables, so until the next close the buffer is no image, though
+   cqdb_open may still accept it: names and ids may then give nothing, or each other's answers. See cqdb_put.
+
+   What is proved is the archive. The declarations, structs and inline functions of this file are tested. */
 #ifndef CQDB_H
 #define CQDB_H
 
@@ -35,6 +28,18 @@
 extern "C" {
 #endif
 
+/* The refusals: the same numbers in all calls, 0 for none. Each comment names the calls that give it. A refused call
+   changes no byte of what it is lent, the writer included. docs/FORMAT.md has the same table. */
+#define CQDB_TOO_SHORT 1u        /* begin, open: under 2,072 bytes */
+#define CQDB_UNFIT 2u            /* begin, put, close: the writer does not fit the buffer, or its mode is neither 0 nor 1 */
+#define CQDB_NO_ROOM 3u          /* put: the finished image would exceed the buffer or 4,294,967,295 bytes */
+#define CQDB_INCONSISTENT 4u     /* close: the buffer's entries are not the writer's, or the image would be too large */
+#define CQDB_WRONG_LETTERS 5u    /* open: the image does not begin with the letters CQDB */
+#define CQDB_WRONG_BYTE_ORDER 6u /* open: the word at 12, which shows the byte order, is wrong */
+#define CQDB_TABLE_LEAVES 7u     /* open: a table with an offset above 0 leaves the image */
+#define CQDB_BACK_LEAVES 8u      /* open: a back array with an offset above 0 leaves the image */
+#define CQDB_NAME_TOO_LONG 9u    /* hash: the name has 4,294,967,295 bytes or more */
+
 /* The name hash. */
 
 /* refusal is 0 when the call was accepted; hash is 0 when it was refused. */
@@ -44,10 +49,11 @@ typedef struct {
 } cqdb_hash_answer;
 
 /* The hash of a name with a start value (images use 0): lookup3's hashlittle over the name and one zero byte, which the
-   caller does not append. Refusal 9: the name has 4,294,967,295 bytes or more; none of them is then read. */
+   caller does not append. Refusal: 9, before a byte of the name is read. */
 cqdb_hash_answer cqdb_hash(const uint8_t *name, size_t len, uint32_t start);
 
-/* Reading. Every call takes any bytes as an image, opened or not; bytes may follow the image. */
+/* Reading. Every call takes any bytes as an image, opened or not; bytes may follow the image. A buffer that is being
+   written can be read between a close and the next put (see the top of this file). */
 
 /* refusal is 0 when the image was accepted; num is 0 when it was refused. */
 typedef struct {
@@ -55,11 +61,12 @@ typedef struct {
     uint32_t num;
 } cqdb_open_answer;
 
-/* The number of associations: the sum of each table's bucket number divided by 2, modulo 2^32. Refusals, the first that
-   applies: 1, 5, 6, 7, 8. The size and flag words are not checked. */
+/* The number of associations: each table's bucket number divided by 2, summed modulo 2^32. Refusals, the first that
+   applies: 1, 5, 6, 7, 8. The size word and the flag word are not checked. */
 cqdb_open_answer cqdb_open(const uint8_t *image, size_t len);
 
-/* found is 1 or 0; id is 0 where nothing was found; buckets is how many buckets the search reads, the deciding one included. */
+/* found is 1 or 0; id is 0 where nothing was found. buckets is the number of buckets that the search reads, the one that
+   decides included. */
 typedef struct {
     uint32_t found;
     uint32_t id;
@@ -69,8 +76,8 @@ typedef struct {
 /* The id of a name (of its first put). Never refused: a damaged image or a name too long for a hash gives nothing. */
 cqdb_id_answer cqdb_to_id(const uint8_t *image, size_t len, const uint8_t *name, size_t name_len);
 
-/* found is 1 or 0. The name is the len bytes from image + start on, and lies in the image; 0 and 0 where there is none. A
-   name has at most 4,294,967,294 bytes; start may be as large as 4,294,967,303, which takes 33 bits. */
+/* found is 1 or 0. The name is the len bytes from image + start on, which lie in the image; len and start are 0 where
+   there is no name. A name has at most 4,294,967,294 bytes; start may be as large as 4,294,967,303, which takes 33 bits. */
 typedef struct {
     uint32_t found;
     uint32_t len;
@@ -80,16 +87,16 @@ typedef struct {
 /* The place of an id's name (of its last put). Never refused: a one-way or damaged image gives nothing. */
 cqdb_str_answer cqdb_to_str(const uint8_t *image, size_t len, uint32_t id);
 
-/* A walk names the ids from 0 on and ends at the first that has no name. How many steps one that stands before the id
-   `next` has left at most: back size minus next, at least 0; 0 where there is no back array that can be read. */
+/* A walk calls cqdb_to_str for the ids from 0 on and ends at the first that has no name. This is the largest number of
+   steps that a walk before the id `next` has left: back size minus next, at least 0; 0 where no back array can be read. */
 uint32_t cqdb_size_hint(const uint8_t *image, size_t len, uint32_t next);
 
 /* 1 when the id has a name and looking up that name finds this id, else 0. */
 uint32_t cqdb_home(const uint8_t *image, size_t len, uint32_t id);
 
-/* Writing. One buffer takes the entries and, at close, becomes the image. The writer is the caller's, all of its fields
-   are open, and every value of them is answered: a writer fits a buffer when its mode is 0 or 1, length is the buffer's,
-   2,072 <= end <= length, and no count exceeds entries. */
+/* Writing. One buffer takes the entries, and close makes it the image. The writer belongs to the caller: all of its fields
+   are open, and the calls answer every value of them. A writer fits a buffer when its mode is 0 or 1, its length is the
+   buffer's, 2,072 <= end <= length, and no count exceeds entries. */
 
 typedef struct {
     uint32_t mode;        /* CQDB_TWOWAY or CQDB_ONEWAY, as the image's flag word */
@@ -103,9 +110,9 @@ typedef struct {
 #define CQDB_TWOWAY 0u
 #define CQDB_ONEWAY 1u
 
-/* The writer without its counts, by value, and what the parts of the calls answer. They are what the archive exports:
-   cqdb_begin, cqdb_put and cqdb_close below call them, and programs in other languages may. The counts are lent apart and
-   changed in place. */
+/* The archive exports cqdb_begin_parts, cqdb_put_parts and cqdb_close_parts; cqdb_begin, cqdb_put and cqdb_close below
+   call them, and programs in other languages may. They take the writer in two parts: a cqdb_record by value, and the
+   counts, which are lent and changed in place. */
 typedef struct {
     uint32_t mode;
     uint32_t entries;
@@ -114,19 +121,19 @@ typedef struct {
     uint64_t end;
 } cqdb_record;
 
-/* The fresh record, zeros where refused. */
+/* The fresh record; zeros where refused. */
 typedef struct {
     uint32_t refusal;
     cqdb_record record;
 } cqdb_begin_answer;
 
-/* The record to go on with: the one that was lent where refused. */
+/* The record to go on with; where refused, the one that was given. */
 typedef struct {
     uint32_t refusal;
     cqdb_record record;
 } cqdb_put_answer;
 
-/* size is 0 where refused; the record is always the one that was lent. */
+/* size is 0 where refused; the record is always the one that was given. */
 typedef struct {
     uint32_t refusal;
     uint32_t size;
@@ -138,7 +145,7 @@ cqdb_put_answer cqdb_put_parts(cqdb_record record, uint32_t *counts, uint8_t *bu
                                const uint8_t *name, size_t name_len, uint32_t id);
 cqdb_close_parts_answer cqdb_close_parts(cqdb_record record, const uint32_t *counts, uint8_t *buf, size_t len);
 
-/* refusal is 0 when the call was accepted; size, the image's, is 0 when it was refused. */
+/* refusal is 0 when the call was accepted; size is the image's, 0 when the call was refused. */
 typedef struct {
     uint32_t refusal;
     uint32_t size;
@@ -157,8 +164,9 @@ static inline void cqdb_keep(cqdb_writer *w, cqdb_record r) {
     w->end = r.end;
 }
 
-/* Makes *w, whatever it held, a fresh writer for the buffer: mode, the buffer's length, end 2,072, otherwise zeros. Reads
-   and changes no byte of the buffer. Gives 0; 2 when the mode is neither 0 nor 1; 1 when the buffer is under 2,072 bytes. */
+/* Makes *w, whatever it held, a fresh writer for the buffer: the mode, the buffer's length, end 2,072, otherwise zeros.
+   Reads and changes no byte of the buffer. Gives 0, or the first refusal that applies: 2 for a mode that is neither 0 nor
+   1, 1 for a buffer under 2,072 bytes. */
 static inline uint32_t cqdb_begin(cqdb_writer *w, uint32_t mode, const uint8_t *buf, size_t len) {
     cqdb_begin_answer a = cqdb_begin_parts(mode, w->counts, buf, len);
     if (a.refusal == 0) {
@@ -167,19 +175,26 @@ static inline uint32_t cqdb_begin(cqdb_writer *w, uint32_t mode, const uint8_t *
     return a.refusal;
 }
 
-/* Appends an entry of name_len + 9 bytes at w->end, and changes no other byte of the buffer; raises the writer's numbers.
-   Gives 0; 2 when the writer does not fit the buffer; 3 when the finished size exceeds the buffer or 4,294,967,295. The
-   finished size is, after this put, end + 16 x entries + 4 x back (0 for back in one-way mode). */
+/* Appends an entry of name_len + 9 bytes at w->end and raises the writer's numbers; changes no other byte of the buffer.
+   Gives 0, or the first refusal that applies: 2 when the writer does not fit the buffer, 3 when the finished size exceeds
+   the buffer or 4,294,967,295. The finished size is, after this put, end + 16 x entries + 4 x back (back counts in two-way
+   mode only).
+
+   The bytes at w->end are those where the last close placed its tables. After an accepted put the buffer is therefore no
+   image, though its head is still that of the last close and cqdb_open may accept it. After A->0, B->1, close and C->2,
+   open gives num 2 and A finds nothing. A put whose name ends in bytes that look like offsets can make id 0 give B and id 1
+   give A. The next cqdb_close makes all of it right again: read after that close, or read a copy. */
 static inline uint32_t cqdb_put(cqdb_writer *w, uint8_t *buf, size_t len, const uint8_t *name, size_t name_len, uint32_t id) {
     cqdb_put_answer a = cqdb_put_parts(cqdb_record_of(w), w->counts, buf, len, name, name_len, id);
     cqdb_keep(w, a.record);
     return a.refusal;
 }
 
-/* Writes head, tables and back array: the buffer's first `size` bytes are then the image. Entries, and bytes from size on,
-   keep their content, and the writer stays as it is: puts and closes may follow. Refusals: 2 when the writer does not fit
-   the buffer; 4 when the bytes from 2,072 to end are not the writer's number of whole entries with its counts and back
-   size, or the finished size exceeds the buffer or 4,294,967,295. */
+/* Writes head, tables and back array: the buffer's first `size` bytes are then the image, up to the next accepted put.
+   Entries, and bytes from size on, keep their content, and the writer stays as it is: puts and closes may follow. Gives
+   the first refusal that applies: 2 when the writer does not fit the buffer; 4 when the bytes from 2,072 to end are not the
+   writer's number of whole entries with its counts and back size, or when the finished size exceeds the buffer or
+   4,294,967,295. */
 static inline cqdb_close_answer cqdb_close(const cqdb_writer *w, uint8_t *buf, size_t len) {
     cqdb_close_parts_answer a = cqdb_close_parts(cqdb_record_of(w), w->counts, buf, len);
     cqdb_close_answer c = {a.refusal, a.size};

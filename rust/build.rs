@@ -1,4 +1,4 @@
-//! Links the archive. `CQDB_ARCHIVE` names its folder; without it, target/staticlib of the repository is taken, where
+//! Links the archive. `CQDB_ARCHIVE` names its folder; the default is target/staticlib of the repository, where
 //! `./make-archive` writes it.
 use std::path::{Path, PathBuf};
 use std::{env, process};
@@ -11,7 +11,7 @@ fn main() {
     let archive = folder.join("libcqdb_c.a");
     if !archive.is_file() {
         eprintln!(
-            "{} is missing: make-archive in the repository's root makes it, CQDB_ARCHIVE=DIR names another folder",
+            "{} not found: run ./make-archive in the repository, or name its folder by CQDB_ARCHIVE=DIR",
             archive.display()
         );
         process::exit(1);

@@ -1,5 +1,5 @@
-# For the scripts that compare with the original: where it is, and how a driver is built with it and with our archive.
-# They run in the repository's root and source this file.
+# For the scripts that compare with the original: where it is, and how a program is built with it and with our archive. They
+# run in the repository's root and source this file.
 
 # The folder that holds `build`, which makes the unchanged Rust as a library and a C build of lookup3.
 oracle=${CQDB_ORACLE:-../shared/oracle}
@@ -19,7 +19,7 @@ build_both() {
     "$oracle/build" target/oracle && build_archive
 }
 
-# build_driver SOURCE PROGRAM: a Rust program over both, in release settings.
+# build_driver SOURCE PROGRAM: builds a Rust program over both, in release settings.
 build_driver() {
     mkdir -p "$(dirname "$2")" &&
         rustc -C opt-level=3 --edition 2021 -L target/oracle --extern cqdb=target/oracle/libcqdb.rlib \

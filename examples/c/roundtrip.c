@@ -9,11 +9,11 @@
 
 static unsigned checked, different;
 
-static void expect(int so, const char *what) {
+static void expect(int holds, const char *what) {
     checked++;
-    if (!so) {
+    if (!holds) {
         different++;
-        fprintf(stderr, "roundtrip: not so: %s\n", what);
+        fprintf(stderr, "roundtrip: wrong: %s\n", what);
     }
 }
 
@@ -91,7 +91,7 @@ static void check_one_way(cqdb_writer *w, uint8_t *buf, size_t len) {
     expect(size == SIZE_ONEWAY, "the one-way image's size");
     check_names(buf, size);
     expect(cqdb_to_str(buf, size, 0).found == 0, "a one-way image names no id");
-    expect(cqdb_size_hint(buf, size, 0) == 0, "nor is there anything to walk");
+    expect(cqdb_size_hint(buf, size, 0) == 0, "and has nothing to walk");
     expect(w->mode == CQDB_ONEWAY && w->entries == PUTS && w->back == 0, "the writer's numbers");
     expect(w->length == len && w->end == 2072 + PUTS * 9 + 10, "and its length and end");
 }
@@ -102,19 +102,19 @@ static void check_refused(cqdb_writer *w, uint8_t *buf, size_t len) {
     expect(build(w, CQDB_TWOWAY, buf, len) == SIZE_TWOWAY, "the image is built again");
     cqdb_writer w_before = *w;
     memcpy(buf_before, buf, len);
-    expect(cqdb_begin(w, CQDB_TWOWAY, buf, 2071) == 1, "begin: a buffer of 2,071 bytes");
-    expect(cqdb_begin(w, 2, buf, len) == 2, "begin: a mode that is none");
-    expect(cqdb_put(w, buf, len - 1, bytes("E"), 1, 5) == 2, "put: another buffer's writer");
-    expect(cqdb_put(w, buf, len, bytes("E"), 1, UINT32_MAX) == 3, "put: no room for 2^32 ids");
-    expect(cqdb_close(w, buf, len - 1).refusal == 2, "close: another buffer's writer");
+    expect(cqdb_begin(w, CQDB_TWOWAY, buf, 2071) == CQDB_TOO_SHORT, "begin: a buffer of 2,071 bytes");
+    expect(cqdb_begin(w, 2, buf, len) == CQDB_UNFIT, "begin: a mode that is neither 0 nor 1");
+    expect(cqdb_put(w, buf, len - 1, bytes("E"), 1, 5) == CQDB_UNFIT, "put: another buffer's writer");
+    expect(cqdb_put(w, buf, len, bytes("E"), 1, UINT32_MAX) == CQDB_NO_ROOM, "put: no room for 2^32 ids");
+    expect(cqdb_close(w, buf, len - 1).refusal == CQDB_UNFIT, "close: another buffer's writer");
     expect(memcmp(w, &w_before, sizeof *w) == 0, "the writer is as it was");
     w->back = 5;
-    expect(cqdb_close(w, buf, len).refusal == 4, "close: a back size that the entries do not have");
+    expect(cqdb_close(w, buf, len).refusal == CQDB_INCONSISTENT, "close: a back size that the entries do not have");
     w->back = 4;
     expect(memcmp(buf, buf_before, len) == 0, "the buffer is as it was");
     buf[0] = 'c';
-    expect(cqdb_open(buf, len).refusal == 5, "open: wrong letters");
-    expect(cqdb_open(buf, 2071).refusal == 1, "open: 2,071 bytes");
+    expect(cqdb_open(buf, len).refusal == CQDB_WRONG_LETTERS, "open: wrong letters");
+    expect(cqdb_open(buf, 2071).refusal == CQDB_TOO_SHORT, "open: 2,071 bytes");
 }
 
 int main(void) {

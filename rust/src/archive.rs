@@ -1,19 +1,23 @@
-//! The archive's functions as include/cqdb.h declares them, each behind a safe one: a slice is a pointer that is valid for
-//! its length and not null, a `&mut` overlaps nothing, and no function keeps a pointer.
+//! The archive's functions as include/cqdb.h declares them, each behind a safe function. The calls are sound: a slice is a
+//! pointer that is not null and is valid for its length, a `&mut` overlaps nothing, and no function keeps a pointer.
+//! The crate, the comparisons with the original and the benchmarks all use this file.
 
 #[repr(C)]
+#[derive(Clone, Copy, Debug, PartialEq, Eq)]
 pub struct HashAnswer {
     pub refusal: u32,
     pub hash: u32,
 }
 
 #[repr(C)]
+#[derive(Clone, Copy, Debug, PartialEq, Eq)]
 pub struct OpenAnswer {
     pub refusal: u32,
     pub num: u32,
 }
 
 #[repr(C)]
+#[derive(Clone, Copy, Debug, PartialEq, Eq)]
 pub struct IdAnswer {
     pub found: u32,
     pub id: u32,
@@ -21,14 +25,16 @@ pub struct IdAnswer {
 }
 
 #[repr(C)]
+#[derive(Clone, Copy, Debug, PartialEq, Eq)]
 pub struct StrAnswer {
     pub found: u32,
     pub len: u32,
     pub start: u64,
 }
 
+/// The writer record without its 256 table counts, which are lent beside it.
 #[repr(C)]
-#[derive(Clone, Copy, Debug)]
+#[derive(Clone, Copy, Debug, PartialEq, Eq)]
 pub struct Record {
     pub mode: u32,
     pub entries: u32,
@@ -39,12 +45,14 @@ pub struct Record {
 
 /// What begin and put answer.
 #[repr(C)]
+#[derive(Clone, Copy, Debug, PartialEq, Eq)]
 pub struct RecordAnswer {
     pub refusal: u32,
     pub record: Record,
 }
 
 #[repr(C)]
+#[derive(Clone, Copy, Debug, PartialEq, Eq)]
 pub struct CloseAnswer {
     pub refusal: u32,
     pub size: u32,
@@ -74,39 +82,48 @@ extern "C" {
     fn cqdb_close_parts(record: Record, counts: *const u32, buf: *mut u8, len: usize) -> CloseAnswer;
 }
 
+/// The hash of a name with a start value, or the refusal.
 pub fn hash(name: &[u8], start: u32) -> HashAnswer {
     unsafe { cqdb_hash(name.as_ptr(), name.len(), start) }
 }
 
+/// num, or the refusal.
 pub fn open(image: &[u8]) -> OpenAnswer {
     unsafe { cqdb_open(image.as_ptr(), image.len()) }
 }
 
+/// The id of a name, or nothing; and the number of buckets read.
 pub fn to_id(image: &[u8], name: &[u8]) -> IdAnswer {
     unsafe { cqdb_to_id(image.as_ptr(), image.len(), name.as_ptr(), name.len()) }
 }
 
+/// The place of an id's name, or nothing.
 pub fn to_str(image: &[u8], id: u32) -> StrAnswer {
     unsafe { cqdb_to_str(image.as_ptr(), image.len(), id) }
 }
 
+/// The upper hint of a walk that stands before the id `next`.
 pub fn size_hint(image: &[u8], next: u32) -> u32 {
     unsafe { cqdb_size_hint(image.as_ptr(), image.len(), next) }
 }
 
-pub fn home(image: &[u8], id: u32) -> bool {
-    unsafe { cqdb_home(image.as_ptr(), image.len(), id) == 1 }
+/// 1 where the id is home, else 0.
+pub fn home(image: &[u8], id: u32) -> u32 {
+    unsafe { cqdb_home(image.as_ptr(), image.len(), id) }
 }
 
+/// A fresh record, or the refusal.
 pub fn begin(mode: u32, counts: &mut Counts, buf: &[u8]) -> RecordAnswer {
     unsafe { cqdb_begin_parts(mode, counts.as_mut_ptr(), buf.as_ptr(), buf.len()) }
 }
 
+/// One put.
 pub fn put(record: Record, counts: &mut Counts, buf: &mut [u8], name: &[u8], id: u32) -> RecordAnswer {
     let (buf, len) = (buf.as_mut_ptr(), buf.len());
     unsafe { cqdb_put_parts(record, counts.as_mut_ptr(), buf, len, name.as_ptr(), name.len(), id) }
 }
 
+/// One close.
 pub fn close(record: Record, counts: &Counts, buf: &mut [u8]) -> CloseAnswer {
     unsafe { cqdb_close_parts(record, counts.as_ptr(), buf.as_mut_ptr(), buf.len()) }
 }

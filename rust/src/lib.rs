@@ -1,5 +1,6 @@
-//! Constant quark database (CQDB) images: names to ids and ids to names. Safe calls of an archive whose functions are
-//! proved, for all inputs, to give what the rules of the format say; under the names of the crate cqdb-rs.
+//! Constant quark database (CQDB) images: names to ids and ids to names. The crate has the names of cqdb-rs. Its calls are
+//! safe wrappers of an archive whose functions are proved, for all inputs, to give what the rules of the format say. The
+//! wrappers themselves are tested, not proved.
 //!
 //! ```
 //! use cqdb::{CQDBWriter, CQDB};
@@ -19,8 +20,8 @@
 //! ```
 //!
 //! What differs from cqdb-rs: the writer keeps the image in memory, and [`CQDBWriter::finish`] gives it, where cqdb-rs
-//! writes to a stream when it is dropped; names come as `&[u8]`, and a walk gives them without a `Result` around each;
-//! a lookup ends on every image. A [`Refusal`] becomes an [`std::io::Error`] by `?`.
+//! writes to a stream when it is dropped. Names come as `&[u8]`, and a walk gives them without a `Result` around each.
+//! A lookup ends on every image. A [`Refusal`] becomes an [`std::io::Error`] by `?`.
 #![warn(missing_docs)]
 
 mod archive;

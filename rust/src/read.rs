@@ -34,7 +34,7 @@ impl<'a> CQDB<'a> {
         self.lookup(name).0
     }
 
-    /// The id of a name, and how many buckets the search reads, the deciding one included.
+    /// The id of a name, and the number of buckets that the search reads, the one that decides included.
     pub fn lookup(&self, name: &[u8]) -> (Option<u32>, u32) {
         let answer = archive::to_id(self.image, name);
         ((answer.found == 1).then_some(answer.id), answer.buckets)
@@ -47,9 +47,9 @@ impl<'a> CQDB<'a> {
         (answer.found == 1).then(|| &self.image[start..start + len])
     }
 
-    /// Has the id a name whose lookup finds this id?
+    /// Does the id have a name whose lookup finds this id?
     pub fn home(&self, id: u32) -> bool {
-        archive::home(self.image, id)
+        archive::home(self.image, id) == 1
     }
 
     /// The ids and their names from id 0 on, up to the first id that has none.
@@ -87,7 +87,7 @@ impl<'a> Iterator for Iter<'a> {
     }
 }
 
-// A walk that ended stands before an id that has no name, and stays there.
+// A walk that has ended stands before an id without a name, and stays there.
 impl FusedIterator for Iter<'_> {}
 
 impl<'a> IntoIterator for &CQDB<'a> {

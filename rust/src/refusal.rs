@@ -1,48 +1,59 @@
 //! Refusals.
 use std::{error, fmt, io};
 
-/// Why a call was refused. A refused call changes nothing.
-#[derive(Clone, Copy, Debug, PartialEq, Eq, Hash)]
-pub enum Refusal {
+/// Makes the enum of the refusals, each with its documentation, its number and its message. The same numbers and names stand
+/// in docs/FORMAT.md and include/cqdb.h; tests/refusals compares the three.
+macro_rules! refusals {
+    ($($(#[$documentation:meta])* $name:ident = $number:literal, $message:literal;)*) => {
+        /// Why a call was refused. A refused call changes nothing.
+        #[derive(Clone, Copy, Debug, PartialEq, Eq, Hash)]
+        #[non_exhaustive]
+        pub enum Refusal {
+            $($(#[$documentation])* $name = $number,)*
+        }
+
+        impl Refusal {
+            fn from_number(number: u32) -> Refusal {
+                match number {
+                    $($number => Refusal::$name,)*
+                    _ => unreachable!("the archive gives no refusal {number}"),
+                }
+            }
+
+            fn message(self) -> &'static str {
+                match self {
+                    $(Refusal::$name => $message,)*
+                }
+            }
+        }
+    };
+}
+
+refusals! {
     /// The image has fewer than 2,072 bytes.
-    TooShort = 1,
+    TooShort = 1, "invalid file format, too short";
     /// The writer's record and its buffer do not fit together. No [`CQDBWriter`](crate::CQDBWriter) gets there.
-    Misfit = 2,
+    Unfit = 2, "the writer does not fit its buffer";
     /// The finished image would exceed 4,294,967,295 bytes.
-    NoRoom = 3,
+    NoRoom = 3, "no room: the image would be too large";
     /// The buffer's entries are not those of the record. No [`CQDBWriter`](crate::CQDBWriter) gets there.
-    Inconsistent = 4,
+    Inconsistent = 4, "the buffer's entries are not those of the writer";
     /// The image does not begin with the letters CQDB.
-    WrongLetters = 5,
-    /// The byte order word is wrong.
-    WrongByteOrder = 6,
+    WrongLetters = 5, "invalid file format, magic mismatch";
+    /// The word at offset 12, which shows the byte order, is wrong.
+    WrongByteOrder = 6, "invalid file format, byte order mismatch";
     /// A table leaves the image.
-    TableLeaves = 7,
+    TableLeaves = 7, "invalid table data: out of bounds";
     /// The back array leaves the image.
-    BackLeaves = 8,
+    BackLeaves = 8, "invalid backward link data: out of bounds";
     /// The name has 4,294,967,295 bytes or more.
-    NameTooLong = 9,
+    NameTooLong = 9, "the name is too long";
 }
 
 impl Refusal {
     /// Its number, the same in all languages.
     pub fn number(self) -> u32 {
         self as u32
-    }
-
-    fn from_number(number: u32) -> Refusal {
-        match number {
-            1 => Refusal::TooShort,
-            2 => Refusal::Misfit,
-            3 => Refusal::NoRoom,
-            4 => Refusal::Inconsistent,
-            5 => Refusal::WrongLetters,
-            6 => Refusal::WrongByteOrder,
-            7 => Refusal::TableLeaves,
-            8 => Refusal::BackLeaves,
-            9 => Refusal::NameTooLong,
-            _ => unreachable!("the archive gives no refusal {number}"),
-        }
     }
 }
 
@@ -56,17 +67,7 @@ pub(crate) fn or<T>(number: u32, value: T) -> Result<T, Refusal> {
 
 impl fmt::Display for Refusal {
     fn fmt(&self, f: &mut fmt::Formatter<'_>) -> fmt::Result {
-        f.write_str(match self {
-            Refusal::TooShort => "invalid file format, too short",
-            Refusal::Misfit => "the writer does not fit its buffer",
-            Refusal::NoRoom => "no room: the image would be too large",
-            Refusal::Inconsistent => "the buffer's entries are not those of the writer",
-            Refusal::WrongLetters => "invalid file format, magic mismatch",
-            Refusal::WrongByteOrder => "invalid file format, byte order mismatch",
-            Refusal::TableLeaves => "invalid table data: out of bounds",
-            Refusal::BackLeaves => "invalid backward link data: out of bounds",
-            Refusal::NameTooLong => "the name is too long",
-        })
+        f.write_str(self.message())
     }
 }
 

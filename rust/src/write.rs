@@ -6,12 +6,12 @@ use crate::refusal::{self, Refusal};
 
 /// The head of an image, which the entries follow.
 const HEAD: usize = 2_072;
-/// The first buffer; it grows by need.
+/// The length of the first buffer; it grows as needed.
 const FIRST: usize = 4_096;
-/// No image is larger.
+/// The size of the largest image.
 const LIMIT: u64 = 4_294_967_295;
 
-/// Whether an image names ids.
+/// Does an image name ids?
 #[derive(Clone, Copy, Debug, Default, PartialEq, Eq, Hash)]
 pub enum Flag {
     /// Two-way: names to ids and ids to names.
@@ -35,7 +35,7 @@ impl CQDBWriter {
         Self::with_flag(Flag::NONE)
     }
 
-    /// A writer with a flag.
+    /// A writer of a two-way or one-way image.
     pub fn with_flag(flag: Flag) -> Self {
         let buffer = vec![0; FIRST];
         let mut counts = [0; 256];
@@ -44,9 +44,9 @@ impl CQDBWriter {
         CQDBWriter { buffer, record: begun.record, counts }
     }
 
-    /// Puts a name, any bytes, under an id. Of a name's puts the first gives its id, of an id's puts the last gives its
-    /// name. Refused with [`Refusal::NoRoom`], and nothing changes, when the image would exceed 4,294,967,295 bytes; a
-    /// two-way image has four bytes for each id up to the largest.
+    /// Puts a name, any bytes, under an id. A name gives the id of its first put, and an id gives the name of its last.
+    /// Refused with [`Refusal::NoRoom`], and nothing changes, when the image would exceed 4,294,967,295 bytes; a two-way
+    /// image has four bytes for each id up to the largest.
     pub fn put<K: AsRef<[u8]>>(&mut self, name: K, id: u32) -> Result<(), Refusal> {
         let name = name.as_ref();
         match self.put_here(name, id) {
@@ -55,7 +55,7 @@ impl CQDBWriter {
         }
     }
 
-    /// The finished image.
+    /// Closes the writer and gives the finished image.
     pub fn finish(mut self) -> Result<Vec<u8>, Refusal> {
         let closed = archive::close(self.record, &self.counts, &mut self.buffer);
         self.buffer.truncate(closed.size as usize);
@@ -68,8 +68,8 @@ impl CQDBWriter {
         refusal::or(answer.refusal, ())
     }
 
-    /// A larger buffer with the same entries, where one can hold the image after this put; the writer is then as if it
-    /// had begun with that buffer. Whether the put is accepted there, the archive says.
+    /// Takes a larger buffer with the same entries, if one can hold the image after this put. The writer is then as if it
+    /// had begun with that buffer. The archive decides whether the put is accepted there.
     fn grow(&mut self, name_len: usize, id: u32) -> bool {
         let needed = self.size_with(name_len, id);
         if needed > LIMIT {

@@ -140,7 +140,7 @@ fn a_refusal_is_an_io_error() {
     assert_eq!(inner, Some(&Refusal::TooShort));
 }
 
-/// Every byte of an image changed, one at a time: whatever opens is searched, named and walked without a fault.
+/// Changes every byte of an image, one at a time. Whatever opens is searched, named and walked without a fault.
 #[test]
 fn damaged_images() {
     let good = image(Flag::NONE, &[(b"A", 0), (b"B", 1), (b"C", 2)]);

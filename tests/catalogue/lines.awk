@@ -1,5 +1,5 @@
-# Lines for the demonstration program: -v seed=S -v lines=N. Few of them are accepted, so that the buffer is not full before the end; the others are
-# of another form, or their put is refused.
+# Lines for the demonstration program: -v seed=S -v lines=N. Few of them are accepted, so that the buffer does not fill early;
+# the others have another form, or their put is refused.
 function below(n) {
     seed = (seed * 16807) % 2147483647
     return seed % n

@@ -1,4 +1,4 @@
-# The rule of the demonstration program told again, for a comparison: what it prints for the lines of its input.
+# The rule of the demonstration program, written a second time: what it prints for the lines of its input.
 BEGIN { top = -1 }
 {
     if (!match($0, /^[0-9]+ /)) next

@@ -1,14 +1,14 @@
-// Damaged copies of an image: every head word, table offsets and numbers, buckets, entries, the back array, cut short, bytes
-// behind, and some of these together.
+// Damaged copies of an image: changes of head words, table offsets and numbers, buckets, entries and the back array; images cut
+// short or with bytes behind; and several of these together.
 use crate::rules::{self, word, HEAD};
 use crate::seed::Random;
 
-/// How many kinds of damage there are; a copy of each kind follows the one before.
+/// How many kinds of damage there are. They take turns.
 pub const KINDS: usize = 24;
 
 type Table = (usize, usize);
 
-/// A copy with one damage of a kind.
+/// A copy with damage of one kind.
 pub fn copy(random: &mut Random, image: &[u8], kind: usize) -> Vec<u8> {
     let mut made = image.to_vec();
     apply(random, &mut made, kind);
@@ -89,7 +89,7 @@ fn row(random: &mut Random, image: &mut [u8], within: usize) {
     change(random, image, at + within);
 }
 
-// A table that ends where the image ends, or up to two bytes or buckets beside that.
+// A table that ends at the image's end, or one or two bytes or buckets before or past it.
 fn table_at_limit(random: &mut Random, image: &mut [u8]) {
     let t = some_table(random, image).map_or(7, |(t, _)| t);
     let (offset, n) = rules::table(image, t);
@@ -125,7 +125,7 @@ fn bucket(random: &mut Random, image: &mut [u8], within: usize) {
     }
 }
 
-// No bucket of a table is empty any more.
+// A table without an empty bucket.
 fn full_table(random: &mut Random, image: &mut [u8]) {
     let Some((t, _)) = some_table(random, image) else { return };
     let (offset, n) = rules::table(image, t);
@@ -138,7 +138,7 @@ fn full_table(random: &mut Random, image: &mut [u8]) {
     }
 }
 
-// A table's number cut to a smaller one, so that it may be full and its searches begin elsewhere.
+// A smaller number of buckets, so that the table may be full and its searches begin elsewhere.
 fn only_used(random: &mut Random, image: &mut [u8]) {
     let Some((t, row)) = some_table(random, image) else { return };
     let (_, n) = rules::table(image, t);

@@ -1,5 +1,5 @@
 // The gaps between the Rust and document 01 that docs/DIFFERENCES.md lists, tried on both. Each case runs the Rust in a process
-// of its own with limits on time and memory, since some never end and some want more than there is.   gaps [CASE]
+// of its own with limits on time and memory, since some never end and some want more memory than there is.   gaps [CASE]
 mod ours;
 
 use cqdb::{CQDBWriter, Flag, CQDB};
@@ -18,7 +18,7 @@ struct Case {
 
 const NEVER: &str = "no answer within the time";
 const NO_MEMORY: &str = "aborted for want of memory";
-// Bytes of address space for the Rust: a name of 2^32 bytes that is never written fits in.
+// Bytes of address space for the Rust. A name of 2^32 bytes that is never written fits in.
 const MEMORY: u64 = 6 << 30;
 
 const CASES: [Case; 10] = [
@@ -158,7 +158,7 @@ fn flag() -> String {
     ours::begin(2, &mut [0; 256], &[0; 2072]).refusal.to_string()
 }
 
-// The Rust's answer, made in a process that is limited.
+// The Rust's answer, from a process with limits.
 fn apart(case: &Case) -> String {
     let program = std::env::current_exe().expect("this program");
     let limited = format!("ulimit -c 0; ulimit -v {}; exec timeout {} \"$0\" \"$1\"", MEMORY / 1024, case.seconds);

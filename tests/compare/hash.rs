@@ -17,7 +17,7 @@ const LIMIT: usize = 4_294_967_295;
 
 // lookup3's hash of bytes that include the zero byte.
 fn c(closed: &[u8], start: u32) -> u32 {
-    // The slice is valid for its length; of an aligned word lookup3 may read bytes behind it, in the same word.
+    // The slice is valid for its length. lookup3 may read an aligned word whole, past the end of the slice.
     unsafe { jenkins_hashlittle(closed.as_ptr(), closed.len(), start) }
 }
 
@@ -30,7 +30,7 @@ fn byte(kind: usize, x: u64) -> u8 {
     }
 }
 
-// Whether all three agree on a name, which stands in `closed` with its zero byte after it.
+// Do all three agree on a name? `closed` is the name with its zero byte.
 fn agree(closed: &[u8], start: u32) -> bool {
     let name = &closed[..closed.len() - 1];
     let want = HashAnswer { refusal: 0, hash: c(closed, start) };
@@ -60,7 +60,7 @@ fn names(random: &mut Random) -> (usize, usize) {
     (compared, different)
 }
 
-// The longest name that is accepted and the shortest that is refused. All zero bytes: the system lends one page for them.
+// The longest name that is accepted and the shortest that is refused. Their bytes are zero and share one page of memory.
 fn limit() -> (usize, usize) {
     let closed = vec![0u8; LIMIT];
     let accepted = agree(&closed, 0);

@@ -1,6 +1,6 @@
 // Hostile calls, to be run under valgrind: damaged images, random bytes, records that do not fit and broken buffers. Every byte
-// string stands in a heap block of exactly its length, so that a read or write beside it is reported. A refusal changes no byte,
-// reading changes none, and every place that is answered lies in the image.   hostile [CALLS | too-much]
+// string stands in a heap block of exactly its length, so that valgrind reports a read or write outside it. A refusal changes
+// no byte, reading changes none, and every place in an answer lies in the image.   hostile [CALLS | too-much]
 mod damage;
 mod names;
 mod original;
@@ -91,7 +91,7 @@ impl Run {
         self.tally.bytes(buf, &s.buf, || format!("the bytes after {what}"));
     }
 
-    // A buffer that is too short or a mode that is none; or a state with some puts.
+    // A begin that is refused, for its buffer or its mode; or a state with some puts.
     fn begin(&mut self, random: &mut Random) -> Option<State> {
         let length = random.pick(&[0, 1, 2071, 2072, 2073, 2300, 2300, 2600, 2600, 3000]);
         let mode = random.pick(&[0, 0, 0, 0, 1, 1, 1, 2]);
@@ -115,7 +115,7 @@ impl Run {
     }
 }
 
-// One state that calls left: it is closed and read in damaged copies, and spoilt and written on.
+// One state that calls left: its image is read in damaged copies, and copies of it are spoilt and written to.
 fn round(run: &mut Run, random: &mut Random) {
     let Some(state) = run.begin(random) else { return };
     let names: Vec<Box<[u8]>> = match writing::entries(&state) {
@@ -140,7 +140,7 @@ fn round(run: &mut Run, random: &mut Random) {
     }
 }
 
-// Lends one byte more than its heap block has, which valgrind has to report: so it is seen that it looks.
+// Lends one byte more than the heap block has. valgrind has to report it, which shows that it watches the archive.
 fn lend_too_much() {
     let name = exact(&[7; 40]);
     let more = unsafe { std::slice::from_raw_parts(name.as_ptr(), 41) };

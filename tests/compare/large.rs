@@ -1,5 +1,5 @@
-// Large images, compared live: the same puts through the archive and the Rust, every byte of the image, every name and as many
-// absent ones, every id, and the walk.   large [ENTRIES..]
+// Large images, compared live: the same puts through the archive and the Rust; every byte of the image, every name and seven
+// times as many absent ones, every id, and the walk.   large [ENTRIES..]
 mod original;
 mod ours;
 mod seed;
@@ -11,7 +11,7 @@ use tally::Tally;
 
 const SIZES: [usize; 3] = [4_096, 65_536, 1_000_000];
 
-// Names of 9 bytes and ids in a mixed order, of which some repeat and some are left out.
+// Names of 9 bytes, and ids in a mixed order: some ids repeat and some are left out.
 fn puts(random: &mut Random, n: usize) -> Vec<Put> {
     (0..n).map(|i| (format!("{:09x}", i * 7 + random.below(7)).into_bytes(), random.below(n) as u32)).collect()
 }

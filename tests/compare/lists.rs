@@ -1,6 +1,6 @@
-// Whole lists of calls, by brute force through the archive: from a two-way begin, puts and closes mixed, refused ones among
-// them. Each answer is held to 01's formula, which knows the calls and the buffer's length alone; the last image to the
-// Rust's and to first and last puts; and every two lists to each other.   lists [PAIRS]
+// Whole lists of calls through the archive: puts and closes mixed, refused ones among them, from a two-way begin. Each answer
+// is compared with 01's formula, which knows the calls and the buffer's length alone. The last image is compared with the
+// Rust's and with first and last puts, and every two lists with each other.   lists [PAIRS]
 mod names;
 mod original;
 mod ours;
@@ -40,7 +40,7 @@ struct Run {
     tally: Tally,
     puts: [u64; 2],
     closes: u64,
-    // Two lists with the same accepted puts of a name, or of an id, not all of them without any.
+    // How often two lists had the same accepted puts of a name, or of an id, and at least one of them.
     alike: [u64; 2],
 }
 
@@ -165,7 +165,7 @@ impl Run {
         }
     }
 
-    // A name too long for a hash reads no bucket. The bytes are never touched.
+    // A name too long for a hash reads no bucket. Nothing touches its bytes.
     fn too_long(&mut self, left: &Left) {
         let name = vec![0u8; u32::MAX as usize];
         let ours = ours::to_id(&left.image, &name);
@@ -173,7 +173,7 @@ impl Run {
     }
 }
 
-// Puts with closes between them. Some ids are too large for most buffers, some for every one.
+// Puts with closes between them. Some ids are too large for most buffers, some for all.
 fn calls(random: &mut Random, puts: Vec<Put>) -> Vec<Call> {
     let mut made = Vec::new();
     for (name, id) in puts {
@@ -210,7 +210,7 @@ fn length_for(random: &mut Random, calls: &[Call]) -> usize {
     }
 }
 
-// Another list that has some puts of the first, in their order, between its own.
+// Another list: its own puts, and between them some of the first list's, in their order.
 fn beside(random: &mut Random, calls: &[Call], others: Vec<Call>) -> Vec<Call> {
     let mut kept = calls.iter().filter(|_| random.once_in(2)).cloned().collect::<Vec<_>>().into_iter();
     let mut made = Vec::new();

@@ -1,5 +1,5 @@
-// Reading, compared live: images made by the Rust, and damaged copies of them, read by the archive, by the Rust where it ends,
-// and by 01's rules.   reader [COPIES]
+// Reading, compared live: the archive, the Rust (where it ends) and 01's rules read the same images, which the Rust made, and
+// damaged copies of them.   reader [COPIES]
 mod damage;
 mod names;
 mod original;
@@ -22,7 +22,7 @@ struct Run {
     tally: Tally,
     // Searches that the Rust never ends.
     unending: u64,
-    // How often each refusal of opening, and none, was met.
+    // How often opening gave each refusal, and none.
     refusals: [u64; 9],
 }
 
@@ -89,7 +89,7 @@ impl Run {
         }
     }
 
-    // The Rust has no home check: it is asked for the name, and for that name's id.
+    // The Rust has no home check. It is asked for the name, and for that name's id.
     fn home(&mut self, image: &[u8], db: Option<&CQDB>, id: u32) {
         let ours = ours::home(image, id);
         self.tally.rule(ours, u32::from(rules::home(image, id)), || format!("home {id}"));

@@ -1,5 +1,5 @@
-// Document 01's rules for reading, written down once more, straight from its paragraphs and in their order. They share no
-// line with the product; the comparisons take their word where the Rust cannot be asked.
+// Document 01's rules for reading, written a second time, straight from its paragraphs and in their order. They share no line
+// with the product. Where the Rust cannot be asked, the comparisons rely on them alone.
 #![allow(dead_code)]
 
 pub const HEAD: usize = 2072;
@@ -12,7 +12,7 @@ extern "C" {
 /// lookup3's hash of a name and one zero byte.
 pub fn hash(name: &[u8]) -> u32 {
     let closed: Vec<u8> = name.iter().copied().chain([0, 0, 0, 0]).collect();
-    // Three bytes more than are counted are there: of an aligned word lookup3 may read bytes behind the counted ones.
+    // Three more bytes than are counted are there: lookup3 may read an aligned word whole.
     unsafe { jenkins_hashlittle(closed.as_ptr(), name.len() + 1, 0) }
 }
 

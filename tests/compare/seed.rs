@@ -1,4 +1,4 @@
-// Random numbers for the comparisons, from a seed that is printed: CQDB_SEED=N runs the same ones again.
+// Random numbers for the comparisons, from a seed that is printed. CQDB_SEED=N gives the same numbers again.
 #![allow(dead_code)]
 use std::time::{SystemTime, UNIX_EPOCH};
 
@@ -26,7 +26,7 @@ impl Random {
         z ^ (z >> 31)
     }
 
-    /// A number below n, which is above 0.
+    /// A number below n; n is above 0.
     pub fn below(&mut self, n: usize) -> usize {
         (self.next() % n as u64) as usize
     }

@@ -1,4 +1,4 @@
-// Writer records, table counts and buffers that no call left behind: each beside one that a call did leave.
+// Writer records, table counts and buffers that no call leaves: each is a small change of one that a call left.
 use crate::original::Put;
 use crate::ours::Counts;
 use crate::rules::{word, HEAD};
@@ -31,7 +31,7 @@ pub fn state(random: &mut Random, s: &mut State) {
     }
 }
 
-// One table has one more and another one less: their sum, and that none exceeds the entries, may hold all the same.
+// One count is raised and another lowered: the sum stays, and often no count exceeds the entries.
 fn move_count(random: &mut Random, counts: &mut Counts) {
     let (from, to) = (counts.iter().position(|&count| count > 0), random.below(256));
     if let Some(from) = from {
@@ -40,7 +40,7 @@ fn move_count(random: &mut Random, counts: &mut Counts) {
     }
 }
 
-// The buffer cut or grown, with and without the record knowing.
+// The buffer cut or grown, with and without the record's length.
 fn other_length(random: &mut Random, s: &mut State) {
     let length = match random.below(4) {
         0 => s.buf.len().saturating_sub(1),

@@ -6,27 +6,27 @@ const SHOWN: u64 = 10;
 
 #[derive(Default)]
 pub struct Tally {
-    /// Answers that the Rust gave too.
+    /// How many answers were compared with the Rust's.
     pub rust: u64,
-    /// Answers held to 01's rules.
+    /// How many were compared with 01's rules.
     pub rule: u64,
     pub different: u64,
 }
 
 impl Tally {
-    /// An answer of ours beside the Rust's.
+    /// Compares an answer of ours with the Rust's.
     pub fn rust<T: PartialEq + Debug>(&mut self, ours: T, theirs: T, what: impl FnOnce() -> String) {
         self.rust += 1;
         self.equal("the Rust", ours, theirs, what);
     }
 
-    /// An answer of ours beside that of 01's rules.
+    /// Compares an answer of ours with that of 01's rules.
     pub fn rule<T: PartialEq + Debug>(&mut self, ours: T, rules: T, what: impl FnOnce() -> String) {
         self.rule += 1;
         self.equal("01", ours, rules, what);
     }
 
-    /// Byte strings, of which only the first difference is worth printing.
+    /// Compares byte strings, and prints the first difference alone.
     pub fn bytes(&mut self, ours: &[u8], theirs: &[u8], what: impl FnOnce() -> String) {
         if ours != theirs {
             let i = (0..).find(|&i| ours.get(i) != theirs.get(i)).expect("the first difference");
@@ -46,7 +46,7 @@ impl Tally {
     /// Ends the program, with status 0 where nothing differed.
     pub fn end(&self, name: &str) -> ! {
         println!(
-            "{name}: {} answers beside the Rust's and {} beside 01's rules: {} different",
+            "{name}: {} answers compared with the Rust's and {} with 01's rules: {} different",
             self.rust, self.rule, self.different
         );
         std::process::exit(i32::from(self.different > 0));

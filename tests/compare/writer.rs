@@ -1,5 +1,5 @@
-// Writing, compared live: lists of puts in both modes, whose image is the Rust's for the accepted ones, byte for byte; and
-// records, buffers and entries that do not go together, answered by 01's rules.   writer [LISTS]
+// Writing, compared live: lists of puts in both modes, whose image must be the Rust's for the accepted puts, byte for byte; and
+// records, buffers and entries that do not go together, compared with 01's rules.   writer [LISTS]
 mod names;
 mod original;
 mod ours;
@@ -11,7 +11,7 @@ mod writing;
 
 use names::Names;
 use original::Put;
-use ours::{CloseAnswer, Record, WriterAnswer};
+use ours::{CloseAnswer, Record, RecordAnswer};
 use rules::HEAD;
 use seed::Random;
 use tally::Tally;
@@ -23,7 +23,7 @@ const ODD_STATES_OF_ONE: usize = 4;
 struct Run {
     tally: Tally,
     images: u64,
-    // Accepted calls, and how often each refusal was met.
+    // How often each call was accepted, and how often it gave each refusal.
     begins: [u64; 5],
     puts: [u64; 5],
     closes: [u64; 5],
@@ -46,20 +46,20 @@ impl Run {
         let what = || format!("begin in {length} bytes");
         match writing::begin(mode, length) {
             Ok(record) => {
-                self.tally.rule(answer, WriterAnswer { refusal: 0, record }, what);
+                self.tally.rule(answer, RecordAnswer { refusal: 0, record }, what);
                 self.tally.rule(counts, [0; 256], what);
                 Some(State { record, counts, buf })
             }
             Err(refusal) => {
                 let record = Record { mode: 0, entries: 0, back: 0, length: 0, end: 0 };
-                self.tally.rule(answer, WriterAnswer { refusal, record }, what);
+                self.tally.rule(answer, RecordAnswer { refusal, record }, what);
                 self.tally.rule(counts, before, what);
                 None
             }
         }
     }
 
-    // A put, and whether it was accepted. The state before it is left behind as the state after it.
+    // A put, and whether it was accepted. `s` becomes the state after it.
     fn put(&mut self, s: &mut State, name: &[u8], id: u32) -> bool {
         let rule = writing::put(s, name, id);
         let refusal = rule.as_ref().err().copied().unwrap_or(0);
@@ -95,7 +95,7 @@ impl Run {
         (refusal == 0).then_some(size)
     }
 
-    // The Rust's image, whose size and entries are the rules'.
+    // The Rust's image; its size and entries must be those of the rules.
     fn image(&mut self, s: &State, puts: &[Put], size: usize, in_slice: bool) -> Vec<u8> {
         let oneway = s.record.mode == 1;
         let image = if in_slice { original::image_in_slice(oneway, puts, size) } else { original::image(oneway, puts) };
@@ -106,7 +106,7 @@ impl Run {
         image
     }
 
-    // A list from its begin to its close, then states that are beside the one that it left.
+    // A list from its begin to its close, then small changes of the state that it left.
     fn list(&mut self, random: &mut Random, mode: u32, length: usize, puts: &[Put]) {
         let Some(mut s) = self.begin(random, mode, length) else { return };
         for (name, id) in puts {
@@ -133,7 +133,7 @@ fn size_of(mode: u32, puts: &[Put]) -> u64 {
     HEAD as u64 + entries + if mode == 1 { 0 } else { 4 * back }
 }
 
-// A buffer's length: exactly full, one short, one over, full after some of the puts, any more, none, or under the head.
+// A buffer's length: exactly the finished size, one less, one more, that of some of the puts, more, the head's, or less.
 fn length_for(random: &mut Random, mode: u32, puts: &[Put]) -> usize {
     let some = random.below(puts.len() + 1);
     let exact = |puts: &[Put]| size_of(mode, puts).min(1 << 20) as usize;
@@ -148,7 +148,7 @@ fn length_for(random: &mut Random, mode: u32, puts: &[Put]) -> usize {
     }
 }
 
-// Some ids are too large for any buffer here: two-way their put is refused, one-way it is not.
+// Some ids are too large for any buffer here. Their put is refused two-way and accepted one-way.
 fn with_large_ids(random: &mut Random, mut puts: Vec<Put>) -> Vec<Put> {
     if random.once_in(4) {
         for put in &mut puts {
@@ -160,7 +160,7 @@ fn with_large_ids(random: &mut Random, mut puts: Vec<Put>) -> Vec<Put> {
     puts
 }
 
-// The limits that need more than a small buffer. The bytes are all zero and mostly never touched; no close is accepted.
+// The limits that need more than a small buffer. Its bytes are zero and mostly never touched; no close is accepted.
 fn limits(run: &mut Run) {
     let mut counts = [0; 256];
     let mut room = vec![0u8; (1 << 32) + 5000];
@@ -187,7 +187,7 @@ fn limits(run: &mut Run) {
     let long = vec![0u8; 1 << 32];
     put(oneway, &long, 0, 3);
     put(oneway, &long[..u32::MAX as usize], 0, 3);
-    // An entry of that id under a two-way record that has its count and back size: only the limit is against its close.
+    // An entry of that id, with a two-way record that has its count and back size: only the limit forbids its close.
     let entry = ours::put(oneway, &mut counts, &mut room, b"A", 1_073_741_299).record;
     let record = Record { mode: 0, back: 1_073_741_300, ..entry };
     let answer = ours::close(record, &counts, &mut room);
@@ -208,7 +208,7 @@ fn main() {
         let length = length_for(&mut random, mode, &puts);
         run.list(&mut random, mode, length, &puts);
     }
-    println!("writer: {lists} lists, {} images held to the Rust's in every byte", run.images);
+    println!("writer: {lists} lists, {} images compared with the Rust's in every byte", run.images);
     println!("writer: by refusal 0 to 4: begins {:?}, puts {:?}, closes {:?}", run.begins, run.puts, run.closes);
     run.tally.end("writer");
 }

@@ -1,5 +1,5 @@
-// Document 01's rules for writing, written down once more, straight from its paragraphs: the record, what fits, the refusals of
-// put and close, and what they leave. All sums have 128 bits. They share no line with the product.
+// Document 01's rules for writing, written a second time, straight from its paragraphs: the record, what fits, the refusals of
+// put and close, and what they leave. All sums have 128 bits. The rules share no line with the product.
 #![allow(dead_code)]
 use crate::original::Put;
 use crate::ours::{Counts, Record};
@@ -62,7 +62,7 @@ pub fn put_record(s: &State, n: usize, id: u32) -> Result<Record, u32> {
     Ok(Record { end: end as u64, entries: entries as u32, back: back as u32, ..r })
 }
 
-/// What a put leaves: an entry more and the counts raised; or its refusal.
+/// What a put leaves: one more entry and the counts raised; or its refusal.
 pub fn put(s: &State, name: &[u8], id: u32) -> Result<State, u32> {
     let record = put_record(s, name.len(), id)?;
     let mut after = State { record, ..s.clone() };

@@ -6,7 +6,7 @@
 
 uint32_t jenkins_hashlittle(const void *key, size_t length, uint32_t initval);
 
-/* A fixed sequence: the same vectors at every run. */
+/* A fixed sequence, so that every run writes the same vectors. */
 static uint32_t state = 20170401;
 
 static uint32_t next(void) {

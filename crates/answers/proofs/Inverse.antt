@@ -10,12 +10,12 @@ use native.Mathlib.Omega.{arith}
 use borrow.Author.Tests.{eq-eqb, eqb-true}
 use lib.ListN.{length}
 use Rattle.image.specs.Bytes.{keep, same}
-use Rattle.image.specs.Image.{Entry, imageSize, image}
+use Rattle.image.specs.Image.{Entry, hasId, imageSize, image}
 use Rattle.image.specs.declared.Mode.the-variants.{Twoway}
 use Rattle.image.proofs.Lists.{keep-nil, keep-yes, keep-no}
 use Rattle.reader.specs.Lookup.{lookup}
-use Rattle.answers.specs.Answer.{foundId, nameGiven, hasName, hasId, ofName, ofId, firstId, lastName}
-use Rattle.answers.proofs.Names.{same-self, same-true}
+use Rattle.answers.specs.Answer.{foundId, nameGiven, hasName, ofName, ofId, firstId, lastName}
+use Rattle.image.proofs.Equal.{same-self, same-true}
 use Rattle.answers.proofs.Images.{name-gives, id-gives, ids-fit}
 
 -- two tests in either order

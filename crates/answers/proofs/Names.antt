@@ -1,45 +1,22 @@
 -- The entries of a name, of its table and of an id: among the entries alone, and where they stand. Assumes nothing.
 use mathlib.Core.Path.{_≡_, refl, ap, _∙_}
-use mathlib.Core.Bool.{Bool, true, false, cond, and-eq-true-iff}
+use mathlib.Core.Bool.{Bool, true, false, cond}
 use mathlib.Core.List.{List, [], _∷_, map}
 use mathlib.Core.Option.{orElse}
-use Prim.Native.Nat.{ℕ, suc, _+_, _≤_, _<_}
+use Prim.Native.Nat.{ℕ, _+_, _≤_, _<_}
 use native.Mathlib.Omega.{arith}
-use borrow.Author.Tests.{eq-eqb, eqb-true}
+use borrow.Author.Tests.{eq-eqb}
 use lib.Dec.{eqb}
 use lib.ListN.{length}
 use Rattle.jhash.specs.NameHash.{hashOf}
 use Rattle.image.specs.Bytes.{keep, same}
 use Rattle.image.specs.Tables.{tableOf}
-use Rattle.image.specs.Image.{Entry, Placed, entrySize, entriesSize, placed, inTable, ofTable, count}
+use Rattle.image.specs.Image.{Entry, Placed, entrySize, entriesSize, placed, inTable, ofTable}
 use Rattle.reader.specs.Lookup.{Hit, Seen, pass, hit}
-use Rattle.answers.specs.Answer.{hasName, ofName, sharesTable, tablePuts, firstId}
+use Rattle.answers.specs.Answer.{hasName, ofName, firstId}
 use Rattle.image.proofs.Every.{All}
+use Rattle.image.proofs.Equal.{same-true, same-false}
 use Rattle.answers.proofs.Filling.{firstHit}
-
--- ---- equal names
-
-pub same-self : (xs : List ℕ) → same xs xs ≡ true
-unfolding same
-same-self [] = refl
-same-self (x ∷ xs) = rw (eq-eqb x x refl) (same-self xs)
-
-pub same-true : (xs ys : List ℕ) → same xs ys ≡ true → xs ≡ ys
-unfolding same
-same-true [] [] e = refl
-same-true [] (y ∷ ys) e = let z : _≡_ {A = ℕ} 0 1 = cc in absurd (omega arith)
-same-true (x ∷ xs) [] e = let z : _≡_ {A = ℕ} 0 1 = cc in absurd (omega arith)
-same-true (x ∷ xs) (y ∷ ys) e =
-    let both = and-eq-true-iff (eqb x y) (same xs ys) .0 e in
-    ap (λ (k : ℕ). k ∷ xs) (eqb-true x y (both .0)) ∙ ap (λ (l : List ℕ). y ∷ l) (same-true xs ys (both .1))
-
--- the test of a name fails where the names differ
-pub same-false : (xs ys : List ℕ) → (xs ≡ ys → ⊥) → same xs ys ≡ false
-same-false xs ys differ = go (same xs ys) refl
-  where
-    go : (t : Bool) → same xs ys ≡ t → t ≡ false
-    go true e = absurd (differ (same-true xs ys e))
-    go false e = refl
 
 -- ---- the first entry of a name
 
@@ -89,20 +66,3 @@ pub names-short : (n : ℕ) (es : List Entry) → entriesSize es ≤ n → All (
 unfolding entriesSize
 names-short n [] h = tt
 names-short n (e ∷ es) h = (omega arith, names-short n es (omega arith))
-
--- ---- the entries of a name's table
-
-pub count-puts : (name : List ℕ) (o : ℕ) (es : List Entry) → count (tableOf (hashOf name)) (placed o es) ≡ tablePuts name es
-unfolding placed ofTable keep tablePuts
-count-puts name o [] = refl
-count-puts name o (e ∷ es) = go (eqb (tableOf (hashOf (e .name))) (tableOf (hashOf name))) (count-puts name (o + entrySize e) es)
-  where
-    K : List Placed
-    K = keep (inTable (tableOf (hashOf name))) (placed (o + entrySize e) es)
-
-    N : List Entry
-    N = keep (sharesTable name) es
-
-    go : (t : Bool) → length K ≡ length N → length (cond t (record { entry = e; at = o } ∷ K) K) ≡ length (cond t (e ∷ N) N)
-    go true ih = ap suc ih
-    go false ih = ih

@@ -34,9 +34,9 @@ module _ (buffer : List ℕ) (room : headSize ≤ length buffer) where
   pub begin-accepted : {P : Type 0} (n : ℕ) → refusal n ≡ beginning Twoway (length buffer) → P
   begin-accepted n e = let z : _≡_ {A = ℕ} 0 1 = cc (e ∙ list-begins Twoway buffer room) in absurd (omega arith)
 
-  begin-capacity : (w : CQDBWriter) → value w ≡ beginning Twoway (length buffer) → w .length ≡ length buffer
+  begin-length : (w : CQDBWriter) → value w ≡ beginning Twoway (length buffer) → w .length ≡ length buffer
   unfolding fresh
-  begin-capacity w e = ap (λ (x : CQDBWriter). x .length) (fresh-writer w (e ∙ list-begins Twoway buffer room))
+  begin-length w e = ap (λ (x : CQDBWriter). x .length) (fresh-writer w (e ∙ list-begins Twoway buffer room))
 
 -- the puts of an input from a fresh record, and the close after them
 module _ (buffer : List ℕ) (room : headSize ≤ length buffer) (input : List ℕ) (s : State) (e : s ≡ afterInput (fresh Twoway buffer) input) where
@@ -47,7 +47,7 @@ module _ (buffer : List ℕ) (room : headSize ≤ length buffer) (input : List �
   closes : closing s ≡ value (closedSize s)
   closes = rw so (list-gives Twoway buffer room (inputCalls input) (two-way (inputCalls input)))
 
-  close-accepted : {P : Type 0} (n : ℕ) → refusedClose n ≡ closing s → P
+  close-accepted : {P : Type 0} (n : ℕ) → refusal n ≡ closing s → P
   close-accepted n f = let z : _≡_ {A = ℕ} 0 1 = cc (f ∙ closes) in absurd (omega arith)
 
   close-built : (n : ℕ) (t : State) → value n ≡ closing s → t ≡ afterClose s → Built (length buffer) (s .writer .entries) n (t .buffer)
@@ -70,10 +70,10 @@ module _ (buffer : List ℕ) (room : headSize ≤ length buffer) (input : List �
       inside p = cc
 
 -- all of it, in a room for lines that is no shorter than the buffer
-module _ (buffer room given counts : List ℕ) (w : CQDBWriter) (e : begun w ≡ beginning Twoway (length buffer)) (f : counts ≡ countsBegun (length buffer) given)
+module _ (buffer room given counts : List ℕ) (w : CQDBWriter) (e : value w ≡ beginning Twoway (length buffer)) (f : counts ≡ countsBegun (length buffer) given)
     (s : State) (put : w .length ≤ length room → Left (lent w counts buffer) s) (big : headSize ≤ length buffer) (enough : length buffer ≤ length room) where
   put-left : Left (lent w counts buffer) s
-  put-left = let same = begin-capacity buffer big w e in put (omega arith)
+  put-left = let same = begin-length buffer big w e in put (omega arith)
 
   from-fresh : s ≡ afterInput (fresh Twoway buffer) (put-left .input)
   from-fresh = put-left .left ∙ ap (λ (x : State). afterInput x (put-left .input)) (begin-fresh buffer big w given counts e f)
@@ -81,7 +81,7 @@ module _ (buffer room given counts : List ℕ) (w : CQDBWriter) (e : begun w ≡
   pub built : (n : ℕ) (t : State) → value n ≡ closing s → t ≡ afterClose s → Built (length buffer) (s .writer .entries) n (t .buffer)
   built = close-built buffer big (put-left .input) s from-fresh
 
-  pub never-refused : {P : Type 0} (n : ℕ) → refusedClose n ≡ closing s → P
+  pub never-refused : {P : Type 0} (n : ℕ) → refusal n ≡ closing s → P
   never-refused = close-accepted buffer big (put-left .input) s from-fresh
 
 -- the image lies in the buffer

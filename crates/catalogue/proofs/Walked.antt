@@ -13,7 +13,7 @@ use Rattle.reader.specs.Naming.{Naming, place, unnamed, naming}
 use Rattle.reader.specs.Walk.{stepOf, step}
 use Rattle.answers.specs.Answer.{heldAt, nameGiven, ofId, lastName}
 use Rattle.writer.specs.Put.{entryOf}
-use Rattle.lists.specs.Calls.{Call, refused, acceptedFrom, accepted, putsSize, sizeOf}
+use Rattle.lists.specs.Calls.{Call, putDue, acceptedFrom, accepted, putsSize, sizeOf}
 use Rattle.lists.proofs.Theorem.{one-list}
 use Rattle.lines.specs.Lines.{withByte, linesOf, leadingDigits, numberFrom, parseLine, lineCalls, linesCalls, inputCalls}
 use Rattle.catalogue.specs.Left.{putsOf}
@@ -37,9 +37,9 @@ module _ (buffer : List ℕ) (cs : List Call) (room : headSize ≤ length buffer
   image-named : (id : ℕ) → nameGiven (image Twoway (accepted Twoway (length buffer) cs)) id ≡ lastName (ofId id (accepted Twoway (length buffer) cs))
   image-named id =
       let one = one-list buffer cs room in
-      ap (λ (img : List ℕ). nameGiven img id) (sym (one .imaged ∙ ap (image Twoway) (one .decided)))
-      ∙ one .id-gives id
-      ∙ ap (λ (es : List Entry). lastName (ofId id es)) (one .decided)
+      ap (λ (img : List ℕ). nameGiven img id) (sym (one .calls .imaged ∙ ap (image Twoway) (one .calls .decided)))
+      ∙ one .ids .id-gives id
+      ∙ ap (λ (es : List Entry). lastName (ofId id es)) (one .calls .decided)
 
 walk : (n : ℕ) (input : List ℕ) (m : ℕ) → headSize ≤ n → items (image Twoway (putsOf n input)) 0 m ≡ itemsOf (putsOf n input) 0 m
 unfolding putsOf
@@ -55,7 +55,7 @@ puts : List Entry
 puts = entryOf (65 ∷ []) 0 ∷ entryOf (66 ∷ []) 3 ∷ entryOf (67 ∷ []) 0 ∷ []
 
 example-puts : putsOf 65536 example ≡ puts
-unfolding puts putsOf inputCalls linesOf withByte linesCalls lineCalls parseLine leadingDigits numberFrom accepted acceptedFrom refused sizeOf putsSize backSize
+unfolding puts putsOf inputCalls linesOf withByte linesCalls lineCalls parseLine leadingDigits numberFrom accepted acceptedFrom putDue sizeOf putsSize backSize
 example-puts = refl
 
 example-size : sizeOf Twoway puts ≡ 2166

@@ -56,19 +56,15 @@ fn build(counts: &mut [u32; 256], buf: &mut [u8], room: &mut [u8], piece: &mut [
     };
     let w = put_input(fresh, &mut *counts, &mut *buf, room, piece);
     let answer = writer::close(w, &*counts, buf).answer;
-    match answer {
-        Closed::Size(size) => Image {
-            entries: w.entries,
-            size,
-        },
-        Closed::Unfit => Image {
+    let Closed::Size(size) = answer else {
+        return Image {
             entries: 0,
             size: 0,
-        },
-        Closed::Inconsistent => Image {
-            entries: 0,
-            size: 0,
-        },
+        };
+    };
+    Image {
+        entries: w.entries,
+        size,
     }
 }
 

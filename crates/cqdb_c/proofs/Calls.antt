@@ -13,7 +13,6 @@ use Rattle.image.specs.declared.Mode.{Mode}
 use Rattle.image.specs.declared.Mode.the-variants.{Twoway, Oneway}
 use Rattle.writer.specs.declared.CQDBWriter.{CQDBWriter}
 use Rattle.writer.specs.State.{State, lent, beginning, beginRefusal, freshWriter, countsBegun}
-use Rattle.writer.specs.State as state
 use Rattle.writer.specs.Put.{putRefusal, appended, afterPut}
 use Rattle.writer.specs.Close.{closing, closeRefusal, closedSize, closed, afterClose}
 use Rattle.cqdb_c.specs.declared.record.Record.{Record}
@@ -26,11 +25,11 @@ unfolding beginAnswer countsLeft
 begin-unknown mode n counts over = rw (lt-leb mode 1 over) (refl, refl)
 
 -- begin with a mode of 01's: b is what the writer's begin answers, and after the counts that it leaves
-pub begin-known : (mode n : ℕ) (counts after : List ℕ) (mode : Mode) (b : Outcome CQDBWriter) →
-    mode ≤ 1 → mode ≡ modeOf mode → b ≡ beginning mode n → after ≡ countsBegun n counts →
+pub begin-known : (mode n : ℕ) (counts after : List ℕ) (m : Mode) (b : Outcome CQDBWriter) →
+    mode ≤ 1 → m ≡ modeOf mode → b ≡ beginning m n → after ≡ countsBegun n counts →
     (begunAnswer b ≡ beginAnswer mode n) × (after ≡ countsLeft mode n counts)
 unfolding beginAnswer countsLeft
-begin-known mode n counts after mode b fine f e left =
+begin-known mode n counts after m b fine f e left =
     rw (le-leb mode 1 fine) (ap begunAnswer (e ∙ ap (λ (g : Mode). beginning g n) f), left)
 
 -- put with a mode above 1
@@ -39,17 +38,17 @@ unfolding putNumber leftByPut
 put-unknown h e over = rw (lt-leb (h .writer .mode) 1 over) (refl, refl)
 
 -- put with a mode of 01's: the writer's record v goes in, w' comes back
-pub put-known : (h : Held) (e : Entry) (v w' : CQDBWriter) (r : Record) (counts buffer : List ℕ) (n k : ℕ) →
+pub put-known : (h : Held) (e : Entry) (v w' : CQDBWriter) (r : Record) (counts buffer : List ℕ) (k : ℕ) →
     h .writer .mode ≤ 1 → v ≡ writerOf (h .writer) →
-    n ≡ putRefusal (lent v (h .counts) (h .buffer)) e →
+    k ≡ putRefusal (lent v (h .counts) (h .buffer)) e →
     lent w' counts buffer ≡ afterPut (lent v (h .counts) (h .buffer)) e →
-    k ≡ n → r ≡ recordOf w' →
+    r ≡ recordOf w' →
     (k ≡ putNumber h e) × (held r counts buffer ≡ leftByPut h e)
 unfolding putNumber leftByPut
-put-known h e v w' r counts buffer n k fine is answer leaves number back =
+put-known h e v w' r counts buffer k fine is answer leaves back =
     let same : lent v (h .counts) (h .buffer) ≡ stateOf h = ap (λ (w : CQDBWriter). lent w (h .counts) (h .buffer)) is in
     rw (le-leb (h .writer .mode) 1 fine) (
-      number ∙ answer ∙ ap (λ (s : State). putRefusal s e) same,
+      answer ∙ ap (λ (s : State). putRefusal s e) same,
       ap (λ (x : Record). held x counts buffer) back ∙ ap heldOf (leaves ∙ ap (λ (s : State). afterPut s e) same),
     )
 
@@ -75,9 +74,9 @@ close-known h v w' r buffer d k n fine is answer leaves number told back =
       ap (λ (x : Record). held x (h .counts) buffer) back ∙ ap heldOf (leaves ∙ ap afterClose same),
     )
 
--- a mode of 01's is that of its mode
-mode-of-flag : (mode : ℕ) → mode ≤ 1 → flagWord (modeOf mode) ≡ mode
-mode-of-flag mode fine = go (eqb mode 0) refl
+-- a number that stands for a mode is that mode's flag word
+mode-word : (mode : ℕ) → mode ≤ 1 → flagWord (modeOf mode) ≡ mode
+mode-word mode fine = go (eqb mode 0) refl
   where
     go : (t : Bool) → eqb mode 0 ≡ t → flagWord (cond t Twoway Oneway) ≡ mode
     go true e = sym (eqb-true mode 0 e)
@@ -92,7 +91,7 @@ back-and-forth h fine =
     (record { mode = m; entries = h .writer .entries; back = h .writer .back; length = h .writer .length; end = h .writer .end })
     (h .counts)
     (h .buffer))
-    (mode-of-flag (h .writer .mode) fine)
+    (mode-word (h .writer .mode) fine)
 
 -- no refusal changes the record, the counts or a byte: begin
 pub begin-refused : (mode n : ℕ) (counts : List ℕ) → (beginAnswer mode n .refusal ≡ 0 → ⊥) → countsLeft mode n counts ≡ counts

@@ -2,7 +2,6 @@
 use image::Mode;
 use writer::CQDBWriter;
 ghost use mathlib.Core.Path.{_≡_};
-ghost use Rattle.image.specs.Image.{flagWord};
 ghost use Rattle.cqdb_c.specs.Record.{modeOf, writerOf, recordOf};
 
 // The mode (0 two-way, 1 one-way), the number of entries, the back size, the buffer's length and the end of the entries.
@@ -19,16 +18,10 @@ pub struct Record {
 pub(crate) fn mode_of(mode: u32) -> Mode
     ensures { λ r. ⌜ r ≡ modeOf mode ⌝ }
 {
-    if mode == 0 { Mode::Twoway } else { Mode::Oneway }
-}
-
-// The mode of a mode.
-fn flag_word(mode: Mode) -> u32
-    ensures { λ r. ⌜ r ≡ flagWord mode ⌝ }
-{
-    match mode {
-        Mode::Twoway => 0,
-        Mode::Oneway => 1,
+    if mode == 0 {
+        Mode::Twoway
+    } else {
+        Mode::Oneway
     }
 }
 
@@ -52,7 +45,7 @@ pub(crate) fn record_of(w: CQDBWriter) -> Record
 {
     let mode = w.mode;
     Record {
-        mode: flag_word(mode),
+        mode: image::flag_word(mode),
         entries: w.entries,
         back: w.back,
         length: w.length,

@@ -12,5 +12,8 @@ pub mod At
 pub mod Buckets
 pub mod Parts
 pub mod EntryAt
+pub mod Area
+pub mod Between
+pub mod EntryWalk
 pub mod Equal
 pub mod Unbroken

@@ -5,16 +5,27 @@ ghost use Prim.Native.Nat.{_<_};
 ghost use lib.ListN.{length, set};
 ghost use lib.Seq.{sets};
 ghost use Rattle.image.specs.Bytes.{word, le32};
+ghost use Rattle.image.specs.Image.{flagWord};
 use jhash::word::word;
 use jhash::word::word_near_end;
 
+pub mod entries; // entries.rt: broken entries, whole ones, and a walk over them
 pub mod equality; // equality.rt: same
-pub mod stored; // stored.rt: broken
 
-// The writer's mode (`Mode` of cqdb-rs): Twoway is two-way, Oneway leaves the back array out.
+// The writer's mode (`Flag` of cqdb-rs, NONE and ONEWAY): one-way leaves the back array out.
 pub enum Mode {
     Twoway,
     Oneway,
+}
+
+// The flag word of a mode.
+pub fn flag_word(mode: Mode) -> u32
+    ensures { λ r. ⌜ r ≡ flagWord mode ⌝ }
+{
+    match mode {
+        Mode::Twoway => 0,
+        Mode::Oneway => 1,
+    }
 }
 
 // The little-endian word at `at`; bytes past the end count as 0.

@@ -2,16 +2,15 @@
 use Prim.Native.Nat.{ℕ, _+_, _-_, _≤_, _<_}
 use native.Mathlib.Omega.{arith}
 use mathlib.Core.Path.{_≡_, refl, sym, ap, _∙_}
-use mathlib.Core.Bool.{Bool, true, false, cond, _||_}
+use mathlib.Core.Bool.{Bool, true, false, cond}
 use mathlib.Core.List.{List}
 use lib.ListN.{length, drop, length-drop}
-use lib.Dec.{eqb, ltb}
-use borrow.Author.Tests.{lt-ltb}
+use lib.Dec.{eqb}
 use Rattle.image.specs.Image.{Entry}
-use Rattle.writer.specs.State.{State, fits, finishedSize}
+use Rattle.writer.specs.State.{State, finishedSize}
 use Rattle.writer.specs.Put.{entryOf, writerAfter, putRefusal, appended, afterPut}
-use Rattle.writer.proofs.Fits.{fitting}
-use Rattle.writer.proofs.Puts.{misfit, no-room}
+use Rattle.writer.proofs.Fits.{Fitting, fitting, not-too-large}
+use Rattle.writer.proofs.Puts.{Passed, passed, refused-leaves}
 use Rattle.lists.specs.Calls.{after}
 use Rattle.lines.specs.Lines.{Form, entry, other, parseLine, callsBy, afterLine}
 use Rattle.lines.proofs.Forms.{named}
@@ -41,18 +40,14 @@ after-other s line e = after-form s line ∙ ap (leaves s line) e
 -- the finished size exceeds the buffer where the name alone does with a head
 too-long : (s : State) (e : Entry) → s .writer .length < length (e .name) + 2097 → afterPut s e ≡ s
 unfolding writerAfter
-too-long s e h = go (fits s) refl
-  where
-    size : ℕ
-    size = finishedSize (writerAfter (s .writer) e)
-
-    go : (t : Bool) → fits s ≡ t → afterPut s e ≡ s
-    go false p = sym (misfit s e p .1)
-    go true p =
-        let f = fitting (s .writer) (s .counts) (s .buffer) p in
-        let low = f .low in
-        let over : s .writer .length < size = omega arith in
-        sym (no-room s e p (ap (λ (b : Bool). b || ltb 4294967295 size) (lt-ltb (s .writer .length) size over)) .1)
+too-long s e h =
+    sym
+    (refused-leaves s e (putRefusal s e) refl
+    (λ z.
+    let went = passed s e z in
+    let low = fitting (s .writer) (s .counts) (s .buffer) (went .fitted) .low in
+    let room = not-too-large (s .writer .length) (finishedSize (writerAfter (s .writer) e)) (went .roomy) .0 in
+    omega arith))
 
 -- ---- a long line
 
@@ -70,17 +65,17 @@ long-line s line h = go (parseLine line) refl
 
 -- ---- the buffer's length is kept
 
-put-capacity : (s : State) (e : Entry) → afterPut s e .writer .length ≡ s .writer .length
+put-length : (s : State) (e : Entry) → afterPut s e .writer .length ≡ s .writer .length
 unfolding afterPut appended writerAfter
-put-capacity s e = go (eqb (putRefusal s e) 0)
+put-length s e = go (eqb (putRefusal s e) 0)
   where
     go : (b : Bool) → cond b (appended s e) s .writer .length ≡ s .writer .length
     go true = refl
     go false = refl
 
-pub line-capacity : (s : State) (line : List ℕ) → afterLine s line .writer .length ≡ s .writer .length
-line-capacity s line = ap (λ (x : State). x .writer .length) (after-form s line) ∙ go (parseLine line)
+pub line-length : (s : State) (line : List ℕ) → afterLine s line .writer .length ≡ s .writer .length
+line-length s line = ap (λ (x : State). x .writer .length) (after-form s line) ∙ go (parseLine line)
   where
     go : (f : Form) → leaves s line f .writer .length ≡ s .writer .length
-    go (entry id at) = put-capacity s (entryOf (drop at line) id)
+    go (entry id at) = put-length s (entryOf (drop at line) id)
     go other = refl

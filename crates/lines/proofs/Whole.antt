@@ -12,7 +12,7 @@ use borrow.Author.Tests.{ltb-true, ltb-false, eqb-true}
 use Rattle.writer.specs.State.{State}
 use Rattle.lines.specs.Lines.{afterLine, afterInput}
 use Rattle.lines.specs.steps.Pieces.{Gathering, started, gathered, lineEnded, takeByte, takePiece, takePieces, joined, inputEnded, AnyPieces}
-use Rattle.lines.proofs.Skipped.{long-line, line-capacity}
+use Rattle.lines.proofs.Skipped.{long-line, line-length}
 use Rattle.lines.proofs.Split.{NoFeed, no-feed-more, input-feed, input-last, input-cut}
 
 -- the line at hand has the bytes p so far
@@ -42,7 +42,7 @@ holds-ended g p h =
       short = λ k. (refl, refl);
       long = λ k. k;
       enough =
-          let e = ap (λ (s : State). s .writer .length) (ended g p h) ∙ line-capacity (g .state) p in
+          let e = ap (λ (s : State). s .writer .length) (ended g p h) ∙ line-length (g .state) p in
           let c = h .enough in
           omega arith;
     }

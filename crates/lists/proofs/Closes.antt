@@ -70,7 +70,7 @@ module _ (mode : Mode) (n : ℕ) (es : List Entry) (s : State) (w : Written mode
   pub written-size : closedSize s ≡ imageSize mode es
   written-size =
       let b : backIn (s .writer .mode) (s .writer .back) ≡ backSizeOf mode es =
-      ap₂ backIn (w .mode) (w .back-size) ∙ backIn-twice mode (backSize es) in
+      ap₂ backIn (w .mode-is) (w .back-size) ∙ backIn-twice mode (backSize es) in
       omega (arith, b, w .end, w .entries)
 
   -- ---- the decision
@@ -84,12 +84,12 @@ module _ (mode : Mode) (n : ℕ) (es : List Entry) (s : State) (w : Written mode
   back-right : eqb (s .writer .back) (backIn (s .writer .mode) (backSize (recorded s))) ≡ true
   back-right =
       eq-eqb (s .writer .back) (backIn (s .writer .mode) (backSize (recorded s)))
-      (w .back-size ∙ sym (ap₂ (λ (f : Mode) (l : List Entry). backIn f (backSize l)) (w .mode) written-recorded))
+      (w .back-size ∙ sym (ap₂ (λ (f : Mode) (l : List Entry). backIn f (backSize l)) (w .mode-is) written-recorded))
 
   size-right : tooLarge (s .writer .length) (finishedSize (s .writer)) ≡ false
   size-right =
       ap₂ {C = Bool} (λ (x y : Bool). x || y)
-      (le-ltb (s .writer .length) (finishedSize (s .writer)) (omega (arith, written-size, w .length, w .within)))
+      (le-ltb (s .writer .length) (finishedSize (s .writer)) (omega (arith, written-size, w .length-is, w .within)))
       (le-ltb 4294967295 (finishedSize (s .writer)) (omega (arith, written-size, w .below)))
 
   pub close-accepted : closeRefusal s ≡ 0
@@ -105,7 +105,7 @@ module _ (mode : Mode) (n : ℕ) (es : List Entry) (s : State) (w : Written mode
   pub closed-buffer : closed s .buffer ≡ image mode es ++ drop (imageSize mode es) (s .buffer)
   unfolding closed
   closed-buffer =
-      ap₂ (λ (l : List ℕ) (k : ℕ). l ++ drop k (s .buffer)) (ap₂ image (w .mode) written-recorded) written-size
+      ap₂ (λ (l : List ℕ) (k : ℕ). l ++ drop k (s .buffer)) (ap₂ image (w .mode-is) written-recorded) written-size
 
   -- the image is the buffer's first bytes, as many as the size that close gives
   pub close-image : take (closedSize s) (afterClose s .buffer) ≡ image mode es
@@ -126,8 +126,8 @@ module _ (mode : Mode) (n : ℕ) (es : List Entry) (s : State) (w : Written mode
   unfolding closed
   closed-written =
       record {
-        mode = w .mode;
-        length = w .length;
+        mode-is = w .mode-is;
+        length-is = w .length-is;
         length-kept = closed-length;
         end = w .end;
         entries = w .entries;

@@ -3,23 +3,24 @@ use Prim.Native.Nat.{ℕ, zero, suc, _+_, _^_, _≤_, _<_, max}
 use native.Mathlib.Omega.{arith}
 use native.Mathlib.Decide.{ℕ-discrete}
 use mathlib.Core.Path.{_≡_, refl, sym, ap, ap₂, _∙_}
+use mathlib.Core.Logic.{_⊎_, inl, inr}
 use mathlib.Core.Bool.{Bool, true, false, cond, _&&_, _||_}
 use mathlib.Core.List.{List, [], _∷_, _++_, append-assoc, append-nil}
 use lib.ListN.{length, getD, take, drop, set, length-append, length-set, length-replicate, getD-replicate}
 use lib.Seq.{sets, length-sets, sets-eq, take-add, drop-at, take-at, length-take-le, getD-set-same, getD-set-other}
 use lib.Dec.{eqb, ltb, leb}
-use borrow.Author.Tests.{eq-eqb, le-leb, ltb-false}
+use borrow.Author.Tests.{eq-eqb, eqb-true, le-leb, ltb-false}
 use Rattle.jhash.specs.NameHash.{hashOf}
 use Rattle.image.specs.declared.Mode.{Mode}
 use Rattle.image.specs.declared.Mode.the-variants.{Twoway, Oneway}
 use Rattle.image.specs.Bytes.{cat}
 use Rattle.image.specs.Tables.{tableOf}
 use Rattle.image.specs.Image.{Entry, headSize, entryBytes, entrySize, entriesSize, placed, count, ofTable, backSize, backIn, imageSize}
-use Rattle.writer.specs.State.{State, noneAbove, fits, finishedSize, fresh}
+use Rattle.writer.specs.State.{State, noneAbove, fits, finishedSize, tooLarge, fresh}
 use Rattle.image.specs.Tally.{countsAfter}
 use Rattle.writer.specs.Put.{raised, writerAfter, putRefusal, appended, afterPut}
-use Rattle.lists.specs.Calls.{put, sizeOf, refused, acceptedAfter, dueTo}
-use Rattle.lists.proofs.Written.{Written, WordId}
+use Rattle.lists.specs.Calls.{put, sizeOf, putDue, acceptedAfter, WordId}
+use Rattle.lists.proofs.Written.{Written}
 use Rattle.image.proofs.All.{all-true}
 use Rattle.image.proofs.Lists.{cat-append}
 use Rattle.image.proofs.Sizes.{length-entryBytes, length-entries, length-placed}
@@ -37,9 +38,9 @@ module _ (mode : Mode) (n : ℕ) (es : List Entry) (s : State) (w : Written mode
       let none : noneAbove (s .counts) (s .writer .entries) ≡ true =
       all-true (λ (t : ℕ). leb (getD (s .counts) t 0) (s .writer .entries)) 0 256
       (λ i h. le-leb (getD (s .counts) (0 + i) 0) (s .writer .entries) (count-below (0 + i) (omega arith))) in
-      let cap : s .writer .length ≡ length (s .buffer) = w .length ∙ sym (w .length-kept) in
+      let cap : s .writer .length ≡ length (s .buffer) = w .length-is ∙ sym (w .length-kept) in
       let low : headSize ≤ s .writer .end = omega (arith, w .end) in
-      let high : s .writer .end ≤ s .writer .length = omega (arith, w .end, w .length, w .within) in
+      let high : s .writer .end ≤ s .writer .length = omega (arith, w .end, w .length-is, w .within) in
       simp
       (eq-eqb (s .writer .length) (length (s .buffer)) cap, le-leb headSize (s .writer .end) low, le-leb (s .writer .end) (s .writer .length) high, none)
 
@@ -59,18 +60,18 @@ raised-back Oneway b es e h = h
 module _ (mode : Mode) (n : ℕ) (es : List Entry) (s : State) (w : Written mode n es s) (e : Entry) where
   back-then : raised (s .writer .mode) (s .writer .back) (e .id) ≡ backIn mode (backSize (es ++ (e ∷ [])))
   back-then =
-      ap (λ (f : Mode). raised f (s .writer .back) (e .id)) (w .mode) ∙ raised-back mode (s .writer .back) es e (w .back-size)
+      ap (λ (f : Mode). raised f (s .writer .back) (e .id)) (w .mode-is) ∙ raised-back mode (s .writer .back) es e (w .back-size)
 
   finished-then : finishedSize (writerAfter (s .writer) e) ≡ sizeOf mode (es ++ (e ∷ []))
   unfolding writerAfter
   finished-then =
       let b : backIn (s .writer .mode) (raised (s .writer .mode) (s .writer .back) (e .id)) ≡ backIn mode (backSize (es ++ (e ∷ []))) =
-      ap₂ backIn (w .mode) back-then ∙ backIn-twice mode (backSize (es ++ (e ∷ []))) in
+      ap₂ backIn (w .mode-is) back-then ∙ backIn-twice mode (backSize (es ++ (e ∷ []))) in
       omega (arith, b, w .end, w .entries, entriesSize-snoc es e, length-append es (e ∷ []), sizeOf-is mode (es ++ (e ∷ [])))
 
-  pub put-due : putRefusal s e ≡ dueTo mode n es (put e)
-  unfolding putRefusal refused
-  put-due = simp (written-fits mode n es s w, finished-then, w .length)
+  pub put-due : putRefusal s e ≡ putDue mode n es e
+  unfolding putRefusal putDue
+  put-due = simp (written-fits mode n es s w, finished-then, w .length-is)
 
 -- ---- the bytes
 
@@ -87,11 +88,35 @@ stored-after o E l area vs size stands room =
     let whole : length (area ++ vs) ≡ E + length vs = omega (arith, length-append area vs) in
     ap (take (E + length vs)) cut ∙ take-at (area ++ vs) D (E + length vs) whole
 
--- ---- what an accepted put leaves
+-- ---- what is due
 
-or-false : (a b : Bool) → (a || b) ≡ false → (a ≡ false) × (b ≡ false)
-or-false true b h = (h, cc)
-or-false false b h = (refl, h)
+-- a put to which nothing is due has room: its size exceeds neither limit
+pub due-room : (mode : Mode) (n : ℕ) (es : List Entry) (e : Entry) → putDue mode n es e ≡ 0
+    → (imageSize mode (es ++ (e ∷ [])) ≤ n) × (imageSize mode (es ++ (e ∷ [])) ≤ 4294967295)
+unfolding putDue
+due-room mode n es e due = go (ltb n size) refl (ltb 4294967295 size) refl due
+  where
+    size : ℕ
+    size = sizeOf mode (es ++ (e ∷ []))
+
+    go : (a : Bool) → ltb n size ≡ a → (b : Bool) → ltb 4294967295 size ≡ b → _≡_ {A = ℕ} (cond (a || b) 3 0) 0
+        → (imageSize mode (es ++ (e ∷ [])) ≤ n) × (imageSize mode (es ++ (e ∷ [])) ≤ 4294967295)
+    go true p b q z = absurd (omega arith)
+    go false p true q z = absurd (omega arith)
+    go false p false q z =
+        let is = sizeOf-is mode (es ++ (e ∷ [])) in
+        (omega (arith, ltb-false n size p), omega (arith, ltb-false 4294967295 size q))
+
+-- it is 0, or 3
+pub due-number : (mode : Mode) (n : ℕ) (es : List Entry) (e : Entry) → (putDue mode n es e ≡ 0) ⊎ (putDue mode n es e ≡ 3)
+unfolding putDue
+due-number mode n es e = go (tooLarge n (sizeOf mode (es ++ (e ∷ []))))
+  where
+    go : (b : Bool) → (_≡_ {A = ℕ} (cond b 3 0) 0) ⊎ (_≡_ {A = ℕ} (cond b 3 0) 3)
+    go true = inr refl
+    go false = inl refl
+
+-- ---- what an accepted put leaves
 
 -- the ids stay words: in a two-way list by the size, in a one-way list by the premise
 ids-then : (mode : Mode) (es : List Entry) (e : Entry) → WordId mode (put e) → backSize es ≤ 2 ^ 32 → imageSize mode (es ++ (e ∷ [])) ≤ 4294967295
@@ -99,18 +124,12 @@ ids-then : (mode : Mode) (es : List Entry) (e : Entry) → WordId mode (put e) �
 ids-then Twoway es e word h small = omega arith
 ids-then Oneway es e word h small = omega (arith, backSize-snoc es e)
 
-module _ (mode : Mode) (n : ℕ) (es : List Entry) (s : State) (w : Written mode n es s) (e : Entry) (room : refused mode n es e ≡ false) where
+module _ (mode : Mode) (n : ℕ) (es : List Entry) (s : State) (w : Written mode n es s) (e : Entry) (room : putDue mode n es e ≡ 0) where
   within-then : imageSize mode (es ++ (e ∷ [])) ≤ n
-  unfolding refused
-  within-then =
-      let size = sizeOf mode (es ++ (e ∷ [])) in
-      omega (arith, ltb-false n size (or-false (ltb n size) (ltb 4294967295 size) room .0), sizeOf-is mode (es ++ (e ∷ [])))
+  within-then = due-room mode n es e room .0
 
   below-then : imageSize mode (es ++ (e ∷ [])) ≤ 4294967295
-  unfolding refused
-  below-then =
-      let size = sizeOf mode (es ++ (e ∷ [])) in
-      omega (arith, ltb-false 4294967295 size (or-false (ltb n size) (ltb 4294967295 size) room .1), sizeOf-is mode (es ++ (e ∷ [])))
+  below-then = due-room mode n es e room .1
 
   -- the entries' area after appending is the old area and the entry's bytes
   pub area-then : take (entriesSize es + entrySize e) (drop headSize (sets (s .buffer) (s .writer .end) (entryBytes e))) ≡ cat entryBytes es ++ entryBytes e
@@ -152,8 +171,8 @@ module _ (mode : Mode) (n : ℕ) (es : List Entry) (s : State) (w : Written mode
   unfolding appended writerAfter
   appended-written word =
       record {
-        mode = w .mode;
-        length = w .length;
+        mode-is = w .mode-is;
+        length-is = w .length-is;
         length-kept = length-sets (s .buffer) (s .writer .end) (entryBytes e) ∙ w .length-kept;
         end = omega (arith, w .end, entriesSize-snoc es e);
         entries = omega (arith, w .entries, length-append es (e ∷ []));
@@ -171,12 +190,14 @@ module _ (mode : Mode) (n : ℕ) (es : List Entry) (s : State) (w : Written mode
 module _ (mode : Mode) (n : ℕ) (es : List Entry) (s : State) (w : Written mode n es s) (e : Entry) where
   pub put-written : WordId mode (put e) → Written mode n (acceptedAfter mode n es (put e)) (afterPut s e)
   unfolding afterPut
-  put-written word = go (refused mode n es e) refl (put-due mode n es s w e)
+  put-written word = go (eqb (putDue mode n es e) 0) refl
     where
-      go : (b : Bool) → refused mode n es e ≡ b → putRefusal s e ≡ cond b 3 0
-          → Written mode n (cond b es (es ++ (e ∷ []))) (cond (eqb (putRefusal s e) 0) (appended s e) s)
-      go true r d = rw d w
-      go false r d = rw d (appended-written mode n es s w e r word)
+      due : putRefusal s e ≡ putDue mode n es e
+      due = put-due mode n es s w e
+
+      go : (b : Bool) → eqb (putDue mode n es e) 0 ≡ b → Written mode n (es ++ cond b (e ∷ []) []) (cond (eqb (putRefusal s e) 0) (appended s e) s)
+      go true d = rw (due, d) (appended-written mode n es s w e (eqb-true (putDue mode n es e) 0 d) word)
+      go false d = rw (due, d, append-nil es) w
 
 -- ---- a fresh record
 
@@ -184,8 +205,8 @@ pub fresh-written : (mode : Mode) (buffer : List ℕ) → headSize ≤ length bu
 unfolding fresh entriesSize placed ofTable backSize cat Rattle.image.specs.Bytes.keep
 fresh-written mode buffer room =
     record {
-      mode = refl;
-      length = refl;
+      mode-is = refl;
+      length-is = refl;
       length-kept = refl;
       end = refl;
       entries = refl;

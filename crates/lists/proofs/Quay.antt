@@ -2,11 +2,11 @@
 -- reading. Assumes nothing.
 use Rattle.reader.specs.QuayReads.{ReadsHold}
 use Rattle.reader.proofs.QuayReads.{reads-right}
-use Rattle.lists.specs.QuayRows.{Each, HoldsAnyway, rows}
+use Rattle.lists.specs.QuayRows.{Each, HoldsInAny, rows}
 use Rattle.lists.proofs.QuayRows.{rows-right}
 
 pub record AllExamples : Type 0 where
-  pub calls : Each HoldsAnyway rows
+  pub calls : Each HoldsInAny rows
   pub reading : ReadsHold
 
 pub all-examples : AllExamples

@@ -11,17 +11,16 @@ use borrow.Author.Tests.{ne-eqb}
 use Rattle.jhash.specs.Outcome.{value}
 use Rattle.image.specs.declared.Mode.{Mode}
 use Rattle.image.specs.Bytes.{word, keep, range, same}
-use Rattle.image.specs.Image.{Entry, headSize, entrySize, entriesSize, placed, hasId, ofId, lastFrom, link, backSize, backSizeOf, backOffset, imageSize, image}
+use Rattle.image.specs.Image.{Entry, Placed, headSize, entrySize, entriesSize, placed, hasId, placedOfId, lastFrom, link, backSize, backSizeOf, backOffset, imageSize, image}
 use Rattle.image.specs.Head.{backOffsetAt}
-use Rattle.answers.specs.Answer.{ofName, firstId, ofId as entriesOfId}
+use Rattle.answers.specs.Answer.{ofName, firstId, homeNamed, ofId}
 use Rattle.image.proofs.At.{at-word}
 use Rattle.image.proofs.Parts.{link-at}
 use Rattle.answers.proofs.Opened.{backSizeAt-image, backOffsetAt-image}
-use Rattle.writer.specs.State.{fresh}
-use Rattle.lists.specs.Calls.{after, acceptedFrom, dueFrom, accepted, due, refused, putsSize, sizeOf}
-use Rattle.lists.proofs.Written.{WordIds}
-use Rattle.lists.proofs.Read.{namedIn, homeIn, Read}
-use Rattle.lists.specs.QuayRows.{NameRow, IdRow, Row, Each, closedImage, backArray, ImageHolds, RowHolds, HoldsAnyway, rows}
+use Rattle.lists.specs.Calls.{acceptedFrom, dueFrom, accepted, due, putDue, putsSize, sizeOf, WordIds}
+use Rattle.lists.proofs.Read.{namedIn, Read}
+use Rattle.lists.specs.Demand3.{imageOf}
+use Rattle.lists.specs.QuayRows.{NameRow, IdRow, Row, Each, backArray, ImageHolds, RowHolds, HoldsInAny, rows}
 use Rattle.lists.proofs.Along.{list-answers}
 use Rattle.lists.proofs.OneMore.{list-gives, list-formula, list-image, list-below}
 use Rattle.lists.proofs.Reading.{list-read}
@@ -38,20 +37,27 @@ map-range f g s zero h = refl
 map-range f g s (suc n) h =
     ap₂ {C = List ℕ} (λ (x : ℕ) (xs : List ℕ). x ∷ xs) (h s (omega arith)) (map-range f g (suc s) n (λ i p. h i (omega arith)))
 
-last-small : (i k d o : ℕ) (es : List Entry) → d < k → o + entriesSize es < k → lastFrom d (keep (hasId i) (placed o es)) < k
-unfolding lastFrom keep placed entriesSize
-last-small i k d o [] h room = h
-last-small i k d o (e ∷ es) h room =
-    go (eqb (e .id) i) (last-small i k d (o + entrySize e) es h (omega arith)) (last-small i k o (o + entrySize e) es (omega arith) (omega arith))
-  where
-    go : (b : Bool) → lastFrom d (keep (hasId i) (placed (o + entrySize e) es)) < k → lastFrom o (keep (hasId i) (placed (o + entrySize e) es)) < k
-        → lastFrom d (cond b (record { entry = e; at = o } ∷ keep (hasId i) (placed (o + entrySize e) es)) (keep (hasId i) (placed (o + entrySize e) es))) < k
-    go true p q = q
-    go false p q = p
+-- the links of the entries from o on, in offsets below k
+module _ (i k : ℕ) where
+  ofIt : ℕ → List Entry → List Placed
+  ofIt o es = keep (λ (p : Placed). hasId i (p .entry)) (placed o es)
+
+  last-small : (d o : ℕ) (es : List Entry) → d < k → o + entriesSize es < k → lastFrom d (ofIt o es) < k
+  unfolding ofIt lastFrom keep placed entriesSize
+  last-small d o [] h room = h
+  last-small d o (e ∷ es) h room =
+      go (eqb (e .id) i) (last-small d (o + entrySize e) es h (omega arith)) (last-small o (o + entrySize e) es (omega arith) (omega arith))
+    where
+      rest : List Placed
+      rest = ofIt (o + entrySize e) es
+
+      go : (b : Bool) → lastFrom d rest < k → lastFrom o rest < k → lastFrom d (cond b (record { entry = e; at = o } ∷ rest) rest) < k
+      go true p q = q
+      go false p q = p
 
 module _ (mode : Mode) (es : List Entry) (small : imageSize mode es ≤ 4294967295) where
   link-small : (i : ℕ) → link (placed headSize es) i < 2 ^ 32
-  unfolding link ofId
+  unfolding link placedOfId ofIt
   link-small i = last-small i (2 ^ 32) 0 headSize es (omega arith) (omega arith)
 
   link-word : (i : ℕ) → i < backSizeOf mode es → word (image mode es) (backOffset mode es + 4 * i) ≡ link (placed headSize es) i
@@ -80,21 +86,22 @@ Computed r =
     × (backOffset (r .mode) (entries r) ≡ r .backOffset)
     × (map (link (placed headSize (entries r))) (range 0 (backSizeOf (r .mode) (entries r))) ≡ r .links)
     × Each (λ (a : NameRow). firstId (ofName (a .name) (entries r)) ≡ a .gives) (r .names)
-    × Each (λ (a : IdRow). (namedIn (r .mode) (entries r) (a .id) ≡ a .gives) × (homeIn (r .mode) (entries r) (a .id) ≡ a .isHome)) (r .ids)
+    × Each (λ (a : IdRow). (namedIn (r .mode) (entries r) (a .id) ≡ a .gives) × (homeNamed (entries r) (a .id) (namedIn (r .mode) (entries r) (a .id)) ≡ a .isHome)) (r .ids)
 
 -- it holds of every buffer of that length
 module _ (r : Row) (c : Computed r) where
   image-holds : (img : List ℕ) → img ≡ image (r .mode) (entries r) → imageSize (r .mode) (entries r) ≤ 4294967295 → Read (r .mode) (entries r) img → ImageHolds r img
   image-holds img is small read =
       record {
-        opened = read .opened ∙ ap value (c .4);
+        opened = read .names .opened ∙ ap value (c .4);
         back-offset = ap backOffsetAt is ∙ backOffsetAt-image (r .mode) (entries r) small ∙ c .5;
         back-array = ap backArray is ∙ back-array (r .mode) (entries r) small ∙ c .6;
-        named = each-map (λ a h. read .name-gives (a .name) ∙ h) (r .names) (c .7);
+        named = each-map (λ a h. read .names .name-gives (a .name) ∙ h) (r .names) (c .7);
         placed = each-map (λ a h. (read .id-gives (a .id) ∙ h .0, read .id-home (a .id) ∙ h .1)) (r .ids) (c .8);
       }
 
   holds-in : (buffer : List ℕ) → length buffer ≡ r .bytes → RowHolds r buffer
+  unfolding imageOf
   holds-in buffer long =
       let fits : headSize ≤ length buffer = omega (arith, c .0) in
       let same-entries : accepted (r .mode) (length buffer) (r .calls) ≡ entries r = ap (λ (n : ℕ). accepted (r .mode) n (r .calls)) long in
@@ -103,7 +110,7 @@ module _ (r : Row) (c : Computed r) where
         closes = list-gives (r .mode) buffer fits (r .calls) (c .1)
             ∙ ap value (list-formula (r .mode) buffer fits (r .calls) (c .1) ∙ ap (sizeOf (r .mode)) same-entries ∙ c .3);
         imaged =
-            image-holds (closedImage (after (fresh (r .mode) buffer) (r .calls)))
+            image-holds (imageOf (r .mode) buffer (r .calls))
             (list-image (r .mode) buffer fits (r .calls) (c .1) ∙ ap (image (r .mode)) same-entries)
             (rw same-entries at (list-below (r .mode) buffer fits (r .calls) (c .1)))
             (rw same-entries at (list-read (r .mode) buffer fits (r .calls) (c .1)));
@@ -112,7 +119,7 @@ module _ (r : Row) (c : Computed r) where
 -- ---- the rows
 
 computed : Each Computed rows
-unfolding accepted acceptedFrom due dueFrom refused sizeOf putsSize backSize entriesSize backOffset placed ofId keep link lastFrom range ofName entriesOfId same
+unfolding accepted acceptedFrom due dueFrom putDue sizeOf putsSize backSize entriesSize backOffset placed placedOfId ofId keep link lastFrom range ofName same
 computed = (
   (lit≤ tt, tt, refl, refl, refl, refl, refl, (refl, tt), ((refl, refl), tt)),
   (
@@ -142,5 +149,5 @@ computed = (
   ),
 )
 
-pub rows-right : Each HoldsAnyway rows
+pub rows-right : Each HoldsInAny rows
 rows-right = each-map holds-in rows computed

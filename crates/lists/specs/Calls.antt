@@ -1,13 +1,14 @@
 -- Lists of calls: 01, "Whole lists (demand 3)". What happens along a list is told twice: by the rules of the single calls, each lent record and buffer
 -- as the call before left them (`after`, `answers`); and by the calls and the buffer's length alone (`accepted`, `due`). Demand 3 says that both agree.
-use Prim.Native.Nat.{ℕ, _+_, _*_}
+use Prim.Native.Nat.{ℕ, _+_, _*_, _^_, _<_}
 use mathlib.Core.Path.{_≡_}
 use mathlib.Core.Logic.{_⊎_}
-use mathlib.Core.Bool.{Bool, cond}
+use mathlib.Core.Bool.{cond}
 use mathlib.Core.List.{List, [], _∷_, _++_}
 use lib.ListN.{length}
 use lib.Dec.{eqb}
 use Rattle.image.specs.declared.Mode.{Mode}
+use Rattle.image.specs.declared.Mode.the-variants.{Twoway, Oneway}
 use Rattle.image.specs.Image.{Entry, backSize, backIn}
 use Rattle.writer.specs.State.{State, tooLarge}
 use Rattle.writer.specs.Put.{putRefusal, afterPut}
@@ -56,19 +57,19 @@ putsSize (e ∷ es) = 25 + length (e .name) + putsSize es
 unfoldable pub sizeOf : Mode → List Entry → ℕ
 sizeOf mode es = 2072 + putsSize es + 4 * backIn mode (backSize es)
 
--- is a put refused after the accepted puts es, in a buffer of n bytes? The size counts the put at hand
-unfoldable pub refused : Mode → ℕ → List Entry → Entry → Bool
-refused mode n es e = tooLarge n (sizeOf mode (es ++ (e ∷ [])))
+-- the refusal that is due to a put after the accepted puts es, in a buffer of n bytes: 3 when the size, which counts the put at hand, exceeds either
+-- limit. 0: none
+unfoldable pub putDue : Mode → ℕ → List Entry → Entry → ℕ
+putDue mode n es e = cond (tooLarge n (sizeOf mode (es ++ (e ∷ [])))) 3 0
+
+-- the refusal that is due to a call: none to a close
+abbrev pub dueTo : Mode → ℕ → List Entry → Call → ℕ
+dueTo mode n es (put e) = putDue mode n es e
+dueTo mode n es close = 0
 
 -- the accepted puts after one call more
 abbrev pub acceptedAfter : Mode → ℕ → List Entry → Call → List Entry
-acceptedAfter mode n es (put e) = cond (refused mode n es e) es (es ++ (e ∷ []))
-acceptedAfter mode n es close = es
-
--- the refusal that is due to a call: 3 to a put whose size exceeds either limit, none to any other call
-abbrev pub dueTo : Mode → ℕ → List Entry → Call → ℕ
-dueTo mode n es (put e) = cond (refused mode n es e) 3 0
-dueTo mode n es close = 0
+acceptedAfter mode n es c = es ++ acceptedOne c (dueTo mode n es c)
 
 unfoldable pub acceptedFrom : Mode → ℕ → List Entry → List Call → List Entry
 acceptedFrom mode n es [] = es
@@ -95,6 +96,16 @@ AllPermitted [] [] = Unit {0}
 AllPermitted [] (r ∷ rs) = ⊥
 AllPermitted (c ∷ cs) [] = ⊥
 AllPermitted (c ∷ cs) (r ∷ rs) = Permitted c r × AllPermitted cs rs
+
+-- a put is handed an id that is a word. Of a one-way list this has to be said; a two-way one needs no such premise, since its size bounds the ids
+abbrev pub WordId : Mode → Call → Type 0
+WordId Twoway c = Unit {0}
+WordId Oneway (put e) = e .id < 2 ^ 32
+WordId Oneway close = Unit {0}
+
+abbrev pub WordIds : Mode → List Call → Type 0
+WordIds mode [] = Unit {0}
+WordIds mode (c ∷ cs) = WordId mode c × WordIds mode cs
 
 -- the puts of a list, refused ones included
 unfoldable pub puts : List Call → List Entry

@@ -15,7 +15,8 @@ use Rattle.writer.specs.Close.{entryArea, recorded, countsAgree, afterCl
 use Rattle.writer.specs.steps.Working.{written}
 use Rattle.writer.specs.declared.CQDBWriter.{CQDBWriter}
 use Rattle.writer.proofs.Fits.{Fitting, fitting, not-too-large}
-use Rattle.writer.proofs.Closes.{consistent, closes}
+use Rattle.writer.specs.Close.{consistent}
+use Rattle.writer.proofs.Closes.{closes}
 use Rattle.writer.proofs.WrittenImage.{written-closed}
 
 pub closes-image : (w : CQDBWriter) (counts buf : List ℕ) → ((i : ℕ) → getD buf i 0 < 256) → fits (lent w counts buf) ≡ true

@@ -12,16 +12,9 @@ use Rattle.jhash.specs.Outcome.{Outcome, value, refusal}
 use Rattle.image.specs.Image.{backIn, backSize, flagWord, headBytes, image}
 use Rattle.writer.specs.State.{State, lent, fits, finishedSize, tooLarge}
 use Rattle.image.specs.Stored.{whole}
-use Rattle.writer.specs.Close.{entryArea, recorded, countsAgree, closeRefusal, closedSize, closed, afterClose, closing}
+use Rattle.writer.specs.Close.{consistent, entryArea, recorded, countsAgree, closeRefusal, closedSize, closed, afterClose, closing}
 use Rattle.writer.specs.steps.Working.{linksAt, rowsFrom, cleared, takenFrom, written}
 use Rattle.writer.specs.declared.CQDBWriter.{CQDBWriter}
-
--- are the entries whole, and have they the record's counts and back size?
-abbrev pub consistent : State → Bool
-consistent s =
-    whole (s .writer .entries) (entryArea s)
-    && countsAgree (s .counts) (recorded s)
-    && eqb (s .writer .back) (backIn (s .writer .mode) (backSize (recorded s)))
 
 module _ (s : State) where
   pub unfit : fits s ≡ false → (refusal 2 ≡ closing s) × (s ≡ afterClose s)

@@ -18,7 +18,7 @@ use Rattle.writer.specs.State.{State, lent, fits, finishedSize, tooLarge
 use Rattle.writer.specs.Put.{putRefusal, appended, afterPut}
 use Rattle.image.specs.Stored.{whole}
 use Rattle.writer.specs.Close.{entryArea, recorded, countsAgree, closeRefusal, closedSize, closed, afterClose}
-use Rattle.writer.proofs.Between.{take-sets}
+use Rattle.image.proofs.Between.{take-sets}
 use Rattle.writer.proofs.WrittenImage.{area-kept, recorded-end}
 
 -- ---- runs of stores

@@ -3,9 +3,6 @@ pub mod Joined
 pub mod Fits
 pub mod EntryStored
 pub mod Puts
-pub mod Area
-pub mod Between
-pub mod EntryWalk
 pub mod Agree
 pub mod Heads
 pub mod Empties

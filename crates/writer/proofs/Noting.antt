@@ -17,7 +17,7 @@ use Rattle.image.specs.declared.Mode.{Mode}
 use Rattle.image.specs.declared.Mode.the-variants.{Twoway, Oneway}
 use Rattle.image.specs.Stored.{between, wholeLength}
 use Rattle.writer.specs.steps.Working.{slot, withBucket, withLink, taken, takenFrom, placeOf, NotedFirst, Noted, linksApart}
-use Rattle.writer.proofs.Between.{Front, front, length-between, word-between, name-between, between-same, word-same, take-sets}
+use Rattle.image.proofs.Between.{Front, front, length-between, word-between, name-between, between-same, word-same, take-sets}
 use Rattle.writer.proofs.Taking.{taken-parts, from-turn}
 
 -- ---- where the entries stand

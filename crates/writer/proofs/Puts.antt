@@ -8,7 +8,7 @@ use lib.ListN.{length, getD}
 use native.Mathlib.Nat.{mod-lt}
 use lib.Seq.{sets}
 use lib.Dec.{eqb, leb, ltb, lit<}
-use borrow.Author.Tests.{lt-ltb, leb-true}
+use borrow.Author.Tests.{lt-ltb, leb-true, eq-eqb, ne-eqb}
 use Rattle.jhash.specs.NameHash.{hashOf}
 use Rattle.image.specs.Tables.{tableOf}
 use Rattle.image.specs.Image.{Entry, entryBytes}
@@ -19,20 +19,49 @@ use Rattle.writer.specs.declared.CQDBWriter.{CQDBWriter}
 use Rattle.image.proofs.All.{all-each}
 use Rattle.writer.proofs.Fits.{Fitting, fitting, not-too-large}
 
+three-none : _≡_ {A = ℕ} 3 0 → ⊥
+three-none z = omega arith
+
+two-none : _≡_ {A = ℕ} 2 0 → ⊥
+two-none z = omega arith
+
 module _ (s : State) (e : Entry) where
-  pub misfit : fits s ≡ false → (2 ≡ putRefusal s e) × (s ≡ afterPut s e)
-  unfolding putRefusal afterPut
-  misfit h = rw h (refl, refl)
+  -- the decision, check by check
+  pub refuses-unfit : fits s ≡ false → 2 ≡ putRefusal s e
+  unfolding putRefusal
+  refuses-unfit h = rw h refl
 
-  pub no-room : fits s ≡ true → tooLarge (s .writer .length) (finishedSize (writerAfter (s .writer) e)) ≡ true
-      → (3 ≡ putRefusal s e) × (s ≡ afterPut s e)
-  unfolding putRefusal afterPut
-  no-room h k = rw (h, k) (refl, refl)
+  pub refuses-full : fits s ≡ true → tooLarge (s .writer .length) (finishedSize (writerAfter (s .writer) e)) ≡ true → 3 ≡ putRefusal s e
+  unfolding putRefusal
+  refuses-full h k = rw (h, k) refl
 
-  pub accepts : fits s ≡ true → tooLarge (s .writer .length) (finishedSize (writerAfter (s .writer) e)) ≡ false
-      → (0 ≡ putRefusal s e) × (appended s e ≡ afterPut s e)
-  unfolding putRefusal afterPut
-  accepts h k = rw (h, k) (refl, refl)
+  pub accepts : fits s ≡ true → tooLarge (s .writer .length) (finishedSize (writerAfter (s .writer) e)) ≡ false → 0 ≡ putRefusal s e
+  unfolding putRefusal
+  accepts h k = rw (h, k) refl
+
+  -- what an accepted put has passed
+  pub record Passed : Type 0 where
+    pub fitted : fits s ≡ true
+    pub roomy : tooLarge (s .writer .length) (finishedSize (writerAfter (s .writer) e)) ≡ false
+
+  pub passed : putRefusal s e ≡ 0 → Passed
+  unfolding putRefusal
+  passed h = go (fits s) (tooLarge (s .writer .length) (finishedSize (writerAfter (s .writer) e))) refl refl h
+    where
+      go : (f t : Bool) → fits s ≡ f → tooLarge (s .writer .length) (finishedSize (writerAfter (s .writer) e)) ≡ t
+          → _≡_ {A = ℕ} (cond (not f) 2 (cond t 3 0)) 0 → Passed
+      go true false p q e = record { fitted = p; roomy = q }
+      go true true p q e = absurd (three-none e)
+      go false t p q e = absurd (two-none e)
+
+  -- the effect: a refusal leaves everything, an accepted put appends
+  pub refused-leaves : (k : ℕ) → k ≡ putRefusal s e → (k ≡ 0 → ⊥) → s ≡ afterPut s e
+  unfolding afterPut
+  refused-leaves k told some = rw (ne-eqb (putRefusal s e) 0 (λ z. some (told ∙ z))) refl
+
+  pub accepted-leaves : putRefusal s e ≡ 0 → appended s e ≡ afterPut s e
+  unfolding afterPut
+  accepted-leaves told = rw (eq-eqb (putRefusal s e) 0 told) refl
 
 -- a name that is too long for a hash is too long for any image
 pub long-name : (w : CQDBWriter) (name : List ℕ) (id : ℕ) → 4294967295 ≤ length name

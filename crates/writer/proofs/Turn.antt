@@ -27,7 +27,7 @@ use Rattle.image.proofs.Parts.{placedIn, before-most, offset-word, number-word,
 use Rattle.image.proofs.EntryAt.{id-word, length-word, name-bytes, ids-below}
 use Rattle.image.specs.Stored.{between, wholeLength}
 use Rattle.writer.specs.steps.Working.{slot, withBucket, withLink, taken}
-use Rattle.writer.proofs.Between.{is-whole}
+use Rattle.image.proofs.Between.{is-whole}
 use Rattle.writer.proofs.Partial.{tableWith, tablesWith, length-tableWith, length-tablesWith, upToEntries, length-upToEntries, partial}
 use Rattle.writer.proofs.Partial.{rows-there, tables-there, entries-from}
 use Rattle.writer.proofs.OneMore.{place, place-below, firstEmpty-alike, tables-more, links-more}

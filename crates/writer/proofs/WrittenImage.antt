@@ -18,7 +18,7 @@ use Rattle.image.specs.Stored.{whole}
 use Rattle.writer.specs.Close.{entryArea, recorded, countsAgree, closed}
 use Rattle.writer.specs.steps.Working.{linksAt, taken, takenFrom, written}
 use Rattle.writer.proofs.Fits.{fitting}
-use Rattle.writer.proofs.Area.{Bytes, bytes-drop, bytes-take, length-entriesIn, whole-bytes, ids-words}
+use Rattle.image.proofs.Area.{Bytes, bytes-drop, bytes-take, length-entriesIn, whole-bytes, ids-words}
 use Rattle.writer.proofs.HeadRows.{counts-agree}
 use Rattle.writer.proofs.Partial.{partial, partial-all}
 use Rattle.writer.proofs.Cleared.{Tells, told-size, told-links, cleared-partial}

@@ -8,7 +8,6 @@ ghost use lib.ListN.{length};
 ghost use Rattle.image.specs.Bytes.{word};
 ghost use Rattle.image.specs.Tables.{tableOf};
 ghost use Rattle.writer.specs.steps.Working.{withBucket, withLink, takenFrom, linksApart, Noted};
-use super::check;
 use super::fill::bucket_number;
 use super::fill::store_bucket;
 use super::fill::store_link;
@@ -58,7 +57,7 @@ fn plan(
     let mut at = from;
     let mut i = 0;
     while i < most {
-        let n = check::whole_length(buf, at, end);
+        let n = image::entries::whole_length(buf, at, end);
         if n == 0 {
             return i;
         }

@@ -6,7 +6,6 @@ ghost use lib.Seq.{sets};
 ghost use Rattle.image.specs.Bytes.{word, le32};
 ghost use Rattle.image.specs.Tables.{tableOf, order, firstEmpty};
 ghost use Rattle.writer.specs.steps.Working.{withBucket, withLink, taken, takenFrom};
-use super::check;
 use image::Mode;
 
 // The first empty of the n buckets at o, from bucket k on; bucket 0 where none is empty.
@@ -94,7 +93,7 @@ pub(super) fn take_singly(
     let mut at = from;
     let mut left = entries;
     while left > 0 {
-        let n = check::whole_length(&*buf, at, end);
+        let n = image::entries::whole_length(&*buf, at, end);
         if n == 0 {
             return;
         }

@@ -97,7 +97,7 @@ fn append(
     let jhash::Hashed::Hash(h) = jhash::name_hash(name) else {
         return w;
     };
-    record::raise(&mut *counts, h);
+    image::entries::raise(&mut *counts, h);
     entry::store(&mut *buf, w.end as usize, name, id);
     record::after(w, name.len(), id)
 }
@@ -133,7 +133,7 @@ fn write_image(w: CQDBWriter, counts: &[u32; 256], buf: &mut [u8])
     head::write_head(
         &mut *buf,
         size as u32,
-        record::flag_word(mode),
+        image::flag_word(mode),
         back as u32,
         links as u32,
     );

@@ -3,7 +3,7 @@ ghost use mathlib.Core.Path.{_≡_};
 ghost use Prim.Native.Nat.{ℕ, _+_, _<_, _≤_, _^_, max};
 ghost use lib.ListN.{length, getD};
 ghost use Rattle.image.specs.Tables.{tableOf};
-ghost use Rattle.image.specs.Image.{backIn, flagWord};
+ghost use Rattle.image.specs.Image.{backIn};
 ghost use Rattle.writer.specs.State.{lent, noneAbove, fits, tooLarge, finishedSize};
 ghost use Rattle.image.specs.Tally.{raisedCounts};
 ghost use Rattle.writer.specs.Put.{raised, writerWith};
@@ -75,19 +75,12 @@ pub(super) fn too_large(room: u64, size: u64) -> bool
     room < size || 4294967295 < size
 }
 
-// The larger of two numbers.
-pub(super) fn larger(a: u64, b: u64) -> u64
-    ensures { λ r. ⌜ r ≡ max a b ⌝ }
-{
-    if a < b { b } else { a }
-}
-
 // The back size after a put, which may be 2^32.
 fn raised(mode: Mode, back: u32, id: u32) -> u64
     ensures { λ r. ⌜ r ≡ raised mode back id ⌝ }
 {
     match mode {
-        Mode::Twoway => larger(back as u64, id as u64 + 1),
+        Mode::Twoway => image::entries::larger(back as u64, id as u64 + 1),
         Mode::Oneway => back as u64,
     }
 }
@@ -109,16 +102,6 @@ pub(super) fn finished_size(w: CQDBWriter) -> u64
 {
     let mode = w.mode;
     w.end + 16 * (w.entries as u64) + 4 * back_in(mode, w.back as u64)
-}
-
-// The flag word of a mode.
-pub(super) fn flag_word(mode: Mode) -> u32
-    ensures { λ r. ⌜ r ≡ flagWord mode ⌝ }
-{
-    match mode {
-        Mode::Twoway => 0,
-        Mode::Oneway => 1,
-    }
 }
 
 // Where the back array stands, 0 where there is none.
@@ -156,14 +139,4 @@ pub(super) fn after(w: CQDBWriter, n: usize, id: u32) -> CQDBWriter
         entries: w.entries + 1,
         back: raised(mode, w.back, id) as u32,
     }
-}
-
-// One more in the table of a hash.
-pub(super) fn raise(counts: &mut [u32; 256], h: u32)
-    requires { ⌜ getD (now counts) (tableOf h) 0 < 4294967295 ⌝ }
-    ensures { λ _. ⌜ now (counts .exit) ≡ raisedCounts (now (counts .entry)) h ⌝ }
-{
-    let t = (h % 256) as usize;
-    let c = counts[t];
-    counts[t] = c + 1;
 }

@@ -1,5 +1,5 @@
-// Damaged copies of an image. Each kind changes a word or some bytes, cuts the image or adds to it; and the change is undone after the
-// questions.
+// Damaged copies of an image. Each kind changes a word or some bytes, cuts the image or adds to it. The change is undone after
+// the questions.
 use crate::lists::List;
 use crate::names::Names;
 use crate::questions::Questions;
@@ -73,7 +73,7 @@ impl Copy {
     }
 }
 
-// A word near one that stands there, or at an end of the image or of the numbers.
+// Another word: near the one that stands there, near the image's size, or at a limit of 32 bits.
 fn other_word(word: u32, size: usize, random: &mut Random) -> u32 {
     let size = size as u32;
     [word.wrapping_add(1), word.wrapping_sub(1), 0, size - 8, size - 7, size, size + 1, u32::MAX, u32::MAX - 7][random.below(9)]
@@ -127,7 +127,7 @@ fn change_used(copy: &mut Copy, kind: usize, random: &mut Random) {
     }
 }
 
-/// Some damaged copies of an image, each with questions; how many they are.
+/// Prints some damaged copies of an image, each with questions, and gives their number.
 pub fn copies(image: &[u8], list: &List, names: &Names, i: usize, random: &mut Random, questions: &mut Questions) -> usize {
     let asked_names: Vec<Vec<u8>> = list.asked_names(names).into_iter().take(3).collect();
     let asked_ids: Vec<u32> = list.asked_ids().into_iter().take(3).collect();

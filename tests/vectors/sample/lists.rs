@@ -10,19 +10,19 @@ const COUNT: usize = 240;
 pub struct List {
     pub title: String,
     pub oneway: bool,
-    pub capacity: usize,
+    pub length: usize,
     pub puts: Vec<(u32, Vec<u8>)>,
 }
 
 impl List {
     fn new(title: &str, oneway: bool, puts: Vec<(u32, Vec<u8>)>) -> List {
         let mode = if oneway { "one-way" } else { "two-way" };
-        List { title: format!("{mode}, {title}"), oneway, capacity: 0x2000, puts }
+        List { title: format!("{mode}, {title}"), oneway, length: 0x2000, puts }
     }
 
-    fn in_bytes(mut self, capacity: usize) -> List {
-        self.title = format!("{}, in {capacity} bytes", self.title);
-        self.capacity = capacity;
+    fn in_bytes(mut self, length: usize) -> List {
+        self.title = format!("{}, in {length} bytes", self.title);
+        self.length = length;
         self
     }
 
@@ -33,13 +33,13 @@ impl List {
         HEAD + entries + if self.oneway { 0 } else { 4 * back }
     }
 
-    /// Which puts find room. The Rust's stream has no end: it is given those alone.
+    /// Which puts find room. The Rust gets only those, since its stream has no end.
     pub fn accepted(&self) -> Vec<bool> {
         let mut kept = Vec::new();
         let mut accepted = Vec::new();
         for put in &self.puts {
             kept.push(put);
-            accepted.push(self.size(&kept) <= self.capacity);
+            accepted.push(self.size(&kept) <= self.length);
             if !accepted[accepted.len() - 1] {
                 kept.pop();
             }
@@ -143,7 +143,7 @@ fn colliding(names: &Names) -> Vec<List> {
     lists
 }
 
-// Any list: few names and ids, so that both repeat, and gaps.
+// Any list: few names and few ids, so that both repeat, and with gaps between the ids.
 fn any(names: &[Vec<u8>], random: &mut Random, most: usize) -> List {
     let count = random.below(most + 1);
     let ids = [4, 12, 40][random.below(3)];
@@ -151,7 +151,7 @@ fn any(names: &[Vec<u8>], random: &mut Random, most: usize) -> List {
     List::new(&format!("{count} puts, ids below {ids}"), random.below(4) == 0, puts)
 }
 
-// Buffers that a list fills exactly, and one byte less.
+// Buffers that a list fills exactly, and buffers that are one byte shorter.
 fn exact(names: &[Vec<u8>], random: &mut Random) -> Vec<List> {
     let mut lists = Vec::new();
     for less in [0, 0, 0, 1, 1, 1, 2, 9, 30, 60] {

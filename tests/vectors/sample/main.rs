@@ -6,13 +6,15 @@ mod damage;
 mod hash;
 mod lists;
 mod names;
+#[path = "../../compare/original.rs"]
+mod original;
 mod questions;
 
 use lists::List;
 use names::Names;
 use questions::Questions;
 
-/// A fixed sequence (splitmix64): the same sample at every run.
+/// A fixed sequence (splitmix64), so that every run writes the same sample.
 pub struct Random(u64);
 
 impl Random {
@@ -29,14 +31,14 @@ pub fn hex(bytes: &[u8]) -> String {
     bytes.iter().map(|b| format!("{b:02x}")).collect()
 }
 
-// A number, and a name where it has any bytes.
+// A number, and the name if it is not empty.
 pub fn numbered(word: &str, n: u32, name: &[u8]) -> String {
     format!("{word} {n:08x} {}", hex(name)).trim_end().to_string()
 }
 
 // The calls of a list, and the size that the Rust's image has.
 fn print_calls(list: &List, image: &[u8]) {
-    println!("new{} {:08x}", if list.oneway { 1 } else { 2 }, list.capacity);
+    println!("new{} {:08x}", if list.oneway { 1 } else { 2 }, list.length);
     for ((id, name), accepted) in list.puts.iter().zip(list.accepted()) {
         println!("{}", numbered(if accepted { "puts" } else { "full" }, *id, name));
     }

@@ -1,4 +1,4 @@
-// Names of three and four letters, by table and first bucket, so that lists can be made whose names collide.
+// Names of three and four letters by table and first bucket, for lists whose names collide.
 use crate::hash::jhash;
 
 pub struct Names {

@@ -1,6 +1,6 @@
 // The Rust's answers on an image, as lines.
 use crate::names::hash_of;
-use crate::{hex, numbered};
+use crate::{hex, numbered, original};
 use cqdb::CQDB;
 
 pub struct Questions {
@@ -11,7 +11,7 @@ fn word(image: &[u8], at: usize) -> u32 {
     u32::from_le_bytes(image[at..at + 4].try_into().expect("four bytes"))
 }
 
-// Whether the Rust's search for a name ends: it goes round for ever where no bucket of the table is empty and none decides.
+// Does the Rust's search for a name end? It never does where no bucket of the table is empty and none decides.
 fn ends(image: &[u8], name: &[u8]) -> bool {
     let h = hash_of(name);
     let row = 24 + 8 * (h % 256) as usize;
@@ -24,7 +24,7 @@ fn ends(image: &[u8], name: &[u8]) -> bool {
     at == 0 || n == 0 || (0..n).any(decides)
 }
 
-// An entry that leaves the image, has length word 0 or is the name.
+// Does an entry decide the search? It does where it leaves the image, has length word 0 or has the name.
 fn entry_decides(image: &[u8], entry: usize, name: &[u8]) -> bool {
     if image.len() < entry + 8 || word(image, entry + 4) == 0 {
         return true;
@@ -35,22 +35,10 @@ fn entry_decides(image: &[u8], entry: usize, name: &[u8]) -> bool {
     }
 }
 
-// The lookup of a name, where it is UTF-8 and the Rust's search ends.
+// The lookup of a name; none where the name is not UTF-8 or the Rust's search never ends.
 fn to_id(db: &CQDB, image: &[u8], name: &[u8]) -> Option<Option<u32>> {
     let text = std::str::from_utf8(name).ok()?;
     ends(image, name).then(|| db.to_id(text))
-}
-
-// The number of a refusal of open.
-fn refusal(error: &std::io::Error) -> u32 {
-    match error.to_string().as_str() {
-        "invalid file format" => 1,
-        "invalid file format, magic mismatch" => 5,
-        "invalid file format, byte order mismatch" => 6,
-        "invalid table data: out of bounds" => 7,
-        "invalid backward link data: out of bounds" => 8,
-        other => panic!("another refusal: {other}"),
-    }
 }
 
 impl Questions {
@@ -64,7 +52,7 @@ impl Questions {
     }
 
     pub fn about(&mut self, image: &[u8], names: &[Vec<u8>], ids: &[u32]) {
-        match CQDB::new(image) {
+        match original::open(image) {
             Ok(db) => {
                 self.line(format!("open {:08x}", db.num()));
                 for name in names {
@@ -75,7 +63,7 @@ impl Questions {
                 }
                 self.walk(&db);
             }
-            Err(error) => self.line(format!("fail {:08x}", refusal(&error))),
+            Err(refusal) => self.line(format!("fail {refusal:08x}")),
         }
     }
 
@@ -100,7 +88,7 @@ impl Questions {
         }
     }
 
-    // All steps with the hints between them, and a step past the end.
+    // All steps with the hint before each, and a step past the end.
     fn walk(&mut self, db: &CQDB) {
         println!("walk");
         let mut iter = db.iter();

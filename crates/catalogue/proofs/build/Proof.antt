@@ -20,7 +20,7 @@ same-length : tie.Need-same-length
 same-length c = search needs
 
 returns : tie.Need-returns
-returns c = λ big enough. begin-accepted (c .before .before .before .before .before .before .before .before .args .buf .now) big 1 (ap begunOf (sym (c .enum-told .given .1)) ∙ c .before .before .begin .ensures .0)
+returns c = λ big enough. begin-accepted (c .before .before .before .before .before .before .before .before .args .buf .now) big _ (ap begunOf (sym (c .enum-told .given .1)) ∙ c .before .before .begin .ensures .0)
 
 put-input-requires : tie.Need-put-input-requires
 put-input-requires c κs = search needs
@@ -34,9 +34,6 @@ enum-known-answer c = search needs
 enum-told-2 : tie.Need-enum-told-2
 enum-told-2 c = search needs
 
-enum-told-3 : tie.Need-enum-told-3
-enum-told-3 c = search needs
-
 same-length-2 : tie.Need-same-length-2
 same-length-2 c = search needs
 
@@ -48,12 +45,12 @@ same-length-4 c = search needs
 
 returns-2 : tie.Need-returns-2
 returns-2 c =
-    let a = c .before .before .before .before .before .before .before .before .before .before .before .before .before .before .before .before .before .before .before .before .before .before .before .before .before .before .before .before .args in
-    let b = c .before .before .before .before .before .before .before .before .before .before .before .before .before .before .before .before .before .before .before .before .before .before .begin in
-    let w = c .before .before .before .before .before .before .before .before .before .before .before .before .before .before .before .before .before .before .before .before .fresh .given in
+    let a = c .before .before .before .before .before .before .before .before .before .before .before .before .before .before .before .before .before .before .before .before .before .before .before .before .before .before .before .args in
+    let b = c .before .before .before .before .before .before .before .before .before .before .before .before .before .before .before .before .before .before .before .before .before .begin in
+    let w = c .before .before .before .before .before .before .before .before .before .before .before .before .before .before .before .before .before .before .before .fresh .given in
     λ big enough.
-    built (a .buf .now) (a .room .now) (a .counts .now) _ (w .0 .0) (ap begunOf (sym (w .1)) ∙ b .ensures .0) (b .ensures .1) _ (c .before .before .before .before .before .before .before .before .before .before .before .before .before .before .put-input .ensures) big enough
-    (c .before .answer .given .0 .0) _ (ap closedOf (sym (c .before .answer .given .1)) ∙ c .before .before .before .before .before .close .ensures .0) (c .before .before .before .before .before .close .ensures .1)
+    never-refused (a .buf .now) (a .room .now) (a .counts .now) _ (w .0 .0) (ap begunOf (sym (w .1)) ∙ b .ensures .0) (b .ensures .1) _ (c .before .before .before .before .before .before .before .before .before .before .before .before .before .put-input .ensures) big enough
+    _ (ap closedOf (sym (c .enum-told2 .given .1)) ∙ c .before .before .before .before .close .ensures .0)
 
 same-length-5 : tie.Need-same-length-5
 same-length-5 c = search needs
@@ -66,30 +63,12 @@ same-length-7 c = search needs
 
 returns-3 : tie.Need-returns-3
 returns-3 c =
-    let a = c .before .before .before .before .before .before .before .before .before .before .before .before .before .before .before .before .before .before .before .before .before .before .before .before .before .before .before .args in
-    let b = c .before .before .before .before .before .before .before .before .before .before .before .before .before .before .before .before .before .before .before .before .before .begin in
-    let w = c .before .before .before .before .before .before .before .before .before .before .before .before .before .before .before .before .before .before .before .fresh .given in
+    let a = c .before .before .before .before .before .before .before .before .before .before .before .before .before .before .before .before .before .before .before .before .before .before .before .before .before .before .before .before .args in
+    let b = c .before .before .before .before .before .before .before .before .before .before .before .before .before .before .before .before .before .before .before .before .before .before .begin in
+    let w = c .before .before .before .before .before .before .before .before .before .before .before .before .before .before .before .before .before .before .before .before .fresh .given in
     λ big enough.
-    never-refused (a .buf .now) (a .room .now) (a .counts .now) _ (w .0 .0) (ap begunOf (sym (w .1)) ∙ b .ensures .0) (b .ensures .1) _ (c .before .before .before .before .before .before .before .before .before .before .before .before .before .put-input .ensures) big enough
-    2 (ap closedOf (sym (c .enum-told2 .given .1)) ∙ c .before .before .before .before .close .ensures .0)
-
-same-length-8 : tie.Need-same-length-8
-same-length-8 c = search needs
-
-same-length-9 : tie.Need-same-length-9
-same-length-9 c = search needs
-
-same-length-10 : tie.Need-same-length-10
-same-length-10 c = search needs
-
-returns-4 : tie.Need-returns-4
-returns-4 c =
-    let a = c .before .before .before .before .before .before .before .before .before .before .before .before .before .before .before .before .before .before .before .before .before .before .before .before .before .before .before .args in
-    let b = c .before .before .before .before .before .before .before .before .before .before .before .before .before .before .before .before .before .before .before .before .before .begin in
-    let w = c .before .before .before .before .before .before .before .before .before .before .before .before .before .before .before .before .before .before .before .fresh .given in
-    λ big enough.
-    never-refused (a .buf .now) (a .room .now) (a .counts .now) _ (w .0 .0) (ap begunOf (sym (w .1)) ∙ b .ensures .0) (b .ensures .1) _ (c .before .before .before .before .before .before .before .before .before .before .before .before .before .put-input .ensures) big enough
-    4 (ap closedOf (sym (c .enum-told3 .given .1)) ∙ c .before .before .before .before .close .ensures .0)
+    built (a .buf .now) (a .room .now) (a .counts .now) _ (w .0 .0) (ap begunOf (sym (w .1)) ∙ b .ensures .0) (b .ensures .1) _ (c .before .before .before .before .before .before .before .before .before .before .before .before .before .before .put-input .ensures) big enough
+    (c .before .answer .given .0 .0) _ (ap closedOf (sym (c .before .answer .given .1)) ∙ c .before .before .before .before .before .close .ensures .0) (c .before .before .before .before .before .close .ensures .1)
 
 pub build-spec : {M : Type 1} → statement M
 build-spec =
@@ -104,7 +83,6 @@ build-spec =
     close-requires
     enum-known-answer
     enum-told-2
-    enum-told-3
     same-length-2
     same-length-3
     same-length-4
@@ -112,8 +90,4 @@ build-spec =
     same-length-5
     same-length-6
     same-length-7
-    returns-3
-    same-length-8
-    same-length-9
-    same-length-10
-    returns-4)
+    returns-3)

@@ -10,7 +10,8 @@ use Rattle.jhash.specs.Outcome.{value}
 use Rattle.writer.specs.State.{lent, fits, tooLarge, finishedSize}
 use Rattle.writer.proofs.Fits.{Fitting, fitting, not-too-large}
 use Rattle.writer.proofs.Accepted.{closes-image}
-use Rattle.writer.proofs.Closes.{consistent, unfit, too-big, differs, closes}
+use Rattle.writer.specs.Close.{consistent}
+use Rattle.writer.proofs.Closes.{unfit, too-big, differs, closes}
 use borrow.Author.Needs.{needs}
 use Rattle.writer.proofs.close.Statement.{statement}
 use Rattle.writer.proofs.close.Tie as tie

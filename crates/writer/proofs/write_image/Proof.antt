@@ -13,7 +13,7 @@ use Rattle.writer.proofs.head.write_rows.Reads as write-rows-reads
 use Rattle.writer.proofs.record.back_at.Reads as back-at-reads
 use Rattle.writer.proofs.record.back_in.Reads as back-in-reads
 use Rattle.writer.proofs.record.finished_size.Reads as finished-size-reads
-use Rattle.writer.proofs.record.flag_word.Reads as flag-word-reads
+use Rattle.image.proofs.flag_word.Reads as flag-word-reads
 
 finished-size-requires : tie.Need-finished-size-requires
 finished-size-requires c κs = search needs

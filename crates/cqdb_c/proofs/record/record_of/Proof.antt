@@ -6,15 +6,15 @@ use borrow.Author.Needs.{needs}
 use Rattle.cqdb_c.proofs.record.record_of.Statement.{statement}
 use Rattle.cqdb_c.proofs.record.record_of.Tie as tie
 
-mode-of-requires : tie.Need-mode-of-requires
-mode-of-requires c κs = search needs
+flag-word-requires : tie.Need-flag-word-requires
+flag-word-requires c κs = search needs
 
 returns : tie.Need-returns
 returns c =
     let w = c .before .args .w in
     ap {B = Record}
     (λ (m : ℕ). record { mode = m; entries = w .entries; back = w .back; length = w .length; end = w .end })
-    (c .mode-of .ensures)
+    (c .flag-word .ensures)
 
 pub record-of-spec : {M : Type 1} → statement M
-record-of-spec = tie.close (tie.spec mode-of-requires returns)
+record-of-spec = tie.close (tie.spec flag-word-requires returns)

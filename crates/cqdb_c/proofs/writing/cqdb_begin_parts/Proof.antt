@@ -35,8 +35,8 @@ enum-known-begun c = search needs
 record-of-requires : tie.Need-record-of-requires
 record-of-requires c κs = search needs
 
-enum-told : tie.Need-enum-told
-enum-told c = search needs
+enum-known-begun-2 : tie.Need-enum-known-begun-2
+enum-known-begun-2 c = search needs
 
 not-begun-requires-2 : tie.Need-not-begun-requires-2
 not-begun-requires-2 c κs = search needs
@@ -51,11 +51,12 @@ returns-2 c =
 
 returns-3 : tie.Need-returns-3
 returns-3 c =
-    let a = c .before .before .before .before .before .before .before .before .args in
-    let of-mode-of = c .before .before .before .before .before .mode-of in
-    let of-begin = c .before .before .before .begin in
-    let told = begin-known (a .mode) (length (a .buf .now)) (a .counts .now) (of-begin .last .1 .0) (of-mode-of .result) (begunOf (of-begin .result)) (c .before .before .before .before .before .before .if1 .left) (of-mode-of .ensures) (of-begin .ensures .0) (of-begin .ensures .1) in
-    (c .not-begun2 .ensures ∙ ap (λ (b : Begun). begunAnswer (begunOf b)) (sym (c .before .enum-told .given .1)) ∙ told .0, told .1)
+    let a = c .before .before .before .before .before .before .before .before .before .args in
+    let of-mode-of = c .before .before .before .before .before .before .mode-of in
+    let of-begin = c .before .before .before .before .begin in
+    let told = begin-known (a .mode) (length (a .buf .now)) (a .counts .now) (of-begin .last .1 .0) (of-mode-of .result) (begunOf (of-begin .result))
+    (c .before .before .before .before .before .before .before .if1 .left) (of-mode-of .ensures) (of-begin .ensures .0) (of-begin .ensures .1) in
+    (c .not-begun2 .ensures ∙ ap (λ (b : Begun). begunAnswer (begunOf b)) (sym (c .before .before .begun2 .given .1)) ∙ told .0, told .1)
 
 pub cqdb-begin-parts-spec : {M : Type 1} → statement M
 cqdb-begin-parts-spec =
@@ -67,7 +68,7 @@ cqdb-begin-parts-spec =
     begin-requires
     enum-known-begun
     record-of-requires
-    enum-told
+    enum-known-begun-2
     not-begun-requires-2
     returns-2
     returns-3)

@@ -1,5 +1,5 @@
 -- `cqdb_c::writing::cqdb_put_parts` meets its contract: what `put` promises, put into the struct. Assumes nothing.
-use Rattle.writer.specs.Put.{entryOf, storedOf}
+use Rattle.writer.specs.Put.{entryOf}
 use Rattle.cqdb_c.specs.Record.{held}
 use Rattle.cqdb_c.proofs.Calls.{put-unknown, put-known}
 use borrow.Author.Needs.{needs}
@@ -17,9 +17,6 @@ writer-of-requires c κs = search needs
 put-requires : tie.Need-put-requires
 put-requires c κs = search needs
 
-put-number-requires : tie.Need-put-number-requires
-put-number-requires c κs = search needs
-
 record-of-requires : tie.Need-record-of-requires
 record-of-requires c κs = search needs
 
@@ -28,12 +25,12 @@ same-length c = search needs
 
 returns-2 : tie.Need-returns-2
 returns-2 c =
-    let a = c .before .before .before .before .before .before .before .before .before .before .before .before .before .args in
-    let of-put = c .before .before .before .before .before .put in
-    let of-writer-of = c .before .before .before .before .before .before .before .before .writer-of in
+    let a = c .before .before .before .before .before .before .before .before .before .before .before .before .args in
+    let of-put = c .before .before .before .before .put in
+    let of-writer-of = c .before .before .before .before .before .before .before .writer-of in
     put-known (held (a .w) (a .counts .now) (a .buf .now)) (entryOf (a .name .now) (a .id)) (of-writer-of .result) (of-put .result .writer) (c .record-of .result)
-    (of-put .last .1 .0) (of-put .last .1 .1 .0) (storedOf (of-put .result .answer)) (c .before .put-number .result)
-    (c .before .before .before .before .before .before .before .before .before .if1 .left) (of-writer-of .ensures) (of-put .ensures .0) (of-put .ensures .1) (c .before .put-number .ensures) (c .record-of .ensures)
+    (of-put .last .1 .0) (of-put .last .1 .1 .0) (of-put .result .refusal)
+    (c .before .before .before .before .before .before .before .before .if1 .left) (of-writer-of .ensures) (of-put .ensures .0) (of-put .ensures .1) (c .record-of .ensures)
 
 pub cqdb-put-parts-spec : {M : Type 1} → statement M
 cqdb-put-parts-spec =
@@ -42,7 +39,6 @@ cqdb-put-parts-spec =
     returns
     writer-of-requires
     put-requires
-    put-number-requires
     record-of-requires
     same-length
     returns-2)

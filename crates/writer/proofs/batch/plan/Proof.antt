@@ -7,14 +7,14 @@ use mathlib.Core.List.{List}
 use lib.ListN.{take, drop}
 use Rattle.jhash.proofs.Outcomes.{told-image-hash}
 use Rattle.image.specs.Stored.{between}
-use Rattle.writer.proofs.Between.{Front, front, length-between}
+use Rattle.image.proofs.Between.{Front, front, length-between}
 use Rattle.writer.proofs.Noting.{Planned, plan-start, plan-turn}
 use Rattle.writer.proofs.batch.plan.Statement.{statement}
 use Rattle.writer.proofs.batch.plan.Tie as tie
 use Rattle.writer.proofs.batch.plan.Reads as reads
 use Rattle.writer.proofs.batch.plan.Lts as lts
 use Rattle.jhash.proofs.name_hash.Reads as name-hash-reads
-use Rattle.writer.proofs.check.whole_length.Reads as whole-length-reads
+use Rattle.image.proofs.entries.whole_length.Reads as whole-length-reads
 use Rattle.writer.proofs.batch.place_of.Reads as place-of-reads
 
 abbrev Inv-loop : tie.InvT-loop

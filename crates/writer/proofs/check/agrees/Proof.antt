@@ -16,7 +16,7 @@ use Rattle.writer.proofs.check.agrees.Tie as tie
 use Rattle.writer.proofs.check.agrees.Reads as reads
 use Rattle.writer.proofs.check.agrees.Lts as lts
 use Rattle.writer.proofs.check.same_counts.Reads as same-counts-reads
-use Rattle.writer.proofs.check.walk.Reads as walk-reads
+use Rattle.image.proofs.entries.walk.Reads as walk-reads
 use Rattle.writer.proofs.record.back_in.Reads as back-in-reads
 
 walk-requires : tie.Need-walk-requires

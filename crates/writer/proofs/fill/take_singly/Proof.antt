@@ -6,13 +6,13 @@ use mathlib.Core.Path.{_≡_, refl, _∙_}
 use lib.ListN.{length}
 use Rattle.image.specs.Stored.{between}
 use Rattle.writer.specs.steps.Working.{takenFrom}
-use Rattle.writer.proofs.Between.{Front, front, length-between}
+use Rattle.image.proofs.Between.{Front, front, length-between}
 use Rattle.writer.proofs.Taking.{from-broken, from-turn, from-none}
 use Rattle.writer.proofs.fill.take_singly.Statement.{statement}
 use Rattle.writer.proofs.fill.take_singly.Tie as tie
 use Rattle.writer.proofs.fill.take_singly.Reads as reads
 use Rattle.writer.proofs.fill.take_singly.Lts as lts
-use Rattle.writer.proofs.check.whole_length.Reads as whole-length-reads
+use Rattle.image.proofs.entries.whole_length.Reads as whole-length-reads
 use Rattle.writer.proofs.fill.take_entry.Reads as take-entry-reads
 
 abbrev Inv-loop : tie.InvT-loop

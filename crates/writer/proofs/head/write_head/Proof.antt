@@ -31,7 +31,7 @@ same-length c = search needs
 returns : tie.Need-returns
 returns c =
     let a = c .before .before .before .before .before .before .before .before .before .before .before .before .before .before .before .before .before .before .before .before .before .before .before .before .before .args in
-    head-stored (a .buf .now) (c .before .before .before .before .before .before .before .before .before .before .before .before .before .before .before .before .before .before .before .before .before .before .put-u32 .last .0) (c .before .before .before .before .before .before .before .before .before .before .before .before .before .before .before .before .before .before .put-u322 .last .0) (c .before .before .before .before .before .before .before .before .before .before .before .before .before .before .put-u323 .last .0) (c .before .before .before .before .before .before .before .before .before .before .put-u324 .last .0) (c .before .before .before .before .before .before .put-u325 .last .0) (c .before .before .put-u326 .last .0) (a .size) (a .mode) (a .back) (a .back-at) (c .before .before .before .before .before .before .before .before .before .before .before .before .before .before .before .before .before .before .before .before .before .before .put-u32 .ensures) (c .before .before .before .before .before .before .before .before .before .before .before .before .before .before .before .before .before .before .put-u322 .ensures) (c .before .before .before .before .before .before .before .before .before .before .before .before .before .before .put-u323 .ensures) (c .before .before .before .before .before .before .before .before .before .before .put-u324 .ensures) (c .before .before .before .before .before .before .put-u325 .ensures) (c .before .before .put-u326 .ensures)
+    head-stored (a .buf .now) (c .before .before .before .before .before .before .before .before .before .before .before .before .before .before .before .before .before .before .before .before .before .before .put-u32 .last .0) (c .before .before .before .before .before .before .before .before .before .before .before .before .before .before .before .before .before .before .put-u322 .last .0) (c .before .before .before .before .before .before .before .before .before .before .before .before .before .before .put-u323 .last .0) (c .before .before .before .before .before .before .before .before .before .before .put-u324 .last .0) (c .before .before .before .before .before .before .put-u325 .last .0) (c .before .before .put-u326 .last .0) (a .size) (a .flag) (a .back) (a .back-at) (c .before .before .before .before .before .before .before .before .before .before .before .before .before .before .before .before .before .before .before .before .before .before .put-u32 .ensures) (c .before .before .before .before .before .before .before .before .before .before .before .before .before .before .before .before .before .before .put-u322 .ensures) (c .before .before .before .before .before .before .before .before .before .before .before .before .before .before .put-u323 .ensures) (c .before .before .before .before .before .before .before .before .before .before .put-u324 .ensures) (c .before .before .before .before .before .before .put-u325 .ensures) (c .before .before .put-u326 .ensures)
 
 pub write-head-spec : {M : Type 1} → statement M
 write-head-spec =

@@ -1,12 +1,12 @@
--- `writer::check::whole_length` meets its contract. Assumes nothing.
+-- `image::entries::whole_length` meets its contract. Assumes nothing.
 use native.Mathlib.Omega.{arith}
-use Rattle.writer.proofs.Between.{short-there, none-there, cut-there, open-there, whole-there}
+use Rattle.image.proofs.Between.{short-there, none-there, cut-there, open-there, whole-there}
 use borrow.Author.Needs.{needs}
-use Rattle.writer.proofs.check.whole_length.Statement.{statement}
-use Rattle.writer.proofs.check.whole_length.Tie as tie
-use Rattle.writer.proofs.check.whole_length.Reads as reads
-use Rattle.writer.proofs.check.whole_length.Lts as lts
+use Rattle.image.proofs.entries.whole_length.Statement.{statement}
+use Rattle.image.proofs.entries.whole_length.Tie as tie
+use Rattle.image.proofs.entries.whole_length.Reads as reads
+use Rattle.image.proofs.entries.whole_length.Lts as lts
 use Rattle.image.proofs.get_u32.Reads as get-u32-reads
 
 sub-if1 : tie.Need-sub-if1
 sub-if1 c = search needs

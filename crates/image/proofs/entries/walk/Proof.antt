@@ -1,26 +1,26 @@
--- `writer::check::walk` meets its contract. Assumes nothing.
+-- `image::entries::walk` meets its contract. Assumes nothing.
 use lib.ListN.{take, drop, length-take}
 use Rattle.image.specs.Tables.{tableOf}
 use Rattle.jhash.proofs.Outcomes.{told-refused, told-image-hash}
 use borrow.Author.Needs.{needs}
 use Prim.Native.Nat.{_+_}
 use mathlib.Core.Path.{sym, _∙_}
 use Rattle.image.proofs.Bools.{not-both}
 use Rattle.image.specs.Stored.{between}
-use Rattle.writer.proofs.Between.{Front, front, length-between}
+use Rattle.image.proofs.Between.{Front, front, length-between}
 use native.Mathlib.Omega.{arith}
 use Prim.Native.Nat.{ℕ, _<_, _≤_, _-_}
 use mathlib.Core.Path.{_≡_, refl}
-use Rattle.writer.proofs.EntryWalk.{Rest, walk-start, walk-turn, walk-broken, walk-end}
-use Rattle.writer.proofs.check.walk.Statement.{statement}
-use Rattle.writer.proofs.check.walk.Tie as tie
-use Rattle.writer.proofs.check.walk.Reads as reads
-use Rattle.writer.proofs.check.walk.Lts as lts
+use Rattle.image.proofs.EntryWalk.{Rest, walk-start, walk-turn, walk-broken, walk-end}
+use Rattle.image.proofs.entries.walk.Statement.{statement}
+use Rattle.image.proofs.entries.walk.Tie as tie
+use Rattle.image.proofs.entries.walk.Reads as reads
+use Rattle.image.proofs.entries.walk.Lts as lts
 use Rattle.image.proofs.get_u32.Reads as get-u32-reads
 use Rattle.jhash.proofs.name_hash.Reads as name-hash-reads
-use Rattle.writer.proofs.check.whole_length.Reads as whole-length-reads
-use Rattle.writer.proofs.record.larger.Reads as larger-reads
-use Rattle.writer.proofs.record.raise.Reads as raise-reads
+use Rattle.image.proofs.entries.whole_length.Reads as whole-length-reads
+use Rattle.image.proofs.entries.larger.Reads as larger-reads
+use Rattle.image.proofs.entries.raise.Reads as raise-reads
 
 abbrev Inv-loop : tie.InvT-loop
 Inv-loop buf end entries counts₀ at₀ left₀ back₀ counts at left back = Rest buf end entries counts₀ at left back counts

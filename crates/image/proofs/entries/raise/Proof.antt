@@ -1,9 +1,9 @@
--- `writer::record::raise` meets its contract. Assumes nothing.
+-- `image::entries::raise` meets its contract. Assumes nothing.
 use mathlib.Core.Path.{refl}
 use Rattle.image.specs.Tally.{raisedCounts}
 use borrow.Author.Needs.{needs}
-use Rattle.writer.proofs.record.raise.Statement.{statement}
-use Rattle.writer.proofs.record.raise.Tie as tie
+use Rattle.image.proofs.entries.raise.Statement.{statement}
+use Rattle.image.proofs.entries.raise.Tie as tie
 
 cast-t : tie.Need-cast-t
 cast-t c = search needs

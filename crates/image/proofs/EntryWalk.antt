@@ -10,12 +10,12 @@ use lib.Seq.{getD-set-same, getD-set-other, set-out}
 use lib.Dec.{eqb}
 use borrow.Author.Tests.{eq-eqb, ne-eqb}
 use Rattle.jhash.specs.NameHash.{hashOf}
 use Rattle.image.specs.Bytes.{word}
 use Rattle.image.specs.Tables.{tableOf}
 use Rattle.image.specs.Image.{Entry, backSize}
 use Rattle.image.specs.Stored.{firstWhole, firstEntry, afterFirst, whole, entriesIn, between, wholeLength}
 use Rattle.image.specs.Tally.{tallied, raisedCounts, countsAfter}
-use Rattle.writer.proofs.Between.{Front, front, not-whole, length-between, drop-between, word-between, name-between}
+use Rattle.image.proofs.Between.{Front, front, not-whole, length-between, drop-between, word-between, name-between}
 
 -- one more in one table raises no count by more than one
 set-one : (l : List ℕ) (u : ℕ) → getD (set l u (getD l u 0 + 1)) u 0 ≤ getD l u 0 + 1

@@ -1,0 +1,110 @@
+// The entries that bytes hold: whether the one at a place is broken, or whole, and a walk over them that counts them by table.
+ghost use mathlib.Core.Path.{_≡_};
+ghost use mathlib.Core.Bool.{true};
+ghost use Prim.Native.Nat.{ℕ, _+_, _-_, _<_, _≤_, max};
+ghost use lib.ListN.{length, getD};
+ghost use Rattle.image.specs.Tables.{tableOf};
+ghost use Rattle.image.specs.Image.{backSize};
+ghost use Rattle.image.specs.Stored.{broken, whole, entriesIn, between, wholeLength};
+ghost use Rattle.image.specs.Tally.{raisedCounts, tallied};
+use jhash::word::word;
+
+// A length word minus 1; of 0 the largest number of all, more than any image has room for.
+fn less_one(len: u32) -> u64
+    ensures { λ r. ⌜ ((len ≡ 0 → r ≡ 18446744073709551615) × (0 < len → r ≡ len - 1)) ⌝ }
+{
+    std::num::wrapping_sub_u64(len as u64, 1)
+}
+
+// Does the entry at `at` leave the image with its first 8 bytes or its name, or is its length word 0? The last two are one
+// comparison.
+pub fn broken(image: &[u8], at: u32) -> bool
+    ensures { λ r. ⌜ r ≡ broken (now (image .entry)) at ⌝ }
+{
+    let start = at as usize + 8;
+    if image.len() < start {
+        return true;
+    }
+    let room = image.len() - start;
+    (room as u64) < less_one(word(image, at as usize + 4))
+}
+
+// The larger of two numbers.
+pub fn larger(a: u64, b: u64) -> u64
+    ensures { λ r. ⌜ r ≡ max a b ⌝ }
+{
+    if a < b { b } else { a }
+}
+
+// One more in the table of a hash.
+pub fn raise(counts: &mut [u32; 256], h: u32)
+    requires { ⌜ getD (now counts) (tableOf h) 0 < 4294967295 ⌝ }
+    ensures { λ _. ⌜ now (counts .exit) ≡ raisedCounts (now (counts .entry)) h ⌝ }
+{
+    let t = (h % 256) as usize;
+    let c = counts[t];
+    counts[t] = c + 1;
+}
+
+// What a walk over the entries found: whether they are whole, and the back size that they have.
+pub struct Walked {
+    pub whole: bool,
+    pub back: u64,
+}
+
+// The length word of the entry at `at`, 0 where it is not whole before `end`.
+pub fn whole_length(buf: &[u8], at: usize, end: usize) -> usize
+    requires { ⌜ (at ≤ end) × (end ≤ length (now buf)) ⌝ }
+    ensures { λ r. ⌜ (r ≡ wholeLength (between (now (buf .entry)) at end)) × (r < 4294967296) ⌝ }
+{
+    if end - at < 8 {
+        return 0;
+    }
+    let n = super::get_u32(buf, at + 4) as usize;
+    if n == 0 {
+        return 0;
+    }
+    if end - at < 8 + n {
+        return 0;
+    }
+    if buf[at + 7 + n] != 0 {
+        return 0;
+    }
+    n
+}
+
+// Walks `entries` entries from 2,072 on and counts them by table.
+pub fn walk(buf: &[u8], end: usize, entries: u32, counts: &mut [u32; 256]) -> Walked
+    requires { ⌜ (2072 ≤ end) × (end ≤ length (now buf)) × ((t : ℕ) → getD (now counts) t 0 ≡ 0) ⌝ }
+    ensures whole { λ r. ⌜ r .whole ≡ whole entries (between (now (buf .entry)) 2072 end) ⌝ }
+    ensures back { λ r. ⌜ (r .whole ≡ true → r .back ≡ backSize (entriesIn entries (between (now (buf .entry)) 2072 end))) ⌝ }
+    ensures counts { λ r. ⌜ (r .whole ≡ true → now (counts .exit) ≡ tallied (now (counts .entry)) (entriesIn entries (between (now (buf .entry)) 2072 end))) ⌝ }
+{
+    let mut at = 2072;
+    let mut left = entries;
+    let mut back: u64 = 0;
+    while left > 0 {
+        let n = whole_length(buf, at, end);
+        if n == 0 {
+            return Walked {
+                whole: false,
+                back: 0,
+            };
+        }
+        let name = &buf[at + 8..at + 7 + n];
+        let jhash::Hashed::Hash(h) = jhash::name_hash(name) else {
+            return Walked {
+                whole: false,
+                back: 0,
+            };
+        };
+        raise(&mut *counts, h);
+        back = larger(back, super::get_u32(buf, at) as u64 + 1);
+        at += 8 + n;
+        left -= 1;
+    }
+    Walked {
+        whole: at == end,
+        back,
+    }
+}
