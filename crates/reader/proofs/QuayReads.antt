@@ -33,28 +33,36 @@ unfoldable rowLeaves : ℕ → ℕ → List ℕ → Bool
 rowLeaves size zero l = false
 rowLeaves size (suc m) l = (ltb 0 (word l 0) && ltb size (word l 0 + 8 * word l 4)) || rowLeaves size m (drop 8 l)
 
+-- what is left of an image from table t's row on
+abbrev fromRow : List ℕ → ℕ → List ℕ
+fromRow image t = drop (24 + 8 * t) image
+
 module _ (image : List ℕ) (t : ℕ) where
-  at-row : word image (24 + 8 * t) ≡ word (drop (24 + 8 * t) image) 0
+  at-row : word image (24 + 8 * t) ≡ word (fromRow image t) 0
   at-row = let e : 24 + 8 * t ≡ 24 + 8 * t + 0 = omega arith in ap (word image) e ∙ sym (word-drop image (24 + 8 * t) 0)
 
-  number-row : word image (28 + 8 * t) ≡ word (drop (24 + 8 * t) image) 4
+  number-row : word image (28 + 8 * t) ≡ word (fromRow image t) 4
   number-row = let e : 28 + 8 * t ≡ 24 + 8 * t + 4 = omega arith in ap (word image) e ∙ sym (word-drop image (24 + 8 * t) 4)
 
-  next-row : drop (24 + 8 * suc t) image ≡ drop 8 (drop (24 + 8 * t) image)
+  next-row : fromRow image (suc t) ≡ drop 8 (fromRow image t)
   next-row = let e : 24 + 8 * suc t ≡ 24 + 8 * t + 8 = omega arith in ap (λ (k : ℕ). drop k image) e ∙ sym (drop-drop 8 (24 + 8 * t) image)
 
-halves-rows : (image : List ℕ) (m t : ℕ) → halves image t m ≡ rowHalves m (drop (24 + 8 * t) image)
+halves-rows : (image : List ℕ) (m t : ℕ) → halves image t m ≡ rowHalves m (fromRow image t)
 unfolding halves rowHalves
 halves-rows image zero t = refl
 halves-rows image (suc m) t =
-    (λ i. number-row image t i / 2 + halves-rows image m (suc t) i) ∙ ap (λ (l : List ℕ). word (drop (24 + 8 * t) image) 4 / 2 + rowHalves m l) (next-row image t)
+    (λ i. number-row image t i / 2 + halves-rows image m (suc t) i)
+    ∙ ap (λ (l : List ℕ). word (fromRow image t) 4 / 2 + rowHalves m l) (next-row image t)
 
-leaves-rows : (image : List ℕ) (m t : ℕ) → someLeaves image t m ≡ rowLeaves (length image) m (drop (24 + 8 * t) image)
+leaves-rows : (image : List ℕ) (m t : ℕ) → someLeaves image t m ≡ rowLeaves (length image) m (fromRow image t)
 unfolding someLeaves rowLeaves
 leaves-rows image zero t = refl
 leaves-rows image (suc m) t =
     (λ i. (ltb 0 (at-row image t i) && ltb (length image) (at-row image t i + 8 * number-row image t i)) || leaves-rows image m (suc t) i)
-    ∙ ap (λ (l : List ℕ). (ltb 0 (word (drop (24 + 8 * t) image) 0) && ltb (length image) (word (drop (24 + 8 * t) image) 0 + 8 * word (drop (24 + 8 * t) image) 4)) || rowLeaves (length image) m l) (next-row image t)
+    ∙ ap (λ (l : List ℕ). leaves (word (fromRow image t) 0) (word (fromRow image t) 4) || rowLeaves (length image) m l) (next-row image t)
+  where
+    leaves : ℕ → ℕ → Bool
+    leaves o n = ltb 0 o && ltb (length image) (o + 8 * n)
 
 -- opening a head
 opens : (rows : List ℕ) (n : ℕ) → ltb (length (headOf rows)) 2072 ≡ false → rowLeaves (length (headOf rows)) 256 (drop 24 (headOf rows)) ≡ false
@@ -76,7 +84,8 @@ one-read : (image name : List ℕ) (o : ℕ) (seen : Seen) → 2072 ≤ length i
     → lookup image name ≡ decide seen 1 (nothing 1)
 one-read image name o seen head short offset above one inside sees =
     sym (lookup-by image name false false (le-ltb (length image) 2072 head) (lt-leb 4294967295 (length name) short))
-    ∙ sym (lookup-hash-by image name h o 1 false false false offset one (ne-eqb o 0 (λ z. omega arith)) refl (le-ltb (length image) (o + 8 * 1) (omega arith)))
+    ∙ sym
+    (lookup-hash-by image name h o 1 false false false offset one (ne-eqb o 0 (λ z. omega arith)) refl (le-ltb (length image) (o + 8 * 1) (omega arith)))
     ∙ sym (rest-start image name h o 1)
     ∙ ap (λ (k : ℕ). rest image name h o 1 k 1) (mod-one (h / 256))
     ∙ sym (rest-seen image name h o 1 0 1 seen (omega arith) (omega arith) (sees ∙ ap (see image name h) bucket))
@@ -91,13 +100,16 @@ one-read image name o seen head short offset above one inside sees =
 one-passed : (image name : List ℕ) → OneTaken image name → lookup image name ≡ nothing 1
 one-passed image name r =
     one-read image name o pass (r .head) (r .short) (r .offset) (r .above) (r .one) (r .inside)
-    (see-by image name (word image (o + 4)) h o false false refl (ne-eqb (word image (o + 4)) 0 (λ z. apart (word image (o + 4)) (r .entry) z)) (ne-eqb (word image o) h (r .other)))
+    (see-by image name w h o false false refl (ne-eqb w 0 (λ z. apart w (r .entry) z)) (ne-eqb (word image o) h (r .other)))
   where
     h : ℕ
     h = hashOf name
 
     o : ℕ
     o = r .at
+
+    w : ℕ
+    w = word image (o + 4)
 
     apart : (x : ℕ) → 0 < x → x ≡ 0 → ⊥
     apart x l e = omega arith
