@@ -57,3 +57,15 @@ countIn text room = cond (isBytes text room) (bytes.Count (length text / 2)) byt
 unfoldable pub afterDecode : List ℕ → List ℕ → List ℕ
 unfolding isBytes bytesIn
 afterDecode text out = cond (isBytes text (length out)) (sets out 0 (bytesIn text)) out
+
+-- what a text that is a number gives, or a text of another form
+abbrev pub ofNumber : {A : Type 0} → Number → A → (ℕ → A) → A
+ofNumber (number.Value n) bad f = f n
+ofNumber number.Bad bad f = bad
+
+unfoldable pub withNumber : {A : Type 0} → List ℕ → A → (ℕ → A) → A
+withNumber text bad f = ofNumber (wordIn text) bad f
+
+-- what a text that is bytes gives, no more than there is room for, or another text
+unfoldable pub withBytes : {A : Type 0} → ℕ → List ℕ → A → (List ℕ → A) → A
+withBytes room text bad f = cond (isBytes text room) (f (bytesIn text)) bad

@@ -1,4 +1,4 @@
--- How many lines had each verdict.
+-- The verdicts on lines, and how many lines had each.
 use Prim.Native.Nat.{ℕ, _+_}
 use mathlib.Core.Bool.{Bool, true, false, cond}
 use lib.Dec.{ltb}
@@ -10,6 +10,10 @@ use Rattle.replay_lines.specs.declared.Verdict.the-variants.{Equal, Diff
 abbrev pub verdictIf : Bool → Verdict
 verdictIf true = Equal
 verdictIf false = Different
+
+-- no line yet
+abbrev pub noLines : Counts
+noLines = record { equal = 0; different = 0; malformed = 0 }
 
 -- one more; the largest number of 64 bits stays
 abbrev pub more : ℕ → ℕ

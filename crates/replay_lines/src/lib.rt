@@ -1,9 +1,11 @@
 // What the programs that replay stored answers share: numbers and bytes written as hexadecimal digits, the verdict on a
 // line, and how many lines had each.
 pub mod hex; // hex.rt: word, decode
-pub mod words; // words.rt: tag, after
+pub mod lines; // lines.rt: begin, line, noted
+pub mod words; // words.rt: until, past, first, second, third, skipped, tag
 
 ghost use mathlib.Core.Path.{_≡_};
+ghost use Rattle.image.specs.Bytes.{same};
 ghost use Rattle.replay_lines.specs.Verdicts.{more, verdictIf, countedWith};
 use libc::STDOUT_FILENO;
 
@@ -28,6 +30,13 @@ pub enum Verdict {
     Silent,
 }
 
+// Are two byte strings equal?
+pub fn same(a: &[u8], b: &[u8]) -> bool
+    ensures { λ r. ⌜ r ≡ same (now (a .entry)) (now (b .entry)) ⌝ }
+{
+    check::same(a, b)
+}
+
 // Whether an answer is the stored one.
 pub fn equal_if(same: bool) -> Verdict
     ensures { λ r. ⌜ r ≡ verdictIf same ⌝ }
@@ -46,6 +55,12 @@ pub struct Counts {
     pub malformed: u64,
 }
 
+// How far a replay is: the place of the next line, and the counts so far.
+pub struct Progress {
+    pub at: usize,
+    pub counts: Counts,
+}
+
 // One more; the largest number stays.
 fn one_more(n: u64) -> u64
     ensures { λ r. ⌜ r ≡ more n ⌝ }
@@ -53,19 +68,8 @@ fn one_more(n: u64) -> u64
     if n < u64::MAX { n + 1 } else { n }
 }
 
-// No line yet.
-pub fn no_lines() -> Counts
-    ensures { λ r. ⌜ r ≡ record { equal = 0; different = 0; malformed = 0 } ⌝ }
-{
-    Counts {
-        equal: 0,
-        different: 0,
-        malformed: 0,
-    }
-}
-
 // One verdict more.
-pub fn counted(c: Counts, v: Verdict) -> Counts
+fn counted(c: Counts, v: Verdict) -> Counts
     ensures { λ r. ⌜ r ≡ countedWith c v ⌝ }
 {
     match v {
@@ -101,7 +105,7 @@ fn print_line(label: &[u8], line: &[u8]) {
 }
 
 // Writes a line out whose verdict is that it is different or malformed.
-pub fn report(line: &[u8], v: Verdict) {
+fn report(line: &[u8], v: Verdict) {
     match v {
         Verdict::Equal => {}
         Verdict::Different => print_line(b"different: ", line),

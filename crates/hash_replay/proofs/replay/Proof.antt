@@ -1,58 +1,53 @@
--- `hash_replay::replay` is safe and ends. The measure is what is left of the text. Assumes nothing.
-use mathlib.Core.Path.{_≡_}
-use Prim.Native.Nat.{_-_}
-use lib.ListN.{length}
-use borrow.Author.Needs.{needs}
 use Rattle.hash_replay.proofs.replay.Statement.{statement}
 use Rattle.hash_replay.proofs.replay.Tie as tie
+use Rattle.hash_replay.proofs.replay.Reads as reads
+use Rattle.hash_replay.proofs.replay.Lts as lts
+use Rattle.hash_replay.proofs.verdict_of.Reads as verdict-of-reads
+use Rattle.replay_lines.proofs.lines.begin.Reads as begin-reads
+use Rattle.replay_lines.proofs.lines.line.Reads as line-reads
+use Rattle.replay_lines.proofs.lines.noted.Reads as noted-reads
 
 abbrev Inv-loop : tie.InvT-loop
-Inv-loop text room₀ counts₀ at₀ room counts at = length room ≡ length room₀
+Inv-loop text room₀ p₀ room p = ?
 
 abbrev μ-loop : tie.MeasureT-loop
-μ-loop text room₀ counts₀ at₀ room counts at = length text - at
+μ-loop text room₀ p₀ room p = ?
 
-no-lines-requires : tie.Need-no-lines-requires Inv-loop μ-loop
-no-lines-requires c κs = search needs
+-- src/main.rt:53:9
+begin-requires : tie.Need-begin-requires Inv-loop μ-loop
+begin-requires c κs = ?
 
+-- src/main.rt:54:5
 loop-holds : tie.Need-loop-holds Inv-loop μ-loop
-loop-holds c = search needs
+loop-holds c = ?
 
-find-requires : tie.Need-find-requires Inv-loop μ-loop
-find-requires c κs = search needs
+-- src/main.rt:55:34
+line-requires : tie.Need-line-requires Inv-loop μ-loop
+line-requires c κs = ?
 
-sub-line : tie.Need-sub-line Inv-loop μ-loop
-sub-line c = search needs
-
-part-line-start : tie.Need-part-line-start Inv-loop μ-loop
-part-line-start c = search needs
-
-part-line-end : tie.Need-part-line-end Inv-loop μ-loop
-part-line-end c = search needs
-
-add-at : tie.Need-add-at Inv-loop μ-loop
-add-at c = search needs
-
+-- src/main.rt:55:13
 verdict-of-requires : tie.Need-verdict-of-requires Inv-loop μ-loop
-verdict-of-requires c κs = search needs
+verdict-of-requires c κs = ?
 
-report-requires : tie.Need-report-requires Inv-loop μ-loop
-report-requires c κs = search needs
+-- src/main.rt:56:9
+noted-requires : tie.Need-noted-requires Inv-loop μ-loop
+noted-requires c κs = ?
 
-counted-requires : tie.Need-counted-requires Inv-loop μ-loop
-counted-requires c κs = search needs
-
+-- src/main.rt:54:5
 loop-less : tie.Need-loop-less Inv-loop μ-loop
-loop-less c = search needs
+loop-less c = ?
 
+-- src/main.rt:54:5
 loop-again : tie.Need-loop-again Inv-loop μ-loop
-loop-again c = search needs
+loop-again c = ?
 
+-- src/main.rt:50:1
 same-length : tie.Need-same-length Inv-loop μ-loop
-same-length c = search needs
+same-length c = ?
 
+-- src/main.rt:50:1
 returns : tie.Need-returns Inv-loop μ-loop
-returns c = search needs
+returns c = ?
 
 pub replay-spec : {M : Type 1} → statement M
 replay-spec =
@@ -60,16 +55,11 @@ replay-spec =
     (tie.spec
     Inv-loop
     μ-loop
-    no-lines-requires
+    begin-requires
     loop-holds
-    find-requires
-    sub-line
-    part-line-start
-    part-line-end
-    add-at
+    line-requires
     verdict-of-requires
-    report-requires
-    counted-requires
+    noted-requires
     loop-less
     loop-again
     same-length

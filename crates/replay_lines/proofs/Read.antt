@@ -1,0 +1,93 @@
+-- What a caller learns of a word that was read: a number, bytes, or neither; and of two byte strings that were compared. Assumes nothing.
+use Prim.Native.Nat.{ℕ, zero, suc, _+_, _-_, _/_, _≤_}
+use native.Mathlib.Omega.{arith}
+use mathlib.Core.Path.{_≡_, refl, sym, ap, _∙_}
+use mathlib.Core.Bool.{Bool, true, false, cond, _&&_}
+use mathlib.Core.List.{List, [], _∷_, _++_}
+use borrow.Author.Tests.{eq-eqb, eqb-true}
+use lib.Dec.{eqb}
+use lib.ListN.{length, take, drop}
+use lib.Seq.{sets, sets-eq, take-at}
+use Rattle.image.specs.Bytes.{same}
+use Rattle.replay_lines.specs.Hex.{wordIn, bytesIn, isBytes, countIn, afterDecode, ofNumber, withNumber, withBytes}
+use Rattle.replay_lines.proofs.Steps.{false-true, whole-bytes}
+use Rattle.replay_lines.specs.declared.Number.{Number}
+use Rattle.replay_lines.specs.declared.Number.the-variants as number
+use Rattle.replay_lines.specs.declared.Bytes.{Bytes}
+use Rattle.replay_lines.specs.declared.Bytes.the-variants as bytes
+
+-- a text that was read as a number, by what `word` promises of the answer r and what a match tells of it
+module _ {A : Type 0} (text : List ℕ) (bad : A) (f : ℕ → A) (r : Number) (promise : r ≡ wordIn text) where
+  pub is-number : (n : ℕ) → r ≡ number.Value n → withNumber text bad f ≡ f n
+  unfolding withNumber
+  is-number n told = ap (λ (x : Number). ofNumber x bad f) (sym promise ∙ told)
+
+  pub no-number : r ≡ number.Bad → withNumber text bad f ≡ bad
+  unfolding withNumber
+  no-number told = ap (λ (x : Number). ofNumber x bad f) (sym promise ∙ told)
+
+length-bytesIn : (text : List ℕ) → length (bytesIn text) ≡ length text / 2
+unfolding bytesIn
+length-bytesIn [] = refl
+length-bytesIn (h ∷ []) = refl
+length-bytesIn (h ∷ l ∷ rest) = let e : length (bytesIn rest) ≡ length rest / 2 = length-bytesIn rest in omega arith
+
+-- a text that was read as bytes, by what `decode` promises of the answer r and of `out`, and what a match tells of r
+module _ (text out : List ℕ) (n : ℕ) where
+  counted-in : (t : Bool) → cond t (bytes.Count (length text / 2)) bytes.Bad ≡ bytes.Count n → (t ≡ true) × (length text / 2 ≡ n)
+  counted-in true e = (refl, cc)
+  counted-in false e = absurd (false-true cc)
+
+  module _ (r : Bytes) (promise : r ≡ countIn text (length out)) where
+    pub are-bytes : r ≡ bytes.Count n → (isBytes text (length out) ≡ true) × (length text / 2 ≡ n)
+    unfolding countIn
+    are-bytes told = counted-in (isBytes text (length out)) (sym promise ∙ told)
+
+    -- the bytes stand at the start of `out`
+    pub room-for : r ≡ bytes.Count n → n ≤ length out
+    room-for told =
+        let a = are-bytes told in
+        let w = whole-bytes text (length out) (a .0) in
+        omega arith
+
+    module _ {A : Type 0} (bad : A) (f : List ℕ → A) where
+      pub is-bytes : (left : List ℕ) → left ≡ afterDecode text out → r ≡ bytes.Count n → withBytes (length out) text bad f ≡ f (take (n - 0) left)
+      unfolding withBytes afterDecode
+      is-bytes left leaves told =
+          let a = are-bytes told in
+          let short : 0 + length (bytesIn text) ≤ length out = omega (arith, length-bytesIn text, room-for told) in
+          let at : length (bytesIn text) ≡ n - 0 = omega (arith, length-bytesIn text) in
+          rw (leaves, a .0, sets-eq (bytesIn text) out 0 short, take-at (bytesIn text) (drop (0 + length (bytesIn text)) out) (n - 0) at)
+
+      pub no-bytes : r ≡ bytes.Bad → withBytes (length out) text bad f ≡ bad
+      unfolding withBytes countIn
+      no-bytes told = uncounted (isBytes text (length out)) (sym promise ∙ told)
+        where
+          uncounted : (t : Bool) → cond t (bytes.Count (length text / 2)) bytes.Bad ≡ bytes.Bad → cond t (f (bytesIn text)) bad ≡ bad
+          uncounted true e = absurd (false-true cc)
+          uncounted false e = refl
+
+-- two byte strings that were compared, by what `check::same` promises of the answer r
+same-self : (a : List ℕ) → same a a ≡ true
+unfolding same
+same-self [] = refl
+same-self (x ∷ xs) = rw (eq-eqb x x refl) (same-self xs)
+
+heads : (x y : ℕ) (xs ys : List ℕ) (t : Bool) → eqb x y ≡ t → (same xs ys ≡ true → xs ≡ ys) → t && same xs ys ≡ true → x ∷ xs ≡ y ∷ ys
+heads x y xs ys true e rest h = let p : x ≡ y = eqb-true x y e in let q : xs ≡ ys = rest h in cc
+heads x y xs ys false e rest h = absurd (false-true h)
+
+same-equal : (a b : List ℕ) → same a b ≡ true → a ≡ b
+unfolding same
+same-equal [] [] h = refl
+same-equal [] (y ∷ ys) h = absurd (false-true h)
+same-equal (x ∷ xs) [] h = absurd (false-true h)
+same-equal (x ∷ xs) (y ∷ ys) h = heads x y xs ys (eqb x y) refl (same-equal xs ys) h
+
+pub compared : (r : Bool) (a b : List ℕ) → (r ≡ true → a ≡ b) × (a ≡ b → r ≡ true) → r ≡ same a b
+compared true a b h = let e : a ≡ b = h .0 refl in rw e (sym (same-self b))
+compared false a b h = other (same a b) refl
+  where
+    other : (t : Bool) → same a b ≡ t → false ≡ t
+    other true e = h .1 (same-equal a b e)
+    other false e = refl
