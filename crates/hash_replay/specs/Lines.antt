@@ -16,15 +16,17 @@ abbrev pub hashIs : ℕ → Outcome → Bool
 hashIs want (hash h) = eqb h want
 hashIs want (refusal n) = false
 
--- a line agrees exactly when the rule gives its name, with its start value, the hash that the line stores. Names have as many bytes as there is room for
+-- start value, hash and name agree exactly when the rule gives the name, with this start value, this hash. A name has room for so many bytes
+unfoldable pub compared : ℕ → List ℕ → List ℕ → List ℕ → Verdict
+compared room start want name =
+    withNumber start Malformed (λ (s : ℕ).
+    withNumber want Malformed (λ (h : ℕ).
+    withBytes room name Malformed (λ (bytes : List ℕ).
+    verdictIf (hashIs h (hashOutcome bytes s)))))
+
 unfoldable pub verdict : ℕ → List ℕ → Verdict
-verdict room line =
-    cond (skipped line) Silent
-    (withNumber (first line) Malformed (λ (start : ℕ).
-    withNumber (second line) Malformed (λ (want : ℕ).
-    withBytes room (third line) Malformed (λ (name : List ℕ).
-    verdictIf (hashIs want (hashOutcome name start))))))
+verdict room line = cond (skipped line) Silent (compared room (first line) (second line) (third line))
 
 -- a line changes nothing: the room stays as long as it is
-unfoldable pub judge : ℕ → List ℕ → Judged ℕ
+abbrev pub judge : ℕ → List ℕ → Judged ℕ
 judge room line = judged room (verdict room line)

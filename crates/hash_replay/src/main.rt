@@ -5,7 +5,7 @@ ghost use mathlib.Core.Path.{_≡_};
 ghost use lib.ListN.{length};
 ghost use Rattle.jhash.specs.NameHash.{hashOutcome};
 ghost use Rattle.replay_lines.specs.Lines.{replayed};
-ghost use Rattle.hash_replay.specs.Lines.{hashIs, verdict, judge};
+ghost use Rattle.hash_replay.specs.Lines.{hashIs, compared, verdict, judge};
 use jhash::Hashed;
 use libc::STDIN_FILENO;
 use replay_lines::Bytes;
@@ -27,23 +27,35 @@ fn has_hash(name: &[u8], start: u32, want: u32) -> bool
     }
 }
 
-// The verdict on a line; `room` takes the name.
+// The verdict on a start value, a hash and a name; `room` takes the name.
+fn compare(start: &[u8], want: &[u8], name: &[u8], room: &mut [u8]) -> Verdict
+    ensures { λ r. ⌜ r ≡ compared (length (now (room .entry))) (now (start .entry)) (now (want .entry)) (now (name .entry)) ⌝ }
+{
+    let Number::Value(start) = hex::word(start) else {
+        return Verdict::Malformed;
+    };
+    let Number::Value(want) = hex::word(want) else {
+        return Verdict::Malformed;
+    };
+    let Bytes::Count(n) = hex::decode(name, &mut *room) else {
+        return Verdict::Malformed;
+    };
+    equal_if(has_hash(&room[0..n], start, want))
+}
+
+// The verdict on a line.
 fn verdict_of(line: &[u8], room: &mut [u8]) -> Verdict
     ensures { λ r. ⌜ r ≡ verdict (length (now (room .entry))) (now (line .entry)) ⌝ }
 {
     if words::skipped(line) {
         return Verdict::Silent;
     }
-    let Number::Value(start) = hex::word(words::first(line)) else {
-        return Verdict::Malformed;
-    };
-    let Number::Value(want) = hex::word(words::second(line)) else {
-        return Verdict::Malformed;
-    };
-    let Bytes::Count(n) = hex::decode(words::third(line), &mut *room) else {
-        return Verdict::Malformed;
-    };
-    equal_if(has_hash(&room[0..n], start, want))
+    compare(
+        words::first(line),
+        words::second(line),
+        words::third(line),
+        &mut *room,
+    )
 }
 
 // Every line of a text, compared.

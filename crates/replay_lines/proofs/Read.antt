@@ -32,40 +32,39 @@ length-bytesIn [] = refl
 length-bytesIn (h ∷ []) = refl
 length-bytesIn (h ∷ l ∷ rest) = let e : length (bytesIn rest) ≡ length rest / 2 = length-bytesIn rest in omega arith
 
--- a text that was read as bytes, by what `decode` promises of the answer r and of `out`, and what a match tells of r
-module _ (text out : List ℕ) (n : ℕ) where
-  counted-in : (t : Bool) → cond t (bytes.Count (length text / 2)) bytes.Bad ≡ bytes.Count n → (t ≡ true) × (length text / 2 ≡ n)
-  counted-in true e = (refl, cc)
-  counted-in false e = absurd (false-true cc)
+-- a text that was read as bytes, by what `decode` promises of the answer r and of what it leaves, and what a match tells of r
+module _ (text : List ℕ) (room : ℕ) (r : Bytes) (promise : r ≡ countIn text room) where
+  counted : (n : ℕ) (t : Bool) → cond t (bytes.Count (length text / 2)) bytes.Bad ≡ bytes.Count n → (t ≡ true) × (length text / 2 ≡ n)
+  counted n true e = (refl, cc)
+  counted n false e = absurd (false-true cc)
 
-  module _ (r : Bytes) (promise : r ≡ countIn text (length out)) where
-    pub are-bytes : r ≡ bytes.Count n → (isBytes text (length out) ≡ true) × (length text / 2 ≡ n)
-    unfolding countIn
-    are-bytes told = counted-in (isBytes text (length out)) (sym promise ∙ told)
+  are-bytes : (n : ℕ) → r ≡ bytes.Count n → (isBytes text room ≡ true) × (length text / 2 ≡ n)
+  unfolding countIn
+  are-bytes n told = counted n (isBytes text room) (sym promise ∙ told)
 
-    -- the bytes stand at the start of `out`
-    pub room-for : r ≡ bytes.Count n → n ≤ length out
-    room-for told =
-        let a = are-bytes told in
-        let w = whole-bytes text (length out) (a .0) in
-        omega arith
+  pub room-for : (n : ℕ) → r ≡ bytes.Count n → n ≤ room
+  room-for n told =
+      let a = are-bytes n told in
+      let w = whole-bytes text room (a .0) in
+      omega arith
 
-    module _ {A : Type 0} (bad : A) (f : List ℕ → A) where
-      pub is-bytes : (left : List ℕ) → left ≡ afterDecode text out → r ≡ bytes.Count n → withBytes (length out) text bad f ≡ f (take (n - 0) left)
-      unfolding withBytes afterDecode
-      is-bytes left leaves told =
-          let a = are-bytes told in
-          let short : 0 + length (bytesIn text) ≤ length out = omega (arith, length-bytesIn text, room-for told) in
-          let at : length (bytesIn text) ≡ n - 0 = omega (arith, length-bytesIn text) in
-          rw (leaves, a .0, sets-eq (bytesIn text) out 0 short, take-at (bytesIn text) (drop (0 + length (bytesIn text)) out) (n - 0) at)
+  pub no-bytes : {A : Type 0} (bad : A) (f : List ℕ → A) → r ≡ bytes.Bad → withBytes room text bad f ≡ bad
+  unfolding withBytes countIn
+  no-bytes {A} bad f told = uncounted (isBytes text room) (sym promise ∙ told)
+    where
+      uncounted : (t : Bool) → cond t (bytes.Count (length text / 2)) bytes.Bad ≡ bytes.Bad → cond t (f (bytesIn text)) bad ≡ bad
+      uncounted true e = absurd (false-true cc)
+      uncounted false e = refl
 
-      pub no-bytes : r ≡ bytes.Bad → withBytes (length out) text bad f ≡ bad
-      unfolding withBytes countIn
-      no-bytes told = uncounted (isBytes text (length out)) (sym promise ∙ told)
-        where
-          uncounted : (t : Bool) → cond t (bytes.Count (length text / 2)) bytes.Bad ≡ bytes.Bad → cond t (f (bytesIn text)) bad ≡ bad
-          uncounted true e = absurd (false-true cc)
-          uncounted false e = refl
+pub is-bytes : {A : Type 0} (text out left : List ℕ) (r : Bytes) (n : ℕ) (bad : A) (f : List ℕ → A)
+    → r ≡ countIn text (length out) → left ≡ afterDecode text out → r ≡ bytes.Count n
+    → withBytes (length out) text bad f ≡ f (take (n - 0) left)
+unfolding withBytes afterDecode
+is-bytes text out left r n bad f promise leaves told =
+    let a = are-bytes text (length out) r promise n told in
+    let short : 0 + length (bytesIn text) ≤ length out = omega (arith, length-bytesIn text, room-for text (length out) r promise n told) in
+    let at : length (bytesIn text) ≡ n - 0 = omega (arith, length-bytesIn text) in
+    rw (leaves, a .0, sets-eq (bytesIn text) out 0 short, take-at (bytesIn text) (drop (0 + length (bytesIn text)) out) (n - 0) at)
 
 -- two byte strings that were compared, by what `check::same` promises of the answer r
 same-self : (a : List ℕ) → same a a ≡ true

@@ -70,11 +70,16 @@ module _ {S : Type 0} (judge : S → List ℕ → Judged S) (s : S) (text : List
         ∙ ap (λ (rest : List ℕ). lineAt text (p .at) ∷ linesIn rest)
         (sym (behind 10 (drop (p .at) text)) ∙ drop-drop (suc n) (p .at) text ∙ ap (λ (k : ℕ). drop k text) sum)
 
-    -- a turn: the line is judged, and what is left then gives the same
-    pub turn : left judge (judge s (lineAt text (p .at)) .state) text (afterLine text p (judge s (lineAt text (p .at)) .verdict)) ≡ left judge s text p
+    turned : left judge (judge s (lineAt text (p .at)) .state) text (afterLine text p (judge s (lineAt text (p .at)) .verdict)) ≡ left judge s text p
     unfolding tally afterLine
-    turn = rw (lt-leb (length text) (p .at) h, next-lines)
+    turned = rw (lt-leb (length text) (p .at) h, next-lines)
 
-    pub nearer : (v : Verdict) → length text - afterLine text p v .at < length text - p .at
-    unfolding afterLine
-    nearer v = rw (lt-leb (length text) (p .at) h) (omega arith)
+    -- a turn: the next line is judged and noted, and what is left then gives the same
+    pub turn : (t : S) (v : Verdict) (q : Progress) → t ≡ judge s (lineAt text (p .at)) .state → v ≡ judge s (lineAt text (p .at)) .verdict
+        → q ≡ afterLine text p v → left judge t text q ≡ left judge s text p
+    turn t v q et ev eq = rw (eq, et, ev) turned
+
+-- each turn leaves less of the text
+pub nearer : (text : List ℕ) (p q : Progress) (v : Verdict) → p .at < length text → q ≡ afterLine text p v → length text - q .at < length text - p .at
+unfolding afterLine
+nearer text p q v h e = rw (e, lt-leb (length text) (p .at) h) (omega arith)

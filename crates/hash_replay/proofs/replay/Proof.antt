@@ -1,53 +1,61 @@
+-- `hash_replay::replay` meets its contract. The loop's invariant: the lines that are left bring the counts to those of the whole text. The measure
+-- is what is left of the text. Assumes nothing.
+use mathlib.Core.Path.{_≡_, refl, ap, ap₂, _∙_}
+use Prim.Native.Nat.{_-_}
+use lib.ListN.{length}
+use borrow.Author.Needs.{needs}
+use Rattle.replay_lines.specs.Lines.{replayed}
+use Rattle.replay_lines.proofs.Turns.{left, at-end, turn, nearer}
+use Rattle.hash_replay.specs.Lines.{verdict, judge}
 use Rattle.hash_replay.proofs.replay.Statement.{statement}
 use Rattle.hash_replay.proofs.replay.Tie as tie
-use Rattle.hash_replay.proofs.replay.Reads as reads
-use Rattle.hash_replay.proofs.replay.Lts as lts
-use Rattle.hash_replay.proofs.verdict_of.Reads as verdict-of-reads
-use Rattle.replay_lines.proofs.lines.begin.Reads as begin-reads
-use Rattle.replay_lines.proofs.lines.line.Reads as line-reads
-use Rattle.replay_lines.proofs.lines.noted.Reads as noted-reads
 
 abbrev Inv-loop : tie.InvT-loop
-Inv-loop text room₀ p₀ room p = ?
+Inv-loop text room₀ p₀ room p =
+    (length room ≡ length room₀) × (left judge (length room₀) text p ≡ replayed judge (length room₀) text)
 
 abbrev μ-loop : tie.MeasureT-loop
-μ-loop text room₀ p₀ room p = ?
+μ-loop text room₀ p₀ room p = length text - p .at
 
--- src/main.rt:53:9
 begin-requires : tie.Need-begin-requires Inv-loop μ-loop
-begin-requires c κs = ?
+begin-requires c κs = search needs
 
--- src/main.rt:54:5
 loop-holds : tie.Need-loop-holds Inv-loop μ-loop
-loop-holds c = ?
+loop-holds c = (refl, ap (left judge _ _) (c .begin .ensures))
 
--- src/main.rt:55:34
 line-requires : tie.Need-line-requires Inv-loop μ-loop
-line-requires c κs = ?
+line-requires c κs = search needs
 
--- src/main.rt:55:13
 verdict-of-requires : tie.Need-verdict-of-requires Inv-loop μ-loop
-verdict-of-requires c κs = ?
+verdict-of-requires c κs = search needs
 
--- src/main.rt:56:9
 noted-requires : tie.Need-noted-requires Inv-loop μ-loop
-noted-requires c κs = ?
+noted-requires c κs = search needs
 
--- src/main.rt:54:5
 loop-less : tie.Need-loop-less Inv-loop μ-loop
-loop-less c = ?
+loop-less c =
+    let test = c .before .before .before .before .before .before in
+    nearer _ (test .before .before .loop .p) _ _ (test .if1 .taken) (c .noted .ensures)
 
--- src/main.rt:54:5
 loop-again : tie.Need-loop-again Inv-loop μ-loop
-loop-again c = ?
+loop-again c =
+    let of-verdict = c .before .before .before in
+    let test = of-verdict .before .before .before in
+    let loop = test .before .before .loop in
+    (
+      search needs,
+      turn judge _ _ (loop .p) (test .if1 .taken) _ _ _ refl
+      (of-verdict .verdict-of .ensures ∙ ap₂ verdict (loop .inv .0) (of-verdict .before .before .line .ensures)) (c .noted .ensures)
+      ∙ loop .inv .1
+    )
 
--- src/main.rt:50:1
 same-length : tie.Need-same-length Inv-loop μ-loop
-same-length c = ?
+same-length c = search needs
 
--- src/main.rt:50:1
 returns : tie.Need-returns Inv-loop μ-loop
-returns c = ?
+returns c =
+    let loop = c .before .before .before in
+    at-end judge _ _ (loop .loop .p) (c .before .if1 .left) ∙ loop .loop .inv .1
 
 pub replay-spec : {M : Type 1} → statement M
 replay-spec =
