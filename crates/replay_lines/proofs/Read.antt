@@ -38,30 +38,34 @@ module _ (text : List ℕ) (room : ℕ) (r : Bytes) (promise : r ≡ countIn tex
   counted n true e = (refl, cc)
   counted n false e = absurd (false-true cc)
 
-  are-bytes : (n : ℕ) → r ≡ bytes.Count n → (isBytes text room ≡ true) × (length text / 2 ≡ n)
+  pub readable : (n : ℕ) → r ≡ bytes.Count n → (isBytes text room ≡ true) × (length text / 2 ≡ n)
   unfolding countIn
-  are-bytes n told = counted n (isBytes text room) (sym promise ∙ told)
+  readable n told = counted n (isBytes text room) (sym promise ∙ told)
 
   pub room-for : (n : ℕ) → r ≡ bytes.Count n → n ≤ room
   room-for n told =
-      let a = are-bytes n told in
+      let a = readable n told in
       let w = whole-bytes text room (a .0) in
       omega arith
 
+  uncounted : (t : Bool) → cond t (bytes.Count (length text / 2)) bytes.Bad ≡ bytes.Bad → t ≡ false
+  uncounted true e = absurd (false-true cc)
+  uncounted false e = refl
+
+  pub unreadable : r ≡ bytes.Bad → isBytes text room ≡ false
+  unfolding countIn
+  unreadable told = uncounted (isBytes text room) (sym promise ∙ told)
+
   pub no-bytes : {A : Type 0} (bad : A) (f : List ℕ → A) → r ≡ bytes.Bad → withBytes room text bad f ≡ bad
-  unfolding withBytes countIn
-  no-bytes {A} bad f told = uncounted (isBytes text room) (sym promise ∙ told)
-    where
-      uncounted : (t : Bool) → cond t (bytes.Count (length text / 2)) bytes.Bad ≡ bytes.Bad → cond t (f (bytesIn text)) bad ≡ bad
-      uncounted true e = absurd (false-true cc)
-      uncounted false e = refl
+  unfolding withBytes
+  no-bytes bad f told = rw (unreadable told)
 
 pub is-bytes : {A : Type 0} (text out left : List ℕ) (r : Bytes) (n : ℕ) (bad : A) (f : List ℕ → A)
     → r ≡ countIn text (length out) → left ≡ afterDecode text out → r ≡ bytes.Count n
     → withBytes (length out) text bad f ≡ f (take (n - 0) left)
 unfolding withBytes afterDecode
 is-bytes text out left r n bad f promise leaves told =
-    let a = are-bytes text (length out) r promise n told in
+    let a = readable text (length out) r promise n told in
     let short : 0 + length (bytesIn text) ≤ length out = omega (arith, length-bytesIn text, room-for text (length out) r promise n told) in
     let at : length (bytesIn text) ≡ n - 0 = omega (arith, length-bytesIn text) in
     rw (leaves, a .0, sets-eq (bytesIn text) out 0 short, take-at (bytesIn text) (drop (0 + length (bytesIn text)) out) (n - 0) at)

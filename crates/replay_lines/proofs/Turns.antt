@@ -70,14 +70,14 @@ module _ {S : Type 0} (judge : S → List ℕ → Judged S) (s : S) (text : List
         ∙ ap (λ (rest : List ℕ). lineAt text (p .at) ∷ linesIn rest)
         (sym (behind 10 (drop (p .at) text)) ∙ drop-drop (suc n) (p .at) text ∙ ap (λ (k : ℕ). drop k text) sum)
 
-    turned : left judge (judge s (lineAt text (p .at)) .state) text (afterLine text p (judge s (lineAt text (p .at)) .verdict)) ≡ left judge s text p
+    judged-on : left judge (judge s (lineAt text (p .at)) .state) text (afterLine text p (judge s (lineAt text (p .at)) .verdict)) ≡ left judge s text p
     unfolding tally afterLine
-    turned = rw (lt-leb (length text) (p .at) h, next-lines)
+    judged-on = rw (lt-leb (length text) (p .at) h, next-lines)
 
-    -- a turn: the next line is judged and noted, and what is left then gives the same
-    pub turn : (t : S) (v : Verdict) (q : Progress) → t ≡ judge s (lineAt text (p .at)) .state → v ≡ judge s (lineAt text (p .at)) .verdict
-        → q ≡ afterLine text p v → left judge t text q ≡ left judge s text p
-    turn t v q et ev eq = rw (eq, et, ev) turned
+    -- a turn: the next line is read, judged and noted, and what is left then gives the same
+    pub turn : (l : List ℕ) (j : Judged S) (q : Progress) → l ≡ lineAt text (p .at) → j ≡ judge s l → q ≡ afterLine text p (j .verdict)
+        → left judge (j .state) text q ≡ left judge s text p
+    turn l j q el ej eq = rw (eq, ej, el) judged-on
 
 -- each turn leaves less of the text
 pub nearer : (text : List ℕ) (p q : Progress) (v : Verdict) → p .at < length text → q ≡ afterLine text p v → length text - q .at < length text - p .at

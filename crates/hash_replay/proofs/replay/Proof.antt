@@ -1,8 +1,12 @@
--- `hash_replay::replay` meets its contract. The loop's invariant: the lines that are left bring the counts to those of the whole text. The measure
--- is what is left of the text. Assumes nothing.
-use mathlib.Core.Path.{_≡_, refl, ap, ap₂, _∙_}
-use Prim.Native.Nat.{_-_}
+-- `hash_replay::replay` meets its contract. The loop's invariant: the lines that are left bring the counts to those of the whole text. The
+-- measure is what is left of the text. Assumes nothing.
+use mathlib.Core.Path.{_≡_, refl, ap, _∙_}
+use Prim.Native.Nat.{ℕ, _-_}
 use lib.ListN.{length}
+use borrow.Author.Needs.{needs}
+use Rattle.replay_lines.specs.Lines.{judged, replayed}
+use Rattle.replay_lines.proofs.Turns.{left, at-end, turn, nearer}
+use Rattle.hash_replay.specs.Lines.{verdict, judge}
 use borrow.Author.Needs.{needs}
 use Rattle.replay_lines.specs.Lines.{replayed}
 use Rattle.replay_lines.proofs.Turns.{left, at-end, turn, nearer}
@@ -39,14 +43,13 @@ loop-less c =
 
 loop-again : tie.Need-loop-again Inv-loop μ-loop
 loop-again c =
-    let of-verdict = c .before .before .before in
-    let test = of-verdict .before .before .before in
+    let call = c .before .before .before in
+    let test = call .before .before .before in
     let loop = test .before .before .loop in
-    (
+    let same-room = ap (λ (room : ℕ). verdict room (call .before .before .line .result .now)) (loop .inv .0) in (
       search needs,
-      turn judge _ _ (loop .p) (test .if1 .taken) _ _ _ refl
-      (of-verdict .verdict-of .ensures ∙ ap₂ verdict (loop .inv .0) (of-verdict .before .before .line .ensures)) (c .noted .ensures)
-      ∙ loop .inv .1
+      turn judge _ _ (loop .p) (test .if1 .taken) _ _ _ (call .before .before .line .ensures) (ap (judged _) (call .verdict-of .ensures ∙ same-room)) (c .noted .ensures)
+          ∙ loop .inv .1,
     )
 
 same-length : tie.Need-same-length Inv-loop μ-loop
@@ -54,8 +57,8 @@ same-length c = search needs
 
 returns : tie.Need-returns Inv-loop μ-loop
 returns c =
-    let loop = c .before .before .before in
-    at-end judge _ _ (loop .loop .p) (c .before .if1 .left) ∙ loop .loop .inv .1
+    let loop = c .before .before .before .loop in
+    at-end judge _ _ (loop .p) (c .before .if1 .left) ∙ loop .inv .1
 
 pub replay-spec : {M : Type 1} → statement M
 replay-spec =
