@@ -1,20 +1,14 @@
 -- A line of the replay, `00000001 460423ad 68`: a start value, a hash and a name, all hexadecimal. A missing name is the empty one.
 use Prim.Native.Nat.{ℕ}
-use mathlib.Core.Bool.{Bool, false, cond}
+use mathlib.Core.Bool.{cond}
 use mathlib.Core.List.{List}
-use lib.Dec.{eqb}
-use Rattle.jhash.specs.NameHash.{Outcome, hash, refusal, hashOutcome}
+use Rattle.jhash.specs.NameHash.{hashOutcome}
 use Rattle.replay_lines.specs.Words.{first, second, third, skipped}
 use Rattle.replay_lines.specs.Hex.{withNumber, withBytes}
-use Rattle.replay_lines.specs.Verdicts.{verdictIf}
+use Rattle.replay_lines.specs.Verdicts.{hashIs, verdictIf}
 use Rattle.replay_lines.specs.Lines.{Judged, judged}
 use Rattle.replay_lines.specs.declared.Verdict.{Verdict}
 use Rattle.replay_lines.specs.declared.Verdict.the-variants.{Malformed, Silent}
-
--- is this the hash that hashing a name gives?
-abbrev pub hashIs : ℕ → Outcome → Bool
-hashIs want (hash h) = eqb h want
-hashIs want (refusal n) = false
 
 -- start value, hash and name agree exactly when the rule gives the name, with this start value, this hash. A name has room for so many bytes
 unfoldable pub compared : ℕ → List ℕ → List ℕ → List ℕ → Verdict

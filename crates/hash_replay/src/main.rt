@@ -3,29 +3,18 @@
 // with #, and an empty one, is skipped.
 ghost use mathlib.Core.Path.{_≡_};
 ghost use lib.ListN.{length};
-ghost use Rattle.jhash.specs.NameHash.{hashOutcome};
 ghost use Rattle.replay_lines.specs.Lines.{replayed};
-ghost use Rattle.hash_replay.specs.Lines.{hashIs, compared, verdict, judge};
-use jhash::Hashed;
+ghost use Rattle.hash_replay.specs.Lines.{compared, verdict, judge};
 use libc::STDIN_FILENO;
 use replay_lines::Bytes;
 use replay_lines::Counts;
 use replay_lines::Number;
 use replay_lines::Verdict;
 use replay_lines::equal_if;
+use replay_lines::has_hash;
 use replay_lines::hex;
 use replay_lines::lines;
 use replay_lines::words;
-
-// Has a name this hash?
-fn has_hash(name: &[u8], start: u32, want: u32) -> bool
-    ensures { λ r. ⌜ r ≡ hashIs want (hashOutcome (now (name .entry)) start) ⌝ }
-{
-    match jhash::jhash(name, start) {
-        Hashed::Hash(h) => h == want,
-        Hashed::Refused => false,
-    }
-}
 
 // The verdict on a start value, a hash and a name; `room` takes the name.
 fn compare(start: &[u8], want: &[u8], name: &[u8], room: &mut [u8]) -> Verdict

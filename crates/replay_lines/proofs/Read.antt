@@ -60,15 +60,22 @@ module _ (text : List ℕ) (room : ℕ) (r : Bytes) (promise : r ≡ countIn tex
   unfolding withBytes
   no-bytes bad f told = rw (unreadable told)
 
-pub is-bytes : {A : Type 0} (text out left : List ℕ) (r : Bytes) (n : ℕ) (bad : A) (f : List ℕ → A)
-    → r ≡ countIn text (length out) → left ≡ afterDecode text out → r ≡ bytes.Count n
-    → withBytes (length out) text bad f ≡ f (take (n - 0) left)
-unfolding withBytes afterDecode
-is-bytes text out left r n bad f promise leaves told =
-    let a = readable text (length out) r promise n told in
-    let short : 0 + length (bytesIn text) ≤ length out = omega (arith, length-bytesIn text, room-for text (length out) r promise n told) in
-    let at : length (bytesIn text) ≡ n - 0 = omega (arith, length-bytesIn text) in
-    rw (leaves, a .0, sets-eq (bytesIn text) out 0 short, take-at (bytesIn text) (drop (0 + length (bytesIn text)) out) (n - 0) at)
+module _ (text out left : List ℕ) (r : Bytes) (n : ℕ) (promise : r ≡ countIn text (length out)) (leaves : left ≡ afterDecode text out)
+    (told : r ≡ bytes.Count n) where
+  bytes-taken : take (n - 0) left ≡ bytesIn text
+  unfolding afterDecode
+  bytes-taken =
+      let a = readable text (length out) r promise n told in
+      let short : 0 + length (bytesIn text) ≤ length out = omega (arith, length-bytesIn text, room-for text (length out) r promise n told) in
+      let at : length (bytesIn text) ≡ n - 0 = omega (arith, length-bytesIn text) in
+      rw (leaves, a .0, sets-eq (bytesIn text) out 0 short, take-at (bytesIn text) (drop (0 + length (bytesIn text)) out) (n - 0) at)
+
+  pub bytes-number : length (take (n - 0) left) ≡ n
+  bytes-number = ap length bytes-taken ∙ length-bytesIn text ∙ readable text (length out) r promise n told .1
+
+  pub is-bytes : {A : Type 0} (bad : A) (f : List ℕ → A) → withBytes (length out) text bad f ≡ f (take (n - 0) left)
+  unfolding withBytes
+  is-bytes bad f = rw (readable text (length out) r promise n told .0) (ap f (sym bytes-taken))
 
 -- two byte strings that were compared, by what `check::same` promises of the answer r
 same-self : (a : List ℕ) → same a a ≡ true

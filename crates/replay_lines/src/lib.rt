@@ -5,8 +5,10 @@ pub mod lines; // lines.rt: begin, line, noted
 pub mod words; // words.rt: until, past, first, second, third, skipped, tag
 
 ghost use mathlib.Core.Path.{_≡_};
+ghost use Rattle.jhash.specs.NameHash.{hashOutcome};
 ghost use Rattle.image.specs.Bytes.{same};
-ghost use Rattle.replay_lines.specs.Verdicts.{more, verdictIf, countedWith};
+ghost use Rattle.replay_lines.specs.Verdicts.{more, hashIs, verdictIf, countedWith};
+use jhash::Hashed;
 use libc::STDOUT_FILENO;
 
 // Eight digits as a number, or a text of another form.
@@ -35,6 +37,16 @@ pub fn same(a: &[u8], b: &[u8]) -> bool
     ensures { λ r. ⌜ r ≡ same (now (a .entry)) (now (b .entry)) ⌝ }
 {
     check::same(a, b)
+}
+
+// Has a name this hash?
+pub fn has_hash(name: &[u8], start: u32, want: u32) -> bool
+    ensures { λ r. ⌜ r ≡ hashIs want (hashOutcome (now (name .entry)) start) ⌝ }
+{
+    match jhash::jhash(name, start) {
+        Hashed::Hash(h) => h == want,
+        Hashed::Refused => false,
+    }
 }
 
 // Whether an answer is the stored one.

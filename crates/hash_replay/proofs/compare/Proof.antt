@@ -93,7 +93,7 @@ returns-4 c =
     ∙ sym
     (is-number _ _ _ _ (first .before .before .word .ensures) _ (first .start .given .1)
     ∙ is-number _ _ _ _ (second .before .before .word2 .ensures) _ (second .want .given .1)
-    ∙ is-bytes _ _ _ _ _ _ _ (read .decode .ensures .0) (read .decode .ensures .1) (at .n .given .1))
+    ∙ is-bytes _ _ _ _ _ (read .decode .ensures .0) (read .decode .ensures .1) (at .n .given .1) _ _)
 
 pub compare-spec : {M : Type 1} → statement M
 compare-spec =

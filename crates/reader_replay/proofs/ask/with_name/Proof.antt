@@ -50,7 +50,7 @@ returns c =
     c .answered .ensures
     ∙ sym
     (ap (λ (room : ℕ). withBytes room (a .name .now) Malformed f) (read .before .before .buffer .ensures)
-    ∙ is-bytes _ _ _ _ _ _ f (read .decode .ensures .0) (read .decode .ensures .1) (at .k .given .1))
+    ∙ is-bytes _ _ _ _ _ (read .decode .ensures .0) (read .decode .ensures .1) (at .k .given .1) _ f)
 
 returns-2 : tie.Need-returns-2
 unfolding withName

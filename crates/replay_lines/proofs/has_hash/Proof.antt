@@ -1,10 +1,10 @@
--- `hash_replay::has_hash` meets its contract. Assumes nothing.
+-- `replay_lines::has_hash` meets its contract. Assumes nothing.
 use mathlib.Core.Path.{sym, ap, _∙_}
 use Rattle.jhash.specs.NameHash.{outcome}
-use Rattle.hash_replay.specs.Lines.{hashIs}
+use Rattle.replay_lines.specs.Verdicts.{hashIs}
 use borrow.Author.Needs.{needs}
-use Rattle.hash_replay.proofs.has_hash.Statement.{statement}
-use Rattle.hash_replay.proofs.has_hash.Tie as tie
+use Rattle.replay_lines.proofs.has_hash.Statement.{statement}
+use Rattle.replay_lines.proofs.has_hash.Tie as tie
 
 jhash-requires : tie.Need-jhash-requires
 jhash-requires c κs = search needs
