@@ -4,7 +4,7 @@ use mathlib.Core.Bool.{cond}
 use mathlib.Core.List.{List}
 use Rattle.jhash.specs.NameHash.{hashOutcome}
 use Rattle.replay_lines.specs.Words.{first, second, third, skipped}
-use Rattle.replay_lines.specs.Hex.{withNumber, withBytes}
+use Rattle.replay_lines.specs.Hex.{withNumbers, withBytes}
 use Rattle.replay_lines.specs.Verdicts.{hashIs, verdictIf}
 use Rattle.replay_lines.specs.Lines.{Judged, judged}
 use Rattle.replay_lines.specs.declared.Verdict.{Verdict}
@@ -13,10 +13,9 @@ use Rattle.replay_lines.specs.declared.Verdict.the-variants.{Malformed, Silent}
 -- start value, hash and name agree exactly when the rule gives the name, with this start value, this hash. A name has room for so many bytes
 unfoldable pub compared : ℕ → List ℕ → List ℕ → List ℕ → Verdict
 compared room start want name =
-    withNumber start Malformed (λ (s : ℕ).
-    withNumber want Malformed (λ (h : ℕ).
+    withNumbers start want Malformed (λ (s h : ℕ).
     withBytes room name Malformed (λ (bytes : List ℕ).
-    verdictIf (hashIs h (hashOutcome bytes s)))))
+    verdictIf (hashIs h (hashOutcome bytes s))))
 
 unfoldable pub verdict : ℕ → List ℕ → Verdict
 verdict room line = cond (skipped line) Silent (compared room (first line) (second line) (third line))

@@ -8,7 +8,7 @@ ghost use Rattle.hash_replay.specs.Lines.{compared, verdict, judge};
 use libc::STDIN_FILENO;
 use replay_lines::Bytes;
 use replay_lines::Counts;
-use replay_lines::Number;
+use replay_lines::Numbers;
 use replay_lines::Verdict;
 use replay_lines::equal_if;
 use replay_lines::has_hash;
@@ -20,10 +20,7 @@ use replay_lines::words;
 fn compare(start: &[u8], want: &[u8], name: &[u8], room: &mut [u8]) -> Verdict
     ensures { λ r. ⌜ r ≡ compared (length (now (room .entry))) (now (start .entry)) (now (want .entry)) (now (name .entry)) ⌝ }
 {
-    let Number::Value(start) = hex::word(start) else {
-        return Verdict::Malformed;
-    };
-    let Number::Value(want) = hex::word(want) else {
+    let Numbers::Values(start, want) = hex::two_words(start, want) else {
         return Verdict::Malformed;
     };
     let Bytes::Count(n) = hex::decode(name, &mut *room) else {

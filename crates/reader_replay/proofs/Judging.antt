@@ -1,7 +1,7 @@
 -- What a function learns of the calls that it makes, over plain values. Assumes nothing.
 use Prim.Native.Nat.{ℕ, _-_, _≤_, _<_}
 use native.Mathlib.Omega.{arith}
-use mathlib.Core.Path.{_≡_, sym, ap, _∙_}
+use mathlib.Core.Path.{_≡_, refl, sym, ap, _∙_}
 use mathlib.Core.Bool.{Bool, true, false, _&&_}
 use mathlib.Core.List.{List, [], _++_, append-nil}
 use borrow.Author.Tests.{eq-eqb, ne-eqb, le-ltb, lt-ltb, le-leb}
@@ -71,11 +71,11 @@ module _ (at : ℕ) (text buffer left : List ℕ) (r : Bytes) (h : at ≤ length
 
   pub edit-silent : (n : ℕ) → r ≡ bytes.Count n → Silent ≡ editVerdict at text buffer
   unfolding editVerdict
-  edit-silent n told = rw (le-leb at (length buffer) h, ← room-left, readable text _ r promise n told .0)
+  edit-silent n told = rw (le-leb at (length buffer) h, ← room-left, readable text _ _ refl r promise n told .0)
 
   pub edit-malformed : r ≡ bytes.Bad → Malformed ≡ editVerdict at text buffer
   unfolding editVerdict
-  edit-malformed told = rw (le-leb at (length buffer) h, ← room-left, unreadable text _ r promise told)
+  edit-malformed told = rw (le-leb at (length buffer) h, ← room-left, unreadable text _ _ refl r promise told)
 
 -- a line that changes the image
 module _ (s : State) (buffer left : List ℕ) (tag n : ℕ) (text : List ℕ) (r : declared.Step) (v : Verdict) where

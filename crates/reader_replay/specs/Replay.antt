@@ -4,7 +4,7 @@ use mathlib.Core.Bool.{cond}
 use mathlib.Core.List.{List}
 use lib.ListN.{length, take}
 use lib.Dec.{ltb}
-use Rattle.replay_lines.specs.Words.{first, second, third, skipped, tagOf}
+use Rattle.replay_lines.specs.Words.{second, third, skipped, tagOf}
 use Rattle.replay_lines.specs.Hex.{withNumber}
 use Rattle.replay_lines.specs.Lines.{Judged, judged}
 use Rattle.replay_lines.specs.declared.Verdict.the-variants.{Malformed, Silent}
@@ -26,4 +26,4 @@ tagged s tag first second =
 
 -- any line, by its three words
 unfoldable pub judge : Replay → List ℕ → Judged Replay
-judge s line = cond (skipped line) (judged s Silent) (tagged s (tagOf (first line)) (second line) (third line))
+judge s line = cond (skipped line) (judged s Silent) (tagged s (tagOf line) (second line) (third line))

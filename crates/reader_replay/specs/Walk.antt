@@ -7,9 +7,6 @@ use lib.Dec.{eqb, leb}
 use Rattle.image.specs.Bytes.{same}
 use Rattle.reader.specs.Walk.{Step, item, done, step, upperHint}
 use Rattle.reader.specs.Steps.{standsAfter}
-use Rattle.replay_lines.specs.Verdicts.{verdictIf}
-use Rattle.replay_lines.specs.declared.Verdict.{Verdict}
-use Rattle.replay_lines.specs.declared.Verdict.the-variants.{Malformed}
 use Rattle.reader_replay.specs.Tags.{either, says, WALK, LEFT, ITEM, ENDS}
 
 -- is a name what stands at a place of an image?
@@ -22,10 +19,8 @@ stepsAs tag n name image (item id start len next) = says tag n ITEM id && isAt i
 stepsAs tag n name image done = eqb tag ENDS
 
 -- left 00000006: its upper hint
-unfoldable pub walkAnswered : List ℕ → ℕ → ℕ → ℕ → List ℕ → Verdict
-walkAnswered image next tag n name =
-    cond (either tag ITEM ENDS) (verdictIf (stepsAs tag n name image (step image next)))
-    (cond (eqb tag LEFT) (verdictIf (eqb (upperHint image next) n)) Malformed)
+unfoldable pub walkAgrees : List ℕ → ℕ → ℕ → ℕ → List ℕ → Bool
+walkAgrees image next tag n name = cond (eqb tag LEFT) (eqb (upperHint image next) n) (stepsAs tag n name image (step image next))
 
 -- where the walk stands after a line. walk: a new one, before id 0
 unfoldable pub standsThen : List ℕ → ℕ → ℕ → ℕ

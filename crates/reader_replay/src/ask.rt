@@ -5,7 +5,7 @@ ghost use Rattle.reader.specs.Lookup.{lookup};
 ghost use Rattle.reader.specs.Naming.{naming};
 ghost use Rattle.reader.specs.Walk.{home};
 ghost use Rattle.reader_replay.specs.Tags.{either, says};
-ghost use Rattle.reader_replay.specs.Ask.{opensAs, findsAs, namesAs, homeAs, answered, withName, verdict};
+ghost use Rattle.reader_replay.specs.Ask.{opensAs, findsAs, namesAs, homeAs, asks, agrees, compared, verdict};
 use super::walk;
 use reader::Named;
 use reader::Opened;
@@ -34,6 +34,10 @@ const HOME: u32 = 0x686f_6d65;
 const AWAY: u32 = 0x6177_6179;
 
 const WALK: u32 = 0x7761_6c6b;
+
+const LEFT: u32 = 0x6c65_6674;
+
+const ITEM: u32 = 0x6974_656d;
 
 const ENDS: u32 = 0x656e_6473;
 
@@ -102,32 +106,49 @@ fn home_as(tag: u32, id: u32, image: &[u8]) -> bool
     }
 }
 
-// The verdict on a tag, a number and a name.
-fn answered(tag: u32, n: u32, name: &[u8], next: u32, image: &[u8]) -> Verdict
-    ensures { λ r. ⌜ r ≡ answered (now (image .entry)) next tag n (now (name .entry)) ⌝ }
+// Does a line with this tag ask?
+fn asks(tag: u32) -> bool
+    ensures { λ r. ⌜ r ≡ asks tag ⌝ }
 {
-    if either(tag, OPEN, FAIL) {
-        return equal_if(opens_as(tag, n, image));
-    }
-    if either(tag, FIND, MISS) {
-        return equal_if(finds_as(tag, n, name, image));
-    }
-    if either(tag, NAME, VOID) {
-        return equal_if(names_as(tag, n, name, image));
-    }
-    if either(tag, HOME, AWAY) {
-        return equal_if(home_as(tag, n, image));
-    }
-    walk::answered(tag, n, name, next, image)
+    (tag == OPEN)
+        | (tag == FAIL)
+        | (tag == FIND)
+        | (tag == MISS)
+        | (tag == NAME)
+        | (tag == VOID)
+        | (tag == HOME)
+        | (tag == AWAY)
+        | (tag == LEFT)
+        | (tag == ITEM)
+        | (tag == ENDS)
 }
 
-// The same, where the name is in hexadecimal digits.
-fn with_name(tag: u32, n: u32, name: &[u8], next: u32, image: &[u8]) -> Verdict
-    ensures { λ r. ⌜ r ≡ withName (now (image .entry)) next tag n (now (name .entry)) ⌝ }
+// Is the answer the one that a line with this tag, number and name stores?
+fn agrees(tag: u32, n: u32, name: &[u8], next: u32, image: &[u8]) -> bool
+    ensures { λ r. ⌜ r ≡ agrees (now (image .entry)) next tag n (now (name .entry)) ⌝ }
+{
+    if either(tag, OPEN, FAIL) {
+        return opens_as(tag, n, image);
+    }
+    if either(tag, FIND, MISS) {
+        return finds_as(tag, n, name, image);
+    }
+    if either(tag, NAME, VOID) {
+        return names_as(tag, n, name, image);
+    }
+    if either(tag, HOME, AWAY) {
+        return home_as(tag, n, image);
+    }
+    walk::agrees(tag, n, name, next, image)
+}
+
+// The verdict on a tag, a number and a name in hexadecimal digits.
+fn compare(tag: u32, n: u32, name: &[u8], next: u32, image: &[u8]) -> Verdict
+    ensures { λ r. ⌜ r ≡ compared (now (image .entry)) next tag n (now (name .entry)) ⌝ }
 {
     let mut room = io::buffer();
     match hex::decode(name, &mut room) {
-        Bytes::Count(k) => answered(tag, n, &room[0..k], next, image),
+        Bytes::Count(k) => equal_if(agrees(tag, n, &room[0..k], next, image)),
         Bytes::Bad => Verdict::Malformed,
     }
 }
@@ -139,11 +160,14 @@ pub(super) fn line(tag: u32, first: &[u8], second: &[u8], next: u32, image: &[u8
     if tag == WALK {
         return Verdict::Silent;
     }
+    if !asks(tag) {
+        return Verdict::Malformed;
+    }
     if either(tag, MISS, ENDS) {
-        return with_name(tag, 0, first, next, image);
+        return compare(tag, 0, first, next, image);
     }
     match hex::word(first) {
-        Number::Value(n) => with_name(tag, n, second, next, image),
+        Number::Value(n) => compare(tag, n, second, next, image),
         Number::Bad => Verdict::Malformed,
     }
 }

@@ -22,7 +22,7 @@
 //     ends                     its end
 mod ask; // ask.rt: line
 mod change; // change.rt: changes, changed
-mod walk; // walk.rt: stands, answered
+mod walk; // walk.rt: agrees, stands
 
 ghost use mathlib.Core.Path.{_≡_};
 ghost use Rattle.replay_lines.specs.Lines.{replayed};
@@ -92,7 +92,7 @@ fn any_line(s: State, line: &[u8], buf: &mut [u8]) -> Step
     }
     tagged(
         s,
-        words::tag(words::first(line)),
+        words::tag(line),
         words::second(line),
         words::third(line),
         &mut *buf,

@@ -2,13 +2,11 @@
 ghost use mathlib.Core.Path.{_≡_};
 ghost use Rattle.reader.specs.Walk.{step};
 ghost use Rattle.reader.specs.Steps.{standsAfter};
-ghost use Rattle.reader_replay.specs.Walk.{isAt, stepsAs, walkAnswered, standsThen};
+ghost use Rattle.reader_replay.specs.Walk.{isAt, stepsAs, walkAgrees, standsThen};
 use super::ask::either;
 use super::ask::says;
 use reader::Iter;
 use reader::Stepped;
-use replay_lines::Verdict;
-use replay_lines::equal_if;
 use replay_lines::same;
 
 const WALK: u32 = 0x7761_6c6b;
@@ -54,17 +52,14 @@ fn steps_as(tag: u32, n: u32, name: &[u8], next: u32, image: &[u8]) -> bool
     }
 }
 
-// The verdict on a line about the walk.
-pub(super) fn answered(tag: u32, n: u32, name: &[u8], next: u32, image: &[u8]) -> Verdict
-    ensures { λ r. ⌜ r ≡ walkAnswered (now (image .entry)) next tag n (now (name .entry)) ⌝ }
+// Is the walk's answer the one that a line with this tag, number and name stores?
+pub(super) fn agrees(tag: u32, n: u32, name: &[u8], next: u32, image: &[u8]) -> bool
+    ensures { λ r. ⌜ r ≡ walkAgrees (now (image .entry)) next tag n (now (name .entry)) ⌝ }
 {
-    if either(tag, ITEM, ENDS) {
-        return equal_if(steps_as(tag, n, name, next, image));
-    }
     if tag == LEFT {
-        return equal_if(reader::walk::size_hint(image, Iter { next }) == n);
+        return reader::walk::size_hint(image, Iter { next }) == n;
     }
-    Verdict::Malformed
+    steps_as(tag, n, name, next, image)
 }
 
 // Where the walk stands after a step.

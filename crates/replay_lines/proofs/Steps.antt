@@ -10,7 +10,7 @@ use lib.Dec.{eqb, ltb, leb}
 use lib.ListN.{length, getD, set, drop, drop-of-length-le}
 use lib.Seq.{sets, drop-cons}
 use Rattle.replay_lines.specs.Hex.{digitOf, areDigits, valueFrom, wordIn, byteOf, bytesIn, isBytes, countIn, afterDecode}
-use Rattle.replay_lines.specs.Words.{tagOf}
+use Rattle.replay_lines.specs.Words.{tagIn}
 use Rattle.replay_lines.specs.Verdicts.{more, countedWith}
 use Rattle.replay_lines.specs.declared.Number.{Number}
 use Rattle.replay_lines.specs.declared.Number.the-variants as number
@@ -117,10 +117,10 @@ module _ (text out : List ℕ) where
 
 -- a word of four letters, and another
 pub four : (w : List ℕ) (a b c d : ℕ) → length w ≡ 4 → a ≡ getD w 0 0 → b ≡ getD w 1 0 → c ≡ getD w 2 0 → d ≡ getD w 3 0
-    → a * 16777216 + b * 65536 + c * 256 + d ≡ tagOf w
-unfolding tagOf
+    → a * 16777216 + b * 65536 + c * 256 + d ≡ tagIn w
+unfolding tagIn
 four w a b c d h ea eb ec ed = rw (ea, eb, ec, ed, eq-eqb (length w) 4 h)
 
-pub not-four : (w : List ℕ) → (length w ≡ 4 → ⊥) → 0 ≡ tagOf w
-unfolding tagOf
+pub not-four : (w : List ℕ) → (length w ≡ 4 → ⊥) → 0 ≡ tagIn w
+unfolding tagIn
 not-four w h = rw (ne-eqb (length w) 4 h)

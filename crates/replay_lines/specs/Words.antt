@@ -29,6 +29,10 @@ third line = past 32 (past 32 line)
 unfoldable pub skipped : List ℕ → Bool
 skipped line = eqb (length line) 0 || eqb (getD line 0 0) 35
 
--- a word of four letters as a number, its first letter the highest byte; 0 of any other word
-unfoldable pub tagOf : List ℕ → ℕ
-tagOf w = cond (eqb (length w) 4) (getD w 0 0 * 16777216 + getD w 1 0 * 65536 + getD w 2 0 * 256 + getD w 3 0) 0
+-- four letters as a number, the first the highest byte; 0 of any other word
+unfoldable pub tagIn : List ℕ → ℕ
+tagIn w = cond (eqb (length w) 4) (getD w 0 0 * 16777216 + getD w 1 0 * 65536 + getD w 2 0 * 256 + getD w 3 0) 0
+
+-- the tag of a line is its first word
+abbrev pub tagOf : List ℕ → ℕ
+tagOf line = tagIn (first line)

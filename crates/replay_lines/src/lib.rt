@@ -1,6 +1,6 @@
 // What the programs that replay stored answers share: numbers and bytes written as hexadecimal digits, the verdict on a
 // line, and how many lines had each.
-pub mod hex; // hex.rt: word, decode
+pub mod hex; // hex.rt: word, two_words, decode
 pub mod lines; // lines.rt: begin, line, noted
 pub mod words; // words.rt: until, past, first, second, third, skipped, tag
 
@@ -14,6 +14,12 @@ use libc::STDOUT_FILENO;
 // Eight digits as a number, or a text of another form.
 pub enum Number {
     Value(u32),
+    Bad,
+}
+
+// Two texts as numbers, or one of another form.
+pub enum Numbers {
+    Values(u32, u32),
     Bad,
 }
 

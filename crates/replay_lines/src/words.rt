@@ -59,10 +59,11 @@ pub fn skipped(line: &[u8]) -> bool
     line[0] == b'#'
 }
 
-// A word of four letters as a number, its first letter the highest byte; 0 of any other word.
-pub fn tag(word: &[u8]) -> u32
-    ensures { λ r. ⌜ r ≡ tagOf (now (word .entry)) ⌝ }
+// The first word of a line, if it has four letters, as a number, the first letter the highest byte; 0 of any other.
+pub fn tag(line: &[u8]) -> u32
+    ensures { λ r. ⌜ r ≡ tagOf (now (line .entry)) ⌝ }
 {
+    let word = until(line, b' ');
     if word.len() != 4 {
         return 0;
     }

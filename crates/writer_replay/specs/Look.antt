@@ -6,7 +6,7 @@ use lib.ListN.{length, take, drop}
 use lib.Dec.{eqb}
 use Rattle.jhash.specs.NameHash.{hashOutcome}
 use Rattle.image.specs.Bytes.{same}
-use Rattle.replay_lines.specs.Hex.{withNumber, withBytes}
+use Rattle.replay_lines.specs.Hex.{withNumber, withNumbers, withBytes}
 use Rattle.replay_lines.specs.Lines.{Judged, judged}
 use Rattle.replay_lines.specs.Verdicts.{hashIs, verdictIf}
 use Rattle.replay_lines.specs.declared.Verdict.{Verdict}
@@ -20,9 +20,7 @@ compared r = judged (r .done) (r .verdict)
 -- hash 01234567 89abcdef: the image's hashes, with the start values 0 and deadbeef
 unfoldable pub hashes : List ℕ → List ℕ → List ℕ → Verdict
 hashes image first second =
-    withNumber first Malformed (λ (a : ℕ).
-    withNumber second Malformed (λ (b : ℕ).
-    verdictIf (hashIs a (hashOutcome image 0) && hashIs b (hashOutcome image 0xdeadbeef))))
+    withNumbers first second Malformed (λ (a b : ℕ). verdictIf (hashIs a (hashOutcome image 0) && hashIs b (hashOutcome image 0xdeadbeef)))
 
 -- part 4351: its next bytes are these
 unfoldable pub areNext : List ℕ → ℕ → List ℕ → Judged ℕ

@@ -5,6 +5,7 @@ ghost use Rattle.writer_replay.specs.Look.{compared, allZero, hashes, pa
 use super::Compared;
 use replay_lines::Bytes;
 use replay_lines::Number;
+use replay_lines::Numbers;
 use replay_lines::Verdict;
 use replay_lines::equal_if;
 use replay_lines::has_hash;
@@ -23,13 +24,12 @@ const ENDS: u32 = 0x656e_6473;
 fn hashes(image: &[u8], first: &[u8], second: &[u8]) -> Verdict
     ensures { λ r. ⌜ r ≡ hashes (now (image .entry)) (now (first .entry)) (now (second .entry)) ⌝ }
 {
-    let Number::Value(zero) = hex::word(first) else {
-        return Verdict::Malformed;
-    };
-    let Number::Value(other) = hex::word(second) else {
-        return Verdict::Malformed;
-    };
-    equal_if(has_hash(image, 0, zero) & has_hash(image, 0xdead_beef, other))
+    match hex::two_words(first, second) {
+        Numbers::Values(zero, other) => {
+            equal_if(has_hash(image, 0, zero) & has_hash(image, 0xdead_beef, other))
+        }
+        Numbers::Bad => Verdict::Malformed,
+    }
 }
 
 // The n bytes of an image that follow the compared ones; fewer where it ends before.

@@ -104,7 +104,7 @@ fn any_line(s: State, line: &[u8], counts: &mut [u32; 256], buf: &mut [u8]) -> B
     }
     tagged(
         s,
-        words::tag(words::first(line)),
+        words::tag(line),
         words::second(line),
         words::third(line),
         &mut *counts,

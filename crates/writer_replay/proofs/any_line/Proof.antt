@@ -20,9 +20,6 @@ returns c =
     rw (← c .before .before .skipped .ensures, c .before .if1 .taken)
     (ap (λ (r : Built). built r (a .counts .now) (a .buf .now)) (c .judged .ensures))
 
-first-requires : tie.Need-first-requires
-first-requires c κs = search needs
-
 tag-requires : tie.Need-tag-requires
 tag-requires c κs = search needs
 
@@ -42,10 +39,9 @@ returns-2 : tie.Need-returns-2
 unfolding judge
 returns-2 c =
     let read = c .before .before .before .before .before in
-    let tag = read .before .before in
-    let test = tag .before .before in
+    let test = read .before .before .before in
     rw
-    (← test .before .skipped .ensures, test .if1 .left, ← tag .before .first .ensures, ← tag .tag .ensures, ← read .before .second .ensures, ← read .third .ensures)
+    (← test .before .skipped .ensures, test .if1 .left, ← read .before .before .tag .ensures, ← read .before .second .ensures, ← read .third .ensures)
     (c .before .before .tagged .ensures)
 
 pub any-line-spec : {M : Type 1} → statement M
@@ -55,7 +51,6 @@ any-line-spec =
     skipped-requires
     judged-requires
     returns
-    first-requires
     tag-requires
     second-requires
     third-requires

@@ -1,13 +1,9 @@
 -- `writer_replay::build::put` meets its contract. Assumes nothing.
-use Prim.Native.Nat.{ℕ}
 use native.Mathlib.Omega.{arith}
 use mathlib.Core.Path.{sym, ap, _∙_}
-use Rattle.replay_lines.specs.Hex.{withBytes}
-use Rattle.replay_lines.specs.Lines.{judged}
-use Rattle.replay_lines.specs.declared.Verdict.the-variants.{Malformed}
 use Rattle.replay_lines.proofs.Read.{is-bytes, no-bytes, room-for}
 use Rattle.writer_replay.specs.declared.Built.{Built}
-use Rattle.writer_replay.specs.Build.{given, built, puts, putsNamed}
+use Rattle.writer_replay.specs.Build.{built, putsNamed}
 use borrow.Author.Needs.{needs}
 use Rattle.writer_replay.proofs.build.put.Statement.{statement}
 use Rattle.writer_replay.proofs.build.put.Tie as tie
@@ -34,7 +30,7 @@ part-put-name-end : tie.Need-part-put-name-end
 part-put-name-end c =
     let at = c .before .before in
     let read = at .before .before .before in
-    omega (arith, room-for _ _ _ (read .decode .ensures .0) _ (at .n .given .1), read .before .before .buffer .ensures)
+    omega (arith, room-for _ _ _ (read .before .before .buffer .ensures) _ (read .decode .ensures .0) _ (at .n .given .1))
 
 put-name-requires : tie.Need-put-name-requires
 put-name-requires c κs = search needs
@@ -53,25 +49,16 @@ unfolding putsNamed
 returns c =
     let at = c .before .before .before .before .before .before .before .before in
     let read = at .before .before .before in
-    let a = c .before .before .before .before .before .before .before .before .before .before .before .before .before .before .before .before .before .args in
-    let s = given (a .s) (a .counts .now) (a .buf .now) in
-    let f = puts s (a .due) (a .id) in
     c .before .before .put-name .ensures
-    ∙ sym
-    (ap (λ (room : ℕ). withBytes room (a .name .now) (judged s Malformed) f) (read .before .before .buffer .ensures)
-    ∙ is-bytes _ _ _ _ _ (read .decode .ensures .0) (read .decode .ensures .1) (at .n .given .1) _ f)
+    ∙ sym (is-bytes _ _ _ _ (read .before .before .buffer .ensures) _ _ (read .decode .ensures .0) (read .decode .ensures .1) (at .n .given .1) _ _)
 
 returns-2 : tie.Need-returns-2
 unfolding putsNamed
 returns-2 c =
     let read = c .before .before .before .before in
     let a = c .before .before .before .before .before .before .before .before .before .before .args in
-    let s = given (a .s) (a .counts .now) (a .buf .now) in
-    let f = puts s (a .due) (a .id) in
     ap (λ (r : Built). built r (a .counts .now) (a .buf .now)) (c .judged .ensures)
-    ∙ sym
-    (ap (λ (room : ℕ). withBytes room (a .name .now) (judged s Malformed) f) (read .before .before .buffer .ensures)
-    ∙ no-bytes _ _ _ (read .decode .ensures .0) _ f (c .before .enum-told .given .1))
+    ∙ sym (no-bytes _ _ _ (read .before .before .buffer .ensures) _ (read .decode .ensures .0) _ _ (c .before .enum-told .given .1))
 
 pub put-spec : {M : Type 1} → statement M
 put-spec =

@@ -1,13 +1,9 @@
 -- `writer_replay::look::part` meets its contract. Assumes nothing.
-use Prim.Native.Nat.{ℕ}
 use native.Mathlib.Omega.{arith}
 use mathlib.Core.Path.{sym, ap, _∙_}
-use Rattle.replay_lines.specs.Hex.{withBytes}
-use Rattle.replay_lines.specs.Lines.{judged}
 use Rattle.replay_lines.specs.Verdicts.{verdictIf}
-use Rattle.replay_lines.specs.declared.Verdict.the-variants.{Malformed}
 use Rattle.replay_lines.proofs.Read.{bytes-number, is-bytes, no-bytes, room-for}
-use Rattle.writer_replay.specs.Look.{areNext, part}
+use Rattle.writer_replay.specs.Look.{part}
 use Rattle.writer_replay.proofs.Looking.{next-within, next-compared}
 use borrow.Author.Needs.{needs}
 use Rattle.writer_replay.proofs.look.part.Statement.{statement}
@@ -43,7 +39,7 @@ part-same-end : tie.Need-part-same-end
 part-same-end c =
     let at = c .before .before .before in
     let read = at .before .before .before in
-    omega (arith, room-for _ _ _ (read .decode .ensures .0) _ (at .n .given .1), read .before .before .buffer .ensures)
+    omega (arith, room-for _ _ _ (read .before .before .buffer .ensures) _ (read .decode .ensures .0) _ (at .n .given .1))
 
 same-requires : tie.Need-same-requires
 same-requires c κs = search needs
@@ -60,24 +56,18 @@ returns c =
     let of-next = c .before .before .before .before in
     let at = of-next .before .before in
     let read = at .before .before .before in
-    let a = read .before .before .before .before .before .args in
-    let f = areNext (a .image .now) (a .done) in
-    let n = at .n .given .0 .0 in
-    let sized = bytes-number _ _ _ _ _ (read .decode .ensures .0) (read .decode .ensures .1) (at .n .given .1) in
-    next-compared (a .image .now) (a .done) n _ _ (of-next .next .ensures) _ sized (c .equal-if .ensures ∙ ap verdictIf (c .before .same .ensures))
-    ∙ sym
-    (ap (λ (room : ℕ). withBytes room (a .text .now) (judged (a .done) Malformed) f) (read .before .before .buffer .ensures)
-    ∙ is-bytes _ _ _ _ _ (read .decode .ensures .0) (read .decode .ensures .1) (at .n .given .1) _ f)
+    let size = read .before .before .buffer .ensures in
+    let a = c .before .before .before .before .before .before .before .before .before .before .before .before .before .before .args in
+    next-compared (a .image .now) (a .done) (at .n .given .0 .0) _ _ (of-next .next .ensures) _
+    (bytes-number _ _ _ _ size _ _ (read .decode .ensures .0) (read .decode .ensures .1) (at .n .given .1))
+    (c .equal-if .ensures ∙ ap verdictIf (c .before .same .ensures))
+    ∙ sym (is-bytes _ _ _ _ size _ _ (read .decode .ensures .0) (read .decode .ensures .1) (at .n .given .1) _ _)
 
 returns-2 : tie.Need-returns-2
 unfolding part
 returns-2 c =
     let read = c .before .before .before in
-    let a = read .before .before .before .before .before .args in
-    let f = areNext (a .image .now) (a .done) in
-    sym
-    (ap (λ (room : ℕ). withBytes room (a .text .now) (judged (a .done) Malformed) f) (read .before .before .buffer .ensures)
-    ∙ no-bytes _ _ _ (read .decode .ensures .0) _ f (c .enum-told .given .1))
+    sym (no-bytes _ _ _ (read .before .before .buffer .ensures) _ (read .decode .ensures .0) _ _ (c .enum-told .given .1))
 
 pub part-spec : {M : Type 1} → statement M
 part-spec =
