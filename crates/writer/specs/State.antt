@@ -12,14 +12,14 @@ use Rattle.writer.specs.declared.CQDBWriter.{CQDBWriter}
 use Rattle.writer.specs.declared.Begun.{Begun}
 use Rattle.writer.specs.declared.Begun.the-variants.{Fresh, Refused}
 
--- what a call is lent: the writer record, of which the 256 table counts are lent apart, and the buffer
+-- what a call is lent: the writer record, whose 256 table counts are lent apart, and the buffer
 pub record State : Type 0 where
   pub writer : CQDBWriter
   pub counts : List ℕ
   pub buffer : List ℕ
 
-abbrev pub lent : CQDBWriter → List ℕ → List ℕ → State
-lent w counts buffer = record { writer = w; counts = counts; buffer = buffer }
+abbrev pub stateWith : CQDBWriter → List ℕ → List ℕ → State
+stateWith w counts buffer = record { writer = w; counts = counts; buffer = buffer }
 
 -- no table count exceeds the number of entries
 abbrev pub noneAbove : List ℕ → ℕ → Bool

@@ -9,7 +9,7 @@ use lib.Dec.{eqb}
 use lib.ListN.{length, take, drop}
 use lib.Seq.{length-take-le}
 use Rattle.image.specs.declared.Mode.{Mode}
-use Rattle.writer.specs.State.{lent, begunOf, beginning, countsBegun}
+use Rattle.writer.specs.State.{stateWith, begunOf, beginning, countsBegun}
 use Rattle.writer.specs.State as writer
 use Rattle.writer.specs.Put.{entryOf, putRefusal, afterPut}
 use Rattle.writer.specs.Close.{closedOf, closing, afterClose}
@@ -66,12 +66,12 @@ module _ (s : State) (counts buffer : List ℕ) (r : Built) (h : length buffer <
 -- a call on the record's part of the buffer, which leaves the record w, the counts `left` and these bytes there
 module _ (s : State) (counts left buffer bytes : List ℕ) (w : CQDBWriter) (r : Built) (h : s .writer .length ≤ length buffer) where
   abbrev lends : writer.State
-  lends = lent (s .writer) counts (take (s .writer .length - 0) buffer)
+  lends = stateWith (s .writer) counts (take (s .writer .length - 0) buffer)
 
   lends-part : lends ≡ part (given s counts buffer)
   lends-part =
       let e : s .writer .length - 0 ≡ s .writer .length = omega arith in
-      ap (λ (n : ℕ). lent (s .writer) counts (take n buffer)) e
+      ap (λ (n : ℕ). stateWith (s .writer) counts (take n buffer)) e
 
   abbrev whole : List ℕ
   whole = bytes ++ postOf 0 (s .writer .length - 0) buffer
@@ -80,23 +80,23 @@ module _ (s : State) (counts left buffer bytes : List ℕ) (w : CQDBWriter) (r :
   put-back = ap (λ (l : List ℕ). bytes ++ l) (post-is 0 (s .writer .length) buffer (omega arith))
 
   -- put, whose answer has the number k
-  pub puts-as : (due id k : ℕ) (name : List ℕ) (v : Verdict) → k ≡ putRefusal lends (entryOf name id) → lent w left bytes ≡ afterPut lends (entryOf name id)
+  pub puts-as : (due id k : ℕ) (name : List ℕ) (v : Verdict) → k ≡ putRefusal lends (entryOf name id) → stateWith w left bytes ≡ afterPut lends (entryOf name id)
       → v ≡ silentIf (eqb k due) → r ≡ record { state = record { writer = w; size = s .size; done = s .done }; verdict = v }
       → built r left whole ≡ puts (given s counts buffer) due id name
   unfolding puts
   puts-as due id k name v promise leaves ev er =
       let number : k ≡ putRefusal (part (given s counts buffer)) (entryOf name id) = promise ∙ ap (λ (l : writer.State). putRefusal l (entryOf name id)) lends-part in
-      let after : lent w left bytes ≡ afterPut (part (given s counts buffer)) (entryOf name id) = leaves ∙ ap (λ (l : writer.State). afterPut l (entryOf name id)) lends-part in
+      let after : stateWith w left bytes ≡ afterPut (part (given s counts buffer)) (entryOf name id) = leaves ∙ ap (λ (l : writer.State). afterPut l (entryOf name id)) lends-part in
       ap (built r left) put-back ∙ rw (le-ltb (length buffer) (s .writer .length) h, er, ev, ← number, ← after)
 
   -- close, by what it promises of the answer a
-  module _ (a : Closed) (size : ℕ) (promise : closedOf a ≡ closing lends) (leaves : lent w counts bytes ≡ afterClose lends) where
-    closes-as : (x : close.Closing) → closedOf a ≡ x → built r counts whole ≡ closedWith (given s counts buffer) (lent w counts bytes) size x
+  module _ (a : Closed) (size : ℕ) (promise : closedOf a ≡ closing lends) (leaves : stateWith w counts bytes ≡ afterClose lends) where
+    closes-as : (x : close.Closing) → closedOf a ≡ x → built r counts whole ≡ closedWith (given s counts buffer) (stateWith w counts bytes) size x
         → built r counts whole ≡ closes (given s counts buffer) size
     unfolding closes
     closes-as x told e =
         let answer : x ≡ closing (part (given s counts buffer)) = sym told ∙ promise ∙ ap closing lends-part in
-        let after : lent w counts bytes ≡ afterClose (part (given s counts buffer)) = leaves ∙ ap afterClose lends-part in
+        let after : stateWith w counts bytes ≡ afterClose (part (given s counts buffer)) = leaves ∙ ap afterClose lends-part in
         rw (le-ltb (length buffer) (s .writer .length) h, ← answer, ← after) e
 
     pub closes-size : (k : ℕ) (v : Verdict) → a ≡ Size k → v ≡ verdictIf (eqb k size)

@@ -6,7 +6,7 @@ use lib.ListN.{length, take, drop}
 use lib.Dec.{eqb, ltb}
 use Rattle.image.specs.declared.Mode.{Mode}
 use Rattle.image.specs.declared.Mode.the-variants.{Twoway, Oneway}
-use Rattle.writer.specs.State.{lent, Beginning, begun, refusal, beginning, countsBegun}
+use Rattle.writer.specs.State.{stateWith, Beginning, begun, refusal, beginning, countsBegun}
 use Rattle.writer.specs.State as writer
 use Rattle.writer.specs.Put.{entryOf, putRefusal, afterPut}
 use Rattle.writer.specs.Close.{Closing, closing, afterClose}
@@ -54,7 +54,7 @@ begins s mode n =
 
 -- what the record's call is lent: its part of the buffer; and the buffer with what the call leaves there
 abbrev pub part : Replay → writer.State
-part s = lent (s .state .writer) (s .counts) (take (s .state .writer .length) (s .buffer))
+part s = stateWith (s .state .writer) (s .counts) (take (s .state .writer .length) (s .buffer))
 
 abbrev pub with : Replay → writer.State → ℕ → ℕ → Replay
 with s left size done =

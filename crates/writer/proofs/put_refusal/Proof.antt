@@ -4,7 +4,7 @@ use mathlib.Core.Path.{_≡_, sym, ap, _∙_}
 use mathlib.Core.Bool.{true, false}
 use lib.ListN.{length}
 use borrow.Author.Tests.{not-true, not-false}
-use Rattle.writer.specs.State.{lent, fits, finishedSize, tooLarge}
+use Rattle.writer.specs.State.{stateWith, fits, finishedSize, tooLarge}
 use Rattle.writer.specs.Put.{entryOf, writerWith, writerAfter}
 use Rattle.writer.proofs.Fits.{Fitting, fitting}
 use Rattle.writer.proofs.Puts.{refuses-unfit, refuses-full, accepts, long-name}
@@ -18,14 +18,14 @@ fits-requires c κs = search needs
 returns : tie.Need-returns
 returns c =
     let a = c .before .before .before .before .args in
-    let s = lent (a .w) (a .counts .now) (a .buf .now) in
+    let s = stateWith (a .w) (a .counts .now) (a .buf .now) in
     let e = entryOf (a .name .now) (a .id) in
     refuses-unfit s e (sym (c .before .fits2 .ensures) ∙ not-true _ (c .if1 .taken))
 
 returns-2 : tie.Need-returns-2
 returns-2 c =
     let a = c .before .before .before .before .before .args in
-    let s = lent (a .w) (a .counts .now) (a .buf .now) in
+    let s = stateWith (a .w) (a .counts .now) (a .buf .now) in
     let e = entryOf (a .name .now) (a .id) in
     let yes : fits s ≡ true = sym (c .before .before .fits2 .ensures) ∙ not-false _ (c .before .if1 .left) in
     refuses-full s e yes (long-name (a .w) (a .name .now) (a .id) (c .if2 .taken))
@@ -33,7 +33,7 @@ returns-2 c =
 size-with-requires : tie.Need-size-with-requires
 size-with-requires c κs =
     let a = c .before .before .before .before .before .args in
-    let s = lent (a .w) (a .counts .now) (a .buf .now) in
+    let s = stateWith (a .w) (a .counts .now) (a .buf .now) in
     let e = entryOf (a .name .now) (a .id) in
     let yes : fits s ≡ true = sym (c .before .before .fits2 .ensures) ∙ not-false _ (c .before .if1 .left) in
     let f = fitting (a .w) (a .counts .now) (a .buf .now) yes in
@@ -48,7 +48,7 @@ returns-3 : tie.Need-returns-3
 unfolding writerAfter
 returns-3 c =
     let a = c .before .before .before .before .before .before .before .before .args in
-    let s = lent (a .w) (a .counts .now) (a .buf .now) in
+    let s = stateWith (a .w) (a .counts .now) (a .buf .now) in
     let e = entryOf (a .name .now) (a .id) in
     let yes : fits s ≡ true = sym (c .before .before .before .before .before .fits2 .ensures) ∙ not-false _ (c .before .before .before .before .if1 .left) in
     let fine : tooLarge (a .w .length) (finishedSize (writerWith (a .w) (length (a .name .now)) (a .id))) ≡ true =
@@ -59,7 +59,7 @@ returns-4 : tie.Need-returns-4
 unfolding writerAfter
 returns-4 c =
     let a = c .before .before .before .before .before .before .before .before .args in
-    let s = lent (a .w) (a .counts .now) (a .buf .now) in
+    let s = stateWith (a .w) (a .counts .now) (a .buf .now) in
     let e = entryOf (a .name .now) (a .id) in
     let yes : fits s ≡ true = sym (c .before .before .before .before .before .fits2 .ensures) ∙ not-false _ (c .before .before .before .before .if1 .left) in
     let fine : tooLarge (a .w .length) (finishedSize (writerWith (a .w) (length (a .name .now)) (a .id))) ≡ false =
