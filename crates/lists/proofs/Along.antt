@@ -109,7 +109,7 @@ list-begins mode buffer room = rw (begin-accepts (length buffer) room)
 
 pub list-counts : (mode : Mode) (buffer : List ℕ) → headSize ≤ length buffer → (given : List ℕ) → countsBegun (length buffer) given ≡ fresh mode buffer .counts
 unfolding countsBegun fresh
-list-counts mode buffer room stateWith = rw (begin-accepts (length buffer) room)
+list-counts mode buffer room given = rw (begin-accepts (length buffer) room)
 
 module _ (mode : Mode) (buffer : List ℕ) (room : headSize ≤ length buffer) (cs : List Call) (word : WordIds mode cs) where
   pub list-answers : answersOf mode buffer cs ≡ due mode (length buffer) cs
