@@ -2,6 +2,7 @@
 mod Mixing
 mod Blocks
 mod Limit
+mod Powers
 pub mod Answers
 pub mod Rotation
 pub mod Rows

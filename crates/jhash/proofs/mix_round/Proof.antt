@@ -1,6 +1,7 @@
 -- `jhash::mix_round` meets its contract, field by field. Assumes nothing.
 use lib.Bits.{bitXor}
 use Rattle.jhash.specs.Rounds.{round}
+use Rattle.jhash.proofs.Rotation.{by-amount}
 use borrow.Author.Needs.{needs}
 use Rattle.jhash.proofs.mix_round.Statement.{statement}
 use Rattle.jhash.proofs.mix_round.Tie as tie
@@ -17,10 +18,11 @@ wrapping-add-u32-requires c κs = search needs
 returns : tie.Need-returns
 unfolding round
 returns c =
+    let start = c .before .before .before in
     λ i. record {
-      a = c .before .before .before .args .w .b;
+      a = start .args .w .b;
       b = c .wrapping-add-u32 .ensures i;
-      c = bitXor (c .before .minus .ensures i) (c .before .before .rotate-left .ensures i);
+      c = bitXor (c .before .minus .ensures i) (by-amount (start .args .w .c) (start .args .k) (c .before .before .rotate-left .ensures) (start .pre .1) i);
     }
 
 pub mix-round-spec : {M : Type 1} → statement M
