@@ -1,4 +1,4 @@
--- For readers of lookup3 who think of a rotation as a product: by a power of two, split at 2 ^ 32, the two halves added.
+-- For readers of lookup3 who think of a rotation as a product: by a power of two, split at 2 ^ 32, the two halves added (02 (iv)).
 -- Assumes nothing.
 use mathlib.Core.Path.{_≡_, sym, ap, ap₂, _∙_, subst}
 use Prim.Native.Nat.{ℕ, _+_, _-_, _*_, _/_, _%_, _^_, _<_}

@@ -31,7 +31,7 @@ fn wide(x: u8) -> u32
     x as u32
 }
 
-// The powers of two that a rotation multiplies by: entry k is 2^k.
+// The 32 powers of two that a rotation multiplies by: entry k is 2^k.
 const POWERS: [u64; 32] = [
     1,
     2,
@@ -67,7 +67,7 @@ const POWERS: [u64; 32] = [
     2147483648,
 ];
 
-// 2^k, for k modulo 32, out of the table.
+// The table's entry for k modulo 32.
 fn power(k: u32) -> u64
     ensures { λ r. ⌜ r ≡ 2 ^ (k % 32) ⌝ }
 {
@@ -81,8 +81,8 @@ fn halves_added(product: u64) -> u64
     product % 4294967296 + product / 4294967296
 }
 
-// x rotated left by k bits, as a product by a power of two whose halves are added. 32 bits are a whole turn: an amount of 32
-// or more rotates by its remainder modulo 32.
+// x rotated left by k bits: the product by a power of two, its halves added. The sum never carries past 32 bits, so the cast
+// loses nothing. 32 bits are a whole turn: an amount of 32 or more rotates by its remainder modulo 32.
 pub fn rotate_left(x: u32, k: u32) -> u32
     ensures { λ r. ⌜ r ≡ rotl32 x (k % 32) ⌝ }
 {

@@ -19,10 +19,12 @@ returns : tie.Need-returns
 unfolding round
 returns c =
     let start = c .before .before .before in
+    let w = start .args .w in
+    let rotated = by-amount (w .c) (start .args .k) (c .before .before .rotate-left .ensures) (start .pre .1) in
     λ i. record {
-      a = start .args .w .b;
+      a = w .b;
       b = c .wrapping-add-u32 .ensures i;
-      c = bitXor (c .before .minus .ensures i) (by-amount (start .args .w .c) (start .args .k) (c .before .before .rotate-left .ensures) (start .pre .1) i);
+      c = bitXor (c .before .minus .ensures i) (rotated i);
     }
 
 pub mix-round-spec : {M : Type 1} → statement M
