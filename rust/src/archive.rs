@@ -1,5 +1,6 @@
 //! The archive's functions as include/cqdb.h declares them, each behind a safe one: a slice is a pointer that is valid for
 //! its length and not null, a `&mut` overlaps nothing, and no function keeps a pointer.
+use crate::order::Pair;
 
 #[repr(C)]
 pub struct HashAnswer {
@@ -51,6 +52,12 @@ pub struct CloseAnswer {
     pub record: Record,
 }
 
+#[repr(C)]
+pub struct OrderAnswer {
+    pub ok: u32,
+    pub pair: u64,
+}
+
 /// The table counts of a writer.
 pub type Counts = [u32; 256];
 
@@ -72,6 +79,7 @@ extern "C" {
         id: u32,
     ) -> RecordAnswer;
     fn cqdb_close_parts(record: Record, counts: *const u32, buf: *mut u8, len: usize) -> CloseAnswer;
+    fn cqdb_references_first(pairs: *const Pair, n: usize, round: *const u32, m: usize) -> OrderAnswer;
 }
 
 pub fn hash(name: &[u8], start: u32) -> HashAnswer {
@@ -109,4 +117,8 @@ pub fn put(record: Record, counts: &mut Counts, buf: &mut [u8], name: &[u8], id:
 
 pub fn close(record: Record, counts: &Counts, buf: &mut [u8]) -> CloseAnswer {
     unsafe { cqdb_close_parts(record, counts.as_ptr(), buf.as_mut_ptr(), buf.len()) }
+}
+
+pub fn references_first(pairs: &[Pair], round: &[u32]) -> OrderAnswer {
+    unsafe { cqdb_references_first(pairs.as_ptr(), pairs.len(), round.as_ptr(), round.len()) }
 }
