@@ -59,6 +59,20 @@ pub struct CloseAnswer {
     pub record: Record,
 }
 
+#[repr(C)]
+#[derive(Clone, Copy, Debug, PartialEq, Eq)]
+pub struct Pair {
+    pub reference: u32,
+    pub wall: u32,
+}
+
+#[repr(C)]
+#[derive(Clone, Copy, Debug, PartialEq, Eq)]
+pub struct OrderAnswer {
+    pub ok: u32,
+    pub pair: u64,
+}
+
 extern "C" {
     fn cqdb_hash(name: *const u8, len: usize, start: u32) -> HashAnswer;
     fn cqdb_open(image: *const u8, len: usize) -> OpenAnswer;
@@ -77,6 +91,7 @@ extern "C" {
         id: u32,
     ) -> WriterAnswer;
     fn cqdb_close_parts(record: Record, counts: *const u32, buf: *mut u8, len: usize) -> CloseAnswer;
+    fn cqdb_references_first(pairs: *const Pair, n: usize, round: *const u32, m: usize) -> OrderAnswer;
 }
 
 // In all of them each slice is valid for its length, and the functions write only to what is lent as `&mut`.
@@ -124,6 +139,11 @@ pub fn put(record: Record, counts: &mut Counts, buf: &mut [u8], name: &[u8], id:
 /// One close.
 pub fn close(record: Record, counts: &Counts, buf: &mut [u8]) -> CloseAnswer {
     unsafe { cqdb_close_parts(record, counts.as_ptr(), buf.as_mut_ptr(), buf.len()) }
+}
+
+/// Whether every pair is kept in a round, or the place of the first that is not.
+pub fn references_first(pairs: &[Pair], round: &[u32]) -> OrderAnswer {
+    unsafe { cqdb_references_first(pairs.as_ptr(), pairs.len(), round.as_ptr(), round.len()) }
 }
 
 /// The id that a lookup found.

@@ -8,7 +8,7 @@ const SHOWN: u64 = 10;
 pub struct Tally {
     /// Answers that the Rust gave too.
     pub rust: u64,
-    /// Answers held to 01's rules.
+    /// Answers held to the rules of 01 or 02.
     pub rule: u64,
     pub different: u64,
 }
@@ -20,10 +20,10 @@ impl Tally {
         self.equal("the Rust", ours, theirs, what);
     }
 
-    /// An answer of ours beside that of 01's rules.
+    /// An answer of ours beside that of the rules.
     pub fn rule<T: PartialEq + Debug>(&mut self, ours: T, rules: T, what: impl FnOnce() -> String) {
         self.rule += 1;
-        self.equal("01", ours, rules, what);
+        self.equal("the rules", ours, rules, what);
     }
 
     /// Byte strings, of which only the first difference is worth printing.
