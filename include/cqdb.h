@@ -201,6 +201,27 @@ static inline cqdb_close_answer cqdb_close(const cqdb_writer *w, uint8_t *buf, s
     return c;
 }
 
+/* Order of a round. Needs no image. */
+
+/* The reference must be sighted before the wall prism. */
+typedef struct {
+    uint32_t reference;
+    uint32_t wall;
+} cqdb_pair;
+
+/* ok is 1 or 0; pair is 0 where ok is 1. */
+typedef struct {
+    uint32_t ok;
+    uint64_t pair;
+} cqdb_order_answer;
+
+/* A pair is kept in a round, a list of ids, when its wall prism does not occur, or its reference occurs before the wall
+   prism's first occurrence. ok is 1 when each of the n pairs is kept; otherwise pair is the place, counted from 0, of the
+   first that is not. A pair of an id with itself is kept only where that id does not occur. Never refused, and changes
+   nothing; both pointers are not NULL, also where their number is 0. For each pair the round is read once at most, up to
+   the first of its two ids: up to n x m steps. */
+cqdb_order_answer cqdb_references_first(const cqdb_pair *pairs, size_t n, const uint32_t *round, size_t m);
+
 #ifdef __cplusplus
 }
 #endif

@@ -59,6 +59,23 @@ pub struct CloseAnswer {
     pub record: Record,
 }
 
+/// The reference must be sighted before the wall prism.
+#[repr(C)]
+#[derive(Clone, Copy, Debug, PartialEq, Eq, Hash)]
+pub struct Pair {
+    /// The id of the reference.
+    pub reference: u32,
+    /// The id of the wall prism.
+    pub wall: u32,
+}
+
+#[repr(C)]
+#[derive(Clone, Copy, Debug, PartialEq, Eq)]
+pub struct OrderAnswer {
+    pub ok: u32,
+    pub pair: u64,
+}
+
 /// The table counts of a writer.
 pub type Counts = [u32; 256];
 
@@ -80,6 +97,7 @@ extern "C" {
         id: u32,
     ) -> RecordAnswer;
     fn cqdb_close_parts(record: Record, counts: *const u32, buf: *mut u8, len: usize) -> CloseAnswer;
+    fn cqdb_references_first(pairs: *const Pair, n: usize, round: *const u32, m: usize) -> OrderAnswer;
 }
 
 /// The hash of a name with a start value, or the refusal.
@@ -126,4 +144,9 @@ pub fn put(record: Record, counts: &mut Counts, buf: &mut [u8], name: &[u8], id:
 /// One close.
 pub fn close(record: Record, counts: &Counts, buf: &mut [u8]) -> CloseAnswer {
     unsafe { cqdb_close_parts(record, counts.as_ptr(), buf.as_mut_ptr(), buf.len()) }
+}
+
+/// Whether every pair is kept in a round, or the place of the first that is not.
+pub fn references_first(pairs: &[Pair], round: &[u32]) -> OrderAnswer {
+    unsafe { cqdb_references_first(pairs.as_ptr(), pairs.len(), round.as_ptr(), round.len()) }
 }

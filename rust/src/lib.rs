@@ -25,10 +25,12 @@
 #![warn(missing_docs)]
 
 mod archive;
+mod order;
 mod read;
 mod refusal;
 mod write;
 
+pub use order::{references_first, Order, Pair};
 pub use read::{Iter, CQDB};
 pub use refusal::Refusal;
 pub use write::{CQDBWriter, Flag};

@@ -1,6 +1,7 @@
-// Hostile calls, to be run under valgrind: damaged images, random bytes, records that do not fit and broken buffers. Every byte
-// string stands in a heap block of exactly its length, so that valgrind reports a read or write outside it. A refusal changes
-// no byte, reading changes none, and every place in an answer lies in the image.   hostile [CALLS | too-much]
+// Hostile calls, to be run under valgrind: damaged images, random bytes, records that do not fit, broken buffers, pairs and rounds
+// of any ids. Everything lent stands in a heap block of exactly its length, so that valgrind reports a read or write outside
+// it. A refusal changes no byte, reading changes none, and every place in an answer lies in what was lent.
+// hostile [CALLS | too-much]
 mod damage;
 mod names;
 mod original;
@@ -11,7 +12,7 @@ mod spoil;
 mod tally;
 mod writing;
 
-use ours::Counts;
+use ours::{Counts, Pair};
 use rules::HEAD;
 use seed::Random;
 use tally::Tally;
@@ -25,6 +26,7 @@ struct Run {
     refused: u64,
     images: u64,
     states: u64,
+    rounds: u64,
 }
 
 // A heap block of exactly these bytes.
@@ -84,6 +86,21 @@ impl Run {
         self.states += 1;
     }
 
+    // One round of ids and some pairs. Where it fails, the place is one of the list.
+    fn order(&mut self, random: &mut Random) {
+        let ids = random.pick(&[2, 3, 9, 400]);
+        let id = |random: &mut Random| if random.once_in(9) { random.word() } else { random.below(ids) as u32 };
+        let pairs: Box<[Pair]> = (0..random.below(7)).map(|_| Pair { reference: id(random), wall: id(random) }).collect();
+        let round: Box<[u32]> = (0..random.below(40)).map(|_| id(random)).collect();
+        let before = (pairs.clone(), round.clone());
+        let answer = ours::references_first(&pairs, &round);
+        let in_list = if answer.ok == 1 { answer.pair == 0 } else { answer.ok == 0 && answer.pair < pairs.len() as u64 };
+        self.tally.rule(in_list, true, || format!("{answer:?} of {} pairs", pairs.len()));
+        self.tally.rule((pairs, round) == before, true, || "pairs and a round that were read".into());
+        self.calls += 1;
+        self.rounds += 1;
+    }
+
     fn unchanged(&mut self, (record, counts, buf): (ours::Record, &Counts, &[u8]), s: &State, what: &str) {
         self.refused += 1;
         self.tally.rule(record, s.record, || format!("the record after {what}"));
@@ -138,6 +155,9 @@ fn round(run: &mut Run, random: &mut Random) {
         }
         run.write(random, &odd);
     }
+    for _ in 0..60 {
+        run.order(random);
+    }
 }
 
 // Lends one byte more than the heap block has. valgrind has to report it, which shows that it watches the archive.
@@ -154,13 +174,13 @@ fn main() {
     let calls = std::env::args().nth(1).map_or(CALLS, |text| text.parse().expect("a number of calls"));
     let mut random = Random::new();
     println!("hostile: seed {}", random.seed);
-    let mut run = Run { tally: Tally::default(), calls: 0, refused: 0, images: 0, states: 0 };
+    let mut run = Run { tally: Tally::default(), calls: 0, refused: 0, images: 0, states: 0, rounds: 0 };
     while run.calls < calls {
         round(&mut run, &mut random);
     }
     println!(
-        "hostile: {} calls on {} images and {} records with their buffers; {} refused; {} of {} checks failed",
-        run.calls, run.images, run.states, run.refused, run.tally.different, run.tally.rule
+        "hostile: {} calls on {} images, {} records with their buffers and {} rounds; {} refused; {} of {} checks failed",
+        run.calls, run.images, run.states, run.rounds, run.refused, run.tally.different, run.tally.rule
     );
     std::process::exit(i32::from(run.tally.different > 0));
 }
