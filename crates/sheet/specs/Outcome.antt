@@ -1,0 +1,6 @@
+-- What a call gives: a value, or a refusal by its number (01, "When a call is refused"). Assumes nothing.
+use Prim.Native.Nat.{ℕ}
+
+pub data Outcome (A : Type 0) : Type 0 where
+  value : A → Outcome A
+  refusal : ℕ → Outcome A
