@@ -23,7 +23,9 @@ fn count_at(file: &[u8], at: usize) -> u32
     requires { ⌜ at + 2 ≤ length (now file) ⌝ }
     ensures { λ r. ⌜ (r ≡ countAt (now (file .entry)) at) × (r < 65536) ⌝ }
 {
-    wide(file[at]) + wide(file[at + 1]) * 256
+    let low = wide(file[at]);
+    let high = wide(file[at + 1]);
+    low + high * 256
 }
 
 // The section whose count stands at `at`.

@@ -27,8 +27,10 @@ fn put_section(buf: &mut [u8], at: usize, ids: &[u32]) -> usize
     ensures stored { λ _. ⌜ now (buf .exit) ≡ sets (now (buf .entry)) at (sectionBytes (now (ids .entry))) ⌝ }
 {
     let count = ids.len();
-    buf[at] = (count % 256) as u8;
-    buf[at + 1] = (count / 256 % 256) as u8;
+    let low = (count % 256) as u8;
+    let high = (count / 256 % 256) as u8;
+    buf[at] = low;
+    buf[at + 1] = high;
     put_ids(&mut *buf, at + 2, ids);
     at + 2 + 4 * count
 }

@@ -11,14 +11,14 @@ use borrow.Author.Needs.{needs}
 use Rattle.sheet.proofs.writing.put_section.Statement.{statement}
 use Rattle.sheet.proofs.writing.put_section.Tie as tie
 
-cast-buf : tie.Need-cast-buf
-cast-buf c = search needs
+cast-low : tie.Need-cast-low
+cast-low c = search needs
+
+cast-high : tie.Need-cast-high
+cast-high c = search needs
 
 slice-write-buf : tie.Need-slice-write-buf
 slice-write-buf c = search needs
-
-cast-buf-2 : tie.Need-cast-buf-2
-cast-buf-2 c = search needs
 
 add-buf : tie.Need-add-buf
 add-buf c = search needs
@@ -58,9 +58,9 @@ pub put-section-spec : {M : Type 1} → statement M
 put-section-spec =
     tie.close
     (tie.spec
-    cast-buf
+    cast-low
+    cast-high
     slice-write-buf
-    cast-buf-2
     add-buf
     slice-write-buf-2
     add-put-ids
