@@ -58,6 +58,20 @@ pub struct OrderAnswer {
     pub pair: u64,
 }
 
+/// For references, wall prisms and retired prisms the number of ids, and where they begin in the file.
+#[repr(C)]
+pub struct SheetAnswer {
+    pub refusal: u32,
+    pub counts: [u32; 3],
+    pub starts: [u64; 3],
+}
+
+#[repr(C)]
+pub struct SheetLengthAnswer {
+    pub refusal: u32,
+    pub length: u64,
+}
+
 /// The table counts of a writer.
 pub type Counts = [u32; 256];
 
@@ -80,6 +94,17 @@ extern "C" {
     ) -> RecordAnswer;
     fn cqdb_close_parts(record: Record, counts: *const u32, buf: *mut u8, len: usize) -> CloseAnswer;
     fn cqdb_references_first(pairs: *const Pair, n: usize, round: *const u32, m: usize) -> OrderAnswer;
+    fn cqdb_sheet_read(file: *const u8, len: usize) -> SheetAnswer;
+    fn cqdb_sheet_write(
+        buf: *mut u8,
+        len: usize,
+        references: *const u32,
+        n: usize,
+        walls: *const u32,
+        m: usize,
+        retired: *const u32,
+        k: usize,
+    ) -> SheetLengthAnswer;
 }
 
 pub fn hash(name: &[u8], start: u32) -> HashAnswer {
@@ -121,4 +146,15 @@ pub fn close(record: Record, counts: &Counts, buf: &mut [u8]) -> CloseAnswer {
 
 pub fn references_first(pairs: &[Pair], round: &[u32]) -> OrderAnswer {
     unsafe { cqdb_references_first(pairs.as_ptr(), pairs.len(), round.as_ptr(), round.len()) }
+}
+
+pub fn sheet_read(file: &[u8]) -> SheetAnswer {
+    unsafe { cqdb_sheet_read(file.as_ptr(), file.len()) }
+}
+
+pub fn sheet_write(buf: &mut [u8], references: &[u32], walls: &[u32], retired: &[u32]) -> SheetLengthAnswer {
+    let (a, b, c) = (references, walls, retired);
+    unsafe {
+        cqdb_sheet_write(buf.as_mut_ptr(), buf.len(), a.as_ptr(), a.len(), b.as_ptr(), b.len(), c.as_ptr(), c.len())
+    }
 }

@@ -22,6 +22,12 @@ pub enum Refusal {
     BackLeaves = 8,
     /// The name has 4,294,967,295 bytes or more.
     NameTooLong = 9,
+    /// The round sheet has too few bytes.
+    TooFewBytes = 19,
+    /// The round sheet has left-over bytes.
+    LeftOverBytes = 20,
+    /// A list of a round sheet has more than 65,535 ids, or its buffer is too short.
+    SheetTooLarge = 21,
 }
 
 impl Refusal {
@@ -41,6 +47,9 @@ impl Refusal {
             7 => Refusal::TableLeaves,
             8 => Refusal::BackLeaves,
             9 => Refusal::NameTooLong,
+            19 => Refusal::TooFewBytes,
+            20 => Refusal::LeftOverBytes,
+            21 => Refusal::SheetTooLarge,
             _ => unreachable!("the archive gives no refusal {number}"),
         }
     }
@@ -66,6 +75,9 @@ impl fmt::Display for Refusal {
             Refusal::TableLeaves => "invalid table data: out of bounds",
             Refusal::BackLeaves => "invalid backward link data: out of bounds",
             Refusal::NameTooLong => "the name is too long",
+            Refusal::TooFewBytes => "invalid round sheet, too few bytes",
+            Refusal::LeftOverBytes => "invalid round sheet, left-over bytes",
+            Refusal::SheetTooLarge => "no room: a list of the round sheet is too long, or its buffer too short",
         })
     }
 }

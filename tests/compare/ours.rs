@@ -73,6 +73,21 @@ pub struct OrderAnswer {
     pub pair: u64,
 }
 
+#[repr(C)]
+#[derive(Clone, Copy, Debug, PartialEq, Eq)]
+pub struct SheetAnswer {
+    pub refusal: u32,
+    pub counts: [u32; 3],
+    pub starts: [u64; 3],
+}
+
+#[repr(C)]
+#[derive(Clone, Copy, Debug, PartialEq, Eq)]
+pub struct SheetLengthAnswer {
+    pub refusal: u32,
+    pub length: u64,
+}
+
 extern "C" {
     fn cqdb_hash(name: *const u8, len: usize, start: u32) -> HashAnswer;
     fn cqdb_open(image: *const u8, len: usize) -> OpenAnswer;
@@ -92,6 +107,17 @@ extern "C" {
     ) -> WriterAnswer;
     fn cqdb_close_parts(record: Record, counts: *const u32, buf: *mut u8, len: usize) -> CloseAnswer;
     fn cqdb_references_first(pairs: *const Pair, n: usize, round: *const u32, m: usize) -> OrderAnswer;
+    fn cqdb_sheet_read(file: *const u8, len: usize) -> SheetAnswer;
+    fn cqdb_sheet_write(
+        buf: *mut u8,
+        len: usize,
+        references: *const u32,
+        n: usize,
+        walls: *const u32,
+        m: usize,
+        retired: *const u32,
+        k: usize,
+    ) -> SheetLengthAnswer;
 }
 
 // In all of them each slice is valid for its length, and the functions write only to what is lent as `&mut`.
@@ -144,6 +170,18 @@ pub fn close(record: Record, counts: &Counts, buf: &mut [u8]) -> CloseAnswer {
 /// Whether every pair is kept in a round, or the place of the first that is not.
 pub fn references_first(pairs: &[Pair], round: &[u32]) -> OrderAnswer {
     unsafe { cqdb_references_first(pairs.as_ptr(), pairs.len(), round.as_ptr(), round.len()) }
+}
+
+/// Where the ids of a round sheet's three sections stand in the file.
+pub fn sheet_read(file: &[u8]) -> SheetAnswer {
+    unsafe { cqdb_sheet_read(file.as_ptr(), file.len()) }
+}
+
+/// The round sheet of three lists, references, wall prisms and retired prisms, stored in front of a buffer.
+pub fn sheet_write(buf: &mut [u8], lists: [&[u32]; 3]) -> SheetLengthAnswer {
+    let [a, b, c] = lists;
+    let (buf, len) = (buf.as_mut_ptr(), buf.len());
+    unsafe { cqdb_sheet_write(buf, len, a.as_ptr(), a.len(), b.as_ptr(), b.len(), c.as_ptr(), c.len()) }
 }
 
 /// The id that a lookup found.
