@@ -1,5 +1,5 @@
 -- Reading a file: the three sections, and nothing left over. Assumes nothing.
-use Prim.Native.Nat.{ℕ, _+_, _*_, _≤_, _<_}
+use Prim.Native.Nat.{ℕ, _≤_, _<_}
 use native.Mathlib.Omega.{arith}
 use mathlib.Core.Path.{_≡_, refl, sym, ap, _∙_}
 use mathlib.Core.Logic.{_⊎_, inl, inr}
@@ -7,14 +7,14 @@ use mathlib.Core.Bool.{Bool, true, false}
 use mathlib.Core.List.{List, [], _∷_, _++_, append-nil}
 use borrow.Author.Tests.{lt-ltb, le-ltb, ltb-true, ltb-false}
 use lib.Dec.{ltb}
-use lib.ListN.{length, take, drop, length-append}
+use lib.ListN.{length, length-append}
 use lib.Seq.{take-all}
 use Rattle.sheet.specs.Outcome.{Outcome, value, refusal}
 use Rattle.sheet.specs.Format.{Lists, sheetBytes}
 use Rattle.sheet.specs.Reading.{endOf, next, sections, nothingLeft, reading, listsOf, readLists}
 use Rattle.sheet.specs.RoundSheet.{Below, Fits}
 use Rattle.sheet.specs.declared.Sheet.{Sheet}
-use Rattle.sheet.proofs.Sheets.{Lie, three-or-short, sheet-reads, lists-read, sheet-ends, front-again}
+use Rattle.sheet.proofs.Sheets.{Lie, Three, three-or-short, sheet-reads, lists-read, sheet-ends, front-again}
 
 module _ (file : List ℕ) where
   pub reading-short : sections file ≡ refusal 19 → reading file ≡ refusal 19
@@ -53,22 +53,24 @@ pub record Longer (file : List ℕ) : Type 0 where
   pub read : reading file ≡ refusal 20
   pub end : endOf (places .retired) < length file
 
-pub cases : (file : List ℕ) → Whole file ⊎ (Longer file ⊎ (reading file ≡ refusal 19))
+abbrev pub Cases : List ℕ → Type 0
+Cases file = Whole file ⊎ (Longer file ⊎ (reading file ≡ refusal 19))
+
+pub cases : (file : List ℕ) → Cases file
 cases file = found (three-or-short file)
   where
-    ended : (s : Sheet) → sections file ≡ value s → Lie file s → (t : Bool) → ltb (endOf (s .retired)) (length file) ≡ t
-        → Whole file ⊎ (Longer file ⊎ (reading file ≡ refusal 19))
-    ended s e l true k =
-        let h = ltb-true (endOf (s .retired)) (length file) k in
-        inr (inl (record { places = s; lie = l; read = reading-left file s e h; end = h }))
-    ended s e l false k =
-        let h = ltb-false (endOf (s .retired)) (length file) k in
-        inl (record { places = s; lie = l; read = reading-whole file s e h; end = omega (arith, l .retired .inside) })
+    ended : (t : Three file) (left : Bool) → ltb (endOf (t .places .retired)) (length file) ≡ left → Cases file
+    ended t true k =
+        let h = ltb-true (endOf (t .places .retired)) (length file) k in
+        inr (inl (record { places = t .places; lie = t .lie; read = reading-left file (t .places) (t .found) h; end = h }))
+    ended t false k =
+        let h = ltb-false (endOf (t .places .retired)) (length file) k in
+        let inside = t .lie .retired .inside in
+        inl (record { places = t .places; lie = t .lie; read = reading-whole file (t .places) (t .found) h; end = omega arith })
 
-    found : ((s : Sheet) × (sections file ≡ value s) × Lie file s) ⊎ (sections file ≡ refusal 19)
-        → Whole file ⊎ (Longer file ⊎ (reading file ≡ refusal 19))
-    found (inl (s, e, l)) = ended s e l (ltb (endOf (s .retired)) (length file)) refl
-    found (inr e) = inr (inr (reading-short file e))
+    found : Three file ⊎ (sections file ≡ refusal 19) → Cases file
+    found (inl t) = ended t (ltb (endOf (t .places .retired)) (length file)) refl
+    found (inr short) = inr (inr (reading-short file short))
 
 -- ---- the file of three lists
 

@@ -1,12 +1,10 @@
 -- The worked examples hold, computed by the checker. Assumes nothing.
-use mathlib.Core.Path.{_≡_, refl}
-use mathlib.Core.List.{map}
-use lib.ListN.{length}
+use mathlib.Core.Path.{refl}
 use Rattle.image.specs.Bytes.{word, le32, cat}
 use Rattle.sheet.specs.Format.{countAt, countBytes, ids, idBytes, sectionBytes, sheetBytes}
 use Rattle.sheet.specs.Reading.{sectionAt, sections, reading, readLists}
 use Rattle.sheet.specs.Writing.{writing, afterWriting}
-use Rattle.sheet.specs.Rows.{ReadRow, WriteRow, readRows, writeRows, Answers}
+use Rattle.sheet.specs.Rows.{Answers}
 
 -- every row holds
 pub rows-hold : Answers

@@ -3,13 +3,13 @@ use Prim.Native.Nat.{ℕ, _+_, _*_, _-_, _/_, _^_, _≤_, _<_}
 use native.Mathlib.Omega.{arith}
 use mathlib.Core.Path.{_≡_, refl, sym, ap, ap₂, _∙_}
 use mathlib.Core.Logic.{_⊎_, inl, inr}
-use mathlib.Core.Bool.{Bool, true, false, cond}
-use mathlib.Core.List.{List, [], _∷_, _++_, append-assoc, append-nil}
+use mathlib.Core.Bool.{Bool, true, false}
+use mathlib.Core.List.{List, [], _++_, append-assoc, append-nil}
 use borrow.Author.Tests.{lt-ltb, le-ltb, ltb-true, ltb-false}
 use lib.Dec.{ltb}
-use lib.ListN.{length, getD, take, drop, length-append, length-take, length-drop, drop-of-length-le}
+use lib.ListN.{length, take, drop, length-append, length-take, length-drop, drop-of-length-le}
 use lib.Seq.{take-nil, take-all, take-at, drop-at, take-add, drop-drop, drop-append-seam, drop-append-add}
-use Rattle.sheet.specs.Outcome.{Outcome, value, refusal}
+use Rattle.sheet.specs.Outcome.{value, refusal}
 use Rattle.sheet.specs.Format.{countAt, countBytes, ids, idBytes, sectionBytes}
 use Rattle.sheet.specs.Reading.{endOf, partOf, idsIn, sectionAt}
 use Rattle.sheet.specs.RoundSheet.{Below, Holdable, Holds}
@@ -26,6 +26,11 @@ pub record Lies (file : List ℕ) (o : ℕ) (p : Place) : Type 0 where
   pub start : p .start ≡ o + 2
   pub count : p .count ≡ countAt file o
   pub inside : endOf p ≤ length file
+
+pub record FoundAt (file : List ℕ) (o : ℕ) : Type 0 where
+  pub place : Place
+  pub found : sectionAt file o ≡ value place
+  pub lies : Lies file o place
 
 -- ---- by the tests
 
@@ -46,26 +51,25 @@ module _ (file : List ℕ) (o : ℕ) where
   lies h = simp (le-ltb (length file) (o + 2) (omega arith), le-ltb (length file) (endOf here) h)
 
   -- a section is found where it lies, or refused with 19
-  pub found-or-short : ((p : Place) × (sectionAt file o ≡ value p) × Lies file o p) ⊎ (sectionAt file o ≡ refusal 19)
+  pub found-or-short : FoundAt file o ⊎ (sectionAt file o ≡ refusal 19)
   found-or-short = counted (ltb (length file) (o + 2)) refl
     where
-      held : (t : Bool) → ltb (length file) (endOf here) ≡ t → o + 2 ≤ length file
-          → ((p : Place) × (sectionAt file o ≡ value p) × Lies file o p) ⊎ (sectionAt file o ≡ refusal 19)
+      held : (t : Bool) → ltb (length file) (endOf here) ≡ t → o + 2 ≤ length file → FoundAt file o ⊎ (sectionAt file o ≡ refusal 19)
       held true k c = inr (no-ids c (ltb-true (length file) (endOf here) k))
       held false k c =
           let l = ltb-false (length file) (endOf here) k in
-          inl (here, lies l, record { start = refl; count = refl; inside = l })
+          inl (record { place = here; found = lies l; lies = record { start = refl; count = refl; inside = l } })
 
-      counted : (t : Bool) → ltb (length file) (o + 2) ≡ t → ((p : Place) × (sectionAt file o ≡ value p) × Lies file o p) ⊎ (sectionAt file o ≡ refusal 19)
+      counted : (t : Bool) → ltb (length file) (o + 2) ≡ t → FoundAt file o ⊎ (sectionAt file o ≡ refusal 19)
       counted true k = inr (no-count (ltb-true (length file) (o + 2) k))
       counted false k = held (ltb (length file) (endOf here)) refl (ltb-false (length file) (o + 2) k)
 
   pub found-inside : (p : Place) → sectionAt file o ≡ value p → endOf p ≤ length file
   found-inside p e = by found-or-short
     where
-      by : ((q : Place) × (sectionAt file o ≡ value q) × Lies file o q) ⊎ (sectionAt file o ≡ refusal 19) → endOf p ≤ length file
-      by (inl (q, is, l)) = let same : q ≡ p = cc in omega (arith, ap endOf same, l .inside)
-      by (inr is) = absurd (no-value p 19 (sym is ∙ e))
+      by : FoundAt file o ⊎ (sectionAt file o ≡ refusal 19) → endOf p ≤ length file
+      by (inl f) = let same : f .place ≡ p = cc in omega (arith, ap endOf same, f .lies .inside)
+      by (inr short) = absurd (no-value p 19 (sym short ∙ e))
 
 -- ---- a part by its start and end, also of a place that leaves the file
 

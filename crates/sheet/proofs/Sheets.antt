@@ -1,18 +1,18 @@
 -- The three sections of a file, found one behind the other; and the file of three lists. Assumes nothing.
-use Prim.Native.Nat.{ℕ, _+_, _*_, _≤_, _<_}
+use Prim.Native.Nat.{ℕ, _+_, _*_}
 use native.Mathlib.Omega.{arith}
-use mathlib.Core.Path.{_≡_, refl, sym, ap, ap₂, _∙_}
+use mathlib.Core.Path.{_≡_, sym, ap, ap₂, _∙_}
 use mathlib.Core.Logic.{_⊎_, inl, inr}
-use mathlib.Core.List.{List, [], _∷_, _++_, append-assoc}
+use mathlib.Core.List.{List, [], _++_, append-assoc}
 use lib.ListN.{length, take, drop, length-append, take-append-drop}
-use lib.Seq.{take-add, drop-drop}
+use lib.Seq.{take-add}
 use Rattle.sheet.specs.Outcome.{Outcome, value, refusal}
-use Rattle.sheet.specs.Format.{idBytes, sectionBytes, Lists, sheetBytes}
+use Rattle.sheet.specs.Format.{sectionBytes, Lists, sheetBytes}
 use Rattle.sheet.specs.Reading.{endOf, partOf, idsIn, sectionAt, next, sections, listsOf}
-use Rattle.sheet.specs.RoundSheet.{Below, Holdable, Fits}
+use Rattle.sheet.specs.RoundSheet.{Below, Fits}
 use Rattle.sheet.specs.declared.Place.{Place}
 use Rattle.sheet.specs.declared.Sheet.{Sheet}
-use Rattle.sheet.proofs.Sections.{Lies, found-or-short, length-section, ids-of, section-reads, part-reads, holdable, bytes-again}
+use Rattle.sheet.proofs.Sections.{Lies, FoundAt, found-or-short, length-section, ids-of, section-reads, part-reads, holdable, bytes-again}
 
 pub sized : (l : Lists) → length (sheetBytes l) ≡ 6 + 4 * (length (l .references) + length (l .walls) + length (l .retired))
 unfolding sheetBytes
@@ -36,22 +36,22 @@ module _ (file : List ℕ) where
   from-references a = next (sectionAt file (endOf a)) (λ b. from-walls a b)
 
   module _ (a : Place) (ea : sectionAt file 0 ≡ value a) where
-    second : sections file ≡ from-references a
+    behind-first : sections file ≡ from-references a
     unfolding sections
-    second = ap (λ (r : Outcome Place). next r from-references) ea
+    behind-first = ap (λ (r : Outcome Place). next r from-references) ea
 
     pub short-walls : sectionAt file (endOf a) ≡ refusal 19 → sections file ≡ refusal 19
-    short-walls e = second ∙ ap (λ (r : Outcome Place). next r (from-walls a)) e
+    short-walls e = behind-first ∙ ap (λ (r : Outcome Place). next r (from-walls a)) e
 
     module _ (b : Place) (eb : sectionAt file (endOf a) ≡ value b) where
-      third : sections file ≡ from-walls a b
-      third = second ∙ ap (λ (r : Outcome Place). next r (from-walls a)) eb
+      behind-second : sections file ≡ from-walls a b
+      behind-second = behind-first ∙ ap (λ (r : Outcome Place). next r (from-walls a)) eb
 
       pub short-retired : sectionAt file (endOf b) ≡ refusal 19 → sections file ≡ refusal 19
-      short-retired e = third ∙ ap (λ (r : Outcome Place). next r (λ c. value (sheet a b c))) e
+      short-retired e = behind-second ∙ ap (λ (r : Outcome Place). next r (λ c. value (sheet a b c))) e
 
       pub all-three : (c : Place) → sectionAt file (endOf b) ≡ value c → sections file ≡ value (sheet a b c)
-      all-three c ec = third ∙ ap (λ (r : Outcome Place). next r (λ c. value (sheet a b c))) ec
+      all-three c ec = behind-second ∙ ap (λ (r : Outcome Place). next r (λ c. value (sheet a b c))) ec
 
   pub short-references : sectionAt file 0 ≡ refusal 19 → sections file ≡ refusal 19
   unfolding sections
@@ -63,30 +63,32 @@ pub record Lie (file : List ℕ) (s : Sheet) : Type 0 where
   pub walls : Lies file (endOf (s .references)) (s .walls)
   pub retired : Lies file (endOf (s .walls)) (s .retired)
 
--- they are found, or the file is refused with 19
-abbrev Found : List ℕ → Type 0
-Found file = (s : Sheet) × (sections file ≡ value s) × Lie file s
+pub record Three (file : List ℕ) : Type 0 where
+  pub places : Sheet
+  pub found : sections file ≡ value places
+  pub lie : Lie file places
 
-pub three-or-short : (file : List ℕ) → Found file ⊎ (sections file ≡ refusal 19)
+-- they are found, or the file is refused with 19
+pub three-or-short : (file : List ℕ) → Three file ⊎ (sections file ≡ refusal 19)
 three-or-short file = first (found-or-short file 0)
   where
-    last : (a b : Place) → sectionAt file 0 ≡ value a → Lies file 0 a → sectionAt file (endOf a) ≡ value b → Lies file (endOf a) b
-        → ((p : Place) × (sectionAt file (endOf b) ≡ value p) × Lies file (endOf b) p) ⊎ (sectionAt file (endOf b) ≡ refusal 19)
-        → Found file ⊎ (sections file ≡ refusal 19)
-    last a b ea la eb lb (inl (c, ec, lc)) =
-        inl (sheet a b c, all-three file a ea b eb c ec, record { references = la; walls = lb; retired = lc })
-    last a b ea la eb lb (inr e) = inr (short-retired file a ea b eb e)
+    third : (a : FoundAt file 0) (b : FoundAt file (endOf (a .place))) → FoundAt file (endOf (b .place)) ⊎ (sectionAt file (endOf (b .place)) ≡ refusal 19)
+        → Three file ⊎ (sections file ≡ refusal 19)
+    third a b (inl c) = inl (record {
+      places = sheet (a .place) (b .place) (c .place);
+      found = all-three file (a .place) (a .found) (b .place) (b .found) (c .place) (c .found);
+      lie = record { references = a .lies; walls = b .lies; retired = c .lies };
+    })
+    third a b (inr short) = inr (short-retired file (a .place) (a .found) (b .place) (b .found) short)
 
-    then : (a : Place) → sectionAt file 0 ≡ value a → Lies file 0 a
-        → ((p : Place) × (sectionAt file (endOf a) ≡ value p) × Lies file (endOf a) p) ⊎ (sectionAt file (endOf a) ≡ refusal 19)
-        → Found file ⊎ (sections file ≡ refusal 19)
-    then a ea la (inl (b, eb, lb)) = last a b ea la eb lb (found-or-short file (endOf b))
-    then a ea la (inr e) = inr (short-walls file a ea e)
+    second : (a : FoundAt file 0) → FoundAt file (endOf (a .place)) ⊎ (sectionAt file (endOf (a .place)) ≡ refusal 19)
+        → Three file ⊎ (sections file ≡ refusal 19)
+    second a (inl b) = third a b (found-or-short file (endOf (b .place)))
+    second a (inr short) = inr (short-walls file (a .place) (a .found) short)
 
-    first : ((p : Place) × (sectionAt file 0 ≡ value p) × Lies file 0 p) ⊎ (sectionAt file 0 ≡ refusal 19)
-        → Found file ⊎ (sections file ≡ refusal 19)
-    first (inl (a, ea, la)) = then a ea la (found-or-short file (endOf a))
-    first (inr e) = inr (short-references file e)
+    first : FoundAt file 0 ⊎ (sectionAt file 0 ≡ refusal 19) → Three file ⊎ (sections file ≡ refusal 19)
+    first (inl a) = second a (found-or-short file (endOf (a .place)))
+    first (inr short) = inr (short-references file short)
 
 -- ---- the file of three lists, and bytes behind it
 

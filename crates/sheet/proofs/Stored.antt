@@ -3,10 +3,10 @@ use Prim.Native.Nat.{ℕ, suc, _+_, _*_, _/_, _%_, _≤_, _<_}
 use native.Mathlib.Omega.{arith}
 use native.Mathlib.Nat.{zero-add}
 use native.Mathlib.Numerals.{towards-suc}
-use mathlib.Core.Path.{_≡_, refl, sym, ap, ap₂, _∙_}
+use mathlib.Core.Path.{_≡_, refl, sym, ap, _∙_}
 use mathlib.Core.Bool.{Bool, true, false, cond, _||_}
-use mathlib.Core.List.{List, [], _∷_, _++_}
-use borrow.Author.Tests.{le-ltb, ltb-true}
+use mathlib.Core.List.{List, _∷_, _++_}
+use borrow.Author.Tests.{le-ltb}
 use lib.Dec.{ltb}
 use lib.ListN.{length, getD, set, take, drop, drop-of-length-le, length-append}
 use lib.Seq.{sets, sets-eq, drop-cons, take-append-seam}
@@ -19,7 +19,6 @@ use Rattle.sheet.specs.Writing.{passes, tooLong, writing, leftBy, afterW
 use Rattle.sheet.specs.RoundSheet.{Fits}
 use Rattle.sheet.proofs.Words.{length-countBytes}
 use Rattle.sheet.proofs.Sections.{length-section}
-use Rattle.sheet.proofs.Sheets.{sized}
 
 -- ---- the answer
 

@@ -1,8 +1,8 @@
 -- The theorem `round-sheet`: the sentences of 02 (xi) (`specs/RoundSheet`). Assumes nothing.
 use Prim.Native.Nat.{ℕ, _≤_}
 use native.Mathlib.Omega.{arith}
-use mathlib.Core.Path.{_≡_, refl, sym, ap, subst, _∙_}
-use mathlib.Core.Logic.{_↔_, _⊎_, inl, inr}
+use mathlib.Core.Path.{_≡_, sym, ap, subst, _∙_}
+use mathlib.Core.Logic.{_↔_, inl, inr}
 use mathlib.Core.List.{List, [], _∷_, _++_, append-nil}
 use lib.ListN.{length, take, drop, length-drop}
 use Rattle.sheet.specs.Outcome.{Outcome, value, refusal}
@@ -12,8 +12,8 @@ use Rattle.sheet.specs.Writing.{writing, afterWriting}
 use Rattle.sheet.specs.RoundSheet.{Below, Fits, Placed, Holds, GoesOn, BreaksOff, OneOfThree, RoundSheet}
 use Rattle.sheet.specs.declared.Sheet.{Sheet}
 use Rattle.sheet.proofs.Sections.{no-value, part-holds}
-use Rattle.sheet.proofs.Sheets.{Lie, sized, lists-fit, file-again}
-use Rattle.sheet.proofs.Files.{Whole, Longer, cases, lists-of, no-lists, sheet-back, longer-read, whole-again}
+use Rattle.sheet.proofs.Sheets.{sized, lists-fit, file-again}
+use Rattle.sheet.proofs.Files.{Whole, Cases, cases, lists-of, no-lists, sheet-back, longer-read, whole-again}
 use Rattle.sheet.proofs.Stored.{accepted, file-in}
 
 -- two answers of one file are one
@@ -31,7 +31,7 @@ two-refusals p q = let z : _≡_ {A = ℕ} 19 20 = cc in omega arith
 is-sheet : (file : List ℕ) (l : Lists) → Below 256 file → readLists file ≡ value l → Fits l × (sheetBytes l ≡ file)
 is-sheet file l below e = by (cases file)
   where
-    by : Whole file ⊎ (Longer file ⊎ (reading file ≡ refusal 19)) → Fits l × (sheetBytes l ≡ file)
+    by : Cases file → Fits l × (sheetBytes l ≡ file)
     by (inl w) =
         let same : listsOf file (w .places) ≡ l = same-value _ _ (lists-of file (w .places) (w .read)) e in
         (subst Fits same (lists-fit file (w .places) (w .lie) below), ap sheetBytes (sym same) ∙ whole-again file below w)
@@ -51,7 +51,7 @@ begins l (x ∷ rest) fits e = two-refusals e (longer-read l (x ∷ rest) fits (
 too-few : (file : List ℕ) → Below 256 file → (reading file ≡ refusal 19) ↔ BreaksOff file
 too-few file below = (λ e l rest fits f. begins l rest fits (ap reading f ∙ e), λ b. by b (cases file))
   where
-    by : BreaksOff file → Whole file ⊎ (Longer file ⊎ (reading file ≡ refusal 19)) → reading file ≡ refusal 19
+    by : BreaksOff file → Cases file → reading file ≡ refusal 19
     by b (inl w) = absurd (b _ _ (lists-fit file (w .places) (w .lie) below) (file-again file (w .places) (w .lie) below))
     by b (inr (inl g)) = absurd (b _ _ (lists-fit file (g .places) (g .lie) below) (file-again file (g .places) (g .lie) below))
     by b (inr (inr short)) = short
@@ -59,7 +59,7 @@ too-few file below = (λ e l rest fits f. begins l rest fits (ap reading f ∙ e
 left-over : (file : List ℕ) → Below 256 file → (reading file ≡ refusal 20) ↔ GoesOn file
 left-over file below = (λ e. by e (cases file), λ (l, rest, fits, more, f). ap reading (sym f) ∙ longer-read l rest fits more)
   where
-    by : reading file ≡ refusal 20 → Whole file ⊎ (Longer file ⊎ (reading file ≡ refusal 19)) → GoesOn file
+    by : reading file ≡ refusal 20 → Cases file → GoesOn file
     by e (inl w) = absurd (not-refused (w .places) 20 (w .read) e)
     by e (inr (inl g)) =
         let s = g .places in
@@ -71,7 +71,7 @@ left-over file below = (λ e. by e (cases file), λ (l, rest, fits, more, f). ap
 one-of-three : (file : List ℕ) → OneOfThree file
 one-of-three file = by (cases file)
   where
-    by : Whole file ⊎ (Longer file ⊎ (reading file ≡ refusal 19)) → OneOfThree file
+    by : Cases file → OneOfThree file
     by (inl w) = inl (w .places, w .read)
     by (inr (inl g)) = inr (inr (g .read))
     by (inr (inr short)) = inr (inl short)
@@ -81,7 +81,7 @@ one-of-three file = by (cases file)
 of-whole : (P : Sheet → Type 0) (file : List ℕ) → ((w : Whole file) → P (w .places)) → (s : Sheet) → reading file ≡ value s → P s
 of-whole P file f s e = by (cases file)
   where
-    by : Whole file ⊎ (Longer file ⊎ (reading file ≡ refusal 19)) → P s
+    by : Cases file → P s
     by (inl w) = subst P (same-value _ _ (w .read) e) (f w)
     by (inr (inl g)) = absurd (not-refused s 20 e (g .read))
     by (inr (inr short)) = absurd (not-refused s 19 e short)

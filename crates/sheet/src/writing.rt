@@ -3,7 +3,7 @@ ghost use mathlib.Core.Path.{_≡_};
 ghost use Prim.Native.Nat.{_+_, _*_, _<_, _≤_};
 ghost use lib.ListN.{length};
 ghost use lib.Seq.{sets};
-ghost use Rattle.sheet.specs.Format.{countBytes, idBytes, sectionBytes};
+ghost use Rattle.sheet.specs.Format.{idBytes, sectionBytes};
 ghost use Rattle.sheet.specs.Writing.{lent, writing, afterWriting};
 ghost use Rattle.sheet.specs.Answers.{writtenOf};
 use super::Written;

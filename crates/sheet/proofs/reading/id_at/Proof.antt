@@ -17,7 +17,7 @@ get-u32-requires c κs = search needs
 returns : tie.Need-returns
 returns c =
     let a = c .before .before .before .args in
-    c .get-u32 .ensures ∙ sym (ids-at (length (a .part .now) / 4) (a .part .now) (a .i) (c .before .if1 .taken))
+    c .get-u32 .ensures ∙ sym (ids-at (length (a .part .now) / 4) (a .part .now) (a .i) (omega arith))
 
 returns-2 : tie.Need-returns-2
 returns-2 c =

@@ -2,9 +2,10 @@
 use Prim.Native.Nat.{ℕ, _≤_}
 use native.Mathlib.Omega.{arith}
 use mathlib.Core.Path.{_≡_, refl, sym, ap, _∙_}
-use mathlib.Core.Bool.{true, false}
-use mathlib.Core.List.{List, _++_}
+use mathlib.Core.Bool.{Bool, true, false, cond}
+use mathlib.Core.List.{List}
 use borrow.Author.Tests.{lt-ltb, le-ltb}
+use lib.Dec.{ltb}
 use lib.ListN.{length}
 use lib.Seq.{sets}
 use Rattle.sheet.specs.Outcome.{value, refusal}
@@ -31,20 +32,30 @@ refused s e = (e, left (buf s) (lists s) (refusal 21) e)
 returns : tie.Need-returns
 returns c =
     let s = c .before .before .before .before .before in
-    refused s (writing-by (length (buf s)) (lists s) true _ _ _ (lt-ltb 65535 (length (lists s .references)) (c .if1 .taken)) refl refl refl)
+    refused s (writing-by (length (buf s)) (lists s) true _ _ _ (lt-ltb 65535 (length (lists s .references)) (omega (arith, c .if1 .taken))) refl refl refl)
 
 returns-2 : tie.Need-returns-2
 returns-2 c =
     let s = c .before .before .before .before .before .before in
-    let n = le-ltb 65535 (length (lists s .references)) (c .before .if1 .left) in
-    refused s (writing-by (length (buf s)) (lists s) false true _ _ n (lt-ltb 65535 (length (lists s .walls)) (c .if2 .taken)) refl refl)
+    let n = le-ltb 65535 (length (lists s .references)) (omega (arith, c .before .if1 .left)) in
+    refused s (writing-by (length (buf s)) (lists s) false true _ _ n (lt-ltb 65535 (length (lists s .walls)) (omega (arith, c .if2 .taken))) refl refl)
 
 returns-3 : tie.Need-returns-3
 returns-3 c =
     let s = c .before .before .before .before .before .before .before in
-    let n = le-ltb 65535 (length (lists s .references)) (c .before .before .if1 .left) in
-    let m = le-ltb 65535 (length (lists s .walls)) (c .before .if2 .left) in
-    refused s (writing-by (length (buf s)) (lists s) false false true _ n m (lt-ltb 65535 (length (lists s .retired)) (c .if3 .taken)) refl)
+    let n = le-ltb 65535 (length (lists s .references)) (omega (arith, c .before .before .if1 .left)) in
+    let m = le-ltb 65535 (length (lists s .walls)) (omega (arith, c .before .if2 .left)) in
+    refused s (writing-by (length (buf s)) (lists s) false false true _ n m (lt-ltb 65535 (length (lists s .retired)) (omega (arith, c .if3 .taken))) refl)
+
+-- no list passes 65,535: the buffer decides
+by-room : (c : tie.Else3) (d : Bool) → ltb (length (buf (c .before .before .before .before .before .before .before))) (length (sheetBytes (lists (c .before .before .before .before .before .before .before)))) ≡ d
+    → cond d (refusal 21) (value (length (sheetBytes (lists (c .before .before .before .before .before .before .before))))) ≡ writing (length (buf (c .before .before .before .before .before .before .before))) (lists (c .before .before .before .before .before .before .before))
+by-room c d e =
+    let s = c .before .before .before .before .before .before .before in
+    let n = le-ltb 65535 (length (lists s .references)) (omega (arith, c .before .before .if1 .left)) in
+    let m = le-ltb 65535 (length (lists s .walls)) (omega (arith, c .before .if2 .left)) in
+    let k = le-ltb 65535 (length (lists s .retired)) (omega (arith, c .if3 .left)) in
+    writing-by (length (buf s)) (lists s) false false false d n m k e
 
 add-size : tie.Need-add-size
 add-size c = search needs
@@ -61,11 +72,7 @@ add-size-3 c = search needs
 returns-4 : tie.Need-returns-4
 returns-4 c =
     let s = c .before .before .before .before .before .before .before .before in
-    let n = le-ltb 65535 (length (lists s .references)) (c .before .before .before .if1 .left) in
-    let m = le-ltb 65535 (length (lists s .walls)) (c .before .before .if2 .left) in
-    let k = le-ltb 65535 (length (lists s .retired)) (c .before .if3 .left) in
-    let short = lt-ltb (length (buf s)) (length (sheetBytes (lists s))) (omega (arith, sized (lists s))) in
-    refused s (writing-by (length (buf s)) (lists s) false false false true n m k short)
+    refused s (by-room (c .before) true (lt-ltb (length (buf s)) (length (sheetBytes (lists s))) (omega (arith, sized (lists s)))))
 
 put-section-requires : tie.Need-put-section-requires
 put-section-requires c κs = search needs
@@ -81,13 +88,11 @@ same-length c = search needs
 
 returns-5 : tie.Need-returns-5
 returns-5 c =
-    let s = c .before .before .before .before .before .before .before .before .before .before .before .before .before .before .before .before .before .before .before .before in
+    let at = c .before .before .before .before .before .before .before .before .before .before .before .before in
+    let s = at .before .before .before .before .before .before .before .before in
     let l = lists s in
-    let n = le-ltb 65535 (length (l .references)) (c .before .before .before .before .before .before .before .before .before .before .before .before .before .before .before .if1 .left) in
-    let m = le-ltb 65535 (length (l .walls)) (c .before .before .before .before .before .before .before .before .before .before .before .before .before .before .if2 .left) in
-    let k = le-ltb 65535 (length (l .retired)) (c .before .before .before .before .before .before .before .before .before .before .before .before .before .if3 .left) in
-    let room : length (sheetBytes l) ≤ length (buf s) = omega (arith, sized l, c .before .before .before .before .before .before .before .before .before .before .before .before .if4 .left) in
-    let e = writing-by (length (buf s)) l false false false false n m k (le-ltb (length (buf s)) (length (sheetBytes l)) room) in
+    let room : length (sheetBytes l) ≤ length (buf s) = omega (arith, sized l, at .if4 .left) in
+    let e = by-room (at .before) false (le-ltb (length (buf s)) (length (sheetBytes l)) room) in
     let first = c .before .before .before .before .before .before .before .before .before .before .put-section in
     let second = c .before .before .before .before .before .before .put-section2 in
     let third = c .before .before .put-section3 in (
