@@ -128,7 +128,9 @@ module _ (front xs rest : List ℕ) where
   pub part-reads : partOf around behind ≡ idBytes xs
   part-reads =
       ap (take (4 * length xs))
-      (drop-append-add front (sectionBytes xs ++ rest) 2 ∙ ap (drop 2) opened ∙ drop-at (countBytes (length xs)) (idBytes xs ++ rest) 2 (length-countBytes (length xs)))
+      (drop-append-add front (sectionBytes xs ++ rest) 2
+      ∙ ap (drop 2) opened
+      ∙ drop-at (countBytes (length xs)) (idBytes xs ++ rest) 2 (length-countBytes (length xs)))
       ∙ take-at (idBytes xs) rest (4 * length xs) (length-idBytes xs)
 
 -- ---- from a file in which a section lies

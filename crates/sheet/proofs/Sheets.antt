@@ -72,7 +72,8 @@ pub record Three (file : List ℕ) : Type 0 where
 pub three-or-short : (file : List ℕ) → Three file ⊎ (sections file ≡ refusal 19)
 three-or-short file = first (found-or-short file 0)
   where
-    third : (a : FoundAt file 0) (b : FoundAt file (endOf (a .place))) → FoundAt file (endOf (b .place)) ⊎ (sectionAt file (endOf (b .place)) ≡ refusal 19)
+    third : (a : FoundAt file 0) (b : FoundAt file (endOf (a .place)))
+        → FoundAt file (endOf (b .place)) ⊎ (sectionAt file (endOf (b .place)) ≡ refusal 19)
         → Three file ⊎ (sections file ≡ refusal 19)
     third a b (inl c) = inl (record {
       places = sheet (a .place) (b .place) (c .place);

@@ -23,7 +23,8 @@ use Rattle.sheet.proofs.Sections.{length-section}
 -- ---- the answer
 
 module _ (room : ℕ) (l : Lists) where
-  pub writing-by : (a b c d : Bool) → passes (l .references) ≡ a → passes (l .walls) ≡ b → passes (l .retired) ≡ c → ltb room (length (sheetBytes l)) ≡ d
+  pub writing-by : (a b c d : Bool) → passes (l .references) ≡ a → passes (l .walls) ≡ b → passes (l .retired) ≡ c
+      → ltb room (length (sheetBytes l)) ≡ d
       → cond (a || b || c || d) (refusal 21) (value (length (sheetBytes l))) ≡ writing room l
   unfolding writing
   writing-by a b c d ea eb ec ed = sym (λ i. cond (ea i || eb i || ec i || ed i) (refusal 21) (value (length (sheetBytes l))))
@@ -90,8 +91,10 @@ put-whole ids l at =
     sets-then (countBytes (length ids)) (idBytes ids) l at (at + 2) e
 
 -- the three sections one behind the other
-pub put-three : (l : Lists) (buf : List ℕ) (o e : ℕ) → o ≡ 0 + 2 + 4 * length (l .references) → e ≡ o + 2 + 4 * length (l .walls) → length (sheetBytes l) ≤ length buf
-    → sets (sets (sets buf 0 (sectionBytes (l .references))) o (sectionBytes (l .walls))) e (sectionBytes (l .retired)) ≡ sheetBytes l ++ drop (length (sheetBytes l)) buf
+pub put-three : (l : Lists) (buf : List ℕ) (o e : ℕ) → o ≡ 0 + 2 + 4 * length (l .references) → e ≡ o + 2 + 4 * length (l .walls)
+    → length (sheetBytes l) ≤ length buf
+    → sets (sets (sets buf 0 (sectionBytes (l .references))) o (sectionBytes (l .walls))) e (sectionBytes (l .retired))
+    ≡ sheetBytes l ++ drop (length (sheetBytes l)) buf
 unfolding sheetBytes
 put-three l buf o e po pe h =
     let a = sectionBytes (l .references) in

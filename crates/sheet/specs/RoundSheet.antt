@@ -1,5 +1,5 @@
--- What is proved of reader and writer (`round-sheet` in proofs/Theorem): the sentences of 02 (xi), and that the refusals exclude each other. A file is a list
--- of bytes, numbers below 256.
+-- What is proved of reader and writer (`round-sheet` in proofs/Theorem): the sentences of 02 (xi), and that the refusals exclude each other.
+-- A file is a list of bytes, numbers below 256.
 use Prim.Native.Nat.{ℕ, _+_, _*_, _^_, _<_, _≤_}
 use mathlib.Core.Path.{_≡_}
 use mathlib.Core.Logic.{_↔_, _⊎_}

@@ -95,8 +95,8 @@ returns-2 : tie.Need-returns-2
 returns-2 c =
     let at = c .before .before .before .before in
     let f = file at in
-    let short =
-    ap (sectionAt f) (sym (c .before .before .before .end-of .ensures)) ∙ sym (c .before .before .section-at2 .ensures) ∙ ap foundOf (c .enum-told2 .given .1) in
+    let found = c .before .before .section-at2 .ensures in
+    let short = ap (sectionAt f) (sym (c .before .before .before .end-of .ensures)) ∙ sym found ∙ ap foundOf (c .enum-told2 .given .1) in
     sym (reading-short f (short-walls f (references at) (found-1 at) short))
 
 end-of-requires-2 : tie.Need-end-of-requires-2
@@ -115,8 +115,8 @@ returns-3 : tie.Need-returns-3
 returns-3 c =
     let at = c .before .before .before .before in
     let f = file (one at) in
-    let short =
-    ap (sectionAt f) (sym (c .before .before .before .end-of2 .ensures)) ∙ sym (c .before .before .section-at3 .ensures) ∙ ap foundOf (c .enum-told3 .given .1) in
+    let found = c .before .before .section-at3 .ensures in
+    let short = ap (sectionAt f) (sym (c .before .before .before .end-of2 .ensures)) ∙ sym found ∙ ap foundOf (c .enum-told3 .given .1) in
     sym (reading-short f (short-retired f (references (one at)) (found-1 (one at)) (walls at) (found-2 at) short))
 
 end-of-requires-3 : tie.Need-end-of-requires-3

@@ -48,10 +48,13 @@ returns-3 c =
     refused s (writing-by (length (buf s)) (lists s) false false true _ n m (lt-ltb 65535 (length (lists s .retired)) (omega (arith, c .if3 .taken))) refl)
 
 -- no list passes 65,535: the buffer decides
-by-room : (c : tie.Else3) (d : Bool) → ltb (length (buf (c .before .before .before .before .before .before .before))) (length (sheetBytes (lists (c .before .before .before .before .before .before .before)))) ≡ d
-    → cond d (refusal 21) (value (length (sheetBytes (lists (c .before .before .before .before .before .before .before))))) ≡ writing (length (buf (c .before .before .before .before .before .before .before))) (lists (c .before .before .before .before .before .before .before))
+abbrev start : tie.Else3 → tie.Start
+start c = c .before .before .before .before .before .before .before
+
+by-room : (c : tie.Else3) (d : Bool) → ltb (length (buf (start c))) (length (sheetBytes (lists (start c)))) ≡ d
+    → cond d (refusal 21) (value (length (sheetBytes (lists (start c))))) ≡ writing (length (buf (start c))) (lists (start c))
 by-room c d e =
-    let s = c .before .before .before .before .before .before .before in
+    let s = start c in
     let n = le-ltb 65535 (length (lists s .references)) (omega (arith, c .before .before .if1 .left)) in
     let m = le-ltb 65535 (length (lists s .walls)) (omega (arith, c .before .if2 .left)) in
     let k = le-ltb 65535 (length (lists s .retired)) (omega (arith, c .if3 .left)) in
