@@ -9,8 +9,8 @@
    - Bytes are lent as a pointer and a length. The pointer is valid for that many bytes and is not NULL, also where the
      length is 0.
    - `counts` points to 256 words, and `w` to a whole cqdb_writer.
-   - What a call writes (the buffer of cqdb_put and cqdb_close, the counts, the writer) overlaps nothing else that the
-     same call is lent: no name, no buffer and no counts. What a call only reads may overlap.
+   - What a call writes (the buffer of cqdb_put, cqdb_close and cqdb_sheet_write, the counts, the writer) overlaps nothing
+     else that the same call is lent: no name, no list, no buffer and no counts. What a call only reads may overlap.
    - Nobody else writes to what is lent while the call runs.
 
    When an image can be read: from the cqdb_close that made it to the next accepted cqdb_put in the same buffer, or from a
@@ -39,6 +39,9 @@ extern "C" {
 #define CQDB_TABLE_LEAVES 7u     /* open: a table with an offset above 0 leaves the image */
 #define CQDB_BACK_LEAVES 8u      /* open: a back array with an offset above 0 leaves the image */
 #define CQDB_NAME_TOO_LONG 9u    /* hash: the name has 4,294,967,295 bytes or more */
+#define CQDB_TOO_FEW_BYTES 19u   /* sheet_read: the file ends before its third section does */
+#define CQDB_LEFT_OVER_BYTES 20u /* sheet_read: bytes follow the third section */
+#define CQDB_SHEET_TOO_LARGE 21u /* sheet_write: a list has more than 65,535 ids, or the buffer is too short */
 
 /* The name hash. */
 
@@ -221,6 +224,34 @@ typedef struct {
    nothing; both pointers are not NULL, also where their number is 0. For each pair the round is read once at most, up to
    the first of its two ids: up to n x m steps. */
 cqdb_order_answer cqdb_references_first(const cqdb_pair *pairs, size_t n, const uint32_t *round, size_t m);
+
+/* The round sheet: a file of three sections in this order, references, wall prisms and retired prisms. Each is a 16-bit
+   count and that many 32-bit ids, little-endian. A section may be empty. Needs no image. */
+
+/* refusal is 0 when the file was accepted. For references (0), wall prisms (1) and retired prisms (2): counts is the number
+   of ids, and starts the offset of the first one's bytes in the file; all of them are 0 when it was refused. */
+typedef struct {
+    uint32_t refusal;
+    uint32_t counts[3];
+    uint64_t starts[3];
+} cqdb_sheet_answer;
+
+/* Where the ids of each section stand: the 4 x counts[s] bytes from file + starts[s] on. They lie in the file, four bytes to
+   an id, the lowest first, and need not be aligned to words. Those of an empty section stand right behind its count. Changes
+   nothing. Refusals: 19 when the file ends before its third section does, 20 when bytes follow that section. */
+cqdb_sheet_answer cqdb_sheet_read(const uint8_t *file, size_t len);
+
+/* refusal is 0 when the call was accepted; length, the file's, is 0 when it was refused. */
+typedef struct {
+    uint32_t refusal;
+    uint64_t length;
+} cqdb_sheet_length_answer;
+
+/* Writes the sheet of n references, m wall prisms and k retired prisms, 6 + 4 x (n + m + k) bytes: the buffer's first
+   `length` bytes are then the file, and no byte past it is changed. Refusal 21: n, m or k exceeds 65,535, or the buffer is
+   shorter than the file; then no byte is changed. The lists are not NULL, also where their number is 0. */
+cqdb_sheet_length_answer cqdb_sheet_write(uint8_t *buf, size_t len, const uint32_t *references, size_t n,
+                                          const uint32_t *walls, size_t m, const uint32_t *retired, size_t k);
 
 #ifdef __cplusplus
 }

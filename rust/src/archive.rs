@@ -76,6 +76,22 @@ pub struct OrderAnswer {
     pub pair: u64,
 }
 
+/// For references, wall prisms and retired prisms the number of ids, and where they begin in the file.
+#[repr(C)]
+#[derive(Clone, Copy, Debug, PartialEq, Eq)]
+pub struct SheetAnswer {
+    pub refusal: u32,
+    pub counts: [u32; 3],
+    pub starts: [u64; 3],
+}
+
+#[repr(C)]
+#[derive(Clone, Copy, Debug, PartialEq, Eq)]
+pub struct SheetLengthAnswer {
+    pub refusal: u32,
+    pub length: u64,
+}
+
 /// The table counts of a writer.
 pub type Counts = [u32; 256];
 
@@ -98,6 +114,17 @@ extern "C" {
     ) -> RecordAnswer;
     fn cqdb_close_parts(record: Record, counts: *const u32, buf: *mut u8, len: usize) -> CloseAnswer;
     fn cqdb_references_first(pairs: *const Pair, n: usize, round: *const u32, m: usize) -> OrderAnswer;
+    fn cqdb_sheet_read(file: *const u8, len: usize) -> SheetAnswer;
+    fn cqdb_sheet_write(
+        buf: *mut u8,
+        len: usize,
+        references: *const u32,
+        n: usize,
+        walls: *const u32,
+        m: usize,
+        retired: *const u32,
+        k: usize,
+    ) -> SheetLengthAnswer;
 }
 
 /// The hash of a name with a start value, or the refusal.
@@ -149,4 +176,17 @@ pub fn close(record: Record, counts: &Counts, buf: &mut [u8]) -> CloseAnswer {
 /// Whether every pair is kept in a round, or the place of the first that is not.
 pub fn references_first(pairs: &[Pair], round: &[u32]) -> OrderAnswer {
     unsafe { cqdb_references_first(pairs.as_ptr(), pairs.len(), round.as_ptr(), round.len()) }
+}
+
+/// Where the ids of a round sheet's three sections stand in the file, or the refusal.
+pub fn sheet_read(file: &[u8]) -> SheetAnswer {
+    unsafe { cqdb_sheet_read(file.as_ptr(), file.len()) }
+}
+
+/// The round sheet of three lists, references, wall prisms and retired prisms, in the first bytes of `buf`, and its length;
+/// or the refusal.
+pub fn sheet_write(buf: &mut [u8], lists: [&[u32]; 3]) -> SheetLengthAnswer {
+    let [a, b, c] = lists;
+    let (buf, len) = (buf.as_mut_ptr(), buf.len());
+    unsafe { cqdb_sheet_write(buf, len, a.as_ptr(), a.len(), b.as_ptr(), b.len(), c.as_ptr(), c.len()) }
 }

@@ -28,11 +28,13 @@ mod archive;
 mod order;
 mod read;
 mod refusal;
+mod sheet;
 mod write;
 
 pub use order::{references_first, Order, Pair};
 pub use read::{Iter, CQDB};
 pub use refusal::Refusal;
+pub use sheet::{Ids, Sheet};
 pub use write::{CQDBWriter, Flag};
 
 /// The hash of a name with a start value (images use 0): lookup3's `hashlittle` over the name and one zero byte. Refused

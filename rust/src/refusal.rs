@@ -48,6 +48,12 @@ refusals! {
     BackLeaves = 8, "invalid backward link data: out of bounds";
     /// The name has 4,294,967,295 bytes or more.
     NameTooLong = 9, "the name is too long";
+    /// The round sheet has too few bytes.
+    TooFewBytes = 19, "invalid round sheet, too few bytes";
+    /// The round sheet has left-over bytes.
+    LeftOverBytes = 20, "invalid round sheet, left-over bytes";
+    /// A list of a round sheet has more than 65,535 ids, or its buffer is too short.
+    SheetTooLarge = 21, "no room: a list of the round sheet is too long, or its buffer too short";
 }
 
 impl Refusal {

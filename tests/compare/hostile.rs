@@ -1,6 +1,7 @@
 // Hostile calls, to be run under valgrind: damaged images, random bytes, records that do not fit, broken buffers, pairs and rounds
-// of any ids. Everything lent stands in a heap block of exactly its length, so that valgrind reports a read or write outside
-// it. A refusal changes no byte, reading changes none, and every place in an answer lies in what was lent.
+// of any ids, round sheets cut anywhere and lists without room. Everything lent stands in a heap block of exactly its length, so
+// that valgrind reports a read or write outside it. A refusal changes no byte, reading changes none, and every place in an
+// answer lies in what was lent.
 // hostile [CALLS | too-much]
 mod damage;
 mod names;
@@ -27,6 +28,7 @@ struct Run {
     images: u64,
     states: u64,
     rounds: u64,
+    sheets: u64,
 }
 
 // A heap block of exactly these bytes.
@@ -101,6 +103,40 @@ impl Run {
         self.rounds += 1;
     }
 
+    // A round sheet written into a buffer that may be too short for it, then read whole, cut, longer or damaged: the parts lie in
+    // the file, and what is refused leaves zeros.
+    fn sheet(&mut self, random: &mut Random) {
+        let lists = [(); 3].map(|()| (0..random.below(20)).map(|_| random.word()).collect::<Box<[u32]>>());
+        let lent = [&lists[0][..], &lists[1], &lists[2]];
+        let length = 6 + 4 * lent.iter().map(|list| list.len()).sum::<usize>();
+        let more = random.below(50);
+        let room = random.pick(&[0, length - 1, length, length + 1, length + more]);
+        let before = random.bytes(room);
+        let mut buf = exact(&before);
+        let answer = ours::sheet_write(&mut buf, lent);
+        let due = if room < length { (21, 0) } else { (0, length) };
+        self.tally.rule((answer.refusal, answer.length as usize), due, || format!("{answer:?} in {room} bytes"));
+        self.tally.bytes(&buf[due.1..], &before[due.1..], || "the bytes behind a sheet".into());
+        self.refused += u64::from(answer.refusal > 0);
+        let mut file = if random.once_in(4) { before } else { buf[..due.1].to_vec() };
+        if random.once_in(2) && !file.is_empty() {
+            let at = random.below(file.len());
+            file[at] = random.pick(&[0, 1, 2, 255]);
+        }
+        let n = if random.once_in(2) { file.len() } else { random.below(file.len() + 3) };
+        file.resize(n, 0);
+        let (file, before) = (exact(&file), file);
+        let answer = ours::sheet_read(&file);
+        let inside = (0..3).all(|s| answer.starts[s] + 4 * u64::from(answer.counts[s]) <= n as u64);
+        let zeros = answer.counts == [0; 3] && answer.starts == [0; 3];
+        let so = if answer.refusal == 0 { inside } else { [19, 20].contains(&answer.refusal) && zeros };
+        self.tally.rule(so, true, || format!("{answer:?} of {n} bytes"));
+        self.tally.bytes(&file, &before, || "a sheet that was read".into());
+        self.refused += u64::from(answer.refusal > 0);
+        self.calls += 2;
+        self.sheets += 1;
+    }
+
     fn unchanged(&mut self, (record, counts, buf): (ours::Record, &Counts, &[u8]), s: &State, what: &str) {
         self.refused += 1;
         self.tally.rule(record, s.record, || format!("the record after {what}"));
@@ -157,6 +193,7 @@ fn round(run: &mut Run, random: &mut Random) {
     }
     for _ in 0..60 {
         run.order(random);
+        run.sheet(random);
     }
 }
 
@@ -174,13 +211,13 @@ fn main() {
     let calls = std::env::args().nth(1).map_or(CALLS, |text| text.parse().expect("a number of calls"));
     let mut random = Random::new();
     println!("hostile: seed {}", random.seed);
-    let mut run = Run { tally: Tally::default(), calls: 0, refused: 0, images: 0, states: 0, rounds: 0 };
+    let mut run = Run { tally: Tally::default(), calls: 0, refused: 0, images: 0, states: 0, rounds: 0, sheets: 0 };
     while run.calls < calls {
         round(&mut run, &mut random);
     }
     println!(
-        "hostile: {} calls on {} images, {} records with their buffers and {} rounds; {} refused; {} of {} checks failed",
-        run.calls, run.images, run.states, run.rounds, run.refused, run.tally.different, run.tally.rule
+        "hostile: {} calls on {} images, {} records with their buffers, {} rounds and {} sheets; {} refused; {} of {} checks failed",
+        run.calls, run.images, run.states, run.rounds, run.sheets, run.refused, run.tally.different, run.tally.rule
     );
     std::process::exit(i32::from(run.tally.different > 0));
 }

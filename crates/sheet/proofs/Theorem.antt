@@ -1,0 +1,137 @@
+-- The theorem `round-sheet`: the sentences of 02 (xi) (`specs/RoundSheet`). Assumes nothing.
+use Prim.Native.Nat.{ℕ, _≤_}
+use native.Mathlib.Omega.{arith}
+use mathlib.Core.Path.{_≡_, sym, ap, subst, _∙_}
+use mathlib.Core.Logic.{_↔_, inl, inr}
+use mathlib.Core.List.{List, [], _∷_, _++_, append-nil}
+use lib.ListN.{length, take, drop, length-drop}
+use Rattle.jhash.specs.Outcome.{Outcome, value, refusal}
+use Rattle.sheet.specs.Format.{Lists, sheetBytes}
+use Rattle.sheet.specs.Reading.{endOf, reading, listsOf, readLists}
+use Rattle.sheet.specs.Writing.{writing, afterWriting}
+use Rattle.sheet.specs.RoundSheet.{Below, Fits, Placed, Holds, GoesOn, BreaksOff, OneOfThree, RoundSheet}
+use Rattle.sheet.specs.declared.Sheet.{Sheet}
+use Rattle.sheet.proofs.Sections.{no-value, part-holds}
+use Rattle.sheet.proofs.Sheets.{sized, lists-fit, file-again}
+use Rattle.sheet.proofs.Files.{Whole, Cases, cases, lists-of, no-lists, sheet-back, longer-read, whole-again}
+use Rattle.sheet.proofs.Stored.{accepted, file-in}
+
+-- two answers of one file are one
+same-value : {A : Type 0} {r : Outcome A} (x y : A) → r ≡ value x → r ≡ value y → x ≡ y
+same-value x y p q = cc
+
+not-refused : {A : Type 0} {r : Outcome A} (x : A) (n : ℕ) → r ≡ value x → ¬ (r ≡ refusal n)
+not-refused x n p q = no-value x n (sym q ∙ p)
+
+two-refusals : {A : Type 0} {r : Outcome A} → r ≡ refusal 19 → ¬ (r ≡ refusal 20)
+two-refusals p q = let z : _≡_ {A = ℕ} 19 20 = cc in omega arith
+
+-- ---- a file that is a sheet
+
+is-sheet : (file : List ℕ) (l : Lists) → Below 256 file → readLists file ≡ value l → Fits l × (sheetBytes l ≡ file)
+is-sheet file l below e = by (cases file)
+  where
+    by : Cases file → Fits l × (sheetBytes l ≡ file)
+    by (inl w) =
+        let same : listsOf file (w .places) ≡ l = same-value _ _ (lists-of file (w .places) (w .read)) e in
+        (subst Fits same (lists-fit file (w .places) (w .lie) below), ap sheetBytes (sym same) ∙ whole-again file below w)
+    by (inr (inl g)) = absurd (not-refused l 20 e (no-lists file 20 (g .read)))
+    by (inr (inr short)) = absurd (not-refused l 19 e (no-lists file 19 short))
+
+reads-as : (file : List ℕ) (l : Lists) → Fits l × (sheetBytes l ≡ file) → readLists file ≡ value l
+reads-as file l (fits, e) = ap readLists (sym e) ∙ sheet-back l fits
+
+-- ---- a file that breaks off, and one that goes on
+
+begins : (l : Lists) (rest : List ℕ) → Fits l → ¬ (reading (sheetBytes l ++ rest) ≡ refusal 19)
+begins l [] fits e =
+    not-refused l 19 (ap readLists (append-nil (sheetBytes l)) ∙ sheet-back l fits) (no-lists (sheetBytes l ++ []) 19 e)
+begins l (x ∷ rest) fits e = two-refusals e (longer-read l (x ∷ rest) fits (λ n. let z : _≡_ {A = ℕ} 0 1 = cc in omega arith))
+
+too-few : (file : List ℕ) → Below 256 file → (reading file ≡ refusal 19) ↔ BreaksOff file
+too-few file below = (λ e l rest fits f. begins l rest fits (ap reading f ∙ e), λ b. by b (cases file))
+  where
+    by : BreaksOff file → Cases file → reading file ≡ refusal 19
+    by b (inl w) = absurd (b _ _ (lists-fit file (w .places) (w .lie) below) (file-again file (w .places) (w .lie) below))
+    by b (inr (inl g)) = absurd (b _ _ (lists-fit file (g .places) (g .lie) below) (file-again file (g .places) (g .lie) below))
+    by b (inr (inr short)) = short
+
+left-over : (file : List ℕ) → Below 256 file → (reading file ≡ refusal 20) ↔ GoesOn file
+left-over file below = (λ e. by e (cases file), λ (l, rest, fits, more, f). ap reading (sym f) ∙ longer-read l rest fits more)
+  where
+    by : reading file ≡ refusal 20 → Cases file → GoesOn file
+    by e (inl w) = absurd (not-refused (w .places) 20 (w .read) e)
+    by e (inr (inl g)) =
+        let s = g .places in
+        let rest = drop (endOf (s .retired)) file in
+        let more : ¬ (rest ≡ []) = λ n. omega (arith, length-drop (endOf (s .retired)) file, ap length n, g .end) in
+        (listsOf file s, rest, lists-fit file s (g .lie) below, more, file-again file s (g .lie) below)
+    by e (inr (inr short)) = absurd (two-refusals short e)
+
+one-of-three : (file : List ℕ) → OneOfThree file
+one-of-three file = by (cases file)
+  where
+    by : Cases file → OneOfThree file
+    by (inl w) = inl (w .places, w .read)
+    by (inr (inl g)) = inr (inr (g .read))
+    by (inr (inr short)) = inr (inl short)
+
+-- ---- where the parts stand
+
+of-whole : (P : Sheet → Type 0) (file : List ℕ) → ((w : Whole file) → P (w .places)) → (s : Sheet) → reading file ≡ value s → P s
+of-whole P file f s e = by (cases file)
+  where
+    by : Cases file → P s
+    by (inl w) = subst P (same-value _ _ (w .read) e) (f w)
+    by (inr (inl g)) = absurd (not-refused s 20 e (g .read))
+    by (inr (inr short)) = absurd (not-refused s 19 e short)
+
+placed : (file : List ℕ) (s : Sheet) → reading file ≡ value s → Placed file s
+placed file = of-whole (Placed file) file (λ w. record {
+  references = w .lie .references .start;
+  walls = w .lie .walls .start;
+  retired = w .lie .retired .start;
+  end = w .end;
+})
+
+holds : (file : List ℕ) (s : Sheet) → reading file ≡ value s → Holds file (s .references) × Holds file (s .walls) × Holds file (s .retired)
+holds file =
+    of-whole (λ (s : Sheet). Holds file (s .references) × Holds file (s .walls) × Holds file (s .retired)) file
+    (λ w.
+    let s = w .places in
+    let l = w .lie in (
+      part-holds file 0 (s .references) (l .references),
+      part-holds file (endOf (s .references)) (s .walls) (l .walls),
+      part-holds file (endOf (s .walls)) (s .retired) (l .retired),
+    ))
+
+-- ---- the writer
+
+writes-again : (file buf : List ℕ) (l : Lists) → Below 256 file → readLists file ≡ value l → length file ≤ length buf
+    → (writing (length buf) l ≡ value (length file)) × (take (length file) (afterWriting buf l) ≡ file)
+writes-again file buf l below e room =
+    let made = is-sheet file l below e in
+    let same : length (sheetBytes l) ≡ length file = ap length (made .1) in
+    let w : writing (length buf) l ≡ value (length file) = accepted (length buf) l (made .0) (omega arith) ∙ ap value same in
+    (w, file-in buf l (length file) w ∙ made .1)
+
+longest : (l : Lists) → Fits l → length (sheetBytes l) ≤ 786426
+longest l fits = omega (arith, sized l, fits .references .count, fits .walls .count, fits .retired .count)
+
+pub round-sheet : RoundSheet
+round-sheet = record {
+  reads-back = sheet-back;
+  reads-back-in = λ buf l n fits e. ap readLists (file-in buf l n e) ∙ sheet-back l fits;
+  writes-again = writes-again;
+  injective = λ f g l bf bg ef eg. sym (is-sheet f l bf ef .1) ∙ is-sheet g l bg eg .1;
+  sheet-exactly = λ file l below. (is-sheet file l below, reads-as file l);
+  too-few-exactly = too-few;
+  left-over-exactly = left-over;
+  one-of-three = one-of-three;
+  not-both = λ file. two-refusals;
+  not-refused = λ file s n. not-refused s n;
+  placed = placed;
+  holds = holds;
+  sized = sized;
+  longest = longest;
+}

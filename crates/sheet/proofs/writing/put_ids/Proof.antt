@@ -1,0 +1,83 @@
+-- `sheet::writing::put_ids` meets its contract. Assumes nothing.
+use Prim.Native.Nat.{ℕ, _+_, _*_, _-_, _≤_}
+use native.Mathlib.Omega.{arith}
+use native.Mathlib.Nat.{add-zero, mul-zero}
+use mathlib.Core.Path.{_≡_, refl, sym, ap, _∙_}
+use mathlib.Core.List.{List}
+use lib.ListN.{length, drop}
+use lib.Seq.{sets}
+use borrow.Author.Needs.{needs}
+use Rattle.sheet.specs.Format.{idBytes}
+use Rattle.sheet.proofs.Stored.{put-turn, put-end}
+use Rattle.sheet.proofs.writing.put_ids.Statement.{statement}
+use Rattle.sheet.proofs.writing.put_ids.Tie as tie
+
+abbrev Inv-loop : tie.InvT-loop
+Inv-loop buf₀ at ids i₀ buf i =
+    (i ≤ length ids) × (length buf ≡ length buf₀) × (sets buf (at + 4 * i) (idBytes (drop i ids)) ≡ sets buf₀ at (idBytes ids))
+
+abbrev μ-loop : tie.MeasureT-loop
+μ-loop buf₀ at ids i₀ buf i = length ids - i
+
+loop-holds : tie.Need-loop-holds Inv-loop μ-loop
+loop-holds c = (omega arith, refl, simp (mul-zero, add-zero))
+
+mul-put-u32 : tie.Need-mul-put-u32 Inv-loop μ-loop
+mul-put-u32 c = omega arith
+
+add-put-u32 : tie.Need-add-put-u32 Inv-loop μ-loop
+add-put-u32 c = omega arith
+
+mul-put-u32-2 : tie.Need-mul-put-u32-2 Inv-loop μ-loop
+mul-put-u32-2 c = omega arith
+
+shared-slice-read-put-u32 : tie.Need-shared-slice-read-put-u32 Inv-loop μ-loop
+shared-slice-read-put-u32 c = omega arith
+
+put-u32-requires : tie.Need-put-u32-requires Inv-loop μ-loop
+put-u32-requires c κs = search needs
+
+add-i : tie.Need-add-i Inv-loop μ-loop
+add-i c = omega arith
+
+loop-less : tie.Need-loop-less Inv-loop μ-loop
+loop-less c = omega arith
+
+loop-again : tie.Need-loop-again Inv-loop μ-loop
+loop-again c =
+    let a = c .before .before .before .before .before .before .before .before .before .args in
+    let l = c .before .before .before .before .before .before .loop in
+    let put = c .before .before .put-u32 in (
+      omega arith,
+      put .kept .0 ∙ l .inv .1,
+      ap (λ (b : List ℕ). sets b (a .at + 4 * (l .i + 1)) (idBytes (drop (l .i + 1) (a .ids .now)))) (put .ensures)
+          ∙ put-turn (a .ids .now) (l .buf) (a .at) (l .i) (omega arith)
+          ∙ l .inv .2,
+    )
+
+same-length : tie.Need-same-length Inv-loop μ-loop
+same-length c = search needs
+
+returns : tie.Need-returns Inv-loop μ-loop
+returns c =
+    let a = c .before .before .before .before .args in
+    let l = c .before .loop in
+    sym (put-end (a .ids .now) (l .buf) (a .at) (l .i) (omega arith) (a .at + 4 * l .i)) ∙ l .inv .2
+
+pub put-ids-spec : {M : Type 1} → statement M
+put-ids-spec =
+    tie.close
+    (tie.spec
+    Inv-loop
+    μ-loop
+    loop-holds
+    mul-put-u32
+    add-put-u32
+    mul-put-u32-2
+    shared-slice-read-put-u32
+    put-u32-requires
+    add-i
+    loop-less
+    loop-again
+    same-length
+    returns)

@@ -1,0 +1,72 @@
+-- `sheet::writing::put_section` meets its contract. Assumes nothing.
+use Prim.Native.Nat.{ℕ, _+_}
+use native.Mathlib.Omega.{arith}
+use mathlib.Core.Path.{refl, ap, _∙_}
+use mathlib.Core.List.{List}
+use lib.ListN.{length, length-set}
+use lib.Seq.{sets}
+use Rattle.sheet.specs.Format.{idBytes}
+use Rattle.sheet.proofs.Stored.{put-count, put-whole}
+use borrow.Author.Needs.{needs}
+use Rattle.sheet.proofs.writing.put_section.Statement.{statement}
+use Rattle.sheet.proofs.writing.put_section.Tie as tie
+
+cast-low : tie.Need-cast-low
+cast-low c = search needs
+
+cast-high : tie.Need-cast-high
+cast-high c = search needs
+
+slice-write-buf : tie.Need-slice-write-buf
+slice-write-buf c = search needs
+
+add-buf : tie.Need-add-buf
+add-buf c = search needs
+
+slice-write-buf-2 : tie.Need-slice-write-buf-2
+slice-write-buf-2 c = simp length-set (omega arith)
+
+add-put-ids : tie.Need-add-put-ids
+add-put-ids c = search needs
+
+put-ids-requires : tie.Need-put-ids-requires
+put-ids-requires c κs = search needs
+
+add-result : tie.Need-add-result
+add-result c = search needs
+
+mul-result : tie.Need-mul-result
+mul-result c = search needs
+
+add-result-2 : tie.Need-add-result-2
+add-result-2 c = search needs
+
+same-length : tie.Need-same-length
+same-length c = c .before .before .put-ids .kept .0 ∙ simp length-set
+
+returns : tie.Need-returns
+returns c =
+    let a = c .before .before .before .before .before .before .args in
+    let ids = a .ids .now in (
+      refl,
+      c .before .before .put-ids .ensures
+          ∙ ap (λ (b : List ℕ). sets b (a .at + 2) (idBytes ids)) (put-count (a .buf .now) (a .at) (length ids))
+          ∙ put-whole ids (a .buf .now) (a .at),
+    )
+
+pub put-section-spec : {M : Type 1} → statement M
+put-section-spec =
+    tie.close
+    (tie.spec
+    cast-low
+    cast-high
+    slice-write-buf
+    add-buf
+    slice-write-buf-2
+    add-put-ids
+    put-ids-requires
+    add-result
+    mul-result
+    add-result-2
+    same-length
+    returns)

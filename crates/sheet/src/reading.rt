@@ -1,0 +1,137 @@
+// The reader. It copies nothing: a part is lent from the file, and an id is put together from its bytes.
+ghost use mathlib.Core.Path.{_≡_};
+ghost use Prim.Native.Nat.{_+_, _*_, _<_, _≤_};
+ghost use lib.ListN.{length, getD};
+ghost use Rattle.sheet.specs.Format.{countAt};
+ghost use Rattle.sheet.specs.Reading.{endOf, partOf, idsIn, sectionAt, reading, placeOf, partIn};
+ghost use Rattle.sheet.specs.Answers.{foundOf, readOf};
+use super::Found;
+use super::Place;
+use super::ReadAnswer;
+use super::Sheet;
+use super::Which;
+
+// A byte as a number of 32 bits.
+fn wide(x: u8) -> u32
+    ensures { λ r. ⌜ (r ≡ x) × (r < 256) ⌝ }
+{
+    x as u32
+}
+
+// The 16-bit count at `at`.
+fn count_at(file: &[u8], at: usize) -> u32
+    requires { ⌜ at + 2 ≤ length (now file) ⌝ }
+    ensures { λ r. ⌜ (r ≡ countAt (now (file .entry)) at) × (r < 65536) ⌝ }
+{
+    let low = wide(file[at]);
+    let high = wide(file[at + 1]);
+    low + high * 256
+}
+
+// The section whose count stands at `at`.
+fn section_at(file: &[u8], at: usize) -> Found
+    requires { ⌜ at ≤ length (now file) ⌝ }
+    ensures { λ r. ⌜ foundOf r ≡ sectionAt (now (file .entry)) at ⌝ }
+{
+    let left = file.len() - at;
+    if left < 2 {
+        return Found::Short;
+    }
+    let count = count_at(file, at);
+    if left - 2 < 4 * (count as usize) {
+        return Found::Short;
+    }
+    Found::At(Place {
+        start: at + 2,
+        count,
+    })
+}
+
+// Where a part ends.
+fn end_of(p: Place) -> usize
+    requires { ⌜ endOf p < 18446744073709551616 ⌝ }
+    ensures { λ r. ⌜ r ≡ endOf p ⌝ }
+{
+    p.start + 4 * (p.count as usize)
+}
+
+// The parts of the three sections, or the refusal.
+pub fn read(file: &[u8]) -> ReadAnswer
+    ensures { λ r. ⌜ readOf r ≡ reading (now (file .entry)) ⌝ }
+{
+    let Found::At(references) = section_at(file, 0) else {
+        return ReadAnswer::TooFew;
+    };
+    let Found::At(walls) = section_at(file, end_of(references)) else {
+        return ReadAnswer::TooFew;
+    };
+    let Found::At(retired) = section_at(file, end_of(walls)) else {
+        return ReadAnswer::TooFew;
+    };
+    if end_of(retired) < file.len() {
+        return ReadAnswer::LeftOver;
+    }
+    ReadAnswer::Whole(Sheet {
+        references,
+        walls,
+        retired,
+    })
+}
+
+// The part of the file at a place; what of it lies past the end is left out.
+pub fn part<'a>(file: &'a [u8], p: Place) -> &'a [u8]
+    ensures { λ r. ⌜ now r ≡ partOf (now (file .entry)) p ⌝ }
+{
+    let all = file.len();
+    let start = p.start;
+    let size = 4 * (p.count as usize);
+    if all < start {
+        return &file[0..0];
+    }
+    if all - start < size {
+        return &file[start..all];
+    }
+    &file[start..start + size]
+}
+
+// The place of one of the three.
+fn place_of(s: Sheet, which: Which) -> Place
+    ensures { λ r. ⌜ r ≡ placeOf s which ⌝ }
+{
+    match which {
+        Which::References => {
+            let p = s.references;
+            p
+        }
+        Which::Walls => {
+            let p = s.walls;
+            p
+        }
+        Which::Retired => {
+            let p = s.retired;
+            p
+        }
+    }
+}
+
+// The part of the file that holds a section's ids, empty where the file is refused.
+pub fn section<'a>(file: &'a [u8], which: Which) -> &'a [u8]
+    ensures { λ r. ⌜ now r ≡ partIn (now (file .entry)) which (reading (now (file .entry))) ⌝ }
+{
+    match read(file) {
+        ReadAnswer::Whole(s) => part(file, place_of(s, which)),
+        ReadAnswer::TooFew => &file[0..0],
+        ReadAnswer::LeftOver => &file[0..0],
+    }
+}
+
+// The i-th id of a part, counted from 0; 0 past the last.
+pub fn id_at(part: &[u8], i: usize) -> u32
+    ensures { λ r. ⌜ r ≡ getD (idsIn (now (part .entry))) i 0 ⌝ }
+{
+    if i < part.len() / 4 {
+        image::get_u32(part, 4 * i)
+    } else {
+        0
+    }
+}
