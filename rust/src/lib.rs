@@ -29,7 +29,7 @@ mod read;
 mod refusal;
 mod write;
 
-pub use read::{Iter, CQDB};
+pub use read::{Found, Iter, CQDB};
 pub use refusal::Refusal;
 pub use write::{CQDBWriter, Flag};
 
