@@ -68,15 +68,17 @@ typedef struct {
    applies: 1, 5, 6, 7, 8. The size word and the flag word are not checked. */
 cqdb_open_answer cqdb_open(const uint8_t *image, size_t len);
 
-/* found is 1 or 0; id is 0 where nothing was found. buckets is the number of buckets that the search reads, the one that
-   decides included. */
+/* found is 1 or 0; id and offset are 0 where nothing was found. buckets is the number of buckets that the search reads, the
+   one that decides included. offset is the offset in that bucket: at image + offset stands the entry with this id and name,
+   as id, length of the name plus 1 and the name. It lies in the image. */
 typedef struct {
     uint32_t found;
     uint32_t id;
     uint32_t buckets;
+    uint32_t offset;
 } cqdb_id_answer;
 
-/* The id of a name (of its first put). Never refused: a damaged image or a name too long for a hash gives nothing. */
+/* The id of a name and where its entry stands (those of its first put). Never refused: a damaged image or a name too long for a hash gives nothing. */
 cqdb_id_answer cqdb_to_id(const uint8_t *image, size_t len, const uint8_t *name, size_t name_len);
 
 /* found is 1 or 0. The name is the len bytes from image + start on, which lie in the image; len and start are 0 where

@@ -50,7 +50,8 @@ static uint32_t build(cqdb_writer *w, uint32_t mode, uint8_t *buf, size_t len) {
 
 static int finds(const uint8_t *image, size_t len, const char *name, uint32_t id) {
     cqdb_id_answer a = cqdb_to_id(image, len, bytes(name), strlen(name));
-    return a.found == 1 && a.id == id && a.buckets >= 1;
+    const uint8_t *entry = image + a.offset;
+    return a.found == 1 && a.id == id && a.buckets >= 1 && entry[0] == id && memcmp(entry + 8, name, strlen(name)) == 0;
 }
 
 static int gives(const uint8_t *image, size_t len, uint32_t id, const char *name) {
@@ -65,7 +66,7 @@ static void check_names(const uint8_t *image, size_t len) {
         expect(finds(image, len, puts_in_order[i].name, puts_in_order[i].id), "a name finds its id");
     }
     cqdb_id_answer none = cqdb_to_id(image, len, bytes("D"), 1);
-    expect(none.found == 0 && none.id == 0, "a name that was never put finds nothing");
+    expect(none.found == 0 && none.id == 0 && none.offset == 0, "a name that was never put finds nothing");
 }
 
 static void check_two_way(cqdb_writer *w, uint8_t *buf, size_t len) {

@@ -22,6 +22,7 @@ pub struct IdAnswer {
     pub found: u32,
     pub id: u32,
     pub buckets: u32,
+    pub offset: u32,
 }
 
 #[repr(C)]
@@ -137,7 +138,7 @@ pub fn open(image: &[u8]) -> OpenAnswer {
     unsafe { cqdb_open(image.as_ptr(), image.len()) }
 }
 
-/// The id of a name, or nothing; and the number of buckets read.
+/// The id of a name and the offset of its entry, or nothing; and the number of buckets read.
 pub fn to_id(image: &[u8], name: &[u8]) -> IdAnswer {
     unsafe { cqdb_to_id(image.as_ptr(), image.len(), name.as_ptr(), name.len()) }
 }

@@ -32,7 +32,7 @@ mod sheet;
 mod write;
 
 pub use order::{references_first, Order, Pair};
-pub use read::{Iter, CQDB};
+pub use read::{Found, Iter, CQDB};
 pub use refusal::Refusal;
 pub use sheet::{Ids, Sheet};
 pub use write::{CQDBWriter, Flag};

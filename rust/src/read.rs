@@ -5,6 +5,15 @@ use std::iter::FusedIterator;
 use crate::archive;
 use crate::refusal::{self, Refusal};
 
+/// What a lookup finds.
+#[derive(Clone, Copy, Debug, PartialEq, Eq)]
+pub struct Found {
+    /// The id of the name.
+    pub id: u32,
+    /// The offset in the bucket that decides: there stands the entry with this id and name.
+    pub offset: u32,
+}
+
 /// An opened image.
 #[derive(Clone, Copy)]
 pub struct CQDB<'a> {
@@ -31,13 +40,15 @@ impl<'a> CQDB<'a> {
 
     /// The id of a name that may be any bytes.
     pub fn to_id_bytes(&self, name: &[u8]) -> Option<u32> {
-        self.lookup(name).0
+        self.lookup(name).0.map(|found| found.id)
     }
 
-    /// The id of a name, and the number of buckets that the search reads, the one that decides included.
-    pub fn lookup(&self, name: &[u8]) -> (Option<u32>, u32) {
+    /// The id of a name and where its entry stands, and the number of buckets that the search reads, the one that decides
+    /// included.
+    pub fn lookup(&self, name: &[u8]) -> (Option<Found>, u32) {
         let answer = archive::to_id(self.image, name);
-        ((answer.found == 1).then_some(answer.id), answer.buckets)
+        let found = Found { id: answer.id, offset: answer.offset };
+        ((answer.found == 1).then_some(found), answer.buckets)
     }
 
     /// The name of an id, of its last put. A one-way image names none.

@@ -1,5 +1,5 @@
 //! Images built and read back through the safe calls.
-use cqdb::{jhash, CQDBWriter, Flag, Refusal, CQDB};
+use cqdb::{jhash, CQDBWriter, Flag, Found, Refusal, CQDB};
 
 fn image(flag: Flag, puts: &[(&[u8], u32)]) -> Vec<u8> {
     let mut writer = CQDBWriter::with_flag(flag);
@@ -56,9 +56,11 @@ fn the_buffer_grows() {
         assert_eq!(image.len(), 2_072 + names + if flag == Flag::NONE { 80_000 } else { 0 });
         let db = CQDB::new(&image).unwrap();
         assert_eq!(db.num(), 20_000);
+        let mut offset = 2_072;
         for id in 0..20_000 {
             let (found, buckets) = db.lookup(name(id).as_bytes());
-            assert_eq!(found, Some(id));
+            assert_eq!(found, Some(Found { id, offset }));
+            offset += 9 + name(id).len() as u32;
             assert!((1..=20_000).contains(&buckets));
             assert_eq!(db.to_str(id), (flag == Flag::NONE).then_some(name(id).as_bytes()));
         }
@@ -154,6 +156,10 @@ fn damaged_images() {
             for name in ["A", "B", "C", "D"] {
                 let (found, buckets) = db.lookup(name.as_bytes());
                 assert!(buckets > 0 || found.is_none());
+                if let Some(Found { id, offset }) = found {
+                    let entry = &bad[offset as usize..];
+                    assert_eq!((&entry[..4], &entry[8..9]), (&id.to_le_bytes()[..], name.as_bytes()));
+                }
             }
             for id in 0..4 {
                 assert!(db.to_str(id).is_none_or(|name| name.len() < bad.len()));

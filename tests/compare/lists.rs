@@ -55,6 +55,15 @@ fn first_id(accepted: &[Put], name: &[u8]) -> Option<u32> {
     accepted.iter().find(|put| put.0 == name).map(|put| put.1)
 }
 
+// 02 (ii): 2,072 plus the sizes of the entries before the name's first; 0 without one.
+fn first_place(accepted: &[Put], name: &[u8]) -> u32 {
+    let before = accepted.iter().take_while(|put| put.0 != name);
+    match first_id(accepted, name) {
+        Some(_) => 2_072 + before.map(|put| 9 + put.0.len() as u32).sum::<u32>(),
+        None => 0,
+    }
+}
+
 fn last_name(accepted: &[Put], id: u32) -> Option<&[u8]> {
     accepted.iter().rev().find(|put| put.1 == id).map(|put| &put.0[..])
 }
@@ -125,6 +134,7 @@ impl Run {
         let most = if found.is_some() { puts } else { puts + 1 };
         self.tally.rule(ours.buckets <= most, true, || format!("{} buckets for {puts} puts, {name:02x?}", ours.buckets));
         self.tally.rule(ours.buckets, rules::to_id(&left.image, name).buckets, || format!("buckets for {name:02x?}"));
+        self.tally.rule(ours.offset, first_place(&left.accepted, name), || format!("offset for {name:02x?}"));
         if let (Ok(db), Ok(text)) = (original::open(&left.image), std::str::from_utf8(name)) {
             self.tally.rust(found, db.to_id(text), || format!("name {text:?}"));
         }
@@ -169,7 +179,7 @@ impl Run {
     fn too_long(&mut self, left: &Left) {
         let name = vec![0u8; u32::MAX as usize];
         let ours = ours::to_id(&left.image, &name);
-        self.tally.rule((ours.found, ours.buckets), (0, 0), || "a name too long for a hash".into());
+        self.tally.rule((ours.found, ours.buckets, ours.offset), (0, 0, 0), || "a name too long for a hash".into());
     }
 }
 

@@ -65,7 +65,7 @@ impl Run {
         let ours = ours::to_id(image, name);
         let rule = rules::to_id(image, name);
         let (found, id) = rule.id.map_or((0, 0), |id| (1, id));
-        let want = IdAnswer { found, id, buckets: rule.buckets };
+        let want = IdAnswer { found, id, buckets: rule.buckets, offset: rule.offset };
         self.tally.rule(ours, want, || format!("lookup of {name:02x?}"));
         let (Some(db), Ok(text)) = (db, std::str::from_utf8(name)) else { return };
         if rule.unending {

@@ -60,11 +60,12 @@ pub fn open(image: &[u8]) -> Result<u32, u32> {
     }
 }
 
-/// What a lookup answers.
+/// What a lookup answers. 02 (ii): a found answer carries the offset in the deciding bucket too.
 #[derive(Clone, Copy, Debug, PartialEq, Eq)]
 pub struct Lookup {
     pub id: Option<u32>,
     pub buckets: u32,
+    pub offset: u32,
     /// All n buckets were read and none decided: there the Rust never returns.
     pub unending: bool,
 }
@@ -72,7 +73,7 @@ pub struct Lookup {
 enum Seen {
     Pass,
     Nothing,
-    Found(u32),
+    Found { id: u32, offset: u32 },
 }
 
 // An entry whose first 8 bytes or name leave the image, or whose length word is 0, has none.
@@ -98,14 +99,14 @@ fn see(image: &[u8], name: &[u8], h: u32, bucket: usize) -> Seen {
     }
     match entry_name(image, at as u64) {
         None => Seen::Nothing,
-        Some((start, len)) if &image[start..start + len] == name => Seen::Found(word(image, at as usize)),
+        Some((start, len)) if &image[start..start + len] == name => Seen::Found { id: word(image, at as usize), offset: at },
         Some(_) => Seen::Pass,
     }
 }
 
 /// Looking up a name.
 pub fn to_id(image: &[u8], name: &[u8]) -> Lookup {
-    let nothing = Lookup { id: None, buckets: 0, unending: false };
+    let nothing = Lookup { id: None, buckets: 0, offset: 0, unending: false };
     if image.len() < HEAD || name.len() as u64 > LONGEST {
         return nothing;
     }
@@ -121,10 +122,10 @@ pub fn to_id(image: &[u8], name: &[u8]) -> Lookup {
         match see(image, name, h, bucket as usize) {
             Seen::Pass => {}
             Seen::Nothing => return Lookup { buckets, ..nothing },
-            Seen::Found(id) => return Lookup { id: Some(id), buckets, unending: false },
+            Seen::Found { id, offset } => return Lookup { id: Some(id), buckets, offset, unending: false },
         }
     }
-    Lookup { id: None, buckets: n as u32, unending: true }
+    Lookup { buckets: n as u32, unending: true, ..nothing }
 }
 
 /// Naming an id: the place of the name.

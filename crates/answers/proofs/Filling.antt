@@ -1,9 +1,8 @@
 -- A table that takes its entries one by one, seen by one search: each entry fills one empty bucket, an entry of the search's own start the
--- first one. So the table answers with the first hit among its entries, in their order. Assumes nothing.
+-- first one. So a search meets the hits among the table's entries, in their order. Assumes nothing.
 use mathlib.Core.Path.{_≡_, refl, sym, ap, _∙_}
 use mathlib.Core.Bool.{Bool, true, false, cond}
-use mathlib.Core.List.{List, [], _∷_, map}
-use mathlib.Core.Option.{Option, none, some, orElse}
+use mathlib.Core.List.{List, [], _∷_, _++_, map}
 use Prim.Native.Nat.{ℕ, suc, _+_, _%_, _<_}
 use native.Mathlib.Nat.{mod-lt}
 use native.Mathlib.Omega.{arith}
@@ -11,24 +10,14 @@ use borrow.Author.Tests.{eqb-true, eqb-false}
 use lib.Dec.{eqb}
 use lib.ListN.{length, getD, set}
 use Rattle.image.specs.Tables.{Bucket, empty, atOf, start, order, firstEmpty, insert}
-use Rattle.reader.specs.Lookup.{Seen, pass, ends, hit}
-use Rattle.answers.proofs.Scan.{answer, used, Good, Clear, Taken, hitOf, idx, idx-empty}
+use Rattle.reader.specs.Lookup.{Hit, Seen, pass, ends, hit}
+use Rattle.answers.proofs.Scan.{hits, used, Good, Clear, Taken, hitOf, idx, idx-empty}
 use Rattle.answers.proofs.Order.{order-length, order-at, place-of, view, view-length, view-at, view-set}
 
--- the first hit of a list of entries
-abbrev pub firstHit : List Seen → Option ℕ
-firstHit [] = none
-firstHit (x ∷ w) = orElse (hitOf x) (firstHit w)
-
-pub orElse-assoc : (a b c : Option ℕ) → orElse (orElse a b) c ≡ orElse a (orElse b c)
-unfolding orElse
-orElse-assoc none b c = refl
-orElse-assoc (some x) b c = refl
-
-pub orElse-none : (a : Option ℕ) → a ≡ orElse a none
-unfolding orElse
-orElse-none none = refl
-orElse-none (some x) = refl
+-- the hits of a list of entries
+abbrev pub hitsIn : List Seen → List Hit
+hitsIn [] = []
+hitsIn (x ∷ w) = hitOf x ++ hitsIn w
 
 -- ---- an empty table
 
@@ -45,9 +34,9 @@ module _ (g : ℕ → Seen) (all : (k : ℕ) → g k ≡ ends) where
   ends-good [] = tt
   ends-good (k ∷ ks) = rw (all k) (ends-clear ks)
 
-  pub ends-answer : (ks : List ℕ) → answer (map g ks) ≡ none
-  ends-answer [] = refl
-  ends-answer (k ∷ ks) = rw (all k)
+  pub ends-hits : (ks : List ℕ) → hits (map g ks) ≡ []
+  ends-hits [] = refl
+  ends-hits (k ∷ ks) = rw (all k)
 
 -- ---- the bucket that an entry takes
 

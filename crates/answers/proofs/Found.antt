@@ -1,8 +1,7 @@
--- Looking up a name in an image of entries: the first entry of that name, and how many buckets are read. Assumes nothing.
+-- Looking up a name in an image of entries: the entries of that name, the first of which is found, and how many buckets are read. Assumes nothing.
 use mathlib.Core.Path.{_≡_, refl, sym, ap, _∙_}
 use mathlib.Core.Bool.{Bool, true, false, cond}
 use mathlib.Core.List.{List, [], _∷_, map, map-map}
-use mathlib.Core.Option.{Option, none}
 use Prim.Native.Nat.{ℕ, _+_, _*_, _/_, _^_, _≤_, _<_}
 use native.Mathlib.Nat.{mod-lt}
 use native.Mathlib.Decide.{decLt}
@@ -17,13 +16,13 @@ use Rattle.image.specs.Tables.{Bucket, empty, tableOf, start, order, filled}
 use Rattle.image.specs.Image.{Entry, Placed, headSize, ofTable, inTable, count, bucketOf, bucketBytes, table, entriesBefore, tableOffset, backSize, entriesEnd, imageSize, image}
 use Rattle.image.specs.declared.Mode.{Mode}
 use Rattle.image.proofs.Sizes.{length-image}
-use Rattle.reader.specs.Lookup.{nothing, Seen, pass, hit, seeEntry, see, probe, searchTable, lookupHash, lookup}
-use Rattle.answers.specs.Answer.{ofName, firstId, tablePuts}
+use Rattle.reader.specs.Lookup.{nothing, Hit, Seen, pass, hit, seeEntry, see, probe, searchTable, lookupHash, lookup}
+use Rattle.answers.specs.Answer.{tablePuts}
 use Rattle.image.proofs.Every.{All, all-map, all-both, all-keep, all-image, map-alike}
 use Rattle.image.proofs.Buckets.{filled-all}
-use Rattle.answers.proofs.Scan.{Taken}
+use Rattle.answers.proofs.Scan.{firstOf, Taken}
 use Rattle.answers.proofs.Order.{probe-alike}
-use Rattle.answers.proofs.Filling.{firstHit}
+use Rattle.answers.proofs.Filling.{hitsIn}
 use Rattle.answers.proofs.Searched.{look, Searched, searched-same, searched}
 use Rattle.image.proofs.At.{at-left, at-word, at-second}
 use Rattle.image.proofs.Parts.{placedIn, most, tableAt-image, bucketNumber-image, bucket-at}
@@ -31,12 +30,12 @@ use Rattle.answers.proofs.Opened.{long-enough, table-inside}
 use Rattle.image.proofs.EntryAt.{Stands, entry-fits, all-stand, all-placed, ids-below}
 use Rattle.answers.proofs.EntrySeen.{seen-entry}
 use Rattle.image.proofs.Equal.{same-true}
-use Rattle.answers.proofs.Names.{told, verdict, first-of-name, none-of-name, names-short}
+use Rattle.answers.proofs.Names.{told, verdict, tellings, hits-of-name, none-tell, names-short}
 
 -- an answer of nothing without a read, where nothing is to be found
-pub nothing-searched : (id : Option ℕ) (m : ℕ) → id ≡ none → Searched id m (nothing 0)
-nothing-searched id m e = record {
-  finds = sym e;
+pub nothing-searched : (hs : List Hit) (m : ℕ) → hs ≡ [] → Searched hs m (nothing 0)
+nothing-searched hs m e = record {
+  finds = sym (ap firstOf e);
   most = omega arith;
   found-most = λ f q. let z : _≡_ {A = ℕ} 0 1 = cc in omega arith;
 }
@@ -136,9 +135,9 @@ module _ (mode : Mode) (es : List Entry) (fits : imageSize mode es ≤ 429496729
   unfolding qs
   length-qs = length-map qs bucketOf
 
-  first-hit : firstHit (map (look (hashOf name) v) (map bucketOf qs)) ≡ firstId (ofName name es)
+  name-hits : hitsIn (map (look (hashOf name) v) (map bucketOf qs)) ≡ tellings name headSize es
   unfolding qs
-  first-hit = ap firstHit looks ∙ first-of-name name headSize es
+  name-hits = ap hitsIn looks ∙ hits-of-name name headSize es
 
   -- each bucket is seen as the table has it
   search-alike : 0 < count (tableOf (hashOf name)) (placedIn es)
@@ -151,27 +150,27 @@ module _ (mode : Mode) (es : List Entry) (fits : imageSize mode es ≤ 429496729
       n seen-bucket n (start (hashOf name) n) 0 (mod-lt (hashOf name / 256) (omega arith))
 
   in-table : 0 < count (tableOf (hashOf name)) (placedIn es)
-      → Searched (firstId (ofName name es)) (tablePuts name es) (searchTable (image mode es) name (hashOf name) at n)
+      → Searched (tellings name headSize es) (tablePuts name es) (searchTable (image mode es) name (hashOf name) at n)
   unfolding n tablePuts
   in-table some-entry =
-      searched-same first-hit length-qs (sym (search-alike some-entry))
+      searched-same name-hits length-qs (sym (search-alike some-entry))
       (searched n (hashOf name) v (map bucketOf qs) (omega arith) (omega (arith, length-qs)) all-taken)
 
   -- ---- the table's row decides whether it is searched
 
-  no-entry : count (tableOf (hashOf name)) (placedIn es) ≡ 0 → firstId (ofName name es) ≡ none
-  no-entry e = sym (first-of-name name headSize es) ∙ go (ofTable (tableOf (hashOf name)) (placedIn es)) e
+  no-entry : count (tableOf (hashOf name)) (placedIn es) ≡ 0 → tellings name headSize es ≡ []
+  no-entry e = sym (hits-of-name name headSize es) ∙ go (ofTable (tableOf (hashOf name)) (placedIn es)) e
     where
-      go : (ps : List Placed) → length ps ≡ 0 → firstHit (map (verdict name) ps) ≡ none
+      go : (ps : List Placed) → length ps ≡ 0 → hitsIn (map (verdict name) ps) ≡ []
       go [] z = refl
       go (p ∷ ps) z = absurd (omega arith)
 
   by-count : (b : Bool) → eqb (count (tableOf (hashOf name)) (placedIn es)) 0 ≡ b
-      → Searched (firstId (ofName name es)) (tablePuts name es) (lookupHash (image mode es) name (hashOf name))
+      → Searched (tellings name headSize es) (tablePuts name es) (lookupHash (image mode es) name (hashOf name))
   unfolding lookupHash tableOffset at n
   by-count true e =
       rw (tableAt-image mode es fits (tableOf (hashOf name)) t-below, e)
-      (nothing-searched (firstId (ofName name es)) (tablePuts name es) (no-entry (eqb-true (count (tableOf (hashOf name)) (placedIn es)) 0 e)))
+      (nothing-searched (tellings name headSize es) (tablePuts name es) (no-entry (eqb-true (count (tableOf (hashOf name)) (placedIn es)) 0 e)))
   by-count false e =
       let c : 0 < count (tableOf (hashOf name)) (placedIn es) = let ne = eqb-false (count (tableOf (hashOf name)) (placedIn es)) 0 e in omega arith in
       rw (
@@ -184,20 +183,17 @@ module _ (mode : Mode) (es : List Entry) (fits : imageSize mode es ≤ 429496729
       )
       (in-table c)
 
-  pub lookup-searched : Searched (firstId (ofName name es)) (tablePuts name es) (lookup (image mode es) name)
+  pub lookup-searched : Searched (tellings name headSize es) (tablePuts name es) (lookup (image mode es) name)
   unfolding lookup
   lookup-searched = go (decLt (length name) 4294967295)
     where
-      long : 4294967295 ≤ length name → firstId (ofName name es) ≡ none
-      long l =
-          ap firstId
-          (none-of-name name es
-          (all-map (λ e q. omega arith) es (names-short 4294967295 es (omega arith))))
+      long : 4294967295 ≤ length name → tellings name headSize es ≡ []
+      long l = none-tell name headSize es (all-map (λ e q. omega arith) es (names-short 4294967295 es (omega arith)))
 
-      go : Dec (length name < 4294967295) → Searched (firstId (ofName name es)) (tablePuts name es) (lookup (image mode es) name)
+      go : Dec (length name < 4294967295) → Searched (tellings name headSize es) (tablePuts name es) (lookup (image mode es) name)
       go (yes l) =
           rw (long-enough mode es fits, lt-leb 4294967295 (length name) l)
           (by-count (eqb (count (tableOf (hashOf name)) (placedIn es)) 0) refl)
       go (no l) =
           let m : 4294967295 ≤ length name = omega arith in
-          rw (lookup-long (image mode es) name m) (nothing-searched (firstId (ofName name es)) (tablePuts name es) (long m))
+          rw (lookup-long (image mode es) name m) (nothing-searched (tellings name headSize es) (tablePuts name es) (long m))

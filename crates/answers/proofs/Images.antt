@@ -1,21 +1,23 @@
 -- What reading answers on the image of a list of entries: the theorems for the crates above (demand 3, on entries). Assumes nothing.
 use mathlib.Core.Path.{_≡_, refl, sym, ap, _∙_}
 use mathlib.Core.List.{List, [], _∷_}
-use mathlib.Core.Option.{none}
+use mathlib.Core.Option.{Option, Option·map, none}
 use mathlib.Core.Logic.{_↔_}
 use Prim.Native.Nat.{ℕ, _+_, _^_, _≤_}
 use native.Mathlib.Omega.{arith}
 use lib.ListN.{length}
 use Rattle.jhash.specs.Outcome.{value}
-use Rattle.image.specs.Image.{Entry, backSize, imageSize, image}
+use Rattle.image.specs.Image.{Entry, headSize, backSize, imageSize, image}
 use Rattle.image.specs.declared.Mode.{Mode}
 use Rattle.image.specs.declared.Mode.the-variants.{Twoway}
 use Rattle.reader.specs.Open.{opening}
-use Rattle.reader.specs.Lookup.{found, nothing, lookup}
+use Rattle.reader.specs.Lookup.{Lookup, found, nothing, Hit, lookup}
 use Rattle.reader.specs.declared.Found.{Found}
-use Rattle.answers.specs.Answer.{foundId, nameGiven, ofName, ofId, tablePuts, firstId, lastName}
+use Rattle.answers.specs.Answer.{foundId, foundOffset, nameGiven, ofName, ofId, tablePuts, firstId, lastName, firstAt}
 use Rattle.reader.specs.Cases.{reads}
 use Rattle.answers.proofs.Opened.{opening-image}
+use Rattle.answers.proofs.Scan.{foundHit}
+use Rattle.answers.proofs.Names.{idIn, offsetIn, first-id, first-at}
 use Rattle.answers.proofs.Found.{lookup-long, lookup-searched}
 use Rattle.answers.proofs.Named.{naming-image}
 
@@ -35,6 +37,16 @@ last-none (e ∷ f ∷ es) = (
   λ q. let z : _≡_ {A = ℕ} 0 1 = cc in absurd (omega arith),
 )
 
+-- ---- id and offset of what is found
+
+hit-id : (l : Lookup) → foundId l ≡ Option·map idIn (foundHit l)
+hit-id (found f) = refl
+hit-id (nothing r) = refl
+
+hit-offset : (l : Lookup) → foundOffset l ≡ Option·map offsetIn (foundHit l)
+hit-offset (found f) = refl
+hit-offset (nothing r) = refl
+
 -- ---- every image: one-way and two-way
 
 module _ (mode : Mode) (es : List Entry) (fits : imageSize mode es ≤ 4294967295) where
@@ -46,7 +58,13 @@ module _ (mode : Mode) (es : List Entry) (fits : imageSize mode es ≤ 429496729
   module _ (ids : backSize es ≤ 2 ^ 32) (name : List ℕ) where
     -- a name gives the id of its first entry, and nothing exactly when none has it
     pub name-gives : foundId (lookup (image mode es) name) ≡ firstId (ofName name es)
-    name-gives = lookup-searched mode es fits ids name .finds
+    name-gives =
+        hit-id (lookup (image mode es) name) ∙ ap (Option·map idIn) (lookup-searched mode es fits ids name .finds) ∙ first-id name headSize es
+
+    -- 02 (ii): the found offset is the place of that entry
+    pub name-stands : foundOffset (lookup (image mode es) name) ≡ firstAt name headSize es
+    name-stands =
+        hit-offset (lookup (image mode es) name) ∙ ap (Option·map offsetIn) (lookup-searched mode es fits ids name .finds) ∙ first-at name headSize es
 
     pub name-nothing : (foundId (lookup (image mode es) name) ≡ none) ↔ (ofName name es ≡ [])
     name-nothing =

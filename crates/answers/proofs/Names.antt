@@ -2,7 +2,7 @@
 use mathlib.Core.Path.{_≡_, refl, ap, _∙_}
 use mathlib.Core.Bool.{Bool, true, false, cond}
 use mathlib.Core.List.{List, [], _∷_, map}
-use mathlib.Core.Option.{orElse}
+use mathlib.Core.Option.{Option, Option·map, none, some}
 use Prim.Native.Nat.{ℕ, _+_, _≤_, _<_}
 use native.Mathlib.Omega.{arith}
 use borrow.Author.Tests.{eq-eqb}
@@ -13,26 +13,34 @@ use Rattle.image.specs.Bytes.{keep, same}
 use Rattle.image.specs.Tables.{tableOf}
 use Rattle.image.specs.Image.{Entry, Placed, entrySize, entriesSize, placed, inTable, ofTable}
 use Rattle.reader.specs.Lookup.{Hit, Seen, pass, hit}
-use Rattle.answers.specs.Answer.{hasName, ofName, firstId}
+use Rattle.answers.specs.Answer.{hasName, ofName, firstId, firstAt}
 use Rattle.image.proofs.Every.{All}
 use Rattle.image.proofs.Equal.{same-true, same-false}
-use Rattle.answers.proofs.Filling.{firstHit}
+use Rattle.answers.proofs.Scan.{firstOf}
+use Rattle.answers.proofs.Filling.{hitsIn}
 
--- ---- the first entry of a name
+-- ---- the entries of a name
 
 -- what an entry tells, and what a search for a name makes of it
 abbrev pub told : Placed → Hit
-told p = record { id = p .entry .id }
+told p = record { id = p .entry .id; offset = p .at }
 
 abbrev pub verdict : List ℕ → Placed → Seen
 verdict name p = cond (same (p .entry .name) name) (hit (told p)) pass
 
-pub first-of-name : (name : List ℕ) (o : ℕ) (es : List Entry)
-    → firstHit (map (verdict name) (ofTable (tableOf (hashOf name)) (placed o es))) ≡ firstId (ofName name es)
-unfolding placed ofTable keep ofName orElse
-first-of-name name o [] = refl
-first-of-name name o (e ∷ es) =
-    go (same (e .name) name) refl (eqb (tableOf (hashOf (e .name))) (tableOf (hashOf name))) refl (first-of-name name (o + entrySize e) es)
+-- what the entries of a name tell, in their order, where the entries stand from o on
+unfoldable pub tellings : List ℕ → ℕ → List Entry → List Hit
+tellings name o [] = []
+tellings name o (e ∷ es) =
+    cond (hasName name e) (told (record { entry = e; at = o }) ∷ tellings name (o + entrySize e) es) (tellings name (o + entrySize e) es)
+
+-- those of the name's table that a search for the name makes a hit of
+pub hits-of-name : (name : List ℕ) (o : ℕ) (es : List Entry)
+    → hitsIn (map (verdict name) (ofTable (tableOf (hashOf name)) (placed o es))) ≡ tellings name o es
+unfolding placed ofTable keep tellings
+hits-of-name name o [] = refl
+hits-of-name name o (e ∷ es) =
+    go (same (e .name) name) refl (eqb (tableOf (hashOf (e .name))) (tableOf (hashOf name))) refl (hits-of-name name (o + entrySize e) es)
   where
     p : Placed
     p = record { entry = e; at = o }
@@ -40,12 +48,12 @@ first-of-name name o (e ∷ es) =
     K : List Placed
     K = keep (inTable (tableOf (hashOf name))) (placed (o + entrySize e) es)
 
-    N : List Entry
-    N = keep (hasName name) es
+    T : List Hit
+    T = tellings name (o + entrySize e) es
 
     go : (s : Bool) → same (e .name) name ≡ s → (t : Bool) → eqb (tableOf (hashOf (e .name))) (tableOf (hashOf name)) ≡ t
-        → firstHit (map (verdict name) K) ≡ firstId N → firstHit (map (verdict name) (cond t (p ∷ K) K)) ≡ firstId (cond s (e ∷ N) N)
-    go true q true r ih = rw q
+        → hitsIn (map (verdict name) K) ≡ T → hitsIn (map (verdict name) (cond t (p ∷ K) K)) ≡ cond s (told p ∷ T) T
+    go true q true r ih = rw q (ap (λ (l : List Hit). told p ∷ l) ih)
     go true q false r ih =
         let w : eqb (tableOf (hashOf (e .name))) (tableOf (hashOf name)) ≡ true =
         eq-eqb (tableOf (hashOf (e .name))) (tableOf (hashOf name)) (ap (λ (l : List ℕ). tableOf (hashOf l)) (same-true (e .name) name q)) in
@@ -54,13 +62,40 @@ first-of-name name o (e ∷ es) =
     go false q true r ih = rw q ih
     go false q false r ih = ih
 
+-- the first of them: its id and its place
+abbrev pub idIn : Hit → ℕ
+idIn t = t .id
+
+abbrev pub offsetIn : Hit → ℕ
+offsetIn t = t .offset
+
+pub first-id : (name : List ℕ) (o : ℕ) (es : List Entry) → Option·map idIn (firstOf (tellings name o es)) ≡ firstId (ofName name es)
+unfolding tellings keep ofName
+first-id name o [] = refl
+first-id name o (e ∷ es) = go (hasName name e) (tellings name (o + entrySize e) es) (first-id name (o + entrySize e) es)
+  where
+    go : (s : Bool) (T : List Hit) → Option·map idIn (firstOf T) ≡ firstId (ofName name es)
+        → Option·map idIn (firstOf (cond s (told (record { entry = e; at = o }) ∷ T) T)) ≡ firstId (cond s (e ∷ ofName name es) (ofName name es))
+    go true T ih = refl
+    go false T ih = ih
+
+pub first-at : (name : List ℕ) (o : ℕ) (es : List Entry) → Option·map offsetIn (firstOf (tellings name o es)) ≡ firstAt name o es
+unfolding tellings firstAt
+first-at name o [] = refl
+first-at name o (e ∷ es) = go (hasName name e) (tellings name (o + entrySize e) es) (first-at name (o + entrySize e) es)
+  where
+    go : (s : Bool) (T : List Hit) → Option·map offsetIn (firstOf T) ≡ firstAt name (o + entrySize e) es
+        → Option·map offsetIn (firstOf (cond s (told (record { entry = e; at = o }) ∷ T) T)) ≡ cond s (some o) (firstAt name (o + entrySize e) es)
+    go true T ih = refl
+    go false T ih = ih
+
 -- no entry has a name that is longer than each of theirs
-pub none-of-name : (name : List ℕ) (es : List Entry) → All (λ (e : Entry). length (e .name) < length name) es → ofName name es ≡ []
-unfolding ofName keep
-none-of-name name [] all = refl
-none-of-name name (e ∷ es) all =
+pub none-tell : (name : List ℕ) (o : ℕ) (es : List Entry) → All (λ (e : Entry). length (e .name) < length name) es → tellings name o es ≡ []
+unfolding tellings
+none-tell name o [] all = refl
+none-tell name o (e ∷ es) all =
     rw (same-false (e .name) name (λ q. let l : length (e .name) ≡ length name = ap length q in let h = all .0 in omega arith))
-    (none-of-name name es (all .1))
+    (none-tell name (o + entrySize e) es (all .1))
 
 pub names-short : (n : ℕ) (es : List Entry) → entriesSize es ≤ n → All (λ (e : Entry). length (e .name) < n) es
 unfolding entriesSize

@@ -1,14 +1,13 @@
 -- A search as a list of what is seen in its buckets, one after the other. A list is good when no hit stands behind the first empty bucket;
 -- an entry that goes into the first empty bucket, and one that is no hit and goes into any empty one, keep it good. Assumes nothing.
 use mathlib.Core.Path.{_≡_, refl, ap}
-use mathlib.Core.List.{List, [], _∷_, map}
-use mathlib.Core.Option.{Option, none, some, orElse}
+use mathlib.Core.List.{List, [], _∷_, _++_, map}
+use mathlib.Core.Option.{Option, none, some}
 use Prim.Native.Nat.{ℕ, zero, suc, _+_, _≤_, _<_}
 use native.Mathlib.Omega.{arith}
 use lib.ListN.{length, getD, set}
-use Rattle.reader.specs.Lookup.{Lookup, found, nothing, Seen, pass, ends, hit, decide, probe}
+use Rattle.reader.specs.Lookup.{Lookup, found, nothing, Hit, Seen, pass, ends, hit, decide, probe}
 use Rattle.reader.specs.declared.Found.{Found}
-use Rattle.answers.specs.Answer.{foundId}
 use Rattle.reader.specs.Cases.{reads}
 
 -- ---- the search along a list
@@ -22,12 +21,21 @@ unfolding probe scan
 probe-scan look [] r = refl
 probe-scan look (k ∷ ks) r = ap (decide (look k) (r + 1)) (probe-scan look ks (r + 1))
 
--- the id at which it ends, if it does
-abbrev pub answer : List Seen → Option ℕ
-answer [] = none
-answer (pass ∷ w) = answer w
-answer (ends ∷ w) = none
-answer (hit told ∷ w) = some (told .id)
+-- the hits before the first empty bucket
+abbrev pub hits : List Seen → List Hit
+hits [] = []
+hits (pass ∷ w) = hits w
+hits (ends ∷ w) = []
+hits (hit told ∷ w) = told ∷ hits w
+
+-- the first of them, and what a search that finds tells of its entry
+abbrev pub firstOf : List Hit → Option Hit
+firstOf [] = none
+firstOf (told ∷ more) = some told
+
+abbrev pub foundHit : Lookup → Option Hit
+foundHit (found f) = some (record { id = f .id; offset = f .offset })
+foundHit (nothing reads) = none
 
 -- the buckets that are not empty
 abbrev pub used : List Seen → ℕ
@@ -36,12 +44,12 @@ used (pass ∷ w) = suc (used w)
 used (ends ∷ w) = used w
 used (hit told ∷ w) = suc (used w)
 
-pub scan-answer : (w : List Seen) (r : ℕ) → foundId (scan w r) ≡ answer w
+pub scan-first : (w : List Seen) (r : ℕ) → foundHit (scan w r) ≡ firstOf (hits w)
 unfolding scan
-scan-answer [] r = refl
-scan-answer (pass ∷ w) r = scan-answer w (r + 1)
-scan-answer (ends ∷ w) r = refl
-scan-answer (hit told ∷ w) r = refl
+scan-first [] r = refl
+scan-first (pass ∷ w) r = scan-first w (r + 1)
+scan-first (ends ∷ w) r = refl
+scan-first (hit told ∷ w) r = refl
 
 pub scan-reads : (w : List Seen) (r : ℕ) → reads (scan w r) ≤ r + used w + 1
 unfolding scan
@@ -72,16 +80,16 @@ Good (pass ∷ w) = Good w
 Good (ends ∷ w) = Clear w
 Good (hit told ∷ w) = Good w
 
--- what an entry may be: no empty bucket; and what it adds to the answer
+-- what an entry may be: no empty bucket; and what it adds to the hits
 abbrev pub Taken : Seen → Type 0
 Taken pass = Unit {0}
 Taken ends = ⊥
 Taken (hit told) = Unit {0}
 
-abbrev pub hitOf : Seen → Option ℕ
-hitOf pass = none
-hitOf ends = none
-hitOf (hit told) = some (told .id)
+abbrev pub hitOf : Seen → List Hit
+hitOf pass = []
+hitOf ends = []
+hitOf (hit told) = told ∷ []
 
 clear-good : (w : List Seen) → Clear w → Good w
 clear-good [] c = tt
@@ -89,11 +97,11 @@ clear-good (pass ∷ w) c = clear-good w c
 clear-good (ends ∷ w) c = c
 clear-good (hit told ∷ w) c = absurd c
 
-clear-answer : (w : List Seen) → Clear w → answer w ≡ none
-clear-answer [] c = refl
-clear-answer (pass ∷ w) c = clear-answer w c
-clear-answer (ends ∷ w) c = refl
-clear-answer (hit told ∷ w) c = absurd c
+clear-hits : (w : List Seen) → Clear w → hits w ≡ []
+clear-hits [] c = refl
+clear-hits (pass ∷ w) c = clear-hits w c
+clear-hits (ends ∷ w) c = refl
+clear-hits (hit told ∷ w) c = absurd c
 
 -- ---- the place of the first empty bucket
 
@@ -142,14 +150,13 @@ own-good (ends ∷ w) ends t g = absurd t
 own-good (ends ∷ w) (hit told) t g = clear-good w g
 own-good (hit told ∷ w) x t g = own-good w x t g
 
-pub own-answer : (w : List Seen) (x : Seen) → Taken x → Good w → idx w < length w → answer (set w (idx w) x) ≡ orElse (answer w) (hitOf x)
-unfolding orElse
-own-answer [] x t g h = absurd (omega arith)
-own-answer (pass ∷ w) x t g h = own-answer w x t g (omega arith)
-own-answer (ends ∷ w) pass t g h = clear-answer w g
-own-answer (ends ∷ w) ends t g h = absurd t
-own-answer (ends ∷ w) (hit told) t g h = refl
-own-answer (hit told ∷ w) x t g h = refl
+pub own-hits : (w : List Seen) (x : Seen) → Taken x → Good w → idx w < length w → hits (set w (idx w) x) ≡ hits w ++ hitOf x
+own-hits [] x t g h = absurd (omega arith)
+own-hits (pass ∷ w) x t g h = own-hits w x t g (omega arith)
+own-hits (ends ∷ w) pass t g h = clear-hits w g
+own-hits (ends ∷ w) ends t g h = absurd t
+own-hits (ends ∷ w) (hit told) t g h = ap (λ (l : List Hit). told ∷ l) (clear-hits w g)
+own-hits (hit told ∷ w) x t g h = ap (λ (l : List Hit). told ∷ l) (own-hits w x t g (omega arith))
 
 -- any empty one, for an entry that is no hit
 clear-set : (w : List Seen) (j : ℕ) → Clear w → Clear (set w j pass)
@@ -169,11 +176,11 @@ other-good (ends ∷ w) (suc j) e g = clear-set w j g
 other-good (hit told ∷ w) zero e g = g
 other-good (hit told ∷ w) (suc j) e g = other-good w j e g
 
-pub other-answer : (w : List Seen) (j : ℕ) → getD w j pass ≡ ends → Good w → answer (set w j pass) ≡ answer w
-other-answer [] j e g = refl
-other-answer (pass ∷ w) zero e g = refl
-other-answer (pass ∷ w) (suc j) e g = other-answer w j e g
-other-answer (ends ∷ w) zero e g = clear-answer w g
-other-answer (ends ∷ w) (suc j) e g = refl
-other-answer (hit told ∷ w) zero e g = no-empty (hit told) tt e
-other-answer (hit told ∷ w) (suc j) e g = refl
+pub other-hits : (w : List Seen) (j : ℕ) → getD w j pass ≡ ends → Good w → hits (set w j pass) ≡ hits w
+other-hits [] j e g = refl
+other-hits (pass ∷ w) zero e g = refl
+other-hits (pass ∷ w) (suc j) e g = other-hits w j e g
+other-hits (ends ∷ w) zero e g = clear-hits w g
+other-hits (ends ∷ w) (suc j) e g = refl
+other-hits (hit told ∷ w) zero e g = no-empty (hit told) tt e
+other-hits (hit told ∷ w) (suc j) e g = ap (λ (l : List Hit). told ∷ l) (other-hits w j e g)

@@ -11,9 +11,9 @@ use Rattle.image.specs.Tables.{Bucket, empty, start, order, firstEmpty, insert,
 use Rattle.image.specs.Image.{Entry, entriesSize, backSize, imageSize, image}
 use Rattle.image.specs.declared.Mode.the-variants.{Twoway}
 use Rattle.reader.specs.Lookup.{Lookup, found, nothing, Seen, pass, hit, probe, lookup}
-use Rattle.answers.specs.Answer.{foundId, nameGiven, ofName, ofId}
+use Rattle.answers.specs.Answer.{foundId, foundOffset, nameGiven, ofName, ofId, firstAt}
 use Rattle.answers.proofs.Searched.{look}
-use Rattle.answers.proofs.Images.{name-gives, id-gives, ids-fit}
+use Rattle.answers.proofs.Images.{name-gives, name-stands, id-gives, ids-fit}
 
 -- three entries of one start in a table of six: two of hash 256, one of hash 1792
 abbrev three : List Bucket
@@ -24,10 +24,10 @@ search h v = probe (λ (k : ℕ). look h v (getD (filled 6 three) k empty)) (ord
 
 -- an entry whose id is its offset, and an answer
 abbrev told : ℕ → Seen
-told o = hit (record { id = o })
+told o = hit (record { id = o; offset = o })
 
 abbrev foundAs : ℕ → ℕ → Lookup
-foundAs id n = found (record { id = id; buckets = n })
+foundAs id n = found (record { id = id; buckets = n; offset = id })
 
 -- the first of two hits; the later one, where the first is passed; one of another hash; none, after one bucket more than there are entries
 first-hit : search 256 told ≡ foundAs 10 1
@@ -46,7 +46,7 @@ no-hit : search 3328 told ≡ nothing 4
 unfolding filled insertAll insert firstEmpty order probe
 no-hit = refl
 
--- A twice, with 5 and with 9: A finds 5, B nothing; 9 gives A, 7 nothing
+-- A twice, with 5 and with 9: A finds 5, at 2,072, B nothing; 9 gives A, 7 nothing
 abbrev A : List ℕ
 A = 65 ∷ []
 
@@ -63,6 +63,10 @@ fits = lit≤ tt
 A-finds : foundId (lookup (image Twoway twice) A) ≡ some 5
 unfolding ofName keep same
 A-finds = name-gives Twoway twice fits (ids-fit twice fits) A
+
+A-stands : foundOffset (lookup (image Twoway twice) A) ≡ some 2072
+unfolding firstAt same
+A-stands = name-stands Twoway twice fits (ids-fit twice fits) A
 
 B-finds : foundId (lookup (image Twoway twice) B) ≡ none
 unfolding ofName keep same

@@ -1,7 +1,6 @@
--- What a search in a filled table answers, and how many buckets it reads. Assumes nothing.
-use mathlib.Core.Path.{_≡_, refl, ap, _∙_}
-use mathlib.Core.List.{List, [], _∷_, map}
-use mathlib.Core.Option.{Option, none, orElse}
+-- Which entries a search in a filled table meets, and how many buckets it reads. Assumes nothing.
+use mathlib.Core.Path.{_≡_, refl, sym, ap, _∙_}
+use mathlib.Core.List.{List, [], _∷_, _++_, map, append-nil, append-assoc}
 use mathlib.Core.Logic.{_⊎_, inl, inr}
 use Prim.Native.Nat.{ℕ, suc, _+_, _/_, _≤_, _<_}
 use native.Mathlib.Nat.{mod-lt}
@@ -9,13 +8,13 @@ use native.Mathlib.Omega.{arith}
 use lib.ListN.{length, getD, set, replicate, length-replicate}
 use Rattle.image.specs.Tables.{Bucket, empty, start, order, insert, insertAll, filled}
 use Rattle.image.proofs.Sizes.{length-insert}
-use Rattle.reader.specs.Lookup.{Seen, pass, ends}
+use Rattle.reader.specs.Lookup.{Hit, Seen, pass, ends}
 use Rattle.image.proofs.Every.{All}
 use Rattle.image.proofs.Buckets.{getD-empties}
-use Rattle.answers.proofs.Scan.{answer, used, Good, hitOf, idx, idx-below, used-set}
-use Rattle.answers.proofs.Scan.{own-good, own-answer, other-good, other-answer}
+use Rattle.answers.proofs.Scan.{hits, used, Good, hitOf, idx, idx-below, used-set}
+use Rattle.answers.proofs.Scan.{own-good, own-hits, other-good, other-hits}
 use Rattle.answers.proofs.Order.{view, view-length}
-use Rattle.answers.proofs.Filling.{firstHit, orElse-assoc, orElse-none, ends-used, ends-good, ends-answer, Sees, own-step, any-step}
+use Rattle.answers.proofs.Filling.{hitsIn, ends-used, ends-good, ends-hits, Sees, own-step, any-step}
 
 -- ---- what holds after each entry: m buckets are taken, whatever the search's start, and no hit stands behind an empty one
 
@@ -43,10 +42,10 @@ module _ (f : Bucket → Seen) (sees : Sees f) (n s₀ : ℕ) (inside : s₀ < n
       clear : (k : ℕ) → f (getD (replicate n empty) k empty) ≡ ends
       clear k = rw (getD-empties n k) (sees .empties empty refl)
 
-  none-answer : answer (view n f (replicate n empty) s₀) ≡ none
+  none-hits : hits (view n f (replicate n empty) s₀) ≡ []
   unfolding view
-  none-answer =
-      ends-answer (λ (k : ℕ). f (getD (replicate n empty) k empty)) (λ k. rw (getD-empties n k) (sees .empties empty refl)) (order n n s₀)
+  none-hits =
+      ends-hits (λ (k : ℕ). f (getD (replicate n empty) k empty)) (λ k. rw (getD-empties n k) (sees .empties empty refl)) (order n n s₀)
 
   module _ (table : List Bucket) (m : ℕ) (held : Holds f n s₀ table m) (room : m < n) (b : Bucket) (full : NotEmpty b) where
     start-below : start (b .hash) n < n
@@ -72,16 +71,16 @@ module _ (f : Bucket → Seen) (sees : Sees f) (n s₀ : ℕ) (inside : s₀ < n
             → Good (view n f (insert n table b) s₀)
         go (j, p, q) = rw (q, e) (other-good (view n f table s₀) j p (held .good))
 
-    answer-more : (start (b .hash) n ≡ s₀) ⊎ (f b ≡ pass)
-        → answer (view n f (insert n table b) s₀) ≡ orElse (answer (view n f table s₀)) (hitOf (f b))
-    answer-more (inl e) =
+    hits-more : (start (b .hash) n ≡ s₀) ⊎ (f b ≡ pass)
+        → hits (view n f (insert n table b) s₀) ≡ hits (view n f table s₀) ++ hitOf (f b)
+    hits-more (inl e) =
         rw (own e)
-        (own-answer (view n f table s₀) (f b) (sees .takes b full) (held .good) (rw (view-length n f table s₀) (has-empty s₀ inside)))
-    answer-more (inr e) = go (any s₀ inside)
+        (own-hits (view n f table s₀) (f b) (sees .takes b full) (held .good) (rw (view-length n f table s₀) (has-empty s₀ inside)))
+    hits-more (inr e) = go (any s₀ inside)
       where
         go : (j : ℕ) × (getD (view n f table s₀) j pass ≡ ends) × (view n f (insert n table b) s₀ ≡ set (view n f table s₀) j (f b))
-            → answer (view n f (insert n table b) s₀) ≡ orElse (answer (view n f table s₀)) (hitOf (f b))
-        go (j, p, q) = rw (q, e) (other-answer (view n f table s₀) j p (held .good) ∙ orElse-none (answer (view n f table s₀)))
+            → hits (view n f (insert n table b) s₀) ≡ hits (view n f table s₀) ++ hitOf (f b)
+        go (j, p, q) = rw (q, e) (other-hits (view n f table s₀) j p (held .good) ∙ sym (append-nil (hits (view n f table s₀))))
 
     one-more : Holds f n s₀ (insert n table b) (suc m)
     one-more = record {
@@ -102,14 +101,14 @@ module _ (f : Bucket → Seen) (sees : Sees f) (n s₀ : ℕ) (inside : s₀ < n
       let e : suc m + length bs ≡ m + suc (length bs) = omega arith in
       rw e at (held-all bs (insert n table b) (suc m) (one-more table m held (omega arith) b (full .0)) (omega arith) (full .1))
 
-  answer-all : (bs table : List Bucket) (m : ℕ) → Holds f n s₀ table m → m + length bs ≤ n → All NotEmpty bs
-      → answer (view n f (insertAll n table bs) s₀) ≡ orElse (answer (view n f table s₀)) (firstHit (map f bs))
+  hits-all : (bs table : List Bucket) (m : ℕ) → Holds f n s₀ table m → m + length bs ≤ n → All NotEmpty bs
+      → hits (view n f (insertAll n table bs) s₀) ≡ hits (view n f table s₀) ++ hitsIn (map f bs)
   unfolding insertAll
-  answer-all [] table m held room full = orElse-none (answer (view n f table s₀))
-  answer-all (b ∷ bs) table m held room full =
-      answer-all bs (insert n table b) (suc m) (one-more table m held (omega arith) b (full .0)) (omega arith) (full .1)
-      ∙ ap (λ (a : Option ℕ). orElse a (firstHit (map f bs))) (answer-more table m held (omega arith) b (full .0) (apart b (full .0)))
-      ∙ orElse-assoc (answer (view n f table s₀)) (hitOf (f b)) (firstHit (map f bs))
+  hits-all [] table m held room full = sym (append-nil (hits (view n f table s₀)))
+  hits-all (b ∷ bs) table m held room full =
+      hits-all bs (insert n table b) (suc m) (one-more table m held (omega arith) b (full .0)) (omega arith) (full .1)
+      ∙ ap (λ (l : List Hit). l ++ hitsIn (map f bs)) (hits-more table m held (omega arith) b (full .0) (apart b (full .0)))
+      ∙ append-assoc (hits (view n f table s₀)) (hitOf (f b)) (hitsIn (map f bs))
 
   pub filled-holds : (bs : List Bucket) → length bs ≤ n → All NotEmpty bs → used (view n f (filled n bs) s₀) ≡ length bs
   unfolding filled
@@ -119,8 +118,8 @@ module _ (f : Bucket → Seen) (sees : Sees f) (n s₀ : ℕ) (inside : s₀ < n
       zeroed : 0 + length bs ≡ length bs
       zeroed = omega arith
 
-  pub filled-answer : (bs : List Bucket) → length bs ≤ n → All NotEmpty bs → answer (view n f (filled n bs) s₀) ≡ firstHit (map f bs)
-  unfolding filled orElse
-  filled-answer bs room full =
-      answer-all bs (replicate n empty) 0 none-held (omega arith) full
-      ∙ ap (λ (a : Option ℕ). orElse a (firstHit (map f bs))) none-answer
+  pub filled-hits : (bs : List Bucket) → length bs ≤ n → All NotEmpty bs → hits (view n f (filled n bs) s₀) ≡ hitsIn (map f bs)
+  unfolding filled
+  filled-hits bs room full =
+      hits-all bs (replicate n empty) 0 none-held (omega arith) full
+      ∙ ap (λ (l : List Hit). l ++ hitsIn (map f bs)) none-hits

@@ -1,6 +1,6 @@
 -- What a lookup and a naming give, and what the entries of an image say they should: 01, "Whole lists (demand 3)".
-use Prim.Native.Nat.{ℕ}
-use mathlib.Core.Bool.{Bool, false}
+use Prim.Native.Nat.{ℕ, _+_}
+use mathlib.Core.Bool.{Bool, false, cond}
 use mathlib.Core.List.{List, [], _∷_}
 use mathlib.Core.Option.{Option, none, some}
 use lib.ListN.{take, drop}
@@ -8,7 +8,7 @@ use lib.Dec.{eqb}
 use Rattle.jhash.specs.NameHash.{hashOf}
 use Rattle.image.specs.Bytes.{keep, same}
 use Rattle.image.specs.Tables.{tableOf}
-use Rattle.image.specs.Image.{Entry, headSize, placed, count, hasId}
+use Rattle.image.specs.Image.{Entry, headSize, entrySize, placed, count, hasId}
 use Rattle.reader.specs.Lookup.{Lookup, found, nothing}
 use Rattle.reader.specs.Naming.{Naming, place, unnamed, naming}
 use Rattle.reader.specs.Walk.{Step, item, done}
@@ -17,6 +17,11 @@ use Rattle.reader.specs.Walk.{Step, item, done}
 abbrev pub foundId : Lookup → Option ℕ
 foundId (found f) = some (f .id)
 foundId (nothing reads) = none
+
+-- 02 (ii): where its lookup says that the entry stands
+abbrev pub foundOffset : Lookup → Option ℕ
+foundOffset (found f) = some (f .offset)
+foundOffset (nothing reads) = none
 
 -- an id gives a name when naming it answers a place that holds exactly that name's bytes
 abbrev pub heldAt : List ℕ → Naming → Option (List ℕ)
@@ -54,6 +59,11 @@ abbrev pub lastName : List Entry → Option (List ℕ)
 lastName [] = none
 lastName (e ∷ []) = some (e .name)
 lastName (e ∷ f ∷ es) = lastName (f ∷ es)
+
+-- 02 (ii): the place of a name's first entry, where the entries stand one after the other from o on: o plus the sizes of the entries before it
+unfoldable pub firstAt : List ℕ → ℕ → List Entry → Option ℕ
+firstAt name o [] = none
+firstAt name o (e ∷ es) = cond (hasName name e) (some o) (firstAt name (o + entrySize e) es)
 
 -- is this the id?
 abbrev pub isId : ℕ → Option ℕ → Bool

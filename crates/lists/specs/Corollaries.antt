@@ -6,9 +6,9 @@ use mathlib.Core.List.{List, []}
 use mathlib.Core.Option.{some}
 use lib.ListN.{length}
 use Rattle.image.specs.declared.Mode.the-variants.{Twoway}
-use Rattle.image.specs.Image.{Entry, image}
+use Rattle.image.specs.Image.{Entry, headSize, image}
 use Rattle.reader.specs.Lookup.{lookup}
-use Rattle.answers.specs.Answer.{foundId, nameGiven, ofName, ofId, firstId}
+use Rattle.answers.specs.Answer.{foundId, foundOffset, nameGiven, ofName, ofId, firstId, firstAt}
 use Rattle.writer.specs.Close.{afterClose}
 use Rattle.lists.specs.Calls.{Call, puts}
 use Rattle.lists.specs.Demand3.{afterList, acceptedPuts, imageOf}
@@ -24,6 +24,8 @@ pub record Together (es : List Entry) (img : List ℕ) : Type 0 where
 
 pub record Corollaries (buffer : List ℕ) (cs : List Call) : Type 0 where
   pub together : Together (acceptedPuts Twoway buffer cs) (imageOf Twoway buffer cs)
+  -- 02 (ii): a name's lookup says where the entry of its first accepted put stands: 2,072 plus the sizes of the entries before it; nothing without one
+  pub name-stands : (name : List ℕ) → foundOffset (lookup (imageOf Twoway buffer cs) name) ≡ firstAt name headSize (acceptedPuts Twoway buffer cs)
   -- a list without puts gives the empty image
   pub empty-image : puts cs ≡ [] → imageOf Twoway buffer cs ≡ image Twoway []
   -- closing twice gives the same image, and changes nothing more

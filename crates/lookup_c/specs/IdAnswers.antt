@@ -4,10 +4,10 @@ use mathlib.Core.List.{List}
 use Rattle.reader.specs.Lookup.{Lookup, found, nothing, lookup}
 use Rattle.lookup_c.specs.declared.IdAnswer.{IdAnswer}
 
--- 1 and the id, or 0 and 0; both with the buckets read
+-- 1, the id and the entry's offset, or 0 in their places; both with the buckets read
 abbrev pub idAnswerOf : Lookup → IdAnswer
-idAnswerOf (found f) = record { found = 1; id = f .id; buckets = f .buckets }
-idAnswerOf (nothing n) = record { found = 0; id = 0; buckets = n }
+idAnswerOf (found f) = record { found = 1; id = f .id; buckets = f .buckets; offset = f .offset }
+idAnswerOf (nothing n) = record { found = 0; id = 0; buckets = n; offset = 0 }
 
 -- the rule of looking up a name, so answered
 abbrev pub idAnswer : List ℕ → List ℕ → IdAnswer

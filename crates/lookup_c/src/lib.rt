@@ -4,15 +4,17 @@ use reader::ToId;
 ghost use mathlib.Core.Path.{_≡_};
 ghost use Rattle.lookup_c.specs.IdAnswers.{idAnswer};
 
-// 1 and the id when the name was found, 0 and 0 when not; and the number of buckets that the search reads.
+// 1, the id and the offset of the entry when the name was found, each 0 when not; and the number of buckets that the search reads.
+// Four words come back in two registers.
 #[repr(C)]
 pub struct IdAnswer {
     pub found: u32,
     pub id: u32,
     pub buckets: u32,
+    pub offset: u32,
 }
 
-// The id of a name, or nothing.
+// The id of a name and the offset of its entry, or nothing.
 #[no_mangle]
 pub extern "C" fn cqdb_to_id(image: &[u8], name: &[u8]) -> IdAnswer
     ensures { λ r. ⌜ r ≡ idAnswer (now (image .entry)) (now (name .entry)) ⌝ }
@@ -23,11 +25,13 @@ pub extern "C" fn cqdb_to_id(image: &[u8], name: &[u8]) -> IdAnswer
             found: 1,
             id: found.id,
             buckets: found.buckets,
+            offset: found.offset,
         },
         ToId::Nothing { buckets } => IdAnswer {
             found: 0,
             id: 0,
             buckets,
+            offset: 0,
         },
     }
 }

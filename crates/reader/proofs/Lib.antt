@@ -1,4 +1,4 @@
--- Laws of reading. `Bounds` and `Walks` say of the rules what users ask besides the answers; `QuayReads` has 01's rows about reading.
+-- Laws of reading. `Bounds`, `FoundAt` and `Walks` say of the rules what users ask besides the answers; `QuayReads` has 01's rows about reading.
 pub mod Reciprocal
 pub mod Opens
 pub mod Searches
@@ -6,4 +6,5 @@ pub mod Near
 pub mod Namings
 pub mod Walks
 pub mod Bounds
+pub mod FoundAt
 pub mod QuayReads

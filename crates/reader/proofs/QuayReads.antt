@@ -128,10 +128,10 @@ taken-passed = record {
   other = λ e. eqb-false (word taken 2072) 0x8ba9414b refl (e ∙ hash-empty);
 }
 
-own-hit : lookup own (65 ∷ []) ≡ found (record { id = 5; buckets = 1 })
+own-hit : lookup own (65 ∷ []) ≡ found (record { id = 5; buckets = 1; offset = 2072 })
 unfolding own headOf rowOf headBytes le32 word see seeEntry same
 own-hit =
-    one-read own (65 ∷ []) 2082 (hit (record { id = 5 })) (lit≤ tt) (lit< tt) (ap (λ (h : ℕ). tableAt own (tableOf h)) (sym hash-A)) (lit< tt)
+    one-read own (65 ∷ []) 2082 (hit (record { id = 5; offset = 2072 })) (lit≤ tt) (lit< tt) (ap (λ (h : ℕ). tableAt own (tableOf h)) (sym hash-A)) (lit< tt)
     (ap (λ (h : ℕ). bucketNumber own (tableOf h)) (sym hash-A)) (lit≤ tt) (ap (λ (h : ℕ). see own (65 ∷ []) h 2082) (sym hash-A))
 
 -- ---- all rows

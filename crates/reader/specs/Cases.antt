@@ -21,7 +21,7 @@ abbrev pub openedOf : Opened → Outcome ℕ
 openedOf (Num n) = value n
 openedOf (Refused k) = refusal k
 
--- found with its id, or nothing; both carry the buckets read
+-- found with its id and its offset, or nothing; both carry the buckets read
 abbrev pub lookupOf : ToId → Lookup
 lookupOf (toid.Found f) = found f
 lookupOf (toid.Nothing buckets) = nothing buckets
@@ -35,7 +35,7 @@ reads (nothing n) = n
 abbrev pub seenOf : Seen → spec.Seen
 seenOf Pass = spec.pass
 seenOf Ends = spec.ends
-seenOf (Hit h) = spec.hit (record { id = h .id })
+seenOf (Hit h) = spec.hit (record { id = h .id; offset = h .offset })
 
 -- the place of the name, or nothing
 abbrev pub namingOf : Named → Naming

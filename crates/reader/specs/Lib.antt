@@ -6,4 +6,5 @@ pub mod Naming
 pub mod Walk
 pub mod WalkSteps
 pub mod Cases
+pub mod FoundAt
 pub mod QuayReads

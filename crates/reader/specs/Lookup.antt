@@ -12,17 +12,19 @@ use Rattle.image.specs.Head.{tableAt, bucketNumber, tableLeaves}
 use Rattle.image.specs.Stored.{nameOf, broken}
 use Rattle.reader.specs.declared.Found.{Found}
 
--- the answer: found with its id, or nothing; both carry the number of buckets read, the deciding one included
+-- the answer: found with its id, or nothing; both carry the number of buckets read, the deciding one included. 02 (ii): a found answer carries the offset
+-- in the deciding bucket too, where this id and name stand
 pub data Lookup : Type 0 where
   found : Found → Lookup
   nothing : ℕ → Lookup
 
--- what an entry with an equal name tells
+-- what an entry with an equal name tells: its id, and the offset in its bucket, where it stands
 pub record Hit : Type 0 where
   pub id : ℕ
+  pub offset : ℕ
 
 abbrev pub hitAt : List ℕ → ℕ → Hit
-hitAt image at = record { id = word image at }
+hitAt image at = record { id = word image at; offset = at }
 
 -- what a search sees in a bucket: it passes it, or ends with nothing, or with what an entry tells
 pub data Seen : Type 0 where
@@ -45,7 +47,7 @@ see image name h b =
 abbrev pub decide : Seen → ℕ → Lookup → Lookup
 decide pass reads rest = rest
 decide ends reads rest = nothing reads
-decide (hit h) reads rest = found (record { id = h .id; buckets = reads })
+decide (hit h) reads rest = found (record { id = h .id; buckets = reads; offset = h .offset })
 
 -- the search along a list of buckets, `reads` being those read before. After the last the answer is nothing
 unfoldable pub probe : (ℕ → Seen) → List ℕ → ℕ → Lookup

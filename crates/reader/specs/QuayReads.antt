@@ -78,7 +78,7 @@ unfoldable pub own : List ℕ
 own = headOf (rowOf 0 0 ++ rowOf 2082 1) ++ (le32 5 ++ le32 2 ++ 65 ∷ 0 ∷ []) ++ le32 0x89284101 ++ le32 2072
 
 abbrev pub ownFound : LookupRow
-ownFound = record { image = own; name = 65 ∷ []; gives = found (record { id = 5; buckets = 1 }) }
+ownFound = record { image = own; name = 65 ∷ []; gives = found (record { id = 5; buckets = 1; offset = 2072 }) }
 
 -- ---- all of them
 

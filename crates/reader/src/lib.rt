@@ -22,10 +22,12 @@ pub enum Opened {
     Refused(u32),
 }
 
-// What a lookup finds: the id, and the number of buckets that the search reads, the deciding one included.
+// What a lookup finds: the id, the number of buckets that the search reads, the deciding one included, and the offset in that
+// bucket, where the entry with this id and name stands.
 pub struct Found {
     pub id: u32,
     pub buckets: u32,
+    pub offset: u32,
 }
 
 // What a lookup answers: what it finds, or nothing, with the number of buckets that the search reads.
@@ -34,9 +36,10 @@ pub enum ToId {
     Nothing { buckets: u32 },
 }
 
-// What an entry with the wanted name tells: its id.
+// What an entry with the wanted name tells: its id, and the offset at which it stands.
 struct Hit {
     id: u32,
+    offset: u32,
 }
 
 // What a search sees in a bucket: it passes it, or ends with nothing, or with an entry that has the name.

@@ -30,6 +30,7 @@ fn see_entry(image: &[u8], name: &[u8], at: u32) -> Seen
     if same(&image[start..end], name) {
         return Seen::Hit(Hit {
             id: word(image, entry),
+            offset: at,
         });
     }
     Seen::Pass
@@ -128,6 +129,7 @@ fn search(image: &[u8], name: &[u8], h: u32, at: u32, n: u32) -> ToId
                 return ToId::Found(Found {
                     id: hit.id,
                     buckets: n - left,
+                    offset: hit.offset,
                 });
             }
         }
@@ -156,7 +158,7 @@ fn to_id_hashed(image: &[u8], name: &[u8], h: u32) -> ToId
     search(image, name, h, at, n)
 }
 
-// The id of a name, or nothing, with the number of buckets that the search reads.
+// The id of a name and the offset of its entry, or nothing, with the number of buckets that the search reads.
 pub fn to_id(image: &[u8], name: &[u8]) -> ToId
     ensures { λ r. ⌜ lookupOf r ≡ lookup (now (image .entry)) (now (name .entry)) ⌝ }
 {

@@ -50,7 +50,7 @@ impl<'a> CQDB<'a> {
         num_of(self.image)
     }
 
-    // The id of a name, or nothing, with the number of buckets that the search reads.
+    // The id of a name and the offset of its entry, or nothing, with the number of buckets that the search reads.
     pub fn to_id(self, name: &[u8]) -> ToId
         ensures { λ r. ⌜ lookupOf r ≡ lookup (now (self .entry .image)) (now (name .entry)) ⌝ }
     {

@@ -97,7 +97,9 @@ sub-t18 : tie.Need-sub-t18 Inv-loop μ-loop
 sub-t18 c = search needs
 
 returns-3 : tie.Need-returns-3 Inv-loop μ-loop
-returns-3 c = turn (c .before .before .before) (hit (record { id = c .before .hit .given .0 .0 .id })) (ap seenOf (c .before .hit .given .1))
+returns-3 c =
+    let told = c .before .hit .given .0 .0 in
+    turn (c .before .before .before) (hit (record { id = told .id; offset = told .offset })) (ap seenOf (c .before .hit .given .1))
 
 next-bucket-requires : tie.Need-next-bucket-requires Inv-loop μ-loop
 next-bucket-requires c κs = search needs
