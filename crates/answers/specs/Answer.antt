@@ -3,27 +3,20 @@ use Prim.Native.Nat.{ℕ}
 use mathlib.Core.Bool.{Bool}
 use mathlib.Core.List.{List, [], _∷_}
 use mathlib.Core.Option.{Option, none, some}
-use lib.ListN.{length, take, drop}
+use lib.ListN.{length}
 use lib.Dec.{eqb}
 use Rattle.jhash.specs.NameHash.{hashOf}
 use Rattle.image.specs.Bytes.{keep, same}
 use Rattle.image.specs.Tables.{tableOf}
 use Rattle.image.specs.Image.{Entry}
 use Rattle.reader.specs.Lookup.{Lookup, found, nothing}
-use Rattle.reader.specs.Naming.{Naming, place, unnamed, naming}
+-- an id gives a name when naming it answers a place that holds exactly that name's bytes
+pub use Rattle.reader.specs.Naming.{heldAt, nameGiven}
 
 -- a name gives an id when its lookup finds the id
 abbrev pub foundId : Lookup → Option ℕ
 foundId (found id reads) = some id
 foundId (nothing reads) = none
-
--- an id gives a name when naming it answers a place that holds exactly that name's bytes
-abbrev pub heldAt : List ℕ → Naming → Option (List ℕ)
-heldAt image (place s n) = some (take n (drop s image))
-heldAt image unnamed = none
-
-abbrev pub nameGiven : List ℕ → ℕ → Option (List ℕ)
-nameGiven image id = heldAt image (naming image id)
 
 -- the entries of a name, of an id and of a name's table, in put order
 abbrev pub hasName : List ℕ → Entry → Bool

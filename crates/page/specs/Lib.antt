@@ -1,0 +1,3 @@
+-- What a page is, and what is proved of it.
+pub mod Page
+pub mod Call
