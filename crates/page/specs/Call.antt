@@ -13,7 +13,6 @@ use Rattle.page.specs.declared.Printed.the-variants.{Length, Refused}
 
 -- the page of an image, by 01's naming and its back size; no line "where 01's upper hint at id 0 is 0"
 unfoldable pub pageOf : List ℕ → List ℕ
-unfolding page
 pageOf image = page (nameGiven image) (upperHint image 0)
 
 -- "its length, which the call gives, is 45 × back size (0 where 01's upper hint at id 0 is 0)"
@@ -26,7 +25,6 @@ printing image room = cond (ltb room (pageLength image)) (refusal 12) (value (pa
 
 -- "unwritten"; otherwise the page, and "bytes past the page keep their content"
 unfoldable pub afterPage : List ℕ → List ℕ → List ℕ
-unfolding pageOf
 afterPage image out = cond (ltb (length out) (pageLength image)) out (pageOf image ++ drop (pageLength image) out)
 
 -- the number and the value of each case of the answer

@@ -14,7 +14,6 @@ places (suc k) n = places k (n / 10) ++ (cond (eqb n 0) 32 (48 + n % 10) ∷ [])
 
 -- "id right-aligned in 10": the last place shows a digit also of 0
 unfoldable pub number : ℕ → List ℕ
-unfolding places
 number id = places 9 (id / 10) ++ ((48 + id % 10) ∷ [])
 
 -- "bytes outside 32 to 126 are printed as full stops"
@@ -29,10 +28,8 @@ nameField none = replicate 32 45 ++ (32 ∷ [])
 
 -- a "line of 45 bytes: id right-aligned in 10, a space, 32 bytes of name, a plus sign .. else a space, and a line feed"
 unfoldable pub line : (ℕ → Option (List ℕ)) → ℕ → List ℕ
-unfolding number nameField
 line name id = number id ++ (32 ∷ []) ++ nameField (name id) ++ (10 ∷ [])
 
 -- "every id below back size, in rising order", "gaps included"
 unfoldable pub page : (ℕ → Option (List ℕ)) → ℕ → List ℕ
-unfolding line
 page name size = cat (line name) (range 0 size)
