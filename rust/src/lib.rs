@@ -25,10 +25,12 @@
 #![warn(missing_docs)]
 
 mod archive;
+mod page;
 mod read;
 mod refusal;
 mod write;
 
+pub use page::Page;
 pub use read::{Iter, CQDB};
 pub use refusal::Refusal;
 pub use write::{CQDBWriter, Flag};
