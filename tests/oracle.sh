@@ -25,3 +25,9 @@ build_driver() {
         rustc -C opt-level=3 --edition 2021 -L target/oracle --extern cqdb=target/oracle/libcqdb.rlib \
             -L native=target/staticlib -l static=cqdb_c -l static=lookup3 "$1" -o "$2"
 }
+
+# build_alone SOURCE PROGRAM: builds a Rust program over our archive that does not ask the original.
+build_alone() {
+    mkdir -p "$(dirname "$2")" &&
+        rustc -C opt-level=3 --edition 2021 -L native=target/staticlib -l static=cqdb_c "$1" -o "$2"
+}

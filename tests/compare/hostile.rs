@@ -51,6 +51,26 @@ impl Run {
             ours::size_hint(image, id);
         }
         self.calls += 1 + names.len() as u64 + 3 * ids.len() as u64;
+        self.page(random, image);
+    }
+
+    // The page, in an output of its length, of a little more, or of less, where it is refused.
+    fn page(&mut self, random: &mut Random, image: &[u8]) {
+        let length = ours::page_length(image) as usize;
+        let less = random.below(length + 1);
+        let room = random.pick(&[length, length + 1, length + 46, length.saturating_sub(1), less]);
+        let mut out = exact(&random.bytes(room));
+        let before = out.clone();
+        let answer = ours::page(image, &mut out);
+        let printed = if answer.refusal > 0 { 0 } else { length };
+        self.refused += u64::from(answer.refusal > 0);
+        self.tally.rule((answer.refusal, answer.length), if room < length { (12, 0) } else { (0, length as u64) }, || {
+            format!("{answer:?} of {length} in {room}")
+        });
+        self.tally.bytes(&out[printed..], &before[printed..], || "the bytes behind a page".into());
+        let plain = |(i, &b): (usize, &u8)| if i % 45 == 44 { b == 10 } else { (32..=126).contains(&b) };
+        self.tally.rule(out[..printed].iter().enumerate().all(plain), true, || "the bytes of a page".into());
+        self.calls += 2;
     }
 
     // One image and what is asked of it; afterwards it has the same bytes.

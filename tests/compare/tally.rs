@@ -8,7 +8,7 @@ const SHOWN: u64 = 10;
 pub struct Tally {
     /// How many answers were compared with the Rust's.
     pub rust: u64,
-    /// How many were compared with 01's rules.
+    /// How many were compared with the rules of 01 or 02.
     pub rule: u64,
     pub different: u64,
 }
@@ -20,10 +20,10 @@ impl Tally {
         self.equal("the Rust", ours, theirs, what);
     }
 
-    /// Compares an answer of ours with that of 01's rules.
+    /// Compares an answer of ours with that of the rules.
     pub fn rule<T: PartialEq + Debug>(&mut self, ours: T, rules: T, what: impl FnOnce() -> String) {
         self.rule += 1;
-        self.equal("01", ours, rules, what);
+        self.equal("the rules", ours, rules, what);
     }
 
     /// Compares byte strings, and prints the first difference alone.
