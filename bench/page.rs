@@ -32,7 +32,7 @@ pub fn run() {
         let rust = || {
             text.clear();
             for id in 0..n as u32 {
-                line(&mut text, &mut shown, id, black_box(&db).to_str(id).map(|name| &name[..]));
+                line(&mut text, &mut shown, id, black_box(&db).to_str(id).map(|name| &**name));
             }
             black_box(&text);
         };

@@ -1,6 +1,7 @@
-// Hostile calls, to be run under valgrind: damaged images, random bytes, records that do not fit and broken buffers. Every byte
-// string stands in a heap block of exactly its length, so that valgrind reports a read or write outside it. A refusal changes
-// no byte, reading changes none, and every place in an answer lies in the image.   hostile [CALLS | too-much]
+// Hostile calls, to be run under valgrind: damaged images, random bytes, records that do not fit, broken buffers and outputs
+// that are too short. Every byte string stands in a heap block of exactly its length, so that valgrind reports a read or write
+// outside it. A refusal changes no byte, reading changes none, and every place in an answer lies in the image.
+// hostile [CALLS | too-much]
 mod damage;
 mod names;
 mod original;
@@ -64,9 +65,8 @@ impl Run {
         let answer = ours::page(image, &mut out);
         let printed = if answer.refusal > 0 { 0 } else { length };
         self.refused += u64::from(answer.refusal > 0);
-        self.tally.rule((answer.refusal, answer.length), if room < length { (12, 0) } else { (0, length as u64) }, || {
-            format!("{answer:?} of {length} in {room}")
-        });
+        let wanted = if room < length { (12, 0) } else { (0, length as u64) };
+        self.tally.rule((answer.refusal, answer.length), wanted, || format!("{answer:?} of {length} in {room}"));
         self.tally.bytes(&out[printed..], &before[printed..], || "the bytes behind a page".into());
         let plain = |(i, &b): (usize, &u8)| if i % 45 == 44 { b == 10 } else { (32..=126).contains(&b) };
         self.tally.rule(out[..printed].iter().enumerate().all(plain), true, || "the bytes of a page".into());

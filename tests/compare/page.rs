@@ -46,7 +46,7 @@ struct Run {
     tally: Tally,
     images: u64,
     lines: u64,
-    // Lines without a name, and lines with a plus sign.
+    // Lines with 32 hyphens, and lines with a plus sign.
     gaps: u64,
     longer: u64,
     refused: u64,
@@ -58,11 +58,8 @@ impl Run {
         let mut out = before.clone();
         let answer = ours::page(image, &mut out);
         let length = page.len() as u64;
-        let (wanted, refusal) = if before.len() < page.len() {
-            (before, 12)
-        } else {
-            ([page, &before[page.len()..]].concat(), 0)
-        };
+        let (wanted, refusal) =
+            if before.len() < page.len() { (before, 12) } else { ([page, &before[page.len()..]].concat(), 0) };
         let answered = PageAnswer { refusal, length: if refusal == 0 { length } else { 0 } };
         self.refused += u64::from(refusal > 0);
         self.tally.rule(answer, answered, || format!("{} bytes for a page of {length}", out.len()));
@@ -88,11 +85,14 @@ impl Run {
 
 // Names around 32 bytes, of the bytes around 32 and 126 among others.
 fn name(random: &mut Random) -> Vec<u8> {
-    let n = if random.once_in(3) { random.below(70) } else { random.pick(&[0, 1, 9, 30, 31, 31, 32, 32, 33, 33, 34, 300]) };
+    let n =
+        if random.once_in(3) { random.below(70) } else { random.pick(&[0, 1, 9, 30, 31, 31, 32, 32, 33, 33, 34, 300]) };
     match random.below(5) {
         0 => random.bytes(n),
         1 => vec![b'-'; n],
-        2 | 3 => (0..n).map(|_| random.pick(&[0, 10, 31, 31, 32, 32, 43, 45, 46, 126, 126, 127, 127, 128, 128, 255])).collect(),
+        2 | 3 => (0..n)
+            .map(|_| random.pick(&[0, 10, 31, 31, 32, 32, 43, 45, 46, 126, 126, 127, 127, 128, 128, 255]))
+            .collect(),
         _ => (0..n).map(|_| b'a' + random.below(26) as u8).collect(),
     }
 }
@@ -159,7 +159,7 @@ fn sparse(back: u32, puts: &[Put]) -> Mapped {
 fn largest(run: &mut Run) {
     let mut image = sparse(u32::MAX, &[]);
     run.tally.rule(ours::page_length(&image), 193_273_528_275, || "the length of the largest page".into());
-    run.print(&image, &vec![0; 100], vec![7; 99]);
+    run.print(&image, &[0; 100], vec![7; 99]);
     store(&mut image, 20, 0);
     run.print(&image, &[], Vec::new());
     run.print(&image, &[], vec![7; 9]);
@@ -208,7 +208,7 @@ fn main() {
         largest(&mut run);
     }
     println!(
-        "page: {} images with {} lines, {} of them without a name and {} with a plus sign; {} calls refused",
+        "page: {} images with {} lines, {} of them with 32 hyphens and {} with a plus sign; {} calls refused",
         run.images, run.lines, run.gaps, run.longer, run.refused
     );
     println!("page: {} answers compared with 02's rule: {} different", run.tally.rule, run.tally.different);

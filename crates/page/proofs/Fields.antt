@@ -1,15 +1,15 @@
 -- The fields of a line, as they are printed. Assumes nothing.
-use Prim.Native.Nat.{ℕ, zero, suc, _+_, _*_, _-_, _/_, _%_, _≤_, _<_, min}
+use Prim.Native.Nat.{ℕ, zero, suc, _+_, _-_, _/_, _%_, _≤_, _<_, min}
 use native.Mathlib.Omega.{arith}
 use native.Mathlib.Decide.{decLt}
 use mathlib.Core.Path.{_≡_, refl, sym, ap, _∙_}
-use mathlib.Core.Bool.{Bool, true, false, cond}
-use mathlib.Core.List.{List, [], _∷_, _++_, map, append-assoc}
+use mathlib.Core.Bool.{cond}
+use mathlib.Core.List.{List, [], _∷_, _++_, map}
 use mathlib.Core.Option.{Option, none, some}
 use lib.ListN.{length, set, take, drop, replicate, length-append, length-take, length-map, length-replicate}
 use lib.Seq.{sets, take-all}
 use lib.Dec.{eqb, ltb}
-use Rattle.image.proofs.Stores.{sets-append, sets-then}
+use Rattle.image.proofs.Stores.{sets-then}
 use Rattle.reader.specs.Naming.{Naming, place, unnamed, naming, heldAt, nameGiven}
 use Rattle.page.specs.Page.{places, number, shown, nameField, line}
 use Rattle.page.proofs.Stores.{last-first, sets-over, drop-replicate}
@@ -120,8 +120,9 @@ length-number id = omega (arith, length-append (places 9 (id / 10)) ((48 + id % 
 pub length-field : (o : Option (List ℕ)) → length (nameField o) ≡ 33
 unfolding nameField
 length-field (some name) =
-    omega
-    (arith, length-append (bytes name ++ pad name) (cond (ltb 32 (length name)) 43 32 ∷ []), length-append (bytes name) (pad name), length-bytes name, length-replicate {A = ℕ} (32 - length name) 32)
+    let sign = length-append (bytes name ++ pad name) (cond (ltb 32 (length name)) 43 32 ∷ []) in
+    let padded = length-append (bytes name) (pad name) in
+    omega (arith, length-bytes name, length-replicate {A = ℕ} (32 - length name) 32)
 length-field none = simp length-append
 
 pub length-line : (name : ℕ → Option (List ℕ)) (id : ℕ) → length (line name id) ≡ 45

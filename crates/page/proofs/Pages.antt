@@ -1,15 +1,15 @@
 -- Lines one after the other, and what the call gives and leaves. Assumes nothing.
-use Prim.Native.Nat.{ℕ, zero, suc, _+_, _*_, _-_, _≤_, _<_}
+use Prim.Native.Nat.{ℕ, suc, _+_, _*_, _-_, _≤_, _<_}
 use native.Mathlib.Omega.{arith}
-use mathlib.Core.Path.{_≡_, refl, sym, ap, _∙_}
+use mathlib.Core.Path.{_≡_, sym, ap, _∙_}
 use mathlib.Core.Bool.{Bool, true, false, cond}
-use mathlib.Core.List.{List, [], _∷_, _++_}
+use mathlib.Core.List.{List, _++_}
 use mathlib.Core.Option.{Option}
 use lib.ListN.{length, drop}
 use lib.Seq.{sets, sets-eq}
 use lib.Dec.{ltb}
 use borrow.Author.Tests.{lt-ltb, le-ltb}
-use Rattle.jhash.specs.Outcome.{Outcome, value, refusal}
+use Rattle.jhash.specs.Outcome.{value, refusal}
 use Rattle.image.specs.Bytes.{cat, range}
 use Rattle.image.proofs.Lists.{length-cat, length-range}
 use Rattle.image.proofs.Stores.{sets-then}

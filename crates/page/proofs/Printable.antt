@@ -1,5 +1,5 @@
 -- Which bytes are printed. Assumes nothing.
-use Prim.Native.Nat.{ℕ, zero, suc, _+_, _-_, _/_, _%_, _≤_, _<_}
+use Prim.Native.Nat.{ℕ, zero, suc, _+_, _-_, _/_, _%_, _<_}
 use native.Mathlib.Omega.{arith}
 use mathlib.Core.Path.{_≡_, refl}
 use mathlib.Core.Logic.{_⊎_, inl, inr}
@@ -11,7 +11,7 @@ use lib.Dec.{eqb, ltb, leb}
 use borrow.Author.Tests.{leb-true}
 use Rattle.image.proofs.Every.{All, all-map}
 use Rattle.image.specs.Bytes.{cat, range}
-use Rattle.page.specs.Page.{places, number, shown, nameField, line, page}
+use Rattle.page.specs.Page.{places, number, shown, nameField, line}
 use Rattle.page.specs.PrintedPage.{Plain}
 
 -- of the elements of two lists, and of one element
@@ -58,8 +58,9 @@ plain-field (some name) =
     let bytes = map shown (take 32 name) in
     let pad : List ℕ = replicate (32 - length name) 32 in
     let sign : ℕ = cond (ltb 32 (length name)) 43 32 in
-    all-append Plain (bytes ++ pad) (sign ∷ []) (all-append Plain bytes pad (plain-all (take 32 name)) (all-replicate Plain (32 - length name) 32 (omega arith)))
-    (either (ltb 32 (length name)) 43 32 (omega arith) (omega arith), tt)
+    let spaces = all-replicate Plain (32 - length name) 32 (omega arith) in
+    let signed = either (ltb 32 (length name)) 43 32 (omega arith) (omega arith) in
+    all-append Plain (bytes ++ pad) (sign ∷ []) (all-append Plain bytes pad (plain-all (take 32 name)) spaces) (signed, tt)
 plain-field none = all-append Plain (replicate 32 45) (32 ∷ []) (all-replicate Plain 32 45 (omega arith)) (omega arith, tt)
 
 module _ (name : ℕ → Option (List ℕ)) where

@@ -1,10 +1,9 @@
 -- Runs of stores, in the orders in which a line is printed. Assumes nothing.
 use Prim.Native.Nat.{ℕ, zero, suc, _+_, _-_, _≤_, _<_}
 use native.Mathlib.Omega.{arith}
-use native.Mathlib.Nat.{add-suc, suc-add}
 use mathlib.Core.Path.{_≡_, refl, sym, ap, _∙_}
 use mathlib.Core.List.{List, [], _∷_, _++_, map}
-use lib.ListN.{length, getD, set, drop, replicate, List·getD-map, length-map, drop-of-length-le, length-replicate}
+use lib.ListN.{length, getD, set, drop, replicate, List·getD-map, length-map, drop-of-length-le}
 use lib.Seq.{sets, set-comm, set-set}
 use Rattle.image.proofs.Stores.{sets-append, sets-turn}
 

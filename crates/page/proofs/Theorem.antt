@@ -4,7 +4,7 @@ use native.Mathlib.Omega.{arith}
 use native.Mathlib.Nat.{zero-add}
 use mathlib.Core.Path.{_≡_, refl, sym, ap, subst, _∙_}
 use mathlib.Core.Logic.{_⊎_}
-use mathlib.Core.Bool.{Bool, true, false, cond, true≢false}
+use mathlib.Core.Bool.{Bool, true, false, cond}
 use mathlib.Core.List.{List, [], _∷_, _++_, append-assoc}
 use mathlib.Core.Option.{Option}
 use lib.ListN.{length, getD, take, drop, length-append}
@@ -12,7 +12,7 @@ use lib.Seq.{take-at, drop-at, getD-at}
 use lib.ListN.{List·getD-append}
 use lib.Dec.{ltb}
 use borrow.Author.Tests.{le-ltb}
-use Rattle.jhash.specs.Outcome.{Outcome, value, refusal}
+use Rattle.jhash.specs.Outcome.{value, refusal}
 use Rattle.image.specs.Bytes.{cat, range}
 use Rattle.image.proofs.Lists.{cat-run, length-range, getD-range}
 use Rattle.image.proofs.At.{At, at-whole, at-same, at-equal, at-part, at-take}
@@ -80,7 +80,8 @@ page-printable image i h =
     let k : i < length (pageOf image) = omega (arith, page-length image) in
     all-at (λ (b : ℕ). Plain b ⊎ (b ≡ 10)) (pageOf image) i (printable-lines (nameGiven image) 0 (upperHint image 0)) k
 
-alike : (a b : List ℕ) → upperHint a 0 ≡ upperHint b 0 → ((id : ℕ) → id < upperHint a 0 → nameGiven a id ≡ nameGiven b id) → pageOf a ≡ pageOf b
+alike : (a b : List ℕ) → upperHint a 0 ≡ upperHint b 0 → ((id : ℕ) → id < upperHint a 0 → nameGiven a id ≡ nameGiven b id)
+    → pageOf a ≡ pageOf b
 unfolding pageOf page
 alike a b e h =
     let f = line (nameGiven a) in

@@ -1,4 +1,5 @@
 -- A printed catalogue: 02 (iii). "The page is a function of the naming rule and the back size": `name` gives an id's name, or none.
+-- Bytes: 10 is a line feed, 32 a space, 43 a plus sign, 45 a hyphen, 46 a full stop, and 48 to 57 are the digits.
 use Prim.Native.Nat.{ℕ, zero, suc, _+_, _-_, _/_, _%_}
 use mathlib.Core.Bool.{cond, _&&_}
 use mathlib.Core.List.{List, [], _∷_, _++_, map}

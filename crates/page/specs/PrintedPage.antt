@@ -36,7 +36,8 @@ pub record PrintedPage : Type 0 where
   -- every printed byte is 32 to 126 or the line feed
   pub page-printable : (image : List ℕ) (i : ℕ) → i < pageLength image → Plain (getD (pageOf image) i 0) ⊎ (getD (pageOf image) i 0 ≡ 10)
   -- "a function of the naming rule and the back size": images that name every id alike and have the same back size print the same page
-  pub alike : (a b : List ℕ) → upperHint a 0 ≡ upperHint b 0 → ((id : ℕ) → id < upperHint a 0 → nameGiven a id ≡ nameGiven b id) → pageOf a ≡ pageOf b
+  pub alike : (a b : List ℕ) → upperHint a 0 ≡ upperHint b 0 → ((id : ℕ) → id < upperHint a 0 → nameGiven a id ≡ nameGiven b id)
+      → pageOf a ≡ pageOf b
   -- an output with room holds the page in front, and "bytes past the page keep their content"; one that is refused is "unwritten"
   pub in-front : (image out : List ℕ) → pageLength image ≤ length out → take (pageLength image) (afterPage image out) ≡ pageOf image
   pub behind : (image out : List ℕ) → pageLength image ≤ length out → drop (pageLength image) (afterPage image out) ≡ drop (pageLength image) out

@@ -1,5 +1,4 @@
 -- `page::page` meets its contract. Assumes nothing.
-use mathlib.Core.Path.{_≡_}
 use borrow.Author.Needs.{needs}
 use Rattle.page.proofs.Pages.{too-short, all-printed}
 use Rattle.page.proofs.page.Statement.{statement}
@@ -31,7 +30,8 @@ returns-2 c =
     let a = c .before .before .before .before .before .before .before .before .args in
     let hint = c .before .before .before .before .before .size-hint in
     let printed = c .before .before .print-lines in
-    all-printed (a .image .now) (a .out .now) (hint .result) (hint .ensures) (printed .last .0) (c .before .before .before .before .if1 .left) (printed .ensures)
+    let room = c .before .before .before .before .if1 .left in
+    all-printed (a .image .now) (a .out .now) (hint .result) (hint .ensures) (printed .last .0) room (printed .ensures)
 
 pub page-spec : {M : Type 1} → statement M
 page-spec =

@@ -1,7 +1,7 @@
 -- `page::print_lines` meets its contract. Assumes nothing.
 use native.Mathlib.Omega.{arith}
 use Prim.Native.Nat.{_*_, _-_, _≤_}
-use mathlib.Core.Path.{_≡_, refl, sym, ap, _∙_}
+use mathlib.Core.Path.{_≡_, refl, sym, _∙_}
 use lib.ListN.{length}
 use lib.Seq.{sets}
 use borrow.Author.Needs.{needs}
@@ -45,10 +45,11 @@ loop-again : tie.Need-loop-again Inv-loop μ-loop
 loop-again c =
     let a = c .before .before .before .before .before .before .before .before .args in
     let l = c .before .before .before .before .before .loop in
+    let more = c .before .before .before .before .loop-test .taken in
     let printed = c .before .before .print-line in (
       omega arith,
       printed .kept .0 ∙ l .inv .1,
-      lines-turn (nameGiven (a .image .now)) (l .out) (printed .last .0) (l .id) (a .lines) (c .before .before .before .before .loop-test .taken) (printed .ensures) ∙ l .inv .2,
+      lines-turn (nameGiven (a .image .now)) (l .out) (printed .last .0) (l .id) (a .lines) more (printed .ensures) ∙ l .inv .2,
     )
 
 same-length : tie.Need-same-length Inv-loop μ-loop

@@ -1,5 +1,4 @@
 -- `page::line::digit_or_space` meets its contract. Assumes nothing.
-use mathlib.Core.Path.{_∙_}
 use borrow.Author.Tests.{eq-eqb, ne-eqb}
 use borrow.Author.Needs.{needs}
 use Rattle.page.proofs.line.digit_or_space.Statement.{statement}

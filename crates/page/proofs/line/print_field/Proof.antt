@@ -18,7 +18,8 @@ add-print-name : tie.Need-add-print-name
 add-print-name c =
     let a = c .before .before .before .before .before .before .before .args in
     let place = c .before .before .start .given in
-    omega (arith, named (a .image .now) (a .id) (place .0 .0) (place .0 .1 .0) (sym (c .before .before .before .before .to-str .ensures) ∙ ap namingOf (place .1)))
+    let is = sym (c .before .before .before .before .to-str .ensures) ∙ ap namingOf (place .1) in
+    omega (arith, named (a .image .now) (a .id) (place .0 .0) (place .0 .1 .0) is)
 
 sub-print-name : tie.Need-sub-print-name
 sub-print-name c = search needs
@@ -30,7 +31,8 @@ part-print-name-end : tie.Need-part-print-name-end
 part-print-name-end c =
     let a = c .before .before .before .before .before .before .before .args in
     let place = c .before .before .start .given in
-    omega (arith, named (a .image .now) (a .id) (place .0 .0) (place .0 .1 .0) (sym (c .before .before .before .before .to-str .ensures) ∙ ap namingOf (place .1)))
+    let is = sym (c .before .before .before .before .to-str .ensures) ∙ ap namingOf (place .1) in
+    omega (arith, named (a .image .now) (a .id) (place .0 .0) (place .0 .1 .0) is)
 
 print-name-requires : tie.Need-print-name-requires
 print-name-requires c κs = search needs
@@ -54,9 +56,10 @@ returns : tie.Need-returns
 returns c =
     let a = c .before .before .before .before .before .before .before .before .before .before .before .args in
     let place = c .before .before .before .before .before .before .start .given in
+    let to-str = c .before .before .before .before .before .before .before .before .to-str in
     c .before .before .print-name .ensures
     ∙ field-named (a .image .now) (a .out .now) (a .id) (a .at) (place .0 .0) (place .0 .1 .0)
-    (ap namingOf (sym (place .1)) ∙ c .before .before .before .before .before .before .before .before .to-str .ensures)
+    (ap namingOf (sym (place .1)) ∙ to-str .ensures)
 
 same-length-2 : tie.Need-same-length-2
 same-length-2 c = search needs
@@ -64,8 +67,10 @@ same-length-2 c = search needs
 returns-2 : tie.Need-returns-2
 returns-2 c =
     let a = c .before .before .before .before .before .before .before .before .before .args in
-    field-unnamed (a .image .now) (a .out .now) (c .before .before .repeat .last .0) (a .id) (a .at)
-    (ap namingOf (sym (c .before .before .before .before .enum-told .given .1)) ∙ c .before .before .before .before .before .before .to-str .ensures) (c .before .before .repeat .ensures)
+    let told = c .before .before .before .before .enum-told in
+    let none = ap namingOf (sym (told .given .1)) ∙ c .before .before .before .before .before .before .to-str .ensures in
+    let hyphens = c .before .before .repeat in
+    field-unnamed (a .image .now) (a .out .now) (hyphens .last .0) (a .id) (a .at) none (hyphens .ensures)
 
 pub print-field-spec : {M : Type 1} → statement M
 print-field-spec =

@@ -27,13 +27,15 @@ add-out-2 c = search needs
 
 slice-write-out-2 : tie.Need-slice-write-out-2
 slice-write-out-2 c =
-    let w = length-set (c .before .before .before .before .before .before .print-number .last .0) (c .before .before .before .before .before .before .before .before .before .before .args .at + 10) 32 in
-    omega (arith, c .before .before .print-field .kept, c .before .before .before .before .before .before .print-number .kept)
+    let number = c .before .before .before .before .before .before .print-number in
+    let w = length-set (number .last .0) (c .before .before .before .before .before .before .before .before .before .before .args .at + 10) 32 in
+    omega (arith, c .before .before .print-field .kept, number .kept)
 
 same-length : tie.Need-same-length
 same-length c =
-    let w = length-set (c .before .before .before .before .before .before .print-number .last .0) (c .before .before .before .before .before .before .before .before .before .before .args .at + 10) 32 in
-    simp length-set (omega (arith, c .before .before .print-field .kept, c .before .before .before .before .before .before .print-number .kept))
+    let number = c .before .before .before .before .before .before .print-number in
+    let w = length-set (number .last .0) (c .before .before .before .before .before .before .before .before .before .before .args .at + 10) 32 in
+    simp length-set (omega (arith, c .before .before .print-field .kept, number .kept))
 
 returns : tie.Need-returns
 returns c =

@@ -15,12 +15,14 @@ kept-requires c κs = search needs
 slice-aggregate-show-all : tie.Need-slice-aggregate-show-all
 slice-aggregate-show-all c =
     let kept = c .before .before .kept in
-    omega (arith, length-take (kept .result) (c .before .before .before .before .before .before .before .before .before .args .name .now), kept .ensures)
+    let name = c .before .before .before .before .before .before .before .before .before .args .name .now in
+    omega (arith, length-take (kept .result) name, kept .ensures)
 
 show-all-requires : tie.Need-show-all-requires
 show-all-requires c κs =
     let kept = c .before .before .kept in
-    omega (arith, length-take (kept .result) (c .before .before .before .before .before .before .before .before .before .args .name .now), kept .ensures, c .before .before .before .before .before .repeat .kept)
+    let name = c .before .before .before .before .before .before .before .before .before .args .name .now in
+    omega (arith, length-take (kept .result) name, kept .ensures, c .before .before .before .before .before .repeat .kept)
 
 mark-requires : tie.Need-mark-requires
 mark-requires c κs = search needs
@@ -32,7 +34,9 @@ slice-write-out : tie.Need-slice-write-out
 slice-write-out c = search needs
 
 same-length : tie.Need-same-length
-same-length c = simp length-set (omega (arith, c .before .before .before .show-all .kept, c .before .before .before .before .before .before .before .before .before .repeat .kept))
+same-length c =
+    let spaces = c .before .before .before .before .before .before .before .before .before .repeat in
+    simp length-set (omega (arith, c .before .before .before .show-all .kept, spaces .kept))
 
 returns : tie.Need-returns
 returns c =
