@@ -134,6 +134,15 @@ fn another_order(run: &mut Run, random: &mut Random, puts: &[Put]) {
     }
 }
 
+// Every byte alone, every length of 0 to 40, and 31 to 33 hyphens.
+fn limits(run: &mut Run, random: &mut Random) {
+    let bytes = (0..=255).map(|b| vec![b]);
+    let lengths = (0..=40).map(|n| vec![b'x'; n]);
+    let hyphens = (31..=33).map(|n| vec![b'-'; n]);
+    let puts: Vec<Put> = bytes.chain(lengths).chain(hyphens).zip(0..).collect();
+    run.hold(random, &image(0, &puts));
+}
+
 fn store(image: &mut [u8], at: usize, v: u32) {
     image[at..at + 4].copy_from_slice(&v.to_le_bytes());
 }
@@ -205,6 +214,7 @@ fn main() {
             }
             another_order(&mut run, &mut random, &puts);
         }
+        limits(&mut run, &mut random);
         largest(&mut run);
     }
     println!(
