@@ -81,7 +81,7 @@ fn first_zero(x: u32, y: u32, z: u32) -> u32
 
 // Of the first three buckets of a search, from bucket k on, the number of the first empty one, if neither of the first two has
 // the hash h: there the search ends with nothing, whatever the name. Else 0, which tells nothing. Half of a table's buckets
-// are empty, so a branch on each is often foreseen wrongly; here one branch, on the smallest of three offsets, decides.
+// are empty, so a branch on each is often mispredicted; here one branch, on the smallest of three offsets, decides.
 fn near_empty(image: &[u8], h: u32, at: u32, n: u32, k: u32) -> u32
     requires { ⌜ (k ≡ start h n) × (k < n) × (at + 8 * n ≤ length (now image)) ⌝ }
     ensures { λ r. ⌜ (0 < r → (name : List ℕ) → searchTable (now (image .entry)) name h at n ≡ nothing r) ⌝ }
