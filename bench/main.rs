@@ -1,10 +1,11 @@
 // The benchmarks: ours and the Rust's release build, in one run and one table. The two take turns, and each time is the best of
-// several repetitions.   main [hash | reading | building]
+// several repetitions.   main [hash | reading | building | page]
 mod building;
 mod hash;
 mod names;
 #[path = "../tests/compare/ours.rs"]
 mod ours;
+mod page;
 mod reading;
 mod table;
 
@@ -20,5 +21,8 @@ fn main() {
     }
     if wanted("building") {
         building::run();
+    }
+    if wanted("page") {
+        page::run();
     }
 }

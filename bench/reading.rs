@@ -11,7 +11,8 @@ fn mixed(n: usize) -> impl Iterator<Item = usize> {
     (0..n).map(move |i| (i * 611_953 + 7) % n)
 }
 
-fn image(names: &[&str]) -> Vec<u8> {
+/// The image that the Rust writes of these names.
+pub fn image(names: &[&str]) -> Vec<u8> {
     let mut stream = Cursor::new(Vec::new());
     let mut writer = CQDBWriter::new(&mut stream).expect("a stream in memory");
     for (i, name) in names.iter().enumerate() {

@@ -9,8 +9,9 @@
    - Bytes are lent as a pointer and a length. The pointer is valid for that many bytes and is not NULL, also where the
      length is 0.
    - `counts` points to 256 words, and `w` to a whole cqdb_writer.
-   - What a call writes (the buffer of cqdb_put, cqdb_close and cqdb_sheet_write, the counts, the writer) overlaps nothing
-     else that the same call is lent: no name, no list, no buffer and no counts. What a call only reads may overlap.
+   - What a call writes (the buffer of cqdb_put, cqdb_close and cqdb_sheet_write, the counts, the writer, the output of
+     cqdb_page) overlaps nothing else that the same call is lent: no name, no list, no buffer, no counts and no image.
+     What a call only reads may overlap.
    - Nobody else writes to what is lent while the call runs.
 
    When an image can be read: from the cqdb_close that made it to the next accepted cqdb_put in the same buffer, or from a
@@ -39,6 +40,7 @@ extern "C" {
 #define CQDB_TABLE_LEAVES 7u     /* open: a table with an offset above 0 leaves the image */
 #define CQDB_BACK_LEAVES 8u      /* open: a back array with an offset above 0 leaves the image */
 #define CQDB_NAME_TOO_LONG 9u    /* hash: the name has 4,294,967,295 bytes or more */
+#define CQDB_PAGE_TOO_LONG 12u   /* page: it has more bytes than the output */
 #define CQDB_TOO_FEW_BYTES 19u   /* sheet_read: the file ends before its third section does */
 #define CQDB_LEFT_OVER_BYTES 20u /* sheet_read: bytes follow the third section */
 #define CQDB_SHEET_TOO_LARGE 21u /* sheet_write: a list has more than 65,535 ids, or the buffer is too short */
@@ -98,6 +100,28 @@ uint32_t cqdb_size_hint(const uint8_t *image, size_t len, uint32_t next);
 
 /* 1 when the id has a name and looking up that name finds this id, else 0. */
 uint32_t cqdb_home(const uint8_t *image, size_t len, uint32_t id);
+
+/* A printed catalogue, for paper. The page has a line of 45 bytes for every id below back size, in rising order:
+
+        the id, right-aligned in 10 bytes; a space; 32 bytes of name; a plus sign where the name is longer, else a space;
+        a line feed
+
+   Bytes outside 32 to 126 are printed as full stops, and a shorter name is followed by spaces. An id without a name has 32
+   hyphens, so a name of 32 hyphens looks the same. Both calls take any bytes as an image, opened or not. */
+
+/* How many bytes the page has: 45 x cqdb_size_hint(image, len, 0), at most 193,273,528,275, which takes 38 bits. It is 0
+   where no back array can be read. */
+uint64_t cqdb_page_length(const uint8_t *image, size_t len);
+
+/* refusal is 0 when the page was printed; length is the page's, 0 when the call was refused. */
+typedef struct {
+    uint32_t refusal;
+    uint64_t length;
+} cqdb_page_answer;
+
+/* Prints the page to the first bytes of out, as many as cqdb_page_length gives; those behind them keep their content.
+   Refusal: 12 when out_len is less, and nothing is written. */
+cqdb_page_answer cqdb_page(const uint8_t *image, size_t len, uint8_t *out, size_t out_len);
 
 /* Writing. One buffer takes the entries, and close makes it the image. The writer belongs to the caller: all of its fields
    are open, and the calls answer every value of them. A writer fits a buffer when its mode is 0 or 1, its length is the

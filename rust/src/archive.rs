@@ -93,6 +93,13 @@ pub struct SheetLengthAnswer {
     pub length: u64,
 }
 
+#[repr(C)]
+#[derive(Clone, Copy, Debug, PartialEq, Eq)]
+pub struct PageAnswer {
+    pub refusal: u32,
+    pub length: u64,
+}
+
 /// The table counts of a writer.
 pub type Counts = [u32; 256];
 
@@ -103,6 +110,8 @@ extern "C" {
     fn cqdb_to_str(image: *const u8, len: usize, id: u32) -> StrAnswer;
     fn cqdb_size_hint(image: *const u8, len: usize, next: u32) -> u32;
     fn cqdb_home(image: *const u8, len: usize, id: u32) -> u32;
+    fn cqdb_page_length(image: *const u8, len: usize) -> u64;
+    fn cqdb_page(image: *const u8, len: usize, out: *mut u8, out_len: usize) -> PageAnswer;
     fn cqdb_begin_parts(mode: u32, counts: *mut u32, buf: *const u8, len: usize) -> RecordAnswer;
     fn cqdb_put_parts(
         record: Record,
@@ -156,6 +165,16 @@ pub fn size_hint(image: &[u8], next: u32) -> u32 {
 /// 1 where the id is home, else 0.
 pub fn home(image: &[u8], id: u32) -> u32 {
     unsafe { cqdb_home(image.as_ptr(), image.len(), id) }
+}
+
+/// The length of the printed catalogue.
+pub fn page_length(image: &[u8]) -> u64 {
+    unsafe { cqdb_page_length(image.as_ptr(), image.len()) }
+}
+
+/// The printed catalogue in the first bytes of `out`, and its length; or the refusal.
+pub fn page(image: &[u8], out: &mut [u8]) -> PageAnswer {
+    unsafe { cqdb_page(image.as_ptr(), image.len(), out.as_mut_ptr(), out.len()) }
 }
 
 /// A fresh record, or the refusal.

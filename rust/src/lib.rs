@@ -26,12 +26,14 @@
 
 mod archive;
 mod order;
+mod page;
 mod read;
 mod refusal;
 mod sheet;
 mod write;
 
 pub use order::{references_first, Order, Pair};
+pub use page::Page;
 pub use read::{Found, Iter, CQDB};
 pub use refusal::Refusal;
 pub use sheet::{Ids, Sheet};

@@ -3,6 +3,7 @@ use std::fmt;
 use std::iter::FusedIterator;
 
 use crate::archive;
+use crate::page::Page;
 use crate::refusal::{self, Refusal};
 
 /// What a lookup finds.
@@ -61,6 +62,11 @@ impl<'a> CQDB<'a> {
     /// Does the id have a name whose lookup finds this id?
     pub fn home(&self, id: u32) -> bool {
         archive::home(self.image, id) == 1
+    }
+
+    /// The printed catalogue.
+    pub fn page(&self) -> Page<'a> {
+        Page::new(self.image)
     }
 
     /// The ids and their names from id 0 on, up to the first id that has none.

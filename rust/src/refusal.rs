@@ -48,6 +48,8 @@ refusals! {
     BackLeaves = 8, "invalid backward link data: out of bounds";
     /// The name has 4,294,967,295 bytes or more.
     NameTooLong = 9, "the name is too long";
+    /// The page has more bytes than the output.
+    PageTooLong = 12, "the page is longer than the output";
     /// The round sheet has too few bytes.
     TooFewBytes = 19, "invalid round sheet, too few bytes";
     /// The round sheet has left-over bytes.

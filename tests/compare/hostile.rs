@@ -1,7 +1,7 @@
 // Hostile calls, to be run under valgrind: damaged images, random bytes, records that do not fit, broken buffers, pairs and rounds
-// of any ids, round sheets cut anywhere and lists without room. Everything lent stands in a heap block of exactly its length, so
-// that valgrind reports a read or write outside it. A refusal changes no byte, reading changes none, and every place in an
-// answer lies in what was lent.
+// of any ids, round sheets cut anywhere, lists and outputs without room. Everything lent stands in a heap block of exactly its
+// length, so that valgrind reports a read or write outside it. A refusal changes no byte, reading changes none, and every place
+// in an answer lies in what was lent.
 // hostile [CALLS | too-much]
 mod damage;
 mod names;
@@ -55,6 +55,25 @@ impl Run {
             ours::size_hint(image, id);
         }
         self.calls += 1 + names.len() as u64 + 3 * ids.len() as u64;
+        self.page(random, image);
+    }
+
+    // The page, in an output of its length, of a little more, or of less, where it is refused.
+    fn page(&mut self, random: &mut Random, image: &[u8]) {
+        let length = ours::page_length(image) as usize;
+        let less = random.below(length + 1);
+        let room = random.pick(&[length, length + 1, length + 46, length.saturating_sub(1), less]);
+        let mut out = exact(&random.bytes(room));
+        let before = out.clone();
+        let answer = ours::page(image, &mut out);
+        let printed = if answer.refusal > 0 { 0 } else { length };
+        self.refused += u64::from(answer.refusal > 0);
+        let wanted = if room < length { (12, 0) } else { (0, length as u64) };
+        self.tally.rule((answer.refusal, answer.length), wanted, || format!("{answer:?} of {length} in {room}"));
+        self.tally.bytes(&out[printed..], &before[printed..], || "the bytes behind a page".into());
+        let plain = |(i, &b): (usize, &u8)| if i % 45 == 44 { b == 10 } else { (32..=126).contains(&b) };
+        self.tally.rule(out[..printed].iter().enumerate().all(plain), true, || "the bytes of a page".into());
+        self.calls += 2;
     }
 
     // One image and what is asked of it; afterwards it has the same bytes.

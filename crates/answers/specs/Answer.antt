@@ -10,8 +10,9 @@ use Rattle.image.specs.Bytes.{keep, same}
 use Rattle.image.specs.Tables.{tableOf}
 use Rattle.image.specs.Image.{Entry, headSize, entrySize, placed, count, hasId}
 use Rattle.reader.specs.Lookup.{Lookup, found, nothing}
-use Rattle.reader.specs.Naming.{Naming, place, unnamed, naming}
 use Rattle.reader.specs.Walk.{Step, item, done}
+-- an id gives a name when naming it answers a place that holds exactly that name's bytes
+pub use Rattle.reader.specs.Naming.{heldAt, nameGiven}
 
 -- a name gives an id when its lookup finds the id
 abbrev pub foundId : Lookup → Option ℕ
@@ -22,14 +23,6 @@ foundId (nothing reads) = none
 abbrev pub foundOffset : Lookup → Option ℕ
 foundOffset (found f) = some (f .offset)
 foundOffset (nothing reads) = none
-
--- an id gives a name when naming it answers a place that holds exactly that name's bytes
-abbrev pub heldAt : List ℕ → Naming → Option (List ℕ)
-heldAt image (place s n) = some (take n (drop s image))
-heldAt image unnamed = none
-
-abbrev pub nameGiven : List ℕ → ℕ → Option (List ℕ)
-nameGiven image id = heldAt image (naming image id)
 
 -- a step of a walk gives id and name, or the end
 abbrev pub stepGiven : List ℕ → Step → Option Entry

@@ -2,7 +2,8 @@
 use Prim.Native.Nat.{ℕ, _+_, _*_, _-_}
 use mathlib.Core.Bool.{Bool, cond, _||_}
 use mathlib.Core.List.{List}
-use lib.ListN.{length}
+use mathlib.Core.Option.{Option, none, some}
+use lib.ListN.{length, take, drop}
 use lib.Dec.{eqb, ltb, leb}
 use Rattle.image.specs.Bytes.{word}
 use Rattle.image.specs.Image.{headSize}
@@ -42,3 +43,11 @@ namePart image id = partOr image (part image 0 0) (naming (image .bytes) id)
 -- name or stand-in
 abbrev pub nameOr : Slice → ℕ → Slice → Slice
 nameOr image id other = partOr image other (naming (image .bytes) id)
+
+-- 01, "Whole lists": an id gives a name when naming it answers a place that holds exactly that name's bytes
+abbrev pub heldAt : List ℕ → Naming → Option (List ℕ)
+heldAt image (place s n) = some (take n (drop s image))
+heldAt image unnamed = none
+
+abbrev pub nameGiven : List ℕ → ℕ → Option (List ℕ)
+nameGiven image id = heldAt image (naming image id)

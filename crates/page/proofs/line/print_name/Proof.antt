@@ -1,0 +1,62 @@
+-- `page::line::print_name` meets its contract. Assumes nothing.
+use native.Mathlib.Omega.{arith}
+use lib.ListN.{length-set, length-take}
+use borrow.Author.Needs.{needs}
+use Rattle.page.proofs.Fields.{name-printed}
+use Rattle.page.proofs.line.print_name.Statement.{statement}
+use Rattle.page.proofs.line.print_name.Tie as tie
+
+repeat-requires : tie.Need-repeat-requires
+repeat-requires c κs = search needs
+
+kept-requires : tie.Need-kept-requires
+kept-requires c κs = search needs
+
+slice-aggregate-show-all : tie.Need-slice-aggregate-show-all
+slice-aggregate-show-all c =
+    let kept = c .before .before .kept in
+    let name = c .before .before .before .before .before .before .before .before .before .args .name .now in
+    omega (arith, length-take (kept .result) name, kept .ensures)
+
+show-all-requires : tie.Need-show-all-requires
+show-all-requires c κs =
+    let kept = c .before .before .kept in
+    let name = c .before .before .before .before .before .before .before .before .before .args .name .now in
+    omega (arith, length-take (kept .result) name, kept .ensures, c .before .before .before .before .before .repeat .kept)
+
+mark-requires : tie.Need-mark-requires
+mark-requires c κs = search needs
+
+add-out : tie.Need-add-out
+add-out c = search needs
+
+slice-write-out : tie.Need-slice-write-out
+slice-write-out c = search needs
+
+same-length : tie.Need-same-length
+same-length c =
+    let spaces = c .before .before .before .before .before .before .before .before .before .repeat in
+    simp length-set (omega (arith, c .before .before .before .show-all .kept, spaces .kept))
+
+returns : tie.Need-returns
+returns c =
+    let a = c .before .before .before .before .before .before .before .before .before .before .before .before .before .args in
+    let spaces = c .before .before .before .before .before .before .before .before .before .repeat in
+    let kept = c .before .before .before .before .before .before .kept in
+    let shown = c .before .before .before .show-all in
+    name-printed (a .name .now) (a .out .now) (spaces .last .0) (shown .last .0) (a .at) (kept .result) (c .mark .result)
+    (kept .ensures) (c .mark .ensures) (spaces .ensures) (shown .ensures)
+
+pub print-name-spec : {M : Type 1} → statement M
+print-name-spec =
+    tie.close
+    (tie.spec
+    repeat-requires
+    kept-requires
+    slice-aggregate-show-all
+    show-all-requires
+    mark-requires
+    add-out
+    slice-write-out
+    same-length
+    returns)

@@ -1,0 +1,90 @@
+-- `page::line::print_number` meets its contract. Assumes nothing.
+use native.Mathlib.Omega.{arith}
+use Prim.Native.Nat.{_+_, _-_, _/_, _≤_}
+use mathlib.Core.Path.{_≡_, refl, sym, _∙_}
+use lib.ListN.{length, length-set}
+use lib.Seq.{sets}
+use borrow.Author.Needs.{needs}
+use Rattle.page.specs.Page.{places}
+use Rattle.page.proofs.Fields.{number-start, place-turn, places-end}
+use Rattle.page.proofs.line.print_number.Statement.{statement}
+use Rattle.page.proofs.line.print_number.Tie as tie
+
+abbrev Inv-loop : tie.InvT-loop
+Inv-loop out₀ at id n₀ left₀ out n left =
+    (left ≤ 9) × (length out ≡ length out₀) × (sets out at (places left n) ≡ sets out₀ at (places 9 (id / 10)))
+
+abbrev μ-loop : tie.MeasureT-loop
+μ-loop out₀ at id n₀ left₀ out n left = left
+
+digit-requires : tie.Need-digit-requires Inv-loop μ-loop
+digit-requires c κs = search needs
+
+add-out : tie.Need-add-out Inv-loop μ-loop
+add-out c = omega arith
+
+slice-write-out : tie.Need-slice-write-out Inv-loop μ-loop
+slice-write-out c = omega arith
+
+loop-holds : tie.Need-loop-holds Inv-loop μ-loop
+loop-holds c = (omega arith, refl, refl)
+
+sub-left : tie.Need-sub-left Inv-loop μ-loop
+sub-left c = omega arith
+
+digit-or-space-requires : tie.Need-digit-or-space-requires Inv-loop μ-loop
+digit-or-space-requires c κs = search needs
+
+add-out-2 : tie.Need-add-out-2 Inv-loop μ-loop
+add-out-2 c = omega arith
+
+slice-write-out-2 : tie.Need-slice-write-out-2 Inv-loop μ-loop
+slice-write-out-2 c =
+    let s = c .before .before .before .before .before .args in
+    omega (arith, length-set (s .out .now) (s .at + 9) (c .before .before .before .digit .result))
+
+loop-less : tie.Need-loop-less Inv-loop μ-loop
+loop-less c = omega arith
+
+loop-again : tie.Need-loop-again Inv-loop μ-loop
+loop-again c =
+    let a = c .before .before .before .before .before .args in
+    let l = c .before .before .loop in
+    let more = c .before .loop-test .taken in (
+      omega arith,
+      length-set (l .out) (a .at + (l .left - 1)) (c .digit-or-space .result) ∙ l .inv .1,
+      place-turn (l .out) (a .at) (l .left) (l .n) (c .digit-or-space .result) more (c .digit-or-space .ensures) ∙ l .inv .2,
+    )
+
+same-length : tie.Need-same-length Inv-loop μ-loop
+same-length c =
+    let a = c .before .before .before .before .args in
+    c .before .loop .inv .1 ∙ length-set (a .out .now) (a .at + 9) (c .before .before .digit .result)
+
+returns : tie.Need-returns Inv-loop μ-loop
+returns c =
+    let a = c .before .before .before .before .args in
+    let l = c .before .loop in
+    let last = c .before .before .digit in
+    sym (places-end (l .out) (a .at) (l .left) (l .n) (c .loop-test .left))
+    ∙ l .inv .2
+    ∙ number-start (a .out .now) (a .at) (a .id) (last .result) (last .ensures)
+
+pub print-number-spec : {M : Type 1} → statement M
+print-number-spec =
+    tie.close
+    (tie.spec
+    Inv-loop
+    μ-loop
+    digit-requires
+    add-out
+    slice-write-out
+    loop-holds
+    sub-left
+    digit-or-space-requires
+    add-out-2
+    slice-write-out-2
+    loop-less
+    loop-again
+    same-length
+    returns)

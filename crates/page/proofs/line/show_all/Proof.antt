@@ -1,0 +1,77 @@
+-- `page::line::show_all` meets its contract. Assumes nothing.
+use native.Mathlib.Omega.{arith}
+use native.Mathlib.Nat.{add-zero}
+use Prim.Native.Nat.{_+_, _-_, _≤_}
+use mathlib.Core.Path.{_≡_, refl, sym, _∙_}
+use mathlib.Core.List.{map}
+use lib.ListN.{length, drop, length-set}
+use lib.Seq.{sets}
+use borrow.Author.Needs.{needs}
+use Rattle.page.specs.Page.{shown}
+use Rattle.page.proofs.Stores.{map-turn, map-end}
+use Rattle.page.proofs.line.show_all.Statement.{statement}
+use Rattle.page.proofs.line.show_all.Tie as tie
+
+abbrev Inv-loop : tie.InvT-loop
+Inv-loop out₀ at bytes j₀ out j =
+    (j ≤ length bytes) × (length out ≡ length out₀) × (sets out (at + j) (drop j (map shown bytes)) ≡ sets out₀ at (map shown bytes))
+
+abbrev μ-loop : tie.MeasureT-loop
+μ-loop out₀ at bytes j₀ out j = length bytes - j
+
+loop-holds : tie.Need-loop-holds Inv-loop μ-loop
+loop-holds c = (omega arith, refl, simp add-zero)
+
+shared-slice-read-show : tie.Need-shared-slice-read-show Inv-loop μ-loop
+shared-slice-read-show c = omega arith
+
+show-requires : tie.Need-show-requires Inv-loop μ-loop
+show-requires c κs = search needs
+
+add-out : tie.Need-add-out Inv-loop μ-loop
+add-out c = omega arith
+
+slice-write-out : tie.Need-slice-write-out Inv-loop μ-loop
+slice-write-out c = omega arith
+
+add-j : tie.Need-add-j Inv-loop μ-loop
+add-j c = omega arith
+
+loop-less : tie.Need-loop-less Inv-loop μ-loop
+loop-less c = omega arith
+
+loop-again : tie.Need-loop-again Inv-loop μ-loop
+loop-again c =
+    let a = c .before .before .before .before .before .before .args in
+    let l = c .before .before .before .loop in
+    let more = c .before .before .loop-test .taken in (
+      omega arith,
+      simp length-set (l .inv .1),
+      map-turn shown (a .bytes .now) (l .out) (a .at) (l .j) (c .show .result) more (c .show .ensures) ∙ l .inv .2,
+    )
+
+same-length : tie.Need-same-length Inv-loop μ-loop
+same-length c = search needs
+
+returns : tie.Need-returns Inv-loop μ-loop
+returns c =
+    let a = c .before .before .before .before .args in
+    let l = c .before .loop in
+    sym (map-end shown (a .bytes .now) (l .out) (a .at + l .j) (l .j) (c .loop-test .left)) ∙ l .inv .2
+
+pub show-all-spec : {M : Type 1} → statement M
+show-all-spec =
+    tie.close
+    (tie.spec
+    Inv-loop
+    μ-loop
+    loop-holds
+    shared-slice-read-show
+    show-requires
+    add-out
+    slice-write-out
+    add-j
+    loop-less
+    loop-again
+    same-length
+    returns)
