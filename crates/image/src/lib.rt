@@ -12,6 +12,7 @@ use jhash::bytes::word_near_end;
 pub mod entries; // entries.rt: whole entries, and a walk over them
 pub mod equality; // equality.rt: same
 pub mod stored; // stored.rt: broken
+pub mod zero; // zero.rt: zero bytes in a name
 
 // The writer's mode (`Flag` of cqdb-rs, NONE and ONEWAY): one-way leaves the back array out.
 pub enum Mode {
