@@ -37,7 +37,7 @@ module _ {img : List ℕ} {o : ℕ} (e : Entry) (a : At img o (entryBytes e)) (s
       ∙ name-bytes e a
 
   -- a search that comes to the entry, and a naming of its offset
-  pub seen-entry : (name : List ℕ) → e .id < 2 ^ 32 → seeEntry img name o ≡ cond (same (e .name) name) (hit (e .id)) pass
+  pub seen-entry : (name : List ℕ) → e .id < 2 ^ 32 → seeEntry img name o ≡ cond (same (e .name) name) (hit (record { id = e .id })) pass
   unfolding seeEntry
   seen-entry name h = rw (whole-entry, name-read, id-word e a h)
 

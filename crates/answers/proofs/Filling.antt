@@ -54,7 +54,7 @@ module _ (g : ℕ → Seen) (all : (k : ℕ) → g k ≡ ends) where
 idx-taken : (x : Seen) (w : List Seen) → Taken x → idx (x ∷ w) ≡ suc (idx w)
 idx-taken pass w t = refl
 idx-taken ends w t = absurd t
-idx-taken (hit id) w t = refl
+idx-taken (hit told) w t = refl
 
 -- what a search sees: an empty bucket ends it, and no other does
 pub record Sees (f : Bucket → Seen) : Type 0 where

@@ -30,14 +30,14 @@ use Rattle.image.proofs.Parts.{placedIn, most, tableAt-image, bucketNumber-imag
 use Rattle.answers.proofs.Opened.{long-enough, table-inside}
 use Rattle.image.proofs.EntryAt.{Stands, entry-fits, all-stand, all-placed, ids-below}
 use Rattle.answers.proofs.EntrySeen.{seen-entry}
-use Rattle.answers.proofs.Names.{same-true, verdict, first-of-name, none-of-name, names-short, count-puts}
+use Rattle.answers.proofs.Names.{same-true, told, verdict, first-of-name, none-of-name, names-short, count-puts}
 
 -- an answer of nothing without a read, where nothing is to be found
 pub nothing-searched : (id : Option ℕ) (m : ℕ) → id ≡ none → Searched id m (nothing 0)
 nothing-searched id m e = record {
   finds = sym e;
   most = omega arith;
-  found-most = λ i r q. let z : _≡_ {A = ℕ} 0 1 = cc in omega arith;
+  found-most = λ f q. let z : _≡_ {A = ℕ} 0 1 = cc in omega arith;
 }
 
 -- a name that is too long for a hash, in any bytes
@@ -82,7 +82,7 @@ module _ (mode : Mode) (es : List Entry) (fits : imageSize mode es ≤ 429496729
       (go (same (p .entry .name) name) refl)
     where
       go : (b : Bool) → same (p .entry .name) name ≡ b
-          → cond (eqb (hashOf (p .entry .name)) (hashOf name)) (cond b (hit (p .entry .id)) pass) pass ≡ cond b (hit (p .entry .id)) pass
+          → cond (eqb (hashOf (p .entry .name)) (hashOf name)) (cond b (hit (told p)) pass) pass ≡ cond b (hit (told p)) pass
       go true e = rw (eq-eqb (hashOf (p .entry .name)) (hashOf name) (ap hashOf (same-true (p .entry .name) name e)))
       go false e = other (eqb (hashOf (p .entry .name)) (hashOf name))
         where
@@ -93,7 +93,7 @@ module _ (mode : Mode) (es : List Entry) (fits : imageSize mode es ≤ 429496729
   taken-entry : (p : Placed) → Read p → Taken (look (hashOf name) v (bucketOf p))
   taken-entry p r = rw (look-entry p r) (go (same (p .entry .name) name))
     where
-      go : (b : Bool) → Taken (cond b (hit (p .entry .id)) pass)
+      go : (b : Bool) → Taken (cond b (hit (told p)) pass)
       go true = tt
       go false = tt
 

@@ -12,6 +12,7 @@ use Rattle.image.specs.declared.Mode.{Mode}
 use Rattle.image.specs.declared.Mode.the-variants.{Twoway}
 use Rattle.reader.specs.Open.{opening}
 use Rattle.reader.specs.Lookup.{found, nothing, lookup}
+use Rattle.reader.specs.declared.Found.{Found}
 use Rattle.answers.specs.Answer.{foundId, nameGiven, ofName, ofId, tablePuts, firstId, lastName}
 use Rattle.reader.specs.Cases.{reads}
 use Rattle.answers.proofs.Opened.{opening-image}
@@ -55,7 +56,7 @@ module _ (mode : Mode) (es : List Entry) (fits : imageSize mode es ≤ 429496729
     pub name-reads : reads (lookup (image mode es) name) ≤ tablePuts name es + 1
     name-reads = lookup-searched mode es fits ids name .most
 
-    pub found-reads : (id r : ℕ) → lookup (image mode es) name ≡ found id r → r ≤ tablePuts name es
+    pub found-reads : (f : Found) → lookup (image mode es) name ≡ found f → f .buckets ≤ tablePuts name es
     found-reads = lookup-searched mode es fits ids name .found-most
 
 -- a name that is too long for a hash reads no bucket, whatever the bytes

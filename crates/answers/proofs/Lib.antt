@@ -10,5 +10,6 @@ pub mod Names
 pub mod Found
 pub mod Named
 pub mod Images
+pub mod Walked
 pub mod Inverse
 pub mod Small

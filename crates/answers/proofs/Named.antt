@@ -145,6 +145,6 @@ module _ (es : List Entry) (fits : imageSize Twoway es ≤ 4294967295) (id : ℕ
           beyond q ∙ sym (ap lastName (none-of-id id es q))
 
 -- a one-way image names no id
-pub naming-oneway : (es : List Entry) → imageSize Oneway es ≤ 4294967295 → (id : ℕ) → nameGiven (image Oneway es) id ≡ none
+pub naming-oneway : (es : List Entry) → imageSize Oneway es ≤ 4294967295 → (id : ℕ) → naming (image Oneway es) id ≡ unnamed
 unfolding naming backOffset
 naming-oneway es fits id = rw (long-enough Oneway es fits, backOffsetAt-image Oneway es fits)

@@ -12,7 +12,7 @@ use Rattle.jhash.specs.NameHash.{hashOf}
 use Rattle.image.specs.Bytes.{keep, same}
 use Rattle.image.specs.Tables.{tableOf}
 use Rattle.image.specs.Image.{Entry, Placed, entrySize, entriesSize, placed, inTable, ofTable, count}
-use Rattle.reader.specs.Lookup.{Seen, pass, hit}
+use Rattle.reader.specs.Lookup.{Hit, Seen, pass, hit}
 use Rattle.answers.specs.Answer.{hasName, ofName, sharesTable, tablePuts, firstId}
 use Rattle.image.proofs.Every.{All}
 use Rattle.answers.proofs.Filling.{firstHit}
@@ -43,9 +43,12 @@ same-false xs ys differ = go (same xs ys) refl
 
 -- ---- the first entry of a name
 
--- what a search for a name makes of an entry
+-- what an entry tells, and what a search for a name makes of it
+abbrev pub told : Placed → Hit
+told p = record { id = p .entry .id }
+
 abbrev pub verdict : List ℕ → Placed → Seen
-verdict name p = cond (same (p .entry .name) name) (hit (p .entry .id)) pass
+verdict name p = cond (same (p .entry .name) name) (hit (told p)) pass
 
 pub first-of-name : (name : List ℕ) (o : ℕ) (es : List Entry)
     → firstHit (map (verdict name) (ofTable (tableOf (hashOf name)) (placed o es))) ≡ firstId (ofName name es)

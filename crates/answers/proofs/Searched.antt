@@ -14,6 +14,7 @@ use lib.Dec.{eqb}
 use lib.ListN.{length, getD}
 use Rattle.image.specs.Tables.{Bucket, empty, start, order, filled}
 use Rattle.reader.specs.Lookup.{Lookup, found, Seen, pass, ends, hit, probe}
+use Rattle.reader.specs.declared.Found.{Found}
 use Rattle.answers.specs.Answer.{foundId}
 use Rattle.reader.specs.Cases.{reads}
 use Rattle.image.proofs.Every.{All, all-map, map-alike}
@@ -32,17 +33,17 @@ look h v b = cond (eqb (b .at) 0) ends (cond (eqb (b .hash) h) (v (b .at)) pass)
 abbrev settle : Seen → Seen
 settle pass = pass
 settle ends = pass
-settle (hit id) = hit id
+settle (hit told) = hit told
 
 settle-taken : (x : Seen) → Taken (settle x)
 settle-taken pass = tt
 settle-taken ends = tt
-settle-taken (hit id) = tt
+settle-taken (hit told) = tt
 
 settle-same : (x : Seen) → Taken x → settle x ≡ x
 settle-same pass t = refl
 settle-same ends t = absurd t
-settle-same (hit id) t = refl
+settle-same (hit told) t = refl
 
 module _ (h : ℕ) (v : ℕ → Seen) where
   look-sees : ((o : ℕ) → Taken (v o)) → Sees (look h v)
@@ -79,7 +80,7 @@ module _ (h : ℕ) (v : ℕ → Seen) where
 pub record Searched (id : Option ℕ) (m : ℕ) (l : Lookup) : Type 0 where
   pub finds : foundId l ≡ id
   pub most : reads l ≤ m + 1
-  pub found-most : (i r : ℕ) → l ≡ found i r → r ≤ m
+  pub found-most : (f : Found) → l ≡ found f → f .buckets ≤ m
 
 pub searched-same : {a b : Option ℕ} {m n : ℕ} {k l : Lookup} → a ≡ b → m ≡ n → k ≡ l → Searched a m k → Searched b n l
 searched-same {a} {b} {m} {n} {k} {l} p q r s = rw (p, q, r) at s
@@ -125,5 +126,5 @@ module _ (n h : ℕ) (v : ℕ → Seen) (bs : List Bucket) (some-bucket : 0 < n)
       record {
         finds = scan-answer seen 0 ∙ seen-answer;
         most = omega (arith, scan-reads seen 0, seen-used);
-        found-most = λ i r e. let q = scan-found seen 0 i r e in omega (arith, seen-used);
+        found-most = λ f e. omega (arith, scan-found seen 0 f e, seen-used);
       }

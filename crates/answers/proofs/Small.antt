@@ -25,20 +25,27 @@ three = record { hash = 256; at = 10 } ∷ record { hash = 1792; at = 20 } ∷ r
 abbrev search : ℕ → (ℕ → Seen) → Lookup
 search h v = probe (λ (k : ℕ). look h v (getD (filled 6 three) k empty)) (order 6 6 (start h 6)) 0
 
+-- an entry whose id is its offset, and an answer
+abbrev told : ℕ → Seen
+told o = hit (record { id = o })
+
+abbrev foundAs : ℕ → ℕ → Lookup
+foundAs id n = found (record { id = id; buckets = n })
+
 -- the first of two hits; the later one, where the first is passed; one of another hash; none, after one bucket more than there are entries
-first-hit : search 256 (λ (o : ℕ). hit o) ≡ found 10 1
+first-hit : search 256 told ≡ foundAs 10 1
 unfolding filled insertAll insert firstEmpty order probe
 first-hit = refl
 
-later-hit : search 256 (λ (o : ℕ). cond (eqb o 10) pass (hit o)) ≡ found 30 3
+later-hit : search 256 (λ (o : ℕ). cond (eqb o 10) pass (told o)) ≡ foundAs 30 3
 unfolding filled insertAll insert firstEmpty order probe
 later-hit = refl
 
-other-hash : search 1792 (λ (o : ℕ). hit o) ≡ found 20 2
+other-hash : search 1792 told ≡ foundAs 20 2
 unfolding filled insertAll insert firstEmpty order probe
 other-hash = refl
 
-no-hit : search 3328 (λ (o : ℕ). hit o) ≡ nothing 4
+no-hit : search 3328 told ≡ nothing 4
 unfolding filled insertAll insert firstEmpty order probe
 no-hit = refl
 
@@ -73,6 +80,6 @@ unfolding ofId keep
 id-7 = id-gives twice fits 7
 
 -- and the search itself, with the real hash
-A-computed : lookup (image Twoway twice) A ≡ found 5 1
+A-computed : lookup (image Twoway twice) A ≡ foundAs 5 1
 unfolding lookup lookupHash searchTable probe see seeEntry word image headWords le32 tableRows tableRow tableOffset cat range placed ofTable keep entriesBefore tables tableBytes table filled insertAll insert firstEmpty order bucketBytes entryBytes entriesSize backSize links link placedOfId lastFrom backOffset same hashOf
 A-computed = refl

@@ -1,6 +1,6 @@
 -- What a lookup and a naming give, and what the entries of an image say they should: 01, "Whole lists (demand 3)".
 use Prim.Native.Nat.{ℕ}
-use mathlib.Core.Bool.{Bool}
+use mathlib.Core.Bool.{Bool, false}
 use mathlib.Core.List.{List, [], _∷_}
 use mathlib.Core.Option.{Option, none, some}
 use lib.ListN.{length, take, drop}
@@ -11,10 +11,11 @@ use Rattle.image.specs.Tables.{tableOf}
 use Rattle.image.specs.Image.{Entry}
 use Rattle.reader.specs.Lookup.{Lookup, found, nothing}
 use Rattle.reader.specs.Naming.{Naming, place, unnamed, naming}
+use Rattle.reader.specs.Walk.{Step, item, done}
 
 -- a name gives an id when its lookup finds the id
 abbrev pub foundId : Lookup → Option ℕ
-foundId (found id reads) = some id
+foundId (found f) = some (f .id)
 foundId (nothing reads) = none
 
 -- an id gives a name when naming it answers a place that holds exactly that name's bytes
@@ -24,6 +25,11 @@ heldAt image unnamed = none
 
 abbrev pub nameGiven : List ℕ → ℕ → Option (List ℕ)
 nameGiven image id = heldAt image (naming image id)
+
+-- a step of a walk gives id and name, or the end
+abbrev pub stepGiven : List ℕ → Step → Option Entry
+stepGiven image (item id s n next) = some (record { name = take n (drop s image); id = id })
+stepGiven image done = none
 
 -- the entries of a name, of an id and of a name's table, in put order
 abbrev pub hasName : List ℕ → Entry → Bool
@@ -54,3 +60,16 @@ abbrev pub lastName : List Entry → Option (List ℕ)
 lastName [] = none
 lastName (e ∷ []) = some (e .name)
 lastName (e ∷ f ∷ es) = lastName (f ∷ es)
+
+-- is this the id?
+abbrev pub isId : ℕ → Option ℕ → Bool
+isId id (some i) = eqb i id
+isId id none = false
+
+-- an id is home (01's term) exactly when it has a name and looking up that name finds this id: when the first entry of that name has this id
+abbrev pub homeNamed : List Entry → ℕ → Option (List ℕ) → Bool
+homeNamed es id (some name) = isId id (firstId (ofName name es))
+homeNamed es id none = false
+
+abbrev pub homeIn : List Entry → ℕ → Bool
+homeIn es id = homeNamed es id (lastName (ofId id es))

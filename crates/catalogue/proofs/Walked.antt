@@ -37,9 +37,9 @@ module _ (buffer : List ℕ) (cs : List Call) (room : headSize ≤ length buffer
   image-named : (id : ℕ) → nameGiven (image Twoway (accepted Twoway (length buffer) cs)) id ≡ lastName (ofId id (accepted Twoway (length buffer) cs))
   image-named id =
       let one = one-list buffer cs room in
-      ap (λ (img : List ℕ). nameGiven img id) (sym (one .imaged ∙ ap (image Twoway) (one .decided)))
-      ∙ one .id-gives id
-      ∙ ap (λ (es : List Entry). lastName (ofId id es)) (one .decided)
+      ap (λ (img : List ℕ). nameGiven img id) (sym (one .calls .imaged ∙ ap (image Twoway) (one .calls .decided)))
+      ∙ one .ids .id-gives id
+      ∙ ap (λ (es : List Entry). lastName (ofId id es)) (one .calls .decided)
 
 walk : (n : ℕ) (input : List ℕ) (m : ℕ) → headSize ≤ n → items (image Twoway (putsOf n input)) 0 m ≡ itemsOf (putsOf n input) 0 m
 unfolding putsOf

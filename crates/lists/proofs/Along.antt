@@ -9,8 +9,10 @@ use Rattle.image.specs.declared.Mode.{Mode}
 use Rattle.image.specs.declared.Mode.the-variants.{Twoway}
 use Rattle.image.specs.Image.{Entry, headSize}
 use Rattle.writer.specs.State.{State, fresh, beginRefusal, beginning, countsBegun}
-use Rattle.lists.specs.Calls.{Call, put, close, afterCall, answer, after, answers, acceptedOne, acceptedBy, acceptedAfter, dueTo, acceptedFrom, dueFrom, accepted, due, Permitted, AllPermitted}
-use Rattle.lists.proofs.Written.{Written, WordId, WordIds}
+use Rattle.lists.specs.Calls.{Call, put, close, afterCall, answer, after, answers, acceptedOne, acceptedBy, acceptedAfter, dueTo}
+use Rattle.lists.specs.Calls.{acceptedFrom, dueFrom, accepted, due, Permitted, AllPermitted, WordId, WordIds}
+use Rattle.lists.specs.Demand3.{answersOf, afterList, acceptedPuts}
+use Rattle.lists.proofs.Written.{Written}
 use Rattle.lists.proofs.Puts.{put-due, due-number, put-written, fresh-written}
 use Rattle.lists.proofs.Closes.{close-accepted, close-written}
 
@@ -41,6 +43,23 @@ unfolding after acceptedFrom
 after-written mode n es s w [] word = w
 after-written mode n es s w (c ∷ cs) word =
     after-written mode n (acceptedAfter mode n es c) (afterCall s c) (call-written mode n es s w c (word .0)) cs (word .1)
+
+-- one list after another: what both leave, and the puts that are accepted
+pub after-append : (s : State) (cs ds : List Call) → after s (cs ++ ds) ≡ after (after s cs) ds
+unfolding after
+after-append s [] ds = refl
+after-append s (c ∷ cs) ds = after-append (afterCall s c) cs ds
+
+accepted-append : (mode : Mode) (n : ℕ) (es : List Entry) (cs ds : List Call)
+    → acceptedFrom mode n es (cs ++ ds) ≡ acceptedFrom mode n (acceptedFrom mode n es cs) ds
+unfolding acceptedFrom
+accepted-append mode n es [] ds = refl
+accepted-append mode n es (c ∷ cs) ds = accepted-append mode n (acceptedAfter mode n es c) cs ds
+
+-- a close accepts no put
+pub accepted-closed : (mode : Mode) (n : ℕ) (cs : List Call) → accepted mode n (cs ++ (close ∷ [])) ≡ accepted mode n cs
+unfolding accepted acceptedFrom
+accepted-closed mode n cs = accepted-append mode n [] cs (close ∷ []) ∙ append-nil (acceptedFrom mode n [] cs)
 
 -- ---- what is due
 
@@ -91,17 +110,18 @@ unfolding countsBegun fresh
 list-counts mode buffer room lent = rw (begin-accepts (length buffer) room)
 
 module _ (mode : Mode) (buffer : List ℕ) (room : headSize ≤ length buffer) (cs : List Call) (word : WordIds mode cs) where
-  pub list-answers : answers (fresh mode buffer) cs ≡ due mode (length buffer) cs
+  pub list-answers : answersOf mode buffer cs ≡ due mode (length buffer) cs
   unfolding due
   list-answers = answers-due mode (length buffer) [] (fresh mode buffer) (fresh-written mode buffer room) cs word
 
   -- no call gives 2 or 4, and no close is refused
-  pub list-permitted : AllPermitted cs (answers (fresh mode buffer) cs)
+  pub list-permitted : AllPermitted cs (answersOf mode buffer cs)
   list-permitted = rw list-answers (due-permitted mode (length buffer) cs)
 
-  pub list-accepted : acceptedBy cs (answers (fresh mode buffer) cs) ≡ accepted mode (length buffer) cs
+  pub list-accepted : acceptedPuts mode buffer cs ≡ accepted mode (length buffer) cs
+  unfolding acceptedPuts
   list-accepted = ap (acceptedBy cs) list-answers ∙ accepted-by-due mode (length buffer) cs
 
-  pub list-written : Written mode (length buffer) (accepted mode (length buffer) cs) (after (fresh mode buffer) cs)
+  pub list-written : Written mode (length buffer) (accepted mode (length buffer) cs) (afterList mode buffer cs)
   unfolding accepted
   list-written = after-written mode (length buffer) [] (fresh mode buffer) (fresh-written mode buffer room) cs word

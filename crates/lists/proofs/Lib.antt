@@ -10,5 +10,7 @@ pub mod OneMore
 pub mod Members
 pub mod Reading
 pub mod Theorem
+pub mod AfterClose
+pub mod OneWay
 pub mod QuayRows
 pub mod Quay

@@ -19,8 +19,8 @@ use Rattle.image.specs.Image.{Entry, headSize, entryBytes, entrySize, entriesSi
 use Rattle.writer.specs.State.{State, noneAbove, fits, finishedSize, tooLarge, fresh}
 use Rattle.image.specs.Tally.{countsAfter}
 use Rattle.writer.specs.Put.{raised, writerAfter, putRefusal, appended, afterPut}
-use Rattle.lists.specs.Calls.{put, sizeOf, putDue, acceptedAfter}
-use Rattle.lists.proofs.Written.{Written, WordId}
+use Rattle.lists.specs.Calls.{put, sizeOf, putDue, acceptedAfter, WordId}
+use Rattle.lists.proofs.Written.{Written}
 use Rattle.image.proofs.All.{all-true}
 use Rattle.image.proofs.Lists.{cat-append}
 use Rattle.image.proofs.Sizes.{length-entryBytes, length-entries, length-placed}

@@ -1,11 +1,11 @@
 -- All marked examples of 01, "Examples from the quay", under one theorem: C1 to C7 and C11 as rows of calls, C8, C9, C10 and C12 as rows of
 -- reading. Assumes nothing.
 use Rattle.reader.proofs.Examples.{Examples, examples}
-use Rattle.lists.specs.QuayRows.{Each, HoldsAnyway, rows}
+use Rattle.lists.specs.QuayRows.{Each, HoldsInAny, rows}
 use Rattle.lists.proofs.QuayRows.{rows-right}
 
 pub record AllExamples : Type 0 where
-  pub calls : Each HoldsAnyway rows
+  pub calls : Each HoldsInAny rows
   pub reading : Examples
 
 pub all-examples : AllExamples

@@ -1,73 +1,90 @@
 -- What the reader answers on an image of entries, and on the image of a list of calls in either mode. Assumes nothing.
 use Prim.Native.Nat.{ℕ, _^_, _≤_}
 use native.Mathlib.Omega.{arith}
-use mathlib.Core.Path.{_≡_, refl, ap, _∙_}
+use mathlib.Core.Path.{_≡_, refl, ap}
 use mathlib.Core.List.{List}
-use mathlib.Core.Option.{Option, some}
-use lib.ListN.{length, take, drop}
+use mathlib.Core.Option.{some}
+use lib.ListN.{length}
 use Rattle.image.specs.declared.Mode.{Mode}
 use Rattle.image.specs.declared.Mode.the-variants.{Twoway, Oneway}
 use Rattle.image.specs.Image.{Entry, headSize, backSize, imageSize, image}
 use Rattle.reader.specs.Lookup.{Lookup, found, nothing, lookup}
-use Rattle.reader.specs.Naming.{Naming, place, unnamed, naming}
-use Rattle.reader.specs.Walk.{finds, homeBy as homePlaced, home}
-use Rattle.answers.specs.Answer.{foundId, heldAt, nameGiven, firstId, ofName, tablePuts}
+use Rattle.reader.specs.declared.Found.{Found}
+use Rattle.reader.specs.Walk.{stepOf, step, homeBy, home}
+use Rattle.answers.specs.Answer.{foundId, heldAt, nameGiven, ofId, lastName, tablePuts}
 use Rattle.reader.specs.Cases.{reads}
-use Rattle.answers.proofs.Images.{image-opens, name-gives, name-reads, found-reads, long-reads, id-gives}
+use Rattle.answers.proofs.Images.{image-opens, name-gives, name-nothing, name-reads, found-reads, long-reads, ids-fit, id-gives, id-nothing}
 use Rattle.answers.proofs.Named.{naming-oneway}
-use Rattle.writer.specs.State.{fresh}
-use Rattle.writer.specs.Close.{closedSize, afterClose}
-use Rattle.lists.specs.Calls.{Call, after, accepted}
-use Rattle.lists.proofs.Written.{WordIds}
-use Rattle.lists.proofs.Read.{namedIn, isId, homeBy, Read}
+use Rattle.answers.proofs.Walked.{part-given, step-given, home-given, hint-image}
+use Rattle.lists.specs.Calls.{Call, accepted, WordIds}
+use Rattle.lists.specs.Demand3.{imageOf, NamesAnswered, IdsAnswered}
+use Rattle.lists.specs.AfterClose.{Answered}
+use Rattle.lists.specs.OneWay.{IdsUnanswered}
+use Rattle.lists.proofs.Read.{namedIn, Read}
 use Rattle.lists.proofs.Along.{list-written}
 use Rattle.lists.proofs.OneMore.{list-image, list-below}
 
 -- ---- reads of a lookup that finds
 
-found-most : (l : Lookup) (m id : ℕ) → ((i r : ℕ) → l ≡ found i r → r ≤ m) → foundId l ≡ some id → reads l ≤ m
-found-most (found i r) m id most h = most i r refl
+found-most : (l : Lookup) (m id : ℕ) → ((f : Found) → l ≡ found f → f .buckets ≤ m) → foundId l ≡ some id → reads l ≤ m
+found-most (found f) m id most h = most f refl
 found-most (nothing r) m id most h = absurd (let z : _≡_ {A = ℕ} 0 1 = cc in omega arith)
 
--- ---- home
-
-found-is : (id : ℕ) (l : Lookup) → finds id l ≡ isId id (foundId l)
-found-is id (found i r) = refl
-found-is id (nothing r) = refl
-
-module _ (img : List ℕ) (es : List Entry) (names : (name : List ℕ) → foundId (lookup img name) ≡ firstId (ofName name es)) (id : ℕ) where
-  home-placed : (p : Naming) → homePlaced img id p ≡ homeBy es id (heldAt img p)
-  home-placed (place s n) =
-      found-is id (lookup img (take n (drop s img))) ∙ ap (isId id) (names (take n (drop s img)))
-  home-placed unnamed = refl
-
-  home-is : (given : Option (List ℕ)) → nameGiven img id ≡ given → home img id ≡ homeBy es id given
-  unfolding home
-  home-is given h = home-placed (naming img id) ∙ ap (homeBy es id) h
-
--- ---- an image of entries
+-- ---- an image of entries, of either mode
 
 module _ (es : List Entry) (ids : backSize es ≤ 2 ^ 32) where
-  image-names : (mode : Mode) → imageSize mode es ≤ 4294967295 → (id : ℕ) → nameGiven (image mode es) id ≡ namedIn mode es id
-  image-names Twoway small id = id-gives es small id
-  image-names Oneway small id = naming-oneway es small id
-
-  pub read-image : (mode : Mode) → imageSize mode es ≤ 4294967295 → Read mode es (image mode es)
-  read-image mode small =
+  image-names : (mode : Mode) → imageSize mode es ≤ 4294967295 → NamesAnswered es (image mode es)
+  image-names mode small =
       record {
         opened = image-opens mode es small;
         name-gives = name-gives mode es small ids;
-        id-gives = image-names mode small;
-        id-home = λ id. home-is (image mode es) es (name-gives mode es small ids) id (namedIn mode es id) (image-names mode small id);
+        name-nothing = name-nothing mode es small ids;
         bounded = name-reads mode es small ids;
         found-bounded = λ name id h. found-most (lookup (image mode es) name) (tablePuts name es) id (found-reads mode es small ids name) h;
         long-unread = λ name h. ap reads (long-reads (image mode es) name h);
       }
 
+  image-ids : (mode : Mode) → imageSize mode es ≤ 4294967295 → (id : ℕ) → nameGiven (image mode es) id ≡ namedIn mode es id
+  image-ids Twoway small id = id-gives es small id
+  image-ids Oneway small id = ap (heldAt (image Oneway es)) (naming-oneway es small id)
+
+  read-image : (mode : Mode) → imageSize mode es ≤ 4294967295 → Read mode es (image mode es)
+  read-image mode small =
+      record {
+        names = image-names mode small;
+        id-gives = image-ids mode small;
+        id-home = λ id. home-given (image mode es) id es (name-gives mode es small ids) (namedIn mode es id) (image-ids mode small id);
+      }
+
+-- ---- two-way, and one-way
+
+pub two-way-answered : (es : List Entry) → imageSize Twoway es ≤ 4294967295 → Answered es (image Twoway es)
+two-way-answered es small =
+    let read = read-image es (ids-fit es small) Twoway small in
+    record {
+      names = read .names;
+      ids = record { id-gives = id-gives es small; id-nothing = id-nothing es small };
+      part-given = λ id other. part-given (image Twoway es) id other (lastName (ofId id es)) (id-gives es small id);
+      walked = λ id. step-given (image Twoway es) id (lastName (ofId id es)) (id-gives es small id);
+      hinted = hint-image Twoway es small;
+      homes = read .id-home;
+    }
+
+pub one-way-unanswered : (es : List Entry) → imageSize Oneway es ≤ 4294967295 → IdsUnanswered (image Oneway es)
+unfolding step home
+one-way-unanswered es small =
+    record {
+      id-unnamed = naming-oneway es small;
+      walk-ended = λ id. ap (stepOf id) (naming-oneway es small id);
+      none-hinted = λ id. omega (arith, hint-image Oneway es small id);
+      none-home = λ id. ap (homeBy (image Oneway es) id) (naming-oneway es small id);
+    }
+
 -- ---- the image of a list of calls
 
 pub list-read : (mode : Mode) (buffer : List ℕ) → headSize ≤ length buffer → (cs : List Call) → WordIds mode cs
-    → Read mode (accepted mode (length buffer) cs) (take (closedSize (after (fresh mode buffer) cs)) (afterClose (after (fresh mode buffer) cs) .buffer))
+    → Read mode (accepted mode (length buffer) cs) (imageOf mode buffer cs)
+unfolding imageOf
 list-read mode buffer room cs word =
     rw (list-image mode buffer room cs word)
     (read-image (accepted mode (length buffer) cs) (list-written mode buffer room cs word .ids) mode (list-below mode buffer room cs word))

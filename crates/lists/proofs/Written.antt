@@ -1,14 +1,12 @@
 -- What a list of calls leaves, after every one of its calls: 01, "The writer record", of a list whose accepted puts are es.
 use Prim.Native.Nat.{ℕ, _^_, _≤_, _<_}
 use mathlib.Core.Path.{_≡_}
-use mathlib.Core.List.{List, [], _∷_}
+use mathlib.Core.List.{List}
 use lib.ListN.{length, getD, take, drop}
 use Rattle.image.specs.declared.Mode.{Mode}
-use Rattle.image.specs.declared.Mode.the-variants.{Twoway, Oneway}
 use Rattle.image.specs.Bytes.{cat}
 use Rattle.image.specs.Image.{Entry, headSize, entryBytes, entriesSize, entriesEnd, placed, count, backSizeOf, backSize, imageSize}
 use Rattle.writer.specs.State.{State}
-use Rattle.lists.specs.Calls.{Call, put, close}
 
 -- record and buffer hold these entries, in a buffer of n bytes, and their image has room
 pub record Written (mode : Mode) (n : ℕ) (es : List Entry) (s : State) : Type 0 where
@@ -25,13 +23,3 @@ pub record Written (mode : Mode) (n : ℕ) (es : List Entry) (s : State) : Type 
   pub below : imageSize mode es ≤ 4294967295
   -- each id is a word
   pub ids : backSize es ≤ 2 ^ 32
-
--- in a one-way list each put's id is a word, as a put can only be handed one; a two-way list needs no such premise, since its size bounds the ids
-abbrev pub WordId : Mode → Call → Type 0
-WordId Twoway c = Unit {0}
-WordId Oneway (put e) = e .id < 2 ^ 32
-WordId Oneway close = Unit {0}
-
-abbrev pub WordIds : Mode → List Call → Type 0
-WordIds mode [] = Unit {0}
-WordIds mode (c ∷ cs) = WordId mode c × WordIds mode cs

@@ -1,6 +1,6 @@
 -- Lists of calls: 01, "Whole lists (demand 3)". What happens along a list is told twice: by the rules of the single calls, each lent record and buffer
 -- as the call before left them (`after`, `answers`); and by the calls and the buffer's length alone (`accepted`, `due`). Demand 3 says that both agree.
-use Prim.Native.Nat.{ℕ, _+_, _*_}
+use Prim.Native.Nat.{ℕ, _+_, _*_, _^_, _<_}
 use mathlib.Core.Path.{_≡_}
 use mathlib.Core.Logic.{_⊎_}
 use mathlib.Core.Bool.{cond}
@@ -8,6 +8,7 @@ use mathlib.Core.List.{List, [], _∷_, _++_}
 use lib.ListN.{length}
 use lib.Dec.{eqb}
 use Rattle.image.specs.declared.Mode.{Mode}
+use Rattle.image.specs.declared.Mode.the-variants.{Twoway, Oneway}
 use Rattle.image.specs.Image.{Entry, backSize, backIn}
 use Rattle.writer.specs.State.{State, tooLarge}
 use Rattle.writer.specs.Put.{putRefusal, afterPut}
@@ -95,6 +96,16 @@ AllPermitted [] [] = Unit {0}
 AllPermitted [] (r ∷ rs) = ⊥
 AllPermitted (c ∷ cs) [] = ⊥
 AllPermitted (c ∷ cs) (r ∷ rs) = Permitted c r × AllPermitted cs rs
+
+-- a put is handed an id that is a word. Of a one-way list this has to be said; a two-way one needs no such premise, since its size bounds the ids
+abbrev pub WordId : Mode → Call → Type 0
+WordId Twoway c = Unit {0}
+WordId Oneway (put e) = e .id < 2 ^ 32
+WordId Oneway close = Unit {0}
+
+abbrev pub WordIds : Mode → List Call → Type 0
+WordIds mode [] = Unit {0}
+WordIds mode (c ∷ cs) = WordId mode c × WordIds mode cs
 
 -- the puts of a list, refused ones included
 unfoldable pub puts : List Call → List Entry

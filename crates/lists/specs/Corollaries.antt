@@ -6,21 +6,25 @@ use mathlib.Core.List.{List, []}
 use mathlib.Core.Option.{some}
 use lib.ListN.{length}
 use Rattle.image.specs.declared.Mode.the-variants.{Twoway}
-use Rattle.image.specs.Image.{image}
+use Rattle.image.specs.Image.{Entry, image}
 use Rattle.reader.specs.Lookup.{lookup}
 use Rattle.answers.specs.Answer.{foundId, nameGiven, ofName, ofId, firstId}
 use Rattle.writer.specs.Close.{afterClose}
 use Rattle.lists.specs.Calls.{Call, puts}
-use Rattle.lists.specs.Demand3.{stateLeft, acceptedPuts, imageOf}
+use Rattle.lists.specs.Demand3.{afterList, acceptedPuts, imageOf}
+
+-- lookup and naming together, in a two-way image, by the accepted puts es
+pub record Together (es : List Entry) (img : List ℕ) : Type 0 where
+  -- an id's name, looked up, is found, and gives the id of that name's first accepted put
+  pub back-and-forth : (id : ℕ) (name : List ℕ) → nameGiven img id ≡ some name
+      → (first : ℕ) × (foundId (lookup img name) ≡ some first) × (firstId (ofName name es) ≡ some first)
+  -- where each name was put once and each id once, lookup and naming are inverse
+  pub inverse : ((name : List ℕ) → length (ofName name es) ≤ 1) → ((id : ℕ) → length (ofId id es) ≤ 1) → (name : List ℕ) (id : ℕ)
+      → (foundId (lookup img name) ≡ some id) ↔ (nameGiven img id ≡ some name)
 
 pub record Corollaries (buffer : List ℕ) (cs : List Call) : Type 0 where
-  -- an id's name, looked up, is found, and gives the id of that name's first accepted put
-  pub back-and-forth : (id : ℕ) (name : List ℕ) → nameGiven (imageOf buffer cs) id ≡ some name
-      → (first : ℕ) × (foundId (lookup (imageOf buffer cs) name) ≡ some first) × (firstId (ofName name (acceptedPuts buffer cs)) ≡ some first)
-  -- where each name was put once and each id once, lookup and naming are inverse
-  pub inverse : ((name : List ℕ) → length (ofName name (acceptedPuts buffer cs)) ≤ 1) → ((id : ℕ) → length (ofId id (acceptedPuts buffer cs)) ≤ 1)
-      → (name : List ℕ) (id : ℕ) → (foundId (lookup (imageOf buffer cs) name) ≡ some id) ↔ (nameGiven (imageOf buffer cs) id ≡ some name)
+  pub together : Together (acceptedPuts Twoway buffer cs) (imageOf Twoway buffer cs)
   -- a list without puts gives the empty image
-  pub empty-image : puts cs ≡ [] → imageOf buffer cs ≡ image Twoway []
+  pub empty-image : puts cs ≡ [] → imageOf Twoway buffer cs ≡ image Twoway []
   -- closing twice gives the same image, and changes nothing more
-  pub closed-twice : afterClose (afterClose (stateLeft buffer cs)) ≡ afterClose (stateLeft buffer cs)
+  pub closed-twice : afterClose (afterClose (afterList Twoway buffer cs)) ≡ afterClose (afterList Twoway buffer cs)

@@ -2,4 +2,6 @@
 pub mod Calls
 pub mod Demand3
 pub mod Corollaries
+pub mod AfterClose
+pub mod OneWay
 pub mod QuayRows

@@ -4,7 +4,7 @@ use mathlib.Core.Path.{_≡_}
 use mathlib.Core.Bool.{Bool, true, false}
 use mathlib.Core.List.{List, [], _∷_, map}
 use mathlib.Core.Option.{Option, none, some}
-use lib.ListN.{length, take}
+use lib.ListN.{length}
 use Rattle.jhash.specs.Outcome.{value}
 use Rattle.image.specs.declared.Mode.{Mode}
 use Rattle.image.specs.declared.Mode.the-variants.{Twoway, Oneway}
@@ -14,9 +14,10 @@ use Rattle.reader.specs.Open.{opening}
 use Rattle.reader.specs.Lookup.{lookup}
 use Rattle.reader.specs.Walk.{home}
 use Rattle.answers.specs.Answer.{foundId, nameGiven}
-use Rattle.writer.specs.State.{State, fresh}
-use Rattle.writer.specs.Close.{closing, closedImage}
-use Rattle.lists.specs.Calls.{Call, put, after, answers}
+use Rattle.writer.specs.Put.{entryOf}
+use Rattle.writer.specs.Close.{closing}
+use Rattle.lists.specs.Calls.{Call, put}
+use Rattle.lists.specs.Demand3.{answersOf, afterList, imageOf}
 
 -- what a name gives; what an id gives, and whether it is home
 pub record NameRow : Type 0 where
@@ -59,13 +60,13 @@ pub record ImageHolds (r : Row) (img : List ℕ) : Type 0 where
   pub placed : Each (λ (a : IdRow). (nameGiven img (a .id) ≡ a .gives) × (home img (a .id) ≡ a .isHome)) (r .ids)
 
 pub record RowHolds (r : Row) (buffer : List ℕ) : Type 0 where
-  pub answered : answers (fresh (r .mode) buffer) (r .calls) ≡ r .refusals
-  pub closes : closing (after (fresh (r .mode) buffer) (r .calls)) ≡ value (r .size)
-  pub imaged : ImageHolds r (closedImage (after (fresh (r .mode) buffer) (r .calls)))
+  pub answered : answersOf (r .mode) buffer (r .calls) ≡ r .refusals
+  pub closes : closing (afterList (r .mode) buffer (r .calls)) ≡ value (r .size)
+  pub imaged : ImageHolds r (imageOf (r .mode) buffer (r .calls))
 
 -- whatever bytes stand in the buffer
-abbrev pub HoldsAnyway : Row → Type 0
-HoldsAnyway r = (buffer : List ℕ) → length buffer ≡ r .bytes → RowHolds r buffer
+abbrev pub HoldsInAny : Row → Type 0
+HoldsInAny r = (buffer : List ℕ) → length buffer ≡ r .bytes → RowHolds r buffer
 
 -- ---- the rows
 
@@ -76,7 +77,7 @@ abbrev pub B : List ℕ
 B = 66 ∷ []
 
 abbrev pub entered : List ℕ → ℕ → Call
-entered name id = put (record { name = name; id = id })
+entered name id = put (entryOf name id)
 
 abbrev pub c1 : Row
 c1 =

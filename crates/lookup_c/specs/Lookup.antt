@@ -6,7 +6,7 @@ use Rattle.lookup_c.specs.declared.IdAnswer.{IdAnswer}
 
 -- 1 and the id, or 0 and 0; both with the buckets read
 abbrev pub idAnswerOf : Lookup → IdAnswer
-idAnswerOf (found id n) = record { found = 1; id = id; buckets = n }
+idAnswerOf (found f) = record { found = 1; id = f .id; buckets = f .buckets }
 idAnswerOf (nothing n) = record { found = 0; id = 0; buckets = n }
 
 -- the rule of looking up a name, so answered

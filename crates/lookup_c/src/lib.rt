@@ -19,10 +19,10 @@ pub extern "C" fn cqdb_to_id(image: &[u8], name: &[u8]) -> IdAnswer
 {
     let answer = reader::to_id(image, name);
     match answer {
-        ToId::Found { id, buckets } => IdAnswer {
+        ToId::Found(found) => IdAnswer {
             found: 1,
-            id,
-            buckets,
+            id: found.id,
+            buckets: found.buckets,
         },
         ToId::Nothing { buckets } => IdAnswer {
             found: 0,

@@ -30,7 +30,7 @@ probe-reads look (k ∷ ks) r = decided (look k) (probe-reads look ks (r + 1))
     decided : (s : Seen) → reads (probe look ks (r + 1)) ≤ r + 1 + length ks → reads (decide s (r + 1) (probe look ks (r + 1))) ≤ r + suc (length ks)
     decided pass h = omega arith
     decided ends h = omega arith
-    decided (hit id) h = omega arith
+    decided (hit x) h = omega arith
 
 pub search-reads : (image name : List ℕ) (h o n : ℕ) → reads (searchTable image name h o n) ≤ n
 unfolding searchTable

@@ -12,6 +12,7 @@ use Rattle.image.proofs.Bools.{neither-first, neither-second}
 use Rattle.image.specs.Head.{backSizeAt, backOffsetAt, backLeaves}
 use Rattle.image.specs.Stored.{broken}
 use Rattle.reader.specs.Lookup.{Lookup, lookup}
+use Rattle.reader.specs.Slices.{Slice, part}
 use Rattle.reader.specs.Naming.{place, unnamed, noBack, namingAt, naming, partOr}
 use Rattle.reader.specs.Walk.{upperHint, finds, homeBy, home}
 use Rattle.image.proofs.Unbroken.{unbroken}
@@ -80,12 +81,12 @@ named image id s n e = backed (noBack image) refl e
     backed false p e = below (leb (backSizeAt image) id) refl p e
 
 -- the part of the image that is the name, by its start and end
-pub part : (image other : List ℕ) (id s n : ℕ) → place s n ≡ naming image id → take (s + n - s) (drop s image) ≡ partOr image other (naming image id)
-part image other id s n e =
+pub named-part : (image other : Slice) (id s n : ℕ) → place s n ≡ naming (image .bytes) id → part image s (s + n - s) ≡ partOr image other (naming (image .bytes) id)
+named-part image other id s n e =
     let k : s + n - s ≡ n = omega arith in
-    ap (λ (m : ℕ). take m (drop s image)) k ∙ ap (partOr image other) e
+    ap (part image s) k ∙ ap (partOr image other) e
 
-pub no-part : (image other : List ℕ) (id : ℕ) → unnamed ≡ naming image id → other ≡ partOr image other (naming image id)
+pub no-part : (image other : Slice) (id : ℕ) → unnamed ≡ naming (image .bytes) id → other ≡ partOr image other (naming (image .bytes) id)
 no-part image other id e = ap (partOr image other) e
 
 -- the upper hint, for a back size w

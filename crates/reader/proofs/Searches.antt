@@ -11,7 +11,7 @@ use Rattle.image.specs.Bytes.{word, same}
 use Rattle.image.specs.Tables.{tableOf, start, next, order}
 use Rattle.image.specs.Head.{tableAt, bucketNumber}
 use Rattle.image.specs.Stored.{nameOf, broken}
-use Rattle.reader.specs.Lookup.{Lookup, nothing, Seen, pass, ends, hit, seeEntry, see, decide, probe, searchTable, lookupHash, lookup}
+use Rattle.reader.specs.Lookup.{Lookup, nothing, Seen, pass, ends, hit, hitAt, seeEntry, see, decide, probe, searchTable, lookupHash, lookup}
 
 -- ---- what is seen in an entry and in a bucket
 
@@ -23,9 +23,9 @@ name-part image at w e =
 
 module _ (image name : List ℕ) (at : ℕ) where
   pub see-entry-by : (x s : Bool) → broken image at ≡ x → same (nameOf image at) name ≡ s
-      → cond x ends (cond s (hit (word image at)) pass) ≡ seeEntry image name at
+      → cond x ends (cond s (hit (hitAt image at)) pass) ≡ seeEntry image name at
   unfolding seeEntry
-  see-entry-by x s ex es = sym (λ i. cond (ex i) ends (cond (es i) (hit (word image at)) pass))
+  see-entry-by x s ex es = sym (λ i. cond (ex i) ends (cond (es i) (hit (hitAt image at)) pass))
 
   -- for the bucket at b with this entry
   pub see-by : (h b : ℕ) (z e : Bool) → at ≡ word image (b + 4) → eqb at 0 ≡ z → eqb (word image b) h ≡ e

@@ -23,19 +23,19 @@ openedOf (Refused k) = refusal k
 
 -- found with its id, or nothing; both carry the buckets read
 abbrev pub lookupOf : ToId → Lookup
-lookupOf (toid.Found id buckets) = found id buckets
+lookupOf (toid.Found f) = found f
 lookupOf (toid.Nothing buckets) = nothing buckets
 
 -- the buckets read that a lookup's answer carries
 abbrev pub reads : Lookup → ℕ
-reads (found id n) = n
+reads (found f) = f .buckets
 reads (nothing n) = n
 
 -- what is seen in a bucket
 abbrev pub seenOf : Seen → spec.Seen
 seenOf Pass = spec.pass
 seenOf Ends = spec.ends
-seenOf (Hit id) = spec.hit id
+seenOf (Hit h) = spec.hit (record { id = h .id })
 
 -- the place of the name, or nothing
 abbrev pub namingOf : Named → Naming

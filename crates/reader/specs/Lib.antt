@@ -1,6 +1,7 @@
 -- What reading gives, as 01 says it, on every slice of bytes.
 pub mod Open
 pub mod Lookup
+pub mod Slices
 pub mod Naming
 pub mod Walk
 pub mod WalkSteps

@@ -10,22 +10,30 @@ use Rattle.image.specs.Tables.{tableOf, start, order}
 use Rattle.image.specs.Image.{headSize}
 use Rattle.image.specs.Head.{tableAt, bucketNumber, tableLeaves}
 use Rattle.image.specs.Stored.{nameOf, broken}
+use Rattle.reader.specs.declared.Found.{Found}
 
 -- the answer: found with its id, or nothing; both carry the number of buckets read, the deciding one included
 pub data Lookup : Type 0 where
-  found : ℕ → ℕ → Lookup
+  found : Found → Lookup
   nothing : ℕ → Lookup
 
--- what a search sees in a bucket: it passes it, or ends with nothing, or with an id
+-- what an entry with an equal name tells
+pub record Hit : Type 0 where
+  pub id : ℕ
+
+abbrev pub hitAt : List ℕ → ℕ → Hit
+hitAt image at = record { id = word image at }
+
+-- what a search sees in a bucket: it passes it, or ends with nothing, or with what an entry tells
 pub data Seen : Type 0 where
   pass : Seen
   ends : Seen
-  hit : ℕ → Seen
+  hit : Hit → Seen
 
--- a broken entry ends with nothing; an equal name ends with its id; another name is passed
+-- a broken entry ends with nothing; an equal name ends with what the entry tells; another name is passed
 unfoldable pub seeEntry : List ℕ → List ℕ → ℕ → Seen
 seeEntry image name at =
-    cond (broken image at) ends (cond (same (nameOf image at) name) (hit (word image at)) pass)
+    cond (broken image at) ends (cond (same (nameOf image at) name) (hit (hitAt image at)) pass)
 
 -- an empty bucket ends with nothing; a bucket with another hash is passed
 unfoldable pub see : List ℕ → List ℕ → ℕ → ℕ → Seen
@@ -37,7 +45,7 @@ see image name h b =
 abbrev pub decide : Seen → ℕ → Lookup → Lookup
 decide pass reads rest = rest
 decide ends reads rest = nothing reads
-decide (hit id) reads rest = found id reads
+decide (hit h) reads rest = found (record { id = h .id; buckets = reads })
 
 -- the search along a list of buckets, `reads` being those read before. After the last the answer is nothing
 unfoldable pub probe : (ℕ → Seen) → List ℕ → ℕ → Lookup

@@ -1,13 +1,14 @@
 -- Naming an id: 01, "Naming an id".
 use Prim.Native.Nat.{ℕ, _+_, _*_, _-_}
 use mathlib.Core.Bool.{Bool, cond, _||_}
-use mathlib.Core.List.{List, []}
-use lib.ListN.{length, take, drop}
+use mathlib.Core.List.{List}
+use lib.ListN.{length}
 use lib.Dec.{eqb, ltb, leb}
 use Rattle.image.specs.Bytes.{word}
 use Rattle.image.specs.Image.{headSize}
 use Rattle.image.specs.Head.{backSizeAt, backOffsetAt, backLeaves}
 use Rattle.image.specs.Stored.{broken}
+use Rattle.reader.specs.Slices.{Slice, part}
 
 -- the answer: the place of the name, its first byte's offset and its length; or nothing
 pub data Naming : Type 0 where
@@ -29,15 +30,15 @@ naming image id =
     cond (noBack image) unnamed
     (cond (leb (backSizeAt image) id) unnamed (namingAt image (word image (backOffsetAt image + 4 * id))))
 
--- the part of the image that is the name, or the caller's own bytes when there is none
-abbrev pub partOr : List ℕ → List ℕ → Naming → List ℕ
-partOr image other (place s n) = take n (drop s image)
+-- the part of the lent image that is the name, or another slice when there is none
+abbrev pub partOr : Slice → Slice → Naming → Slice
+partOr image other (place s n) = part image s n
 partOr image other unnamed = other
 
 -- a second call returns the part, empty if nothing
-abbrev pub namePart : List ℕ → ℕ → List ℕ
-namePart image id = partOr image [] (naming image id)
+abbrev pub namePart : Slice → ℕ → Slice
+namePart image id = partOr image (part image 0 0) (naming (image .bytes) id)
 
 -- name or stand-in
-abbrev pub nameOr : List ℕ → ℕ → List ℕ → List ℕ
-nameOr image id other = partOr image other (naming image id)
+abbrev pub nameOr : Slice → ℕ → Slice → Slice
+nameOr image id other = partOr image other (naming (image .bytes) id)

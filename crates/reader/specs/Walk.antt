@@ -28,7 +28,7 @@ upperHint image n = cond (noBack image) 0 (backSizeAt image - n)
 
 -- does a lookup find this id?
 abbrev pub finds : ℕ → Lookup → Bool
-finds id (found i reads) = eqb i id
+finds id (found f) = eqb (f .id) id
 finds id (nothing reads) = false
 
 -- an id is home (01's term) exactly when it has a name and looking up that name finds this id

@@ -22,17 +22,28 @@ pub enum Opened {
     Refused(u32),
 }
 
-// What a lookup answers: the id, or nothing; both with the number of buckets that the search reads, the deciding one included.
+// What a lookup finds: the id, and the number of buckets that the search reads, the deciding one included.
+pub struct Found {
+    pub id: u32,
+    pub buckets: u32,
+}
+
+// What a lookup answers: what it finds, or nothing, with the number of buckets that the search reads.
 pub enum ToId {
-    Found { id: u32, buckets: u32 },
+    Found(Found),
     Nothing { buckets: u32 },
 }
 
-// What a search sees in a bucket: it passes it, or ends with nothing, or with an id.
+// What an entry with the wanted name tells: its id.
+struct Hit {
+    id: u32,
+}
+
+// What a search sees in a bucket: it passes it, or ends with nothing, or with an entry that has the name.
 enum Seen {
     Pass,
     Ends,
-    Hit(u32),
+    Hit(Hit),
 }
 
 // What naming an id answers: the place of the name in the image, or nothing.

@@ -6,7 +6,9 @@ ghost use lib.ListN.{length};
 ghost use Rattle.image.specs.Tables.{start, next};
 ghost use Rattle.reader.specs.Lookup.{nothing, seeEntry, see, searchTable, lookupHash, lookup};
 ghost use Rattle.reader.specs.Cases.{seenOf, lookupOf};
+use super::Found;
 use super::HEAD_SIZE;
+use super::Hit;
 use super::Seen;
 use super::ToId;
 use super::start::start;
@@ -26,7 +28,9 @@ fn see_entry(image: &[u8], name: &[u8], at: u32) -> Seen
     let start = entry + 8;
     let end = start + (word(image, entry + 4) as usize - 1);
     if same(&image[start..end], name) {
-        return Seen::Hit(word(image, entry));
+        return Seen::Hit(Hit {
+            id: word(image, entry),
+        });
     }
     Seen::Pass
 }
@@ -120,11 +124,11 @@ fn search(image: &[u8], name: &[u8], h: u32, at: u32, n: u32) -> ToId
             Seen::Ends => {
                 return ToId::Nothing { buckets: n - left };
             }
-            Seen::Hit(id) => {
-                return ToId::Found {
-                    id,
+            Seen::Hit(hit) => {
+                return ToId::Found(Found {
+                    id: hit.id,
                     buckets: n - left,
-                };
+                });
             }
         }
         k = next_bucket(k, n);

@@ -1,5 +1,6 @@
 // Naming an id (reference `to_str`).
 ghost use mathlib.Core.Path.{_≡_};
+ghost use Rattle.reader.specs.Slices.{slice};
 ghost use Rattle.reader.specs.Naming.{noBack, naming, namePart, nameOr};
 ghost use Rattle.reader.specs.Cases.{namingOf};
 use super::HEAD_SIZE;
@@ -45,9 +46,9 @@ pub fn to_str(image: &[u8], id: u32) -> Named
     }
 }
 
-// The part of the image that is an id's name, empty if it has none.
+// The part of the lent image that is an id's name, empty if it has none.
 pub fn name<'a>(image: &'a [u8], id: u32) -> &'a [u8]
-    ensures { λ r. ⌜ now r ≡ namePart (now (image .entry)) id ⌝ }
+    ensures { λ r. ⌜ slice r ≡ namePart (slice (image .entry)) id ⌝ }
 {
     match to_str(image, id) {
         Named::Place { start, len } => &image[start..start + len],
@@ -55,9 +56,9 @@ pub fn name<'a>(image: &'a [u8], id: u32) -> &'a [u8]
     }
 }
 
-// The part of the image that is an id's name, or the stand-in if it has none.
+// The part of the lent image that is an id's name, or the stand-in itself if it has none.
 pub fn name_or<'a>(image: &'a [u8], id: u32, stand_in: &'a [u8]) -> &'a [u8]
-    ensures { λ r. ⌜ now r ≡ nameOr (now (image .entry)) id (now (stand_in .entry)) ⌝ }
+    ensures { λ r. ⌜ slice r ≡ nameOr (slice (image .entry)) id (slice (stand_in .entry)) ⌝ }
 {
     match to_str(image, id) {
         Named::Place { start, len } => &image[start..start + len],

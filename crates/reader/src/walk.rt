@@ -58,10 +58,7 @@ pub fn home(image: &[u8], id: u32) -> bool
         Named::Place { start, len } => {
             let end = start + len;
             match to_id(image, &image[start..end]) {
-                ToId::Found {
-                    id: found,
-                    buckets: _,
-                } => found == id,
+                ToId::Found(found) => found.id == id,
                 ToId::Nothing { buckets: _ } => false,
             }
         }

@@ -3,6 +3,7 @@
 ghost use mathlib.Core.Path.{_≡_};
 ghost use Rattle.reader.specs.Open.{opening};
 ghost use Rattle.reader.specs.Lookup.{lookup};
+ghost use Rattle.reader.specs.Slices.{slice};
 ghost use Rattle.reader.specs.Naming.{naming, namePart};
 ghost use Rattle.reader.specs.Walk.{step, home};
 ghost use Rattle.reader.specs.Cases.{openedOf, lookupOf, namingOf, steppedOf};
@@ -63,9 +64,9 @@ impl<'a> CQDB<'a> {
         reader::to_str(self.image, id)
     }
 
-    // The part of the image that is an id's name, empty if it has none. It lives as long as the image, and may outlive the view.
+    // The part of the slice that is an id's name, empty if it has none. It lives as long as the slice, and may outlive the view.
     pub fn name(self, id: u32) -> &'a [u8]
-        ensures { λ r. ⌜ now r ≡ namePart (now (self .entry .image)) id ⌝ }
+        ensures { λ r. ⌜ slice r ≡ namePart (slice (self .entry .image)) id ⌝ }
     {
         reader::name(self.image, id)
     }
@@ -88,7 +89,7 @@ impl<'a> CQDB<'a> {
 // The part of an image that is an id's name, empty if it has none, by a view that is made for it. Its parameters are plain, so
 // that the borrow checker covers whoever calls it.
 pub fn name_of<'a>(image: &'a [u8], id: u32) -> &'a [u8]
-    ensures { λ r. ⌜ now r ≡ namePart (now (image .entry)) id ⌝ }
+    ensures { λ r. ⌜ slice r ≡ namePart (slice (image .entry)) id ⌝ }
 {
     CQDB::new(image).name(id)
 }

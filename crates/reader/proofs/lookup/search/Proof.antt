@@ -78,14 +78,14 @@ sub-t17 c = search needs
 returns-2 : tie.Need-returns-2 Inv-loop μ-loop
 returns-2 c = turn (c .before .before) ends (ap seenOf (c .enum-told2 .given .1))
 
-enum-known-id : tie.Need-enum-known-id Inv-loop μ-loop
-enum-known-id c = search needs
+enum-known-hit : tie.Need-enum-known-hit Inv-loop μ-loop
+enum-known-hit c = search needs
 
 sub-t18 : tie.Need-sub-t18 Inv-loop μ-loop
 sub-t18 c = search needs
 
 returns-3 : tie.Need-returns-3 Inv-loop μ-loop
-returns-3 c = turn (c .before .before .before) (hit (c .before .id .given .0 .0)) (ap seenOf (c .before .id .given .1))
+returns-3 c = turn (c .before .before .before) (hit (record { id = c .before .hit .given .0 .0 .id })) (ap seenOf (c .before .hit .given .1))
 
 next-bucket-requires : tie.Need-next-bucket-requires Inv-loop μ-loop
 next-bucket-requires c κs = search needs
@@ -100,8 +100,8 @@ loop-again c = (
   ap (λ (j : ℕ). left-of (c .before .before .before) j) (c .next-bucket .ensures .0) ∙ turn (c .before .before .before) pass (ap seenOf (c .before .enum-told .given .1)),
 )
 
-sub-t19 : tie.Need-sub-t19 Inv-loop μ-loop
-sub-t19 c = search needs
+sub-t20 : tie.Need-sub-t20 Inv-loop μ-loop
+sub-t20 c = search needs
 
 returns-4 : tie.Need-returns-4 Inv-loop μ-loop
 returns-4 c =
@@ -127,11 +127,11 @@ search-spec =
     enum-told-2
     sub-t17
     returns-2
-    enum-known-id
+    enum-known-hit
     sub-t18
     returns-3
     next-bucket-requires
     loop-less
     loop-again
-    sub-t19
+    sub-t20
     returns-4)

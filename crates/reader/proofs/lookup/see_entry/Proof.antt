@@ -80,7 +80,7 @@ returns-2 c =
     let of-if1 = c .before .before .before .before .before .if1 in
     let of-word = c .before .before .before .before .word in
     let of-same = c .before .before .same in
-    ap hit (c .word2 .ensures)
+    ap (λ (id : ℕ). hit (record { id = id })) (c .word2 .ensures)
     ∙ see-entry-by image name (a .at) false true (sym (of-broken .ensures) ∙ of-if1 .left)
     (ap (λ (l : List ℕ). same l name) (sym (name-part image (a .at) (of-word .result) (of-word .ensures))) ∙ sym (of-same .ensures) ∙ c .before .if2 .taken)
 

@@ -1,9 +1,9 @@
 -- `reader::naming::name` meets its contract. Assumes nothing.
 use native.Mathlib.Omega.{arith}
-use mathlib.Core.List.{[]}
 use mathlib.Core.Path.{sym, ap, _∙_}
+use Rattle.reader.specs.Slices.{slice, part}
 use Rattle.reader.specs.Cases.{namingOf}
-use Rattle.reader.proofs.Namings.{named, part, no-part}
+use Rattle.reader.proofs.Namings.{named, named-part, no-part}
 use borrow.Author.Needs.{needs}
 use Rattle.reader.proofs.naming.name.Statement.{statement}
 use Rattle.reader.proofs.naming.name.Tie as tie
@@ -51,17 +51,15 @@ part-result-end-2 c = search needs
 returns : tie.Need-returns
 returns c =
     let a = c .before .before .before .before .before .before .args in
-    let image = a .image .now in
     let of-start = c .before .before .start in
     let of-to-str = c .before .before .before .before .to-str in
-    part image [] (a .id) (of-start .given .0 .0) (of-start .given .0 .1 .0) (ap namingOf (sym (of-start .given .1)) ∙ of-to-str .ensures)
+    named-part (slice (a .image)) (part (slice (a .image)) 0 0) (a .id) (of-start .given .0 .0) (of-start .given .0 .1 .0) (ap namingOf (sym (of-start .given .1)) ∙ of-to-str .ensures)
 
 returns-2 : tie.Need-returns-2
 returns-2 c =
     let a = c .before .before .before .before .before .args in
-    let image = a .image .now in
     let of-to-str = c .before .before .before .to-str in
-    no-part image [] (a .id) (ap namingOf (sym (c .before .enum-told .given .1)) ∙ of-to-str .ensures)
+    no-part (slice (a .image)) (part (slice (a .image)) 0 0) (a .id) (ap namingOf (sym (c .before .enum-told .given .1)) ∙ of-to-str .ensures)
 
 pub name-spec : {M : Type 1} → statement M
 name-spec =

@@ -51,12 +51,12 @@ enum-told-2 c = search needs
 
 returns : tie.Need-returns
 returns c =
-    let a = c .before .before .before .before .before .before .before .before .before .before .args in
+    let a = c .before .before .before .before .before .before .before .before .before .before .before .args in
     let image = a .image .now in
-    let of-start = c .before .before .before .before .before .before .start in
-    let of-to-id = c .before .before .before .to-id in
-    let of-to-str = c .before .before .before .before .before .before .before .before .to-str in
-    ap (λ (r : ToId). finds (a .id) (lookupOf r)) (sym (c .before .found .given .1))
+    let of-start = c .before .before .before .before .before .before .before .start in
+    let of-to-id = c .before .before .before .before .to-id in
+    let of-to-str = c .before .before .before .before .before .before .before .before .before .to-str in
+    ap (λ (r : ToId). finds (a .id) (lookupOf r)) (sym (c .before .before .found .given .1))
     ∙ home-by image (a .id) (of-start .given .0 .0) (of-start .given .0 .1 .0) (lookupOf (of-to-id .result))
     (ap namingOf (sym (of-start .given .1)) ∙ of-to-str .ensures) (of-to-id .ensures)
 

@@ -1,0 +1,35 @@
+-- One-way lists. Assumes nothing.
+use Prim.Native.Nat.{ℕ, _≤_}
+use mathlib.Core.Path.{sym, ap, _∙_}
+use mathlib.Core.List.{List}
+use lib.ListN.{length}
+use Rattle.image.specs.declared.Mode.the-variants.{Oneway}
+use Rattle.image.specs.Image.{headSize}
+use Rattle.answers.specs.Answer.{firstId}
+use Rattle.lists.specs.Calls.{Call, WordIds}
+use Rattle.lists.specs.Demand3.{acceptedPuts, imageOf}
+use Rattle.lists.specs.OneWay.{IdsUnanswered, OneWayList, OneWay}
+use Rattle.lists.proofs.Along.{list-accepted}
+use Rattle.lists.proofs.Reading.{one-way-unanswered, list-read}
+use Rattle.lists.proofs.Theorem.{calls-imaged, calls-below, calls-answered}
+
+module _ (buffer : List ℕ) (cs : List Call) (room : headSize ≤ length buffer) (word : WordIds Oneway cs) where
+  one-way-list : OneWayList buffer cs
+  one-way-list =
+      record {
+        calls = calls-answered Oneway buffer cs room word;
+        names = rw (list-accepted Oneway buffer room cs word) (list-read Oneway buffer room cs word .names);
+        ids =
+            rw (calls-imaged Oneway buffer cs room word)
+            (one-way-unanswered (acceptedPuts Oneway buffer cs) (calls-below Oneway buffer cs room word));
+      }
+
+pub one-way : OneWay
+one-way =
+    record {
+      one-list = one-way-list;
+      alike-name = λ buffer₁ cs₁ buffer₂ cs₂ room₁ room₂ word₁ word₂ name h.
+          one-way-list buffer₁ cs₁ room₁ word₁ .names .name-gives name
+          ∙ ap firstId h
+          ∙ sym (one-way-list buffer₂ cs₂ room₂ word₂ .names .name-gives name);
+    }

@@ -1,0 +1,18 @@
+-- A slice that a call is lent or returns, and a part of one. Assumes nothing.
+use Prim.Native.Nat.{ℕ, _+_}
+use mathlib.Core.List.{List}
+use lib.ListN.{take, drop}
+use denote.Ref.{RefT}
+
+-- where its first byte stands, a block of memory and an offset in it; and its bytes
+pub record Slice : Type 0 where
+  pub at : ℕ × ℕ
+  pub bytes : List ℕ
+
+-- the slice that a reference of the code stands for
+abbrev pub slice : RefT (List ℕ) → Slice
+slice r = record { at = r .ptr; bytes = r .now }
+
+-- its n bytes from s on
+abbrev pub part : Slice → ℕ → ℕ → Slice
+part x s n = record { at = (x .at .0, s + x .at .1); bytes = take n (drop s (x .bytes)) }
