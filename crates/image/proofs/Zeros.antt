@@ -101,6 +101,15 @@ before-front (x ∷ xs) = go (eqb x 0) (before-front xs)
     go true rest = refl
     go false rest = ap (λ (l : List ℕ). x ∷ l) rest
 
+pub before-short : (s : List ℕ) → length (beforeZero s) ≤ length s
+unfolding beforeZero
+before-short [] = omega arith
+before-short (x ∷ xs) = go (eqb x 0) (before-short xs)
+  where
+    go : (t : Bool) → length (beforeZero xs) ≤ length xs → length (cond t [] (x ∷ beforeZero xs)) ≤ length (x ∷ xs)
+    go true rest = omega arith
+    go false rest = omega arith
+
 pub before-free : (s : List ℕ) → hasZero (beforeZero s) ≡ false
 unfolding beforeZero hasZero
 before-free [] = refl
