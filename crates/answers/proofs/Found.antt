@@ -30,7 +30,7 @@ use Rattle.image.proofs.Parts.{placedIn, most, tableAt-image, bucketNumber-imag
 use Rattle.answers.proofs.Opened.{long-enough, table-inside}
 use Rattle.image.proofs.EntryAt.{Stands, entry-fits, all-stand, all-placed, ids-below}
 use Rattle.answers.proofs.EntrySeen.{seen-entry}
-use Rattle.answers.proofs.Names.{same-true, told, verdict, first-of-name, none-of-name, names-short, count-puts}
+use Rattle.answers.proofs.Names.{same-true, told, verdict, first-of-name, none-of-name, names-short}
 
 -- an answer of nothing without a read, where nothing is to be found
 pub nothing-searched : (id : Option ℕ) (m : ℕ) → id ≡ none → Searched id m (nothing 0)
@@ -151,9 +151,9 @@ module _ (mode : Mode) (es : List Entry) (fits : imageSize mode es ≤ 429496729
 
   in-table : 0 < count (tableOf (hashOf name)) (placedIn es)
       → Searched (firstId (ofName name es)) (tablePuts name es) (searchTable (image mode es) name (hashOf name) at n)
-  unfolding n
+  unfolding n tablePuts
   in-table some-entry =
-      searched-same first-hit (length-qs ∙ count-puts name headSize es) (sym (search-alike some-entry))
+      searched-same first-hit length-qs (sym (search-alike some-entry))
       (searched n (hashOf name) v (map bucketOf qs) (omega arith) (omega (arith, length-qs)) all-taken)
 
   -- ---- the table's row decides whether it is searched

@@ -76,14 +76,3 @@ module _ (es : List Entry) (fits : imageSize Twoway es ≤ 4294967295) where
   pub id-nothing : (id : ℕ) → (nameGiven (image Twoway es) id ≡ none) ↔ (ofId id es ≡ [])
   id-nothing id =
       (λ q. last-none (ofId id es) .0 (sym (id-gives id) ∙ q), λ q. id-gives id ∙ last-none (ofId id es) .1 q)
-
--- ---- two lists
-
-module _ (es fs : List Entry) (fits : imageSize Twoway es ≤ 4294967295) (fits′ : imageSize Twoway fs ≤ 4294967295) where
-  -- the same entries of a name, in the same order: both images answer it alike; and so for an id
-  pub names-alike : (name : List ℕ) → ofName name es ≡ ofName name fs → foundId (lookup (image Twoway es) name) ≡ foundId (lookup (image Twoway fs) name)
-  names-alike name e =
-      name-gives Twoway es fits (ids-fit es fits) name ∙ ap firstId e ∙ sym (name-gives Twoway fs fits′ (ids-fit fs fits′) name)
-
-  pub ids-alike : (id : ℕ) → ofId id es ≡ ofId id fs → nameGiven (image Twoway es) id ≡ nameGiven (image Twoway fs) id
-  ids-alike id e = id-gives es fits id ∙ ap lastName e ∙ sym (id-gives fs fits′ id)

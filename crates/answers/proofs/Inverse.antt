@@ -10,11 +10,11 @@ use native.Mathlib.Omega.{arith}
 use borrow.Author.Tests.{eq-eqb, eqb-true}
 use lib.ListN.{length}
 use Rattle.image.specs.Bytes.{keep, same}
-use Rattle.image.specs.Image.{Entry, imageSize, image}
+use Rattle.image.specs.Image.{Entry, hasId, imageSize, image}
 use Rattle.image.specs.declared.Mode.the-variants.{Twoway}
 use Rattle.image.proofs.Lists.{keep-nil, keep-yes, keep-no}
 use Rattle.reader.specs.Lookup.{lookup}
-use Rattle.answers.specs.Answer.{foundId, nameGiven, hasName, hasId, ofName, ofId, firstId, lastName}
+use Rattle.answers.specs.Answer.{foundId, nameGiven, hasName, ofName, ofId, firstId, lastName}
 use Rattle.answers.proofs.Names.{same-self, same-true}
 use Rattle.answers.proofs.Images.{name-gives, id-gives, ids-fit}
 
@@ -101,16 +101,6 @@ module _ (es : List Entry) (names : (name : List ℕ) → length (ofName name es
 -- ---- on the image
 
 module _ (es : List Entry) (fits : imageSize Twoway es ≤ 4294967295) where
-  -- a name that an id gives is found: with the id of its first entry
-  pub named-found : (id : ℕ) (name : List ℕ) → nameGiven (image Twoway es) id ≡ some name → (i : ℕ) × (foundId (lookup (image Twoway es) name) ≡ some i)
-  named-found id name q = go (ofName name es) refl
-    where
-      go : (xs : List Entry) → ofName name es ≡ xs → (i : ℕ) × (foundId (lookup (image Twoway es) name) ≡ some i)
-      go [] e =
-          absurd
-          (last-kept name (ofId id es) (sym (id-gives es fits id) ∙ q) (sym (swapped name id es) ∙ ap (keep (hasId id)) e ∙ keep-nil (hasId id)))
-      go (x ∷ xs) e = (x .id, name-gives Twoway es fits (ids-fit es fits) name ∙ ap firstId e)
-
   -- each name once and each id once
   pub inverse : ((name : List ℕ) → length (ofName name es) ≤ 1) → ((id : ℕ) → length (ofId id es) ≤ 1) → (name : List ℕ) (id : ℕ)
       → (foundId (lookup (image Twoway es) name) ≡ some id) ↔ (nameGiven (image Twoway es) id ≡ some name)

@@ -11,12 +11,12 @@ use lib.Dec.{eqb}
 use lib.ListN.{length}
 use Rattle.image.specs.Bytes.{word, keep}
 use Rattle.image.specs.Image.{Entry, Placed, headSize, entrySize, placed, lastFrom, link, backSize, backOffset, entriesEnd, imageSize, image}
-use Rattle.image.specs.Image.{hasId as placedHasId, ofId as placedOfId}
+use Rattle.image.specs.Image.{hasId, placedOfId}
 use Rattle.image.specs.declared.Mode.the-variants.{Twoway, Oneway}
 use Rattle.image.proofs.Sizes.{length-image}
 use Rattle.image.specs.Head.{backSizeAt}
 use Rattle.reader.specs.Naming.{unnamed, noBack, namingAt, naming}
-use Rattle.answers.specs.Answer.{heldAt, nameGiven, hasId, ofId, lastName}
+use Rattle.answers.specs.Answer.{heldAt, nameGiven, ofId, lastName}
 use Rattle.image.proofs.Every.{All, all-keep}
 use Rattle.image.proofs.At.{at-word}
 use Rattle.image.proofs.Parts.{placedIn, link-at}
@@ -37,7 +37,7 @@ placed-of-id id o [] = refl
 placed-of-id id o (e ∷ es) = go (eqb (e .id) id) (placed-of-id id (o + entrySize e) es)
   where
     K : List Placed
-    K = keep (placedHasId id) (placed (o + entrySize e) es)
+    K = keep (λ (p : Placed). hasId id (p .entry)) (placed (o + entrySize e) es)
 
     N : List Entry
     N = keep (hasId id) es
@@ -91,7 +91,7 @@ module _ (es : List Entry) (fits : imageSize Twoway es ≤ 4294967295) (id : ℕ
 
   of-id : All (Stands (image Twoway es)) (placedOfId id (placedIn es))
   unfolding placedOfId
-  of-id = all-keep (Stands (image Twoway es)) (placedHasId id) (placedIn es) (all-stand Twoway es)
+  of-id = all-keep (Stands (image Twoway es)) (λ (p : Placed). hasId id (p .entry)) (placedIn es) (all-stand Twoway es)
 
   pub link-named : heldAt (image Twoway es) (namingAt (image Twoway es) (link (placedIn es) id)) ≡ lastName (ofId id es)
   unfolding link held

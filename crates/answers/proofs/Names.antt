@@ -3,7 +3,7 @@ use mathlib.Core.Path.{_≡_, refl, ap, _∙_}
 use mathlib.Core.Bool.{Bool, true, false, cond, and-eq-true-iff}
 use mathlib.Core.List.{List, [], _∷_, map}
 use mathlib.Core.Option.{orElse}
-use Prim.Native.Nat.{ℕ, suc, _+_, _≤_, _<_}
+use Prim.Native.Nat.{ℕ, _+_, _≤_, _<_}
 use native.Mathlib.Omega.{arith}
 use borrow.Author.Tests.{eq-eqb, eqb-true}
 use lib.Dec.{eqb}
@@ -11,9 +11,9 @@ use lib.ListN.{length}
 use Rattle.jhash.specs.NameHash.{hashOf}
 use Rattle.image.specs.Bytes.{keep, same}
 use Rattle.image.specs.Tables.{tableOf}
-use Rattle.image.specs.Image.{Entry, Placed, entrySize, entriesSize, placed, inTable, ofTable, count}
+use Rattle.image.specs.Image.{Entry, Placed, entrySize, entriesSize, placed, inTable, ofTable}
 use Rattle.reader.specs.Lookup.{Hit, Seen, pass, hit}
-use Rattle.answers.specs.Answer.{hasName, ofName, sharesTable, tablePuts, firstId}
+use Rattle.answers.specs.Answer.{hasName, ofName, firstId}
 use Rattle.image.proofs.Every.{All}
 use Rattle.answers.proofs.Filling.{firstHit}
 
@@ -89,20 +89,3 @@ pub names-short : (n : ℕ) (es : List Entry) → entriesSize es ≤ n → All (
 unfolding entriesSize
 names-short n [] h = tt
 names-short n (e ∷ es) h = (omega arith, names-short n es (omega arith))
-
--- ---- the entries of a name's table
-
-pub count-puts : (name : List ℕ) (o : ℕ) (es : List Entry) → count (tableOf (hashOf name)) (placed o es) ≡ tablePuts name es
-unfolding placed ofTable keep tablePuts
-count-puts name o [] = refl
-count-puts name o (e ∷ es) = go (eqb (tableOf (hashOf (e .name))) (tableOf (hashOf name))) (count-puts name (o + entrySize e) es)
-  where
-    K : List Placed
-    K = keep (inTable (tableOf (hashOf name))) (placed (o + entrySize e) es)
-
-    N : List Entry
-    N = keep (sharesTable name) es
-
-    go : (t : Bool) → length K ≡ length N → length (cond t (record { entry = e; at = o } ∷ K) K) ≡ length (cond t (e ∷ N) N)
-    go true ih = ap suc ih
-    go false ih = ih

@@ -71,16 +71,6 @@ module _ (mode : Mode) (es : List Entry) where
       twelve : 0 + length to-12 ≡ 12
       twelve = simp (length-append, length-le32)
 
-  pub flag-image : word (image mode es) 8 ≡ flagWord mode
-  flag-image = at-word (flagWord mode) (at-same eight (at-right (letters ++ le32 (imageSize mode es)) (le32 (flagWord mode)) three)) (below mode)
-    where
-      eight : 0 + length (letters ++ le32 (imageSize mode es)) ≡ 8
-      eight = simp length-le32
-
-      below : (f : Mode) → flagWord f < 2 ^ 32
-      below Twoway = omega arith
-      below Oneway = omega arith
-
   module _ (fits : imageSize mode es ≤ 4294967295) where
     pub size-image : word (image mode es) 4 ≡ imageSize mode es
     size-image = at-word (imageSize mode es) (at-right letters (le32 (imageSize mode es)) two) (omega arith)

@@ -87,8 +87,11 @@ searched-same {a} {b} {m} {n} {k} {l} p q r s = rw (p, q, r) at s
 
 module _ (n h : ℕ) (v : ℕ → Seen) (bs : List Bucket) (some-bucket : 0 < n) (room : length bs ≤ n)
     (each : All (λ (b : Bucket). Taken (look h v b)) bs) where
+  abbrev settled-at : ℕ → Seen
+  settled-at o = settle (v o)
+
   f : Bucket → Seen
-  f = look h (λ (o : ℕ). settle (v o))
+  f = look h settled-at
 
   seen : List Seen
   seen = map (λ (k : ℕ). look h v (getD (filled n bs) k empty)) (order n n (start h n))
@@ -110,13 +113,13 @@ module _ (n h : ℕ) (v : ℕ → Seen) (bs : List Bucket) (some-bucket : 0 < n)
   unfolding f
   seen-used =
       ap used (sym seen-view)
-      ∙ filled-holds f (look-sees h (λ (o : ℕ). settle (v o)) (λ o. settle-taken (v o))) n (start h n) inside (look-apart h (λ (o : ℕ). settle (v o)) n) bs room full
+      ∙ filled-holds f (look-sees h settled-at (λ o. settle-taken (v o))) n (start h n) inside (look-apart h settled-at n) bs room full
 
   seen-answer : answer seen ≡ firstHit (map (look h v) bs)
   unfolding f
   seen-answer =
       ap answer (sym seen-view)
-      ∙ filled-answer f (look-sees h (λ (o : ℕ). settle (v o)) (λ o. settle-taken (v o))) n (start h n) inside (look-apart h (λ (o : ℕ). settle (v o)) n) bs room full
+      ∙ filled-answer f (look-sees h settled-at (λ o. settle-taken (v o))) n (start h n) inside (look-apart h settled-at n) bs room full
       ∙ ap firstHit (map-alike f (look h v) (settled h v) bs each)
 
   pub searched : Searched (firstHit (map (look h v) bs)) (length bs) (probe (λ (k : ℕ). look h v (getD (filled n bs) k empty)) (order n n (start h n)) 0)

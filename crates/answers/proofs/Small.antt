@@ -6,14 +6,11 @@ use mathlib.Core.Option.{none, some}
 use Prim.Native.Nat.{ℕ, _≤_}
 use lib.Dec.{eqb, lit≤}
 use lib.ListN.{getD}
-use Rattle.jhash.specs.NameHash.{hashOf}
-use Rattle.image.specs.Bytes.{keep, same, word, le32, cat, range}
+use Rattle.image.specs.Bytes.{keep, same}
 use Rattle.image.specs.Tables.{Bucket, empty, start, order, firstEmpty, insert, insertAll, filled}
-use Rattle.image.specs.Image.{Entry, entryBytes, entriesSize, placed, ofTable, bucketBytes, table, tableBytes, entriesBefore, tableOffset}
-use Rattle.image.specs.Image.{tableRow, tableRows, tables, backSize, lastFrom, link, links, backOffset, imageSize, headWords, image}
-use Rattle.image.specs.Image.{ofId as placedOfId}
+use Rattle.image.specs.Image.{Entry, entriesSize, backSize, imageSize, image}
 use Rattle.image.specs.declared.Mode.the-variants.{Twoway}
-use Rattle.reader.specs.Lookup.{Lookup, found, nothing, Seen, pass, hit, probe, lookup, lookupHash, searchTable, see, seeEntry}
+use Rattle.reader.specs.Lookup.{Lookup, found, nothing, Seen, pass, hit, probe, lookup}
 use Rattle.answers.specs.Answer.{foundId, nameGiven, ofName, ofId}
 use Rattle.answers.proofs.Searched.{look}
 use Rattle.answers.proofs.Images.{name-gives, id-gives, ids-fit}
@@ -78,8 +75,3 @@ id-9 = id-gives twice fits 9
 id-7 : nameGiven (image Twoway twice) 7 ≡ none
 unfolding ofId keep
 id-7 = id-gives twice fits 7
-
--- and the search itself, with the real hash
-A-computed : lookup (image Twoway twice) A ≡ foundAs 5 1
-unfolding lookup lookupHash searchTable probe see seeEntry word image headWords le32 tableRows tableRow tableOffset cat range placed ofTable keep entriesBefore tables tableBytes table filled insertAll insert firstEmpty order bucketBytes entryBytes entriesSize backSize links link placedOfId lastFrom backOffset same hashOf
-A-computed = refl

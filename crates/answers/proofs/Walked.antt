@@ -11,6 +11,7 @@ use lib.ListN.{length, take, drop}
 use Rattle.image.specs.Image.{Entry, backSizeOf, backOffset, entriesEnd, imageSize, image}
 use Rattle.image.specs.declared.Mode.{Mode}
 use Rattle.reader.specs.Lookup.{Lookup, found, nothing, lookup}
+use Rattle.reader.specs.Slices.{Slice}
 use Rattle.reader.specs.Naming.{Naming, place, unnamed, partOr, nameOr, naming}
 use Rattle.reader.specs.Walk.{stepOf, step, upperHint, finds, homeBy, home}
 use Rattle.answers.specs.Answer.{foundId, heldAt, nameGiven, stepGiven, ofName, firstId, isId, homeNamed}
@@ -19,12 +20,13 @@ use Rattle.answers.proofs.Opened.{backSizeAt-image, backOffsetAt-image,
 -- ---- in any bytes, by what an id gives
 
 module _ (img : List ℕ) (id : ℕ) where
-  part-held : (other : List ℕ) (p : Naming) → partOr img other p ≡ Option·getD (heldAt img p) other
-  part-held other (place s n) = refl
-  part-held other unnamed = refl
+  part-held : (at : ℕ × ℕ) (other : Slice) (p : Naming) → partOr (record { at = at; bytes = img }) other p .bytes ≡ Option·getD (heldAt img p) (other .bytes)
+  part-held at other (place s n) = refl
+  part-held at other unnamed = refl
 
-  pub part-given : (other : List ℕ) (given : Option (List ℕ)) → nameGiven img id ≡ given → nameOr img id other ≡ Option·getD given other
-  part-given other given h = part-held other (naming img id) ∙ ap (λ (g : Option (List ℕ)). Option·getD g other) h
+  pub part-given : (at : ℕ × ℕ) (other : Slice) (given : Option (List ℕ)) → nameGiven img id ≡ given
+      → nameOr (record { at = at; bytes = img }) id other .bytes ≡ Option·getD given (other .bytes)
+  part-given at other given h = part-held at other (naming img id) ∙ ap (λ (g : Option (List ℕ)). Option·getD g (other .bytes)) h
 
   step-held : (p : Naming) → stepGiven img (stepOf id p) ≡ Option·map (λ (name : List ℕ). record { name = name; id = id }) (heldAt img p)
   step-held (place s n) = refl

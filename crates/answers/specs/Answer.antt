@@ -3,12 +3,12 @@ use Prim.Native.Nat.{ℕ}
 use mathlib.Core.Bool.{Bool, false}
 use mathlib.Core.List.{List, [], _∷_}
 use mathlib.Core.Option.{Option, none, some}
-use lib.ListN.{length, take, drop}
+use lib.ListN.{take, drop}
 use lib.Dec.{eqb}
 use Rattle.jhash.specs.NameHash.{hashOf}
 use Rattle.image.specs.Bytes.{keep, same}
 use Rattle.image.specs.Tables.{tableOf}
-use Rattle.image.specs.Image.{Entry}
+use Rattle.image.specs.Image.{Entry, headSize, placed, count, hasId}
 use Rattle.reader.specs.Lookup.{Lookup, found, nothing}
 use Rattle.reader.specs.Naming.{Naming, place, unnamed, naming}
 use Rattle.reader.specs.Walk.{Step, item, done}
@@ -31,25 +31,19 @@ abbrev pub stepGiven : List ℕ → Step → Option Entry
 stepGiven image (item id s n next) = some (record { name = take n (drop s image); id = id })
 stepGiven image done = none
 
--- the entries of a name, of an id and of a name's table, in put order
+-- the entries of a name and of an id, in put order
 abbrev pub hasName : List ℕ → Entry → Bool
 hasName name e = same (e .name) name
 
 unfoldable pub ofName : List ℕ → List Entry → List Entry
 ofName name es = keep (hasName name) es
 
-abbrev pub hasId : ℕ → Entry → Bool
-hasId id e = eqb (e .id) id
-
 unfoldable pub ofId : ℕ → List Entry → List Entry
 ofId id es = keep (hasId id) es
 
 -- a name's table has those entries whose name hash modulo 256 is that of the name
-abbrev pub sharesTable : List ℕ → Entry → Bool
-sharesTable name e = eqb (tableOf (hashOf (e .name))) (tableOf (hashOf name))
-
 unfoldable pub tablePuts : List ℕ → List Entry → ℕ
-tablePuts name es = length (keep (sharesTable name) es)
+tablePuts name es = count (tableOf (hashOf name)) (placed headSize es)
 
 -- the id of the first, and the name of the last of a list of entries; none of an empty one
 abbrev pub firstId : List Entry → Option ℕ

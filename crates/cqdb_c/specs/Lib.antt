@@ -1,5 +1,5 @@
 -- What the exported functions answer.
 pub mod Hash
-pub mod Reading
+pub mod ReadAnswers
 pub mod Record
 pub mod Writing

@@ -3,7 +3,7 @@ use reader::Iter;
 use reader::Named;
 ghost use mathlib.Core.Path.{_≡_};
 ghost use Rattle.reader.specs.Walk.{upperHint};
-ghost use Rattle.cqdb_c.specs.Reading.{placeAnswer, homeAnswer};
+ghost use Rattle.cqdb_c.specs.ReadAnswers.{placeAnswer, homeAnswer};
 
 // 1 and the place of the name in the image, its length and its first byte's offset; or three zeros. The length is below
 // 2^32, since it is an entry's length word minus 1; the offset may lie above. So the answer has 16 bytes, which C hands back

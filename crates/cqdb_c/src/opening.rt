@@ -1,7 +1,7 @@
 // Opening an image, for C.
 use reader::Opened;
 ghost use mathlib.Core.Path.{_≡_};
-ghost use Rattle.cqdb_c.specs.Reading.{openAnswer};
+ghost use Rattle.cqdb_c.specs.ReadAnswers.{openAnswer};
 
 // The refusal's number, 0 when accepted; the number of associations, 0 when refused.
 #[repr(C)]

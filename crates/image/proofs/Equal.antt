@@ -40,11 +40,16 @@ module _ (a b : List ℕ) (i j : ℕ) (e : i + 1 ≡ j) (p : i < length a) (q : 
   pub equal-byte : getD a i 0 ≡ getD b i 0 → same (drop j a) (drop j b) ≡ same (drop i a) (drop i b)
   equal-byte h = sym (same-byte ∙ ap (λ (t : Bool). t && same (drop j a) (drop j b)) (eq-eqb (getD a i 0) (getD b i 0) h))
 
--- the four bytes of a word
-bytes-of : (s : List ℕ) (i : ℕ) → Bytes s → le32 (word s i) ≡ getD s i 0 ∷ getD s (i + 1) 0 ∷ getD s (i + 2) 0 ∷ getD s (i + 3) 0 ∷ []
+-- byte k of s, counted from i, and the four bytes of a word
+abbrev byte : List ℕ → ℕ → ℕ → ℕ
+byte s i k = getD s (i + k) 0
+
+of-bytes : (s : List ℕ) (i : ℕ) → getD s i 0 + byte s i 1 * 256 + byte s i 2 * 65536 + byte s i 3 * 16777216 ≡ word s i
+of-bytes s i = word-of s i (getD s i 0) (byte s i 1) (byte s i 2) (byte s i 3) refl refl refl refl
+
+bytes-of : (s : List ℕ) (i : ℕ) → Bytes s → le32 (word s i) ≡ getD s i 0 ∷ byte s i 1 ∷ byte s i 2 ∷ byte s i 3 ∷ []
 bytes-of s i h =
-    ap le32 (sym (word-of s i (getD s i 0) (getD s (i + 1) 0) (getD s (i + 2) 0) (getD s (i + 3) 0) refl refl refl refl))
-    ∙ le32-bytes (getD s i 0) (getD s (i + 1) 0) (getD s (i + 2) 0) (getD s (i + 3) 0) (h i) (h (i + 1)) (h (i + 2)) (h (i + 3))
+    ap le32 (sym (of-bytes s i)) ∙ le32-bytes (getD s i 0) (byte s i 1) (byte s i 2) (byte s i 3) (h i) (h (i + 1)) (h (i + 2)) (h (i + 3))
 
 -- a test that fails in one of four parts
 and-four : (p q r s t : Bool) → (p ≡ true → q ≡ true → r ≡ true → s ≡ true → ⊥) → p && (q && (r && (s && t))) ≡ false
@@ -55,34 +60,39 @@ and-four true true true false t h = refl
 and-four true true true true t h = absurd (h refl refl refl refl)
 
 module _ (a b : List ℕ) (i : ℕ) (p : i + 4 ≤ length a) (q : i + 4 ≤ length b) where
-  four : same (drop i a) (drop i b) ≡ eqb (getD a i 0) (getD b i 0)
-      && (eqb (getD a (i + 1) 0) (getD b (i + 1) 0)
-      && (eqb (getD a (i + 2) 0) (getD b (i + 2) 0)
-      && (eqb (getD a (i + 3) 0) (getD b (i + 3) 0) && same (drop (i + 4) a) (drop (i + 4) b))))
+  -- is byte k the same?
+  abbrev same-at : ℕ → Bool
+  same-at k = eqb (byte a i k) (byte b i k)
+
+  abbrev rest : Bool
+  rest = same (drop (i + 4) a) (drop (i + 4) b)
+
+  four : same (drop i a) (drop i b) ≡ eqb (getD a i 0) (getD b i 0) && (same-at 1 && (same-at 2 && (same-at 3 && rest)))
   four =
       same-byte a b i (i + 1) refl (omega arith) (omega arith)
       ∙ ap (λ (t : Bool). eqb (getD a i 0) (getD b i 0) && t)
       (same-byte a b (i + 1) (i + 2) (omega arith) (omega arith) (omega arith)
-      ∙ ap (λ (t : Bool). eqb (getD a (i + 1) 0) (getD b (i + 1) 0) && t)
+      ∙ ap (λ (t : Bool). same-at 1 && t)
       (same-byte a b (i + 2) (i + 3) (omega arith) (omega arith) (omega arith)
-      ∙ ap (λ (t : Bool). eqb (getD a (i + 2) 0) (getD b (i + 2) 0) && t)
+      ∙ ap (λ (t : Bool). same-at 2 && t)
       (same-byte a b (i + 3) (i + 4) (omega arith) (omega arith) (omega arith))))
 
   -- another word
   pub other-word : (word a i ≡ word b i → ⊥) → same (drop i a) (drop i b) ≡ false
-  other-word h =
-      four
-      ∙ and-four (eqb (getD a i 0) (getD b i 0)) (eqb (getD a (i + 1) 0) (getD b (i + 1) 0)) (eqb (getD a (i + 2) 0) (getD b (i + 2) 0)) (eqb (getD a (i + 3) 0) (getD b (i + 3) 0)) (same (drop (i + 4) a) (drop (i + 4) b))
-      (λ d0 d1 d2 d3. h
-      (sym (word-of a i (getD b i 0) (getD b (i + 1) 0) (getD b (i + 2) 0) (getD b (i + 3) 0) (sym (eqb-true (getD a i 0) (getD b i 0) d0)) (sym (eqb-true (getD a (i + 1) 0) (getD b (i + 1) 0) d1)) (sym (eqb-true (getD a (i + 2) 0) (getD b (i + 2) 0) d2)) (sym (eqb-true (getD a (i + 3) 0) (getD b (i + 3) 0) d3)))
-      ∙ word-of b i (getD b i 0) (getD b (i + 1) 0) (getD b (i + 2) 0) (getD b (i + 3) 0) refl refl refl refl))
+  other-word h = four ∙ and-four (eqb (getD a i 0) (getD b i 0)) (same-at 1) (same-at 2) (same-at 3) rest (λ d0 d1 d2 d3. h (alike d0 d1 d2 d3))
+    where
+      alike : eqb (getD a i 0) (getD b i 0) ≡ true → same-at 1 ≡ true → same-at 2 ≡ true → same-at 3 ≡ true → word a i ≡ word b i
+      alike d0 d1 d2 d3 =
+          sym
+          (word-of a i (getD b i 0) (byte b i 1) (byte b i 2) (byte b i 3) (sym (eqb-true (getD a i 0) (getD b i 0) d0))
+          (sym (eqb-true (byte a i 1) (byte b i 1) d1)) (sym (eqb-true (byte a i 2) (byte b i 2) d2)) (sym (eqb-true (byte a i 3) (byte b i 3) d3)))
+          ∙ of-bytes b i
 
   -- the same word
-  pub same-word : Bytes a → Bytes b → word a i ≡ word b i → same (drop i a) (drop i b) ≡ same (drop (i + 4) a) (drop (i + 4) b)
+  pub same-word : Bytes a → Bytes b → word a i ≡ word b i → same (drop i a) (drop i b) ≡ rest
   same-word ha hb e =
       let l = sym (bytes-of a i ha) ∙ ap le32 e ∙ bytes-of b i hb in
-      four
-      ∙ all (getD a i 0) (getD a (i + 1) 0) (getD a (i + 2) 0) (getD a (i + 3) 0) (getD b i 0) (getD b (i + 1) 0) (getD b (i + 2) 0) (getD b (i + 3) 0) (same (drop (i + 4) a) (drop (i + 4) b)) l
+      four ∙ all (getD a i 0) (byte a i 1) (byte a i 2) (byte a i 3) (getD b i 0) (byte b i 1) (byte b i 2) (byte b i 3) rest l
     where
       all : (a0 a1 a2 a3 b0 b1 b2 b3 : ℕ) (t : Bool) → _≡_ {A = List ℕ} (a0 ∷ a1 ∷ a2 ∷ a3 ∷ []) (b0 ∷ b1 ∷ b2 ∷ b3 ∷ [])
           → eqb a0 b0 && (eqb a1 b1 && (eqb a2 b2 && (eqb a3 b3 && t))) ≡ t

@@ -9,10 +9,6 @@ use lib.ListN.{length, getD, length-append}
 use Rattle.image.specs.Bytes.{cat, keep, range, same}
 
 module _ {A : Type 0} (f : A → List ℕ) where
-  pub cat-nil : cat f [] ≡ []
-  unfolding cat
-  cat-nil = refl
-
   pub cat-cons : (x : A) (xs : List A) → cat f (x ∷ xs) ≡ f x ++ cat f xs
   unfolding cat
   cat-cons x xs = refl

@@ -49,12 +49,13 @@ pub unbroken : (image : List ℕ) (at : ℕ) → broken image at ≡ false → U
 unbroken image at e =
     let short = ltb (length image) (at + 8) in
     let none = eqb (word image (at + 4)) 0 in
-    let first = neither-first (short || none) (ltb (length image) (at + 8 + (word image (at + 4) - 1))) e in
+    let end = at + 8 + (word image (at + 4) - 1) in
+    let first = neither-first (short || none) (ltb (length image) end) e in
     let z = eqb-false (word image (at + 4)) 0 (neither-second short none first) in
     record {
       head = ltb-false (length image) (at + 8) (neither-first short none first);
       long = positive (word image (at + 4)) z;
-      name = ltb-false (length image) (at + 8 + (word image (at + 4) - 1)) (neither-second (short || none) (ltb (length image) (at + 8 + (word image (at + 4) - 1))) e);
+      name = ltb-false (length image) end (neither-second (short || none) (ltb (length image) end) e);
     }
   where
     positive : (w : ℕ) → (w ≡ 0 → ⊥) → 1 ≤ w

@@ -36,3 +36,8 @@ same (x ∷ xs) (y ∷ ys) = eqb x y && same xs ys
 unfoldable pub all : (ℕ → Bool) → ℕ → ℕ → Bool
 all test t zero = true
 all test t (suc m) = test t && all test (suc t) m
+
+-- what holds of each of a list
+abbrev pub Each : {A : Type 0} → (A → Type 0) → List A → Type 0
+Each P [] = Unit {0}
+Each P (x ∷ xs) = P x × Each P xs

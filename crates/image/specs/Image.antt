@@ -82,12 +82,12 @@ unfoldable pub backSize : List Entry → ℕ
 backSize [] = 0
 backSize (e ∷ es) = max (e .id + 1) (backSize es)
 
--- the entries of an id, in put order
-abbrev pub hasId : ℕ → Placed → Bool
-hasId i p = eqb (p .entry .id) i
+-- the entries of an id, in put order, with their offsets
+abbrev pub hasId : ℕ → Entry → Bool
+hasId i e = eqb (e .id) i
 
-unfoldable pub ofId : ℕ → List Placed → List Placed
-ofId i ps = keep (hasId i) ps
+unfoldable pub placedOfId : ℕ → List Placed → List Placed
+placedOfId i ps = keep (λ (p : Placed). hasId i (p .entry)) ps
 
 -- the offset of the last entry of a list, or o without one
 unfoldable pub lastFrom : ℕ → List Placed → ℕ
@@ -96,7 +96,7 @@ lastFrom o (p ∷ ps) = lastFrom (p .at) ps
 
 -- the offset of an id's last entry, 0 if it has none
 unfoldable pub link : List Placed → ℕ → ℕ
-link ps i = lastFrom 0 (ofId i ps)
+link ps i = lastFrom 0 (placedOfId i ps)
 
 -- what depends on the mode: the flag word, and the back size, which is 0 in a one-way image
 abbrev pub flagWord : Mode → ℕ

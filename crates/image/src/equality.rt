@@ -3,7 +3,7 @@ ghost use mathlib.Core.Path.{_≡_};
 ghost use Prim.Native.Nat.{_+_, _*_, _≤_};
 ghost use lib.ListN.{length, drop};
 ghost use Rattle.image.specs.Bytes.{word, same};
-use jhash::bytes::word;
+use jhash::word::word;
 
 // The two words at `at` as one number, the second above the first. The compiler makes one load of it.
 fn word8(s: &[u8], at: usize) -> u64

@@ -6,8 +6,8 @@ ghost use lib.ListN.{length, set};
 ghost use lib.Seq.{sets};
 ghost use Rattle.image.specs.Bytes.{word, le32};
 ghost use Rattle.image.specs.Image.{flagWord};
-use jhash::bytes::word;
-use jhash::bytes::word_near_end;
+use jhash::word::word;
+use jhash::word::word_near_end;
 
 pub mod entries; // entries.rt: whole entries, and a walk over them
 pub mod equality; // equality.rt: same

@@ -2,7 +2,7 @@
 ghost use mathlib.Core.Path.{_≡_};
 ghost use Prim.Native.Nat.{_-_, _<_};
 ghost use Rattle.image.specs.Stored.{broken};
-use jhash::bytes::word;
+use jhash::word::word;
 
 // A length word minus 1; of 0 the largest number of all, more than any image has room for.
 fn less_one(len: u32) -> u64

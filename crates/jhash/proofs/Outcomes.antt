@@ -53,11 +53,6 @@ pub long-answer : (name : List ℕ) (start : ℕ) → 4294967295 ≤ length name
 unfolding hashOutcome
 long-answer name start h = simp (le-ltb (length name) 4294967295 h)
 
--- with the start value of images
-pub image-answer : (name : List ℕ) → length name < 4294967295 → hashOutcome name 0 ≡ value (hashOf name)
-unfolding hashOf
-image-answer name h = short-answer name 0 h
-
 -- ---- for a caller that matches on the answer `r` of `jhash`; `promise` is what `jhash` ensures
 
 -- the answer is a hash: it is that of the name, which is short enough

@@ -1,10 +1,12 @@
--- Values of the hash that the checker computes: those that lookup3.c itself publishes, and names with their zero byte
--- around the limits of a block. All values were also given by a C build of lookup3. Assumes nothing.
+-- Values of the hash that the checker computes: those that lookup3.c itself publishes, names with their zero byte around
+-- the limits of a block, and the names of examples in the crates above. All values were also given by a C build of
+-- lookup3. Assumes nothing.
 use mathlib.Core.Path.{_≡_, refl}
 use mathlib.Core.List.{List, [], _∷_, _++_, map}
 use Prim.Native.Nat.{ℕ}
 use lib.ListN.{take}
 use Rattle.jhash.specs.Lookup3.{hashlittle}
+use Rattle.jhash.specs.NameHash.{hashOf}
 
 -- bytes, start value and hash
 pub record Row : Type 0 where
@@ -56,3 +58,13 @@ rows =
 pub rows-hold : map (λ (r : Row). hashlittle (r .bytes) (r .start)) rows ≡ map (λ (r : Row). r .value) rows
 unfolding hashlittle rows row named fourScore letters
 rows-hold = refl
+
+-- ---- the hash of images, for the names of examples: the empty one and A
+
+pub hash-empty : hashOf [] ≡ 0x8ba9414b
+unfolding hashOf
+hash-empty = refl
+
+pub hash-A : hashOf (65 ∷ []) ≡ 0x89284101
+unfolding hashOf
+hash-A = refl

@@ -1,7 +1,7 @@
 -- A word that is read: past the end, from its bytes, and how large it is. Assumes nothing.
 use Prim.Native.Nat.{ℕ, _+_, _*_, _^_, _≤_, _<_}
 use native.Mathlib.Omega.{arith}
-use mathlib.Core.Path.{_≡_}
+use mathlib.Core.Path.{_≡_, ap}
 use mathlib.Core.List.{List}
 use lib.ListN.{length, getD, List·getD-eq-default}
 use Rattle.jhash.specs.Word.{word}
@@ -9,9 +9,13 @@ use Rattle.jhash.specs.Word.{word}
 -- past the end stand zeros
 pub word-past : (s : List ℕ) (o : ℕ) → length s ≤ o → word s o ≡ 0
 unfolding word
-word-past s o h =
-    omega
-    (arith, List·getD-eq-default s 0 {n = o} h, List·getD-eq-default s 0 {n = o + 1} (omega arith), List·getD-eq-default s 0 {n = o + 2} (omega arith), List·getD-eq-default s 0 {n = o + 3} (omega arith))
+word-past s o h = omega (arith, zero 0 (omega arith), zero 1 (omega arith), zero 2 (omega arith), zero 3 (omega arith), from)
+  where
+    zero : (k : ℕ) → length s ≤ o + k → getD s (o + k) 0 ≡ 0
+    zero k l = List·getD-eq-default s 0 {n = o + k} l
+
+    from : getD s (o + 0) 0 ≡ getD s o 0
+    from = let e : o + 0 ≡ o = omega arith in ap (λ (i : ℕ). getD s i 0) e
 
 -- a word from its four bytes
 pub word-of : (s : List ℕ) (o a b c d : ℕ) → a ≡ getD s o 0 → b ≡ getD s (o + 1) 0 → c ≡ getD s (o + 2) 0 → d ≡ getD s (o + 3) 0

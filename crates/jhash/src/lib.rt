@@ -7,10 +7,10 @@ ghost use lib.ListN.{length};
 ghost use Rattle.jhash.specs.Lookup3.{sub32, rotl32, plus, added, mix, finished, final, alike, initialWord, hashRest};
 ghost use Rattle.jhash.specs.steps.Rounds.{round, step};
 ghost use Rattle.jhash.specs.NameHash.{outcome, hashOutcome};
-use bytes::word;
-use bytes::word_near_end;
+use word::word;
+use word::word_near_end;
 
-pub mod bytes; // bytes.rt: words of a slice
+pub mod word; // word.rt: the little-endian words of a slice
 
 // lookup3's three words a, b, c.
 struct Words {

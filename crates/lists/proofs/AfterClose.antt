@@ -1,18 +1,26 @@
 -- Reading from a close to the next put. Assumes nothing.
 use Prim.Native.Nat.{ℕ, _≤_}
-use mathlib.Core.Path.{_≡_, sym, ap, ap₂, _∙_}
-use mathlib.Core.List.{List, [], _∷_, _++_}
-use lib.ListN.{length, take}
+use native.Mathlib.Omega.{arith}
+use mathlib.Core.Path.{_≡_, refl, sym, ap, ap₂, _∙_}
+use mathlib.Core.Bool.{Bool, true, false, cond}
+use mathlib.Core.List.{List, [], _∷_, _++_, append-nil}
+use lib.ListN.{length, take, length-append}
+use lib.Dec.{eqb}
 use Rattle.jhash.specs.Outcome.{Outcome, value}
+use Rattle.image.specs.declared.Mode.{Mode}
 use Rattle.image.specs.declared.Mode.the-variants.{Twoway}
-use Rattle.image.specs.Image.{headSize, image}
+use Rattle.image.specs.Image.{Entry, headSize, image}
 use Rattle.writer.specs.State.{State, fresh}
-use Rattle.writer.specs.Close.{closing, closedSize}
-use Rattle.lists.specs.Calls.{Call, close, after}
+use Rattle.writer.specs.Put.{afterPut}
+use Rattle.writer.specs.Close.{closing, closedSize, afterClose}
+use Rattle.lists.specs.Calls.{Call, put, close, after, acceptedOne, putDue, dueTo, acceptedFrom, accepted}
 use Rattle.lists.specs.Demand3.{afterList, acceptedPuts, imageOf}
 use Rattle.lists.specs.AfterClose.{Answered, AfterClose, CloseReadable}
-use Rattle.lists.proofs.Along.{two-way, after-append, accepted-closed, list-accepted}
-use Rattle.lists.proofs.OneMore.{list-gives}
+use Rattle.lists.proofs.Written.{Written}
+use Rattle.lists.proofs.Puts.{put-due}
+use Rattle.lists.proofs.Closes.{close-written}
+use Rattle.lists.proofs.Along.{two-way, after-append, accepted-after-close, list-accepted, list-written}
+use Rattle.lists.proofs.OneMore.{list-gives, list-twice}
 use Rattle.lists.proofs.Theorem.{calls-imaged, list-answered}
 
 value-same : {A : Type 0} {x y : A} → value x ≡ value y → x ≡ y
@@ -29,9 +37,10 @@ module _ (buffer : List ℕ) (cs : List Call) (size : ℕ) (room : headSize ≤ 
   bytes-are = ap₂ take size-is (ap (λ (s : State). s .buffer) (after-append (fresh Twoway buffer) cs (close ∷ [])))
 
   same-puts : acceptedPuts Twoway buffer (cs ++ (close ∷ [])) ≡ acceptedPuts Twoway buffer cs
+  unfolding acceptedFrom
   same-puts =
       list-accepted Twoway buffer room (cs ++ (close ∷ [])) (two-way (cs ++ (close ∷ [])))
-      ∙ accepted-closed Twoway (length buffer) cs
+      ∙ accepted-after-close Twoway (length buffer) cs []
       ∙ sym (list-accepted Twoway buffer room cs (two-way cs))
 
   after-close : AfterClose buffer cs size
@@ -42,5 +51,57 @@ module _ (buffer : List ℕ) (cs : List Call) (size : ℕ) (room : headSize ≤ 
         answered = rw bytes-are (list-answered buffer cs room);
       }
 
+-- ---- calls of which no put is accepted
+
+accepted-grows : (mode : Mode) (n : ℕ) (es : List Entry) (cs : List Call) → length es ≤ length (acceptedFrom mode n es cs)
+unfolding acceptedFrom
+accepted-grows mode n es [] = omega arith
+accepted-grows mode n es (c ∷ cs) =
+    let one = acceptedOne c (dueTo mode n es c) in
+    omega (arith, accepted-grows mode n (es ++ one) cs, length-append es one)
+
+-- they leave a closed state as it is
+module _ (mode : Mode) (n : ℕ) (es : List Entry) (s : State) (w : Written mode n es s) (closed : afterClose s ≡ s) where
+  none-changes : (cs : List Call) → acceptedFrom mode n es cs ≡ es → after s cs ≡ s
+  unfolding after acceptedFrom afterPut
+  none-changes [] h = refl
+  none-changes (close ∷ cs) h =
+      let same : es ++ [] ≡ es = append-nil es in
+      ap (λ (x : State). after x cs) closed ∙ none-changes cs (ap (λ (l : List Entry). acceptedFrom mode n l cs) (sym same) ∙ h)
+  none-changes (put e ∷ cs) h = go (eqb (putDue mode n es e) 0) refl h (none-changes cs)
+    where
+      go : (b : Bool) → eqb (putDue mode n es e) 0 ≡ b → acceptedFrom mode n (es ++ cond b (e ∷ []) []) cs ≡ es
+          → (acceptedFrom mode n es cs ≡ es → after s cs ≡ s) → after (afterPut s e) cs ≡ s
+      go true d k rest =
+          absurd (omega (arith, accepted-grows mode n (es ++ (e ∷ [])) cs, length-append es (e ∷ []), ap length k))
+      go false d k rest = rw (put-due mode n es s w e, d) (rest (rw (append-nil es) at k))
+
+module _ (buffer : List ℕ) (cs more : List Call) (room : headSize ≤ length buffer) where
+  -- record and buffer after the close
+  there : State
+  there = afterClose (afterList Twoway buffer cs)
+
+  there-written : Written Twoway (length buffer) (accepted Twoway (length buffer) cs) there
+  unfolding there
+  there-written =
+      close-written Twoway (length buffer) (accepted Twoway (length buffer) cs) (afterList Twoway buffer cs) (list-written Twoway buffer room cs (two-way cs))
+
+  no-more : acceptedPuts Twoway buffer (cs ++ (close ∷ more)) ≡ acceptedPuts Twoway buffer cs
+      → acceptedFrom Twoway (length buffer) (accepted Twoway (length buffer) cs) more ≡ accepted Twoway (length buffer) cs
+  no-more h =
+      sym (accepted-after-close Twoway (length buffer) cs more)
+      ∙ sym (list-accepted Twoway buffer room (cs ++ (close ∷ more)) (two-way (cs ++ (close ∷ more))))
+      ∙ h
+      ∙ list-accepted Twoway buffer room cs (two-way cs)
+
+  kept : acceptedPuts Twoway buffer (cs ++ (close ∷ more)) ≡ acceptedPuts Twoway buffer cs
+      → afterList Twoway buffer (cs ++ (close ∷ more)) ≡ afterList Twoway buffer (cs ++ (close ∷ []))
+  unfolding after there
+  kept h =
+      after-append (fresh Twoway buffer) cs (close ∷ more)
+      ∙ none-changes Twoway (length buffer) (accepted Twoway (length buffer) cs) there there-written (list-twice Twoway buffer room cs (two-way cs)) more (no-more h)
+      ∙ sym (after-append (fresh Twoway buffer) cs (close ∷ []))
+
 pub close-readable : CloseReadable
-close-readable = record { after-close = after-close; repaired = λ buffer cs more. after-close buffer (cs ++ (close ∷ more)) }
+close-readable =
+    record { after-close = after-close; kept = kept; repaired = λ buffer cs more. after-close buffer (cs ++ (close ∷ more)) }

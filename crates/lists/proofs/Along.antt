@@ -57,9 +57,11 @@ accepted-append mode n es [] ds = refl
 accepted-append mode n es (c ∷ cs) ds = accepted-append mode n (acceptedAfter mode n es c) cs ds
 
 -- a close accepts no put
-pub accepted-closed : (mode : Mode) (n : ℕ) (cs : List Call) → accepted mode n (cs ++ (close ∷ [])) ≡ accepted mode n cs
+pub accepted-after-close : (mode : Mode) (n : ℕ) (cs ds : List Call) → accepted mode n (cs ++ (close ∷ ds)) ≡ acceptedFrom mode n (accepted mode n cs) ds
 unfolding accepted acceptedFrom
-accepted-closed mode n cs = accepted-append mode n [] cs (close ∷ []) ∙ append-nil (acceptedFrom mode n [] cs)
+accepted-after-close mode n cs ds =
+    accepted-append mode n [] cs (close ∷ ds)
+    ∙ ap (λ (l : List Entry). acceptedFrom mode n l ds) (append-nil (acceptedFrom mode n [] cs))
 
 -- ---- what is due
 

@@ -11,9 +11,9 @@ use borrow.Author.Tests.{ne-eqb}
 use Rattle.jhash.specs.Outcome.{value}
 use Rattle.image.specs.declared.Mode.{Mode}
 use Rattle.image.specs.Bytes.{word, keep, range, same}
-use Rattle.image.specs.Image.{Entry, headSize, entrySize, entriesSize, placed, hasId, ofId, lastFrom, link, backSize, backSizeOf, backOffset, imageSize, image}
+use Rattle.image.specs.Image.{Entry, Placed, headSize, entrySize, entriesSize, placed, hasId, placedOfId, lastFrom, link, backSize, backSizeOf, backOffset, imageSize, image}
 use Rattle.image.specs.Head.{backOffsetAt}
-use Rattle.answers.specs.Answer.{ofName, firstId, homeNamed, ofId as entriesOfId}
+use Rattle.answers.specs.Answer.{ofName, firstId, homeNamed, ofId}
 use Rattle.image.proofs.At.{at-word}
 use Rattle.image.proofs.Parts.{link-at}
 use Rattle.answers.proofs.Opened.{backSizeAt-image, backOffsetAt-image}
@@ -37,20 +37,27 @@ map-range f g s zero h = refl
 map-range f g s (suc n) h =
     ap₂ {C = List ℕ} (λ (x : ℕ) (xs : List ℕ). x ∷ xs) (h s (omega arith)) (map-range f g (suc s) n (λ i p. h i (omega arith)))
 
-last-small : (i k d o : ℕ) (es : List Entry) → d < k → o + entriesSize es < k → lastFrom d (keep (hasId i) (placed o es)) < k
-unfolding lastFrom keep placed entriesSize
-last-small i k d o [] h room = h
-last-small i k d o (e ∷ es) h room =
-    go (eqb (e .id) i) (last-small i k d (o + entrySize e) es h (omega arith)) (last-small i k o (o + entrySize e) es (omega arith) (omega arith))
-  where
-    go : (b : Bool) → lastFrom d (keep (hasId i) (placed (o + entrySize e) es)) < k → lastFrom o (keep (hasId i) (placed (o + entrySize e) es)) < k
-        → lastFrom d (cond b (record { entry = e; at = o } ∷ keep (hasId i) (placed (o + entrySize e) es)) (keep (hasId i) (placed (o + entrySize e) es))) < k
-    go true p q = q
-    go false p q = p
+-- the links of the entries from o on, in offsets below k
+module _ (i k : ℕ) where
+  ofIt : ℕ → List Entry → List Placed
+  ofIt o es = keep (λ (p : Placed). hasId i (p .entry)) (placed o es)
+
+  last-small : (d o : ℕ) (es : List Entry) → d < k → o + entriesSize es < k → lastFrom d (ofIt o es) < k
+  unfolding ofIt lastFrom keep placed entriesSize
+  last-small d o [] h room = h
+  last-small d o (e ∷ es) h room =
+      go (eqb (e .id) i) (last-small d (o + entrySize e) es h (omega arith)) (last-small o (o + entrySize e) es (omega arith) (omega arith))
+    where
+      rest : List Placed
+      rest = ofIt (o + entrySize e) es
+
+      go : (b : Bool) → lastFrom d rest < k → lastFrom o rest < k → lastFrom d (cond b (record { entry = e; at = o } ∷ rest) rest) < k
+      go true p q = q
+      go false p q = p
 
 module _ (mode : Mode) (es : List Entry) (small : imageSize mode es ≤ 4294967295) where
   link-small : (i : ℕ) → link (placed headSize es) i < 2 ^ 32
-  unfolding link ofId
+  unfolding link placedOfId ofIt
   link-small i = last-small i (2 ^ 32) 0 headSize es (omega arith) (omega arith)
 
   link-word : (i : ℕ) → i < backSizeOf mode es → word (image mode es) (backOffset mode es + 4 * i) ≡ link (placed headSize es) i
@@ -112,7 +119,7 @@ module _ (r : Row) (c : Computed r) where
 -- ---- the rows
 
 computed : Each Computed rows
-unfolding accepted acceptedFrom due dueFrom putDue sizeOf putsSize backSize entriesSize backOffset placed ofId keep link lastFrom range ofName entriesOfId same
+unfolding accepted acceptedFrom due dueFrom putDue sizeOf putsSize backSize entriesSize backOffset placed placedOfId ofId keep link lastFrom range ofName same
 computed = (
   (lit≤ tt, tt, refl, refl, refl, refl, refl, (refl, tt), ((refl, refl), tt)),
   (

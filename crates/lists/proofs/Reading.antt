@@ -64,7 +64,7 @@ two-way-answered es small =
     record {
       names = read .names;
       ids = record { id-gives = id-gives es small; id-nothing = id-nothing es small };
-      part-given = λ id other. part-given (image Twoway es) id other (lastName (ofId id es)) (id-gives es small id);
+      part-given = λ at id other. part-given (image Twoway es) id at other (lastName (ofId id es)) (id-gives es small id);
       walked = λ id. step-given (image Twoway es) id (lastName (ofId id es)) (id-gives es small id);
       hinted = hint-image Twoway es small;
       homes = read .id-home;

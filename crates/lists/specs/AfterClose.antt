@@ -9,6 +9,7 @@ use lib.ListN.{length, take}
 use Rattle.jhash.specs.Outcome.{value}
 use Rattle.image.specs.declared.Mode.the-variants.{Twoway}
 use Rattle.image.specs.Image.{Entry, headSize, backSize, image}
+use Rattle.reader.specs.Slices.{Slice}
 use Rattle.reader.specs.Naming.{nameOr}
 use Rattle.reader.specs.Walk.{step, upperHint, home}
 use Rattle.answers.specs.Answer.{stepGiven, ofId, lastName, homeIn}
@@ -25,7 +26,8 @@ pub record Answered (es : List Entry) (img : List ℕ) : Type 0 where
   pub names : NamesAnswered es img
   pub ids : IdsAnswered es img
   -- name_or, and name, where the caller's own bytes are none: the bytes of the id's name, or the caller's own
-  pub part-given : (id : ℕ) (other : List ℕ) → nameOr img id other ≡ Option·getD (lastName (ofId id es)) other
+  pub part-given : (at : ℕ × ℕ) (id : ℕ) (other : Slice)
+      → nameOr (record { at = at; bytes = img }) id other .bytes ≡ Option·getD (lastName (ofId id es)) (other .bytes)
   -- next: a walk that stands before an id gives it and its name, and ends where it has none
   pub walked : (id : ℕ) → stepGiven img (step img id) ≡ Option·map (λ (name : List ℕ). entryOf name id) (lastName (ofId id es))
   -- size_hint: back size minus the next id
@@ -47,6 +49,10 @@ pub record AfterClose (buffer : List ℕ) (cs : List Call) (size : ℕ) : Type 0
 pub record CloseReadable : Type 0 where
   pub after-close : (buffer : List ℕ) (cs : List Call) (size : ℕ) → headSize ≤ length buffer → closing (afterList Twoway buffer cs) ≡ value size
       → AfterClose buffer cs size
+  -- calls of which no put is accepted, so refused puts and further closes, change neither record nor buffer
+  pub kept : (buffer : List ℕ) (cs more : List Call) → headSize ≤ length buffer
+      → acceptedPuts Twoway buffer (cs ++ (close ∷ more)) ≡ acceptedPuts Twoway buffer cs
+      → afterList Twoway buffer (cs ++ (close ∷ more)) ≡ afterList Twoway buffer (cs ++ (close ∷ []))
   -- whatever calls follow it, a put above all: one more close repairs everything, and the answers are by the accepted puts until then
   pub repaired : (buffer : List ℕ) (cs more : List Call) (size : ℕ) → headSize ≤ length buffer
       → closing (afterList Twoway buffer (cs ++ (close ∷ more))) ≡ value size → AfterClose buffer (cs ++ (close ∷ more)) size

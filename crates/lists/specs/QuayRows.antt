@@ -9,6 +9,7 @@ use Rattle.jhash.specs.Outcome.{value}
 use Rattle.image.specs.declared.Mode.{Mode}
 use Rattle.image.specs.declared.Mode.the-variants.{Twoway, Oneway}
 use Rattle.image.specs.Bytes.{word, range}
+pub use Rattle.image.specs.Bytes.{Each}
 use Rattle.image.specs.Head.{backSizeAt, backOffsetAt}
 use Rattle.reader.specs.Open.{opening}
 use Rattle.reader.specs.Lookup.{lookup}
@@ -42,10 +43,6 @@ pub record Row : Type 0 where
   pub names : List NameRow
   pub ids : List IdRow
 
--- each of a list
-abbrev pub Each : {A : Type 0} → (A → Type 0) → List A → Type 0
-Each P [] = Unit {0}
-Each P (x ∷ xs) = P x × Each P xs
 
 -- the words of an image's back array
 abbrev pub backArray : List ℕ → List ℕ

@@ -1,2 +1,2 @@
 -- What the exported lookup answers.
-pub mod Lookup
+pub mod IdAnswers

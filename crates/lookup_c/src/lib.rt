@@ -2,7 +2,7 @@
 // hashes, the compiler would keep search and hash as functions of their own.
 use reader::ToId;
 ghost use mathlib.Core.Path.{_≡_};
-ghost use Rattle.lookup_c.specs.Lookup.{idAnswer};
+ghost use Rattle.lookup_c.specs.IdAnswers.{idAnswer};
 
 // 1 and the id when the name was found, 0 and 0 when not; and the number of buckets that the search reads.
 #[repr(C)]

@@ -5,14 +5,13 @@ use native.Mathlib.Nat.{mod-lt}
 use mathlib.Core.Path.{_≡_, refl, ap}
 use mathlib.Core.Bool.{Bool, true, false, cond, _||_}
 use mathlib.Core.List.{List, [], _∷_}
-use borrow.Author.Tests.{ltb-false}
-use lib.Dec.{eqb, ltb, leb}
+use lib.Dec.{ltb, leb}
 use lib.ListN.{length, getD}
 use Rattle.jhash.specs.NameHash.{hashOf}
 use Rattle.image.specs.Tables.{tableOf, start, next, order}
 use Rattle.image.proofs.Bools.{not-both}
-use Rattle.image.specs.Head.{tableAt, bucketNumber, tableLeaves}
-use Rattle.reader.specs.Lookup.{Lookup, nothing, Seen, pass, ends, hit, see, decide, probe, searchTable, lookupHash, lookup}
+use Rattle.image.specs.Head.{tableAt, bucketNumber}
+use Rattle.reader.specs.Lookup.{Lookup, nothing, Seen, pass, ends, hit, see, decide, probe, searchTable, unsearched, lookupHash, lookup}
 use Rattle.reader.specs.Cases.{reads}
 
 -- ---- how many buckets are read
@@ -43,7 +42,7 @@ unfolding lookup lookupHash
 lookup-reads image name =
     either (ltb (length image) 2072) (cond (leb 4294967295 (length name)) (nothing 0) (lookupHash image name (hashOf name)))
     (either (leb 4294967295 (length name)) (lookupHash image name (hashOf name))
-    (either (eqb (tableAt image t) 0 || eqb (bucketNumber image t) 0 || tableLeaves image t) (searchTable image name (hashOf name) (tableAt image t) (bucketNumber image t))
+    (either (unsearched image t) (searchTable image name (hashOf name) (tableAt image t) (bucketNumber image t))
     (search-reads image name (hashOf name) (tableAt image t) (bucketNumber image t))))
   where
     t : ℕ
@@ -55,12 +54,12 @@ lookup-reads image name =
 
 -- no bucket is read: an image under 2,072 bytes, a name of 4,294,967,295 bytes or more, a table with offset 0, bucket number 0 or an end past the image
 pub lookup-unsearched : (image name : List ℕ)
-    → (ltb (length image) 2072 || leb 4294967295 (length name) || (eqb (tableAt image (tableOf (hashOf name))) 0 || eqb (bucketNumber image (tableOf (hashOf name))) 0 || tableLeaves image (tableOf (hashOf name)))) ≡ true
+    → (ltb (length image) 2072 || leb 4294967295 (length name) || unsearched image (tableOf (hashOf name))) ≡ true
     → lookup image name ≡ nothing 0
 unfolding lookup lookupHash
 lookup-unsearched image name e =
     either (ltb (length image) 2072) (leb 4294967295 (length name))
-    (eqb (tableAt image t) 0 || eqb (bucketNumber image t) 0 || tableLeaves image t)
+    (unsearched image t)
     (searchTable image name (hashOf name) (tableAt image t) (bucketNumber image t)) e
   where
     t : ℕ
@@ -90,10 +89,3 @@ bucket-inside image h o n i fits l =
   where
     inside : (k : ℕ) → k < n → o + 8 * k + 8 ≤ length image
     inside k b = omega arith
-
--- the same for the tables that a lookup searches
-pub table-inside : (image : List ℕ) (h i : ℕ) → tableLeaves image (tableOf h) ≡ false → i < bucketNumber image (tableOf h)
-    → tableAt image (tableOf h) + 8 * getD (order (bucketNumber image (tableOf h)) (bucketNumber image (tableOf h)) (start h (bucketNumber image (tableOf h)))) i 0 + 8 ≤ length image
-table-inside image h i e l =
-    bucket-inside image h (tableAt image (tableOf h)) (bucketNumber image (tableOf h)) i
-    (ltb-false (length image) (tableAt image (tableOf h) + 8 * bucketNumber image (tableOf h)) e) l

@@ -1,4 +1,4 @@
--- Laws of reading. `Bounds` and `Walks` say of the rules what users ask besides the answers; `Examples` has 01's rows about reading.
+-- Laws of reading. `Bounds` and `Walks` say of the rules what users ask besides the answers; `QuayReads` has 01's rows about reading.
 pub mod Reciprocal
 pub mod Opens
 pub mod Searches
@@ -7,4 +7,4 @@ pub mod Namings
 pub mod Panels
 pub mod Walks
 pub mod Bounds
-pub mod Examples
+pub mod QuayReads

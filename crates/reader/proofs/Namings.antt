@@ -37,18 +37,20 @@ link image id o at e f = f ∙ ap (λ (k : ℕ). word image (k + 4 * id)) e
 
 -- naming by its four tests, for an entry at `at`
 module _ (image : List ℕ) (id at : ℕ) where
-  naming-at : at ≡ word image (backOffsetAt image + 4 * id) → cond (noBack image) unnamed (cond (leb (backSizeAt image) id) unnamed (namingAt image at)) ≡ naming image id
+  naming-at : at ≡ word image (backOffsetAt image + 4 * id)
+      → cond (noBack image) unnamed (cond (leb (backSizeAt image) id) unnamed (namingAt image at)) ≡ naming image id
   unfolding naming
   naming-at e = ap (λ (k : ℕ). cond (noBack image) unnamed (cond (leb (backSizeAt image) id) unnamed (namingAt image k))) e
 
-  pub naming-by : (b l z x : Bool) → at ≡ word image (backOffsetAt image + 4 * id) → noBack image ≡ b → leb (backSizeAt image) id ≡ l → eqb at 0 ≡ z → broken image at ≡ x
+  pub naming-by : (b l z x : Bool) → at ≡ word image (backOffsetAt image + 4 * id)
+      → noBack image ≡ b → leb (backSizeAt image) id ≡ l → eqb at 0 ≡ z → broken image at ≡ x
       → cond b unnamed (cond l unnamed (cond (z || x) unnamed (place (at + 8) (word image (at + 4) - 1)))) ≡ naming image id
   unfolding namingAt
   naming-by b l z x e eb el ez ex =
       sym (λ i. cond (eb i) unnamed (cond (el i) unnamed (cond (ez i || ex i) unnamed (place (at + 8) (word image (at + 4) - 1))))) ∙ naming-at e
 
 -- a place is that of a name in the image, of an id below back size
-pub record Named (image : List ℕ) (id s n : ℕ) : Type 0 where
+pub record HasPlace (image : List ℕ) (id s n : ℕ) : Type 0 where
   pub array : noBack image ≡ false
   pub below : id < backSizeAt image
   pub inside : s + n ≤ length image
@@ -56,7 +58,7 @@ pub record Named (image : List ℕ) (id s n : ℕ) : Type 0 where
 pub never : {P : Type 0} (s n : ℕ) → unnamed ≡ place s n → P
 never s n e = let z : _≡_ {A = ℕ} 0 1 = cc in absurd (omega arith)
 
-pub named : (image : List ℕ) (id s n : ℕ) → naming image id ≡ place s n → Named image id s n
+pub named : (image : List ℕ) (id s n : ℕ) → naming image id ≡ place s n → HasPlace image id s n
 unfolding naming namingAt
 named image id s n e = backed (noBack image) refl e
   where
@@ -64,7 +66,7 @@ named image id s n e = backed (noBack image) refl e
     at = word image (backOffsetAt image + 4 * id)
 
     placed : (t : Bool) → (eqb at 0 || broken image at) ≡ t → noBack image ≡ false → id < backSizeAt image
-        → cond t unnamed (place (at + 8) (word image (at + 4) - 1)) ≡ place s n → Named image id s n
+        → cond t unnamed (place (at + 8) (word image (at + 4) - 1)) ≡ place s n → HasPlace image id s n
     placed true p a l e = never s n e
     placed false p a l e =
         let w = unbroken image at (neither-second (eqb at 0) (broken image at) p) in
@@ -72,11 +74,11 @@ named image id s n e = backed (noBack image) refl e
         let en : word image (at + 4) - 1 ≡ n = cc in
         record { array = a; below = l; inside = omega (arith, w .name) }
 
-    below : (t : Bool) → leb (backSizeAt image) id ≡ t → noBack image ≡ false → cond t unnamed (namingAt image at) ≡ place s n → Named image id s n
+    below : (t : Bool) → leb (backSizeAt image) id ≡ t → noBack image ≡ false → cond t unnamed (namingAt image at) ≡ place s n → HasPlace image id s n
     below true p a e = never s n e
     below false p a e = placed (eqb at 0 || broken image at) refl a (leb-false (backSizeAt image) id p) e
 
-    backed : (t : Bool) → noBack image ≡ t → cond t unnamed (cond (leb (backSizeAt image) id) unnamed (namingAt image at)) ≡ place s n → Named image id s n
+    backed : (t : Bool) → noBack image ≡ t → cond t unnamed (cond (leb (backSizeAt image) id) unnamed (namingAt image at)) ≡ place s n → HasPlace image id s n
     backed true p e = never s n e
     backed false p e = below (leb (backSizeAt image) id) refl p e
 

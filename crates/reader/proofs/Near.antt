@@ -31,8 +31,8 @@ two-buckets n k h l = elim (decLt (k + 1) n) [
 ]
 
 -- r counts from 1 to the first 0 of three numbers; 0 tells nothing
-abbrev pub First : ℕ → ℕ → ℕ → ℕ → Type 0
-First x y z r = (r < 4) × (r ≡ 1 → x ≡ 0) × (r ≡ 2 → (0 < x) × (y ≡ 0)) × (r ≡ 3 → (0 < x) × (0 < y) × (z ≡ 0))
+abbrev pub FirstZero : ℕ → ℕ → ℕ → ℕ → Type 0
+FirstZero x y z r = (r < 4) × (r ≡ 1 → x ≡ 0) × (r ≡ 2 → (0 < x) × (y ≡ 0)) × (r ≡ 3 → (0 < x) × (0 < y) × (z ≡ 0))
 
 module _ (image name : List ℕ) (h o n : ℕ) where
   -- the two words of bucket j
@@ -87,7 +87,7 @@ module _ (image name : List ℕ) (h o n : ℕ) where
 
     -- by the first offset that is 0, x, y, z being the three that the search meets, in the buckets k, i, j
     pub near : (i j x y z r : ℕ) → i ≡ next n k → j ≡ next n i → x ≡ offset k → y ≡ offset i → z ≡ offset j → (hash k ≡ h → ⊥) → (hash i ≡ h → ⊥)
-        → First x y z r → 0 < r → searchTable image name h o n ≡ nothing r
+        → FirstZero x y z r → 0 < r → searchTable image name h o n ≡ nothing r
     near i j x y z r ei ej ex ey ez d₀ d₁ = go r
       where
         second : offset (next n k) ≡ y
@@ -96,7 +96,7 @@ module _ (image name : List ℕ) (h o n : ℕ) where
         third : offset (next n (next n k)) ≡ z
         third = ap (λ (b : ℕ). offset (next n b)) (sym ei) ∙ ap offset (sym ej) ∙ sym ez
 
-        go : (r : ℕ) → First x y z r → 0 < r → searchTable image name h o n ≡ nothing r
+        go : (r : ℕ) → FirstZero x y z r → 0 < r → searchTable image name h o n ≡ nothing r
         go zero f p = absurd (omega arith)
         go (suc zero) f p = at-first (sym ex ∙ f .1 refl)
         go (suc (suc zero)) f p = let g = f .2 refl in at-second d₀ (omega (arith, g .0, ex)) (second ∙ g .1)

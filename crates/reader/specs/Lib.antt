@@ -7,3 +7,4 @@ pub mod Panel
 pub mod Walk
 pub mod WalkSteps
 pub mod Cases
+pub mod QuayReads

@@ -1,6 +1,6 @@
 -- Looking up a name: 01, "Looking up a name".
 use Prim.Native.Nat.{ℕ, _+_, _*_}
-use mathlib.Core.Bool.{cond, _||_}
+use mathlib.Core.Bool.{Bool, cond, _||_}
 use mathlib.Core.List.{List, [], _∷_}
 use lib.ListN.{length}
 use lib.Dec.{eqb, ltb, leb}
@@ -57,9 +57,12 @@ unfoldable pub searchTable : List ℕ → List ℕ → ℕ → ℕ → ℕ → L
 searchTable image name h o n = probe (λ (k : ℕ). see image name h (o + 8 * k)) (order n n (start h n)) 0
 
 -- nothing after 0 reads: a table with offset 0, bucket number 0 or an end past the image
+abbrev pub unsearched : List ℕ → ℕ → Bool
+unsearched image t = eqb (tableAt image t) 0 || eqb (bucketNumber image t) 0 || tableLeaves image t
+
 unfoldable pub lookupHash : List ℕ → List ℕ → ℕ → Lookup
 lookupHash image name h =
-    cond (eqb (tableAt image (tableOf h)) 0 || eqb (bucketNumber image (tableOf h)) 0 || tableLeaves image (tableOf h)) (nothing 0)
+    cond (unsearched image (tableOf h)) (nothing 0)
     (searchTable image name h (tableAt image (tableOf h)) (bucketNumber image (tableOf h)))
 
 -- an image under 2,072 bytes, a name of 4,294,967,295 bytes or more

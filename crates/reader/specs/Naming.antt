@@ -15,7 +15,7 @@ pub data Naming : Type 0 where
   place : ℕ → ℕ → Naming
   unnamed : Naming
 
--- has the image a back array that can be read?
+-- there is no back array that can be read: the image is under 2,072 bytes, back offset is 0, or the back array leaves the image
 abbrev pub noBack : List ℕ → Bool
 noBack image = ltb (length image) headSize || eqb (backOffsetAt image) 0 || backLeaves image
 
@@ -24,7 +24,7 @@ unfoldable pub namingAt : List ℕ → ℕ → Naming
 namingAt image at =
     cond (eqb at 0 || broken image at) unnamed (place (at + 8) (word image (at + 4) - 1))
 
--- nothing when the image is under 2,072 bytes, back offset is 0, the back array leaves the image, id ≥ back size
+-- nothing when no back array can be read, or id ≥ back size
 unfoldable pub naming : List ℕ → ℕ → Naming
 naming image id =
     cond (noBack image) unnamed

@@ -21,8 +21,7 @@ stepOf n unnamed = done
 unfoldable pub step : List ℕ → ℕ → Step
 step image n = stepOf n (naming image n)
 
--- the upper hint is back size minus the next id, at least 0, and 0 if the image is under 2,072 bytes, the back offset is 0 or the back array
--- leaves the image
+-- the upper hint is back size minus the next id, at least 0, and 0 if no back array can be read
 unfoldable pub upperHint : List ℕ → ℕ → ℕ
 upperHint image n = cond (noBack image) 0 (backSizeAt image - n)
 

@@ -15,7 +15,7 @@ use super::start::start;
 use image::equality::same;
 use image::stored::broken;
 use jhash::Hashed;
-use jhash::bytes::word;
+use jhash::word::word;
 
 // What a search for a name sees in the entry at `at`.
 fn see_entry(image: &[u8], name: &[u8], at: u32) -> Seen

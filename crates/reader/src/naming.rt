@@ -7,7 +7,7 @@ use super::HEAD_SIZE;
 use super::Named;
 use super::opening::back_leaves;
 use image::stored::broken;
-use jhash::bytes::word;
+use jhash::word::word;
 
 // Has the image no back array that can be read?
 pub(crate) fn no_back(image: &[u8]) -> bool

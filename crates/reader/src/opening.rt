@@ -9,7 +9,7 @@ ghost use Rattle.reader.specs.Open.{hasLetters, someLeaves, halves, open
 ghost use Rattle.reader.specs.Cases.{openedOf};
 use super::HEAD_SIZE;
 use super::Opened;
-use jhash::bytes::word;
+use jhash::word::word;
 
 // What the tables met so far tell: the halves of their bucket numbers, summed modulo 2^32, and their rooms joined bit by bit.
 struct Tables {

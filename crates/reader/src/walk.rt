@@ -9,7 +9,7 @@ use super::ToId;
 use super::lookup::to_id;
 use super::naming::no_back;
 use super::naming::to_str;
-use jhash::bytes::word;
+use jhash::word::word;
 
 // A walk that stands before id 0.
 pub fn iter() -> Iter

@@ -12,7 +12,7 @@ use borrow.Author.Tests.{eq-eqb, ne-eqb}
 use Rattle.jhash.specs.NameHash.{hashOf}
 use Rattle.image.specs.Bytes.{le32, cat, keep, range}
 use Rattle.image.specs.Tables.{empty, tableOf, start, next, order, firstEmpty, atOf, insert, filled}
-use Rattle.image.specs.Image.{Placed, inTable, ofTable, count, bucketOf, bucketBytes, entriesBefore, hasId, ofId, lastFrom, link, links}
+use Rattle.image.specs.Image.{Placed, inTable, ofTable, count, bucketOf, bucketBytes, entriesBefore, hasId, placedOfId, lastFrom, link, links}
 use Rattle.image.proofs.Words.{length-le32}
 use Rattle.image.proofs.Lists.{length-cat, keep-yes, keep-no, keep-append, length-range}
 use Rattle.image.proofs.Sizes.{ofTable-append, filled-more, length-bucketBytes}
@@ -116,21 +116,21 @@ last-more o [] p = refl
 last-more o (q ∷ ps) p = last-more (q .at) ps p
 
 module _ (rs : List Placed) (p : Placed) where
-  id-more : (i : ℕ) (k : List Placed) → ofId i (p ∷ []) ≡ k → ofId i (rs ++ p ∷ []) ≡ ofId i rs ++ k
-  unfolding ofId
-  id-more i k e = keep-append (hasId i) rs (p ∷ []) ∙ ap (λ (l : List Placed). ofId i rs ++ l) e
+  id-more : (i : ℕ) (k : List Placed) → placedOfId i (p ∷ []) ≡ k → placedOfId i (rs ++ p ∷ []) ≡ placedOfId i rs ++ k
+  unfolding placedOfId
+  id-more i k e = keep-append (λ (q : Placed). hasId i (q .entry)) rs (p ∷ []) ∙ ap (λ (l : List Placed). placedOfId i rs ++ l) e
 
   link-other : (i : ℕ) → (i ≡ p .entry .id → ⊥) → link rs i ≡ link (rs ++ p ∷ []) i
-  unfolding link ofId keep
+  unfolding link placedOfId keep
   link-other i h =
-      let no : hasId i p ≡ false = ne-eqb (p .entry .id) i (λ z. h (sym z)) in
-      sym (ap (lastFrom 0) (id-more i [] (keep-no (hasId i) p [] no) ∙ append-nil (ofId i rs)))
+      let no : hasId i (p .entry) ≡ false = ne-eqb (p .entry .id) i (λ z. h (sym z)) in
+      sym (ap (lastFrom 0) (id-more i [] (keep-no (λ (q : Placed). hasId i (q .entry)) p [] no) ∙ append-nil (placedOfId i rs)))
 
   link-own : link (rs ++ p ∷ []) (p .entry .id) ≡ p .at
-  unfolding link ofId keep
+  unfolding link placedOfId keep
   link-own =
       let i = p .entry .id in
-      ap (lastFrom 0) (id-more i (p ∷ []) (keep-yes (hasId i) p [] (eq-eqb i i refl))) ∙ last-more 0 (ofId i rs) p
+      ap (lastFrom 0) (id-more i (p ∷ []) (keep-yes (λ (q : Placed). hasId i (q .entry)) p [] (eq-eqb i i refl))) ∙ last-more 0 (placedOfId i rs) p
 
   pub links-more : (n : ℕ) → p .entry .id < n → sets (links rs n) (4 * p .entry .id) (le32 (p .at)) ≡ links (rs ++ p ∷ []) n
   unfolding links

@@ -8,7 +8,7 @@ use lib.ListN.{length, replicate, length-append, replicate-append-replicate}
 use Rattle.image.specs.Bytes.{le32, cat, keep, range}
 use Rattle.image.specs.Tables.{Bucket, empty, filled, insertAll}
 use Rattle.image.specs.Image.{Entry, Placed, headSize, entryBytes, entriesSize, ofTable, count, bucketOf, bucketBytes, table, tableBytes, tables}
-use Rattle.image.specs.Image.{tableRows, ofId, lastFrom, link, links, backSizeOf, entriesEnd, headWords, image}
+use Rattle.image.specs.Image.{tableRows, placedOfId, lastFrom, link, links, backSizeOf, entriesEnd, headWords, image}
 use Rattle.image.specs.declared.Mode.{Mode}
 use Rattle.image.proofs.Lists.{cat-append}
 use Rattle.image.proofs.Sizes.{length-entries, length-filled, length-headWords, length-tableRows, length-links}
@@ -128,7 +128,7 @@ unfolding tablesWith tableWith ofTable keep filled insertAll
 zeros-tables ps = zeros-cat (bucketsOf (tableWith ps [])) (λ t. zeros-buckets (2 * count t ps)) (range 0 256)
 
 zeros-links : (n : ℕ) → Zeros (links [] n)
-unfolding links link ofId keep lastFrom le32
+unfolding links link placedOfId keep lastFrom le32
 zeros-links n = zeros-cat (λ (i : ℕ). le32 (link [] i)) (λ i. refl) (range 0 n)
 
 pub zeros-both : (ps : List Placed) (n m : ℕ) → m ≡ 16 * length ps + 4 * n → replicate m 0 ≡ tablesWith ps [] ++ links [] n

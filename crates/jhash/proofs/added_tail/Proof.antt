@@ -23,7 +23,9 @@ plus-requires c κs = search needs
 returns : tie.Need-returns
 returns c =
     let a = c .before .before .before .before .before .before .args in
-    words-added (a .w) (now (a .s)) (c .before .before .before .word .ensures) (c .before .before .word2 .ensures) (c .before .word-near-end .ensures) (c .plus .ensures)
+    let first = c .before .before .before .word in
+    let second = c .before .before .word2 in
+    words-added (a .w) (now (a .s)) (first .ensures) (second .ensures) (c .before .word-near-end .ensures) (c .plus .ensures)
 
 word-requires-3 : tie.Need-word-requires-3
 word-requires-3 c κs = search needs

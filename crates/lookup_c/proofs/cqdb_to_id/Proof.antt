@@ -1,7 +1,7 @@
 -- `lookup_c::cqdb_to_id` meets its contract: what `to_id` promises of the answer, put into the struct. Assumes nothing.
 use mathlib.Core.Path.{sym, ap, _∙_}
 use Rattle.reader.specs.Cases.{lookupOf}
-use Rattle.lookup_c.specs.Lookup.{idAnswerOf}
+use Rattle.lookup_c.specs.IdAnswers.{idAnswerOf}
 use borrow.Author.Needs.{needs}
 use Rattle.lookup_c.proofs.cqdb_to_id.Statement.{statement}
 use Rattle.lookup_c.proofs.cqdb_to_id.Tie as tie

@@ -4,7 +4,7 @@ use Prim.Native.Nat.{ℕ}
 use native.Mathlib.Omega.{arith}
 use mathlib.Core.Path.{sym, ap, _∙_}
 use Rattle.reader.specs.Cases.{namingOf}
-use Rattle.cqdb_c.specs.Reading.{placeAnswerOf}
+use Rattle.cqdb_c.specs.ReadAnswers.{placeAnswerOf}
 use Rattle.cqdb_c.proofs.Places.{length-small}
 use borrow.Author.Needs.{needs}
 use Rattle.cqdb_c.proofs.naming.cqdb_to_str.Statement.{statement}

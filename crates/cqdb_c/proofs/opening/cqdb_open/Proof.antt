@@ -1,7 +1,7 @@
 -- `cqdb_c::opening::cqdb_open` meets its contract: what `open` promises of the answer, put into the struct. Assumes nothing.
 use mathlib.Core.Path.{sym, ap, _∙_}
 use Rattle.reader.specs.Cases.{openedOf}
-use Rattle.cqdb_c.specs.Reading.{openAnswerOf}
+use Rattle.cqdb_c.specs.ReadAnswers.{openAnswerOf}
 use borrow.Author.Needs.{needs}
 use Rattle.cqdb_c.proofs.opening.cqdb_open.Statement.{statement}
 use Rattle.cqdb_c.proofs.opening.cqdb_open.Tie as tie

@@ -16,7 +16,9 @@ abbrev μ-loop : tie.MeasureT-loop
 μ-loop a b i₀ i = length a - i
 
 returns : tie.Need-returns Inv-loop μ-loop
-returns c = sym (same-lengths (c .before .before .before .args .a .now) (c .before .before .before .args .b .now) (c .if1 .taken))
+returns c =
+    let a = c .before .before .before .args in
+    sym (same-lengths (a .a .now) (a .b .now) (c .if1 .taken))
 
 loop-holds : tie.Need-loop-holds Inv-loop μ-loop
 loop-holds c = (search needs, refl)
@@ -35,11 +37,12 @@ returns-2 c =
     let a = c .before .before .before .before .before .before .before .before .args in
     let of-loop = c .before .before .before .before .loop in
     let of-if1 = c .before .before .before .before .before .if1 in
-    let of-shared-slice-known = c .before .before .before .before .before .before .before .shared-slice-known in
-    let of-shared-slice-known2 = c .before .before .before .before .before .before .shared-slice-known2 in
+    let known-a = c .before .before .before .before .before .before .before .shared-slice-known in
+    let known-b = c .before .before .before .before .before .before .shared-slice-known2 in
     let of-word8 = c .before .before .word8 in
     sym
-    (other-word8 (a .a .now) (a .b .now) (of-loop .i) (omega arith) (omega (arith, of-if1 .left)) (λ k. of-shared-slice-known .given k .fits) (λ k. of-shared-slice-known2 .given k .fits) (λ e. c .if2 .taken (of-word8 .ensures ∙ e ∙ sym (c .before .word82 .ensures))))
+    (other-word8 (a .a .now) (a .b .now) (of-loop .i) (omega arith) (omega (arith, of-if1 .left)) (λ k. known-a .given k .fits) (λ k. known-b .given k .fits)
+    (λ e. c .if2 .taken (of-word8 .ensures ∙ e ∙ sym (c .before .word82 .ensures))))
     ∙ of-loop .inv .1
 
 add-i : tie.Need-add-i Inv-loop μ-loop
@@ -53,12 +56,13 @@ loop-again c =
     let a = c .before .before .before .before .before .before .before .before .args in
     let of-loop = c .before .before .before .before .loop in
     let of-if1 = c .before .before .before .before .before .if1 in
-    let of-shared-slice-known = c .before .before .before .before .before .before .before .shared-slice-known in
-    let of-shared-slice-known2 = c .before .before .before .before .before .before .shared-slice-known2 in
+    let known-a = c .before .before .before .before .before .before .before .shared-slice-known in
+    let known-b = c .before .before .before .before .before .before .shared-slice-known2 in
     let of-word8 = c .before .before .word8 in (
       omega arith,
       sym
-          (same-word8 (a .a .now) (a .b .now) (of-loop .i) (omega arith) (omega (arith, of-if1 .left)) (λ k. of-shared-slice-known .given k .fits) (λ k. of-shared-slice-known2 .given k .fits) (sym (of-word8 .ensures) ∙ c .if2 .left ∙ c .before .word82 .ensures))
+          (same-word8 (a .a .now) (a .b .now) (of-loop .i) (omega arith) (omega (arith, of-if1 .left))
+          (λ k. known-a .given k .fits) (λ k. known-b .given k .fits) (sym (of-word8 .ensures) ∙ c .if2 .left ∙ c .before .word82 .ensures))
           ∙ of-loop .inv .1,
     )
 

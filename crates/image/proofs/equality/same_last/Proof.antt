@@ -24,7 +24,9 @@ word-requires-2 c κs = search needs
 returns-2 : tie.Need-returns-2
 returns-2 c =
     let a = c .before .before .before .before .before .before .args in
-    sym (other-word (a .a .now) (a .b .now) (a .from) (omega arith) (omega arith) (λ w. c .if2 .taken (c .before .before .word .ensures ∙ w ∙ sym (c .before .word2 .ensures))))
+    sym
+    (other-word (a .a .now) (a .b .now) (a .from) (omega arith) (omega arith)
+    (λ w. c .if2 .taken (c .before .before .word .ensures ∙ w ∙ sym (c .before .word2 .ensures))))
 
 add-same-from : tie.Need-add-same-from
 add-same-from c = search needs
@@ -35,9 +37,12 @@ same-from-requires-2 c κs = search needs
 returns-3 : tie.Need-returns-3
 returns-3 c =
     let a = c .before .before .before .before .before .before .before .args in
+    let known-a = c .before .before .before .before .before .before .shared-slice-known in
+    let known-b = c .before .before .before .before .before .shared-slice-known2 in
+    let equal = sym (c .before .before .before .word .ensures) ∙ c .before .if2 .left ∙ c .before .before .word2 .ensures in
     c .same-from2 .ensures
     ∙ sym
-    (same-word (a .a .now) (a .b .now) (a .from) (omega arith) (omega arith) (λ k. c .before .before .before .before .before .before .shared-slice-known .given k .fits) (λ k. c .before .before .before .before .before .shared-slice-known2 .given k .fits) (sym (c .before .before .before .word .ensures) ∙ c .before .if2 .left ∙ c .before .before .word2 .ensures))
+    (same-word (a .a .now) (a .b .now) (a .from) (omega arith) (omega arith) (λ k. known-a .given k .fits) (λ k. known-b .given k .fits) equal)
 
 pub same-last-spec : {M : Type 1} → statement M
 same-last-spec =

@@ -73,7 +73,11 @@ returns-3 : tie.Need-returns-3
 returns-3 c = λ l name.
     let a = c .before .before .before .before .before .before .before .before .before .before .before .args in
     let pre = c .before .before .before .before .before .before .before .before .before .before .before .pre in
+    let of-word = c .before .before .before .before .before .before .before .before .before .word in
+    let of-if1 = c .before .before .before .before .before .before .before .before .if1 in
     let of-next = c .before .before .before .before .before .before .before .next-bucket in
+    let of-word2 = c .before .before .before .before .before .before .word2 in
+    let of-if2 = c .before .before .before .before .before .if2 in
     let of-next2 = c .before .before .before .before .next-bucket2 in
     let of-word3 = c .before .before .before .word3 in
     let of-word4 = c .before .before .word4 in
@@ -81,8 +85,7 @@ returns-3 c = λ l name.
     near (a .image .now) name (a .h) (a .at) (a .n) (a .k) (pre .0) (pre .1)
     (of-next .result) (of-next2 .result) (of-word3 .result) (of-word4 .result) (of-word5 .result) (c .first-zero .result)
     (of-next .ensures .0) (of-next2 .ensures .0) (of-word3 .ensures) (of-word4 .ensures) (of-word5 .ensures)
-    (λ e. c .before .before .before .before .before .before .before .before .if1 .left (c .before .before .before .before .before .before .before .before .before .word .ensures ∙ e))
-    (λ e. c .before .before .before .before .before .if2 .left (c .before .before .before .before .before .before .word2 .ensures ∙ e))
+    (λ e. of-if1 .left (of-word .ensures ∙ e)) (λ e. of-if2 .left (of-word2 .ensures ∙ e))
     (c .first-zero .ensures)
     l
 

@@ -17,18 +17,30 @@ Inv-loop image name h at n k₀ ended-after left₀ k left = (k < n) × (left �
 abbrev μ-loop : tie.MeasureT-loop
 μ-loop image name h at n k₀ ended-after left₀ k left = left
 
--- after a bucket was looked at: what is left from bucket j on, and the turn by what was seen
-abbrev left-of : (c : tie.After-see Inv-loop μ-loop) → ℕ → Lookup
-left-of c j = let a = c .before .before .before .before .before .before .before .before .args in rest (a .image .now) (a .name .now) (a .h) (a .at) (a .n) j (c .before .before .loop .left - 1)
+-- after a bucket was looked at: the whole search, the buckets read, what is left from bucket j on, and the turn by what was seen
+module _ (c : tie.After-see Inv-loop μ-loop) where
+  abbrev whole : Lookup
+  whole =
+      let a = c .before .before .before .before .before .before .before .before .args in
+      searchTable (a .image .now) (a .name .now) (a .h) (a .at) (a .n)
 
-turn : (c : tie.After-see Inv-loop μ-loop) (s : Seen) → seenOf (c .see .result) ≡ s
-    → decide s (c .before .before .before .before .before .before .before .before .args .n - (c .before .before .loop .left - 1)) (left-of c (next (c .before .before .before .before .before .before .before .before .args .n) (c .before .before .loop .k)))
-    ≡ searchTable (c .before .before .before .before .before .before .before .before .args .image .now) (c .before .before .before .before .before .before .before .before .args .name .now) (c .before .before .before .before .before .before .before .before .args .h) (c .before .before .before .before .before .before .before .before .args .at) (c .before .before .before .before .before .before .before .before .args .n)
-turn c s e =
-    let a = c .before .before .before .before .before .before .before .before .args in
-    rest-seen (a .image .now) (a .name .now) (a .h) (a .at) (a .n) (c .before .before .loop .k) (c .before .before .loop .left) s (omega arith) (c .before .before .loop .inv .1)
-    (sym e ∙ c .see .ensures)
-    ∙ c .before .before .loop .inv .2
+  abbrev buckets : ℕ
+  buckets = c .before .before .before .before .before .before .before .before .args .n
+
+  abbrev still : ℕ
+  still = c .before .before .loop .left - 1
+
+  abbrev left-of : ℕ → Lookup
+  left-of j =
+      let a = c .before .before .before .before .before .before .before .before .args in
+      rest (a .image .now) (a .name .now) (a .h) (a .at) (a .n) j still
+
+  turn : (s : Seen) → seenOf (c .see .result) ≡ s → decide s (buckets - still) (left-of (next buckets (c .before .before .loop .k))) ≡ whole
+  turn s e =
+      let a = c .before .before .before .before .before .before .before .before .args in
+      let of-loop = c .before .before .loop in
+      rest-seen (a .image .now) (a .name .now) (a .h) (a .at) (a .n) (of-loop .k) (of-loop .left) s (omega arith) (of-loop .inv .1) (sym e ∙ c .see .ensures)
+      ∙ of-loop .inv .2
 
 start-requires : tie.Need-start-requires Inv-loop μ-loop
 start-requires c κs = search needs
@@ -97,7 +109,7 @@ loop-again : tie.Need-loop-again Inv-loop μ-loop
 loop-again c = (
   c .next-bucket .ensures .1,
   omega arith,
-  ap (λ (j : ℕ). left-of (c .before .before .before) j) (c .next-bucket .ensures .0) ∙ turn (c .before .before .before) pass (ap seenOf (c .before .enum-told .given .1)),
+  ap (left-of (c .before .before .before)) (c .next-bucket .ensures .0) ∙ turn (c .before .before .before) pass (ap seenOf (c .before .enum-told .given .1)),
 )
 
 sub-t20 : tie.Need-sub-t20 Inv-loop μ-loop

@@ -82,7 +82,8 @@ returns-2 c =
     let of-same = c .before .before .same in
     ap (λ (id : ℕ). hit (record { id = id })) (c .word2 .ensures)
     ∙ see-entry-by image name (a .at) false true (sym (of-broken .ensures) ∙ of-if1 .left)
-    (ap (λ (l : List ℕ). same l name) (sym (name-part image (a .at) (of-word .result) (of-word .ensures))) ∙ sym (of-same .ensures) ∙ c .before .if2 .taken)
+    (ap (λ (l : List ℕ). same l name) (sym (name-part image (a .at) (of-word .result) (of-word .ensures)))
+    ∙ sym (of-same .ensures) ∙ c .before .if2 .taken)
 
 returns-3 : tie.Need-returns-3
 returns-3 c =
@@ -93,7 +94,8 @@ returns-3 c =
     let of-if1 = c .before .before .before .before .if1 in
     let of-word = c .before .before .before .word in
     see-entry-by image name (a .at) false false (sym (of-broken .ensures) ∙ of-if1 .left)
-    (ap (λ (l : List ℕ). same l name) (sym (name-part image (a .at) (of-word .result) (of-word .ensures))) ∙ sym (c .before .same .ensures) ∙ c .if2 .left)
+    (ap (λ (l : List ℕ). same l name) (sym (name-part image (a .at) (of-word .result) (of-word .ensures)))
+    ∙ sym (c .before .same .ensures) ∙ c .if2 .left)
 
 pub see-entry-spec : {M : Type 1} → statement M
 see-entry-spec =

@@ -55,7 +55,9 @@ enum-known-h : tie.Need-enum-known-h
 enum-known-h c = search needs
 
 to-id-hashed-requires : tie.Need-to-id-hashed-requires
-to-id-hashed-requires c κs = rw (whole (c .before .before .before .before .before .before .before .before .before .args .image .now)) (c .before .before .before .before .if1 .left)
+to-id-hashed-requires c κs =
+    let a = c .before .before .before .before .before .before .before .before .before .args in
+    rw (whole (a .image .now)) (c .before .before .before .before .if1 .left)
 
 enum-told : tie.Need-enum-told
 enum-told c = search needs
@@ -68,10 +70,11 @@ returns-2 c =
     let of-hash = c .before .before .before .before .name-hash in
     let of-h = c .before .before .h in
     let of-if1 = c .before .before .before .before .before .if1 in
-    let told = told-image-hash name (of-hash .result) (of-h .given .0 .0) (of-name name (of-hash .result) (of-hash .ensures)) (of-h .given .1) in
+    let h = of-h .given .0 .0 in
+    let told = told-image-hash name (of-hash .result) h (of-name name (of-hash .result) (of-hash .ensures)) (of-h .given .1) in
     c .to-id-hashed .ensures
-    ∙ ap (λ (l : List ℕ). lookupHash l (take (length name - 0) name) (of-h .given .0 .0)) (whole image)
-    ∙ ap (λ (l : List ℕ). lookupHash image l (of-h .given .0 .0)) (whole name)
+    ∙ ap (λ (l : List ℕ). lookupHash l (take (length name - 0) name) h) (whole image)
+    ∙ ap (λ (l : List ℕ). lookupHash image l h) (whole name)
     ∙ ap (lookupHash image name) (told .1)
     ∙ lookup-by image name false false (le-ltb (length image) 2072 (of-if1 .left)) (lt-leb 4294967295 (length name) (told .0))
 
@@ -83,7 +86,8 @@ returns-3 c =
     let of-if1 = c .before .before .before .if1 in
     let of-hash = c .before .before .name-hash in
     lookup-by image name false true (le-ltb (length image) 2072 (of-if1 .left))
-    (le-leb 4294967295 (length name) (told-refused name 0 (of-hash .result) (of-name name (of-hash .result) (of-hash .ensures)) (c .enum-told .given .1)))
+    (le-leb 4294967295 (length name)
+    (told-refused name 0 (of-hash .result) (of-name name (of-hash .result) (of-hash .ensures)) (c .enum-told .given .1)))
 
 pub to-id-spec : {M : Type 1} → statement M
 to-id-spec =

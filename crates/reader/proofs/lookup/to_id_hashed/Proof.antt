@@ -1,24 +1,37 @@
 -- `reader::lookup::to_id_hashed` meets its contract. Assumes nothing.
-use Prim.Native.Nat.{_+_, _*_}
+use Prim.Native.Nat.{ℕ, _+_, _*_}
 use mathlib.Core.Path.{_≡_, refl, _∙_}
 use mathlib.Core.Bool.{Bool, true, false, cond, _||_}
 use borrow.Author.Tests.{lt-ltb, le-ltb, eq-eqb, ne-eqb}
 use lib.Dec.{eqb, ltb}
 use lib.ListN.{length}
-use Rattle.reader.specs.Lookup.{nothing, searchTable, lookupHash}
+use Rattle.reader.specs.Lookup.{Lookup, nothing, searchTable, lookupHash}
 use Rattle.reader.proofs.Searches.{lookup-hash-by}
 use borrow.Author.Needs.{needs}
 use Rattle.reader.proofs.lookup.to_id_hashed.Statement.{statement}
 use Rattle.reader.proofs.lookup.to_id_hashed.Tie as tie
 
 -- once both words of the table's row are read, its tests decide
-answer : (c : tie.After-word2) (z y x : Bool) → eqb (c .before .word .result) 0 ≡ z → eqb (c .word2 .result) 0 ≡ y
-    → ltb (length (c .before .before .before .before .args .image .now)) (c .before .word .result + 8 * c .word2 .result) ≡ x
-    → cond (z || y || x) (nothing 0) (searchTable (c .before .before .before .before .args .image .now) (c .before .before .before .before .args .name .now) (c .before .before .before .before .args .h) (c .before .word .result) (c .word2 .result))
-    ≡ lookupHash (c .before .before .before .before .args .image .now) (c .before .before .before .before .args .name .now) (c .before .before .before .before .args .h)
-answer c z y x ez ey ex =
-    let a = c .before .before .before .before .args in
-    lookup-hash-by (a .image .now) (a .name .now) (a .h) (c .before .word .result) (c .word2 .result) z y x (c .before .word .ensures) (c .word2 .ensures) ez ey ex
+module _ (c : tie.After-word2) where
+  abbrev at : ℕ
+  at = c .before .word .result
+
+  abbrev n : ℕ
+  n = c .word2 .result
+
+  abbrev size : ℕ
+  size = length (c .before .before .before .before .args .image .now)
+
+  abbrev searched : Lookup
+  searched = let a = c .before .before .before .before .args in searchTable (a .image .now) (a .name .now) (a .h) at n
+
+  abbrev whole : Lookup
+  whole = let a = c .before .before .before .before .args in lookupHash (a .image .now) (a .name .now) (a .h)
+
+  answer : (z y x : Bool) → eqb at 0 ≡ z → eqb n 0 ≡ y → ltb size (at + 8 * n) ≡ x → cond (z || y || x) (nothing 0) searched ≡ whole
+  answer z y x ez ey ex =
+      let a = c .before .before .before .before .args in
+      lookup-hash-by (a .image .now) (a .name .now) (a .h) at n z y x (c .before .word .ensures) (c .word2 .ensures) ez ey ex
 
 cast-t : tie.Need-cast-t
 cast-t c = search needs
@@ -42,10 +55,14 @@ word-requires-2 : tie.Need-word-requires-2
 word-requires-2 c κs = search needs
 
 returns : tie.Need-returns
-returns c = answer (c .before) true _ _ (eq-eqb (c .before .before .word .result) 0 (c .if1 .taken)) refl refl
+returns c =
+    let row = c .before in
+    answer row true _ _ (eq-eqb (at row) 0 (c .if1 .taken)) refl refl
 
 returns-2 : tie.Need-returns-2
-returns-2 c = answer (c .before .before) false true _ (ne-eqb (c .before .before .before .word .result) 0 (c .before .if1 .left)) (eq-eqb (c .before .before .word2 .result) 0 (c .if2 .taken)) refl
+returns-2 c =
+    let row = c .before .before in
+    answer row false true _ (ne-eqb (at row) 0 (c .before .if1 .left)) (eq-eqb (n row) 0 (c .if2 .taken)) refl
 
 cast-if3 : tie.Need-cast-if3
 cast-if3 c = search needs
@@ -61,17 +78,19 @@ add-if3 c = search needs
 
 returns-3 : tie.Need-returns-3
 returns-3 c =
-    answer (c .before .before .before) false false true (ne-eqb (c .before .before .before .before .word .result) 0 (c .before .before .if1 .left)) (ne-eqb (c .before .before .before .word2 .result) 0 (c .before .if2 .left))
-    (lt-ltb (length (c .before .before .before .before .before .before .before .args .image .now)) (c .before .before .before .before .word .result + 8 * c .before .before .before .word2 .result) (c .if3 .taken))
+    let row = c .before .before .before in
+    answer row false false true (ne-eqb (at row) 0 (c .before .before .if1 .left)) (ne-eqb (n row) 0 (c .before .if2 .left))
+    (lt-ltb (size row) (at row + 8 * n row) (c .if3 .taken))
 
 search-requires : tie.Need-search-requires
 search-requires c κs = search needs
 
 returns-4 : tie.Need-returns-4
 returns-4 c =
+    let row = c .before .before .before .before in
     c .search .ensures
-    ∙ answer (c .before .before .before .before) false false false (ne-eqb (c .before .before .before .before .before .word .result) 0 (c .before .before .before .if1 .left)) (ne-eqb (c .before .before .before .before .word2 .result) 0 (c .before .before .if2 .left))
-    (le-ltb (length (c .before .before .before .before .before .before .before .before .args .image .now)) (c .before .before .before .before .before .word .result + 8 * c .before .before .before .before .word2 .result) (c .before .if3 .left))
+    ∙ answer row false false false (ne-eqb (at row) 0 (c .before .before .before .if1 .left)) (ne-eqb (n row) 0 (c .before .before .if2 .left))
+    (le-ltb (size row) (at row + 8 * n row) (c .before .if3 .left))
 
 pub to-id-hashed-spec : {M : Type 1} → statement M
 to-id-hashed-spec =

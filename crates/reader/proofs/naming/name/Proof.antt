@@ -17,10 +17,9 @@ enum-known-start c = search needs
 add-result : tie.Need-add-result
 add-result c =
     let a = c .before .before .before .before .before .args in
-    let image = a .image .now in
     let of-to-str = c .before .before .before .to-str in
-    omega
-    (arith, named image (a .id) (c .before .start .given .0 .0) (c .before .start .given .0 .1 .0) (sym (of-to-str .ensures) ∙ ap namingOf (c .before .start .given .1)))
+    let place = c .before .start .given in
+    omega (arith, named (a .image .now) (a .id) (place .0 .0) (place .0 .1 .0) (sym (of-to-str .ensures) ∙ ap namingOf (place .1)))
 
 sub-result : tie.Need-sub-result
 sub-result c = search needs
@@ -31,10 +30,9 @@ part-result-start c = search needs
 part-result-end : tie.Need-part-result-end
 part-result-end c =
     let a = c .before .before .before .before .before .args in
-    let image = a .image .now in
     let of-to-str = c .before .before .before .to-str in
-    omega
-    (arith, named image (a .id) (c .before .start .given .0 .0) (c .before .start .given .0 .1 .0) (sym (of-to-str .ensures) ∙ ap namingOf (c .before .start .given .1)))
+    let place = c .before .start .given in
+    omega (arith, named (a .image .now) (a .id) (place .0 .0) (place .0 .1 .0) (sym (of-to-str .ensures) ∙ ap namingOf (place .1)))
 
 enum-told : tie.Need-enum-told
 enum-told c = search needs
@@ -53,13 +51,15 @@ returns c =
     let a = c .before .before .before .before .before .before .args in
     let of-start = c .before .before .start in
     let of-to-str = c .before .before .before .before .to-str in
-    named-part (slice (a .image)) (part (slice (a .image)) 0 0) _ (of-start .given .0 .0) (of-start .given .0 .1 .0) (ap namingOf (sym (of-start .given .1)) ∙ of-to-str .ensures)
+    let image = slice (a .image) in
+    named-part image (part image 0 0) _ (of-start .given .0 .0) (of-start .given .0 .1 .0) (ap namingOf (sym (of-start .given .1)) ∙ of-to-str .ensures)
 
 returns-2 : tie.Need-returns-2
 returns-2 c =
     let a = c .before .before .before .before .before .args in
     let of-to-str = c .before .before .before .to-str in
-    no-part (slice (a .image)) (part (slice (a .image)) 0 0) _ (ap namingOf (sym (c .before .enum-told .given .1)) ∙ of-to-str .ensures)
+    let image = slice (a .image) in
+    no-part image (part image 0 0) _ (ap namingOf (sym (c .before .enum-told .given .1)) ∙ of-to-str .ensures)
 
 pub name-spec : {M : Type 1} → statement M
 name-spec =

@@ -3,6 +3,7 @@ use Prim.Native.Nat.{ℕ, _+_, _-_}
 use native.Mathlib.Omega.{arith}
 use mathlib.Core.Path.{_≡_, refl, sym, ap, _∙_}
 use mathlib.Core.Bool.{Bool, true, false, cond, _||_}
+use mathlib.Core.List.{List}
 use borrow.Author.Tests.{le-leb, lt-leb, eq-eqb, ne-eqb}
 use lib.Dec.{eqb}
 use Rattle.image.specs.Bytes.{word}
@@ -15,17 +16,26 @@ use Rattle.reader.proofs.naming.to_str.Statement.{statement}
 use Rattle.reader.proofs.naming.to_str.Tie as tie
 
 -- once the entry's offset is read, the entry decides
-answer : (c : tie.After-word3) (z x : Bool) → eqb (c .word3 .result) 0 ≡ z → broken (c .before .before .before .before .before .before .before .args .image .now) (c .word3 .result) ≡ x
-    → cond (z || x) unnamed (place (c .word3 .result + 8) (word (c .before .before .before .before .before .before .before .args .image .now) (c .word3 .result + 4) - 1))
-    ≡ naming (c .before .before .before .before .before .before .before .args .image .now) (c .before .before .before .before .before .before .before .args .id)
-answer c z x ez ex =
-    let a = c .before .before .before .before .before .before .before .args in
-    let image = a .image .now in
-    naming-by image (a .id) (c .word3 .result) false false z x
-    (link image (a .id) (c .before .word2 .result) (c .word3 .result) (c .before .word2 .ensures) (c .word3 .ensures))
-    (sym (c .before .before .before .before .before .no-back .ensures) ∙ c .before .before .before .before .if1 .left)
-    (lt-leb (word image 16) (a .id) (omega (arith, c .before .before .before .word .ensures)))
-    ez ex
+module _ (c : tie.After-word3) where
+  abbrev image-of : List ℕ
+  image-of = c .before .before .before .before .before .before .before .args .image .now
+
+  abbrev id-of : ℕ
+  id-of = c .before .before .before .before .before .before .before .args .id
+
+  abbrev at : ℕ
+  at = c .word3 .result
+
+  answer : (z x : Bool) → eqb at 0 ≡ z → broken image-of at ≡ x
+      → cond (z || x) unnamed (place (at + 8) (word image-of (at + 4) - 1)) ≡ naming image-of id-of
+  answer z x ez ex =
+      let of-no-back = c .before .before .before .before .before .no-back in
+      let of-word2 = c .before .word2 in
+      naming-by image-of id-of at false false z x
+      (link image-of id-of (of-word2 .result) at (of-word2 .ensures) (c .word3 .ensures))
+      (sym (of-no-back .ensures) ∙ c .before .before .before .before .if1 .left)
+      (lt-leb (word image-of 16) id-of (omega (arith, c .before .before .before .word .ensures)))
+      ez ex
 
 no-back-requires : tie.Need-no-back-requires
 no-back-requires c κs = search needs
@@ -75,13 +85,15 @@ word-requires-3 c κs =
     omega (arith, back image (sym (of-no-back .ensures) ∙ of-if1 .left), of-word .ensures, c .word2 .ensures)
 
 returns-3 : tie.Need-returns-3
-returns-3 c = answer (c .before) true _ (eq-eqb (c .before .word3 .result) 0 (c .if3 .taken)) refl
+returns-3 c = answer (c .before) true _ (eq-eqb (at (c .before)) 0 (c .if3 .taken)) refl
 
 broken-requires : tie.Need-broken-requires
 broken-requires c κs = search needs
 
 returns-4 : tie.Need-returns-4
-returns-4 c = answer (c .before .before .before) false true (ne-eqb (c .before .before .before .word3 .result) 0 (c .before .before .if3 .left)) (sym (c .before .broken .ensures) ∙ c .if4 .taken)
+returns-4 c =
+    let entry = c .before .before .before in
+    answer entry false true (ne-eqb (at entry) 0 (c .before .before .if3 .left)) (sym (c .before .broken .ensures) ∙ c .if4 .taken)
 
 cast-entry : tie.Need-cast-entry
 cast-entry c = search needs
@@ -94,26 +106,22 @@ add-word-2 c = search needs
 
 word-requires-4 : tie.Need-word-requires-4
 word-requires-4 c κs =
-    let a = c .before .before .before .before .before .before .before .before .before .before .args in
-    let image = a .image .now in
-    let of-word3 = c .before .before .before .word3 in
-    omega (arith, unbroken image (of-word3 .result) (sym (c .before .broken .ensures) ∙ c .if4 .left))
+    let entry = c .before .before .before in
+    omega (arith, unbroken (image-of entry) (at entry) (sym (c .before .broken .ensures) ∙ c .if4 .left))
 
 cast-t9 : tie.Need-cast-t9
 cast-t9 c = search needs
 
 sub-t8 : tie.Need-sub-t8
 sub-t8 c =
-    let a = c .before .before .before .before .before .before .before .before .before .before .before .args in
-    let image = a .image .now in
-    let of-word3 = c .before .before .before .before .word3 in
-    let of-broken = c .before .before .broken in
-    omega (arith, unbroken image (of-word3 .result) (sym (of-broken .ensures) ∙ c .before .if4 .left), c .word4 .ensures)
+    let entry = c .before .before .before .before in
+    omega (arith, unbroken (image-of entry) (at entry) (sym (c .before .before .broken .ensures) ∙ c .before .if4 .left), c .word4 .ensures)
 
 returns-5 : tie.Need-returns-5
 returns-5 c =
-    ap (λ (w : ℕ). place (c .before .before .before .before .word3 .result + 8) (w - 1)) (c .word4 .ensures)
-    ∙ answer (c .before .before .before .before) false false (ne-eqb (c .before .before .before .before .word3 .result) 0 (c .before .before .before .if3 .left)) (sym (c .before .before .broken .ensures) ∙ c .before .if4 .left)
+    let entry = c .before .before .before .before in
+    ap (λ (w : ℕ). place (at entry + 8) (w - 1)) (c .word4 .ensures)
+    ∙ answer entry false false (ne-eqb (at entry) 0 (c .before .before .before .if3 .left)) (sym (c .before .before .broken .ensures) ∙ c .before .if4 .left)
 
 pub to-str-spec : {M : Type 1} → statement M
 to-str-spec =

@@ -1,8 +1,9 @@
 -- `reader::opening::open` meets its contract. Assumes nothing.
-use Prim.Native.Nat.{_%_, _^_}
+use Prim.Native.Nat.{ℕ, _%_, _^_}
 use native.Mathlib.Omega.{arith}
 use mathlib.Core.Path.{_≡_, refl, sym, ap, _∙_}
 use mathlib.Core.Bool.{Bool, true, false, cond, _&&_, and-false}
+use mathlib.Core.List.{List}
 use borrow.Author.Tests.{lt-ltb, le-ltb, eq-eqb, ne-eqb, not-true, not-false}
 use lib.Dec.{ltb}
 use lib.ListN.{length}
@@ -17,14 +18,20 @@ use Rattle.reader.proofs.opening.open.Statement.{statement}
 use Rattle.reader.proofs.opening.open.Tie as tie
 
 -- where no table leaves the image, the back array alone decides
-passed : (c : tie.Else4) (b : Bool) → (ltb 0 (backOffsetAt (c .before .before .before .before .before .before .before .before .before .args .image .now)) && backLeaves (c .before .before .before .before .before .before .before .before .before .args .image .now)) ≡ b
-    → cond b (refusal 8) (value (halves (c .before .before .before .before .before .before .before .before .before .args .image .now) 0 256 % 2 ^ 32)) ≡ opening (c .before .before .before .before .before .before .before .before .before .args .image .now)
+abbrev image-of : tie.Else4 → List ℕ
+image-of c = c .before .before .before .before .before .before .before .before .before .args .image .now
+
+passed : (c : tie.Else4) (b : Bool) → (ltb 0 (backOffsetAt (image-of c)) && backLeaves (image-of c)) ≡ b
+    → cond b (refusal 8) (value (halves (image-of c) 0 256 % 2 ^ 32)) ≡ opening (image-of c)
 passed c b e =
-    let image = c .before .before .before .before .before .before .before .before .before .args .image .now in
-    opening-by image false true true false b
-    (le-ltb (length image) 2072 (c .before .before .before .before .before .before .before .if1 .left))
-    (sym (c .before .before .before .before .before .before .has-letters .ensures) ∙ not-false (c .before .before .before .before .before .before .has-letters .result) (c .before .before .before .before .before .if2 .left))
-    (eq-eqb (word image 12) 0x62445371 (sym (c .before .before .before .before .word .ensures) ∙ c .before .before .before .if3 .left))
+    let of-if1 = c .before .before .before .before .before .before .before .if1 in
+    let of-has-letters = c .before .before .before .before .before .before .has-letters in
+    let of-if2 = c .before .before .before .before .before .if2 in
+    let of-word = c .before .before .before .before .word in
+    opening-by (image-of c) false true true false b
+    (le-ltb (length (image-of c)) 2072 (of-if1 .left))
+    (sym (of-has-letters .ensures) ∙ not-false (of-has-letters .result) (of-if2 .left))
+    (eq-eqb (word (image-of c) 12) 0x62445371 (sym (of-word .ensures) ∙ c .before .before .before .if3 .left))
     (sym (c .before .some-leaves .ensures) ∙ c .if4 .left)
     e
 
@@ -86,23 +93,27 @@ back-leaves-requires c κs = search needs
 
 returns-5 : tie.Need-returns-5
 returns-5 c =
-    passed (c .before .before .before .before) true
-    (both (ltb 0 (word (c .before .before .before .before .before .before .before .before .before .before .before .before .before .args .image .now) 20)) (backLeaves (c .before .before .before .before .before .before .before .before .before .before .before .before .before .args .image .now))
-    (lt-ltb 0 (word (c .before .before .before .before .before .before .before .before .before .before .before .before .before .args .image .now) 20) (omega (arith, c .before .before .before .word2 .ensures)))
+    let passed4 = c .before .before .before .before in
+    let image = image-of passed4 in
+    passed passed4 true
+    (both (ltb 0 (word image 20)) (backLeaves image)
+    (lt-ltb 0 (word image 20) (omega (arith, c .before .before .before .word2 .ensures)))
     (sym (c .before .back-leaves .ensures) ∙ c .if6 .taken))
 
 returns-6 : tie.Need-returns-6
 returns-6 c =
-    let image = c .before .before .before .before .before .before .before .before .before .before .before .before .before .args .image .now in
-    ap value (c .before .before .before .before .before .before .all-tables .ensures .0)
-    ∙ passed (c .before .before .before .before) false
+    let passed4 = c .before .before .before .before in
+    let image = image-of passed4 in
+    ap value (passed4 .before .before .all-tables .ensures .0)
+    ∙ passed passed4 false
     (ap (λ (t : Bool). ltb 0 (word image 20) && t) (sym (c .before .back-leaves .ensures) ∙ c .if6 .left) ∙ and-false (ltb 0 (word image 20)))
 
 returns-7 : tie.Need-returns-7
 returns-7 c =
-    let image = c .before .before .before .before .before .before .before .before .before .before .before .args .image .now in
-    ap value (c .before .before .before .before .all-tables .ensures .0)
-    ∙ passed (c .before .before) false
+    let passed4 = c .before .before in
+    let image = image-of passed4 in
+    ap value (passed4 .before .before .all-tables .ensures .0)
+    ∙ passed passed4 false
     (ap (λ (t : Bool). t && backLeaves image) (le-ltb 0 (word image 20) (omega (arith, c .before .word2 .ensures))))
 
 pub open-spec : {M : Type 1} → statement M

@@ -18,10 +18,9 @@ enum-known-start c = search needs
 add-end : tie.Need-add-end
 add-end c =
     let a = c .before .before .before .before .before .args in
-    let image = a .image .now in
     let of-to-str = c .before .before .before .to-str in
-    omega
-    (arith, named image (a .id) (c .before .start .given .0 .0) (c .before .start .given .0 .1 .0) (sym (of-to-str .ensures) ∙ ap namingOf (c .before .start .given .1)))
+    let place = c .before .start .given in
+    omega (arith, named (a .image .now) (a .id) (place .0 .0) (place .0 .1 .0) (sym (of-to-str .ensures) ∙ ap namingOf (place .1)))
 
 sub-to-id : tie.Need-sub-to-id
 sub-to-id c = search needs
@@ -32,10 +31,9 @@ part-to-id-start c = search needs
 part-to-id-end : tie.Need-part-to-id-end
 part-to-id-end c =
     let a = c .before .before .before .before .before .args in
-    let image = a .image .now in
     let of-to-str = c .before .before .before .to-str in
-    omega
-    (arith, named image (a .id) (c .before .start .given .0 .0) (c .before .start .given .0 .1 .0) (sym (of-to-str .ensures) ∙ ap namingOf (c .before .start .given .1)))
+    let place = c .before .start .given in
+    omega (arith, named (a .image .now) (a .id) (place .0 .0) (place .0 .1 .0) (sym (of-to-str .ensures) ∙ ap namingOf (place .1)))
 
 to-id-requires : tie.Need-to-id-requires
 to-id-requires c κs = search needs

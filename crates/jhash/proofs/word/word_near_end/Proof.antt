@@ -1,11 +1,11 @@
--- `jhash::bytes::word_near_end` meets its contract. Assumes nothing.
+-- `jhash::word::word_near_end` meets its contract. Assumes nothing.
 use mathlib.Core.Path.{sym}
 use native.Mathlib.Omega.{arith}
 use denote.Ref.{now}
 use Rattle.jhash.proofs.WordRead.{word-past, word-short}
 use borrow.Author.Needs.{needs}
-use Rattle.jhash.proofs.bytes.word_near_end.Statement.{statement}
-use Rattle.jhash.proofs.bytes.word_near_end.Tie as tie
+use Rattle.jhash.proofs.word.word_near_end.Statement.{statement}
+use Rattle.jhash.proofs.word.word_near_end.Tie as tie
 
 returns : tie.Need-returns
 returns c = sym (word-past (now (c .before .before .args .s)) (c .before .before .args .at) (c .if1 .taken))
@@ -43,7 +43,9 @@ add-result-2 c = search needs
 returns-2 : tie.Need-returns-2
 returns-2 c =
     let a = c .before .before .before .before .before .before .args in
-    word-short (a .s .now) (a .at) _ _ _ (omega arith) (c .before .before .wide .ensures .0) (c .before .byte-or-zero .ensures .0) (c .byte-or-zero2 .ensures .0)
+    let first = c .before .before .wide in
+    let second = c .before .byte-or-zero in
+    word-short (a .s .now) (a .at) _ _ _ (omega arith) (first .ensures .0) (second .ensures .0) (c .byte-or-zero2 .ensures .0)
 
 pub word-near-end-spec : {M : Type 1} → statement M
 word-near-end-spec =

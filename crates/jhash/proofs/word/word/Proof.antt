@@ -1,8 +1,8 @@
--- `jhash::bytes::word` meets its contract. Assumes nothing.
+-- `jhash::word::word` meets its contract. Assumes nothing.
 use Rattle.jhash.proofs.WordRead.{word-of}
 use borrow.Author.Needs.{needs}
-use Rattle.jhash.proofs.bytes.word.Statement.{statement}
-use Rattle.jhash.proofs.bytes.word.Tie as tie
+use Rattle.jhash.proofs.word.word.Statement.{statement}
+use Rattle.jhash.proofs.word.word.Tie as tie
 
 shared-slice-read-wide : tie.Need-shared-slice-read-wide
 shared-slice-read-wide c = search needs
@@ -58,7 +58,10 @@ add-result-3 c = search needs
 returns : tie.Need-returns
 returns c =
     let a = c .before .before .before .before .before .before .before .before .before .args in
-    word-of (a .s .now) (a .at) _ _ _ _ (c .before .before .before .before .before .before .wide .ensures .0) (c .before .before .before .before .wide2 .ensures .0) (c .before .before .wide3 .ensures .0) (c .wide4 .ensures .0)
+    let first = c .before .before .before .before .before .before .wide in
+    let second = c .before .before .before .before .wide2 in
+    let third = c .before .before .wide3 in
+    word-of (a .s .now) (a .at) _ _ _ _ (first .ensures .0) (second .ensures .0) (third .ensures .0) (c .wide4 .ensures .0)
 
 pub word-spec : {M : Type 1} → statement M
 word-spec =

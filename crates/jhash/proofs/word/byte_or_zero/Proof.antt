@@ -1,11 +1,11 @@
--- `jhash::bytes::byte_or_zero` meets its contract. Assumes nothing.
+-- `jhash::word::byte_or_zero` meets its contract. Assumes nothing.
 use mathlib.Core.Path.{sym}
 use native.Mathlib.Omega.{arith}
 use lib.ListN.{List·getD-eq-default}
 use denote.Ref.{now}
 use borrow.Author.Needs.{needs}
-use Rattle.jhash.proofs.bytes.byte_or_zero.Statement.{statement}
-use Rattle.jhash.proofs.bytes.byte_or_zero.Tie as tie
+use Rattle.jhash.proofs.word.byte_or_zero.Statement.{statement}
+use Rattle.jhash.proofs.word.byte_or_zero.Tie as tie
 
 shared-slice-read-wide : tie.Need-shared-slice-read-wide
 shared-slice-read-wide c = search needs
