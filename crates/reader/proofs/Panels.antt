@@ -16,7 +16,7 @@ use Rattle.reader.specs.Slices.{Slice, slice, part}
 use Rattle.reader.specs.Naming.{Naming, place, unnamed, noBack, naming, partOr}
 use Rattle.reader.specs.Panel.{cutAtZero, panel, reading, agreeOn, readingsAgree}
 use Rattle.reader.specs.Walk.{upperHint}
-use Rattle.reader.proofs.Namings.{Named, named, never}
+use Rattle.reader.proofs.Namings.{HasPlace, named, never}
 
 module _ (image : List ℕ) (id : ℕ) where
   -- an id that has a name
@@ -39,6 +39,10 @@ module _ (image : List ℕ) (id : ℕ) where
         ∙ sym (readings-same name)
         ∙ ap (λ (l : List ℕ). same l name) front
         ∙ ap (λ (x : Naming). same (reading image (cutAtZero image x)) (reading image x)) e
+
+  -- the same, by the name that its place holds
+  pub agree-held : (s n : ℕ) → place s n ≡ naming image id → (z : Bool) → z ≡ hasZero (take n (drop s image)) → not z ≡ agreeOn image id
+  agree-held s n e z h = agree-named s n e z (h ∙ ap hasZero (sym (whole s n e)))
 
   -- one that has none
   pub panel-unnamed : unnamed ≡ naming image id → unnamed ≡ panel image id

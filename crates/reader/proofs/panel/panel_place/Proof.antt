@@ -2,7 +2,7 @@
 use native.Mathlib.Omega.{arith}
 use mathlib.Core.Path.{sym, ap, _∙_}
 use Rattle.reader.specs.Cases.{namingOf}
-use Rattle.reader.proofs.Namings.{Named, named}
+use Rattle.reader.proofs.Namings.{HasPlace, named}
 use Rattle.reader.proofs.Panels.{panel-named, panel-unnamed}
 use borrow.Author.Needs.{needs}
 use Rattle.reader.proofs.panel.panel_place.Statement.{statement}
