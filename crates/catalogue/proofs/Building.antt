@@ -7,7 +7,7 @@ use lib.ListN.{length, take, length-take}
 use Rattle.jhash.specs.Outcome.{Outcome, value, refusal}
 use Rattle.image.specs.declared.Mode.the-variants.{Twoway}
 use Rattle.image.specs.Image.{headSize}
-use Rattle.writer.specs.State.{State, lent, fresh, beginning, countsBegun}
+use Rattle.writer.specs.State.{State, stateWith, fresh, beginning, countsBegun}
 use Rattle.writer.specs.Close.{closedSize, closing, afterClose}
 use Rattle.writer.specs.declared.CQDBWriter.{CQDBWriter}
 use Rattle.lists.specs.Calls.{after}
@@ -24,7 +24,7 @@ module _ (buffer : List ℕ) (room : headSize ≤ length buffer) where
   fresh-writer w e = cc
 
   begin-fresh : (w : CQDBWriter) (given counts : List ℕ) → value w ≡ beginning Twoway (length buffer) → counts ≡ countsBegun (length buffer) given
-      → lent w counts buffer ≡ fresh Twoway buffer
+      → stateWith w counts buffer ≡ fresh Twoway buffer
   unfolding fresh
   begin-fresh w given counts e f =
       let same = fresh-writer w (e ∙ list-begins Twoway buffer room) in
@@ -71,8 +71,8 @@ module _ (buffer : List ℕ) (room : headSize ≤ length buffer) (input : List �
 
 -- all of it, in a room for lines that is no shorter than the buffer
 module _ (buffer room given counts : List ℕ) (w : CQDBWriter) (e : value w ≡ beginning Twoway (length buffer)) (f : counts ≡ countsBegun (length buffer) given)
-    (s : State) (put : w .length ≤ length room → Left (lent w counts buffer) s) (big : headSize ≤ length buffer) (enough : length buffer ≤ length room) where
-  put-left : Left (lent w counts buffer) s
+    (s : State) (put : w .length ≤ length room → Left (stateWith w counts buffer) s) (big : headSize ≤ length buffer) (enough : length buffer ≤ length room) where
+  put-left : Left (stateWith w counts buffer) s
   put-left = let same = begin-length buffer big w e in put (omega arith)
 
   from-fresh : s ≡ afterInput (fresh Twoway buffer) (put-left .input)

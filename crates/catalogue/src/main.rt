@@ -2,7 +2,7 @@
 // id and name.
 ghost use Prim.Native.Nat.{_≤_};
 ghost use lib.ListN.{length};
-ghost use Rattle.writer.specs.State.{lent};
+ghost use Rattle.writer.specs.State.{stateWith};
 ghost use Rattle.image.specs.Image.{headSize};
 ghost use Rattle.catalogue.specs.Left.{Left, Built};
 use image::Mode;
@@ -22,7 +22,7 @@ fn put_input(
     room: &mut [u8],
     piece: &mut [u8],
 ) -> CQDBWriter
-    ensures { λ r. ⌜ (w .length ≤ length (now (room .entry)) → Left (lent w (now (counts .entry)) (now (buf .entry))) (lent r (now (counts .exit)) (now (buf .exit)))) ⌝ }
+    ensures { λ r. ⌜ (w .length ≤ length (now (room .entry)) → Left (stateWith w (now (counts .entry)) (now (buf .entry))) (stateWith r (now (counts .exit)) (now (buf .exit)))) ⌝ }
 {
     let mut t = Intake { writer: w, have: 0 };
     let mut turns = u64::MAX;

@@ -12,7 +12,7 @@ use Rattle.image.specs.Image.{Entry, flagWord}
 use Rattle.image.specs.declared.Mode.{Mode}
 use Rattle.image.specs.declared.Mode.the-variants.{Twoway, Oneway}
 use Rattle.writer.specs.declared.CQDBWriter.{CQDBWriter}
-use Rattle.writer.specs.State.{State, lent, beginning, beginRefusal, freshWriter, countsBegun}
+use Rattle.writer.specs.State.{State, stateWith, beginning, beginRefusal, freshWriter, countsBegun}
 use Rattle.writer.specs.Put.{putRefusal, appended, afterPut}
 use Rattle.writer.specs.Close.{closing, closeRefusal, closedSize, closed, afterClose}
 use Rattle.cqdb_c.specs.declared.record.Record.{Record}
@@ -40,13 +40,13 @@ put-unknown h e over = rw (lt-leb (h .writer .mode) 1 over) (refl, refl)
 -- put with a mode of 01's: the writer's record v goes in, w' comes back
 pub put-known : (h : Held) (e : Entry) (v w' : CQDBWriter) (r : Record) (counts buffer : List ℕ) (k : ℕ) →
     h .writer .mode ≤ 1 → v ≡ writerOf (h .writer) →
-    k ≡ putRefusal (lent v (h .counts) (h .buffer)) e →
-    lent w' counts buffer ≡ afterPut (lent v (h .counts) (h .buffer)) e →
+    k ≡ putRefusal (stateWith v (h .counts) (h .buffer)) e →
+    stateWith w' counts buffer ≡ afterPut (stateWith v (h .counts) (h .buffer)) e →
     r ≡ recordOf w' →
     (k ≡ putNumber h e) × (held r counts buffer ≡ leftByPut h e)
 unfolding putNumber leftByPut
 put-known h e v w' r counts buffer k fine is answer leaves back =
-    let same : lent v (h .counts) (h .buffer) ≡ stateOf h = ap (λ (w : CQDBWriter). lent w (h .counts) (h .buffer)) is in
+    let same : stateWith v (h .counts) (h .buffer) ≡ stateOf h = ap (λ (w : CQDBWriter). stateWith w (h .counts) (h .buffer)) is in
     rw (le-leb (h .writer .mode) 1 fine) (
       answer ∙ ap (λ (s : State). putRefusal s e) same,
       ap (λ (x : Record). held x counts buffer) back ∙ ap heldOf (leaves ∙ ap (λ (s : State). afterPut s e) same),
@@ -61,13 +61,13 @@ close-unknown h over = rw (lt-leb (h .writer .mode) 1 over) ((refl, refl), refl)
 -- close with a mode of 01's: the writer's record v goes in, w' comes back, and d is what the writer's close answers
 pub close-known : (h : Held) (v w' : CQDBWriter) (r : Record) (buffer : List ℕ) (d : Outcome ℕ) (k n : ℕ) →
     h .writer .mode ≤ 1 → v ≡ writerOf (h .writer) →
-    d ≡ closing (lent v (h .counts) (h .buffer)) →
-    lent w' (h .counts) buffer ≡ afterClose (lent v (h .counts) (h .buffer)) →
+    d ≡ closing (stateWith v (h .counts) (h .buffer)) →
+    stateWith w' (h .counts) buffer ≡ afterClose (stateWith v (h .counts) (h .buffer)) →
     k ≡ refusalIn d → n ≡ sizeIn d → r ≡ recordOf w' →
     ((k ≡ refusalIn (closingHeld h)) × (n ≡ sizeIn (closingHeld h))) × (held r (h .counts) buffer ≡ leftByClose h)
 unfolding closingHeld leftByClose
 close-known h v w' r buffer d k n fine is answer leaves number told back =
-    let same : lent v (h .counts) (h .buffer) ≡ stateOf h = ap (λ (w : CQDBWriter). lent w (h .counts) (h .buffer)) is in
+    let same : stateWith v (h .counts) (h .buffer) ≡ stateOf h = ap (λ (w : CQDBWriter). stateWith w (h .counts) (h .buffer)) is in
     let d-is : d ≡ closing (stateOf h) = answer ∙ ap closing same in
     rw (le-leb (h .writer .mode) 1 fine) (
       (number ∙ ap refusalIn d-is, told ∙ ap sizeIn d-is),

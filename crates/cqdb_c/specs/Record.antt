@@ -7,7 +7,7 @@ use Rattle.image.specs.Image.{flagWord}
 use Rattle.image.specs.declared.Mode.{Mode}
 use Rattle.image.specs.declared.Mode.the-variants.{Twoway, Oneway}
 use Rattle.writer.specs.declared.CQDBWriter.{CQDBWriter}
-use Rattle.writer.specs.State.{State, lent}
+use Rattle.writer.specs.State.{State, stateWith}
 use Rattle.cqdb_c.specs.declared.record.Record.{Record}
 
 -- a mode is 0, two-way, or 1, one-way, as the flag word; a record with another number is none of 01's
@@ -49,7 +49,7 @@ held w counts buffer = record { writer = w; counts = counts; buffer = buffer }
 
 -- the state of 01's rules that it stands for, and the other way round
 abbrev pub stateOf : Held → State
-stateOf h = lent (writerOf (h .writer)) (h .counts) (h .buffer)
+stateOf h = stateWith (writerOf (h .writer)) (h .counts) (h .buffer)
 
 abbrev pub heldOf : State → Held
 heldOf s = held (recordOf (s .writer)) (s .counts) (s .buffer)

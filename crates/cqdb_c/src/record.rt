@@ -18,7 +18,11 @@ pub struct Record {
 pub(crate) fn mode_of(mode: u32) -> Mode
     ensures { λ r. ⌜ r ≡ modeOf mode ⌝ }
 {
-    if mode == 0 { Mode::Twoway } else { Mode::Oneway }
+    if mode == 0 {
+        Mode::Twoway
+    } else {
+        Mode::Oneway
+    }
 }
 
 // The record as the writer has it.

@@ -2,7 +2,7 @@
 // fills the room is dropped.
 ghost use mathlib.Core.Path.{_≡_};
 ghost use lib.ListN.{set};
-ghost use Rattle.writer.specs.State.{lent};
+ghost use Rattle.writer.specs.State.{stateWith};
 ghost use Rattle.lines.specs.Lines.{afterLine};
 ghost use Rattle.lines.specs.steps.Pieces.{gathering, counted, lineEnded, takeByte, takePiece, inputEnded};
 use super::Intake;
@@ -12,7 +12,7 @@ use writer::CQDBWriter;
 
 // Puts what a line says; a line of another form, or whose put is refused, is skipped.
 pub fn put_line(w: CQDBWriter, counts: &mut [u32; 256], buf: &mut [u8], line: &[u8]) -> CQDBWriter
-    ensures { λ r. ⌜ lent r (now (counts .exit)) (now (buf .exit)) ≡ afterLine (lent w (now (counts .entry)) (now (buf .entry))) (now (line .entry)) ⌝ }
+    ensures { λ r. ⌜ stateWith r (now (counts .exit)) (now (buf .exit)) ≡ afterLine (stateWith w (now (counts .entry)) (now (buf .entry))) (now (line .entry)) ⌝ }
 {
     match parse_line(line) {
         Line::Entry { id, name } => {
@@ -84,7 +84,7 @@ pub fn take_piece(
 
 // The input's end, which ends the last line, too.
 pub fn end_input(t: Intake, counts: &mut [u32; 256], buf: &mut [u8], room: &[u8]) -> CQDBWriter
-    ensures { λ r. ⌜ lent r (now (counts .exit)) (now (buf .exit)) ≡ inputEnded (gathering t (now (counts .entry)) (now (buf .entry)) (now (room .entry))) ⌝ }
+    ensures { λ r. ⌜ stateWith r (now (counts .exit)) (now (buf .exit)) ≡ inputEnded (gathering t (now (counts .entry)) (now (buf .entry)) (now (room .entry))) ⌝ }
 {
     let last = end_line(t, counts, buf, room);
     last.writer

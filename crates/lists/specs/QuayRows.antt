@@ -43,7 +43,6 @@ pub record Row : Type 0 where
   pub names : List NameRow
   pub ids : List IdRow
 
-
 -- the words of an image's back array
 abbrev pub backArray : List ℕ → List ℕ
 backArray img = map (λ (i : ℕ). word img (backOffsetAt img + 4 * i)) (range 0 (backSizeAt img))

@@ -9,7 +9,7 @@ use lib.Dec.{eqb}
 use borrow.Author.Tests.{eqb-true}
 use Rattle.image.specs.Image.{backIn, backSize}
 use Rattle.image.proofs.Bools.{first, second}
-use Rattle.writer.specs.State.{State, lent, fits, finishedSize, tooLarge}
+use Rattle.writer.specs.State.{State, stateWith, fits, finishedSize, tooLarge}
 use Rattle.image.specs.Stored.{whole}
 use Rattle.writer.specs.Close.{entryArea, recorded, countsAgree, afterClose}
 use Rattle.writer.specs.steps.Working.{written}
@@ -19,11 +19,11 @@ use Rattle.writer.specs.Close.{consistent}
 use Rattle.writer.proofs.Closes.{closes}
 use Rattle.writer.proofs.WrittenImage.{written-closed}
 
-pub closes-image : (w : CQDBWriter) (counts buf : List ℕ) → ((i : ℕ) → getD buf i 0 < 256) → fits (lent w counts buf) ≡ true
-    → tooLarge (w .length) (finishedSize w) ≡ false → consistent (lent w counts buf) ≡ true
-    → lent w counts (written w counts buf) ≡ afterClose (lent w counts buf)
+pub closes-image : (w : CQDBWriter) (counts buf : List ℕ) → ((i : ℕ) → getD buf i 0 < 256) → fits (stateWith w counts buf) ≡ true
+    → tooLarge (w .length) (finishedSize w) ≡ false → consistent (stateWith w counts buf) ≡ true
+    → stateWith w counts (written w counts buf) ≡ afterClose (stateWith w counts buf)
 closes-image w counts buf bytes fit fine all =
-    let s = lent w counts buf in
+    let s = stateWith w counts buf in
     let a : Bool = whole (w .entries) (entryArea s) in
     let b : Bool = countsAgree counts (recorded s) in
     let c : Bool = eqb (w .back) (backIn (w .mode) (backSize (recorded s))) in

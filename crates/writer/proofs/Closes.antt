@@ -10,7 +10,7 @@ use borrow.Author.Tests.{eq-eqb, ne-eqb}
 use lib.Dec.{eqb}
 use Rattle.jhash.specs.Outcome.{Outcome, value, refusal}
 use Rattle.image.specs.Image.{backIn, backSize, flagWord, headBytes, image}
-use Rattle.writer.specs.State.{State, lent, fits, finishedSize, tooLarge}
+use Rattle.writer.specs.State.{State, stateWith, fits, finishedSize, tooLarge}
 use Rattle.image.specs.Stored.{whole}
 use Rattle.writer.specs.Close.{consistent, entryArea, recorded, countsAgree, closeRefusal, closedSize, closed, afterClose, closing}
 use Rattle.writer.specs.steps.Working.{linksAt, rowsFrom, cleared, takenFrom, written}

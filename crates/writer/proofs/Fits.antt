@@ -11,26 +11,26 @@ use Rattle.image.specs.Image.{headSize, backIn}
 use Rattle.image.specs.declared.Mode.{Mode}
 use Rattle.image.specs.declared.Mode.the-variants.{Twoway, Oneway}
 use Rattle.image.proofs.Bools.{first, second, neither-first, neither-second}
-use Rattle.writer.specs.State.{State, lent, noneAbove, fits, tooLarge}
+use Rattle.writer.specs.State.{State, stateWith, noneAbove, fits, tooLarge}
 use Rattle.writer.specs.Put.{raised}
 use Rattle.writer.specs.declared.CQDBWriter.{CQDBWriter}
 
 module _ (w : CQDBWriter) (counts buf : List ℕ) where
   -- the checks in their order
-  pub other-length : (w .length ≡ length buf → ⊥) → false ≡ fits (lent w counts buf)
+  pub other-length : (w .length ≡ length buf → ⊥) → false ≡ fits (stateWith w counts buf)
   unfolding fits
   other-length h = rw (ne-eqb (w .length) (length buf) h)
 
-  pub end-low : w .length ≡ length buf → w .end < headSize → false ≡ fits (lent w counts buf)
+  pub end-low : w .length ≡ length buf → w .end < headSize → false ≡ fits (stateWith w counts buf)
   unfolding fits
   end-low p h = rw (eq-eqb (w .length) (length buf) p, lt-leb headSize (w .end) h)
 
-  pub end-high : w .length ≡ length buf → headSize ≤ w .end → w .length < w .end → false ≡ fits (lent w counts buf)
+  pub end-high : w .length ≡ length buf → headSize ≤ w .end → w .length < w .end → false ≡ fits (stateWith w counts buf)
   unfolding fits
   end-high p q h = rw (eq-eqb (w .length) (length buf) p, le-leb headSize (w .end) q, lt-leb (w .end) (w .length) h)
 
   pub by-counts : w .length ≡ length buf → headSize ≤ w .end → w .end ≤ w .length
-      → (b : Bool) → b ≡ noneAbove counts (w .entries) → b ≡ fits (lent w counts buf)
+      → (b : Bool) → b ≡ noneAbove counts (w .entries) → b ≡ fits (stateWith w counts buf)
   unfolding fits
   by-counts p q r b h =
       rw (eq-eqb (w .length) (length buf) p, le-leb headSize (w .end) q, le-leb (w .end) (w .length) r) h
@@ -42,7 +42,7 @@ pub record Fitting (w : CQDBWriter) (counts buf : List ℕ) : Type 0 where
   pub high : w .end ≤ w .length
   pub none : noneAbove counts (w .entries) ≡ true
 
-pub fitting : (w : CQDBWriter) (counts buf : List ℕ) → fits (lent w counts buf) ≡ true → Fitting w counts buf
+pub fitting : (w : CQDBWriter) (counts buf : List ℕ) → fits (stateWith w counts buf) ≡ true → Fitting w counts buf
 unfolding fits
 fitting w counts buf h =
     let a = eqb (w .length) (length buf) in

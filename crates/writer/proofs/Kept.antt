@@ -14,7 +14,7 @@ use Rattle.image.specs.declared.Mode.{Mode}
 use Rattle.image.proofs.Sizes.{length-entryBytes, length-entries, length-image}
 use Rattle.image.proofs.At.{At, at-take}
 use Rattle.image.proofs.Parts.{entries-at}
-use Rattle.writer.specs.State.{State, lent, fits, finishedSize, tooLarge}
+use Rattle.writer.specs.State.{State, stateWith, fits, finishedSize, tooLarge}
 use Rattle.writer.specs.Put.{putRefusal, appended, afterPut}
 use Rattle.image.specs.Stored.{whole}
 use Rattle.writer.specs.Close.{entryArea, recorded, countsAgree, closeRefusal, closedSize, closed, afterClose}

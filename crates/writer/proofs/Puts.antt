@@ -12,7 +12,7 @@ use borrow.Author.Tests.{lt-ltb, leb-true, eq-eqb, ne-eqb}
 use Rattle.jhash.specs.NameHash.{hashOf}
 use Rattle.image.specs.Tables.{tableOf}
 use Rattle.image.specs.Image.{Entry, entryBytes}
-use Rattle.writer.specs.State.{State, lent, fits, finishedSize, tooLarge}
+use Rattle.writer.specs.State.{State, stateWith, fits, finishedSize, tooLarge}
 use Rattle.image.specs.Zero.{hasZero}
 use Rattle.image.specs.Tally.{raisedCounts, countsAfter}
 use Rattle.writer.specs.Put.{entryOf, writerWith, writerAfter, putRefusal, appended, afterPut}
@@ -83,7 +83,7 @@ long-name w name id h =
 pub appended-parts : (w v : CQDBWriter) (counts counts′ buf buf′ name : List ℕ) (id h : ℕ) → h ≡ hashOf name
     → v ≡ writerWith w (length name) id → counts′ ≡ raisedCounts counts h
     → buf′ ≡ sets buf (w .end) (entryBytes (entryOf name id))
-    → lent v counts′ buf′ ≡ appended (lent w counts buf) (entryOf name id)
+    → stateWith v counts′ buf′ ≡ appended (stateWith w counts buf) (entryOf name id)
 unfolding appended writerAfter countsAfter
 appended-parts w v counts counts′ buf buf′ name id h e p q r =
     λ i. record {
@@ -93,7 +93,7 @@ appended-parts w v counts counts′ buf buf′ name id h e p q r =
     }
 
 -- what the checks leave for the stores
-module _ (w : CQDBWriter) (counts buf : List ℕ) (n id : ℕ) (yes : fits (lent w counts buf) ≡ true)
+module _ (w : CQDBWriter) (counts buf : List ℕ) (n id : ℕ) (yes : fits (stateWith w counts buf) ≡ true)
     (fine : tooLarge (w .length) (finishedSize (writerWith w n id)) ≡ false) where
   pub size-small : finishedSize (writerWith w n id) ≤ 4294967295
   size-small = not-too-large (w .length) (finishedSize (writerWith w n id)) fine .1

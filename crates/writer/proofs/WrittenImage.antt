@@ -13,7 +13,7 @@ use Rattle.image.specs.declared.Mode.{Mode}
 use Rattle.image.proofs.Sizes.{length-entries, entriesSize-append}
 use Rattle.image.proofs.Every.{All}
 use Rattle.writer.specs.declared.CQDBWriter.{CQDBWriter}
-use Rattle.writer.specs.State.{lent, fits, finishedSize}
+use Rattle.writer.specs.State.{stateWith, fits, finishedSize}
 use Rattle.image.specs.Stored.{whole}
 use Rattle.writer.specs.Close.{entryArea, recorded, countsAgree, closed}
 use Rattle.writer.specs.steps.Working.{linksAt, taken, takenFrom, written}
@@ -53,32 +53,32 @@ module _ (mode : Mode) (es : List Entry) (tail : List ℕ) (small : imageSize mo
 
 -- ---- what the checks of close say
 
-module _ (w : CQDBWriter) (counts buf : List ℕ) (bytes : Bytes buf) (fit : fits (lent w counts buf) ≡ true)
-    (entire : whole (w .entries) (entryArea (lent w counts buf)) ≡ true) where
+module _ (w : CQDBWriter) (counts buf : List ℕ) (bytes : Bytes buf) (fit : fits (stateWith w counts buf) ≡ true)
+    (entire : whole (w .entries) (entryArea (stateWith w counts buf)) ≡ true) where
   es : List Entry
-  es = recorded (lent w counts buf)
+  es = recorded (stateWith w counts buf)
 
-  area-bytes : Bytes (entryArea (lent w counts buf))
+  area-bytes : Bytes (entryArea (stateWith w counts buf))
   area-bytes = bytes-take (w .end - headSize) (drop headSize buf) (bytes-drop headSize buf bytes)
 
   -- the bytes of the entries are kept
-  pub area-kept : entryArea (lent w counts buf) ≡ cat entryBytes (recorded (lent w counts buf))
-  area-kept = whole-bytes (w .entries) (entryArea (lent w counts buf)) area-bytes entire
+  pub area-kept : entryArea (stateWith w counts buf) ≡ cat entryBytes (recorded (stateWith w counts buf))
+  area-kept = whole-bytes (w .entries) (entryArea (stateWith w counts buf)) area-bytes entire
 
-  pub recorded-number : length (recorded (lent w counts buf)) ≡ w .entries
-  recorded-number = length-entriesIn (w .entries) (entryArea (lent w counts buf))
+  pub recorded-number : length (recorded (stateWith w counts buf)) ≡ w .entries
+  recorded-number = length-entriesIn (w .entries) (entryArea (stateWith w counts buf))
 
-  pub recorded-end : w .end ≡ entriesEnd (recorded (lent w counts buf))
+  pub recorded-end : w .end ≡ entriesEnd (recorded (stateWith w counts buf))
   recorded-end =
       let f = fitting w counts buf fit in
-      let area = length (entryArea (lent w counts buf)) in
-      let n : area ≡ entriesSize (recorded (lent w counts buf)) = ap length area-kept ∙ length-entries (recorded (lent w counts buf)) in
+      let area = length (entryArea (stateWith w counts buf)) in
+      let n : area ≡ entriesSize (recorded (stateWith w counts buf)) = ap length area-kept ∙ length-entries (recorded (stateWith w counts buf)) in
       let m : area ≡ w .end - headSize = simp (length-take, length-drop) (omega (arith, f .same-length, f .high)) in
       let l = f .low in
       omega arith
 
-  module _ (agree : countsAgree counts (recorded (lent w counts buf)) ≡ true)
-      (backs : w .back ≡ backIn (w .mode) (backSize (recorded (lent w counts buf))))
+  module _ (agree : countsAgree counts (recorded (stateWith w counts buf)) ≡ true)
+      (backs : w .back ≡ backIn (w .mode) (backSize (recorded (stateWith w counts buf))))
       (small : finishedSize w ≤ 4294967295) (room : finishedSize w ≤ length buf) where
     tells : Tells w counts buf es
     unfolding es
@@ -86,16 +86,16 @@ module _ (w : CQDBWriter) (counts buf : List ℕ) (bytes : Bytes buf) (fit : fit
       ends = recorded-end;
       number = sym recorded-number;
       backs = backs;
-      tallies = counts-agree counts (recorded (lent w counts buf)) agree;
+      tallies = counts-agree counts (recorded (stateWith w counts buf)) agree;
       area = area-kept;
       room = room;
     }
 
-    pub size-image : finishedSize w ≡ imageSize (w .mode) (recorded (lent w counts buf))
+    pub size-image : finishedSize w ≡ imageSize (w .mode) (recorded (stateWith w counts buf))
     unfolding es
     size-image = told-size w counts buf es tells
 
-    pub written-image : written w counts buf ≡ image (w .mode) (recorded (lent w counts buf)) ++ drop (finishedSize w) buf
+    pub written-image : written w counts buf ≡ image (w .mode) (recorded (stateWith w counts buf)) ++ drop (finishedSize w) buf
     unfolding written es entriesSize
     written-image =
         let mode = w .mode in
@@ -104,10 +104,10 @@ module _ (w : CQDBWriter) (counts buf : List ℕ) (bytes : Bytes buf) (fit : fit
         ∙ ap (λ (o : ℕ). takenFrom mode o (w .end) (w .entries) headSize (partial mode es [] ++ tail)) (told-links w counts buf es tells)
         ∙ ap (λ (o : ℕ). takenFrom mode (backOffset mode es) o (w .entries) headSize (partial mode es [] ++ tail)) recorded-end
         ∙ ap (λ (n : ℕ). takenFrom mode (backOffset mode es) (entriesEnd es) n headSize (partial mode es [] ++ tail)) (sym recorded-number)
-        ∙ walked mode es tail (rw (← size-image) small) (ids-words (w .entries) (entryArea (lent w counts buf)) area-bytes) es [] refl
+        ∙ walked mode es tail (rw (← size-image) small) (ids-words (w .entries) (entryArea (stateWith w counts buf)) area-bytes) es [] refl
         ∙ ap (λ (l : List ℕ). l ++ tail) (partial-all mode es)
 
     -- as the rule of close says it
-    pub written-closed : lent w counts (written w counts buf) ≡ closed (lent w counts buf)
+    pub written-closed : stateWith w counts (written w counts buf) ≡ closed (stateWith w counts buf)
     unfolding closed
-    written-closed = ap (lent w counts) written-image
+    written-closed = ap (stateWith w counts) written-image

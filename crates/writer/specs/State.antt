@@ -18,8 +18,8 @@ pub record State : Type 0 where
   pub counts : List ℕ
   pub buffer : List ℕ
 
-abbrev pub lent : CQDBWriter → List ℕ → List ℕ → State
-lent w counts buffer = record { writer = w; counts = counts; buffer = buffer }
+abbrev pub stateWith : CQDBWriter → List ℕ → List ℕ → State
+stateWith w counts buffer = record { writer = w; counts = counts; buffer = buffer }
 
 -- no table count exceeds the number of entries
 abbrev pub noneAbove : List ℕ → ℕ → Bool

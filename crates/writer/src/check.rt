@@ -2,7 +2,7 @@
 ghost use mathlib.Core.Path.{_≡_};
 ghost use Prim.Native.Nat.{_≤_};
 ghost use lib.ListN.{length};
-ghost use Rattle.writer.specs.State.{lent};
+ghost use Rattle.writer.specs.State.{stateWith};
 ghost use Rattle.writer.specs.Close.{consistent};
 ghost use Rattle.image.specs.Tally.{sameCounts};
 use super::CQDBWriter;
@@ -24,7 +24,7 @@ fn same_counts(a: &[u32; 256], b: &[u32; 256]) -> bool
 // Whether the entries are whole and have the record's counts and back size.
 pub(super) fn agrees(w: CQDBWriter, counts: &[u32; 256], buf: &[u8]) -> bool
     requires { ⌜ (2072 ≤ w .end) × (w .end ≤ length (now buf)) ⌝ }
-    ensures { λ r. ⌜ r ≡ consistent (lent w (now (counts .entry)) (now (buf .entry))) ⌝ }
+    ensures { λ r. ⌜ r ≡ consistent (stateWith w (now (counts .entry)) (now (buf .entry))) ⌝ }
 {
     let mut tally = [0; 256];
     let walked = image::entries::walk(buf, w.end as usize, w.entries, &mut tally);

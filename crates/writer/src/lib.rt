@@ -2,7 +2,7 @@
 ghost use mathlib.Core.Path.{_≡_};
 ghost use Prim.Native.Nat.{_≤_};
 ghost use lib.ListN.{length};
-ghost use Rattle.writer.specs.State.{lent, beginning, begunOf, countsBegun, finishedSize};
+ghost use Rattle.writer.specs.State.{stateWith, beginning, begunOf, countsBegun, finishedSize};
 ghost use Rattle.writer.specs.Put.{putRefusal, appended, afterPut, entryOf};
 ghost use Rattle.writer.specs.Close.{closing, closedOf, afterClose};
 ghost use Rattle.writer.specs.steps.Working.{written};
@@ -69,7 +69,7 @@ pub fn begin(mode: Mode, counts: &mut [u32; 256], buf: &[u8]) -> Begun
 
 // The number of the refusal that is due to a put, 0 where it is accepted. All of put's decision stands here.
 fn put_refusal(w: CQDBWriter, counts: &[u32; 256], buf: &[u8], name: &[u8], id: u32) -> u32
-    ensures { λ r. ⌜ r ≡ putRefusal (lent w (now (counts .entry)) (now (buf .entry))) (entryOf (now (name .entry)) id) ⌝ }
+    ensures { λ r. ⌜ r ≡ putRefusal (stateWith w (now (counts .entry)) (now (buf .entry))) (entryOf (now (name .entry)) id) ⌝ }
 {
     if !record::fits(w, counts, buf) {
         return 2;
@@ -94,8 +94,8 @@ fn append(
     name: &[u8],
     id: u32,
 ) -> CQDBWriter
-    requires { ⌜ putRefusal (lent w (now counts) (now buf)) (entryOf (now name) id) ≡ 0 ⌝ }
-    ensures { λ r. ⌜ lent r (now (counts .exit)) (now (buf .exit)) ≡ appended (lent w (now (counts .entry)) (now (buf .entry))) (entryOf (now (name .entry)) id) ⌝ }
+    requires { ⌜ putRefusal (stateWith w (now counts) (now buf)) (entryOf (now name) id) ≡ 0 ⌝ }
+    ensures { λ r. ⌜ stateWith r (now (counts .exit)) (now (buf .exit)) ≡ appended (stateWith w (now (counts .entry)) (now (buf .entry))) (entryOf (now (name .entry)) id) ⌝ }
 {
     let jhash::Hashed::Hash(h) = jhash::name_hash(name) else {
         return w;
@@ -113,8 +113,8 @@ pub fn put(
     name: &[u8],
     id: u32,
 ) -> PutAnswer
-    ensures answer { λ r. ⌜ r .refusal ≡ putRefusal (lent w (now (counts .entry)) (now (buf .entry))) (entryOf (now (name .entry)) id) ⌝ }
-    ensures leaves { λ r. ⌜ lent (r .writer) (now (counts .exit)) (now (buf .exit)) ≡ afterPut (lent w (now (counts .entry)) (now (buf .entry))) (entryOf (now (name .entry)) id) ⌝ }
+    ensures answer { λ r. ⌜ r .refusal ≡ putRefusal (stateWith w (now (counts .entry)) (now (buf .entry))) (entryOf (now (name .entry)) id) ⌝ }
+    ensures leaves { λ r. ⌜ stateWith (r .writer) (now (counts .exit)) (now (buf .exit)) ≡ afterPut (stateWith w (now (counts .entry)) (now (buf .entry))) (entryOf (now (name .entry)) id) ⌝ }
 {
     let refusal = put_refusal(w, &*counts, &*buf, name, id);
     if refusal != 0 {
@@ -147,8 +147,8 @@ fn write_image(w: CQDBWriter, counts: &[u32; 256], buf: &mut [u8])
 
 // Writes head, tables and back array into the lent buffer, and gives the image's size. May be called often.
 pub fn close(w: CQDBWriter, counts: &[u32; 256], buf: &mut [u8]) -> CloseAnswer
-    ensures answer { λ r. ⌜ closedOf (r .answer) ≡ closing (lent w (now (counts .entry)) (now (buf .entry))) ⌝ }
-    ensures leaves { λ r. ⌜ lent (r .writer) (now (counts .entry)) (now (buf .exit)) ≡ afterClose (lent w (now (counts .entry)) (now (buf .entry))) ⌝ }
+    ensures answer { λ r. ⌜ closedOf (r .answer) ≡ closing (stateWith w (now (counts .entry)) (now (buf .entry))) ⌝ }
+    ensures leaves { λ r. ⌜ stateWith (r .writer) (now (counts .entry)) (now (buf .exit)) ≡ afterClose (stateWith w (now (counts .entry)) (now (buf .entry))) ⌝ }
 {
     if !record::fits(w, counts, &*buf) {
         return CloseAnswer {

@@ -4,7 +4,7 @@ ghost use Prim.Native.Nat.{ℕ, _+_, _<_, _≤_, _^_, max};
 ghost use lib.ListN.{length, getD};
 ghost use Rattle.image.specs.Tables.{tableOf};
 ghost use Rattle.image.specs.Image.{backIn};
-ghost use Rattle.writer.specs.State.{lent, noneAbove, fits, tooLarge, finishedSize};
+ghost use Rattle.writer.specs.State.{stateWith, noneAbove, fits, tooLarge, finishedSize};
 ghost use Rattle.image.specs.Tally.{raisedCounts};
 ghost use Rattle.writer.specs.Put.{raised, writerWith};
 ghost use Rattle.writer.specs.steps.Working.{linksAt};
@@ -54,7 +54,7 @@ pub(super) fn none_above(counts: &[u32; 256], entries: u32) -> bool
 
 // Whether the record fits the buffer.
 pub(super) fn fits(w: CQDBWriter, counts: &[u32; 256], buf: &[u8]) -> bool
-    ensures { λ r. ⌜ r ≡ fits (lent w (now (counts .entry)) (now (buf .entry))) ⌝ }
+    ensures { λ r. ⌜ r ≡ fits (stateWith w (now (counts .entry)) (now (buf .entry))) ⌝ }
 {
     if w.length != buf.len() as u64 {
         return false;

@@ -4,7 +4,7 @@ use mathlib.Core.Path.{_≡_, refl, ap, _∙_}
 use mathlib.Core.Logic.{⊎-elim}
 use lib.ListN.{length}
 use borrow.Author.Needs.{needs}
-use Rattle.writer.specs.State.{lent}
+use Rattle.writer.specs.State.{stateWith}
 use Rattle.lines.specs.steps.Pieces.{gathering}
 use Rattle.catalogue.proofs.InputRead.{Taken, none-taken, more-taken, taken-left}
 use Rattle.catalogue.proofs.put_input.Statement.{statement}
@@ -71,7 +71,7 @@ returns : tie.Need-returns Inv-loop μ-loop
 returns c =
     let at = c .before .before .before .before .before .before .before .loop in
     let a = c .before .before .before .before .before .before .before .before .before .before .before .args in
-    taken-left (lent (a .w) (a .counts .now) (a .buf .now)) _ (a .room .now) (gathering (at .t) (at .counts) (at .buf) (at .room)) (at .inv .0) (c .before .before .end-input .ensures)
+    taken-left (stateWith (a .w) (a .counts .now) (a .buf .now)) _ (a .room .now) (gathering (at .t) (at .counts) (at .buf) (at .room)) (at .inv .0) (c .before .before .end-input .ensures)
 
 pub put-input-spec : {M : Type 1} → statement M
 put-input-spec =

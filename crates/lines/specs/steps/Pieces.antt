@@ -6,7 +6,7 @@ use mathlib.Core.Bool.{cond}
 use mathlib.Core.List.{List, [], _∷_, _++_}
 use lib.ListN.{length, take, set}
 use lib.Dec.{eqb, ltb}
-use Rattle.writer.specs.State.{State, lent}
+use Rattle.writer.specs.State.{State, stateWith}
 use Rattle.lines.specs.declared.Intake.{Intake}
 use Rattle.lines.specs.Lines.{afterLine, afterInput}
 
@@ -19,7 +19,7 @@ pub record Gathering : Type 0 where
 
 -- what a call is lent, and what it leaves
 abbrev pub gathering : Intake → List ℕ → List ℕ → List ℕ → Gathering
-gathering t counts buffer room = record { state = lent (t .writer) counts buffer; room = room; have = t .have }
+gathering t counts buffer room = record { state = stateWith (t .writer) counts buffer; room = room; have = t .have }
 
 -- at an input's start
 abbrev pub started : State → List ℕ → Gathering

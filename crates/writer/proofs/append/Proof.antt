@@ -3,7 +3,7 @@ use mathlib.Core.Path.{_≡_, sym, _∙_}
 use lib.ListN.{length}
 use Rattle.image.proofs.Bools.{not-both}
 use Rattle.jhash.proofs.Outcomes.{told-refused, told-image-hash}
-use Rattle.writer.specs.State.{lent}
+use Rattle.writer.specs.State.{stateWith}
 use Rattle.writer.specs.Put.{entryOf, writerAfter}
 use Rattle.writer.proofs.Puts.{Passed, passed, long-name, count-small, entry-fits, size-small, appended-parts}
 use borrow.Author.Needs.{needs}
@@ -22,7 +22,7 @@ enum-told c = search needs
 returns : tie.Need-returns
 returns c =
     let a = c .before .before .before .before .before .args in
-    let s = lent (a .w) (a .counts .now) (a .buf .now) in
+    let s = stateWith (a .w) (a .counts .now) (a .buf .now) in
     let went = passed s (entryOf (a .name .now) (a .id)) (c .before .before .before .before .before .pre) in
     let long = told-refused (a .name .now) 0 (c .before .before .name-hash .result) (c .before .before .name-hash .ensures) (c .enum-told .given .1) in
     absurd (not-both (sym (went .roomy) ∙ long-name (a .w) (a .name .now) (a .id) long))
@@ -31,7 +31,7 @@ raise-requires : tie.Need-raise-requires
 unfolding writerAfter
 raise-requires c κs =
     let a = c .before .before .before .before .before .before .before .args in
-    let s = lent (a .w) (a .counts .now) (a .buf .now) in
+    let s = stateWith (a .w) (a .counts .now) (a .buf .now) in
     let went = passed s (entryOf (a .name .now) (a .id)) (c .before .before .before .before .before .before .before .pre) in
     count-small (a .w) (a .counts .now) (a .buf .now) (length (a .name .now)) (a .id) (went .fitted) (went .roomy) (c .before .before .h .given .0 .0)
 
@@ -39,7 +39,7 @@ store-requires : tie.Need-store-requires
 unfolding writerAfter
 store-requires c κs =
     let a = c .before .before .before .before .before .before .before .before .before .args in
-    let s = lent (a .w) (a .counts .now) (a .buf .now) in
+    let s = stateWith (a .w) (a .counts .now) (a .buf .now) in
     let went = passed s (entryOf (a .name .now) (a .id)) (c .before .before .before .before .before .before .before .before .before .pre) in
     let told = told-image-hash (a .name .now) (c .before .before .before .before .before .before .name-hash .result) (c .before .before .before .before .h .given .0 .0) (c .before .before .before .before .before .before .name-hash .ensures) (c .before .before .before .before .h .given .1) in
     (entry-fits (a .w) (a .counts .now) (a .buf .now) (length (a .name .now)) (a .id) (went .fitted) (went .roomy), told .0)
@@ -48,7 +48,7 @@ after-requires : tie.Need-after-requires
 unfolding writerAfter
 after-requires c κs =
     let a = c .before .before .before .before .before .before .before .before .before .before .before .before .args in
-    let s = lent (a .w) (a .counts .now) (a .buf .now) in
+    let s = stateWith (a .w) (a .counts .now) (a .buf .now) in
     let went = passed s (entryOf (a .name .now) (a .id)) (c .before .before .before .before .before .before .before .before .before .before .before .before .pre) in
     size-small (a .w) (a .counts .now) (a .buf .now) (length (a .name .now)) (a .id) (went .fitted) (went .roomy)
 

@@ -7,7 +7,7 @@ use mathlib.Core.Path.{_≡_, sym, ap, _∙_}
 use mathlib.Core.Bool.{true, false}
 use borrow.Author.Tests.{not-true, not-false}
 use Rattle.jhash.specs.Outcome.{value}
-use Rattle.writer.specs.State.{lent, fits, tooLarge, finishedSize}
+use Rattle.writer.specs.State.{stateWith, fits, tooLarge, finishedSize}
 use Rattle.writer.proofs.Fits.{Fitting, fitting, not-too-large}
 use Rattle.writer.proofs.Accepted.{closes-image}
 use Rattle.writer.specs.Close.{consistent}
@@ -30,11 +30,11 @@ same-length : tie.Need-same-length
 same-length c = search needs
 
 returns : tie.Need-returns
-returns c = unfit (lent (c .before .before .before .before .args .w) (c .before .before .before .before .args .counts .now) (c .before .before .before .before .args .buf .now)) (sym (c .before .fits2 .ensures) ∙ not-true _ (c .if1 .taken))
+returns c = unfit (stateWith (c .before .before .before .before .args .w) (c .before .before .before .before .args .counts .now) (c .before .before .before .before .args .buf .now)) (sym (c .before .fits2 .ensures) ∙ not-true _ (c .if1 .taken))
 
 finished-size-requires : tie.Need-finished-size-requires
 finished-size-requires c κs =
-    let yes : fits (lent (c .before .before .before .before .args .w) (c .before .before .before .before .args .counts .now) (c .before .before .before .before .args .buf .now)) ≡ true = sym (c .before .fits2 .ensures) ∙ not-false _ (c .if1 .left) in
+    let yes : fits (stateWith (c .before .before .before .before .args .w) (c .before .before .before .before .args .counts .now) (c .before .before .before .before .args .buf .now)) ≡ true = sym (c .before .fits2 .ensures) ∙ not-false _ (c .if1 .left) in
     let f = fitting (c .before .before .before .before .args .w) (c .before .before .before .before .args .counts .now) (c .before .before .before .before .args .buf .now) yes in
     omega (arith, f, c .before .before .before .before .good)
 
@@ -46,14 +46,14 @@ same-length-2 c = search needs
 
 returns-2 : tie.Need-returns-2
 returns-2 c =
-    let yes : fits (lent (c .before .before .before .before .before .before .before .args .w) (c .before .before .before .before .before .before .before .args .counts .now) (c .before .before .before .before .before .before .before .args .buf .now)) ≡ true = sym (c .before .before .before .before .fits2 .ensures) ∙ not-false _ (c .before .before .before .if1 .left) in
+    let yes : fits (stateWith (c .before .before .before .before .before .before .before .args .w) (c .before .before .before .before .before .before .before .args .counts .now) (c .before .before .before .before .before .before .before .args .buf .now)) ≡ true = sym (c .before .before .before .before .fits2 .ensures) ∙ not-false _ (c .before .before .before .if1 .left) in
     let fine : tooLarge (c .before .before .before .before .before .before .before .args .w .length) (finishedSize (c .before .before .before .before .before .before .before .args .w)) ≡ true =
     ap (λ (m : ℕ). tooLarge (c .before .before .before .before .before .before .before .args .w .length) m) (sym (c .before .before .finished-size .ensures)) ∙ sym (c .before .too-large .ensures) ∙ c .if2 .taken in
-    too-big (lent (c .before .before .before .before .before .before .before .args .w) (c .before .before .before .before .before .before .before .args .counts .now) (c .before .before .before .before .before .before .before .args .buf .now)) yes fine
+    too-big (stateWith (c .before .before .before .before .before .before .before .args .w) (c .before .before .before .before .before .before .before .args .counts .now) (c .before .before .before .before .before .before .before .args .buf .now)) yes fine
 
 agrees-requires : tie.Need-agrees-requires
 agrees-requires c κs =
-    let yes : fits (lent (c .before .before .before .before .before .before .before .before .args .w) (c .before .before .before .before .before .before .before .before .args .counts .now) (c .before .before .before .before .before .before .before .before .args .buf .now)) ≡ true = sym (c .before .before .before .before .before .fits2 .ensures) ∙ not-false _ (c .before .before .before .before .if1 .left) in
+    let yes : fits (stateWith (c .before .before .before .before .before .before .before .before .args .w) (c .before .before .before .before .before .before .before .before .args .counts .now) (c .before .before .before .before .before .before .before .before .args .buf .now)) ≡ true = sym (c .before .before .before .before .before .fits2 .ensures) ∙ not-false _ (c .before .before .before .before .if1 .left) in
     let f = fitting (c .before .before .before .before .before .before .before .before .args .w) (c .before .before .before .before .before .before .before .before .args .counts .now) (c .before .before .before .before .before .before .before .before .args .buf .now) yes in
     (f .low, omega (arith, f .high, f .same-length))
 
@@ -62,12 +62,12 @@ same-length-3 c = search needs
 
 returns-3 : tie.Need-returns-3
 returns-3 c =
-    let yes : fits (lent (c .before .before .before .before .before .before .before .before .before .before .args .w) (c .before .before .before .before .before .before .before .before .before .before .args .counts .now) (c .before .before .before .before .before .before .before .before .before .before .args .buf .now)) ≡ true = sym (c .before .before .before .before .before .before .before .fits2 .ensures) ∙ not-false _ (c .before .before .before .before .before .before .if1 .left) in
-    differs (lent (c .before .before .before .before .before .before .before .before .before .before .args .w) (c .before .before .before .before .before .before .before .before .before .before .args .counts .now) (c .before .before .before .before .before .before .before .before .before .before .args .buf .now)) yes (sym (c .before .agrees .ensures) ∙ not-true _ (c .if3 .taken))
+    let yes : fits (stateWith (c .before .before .before .before .before .before .before .before .before .before .args .w) (c .before .before .before .before .before .before .before .before .before .before .args .counts .now) (c .before .before .before .before .before .before .before .before .before .before .args .buf .now)) ≡ true = sym (c .before .before .before .before .before .before .before .fits2 .ensures) ∙ not-false _ (c .before .before .before .before .before .before .if1 .left) in
+    differs (stateWith (c .before .before .before .before .before .before .before .before .before .before .args .w) (c .before .before .before .before .before .before .before .before .before .before .args .counts .now) (c .before .before .before .before .before .before .before .before .before .before .args .buf .now)) yes (sym (c .before .agrees .ensures) ∙ not-true _ (c .if3 .taken))
 
 write-image-requires : tie.Need-write-image-requires
 write-image-requires c κs =
-    let yes : fits (lent (c .before .before .before .before .before .before .before .before .before .before .before .args .w) (c .before .before .before .before .before .before .before .before .before .before .before .args .counts .now) (c .before .before .before .before .before .before .before .before .before .before .before .args .buf .now)) ≡ true = sym (c .before .before .before .before .before .before .before .before .fits2 .ensures) ∙ not-false _ (c .before .before .before .before .before .before .before .if1 .left) in
+    let yes : fits (stateWith (c .before .before .before .before .before .before .before .before .before .before .before .args .w) (c .before .before .before .before .before .before .before .before .before .before .before .args .counts .now) (c .before .before .before .before .before .before .before .before .before .before .before .args .buf .now)) ≡ true = sym (c .before .before .before .before .before .before .before .before .fits2 .ensures) ∙ not-false _ (c .before .before .before .before .before .before .before .if1 .left) in
     let fine : tooLarge (c .before .before .before .before .before .before .before .before .before .before .before .args .w .length) (finishedSize (c .before .before .before .before .before .before .before .before .before .before .before .args .w)) ≡ false =
     ap (λ (m : ℕ). tooLarge (c .before .before .before .before .before .before .before .before .before .before .before .args .w .length) m) (sym (c .before .before .before .before .before .before .finished-size .ensures)) ∙ sym (c .before .before .before .before .before .too-large .ensures) ∙ c .before .before .before .before .if2 .left in
     let f = fitting (c .before .before .before .before .before .before .before .before .before .before .before .args .w) (c .before .before .before .before .before .before .before .before .before .before .before .args .counts .now) (c .before .before .before .before .before .before .before .before .before .before .before .args .buf .now) yes in
@@ -86,16 +86,16 @@ same-length-4 c = search needs
 
 returns-4 : tie.Need-returns-4
 returns-4 c =
-    let yes : fits (lent (c .before .before .before .before .before .before .before .before .before .before .before .before .before .before .args .w) (c .before .before .before .before .before .before .before .before .before .before .before .before .before .before .args .counts .now) (c .before .before .before .before .before .before .before .before .before .before .before .before .before .before .args .buf .now)) ≡ true = sym (c .before .before .before .before .before .before .before .before .before .before .before .fits2 .ensures) ∙ not-false _ (c .before .before .before .before .before .before .before .before .before .before .if1 .left) in
+    let yes : fits (stateWith (c .before .before .before .before .before .before .before .before .before .before .before .before .before .before .args .w) (c .before .before .before .before .before .before .before .before .before .before .before .before .before .before .args .counts .now) (c .before .before .before .before .before .before .before .before .before .before .before .before .before .before .args .buf .now)) ≡ true = sym (c .before .before .before .before .before .before .before .before .before .before .before .fits2 .ensures) ∙ not-false _ (c .before .before .before .before .before .before .before .before .before .before .if1 .left) in
     let fine : tooLarge (c .before .before .before .before .before .before .before .before .before .before .before .before .before .before .args .w .length) (finishedSize (c .before .before .before .before .before .before .before .before .before .before .before .before .before .before .args .w)) ≡ false =
     ap (λ (m : ℕ). tooLarge (c .before .before .before .before .before .before .before .before .before .before .before .before .before .before .args .w .length) m) (sym (c .before .before .before .before .before .before .before .before .before .finished-size .ensures)) ∙ sym (c .before .before .before .before .before .before .before .before .too-large .ensures) ∙ c .before .before .before .before .before .before .before .if2 .left in
     let a = c .before .before .before .before .before .before .before .before .before .before .before .before .before .before .args in
-    let all : consistent (lent (c .before .before .before .before .before .before .before .before .before .before .before .before .before .before .args .w) (c .before .before .before .before .before .before .before .before .before .before .before .before .before .before .args .counts .now) (c .before .before .before .before .before .before .before .before .before .before .before .before .before .before .args .buf .now)) ≡ true = sym (c .before .before .before .before .before .agrees .ensures) ∙ not-false _ (c .before .before .before .before .if3 .left) in
+    let all : consistent (stateWith (c .before .before .before .before .before .before .before .before .before .before .before .before .before .before .args .w) (c .before .before .before .before .before .before .before .before .before .before .before .before .before .before .args .counts .now) (c .before .before .before .before .before .before .before .before .before .before .before .before .before .before .args .buf .now)) ≡ true = sym (c .before .before .before .before .before .agrees .ensures) ∙ not-false _ (c .before .before .before .before .if3 .left) in
     let l = not-too-large (a .w .length) (finishedSize (a .w)) fine in
     let bytes : (i : ℕ) → getD (a .buf .now) i 0 < 256 = λ i. omega (arith, c .before .before .before .before .before .before .before .before .before .before .before .before .before .slice-known .given i) in
-    let done = closes (lent (c .before .before .before .before .before .before .before .before .before .before .before .before .before .before .args .w) (c .before .before .before .before .before .before .before .before .before .before .before .before .before .before .args .counts .now) (c .before .before .before .before .before .before .before .before .before .before .before .before .before .before .args .buf .now)) yes fine all in (
+    let done = closes (stateWith (c .before .before .before .before .before .before .before .before .before .before .before .before .before .before .args .w) (c .before .before .before .before .before .before .before .before .before .before .before .before .before .before .args .counts .now) (c .before .before .before .before .before .before .before .before .before .before .before .before .before .before .args .buf .now)) yes fine all in (
       ap value (c .before .before .before .before .before .before .before .before .before .finished-size .ensures) ∙ done .0,
-      ap (λ (l : List ℕ). lent (a .w) (a .counts .now) l) (c .before .before .write-image .ensures)
+      ap (λ (l : List ℕ). stateWith (a .w) (a .counts .now) l) (c .before .before .write-image .ensures)
           ∙ closes-image (a .w) (a .counts .now) (a .buf .now) bytes yes fine all,
     )
 

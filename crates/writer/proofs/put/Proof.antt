@@ -1,6 +1,6 @@
 -- `writer::put` meets its contract: the decision, then the effect. Assumes nothing.
 use mathlib.Core.Path.{_≡_, sym, _∙_}
-use Rattle.writer.specs.State.{lent}
+use Rattle.writer.specs.State.{stateWith}
 use Rattle.writer.specs.Put.{entryOf}
 use Rattle.writer.proofs.Puts.{refused-leaves, accepted-leaves}
 use borrow.Author.Needs.{needs}
@@ -16,7 +16,7 @@ same-length c = search needs
 returns : tie.Need-returns
 returns c =
     let a = c .before .before .before .before .before .before .args in
-    let s = lent (a .w) (a .counts .now) (a .buf .now) in
+    let s = stateWith (a .w) (a .counts .now) (a .buf .now) in
     let e = entryOf (a .name .now) (a .id) in
     (c .before .put-refusal .ensures, refused-leaves s e (c .before .put-refusal .result) (c .before .put-refusal .ensures) (c .if1 .taken))
 
@@ -29,7 +29,7 @@ same-length-2 c = search needs
 returns-2 : tie.Need-returns-2
 returns-2 c =
     let a = c .before .before .before .before .before .before .before .before .before .before .before .args in
-    let s = lent (a .w) (a .counts .now) (a .buf .now) in
+    let s = stateWith (a .w) (a .counts .now) (a .buf .now) in
     let e = entryOf (a .name .now) (a .id) in
     let none = sym (c .before .before .before .before .before .before .put-refusal .ensures) ∙ c .before .before .before .before .before .if1 .left in
     (sym none, c .before .before .append .ensures ∙ accepted-leaves s e none)

@@ -5,7 +5,7 @@ use mathlib.Core.Bool.{true, false}
 use lib.ListN.{length}
 use borrow.Author.Tests.{not-true, not-false}
 use Rattle.image.specs.Zero.{hasZero}
-use Rattle.writer.specs.State.{lent, fits, finishedSize, tooLarge}
+use Rattle.writer.specs.State.{stateWith, fits, finishedSize, tooLarge}
 use Rattle.writer.specs.Put.{entryOf, writerWith, writerAfter}
 use Rattle.writer.proofs.Fits.{Fitting, fitting}
 use Rattle.writer.proofs.Puts.{refuses-unfit, refuses-zero, refuses-full, accepts, long-name}
@@ -19,7 +19,7 @@ fits-requires c κs = search needs
 returns : tie.Need-returns
 returns c =
     let a = c .before .before .before .before .args in
-    let s = lent (a .w) (a .counts .now) (a .buf .now) in
+    let s = stateWith (a .w) (a .counts .now) (a .buf .now) in
     let e = entryOf (a .name .now) (a .id) in
     refuses-unfit s e (sym (c .before .fits2 .ensures) ∙ not-true _ (c .if1 .taken))
 
@@ -29,7 +29,7 @@ has-zero-requires c κs = search needs
 returns-2 : tie.Need-returns-2
 returns-2 c =
     let a = c .before .before .before .before .before .before .args in
-    let s = lent (a .w) (a .counts .now) (a .buf .now) in
+    let s = stateWith (a .w) (a .counts .now) (a .buf .now) in
     let e = entryOf (a .name .now) (a .id) in
     let yes : fits s ≡ true = sym (c .before .before .before .fits2 .ensures) ∙ not-false _ (c .before .before .if1 .left) in
     refuses-zero s e yes (sym (c .before .has-zero .ensures) ∙ c .if2 .taken)
@@ -37,7 +37,7 @@ returns-2 c =
 returns-3 : tie.Need-returns-3
 returns-3 c =
     let a = c .before .before .before .before .before .before .before .args in
-    let s = lent (a .w) (a .counts .now) (a .buf .now) in
+    let s = stateWith (a .w) (a .counts .now) (a .buf .now) in
     let e = entryOf (a .name .now) (a .id) in
     let yes : fits s ≡ true = sym (c .before .before .before .before .fits2 .ensures) ∙ not-false _ (c .before .before .before .if1 .left) in
     let free : hasZero (a .name .now) ≡ false = sym (c .before .before .has-zero .ensures) ∙ c .before .if2 .left in
@@ -46,7 +46,7 @@ returns-3 c =
 size-with-requires : tie.Need-size-with-requires
 size-with-requires c κs =
     let a = c .before .before .before .before .before .before .before .args in
-    let s = lent (a .w) (a .counts .now) (a .buf .now) in
+    let s = stateWith (a .w) (a .counts .now) (a .buf .now) in
     let e = entryOf (a .name .now) (a .id) in
     let yes : fits s ≡ true = sym (c .before .before .before .before .fits2 .ensures) ∙ not-false _ (c .before .before .before .if1 .left) in
     let f = fitting (a .w) (a .counts .now) (a .buf .now) yes in
@@ -61,7 +61,7 @@ returns-4 : tie.Need-returns-4
 unfolding writerAfter
 returns-4 c =
     let a = c .before .before .before .before .before .before .before .before .before .before .args in
-    let s = lent (a .w) (a .counts .now) (a .buf .now) in
+    let s = stateWith (a .w) (a .counts .now) (a .buf .now) in
     let e = entryOf (a .name .now) (a .id) in
     let yes : fits s ≡ true = sym (c .before .before .before .before .before .before .before .fits2 .ensures) ∙ not-false _ (c .before .before .before .before .before .before .if1 .left) in
     let free : hasZero (a .name .now) ≡ false = sym (c .before .before .before .before .before .has-zero .ensures) ∙ c .before .before .before .before .if2 .left in
@@ -73,7 +73,7 @@ returns-5 : tie.Need-returns-5
 unfolding writerAfter
 returns-5 c =
     let a = c .before .before .before .before .before .before .before .before .before .before .args in
-    let s = lent (a .w) (a .counts .now) (a .buf .now) in
+    let s = stateWith (a .w) (a .counts .now) (a .buf .now) in
     let e = entryOf (a .name .now) (a .id) in
     let yes : fits s ≡ true = sym (c .before .before .before .before .before .before .before .fits2 .ensures) ∙ not-false _ (c .before .before .before .before .before .before .if1 .left) in
     let free : hasZero (a .name .now) ≡ false = sym (c .before .before .before .before .before .has-zero .ensures) ∙ c .before .before .before .before .if2 .left in

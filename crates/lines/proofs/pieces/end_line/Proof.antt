@@ -5,7 +5,7 @@ use Prim.Native.Nat.{_≤_}
 use lib.ListN.{length}
 use lib.Seq.{length-take-le}
 use borrow.Author.Needs.{needs}
-use Rattle.writer.specs.State.{lent}
+use Rattle.writer.specs.State.{stateWith}
 use Rattle.lines.proofs.Taking.{ended-put, ended-dropped}
 use Rattle.lines.proofs.pieces.end_line.Statement.{statement}
 use Rattle.lines.proofs.pieces.end_line.Tie as tie
@@ -13,7 +13,7 @@ use Rattle.lines.proofs.pieces.end_line.Tie as tie
 returns : tie.Need-returns
 returns c =
     let a = c .before .before .before .before .args in
-    ended-dropped (lent (a .t .writer) (a .counts .now) (a .buf .now)) (a .room .now) (a .t .have) (c .if1 .taken)
+    ended-dropped (stateWith (a .t .writer) (a .counts .now) (a .buf .now)) (a .room .now) (a .t .have) (c .if1 .taken)
 
 slice-aggregate-put-line : tie.Need-slice-aggregate-put-line
 slice-aggregate-put-line c =
@@ -30,7 +30,7 @@ same-length c = search needs
 returns-2 : tie.Need-returns-2
 returns-2 c =
     let a = c .before .before .before .before .before .before .before .before .before .before .args in
-    ended-put (lent (a .t .writer) (a .counts .now) (a .buf .now)) (a .room .now) (a .t .have) _ (c .before .before .before .before .before .before .if1 .left) (c .before .before .put-line .ensures)
+    ended-put (stateWith (a .t .writer) (a .counts .now) (a .buf .now)) (a .room .now) (a .t .have) _ (c .before .before .before .before .before .before .if1 .left) (c .before .before .put-line .ensures)
 
 pub end-line-spec : {M : Type 1} → statement M
 end-line-spec =

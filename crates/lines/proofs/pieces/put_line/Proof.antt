@@ -2,7 +2,7 @@
 use native.Mathlib.Omega.{arith}
 use mathlib.Core.Path.{sym, ap, _∙_}
 use borrow.Author.Needs.{needs}
-use Rattle.writer.specs.State.{lent}
+use Rattle.writer.specs.State.{stateWith}
 use Rattle.lines.specs.Lines.{formOf}
 use Rattle.lines.proofs.Forms.{named}
 use Rattle.lines.proofs.Skipped.{after-other}
@@ -47,13 +47,13 @@ returns c =
     let a = c .before .before .before .before .before .before .before .before .before .before .before .before .before .args in
     let of-id = c .before .before .before .before .before .before .before .before .id in
     c .before .before .before .put .ensures .1
-    ∙ put-part (lent (a .w) (a .counts .now) (a .buf .now)) (a .line .now) (of-id .given .0 .0) (of-id .given .0 .1 .0)
+    ∙ put-part (stateWith (a .w) (a .counts .now) (a .buf .now)) (a .line .now) (of-id .given .0 .0) (of-id .given .0 .1 .0)
     (sym (c .before .before .before .before .before .before .before .before .before .before .parse-line .ensures) ∙ ap formOf (of-id .given .1))
 
 returns-2 : tie.Need-returns-2
 returns-2 c =
     let a = c .before .before .before .before .before .args in
-    sym (after-other (lent (a .w) (a .counts .now) (a .buf .now)) (a .line .now) (sym (c .before .before .parse-line .ensures) ∙ ap formOf (c .enum-told .given .1)))
+    sym (after-other (stateWith (a .w) (a .counts .now) (a .buf .now)) (a .line .now) (sym (c .before .before .parse-line .ensures) ∙ ap formOf (c .enum-told .given .1)))
 
 pub put-line-spec : {M : Type 1} → statement M
 put-line-spec =

@@ -1,6 +1,6 @@
 -- `lines::pieces::take_byte` meets its contract. Assumes nothing.
 use borrow.Author.Needs.{needs}
-use Rattle.writer.specs.State.{lent}
+use Rattle.writer.specs.State.{stateWith}
 use Rattle.lines.proofs.Taking.{byte-feed, byte-more}
 use Rattle.lines.proofs.pieces.take_byte.Statement.{statement}
 use Rattle.lines.proofs.pieces.take_byte.Tie as tie
@@ -17,7 +17,7 @@ same-length-2 c = search needs
 returns : tie.Need-returns
 returns c =
     let a = c .before .before .before .before .before .before .before .before .before .args in
-    byte-feed (lent (a .t .writer) (a .counts .now) (a .buf .now)) (a .room .now) (a .t .have) (a .b) _ (c .before .before .before .before .before .before .if1 .taken) (c .before .before .end-line .ensures)
+    byte-feed (stateWith (a .t .writer) (a .counts .now) (a .buf .now)) (a .room .now) (a .t .have) (a .b) _ (c .before .before .before .before .before .before .if1 .taken) (c .before .before .end-line .ensures)
 
 gather-requires : tie.Need-gather-requires
 gather-requires c κs = search needs
@@ -28,7 +28,7 @@ same-length-3 c = search needs
 returns-2 : tie.Need-returns-2
 returns-2 c =
     let a = c .before .before .before .before .before .before .before .before .args in
-    byte-more (lent (a .t .writer) (a .counts .now) (a .buf .now)) (a .room .now) (a .t .have) (a .b) _ _ (c .before .before .before .before .before .if1 .left) (c .before .before .before .gather .ensures .0) (c .before .before .before .gather .ensures .1)
+    byte-more (stateWith (a .t .writer) (a .counts .now) (a .buf .now)) (a .room .now) (a .t .have) (a .b) _ _ (c .before .before .before .before .before .if1 .left) (c .before .before .before .gather .ensures .0) (c .before .before .before .gather .ensures .1)
 
 pub take-byte-spec : {M : Type 1} → statement M
 take-byte-spec =

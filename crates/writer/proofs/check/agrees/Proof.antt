@@ -6,7 +6,7 @@ use lib.Dec.{eqb}
 use borrow.Author.Tests.{not-true, not-false}
 use Rattle.image.specs.Image.{backIn, backSize}
 use Rattle.image.proofs.Bools.{first-fails, second-fails, third-decides}
-use Rattle.writer.specs.State.{lent}
+use Rattle.writer.specs.State.{stateWith}
 use Rattle.image.specs.Stored.{whole}
 use Rattle.writer.specs.Close.{entryArea, recorded, countsAgree}
 use Rattle.writer.proofs.Agree.{zeros, same-agree}
@@ -23,7 +23,7 @@ walk-requires : tie.Need-walk-requires
 walk-requires c κs = (c .before .before .pre .0, c .before .before .pre .1, zeros 256)
 
 returns : tie.Need-returns
-returns c = first-fails (whole (c .before .before .before .before .before .args .w .entries) (entryArea (lent (c .before .before .before .before .before .args .w) (c .before .before .before .before .before .args .counts .now) (c .before .before .before .before .before .args .buf .now)))) (countsAgree (c .before .before .before .before .before .args .counts .now) (recorded (lent (c .before .before .before .before .before .args .w) (c .before .before .before .before .before .args .counts .now) (c .before .before .before .before .before .args .buf .now)))) (eqb (c .before .before .before .before .before .args .w .back) (backIn (c .before .before .before .before .before .args .w .mode) (backSize (recorded (lent (c .before .before .before .before .before .args .w) (c .before .before .before .before .before .args .counts .now) (c .before .before .before .before .before .args .buf .now)))))) (sym (c .before .before .walk .ensures .0) ∙ not-true _ (c .if1 .taken))
+returns c = first-fails (whole (c .before .before .before .before .before .args .w .entries) (entryArea (stateWith (c .before .before .before .before .before .args .w) (c .before .before .before .before .before .args .counts .now) (c .before .before .before .before .before .args .buf .now)))) (countsAgree (c .before .before .before .before .before .args .counts .now) (recorded (stateWith (c .before .before .before .before .before .args .w) (c .before .before .before .before .before .args .counts .now) (c .before .before .before .before .before .args .buf .now)))) (eqb (c .before .before .before .before .before .args .w .back) (backIn (c .before .before .before .before .before .args .w .mode) (backSize (recorded (stateWith (c .before .before .before .before .before .args .w) (c .before .before .before .before .before .args .counts .now) (c .before .before .before .before .before .args .buf .now)))))) (sym (c .before .before .walk .ensures .0) ∙ not-true _ (c .if1 .taken))
 
 same-counts-requires : tie.Need-same-counts-requires
 same-counts-requires c κs = search needs
@@ -32,8 +32,8 @@ returns-2 : tie.Need-returns-2
 returns-2 c =
     let w = sym (c .before .before .before .before .before .walk .ensures .0) ∙ not-false _ (c .before .before .before .if1 .left) in
     let t = c .before .before .before .before .before .walk .ensures .1 .1 (not-false _ (c .before .before .before .if1 .left)) in
-    second-fails (whole (c .before .before .before .before .before .before .before .before .args .w .entries) (entryArea (lent (c .before .before .before .before .before .before .before .before .args .w) (c .before .before .before .before .before .before .before .before .args .counts .now) (c .before .before .before .before .before .before .before .before .args .buf .now)))) (countsAgree (c .before .before .before .before .before .before .before .before .args .counts .now) (recorded (lent (c .before .before .before .before .before .before .before .before .args .w) (c .before .before .before .before .before .before .before .before .args .counts .now) (c .before .before .before .before .before .before .before .before .args .buf .now)))) (eqb (c .before .before .before .before .before .before .before .before .args .w .back) (backIn (c .before .before .before .before .before .before .before .before .args .w .mode) (backSize (recorded (lent (c .before .before .before .before .before .before .before .before .args .w) (c .before .before .before .before .before .before .before .before .args .counts .now) (c .before .before .before .before .before .before .before .before .args .buf .now)))))) w
-    (sym (same-agree (c .before .before .before .before .before .before .before .before .args .counts .now) (recorded (lent (c .before .before .before .before .before .before .before .before .args .w) (c .before .before .before .before .before .before .before .before .args .counts .now) (c .before .before .before .before .before .before .before .before .args .buf .now))) _ t) ∙ sym (c .before .same-counts .ensures) ∙ not-true _ (c .if2 .taken))
+    second-fails (whole (c .before .before .before .before .before .before .before .before .args .w .entries) (entryArea (stateWith (c .before .before .before .before .before .before .before .before .args .w) (c .before .before .before .before .before .before .before .before .args .counts .now) (c .before .before .before .before .before .before .before .before .args .buf .now)))) (countsAgree (c .before .before .before .before .before .before .before .before .args .counts .now) (recorded (stateWith (c .before .before .before .before .before .before .before .before .args .w) (c .before .before .before .before .before .before .before .before .args .counts .now) (c .before .before .before .before .before .before .before .before .args .buf .now)))) (eqb (c .before .before .before .before .before .before .before .before .args .w .back) (backIn (c .before .before .before .before .before .before .before .before .args .w .mode) (backSize (recorded (stateWith (c .before .before .before .before .before .before .before .before .args .w) (c .before .before .before .before .before .before .before .before .args .counts .now) (c .before .before .before .before .before .before .before .before .args .buf .now)))))) w
+    (sym (same-agree (c .before .before .before .before .before .before .before .before .args .counts .now) (recorded (stateWith (c .before .before .before .before .before .before .before .before .args .w) (c .before .before .before .before .before .before .before .before .args .counts .now) (c .before .before .before .before .before .before .before .before .args .buf .now))) _ t) ∙ sym (c .before .same-counts .ensures) ∙ not-true _ (c .if2 .taken))
 
 cast-result : tie.Need-cast-result
 cast-result c = search needs
@@ -47,8 +47,8 @@ returns-3 c =
     let w = sym (c .before .before .before .before .before .before .before .walk .ensures .0) ∙ y in
     let t = c .before .before .before .before .before .before .before .walk .ensures .1 .1 y in
     let k = c .before .before .before .before .before .before .before .walk .ensures .1 .0 y in
-    third-decides (whole (c .before .before .before .before .before .before .before .before .before .before .args .w .entries) (entryArea (lent (c .before .before .before .before .before .before .before .before .before .before .args .w) (c .before .before .before .before .before .before .before .before .before .before .args .counts .now) (c .before .before .before .before .before .before .before .before .before .before .args .buf .now)))) (countsAgree (c .before .before .before .before .before .before .before .before .before .before .args .counts .now) (recorded (lent (c .before .before .before .before .before .before .before .before .before .before .args .w) (c .before .before .before .before .before .before .before .before .before .before .args .counts .now) (c .before .before .before .before .before .before .before .before .before .before .args .buf .now)))) (eqb (c .before .before .before .before .before .before .before .before .before .before .args .w .back) (backIn (c .before .before .before .before .before .before .before .before .before .before .args .w .mode) (backSize (recorded (lent (c .before .before .before .before .before .before .before .before .before .before .args .w) (c .before .before .before .before .before .before .before .before .before .before .args .counts .now) (c .before .before .before .before .before .before .before .before .before .before .args .buf .now)))))) _ w
-    (sym (same-agree (c .before .before .before .before .before .before .before .before .before .before .args .counts .now) (recorded (lent (c .before .before .before .before .before .before .before .before .before .before .args .w) (c .before .before .before .before .before .before .before .before .before .before .args .counts .now) (c .before .before .before .before .before .before .before .before .before .before .args .buf .now))) _ t) ∙ sym (c .before .before .before .same-counts .ensures) ∙ not-false _ (c .before .before .if2 .left))
+    third-decides (whole (c .before .before .before .before .before .before .before .before .before .before .args .w .entries) (entryArea (stateWith (c .before .before .before .before .before .before .before .before .before .before .args .w) (c .before .before .before .before .before .before .before .before .before .before .args .counts .now) (c .before .before .before .before .before .before .before .before .before .before .args .buf .now)))) (countsAgree (c .before .before .before .before .before .before .before .before .before .before .args .counts .now) (recorded (stateWith (c .before .before .before .before .before .before .before .before .before .before .args .w) (c .before .before .before .before .before .before .before .before .before .before .args .counts .now) (c .before .before .before .before .before .before .before .before .before .before .args .buf .now)))) (eqb (c .before .before .before .before .before .before .before .before .before .before .args .w .back) (backIn (c .before .before .before .before .before .before .before .before .before .before .args .w .mode) (backSize (recorded (stateWith (c .before .before .before .before .before .before .before .before .before .before .args .w) (c .before .before .before .before .before .before .before .before .before .before .args .counts .now) (c .before .before .before .before .before .before .before .before .before .before .args .buf .now)))))) _ w
+    (sym (same-agree (c .before .before .before .before .before .before .before .before .before .before .args .counts .now) (recorded (stateWith (c .before .before .before .before .before .before .before .before .before .before .args .w) (c .before .before .before .before .before .before .before .before .before .before .args .counts .now) (c .before .before .before .before .before .before .before .before .before .before .args .buf .now))) _ t) ∙ sym (c .before .before .before .same-counts .ensures) ∙ not-false _ (c .before .before .if2 .left))
     (ap (λ (n : ℕ). eqb (c .before .before .before .before .before .before .before .before .before .before .args .w .back) n) (c .back-in .ensures ∙ ap (λ (n : ℕ). backIn (c .before .before .before .before .before .before .before .before .before .before .args .w .mode) n) k))
 
 pub agrees-spec : {M : Type 1} → statement M
