@@ -107,9 +107,9 @@ pub list-begins : (mode : Mode) (buffer : List ℕ) → headSize ≤ length buff
 unfolding beginning fresh
 list-begins mode buffer room = rw (begin-accepts (length buffer) room)
 
-pub list-counts : (mode : Mode) (buffer : List ℕ) → headSize ≤ length buffer → (stateWith : List ℕ) → countsBegun (length buffer) stateWith ≡ fresh mode buffer .counts
+pub list-counts : (mode : Mode) (buffer : List ℕ) → headSize ≤ length buffer → (given : List ℕ) → countsBegun (length buffer) given ≡ fresh mode buffer .counts
 unfolding countsBegun fresh
-list-counts mode buffer room stateWith = rw (begin-accepts (length buffer) room)
+list-counts mode buffer room given = rw (begin-accepts (length buffer) room)
 
 module _ (mode : Mode) (buffer : List ℕ) (room : headSize ≤ length buffer) (cs : List Call) (word : WordIds mode cs) where
   pub list-answers : answersOf mode buffer cs ≡ due mode (length buffer) cs
