@@ -30,7 +30,8 @@ use Rattle.image.proofs.Parts.{placedIn, most, tableAt-image, bucketNumber-imag
 use Rattle.answers.proofs.Opened.{long-enough, table-inside}
 use Rattle.image.proofs.EntryAt.{Stands, entry-fits, all-stand, all-placed, ids-below}
 use Rattle.answers.proofs.EntrySeen.{seen-entry}
-use Rattle.answers.proofs.Names.{same-true, told, verdict, first-of-name, none-of-name, names-short}
+use Rattle.image.proofs.Equal.{same-true}
+use Rattle.answers.proofs.Names.{told, verdict, first-of-name, none-of-name, names-short}
 
 -- an answer of nothing without a read, where nothing is to be found
 pub nothing-searched : (id : Option ℕ) (m : ℕ) → id ≡ none → Searched id m (nothing 0)

@@ -15,7 +15,7 @@ use Rattle.image.specs.declared.Mode.the-variants.{Twoway}
 use Rattle.image.proofs.Lists.{keep-nil, keep-yes, keep-no}
 use Rattle.reader.specs.Lookup.{lookup}
 use Rattle.answers.specs.Answer.{foundId, nameGiven, hasName, ofName, ofId, firstId, lastName}
-use Rattle.answers.proofs.Names.{same-self, same-true}
+use Rattle.image.proofs.Equal.{same-self, same-true}
 use Rattle.answers.proofs.Images.{name-gives, id-gives, ids-fit}
 
 -- two tests in either order

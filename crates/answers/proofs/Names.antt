@@ -1,11 +1,11 @@
 -- The entries of a name, of its table and of an id: among the entries alone, and where they stand. Assumes nothing.
 use mathlib.Core.Path.{_≡_, refl, ap, _∙_}
-use mathlib.Core.Bool.{Bool, true, false, cond, and-eq-true-iff}
+use mathlib.Core.Bool.{Bool, true, false, cond}
 use mathlib.Core.List.{List, [], _∷_, map}
 use mathlib.Core.Option.{orElse}
 use Prim.Native.Nat.{ℕ, _+_, _≤_, _<_}
 use native.Mathlib.Omega.{arith}
-use borrow.Author.Tests.{eq-eqb, eqb-true}
+use borrow.Author.Tests.{eq-eqb}
 use lib.Dec.{eqb}
 use lib.ListN.{length}
 use Rattle.jhash.specs.NameHash.{hashOf}
@@ -15,31 +15,8 @@ use Rattle.image.specs.Image.{Entry, Placed, entrySize, entriesSize, placed, in
 use Rattle.reader.specs.Lookup.{Hit, Seen, pass, hit}
 use Rattle.answers.specs.Answer.{hasName, ofName, firstId}
 use Rattle.image.proofs.Every.{All}
+use Rattle.image.proofs.Equal.{same-true, same-false}
 use Rattle.answers.proofs.Filling.{firstHit}
-
--- ---- equal names
-
-pub same-self : (xs : List ℕ) → same xs xs ≡ true
-unfolding same
-same-self [] = refl
-same-self (x ∷ xs) = rw (eq-eqb x x refl) (same-self xs)
-
-pub same-true : (xs ys : List ℕ) → same xs ys ≡ true → xs ≡ ys
-unfolding same
-same-true [] [] e = refl
-same-true [] (y ∷ ys) e = let z : _≡_ {A = ℕ} 0 1 = cc in absurd (omega arith)
-same-true (x ∷ xs) [] e = let z : _≡_ {A = ℕ} 0 1 = cc in absurd (omega arith)
-same-true (x ∷ xs) (y ∷ ys) e =
-    let both = and-eq-true-iff (eqb x y) (same xs ys) .0 e in
-    ap (λ (k : ℕ). k ∷ xs) (eqb-true x y (both .0)) ∙ ap (λ (l : List ℕ). y ∷ l) (same-true xs ys (both .1))
-
--- the test of a name fails where the names differ
-pub same-false : (xs ys : List ℕ) → (xs ≡ ys → ⊥) → same xs ys ≡ false
-same-false xs ys differ = go (same xs ys) refl
-  where
-    go : (t : Bool) → same xs ys ≡ t → t ≡ false
-    go true e = absurd (differ (same-true xs ys e))
-    go false e = refl
 
 -- ---- the first entry of a name
 

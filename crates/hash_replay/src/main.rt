@@ -1,88 +1,59 @@
 // Replays stored answers of lookup3: each line of the input has a start value, the hash that a C build gave and the
-// name, all hexadecimal, and is compared with what `jhash` answers. A line that begins with # is passed over.
-use jhash::Hashed;
+// name, all hexadecimal, and is compared with what `jhash` answers. A missing name is the empty one. A line that begins
+// with #, and an empty one, is skipped.
+ghost use mathlib.Core.Path.{_≡_};
+ghost use lib.ListN.{length};
+ghost use Rattle.replay_lines.specs.Lines.{replayed};
+ghost use Rattle.hash_replay.specs.Lines.{compared, verdict, judge};
 use libc::STDIN_FILENO;
 use replay_lines::Bytes;
 use replay_lines::Counts;
-use replay_lines::Number;
+use replay_lines::Numbers;
 use replay_lines::Verdict;
+use replay_lines::equal_if;
+use replay_lines::has_hash;
 use replay_lines::hex;
+use replay_lines::lines;
+use replay_lines::words;
 
-// The name's bytes: none where the line ends after the hash, else the digits after one more space.
-fn name_of(line: &[u8], room: &mut [u8]) -> Bytes {
-    if line.len() == 17 {
-        return Bytes::Count(0);
-    }
-    if line.len() < 20 {
-        return Bytes::Bad;
-    }
-    if line[17] != b' ' {
-        return Bytes::Bad;
-    }
-    hex::decode(&line[18..], room)
-}
-
-// Whether the name at the start of `room` has this hash.
-fn same_hash(room: &[u8], n: usize, start: u32, want: u32) -> Verdict {
-    if room.len() < n {
-        return Verdict::Malformed;
-    }
-    let answer = jhash::jhash(&room[0..n], start);
-    match answer {
-        Hashed::Hash(h) => {
-            if h == want {
-                Verdict::Equal
-            } else {
-                Verdict::Different
-            }
-        }
-        Hashed::Refused => Verdict::Different,
-    }
-}
-
-// One line, compared; `room` takes the name.
-fn compare(line: &[u8], room: &mut [u8]) -> Verdict {
-    if line.len() < 17 {
-        return Verdict::Malformed;
-    }
-    if line[8] != b' ' {
-        return Verdict::Malformed;
-    }
-    let Number::Value(start) = hex::word(&line[0..8]) else {
+// The verdict on a start value, a hash and a name; `room` takes the name.
+fn compare(start: &[u8], want: &[u8], name: &[u8], room: &mut [u8]) -> Verdict
+    ensures { λ r. ⌜ r ≡ compared (length (now (room .entry))) (now (start .entry)) (now (want .entry)) (now (name .entry)) ⌝ }
+{
+    let Numbers::Values(start, want) = hex::two_words(start, want) else {
         return Verdict::Malformed;
     };
-    let Number::Value(want) = hex::word(&line[9..17]) else {
+    let Bytes::Count(n) = hex::decode(name, &mut *room) else {
         return Verdict::Malformed;
     };
-    let Bytes::Count(n) = name_of(line, room) else {
-        return Verdict::Malformed;
-    };
-    same_hash(room, n, start, want)
+    equal_if(has_hash(&room[0..n], start, want))
 }
 
-// The same, for a line that may be a comment.
-fn verdict_of(line: &[u8], room: &mut [u8]) -> Verdict {
-    if 0 < line.len() {
-        if line[0] == b'#' {
-            return Verdict::Silent;
-        }
+// The verdict on a line.
+fn verdict_of(line: &[u8], room: &mut [u8]) -> Verdict
+    ensures { λ r. ⌜ r ≡ verdict (length (now (room .entry))) (now (line .entry)) ⌝ }
+{
+    if words::skipped(line) {
+        return Verdict::Silent;
     }
-    compare(line, room)
+    compare(
+        words::first(line),
+        words::second(line),
+        words::third(line),
+        &mut *room,
+    )
 }
 
 // Every line of a text, compared.
-fn replay(text: &[u8], room: &mut [u8]) -> Counts {
-    let mut counts = replay_lines::no_lines();
-    let mut at = 0;
-    while at < text.len() {
-        let end = bytes::scan::find(text, at, text.len(), b'\n');
-        let line = &text[at..end];
-        at = end + 1;
-        let verdict = verdict_of(line, &mut *room);
-        replay_lines::report(line, verdict);
-        counts = replay_lines::counted(counts, verdict);
+fn replay(text: &[u8], room: &mut [u8]) -> Counts
+    ensures { λ r. ⌜ r ≡ replayed judge (length (now (room .entry))) (now (text .entry)) ⌝ }
+{
+    let mut p = lines::begin();
+    while p.at < text.len() {
+        let verdict = verdict_of(lines::line(text, p), &mut *room);
+        p = lines::noted(p, text, verdict);
     }
-    counts
+    p.counts
 }
 
 fn main() {

@@ -9,6 +9,8 @@ use lib.ListN.{length, getD, take, drop, length-take, length-drop, take-append-d
 use lib.Seq.{drop-cons, drop-drop, getD-take, getD-drop}
 use lib.Dec.{eqb, leb}
 use borrow.Author.Tests.{leb-true, eqb-true}
+use Rattle.jhash.proofs.WordRead.{word-below}
+pub use Rattle.jhash.proofs.WordRead.{Bytes}
 use Rattle.image.specs.Bytes.{word, le32, cat}
 use Rattle.image.specs.Image.{Entry, entryBytes}
 use Rattle.image.proofs.Words.{word-drop, le32-bytes}
@@ -17,9 +19,6 @@ use Rattle.image.proofs.Every.{All}
 use Rattle.image.specs.Stored.{firstEntry, afterFirst, firstWhole, whole, entriesIn}
 
 -- ---- bytes
-
-abbrev pub Bytes : List ℕ → Type 0
-Bytes l = (i : ℕ) → getD l i 0 < 256
 
 pub bytes-drop : (n : ℕ) (l : List ℕ) → Bytes l → Bytes (drop n l)
 bytes-drop n l h i = rw (getD-drop n l i 0) (h (n + i))
@@ -30,10 +29,6 @@ bytes-take n l h i = go (decLt i n)
     go : Dec (i < n) → getD (take n l) i 0 < 256
     go (yes k) = rw (getD-take n l i 0 k) (h i)
     go (no k) = rw (List·getD-eq-default (take n l) 0 {n = i} (omega (arith, length-take n l))) (omega arith)
-
-word-below : (l : List ℕ) (o : ℕ) → Bytes l → word l o < 2 ^ 32
-unfolding word
-word-below l o h = omega (arith, h o, h (o + 1), h (o + 2), h (o + 3))
 
 -- the word at the front, and what follows it
 front-word : (l : List ℕ) → Bytes l → 4 ≤ length l → l ≡ le32 (word l 0) ++ drop 4 l

@@ -1,10 +1,10 @@
--- When two byte strings are equal, step by step: by bytes and by words. Assumes nothing.
+-- Equality of byte strings: what the test tells, and when it holds, step by step, by bytes and by words. Assumes nothing.
 use Prim.Native.Nat.{ℕ, suc, _+_, _*_, _≤_, _<_}
 use native.Mathlib.Omega.{arith}
 use native.Mathlib.Numerals.{add-one}
 use native.Mathlib.Decide.{ℕ-discrete}
 use mathlib.Core.Path.{_≡_, refl, sym, ap, _∙_}
-use mathlib.Core.Bool.{Bool, true, false, _&&_, and-false}
+use mathlib.Core.Bool.{Bool, true, false, _&&_, and-false, and-eq-true-iff}
 use mathlib.Core.List.{List, [], _∷_}
 use borrow.Author.Tests.{eq-eqb, ne-eqb, eqb-true}
 use lib.Dec.{eqb}
@@ -13,6 +13,32 @@ use lib.Seq.{drop-cons}
 use Rattle.jhash.proofs.WordRead.{word-of, Bytes, word-below}
 use Rattle.image.specs.Bytes.{word, le32, same}
 use Rattle.image.proofs.Words.{le32-bytes}
+
+-- ---- the test tells equal strings
+
+pub same-self : (xs : List ℕ) → same xs xs ≡ true
+unfolding same
+same-self [] = refl
+same-self (x ∷ xs) = rw (eq-eqb x x refl) (same-self xs)
+
+pub same-true : (xs ys : List ℕ) → same xs ys ≡ true → xs ≡ ys
+unfolding same
+same-true [] [] e = refl
+same-true [] (y ∷ ys) e = let z : _≡_ {A = ℕ} 0 1 = cc in absurd (omega arith)
+same-true (x ∷ xs) [] e = let z : _≡_ {A = ℕ} 0 1 = cc in absurd (omega arith)
+same-true (x ∷ xs) (y ∷ ys) e =
+    let both = and-eq-true-iff (eqb x y) (same xs ys) .0 e in
+    ap (λ (k : ℕ). k ∷ xs) (eqb-true x y (both .0)) ∙ ap (λ (l : List ℕ). y ∷ l) (same-true xs ys (both .1))
+
+-- it fails where the strings differ
+pub same-false : (xs ys : List ℕ) → (xs ≡ ys → ⊥) → same xs ys ≡ false
+same-false xs ys differ = go (same xs ys) refl
+  where
+    go : (t : Bool) → same xs ys ≡ t → t ≡ false
+    go true e = absurd (differ (same-true xs ys e))
+    go false e = refl
+
+-- ---- step by step
 
 -- strings of different lengths
 pub same-lengths : (a b : List ℕ) → (length a ≡ length b → ⊥) → same a b ≡ false

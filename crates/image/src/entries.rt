@@ -1,12 +1,33 @@
-// The entries that bytes hold: whether the one at a place is whole, and a walk over them that counts them by table.
+// The entries that bytes hold: whether the one at a place is broken, or whole, and a walk over them that counts them by table.
 ghost use mathlib.Core.Path.{_≡_};
 ghost use mathlib.Core.Bool.{true};
-ghost use Prim.Native.Nat.{ℕ, _+_, _<_, _≤_, max};
+ghost use Prim.Native.Nat.{ℕ, _+_, _-_, _<_, _≤_, max};
 ghost use lib.ListN.{length, getD};
 ghost use Rattle.image.specs.Tables.{tableOf};
 ghost use Rattle.image.specs.Image.{backSize};
-ghost use Rattle.image.specs.Stored.{whole, entriesIn, between, wholeLength};
+ghost use Rattle.image.specs.Stored.{broken, whole, entriesIn, between, wholeLength};
 ghost use Rattle.image.specs.Tally.{raisedCounts, tallied};
+use jhash::word::word;
+
+// A length word minus 1; of 0 the largest number of all, more than any image has room for.
+fn less_one(len: u32) -> u64
+    ensures { λ r. ⌜ ((len ≡ 0 → r ≡ 18446744073709551615) × (0 < len → r ≡ len - 1)) ⌝ }
+{
+    std::num::wrapping_sub_u64(len as u64, 1)
+}
+
+// Does the entry at `at` leave the image with its first 8 bytes or its name, or is its length word 0? The last two are one
+// comparison.
+pub fn broken(image: &[u8], at: u32) -> bool
+    ensures { λ r. ⌜ r ≡ broken (now (image .entry)) at ⌝ }
+{
+    let start = at as usize + 8;
+    if image.len() < start {
+        return true;
+    }
+    let room = image.len() - start;
+    (room as u64) < less_one(word(image, at as usize + 4))
+}
 
 // The larger of two numbers.
 pub fn larger(a: u64, b: u64) -> u64

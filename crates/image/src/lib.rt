@@ -9,9 +9,8 @@ ghost use Rattle.image.specs.Image.{flagWord};
 use jhash::word::word;
 use jhash::word::word_near_end;
 
-pub mod entries; // entries.rt: whole entries, and a walk over them
+pub mod entries; // entries.rt: broken entries, whole ones, and a walk over them
 pub mod equality; // equality.rt: same
-pub mod stored; // stored.rt: broken
 pub mod zero; // zero.rt: zero bytes in a name
 
 // The writer's mode (`Flag` of cqdb-rs, NONE and ONEWAY): one-way leaves the back array out.

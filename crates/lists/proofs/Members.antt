@@ -11,7 +11,7 @@ use borrow.Author.Tests.{eq-eqb, eqb-true}
 use Rattle.image.specs.Bytes.{keep, same}
 use Rattle.image.specs.Image.{Entry, hasId}
 use Rattle.image.proofs.Lists.{keep-yes, keep-cons}
-use Rattle.answers.proofs.Names.{same-self, same-true}
+use Rattle.image.proofs.Equal.{same-self, same-true}
 use Rattle.answers.specs.Answer.{hasName, ofName, ofId, firstId, lastName}
 
 -- ---- an entry of a list

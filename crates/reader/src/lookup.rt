@@ -12,8 +12,8 @@ use super::Hit;
 use super::Seen;
 use super::ToId;
 use super::start::start;
+use image::entries::broken;
 use image::equality::same;
-use image::stored::broken;
 use jhash::Hashed;
 use jhash::word::word;
 

@@ -6,7 +6,7 @@ ghost use Rattle.reader.specs.Cases.{namingOf};
 use super::HEAD_SIZE;
 use super::Named;
 use super::opening::back_leaves;
-use image::stored::broken;
+use image::entries::broken;
 use jhash::word::word;
 
 // Has the image no back array that can be read?

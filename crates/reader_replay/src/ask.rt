@@ -1,5 +1,12 @@
 // Questions about the image: opening, lookups, names, homes.
-use check::same;
+ghost use mathlib.Core.Path.{_≡_};
+ghost use Rattle.reader.specs.Open.{opening};
+ghost use Rattle.reader.specs.Lookup.{lookup};
+ghost use Rattle.reader.specs.Naming.{naming};
+ghost use Rattle.reader.specs.Walk.{home};
+ghost use Rattle.reader_replay.specs.Tags.{either, says};
+ghost use Rattle.reader_replay.specs.Ask.{opensAs, findsAs, namesAs, homeAs, asks, agrees, compared, verdict};
+use super::walk;
 use reader::Named;
 use reader::Opened;
 use reader::ToId;
@@ -8,6 +15,7 @@ use replay_lines::Number;
 use replay_lines::Verdict;
 use replay_lines::equal_if;
 use replay_lines::hex;
+use replay_lines::same;
 
 const OPEN: u32 = 0x6f70_656e;
 
@@ -25,90 +33,141 @@ const HOME: u32 = 0x686f_6d65;
 
 const AWAY: u32 = 0x6177_6179;
 
-// The number of open's refusal, 0 where it accepts.
-fn refusal(image: &[u8]) -> u32 {
+const WALK: u32 = 0x7761_6c6b;
+
+const LEFT: u32 = 0x6c65_6674;
+
+const ITEM: u32 = 0x6974_656d;
+
+const ENDS: u32 = 0x656e_6473;
+
+// Is a tag one of two?
+pub(super) fn either(tag: u32, a: u32, b: u32) -> bool
+    ensures { λ r. ⌜ r ≡ either tag a b ⌝ }
+{
+    (tag == a) | (tag == b)
+}
+
+// Are a tag and a number those of an answer?
+pub(super) fn says(tag: u32, n: u32, due: u32, k: u32) -> bool
+    ensures { λ r. ⌜ r ≡ says tag n due k ⌝ }
+{
+    (tag == due) & (n == k)
+}
+
+// Does open give this number of associations, or this refusal?
+fn opens_as(tag: u32, n: u32, image: &[u8]) -> bool
+    ensures { λ r. ⌜ r ≡ opensAs tag n (opening (now (image .entry))) ⌝ }
+{
     match reader::open(image) {
-        Opened::Num(_) => 0,
-        Opened::TooShort => 1,
-        Opened::WrongLetters => 5,
-        Opened::WrongByteOrder => 6,
-        Opened::TableLeaves => 7,
-        Opened::BackLeaves => 8,
+        Opened::Num(k) => says(tag, n, OPEN, k),
+        Opened::TooShort => says(tag, n, FAIL, 1),
+        Opened::WrongLetters => says(tag, n, FAIL, 5),
+        Opened::WrongByteOrder => says(tag, n, FAIL, 6),
+        Opened::TableLeaves => says(tag, n, FAIL, 7),
+        Opened::BackLeaves => says(tag, n, FAIL, 8),
     }
 }
 
-fn opens(image: &[u8], num: u32) -> bool {
-    match reader::open(image) {
-        Opened::Num(n) => n == num,
-        Opened::TooShort => false,
-        Opened::WrongLetters => false,
-        Opened::WrongByteOrder => false,
-        Opened::TableLeaves => false,
-        Opened::BackLeaves => false,
-    }
-}
-
-fn finds(image: &[u8], name: &[u8], want: u32) -> bool {
+// Does the name find this id, or nothing?
+fn finds_as(tag: u32, n: u32, name: &[u8], image: &[u8]) -> bool
+    ensures { λ r. ⌜ r ≡ findsAs tag n (lookup (now (image .entry)) (now (name .entry))) ⌝ }
+{
     match reader::to_id(image, name) {
-        ToId::Found { id, buckets: _ } => id == want,
-        ToId::Nothing { buckets: _ } => false,
+        ToId::Found { id, buckets: _ } => says(tag, n, FIND, id),
+        ToId::Nothing { buckets: _ } => tag == MISS,
     }
 }
 
-fn misses(image: &[u8], name: &[u8]) -> bool {
-    match reader::to_id(image, name) {
-        ToId::Found { id: _, buckets: _ } => false,
-        ToId::Nothing { buckets: _ } => true,
-    }
-}
-
-fn has_name(image: &[u8], id: u32) -> bool {
+// Has the id this name, or none?
+fn names_as(tag: u32, id: u32, name: &[u8], image: &[u8]) -> bool
+    ensures { λ r. ⌜ r ≡ namesAs tag (now (name .entry)) (now (image .entry)) (naming (now (image .entry)) id) ⌝ }
+{
     match reader::to_str(image, id) {
-        Named::Place { start: _, len: _ } => true,
-        Named::Nothing => false,
+        Named::Place { start: _, len: _ } => {
+            if tag == NAME {
+                same(reader::name(image, id), name)
+            } else {
+                false
+            }
+        }
+        Named::Nothing => tag == VOID,
     }
 }
 
-// A question that has a name.
-fn of_name(tag: u32, n: u32, name: &[u8], image: &[u8]) -> Verdict {
-    match tag {
-        FIND => equal_if(finds(image, name, n)),
-        NAME => equal_if(has_name(image, n) & same(reader::name(image, n), name)),
-        MISS => equal_if(misses(image, name)),
-        _ => Verdict::Malformed,
+// Is the id home, or away?
+fn home_as(tag: u32, id: u32, image: &[u8]) -> bool
+    ensures { λ r. ⌜ r ≡ homeAs tag (home (now (image .entry)) id) ⌝ }
+{
+    if reader::home(image, id) {
+        tag == HOME
+    } else {
+        tag == AWAY
     }
 }
 
-// The same, where the name is in hexadecimal digits.
-fn named(tag: u32, n: u32, name: &[u8], image: &[u8]) -> Verdict {
+// Does a line with this tag ask?
+fn asks(tag: u32) -> bool
+    ensures { λ r. ⌜ r ≡ asks tag ⌝ }
+{
+    (tag == OPEN)
+        | (tag == FAIL)
+        | (tag == FIND)
+        | (tag == MISS)
+        | (tag == NAME)
+        | (tag == VOID)
+        | (tag == HOME)
+        | (tag == AWAY)
+        | (tag == LEFT)
+        | (tag == ITEM)
+        | (tag == ENDS)
+}
+
+// Is the answer the one that a line with this tag, number and name stores?
+fn agrees(tag: u32, n: u32, name: &[u8], next: u32, image: &[u8]) -> bool
+    ensures { λ r. ⌜ r ≡ agrees (now (image .entry)) next tag n (now (name .entry)) ⌝ }
+{
+    if either(tag, OPEN, FAIL) {
+        return opens_as(tag, n, image);
+    }
+    if either(tag, FIND, MISS) {
+        return finds_as(tag, n, name, image);
+    }
+    if either(tag, NAME, VOID) {
+        return names_as(tag, n, name, image);
+    }
+    if either(tag, HOME, AWAY) {
+        return home_as(tag, n, image);
+    }
+    walk::agrees(tag, n, name, next, image)
+}
+
+// The verdict on a tag, a number and a name in hexadecimal digits.
+fn compare(tag: u32, n: u32, name: &[u8], next: u32, image: &[u8]) -> Verdict
+    ensures { λ r. ⌜ r ≡ compared (now (image .entry)) next tag n (now (name .entry)) ⌝ }
+{
     let mut room = io::buffer();
-    let Bytes::Count(count) = hex::decode(name, &mut room) else {
-        return Verdict::Malformed;
-    };
-    if room.len() < count {
-        return Verdict::Malformed;
-    }
-    of_name(tag, n, &room[0..count], image)
-}
-
-// A question that has a number first.
-fn numbered(tag: u32, n: u32, second: &[u8], image: &[u8]) -> Verdict {
-    match tag {
-        OPEN => equal_if(opens(image, n)),
-        FAIL => equal_if(refusal(image) == n),
-        VOID => equal_if(!has_name(image, n)),
-        HOME => equal_if(reader::home(image, n)),
-        AWAY => equal_if(!reader::home(image, n)),
-        _ => named(tag, n, second, image),
+    match hex::decode(name, &mut room) {
+        Bytes::Count(k) => equal_if(agrees(tag, n, &room[0..k], next, image)),
+        Bytes::Bad => Verdict::Malformed,
     }
 }
 
-pub(super) fn line(tag: u32, first: &[u8], second: &[u8], image: &[u8]) -> Verdict {
-    if tag == MISS {
-        return named(tag, 0, first, image);
+// The verdict on a tag and two words.
+pub(super) fn line(tag: u32, first: &[u8], second: &[u8], next: u32, image: &[u8]) -> Verdict
+    ensures { λ r. ⌜ r ≡ verdict (now (image .entry)) next tag (now (first .entry)) (now (second .entry)) ⌝ }
+{
+    if tag == WALK {
+        return Verdict::Silent;
+    }
+    if !asks(tag) {
+        return Verdict::Malformed;
+    }
+    if either(tag, MISS, ENDS) {
+        return compare(tag, 0, first, next, image);
     }
     match hex::word(first) {
-        Number::Value(n) => numbered(tag, n, second, image),
+        Number::Value(n) => compare(tag, n, second, next, image),
         Number::Bad => Verdict::Malformed,
     }
 }

@@ -1,12 +1,13 @@
 // A walk over the image, step by step.
-use check::same;
+ghost use mathlib.Core.Path.{_≡_};
+ghost use Rattle.reader.specs.Walk.{step};
+ghost use Rattle.reader.specs.Steps.{standsAfter};
+ghost use Rattle.reader_replay.specs.Walk.{isAt, stepsAs, walkAgrees, standsThen};
+use super::ask::either;
+use super::ask::says;
 use reader::Iter;
 use reader::Stepped;
-use replay_lines::Bytes;
-use replay_lines::Number;
-use replay_lines::Verdict;
-use replay_lines::equal_if;
-use replay_lines::hex;
+use replay_lines::same;
 
 const WALK: u32 = 0x7761_6c6b;
 
@@ -16,24 +17,10 @@ const ITEM: u32 = 0x6974_656d;
 
 const ENDS: u32 = 0x656e_6473;
 
-// The id before which the walk stands after a line, and the line's verdict; or a line with another tag.
-pub(super) enum Walked {
-    Next(u32, Verdict),
-    Other,
-}
-
-fn left(next: u32, hint: &[u8], image: &[u8]) -> Walked {
-    match hex::word(hint) {
-        Number::Value(n) => Walked::Next(
-            next,
-            equal_if(reader::walk::size_hint(image, Iter { next }) == n),
-        ),
-        Number::Bad => Walked::Next(next, Verdict::Malformed),
-    }
-}
-
-// Whether a name stands in an image at a place of this length.
-fn is_at(image: &[u8], start: usize, len: usize, name: &[u8]) -> bool {
+// Is a name what stands at a place of an image?
+fn is_at(image: &[u8], start: usize, len: usize, name: &[u8]) -> bool
+    ensures { λ r. ⌜ r ≡ isAt (now (image .entry)) start len (now (name .entry)) ⌝ }
+{
     if image.len() < start {
         return false;
     }
@@ -44,54 +31,61 @@ fn is_at(image: &[u8], start: usize, len: usize, name: &[u8]) -> bool {
     same(&image[start..end], name)
 }
 
-// A step that gives this id and this name.
-fn item(next: u32, id: u32, name: &[u8], image: &[u8]) -> Walked {
+// Does the next step give this id and this name, or the end?
+fn steps_as(tag: u32, n: u32, name: &[u8], next: u32, image: &[u8]) -> bool
+    ensures { λ r. ⌜ r ≡ stepsAs tag n (now (name .entry)) (now (image .entry)) (step (now (image .entry)) next) ⌝ }
+{
     match reader::walk::next(image, Iter { next }) {
         Stepped::Item {
-            id: given,
+            id,
             start,
             len,
-            iter,
+            iter: _,
         } => {
-            let is = is_at(image, start, len, name);
-            Walked::Next(iter.next, equal_if((given == id) & is))
+            if says(tag, n, ITEM, id) {
+                is_at(image, start, len, name)
+            } else {
+                false
+            }
         }
-        Stepped::Done => Walked::Next(next, Verdict::Different),
+        Stepped::Done => tag == ENDS,
     }
 }
 
-fn item_line(next: u32, id: &[u8], name: &[u8], image: &[u8]) -> Walked {
-    let mut room = io::buffer();
-    let Number::Value(id) = hex::word(id) else {
-        return Walked::Next(next, Verdict::Malformed);
-    };
-    let Bytes::Count(n) = hex::decode(name, &mut room) else {
-        return Walked::Next(next, Verdict::Malformed);
-    };
-    if room.len() < n {
-        return Walked::Next(next, Verdict::Malformed);
+// Is the walk's answer the one that a line with this tag, number and name stores?
+pub(super) fn agrees(tag: u32, n: u32, name: &[u8], next: u32, image: &[u8]) -> bool
+    ensures { λ r. ⌜ r ≡ walkAgrees (now (image .entry)) next tag n (now (name .entry)) ⌝ }
+{
+    if tag == LEFT {
+        return reader::walk::size_hint(image, Iter { next }) == n;
     }
-    item(next, id, &room[0..n], image)
+    steps_as(tag, n, name, next, image)
 }
 
-fn ends(next: u32, image: &[u8]) -> Walked {
+// Where the walk stands after a step.
+fn after_step(next: u32, image: &[u8]) -> u32
+    ensures { λ r. ⌜ r ≡ standsAfter next (step (now (image .entry)) next) ⌝ }
+{
     match reader::walk::next(image, Iter { next }) {
         Stepped::Item {
             id: _,
             start: _,
             len: _,
             iter,
-        } => Walked::Next(iter.next, Verdict::Different),
-        Stepped::Done => Walked::Next(next, Verdict::Equal),
+        } => iter.next,
+        Stepped::Done => next,
     }
 }
 
-pub(super) fn line(next: u32, tag: u32, first: &[u8], second: &[u8], image: &[u8]) -> Walked {
-    match tag {
-        WALK => Walked::Next(reader::walk::iter().next, Verdict::Silent),
-        LEFT => left(next, first, image),
-        ITEM => item_line(next, first, second, image),
-        ENDS => ends(next, image),
-        _ => Walked::Other,
+// Where the walk stands after a line.
+pub(super) fn stands(tag: u32, next: u32, image: &[u8]) -> u32
+    ensures { λ r. ⌜ r ≡ standsThen (now (image .entry)) tag next ⌝ }
+{
+    if tag == WALK {
+        return reader::walk::iter().next;
     }
+    if either(tag, ITEM, ENDS) {
+        return after_step(next, image);
+    }
+    next
 }

@@ -7,10 +7,10 @@ use mathlib.Core.Bool.{Bool, true, false, cond, _&&_}
 use mathlib.Core.List.{List, [], _∷_}
 use borrow.Author.Tests.{lt-ltb, le-ltb, eq-eqb, ne-eqb, eqb-true, leb-true}
 use lib.Dec.{eqb, ltb, leb}
-use lib.ListN.{length, getD, set, take, drop, drop-of-length-le, length-drop}
-use lib.Seq.{sets, drop-cons, take-all, drop-length}
+use lib.ListN.{length, getD, set, drop, drop-of-length-le}
+use lib.Seq.{sets, drop-cons}
 use Rattle.replay_lines.specs.Hex.{digitOf, areDigits, valueFrom, wordIn, byteOf, bytesIn, isBytes, countIn, afterDecode}
-use Rattle.replay_lines.specs.Words.{tagOf}
+use Rattle.replay_lines.specs.Words.{tagIn}
 use Rattle.replay_lines.specs.Verdicts.{more, countedWith}
 use Rattle.replay_lines.specs.declared.Number.{Number}
 use Rattle.replay_lines.specs.declared.Number.the-variants as number
@@ -19,7 +19,7 @@ use Rattle.replay_lines.specs.declared.Counts.{Counts}
 use Rattle.replay_lines.specs.declared.Verdict.{Verdict}
 use Rattle.replay_lines.specs.declared.Verdict.the-variants.{Equal, Different, Malformed}
 
-false-true : false ≡ true → ⊥
+pub false-true : false ≡ true → ⊥
 false-true e = let z : _≡_ {A = ℕ} 0 1 = cc in omega arith
 
 -- a text from i on, whose byte at i has the digit d
@@ -115,21 +115,12 @@ module _ (text out : List ℕ) where
   unfolding countIn afterDecode
   good h = (rw h, rw h)
 
--- what follows a place of a list: all from there on, and nothing past the end
-pub all-after : (s : List ℕ) (k : ℕ) → take (length s - k) (drop k s) ≡ drop k s
-all-after s k = take-all (length s - k) (drop k s) (simp length-drop (omega arith))
-
-pub none-after : (s : List ℕ) (k : ℕ) → length s ≤ k → take (length s - length s) (drop (length s) s) ≡ drop (k + 1) s
-none-after s k h =
-    let p : length s ≤ k + 1 = omega arith in
-    all-after s (length s) ∙ drop-length s ∙ sym (drop-of-length-le s {i = k + 1} p)
-
 -- a word of four letters, and another
 pub four : (w : List ℕ) (a b c d : ℕ) → length w ≡ 4 → a ≡ getD w 0 0 → b ≡ getD w 1 0 → c ≡ getD w 2 0 → d ≡ getD w 3 0
-    → a * 16777216 + b * 65536 + c * 256 + d ≡ tagOf w
-unfolding tagOf
+    → a * 16777216 + b * 65536 + c * 256 + d ≡ tagIn w
+unfolding tagIn
 four w a b c d h ea eb ec ed = rw (ea, eb, ec, ed, eq-eqb (length w) 4 h)
 
-pub not-four : (w : List ℕ) → (length w ≡ 4 → ⊥) → 0 ≡ tagOf w
-unfolding tagOf
+pub not-four : (w : List ℕ) → (length w ≡ 4 → ⊥) → 0 ≡ tagIn w
+unfolding tagIn
 not-four w h = rw (ne-eqb (length w) 4 h)

@@ -7,6 +7,8 @@ use lib.Seq.{sets}
 use lib.Dec.{eqb, ltb, leb}
 use Rattle.replay_lines.specs.declared.Number.{Number}
 use Rattle.replay_lines.specs.declared.Number.the-variants as number
+use Rattle.replay_lines.specs.declared.Numbers.{Numbers}
+use Rattle.replay_lines.specs.declared.Numbers.the-variants as numbers
 use Rattle.replay_lines.specs.declared.Bytes.{Bytes}
 use Rattle.replay_lines.specs.declared.Bytes.the-variants as bytes
 
@@ -30,6 +32,16 @@ valueFrom v (b ∷ bs) = cond (ltb (digitOf b) 16) (valueFrom (v % 268435456 * 1
 unfoldable pub wordIn : List ℕ → Number
 unfolding valueFrom
 wordIn text = cond (eqb (length text) 8) (valueFrom 0 text) number.Bad
+
+-- two texts as numbers
+abbrev pub both : Number → Number → Numbers
+both (number.Value a) (number.Value b) = numbers.Values a b
+both (number.Value a) number.Bad = numbers.Bad
+both number.Bad second = numbers.Bad
+
+unfoldable pub twoIn : List ℕ → List ℕ → Numbers
+unfolding wordIn
+twoIn first second = both (wordIn first) (wordIn second)
 
 -- the byte of two digits
 unfoldable pub byteOf : ℕ → ℕ → ℕ
@@ -57,3 +69,23 @@ countIn text room = cond (isBytes text room) (bytes.Count (length text / 2)) byt
 unfoldable pub afterDecode : List ℕ → List ℕ → List ℕ
 unfolding isBytes bytesIn
 afterDecode text out = cond (isBytes text (length out)) (sets out 0 (bytesIn text)) out
+
+-- what a text that is a number gives, or a text of another form
+abbrev pub ofNumber : {A : Type 0} → Number → A → (ℕ → A) → A
+ofNumber (number.Value n) bad f = f n
+ofNumber number.Bad bad f = bad
+
+unfoldable pub withNumber : {A : Type 0} → List ℕ → A → (ℕ → A) → A
+withNumber text bad f = ofNumber (wordIn text) bad f
+
+-- what two texts that are numbers give, or others
+abbrev pub ofNumbers : {A : Type 0} → Numbers → A → (ℕ → ℕ → A) → A
+ofNumbers (numbers.Values a b) bad f = f a b
+ofNumbers numbers.Bad bad f = bad
+
+unfoldable pub withNumbers : {A : Type 0} → List ℕ → List ℕ → A → (ℕ → ℕ → A) → A
+withNumbers first second bad f = ofNumbers (twoIn first second) bad f
+
+-- what a text that is bytes gives, no more than there is room for, or another text
+unfoldable pub withBytes : {A : Type 0} → ℕ → List ℕ → A → (List ℕ → A) → A
+withBytes room text bad f = cond (isBytes text room) (f (bytesIn text)) bad

@@ -1,15 +1,25 @@
--- How many lines had each verdict.
+-- The verdicts on lines, and how many lines had each.
 use Prim.Native.Nat.{ℕ, _+_}
 use mathlib.Core.Bool.{Bool, true, false, cond}
-use lib.Dec.{ltb}
+use lib.Dec.{eqb, ltb}
+use Rattle.jhash.specs.NameHash.{Outcome, hash, refusal}
 use Rattle.replay_lines.specs.declared.Counts.{Counts}
 use Rattle.replay_lines.specs.declared.Verdict.{Verdict}
 use Rattle.replay_lines.specs.declared.Verdict.the-variants.{Equal, Different, Malformed, Silent}
+
+-- is this the hash that hashing a name gives?
+abbrev pub hashIs : ℕ → Outcome → Bool
+hashIs want (hash h) = eqb h want
+hashIs want (refusal n) = false
 
 -- an answer that is the stored one, or not
 abbrev pub verdictIf : Bool → Verdict
 verdictIf true = Equal
 verdictIf false = Different
+
+-- no line yet
+abbrev pub noLines : Counts
+noLines = record { equal = 0; different = 0; malformed = 0 }
 
 -- one more; the largest number of 64 bits stays
 abbrev pub more : ℕ → ℕ

@@ -3,9 +3,10 @@ ghost use mathlib.Core.Path.{_≡_};
 ghost use Prim.Native.Nat.{_/_, _%_, _≤_};
 ghost use lib.ListN.{length};
 ghost use lib.Seq.{sets};
-ghost use Rattle.replay_lines.specs.Hex.{digitOf, areDigits, wordIn, byteOf, bytesIn, isBytes, countIn, afterDecode};
+ghost use Rattle.replay_lines.specs.Hex.{digitOf, areDigits, wordIn, twoIn, byteOf, bytesIn, isBytes, countIn, afterDecode};
 use super::Bytes;
 use super::Number;
+use super::Numbers;
 
 // The value of a digit, and 16 of any other byte.
 fn digit(b: u8) -> u8
@@ -44,6 +45,19 @@ pub fn word(text: &[u8]) -> Number
         i += 1;
     }
     Number::Value(v)
+}
+
+// Two texts as numbers.
+pub fn two_words(first: &[u8], second: &[u8]) -> Numbers
+    ensures { λ r. ⌜ r ≡ twoIn (now (first .entry)) (now (second .entry)) ⌝ }
+{
+    let Number::Value(a) = word(first) else {
+        return Numbers::Bad;
+    };
+    let Number::Value(b) = word(second) else {
+        return Numbers::Bad;
+    };
+    Numbers::Values(a, b)
 }
 
 // Whether each byte of a text is a digit.

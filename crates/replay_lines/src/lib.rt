@@ -1,15 +1,25 @@
 // What the programs that replay stored answers share: numbers and bytes written as hexadecimal digits, the verdict on a
 // line, and how many lines had each.
-pub mod hex; // hex.rt: word, decode
-pub mod words; // words.rt: tag, after
+pub mod hex; // hex.rt: word, two_words, decode
+pub mod lines; // lines.rt: begin, line, noted
+pub mod words; // words.rt: until, past, first, second, third, skipped, tag
 
 ghost use mathlib.Core.Path.{_≡_};
-ghost use Rattle.replay_lines.specs.Verdicts.{more, verdictIf, countedWith};
+ghost use Rattle.jhash.specs.NameHash.{hashOutcome};
+ghost use Rattle.image.specs.Bytes.{same};
+ghost use Rattle.replay_lines.specs.Verdicts.{more, hashIs, verdictIf, countedWith};
+use jhash::Hashed;
 use libc::STDOUT_FILENO;
 
 // Eight digits as a number, or a text of another form.
 pub enum Number {
     Value(u32),
+    Bad,
+}
+
+// Two texts as numbers, or one of another form.
+pub enum Numbers {
+    Values(u32, u32),
     Bad,
 }
 
@@ -26,6 +36,23 @@ pub enum Verdict {
     Different,
     Malformed,
     Silent,
+}
+
+// Are two byte strings equal?
+pub fn same(a: &[u8], b: &[u8]) -> bool
+    ensures { λ r. ⌜ r ≡ same (now (a .entry)) (now (b .entry)) ⌝ }
+{
+    check::same(a, b)
+}
+
+// Has a name this hash?
+pub fn has_hash(name: &[u8], start: u32, want: u32) -> bool
+    ensures { λ r. ⌜ r ≡ hashIs want (hashOutcome (now (name .entry)) start) ⌝ }
+{
+    match jhash::jhash(name, start) {
+        Hashed::Hash(h) => h == want,
+        Hashed::Refused => false,
+    }
 }
 
 // Whether an answer is the stored one.
@@ -46,6 +73,12 @@ pub struct Counts {
     pub malformed: u64,
 }
 
+// How far a replay is: the place of the next line, and the counts so far.
+pub struct Progress {
+    pub at: usize,
+    pub counts: Counts,
+}
+
 // One more; the largest number stays.
 fn one_more(n: u64) -> u64
     ensures { λ r. ⌜ r ≡ more n ⌝ }
@@ -53,19 +86,8 @@ fn one_more(n: u64) -> u64
     if n < u64::MAX { n + 1 } else { n }
 }
 
-// No line yet.
-pub fn no_lines() -> Counts
-    ensures { λ r. ⌜ r ≡ record { equal = 0; different = 0; malformed = 0 } ⌝ }
-{
-    Counts {
-        equal: 0,
-        different: 0,
-        malformed: 0,
-    }
-}
-
 // One verdict more.
-pub fn counted(c: Counts, v: Verdict) -> Counts
+fn counted(c: Counts, v: Verdict) -> Counts
     ensures { λ r. ⌜ r ≡ countedWith c v ⌝ }
 {
     match v {
@@ -101,7 +123,7 @@ fn print_line(label: &[u8], line: &[u8]) {
 }
 
 // Writes a line out whose verdict is that it is different or malformed.
-pub fn report(line: &[u8], v: Verdict) {
+fn report(line: &[u8], v: Verdict) {
     match v {
         Verdict::Equal => {}
         Verdict::Different => print_line(b"different: ", line),

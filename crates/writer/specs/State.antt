@@ -12,7 +12,7 @@ use Rattle.writer.specs.declared.CQDBWriter.{CQDBWriter}
 use Rattle.writer.specs.declared.Begun.{Begun}
 use Rattle.writer.specs.declared.Begun.the-variants.{Fresh, Refused}
 
--- what a call is lent: the writer record, of which the 256 table counts are lent apart, and the buffer
+-- what a call is lent: the writer record, whose 256 table counts are lent apart, and the buffer
 pub record State : Type 0 where
   pub writer : CQDBWriter
   pub counts : List ℕ

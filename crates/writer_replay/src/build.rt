@@ -1,38 +1,51 @@
 // The writer's calls.
+ghost use mathlib.Core.Path.{_≡_};
+ghost use Rattle.writer.specs.Put.{storedOf};
+ghost use Rattle.writer_replay.specs.Build.{given, built, silentIf, calls, begins, puts, putsNamed, closes, called};
+use super::Built;
+use super::State;
+use super::judged;
 use image::Mode;
 use replay_lines::Bytes;
-use replay_lines::Number;
 use replay_lines::Verdict;
 use replay_lines::equal_if;
 use replay_lines::hex;
 use writer::Begun;
-use writer::CQDBWriter;
 use writer::Closed;
 use writer::Stored;
 
-// What the lines so far left: the writer record, the size of the image that close made last, and how many of its bytes
-// have been compared.
-pub(super) struct State {
-    pub(super) writer: CQDBWriter,
-    pub(super) size: usize,
-    pub(super) done: usize,
+const NEW2: u32 = 0x6e65_7732;
+
+const NEW1: u32 = 0x6e65_7731;
+
+const PUTS: u32 = 0x7075_7473;
+
+const FULL: u32 = 0x6675_6c6c;
+
+const SIZE: u32 = 0x7369_7a65;
+
+// Is a line with this tag a call?
+pub(super) fn calls(tag: u32) -> bool
+    ensures { λ r. ⌜ r ≡ calls tag ⌝ }
+{
+    (tag == NEW2) | (tag == NEW1) | (tag == PUTS) | (tag == FULL) | (tag == SIZE)
 }
 
-// What a line left, and its verdict.
-pub(super) struct Built {
-    pub(super) state: State,
-    pub(super) verdict: Verdict,
-}
-
-pub(super) fn judged(writer: CQDBWriter, size: usize, done: usize, verdict: Verdict) -> Built {
-    Built {
-        state: State { writer, size, done },
-        verdict,
+// A call that answers as it should asks for no answer that is counted.
+fn silent_if(same: bool) -> Verdict
+    ensures { λ r. ⌜ r ≡ silentIf same ⌝ }
+{
+    if same {
+        Verdict::Silent
+    } else {
+        Verdict::Different
     }
 }
 
 // A fresh record for the first n bytes of the buffer.
-pub(super) fn begin(s: State, mode: Mode, n: usize, counts: &mut [u32; 256], buf: &[u8]) -> Built {
+fn begin(s: State, mode: Mode, n: usize, counts: &mut [u32; 256], buf: &[u8]) -> Built
+    ensures { λ r. ⌜ built r (now (counts .exit)) (now (buf .entry)) ≡ begins (given s (now (counts .entry)) (now (buf .entry))) mode n ⌝ }
+{
     let w = s.writer;
     if buf.len() < n {
         return judged(w, s.size, s.done, Verdict::Malformed);
@@ -43,36 +56,28 @@ pub(super) fn begin(s: State, mode: Mode, n: usize, counts: &mut [u32; 256], buf
     }
 }
 
-// Whether a put was accepted, or refused for want of room where the line says so.
-fn stored(answer: Stored, full: bool) -> Verdict {
+// The number of put's answer, 0 where it accepts.
+fn number(answer: Stored) -> u32
+    ensures { λ r. ⌜ r ≡ storedOf answer ⌝ }
+{
     match answer {
-        Stored::Accepted => {
-            if full {
-                Verdict::Different
-            } else {
-                Verdict::Silent
-            }
-        }
-        Stored::NoRoom => {
-            if full {
-                Verdict::Silent
-            } else {
-                Verdict::Different
-            }
-        }
-        Stored::Misfit => Verdict::Different,
+        Stored::Accepted => 0,
+        Stored::Misfit => 2,
+        Stored::NoRoom => 3,
     }
 }
 
-// A put, into as many bytes of the buffer as the record is for.
+// A put, into as many bytes of the buffer as the record is for, which is to give this number.
 fn put_name(
     s: State,
-    full: bool,
+    due: u32,
     id: u32,
     name: &[u8],
     counts: &mut [u32; 256],
     buf: &mut [u8],
-) -> Built {
+) -> Built
+    ensures { λ r. ⌜ built r (now (counts .exit)) (now (buf .exit)) ≡ puts (given s (now (counts .entry)) (now (buf .entry))) due id (now (name .entry)) ⌝ }
+{
     let w = s.writer;
     let n = w.length as usize;
     if buf.len() < n {
@@ -81,31 +86,25 @@ fn put_name(
     let p = writer::put(w, &mut *counts, &mut buf[0..n], name, id);
     let answer = p.answer;
     let after = p.writer;
-    judged(after, s.size, s.done, stored(answer, full))
+    judged(after, s.size, s.done, silent_if(number(answer) == due))
 }
 
 // The same, where the name is in hexadecimal digits.
-pub(super) fn put(
-    s: State,
-    full: bool,
-    id: u32,
-    name: &[u8],
-    counts: &mut [u32; 256],
-    buf: &mut [u8],
-) -> Built {
+fn put(s: State, due: u32, id: u32, name: &[u8], counts: &mut [u32; 256], buf: &mut [u8]) -> Built
+    ensures { λ r. ⌜ built r (now (counts .exit)) (now (buf .exit)) ≡ putsNamed (given s (now (counts .entry)) (now (buf .entry))) due id (now (name .entry)) ⌝ }
+{
     let w = s.writer;
     let mut room = io::buffer();
-    let Bytes::Count(n) = hex::decode(name, &mut room) else {
-        return judged(w, s.size, s.done, Verdict::Malformed);
-    };
-    if room.len() < n {
-        return judged(w, s.size, s.done, Verdict::Malformed);
+    match hex::decode(name, &mut room) {
+        Bytes::Count(n) => put_name(s, due, id, &room[0..n], &mut *counts, &mut *buf),
+        Bytes::Bad => judged(w, s.size, s.done, Verdict::Malformed),
     }
-    put_name(s, full, id, &room[0..n], &mut *counts, &mut *buf)
 }
 
 // The size that close gives.
-pub(super) fn close(s: State, size: u32, counts: &[u32; 256], buf: &mut [u8]) -> Built {
+fn close(s: State, size: u32, counts: &[u32; 256], buf: &mut [u8]) -> Built
+    ensures { λ r. ⌜ built r (now (counts .entry)) (now (buf .exit)) ≡ closes (given s (now (counts .entry)) (now (buf .entry))) size ⌝ }
+{
     let w = s.writer;
     let n = w.length as usize;
     if buf.len() < n {
@@ -119,4 +118,30 @@ pub(super) fn close(s: State, size: u32, counts: &[u32; 256], buf: &mut [u8]) ->
         Closed::Unfit => judged(after, s.size, s.done, Verdict::Different),
         Closed::Inconsistent => judged(after, s.size, s.done, Verdict::Different),
     }
+}
+
+// A call with the number n.
+pub(super) fn called(
+    s: State,
+    tag: u32,
+    n: u32,
+    name: &[u8],
+    counts: &mut [u32; 256],
+    buf: &mut [u8],
+) -> Built
+    ensures { λ r. ⌜ built r (now (counts .exit)) (now (buf .exit)) ≡ called (given s (now (counts .entry)) (now (buf .entry))) tag n (now (name .entry)) ⌝ }
+{
+    if tag == NEW2 {
+        return begin(s, Mode::Twoway, n as usize, &mut *counts, &*buf);
+    }
+    if tag == NEW1 {
+        return begin(s, Mode::Oneway, n as usize, &mut *counts, &*buf);
+    }
+    if tag == PUTS {
+        return put(s, 0, n, name, &mut *counts, &mut *buf);
+    }
+    if tag == FULL {
+        return put(s, 3, n, name, &mut *counts, &mut *buf);
+    }
+    close(s, n, &*counts, &mut *buf)
 }

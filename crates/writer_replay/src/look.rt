@@ -1,11 +1,16 @@
 // What an image is: its hashes, or its bytes one part after the other.
-use check::same;
-use jhash::Hashed;
+ghost use mathlib.Core.Path.{_≡_};
+ghost use lib.ListN.{take, drop};
+ghost use Rattle.writer_replay.specs.Look.{compared, allZero, hashes, part, zeros, looking};
+use super::Compared;
 use replay_lines::Bytes;
 use replay_lines::Number;
+use replay_lines::Numbers;
 use replay_lines::Verdict;
 use replay_lines::equal_if;
+use replay_lines::has_hash;
 use replay_lines::hex;
+use replay_lines::same;
 
 const HASH: u32 = 0x6861_7368;
 
@@ -15,71 +20,109 @@ const ZERO: u32 = 0x7a65_726f;
 
 const ENDS: u32 = 0x656e_6473;
 
-// How many bytes have been compared after a line, and the line's verdict.
-pub(super) struct Compared {
-    pub(super) done: usize,
-    pub(super) verdict: Verdict,
-}
-
-fn looked(done: usize, verdict: Verdict) -> Compared {
-    Compared { done, verdict }
-}
-
-fn has_hash(image: &[u8], start: u32, want: u32) -> bool {
-    match jhash::jhash(image, start) {
-        Hashed::Hash(h) => h == want,
-        Hashed::Refused => false,
-    }
-}
-
 // The hashes with two start values.
-fn hashes(image: &[u8], first: &[u8], second: &[u8]) -> Verdict {
-    let Number::Value(zero) = hex::word(first) else {
-        return Verdict::Malformed;
-    };
-    let Number::Value(other) = hex::word(second) else {
-        return Verdict::Malformed;
-    };
-    equal_if(has_hash(image, 0, zero) & has_hash(image, 0xdead_beef, other))
+fn hashes(image: &[u8], first: &[u8], second: &[u8]) -> Verdict
+    ensures { λ r. ⌜ r ≡ hashes (now (image .entry)) (now (first .entry)) (now (second .entry)) ⌝ }
+{
+    match hex::two_words(first, second) {
+        Numbers::Values(zero, other) => {
+            equal_if(has_hash(image, 0, zero) & has_hash(image, 0xdead_beef, other))
+        }
+        Numbers::Bad => Verdict::Malformed,
+    }
 }
 
-// The next n bytes of an image, which are to be those that `want` begins with.
-fn next(image: &[u8], done: usize, want: &[u8], n: usize) -> Compared {
-    if image.len() < done {
-        return looked(done, Verdict::Malformed);
+// The n bytes of an image that follow the compared ones; fewer where it ends before.
+fn next<'a>(image: &'a [u8], done: usize, n: usize) -> &'a [u8]
+    ensures { λ r. ⌜ now r ≡ take n (drop done (now (image .entry))) ⌝ }
+{
+    if image.len() <= done {
+        return &image[image.len()..];
     }
-    if want.len() < n {
-        return looked(done, Verdict::Malformed);
+    if image.len() - done < n {
+        return &image[done..];
     }
-    let rest = &image[done..];
-    if rest.len() < n {
-        return looked(done, Verdict::Different);
-    }
-    looked(done + n, equal_if(same(&rest[0..n], &want[0..n])))
+    let end = done + n;
+    &image[done..end]
 }
 
-fn part(image: &[u8], done: usize, text: &[u8]) -> Compared {
+// Are these bytes zeros?
+fn all_zero(bytes: &[u8]) -> bool
+    ensures { λ r. ⌜ r ≡ allZero (now (bytes .entry)) ⌝ }
+{
+    let mut i = 0;
+    while i < bytes.len() {
+        if bytes[i] != 0 {
+            return false;
+        }
+        i += 1;
+    }
+    true
+}
+
+// The next bytes are these.
+fn part(image: &[u8], done: usize, text: &[u8]) -> Compared
+    ensures { λ r. ⌜ compared r ≡ part (now (image .entry)) done (now (text .entry)) ⌝ }
+{
     let mut room = io::buffer();
     match hex::decode(text, &mut room) {
-        Bytes::Count(n) => next(image, done, &room, n),
-        Bytes::Bad => looked(done, Verdict::Malformed),
+        Bytes::Count(n) => {
+            let bytes = next(image, done, n);
+            Compared {
+                done: done + bytes.len(),
+                verdict: equal_if(same(bytes, &room[0..n])),
+            }
+        }
+        Bytes::Bad => Compared {
+            done,
+            verdict: Verdict::Malformed,
+        },
     }
 }
 
-fn zero(image: &[u8], done: usize, n: &[u8]) -> Compared {
-    let zeros = io::buffer();
+// The next bytes, so many, are zeros.
+fn zeros(image: &[u8], done: usize, n: &[u8]) -> Compared
+    ensures { λ r. ⌜ compared r ≡ zeros (now (image .entry)) done (now (n .entry)) ⌝ }
+{
     match hex::word(n) {
-        Number::Value(n) => next(image, done, &zeros, n as usize),
-        Number::Bad => looked(done, Verdict::Malformed),
+        Number::Value(n) => {
+            let bytes = next(image, done, n as usize);
+            Compared {
+                done: done + bytes.len(),
+                verdict: equal_if((bytes.len() == n as usize) & all_zero(bytes)),
+            }
+        }
+        Number::Bad => Compared {
+            done,
+            verdict: Verdict::Malformed,
+        },
     }
 }
 
-pub(super) fn line(done: usize, tag: u32, first: &[u8], second: &[u8], image: &[u8]) -> Compared {
-    match tag {
-        HASH => looked(done, hashes(image, first, second)),
-        PART => part(image, done, first),
-        ZERO => zero(image, done, first),
-        ENDS => looked(done, equal_if(done == image.len())),
-        _ => looked(done, Verdict::Malformed),
+// A line about the image.
+pub(super) fn line(done: usize, tag: u32, first: &[u8], second: &[u8], image: &[u8]) -> Compared
+    ensures { λ r. ⌜ compared r ≡ looking (now (image .entry)) done tag (now (first .entry)) (now (second .entry)) ⌝ }
+{
+    if tag == HASH {
+        return Compared {
+            done,
+            verdict: hashes(image, first, second),
+        };
+    }
+    if tag == PART {
+        return part(image, done, first);
+    }
+    if tag == ZERO {
+        return zeros(image, done, first);
+    }
+    if tag == ENDS {
+        return Compared {
+            done,
+            verdict: equal_if(done == image.len()),
+        };
+    }
+    Compared {
+        done,
+        verdict: Verdict::Malformed,
     }
 }

@@ -1,6 +1,6 @@
 // Replays lists of puts on the writer, and compares the images with those that the original made. A line of the input is
 // a tag of four letters and up to two words: numbers have eight hexadecimal digits, bytes two each, and a missing name is
-// the empty one. A line that begins with #, and an empty one, is passed over.
+// the empty one. A line that begins with #, and an empty one, is skipped.
 //
 // Calls (build.rt):
 //     new2 00001000            a fresh two-way record, for a buffer of so many bytes
@@ -13,33 +13,56 @@
 //     part 4351                its next bytes are these
 //     zero 00000010            its next bytes, so many, are zeros
 //     ends                     it ends here
-mod build;
-mod look;
+mod build; // build.rt: calls, called
+mod look; // look.rt: line
 
-use build::Built;
-use build::State;
-use build::judged;
+ghost use mathlib.Core.Path.{_≡_};
+ghost use Rattle.replay_lines.specs.Lines.{replayed};
+ghost use Rattle.writer_replay.specs.Build.{noRecord, given, built};
+ghost use Rattle.writer_replay.specs.Replay.{looked, tagged, judge};
 use image::Mode;
 use libc::STDIN_FILENO;
 use replay_lines::Counts;
 use replay_lines::Number;
 use replay_lines::Verdict;
 use replay_lines::hex;
+use replay_lines::lines;
 use replay_lines::words;
 use writer::CQDBWriter;
 
-const NEW2: u32 = 0x6e65_7732;
+// What the lines so far left: the writer record, the size of the image that close made last, and how many of its bytes
+// have been compared.
+struct State {
+    writer: CQDBWriter,
+    size: usize,
+    done: usize,
+}
 
-const NEW1: u32 = 0x6e65_7731;
+// What a line left, and its verdict.
+struct Built {
+    state: State,
+    verdict: Verdict,
+}
 
-const PUTS: u32 = 0x7075_7473;
+// How many bytes have been compared after a line, and the line's verdict.
+struct Compared {
+    done: usize,
+    verdict: Verdict,
+}
 
-const FULL: u32 = 0x6675_6c6c;
-
-const SIZE: u32 = 0x7369_7a65;
+fn judged(writer: CQDBWriter, size: usize, done: usize, verdict: Verdict) -> Built
+    ensures { λ r. ⌜ r ≡ record { state = record { writer = writer; size = size; done = done }; verdict = verdict } ⌝ }
+{
+    Built {
+        state: State { writer, size, done },
+        verdict,
+    }
+}
 
 // A line about the image.
-fn looked(s: State, tag: u32, first: &[u8], second: &[u8], buf: &[u8]) -> Built {
+fn looked(s: State, tag: u32, first: &[u8], second: &[u8], buf: &[u8]) -> Built
+    ensures { λ r. ⌜ r ≡ looked s (now (buf .entry)) tag (now (first .entry)) (now (second .entry)) ⌝ }
+{
     let w = s.writer;
     let size = s.size;
     if buf.len() < size {
@@ -50,26 +73,7 @@ fn looked(s: State, tag: u32, first: &[u8], second: &[u8], buf: &[u8]) -> Built 
     judged(w, size, l.done, verdict)
 }
 
-// A line whose first word is a number: a call, or one about the image.
-fn numbered(
-    s: State,
-    tag: u32,
-    n: u32,
-    first: &[u8],
-    second: &[u8],
-    counts: &mut [u32; 256],
-    buf: &mut [u8],
-) -> Built {
-    match tag {
-        NEW2 => build::begin(s, Mode::Twoway, n as usize, &mut *counts, &*buf),
-        NEW1 => build::begin(s, Mode::Oneway, n as usize, &mut *counts, &*buf),
-        PUTS => build::put(s, false, n, second, &mut *counts, &mut *buf),
-        FULL => build::put(s, true, n, second, &mut *counts, &mut *buf),
-        SIZE => build::close(s, n, &*counts, &mut *buf),
-        _ => looked(s, tag, first, second, &*buf),
-    }
-}
-
+// A line that has a tag: a call, or one about the image.
 fn tagged(
     s: State,
     tag: u32,
@@ -77,43 +81,41 @@ fn tagged(
     second: &[u8],
     counts: &mut [u32; 256],
     buf: &mut [u8],
-) -> Built {
+) -> Built
+    ensures { λ r. ⌜ built r (now (counts .exit)) (now (buf .exit)) ≡ tagged (given s (now (counts .entry)) (now (buf .entry))) tag (now (first .entry)) (now (second .entry)) ⌝ }
+{
+    if !build::calls(tag) {
+        return looked(s, tag, first, second, &*buf);
+    }
+    let w = s.writer;
     match hex::word(first) {
-        Number::Value(n) => numbered(s, tag, n, first, second, &mut *counts, &mut *buf),
-        Number::Bad => looked(s, tag, first, second, &*buf),
+        Number::Value(n) => build::called(s, tag, n, second, &mut *counts, &mut *buf),
+        Number::Bad => judged(w, s.size, s.done, Verdict::Malformed),
     }
 }
 
-// A line of up to three words.
-fn three_words(s: State, line: &[u8], counts: &mut [u32; 256], buf: &mut [u8]) -> Built {
-    let k = bytes::scan::find(line, 0, line.len(), b' ');
-    let rest = words::after(line, k);
-    let m = bytes::scan::find(rest, 0, rest.len(), b' ');
-    let tag = words::tag(&line[0..k]);
+// Any line.
+fn any_line(s: State, line: &[u8], counts: &mut [u32; 256], buf: &mut [u8]) -> Built
+    ensures { λ r. ⌜ built r (now (counts .exit)) (now (buf .exit)) ≡ judge (given s (now (counts .entry)) (now (buf .entry))) (now (line .entry)) ⌝ }
+{
+    let w = s.writer;
+    if words::skipped(line) {
+        return judged(w, s.size, s.done, Verdict::Silent);
+    }
     tagged(
         s,
-        tag,
-        &rest[0..m],
-        words::after(rest, m),
+        words::tag(line),
+        words::second(line),
+        words::third(line),
         &mut *counts,
         &mut *buf,
     )
 }
 
-// The same, for a line that may be passed over.
-fn any_line(s: State, line: &[u8], counts: &mut [u32; 256], buf: &mut [u8]) -> Built {
-    let w = s.writer;
-    if line.len() == 0 {
-        return judged(w, s.size, s.done, Verdict::Silent);
-    }
-    if line[0] == b'#' {
-        return judged(w, s.size, s.done, Verdict::Silent);
-    }
-    three_words(s, line, &mut *counts, &mut *buf)
-}
-
 // No record yet: one for no bytes, which fits nothing.
-fn nothing_yet() -> State {
+fn nothing_yet() -> State
+    ensures { λ r. ⌜ r ≡ record { writer = noRecord; size = 0; done = 0 } ⌝ }
+{
     State {
         writer: CQDBWriter {
             mode: Mode::Twoway,
@@ -128,21 +130,18 @@ fn nothing_yet() -> State {
 }
 
 // Every line of a text.
-fn replay(text: &[u8], counts: &mut [u32; 256], buf: &mut [u8]) -> Counts {
-    let mut all = replay_lines::no_lines();
+fn replay(text: &[u8], counts: &mut [u32; 256], buf: &mut [u8]) -> Counts
+    ensures { λ r. ⌜ r ≡ replayed judge (given (record { writer = noRecord; size = 0; done = 0 }) (now (counts .entry)) (now (buf .entry))) (now (text .entry)) ⌝ }
+{
+    let mut p = lines::begin();
     let mut state = nothing_yet();
-    let mut at = 0;
-    while at < text.len() {
-        let end = bytes::scan::find(text, at, text.len(), b'\n');
-        let line = &text[at..end];
-        at = end + 1;
-        let built = any_line(state, line, &mut *counts, &mut *buf);
-        let verdict = built.verdict;
-        state = built.state;
-        replay_lines::report(line, verdict);
-        all = replay_lines::counted(all, verdict);
+    while p.at < text.len() {
+        let left = any_line(state, lines::line(text, p), &mut *counts, &mut *buf);
+        let verdict = left.verdict;
+        state = left.state;
+        p = lines::noted(p, text, verdict);
     }
-    all
+    p.counts
 }
 
 fn main() {

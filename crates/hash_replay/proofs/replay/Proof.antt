@@ -1,58 +1,64 @@
--- `hash_replay::replay` is safe and ends. The measure is what is left of the text. Assumes nothing.
-use mathlib.Core.Path.{_≡_}
-use Prim.Native.Nat.{_-_}
+-- `hash_replay::replay` meets its contract. The loop's invariant: the lines that are left bring the counts to those of the whole text. The
+-- measure is what is left of the text. Assumes nothing.
+use mathlib.Core.Path.{_≡_, refl, ap, _∙_}
+use Prim.Native.Nat.{ℕ, _-_}
 use lib.ListN.{length}
 use borrow.Author.Needs.{needs}
+use Rattle.replay_lines.specs.Lines.{judged, replayed}
+use Rattle.replay_lines.proofs.Turns.{left, at-end, turn, nearer}
+use Rattle.hash_replay.specs.Lines.{verdict, judge}
+use borrow.Author.Needs.{needs}
+use Rattle.replay_lines.specs.Lines.{replayed}
+use Rattle.replay_lines.proofs.Turns.{left, at-end, turn, nearer}
+use Rattle.hash_replay.specs.Lines.{verdict, judge}
 use Rattle.hash_replay.proofs.replay.Statement.{statement}
 use Rattle.hash_replay.proofs.replay.Tie as tie
 
 abbrev Inv-loop : tie.InvT-loop
-Inv-loop text room₀ counts₀ at₀ room counts at = length room ≡ length room₀
+Inv-loop text room₀ p₀ room p =
+    (length room ≡ length room₀) × (left judge (length room₀) text p ≡ replayed judge (length room₀) text)
 
 abbrev μ-loop : tie.MeasureT-loop
-μ-loop text room₀ counts₀ at₀ room counts at = length text - at
+μ-loop text room₀ p₀ room p = length text - p .at
 
-no-lines-requires : tie.Need-no-lines-requires Inv-loop μ-loop
-no-lines-requires c κs = search needs
+begin-requires : tie.Need-begin-requires Inv-loop μ-loop
+begin-requires c κs = search needs
 
 loop-holds : tie.Need-loop-holds Inv-loop μ-loop
-loop-holds c = search needs
+loop-holds c = (refl, ap (left judge _ _) (c .begin .ensures))
 
-find-requires : tie.Need-find-requires Inv-loop μ-loop
-find-requires c κs = search needs
-
-sub-line : tie.Need-sub-line Inv-loop μ-loop
-sub-line c = search needs
-
-part-line-start : tie.Need-part-line-start Inv-loop μ-loop
-part-line-start c = search needs
-
-part-line-end : tie.Need-part-line-end Inv-loop μ-loop
-part-line-end c = search needs
-
-add-at : tie.Need-add-at Inv-loop μ-loop
-add-at c = search needs
+line-requires : tie.Need-line-requires Inv-loop μ-loop
+line-requires c κs = search needs
 
 verdict-of-requires : tie.Need-verdict-of-requires Inv-loop μ-loop
 verdict-of-requires c κs = search needs
 
-report-requires : tie.Need-report-requires Inv-loop μ-loop
-report-requires c κs = search needs
-
-counted-requires : tie.Need-counted-requires Inv-loop μ-loop
-counted-requires c κs = search needs
+noted-requires : tie.Need-noted-requires Inv-loop μ-loop
+noted-requires c κs = search needs
 
 loop-less : tie.Need-loop-less Inv-loop μ-loop
-loop-less c = search needs
+loop-less c =
+    let test = c .before .before .before .before .before .before in
+    nearer _ (test .before .before .loop .p) _ _ (test .if1 .taken) (c .noted .ensures)
 
 loop-again : tie.Need-loop-again Inv-loop μ-loop
-loop-again c = search needs
+loop-again c =
+    let call = c .before .before .before in
+    let test = call .before .before .before in
+    let loop = test .before .before .loop in
+    let same-room = ap (λ (room : ℕ). verdict room (call .before .before .line .result .now)) (loop .inv .0) in (
+      search needs,
+      turn judge _ _ (loop .p) (test .if1 .taken) _ _ _ (call .before .before .line .ensures) (ap (judged _) (call .verdict-of .ensures ∙ same-room)) (c .noted .ensures)
+          ∙ loop .inv .1,
+    )
 
 same-length : tie.Need-same-length Inv-loop μ-loop
 same-length c = search needs
 
 returns : tie.Need-returns Inv-loop μ-loop
-returns c = search needs
+returns c =
+    let loop = c .before .before .before .loop in
+    at-end judge _ _ (loop .p) (c .before .if1 .left) ∙ loop .inv .1
 
 pub replay-spec : {M : Type 1} → statement M
 replay-spec =
@@ -60,16 +66,11 @@ replay-spec =
     (tie.spec
     Inv-loop
     μ-loop
-    no-lines-requires
+    begin-requires
     loop-holds
-    find-requires
-    sub-line
-    part-line-start
-    part-line-end
-    add-at
+    line-requires
     verdict-of-requires
-    report-requires
-    counted-requires
+    noted-requires
     loop-less
     loop-again
     same-length

@@ -1,11 +1,16 @@
 -- `replay_lines::words::tag` meets its contract. Assumes nothing.
+use mathlib.Core.Path.{ap, _∙_}
+use Rattle.replay_lines.specs.Words.{tagIn}
 use Rattle.replay_lines.proofs.Steps.{four, not-four}
 use borrow.Author.Needs.{needs}
 use Rattle.replay_lines.proofs.words.tag.Statement.{statement}
 use Rattle.replay_lines.proofs.words.tag.Tie as tie
 
+until-requires : tie.Need-until-requires
+until-requires c κs = search needs
+
 returns : tie.Need-returns
-returns c = not-four _ (c .if1 .taken)
+returns c = not-four _ (c .if1 .taken) ∙ ap tagIn (c .before .until .ensures)
 
 shared-slice-read-wide : tie.Need-shared-slice-read-wide
 shared-slice-read-wide c = search needs
@@ -51,17 +56,17 @@ add-result-3 c = search needs
 
 returns-2 : tie.Need-returns-2
 returns-2 c =
-    four _ _ _ _ _
-    (c .before .before .before .before .before .before .before .before .if1 .left)
-    (c .before .before .before .before .before .before .wide .ensures .0)
-    (c .before .before .before .before .wide2 .ensures .0)
-    (c .before .before .wide3 .ensures .0)
+    let first = c .before .before .before .before .before .before in
+    let third = c .before .before in
+    four _ _ _ _ _ (first .before .before .if1 .left) (first .wide .ensures .0) (third .before .before .wide2 .ensures .0) (third .wide3 .ensures .0)
     (c .wide4 .ensures .0)
+    ∙ ap tagIn (first .before .before .before .until .ensures)
 
 pub tag-spec : {M : Type 1} → statement M
 tag-spec =
     tie.close
     (tie.spec
+    until-requires
     returns
     shared-slice-read-wide
     wide-requires

@@ -1,9 +1,9 @@
--- `image::stored::broken` meets its contract. Assumes nothing.
+-- `image::entries::broken` meets its contract. Assumes nothing.
 use native.Mathlib.Omega.{arith}
 use Rattle.image.proofs.Unbroken.{broken-short, broken-rest}
 use borrow.Author.Needs.{needs}
-use Rattle.image.proofs.stored.broken.Statement.{statement}
-use Rattle.image.proofs.stored.broken.Tie as tie
+use Rattle.image.proofs.entries.broken.Statement.{statement}
+use Rattle.image.proofs.entries.broken.Tie as tie
 
 add-start : tie.Need-add-start
 add-start c = search needs

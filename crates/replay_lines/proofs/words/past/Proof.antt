@@ -1,9 +1,11 @@
--- `replay_lines::words::after` meets its contract. Assumes nothing.
-use Rattle.replay_lines.proofs.Steps.{all-after, none-after}
-use Prim.Native.Nat.{_+_}
+-- `replay_lines::words::past` meets its contract. Assumes nothing.
+use Rattle.replay_lines.proofs.Split.{past-is, past-none}
 use borrow.Author.Needs.{needs}
-use Rattle.replay_lines.proofs.words.after.Statement.{statement}
-use Rattle.replay_lines.proofs.words.after.Tie as tie
+use Rattle.replay_lines.proofs.words.past.Statement.{statement}
+use Rattle.replay_lines.proofs.words.past.Tie as tie
+
+find-requires : tie.Need-find-requires
+find-requires c κs = search needs
 
 sub-result : tie.Need-sub-result
 sub-result c = search needs
@@ -15,7 +17,7 @@ part-result-end : tie.Need-part-result-end
 part-result-end c = search needs
 
 returns : tie.Need-returns
-returns c = none-after _ _ (c .before .if1 .taken)
+returns c = past-none _ _ _ (c .before .before .find .ensures .0) (c .before .if1 .taken)
 
 add-result : tie.Need-add-result
 add-result c = search needs
@@ -30,12 +32,13 @@ part-result-end-2 : tie.Need-part-result-end-2
 part-result-end-2 c = search needs
 
 returns-2 : tie.Need-returns-2
-returns-2 c = all-after _ (c .before .before .args .k + 1)
+returns-2 c = past-is _ _ _ (c .before .before .find .ensures .0)
 
-pub after-spec : {M : Type 1} → statement M
-after-spec =
+pub past-spec : {M : Type 1} → statement M
+past-spec =
     tie.close
     (tie.spec
+    find-requires
     sub-result
     part-result-start
     part-result-end

@@ -1,0 +1,2 @@
+-- What a line of the replay means.
+pub mod Lines

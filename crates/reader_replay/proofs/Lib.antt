@@ -1,0 +1,2 @@
+-- Laws of the definitions, as the functions need them.
+pub mod Judging

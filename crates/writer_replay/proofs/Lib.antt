@@ -1,0 +1,3 @@
+-- Laws of the definitions, as the functions need them.
+pub mod Calling
+pub mod Looking
