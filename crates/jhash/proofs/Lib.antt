@@ -3,6 +3,7 @@ pub mod WordRead
 mod Mixing
 mod Blocks
 mod Limit
+mod Powers
 pub mod Outcomes
 pub mod Rotation
 pub mod Vectors

@@ -1,10 +1,11 @@
--- For readers of lookup3 who think of a rotation as a product: by a power of two, split at 2 ^ 32, the two halves added.
+-- For readers of lookup3 who think of a rotation as a product: by a power of two, split at 2 ^ 32, the two halves added (02 (iv)).
 -- Assumes nothing.
 use mathlib.Core.Path.{_≡_, sym, ap, ap₂, _∙_, subst}
 use Prim.Native.Nat.{ℕ, _+_, _-_, _*_, _/_, _%_, _^_, _<_}
-use native.Mathlib.Nat.{add-comm, add-zero, le-of-lt, mul-mod-left, mul-div-mul-right, sub-add-cancel}
-use lib.Bits.{bitOr, or-shifted}
-use lib.Pow.{pow-add, pow-pos, mod-pow-add, shl-shr, shr-lt}
+use native.Mathlib.Nat.{add-comm, add-zero, le-of-lt, lt-trans, lt-of-le-of-lt, mod-lt, mod-eq-of-lt, mul-mod-left, mul-div-mul-right, sub-add-cancel}
+use native.Mathlib.Omega.{arith}
+use lib.Bits.{bitOr, or-shifted, or-lt}
+use lib.Pow.{pow-add, pow-pos, pow-lt, mod-pow-add, shl-lt, shl-shr, shr-le, shr-lt}
 use Rattle.jhash.specs.Lookup3.{rotl32}
 
 -- the lower half of the product is a multiple of the power
@@ -33,3 +34,26 @@ rotation x k h below =
     (sub-add-cancel (le-of-lt below))
     (halves x (32 - k) k)
     h
+
+-- the sum of the halves never carries past 32 bits
+no-carry : (x k : ℕ) → x < 2 ^ 32 → k < 32 → x * 2 ^ k % 2 ^ 32 + x * 2 ^ k / 2 ^ 32 < 2 ^ 32
+no-carry x k h below =
+    subst
+    (λ (n : ℕ). n < 2 ^ 32)
+    (rotation x k h below)
+    (or-lt 32 (x * 2 ^ k % 2 ^ 32) (x / 2 ^ (32 - k)) (mod-lt (x * 2 ^ k) (pow-pos 32)) (lt-of-le-of-lt (shr-le x (32 - k)) h))
+
+-- the steps of `rotate_left`, from what its calls give: a power p of two, and the halves of the product added
+module _ (x k : ℕ) {p : ℕ} (word : x < 2 ^ 32) (power : p ≡ 2 ^ (k % 32)) where
+  pub product-fits : x * p < 2 ^ 64
+  product-fits = rw power (lt-trans (shl-lt 32 (k % 32) word) (pow-lt {i = 32 + k % 32} {j = 64} (omega arith)))
+
+  pub sum-fits : {r : ℕ} → r ≡ x * p % 2 ^ 32 + x * p / 2 ^ 32 → r < 2 ^ 32
+  sum-fits sum = rw (sum, power) (no-carry x (k % 32) word (omega arith))
+
+  pub sum-rotates : {r : ℕ} → r ≡ x * p % 2 ^ 32 + x * p / 2 ^ 32 → r ≡ rotl32 x (k % 32)
+  sum-rotates sum = rw (sum, power) (sym (rotation x (k % 32) word (omega arith)))
+
+-- an amount below 32 is its own remainder
+pub by-amount : (x k : ℕ) {r : ℕ} → r ≡ rotl32 x (k % 32) → k < 32 → r ≡ rotl32 x k
+by-amount x k e below = e ∙ ap (rotl32 x) (mod-eq-of-lt below)

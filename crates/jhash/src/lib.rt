@@ -1,6 +1,6 @@
 // The name hash: Bob Jenkins's hashlittle (lookup3) over a name and one zero byte.
 ghost use mathlib.Core.Path.{_≡_};
-ghost use Prim.Native.Nat.{_+_, _<_, _≤_};
+ghost use Prim.Native.Nat.{_+_, _*_, _/_, _%_, _^_, _<_, _≤_};
 ghost use lib.Dec.{leb};
 ghost use mathlib.Core.List.{[], _∷_, _++_};
 ghost use lib.ListN.{length};
@@ -28,12 +28,62 @@ pub enum Hashed {
 // What the three words begin with, before length and start value are added.
 const JHASH_INITVAL: u32 = 0xdeadbeef;
 
-// x rotated left by k bits: the two shifts joined.
-fn rotate_left(x: u32, k: u32) -> u32
-    requires { ⌜ (0 < k) × (k < 32) ⌝ }
-    ensures { λ r. ⌜ r ≡ rotl32 x k ⌝ }
+// The 32 powers of two that a rotation multiplies by: entry k is 2^k.
+const POWERS: [u64; 32] = [
+    1,
+    2,
+    4,
+    8,
+    16,
+    32,
+    64,
+    128,
+    256,
+    512,
+    1024,
+    2048,
+    4096,
+    8192,
+    16384,
+    32768,
+    65536,
+    131072,
+    262144,
+    524288,
+    1048576,
+    2097152,
+    4194304,
+    8388608,
+    16777216,
+    33554432,
+    67108864,
+    134217728,
+    268435456,
+    536870912,
+    1073741824,
+    2147483648,
+];
+
+// The table's entry for k modulo 32.
+fn power(k: u32) -> u64
+    ensures { λ r. ⌜ r ≡ 2 ^ (k % 32) ⌝ }
 {
-    (x << k) | (x >> (32 - k))
+    POWERS[(k % 32) as usize]
+}
+
+// A product split at 2^32, its two halves added.
+fn halves_added(product: u64) -> u64
+    ensures { λ r. ⌜ r ≡ product % 2 ^ 32 + product / 2 ^ 32 ⌝ }
+{
+    product % 4294967296 + product / 4294967296
+}
+
+// x rotated left by k bits: the product by a power of two, its halves added. The sum never carries past 32 bits, so the cast
+// loses nothing. 32 bits are a whole turn: an amount of 32 or more rotates by its remainder modulo 32.
+pub fn rotate_left(x: u32, k: u32) -> u32
+    ensures { λ r. ⌜ r ≡ rotl32 x (k % 32) ⌝ }
+{
+    halves_added(x as u64 * power(k)) as u32
 }
 
 // x - y, modulo 2^32.

@@ -9,6 +9,7 @@ use borrow.Rule.Slice.PartMut.{putMid, post-is}
 use lib.ListN.{length, take, drop, length-drop, length-take}
 use lib.Seq.{take-all, drop-length}
 use Rattle.image.specs.Bytes.{same}
+use Rattle.reader.specs.Slices.{Slice}
 use Rattle.reader.specs.Naming.{place, naming, namePart}
 use Rattle.reader.specs.Walk.{Step, item}
 use Rattle.replay_lines.specs.Hex.{isBytes, countIn, afterDecode}
@@ -26,11 +27,11 @@ use Rattle.reader_replay.specs.declared.State.{State}
 use Rattle.reader_replay.specs.declared.Step as declared
 
 -- an id that has a name
-module _ (tag id start len : ℕ) (name image : List ℕ) (e : place start len ≡ naming image id) where
-  pub names : tag ≡ NAME → same (namePart image id) name ≡ namesAs tag name image (naming image id)
+module _ (tag id start len : ℕ) (name : List ℕ) (image : Slice) (e : place start len ≡ naming (image .bytes) id) where
+  pub names : tag ≡ NAME → same (namePart image id .bytes) name ≡ namesAs tag name (image .bytes) (naming (image .bytes) id)
   names h = rw (← e, eq-eqb tag NAME h)
 
-  pub names-not : (tag ≡ NAME → ⊥) → false ≡ namesAs tag name image (naming image id)
+  pub names-not : (tag ≡ NAME → ⊥) → false ≡ namesAs tag name (image .bytes) (naming (image .bytes) id)
   names-not h = rw (← e, ne-eqb tag NAME h)
 
 -- a step that has an id and a name

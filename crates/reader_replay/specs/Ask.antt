@@ -4,8 +4,9 @@ use mathlib.Core.Bool.{Bool, true, false, cond, _&&_, _||_}
 use mathlib.Core.List.{List}
 use lib.ListN.{take, drop}
 use lib.Dec.{eqb}
+use Rattle.jhash.specs.Outcome.{Outcome, value, refusal}
 use Rattle.image.specs.Bytes.{same}
-use Rattle.reader.specs.Open.{Opening, num, refusal, opening}
+use Rattle.reader.specs.Open.{opening}
 use Rattle.reader.specs.Lookup.{Lookup, found, nothing, lookup}
 use Rattle.reader.specs.Naming.{Naming, place, unnamed, naming}
 use Rattle.reader.specs.Walk.{home}
@@ -17,13 +18,13 @@ use Rattle.reader_replay.specs.Tags.{either, says, OPEN, FAIL, FIND, MIS
 use Rattle.reader_replay.specs.Walk.{walkAgrees}
 
 -- open 00000002: the number of associations. fail 00000007: the refusal
-abbrev pub opensAs : ℕ → ℕ → Opening → Bool
-opensAs tag n (num k) = says tag n OPEN k
+abbrev pub opensAs : ℕ → ℕ → Outcome ℕ → Bool
+opensAs tag n (value k) = says tag n OPEN k
 opensAs tag n (refusal k) = says tag n FAIL k
 
 -- find 00000005 41: the name finds the id. miss 41: it finds nothing
 abbrev pub findsAs : ℕ → ℕ → Lookup → Bool
-findsAs tag n (found id buckets) = says tag n FIND id
+findsAs tag n (found f) = says tag n FIND (f .id)
 findsAs tag n (nothing buckets) = eqb tag MISS
 
 -- name 00000005 41: the id gives the name. void 00000005: it gives nothing

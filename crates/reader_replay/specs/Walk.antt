@@ -6,7 +6,7 @@ use lib.ListN.{length, take, drop}
 use lib.Dec.{eqb, leb}
 use Rattle.image.specs.Bytes.{same}
 use Rattle.reader.specs.Walk.{Step, item, done, step, upperHint}
-use Rattle.reader.specs.Steps.{standsAfter}
+use Rattle.reader.specs.WalkSteps.{standsAfter}
 use Rattle.reader_replay.specs.Tags.{either, says, WALK, LEFT, ITEM, ENDS}
 
 -- is a name what stands at a place of an image?

@@ -61,11 +61,7 @@ fn opens_as(tag: u32, n: u32, image: &[u8]) -> bool
 {
     match reader::open(image) {
         Opened::Num(k) => says(tag, n, OPEN, k),
-        Opened::TooShort => says(tag, n, FAIL, 1),
-        Opened::WrongLetters => says(tag, n, FAIL, 5),
-        Opened::WrongByteOrder => says(tag, n, FAIL, 6),
-        Opened::TableLeaves => says(tag, n, FAIL, 7),
-        Opened::BackLeaves => says(tag, n, FAIL, 8),
+        Opened::Refused(refusal) => says(tag, n, FAIL, refusal),
     }
 }
 
@@ -74,7 +70,7 @@ fn finds_as(tag: u32, n: u32, name: &[u8], image: &[u8]) -> bool
     ensures { λ r. ⌜ r ≡ findsAs tag n (lookup (now (image .entry)) (now (name .entry))) ⌝ }
 {
     match reader::to_id(image, name) {
-        ToId::Found { id, buckets: _ } => says(tag, n, FIND, id),
+        ToId::Found(found) => says(tag, n, FIND, found.id),
         ToId::Nothing { buckets: _ } => tag == MISS,
     }
 }

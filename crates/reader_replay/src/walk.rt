@@ -1,7 +1,7 @@
 // A walk over the image, step by step.
 ghost use mathlib.Core.Path.{_≡_};
 ghost use Rattle.reader.specs.Walk.{step};
-ghost use Rattle.reader.specs.Steps.{standsAfter};
+ghost use Rattle.reader.specs.WalkSteps.{standsAfter};
 ghost use Rattle.reader_replay.specs.Walk.{isAt, stepsAs, walkAgrees, standsThen};
 use super::ask::either;
 use super::ask::says;

@@ -2,14 +2,14 @@
 use Prim.Native.Nat.{ℕ, _+_}
 use mathlib.Core.Bool.{Bool, true, false, cond}
 use lib.Dec.{eqb, ltb}
-use Rattle.jhash.specs.NameHash.{Outcome, hash, refusal}
+use Rattle.jhash.specs.Outcome.{Outcome, value, refusal}
 use Rattle.replay_lines.specs.declared.Counts.{Counts}
 use Rattle.replay_lines.specs.declared.Verdict.{Verdict}
 use Rattle.replay_lines.specs.declared.Verdict.the-variants.{Equal, Different, Malformed, Silent}
 
 -- is this the hash that hashing a name gives?
-abbrev pub hashIs : ℕ → Outcome → Bool
-hashIs want (hash h) = eqb h want
+abbrev pub hashIs : ℕ → Outcome ℕ → Bool
+hashIs want (value h) = eqb h want
 hashIs want (refusal n) = false
 
 -- an answer that is the stored one, or not

@@ -8,12 +8,12 @@ use borrow.Rule.Slice.PartMut.{postOf, post-is}
 use lib.Dec.{eqb}
 use lib.ListN.{length, take, drop}
 use lib.Seq.{length-take-le}
+use Rattle.jhash.specs.Outcome.{Outcome, value, refusal}
 use Rattle.image.specs.declared.Mode.{Mode}
 use Rattle.writer.specs.State.{stateWith, begunOf, beginning, countsBegun}
 use Rattle.writer.specs.State as writer
 use Rattle.writer.specs.Put.{entryOf, putRefusal, afterPut}
 use Rattle.writer.specs.Close.{closedOf, closing, afterClose}
-use Rattle.writer.specs.Close as close
 use Rattle.writer.specs.declared.CQDBWriter.{CQDBWriter}
 use Rattle.writer.specs.declared.Begun.{Begun}
 use Rattle.writer.specs.declared.Begun.the-variants.{Fresh}
@@ -39,7 +39,7 @@ module _ (s : State) (counts left buffer : List ℕ) (mode : Mode) (n : ℕ) (r 
         let e : n - 0 ≡ n = omega arith in
         rw e (length-take-le n buffer h)
 
-    begins-as : (x : writer.Beginning) → begunOf b ≡ x → built r left buffer ≡ begunWith (given s counts buffer) left x
+    begins-as : (x : Outcome CQDBWriter) → begunOf b ≡ x → built r left buffer ≡ begunWith (given s counts buffer) left x
         → built r left buffer ≡ begins (given s counts buffer) mode n
     unfolding begins
     begins-as x told e =
@@ -47,11 +47,11 @@ module _ (s : State) (counts left buffer : List ℕ) (mode : Mode) (n : ℕ) (r 
 
     pub begins-fresh : (w : CQDBWriter) → b ≡ Fresh w → r ≡ record { state = record { writer = w; size = 0; done = 0 }; verdict = Silent }
         → built r left buffer ≡ begins (given s counts buffer) mode n
-    begins-fresh w told er = begins-as (writer.begun w) (ap begunOf told) (rw er)
+    begins-fresh w told er = begins-as (value w) (ap begunOf told) (rw er)
 
-    pub begins-refused : (k : ℕ) → begunOf b ≡ writer.refusal k → r ≡ record { state = s; verdict = Different }
+    pub begins-refused : (k : ℕ) → begunOf b ≡ refusal k → r ≡ record { state = s; verdict = Different }
         → built r left buffer ≡ begins (given s counts buffer) mode n
-    begins-refused k told er = begins-as (writer.refusal k) told (rw er)
+    begins-refused k told er = begins-as (refusal k) told (rw er)
 
 -- a buffer that is shorter than the record's
 module _ (s : State) (counts buffer : List ℕ) (r : Built) (h : length buffer < s .writer .length) (er : r ≡ record { state = s; verdict = Malformed }) where
@@ -91,7 +91,7 @@ module _ (s : State) (counts left buffer bytes : List ℕ) (w : CQDBWriter) (r :
 
   -- close, by what it promises of the answer a
   module _ (a : Closed) (size : ℕ) (promise : closedOf a ≡ closing lends) (leaves : stateWith w counts bytes ≡ afterClose lends) where
-    closes-as : (x : close.Closing) → closedOf a ≡ x → built r counts whole ≡ closedWith (given s counts buffer) (stateWith w counts bytes) size x
+    closes-as : (x : Outcome ℕ) → closedOf a ≡ x → built r counts whole ≡ closedWith (given s counts buffer) (stateWith w counts bytes) size x
         → built r counts whole ≡ closes (given s counts buffer) size
     unfolding closes
     closes-as x told e =
@@ -101,8 +101,8 @@ module _ (s : State) (counts left buffer bytes : List ℕ) (w : CQDBWriter) (r :
 
     pub closes-size : (k : ℕ) (v : Verdict) → a ≡ Size k → v ≡ verdictIf (eqb k size)
         → r ≡ record { state = record { writer = w; size = k; done = 0 }; verdict = v } → built r counts whole ≡ closes (given s counts buffer) size
-    closes-size k v told ev er = closes-as (close.size k) (ap closedOf told) (ap (built r counts) put-back ∙ rw (er, ev))
+    closes-size k v told ev er = closes-as (value k) (ap closedOf told) (ap (built r counts) put-back ∙ rw (er, ev))
 
-    pub closes-refused : (k : ℕ) → closedOf a ≡ close.refusal k
+    pub closes-refused : (k : ℕ) → closedOf a ≡ refusal k
         → r ≡ record { state = record { writer = w; size = s .size; done = s .done }; verdict = Different } → built r counts whole ≡ closes (given s counts buffer) size
-    closes-refused k told er = closes-as (close.refusal k) told (ap (built r counts) put-back ∙ rw er)
+    closes-refused k told er = closes-as (refusal k) told (ap (built r counts) put-back ∙ rw er)

@@ -4,13 +4,13 @@ use mathlib.Core.Bool.{Bool, true, false, cond, _||_}
 use mathlib.Core.List.{List, _++_}
 use lib.ListN.{length, take, drop}
 use lib.Dec.{eqb, ltb}
+use Rattle.jhash.specs.Outcome.{Outcome, value, refusal}
 use Rattle.image.specs.declared.Mode.{Mode}
 use Rattle.image.specs.declared.Mode.the-variants.{Twoway, Oneway}
-use Rattle.writer.specs.State.{stateWith, Beginning, begun, refusal, beginning, countsBegun}
+use Rattle.writer.specs.State.{stateWith, beginning, countsBegun}
 use Rattle.writer.specs.State as writer
 use Rattle.writer.specs.Put.{entryOf, putRefusal, afterPut}
-use Rattle.writer.specs.Close.{Closing, closing, afterClose}
-use Rattle.writer.specs.Close as close
+use Rattle.writer.specs.Close.{closing, afterClose}
 use Rattle.writer.specs.declared.CQDBWriter.{CQDBWriter}
 use Rattle.replay_lines.specs.Hex.{withBytes}
 use Rattle.replay_lines.specs.Lines.{Judged, judged}
@@ -44,8 +44,8 @@ silentIf true = Silent
 silentIf false = Different
 
 -- new2 00001000, new1 00001000: a fresh record, two-way or one-way, for the first bytes of the buffer, so many
-abbrev pub begunWith : Replay → List ℕ → Beginning → Judged Replay
-begunWith s counts (begun w) = judged (given (record { writer = w; size = 0; done = 0 }) counts (s .buffer)) Silent
+abbrev pub begunWith : Replay → List ℕ → Outcome CQDBWriter → Judged Replay
+begunWith s counts (value w) = judged (given (record { writer = w; size = 0; done = 0 }) counts (s .buffer)) Silent
 begunWith s counts (refusal k) = judged (given (s .state) counts (s .buffer)) Different
 
 unfoldable pub begins : Replay → Mode → ℕ → Judged Replay
@@ -72,9 +72,9 @@ unfoldable pub putsNamed : Replay → ℕ → ℕ → List ℕ → Judged Replay
 putsNamed s due id text = withBytes 4096 text (judged s Malformed) (puts s due id)
 
 -- size 0000083c: the size that close gives
-abbrev pub closedWith : Replay → writer.State → ℕ → Closing → Judged Replay
-closedWith s left size (close.size k) = judged (with s left k 0) (verdictIf (eqb k size))
-closedWith s left size (close.refusal k) = judged (with s left (s .state .size) (s .state .done)) Different
+abbrev pub closedWith : Replay → writer.State → ℕ → Outcome ℕ → Judged Replay
+closedWith s left size (value k) = judged (with s left k 0) (verdictIf (eqb k size))
+closedWith s left size (refusal k) = judged (with s left (s .state .size) (s .state .done)) Different
 
 unfoldable pub closes : Replay → ℕ → Judged Replay
 closes s size =

@@ -1,6 +1,5 @@
 // The writer's calls.
 ghost use mathlib.Core.Path.{_≡_};
-ghost use Rattle.writer.specs.Put.{storedOf};
 ghost use Rattle.writer_replay.specs.Build.{given, built, silentIf, calls, begins, puts, putsNamed, closes, called};
 use super::Built;
 use super::State;
@@ -12,7 +11,6 @@ use replay_lines::equal_if;
 use replay_lines::hex;
 use writer::Begun;
 use writer::Closed;
-use writer::Stored;
 
 const NEW2: u32 = 0x6e65_7732;
 
@@ -52,22 +50,11 @@ fn begin(s: State, mode: Mode, n: usize, counts: &mut [u32; 256], buf: &[u8]) ->
     }
     match writer::begin(mode, &mut *counts, &buf[0..n]) {
         Begun::Fresh(fresh) => judged(fresh, 0, 0, Verdict::Silent),
-        Begun::TooShort => judged(w, s.size, s.done, Verdict::Different),
+        Begun::Refused(_) => judged(w, s.size, s.done, Verdict::Different),
     }
 }
 
-// The number of put's answer, 0 where it accepts.
-fn number(answer: Stored) -> u32
-    ensures { λ r. ⌜ r ≡ storedOf answer ⌝ }
-{
-    match answer {
-        Stored::Accepted => 0,
-        Stored::Misfit => 2,
-        Stored::NoRoom => 3,
-    }
-}
-
-// A put, into as many bytes of the buffer as the record is for, which is to give this number.
+// A put, into as many bytes of the buffer as the record is for. It is to give this number: its refusal's, 0 where it is accepted.
 fn put_name(
     s: State,
     due: u32,
@@ -84,9 +71,9 @@ fn put_name(
         return judged(w, s.size, s.done, Verdict::Malformed);
     }
     let p = writer::put(w, &mut *counts, &mut buf[0..n], name, id);
-    let answer = p.answer;
+    let refusal = p.refusal;
     let after = p.writer;
-    judged(after, s.size, s.done, silent_if(number(answer) == due))
+    judged(after, s.size, s.done, silent_if(refusal == due))
 }
 
 // The same, where the name is in hexadecimal digits.
@@ -115,8 +102,7 @@ fn close(s: State, size: u32, counts: &[u32; 256], buf: &mut [u8]) -> Built
     let after = c.writer;
     match answer {
         Closed::Size(given) => judged(after, given as usize, 0, equal_if(given == size)),
-        Closed::Unfit => judged(after, s.size, s.done, Verdict::Different),
-        Closed::Inconsistent => judged(after, s.size, s.done, Verdict::Different),
+        Closed::Refused(_) => judged(after, s.size, s.done, Verdict::Different),
     }
 }
 

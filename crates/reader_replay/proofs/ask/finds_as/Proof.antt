@@ -9,8 +9,8 @@ use Rattle.reader_replay.proofs.ask.finds_as.Tie as tie
 to-id-requires : tie.Need-to-id-requires
 to-id-requires c κs = search needs
 
-enum-known-id : tie.Need-enum-known-id
-enum-known-id c = search needs
+enum-known-found : tie.Need-enum-known-found
+enum-known-found c = search needs
 
 says-requires : tie.Need-says-requires
 says-requires c κs = search needs
@@ -22,7 +22,7 @@ returns : tie.Need-returns
 returns c =
     let at = c .before .before in
     let a = at .before .before .before .before .before .args in
-    c .says .ensures ∙ ap (findsAs (a .tag) (a .n)) (ap lookupOf (sym (at .id .given .1)) ∙ at .before .before .to-id .ensures)
+    c .says .ensures ∙ ap (findsAs (a .tag) (a .n)) (ap lookupOf (sym (at .found .given .1)) ∙ at .before .before .to-id .ensures)
 
 returns-2 : tie.Need-returns-2
 returns-2 c =
@@ -31,4 +31,4 @@ returns-2 c =
 
 pub finds-as-spec : {M : Type 1} → statement M
 finds-as-spec =
-    tie.close (tie.spec to-id-requires enum-known-id says-requires enum-told returns returns-2)
+    tie.close (tie.spec to-id-requires enum-known-found says-requires enum-told returns returns-2)

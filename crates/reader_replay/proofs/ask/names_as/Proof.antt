@@ -1,8 +1,7 @@
 -- `reader_replay::ask::names_as` meets its contract. Assumes nothing.
 use mathlib.Core.Path.{sym, ap, _∙_}
-use mathlib.Core.List.{List}
-use Prim.Native.Nat.{ℕ}
 use Rattle.image.specs.Bytes.{same}
+use Rattle.reader.specs.Slices.{Slice, slice}
 use Rattle.reader.specs.Cases.{namingOf}
 use Rattle.reader_replay.specs.Ask.{namesAs}
 use Rattle.reader_replay.proofs.Judging.{names, names-not}
@@ -29,14 +28,15 @@ returns : tie.Need-returns
 returns c =
     let at = c .before .before .before in
     let a = at .before .before .before .before .before .args in
-    c .same .ensures ∙ ap (λ (b : List ℕ). same b (a .name .now)) (c .before .name .ensures)
-    ∙ names _ (a .id) _ _ _ _ (ap namingOf (sym (at .enum-told .given .1)) ∙ at .before .before .to-str .ensures) (c .before .before .if1 .taken)
+    c .same .ensures ∙ ap (λ (b : Slice). same (b .bytes) (a .name .now)) (c .before .name .ensures)
+    ∙ names _ (a .id) _ _ _ (slice (a .image)) (ap namingOf (sym (at .enum-told .given .1)) ∙ at .before .before .to-str .ensures)
+    (c .before .before .if1 .taken)
 
 returns-2 : tie.Need-returns-2
 returns-2 c =
     let at = c .before in
     let a = at .before .before .before .before .before .args in
-    names-not _ (a .id) _ _ _ _ (ap namingOf (sym (at .enum-told .given .1)) ∙ at .before .before .to-str .ensures) (c .if1 .left)
+    names-not _ (a .id) _ _ _ (slice (a .image)) (ap namingOf (sym (at .enum-told .given .1)) ∙ at .before .before .to-str .ensures) (c .if1 .left)
 
 returns-3 : tie.Need-returns-3
 returns-3 c =

@@ -44,12 +44,6 @@ enum-told c = search needs
 judged-requires-3 : tie.Need-judged-requires-3
 judged-requires-3 c κs = search needs
 
-enum-told-2 : tie.Need-enum-told-2
-enum-told-2 c = search needs
-
-judged-requires-4 : tie.Need-judged-requires-4
-judged-requires-4 c κs = search needs
-
 same-length : tie.Need-same-length
 same-length c = search needs
 
@@ -57,9 +51,11 @@ returns-2 : tie.Need-returns-2
 returns-2 c =
     let at = c .before .before .before in
     let call = c .before .before .before .before .before .before .before .before in
-    let a = c .before .before .before .before .before .before .before .before .before .before .before .before .before .args in
-    closes-size (a .s) (a .counts .now) (a .counts .now) (a .buf .now) _ (call .close .result .writer) _ (c .before .before .before .before .before .before .before .before .before .before .if1 .left) (call .close .result .answer) (a .size)
-    (call .close .ensures .0) (call .close .ensures .1) _ _ (at .answer .given .1) (c .before .equal-if .ensures) (c .judged2 .ensures)
+    let test = call .before .before in
+    let a = test .before .before .before .args in
+    closes-size (a .s) (a .counts .now) (a .counts .now) (a .buf .now) _ (call .close .result .writer) _ (test .if1 .left)
+    (call .close .result .answer) (a .size) (call .close .ensures .0) (call .close .ensures .1)
+    _ _ (at .answer .given .1) (c .before .equal-if .ensures) (c .judged2 .ensures)
 
 same-length-2 : tie.Need-same-length-2
 same-length-2 c = search needs
@@ -67,19 +63,11 @@ same-length-2 c = search needs
 returns-3 : tie.Need-returns-3
 returns-3 c =
     let call = c .before .before .before .before .before .before in
-    let a = c .before .before .before .before .before .before .before .before .before .before .before .args in
-    closes-refused (a .s) (a .counts .now) (a .counts .now) (a .buf .now) _ (call .close .result .writer) _ (c .before .before .before .before .before .before .before .before .if1 .left) (call .close .result .answer) (a .size)
-    (call .close .ensures .0) (call .close .ensures .1) _ (ap closedOf (c .before .enum-told .given .1)) (c .judged3 .ensures)
-
-same-length-3 : tie.Need-same-length-3
-same-length-3 c = search needs
-
-returns-4 : tie.Need-returns-4
-returns-4 c =
-    let call = c .before .before .before .before .before .before in
-    let a = c .before .before .before .before .before .before .before .before .before .before .before .args in
-    closes-refused (a .s) (a .counts .now) (a .counts .now) (a .buf .now) _ (call .close .result .writer) _ (c .before .before .before .before .before .before .before .before .if1 .left) (call .close .result .answer) (a .size)
-    (call .close .ensures .0) (call .close .ensures .1) _ (ap closedOf (c .before .enum-told2 .given .1)) (c .judged4 .ensures)
+    let test = call .before .before in
+    let a = test .before .before .before .args in
+    closes-refused (a .s) (a .counts .now) (a .counts .now) (a .buf .now) _ (call .close .result .writer) _ (test .if1 .left)
+    (call .close .result .answer) (a .size) (call .close .ensures .0) (call .close .ensures .1)
+    _ (ap closedOf (c .before .enum-told .given .1)) (c .judged3 .ensures)
 
 pub close-spec : {M : Type 1} → statement M
 close-spec =
@@ -97,11 +85,7 @@ close-spec =
     judged-requires-2
     enum-told
     judged-requires-3
-    enum-told-2
-    judged-requires-4
     same-length
     returns-2
     same-length-2
-    returns-3
-    same-length-3
-    returns-4)
+    returns-3)

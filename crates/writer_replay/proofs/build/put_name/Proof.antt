@@ -1,8 +1,4 @@
 -- `writer_replay::build::put_name` meets its contract. Assumes nothing.
-use Prim.Native.Nat.{ℕ}
-use mathlib.Core.Path.{ap, _∙_}
-use lib.Dec.{eqb}
-use Rattle.writer_replay.specs.Build.{silentIf}
 use Rattle.writer_replay.proofs.Calling.{puts-more, puts-as}
 use borrow.Author.Needs.{needs}
 use Rattle.writer_replay.proofs.build.put_name.Statement.{statement}
@@ -28,9 +24,6 @@ part-put-end c = search needs
 put-requires : tie.Need-put-requires
 put-requires c κs = search needs
 
-number-requires : tie.Need-number-requires
-number-requires c κs = search needs
-
 silent-if-requires : tie.Need-silent-if-requires
 silent-if-requires c κs = search needs
 
@@ -42,10 +35,11 @@ same-length c = search needs
 
 returns-2 : tie.Need-returns-2
 returns-2 c =
-    let call = c .before .before .before .before .before .before in
-    let a = c .before .before .before .before .before .before .before .before .before .before .before .before .before .args in
-    puts-as (a .s) (a .counts .now) _ (a .buf .now) _ (call .put .result .writer) _ (c .before .before .before .before .before .before .before .before .before .if1 .left) (a .due) (a .id) (c .before .before .number .result) (a .name .now) _
-    (c .before .before .number .ensures ∙ call .put .ensures .0) (call .put .ensures .1) (c .before .silent-if .ensures) (c .judged2 .ensures)
+    let call = c .before .before .before .before .before in
+    let test = call .before .before .before in
+    let a = test .before .before .before .before .args in
+    puts-as (a .s) (a .counts .now) _ (a .buf .now) _ (call .put .result .writer) _ (test .if1 .left) (a .due) (a .id)
+    (call .put .result .refusal) (a .name .now) _ (call .put .ensures .0) (call .put .ensures .1) (c .before .silent-if .ensures) (c .judged2 .ensures)
 
 pub put-name-spec : {M : Type 1} → statement M
 put-name-spec =
@@ -57,7 +51,6 @@ put-name-spec =
     part-put-start
     part-put-end
     put-requires
-    number-requires
     silent-if-requires
     judged-requires-2
     same-length

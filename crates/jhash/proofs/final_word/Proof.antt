@@ -1,0 +1,25 @@
+-- `jhash::final_word` meets its contract. Assumes nothing.
+use mathlib.Core.Path.{ap, _∙_}
+use lib.Bits.{bitXor}
+use Prim.Native.Nat.{ℕ}
+use Rattle.jhash.specs.Lookup3.{sub32}
+use Rattle.jhash.proofs.Rotation.{by-amount}
+use borrow.Author.Needs.{needs}
+use Rattle.jhash.proofs.final_word.Statement.{statement}
+use Rattle.jhash.proofs.final_word.Tie as tie
+
+rotate-left-requires : tie.Need-rotate-left-requires
+rotate-left-requires c κs = search needs
+
+minus-requires : tie.Need-minus-requires
+minus-requires c κs = search needs
+
+returns : tie.Need-returns
+returns c =
+    let start = c .before .before .before in
+    let w = start .args .w in
+    c .minus .ensures
+    ∙ ap (sub32 (bitXor (w .c) (w .b))) (by-amount (w .b) (start .args .k) (c .before .rotate-left .ensures) (start .pre .1))
+
+pub final-word-spec : {M : Type 1} → statement M
+final-word-spec = tie.close (tie.spec rotate-left-requires minus-requires returns)

@@ -1,0 +1,46 @@
+-- `rotations::at_amount` is safe and ends. Assumes nothing.
+use Prim.Native.Nat.{_-_}
+use borrow.Author.Needs.{needs}
+use Rattle.rotations.proofs.at_amount.Statement.{statement}
+use Rattle.rotations.proofs.at_amount.Tie as tie
+
+abbrev Inv-loop : tie.InvT-loop
+Inv-loop k seen₀ x₀ i₀ seen x i = Unit {0}
+
+abbrev μ-loop : tie.MeasureT-loop
+μ-loop k seen₀ x₀ i₀ seen x i = 131072 - i
+
+loop-holds : tie.Need-loop-holds Inv-loop μ-loop
+loop-holds c = tt
+
+with-word-requires : tie.Need-with-word-requires Inv-loop μ-loop
+with-word-requires c κs = search needs
+
+next-requires : tie.Need-next-requires Inv-loop μ-loop
+next-requires c κs = search needs
+
+add-i : tie.Need-add-i Inv-loop μ-loop
+add-i c = search needs
+
+loop-less : tie.Need-loop-less Inv-loop μ-loop
+loop-less c = search needs
+
+loop-again : tie.Need-loop-again Inv-loop μ-loop
+loop-again c = tt
+
+returns : tie.Need-returns Inv-loop μ-loop
+returns c = tt
+
+pub at-amount-spec : {M : Type 1} → statement M
+at-amount-spec =
+    tie.close
+    (tie.spec
+    Inv-loop
+    μ-loop
+    loop-holds
+    with-word-requires
+    next-requires
+    add-i
+    loop-less
+    loop-again
+    returns)
