@@ -1,7 +1,7 @@
 -- The panel's reading, and the check of both readings, step by step. Assumes nothing.
 use Prim.Native.Nat.{ℕ, _+_, _-_, _≤_, _<_}
 use native.Mathlib.Omega.{arith}
-use mathlib.Core.Path.{_≡_, refl, sym, ap, ap₂, _∙_}
+use mathlib.Core.Path.{_≡_, refl, sym, ap, ap₂, _∙_, subst}
 use mathlib.Core.Bool.{Bool, true, false, cond, not, _&&_}
 use mathlib.Core.List.{List, []}
 use borrow.Author.Tests.{not-true, not-false}
@@ -11,10 +11,10 @@ use Rattle.image.specs.Bytes.{same, all}
 use Rattle.image.specs.Head.{backSizeAt}
 use Rattle.image.specs.Zero.{hasZero, beforeZero}
 use Rattle.image.proofs.All.{all-true, all-turn}
-use Rattle.image.proofs.Zeros.{before-front, before-short, readings-same}
+use Rattle.image.proofs.Zeros.{before-front, before-short, before-free, before-longest, readings-same}
 use Rattle.reader.specs.Slices.{Slice, slice, part}
 use Rattle.reader.specs.Naming.{Naming, place, unnamed, noBack, naming, partOr}
-use Rattle.reader.specs.Panel.{cutAtZero, panel, reading, agreeOn, readingsAgree}
+use Rattle.reader.specs.Panel.{cutAtZero, panel, reading, LongestFront, PanelReads, agreeOn, readingsAgree}
 use Rattle.reader.specs.Walk.{upperHint}
 use Rattle.reader.proofs.Namings.{HasPlace, named, never}
 
@@ -52,6 +52,27 @@ module _ (image : List ℕ) (id : ℕ) where
   pub agree-unnamed : unnamed ≡ naming image id → true ≡ agreeOn image id
   unfolding panel same
   agree-unnamed e = ap (λ (x : Naming). same (reading image (cutAtZero image x)) (reading image x)) e
+
+-- ---- the longest front without a zero byte
+
+longest-front : (name : List ℕ) → LongestFront name (beforeZero name)
+longest-front name = record { is-front = before-front name; zero-free = before-free name; longest = before-longest name }
+
+pub panel-reads : PanelReads
+panel-reads = record { shown = shown }
+  where
+    cut : (image : List ℕ) (x : Naming) → LongestFront (reading image x) (reading image (cutAtZero image x))
+    cut image (place s n) =
+        let name = take n (drop s image) in
+        let k = length (beforeZero name) in
+        let short : k ≤ n = omega (arith, before-short name, length-take n (drop s image)) in
+        let front : beforeZero name ≡ take k (drop s image) = before-front name ∙ take-take k n (drop s image) short in
+        subst (λ (l : List ℕ). LongestFront name l) front (longest-front name)
+    cut image unnamed = longest-front []
+
+    shown : (image : List ℕ) (id : ℕ) → LongestFront (reading image (naming image id)) (reading image (panel image id))
+    unfolding panel
+    shown image id = cut image (naming image id)
 
 -- ---- the returned part
 
