@@ -48,6 +48,8 @@ refusals! {
     BackLeaves = 8, "invalid backward link data: out of bounds";
     /// The name has 4,294,967,295 bytes or more.
     NameTooLong = 9, "the name is too long";
+    /// The name has a zero byte.
+    ZeroByte = 13, "the name has a zero byte";
 }
 
 impl Refusal {
