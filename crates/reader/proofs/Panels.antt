@@ -59,6 +59,7 @@ longest-front : (name : List ℕ) → LongestFront name (beforeZero name)
 longest-front name = record { is-front = before-front name; zero-free = before-free name; longest = before-longest name }
 
 pub panel-reads : PanelReads
+unfolding panel beforeZero
 panel-reads = record { shown = shown }
   where
     cut : (image : List ℕ) (x : Naming) → LongestFront (reading image x) (reading image (cutAtZero image x))
@@ -71,7 +72,6 @@ panel-reads = record { shown = shown }
     cut image unnamed = longest-front []
 
     shown : (image : List ℕ) (id : ℕ) → LongestFront (reading image (naming image id)) (reading image (panel image id))
-    unfolding panel
     shown image id = cut image (naming image id)
 
 -- ---- the returned part
