@@ -41,6 +41,7 @@ extern "C" {
 #define CQDB_BACK_LEAVES 8u      /* open: a back array with an offset above 0 leaves the image */
 #define CQDB_NAME_TOO_LONG 9u    /* hash: the name has 4,294,967,295 bytes or more */
 #define CQDB_PAGE_TOO_LONG 12u   /* page: it has more bytes than the output */
+#define CQDB_ZERO_BYTE 13u       /* put: the name has a zero byte */
 #define CQDB_TOO_FEW_BYTES 19u   /* sheet_read: the file ends before its third section does */
 #define CQDB_LEFT_OVER_BYTES 20u /* sheet_read: bytes follow the third section */
 #define CQDB_SHEET_TOO_LARGE 21u /* sheet_write: a list has more than 65,535 ids, or the buffer is too short */
@@ -93,6 +94,14 @@ typedef struct {
 
 /* The place of an id's name (of its last put). Never refused: a one-way or damaged image gives nothing. */
 cqdb_str_answer cqdb_to_str(const uint8_t *image, size_t len, uint32_t id);
+
+/* The same place up to the name's first zero byte, as a C string is read; all of it where the name has none. A name that
+   begins with a zero byte is found with len 0. Never refused; nothing where cqdb_to_str gives nothing. */
+cqdb_str_answer cqdb_panel(const uint8_t *image, size_t len, uint32_t id);
+
+/* 1 when cqdb_panel and cqdb_to_str give the same bytes for every id below the back size, else 0. It is 1 for the image of
+   every list of calls from a begin, and where no back array can be read; it may be 0 for images made elsewhere. */
+uint32_t cqdb_readings_agree(const uint8_t *image, size_t len);
 
 /* A walk calls cqdb_to_str for the ids from 0 on and ends at the first that has no name. This is the largest number of
    steps that a walk before the id `next` has left: back size minus next, at least 0; 0 where no back array can be read. */
@@ -205,14 +214,14 @@ static inline uint32_t cqdb_begin(cqdb_writer *w, uint32_t mode, const uint8_t *
 }
 
 /* Appends an entry of name_len + 9 bytes at w->end and raises the writer's numbers; changes no other byte of the buffer.
-   Gives 0, or the first refusal that applies: 2 when the writer does not fit the buffer, 3 when the finished size exceeds
-   the buffer or 4,294,967,295. The finished size is, after this put, end + 16 x entries + 4 x back (back counts in two-way
-   mode only).
+   Gives 0, or the first refusal that applies: 2 when the writer does not fit the buffer, 13 when the name has a zero byte,
+   whatever its length, 3 when the finished size exceeds the buffer or 4,294,967,295. The finished size is, after this put,
+   end + 16 x entries + 4 x back (back counts in two-way mode only).
 
    The bytes at w->end are those where the last close placed its tables. After an accepted put the buffer is therefore no
    image, though its head is still that of the last close and cqdb_open may accept it. After A->0, B->1, close and C->2,
-   open gives num 2 and A finds nothing. A put whose name ends in bytes that look like offsets can make id 0 give B and id 1
-   give A. The next cqdb_close makes all of it right again: read after that close, or read a copy. */
+   open gives num 2 and A finds nothing. Two puts whose ids and lengths look like offsets can make id 0 give B and id 1 give
+   A. The next cqdb_close makes all of it right again: read after that close, or read a copy. */
 static inline uint32_t cqdb_put(cqdb_writer *w, uint8_t *buf, size_t len, const uint8_t *name, size_t name_len, uint32_t id) {
     cqdb_put_answer a = cqdb_put_parts(cqdb_record_of(w), w->counts, buf, len, name, name_len, id);
     cqdb_keep(w, a.record);

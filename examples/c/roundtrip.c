@@ -85,6 +85,14 @@ static void check_two_way(cqdb_writer *w, uint8_t *buf, size_t len) {
     }
     expect(steps == 4 && cqdb_size_hint(buf, size, steps) == 0, "a walk has four steps");
     expect(cqdb_home(buf, size, 0) == 1 && cqdb_home(buf, size, 4) == 0, "0 is home, 4 is not");
+    cqdb_str_answer whole = cqdb_to_str(buf, size, 2), shown = cqdb_panel(buf, size, 2);
+    expect(shown.found == 1 && shown.start == whole.start && shown.len == whole.len, "a C string shows the whole name");
+    expect(cqdb_readings_agree(buf, size) == 1, "and so it is for every id");
+    buf[whole.start + 5] = 0;
+    shown = cqdb_panel(buf, size, 2);
+    expect(shown.found == 1 && shown.start == whole.start && shown.len == 5, "it ends before a zero byte");
+    expect(cqdb_panel(buf, size, 4).found == 0, "id 4 has none");
+    expect(cqdb_readings_agree(buf, size) == 0, "the check sees that the readings differ");
 }
 
 static void check_one_way(cqdb_writer *w, uint8_t *buf, size_t len) {
@@ -107,6 +115,9 @@ static void check_refused(cqdb_writer *w, uint8_t *buf, size_t len) {
     expect(cqdb_begin(w, 2, buf, len) == CQDB_UNFIT, "begin: a mode that is neither 0 nor 1");
     expect(cqdb_put(w, buf, len - 1, bytes("E"), 1, 5) == CQDB_UNFIT, "put: another buffer's writer");
     expect(cqdb_put(w, buf, len, bytes("E"), 1, UINT32_MAX) == CQDB_NO_ROOM, "put: no room for 2^32 ids");
+    expect(cqdb_put(w, buf, len, bytes("E\0F"), 3, 5) == CQDB_ZERO_BYTE, "put: a zero byte in the name");
+    expect(cqdb_put(w, buf, len, bytes("E\0F"), 3, UINT32_MAX) == CQDB_ZERO_BYTE, "put: 13 before 3");
+    expect(cqdb_put(w, buf, len - 1, bytes("E\0F"), 3, 5) == CQDB_UNFIT, "put: 2 before 13");
     expect(cqdb_close(w, buf, len - 1).refusal == CQDB_UNFIT, "close: another buffer's writer");
     expect(memcmp(w, &w_before, sizeof *w) == 0, "the writer is as it was");
     w->back = 5;

@@ -108,6 +108,8 @@ extern "C" {
     fn cqdb_open(image: *const u8, len: usize) -> OpenAnswer;
     fn cqdb_to_id(image: *const u8, len: usize, name: *const u8, name_len: usize) -> IdAnswer;
     fn cqdb_to_str(image: *const u8, len: usize, id: u32) -> StrAnswer;
+    fn cqdb_panel(image: *const u8, len: usize, id: u32) -> StrAnswer;
+    fn cqdb_readings_agree(image: *const u8, len: usize) -> u32;
     fn cqdb_size_hint(image: *const u8, len: usize, next: u32) -> u32;
     fn cqdb_home(image: *const u8, len: usize, id: u32) -> u32;
     fn cqdb_page_length(image: *const u8, len: usize) -> u64;
@@ -155,6 +157,16 @@ pub fn to_id(image: &[u8], name: &[u8]) -> IdAnswer {
 /// The place of an id's name, or nothing.
 pub fn to_str(image: &[u8], id: u32) -> StrAnswer {
     unsafe { cqdb_to_str(image.as_ptr(), image.len(), id) }
+}
+
+/// The place of an id's name up to its first zero byte, or nothing.
+pub fn panel(image: &[u8], id: u32) -> StrAnswer {
+    unsafe { cqdb_panel(image.as_ptr(), image.len(), id) }
+}
+
+/// 1 where the panel's reading is the whole name for every id below the back size, else 0.
+pub fn readings_agree(image: &[u8]) -> u32 {
+    unsafe { cqdb_readings_agree(image.as_ptr(), image.len()) }
 }
 
 /// The upper hint of a walk that stands before the id `next`.

@@ -2,7 +2,7 @@
 use std::fmt;
 use std::iter::FusedIterator;
 
-use crate::archive;
+use crate::archive::{self, StrAnswer};
 use crate::page::Page;
 use crate::refusal::{self, Refusal};
 
@@ -54,7 +54,21 @@ impl<'a> CQDB<'a> {
 
     /// The name of an id, of its last put. A one-way image names none.
     pub fn to_str(&self, id: u32) -> Option<&'a [u8]> {
-        let answer = archive::to_str(self.image, id);
+        self.part(archive::to_str(self.image, id))
+    }
+
+    /// The name of an id up to its first zero byte, as a C string is read; all of it where it has none.
+    pub fn panel(&self, id: u32) -> Option<&'a [u8]> {
+        self.part(archive::panel(self.image, id))
+    }
+
+    /// Does [`panel`](CQDB::panel) give the whole name for every id? It does in every image that
+    /// [`CQDBWriter`](crate::CQDBWriter) makes.
+    pub fn readings_agree(&self) -> bool {
+        archive::readings_agree(self.image) == 1
+    }
+
+    fn part(&self, answer: StrAnswer) -> Option<&'a [u8]> {
         let (start, len) = (answer.start as usize, answer.len as usize);
         (answer.found == 1).then(|| &self.image[start..start + len])
     }

@@ -50,6 +50,8 @@ refusals! {
     NameTooLong = 9, "the name is too long";
     /// The page has more bytes than the output.
     PageTooLong = 12, "the page is longer than the output";
+    /// The name has a zero byte.
+    ZeroByte = 13, "the name has a zero byte";
     /// The round sheet has too few bytes.
     TooFewBytes = 19, "invalid round sheet, too few bytes";
     /// The round sheet has left-over bytes.

@@ -44,9 +44,9 @@ impl CQDBWriter {
         CQDBWriter { buffer, record: begun.record, counts }
     }
 
-    /// Puts a name, any bytes, under an id. A name gives the id of its first put, and an id gives the name of its last.
-    /// Refused with [`Refusal::NoRoom`], and nothing changes, when the image would exceed 4,294,967,295 bytes; a two-way
-    /// image has four bytes for each id up to the largest.
+    /// Puts a name, any bytes but 0, under an id. A name gives the id of its first put, and an id gives the name of its last.
+    /// Refused, and nothing changes, with [`Refusal::ZeroByte`] when the name has a zero byte; else with [`Refusal::NoRoom`]
+    /// when the image would exceed 4,294,967,295 bytes; a two-way image has four bytes for each id up to the largest.
     pub fn put<K: AsRef<[u8]>>(&mut self, name: K, id: u32) -> Result<(), Refusal> {
         let name = name.as_ref();
         match self.put_here(name, id) {

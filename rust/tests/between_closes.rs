@@ -78,14 +78,16 @@ fn a_put_hides_a_name() {
 }
 
 #[test]
-fn a_crafted_name_swaps_two_names() {
+fn a_name_with_a_zero_byte_is_refused_and_changes_nothing() {
     let mut writer = Writer::with_two_names();
-    // The name stands from 2,100 to 2,132, so its last 8 bytes are the back array: 2,082 and 2,072.
+    // The name would stand from 2,100 to 2,132, and its last 8 bytes would be the back array: 2,082 and 2,072.
     let mut name = [b'x'; 32];
     name[24..].copy_from_slice(&[0x22, 0x08, 0, 0, 0x18, 0x08, 0, 0]);
-    writer.put(&name, 2);
-    writer.assert_swapped();
-    writer.assert_repaired(&[(&name, 2)]);
+    let (record, counts, buffer) = (writer.record, writer.counts, writer.buffer.clone());
+    let answer = archive::put(record, &mut writer.counts, &mut writer.buffer, &name, 2);
+    assert_eq!((answer.refusal, answer.record), (13, record));
+    assert_eq!((writer.counts, &writer.buffer), (counts, &buffer));
+    assert_eq!([writer.image().to_str(0), writer.image().to_str(1)], [Some(&b"A"[..]), Some(&b"B"[..])]);
 }
 
 #[test]

@@ -30,9 +30,9 @@ fn home() {
 }
 
 #[test]
-fn any_bytes_are_a_name() {
+fn any_bytes_but_zero_are_a_name() {
     let long = vec![0xff; 100_000];
-    let names: [&[u8]; 5] = [b"", b"\0", b"\xff\xfe", "Grüße".as_bytes(), &long];
+    let names: [&[u8]; 5] = [b"", b"\x01", b"\xff\xfe", "Grüße".as_bytes(), &long];
     let puts: Vec<_> = names.iter().zip(0..).map(|(name, id)| (*name, id)).collect();
     let image = image(Flag::NONE, &puts);
     let db = CQDB::new(&image).unwrap();
@@ -41,6 +41,40 @@ fn any_bytes_are_a_name() {
         assert_eq!(db.to_str(id), Some(name));
     }
     assert_eq!(db.to_id("Grüße"), Some(3));
+}
+
+#[test]
+fn a_zero_byte_is_refused_and_changes_nothing() {
+    let mut writer = CQDBWriter::new();
+    writer.put("A", 5).unwrap();
+    let mut long = vec![b'x'; 100_000];
+    long[99_999] = 0;
+    for name in [&b"\0"[..], b"\0a", b"a\0b", b"a\0", b"0123456789abcde\0", &long] {
+        assert_eq!(writer.put(name, 6), Err(Refusal::ZeroByte));
+        assert_eq!(writer.put(name, u32::MAX), Err(Refusal::ZeroByte));
+    }
+    writer.put("C", 6).unwrap();
+    let made = writer.finish().unwrap();
+    assert_eq!(made, image(Flag::NONE, &[(b"A", 5), (b"C", 6)]));
+    assert!(CQDB::new(&made).unwrap().readings_agree());
+    assert_eq!(Refusal::ZeroByte.number(), 13);
+}
+
+#[test]
+fn the_panel_reads_up_to_a_zero_byte() {
+    let mut bytes = image(Flag::NONE, &[(b"first", 0), (b"second", 1), (b"third", 4)]);
+    assert!(CQDB::new(&bytes).unwrap().readings_agree());
+    // The entries begin at 2,072 and have 14 and 15 bytes. "first" is cut after two bytes, and "third" at its front.
+    bytes[2_072 + 8 + 2] = 0;
+    bytes[2_072 + 14 + 15 + 8] = 0;
+    let db = CQDB::new(&bytes).unwrap();
+    assert_eq!([db.panel(0), db.panel(1), db.panel(4)], [Some(&b"fi"[..]), Some(&b"second"[..]), Some(&b""[..])]);
+    assert_eq!([db.panel(2), db.panel(5), db.panel(u32::MAX)], [None; 3]);
+    assert_eq!((db.to_str(0), db.to_str(4)), (Some(&b"fi\0st"[..]), Some(&b"\0hird"[..])));
+    assert!(!db.readings_agree());
+    // Only the last id, behind a gap where a walk ends, has a zero byte.
+    bytes[2_072 + 8 + 2] = b'r';
+    assert!(!CQDB::new(&bytes).unwrap().readings_agree());
 }
 
 #[test]

@@ -15,7 +15,9 @@ BEGIN {
     while (length(long) < 70000) long = long long
     others = split("x1 a| 5 b|12345678901 c|4294967296 d|4294967295 e|20000 f|7||-3 g|00000000001 h|+4 i|9\tj|3,k|1e3 l", other, "|")
     for (i = 0; i < lines; i++) {
-        if (below(200) == 0) {
+        if (below(400) == 0) {
+            printf "%d %s%c%s", below(400), word(below(12)), 0, word(below(12))
+        } else if (below(200) == 0) {
             id = below(5) == 0 ? below(2000) : below(400)
             printf "%0" (1 + below(10)) "d %s", id, word(below(12))
         } else if (below(20000) == 0) {

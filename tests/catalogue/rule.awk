@@ -6,6 +6,7 @@ BEGIN { top = -1 }
     id = substr($0, 1, RLENGTH - 1) + 0
     if (id > 4294967295) next
     name = substr($0, RLENGTH + 1)
+    if (name ~ /\000/) next
     high = id > top ? id : top
     if (2072 + puts + 25 + length(name) + 4 * (high + 1) > 65536) next
     puts += 25 + length(name)

@@ -18,10 +18,10 @@ struct Case {
 
 const NEVER: &str = "no answer within the time";
 const NO_MEMORY: &str = "aborted for want of memory";
-// Bytes of address space for the Rust. A name of 2^32 bytes that is never written fits in.
+// Bytes of address space for the Rust. A name of 2^32 bytes fits in.
 const MEMORY: u64 = 6 << 30;
 
-const CASES: [Case; 10] = [
+const CASES: [Case; 11] = [
     Case { name: "full table", seconds: 3, rust: full_table_rust, ours: full_table, want: (NEVER, "nothing, 1 read") },
     Case { name: "id 4294967294", seconds: 3, rust: || put_rust(0xffff_fffe), ours: || put(0xffff_fffe), want: (NEVER, "3") },
     Case { name: "id 4294967295", seconds: 3, rust: || put_rust(0xffff_ffff), ours: || put(0xffff_ffff), want: (NEVER, "3") },
@@ -32,6 +32,7 @@ const CASES: [Case; 10] = [
     Case { name: "no room for the entry", seconds: 3, rust: || room_rust(2081, b"A"), ours: || room(2081, b"A"), want: ("put in error, 9 bytes changed", "3, no byte changed") },
     Case { name: "buffer of 2071 bytes", seconds: 3, rust: short_rust, ours: short, want: ("accepted", "1") },
     Case { name: "flag word 2", seconds: 3, rust: flag_rust, ours: flag, want: ("flag word 2", "2") },
+    Case { name: "name with a zero byte", seconds: 3, rust: zero_byte_rust, ours: zero_byte, want: ("a name of 3 bytes", "13") },
 ];
 
 // The table of the name A has one bucket, which another hash has taken (C12).
@@ -103,18 +104,18 @@ impl Seek for Head {
     }
 }
 
-// One-way, so that nothing but the name is large. Its bytes are zero and never written, so they take no memory.
+// One-way, so that nothing but the name is large.
 fn long_rust(n: usize) -> String {
     let mut head = Head { bytes: [0; 2080], at: 0 };
     let mut writer = CQDBWriter::with_flag(&mut head, Flag::ONEWAY).expect("a stream");
-    writer.put(vec![0u8; n], 0).expect("a stream without an end");
+    writer.put(vec![b'x'; n], 0).expect("a stream without an end");
     drop(writer);
     let word = |at: usize| u32::from_le_bytes(head.bytes[at..at + 4].try_into().expect("four bytes"));
     format!("size word {}, length word {}", word(4), word(2076))
 }
 
 fn long(n: usize) -> String {
-    refusal(1, (1 << 32) + 5000, &vec![0; n], 0)
+    refusal(1, (1 << 32) + 5000, &vec![b'x'; n], 0)
 }
 
 fn room_rust(length: usize, name: &[u8]) -> String {
@@ -156,6 +157,20 @@ fn flag_rust() -> String {
 
 fn flag() -> String {
     ours::begin(2, &mut [0; 256], &[0; 2072]).refusal.to_string()
+}
+
+fn zero_byte_rust() -> String {
+    let mut stream = Cursor::new(Vec::new());
+    let mut writer = CQDBWriter::new(&mut stream).expect("a stream");
+    writer.put(b"a\0b", 0).expect("a stream without an end");
+    drop(writer);
+    let image = stream.into_inner();
+    let db = CQDB::new(&image).expect("an image");
+    format!("a name of {} bytes", db.to_str(0).expect("a name").len())
+}
+
+fn zero_byte() -> String {
+    refusal(0, 3000, b"a\0b", 0)
 }
 
 // The Rust's answer, from a process with limits.

@@ -50,11 +50,16 @@ impl Run {
         for id in ids {
             let answer = ours::to_str(image, id);
             self.tally.rule(answer.start + u64::from(answer.len) <= image.len() as u64, true, || format!("{answer:?}"));
+            let panel = ours::panel(image, id);
+            self.tally.rule((panel.found, panel.start), (answer.found, answer.start), || format!("{panel:?}"));
+            self.tally.rule(panel.len <= answer.len, true, || format!("{panel:?}"));
             let home = ours::home(image, id);
             self.tally.rule(home <= answer.found, true, || format!("home gave {home}"));
             ours::size_hint(image, id);
         }
-        self.calls += 1 + names.len() as u64 + 3 * ids.len() as u64;
+        let agree = ours::readings_agree(image);
+        self.tally.rule(agree <= 1, true, || format!("the check of both readings gave {agree}"));
+        self.calls += 2 + names.len() as u64 + 4 * ids.len() as u64;
         self.page(random, image);
     }
 

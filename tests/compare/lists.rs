@@ -1,6 +1,7 @@
 // Whole lists of calls through the archive: puts and closes mixed, refused ones among them, from a two-way begin. Each answer
-// is compared with 01's formula, which knows the calls and the buffer's length alone. The last image is compared with the
-// Rust's and with first and last puts, and every two lists with each other.   lists [PAIRS]
+// is compared with the formula of 01 and 02 (v), which knows the calls and the buffer's length alone: 13 for a zero byte in the
+// name, then 3. The last image is compared with the Rust's and with first and last puts, passes the check of both readings,
+// and every two lists are compared with each other.   lists [PAIRS]
 mod names;
 mod original;
 mod ours;
@@ -38,7 +39,8 @@ struct Lent {
 
 struct Run {
     tally: Tally,
-    puts: [u64; 2],
+    // Puts that were accepted, refused with 13 and refused with 3.
+    puts: [u64; 3],
     closes: u64,
     // How often two lists had the same accepted puts of a name, or of an id, and at least one of them.
     alike: [u64; 2],
@@ -75,13 +77,17 @@ fn table(name: &[u8]) -> u32 {
 impl Run {
     fn put(&mut self, lent: &mut Lent, accepted: &mut Vec<Put>, put: &Put) {
         let size = finished_size(accepted.iter().chain([put]));
-        let refused = size > lent.buf.len() as u128 || size > 4_294_967_295;
+        let too_large = size > lent.buf.len() as u128 || size > 4_294_967_295;
+        let (want, kind) = match (put.0.contains(&0), too_large) {
+            (true, _) => (13, 1),
+            (false, true) => (3, 2),
+            (false, false) => (0, 0),
+        };
         let answer = ours::put(lent.record, &mut lent.counts, &mut lent.buf, &put.0, put.1);
-        let want = if refused { 3 } else { 0 };
-        self.puts[usize::from(refused)] += 1;
+        self.puts[kind] += 1;
         self.tally.rule(answer.refusal, want, || format!("put of {} bytes, id {}, to size {size}", put.0.len(), put.1));
         lent.record = answer.record;
-        if !refused {
+        if want == 0 {
             accepted.push(put.clone());
         }
     }
@@ -123,6 +129,7 @@ impl Run {
     fn opens(&mut self, left: &Left) {
         let ours = ours::open(&left.image);
         self.tally.rule((ours.refusal, ours.num as usize), (0, left.accepted.len()), || "opening".into());
+        self.tally.rule(ours::readings_agree(&left.image), 1, || format!("the check of both readings after {:?}", left.accepted));
     }
 
     // The first accepted put of a name; nothing exactly when there is none; and the bounds of the search.
@@ -146,6 +153,7 @@ impl Run {
         let want = last_name(&left.accepted, id);
         self.tally.rule(ours, want, || format!("id {id}"));
         if let Some(name) = ours {
+            self.tally.rule(ours::panel(&left.image, id), ours::to_str(&left.image, id), || format!("the panel's reading of {id}"));
             let first = first_id(&left.accepted, name);
             self.tally.rule(ours::found_id(&left.image, name), first, || format!("the name of {id}"));
             self.tally.rule(ours::home(&left.image, id), u32::from(first == Some(id)), || format!("home {id}"));
@@ -262,7 +270,7 @@ fn main() {
     let mut random = Random::new();
     println!("lists: seed {}", random.seed);
     let names = Names::new(&mut random);
-    let mut run = Run { tally: Tally::default(), puts: [0; 2], closes: 0, alike: [0; 2] };
+    let mut run = Run { tally: Tally::default(), puts: [0; 3], closes: 0, alike: [0; 2] };
     let empty = run.list(&mut random, 2072, &[]);
     run.opens(&empty);
     let one = run.list(&mut random, 3000, &[Call::Put(Vec::new(), 0)]);
@@ -270,8 +278,8 @@ fn main() {
     for i in 0..pairs {
         pair(&mut run, &mut random, &names, if i % 100 == 99 { 200 } else { 14 });
     }
-    let [accepted, refused] = run.puts;
-    println!("lists: {} lists with {accepted} puts accepted, {refused} refused, {} closes", 2 * pairs + 2, run.closes);
+    let [accepted, zero, full] = run.puts;
+    println!("lists: {} lists with {accepted} puts accepted, {zero} refused with 13, {full} with 3, {} closes", 2 * pairs + 2, run.closes);
     println!("lists: two lists alike in the puts of {} names and {} ids", run.alike[0], run.alike[1]);
     run.tally.end("lists");
 }

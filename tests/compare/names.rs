@@ -86,12 +86,31 @@ impl Names {
     }
 }
 
-/// A name of any bytes, of the lengths that matter, or short.
+/// A name of any bytes, of the lengths that matter, or short. One in six has zero bytes.
 pub fn any(random: &mut Random) -> Vec<u8> {
     let n = if random.once_in(3) { random.pick(&LENGTHS) } else { random.below(30) };
+    let mut name = without_zero(random, n);
+    if n > 0 && random.once_in(6) {
+        add_zero(random, &mut name);
+    }
+    name
+}
+
+// A zero byte at the front, in the middle or at the end; or many.
+fn add_zero(random: &mut Random, name: &mut [u8]) {
+    let n = name.len();
     match random.below(4) {
-        0 => random.bytes(n),
-        1 => (0..n).map(|_| random.pick(&[0u8, 0, 1, 255])).collect(),
+        0 => name[0] = 0,
+        1 => name[random.below(n)] = 0,
+        2 => name[n - 1] = 0,
+        _ => name.iter_mut().filter(|_| random.once_in(2)).for_each(|b| *b = 0),
+    }
+}
+
+fn without_zero(random: &mut Random, n: usize) -> Vec<u8> {
+    match random.below(4) {
+        0 => (0..n).map(|_| 1 + random.below(255) as u8).collect(),
+        1 => (0..n).map(|_| random.pick(&[1u8, 1, 2, 255])).collect(),
         2 => utf8(random, n),
         _ => (0..n).map(|_| b'a' + random.below(26) as u8).collect(),
     }
@@ -101,7 +120,7 @@ pub fn any(random: &mut Random) -> Vec<u8> {
 fn utf8(random: &mut Random, n: usize) -> Vec<u8> {
     let mut text = String::new();
     while text.len() < n {
-        let c = random.pick(&['A', '\0', 'é', 'ß', '水', '光', '🧭', '𝔮']);
+        let c = random.pick(&['A', '\u{1}', 'é', 'ß', '水', '光', '🧭', '𝔮']);
         text.push(if text.len() + c.len_utf8() <= n { c } else { 'z' });
     }
     text.into_bytes()

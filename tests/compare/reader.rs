@@ -24,6 +24,9 @@ struct Run {
     unending: u64,
     // How often opening gave each refusal, and none.
     refusals: [u64; 9],
+    // How often the panel's reading was shorter than the name, and how often the check said no and yes.
+    cut: u64,
+    agree: [u64; 2],
 }
 
 // What is asked of an image and of its copies.
@@ -89,6 +92,29 @@ impl Run {
         }
     }
 
+    // The Rust has no panel's reading. It is asked for the name, which is cut at its first zero byte.
+    fn panel(&mut self, image: &[u8], db: Option<&CQDB>, id: u32) {
+        let ours = ours::panel(image, id);
+        let want = match rules::panel(image, id) {
+            Some((start, len)) => StrAnswer { found: 1, len: len as u32, start: start as u64 },
+            None => StrAnswer { found: 0, len: 0, start: 0 },
+        };
+        self.tally.rule(ours, want, || format!("the panel's reading of {id}"));
+        self.cut += u64::from(ours.found == 1 && ours.len < ours::to_str(image, id).len);
+        if let Some(db) = db {
+            let ours = (ours.found == 1).then(|| &image[ours.start as usize..][..ours.len as usize]);
+            let theirs = db.to_str(id).map(|name| name.split(|&b| b == 0).next().expect("a first part"));
+            self.tally.rust(ours, theirs, || format!("the panel's reading of {id}"));
+        }
+    }
+
+    // The check of both readings, over all ids below back size.
+    fn readings(&mut self, image: &[u8]) {
+        let ours = ours::readings_agree(image);
+        self.agree[usize::from(ours == 1)] += 1;
+        self.tally.rule(ours, u32::from(rules::readings_agree(image)), || "the check of both readings".into());
+    }
+
     // The Rust has no home check. It is asked for the name, and for that name's id.
     fn home(&mut self, image: &[u8], db: Option<&CQDB>, id: u32) {
         let ours = ours::home(image, id);
@@ -133,10 +159,12 @@ impl Run {
         }
         for &id in &asked.ids {
             self.naming(image, db.as_ref(), id);
+            self.panel(image, db.as_ref(), id);
             self.home(image, db.as_ref(), id);
             let hint = rules::upper_hint(image, id);
             self.tally.rule(ours::size_hint(image, id), hint, || format!("hint before {id}"));
         }
+        self.readings(image);
         self.walk(image, db.as_ref());
     }
 }
@@ -146,7 +174,7 @@ fn main() {
     let mut random = Random::new();
     println!("reader: seed {}", random.seed);
     let names = Names::new(&mut random);
-    let mut run = Run { tally: Tally::default(), unending: 0, refusals: [0; 9] };
+    let mut run = Run { tally: Tally::default(), unending: 0, refusals: [0; 9], cut: 0, agree: [0; 2] };
     let bases = copies.div_ceil(COPIES_OF_ONE);
     for base in 0..bases {
         let most = if base % 50 == 49 { 600 } else { 30 };
@@ -161,5 +189,7 @@ fn main() {
     println!("reader: {bases} images and {} damaged copies; {} searches that the Rust never ends", bases * COPIES_OF_ONE, run.unending);
     let [opened, r1, _, _, _, r5, r6, r7, r8] = run.refusals;
     println!("reader: opened {opened}; refused with 1: {r1}, 5: {r5}, 6: {r6}, 7: {r7}, 8: {r8}");
+    let [no, yes] = run.agree;
+    println!("reader: {} readings of the panel shorter than the name; both readings agree on all ids: yes {yes}, no {no}", run.cut);
     run.tally.end("reader");
 }

@@ -139,6 +139,18 @@ pub fn to_str(image: &[u8], id: u32) -> Option<(usize, usize)> {
     }
 }
 
+/// The panel's reading of an id (02 (v)): the name up to its first zero byte or else its end.
+pub fn panel(image: &[u8], id: u32) -> Option<(usize, usize)> {
+    let (start, len) = to_str(image, id)?;
+    let shown = image[start..start + len].iter().take_while(|&&b| b != 0).count();
+    Some((start, shown))
+}
+
+/// Do both readings agree on every id below back size (02 (v))? Where no back array can be read, no id has a name.
+pub fn readings_agree(image: &[u8]) -> bool {
+    upper_hint(image, 0) == 0 || (0..back_size(image) as u32).all(|id| panel(image, id) == to_str(image, id))
+}
+
 /// The upper hint of a walk that stands before the id `next`.
 pub fn upper_hint(image: &[u8], next: u32) -> u32 {
     if image.len() < HEAD || back_offset(image) == 0 || back_leaves(image) {

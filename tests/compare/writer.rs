@@ -1,5 +1,5 @@
 // Writing, compared live: lists of puts in both modes, whose image must be the Rust's for the accepted puts, byte for byte; and
-// records, buffers and entries that do not go together, compared with 01's rules.   writer [LISTS]
+// records, buffers and entries that do not go together, compared with the rules of 01 and 02.   writer [LISTS]
 mod names;
 mod original;
 mod ours;
@@ -24,9 +24,9 @@ struct Run {
     tally: Tally,
     images: u64,
     // How often each call was accepted, and how often it gave each refusal.
-    begins: [u64; 5],
-    puts: [u64; 5],
-    closes: [u64; 5],
+    begins: [u64; 14],
+    puts: [u64; 14],
+    closes: [u64; 14],
 }
 
 impl Run {
@@ -42,7 +42,7 @@ impl Run {
         let before = [random.word(); 256];
         let mut counts = before;
         let answer = ours::begin(mode, &mut counts, &buf);
-        self.begins[answer.refusal.min(4) as usize] += 1;
+        self.begins[answer.refusal.min(13) as usize] += 1;
         let what = || format!("begin in {length} bytes");
         match writing::begin(mode, length) {
             Ok(record) => {
@@ -183,10 +183,18 @@ fn limits(run: &mut Run) {
     put(Record { end: 4_294_967_295 - 25, ..oneway }, b"A", 0, 3);
     put(Record { entries: u32::MAX, ..oneway }, b"A", 0, 3);
     put(Record { back: u32::MAX, ..fresh }, b"A", 0, 3);
-    // Names at the hash's own limit. They are longer than any image.
-    let long = vec![0u8; 1 << 32];
+    // Names at the hash's own limit. They are longer than any image: 13 for a zero byte in front or at the end, else 3.
+    let mut long = vec![0u8; 1 << 32];
+    put(oneway, &long, 0, 13);
+    put(oneway, &long[..u32::MAX as usize], 0, 13);
+    put(Record { end: 0, ..oneway }, &long[..u32::MAX as usize], 0, 2);
+    long.fill(b'x');
     put(oneway, &long, 0, 3);
     put(oneway, &long[..u32::MAX as usize], 0, 3);
+    long[u32::MAX as usize - 1] = 0;
+    put(oneway, &long[..u32::MAX as usize], 0, 13);
+    put(oneway, &long[..u32::MAX as usize - 1], 0, 3);
+    drop(long);
     // An entry of that id, with a two-way record that has its count and back size: only the limit forbids its close.
     let entry = ours::put(oneway, &mut counts, &mut room, b"A", 1_073_741_299).record;
     let record = Record { mode: 0, back: 1_073_741_300, ..entry };
@@ -199,7 +207,7 @@ fn main() {
     let mut random = Random::new();
     println!("writer: seed {}", random.seed);
     let names = Names::new(&mut random);
-    let mut run = Run { tally: Tally::default(), images: 0, begins: [0; 5], puts: [0; 5], closes: [0; 5] };
+    let mut run = Run { tally: Tally::default(), images: 0, begins: [0; 14], puts: [0; 14], closes: [0; 14] };
     limits(&mut run);
     for i in 0..lists {
         let mode = if random.once_in(100) { 2 + random.word() / 2 } else { random.below(2) as u32 };
@@ -209,6 +217,8 @@ fn main() {
         run.list(&mut random, mode, length, &puts);
     }
     println!("writer: {lists} lists, {} images compared with the Rust's in every byte", run.images);
-    println!("writer: by refusal 0 to 4: begins {:?}, puts {:?}, closes {:?}", run.begins, run.puts, run.closes);
+    let shown = |calls: &[u64; 14]| -> Vec<u64> { calls[..5].iter().chain([&calls[13]]).copied().collect() };
+    let [begins, puts, closes] = [&run.begins, &run.puts, &run.closes].map(shown);
+    println!("writer: by refusal 0 to 4 and 13: begins {begins:?}, puts {puts:?}, closes {closes:?}");
     run.tally.end("writer");
 }

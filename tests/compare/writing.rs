@@ -1,5 +1,5 @@
-// Document 01's rules for writing, written a second time, straight from its paragraphs: the record, what fits, the refusals of
-// put and close, and what they leave. All sums have 128 bits. The rules share no line with the product.
+// The rules for writing of 01 and 02 (v), written a second time, straight from their paragraphs: the record, what fits, the
+// refusals of put and close, and what they leave. All sums have 128 bits. The rules share no line with the product.
 #![allow(dead_code)]
 use crate::original::Put;
 use crate::ours::{Counts, Record};
@@ -47,13 +47,16 @@ fn too_large(s: &State, size: u128) -> bool {
     size > s.buf.len() as u128 || size > 4_294_967_295
 }
 
-/// The record after an accepted put of a name of n bytes; or 2, or 3.
-pub fn put_record(s: &State, n: usize, id: u32) -> Result<Record, u32> {
+/// The record after an accepted put of a name; or 2, then 13 for a zero byte in the name, then 3.
+pub fn put_record(s: &State, name: &[u8], id: u32) -> Result<Record, u32> {
     if !fits(s) {
         return Err(2);
     }
+    if name.contains(&0) {
+        return Err(13);
+    }
     let r = s.record;
-    let end = r.end as u128 + n as u128 + 9;
+    let end = r.end as u128 + name.len() as u128 + 9;
     let entries = r.entries as u128 + 1;
     let back = if oneway(&r) { r.back as u128 } else { (r.back as u128).max(id as u128 + 1) };
     if too_large(s, finished(oneway(&r), end, entries, back)) {
@@ -64,7 +67,7 @@ pub fn put_record(s: &State, n: usize, id: u32) -> Result<Record, u32> {
 
 /// What a put leaves: one more entry and the counts raised; or its refusal.
 pub fn put(s: &State, name: &[u8], id: u32) -> Result<State, u32> {
-    let record = put_record(s, name.len(), id)?;
+    let record = put_record(s, name, id)?;
     let mut after = State { record, ..s.clone() };
     after.counts[hash(name) as usize % 256] += 1;
     let entry = [&id.to_le_bytes()[..], &(name.len() as u32 + 1).to_le_bytes(), name, &[0]].concat();

@@ -8,6 +8,7 @@ use lib.ListN.{length, replicate, length-replicate}
 use lib.Dec.{lit≤}
 use Rattle.image.specs.Bytes.{keep}
 use Rattle.image.specs.declared.Mode.the-variants.{Twoway}
+use Rattle.image.specs.Zero.{hasZero}
 use Rattle.image.specs.Image.{Entry, headSize, backSize, image}
 use Rattle.reader.specs.Naming.{Naming, place, unnamed, naming}
 use Rattle.reader.specs.Walk.{stepOf, step}
@@ -55,7 +56,7 @@ puts : List Entry
 puts = entryOf (65 ∷ []) 0 ∷ entryOf (66 ∷ []) 3 ∷ entryOf (67 ∷ []) 0 ∷ []
 
 example-puts : putsOf 65536 example ≡ puts
-unfolding puts putsOf inputCalls linesOf withByte linesCalls lineCalls parseLine leadingDigits numberFrom accepted acceptedFrom putDue sizeOf putsSize backSize
+unfolding puts putsOf inputCalls linesOf withByte linesCalls lineCalls parseLine leadingDigits numberFrom accepted acceptedFrom putDue hasZero sizeOf putsSize backSize
 example-puts = refl
 
 example-size : sizeOf Twoway puts ≡ 2166

@@ -5,18 +5,21 @@ use mathlib.Core.Path.{_≡_, refl}
 use mathlib.Core.Bool.{Bool, true, false, cond, _||_}
 use mathlib.Core.List.{List}
 use lib.Dec.{eqb, leb}
-use lib.ListN.{getD}
+use lib.ListN.{getD, take, drop, length-take}
 use Rattle.jhash.proofs.WordRead.{word-below}
 use Rattle.image.specs.Bytes.{word}
 use Rattle.image.specs.Head.{backSizeAt, backOffsetAt}
 use Rattle.image.specs.Stored.{broken}
-use Rattle.reader.specs.Naming.{place, unnamed, noBack, namingAt, naming}
+use Rattle.image.proofs.Zeros.{before-short}
+use Rattle.reader.specs.Naming.{Naming, place, unnamed, noBack, namingAt, naming}
+use Rattle.reader.specs.Panel.{cutAtZero, panel}
 use Rattle.reader.proofs.Namings.{never}
+use Rattle.cqdb_c.specs.ReadAnswers.{lengthIn}
 
 -- the length of a name in an image of bytes
-pub length-small : (image : List ℕ) (id s n : ℕ) → ((i : ℕ) → getD image i 0 < 256) → naming image id ≡ place s n → n < 4294967296
+named-small : (image : List ℕ) (id s n : ℕ) → ((i : ℕ) → getD image i 0 < 256) → naming image id ≡ place s n → n < 4294967296
 unfolding naming namingAt
-length-small image id s n bytes e = backed (noBack image) e
+named-small image id s n bytes e = backed (noBack image) e
   where
     at : ℕ
     at = word image (backOffsetAt image + 4 * id)
@@ -34,3 +37,19 @@ length-small image id s n bytes e = backed (noBack image) e
     backed : (t : Bool) → cond t unnamed (cond (leb (backSizeAt image) id) unnamed (namingAt image at)) ≡ place s n → n < 4294967296
     backed true e = never s n e
     backed false e = below (leb (backSizeAt image) id) e
+
+-- of naming's answer, and of the panel's, which is no longer
+pub naming-small : (image : List ℕ) (id : ℕ) → ((i : ℕ) → getD image i 0 < 256) → lengthIn (naming image id) < 4294967296
+naming-small image id bytes = go (naming image id) refl
+  where
+    go : (x : Naming) → naming image id ≡ x → lengthIn x < 4294967296
+    go (place s n) e = named-small image id s n bytes e
+    go unnamed e = omega arith
+
+pub panel-small : (image : List ℕ) (id : ℕ) → ((i : ℕ) → getD image i 0 < 256) → lengthIn (panel image id) < 4294967296
+unfolding panel
+panel-small image id bytes = go (naming image id) (naming-small image id bytes)
+  where
+    go : (x : Naming) → lengthIn x < 4294967296 → lengthIn (cutAtZero image x) < 4294967296
+    go (place s n) small = omega (arith, before-short (take n (drop s image)), length-take n (drop s image))
+    go unnamed small = small

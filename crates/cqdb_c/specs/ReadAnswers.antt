@@ -1,11 +1,10 @@
 -- The exported reading calls but the lookup: each rule's answer as numbers. Assumes nothing.
 use Prim.Native.Nat.{ℕ}
-use mathlib.Core.Bool.{cond}
+use mathlib.Core.Bool.{Bool, cond}
 use mathlib.Core.List.{List}
 use Rattle.jhash.specs.Outcome.{Outcome, value, refusal}
 use Rattle.reader.specs.Open.{opening}
-use Rattle.reader.specs.Naming.{Naming, place, unnamed, naming}
-use Rattle.reader.specs.Walk.{home}
+use Rattle.reader.specs.Naming.{Naming, place, unnamed}
 use Rattle.cqdb_c.specs.declared.opening.OpenAnswer.{OpenAnswer}
 use Rattle.cqdb_c.specs.declared.naming.PlaceAnswer.{PlaceAnswer}
 
@@ -23,10 +22,11 @@ abbrev pub placeAnswerOf : Naming → PlaceAnswer
 placeAnswerOf (place s n) = record { found = 1; len = n; start = s }
 placeAnswerOf unnamed = record { found = 0; len = 0; start = 0 }
 
--- the rule of naming an id, so answered
-abbrev pub placeAnswer : List ℕ → ℕ → PlaceAnswer
-placeAnswer image id = placeAnswerOf (naming image id)
+-- the length of a place, 0 where there is none
+abbrev pub lengthIn : Naming → ℕ
+lengthIn (place s n) = n
+lengthIn unnamed = 0
 
--- 1 for an id that is home, else 0
-abbrev pub homeAnswer : List ℕ → ℕ → ℕ
-homeAnswer image id = cond (home image id) 1 0
+-- 1 for yes, 0 for no
+abbrev pub oneIf : Bool → ℕ
+oneIf b = cond b 1 0

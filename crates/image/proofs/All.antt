@@ -7,7 +7,7 @@ use Rattle.image.specs.Bytes.{all}
 use Rattle.image.proofs.Bools.{first, second, both}
 
 module _ (f : ℕ → Bool) where
-  all-turn : (t n : ℕ) → t < n → all f t (n - t) ≡ (f t && all f (t + 1) (n - (t + 1)))
+  pub all-turn : (t n : ℕ) → t < n → all f t (n - t) ≡ (f t && all f (t + 1) (n - (t + 1)))
   unfolding all
   all-turn t n h =
       let p : n - t ≡ suc (n - (t + 1)) = omega arith in

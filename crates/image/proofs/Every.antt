@@ -13,6 +13,11 @@ pub all-both : {A : Type 0} (P Q : A → Type 0) (xs : List A) → All P xs → 
 all-both P Q [] p q = tt
 all-both P Q (x ∷ xs) p q = ((p .0, q .0), all-both P Q xs (p .1) (q .1))
 
+-- of two lists, one after the other
+pub all-append : {A : Type 0} (P : A → Type 0) (xs ys : List A) → All P xs → All P ys → All P (xs ++ ys)
+all-append P [] ys p q = q
+all-append P (x ∷ xs) ys p q = (p .0, all-append P xs ys (p .1) q)
+
 -- of one among them
 pub all-middle : {A : Type 0} (P : A → Type 0) (xs ys : List A) (y : A) → All P (xs ++ y ∷ ys) → P y
 all-middle P [] ys y all = all .0

@@ -17,3 +17,4 @@ pub mod Between
 pub mod EntryWalk
 pub mod Equal
 pub mod Unbroken
+pub mod Zeros

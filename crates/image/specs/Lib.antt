@@ -5,3 +5,4 @@ pub mod Image
 pub mod Head
 pub mod Stored
 pub mod Tally
+pub mod Zero

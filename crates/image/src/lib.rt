@@ -11,6 +11,7 @@ use jhash::word::word_near_end;
 
 pub mod entries; // entries.rt: broken entries, whole ones, and a walk over them
 pub mod equality; // equality.rt: same
+pub mod zero; // zero.rt: zero bytes in a name
 
 // The writer's mode (`Flag` of cqdb-rs, NONE and ONEWAY): one-way leaves the back array out.
 pub enum Mode {

@@ -65,7 +65,7 @@ accepted-after-close mode n cs ds =
 
 -- ---- what is due
 
--- 0 or 3 to a put, 0 to a close
+-- 0, 13 or 3 to a put, 0 to a close
 one-permitted : (mode : Mode) (n : ℕ) (es : List Entry) (c : Call) → Permitted c (dueTo mode n es c)
 one-permitted mode n es (put e) = due-number mode n es e
 one-permitted mode n es close = refl

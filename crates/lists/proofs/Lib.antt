@@ -12,5 +12,6 @@ pub mod Reading
 pub mod Theorem
 pub mod AfterClose
 pub mod OneWay
+pub mod Readings
 pub mod QuayRows
 pub mod Quay

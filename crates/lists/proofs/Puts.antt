@@ -16,6 +16,7 @@ use Rattle.image.specs.declared.Mode.the-variants.{Twoway, Oneway}
 use Rattle.image.specs.Bytes.{cat}
 use Rattle.image.specs.Tables.{tableOf}
 use Rattle.image.specs.Image.{Entry, headSize, entryBytes, entrySize, entriesSize, placed, count, ofTable, backSize, backIn, imageSize}
+use Rattle.image.specs.Zero.{hasZero}
 use Rattle.writer.specs.State.{State, noneAbove, fits, finishedSize, tooLarge, fresh}
 use Rattle.image.specs.Tally.{countsAfter}
 use Rattle.writer.specs.Put.{raised, writerAfter, putRefusal, appended, afterPut}
@@ -90,31 +91,44 @@ stored-after o E l area vs size stands room =
 
 -- ---- what is due
 
--- a put to which nothing is due has room: its size exceeds neither limit
+-- a put to which nothing is due has a name without a zero byte, and room: its size exceeds neither limit
+pub due-free : (mode : Mode) (n : ℕ) (es : List Entry) (e : Entry) → putDue mode n es e ≡ 0 → hasZero (e .name) ≡ false
+unfolding putDue
+due-free mode n es e due = go (hasZero (e .name)) refl due
+  where
+    go : (z : Bool) → hasZero (e .name) ≡ z → _≡_ {A = ℕ} (cond z 13 (cond (tooLarge n (sizeOf mode (es ++ (e ∷ [])))) 3 0)) 0 → hasZero (e .name) ≡ false
+    go true p d = absurd (omega arith)
+    go false p d = p
+
 pub due-room : (mode : Mode) (n : ℕ) (es : List Entry) (e : Entry) → putDue mode n es e ≡ 0
     → (imageSize mode (es ++ (e ∷ [])) ≤ n) × (imageSize mode (es ++ (e ∷ [])) ≤ 4294967295)
 unfolding putDue
-due-room mode n es e due = go (ltb n size) refl (ltb 4294967295 size) refl due
+due-room mode n es e due = go (hasZero (e .name)) (ltb n size) refl (ltb 4294967295 size) refl due
   where
     size : ℕ
     size = sizeOf mode (es ++ (e ∷ []))
 
-    go : (a : Bool) → ltb n size ≡ a → (b : Bool) → ltb 4294967295 size ≡ b → _≡_ {A = ℕ} (cond (a || b) 3 0) 0
+    go : (z a : Bool) → ltb n size ≡ a → (b : Bool) → ltb 4294967295 size ≡ b → _≡_ {A = ℕ} (cond z 13 (cond (a || b) 3 0)) 0
         → (imageSize mode (es ++ (e ∷ [])) ≤ n) × (imageSize mode (es ++ (e ∷ [])) ≤ 4294967295)
-    go true p b q z = absurd (omega arith)
-    go false p true q z = absurd (omega arith)
-    go false p false q z =
+    go true a p b q d = absurd (omega arith)
+    go false true p b q d = absurd (omega arith)
+    go false false p true q d = absurd (omega arith)
+    go false false p false q d =
         let is = sizeOf-is mode (es ++ (e ∷ [])) in
         (omega (arith, ltb-false n size p), omega (arith, ltb-false 4294967295 size q))
 
--- it is 0, or 3
-pub due-number : (mode : Mode) (n : ℕ) (es : List Entry) (e : Entry) → (putDue mode n es e ≡ 0) ⊎ (putDue mode n es e ≡ 3)
+-- it is 0, 13 or 3
+pub due-number : (mode : Mode) (n : ℕ) (es : List Entry) (e : Entry) → (putDue mode n es e ≡ 0) ⊎ ((putDue mode n es e ≡ 13) ⊎ (putDue mode n es e ≡ 3))
 unfolding putDue
-due-number mode n es e = go (tooLarge n (sizeOf mode (es ++ (e ∷ []))))
+due-number mode n es e = go (hasZero (e .name)) (tooLarge n (sizeOf mode (es ++ (e ∷ []))))
   where
-    go : (b : Bool) → (_≡_ {A = ℕ} (cond b 3 0) 0) ⊎ (_≡_ {A = ℕ} (cond b 3 0) 3)
-    go true = inr refl
-    go false = inl refl
+    Due : ℕ → Type 0
+    Due k = (k ≡ 0) ⊎ ((k ≡ 13) ⊎ (k ≡ 3))
+
+    go : (z b : Bool) → Due (cond z 13 (cond b 3 0))
+    go true b = inr (inl refl)
+    go false true = inr (inr refl)
+    go false false = inl refl
 
 -- ---- what an accepted put leaves
 

@@ -13,6 +13,7 @@ use Rattle.image.specs.declared.Mode.{Mode}
 use Rattle.image.specs.Bytes.{word, keep, range, same}
 use Rattle.image.specs.Image.{Entry, Placed, headSize, entrySize, entriesSize, placed, hasId, placedOfId, lastFrom, link, backSize, backSizeOf, backOffset, imageSize, image}
 use Rattle.image.specs.Head.{backOffsetAt}
+use Rattle.image.specs.Zero.{hasZero}
 use Rattle.answers.specs.Answer.{ofName, firstId, homeNamed, ofId}
 use Rattle.image.proofs.At.{at-word}
 use Rattle.image.proofs.Parts.{link-at}
@@ -119,7 +120,7 @@ module _ (r : Row) (c : Computed r) where
 -- ---- the rows
 
 computed : Each Computed rows
-unfolding accepted acceptedFrom due dueFrom putDue sizeOf putsSize backSize entriesSize backOffset placed placedOfId ofId keep link lastFrom range ofName same
+unfolding accepted acceptedFrom due dueFrom putDue hasZero sizeOf putsSize backSize entriesSize backOffset placed placedOfId ofId keep link lastFrom range ofName same
 computed = (
   (lit≤ tt, tt, refl, refl, refl, refl, refl, (refl, tt), ((refl, refl), tt)),
   (

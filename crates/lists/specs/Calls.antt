@@ -10,6 +10,7 @@ use lib.Dec.{eqb}
 use Rattle.image.specs.declared.Mode.{Mode}
 use Rattle.image.specs.declared.Mode.the-variants.{Twoway, Oneway}
 use Rattle.image.specs.Image.{Entry, backSize, backIn}
+use Rattle.image.specs.Zero.{hasZero}
 use Rattle.writer.specs.State.{State, tooLarge}
 use Rattle.writer.specs.Put.{putRefusal, afterPut}
 use Rattle.writer.specs.Close.{closeRefusal, afterClose}
@@ -57,10 +58,10 @@ putsSize (e ∷ es) = 25 + length (e .name) + putsSize es
 unfoldable pub sizeOf : Mode → List Entry → ℕ
 sizeOf mode es = 2072 + putsSize es + 4 * backIn mode (backSize es)
 
--- the refusal that is due to a put after the accepted puts es, in a buffer of n bytes: 3 when the size, which counts the put at hand, exceeds either
--- limit. 0: none
+-- the refusal that is due to a put after the accepted puts es, in a buffer of n bytes: 13 for a zero byte in the name (02 (v)); then 3 when the size,
+-- which counts the put at hand, exceeds either limit. 0: none
 unfoldable pub putDue : Mode → ℕ → List Entry → Entry → ℕ
-putDue mode n es e = cond (tooLarge n (sizeOf mode (es ++ (e ∷ [])))) 3 0
+putDue mode n es e = cond (hasZero (e .name)) 13 (cond (tooLarge n (sizeOf mode (es ++ (e ∷ [])))) 3 0)
 
 -- the refusal that is due to a call: none to a close
 abbrev pub dueTo : Mode → ℕ → List Entry → Call → ℕ
@@ -86,9 +87,10 @@ accepted mode n cs = acceptedFrom mode n [] cs
 unfoldable pub due : Mode → ℕ → List Call → List ℕ
 due mode n cs = dueFrom mode n [] cs
 
--- no call of a list gives 2 or 4, and no close is refused there: a put may be answered by 0 or 3, a close by 0, and there is one answer for each call
+-- no call of a list gives 2 or 4, and no close is refused there: a put may be answered by 0, 13 or 3, a close by 0, and there is one answer for
+-- each call
 abbrev pub Permitted : Call → ℕ → Type 0
-Permitted (put e) r = (r ≡ 0) ⊎ (r ≡ 3)
+Permitted (put e) r = (r ≡ 0) ⊎ ((r ≡ 13) ⊎ (r ≡ 3))
 Permitted close r = r ≡ 0
 
 abbrev pub AllPermitted : List Call → List ℕ → Type 0

@@ -5,3 +5,4 @@ pub mod Corollaries
 pub mod AfterClose
 pub mod OneWay
 pub mod QuayRows
+pub mod Readings

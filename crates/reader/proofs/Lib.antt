@@ -4,6 +4,7 @@ pub mod Opens
 pub mod Searches
 pub mod Near
 pub mod Namings
+pub mod Panels
 pub mod Walks
 pub mod Bounds
 pub mod FoundAt

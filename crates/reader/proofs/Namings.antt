@@ -13,7 +13,7 @@ use Rattle.image.specs.Head.{backSizeAt, backOffsetAt, backLeaves}
 use Rattle.image.specs.Stored.{broken}
 use Rattle.reader.specs.Lookup.{Lookup, lookup}
 use Rattle.reader.specs.Slices.{Slice, part}
-use Rattle.reader.specs.Naming.{place, unnamed, noBack, namingAt, naming, partOr}
+use Rattle.reader.specs.Naming.{Naming, place, unnamed, noBack, namingAt, naming, partOr}
 use Rattle.reader.specs.Walk.{upperHint, finds, homeBy, home}
 use Rattle.image.proofs.Unbroken.{unbroken}
 
@@ -82,15 +82,14 @@ named image id s n e = backed (noBack image) refl e
     backed true p e = never s n e
     backed false p e = below (leb (backSizeAt image) id) refl p e
 
--- the part of the image that is the name, by its start and end
-pub named-part : (image other : Slice) (id s n : ℕ) → place s n ≡ naming (image .bytes) id
-    → part image s (s + n - s) ≡ partOr image other (naming (image .bytes) id)
-named-part image other id s n e =
+-- the part of the image that a reading x gives, by its start and end
+pub named-part : (image other : Slice) (x : Naming) (s n : ℕ) → place s n ≡ x → part image s (s + n - s) ≡ partOr image other x
+named-part image other x s n e =
     let k : s + n - s ≡ n = omega arith in
     ap (part image s) k ∙ ap (partOr image other) e
 
-pub no-part : (image other : Slice) (id : ℕ) → unnamed ≡ naming (image .bytes) id → other ≡ partOr image other (naming (image .bytes) id)
-no-part image other id e = ap (partOr image other) e
+pub no-part : (image other : Slice) (x : Naming) → unnamed ≡ x → other ≡ partOr image other x
+no-part image other x e = ap (partOr image other) e
 
 -- the upper hint, for a back size w
 pub hint-none : (image : List ℕ) (n : ℕ) → noBack image ≡ true → 0 ≡ upperHint image n

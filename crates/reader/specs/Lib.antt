@@ -3,6 +3,7 @@ pub mod Open
 pub mod Lookup
 pub mod Slices
 pub mod Naming
+pub mod Panel
 pub mod Walk
 pub mod WalkSteps
 pub mod Cases

@@ -4,6 +4,7 @@ mod start; // start.rt: the bucket that a search begins with
 pub mod opening; // opening.rt: open
 pub mod lookup; // lookup.rt: to_id
 pub mod naming; // naming.rt: to_str, name, name_or
+pub mod panel; // panel.rt: panel, panel_place, readings_agree
 pub mod walk; // walk.rt: iter, next, size_hint, home
 
 pub use lookup::to_id;
@@ -11,6 +12,7 @@ pub use naming::name;
 pub use naming::name_or;
 pub use naming::to_str;
 pub use opening::open;
+pub use panel::readings_agree;
 pub use walk::home;
 
 // The head is 2,072 bytes.

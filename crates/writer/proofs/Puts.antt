@@ -1,5 +1,5 @@
 -- What put answers in each case, as its checks go. Assumes nothing.
-use Prim.Native.Nat.{ℕ, _+_, _*_, _≤_, _<_}
+use Prim.Native.Nat.{ℕ, suc, _+_, _*_, _≤_, _<_}
 use native.Mathlib.Omega.{arith}
 use mathlib.Core.Path.{_≡_, refl, sym, ap, _∙_}
 use mathlib.Core.Bool.{Bool, true, false, cond, not, _||_, or-true}
@@ -13,46 +13,53 @@ use Rattle.jhash.specs.NameHash.{hashOf}
 use Rattle.image.specs.Tables.{tableOf}
 use Rattle.image.specs.Image.{Entry, entryBytes}
 use Rattle.writer.specs.State.{State, stateWith, fits, finishedSize, tooLarge}
+use Rattle.image.specs.Zero.{hasZero}
 use Rattle.image.specs.Tally.{raisedCounts, countsAfter}
 use Rattle.writer.specs.Put.{entryOf, writerWith, writerAfter, putRefusal, appended, afterPut}
 use Rattle.writer.specs.declared.CQDBWriter.{CQDBWriter}
 use Rattle.image.proofs.All.{all-each}
 use Rattle.writer.proofs.Fits.{Fitting, fitting, not-too-large}
 
-three-none : _≡_ {A = ℕ} 3 0 → ⊥
-three-none z = omega arith
-
-two-none : _≡_ {A = ℕ} 2 0 → ⊥
-two-none z = omega arith
+-- a refusal's number is not 0
+some-none : (k : ℕ) → suc k ≡ 0 → ⊥
+some-none k z = omega arith
 
 module _ (s : State) (e : Entry) where
+  abbrev full : Bool
+  full = tooLarge (s .writer .length) (finishedSize (writerAfter (s .writer) e))
+
   -- the decision, check by check
   pub refuses-unfit : fits s ≡ false → 2 ≡ putRefusal s e
   unfolding putRefusal
   refuses-unfit h = rw h refl
 
-  pub refuses-full : fits s ≡ true → tooLarge (s .writer .length) (finishedSize (writerAfter (s .writer) e)) ≡ true → 3 ≡ putRefusal s e
+  pub refuses-zero : fits s ≡ true → hasZero (e .name) ≡ true → 13 ≡ putRefusal s e
   unfolding putRefusal
-  refuses-full h k = rw (h, k) refl
+  refuses-zero h z = rw (h, z) refl
 
-  pub accepts : fits s ≡ true → tooLarge (s .writer .length) (finishedSize (writerAfter (s .writer) e)) ≡ false → 0 ≡ putRefusal s e
+  pub refuses-full : fits s ≡ true → hasZero (e .name) ≡ false → full ≡ true → 3 ≡ putRefusal s e
   unfolding putRefusal
-  accepts h k = rw (h, k) refl
+  refuses-full h z k = rw (h, z, k) refl
+
+  pub accepts : fits s ≡ true → hasZero (e .name) ≡ false → full ≡ false → 0 ≡ putRefusal s e
+  unfolding putRefusal
+  accepts h z k = rw (h, z, k) refl
 
   -- what an accepted put has passed
   pub record Passed : Type 0 where
     pub fitted : fits s ≡ true
-    pub roomy : tooLarge (s .writer .length) (finishedSize (writerAfter (s .writer) e)) ≡ false
+    pub zero-free : hasZero (e .name) ≡ false
+    pub roomy : full ≡ false
 
   pub passed : putRefusal s e ≡ 0 → Passed
   unfolding putRefusal
-  passed h = go (fits s) (tooLarge (s .writer .length) (finishedSize (writerAfter (s .writer) e))) refl refl h
+  passed h = go (fits s) (hasZero (e .name)) full refl refl refl h
     where
-      go : (f t : Bool) → fits s ≡ f → tooLarge (s .writer .length) (finishedSize (writerAfter (s .writer) e)) ≡ t
-          → _≡_ {A = ℕ} (cond (not f) 2 (cond t 3 0)) 0 → Passed
-      go true false p q e = record { fitted = p; roomy = q }
-      go true true p q e = absurd (three-none e)
-      go false t p q e = absurd (two-none e)
+      go : (f z t : Bool) → fits s ≡ f → hasZero (e .name) ≡ z → full ≡ t → _≡_ {A = ℕ} (cond (not f) 2 (cond z 13 (cond t 3 0))) 0 → Passed
+      go true false false p q r e = record { fitted = p; zero-free = q; roomy = r }
+      go true false true p q r e = absurd (some-none 2 e)
+      go true true t p q r e = absurd (some-none 12 e)
+      go false z t p q r e = absurd (some-none 1 e)
 
   -- the effect: a refusal leaves everything, an accepted put appends
   pub refused-leaves : (k : ℕ) → k ≡ putRefusal s e → (k ≡ 0 → ⊥) → s ≡ afterPut s e

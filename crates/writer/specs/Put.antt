@@ -7,6 +7,7 @@ use lib.Seq.{sets}
 use lib.Dec.{eqb}
 use Rattle.image.specs.Image.{Entry, entryBytes}
 use Rattle.image.specs.Tally.{countsAfter}
+use Rattle.image.specs.Zero.{hasZero}
 use Rattle.image.specs.declared.Mode.{Mode}
 use Rattle.image.specs.declared.Mode.the-variants.{Twoway, Oneway}
 use Rattle.writer.specs.declared.CQDBWriter.{CQDBWriter}
@@ -37,9 +38,13 @@ unfoldable pub writerAfter : CQDBWriter → Entry → CQDBWriter
 unfolding writerWith
 writerAfter w e = writerWith w (length (e .name)) (e .id)
 
--- 2 when the record doesn't fit the buffer; then 3 when the finished size, all after this put, exceeds the buffer or 4,294,967,295. 0: no refusal
+-- 2 when the record doesn't fit the buffer; then 13 for a zero byte in the name (02 (v)); then 3 when the finished size, all after this put, exceeds the
+-- buffer or 4,294,967,295. 0: no refusal
 unfoldable pub putRefusal : State → Entry → ℕ
-putRefusal s e = cond (not (fits s)) 2 (cond (tooLarge (s .writer .length) (finishedSize (writerAfter (s .writer) e))) 3 0)
+putRefusal s e =
+    cond (not (fits s)) 2
+    (cond (hasZero (e .name)) 13
+    (cond (tooLarge (s .writer .length) (finishedSize (writerAfter (s .writer) e))) 3 0))
 
 -- put appends an entry and raises the counts; only that entry's bytes change
 unfoldable pub appended : State → Entry → State

@@ -74,6 +74,9 @@ fn put_refusal(w: CQDBWriter, counts: &[u32; 256], buf: &[u8], name: &[u8], id: 
     if !record::fits(w, counts, buf) {
         return 2;
     }
+    if image::zero::has_zero(name) {
+        return 13;
+    }
     if 4294967295 <= name.len() {
         return 3;
     }

@@ -26,6 +26,14 @@ impl List {
         self
     }
 
+    /// The same list with a digit in place of each zero byte of a name: put refuses a name with a zero byte, and the Rust
+    /// takes it. The images to be read keep theirs.
+    pub fn zero_free(&self) -> List {
+        let digit = |b: &u8| if *b == 0 { b'0' } else { *b };
+        let puts = self.puts.iter().map(|(id, name)| (*id, name.iter().map(digit).collect())).collect();
+        List { title: self.title.clone(), puts, ..*self }
+    }
+
     // The finished size of the entries so far.
     fn size(&self, puts: &[&(u32, Vec<u8>)]) -> usize {
         let entries: usize = puts.iter().map(|(_, name)| 25 + name.len()).sum();

@@ -1,5 +1,6 @@
-// Writes a stored sample of the original's answers: `writing`, what the Rust's writer makes of lists of puts, or `reading`,
-// what its reader answers on some of these images and on damaged copies of them. The lines are those that the programs
+// Writes a stored sample of the original's answers: `writing`, what the Rust's writer makes of lists of puts whose names have
+// no zero byte, or `reading`, what its reader answers on images of such lists, also with zero bytes in names, and on damaged
+// copies of them. The lines are those that the programs
 // writer_replay and reader_replay read.
 mod damage;
 #[path = "../../../target/oracle/src/hash.rs"]
@@ -94,10 +95,10 @@ fn print_image(image: &[u8]) {
 fn writing(lists: &[List]) {
     println!("# Lists of puts, and the images that the Rust makes of them. tests/vectors/sample/make makes these lines,");
     println!("# crates/writer_replay/src/main.rt says what they mean.");
-    for (i, list) in lists.iter().enumerate() {
+    for (i, list) in lists.iter().map(List::zero_free).enumerate() {
         let image = list.image();
         println!("# {i}: {}", list.title);
-        print_calls(list, &image);
+        print_calls(&list, &image);
         if i % 5 == 0 {
             print_bytes(&image);
         } else {

@@ -4,10 +4,11 @@ use mathlib.Core.Path.{_≡_, sym, ap, _∙_}
 use mathlib.Core.Bool.{true, false}
 use lib.ListN.{length}
 use borrow.Author.Tests.{not-true, not-false}
+use Rattle.image.specs.Zero.{hasZero}
 use Rattle.writer.specs.State.{stateWith, fits, finishedSize, tooLarge}
 use Rattle.writer.specs.Put.{entryOf, writerWith, writerAfter}
 use Rattle.writer.proofs.Fits.{Fitting, fitting}
-use Rattle.writer.proofs.Puts.{refuses-unfit, refuses-full, accepts, long-name}
+use Rattle.writer.proofs.Puts.{refuses-unfit, refuses-zero, refuses-full, accepts, long-name}
 use borrow.Author.Needs.{needs}
 use Rattle.writer.proofs.put_refusal.Statement.{statement}
 use Rattle.writer.proofs.put_refusal.Tie as tie
@@ -22,49 +23,63 @@ returns c =
     let e = entryOf (a .name .now) (a .id) in
     refuses-unfit s e (sym (c .before .fits2 .ensures) ∙ not-true _ (c .if1 .taken))
 
+has-zero-requires : tie.Need-has-zero-requires
+has-zero-requires c κs = search needs
+
 returns-2 : tie.Need-returns-2
 returns-2 c =
-    let a = c .before .before .before .before .before .args in
+    let a = c .before .before .before .before .before .before .args in
     let s = stateWith (a .w) (a .counts .now) (a .buf .now) in
     let e = entryOf (a .name .now) (a .id) in
-    let yes : fits s ≡ true = sym (c .before .before .fits2 .ensures) ∙ not-false _ (c .before .if1 .left) in
-    refuses-full s e yes (long-name (a .w) (a .name .now) (a .id) (c .if2 .taken))
+    let yes : fits s ≡ true = sym (c .before .before .before .fits2 .ensures) ∙ not-false _ (c .before .before .if1 .left) in
+    refuses-zero s e yes (sym (c .before .has-zero .ensures) ∙ c .if2 .taken)
+
+returns-3 : tie.Need-returns-3
+returns-3 c =
+    let a = c .before .before .before .before .before .before .before .args in
+    let s = stateWith (a .w) (a .counts .now) (a .buf .now) in
+    let e = entryOf (a .name .now) (a .id) in
+    let yes : fits s ≡ true = sym (c .before .before .before .before .fits2 .ensures) ∙ not-false _ (c .before .before .before .if1 .left) in
+    let free : hasZero (a .name .now) ≡ false = sym (c .before .before .has-zero .ensures) ∙ c .before .if2 .left in
+    refuses-full s e yes free (long-name (a .w) (a .name .now) (a .id) (c .if3 .taken))
 
 size-with-requires : tie.Need-size-with-requires
 size-with-requires c κs =
-    let a = c .before .before .before .before .before .args in
+    let a = c .before .before .before .before .before .before .before .args in
     let s = stateWith (a .w) (a .counts .now) (a .buf .now) in
     let e = entryOf (a .name .now) (a .id) in
-    let yes : fits s ≡ true = sym (c .before .before .fits2 .ensures) ∙ not-false _ (c .before .if1 .left) in
+    let yes : fits s ≡ true = sym (c .before .before .before .before .fits2 .ensures) ∙ not-false _ (c .before .before .before .if1 .left) in
     let f = fitting (a .w) (a .counts .now) (a .buf .now) yes in
     let same = f .same-length in
     let high = f .high in
-    (omega (arith, c .before .before .before .before .before .good), c .if2 .left)
+    (omega (arith, c .before .before .before .before .before .before .before .good), c .if3 .left)
 
 too-large-requires : tie.Need-too-large-requires
 too-large-requires c κs = search needs
 
-returns-3 : tie.Need-returns-3
-unfolding writerAfter
-returns-3 c =
-    let a = c .before .before .before .before .before .before .before .before .args in
-    let s = stateWith (a .w) (a .counts .now) (a .buf .now) in
-    let e = entryOf (a .name .now) (a .id) in
-    let yes : fits s ≡ true = sym (c .before .before .before .before .before .fits2 .ensures) ∙ not-false _ (c .before .before .before .before .if1 .left) in
-    let fine : tooLarge (a .w .length) (finishedSize (writerWith (a .w) (length (a .name .now)) (a .id))) ≡ true =
-    ap (tooLarge (a .w .length)) (sym (c .before .before .size-with .ensures)) ∙ sym (c .before .too-large .ensures) ∙ c .if3 .taken in
-    refuses-full s e yes fine
-
 returns-4 : tie.Need-returns-4
 unfolding writerAfter
 returns-4 c =
-    let a = c .before .before .before .before .before .before .before .before .args in
+    let a = c .before .before .before .before .before .before .before .before .before .before .args in
     let s = stateWith (a .w) (a .counts .now) (a .buf .now) in
     let e = entryOf (a .name .now) (a .id) in
-    let yes : fits s ≡ true = sym (c .before .before .before .before .before .fits2 .ensures) ∙ not-false _ (c .before .before .before .before .if1 .left) in
+    let yes : fits s ≡ true = sym (c .before .before .before .before .before .before .before .fits2 .ensures) ∙ not-false _ (c .before .before .before .before .before .before .if1 .left) in
+    let free : hasZero (a .name .now) ≡ false = sym (c .before .before .before .before .before .has-zero .ensures) ∙ c .before .before .before .before .if2 .left in
+    let fine : tooLarge (a .w .length) (finishedSize (writerWith (a .w) (length (a .name .now)) (a .id))) ≡ true =
+    ap (tooLarge (a .w .length)) (sym (c .before .before .size-with .ensures)) ∙ sym (c .before .too-large .ensures) ∙ c .if4 .taken in
+    refuses-full s e yes free fine
+
+returns-5 : tie.Need-returns-5
+unfolding writerAfter
+returns-5 c =
+    let a = c .before .before .before .before .before .before .before .before .before .before .args in
+    let s = stateWith (a .w) (a .counts .now) (a .buf .now) in
+    let e = entryOf (a .name .now) (a .id) in
+    let yes : fits s ≡ true = sym (c .before .before .before .before .before .before .before .fits2 .ensures) ∙ not-false _ (c .before .before .before .before .before .before .if1 .left) in
+    let free : hasZero (a .name .now) ≡ false = sym (c .before .before .before .before .before .has-zero .ensures) ∙ c .before .before .before .before .if2 .left in
     let fine : tooLarge (a .w .length) (finishedSize (writerWith (a .w) (length (a .name .now)) (a .id))) ≡ false =
-    ap (tooLarge (a .w .length)) (sym (c .before .before .size-with .ensures)) ∙ sym (c .before .too-large .ensures) ∙ c .if3 .left in
-    accepts s e yes fine
+    ap (tooLarge (a .w .length)) (sym (c .before .before .size-with .ensures)) ∙ sym (c .before .too-large .ensures) ∙ c .if4 .left in
+    accepts s e yes free fine
 
 pub put-refusal-spec : {M : Type 1} → statement M
 put-refusal-spec =
@@ -72,8 +87,10 @@ put-refusal-spec =
     (tie.spec
     fits-requires
     returns
+    has-zero-requires
     returns-2
+    returns-3
     size-with-requires
     too-large-requires
-    returns-3
-    returns-4)
+    returns-4
+    returns-5)

@@ -1,0 +1,70 @@
+-- `image::zero::length_before_zero` meets its contract. The loop's invariant: the bytes met so far precede the first zero byte, and what
+-- is left goes on with them. Assumes nothing.
+use Prim.Native.Nat.{_+_, _-_, _≤_}
+use native.Mathlib.Omega.{arith}
+use mathlib.Core.Path.{_≡_, refl, ap}
+use mathlib.Core.List.{List}
+use lib.ListN.{length, drop}
+use Rattle.image.specs.Zero.{beforeZero}
+use Rattle.image.proofs.Zeros.{before-none, before-there, before-further}
+use borrow.Author.Needs.{needs}
+use Rattle.image.proofs.zero.length_before_zero.Statement.{statement}
+use Rattle.image.proofs.zero.length_before_zero.Tie as tie
+
+abbrev Inv-loop : tie.InvT-loop
+Inv-loop name i₀ i = (i ≤ length name) × (i + length (beforeZero (drop i name)) ≡ length (beforeZero name))
+
+abbrev μ-loop : tie.MeasureT-loop
+μ-loop name i₀ i = length name - i
+
+loop-holds : tie.Need-loop-holds Inv-loop μ-loop
+loop-holds c = (search needs, omega arith)
+
+shared-slice-read-if1 : tie.Need-shared-slice-read-if1 Inv-loop μ-loop
+shared-slice-read-if1 c = search needs
+
+returns : tie.Need-returns Inv-loop μ-loop
+returns c =
+    let a = c .before .before .before .before .args in
+    let of-loop = c .before .before .before .loop in
+    let less = c .before .before .loop-test .taken in
+    let none = ap length (before-there (a .name .now) (of-loop .i) _ refl less (c .if1 .taken)) in
+    let met = of-loop .inv .1 in
+    (omega arith, omega arith)
+
+add-i : tie.Need-add-i Inv-loop μ-loop
+add-i c = search needs
+
+loop-less : tie.Need-loop-less Inv-loop μ-loop
+loop-less c = omega arith
+
+loop-again : tie.Need-loop-again Inv-loop μ-loop
+loop-again c =
+    let a = c .before .before .before .before .args in
+    let of-loop = c .before .before .before .loop in
+    let less = c .before .before .loop-test .taken in
+    let one = before-further (a .name .now) (of-loop .i) _ refl less (c .if1 .left) in
+    let met = of-loop .inv .1 in
+    (omega arith, omega arith)
+
+returns-2 : tie.Need-returns-2 Inv-loop μ-loop
+returns-2 c =
+    let a = c .before .before .args in
+    let of-loop = c .before .loop in
+    let none = before-none (a .name .now) (of-loop .i) (c .loop-test .left) in
+    let met = of-loop .inv .1 in
+    (omega arith, omega arith)
+
+pub length-before-zero-spec : {M : Type 1} → statement M
+length-before-zero-spec =
+    tie.close
+    (tie.spec
+    Inv-loop
+    μ-loop
+    loop-holds
+    shared-slice-read-if1
+    returns
+    add-i
+    loop-less
+    loop-again
+    returns-2)

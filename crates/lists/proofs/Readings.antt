@@ -1,0 +1,91 @@
+-- No accepted put has a zero byte in its name, so both readings agree on every id of the image. Assumes nothing.
+use Prim.Native.Nat.{ℕ, _≤_}
+use native.Mathlib.Omega.{arith}
+use mathlib.Core.Path.{_≡_, refl, sym, ap, _∙_}
+use mathlib.Core.Bool.{Bool, true, false, cond, not}
+use mathlib.Core.List.{List, [], _∷_, _++_}
+use mathlib.Core.Option.{Option, none, some}
+use borrow.Author.Tests.{eqb-true}
+use lib.Dec.{eqb}
+use lib.ListN.{length, take, drop}
+use Rattle.image.specs.declared.Mode.{Mode}
+use Rattle.image.specs.declared.Mode.the-variants.{Twoway, Oneway}
+use Rattle.image.specs.Image.{Entry, headSize}
+use Rattle.image.specs.Head.{backSizeAt}
+use Rattle.image.specs.Zero.{hasZero}
+use Rattle.image.proofs.All.{all-true}
+use Rattle.image.proofs.Every.{All, all-keep, all-append}
+use Rattle.reader.specs.Naming.{Naming, place, unnamed, naming}
+use Rattle.reader.specs.Panel.{agreeOn, readingsAgree}
+use Rattle.reader.proofs.Panels.{agree-held, agree-unnamed}
+use Rattle.answers.specs.Answer.{heldAt, nameGiven, ofId, lastName}
+use Rattle.lists.specs.Calls.{Call, put, close, acceptedOne, putDue, acceptedFrom, accepted, WordIds}
+use Rattle.lists.specs.Demand3.{imageOf}
+use Rattle.lists.specs.Readings.{Readings}
+use Rattle.lists.proofs.Read.{namedIn, Read}
+use Rattle.lists.proofs.Puts.{due-free}
+use Rattle.lists.proofs.Along.{two-way}
+use Rattle.lists.proofs.Reading.{list-read}
+
+abbrev Free : Entry → Type 0
+Free e = hasZero (e .name) ≡ false
+
+-- ---- the accepted puts
+
+one-free : (mode : Mode) (n : ℕ) (es : List Entry) (e : Entry) (b : Bool) → eqb (putDue mode n es e) 0 ≡ b → All Free (cond b (e ∷ []) [])
+one-free mode n es e true d = (due-free mode n es e (eqb-true (putDue mode n es e) 0 d), tt)
+one-free mode n es e false d = tt
+
+free-from : (mode : Mode) (n : ℕ) (es : List Entry) (cs : List Call) → All Free es → All Free (acceptedFrom mode n es cs)
+unfolding acceptedFrom
+free-from mode n es [] all = all
+free-from mode n es (put e ∷ cs) all =
+    free-from mode n _ cs (all-append Free es (acceptedOne (put e) (putDue mode n es e)) all (one-free mode n es e (eqb (putDue mode n es e) 0) refl))
+free-from mode n es (close ∷ cs) all = free-from mode n _ cs (all-append Free es [] all tt)
+
+accepted-free : (mode : Mode) (n : ℕ) (cs : List Call) → All Free (accepted mode n cs)
+unfolding accepted
+accepted-free mode n cs = free-from mode n [] cs tt
+
+-- ---- the names that ids give
+
+last-free : (es : List Entry) (name : List ℕ) → All Free es → lastName es ≡ some name → hasZero name ≡ false
+last-free [] name all e = absurd (let z : _≡_ {A = ℕ} 0 1 = cc in omega arith)
+last-free (e ∷ []) name all p = let same : e .name ≡ name = cc in ap hasZero (sym same) ∙ all .0
+last-free (e ∷ f ∷ es) name all p = last-free (f ∷ es) name (all .1) p
+
+named-free : (mode : Mode) (es : List Entry) (id : ℕ) (name : List ℕ) → All Free es → namedIn mode es id ≡ some name → hasZero name ≡ false
+unfolding ofId
+named-free Twoway es id name all e = last-free (ofId id es) name (all-keep Free _ es all) e
+named-free Oneway es id name all e = absurd (let z : _≡_ {A = ℕ} 0 1 = cc in omega arith)
+
+-- an id agrees where the name that it gives has no zero byte
+agrees : (img : List ℕ) (id : ℕ) (given : Option (List ℕ)) → nameGiven img id ≡ given → ((name : List ℕ) → given ≡ some name → hasZero name ≡ false)
+    → agreeOn img id ≡ true
+agrees img id given e free = go (naming img id) refl
+  where
+    go : (x : Naming) → naming img id ≡ x → agreeOn img id ≡ true
+    go (place s n) p =
+        let name = take n (drop s img) in
+        let held : given ≡ some name = sym e ∙ ap (heldAt img) p in
+        sym (agree-held img id s n (sym p) (hasZero name) refl) ∙ ap not (free name held)
+    go unnamed p = sym (agree-unnamed img id (sym p))
+
+image-agrees : (mode : Mode) (es : List Entry) (img : List ℕ) → Read mode es img → All Free es → readingsAgree img ≡ true
+unfolding readingsAgree
+image-agrees mode es img r all =
+    all-true (agreeOn img) 0 (backSizeAt img) (λ i p. agrees img _ (namedIn mode es _) (r .id-gives _) (λ name e. named-free mode es _ name all e))
+
+-- ---- lists of calls
+
+module _ (mode : Mode) (buffer : List ℕ) (room : headSize ≤ length buffer) (cs : List Call) (word : WordIds mode cs) where
+  list-agrees : readingsAgree (imageOf mode buffer cs) ≡ true
+  list-agrees =
+      image-agrees mode (accepted mode (length buffer) cs) (imageOf mode buffer cs) (list-read mode buffer room cs word) (accepted-free mode (length buffer) cs)
+
+pub readings : Readings
+readings =
+    record {
+      two-way = λ buffer cs room. list-agrees Twoway buffer room cs (two-way cs);
+      one-way = λ buffer cs room word. list-agrees Oneway buffer room cs word;
+    }

@@ -1,0 +1,17 @@
+-- Both readings of names in the image of a list: 02 (v). Put turns names with a zero byte down, so the image of every list of calls from a fresh record,
+-- as in demand 3 or one-way, passes the check.
+use Prim.Native.Nat.{_≤_}
+use mathlib.Core.Path.{_≡_}
+use mathlib.Core.Bool.{true}
+use mathlib.Core.List.{List}
+use Prim.Native.Nat.{ℕ}
+use lib.ListN.{length}
+use Rattle.image.specs.declared.Mode.the-variants.{Twoway, Oneway}
+use Rattle.image.specs.Image.{headSize}
+use Rattle.reader.specs.Panel.{readingsAgree}
+use Rattle.lists.specs.Calls.{Call, WordIds}
+use Rattle.lists.specs.Demand3.{imageOf}
+
+pub record Readings : Type 0 where
+  pub two-way : (buffer : List ℕ) (cs : List Call) → headSize ≤ length buffer → readingsAgree (imageOf Twoway buffer cs) ≡ true
+  pub one-way : (buffer : List ℕ) (cs : List Call) → headSize ≤ length buffer → WordIds Oneway cs → readingsAgree (imageOf Oneway buffer cs) ≡ true

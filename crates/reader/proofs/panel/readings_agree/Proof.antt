@@ -1,0 +1,84 @@
+-- `reader::panel::readings_agree` meets its contract. The loop's invariant: the ids that are left agree exactly where all do. Assumes nothing.
+use Prim.Native.Nat.{ℕ, _-_, _≤_}
+use native.Mathlib.Omega.{arith}
+use mathlib.Core.Path.{_≡_, refl, sym, ap, _∙_}
+use mathlib.Core.Bool.{Bool, true, false}
+use borrow.Author.Tests.{not-true, not-false}
+use borrow.Author.Needs.{needs}
+use Rattle.image.specs.Bytes.{all}
+use Rattle.reader.specs.Panel.{agreeOn, readingsAgree}
+use Rattle.reader.specs.Walk.{upperHint}
+use Rattle.reader.proofs.Panels.{disagree, agree-further, agree-hinted, agree-none}
+use Rattle.reader.proofs.panel.readings_agree.Statement.{statement}
+use Rattle.reader.proofs.panel.readings_agree.Tie as tie
+
+abbrev Inv-loop : tie.InvT-loop
+Inv-loop image n id₀ id = (id ≤ n) × (all (agreeOn image) id (n - id) ≡ readingsAgree image)
+
+abbrev μ-loop : tie.MeasureT-loop
+μ-loop image n id₀ id = n - id
+
+iter-requires : tie.Need-iter-requires Inv-loop μ-loop
+iter-requires c κs = search needs
+
+size-hint-requires : tie.Need-size-hint-requires Inv-loop μ-loop
+size-hint-requires c κs = search needs
+
+loop-holds : tie.Need-loop-holds Inv-loop μ-loop
+loop-holds c =
+    let image = c .before .before .before .args .image .now in
+    let n = c .size-hint .result in
+    let whole : n - 0 ≡ n = omega arith in
+    let hint = c .size-hint .ensures ∙ ap (upperHint image) (c .before .iter .ensures) in
+    (omega arith, ap (all (agreeOn image) 0) whole ∙ agree-hinted image n hint)
+
+agree-on-requires : tie.Need-agree-on-requires Inv-loop μ-loop
+agree-on-requires c κs = search needs
+
+returns : tie.Need-returns Inv-loop μ-loop
+returns c =
+    let image = c .before .before .before .before .before .before .before .args .image .now in
+    let of-loop = c .before .before .before .loop in
+    let n = c .before .before .before .before .size-hint .result in
+    let less = c .before .before .loop-test .taken in
+    let no = sym (c .before .agree-on .ensures) ∙ not-true _ (c .if1 .taken) in
+    sym (disagree image n (of-loop .id) less no) ∙ of-loop .inv .1
+
+add-id : tie.Need-add-id Inv-loop μ-loop
+add-id c = search needs
+
+loop-less : tie.Need-loop-less Inv-loop μ-loop
+loop-less c = omega arith
+
+loop-again : tie.Need-loop-again Inv-loop μ-loop
+loop-again c =
+    let image = c .before .before .before .before .before .before .before .args .image .now in
+    let of-loop = c .before .before .before .loop in
+    let n = c .before .before .before .before .size-hint .result in
+    let less = c .before .before .loop-test .taken in
+    let yes = sym (c .before .agree-on .ensures) ∙ not-false _ (c .if1 .left) in
+    (omega arith, agree-further image n (of-loop .id) less yes ∙ of-loop .inv .1)
+
+returns-2 : tie.Need-returns-2 Inv-loop μ-loop
+returns-2 c =
+    let image = c .before .before .before .before .before .args .image .now in
+    let of-loop = c .before .loop in
+    let n = c .before .before .size-hint .result in
+    let done : n - of-loop .id ≡ 0 = omega (arith, c .loop-test .left) in
+    sym (ap (all (agreeOn image) (of-loop .id)) done ∙ agree-none image (of-loop .id)) ∙ of-loop .inv .1
+
+pub readings-agree-spec : {M : Type 1} → statement M
+readings-agree-spec =
+    tie.close
+    (tie.spec
+    Inv-loop
+    μ-loop
+    iter-requires
+    size-hint-requires
+    loop-holds
+    agree-on-requires
+    returns
+    add-id
+    loop-less
+    loop-again
+    returns-2)

@@ -1,0 +1,65 @@
+// The panel's reading of names (02 (v)): a name up to its first zero byte, as a C string is read; and whether it is the whole name.
+ghost use mathlib.Core.Path.{_≡_};
+ghost use Rattle.reader.specs.Slices.{slice};
+ghost use Rattle.reader.specs.Panel.{panel, panelPart, agreeOn, readingsAgree};
+ghost use Rattle.reader.specs.Cases.{namingOf};
+use super::Named;
+use super::naming::to_str;
+use super::walk::iter;
+use super::walk::size_hint;
+use image::zero::has_zero;
+use image::zero::length_before_zero;
+
+// The place of an id's name up to its first zero byte, or nothing. A name that begins with a zero byte has a place of length 0.
+pub fn panel_place(image: &[u8], id: u32) -> Named
+    ensures { λ r. ⌜ namingOf r ≡ panel (now (image .entry)) id ⌝ }
+{
+    match to_str(image, id) {
+        Named::Place { start, len } => {
+            let end = start + len;
+            Named::Place {
+                start,
+                len: length_before_zero(&image[start..end]),
+            }
+        }
+        Named::Nothing => Named::Nothing,
+    }
+}
+
+// The part of the lent image that is an id's name up to its first zero byte, empty if it has none.
+pub fn panel<'a>(image: &'a [u8], id: u32) -> &'a [u8]
+    ensures { λ r. ⌜ slice r ≡ panelPart (slice (image .entry)) id ⌝ }
+{
+    match panel_place(image, id) {
+        Named::Place { start, len } => &image[start..start + len],
+        Named::Nothing => &image[0..0],
+    }
+}
+
+// Do both readings agree on an id?
+fn agree_on(image: &[u8], id: u32) -> bool
+    ensures { λ r. ⌜ r ≡ agreeOn (now (image .entry)) id ⌝ }
+{
+    match to_str(image, id) {
+        Named::Place { start, len } => {
+            let end = start + len;
+            !has_zero(&image[start..end])
+        }
+        Named::Nothing => true,
+    }
+}
+
+// Do both readings agree on every id below back size? Where no id can have a name, they do, and none is looked at.
+pub fn readings_agree(image: &[u8]) -> bool
+    ensures { λ r. ⌜ r ≡ readingsAgree (now (image .entry)) ⌝ }
+{
+    let n = size_hint(image, iter());
+    let mut id = 0;
+    while id < n {
+        if !agree_on(image, id) {
+            return false;
+        }
+        id += 1;
+    }
+    true
+}
