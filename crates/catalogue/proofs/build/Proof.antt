@@ -20,7 +20,9 @@ same-length : tie.Need-same-length
 same-length c = search needs
 
 returns : tie.Need-returns
-returns c = λ big enough. begin-accepted (c .before .before .before .before .before .before .before .before .args .buf .now) big _ (ap begunOf (sym (c .enum-told .given .1)) ∙ c .before .before .begin .ensures .0)
+returns c =
+    let a = c .before .before .before .before .before .before .before .before .args in
+    λ big enough. begin-accepted (a .buf .now) big _ (ap begunOf (sym (c .enum-told .given .1)) ∙ c .before .before .begin .ensures .0)
 
 put-input-requires : tie.Need-put-input-requires
 put-input-requires c κs = search needs
@@ -47,10 +49,13 @@ returns-2 : tie.Need-returns-2
 returns-2 c =
     let a = c .before .before .before .before .before .before .before .before .before .before .before .before .before .before .before .before .before .before .before .before .before .before .before .before .before .before .before .args in
     let b = c .before .before .before .before .before .before .before .before .before .before .before .before .before .before .before .before .before .before .before .before .before .begin in
-    let w = c .before .before .before .before .before .before .before .before .before .before .before .before .before .before .before .before .before .before .before .fresh .given in
+    let of-fresh = c .before .before .before .before .before .before .before .before .before .before .before .before .before .before .before .before .before .before .before .fresh in
+    let of-put-input = c .before .before .before .before .before .before .before .before .before .before .before .before .before .put-input in
+    let of-close = c .before .before .before .before .close in
+    let w = of-fresh .given in
     λ big enough.
-    never-refused (a .buf .now) (a .room .now) (a .counts .now) _ (w .0 .0) (ap begunOf (sym (w .1)) ∙ b .ensures .0) (b .ensures .1) _ (c .before .before .before .before .before .before .before .before .before .before .before .before .before .put-input .ensures) big enough
-    _ (ap closedOf (sym (c .enum-told2 .given .1)) ∙ c .before .before .before .before .close .ensures .0)
+    never-refused (a .buf .now) (a .room .now) (a .counts .now) _ (w .0 .0) (ap begunOf (sym (w .1)) ∙ b .ensures .0) (b .ensures .1) _ (of-put-input .ensures) big enough
+    _ (ap closedOf (sym (c .enum-told2 .given .1)) ∙ of-close .ensures .0)
 
 same-length-5 : tie.Need-same-length-5
 same-length-5 c = search needs
@@ -65,10 +70,13 @@ returns-3 : tie.Need-returns-3
 returns-3 c =
     let a = c .before .before .before .before .before .before .before .before .before .before .before .before .before .before .before .before .before .before .before .before .before .before .before .before .before .before .before .before .args in
     let b = c .before .before .before .before .before .before .before .before .before .before .before .before .before .before .before .before .before .before .before .before .before .before .begin in
-    let w = c .before .before .before .before .before .before .before .before .before .before .before .before .before .before .before .before .before .before .before .before .fresh .given in
+    let of-fresh = c .before .before .before .before .before .before .before .before .before .before .before .before .before .before .before .before .before .before .before .before .fresh in
+    let of-put-input = c .before .before .before .before .before .before .before .before .before .before .before .before .before .before .put-input in
+    let of-close = c .before .before .before .before .before .close in
+    let w = of-fresh .given in
     λ big enough.
-    built (a .buf .now) (a .room .now) (a .counts .now) _ (w .0 .0) (ap begunOf (sym (w .1)) ∙ b .ensures .0) (b .ensures .1) _ (c .before .before .before .before .before .before .before .before .before .before .before .before .before .before .put-input .ensures) big enough
-    (c .before .answer .given .0 .0) _ (ap closedOf (sym (c .before .answer .given .1)) ∙ c .before .before .before .before .before .close .ensures .0) (c .before .before .before .before .before .close .ensures .1)
+    built (a .buf .now) (a .room .now) (a .counts .now) _ (w .0 .0) (ap begunOf (sym (w .1)) ∙ b .ensures .0) (b .ensures .1) _ (of-put-input .ensures) big enough
+    (c .before .answer .given .0 .0) _ (ap closedOf (sym (c .before .answer .given .1)) ∙ of-close .ensures .0) (of-close .ensures .1)
 
 pub build-spec : {M : Type 1} → statement M
 build-spec =

@@ -31,9 +31,11 @@ slice-aggregate-print-image c = search needs
 
 print-image-requires : tie.Need-print-image-requires
 print-image-requires c κs =
+    let of-large-buffer = c .before .before .before .before .before .before .before .before .before .before .before .large-buffer in
+    let of-large-buffer2 = c .before .before .before .before .before .before .before .before .before .before .large-buffer2 in
     let b = c .before .before .before .before .build in
-    built-in 65536 (b .result .entries) (b .result .size) (c .before .before .before .before .before .before .before .before .before .before .before .large-buffer .result) (c .before .before .before .before .before .before .before .before .before .before .large-buffer2 .result) (b .last .1 .0)
-    (c .before .before .before .before .before .before .before .before .before .before .before .large-buffer .ensures) (c .before .before .before .before .before .before .before .before .before .before .large-buffer2 .ensures) (lit≤ tt) (b .ensures)
+    built-in 65536 (b .result .entries) (b .result .size) (of-large-buffer .result) (of-large-buffer2 .result) (b .last .1 .0)
+    (of-large-buffer .ensures) (of-large-buffer2 .ensures) (lit≤ tt) (b .ensures)
 
 returns : tie.Need-returns
 returns c = search needs

@@ -37,8 +37,11 @@ cast-print-line c = search needs
 
 add-print-line : tie.Need-add-print-line Inv-loop μ-loop
 add-print-line c =
+    let a = c .before .before .before .before .before .before .before .args in
+    let of-loop = c .before .before .before .before .loop in
+    let of-next = c .before .before .before .next in
     let g = c .before .id .given in
-    let s = stepping (c .before .before .before .before .before .before .before .args .image .now) (c .before .before .before .before .loop .walk .next) (g .0 .0) (g .0 .1 .0) (g .0 .1 .1 .0) (g .0 .1 .1 .1 .0 .next) (sym (c .before .before .before .next .ensures) ∙ ap steppedOf (g .1)) in
+    let s = stepping (a .image .now) (of-loop .walk .next) (g .0 .0) (g .0 .1 .0) (g .0 .1 .1 .0) (g .0 .1 .1 .1 .0 .next) (sym (of-next .ensures) ∙ ap steppedOf (g .1)) in
     let inside = s .inside in
     omega arith
 
@@ -50,8 +53,11 @@ part-print-line-start c = search needs
 
 part-print-line-end : tie.Need-part-print-line-end Inv-loop μ-loop
 part-print-line-end c =
+    let a = c .before .before .before .before .before .before .before .args in
+    let of-loop = c .before .before .before .before .loop in
+    let of-next = c .before .before .before .next in
     let g = c .before .id .given in
-    let s = stepping (c .before .before .before .before .before .before .before .args .image .now) (c .before .before .before .before .loop .walk .next) (g .0 .0) (g .0 .1 .0) (g .0 .1 .1 .0) (g .0 .1 .1 .1 .0 .next) (sym (c .before .before .before .next .ensures) ∙ ap steppedOf (g .1)) in
+    let s = stepping (a .image .now) (of-loop .walk .next) (g .0 .0) (g .0 .1 .0) (g .0 .1 .1 .0) (g .0 .1 .1 .1 .0 .next) (sym (of-next .ensures) ∙ ap steppedOf (g .1)) in
     let inside = s .inside in
     omega arith
 
@@ -60,8 +66,12 @@ print-line-requires c κs = search needs
 
 loop-less : tie.Need-loop-less Inv-loop μ-loop
 loop-less c =
-    let g = c .before .before .before .id .given in
-    let s = stepping (c .before .before .before .before .before .before .before .before .before .args .image .now) (c .before .before .before .before .before .before .loop .walk .next) (g .0 .0) (g .0 .1 .0) (g .0 .1 .1 .0) (g .0 .1 .1 .1 .0 .next) (sym (c .before .before .before .before .before .next .ensures) ∙ ap steppedOf (g .1)) in
+    let a = c .before .before .before .before .before .before .before .before .before .args in
+    let of-loop = c .before .before .before .before .before .before .loop in
+    let of-next = c .before .before .before .before .before .next in
+    let of-id = c .before .before .before .id in
+    let g = of-id .given in
+    let s = stepping (a .image .now) (of-loop .walk .next) (g .0 .0) (g .0 .1 .0) (g .0 .1 .1 .0) (g .0 .1 .1 .1 .0 .next) (sym (of-next .ensures) ∙ ap steppedOf (g .1)) in
     let onward = s .onward in
     omega arith
 

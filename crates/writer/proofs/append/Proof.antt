@@ -39,9 +39,12 @@ store-requires : tie.Need-store-requires
 unfolding writerAfter
 store-requires c κs =
     let a = c .before .before .before .before .before .before .before .before .before .args in
+    let start-pre = c .before .before .before .before .before .before .before .before .before .pre in
+    let of-name-hash = c .before .before .before .before .before .before .name-hash in
+    let of-h = c .before .before .before .before .h in
     let s = stateWith (a .w) (a .counts .now) (a .buf .now) in
-    let went = passed s (entryOf (a .name .now) (a .id)) (c .before .before .before .before .before .before .before .before .before .pre) in
-    let told = told-image-hash (a .name .now) (c .before .before .before .before .before .before .name-hash .result) (c .before .before .before .before .h .given .0 .0) (c .before .before .before .before .before .before .name-hash .ensures) (c .before .before .before .before .h .given .1) in
+    let went = passed s (entryOf (a .name .now) (a .id)) (start-pre) in
+    let told = told-image-hash (a .name .now) (of-name-hash .result) (of-h .given .0 .0) (of-name-hash .ensures) (of-h .given .1) in
     (entry-fits (a .w) (a .counts .now) (a .buf .now) (length (a .name .now)) (a .id) (went .fitted) (went .roomy), told .0)
 
 after-requires : tie.Need-after-requires
@@ -58,9 +61,13 @@ same-length c = search needs
 returns-2 : tie.Need-returns-2
 returns-2 c =
     let a = c .before .before .before .before .before .before .before .before .before .before .before .before .before .args in
-    let told = told-image-hash (a .name .now) (c .before .before .before .before .before .before .before .before .before .before .name-hash .result) (c .before .before .before .before .before .before .before .before .h .given .0 .0) (c .before .before .before .before .before .before .before .before .before .before .name-hash .ensures) (c .before .before .before .before .before .before .before .before .h .given .1) in
-    appended-parts (a .w) (c .after .result) (a .counts .now) (c .before .before .before .before .before .raise .last .0) (a .buf .now) (c .before .before .before .store .last .0) (a .name .now) (a .id)
-    (c .before .before .before .before .before .before .before .before .h .given .0 .0) (told .1) (c .after .ensures) (c .before .before .before .before .before .raise .ensures) (c .before .before .before .store .ensures)
+    let of-name-hash = c .before .before .before .before .before .before .before .before .before .before .name-hash in
+    let of-h = c .before .before .before .before .before .before .before .before .h in
+    let of-raise = c .before .before .before .before .before .raise in
+    let of-store = c .before .before .before .store in
+    let told = told-image-hash (a .name .now) (of-name-hash .result) (of-h .given .0 .0) (of-name-hash .ensures) (of-h .given .1) in
+    appended-parts (a .w) (c .after .result) (a .counts .now) (of-raise .last .0) (a .buf .now) (of-store .last .0) (a .name .now) (a .id)
+    (of-h .given .0 .0) (told .1) (c .after .ensures) (of-raise .ensures) (of-store .ensures)
 
 pub append-spec : {M : Type 1} → statement M
 append-spec =

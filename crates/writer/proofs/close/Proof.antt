@@ -30,13 +30,17 @@ same-length : tie.Need-same-length
 same-length c = search needs
 
 returns : tie.Need-returns
-returns c = unfit (stateWith (c .before .before .before .before .args .w) (c .before .before .before .before .args .counts .now) (c .before .before .before .before .args .buf .now)) (sym (c .before .fits2 .ensures) ∙ not-true _ (c .if1 .taken))
+returns c =
+    let a = c .before .before .before .before .args in
+    unfit (stateWith (a .w) (a .counts .now) (a .buf .now)) (sym (c .before .fits2 .ensures) ∙ not-true _ (c .if1 .taken))
 
 finished-size-requires : tie.Need-finished-size-requires
 finished-size-requires c κs =
-    let yes : fits (stateWith (c .before .before .before .before .args .w) (c .before .before .before .before .args .counts .now) (c .before .before .before .before .args .buf .now)) ≡ true = sym (c .before .fits2 .ensures) ∙ not-false _ (c .if1 .left) in
-    let f = fitting (c .before .before .before .before .args .w) (c .before .before .before .before .args .counts .now) (c .before .before .before .before .args .buf .now) yes in
-    omega (arith, f, c .before .before .before .before .good)
+    let a = c .before .before .before .before .args in
+    let start-good = c .before .before .before .before .good in
+    let yes : fits (stateWith (a .w) (a .counts .now) (a .buf .now)) ≡ true = sym (c .before .fits2 .ensures) ∙ not-false _ (c .if1 .left) in
+    let f = fitting (a .w) (a .counts .now) (a .buf .now) yes in
+    omega (arith, f, start-good)
 
 too-large-requires : tie.Need-too-large-requires
 too-large-requires c κs = search needs
@@ -46,15 +50,21 @@ same-length-2 c = search needs
 
 returns-2 : tie.Need-returns-2
 returns-2 c =
-    let yes : fits (stateWith (c .before .before .before .before .before .before .before .args .w) (c .before .before .before .before .before .before .before .args .counts .now) (c .before .before .before .before .before .before .before .args .buf .now)) ≡ true = sym (c .before .before .before .before .fits2 .ensures) ∙ not-false _ (c .before .before .before .if1 .left) in
-    let fine : tooLarge (c .before .before .before .before .before .before .before .args .w .length) (finishedSize (c .before .before .before .before .before .before .before .args .w)) ≡ true =
-    ap (λ (m : ℕ). tooLarge (c .before .before .before .before .before .before .before .args .w .length) m) (sym (c .before .before .finished-size .ensures)) ∙ sym (c .before .too-large .ensures) ∙ c .if2 .taken in
-    too-big (stateWith (c .before .before .before .before .before .before .before .args .w) (c .before .before .before .before .before .before .before .args .counts .now) (c .before .before .before .before .before .before .before .args .buf .now)) yes fine
+    let a = c .before .before .before .before .before .before .before .args in
+    let of-fits2 = c .before .before .before .before .fits2 in
+    let of-if1 = c .before .before .before .if1 in
+    let yes : fits (stateWith (a .w) (a .counts .now) (a .buf .now)) ≡ true = sym (of-fits2 .ensures) ∙ not-false _ (of-if1 .left) in
+    let fine : tooLarge (a .w .length) (finishedSize (a .w)) ≡ true =
+    ap (λ (m : ℕ). tooLarge (a .w .length) m) (sym (c .before .before .finished-size .ensures)) ∙ sym (c .before .too-large .ensures) ∙ c .if2 .taken in
+    too-big (stateWith (a .w) (a .counts .now) (a .buf .now)) yes fine
 
 agrees-requires : tie.Need-agrees-requires
 agrees-requires c κs =
-    let yes : fits (stateWith (c .before .before .before .before .before .before .before .before .args .w) (c .before .before .before .before .before .before .before .before .args .counts .now) (c .before .before .before .before .before .before .before .before .args .buf .now)) ≡ true = sym (c .before .before .before .before .before .fits2 .ensures) ∙ not-false _ (c .before .before .before .before .if1 .left) in
-    let f = fitting (c .before .before .before .before .before .before .before .before .args .w) (c .before .before .before .before .before .before .before .before .args .counts .now) (c .before .before .before .before .before .before .before .before .args .buf .now) yes in
+    let a = c .before .before .before .before .before .before .before .before .args in
+    let of-fits2 = c .before .before .before .before .before .fits2 in
+    let of-if1 = c .before .before .before .before .if1 in
+    let yes : fits (stateWith (a .w) (a .counts .now) (a .buf .now)) ≡ true = sym (of-fits2 .ensures) ∙ not-false _ (of-if1 .left) in
+    let f = fitting (a .w) (a .counts .now) (a .buf .now) yes in
     (f .low, omega (arith, f .high, f .same-length))
 
 same-length-3 : tie.Need-same-length-3
@@ -62,39 +72,60 @@ same-length-3 c = search needs
 
 returns-3 : tie.Need-returns-3
 returns-3 c =
-    let yes : fits (stateWith (c .before .before .before .before .before .before .before .before .before .before .args .w) (c .before .before .before .before .before .before .before .before .before .before .args .counts .now) (c .before .before .before .before .before .before .before .before .before .before .args .buf .now)) ≡ true = sym (c .before .before .before .before .before .before .before .fits2 .ensures) ∙ not-false _ (c .before .before .before .before .before .before .if1 .left) in
-    differs (stateWith (c .before .before .before .before .before .before .before .before .before .before .args .w) (c .before .before .before .before .before .before .before .before .before .before .args .counts .now) (c .before .before .before .before .before .before .before .before .before .before .args .buf .now)) yes (sym (c .before .agrees .ensures) ∙ not-true _ (c .if3 .taken))
+    let a = c .before .before .before .before .before .before .before .before .before .before .args in
+    let of-fits2 = c .before .before .before .before .before .before .before .fits2 in
+    let of-if1 = c .before .before .before .before .before .before .if1 in
+    let yes : fits (stateWith (a .w) (a .counts .now) (a .buf .now)) ≡ true = sym (of-fits2 .ensures) ∙ not-false _ (of-if1 .left) in
+    differs (stateWith (a .w) (a .counts .now) (a .buf .now)) yes (sym (c .before .agrees .ensures) ∙ not-true _ (c .if3 .taken))
 
 write-image-requires : tie.Need-write-image-requires
 write-image-requires c κs =
-    let yes : fits (stateWith (c .before .before .before .before .before .before .before .before .before .before .before .args .w) (c .before .before .before .before .before .before .before .before .before .before .before .args .counts .now) (c .before .before .before .before .before .before .before .before .before .before .before .args .buf .now)) ≡ true = sym (c .before .before .before .before .before .before .before .before .fits2 .ensures) ∙ not-false _ (c .before .before .before .before .before .before .before .if1 .left) in
-    let fine : tooLarge (c .before .before .before .before .before .before .before .before .before .before .before .args .w .length) (finishedSize (c .before .before .before .before .before .before .before .before .before .before .before .args .w)) ≡ false =
-    ap (λ (m : ℕ). tooLarge (c .before .before .before .before .before .before .before .before .before .before .before .args .w .length) m) (sym (c .before .before .before .before .before .before .finished-size .ensures)) ∙ sym (c .before .before .before .before .before .too-large .ensures) ∙ c .before .before .before .before .if2 .left in
-    let f = fitting (c .before .before .before .before .before .before .before .before .before .before .before .args .w) (c .before .before .before .before .before .before .before .before .before .before .before .args .counts .now) (c .before .before .before .before .before .before .before .before .before .before .before .args .buf .now) yes in
-    let l = not-too-large (c .before .before .before .before .before .before .before .before .before .before .before .args .w .length) (finishedSize (c .before .before .before .before .before .before .before .before .before .before .before .args .w)) fine in
+    let a = c .before .before .before .before .before .before .before .before .before .before .before .args in
+    let of-fits2 = c .before .before .before .before .before .before .before .before .fits2 in
+    let of-if1 = c .before .before .before .before .before .before .before .if1 in
+    let of-finished-size = c .before .before .before .before .before .before .finished-size in
+    let of-too-large = c .before .before .before .before .before .too-large in
+    let of-if2 = c .before .before .before .before .if2 in
+    let yes : fits (stateWith (a .w) (a .counts .now) (a .buf .now)) ≡ true = sym (of-fits2 .ensures) ∙ not-false _ (of-if1 .left) in
+    let fine : tooLarge (a .w .length) (finishedSize (a .w)) ≡ false =
+    ap (λ (m : ℕ). tooLarge (a .w .length) m) (sym (of-finished-size .ensures)) ∙ sym (of-too-large .ensures) ∙ of-if2 .left in
+    let f = fitting (a .w) (a .counts .now) (a .buf .now) yes in
+    let l = not-too-large (a .w .length) (finishedSize (a .w)) fine in
     (f .low, omega (arith, l .0, f .same-length), l .1)
 
 cast-t18 : tie.Need-cast-t18
 cast-t18 c =
-    let fine : tooLarge (c .before .before .before .before .before .before .before .before .before .before .before .before .before .before .args .w .length) (finishedSize (c .before .before .before .before .before .before .before .before .before .before .before .before .before .before .args .w)) ≡ false =
-    ap (λ (m : ℕ). tooLarge (c .before .before .before .before .before .before .before .before .before .before .before .before .before .before .args .w .length) m) (sym (c .before .before .before .before .before .before .before .before .before .finished-size .ensures)) ∙ sym (c .before .before .before .before .before .before .before .before .too-large .ensures) ∙ c .before .before .before .before .before .before .before .if2 .left in
-    let l = not-too-large (c .before .before .before .before .before .before .before .before .before .before .before .before .before .before .args .w .length) (finishedSize (c .before .before .before .before .before .before .before .before .before .before .before .before .before .before .args .w)) fine in
-    omega (arith, l .1, c .before .before .before .before .before .before .before .before .before .finished-size .ensures)
+    let a = c .before .before .before .before .before .before .before .before .before .before .before .before .before .before .args in
+    let of-finished-size = c .before .before .before .before .before .before .before .before .before .finished-size in
+    let of-too-large = c .before .before .before .before .before .before .before .before .too-large in
+    let of-if2 = c .before .before .before .before .before .before .before .if2 in
+    let fine : tooLarge (a .w .length) (finishedSize (a .w)) ≡ false =
+    ap (λ (m : ℕ). tooLarge (a .w .length) m) (sym (of-finished-size .ensures)) ∙ sym (of-too-large .ensures) ∙ of-if2 .left in
+    let l = not-too-large (a .w .length) (finishedSize (a .w)) fine in
+    omega (arith, l .1, of-finished-size .ensures)
 
 same-length-4 : tie.Need-same-length-4
 same-length-4 c = search needs
 
 returns-4 : tie.Need-returns-4
 returns-4 c =
-    let yes : fits (stateWith (c .before .before .before .before .before .before .before .before .before .before .before .before .before .before .args .w) (c .before .before .before .before .before .before .before .before .before .before .before .before .before .before .args .counts .now) (c .before .before .before .before .before .before .before .before .before .before .before .before .before .before .args .buf .now)) ≡ true = sym (c .before .before .before .before .before .before .before .before .before .before .before .fits2 .ensures) ∙ not-false _ (c .before .before .before .before .before .before .before .before .before .before .if1 .left) in
-    let fine : tooLarge (c .before .before .before .before .before .before .before .before .before .before .before .before .before .before .args .w .length) (finishedSize (c .before .before .before .before .before .before .before .before .before .before .before .before .before .before .args .w)) ≡ false =
-    ap (λ (m : ℕ). tooLarge (c .before .before .before .before .before .before .before .before .before .before .before .before .before .before .args .w .length) m) (sym (c .before .before .before .before .before .before .before .before .before .finished-size .ensures)) ∙ sym (c .before .before .before .before .before .before .before .before .too-large .ensures) ∙ c .before .before .before .before .before .before .before .if2 .left in
     let a = c .before .before .before .before .before .before .before .before .before .before .before .before .before .before .args in
-    let all : consistent (stateWith (c .before .before .before .before .before .before .before .before .before .before .before .before .before .before .args .w) (c .before .before .before .before .before .before .before .before .before .before .before .before .before .before .args .counts .now) (c .before .before .before .before .before .before .before .before .before .before .before .before .before .before .args .buf .now)) ≡ true = sym (c .before .before .before .before .before .agrees .ensures) ∙ not-false _ (c .before .before .before .before .if3 .left) in
+    let of-slice-known = c .before .before .before .before .before .before .before .before .before .before .before .before .before .slice-known in
+    let of-fits2 = c .before .before .before .before .before .before .before .before .before .before .before .fits2 in
+    let of-if1 = c .before .before .before .before .before .before .before .before .before .before .if1 in
+    let of-finished-size = c .before .before .before .before .before .before .before .before .before .finished-size in
+    let of-too-large = c .before .before .before .before .before .before .before .before .too-large in
+    let of-if2 = c .before .before .before .before .before .before .before .if2 in
+    let of-agrees = c .before .before .before .before .before .agrees in
+    let of-if3 = c .before .before .before .before .if3 in
+    let yes : fits (stateWith (a .w) (a .counts .now) (a .buf .now)) ≡ true = sym (of-fits2 .ensures) ∙ not-false _ (of-if1 .left) in
+    let fine : tooLarge (a .w .length) (finishedSize (a .w)) ≡ false =
+    ap (λ (m : ℕ). tooLarge (a .w .length) m) (sym (of-finished-size .ensures)) ∙ sym (of-too-large .ensures) ∙ of-if2 .left in
+    let all : consistent (stateWith (a .w) (a .counts .now) (a .buf .now)) ≡ true = sym (of-agrees .ensures) ∙ not-false _ (of-if3 .left) in
     let l = not-too-large (a .w .length) (finishedSize (a .w)) fine in
-    let bytes : (i : ℕ) → getD (a .buf .now) i 0 < 256 = λ i. omega (arith, c .before .before .before .before .before .before .before .before .before .before .before .before .before .slice-known .given i) in
-    let done = closes (stateWith (c .before .before .before .before .before .before .before .before .before .before .before .before .before .before .args .w) (c .before .before .before .before .before .before .before .before .before .before .before .before .before .before .args .counts .now) (c .before .before .before .before .before .before .before .before .before .before .before .before .before .before .args .buf .now)) yes fine all in (
-      ap value (c .before .before .before .before .before .before .before .before .before .finished-size .ensures) ∙ done .0,
+    let bytes : (i : ℕ) → getD (a .buf .now) i 0 < 256 = λ i. omega (arith, of-slice-known .given i) in
+    let done = closes (stateWith (a .w) (a .counts .now) (a .buf .now)) yes fine all in (
+      ap value (of-finished-size .ensures) ∙ done .0,
       ap (λ (l : List ℕ). stateWith (a .w) (a .counts .now) l) (c .before .before .write-image .ensures)
           ∙ closes-image (a .w) (a .counts .now) (a .buf .now) bytes yes fine all,
     )

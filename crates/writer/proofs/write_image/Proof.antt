@@ -37,7 +37,10 @@ cast-write-head-2 : tie.Need-cast-write-head-2
 cast-write-head-2 c = search needs
 
 cast-write-head-3 : tie.Need-cast-write-head-3
-cast-write-head-3 c = omega (arith, c .before .before .back-at .ensures, linksAt-le (c .before .before .before .before .before .before .before .args .w), c .before .before .before .before .before .before .before .pre .2)
+cast-write-head-3 c =
+    let a = c .before .before .before .before .before .before .before .args in
+    let start-pre = c .before .before .before .before .before .before .before .pre in
+    omega (arith, c .before .before .back-at .ensures, linksAt-le (a .w), start-pre .2)
 
 write-head-requires : tie.Need-write-head-requires
 write-head-requires c κs = search needs
@@ -54,12 +57,17 @@ clear-requires c κs = search needs
 take-entries-requires : tie.Need-take-entries-requires
 take-entries-requires c κs =
     let a = c .before .before .before .before .before .before .before .before .before .before .before .before .before .before .before .before .before .before .before .before .args in
-    let k = c .before .before .before .clear .kept .0 in
-    let l = c .before .before .before .before .before .before .before .write-rows .kept .0 in
-    let m = c .before .before .before .before .before .before .before .before .before .before .before .before .write-head .kept .0 in
-    let small = c .before .before .before .before .before .before .before .before .before .before .before .before .before .before .before .before .before .before .before .before .pre .2 in
-    let fits = c .before .before .before .before .before .before .before .before .before .before .before .before .before .before .before .before .before .before .before .before .pre .1 in
-    (c .before .before .before .before .before .before .before .before .before .before .before .before .before .before .before .before .before .before .before .before .pre .0, omega arith, omega arith, omega (arith, c .before .before .before .before .before .before .before .before .before .before .before .before .before .before .before .back-at .ensures, linksAt-le (a .w)))
+    let start-pre = c .before .before .before .before .before .before .before .before .before .before .before .before .before .before .before .before .before .before .before .before .pre in
+    let of-back-at = c .before .before .before .before .before .before .before .before .before .before .before .before .before .before .before .back-at in
+    let of-write-head = c .before .before .before .before .before .before .before .before .before .before .before .before .write-head in
+    let of-write-rows = c .before .before .before .before .before .before .before .write-rows in
+    let of-clear = c .before .before .before .clear in
+    let k = of-clear .kept .0 in
+    let l = of-write-rows .kept .0 in
+    let m = of-write-head .kept .0 in
+    let small = start-pre .2 in
+    let fits = start-pre .1 in
+    (start-pre .0, omega arith, omega arith, omega (arith, of-back-at .ensures, linksAt-le (a .w)))
 
 same-length : tie.Need-same-length
 same-length c = search needs
@@ -67,10 +75,17 @@ same-length c = search needs
 returns : tie.Need-returns
 returns c =
     let a = c .before .before .before .before .before .before .before .before .before .before .before .before .before .before .before .before .before .before .before .before .before .before .before .args in
-    written-parts (a .w) (a .counts .now) (a .buf .now) (c .before .before .before .before .before .before .before .before .before .before .before .before .before .before .before .write-head .last .0) (c .before .before .before .before .before .before .before .before .before .before .write-rows .last .0) (c .before .before .before .before .before .before .clear .last .0) (c .before .before .take-entries .last .1 .1 .0)
-    (c .before .before .before .before .before .before .before .before .before .before .before .before .before .before .before .before .before .before .before .before .before .finished-size .result) (c .before .before .before .before .before .before .before .before .before .before .before .before .before .before .before .before .flag-word .result) (c .before .before .before .before .before .before .before .before .before .before .before .before .before .before .before .before .before .before .before .back-in .result) (c .before .before .before .before .before .before .before .before .before .before .before .before .before .before .before .before .before .before .back-at .result)
-    (c .before .before .before .before .before .before .before .before .before .before .before .before .before .before .before .before .before .before .before .before .before .finished-size .ensures) (c .before .before .before .before .before .before .before .before .before .before .before .before .before .before .before .before .flag-word .ensures) (c .before .before .before .before .before .before .before .before .before .before .before .before .before .before .before .before .before .before .before .back-in .ensures) (c .before .before .before .before .before .before .before .before .before .before .before .before .before .before .before .before .before .before .back-at .ensures)
-    (c .before .before .before .before .before .before .before .before .before .before .before .before .before .before .before .write-head .ensures) (c .before .before .before .before .before .before .before .before .before .before .write-rows .ensures) (c .before .before .before .before .before .before .clear .ensures) (c .before .before .take-entries .ensures)
+    let of-finished-size = c .before .before .before .before .before .before .before .before .before .before .before .before .before .before .before .before .before .before .before .before .before .finished-size in
+    let of-back-in = c .before .before .before .before .before .before .before .before .before .before .before .before .before .before .before .before .before .before .before .back-in in
+    let of-back-at = c .before .before .before .before .before .before .before .before .before .before .before .before .before .before .before .before .before .before .back-at in
+    let of-flag-word = c .before .before .before .before .before .before .before .before .before .before .before .before .before .before .before .before .flag-word in
+    let of-write-head = c .before .before .before .before .before .before .before .before .before .before .before .before .before .before .before .write-head in
+    let of-write-rows = c .before .before .before .before .before .before .before .before .before .before .write-rows in
+    let of-clear = c .before .before .before .before .before .before .clear in
+    written-parts (a .w) (a .counts .now) (a .buf .now) (of-write-head .last .0) (of-write-rows .last .0) (of-clear .last .0) (c .before .before .take-entries .last .1 .1 .0)
+    (of-finished-size .result) (of-flag-word .result) (of-back-in .result) (of-back-at .result)
+    (of-finished-size .ensures) (of-flag-word .ensures) (of-back-in .ensures) (of-back-at .ensures)
+    (of-write-head .ensures) (of-write-rows .ensures) (of-clear .ensures) (c .before .before .take-entries .ensures)
 
 pub write-image-spec : {M : Type 1} → statement M
 write-image-spec =

@@ -44,9 +44,10 @@ not-begun-requires-2 c κs = search needs
 returns-2 : tie.Need-returns-2
 returns-2 c =
     let a = c .before .before .before .before .before .before .before .before .before .args in
+    let of-if1 = c .before .before .before .before .before .before .before .if1 in
     let of-mode-of = c .before .before .before .before .before .before .mode-of in
     let of-begin = c .before .before .before .before .begin in
-    let told = begin-known (a .mode) (length (a .buf .now)) (a .counts .now) (of-begin .last .1 .0) (of-mode-of .result) (begunOf (of-begin .result)) (c .before .before .before .before .before .before .before .if1 .left) (of-mode-of .ensures) (of-begin .ensures .0) (of-begin .ensures .1) in
+    let told = begin-known (a .mode) (length (a .buf .now)) (a .counts .now) (of-begin .last .1 .0) (of-mode-of .result) (begunOf (of-begin .result)) (of-if1 .left) (of-mode-of .ensures) (of-begin .ensures .0) (of-begin .ensures .1) in
     (ap (λ (r : Record). fresh r) (c .record-of .ensures) ∙ ap (λ (b : Begun). begunAnswer (begunOf b)) (sym (c .before .before .begun .given .1)) ∙ told .0, told .1)
 
 returns-3 : tie.Need-returns-3

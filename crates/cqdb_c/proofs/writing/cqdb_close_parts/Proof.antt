@@ -32,11 +32,12 @@ same-length c = search needs
 returns-2 : tie.Need-returns-2
 returns-2 c =
     let a = c .before .before .before .before .before .before .before .before .before .before .before .before .args in
-    let of-close = c .before .before .before .before .before .before .close in
+    let of-if1 = c .before .before .before .before .before .before .before .before .before .if1 in
     let of-writer-of = c .before .before .before .before .before .before .before .before .writer-of in
+    let of-close = c .before .before .before .before .before .before .close in
     close-known (held (a .w) (a .counts .now) (a .buf .now)) (of-writer-of .result) (of-close .result .writer) (c .record-of .result)
     (of-close .last .1 .1 .0) (closedOf (of-close .result .answer)) (c .before .before .close-number .result) (c .before .close-size .result)
-    (c .before .before .before .before .before .before .before .before .before .if1 .left) (of-writer-of .ensures) (of-close .ensures .0) (of-close .ensures .1) (c .before .before .close-number .ensures) (c .before .close-size .ensures) (c .record-of .ensures)
+    (of-if1 .left) (of-writer-of .ensures) (of-close .ensures .0) (of-close .ensures .1) (c .before .before .close-number .ensures) (c .before .close-size .ensures) (c .record-of .ensures)
 
 pub cqdb-close-parts-spec : {M : Type 1} → statement M
 cqdb-close-parts-spec =

@@ -31,16 +31,20 @@ abbrev μ-loop : tie.MeasureT-loop
 -- what the entry's length word says, where it is not 0
 known : (c : tie.Else1 Inv-loop μ-loop)
     → Front (between (c .before .before .before .before .before .args .buf .now) (c .before .before .before .loop .at) (c .before .before .before .before .before .args .end)) (c .before .whole-length .result)
-known c = front _ (c .before .whole-length .result) (c .before .whole-length .ensures .0) (c .if1 .left)
+known c =
+    front _ (c .before .whole-length .result) (c .before .whole-length .ensures .0) (c .if1 .left)
 
 -- and that it lies before the end
 room : (c : tie.Else1 Inv-loop μ-loop)
     → (c .before .before .before .loop .at + (8 + c .before .whole-length .result) ≤ c .before .before .before .before .before .args .end) × (1 ≤ c .before .whole-length .result)
 room c =
+    let a = c .before .before .before .before .before .args in
+    let start-pre = c .before .before .before .before .before .pre in
+    let of-loop = c .before .before .before .loop in
     let k = known c in
     let i = k .inside in
-    let j = c .before .before .before .loop .inv .inside in
-    let l = length-between (c .before .before .before .before .before .args .buf .now) (c .before .before .before .loop .at) (c .before .before .before .before .before .args .end) j (c .before .before .before .before .before .pre .1) in
+    let j = of-loop .inv .inside in
+    let l = length-between (a .buf .now) (of-loop .at) (a .end) j (start-pre .1) in
     (omega arith, k .some)
 
 loop-holds : tie.Need-loop-holds Inv-loop μ-loop
@@ -50,10 +54,12 @@ whole-length-requires : tie.Need-whole-length-requires Inv-loop μ-loop
 whole-length-requires c κs = (c .before .loop .inv .inside, c .before .before .before .pre .1)
 
 returns : tie.Need-returns Inv-loop μ-loop
-returns c = (
-  walk-broken (c .before .before .before .before .before .args .buf .now) (c .before .before .before .before .before .args .end) (c .before .before .before .before .before .args .entries) (c .before .before .before .before .before .args .counts .now) (c .before .before .before .loop .at) (c .before .before .before .loop .left) (c .before .before .before .loop .back) (c .before .before .before .loop .counts) (c .before .before .before .loop .inv) (c .before .before .loop-test .taken) (sym (c .if1 .taken) ∙ c .before .whole-length .ensures .0),
-  ((λ z. absurd (not-both z)), (λ z. absurd (not-both z))),
-)
+returns c =
+    let a = c .before .before .before .before .before .args in
+    let of-loop = c .before .before .before .loop in (
+      walk-broken (a .buf .now) (a .end) (a .entries) (a .counts .now) (of-loop .at) (of-loop .left) (of-loop .back) (of-loop .counts) (of-loop .inv) (c .before .before .loop-test .taken) (sym (c .if1 .taken) ∙ c .before .whole-length .ensures .0),
+      ((λ z. absurd (not-both z)), (λ z. absurd (not-both z))),
+    )
 
 add-name : tie.Need-add-name Inv-loop μ-loop
 add-name c =
@@ -96,16 +102,23 @@ enum-told c = search needs
 
 returns-2 : tie.Need-returns-2 Inv-loop μ-loop
 returns-2 c =
-    let r = room (c .before .before .before .before) in
-    let long = told-refused (take (c .before .before .before .before .before .before .before .loop .at + 7 + c .before .before .before .before .before .whole-length .result - (c .before .before .before .before .before .before .before .loop .at + 8)) (drop (c .before .before .before .before .before .before .before .loop .at + 8) (c .before .before .before .before .before .before .before .before .before .args .buf .now))) 0 (c .before .before .name-hash .result) (c .before .before .name-hash .ensures) (c .enum-told .given .1) in
+    let a = c .before .before .before .before .before .before .before .before .before .args in
+    let of-loop = c .before .before .before .before .before .before .before .loop in
+    let of-whole-length = c .before .before .before .before .before .whole-length in
+    let of-before = c .before .before .before .before in
+    let r = room (of-before) in
+    let long = told-refused (take (of-loop .at + 7 + of-whole-length .result - (of-loop .at + 8)) (drop (of-loop .at + 8) (a .buf .now))) 0 (c .before .before .name-hash .result) (c .before .before .name-hash .ensures) (c .enum-told .given .1) in
     let l = simp length-take at long in
-    let s = c .before .before .before .before .before .whole-length .ensures .1 in
+    let s = of-whole-length .ensures .1 in
     absurd (omega arith)
 
 raise-requires : tie.Need-raise-requires Inv-loop μ-loop
 raise-requires c κs =
-    let k = c .before .before .before .before .before .before .before .before .before .loop .inv .counts-small (tableOf (c .before .before .h .given .0 .0)) in
-    omega (arith, c .before .before .before .before .before .before .before .before .loop-test .taken, c .before .before .before .before .before .before .before .before .before .before .before .fits .entries)
+    let start-fits = c .before .before .before .before .before .before .before .before .before .before .before .fits in
+    let of-loop = c .before .before .before .before .before .before .before .before .before .loop in
+    let of-loop-test = c .before .before .before .before .before .before .before .before .loop-test in
+    let k = of-loop .inv .counts-small (tableOf (c .before .before .h .given .0 .0)) in
+    omega (arith, of-loop-test .taken, start-fits .entries)
 
 get-u32-requires : tie.Need-get-u32-requires Inv-loop μ-loop
 get-u32-requires c κs = search needs
@@ -121,13 +134,19 @@ larger-requires c κs = search needs
 
 add-at : tie.Need-add-at Inv-loop μ-loop
 add-at c =
-    let r = room (c .before .before .before .before .before .before .before .before .before) in
-    omega (arith, c .before .before .before .before .before .before .before .before .before .before .before .before .before .before .good, c .before .before .before .before .before .before .before .before .before .before .before .before .before .before .pre .1)
+    let start-good = c .before .before .before .before .before .before .before .before .before .before .before .before .before .before .good in
+    let start-pre = c .before .before .before .before .before .before .before .before .before .before .before .before .before .before .pre in
+    let of-before = c .before .before .before .before .before .before .before .before .before in
+    let r = room (of-before) in
+    omega (arith, start-good, start-pre .1)
 
 add-at-2 : tie.Need-add-at-2 Inv-loop μ-loop
 add-at-2 c =
-    let r = room (c .before .before .before .before .before .before .before .before .before) in
-    omega (arith, c .before .before .before .before .before .before .before .before .before .before .before .before .before .before .good, c .before .before .before .before .before .before .before .before .before .before .before .before .before .before .pre .1)
+    let start-good = c .before .before .before .before .before .before .before .before .before .before .before .before .before .before .good in
+    let start-pre = c .before .before .before .before .before .before .before .before .before .before .before .before .before .before .pre in
+    let of-before = c .before .before .before .before .before .before .before .before .before in
+    let r = room (of-before) in
+    omega (arith, start-good, start-pre .1)
 
 sub-left : tie.Need-sub-left Inv-loop μ-loop
 sub-left c = omega arith
@@ -137,17 +156,27 @@ loop-less c = omega arith
 
 loop-again : tie.Need-loop-again Inv-loop μ-loop
 loop-again c =
-    let f = known (c .before .before .before .before .before .before .before .before .before) in
-    let told = told-image-hash (take (c .before .before .before .before .before .before .before .before .before .before .before .before .loop .at + 7 + c .before .before .before .before .before .before .before .before .before .before .whole-length .result - (c .before .before .before .before .before .before .before .before .before .before .before .before .loop .at + 8)) (drop (c .before .before .before .before .before .before .before .before .before .before .before .before .loop .at + 8) (c .before .before .before .before .before .before .before .before .before .before .before .before .before .before .args .buf .now))) (c .before .before .before .before .before .before .before .name-hash .result) (c .before .before .before .before .before .h .given .0 .0) (c .before .before .before .before .before .before .before .name-hash .ensures) (c .before .before .before .before .before .h .given .1) in
+    let a = c .before .before .before .before .before .before .before .before .before .before .before .before .before .before .args in
+    let start-pre = c .before .before .before .before .before .before .before .before .before .before .before .before .before .before .pre in
+    let of-loop = c .before .before .before .before .before .before .before .before .before .before .before .before .loop in
+    let of-loop-test = c .before .before .before .before .before .before .before .before .before .before .before .loop-test in
+    let of-whole-length = c .before .before .before .before .before .before .before .before .before .before .whole-length in
+    let of-before = c .before .before .before .before .before .before .before .before .before in
+    let of-name-hash = c .before .before .before .before .before .before .before .name-hash in
+    let of-h = c .before .before .before .before .before .h in
+    let f = known (of-before) in
+    let told = told-image-hash (take (of-loop .at + 7 + of-whole-length .result - (of-loop .at + 8)) (drop (of-loop .at + 8) (a .buf .now))) (of-name-hash .result) (of-h .given .0 .0) (of-name-hash .ensures) (of-h .given .1) in
     let small : c .before .get-u32 .result < 4294967296 = omega (arith, c .before .get-u32 .ok) in
-    let t = walk-turn (c .before .before .before .before .before .before .before .before .before .before .before .before .before .before .args .buf .now) (c .before .before .before .before .before .before .before .before .before .before .before .before .before .before .args .end) (c .before .before .before .before .before .before .before .before .before .before .before .before .before .before .args .entries) (c .before .before .before .before .before .before .before .before .before .before .before .before .before .before .args .counts .now) (c .before .before .before .before .before .before .before .before .before .before .before .before .loop .at) (c .before .before .before .before .before .before .before .before .before .before .before .before .loop .left) (c .before .before .before .before .before .before .before .before .before .before .before .before .loop .back) (c .before .before .before .before .before .before .before .before .before .before .before .before .loop .counts) (c .before .before .before .before .before .before .before .before .before .before .before .before .before .before .pre .1) (c .before .before .before .before .before .before .before .before .before .before .before .before .loop .inv) (c .before .before .before .before .before .before .before .before .before .before .before .loop-test .taken)
-    (c .before .before .before .before .before .before .before .before .before .before .whole-length .result) (c .before .before .before .before .before .h .given .0 .0) (c .before .get-u32 .result) (take (c .before .before .before .before .before .before .before .before .before .before .before .before .loop .at + 7 + c .before .before .before .before .before .before .before .before .before .before .whole-length .result - (c .before .before .before .before .before .before .before .before .before .before .before .before .loop .at + 8)) (drop (c .before .before .before .before .before .before .before .before .before .before .before .before .loop .at + 8) (c .before .before .before .before .before .before .before .before .before .before .before .before .before .before .args .buf .now))) (c .before .before .raise .last .0) f (c .before .before .before .before .before .before .before .before .before .before .whole-length .ensures .1) small refl (told .1) (c .before .get-u32 .ensures) (c .before .before .raise .ensures) in
+    let t = walk-turn (a .buf .now) (a .end) (a .entries) (a .counts .now) (of-loop .at) (of-loop .left) (of-loop .back) (of-loop .counts) (start-pre .1) (of-loop .inv) (of-loop-test .taken)
+    (of-whole-length .result) (of-h .given .0 .0) (c .before .get-u32 .result) (take (of-loop .at + 7 + of-whole-length .result - (of-loop .at + 8)) (drop (of-loop .at + 8) (a .buf .now))) (c .before .before .raise .last .0) f (of-whole-length .ensures .1) small refl (told .1) (c .before .get-u32 .ensures) (c .before .before .raise .ensures) in
     rw (c .larger .ensures) t
 
 returns-3 : tie.Need-returns-3 Inv-loop μ-loop
 returns-3 c =
+    let a = c .before .before .before .args in
+    let start-pre = c .before .before .before .pre in
     let z : c .before .loop .left ≡ 0 = omega arith in
-    let e = walk-end (c .before .before .before .args .buf .now) (c .before .before .before .args .end) (c .before .before .before .args .entries) (c .before .before .before .args .counts .now) (c .before .loop .at) (c .before .loop .back) (c .before .loop .counts) (c .before .before .before .pre .1) (rw z at (c .before .loop .inv)) in
+    let e = walk-end (a .buf .now) (a .end) (a .entries) (a .counts .now) (c .before .loop .at) (c .before .loop .back) (c .before .loop .counts) (start-pre .1) (rw z at (c .before .loop .inv)) in
     (e .0, ((λ w. e .1), (λ w. e .2)))
 
 pub walk-spec : {M : Type 1} → statement M

@@ -12,7 +12,8 @@ sub-if1 : tie.Need-sub-if1
 sub-if1 c = search needs
 
 returns : tie.Need-returns
-returns c = (short-there (c .before .before .args .buf .now) (c .before .before .args .at) (c .before .before .args .end) (c .before .before .pre .0) (c .before .before .pre .1) (c .if1 .taken), omega arith)
+returns c =
+    (short-there (c .before .before .args .buf .now) (c .before .before .args .at) (c .before .before .args .end) (c .before .before .pre .0) (c .before .before .pre .1) (c .if1 .taken), omega arith)
 
 add-get-u32 : tie.Need-add-get-u32
 add-get-u32 c = search needs
@@ -24,7 +25,10 @@ cast-n : tie.Need-cast-n
 cast-n c = search needs
 
 returns-2 : tie.Need-returns-2
-returns-2 c = (none-there (c .before .before .before .before .args .buf .now) (c .before .before .before .before .args .at) (c .before .before .before .before .args .end) (c .before .before .before .before .pre .0) (c .before .before .before .before .pre .1) (c .before .before .if1 .left) (c .before .get-u32 .result) (c .before .get-u32 .ensures) (c .if2 .taken), omega arith)
+returns-2 c =
+    let a = c .before .before .before .before .args in
+    let start-pre = c .before .before .before .before .pre in
+    (none-there (a .buf .now) (a .at) (a .end) (start-pre .0) (start-pre .1) (c .before .before .if1 .left) (c .before .get-u32 .result) (c .before .get-u32 .ensures) (c .if2 .taken), omega arith)
 
 sub-if3 : tie.Need-sub-if3
 sub-if3 c = search needs
@@ -33,7 +37,11 @@ add-if3 : tie.Need-add-if3
 add-if3 c = search needs
 
 returns-3 : tie.Need-returns-3
-returns-3 c = (cut-there (c .before .before .before .before .before .args .buf .now) (c .before .before .before .before .before .args .at) (c .before .before .before .before .before .args .end) (c .before .before .before .before .before .pre .0) (c .before .before .before .before .before .pre .1) (c .before .before .before .if1 .left) (c .before .before .get-u32 .result) (c .before .before .get-u32 .ensures) (c .before .if2 .left) (c .if3 .taken), omega arith)
+returns-3 c =
+    let a = c .before .before .before .before .before .args in
+    let start-pre = c .before .before .before .before .before .pre in
+    let of-if1 = c .before .before .before .if1 in
+    (cut-there (a .buf .now) (a .at) (a .end) (start-pre .0) (start-pre .1) (of-if1 .left) (c .before .before .get-u32 .result) (c .before .before .get-u32 .ensures) (c .before .if2 .left) (c .if3 .taken), omega arith)
 
 add-if4 : tie.Need-add-if4
 add-if4 c = search needs
@@ -45,10 +53,22 @@ shared-slice-read-if4 : tie.Need-shared-slice-read-if4
 shared-slice-read-if4 c = search needs
 
 returns-4 : tie.Need-returns-4
-returns-4 c = (open-there (c .before .before .before .before .before .before .before .args .buf .now) (c .before .before .before .before .before .before .before .args .at) (c .before .before .before .before .before .before .before .args .end) (c .before .before .before .before .before .before .before .pre .0) (c .before .before .before .before .before .before .before .pre .1) (c .before .before .before .before .before .if1 .left) (c .before .before .before .before .get-u32 .result) (c .before .before .before .before .get-u32 .ensures) (c .before .before .before .if2 .left) (c .before .before .if3 .left) (c .if4 .taken), omega arith)
+returns-4 c =
+    let a = c .before .before .before .before .before .before .before .args in
+    let start-pre = c .before .before .before .before .before .before .before .pre in
+    let of-if1 = c .before .before .before .before .before .if1 in
+    let of-get-u32 = c .before .before .before .before .get-u32 in
+    let of-if2 = c .before .before .before .if2 in
+    (open-there (a .buf .now) (a .at) (a .end) (start-pre .0) (start-pre .1) (of-if1 .left) (of-get-u32 .result) (of-get-u32 .ensures) (of-if2 .left) (c .before .before .if3 .left) (c .if4 .taken), omega arith)
 
 returns-5 : tie.Need-returns-5
-returns-5 c = (whole-there (c .before .before .before .before .before .before .before .args .buf .now) (c .before .before .before .before .before .before .before .args .at) (c .before .before .before .before .before .before .before .args .end) (c .before .before .before .before .before .before .before .pre .0) (c .before .before .before .before .before .before .before .pre .1) (c .before .before .before .before .before .if1 .left) (c .before .before .before .before .get-u32 .result) (c .before .before .before .before .get-u32 .ensures) (c .before .before .before .if2 .left) (c .before .before .if3 .left) (c .if4 .left), omega (arith, c .before .before .before .before .get-u32 .ok))
+returns-5 c =
+    let a = c .before .before .before .before .before .before .before .args in
+    let start-pre = c .before .before .before .before .before .before .before .pre in
+    let of-if1 = c .before .before .before .before .before .if1 in
+    let of-get-u32 = c .before .before .before .before .get-u32 in
+    let of-if2 = c .before .before .before .if2 in
+    (whole-there (a .buf .now) (a .at) (a .end) (start-pre .0) (start-pre .1) (of-if1 .left) (of-get-u32 .result) (of-get-u32 .ensures) (of-if2 .left) (c .before .before .if3 .left) (c .if4 .left), omega (arith, of-get-u32 .ok))
 
 pub whole-length-spec : {M : Type 1} → statement M
 whole-length-spec =

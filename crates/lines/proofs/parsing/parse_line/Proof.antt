@@ -23,8 +23,9 @@ returns c =
 
 returns-2 : tie.Need-returns-2
 returns-2 c =
+    let a = c .before .before .before .before .args in
     let n = c .before .before .leading-digits .result in
-    form-by (c .before .before .before .before .args .line .now) n true false _ _ (c .before .before .leading-digits .ensures .0) (le-leb 1 n (c .before .if1 .left)) (lt-leb n 10 (c .if2 .taken)) refl refl
+    form-by (a .line .now) n true false _ _ (c .before .before .leading-digits .ensures .0) (le-leb 1 n (c .before .if1 .left)) (lt-leb n 10 (c .if2 .taken)) refl refl
 
 returns-3 : tie.Need-returns-3
 returns-3 c =
@@ -39,27 +40,41 @@ shared-slice-read-if4 c = search needs
 
 returns-4 : tie.Need-returns-4
 returns-4 c =
-    let n = c .before .before .before .before .before .leading-digits .result in
-    let line = c .before .before .before .before .before .before .before .args .line .now in
-    form-by line n true true false _ (c .before .before .before .before .before .leading-digits .ensures .0) (le-leb 1 n (c .before .before .before .before .if1 .left)) (le-leb n 10 (c .before .before .before .if2 .left))
+    let a = c .before .before .before .before .before .before .before .args in
+    let of-leading-digits = c .before .before .before .before .before .leading-digits in
+    let of-if1 = c .before .before .before .before .if1 in
+    let of-if2 = c .before .before .before .if2 in
+    let n = of-leading-digits .result in
+    let line = a .line .now in
+    form-by line n true true false _ (of-leading-digits .ensures .0) (le-leb 1 n (of-if1 .left)) (le-leb n 10 (of-if2 .left))
     (ne-eqb (getD line n 0) 32 (c .if4 .taken)) refl
 
 slice-aggregate-number : tie.Need-slice-aggregate-number
 slice-aggregate-number c =
-    sym (length-take-le (c .before .before .before .before .before .before .leading-digits .result) (c .before .before .before .before .before .before .before .before .args .line .now) (c .before .before .before .before .before .before .leading-digits .ensures .1))
+    let a = c .before .before .before .before .before .before .before .before .args in
+    let of-leading-digits = c .before .before .before .before .before .before .leading-digits in
+    sym (length-take-le (of-leading-digits .result) (a .line .now) (of-leading-digits .ensures .1))
 
 number-requires : tie.Need-number-requires
 number-requires c κs =
-    let e = length-take-le (c .before .before .before .before .before .before .leading-digits .result) (c .before .before .before .before .before .before .before .before .args .line .now) (c .before .before .before .before .before .before .leading-digits .ensures .1) in
-    let few = c .before .before .before .before .if2 .left in
+    let a = c .before .before .before .before .before .before .before .before .args in
+    let of-leading-digits = c .before .before .before .before .before .before .leading-digits in
+    let of-if2 = c .before .before .before .before .if2 in
+    let e = length-take-le (of-leading-digits .result) (a .line .now) (of-leading-digits .ensures .1) in
+    let few = of-if2 .left in
     omega arith
 
 returns-5 : tie.Need-returns-5
 returns-5 c =
-    let n = c .before .before .before .before .before .before .before .before .leading-digits .result in
-    let line = c .before .before .before .before .before .before .before .before .before .before .args .line .now in
-    form-by line n true true true false (c .before .before .before .before .before .before .before .before .leading-digits .ensures .0) (le-leb 1 n (c .before .before .before .before .before .before .before .if1 .left)) (le-leb n 10 (c .before .before .before .before .before .before .if2 .left))
-    (eq-eqb (getD line n 0) 32 (c .before .before .before .if4 .left)) (ap (λ (v : ℕ). leb v 4294967295) (sym (c .before .number .ensures)) ∙ lt-leb (c .before .number .result) 4294967295 (c .if5 .taken))
+    let a = c .before .before .before .before .before .before .before .before .before .before .args in
+    let of-leading-digits = c .before .before .before .before .before .before .before .before .leading-digits in
+    let of-if1 = c .before .before .before .before .before .before .before .if1 in
+    let of-if2 = c .before .before .before .before .before .before .if2 in
+    let of-if4 = c .before .before .before .if4 in
+    let n = of-leading-digits .result in
+    let line = a .line .now in
+    form-by line n true true true false (of-leading-digits .ensures .0) (le-leb 1 n (of-if1 .left)) (le-leb n 10 (of-if2 .left))
+    (eq-eqb (getD line n 0) 32 (of-if4 .left)) (ap (λ (v : ℕ). leb v 4294967295) (sym (c .before .number .ensures)) ∙ lt-leb (c .before .number .result) 4294967295 (c .if5 .taken))
 
 cast-t10 : tie.Need-cast-t10
 cast-t10 c = search needs
@@ -69,11 +84,16 @@ add-t5 c = search needs
 
 returns-6 : tie.Need-returns-6
 returns-6 c =
-    let n = c .before .before .before .before .before .before .before .before .leading-digits .result in
-    let line = c .before .before .before .before .before .before .before .before .before .before .args .line .now in
+    let a = c .before .before .before .before .before .before .before .before .before .before .args in
+    let of-leading-digits = c .before .before .before .before .before .before .before .before .leading-digits in
+    let of-if1 = c .before .before .before .before .before .before .before .if1 in
+    let of-if2 = c .before .before .before .before .before .before .if2 in
+    let of-if4 = c .before .before .before .if4 in
+    let n = of-leading-digits .result in
+    let line = a .line .now in
     ap (λ (v : ℕ). entry v (n + 1)) (c .before .number .ensures)
-    ∙ form-by line n true true true true (c .before .before .before .before .before .before .before .before .leading-digits .ensures .0) (le-leb 1 n (c .before .before .before .before .before .before .before .if1 .left)) (le-leb n 10 (c .before .before .before .before .before .before .if2 .left))
-    (eq-eqb (getD line n 0) 32 (c .before .before .before .if4 .left)) (ap (λ (v : ℕ). leb v 4294967295) (sym (c .before .number .ensures)) ∙ le-leb (c .before .number .result) 4294967295 (c .if5 .left))
+    ∙ form-by line n true true true true (of-leading-digits .ensures .0) (le-leb 1 n (of-if1 .left)) (le-leb n 10 (of-if2 .left))
+    (eq-eqb (getD line n 0) 32 (of-if4 .left)) (ap (λ (v : ℕ). leb v 4294967295) (sym (c .before .number .ensures)) ∙ le-leb (c .before .number .result) 4294967295 (c .if5 .left))
 
 pub parse-line-spec : {M : Type 1} → statement M
 parse-line-spec =

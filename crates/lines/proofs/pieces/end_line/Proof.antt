@@ -30,7 +30,8 @@ same-length c = search needs
 returns-2 : tie.Need-returns-2
 returns-2 c =
     let a = c .before .before .before .before .before .before .before .before .before .before .args in
-    ended-put (stateWith (a .t .writer) (a .counts .now) (a .buf .now)) (a .room .now) (a .t .have) _ (c .before .before .before .before .before .before .if1 .left) (c .before .before .put-line .ensures)
+    let of-if1 = c .before .before .before .before .before .before .if1 in
+    ended-put (stateWith (a .t .writer) (a .counts .now) (a .buf .now)) (a .room .now) (a .t .have) _ (of-if1 .left) (c .before .before .put-line .ensures)
 
 pub end-line-spec : {M : Type 1} → statement M
 end-line-spec =

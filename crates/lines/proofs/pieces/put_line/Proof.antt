@@ -18,15 +18,19 @@ enum-known-id c = search needs
 
 sub-put : tie.Need-sub-put
 sub-put c =
+    let a = c .before .before .before .before .before .before .before .before .args in
+    let of-parse-line = c .before .before .before .before .before .parse-line in
     let of-id = c .before .before .before .id in
-    let n = named (c .before .before .before .before .before .before .before .before .args .line .now) (of-id .given .0 .0) (of-id .given .0 .1 .0) (sym (c .before .before .before .before .before .parse-line .ensures) ∙ ap formOf (of-id .given .1)) in
+    let n = named (a .line .now) (of-id .given .0 .0) (of-id .given .0 .1 .0) (sym (of-parse-line .ensures) ∙ ap formOf (of-id .given .1)) in
     let inside = n .inside in
     omega arith
 
 part-put-start : tie.Need-part-put-start
 part-put-start c =
+    let a = c .before .before .before .before .before .before .before .before .args in
+    let of-parse-line = c .before .before .before .before .before .parse-line in
     let of-id = c .before .before .before .id in
-    let n = named (c .before .before .before .before .before .before .before .before .args .line .now) (of-id .given .0 .0) (of-id .given .0 .1 .0) (sym (c .before .before .before .before .before .parse-line .ensures) ∙ ap formOf (of-id .given .1)) in
+    let n = named (a .line .now) (of-id .given .0 .0) (of-id .given .0 .1 .0) (sym (of-parse-line .ensures) ∙ ap formOf (of-id .given .1)) in
     let inside = n .inside in
     omega arith
 

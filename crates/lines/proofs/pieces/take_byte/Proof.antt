@@ -17,7 +17,8 @@ same-length-2 c = search needs
 returns : tie.Need-returns
 returns c =
     let a = c .before .before .before .before .before .before .before .before .before .args in
-    byte-feed (stateWith (a .t .writer) (a .counts .now) (a .buf .now)) (a .room .now) (a .t .have) (a .b) _ (c .before .before .before .before .before .before .if1 .taken) (c .before .before .end-line .ensures)
+    let of-if1 = c .before .before .before .before .before .before .if1 in
+    byte-feed (stateWith (a .t .writer) (a .counts .now) (a .buf .now)) (a .room .now) (a .t .have) (a .b) _ (of-if1 .taken) (c .before .before .end-line .ensures)
 
 gather-requires : tie.Need-gather-requires
 gather-requires c κs = search needs
@@ -28,7 +29,9 @@ same-length-3 c = search needs
 returns-2 : tie.Need-returns-2
 returns-2 c =
     let a = c .before .before .before .before .before .before .before .before .args in
-    byte-more (stateWith (a .t .writer) (a .counts .now) (a .buf .now)) (a .room .now) (a .t .have) (a .b) _ _ (c .before .before .before .before .before .if1 .left) (c .before .before .before .gather .ensures .0) (c .before .before .before .gather .ensures .1)
+    let of-if1 = c .before .before .before .before .before .if1 in
+    let of-gather = c .before .before .before .gather in
+    byte-more (stateWith (a .t .writer) (a .counts .now) (a .buf .now)) (a .room .now) (a .t .have) (a .b) _ _ (of-if1 .left) (of-gather .ensures .0) (of-gather .ensures .1)
 
 pub take-byte-spec : {M : Type 1} → statement M
 take-byte-spec =

@@ -29,10 +29,13 @@ pos-of n h = omega arith
 -- a whole entry lies before the end
 room : (c : tie.Else1 Inv-loop μ-loop) → (c .before .before .before .loop .at + (8 + c .before .whole-length .result) ≤ c .before .before .before .before .before .args .end) × (1 ≤ c .before .whole-length .result)
 room c =
-    let f = front (between (c .before .before .before .before .before .args .buf .now) (c .before .before .before .loop .at) (c .before .before .before .before .before .args .end)) (c .before .whole-length .result) (c .before .whole-length .ensures .0) (c .if1 .left) in
+    let a = c .before .before .before .before .before .args in
+    let start-pre = c .before .before .before .before .before .pre in
+    let of-loop = c .before .before .before .loop in
+    let f = front (between (a .buf .now) (of-loop .at) (a .end)) (c .before .whole-length .result) (c .before .whole-length .ensures .0) (c .if1 .left) in
     let i = f .inside in
-    let j = c .before .before .before .loop .inv .inside in
-    let l = length-between (c .before .before .before .before .before .args .buf .now) (c .before .before .before .loop .at) (c .before .before .before .before .before .args .end) j (c .before .before .before .before .before .pre .1) in
+    let j = of-loop .inv .inside in
+    let l = length-between (a .buf .now) (of-loop .at) (a .end) j (start-pre .1) in
     (omega arith, f .some)
 
 loop-holds : tie.Need-loop-holds Inv-loop μ-loop
@@ -72,34 +75,59 @@ enum-told : tie.Need-enum-told Inv-loop μ-loop
 enum-told c = search needs
 
 returns-2 : tie.Need-returns-2 Inv-loop μ-loop
-returns-2 c = (c .before .before .before .before .before .before .before .loop .inv .few, c .before .before .before .before .before .before .before .loop .inv .sixteen, c .before .before .before .before .before .before .before .loop .inv .noted)
+returns-2 c =
+    let of-loop = c .before .before .before .before .before .before .before .loop in
+    (of-loop .inv .few, of-loop .inv .sixteen, of-loop .inv .noted)
 
 place-of-requires : tie.Need-place-of-requires Inv-loop μ-loop
 place-of-requires c κs = search needs
 
 returns-3 : tie.Need-returns-3 Inv-loop μ-loop
-returns-3 c = (c .before .before .before .before .before .before .before .before .before .before .loop .inv .few, c .before .before .before .before .before .before .before .before .before .before .loop .inv .sixteen, c .before .before .before .before .before .before .before .before .before .before .loop .inv .noted)
+returns-3 c =
+    let of-loop = c .before .before .before .before .before .before .before .before .before .before .loop in
+    (of-loop .inv .few, of-loop .inv .sixteen, of-loop .inv .noted)
 
 mul-hashes : tie.Need-mul-hashes Inv-loop μ-loop
-mul-hashes c = omega (arith, c .before .before .before .before .before .before .before .before .before .loop-test .taken, c .before .before .before .before .before .before .before .before .before .before .before .before .pre .3)
+mul-hashes c =
+    let start-pre = c .before .before .before .before .before .before .before .before .before .before .before .before .pre in
+    let of-loop-test = c .before .before .before .before .before .before .before .before .before .loop-test in
+    omega (arith, of-loop-test .taken, start-pre .3)
 
 element-write-hashes : tie.Need-element-write-hashes Inv-loop μ-loop
-element-write-hashes c = omega (arith, c .before .before .before .before .before .before .before .before .before .loop-test .taken, c .before .before .before .before .before .before .before .before .before .before .before .before .pre .3)
+element-write-hashes c =
+    let start-pre = c .before .before .before .before .before .before .before .before .before .before .before .before .pre in
+    let of-loop-test = c .before .before .before .before .before .before .before .before .before .loop-test in
+    omega (arith, of-loop-test .taken, start-pre .3)
 
 mul-places : tie.Need-mul-places Inv-loop μ-loop
-mul-places c = omega (arith, c .before .before .before .before .before .before .before .before .before .loop-test .taken, c .before .before .before .before .before .before .before .before .before .before .before .before .pre .3)
+mul-places c =
+    let start-pre = c .before .before .before .before .before .before .before .before .before .before .before .before .pre in
+    let of-loop-test = c .before .before .before .before .before .before .before .before .before .loop-test in
+    omega (arith, of-loop-test .taken, start-pre .3)
 
 element-write-places : tie.Need-element-write-places Inv-loop μ-loop
-element-write-places c = omega (arith, c .before .before .before .before .before .before .before .before .before .loop-test .taken, c .before .before .before .before .before .before .before .before .before .before .before .before .pre .3)
+element-write-places c =
+    let start-pre = c .before .before .before .before .before .before .before .before .before .before .before .before .pre in
+    let of-loop-test = c .before .before .before .before .before .before .before .before .before .loop-test in
+    omega (arith, of-loop-test .taken, start-pre .3)
 
 add-at : tie.Need-add-at Inv-loop μ-loop
-add-at c = let r = room (c .before .before .before .before .before .before .before) in omega (arith, c .before .before .before .before .before .before .before .before .before .before .before .before .pre .2)
+add-at c =
+    let start-pre = c .before .before .before .before .before .before .before .before .before .before .before .before .pre in
+    let of-before = c .before .before .before .before .before .before .before in
+    let r = room (of-before) in omega (arith, start-pre .2)
 
 add-at-2 : tie.Need-add-at-2 Inv-loop μ-loop
-add-at-2 c = let r = room (c .before .before .before .before .before .before .before) in omega (arith, c .before .before .before .before .before .before .before .before .before .before .before .before .pre .2)
+add-at-2 c =
+    let start-pre = c .before .before .before .before .before .before .before .before .before .before .before .before .pre in
+    let of-before = c .before .before .before .before .before .before .before in
+    let r = room (of-before) in omega (arith, start-pre .2)
 
 add-i : tie.Need-add-i Inv-loop μ-loop
-add-i c = omega (arith, c .before .before .before .before .before .before .before .before .before .loop-test .taken, c .before .before .before .before .before .before .before .before .before .before .before .before .pre .3)
+add-i c =
+    let start-pre = c .before .before .before .before .before .before .before .before .before .before .before .before .pre in
+    let of-loop-test = c .before .before .before .before .before .before .before .before .before .loop-test in
+    omega (arith, of-loop-test .taken, start-pre .3)
 
 loop-less : tie.Need-loop-less Inv-loop μ-loop
 loop-less c = omega (arith, c .before .before .before .before .before .before .before .before .before .loop-test .taken)
@@ -107,9 +135,15 @@ loop-less c = omega (arith, c .before .before .before .before .before .before .b
 loop-again : tie.Need-loop-again Inv-loop μ-loop
 loop-again c =
     let a = c .before .before .before .before .before .before .before .before .before .before .before .before .args in
+    let start-pre = c .before .before .before .before .before .before .before .before .before .before .before .before .pre in
     let i = c .before .before .before .before .before .before .before .before .before .before .loop in
-    let told = told-image-hash (take (i .at + 7 + c .before .before .before .before .before .before .before .before .whole-length .result - (i .at + 8)) (drop (i .at + 8) (a .buf .now))) (c .before .before .before .before .before .name-hash .result) (c .before .before .before .h .given .0 .0) (c .before .before .before .before .before .name-hash .ensures) (c .before .before .before .h .given .1) in
-    plan-turn (a .buf .now) (a .end) (a .from) (a .most) (i .hashes) (i .at) (i .i) (i .inv) (c .before .before .before .before .before .before .before .before .before .before .before .before .pre .1) (c .before .before .before .before .before .before .before .before .before .before .before .before .pre .3) (c .before .before .before .before .before .before .before .before .before .loop-test .taken) (c .before .before .before .before .before .before .before .before .whole-length .result) (c .before .before .before .h .given .0 .0) (take (i .at + 7 + c .before .before .before .before .before .before .before .before .whole-length .result - (i .at + 8)) (drop (i .at + 8) (a .buf .now))) (c .before .before .before .before .before .before .before .before .whole-length .ensures .0) (c .before .before .before .before .before .before .before .if1 .left) refl (told .1) (c .before .place-of .ensures (pos-of _ (c .if2 .left)))
+    let of-loop-test = c .before .before .before .before .before .before .before .before .before .loop-test in
+    let of-whole-length = c .before .before .before .before .before .before .before .before .whole-length in
+    let of-if1 = c .before .before .before .before .before .before .before .if1 in
+    let of-name-hash = c .before .before .before .before .before .name-hash in
+    let of-h = c .before .before .before .h in
+    let told = told-image-hash (take (i .at + 7 + of-whole-length .result - (i .at + 8)) (drop (i .at + 8) (a .buf .now))) (of-name-hash .result) (of-h .given .0 .0) (of-name-hash .ensures) (of-h .given .1) in
+    plan-turn (a .buf .now) (a .end) (a .from) (a .most) (i .hashes) (i .at) (i .i) (i .inv) (start-pre .1) (start-pre .3) (of-loop-test .taken) (of-whole-length .result) (of-h .given .0 .0) (take (i .at + 7 + of-whole-length .result - (i .at + 8)) (drop (i .at + 8) (a .buf .now))) (of-whole-length .ensures .0) (of-if1 .left) refl (told .1) (c .before .place-of .ensures (pos-of _ (c .if2 .left)))
 
 returns-4 : tie.Need-returns-4 Inv-loop μ-loop
 returns-4 c = (c .before .loop .inv .few, c .before .loop .inv .sixteen, c .before .loop .inv .noted)

@@ -47,10 +47,16 @@ smaller-requires : tie.Need-smaller-requires Inv-loop μ-loop
 smaller-requires c κs = c .before .before .loop .inv .3
 
 plan-requires : tie.Need-plan-requires Inv-loop μ-loop
-plan-requires c κs = (c .before .before .before .before .before .loop .inv .0, omega (arith, c .before .before .before .before .before .loop .inv .1, c .before .before .before .before .before .before .before .before .before .pre .1), c .before .before .before .before .before .before .before .before .before .pre .2, c .before .before .smaller .ensures .1, c .before .before .before .before .before .loop .inv .2)
+plan-requires c κs =
+    let start-pre = c .before .before .before .before .before .before .before .before .before .pre in
+    let of-loop = c .before .before .before .before .before .loop in
+    (of-loop .inv .0, omega (arith, of-loop .inv .1, start-pre .1), start-pre .2, c .before .before .smaller .ensures .1, of-loop .inv .2)
 
 take-singly-requires-2 : tie.Need-take-singly-requires-2 Inv-loop μ-loop
-take-singly-requires-2 c κs = (c .before .before .before .before .before .before .before .before .loop .inv .0, omega (arith, c .before .before .before .before .before .before .before .before .loop .inv .1, c .before .before .before .before .before .before .before .before .before .before .before .before .pre .1), c .before .before .before .before .before .before .before .before .before .before .before .before .pre .2, c .before .before .before .before .before .before .before .before .before .before .before .before .pre .3)
+take-singly-requires-2 c κs =
+    let start-pre = c .before .before .before .before .before .before .before .before .before .before .before .before .pre in
+    let of-loop = c .before .before .before .before .before .before .before .before .loop in
+    (of-loop .inv .0, omega (arith, of-loop .inv .1, start-pre .1), start-pre .2, start-pre .3)
 
 same-length-2 : tie.Need-same-length-2 Inv-loop μ-loop
 same-length-2 c = search needs
@@ -62,36 +68,55 @@ look-requires : tie.Need-look-requires Inv-loop μ-loop
 look-requires c κs = search needs
 
 take-planned-requires : tie.Need-take-planned-requires Inv-loop μ-loop
-take-planned-requires c κs = (
-  c .before .before .before .before .before .before .before .before .before .before .before .before .loop .inv .0,
-  c .before .before .before .before .before .before .before .before .before .before .before .before .before .before .before .before .pre .0,
-  omega (arith, c .before .before .before .before .before .before .before .before .before .before .before .before .loop .inv .1, c .before .before .before .before .before .before .before .before .before .before .before .before .before .before .before .before .pre .1),
-  c .before .before .before .before .before .before .before .before .before .before .before .before .before .before .before .before .pre .2,
-  c .before .before .before .before .before .before .before .before .before .before .before .before .before .before .before .before .pre .3,
-  omega (arith, c .before .before .before .before .before .before .plan .ensures .0, c .before .before .before .before .before .before .before .before .before .smaller .ensures .1),
-  sym (c .before .before .before .before .before .before .before .before .before .before .before .before .before .before .links-apart .ensures) ∙ not-false _ (c .before .before .before .before .before .before .before .before .before .before .before .before .before .if1 .left),
-  c .before .before .before .before .before .before .plan .ensures .2,
-)
+take-planned-requires c κs =
+    let start-pre = c .before .before .before .before .before .before .before .before .before .before .before .before .before .before .before .before .pre in
+    let of-links-apart = c .before .before .before .before .before .before .before .before .before .before .before .before .before .before .links-apart in
+    let of-if1 = c .before .before .before .before .before .before .before .before .before .before .before .before .before .if1 in
+    let of-loop = c .before .before .before .before .before .before .before .before .before .before .before .before .loop in
+    let of-smaller = c .before .before .before .before .before .before .before .before .before .smaller in
+    let of-plan = c .before .before .before .before .before .before .plan in (
+      of-loop .inv .0,
+      start-pre .0,
+      omega (arith, of-loop .inv .1, start-pre .1),
+      start-pre .2,
+      start-pre .3,
+      omega (arith, of-plan .ensures .0, of-smaller .ensures .1),
+      sym (of-links-apart .ensures) ∙ not-false _ (of-if1 .left),
+      of-plan .ensures .2,
+    )
 
 cast-left : tie.Need-cast-left Inv-loop μ-loop
-cast-left c = omega (arith, c .before .before .before .before .before .before .before .before .before .plan .ensures .0, c .before .before .before .before .before .before .before .before .before .before .before .before .smaller .ensures .1)
+cast-left c =
+    let of-smaller = c .before .before .before .before .before .before .before .before .before .before .before .before .smaller in
+    let of-plan = c .before .before .before .before .before .before .before .before .before .plan in
+    omega (arith, of-plan .ensures .0, of-smaller .ensures .1)
 
 sub-left : tie.Need-sub-left Inv-loop μ-loop
-sub-left c = omega (arith, c .before .before .before .before .before .before .before .before .before .plan .ensures .0, c .before .before .before .before .before .before .before .before .before .before .before .before .smaller .ensures .0)
+sub-left c =
+    let of-smaller = c .before .before .before .before .before .before .before .before .before .before .before .before .smaller in
+    let of-plan = c .before .before .before .before .before .before .before .before .before .plan in
+    omega (arith, of-plan .ensures .0, of-smaller .ensures .0)
 
 loop-less : tie.Need-loop-less Inv-loop μ-loop
-loop-less c = omega (arith, c .before .before .before .before .before .before .before .before .before .plan .ensures .0, c .before .before .before .before .before .before .before .before .before .before .before .before .smaller .ensures .0, pos-of _ (c .before .before .before .before .before .before .before .before .if2 .left))
+loop-less c =
+    let of-smaller = c .before .before .before .before .before .before .before .before .before .before .before .before .smaller in
+    let of-plan = c .before .before .before .before .before .before .before .before .before .plan in
+    let of-if2 = c .before .before .before .before .before .before .before .before .if2 in
+    omega (arith, of-plan .ensures .0, of-smaller .ensures .0, pos-of _ (of-if2 .left))
 
 loop-again : tie.Need-loop-again Inv-loop μ-loop
 loop-again c =
     let a = c .before .before .before .before .before .before .before .before .before .before .before .before .before .before .before .before .before .before .before .args in
     let i = c .before .before .before .before .before .before .before .before .before .before .before .before .before .before .before .loop in
-    let m = c .before .before .before .before .before .before .before .before .before .plan .result in
-    let e : m + (i .left - m) ≡ i .left = omega (arith, c .before .before .before .before .before .before .before .before .before .plan .ensures .0, c .before .before .before .before .before .before .before .before .before .before .before .before .smaller .ensures .0) in (
+    let of-smaller = c .before .before .before .before .before .before .before .before .before .before .before .before .smaller in
+    let of-plan = c .before .before .before .before .before .before .before .before .before .plan in
+    let of-look = c .before .before .before .before .before .look in
+    let m = of-plan .result in
+    let e : m + (i .left - m) ≡ i .left = omega (arith, of-plan .ensures .0, of-smaller .ensures .0) in (
       c .before .before .take-planned .ensures .0,
       c .before .before .take-planned .kept .1 .1 .0 ∙ i .inv .1,
-      c .before .before .before .before .before .before .before .before .before .plan .ensures .1,
-      c .before .before .before .before .before .look .ensures,
+      of-plan .ensures .1,
+      of-look .ensures,
       c .before .before .take-planned .ensures .1 (i .left - m) ∙ ap (λ (k : ℕ). takenFrom (a .mode) (a .links) (a .end) k (i .at) (i .buf)) e ∙ i .inv .4,
     )
 
@@ -100,8 +125,9 @@ same-length-3 c = search needs
 
 returns-3 : tie.Need-returns-3 Inv-loop μ-loop
 returns-3 c =
+    let a = c .before .before .before .before .before .args in
     let z : c .before .loop .left ≡ 0 = omega arith in
-    from-none (c .before .before .before .before .before .args .mode) (c .before .before .before .before .before .args .links) (c .before .before .before .before .before .args .end) (c .before .loop .at) (c .before .loop .buf) _ (rw z at (c .before .loop .inv .4))
+    from-none (a .mode) (a .links) (a .end) (c .before .loop .at) (c .before .loop .buf) _ (rw z at (c .before .loop .inv .4))
 
 pub take-entries-spec : {M : Type 1} → statement M
 take-entries-spec =

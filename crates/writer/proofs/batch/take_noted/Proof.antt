@@ -42,10 +42,14 @@ same-length c = search needs
 
 returns : tie.Need-returns
 returns c =
-    let a = c .before .before .before .before .before .before .before .before .before .before .before .before .before .args in (
-      c .before .before .store-link .ensures ∙ ap₂ (λ (l : List ℕ) (i : ℕ). withLink (a .mode) l (a .links) i (a .at)) (c .before .before .before .before .before .before .store-bucket .ensures) (c .before .before .before .before .before .before .before .before .before .before .get-u32 .ensures),
-      c .before .before .before .before .before .before .before .before .get-u322 .ensures,
-      omega (arith, c .before .before .before .before .before .before .before .before .get-u322 .ok),
+    let a-2 = c .before .before .before .before .before .before .before .before .before .before .before .before .before .args in
+    let of-get-u32 = c .before .before .before .before .before .before .before .before .before .before .get-u32 in
+    let of-get-u322 = c .before .before .before .before .before .before .before .before .get-u322 in
+    let of-store-bucket = c .before .before .before .before .before .before .store-bucket in
+    let a = a-2 in (
+      c .before .before .store-link .ensures ∙ ap₂ (λ (l : List ℕ) (i : ℕ). withLink (a .mode) l (a .links) i (a .at)) (of-store-bucket .ensures) (of-get-u32 .ensures),
+      of-get-u322 .ensures,
+      omega (arith, of-get-u322 .ok),
     )
 
 pub take-noted-spec : {M : Type 1} → statement M

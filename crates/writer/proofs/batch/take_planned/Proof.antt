@@ -33,7 +33,10 @@ add-at : tie.Need-add-at Inv-loop μ-loop
 add-at c = omega (arith, c .before .before .take-noted .ensures .2)
 
 add-at-2 : tie.Need-add-at-2 Inv-loop μ-loop
-add-at-2 c = omega (arith, c .before .before .take-noted .ensures .2, c .before .before .before .before .before .before .loop .inv .inside, c .before .before .before .before .before .before .before .before .pre .3)
+add-at-2 c =
+    let start-pre = c .before .before .before .before .before .before .before .before .pre in
+    let of-loop = c .before .before .before .before .before .before .loop in
+    omega (arith, c .before .before .take-noted .ensures .2, of-loop .inv .inside, start-pre .3)
 
 add-i : tie.Need-add-i Inv-loop μ-loop
 add-i c = omega (arith, c .before .before .before .before .before .loop-test .taken, c .before .before .before .before .before .before .before .before .pre .5)
@@ -44,8 +47,10 @@ loop-less c = omega (arith, c .before .before .before .before .before .loop-test
 loop-again : tie.Need-loop-again Inv-loop μ-loop
 loop-again c =
     let a = c .before .before .before .before .before .before .before .before .args in
+    let start-pre = c .before .before .before .before .before .before .before .before .pre in
     let i = c .before .before .before .before .before .before .loop in
-    rest-turn (a .mode) (a .links) (a .end) (a .from) (a .m) (a .buf .now) (i .i) (i .at) (i .buf) (i .inv) (c .before .before .before .before .before .before .before .before .pre .2) (c .before .before .before .before .before .before .before .before .pre .1) (c .before .before .before .before .before .before .before .before .pre .6) (c .before .before .before .before .before .loop-test .taken) (a .hashes .now) (c .before .before .before .before .before .before .before .before .pre .7 (i .i) (c .before .before .before .before .before .loop-test .taken)) (getD (a .hashes .now) (i .i) 0) refl (c .before .before .take-noted .result) (c .before .before .take-noted .ensures .1) (c .before .before .take-noted .last .1 .1 .0) (c .before .before .take-noted .kept .1 .1 .0) (c .before .before .take-noted .ensures .0)
+    let of-loop-test = c .before .before .before .before .before .loop-test in
+    rest-turn (a .mode) (a .links) (a .end) (a .from) (a .m) (a .buf .now) (i .i) (i .at) (i .buf) (i .inv) (start-pre .2) (start-pre .1) (start-pre .6) (of-loop-test .taken) (a .hashes .now) (start-pre .7 (i .i) (of-loop-test .taken)) (getD (a .hashes .now) (i .i) 0) refl (c .before .before .take-noted .result) (c .before .before .take-noted .ensures .1) (c .before .before .take-noted .last .1 .1 .0) (c .before .before .take-noted .kept .1 .1 .0) (c .before .before .take-noted .ensures .0)
 
 same-length : tie.Need-same-length Inv-loop μ-loop
 same-length c = search needs

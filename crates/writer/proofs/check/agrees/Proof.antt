@@ -23,17 +23,22 @@ walk-requires : tie.Need-walk-requires
 walk-requires c κs = (c .before .before .pre .0, c .before .before .pre .1, zeros 256)
 
 returns : tie.Need-returns
-returns c = first-fails (whole (c .before .before .before .before .before .args .w .entries) (entryArea (stateWith (c .before .before .before .before .before .args .w) (c .before .before .before .before .before .args .counts .now) (c .before .before .before .before .before .args .buf .now)))) (countsAgree (c .before .before .before .before .before .args .counts .now) (recorded (stateWith (c .before .before .before .before .before .args .w) (c .before .before .before .before .before .args .counts .now) (c .before .before .before .before .before .args .buf .now)))) (eqb (c .before .before .before .before .before .args .w .back) (backIn (c .before .before .before .before .before .args .w .mode) (backSize (recorded (stateWith (c .before .before .before .before .before .args .w) (c .before .before .before .before .before .args .counts .now) (c .before .before .before .before .before .args .buf .now)))))) (sym (c .before .before .walk .ensures .0) ∙ not-true _ (c .if1 .taken))
+returns c =
+    let a = c .before .before .before .before .before .args in
+    first-fails (whole (a .w .entries) (entryArea (stateWith (a .w) (a .counts .now) (a .buf .now)))) (countsAgree (a .counts .now) (recorded (stateWith (a .w) (a .counts .now) (a .buf .now)))) (eqb (a .w .back) (backIn (a .w .mode) (backSize (recorded (stateWith (a .w) (a .counts .now) (a .buf .now)))))) (sym (c .before .before .walk .ensures .0) ∙ not-true _ (c .if1 .taken))
 
 same-counts-requires : tie.Need-same-counts-requires
 same-counts-requires c κs = search needs
 
 returns-2 : tie.Need-returns-2
 returns-2 c =
-    let w = sym (c .before .before .before .before .before .walk .ensures .0) ∙ not-false _ (c .before .before .before .if1 .left) in
-    let t = c .before .before .before .before .before .walk .ensures .1 .1 (not-false _ (c .before .before .before .if1 .left)) in
-    second-fails (whole (c .before .before .before .before .before .before .before .before .args .w .entries) (entryArea (stateWith (c .before .before .before .before .before .before .before .before .args .w) (c .before .before .before .before .before .before .before .before .args .counts .now) (c .before .before .before .before .before .before .before .before .args .buf .now)))) (countsAgree (c .before .before .before .before .before .before .before .before .args .counts .now) (recorded (stateWith (c .before .before .before .before .before .before .before .before .args .w) (c .before .before .before .before .before .before .before .before .args .counts .now) (c .before .before .before .before .before .before .before .before .args .buf .now)))) (eqb (c .before .before .before .before .before .before .before .before .args .w .back) (backIn (c .before .before .before .before .before .before .before .before .args .w .mode) (backSize (recorded (stateWith (c .before .before .before .before .before .before .before .before .args .w) (c .before .before .before .before .before .before .before .before .args .counts .now) (c .before .before .before .before .before .before .before .before .args .buf .now)))))) w
-    (sym (same-agree (c .before .before .before .before .before .before .before .before .args .counts .now) (recorded (stateWith (c .before .before .before .before .before .before .before .before .args .w) (c .before .before .before .before .before .before .before .before .args .counts .now) (c .before .before .before .before .before .before .before .before .args .buf .now))) _ t) ∙ sym (c .before .same-counts .ensures) ∙ not-true _ (c .if2 .taken))
+    let a = c .before .before .before .before .before .before .before .before .args in
+    let of-walk = c .before .before .before .before .before .walk in
+    let of-if1 = c .before .before .before .if1 in
+    let w = sym (of-walk .ensures .0) ∙ not-false _ (of-if1 .left) in
+    let t = of-walk .ensures .1 .1 (not-false _ (of-if1 .left)) in
+    second-fails (whole (a .w .entries) (entryArea (stateWith (a .w) (a .counts .now) (a .buf .now)))) (countsAgree (a .counts .now) (recorded (stateWith (a .w) (a .counts .now) (a .buf .now)))) (eqb (a .w .back) (backIn (a .w .mode) (backSize (recorded (stateWith (a .w) (a .counts .now) (a .buf .now)))))) w
+    (sym (same-agree (a .counts .now) (recorded (stateWith (a .w) (a .counts .now) (a .buf .now))) _ t) ∙ sym (c .before .same-counts .ensures) ∙ not-true _ (c .if2 .taken))
 
 cast-result : tie.Need-cast-result
 cast-result c = search needs
@@ -43,13 +48,17 @@ back-in-requires c κs = search needs
 
 returns-3 : tie.Need-returns-3
 returns-3 c =
-    let y = not-false _ (c .before .before .before .before .before .if1 .left) in
-    let w = sym (c .before .before .before .before .before .before .before .walk .ensures .0) ∙ y in
-    let t = c .before .before .before .before .before .before .before .walk .ensures .1 .1 y in
-    let k = c .before .before .before .before .before .before .before .walk .ensures .1 .0 y in
-    third-decides (whole (c .before .before .before .before .before .before .before .before .before .before .args .w .entries) (entryArea (stateWith (c .before .before .before .before .before .before .before .before .before .before .args .w) (c .before .before .before .before .before .before .before .before .before .before .args .counts .now) (c .before .before .before .before .before .before .before .before .before .before .args .buf .now)))) (countsAgree (c .before .before .before .before .before .before .before .before .before .before .args .counts .now) (recorded (stateWith (c .before .before .before .before .before .before .before .before .before .before .args .w) (c .before .before .before .before .before .before .before .before .before .before .args .counts .now) (c .before .before .before .before .before .before .before .before .before .before .args .buf .now)))) (eqb (c .before .before .before .before .before .before .before .before .before .before .args .w .back) (backIn (c .before .before .before .before .before .before .before .before .before .before .args .w .mode) (backSize (recorded (stateWith (c .before .before .before .before .before .before .before .before .before .before .args .w) (c .before .before .before .before .before .before .before .before .before .before .args .counts .now) (c .before .before .before .before .before .before .before .before .before .before .args .buf .now)))))) _ w
-    (sym (same-agree (c .before .before .before .before .before .before .before .before .before .before .args .counts .now) (recorded (stateWith (c .before .before .before .before .before .before .before .before .before .before .args .w) (c .before .before .before .before .before .before .before .before .before .before .args .counts .now) (c .before .before .before .before .before .before .before .before .before .before .args .buf .now))) _ t) ∙ sym (c .before .before .before .same-counts .ensures) ∙ not-false _ (c .before .before .if2 .left))
-    (ap (λ (n : ℕ). eqb (c .before .before .before .before .before .before .before .before .before .before .args .w .back) n) (c .back-in .ensures ∙ ap (λ (n : ℕ). backIn (c .before .before .before .before .before .before .before .before .before .before .args .w .mode) n) k))
+    let a = c .before .before .before .before .before .before .before .before .before .before .args in
+    let of-walk = c .before .before .before .before .before .before .before .walk in
+    let of-if1 = c .before .before .before .before .before .if1 in
+    let of-same-counts = c .before .before .before .same-counts in
+    let y = not-false _ (of-if1 .left) in
+    let w = sym (of-walk .ensures .0) ∙ y in
+    let t = of-walk .ensures .1 .1 y in
+    let k = of-walk .ensures .1 .0 y in
+    third-decides (whole (a .w .entries) (entryArea (stateWith (a .w) (a .counts .now) (a .buf .now)))) (countsAgree (a .counts .now) (recorded (stateWith (a .w) (a .counts .now) (a .buf .now)))) (eqb (a .w .back) (backIn (a .w .mode) (backSize (recorded (stateWith (a .w) (a .counts .now) (a .buf .now)))))) _ w
+    (sym (same-agree (a .counts .now) (recorded (stateWith (a .w) (a .counts .now) (a .buf .now))) _ t) ∙ sym (of-same-counts .ensures) ∙ not-false _ (c .before .before .if2 .left))
+    (ap (λ (n : ℕ). eqb (a .w .back) n) (c .back-in .ensures ∙ ap (λ (n : ℕ). backIn (a .w .mode) n) k))
 
 pub agrees-spec : {M : Type 1} → statement M
 agrees-spec =

@@ -37,13 +37,18 @@ slice-write-buf : tie.Need-slice-write-buf
 slice-write-buf c = search needs
 
 same-length : tie.Need-same-length
-same-length c = simp length-set (omega (arith, c .before .before .copy .kept, c .before .before .before .before .before .before .put-u322 .kept, c .before .before .before .before .before .before .before .before .before .before .put-u32 .kept))
+same-length c =
+    let of-put-u32 = c .before .before .before .before .before .before .before .before .before .before .put-u32 in
+    let of-put-u322 = c .before .before .before .before .before .before .put-u322 in
+    simp length-set (omega (arith, c .before .before .copy .kept, of-put-u322 .kept, of-put-u32 .kept))
 
 returns : tie.Need-returns
 returns c =
     let a = c .before .before .before .before .before .before .before .before .before .before .before .before .before .before .args in
-    stored-parts (a .name .now) (a .buf .now) (c .before .before .before .before .before .before .before .before .before .before .put-u32 .last .0) (c .before .before .before .before .before .before .put-u322 .last .0) (c .before .before .copy .last .0) (a .at) (a .id)
-    (c .before .before .before .before .before .before .before .before .before .before .put-u32 .ensures) (c .before .before .before .before .before .before .put-u322 .ensures) (c .before .before .copy .ensures)
+    let of-put-u32 = c .before .before .before .before .before .before .before .before .before .before .put-u32 in
+    let of-put-u322 = c .before .before .before .before .before .before .put-u322 in
+    stored-parts (a .name .now) (a .buf .now) (of-put-u32 .last .0) (of-put-u322 .last .0) (c .before .before .copy .last .0) (a .at) (a .id)
+    (of-put-u32 .ensures) (of-put-u322 .ensures) (c .before .before .copy .ensures)
 
 pub store-spec : {M : Type 1} → statement M
 store-spec =

@@ -36,7 +36,10 @@ get-u32-requires : tie.Need-get-u32-requires Inv-loop μ-loop
 get-u32-requires c κs = search needs
 
 returns : tie.Need-returns Inv-loop μ-loop
-returns c = (empty-here (λ (j : ℕ). word (c .before .before .before .before .before .args .buf .now) (c .before .before .before .before .before .args .o + 8 * j + 4)) (c .before .before .before .before .before .args .n) (c .before .before .before .loop .left) (c .before .before .before .loop .i) _ (c .before .before .loop-test .taken) (sym (c .before .get-u32 .ensures) ∙ c .if1 .taken) (c .before .before .before .loop .inv .2), c .before .before .before .loop .inv .0)
+returns c =
+    let a = c .before .before .before .before .before .args in
+    let of-loop = c .before .before .before .loop in
+    (empty-here (λ (j : ℕ). word (a .buf .now) (a .o + 8 * j + 4)) (a .n) (of-loop .left) (of-loop .i) _ (c .before .before .loop-test .taken) (sym (c .before .get-u32 .ensures) ∙ c .if1 .taken) (of-loop .inv .2), of-loop .inv .0)
 
 add-if2 : tie.Need-add-if2 Inv-loop μ-loop
 add-if2 c = omega arith
@@ -54,7 +57,8 @@ loop-again : tie.Need-loop-again Inv-loop μ-loop
 loop-again c =
     let a = c .before .before .before .before .before .before .args in
     let i = c .before .before .before .before .loop in
-    let later = empty-later (λ (j : ℕ). word (c .before .before .before .before .before .before .args .buf .now) (c .before .before .before .before .before .before .args .o + 8 * j + 4)) (a .n) (i .left) (i .i) _ (c .before .before .before .loop-test .taken) (λ z. c .before .if1 .left (c .before .before .get-u32 .ensures ∙ z)) (i .inv .2) in
+    let of-loop-test = c .before .before .before .loop-test in
+    let later = empty-later (λ (j : ℕ). word (a .buf .now) (a .o + 8 * j + 4)) (a .n) (i .left) (i .i) _ (of-loop-test .taken) (λ z. c .before .if1 .left (c .before .before .get-u32 .ensures ∙ z)) (i .inv .2) in
     ⊎-elim
     (λ w. let e : c .if2 .i ≡ next (a .n) (i .i) = w .1 ∙ next-more (a .n) (i .i) (w .0 .taken) in (omega (arith, w .0 .taken, w .1), omega arith, rw e later))
     (λ w. let e : c .if2 .i ≡ next (a .n) (i .i) = w .1 ∙ next-first (a .n) (i .i) (omega (arith, i .inv .0, w .0 .left)) in (omega (arith, w .1), omega arith, rw e later))
@@ -62,8 +66,9 @@ loop-again c =
 
 returns-2 : tie.Need-returns-2 Inv-loop μ-loop
 returns-2 c =
+    let a = c .before .before .before .args in
     let z : c .before .loop .left ≡ 0 = omega arith in
-    (empty-none (λ (j : ℕ). word (c .before .before .before .args .buf .now) (c .before .before .before .args .o + 8 * j + 4)) (c .before .before .before .args .n) (c .before .loop .i) _ (rw z at (c .before .loop .inv .2)), omega arith)
+    (empty-none (λ (j : ℕ). word (a .buf .now) (a .o + 8 * j + 4)) (a .n) (c .before .loop .i) _ (rw z at (c .before .loop .inv .2)), omega arith)
 
 pub first-empty-spec : {M : Type 1} → statement M
 first-empty-spec =

@@ -16,7 +16,9 @@ same-length : tie.Need-same-length
 same-length c = search needs
 
 returns : tie.Need-returns
-returns c = bucket-none (c .before .before .before .before .before .before .args .buf .now) (c .before .before .before .before .before .before .args .h) (c .before .before .before .before .before .before .args .at) (c .before .bucket-number .result) (c .before .bucket-number .ensures .0) (c .if1 .taken)
+returns c =
+    let a = c .before .before .before .before .before .before .args in
+    bucket-none (a .buf .now) (a .h) (a .at) (c .before .bucket-number .result) (c .before .bucket-number .ensures .0) (c .if1 .taken)
 
 cast-first-empty : tie.Need-cast-first-empty
 cast-first-empty c = search needs
@@ -56,8 +58,13 @@ same-length-2 c = search needs
 returns-2 : tie.Need-returns-2
 returns-2 c =
     let a = c .before .before .before .before .before .before .before .before .before .before .before .before .before .before .before .before .args in
-    bucket-stored (a .buf .now) (a .h) (a .at) (c .before .before .before .before .before .before .before .before .before .before .before .before .before .table-at .result) (c .before .before .before .before .before .before .before .before .before .before .before .bucket-number .result) (c .before .before .before .before .before .before .before .before .first-empty .result) (c .before .before .before .before .before .before .put-u32 .last .0) (c .before .before .put-u322 .last .0)
-    (c .before .before .before .before .before .before .before .before .before .before .before .before .before .table-at .ensures .0) (c .before .before .before .before .before .before .before .before .before .before .before .bucket-number .ensures .0) (c .before .before .before .before .before .before .before .before .before .before .if1 .left) (c .before .before .before .before .before .before .before .before .first-empty .ensures .0) (c .before .before .before .before .before .before .put-u32 .ensures) (c .before .before .put-u322 .ensures)
+    let of-table-at = c .before .before .before .before .before .before .before .before .before .before .before .before .before .table-at in
+    let of-bucket-number = c .before .before .before .before .before .before .before .before .before .before .before .bucket-number in
+    let of-if1 = c .before .before .before .before .before .before .before .before .before .before .if1 in
+    let of-first-empty = c .before .before .before .before .before .before .before .before .first-empty in
+    let of-put-u32 = c .before .before .before .before .before .before .put-u32 in
+    bucket-stored (a .buf .now) (a .h) (a .at) (of-table-at .result) (of-bucket-number .result) (of-first-empty .result) (of-put-u32 .last .0) (c .before .before .put-u322 .last .0)
+    (of-table-at .ensures .0) (of-bucket-number .ensures .0) (of-if1 .left) (of-first-empty .ensures .0) (of-put-u32 .ensures) (c .before .before .put-u322 .ensures)
 
 pub store-bucket-spec : {M : Type 1} → statement M
 store-bucket-spec =

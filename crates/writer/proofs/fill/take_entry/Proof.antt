@@ -50,9 +50,11 @@ same-length c = search needs
 
 returns : tie.Need-returns
 returns c =
-    let long = told-refused (take (c .before .before .before .before .before .before .before .before .args .at + 7 + c .before .before .before .before .before .before .before .before .args .n - (c .before .before .before .before .before .before .before .before .args .at + 8)) (drop (c .before .before .before .before .before .before .before .before .args .at + 8) (c .before .before .before .before .before .before .before .before .args .buf .now))) 0 (c .before .before .name-hash .result) (c .before .before .name-hash .ensures) (c .enum-told .given .1) in
+    let a = c .before .before .before .before .before .before .before .before .args in
+    let start-pre = c .before .before .before .before .before .before .before .before .pre in
+    let long = told-refused (take (a .at + 7 + a .n - (a .at + 8)) (drop (a .at + 8) (a .buf .now))) 0 (c .before .before .name-hash .result) (c .before .before .name-hash .ensures) (c .enum-told .given .1) in
     let l = simp length-take at long in
-    let s = c .before .before .before .before .before .before .before .before .pre .2 in
+    let s = start-pre .2 in
     absurd (omega arith)
 
 cast-store-bucket : tie.Need-cast-store-bucket
@@ -73,9 +75,14 @@ same-length-2 c = search needs
 returns-2 : tie.Need-returns-2
 returns-2 c =
     let a = c .before .before .before .before .before .before .before .before .before .before .before .before .before .before .before .before .before .args in
-    let told = told-image-hash (take (c .before .before .before .before .before .before .before .before .before .before .before .before .before .before .before .before .before .args .at + 7 + c .before .before .before .before .before .before .before .before .before .before .before .before .before .before .before .before .before .args .n - (c .before .before .before .before .before .before .before .before .before .before .before .before .before .before .before .before .before .args .at + 8)) (drop (c .before .before .before .before .before .before .before .before .before .before .before .before .before .before .before .before .before .args .at + 8) (c .before .before .before .before .before .before .before .before .before .before .before .before .before .before .before .before .before .args .buf .now))) (c .before .before .before .before .before .before .before .before .before .before .before .name-hash .result) (c .before .before .before .before .before .before .before .before .before .hashed .given .0 .0) (c .before .before .before .before .before .before .before .before .before .before .before .name-hash .ensures) (c .before .before .before .before .before .before .before .before .before .hashed .given .1) in
-    taken-parts (a .mode) (a .links) (a .buf .now) (a .at) (a .n) (c .before .before .before .before .before .before .before .before .before .before .before .before .before .before .get-u32 .result) (c .before .before .before .before .before .before .before .before .before .hashed .given .0 .0) (take (c .before .before .before .before .before .before .before .before .before .before .before .before .before .before .before .before .before .args .at + 7 + c .before .before .before .before .before .before .before .before .before .before .before .before .before .before .before .before .before .args .n - (c .before .before .before .before .before .before .before .before .before .before .before .before .before .before .before .before .before .args .at + 8)) (drop (c .before .before .before .before .before .before .before .before .before .before .before .before .before .before .before .before .before .args .at + 8) (c .before .before .before .before .before .before .before .before .before .before .before .before .before .before .before .before .before .args .buf .now))) (c .before .before .before .before .before .before .store-bucket .last .0) (c .before .before .store-link .last .1 .0)
-    (c .before .before .before .before .before .before .before .before .before .before .before .before .before .before .before .before .before .pre .1) refl (told .1) (c .before .before .before .before .before .before .before .before .before .before .before .before .before .before .get-u32 .ensures) (c .before .before .before .before .before .before .store-bucket .ensures) (c .before .before .store-link .ensures)
+    let start-pre = c .before .before .before .before .before .before .before .before .before .before .before .before .before .before .before .before .before .pre in
+    let of-get-u32 = c .before .before .before .before .before .before .before .before .before .before .before .before .before .before .get-u32 in
+    let of-name-hash = c .before .before .before .before .before .before .before .before .before .before .before .name-hash in
+    let of-hashed = c .before .before .before .before .before .before .before .before .before .hashed in
+    let of-store-bucket = c .before .before .before .before .before .before .store-bucket in
+    let told = told-image-hash (take (a .at + 7 + a .n - (a .at + 8)) (drop (a .at + 8) (a .buf .now))) (of-name-hash .result) (of-hashed .given .0 .0) (of-name-hash .ensures) (of-hashed .given .1) in
+    taken-parts (a .mode) (a .links) (a .buf .now) (a .at) (a .n) (of-get-u32 .result) (of-hashed .given .0 .0) (take (a .at + 7 + a .n - (a .at + 8)) (drop (a .at + 8) (a .buf .now))) (of-store-bucket .last .0) (c .before .before .store-link .last .1 .0)
+    (start-pre .1) refl (told .1) (of-get-u32 .ensures) (of-store-bucket .ensures) (c .before .before .store-link .ensures)
 
 pub take-entry-spec : {M : Type 1} → statement M
 take-entry-spec =

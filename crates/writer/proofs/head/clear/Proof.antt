@@ -30,7 +30,8 @@ loop-less : tie.Need-loop-less Inv-loop μ-loop
 loop-less c = omega arith
 
 loop-again : tie.Need-loop-again Inv-loop μ-loop
-loop-again c = (omega arith, simp length-set (c .before .loop .inv .1), zero-turn (c .before .loop .buf) _ (c .before .loop .i) (c .before .before .args .to) (c .loop-test .taken) (c .before .loop .inv .2))
+loop-again c =
+    (omega arith, simp length-set (c .before .loop .inv .1), zero-turn (c .before .loop .buf) _ (c .before .loop .i) (c .before .before .args .to) (c .loop-test .taken) (c .before .loop .inv .2))
 
 same-length : tie.Need-same-length Inv-loop μ-loop
 same-length c = search needs

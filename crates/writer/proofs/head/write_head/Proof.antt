@@ -31,7 +31,12 @@ same-length c = search needs
 returns : tie.Need-returns
 returns c =
     let a = c .before .before .before .before .before .before .before .before .before .before .before .before .before .before .before .before .before .before .before .before .before .before .before .before .before .args in
-    head-stored (a .buf .now) (c .before .before .before .before .before .before .before .before .before .before .before .before .before .before .before .before .before .before .before .before .before .before .put-u32 .last .0) (c .before .before .before .before .before .before .before .before .before .before .before .before .before .before .before .before .before .before .put-u322 .last .0) (c .before .before .before .before .before .before .before .before .before .before .before .before .before .before .put-u323 .last .0) (c .before .before .before .before .before .before .before .before .before .before .put-u324 .last .0) (c .before .before .before .before .before .before .put-u325 .last .0) (c .before .before .put-u326 .last .0) (a .size) (a .flag) (a .back) (a .back-at) (c .before .before .before .before .before .before .before .before .before .before .before .before .before .before .before .before .before .before .before .before .before .before .put-u32 .ensures) (c .before .before .before .before .before .before .before .before .before .before .before .before .before .before .before .before .before .before .put-u322 .ensures) (c .before .before .before .before .before .before .before .before .before .before .before .before .before .before .put-u323 .ensures) (c .before .before .before .before .before .before .before .before .before .before .put-u324 .ensures) (c .before .before .before .before .before .before .put-u325 .ensures) (c .before .before .put-u326 .ensures)
+    let of-put-u32 = c .before .before .before .before .before .before .before .before .before .before .before .before .before .before .before .before .before .before .before .before .before .before .put-u32 in
+    let of-put-u322 = c .before .before .before .before .before .before .before .before .before .before .before .before .before .before .before .before .before .before .put-u322 in
+    let of-put-u323 = c .before .before .before .before .before .before .before .before .before .before .before .before .before .before .put-u323 in
+    let of-put-u324 = c .before .before .before .before .before .before .before .before .before .before .put-u324 in
+    let of-put-u325 = c .before .before .before .before .before .before .put-u325 in
+    head-stored (a .buf .now) (of-put-u32 .last .0) (of-put-u322 .last .0) (of-put-u323 .last .0) (of-put-u324 .last .0) (of-put-u325 .last .0) (c .before .before .put-u326 .last .0) (a .size) (a .flag) (a .back) (a .back-at) (of-put-u32 .ensures) (of-put-u322 .ensures) (of-put-u323 .ensures) (of-put-u324 .ensures) (of-put-u325 .ensures) (c .before .before .put-u326 .ensures)
 
 pub write-head-spec : {M : Type 1} → statement M
 write-head-spec =

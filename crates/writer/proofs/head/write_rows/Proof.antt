@@ -17,7 +17,8 @@ use Rattle.writer.proofs.head.row_offset.Reads as row-offset-reads
 use Rattle.writer.proofs.head.wide.Reads as wide-reads
 
 abbrev Inv-loop : tie.InvT-loop
-Inv-loop buf₀ counts end o₀ t₀ buf o t = (t ≤ 256) × (length buf ≡ length buf₀) × (sets buf (24 + 8 * t) (rowsFrom counts o t (256 - t)) ≡ sets buf₀ 24 (rowsFrom counts end 0 256)) × (o ≤ 4294967296 * (1 + 16 * t))
+Inv-loop buf₀ counts end o₀ t₀ buf o t =
+    (t ≤ 256) × (length buf ≡ length buf₀) × (sets buf (24 + 8 * t) (rowsFrom counts o t (256 - t)) ≡ sets buf₀ 24 (rowsFrom counts end 0 256)) × (o ≤ 4294967296 * (1 + 16 * t))
 
 abbrev μ-loop : tie.MeasureT-loop
 μ-loop buf₀ counts end o₀ t₀ buf o t = 256 - t
@@ -68,7 +69,10 @@ mul-o : tie.Need-mul-o Inv-loop μ-loop
 mul-o c = omega (arith, c .before .before .before .before .before .before .before .before .before .before .before .wide .ensures)
 
 add-o : tie.Need-add-o Inv-loop μ-loop
-add-o c = omega (arith, c .before .before .before .before .before .before .before .before .before .before .before .wide .ensures, c .before .before .before .before .before .before .before .before .before .before .before .before .before .before .loop .inv)
+add-o c =
+    let of-loop = c .before .before .before .before .before .before .before .before .before .before .before .before .before .before .loop in
+    let of-wide = c .before .before .before .before .before .before .before .before .before .before .before .wide in
+    omega (arith, of-wide .ensures, of-loop .inv)
 
 add-t : tie.Need-add-t Inv-loop μ-loop
 add-t c = omega arith
@@ -79,12 +83,19 @@ loop-less c = omega arith
 loop-again : tie.Need-loop-again Inv-loop μ-loop
 loop-again c =
     let a = c .before .before .before .before .before .before .before .before .before .before .before .before .before .before .before .before .args in
-    let i = c .before .before .before .before .before .before .before .before .before .before .before .before .before .before .loop in (
+    let of-loop = c .before .before .before .before .before .before .before .before .before .before .before .before .before .before .loop in
+    let of-loop-test = c .before .before .before .before .before .before .before .before .before .before .before .before .before .loop-test in
+    let of-wide = c .before .before .before .before .before .before .before .before .before .before .before .wide in
+    let of-row-offset = c .before .before .before .before .before .before .before .before .before .row-offset in
+    let of-low = c .before .before .before .before .before .before .before .before .low in
+    let of-put-u32 = c .before .before .before .before .before .before .before .put-u32 in
+    let of-low2 = c .before .before .before .low2 in
+    let i = of-loop in (
       omega arith,
-      c .before .before .put-u322 .kept .0 ∙ c .before .before .before .before .before .before .before .put-u32 .kept .0 ∙ i .inv .1,
-      rows-turn (a .counts .now) (i .buf) (c .before .before .before .before .before .before .before .put-u32 .last .0) (c .before .before .put-u322 .last .0) _ (i .o) (i .t) 256 (c .before .before .before .before .before .before .before .before .low .result) (c .before .before .before .low2 .result) (c .before .before .before .before .before .before .before .before .before .before .before .wide .result) (c .before .before .before .before .before .before .before .before .before .row-offset .result)
-          (c .before .before .before .before .before .before .before .before .before .before .before .before .before .loop-test .taken) (c .before .before .before .before .before .before .before .before .before .before .before .wide .ensures .0) (c .before .before .before .before .before .before .before .before .before .row-offset .ensures) (c .before .before .before .before .before .before .before .before .low .ensures) (c .before .before .before .low2 .ensures) (c .before .before .before .before .before .before .before .put-u32 .ensures) (c .before .before .put-u322 .ensures) (i .inv .2),
-      omega (arith, c .before .before .before .before .before .before .before .before .before .before .before .wide .ensures, i .inv .3),
+      c .before .before .put-u322 .kept .0 ∙ of-put-u32 .kept .0 ∙ i .inv .1,
+      rows-turn (a .counts .now) (i .buf) (of-put-u32 .last .0) (c .before .before .put-u322 .last .0) _ (i .o) (i .t) 256 (of-low .result) (of-low2 .result) (of-wide .result) (of-row-offset .result)
+          (of-loop-test .taken) (of-wide .ensures .0) (of-row-offset .ensures) (of-low .ensures) (of-low2 .ensures) (of-put-u32 .ensures) (c .before .before .put-u322 .ensures) (i .inv .2),
+      omega (arith, of-wide .ensures, i .inv .3),
     )
 
 same-length : tie.Need-same-length Inv-loop μ-loop

@@ -23,7 +23,10 @@ add-result : tie.Need-add-result
 add-result c = search needs
 
 returns-2 : tie.Need-returns-2
-returns-2 c = linksAt-some (c .before .before .before .before .before .args .w) (c .before .before .before .back-in .result) (c .before .before .before .back-in .ensures) (c .before .before .if1 .left)
+returns-2 c =
+    let a = c .before .before .before .before .before .args in
+    let of-back-in = c .before .before .before .back-in in
+    linksAt-some (a .w) (of-back-in .result) (of-back-in .ensures) (c .before .before .if1 .left)
 
 pub back-at-spec : {M : Type 1} → statement M
 back-at-spec =

@@ -24,7 +24,9 @@ none-above-requires c κs = search needs
 returns-4 : tie.Need-returns-4
 returns-4 c =
     let a = c .before .before .before .before .before .before .before .before .args in
-    by-counts (a .w) (a .counts .now) (a .buf .now) (c .before .before .before .before .before .if1 .left) (c .before .before .before .if2 .left) (c .before .if3 .left) (c .none-above .result) (c .none-above .ensures)
+    let of-if1 = c .before .before .before .before .before .if1 in
+    let of-if2 = c .before .before .before .if2 in
+    by-counts (a .w) (a .counts .now) (a .buf .now) (of-if1 .left) (of-if2 .left) (c .before .if3 .left) (c .none-above .result) (c .none-above .ensures)
 
 pub fits-spec : {M : Type 1} → statement M
 fits-spec = tie.close (tie.spec returns returns-2 returns-3 none-above-requires returns-4)

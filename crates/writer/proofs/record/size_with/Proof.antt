@@ -36,12 +36,14 @@ add-result-4 c = search needs
 mul-result-2 : tie.Need-mul-result-2
 mul-result-2 c =
     let a = c .before .before .before .before .args in
-    omega (arith, c .before .before .back-in .ensures, backIn-le (a .w .mode) (c .before .before .before .raised .result), c .before .before .before .raised .ensures, raised-le (a .w .mode) (a .w .back) (a .id))
+    let of-raised = c .before .before .before .raised in
+    omega (arith, c .before .before .back-in .ensures, backIn-le (a .w .mode) (of-raised .result), of-raised .ensures, raised-le (a .w .mode) (a .w .back) (a .id))
 
 add-result-5 : tie.Need-add-result-5
 add-result-5 c =
     let a = c .before .before .before .before .args in
-    omega (arith, c .before .before .back-in .ensures, backIn-le (a .w .mode) (c .before .before .before .raised .result), c .before .before .before .raised .ensures, raised-le (a .w .mode) (a .w .back) (a .id))
+    let of-raised = c .before .before .before .raised in
+    omega (arith, c .before .before .back-in .ensures, backIn-le (a .w .mode) (of-raised .result), of-raised .ensures, raised-le (a .w .mode) (a .w .back) (a .id))
 
 returns : tie.Need-returns
 unfolding writerWith
