@@ -99,18 +99,25 @@ fn name(random: &mut Random) -> Vec<u8> {
 
 type Put = (Vec<u8>, u32);
 
-// The image of these puts.
+// The image of these puts. Put refuses a zero byte in a name (02 (v)), but an image that comes from elsewhere may have one: such
+// a name is put with ones for its zeros, and its own bytes are then stored in the image. A page does not ask for the hash.
 fn image(mode: u32, puts: &[Put]) -> Vec<u8> {
     let largest = puts.iter().map(|put| put.1 as usize + 1).max().unwrap_or(0);
     let mut buf = vec![0; HEAD + puts.iter().map(|put| put.0.len() + 25).sum::<usize>() + 4 * largest];
     let mut counts = [0; 256];
     let mut record = ours::begin(mode, &mut counts, &buf).record;
     for (name, id) in puts {
-        record = ours::put(record, &mut counts, &mut buf, name, *id).record;
+        let free: Vec<u8> = name.iter().map(|&b| b.max(1)).collect();
+        record = ours::put(record, &mut counts, &mut buf, &free, *id).record;
     }
     let closed = ours::close(record, &counts, &mut buf);
     assert_eq!(closed.refusal, 0, "there is room for all puts");
     buf.truncate(closed.size as usize);
+    let mut at = HEAD;
+    for (name, _) in puts {
+        buf[at + 8..at + 8 + name.len()].copy_from_slice(name);
+        at += name.len() + 9;
+    }
     buf
 }
 
