@@ -1,10 +1,11 @@
 //! Reading an image.
-use std::fmt;
 use std::iter::FusedIterator;
+use std::{fmt, io};
 
 use crate::archive::{self, StrAnswer};
+use crate::name::BStr;
 use crate::page::Page;
-use crate::refusal::{self, Refusal};
+use crate::refusal;
 
 /// What a lookup finds.
 #[derive(Clone, Copy, Debug, PartialEq, Eq)]
@@ -17,16 +18,17 @@ pub struct Found {
 
 /// An opened image.
 #[derive(Clone, Copy)]
+#[must_use = "an opened image does nothing until it is asked"]
 pub struct CQDB<'a> {
     image: &'a [u8],
     num: u32,
 }
 
 impl<'a> CQDB<'a> {
-    /// Opens an image; bytes may follow it.
-    pub fn new(image: &'a [u8]) -> Result<Self, Refusal> {
+    /// Opens an image; bytes may follow it. The error holds the [`Refusal`](crate::Refusal).
+    pub fn new(image: &'a [u8]) -> io::Result<Self> {
         let answer = archive::open(image);
-        refusal::or(answer.refusal, CQDB { image, num: answer.num })
+        Ok(refusal::or(answer.refusal, CQDB { image, num: answer.num })?)
     }
 
     /// The number of associations.
@@ -53,24 +55,24 @@ impl<'a> CQDB<'a> {
     }
 
     /// The name of an id, of its last put. A one-way image names none.
-    pub fn to_str(&self, id: u32) -> Option<&'a [u8]> {
+    pub fn to_str(&self, id: u32) -> Option<&'a BStr> {
         self.part(archive::to_str(self.image, id))
     }
 
     /// The name of an id up to its first zero byte, as a C string is read; all of it where it has none.
-    pub fn panel(&self, id: u32) -> Option<&'a [u8]> {
+    pub fn panel(&self, id: u32) -> Option<&'a BStr> {
         self.part(archive::panel(self.image, id))
     }
 
     /// Does [`panel`](CQDB::panel) give the whole name for every id? It does in every image that
-    /// [`CQDBWriter`](crate::CQDBWriter) makes.
+    /// a writer of this crate makes.
     pub fn readings_agree(&self) -> bool {
         archive::readings_agree(self.image) == 1
     }
 
-    fn part(&self, answer: StrAnswer) -> Option<&'a [u8]> {
+    fn part(&self, answer: StrAnswer) -> Option<&'a BStr> {
         let (start, len) = (answer.start as usize, answer.len as usize);
-        (answer.found == 1).then(|| &self.image[start..start + len])
+        (answer.found == 1).then(|| BStr::new(&self.image[start..start + len]))
     }
 
     /// Does the id have a name, and does some entry that the search for that name meets have this name and this id? In an
@@ -90,28 +92,55 @@ impl<'a> CQDB<'a> {
     }
 }
 
+/// The words of the head, as `{:?}` shows them.
+#[derive(Debug)]
+#[allow(dead_code)]
+struct Header {
+    chunk_id: [u8; 4],
+    size: u32,
+    flag: u32,
+    byteorder: u32,
+    bwd_size: u32,
+    bwd_offset: u32,
+}
+
 impl fmt::Debug for CQDB<'_> {
     fn fmt(&self, f: &mut fmt::Formatter<'_>) -> fmt::Result {
-        f.debug_struct("CQDB").field("len", &self.image.len()).field("num", &self.num).finish()
+        let four = |at: usize| -> [u8; 4] { self.image[at..at + 4].try_into().expect("an opened image has a head") };
+        let word = |at: usize| u32::from_le_bytes(four(at));
+        let header = Header {
+            chunk_id: four(0),
+            size: word(4),
+            flag: word(8),
+            byteorder: word(12),
+            bwd_size: word(16),
+            bwd_offset: word(20),
+        };
+        f.debug_struct("CQDB")
+            .field("header", &header)
+            .field("bwd_offset", &header.bwd_offset)
+            .field("num", &self.num)
+            .finish()
     }
 }
 
-/// A walk over the ids and names of an image.
+/// A walk over the ids and names of an image. As with cqdb-rs each step is a `Result`; it is never an error.
 #[derive(Clone, Debug)]
+#[must_use = "a walk does nothing until it is asked for its steps"]
 pub struct Iter<'a> {
     db: CQDB<'a>,
     next: u32,
 }
 
 impl<'a> Iterator for Iter<'a> {
-    type Item = (u32, &'a [u8]);
+    type Item = io::Result<(u32, &'a BStr)>;
 
     fn next(&mut self) -> Option<Self::Item> {
         let id = self.next;
         let name = self.db.to_str(id)?;
         // An id that has a name is below the back size, and so below 4,294,967,295.
         self.next += 1;
-        Some((id, name))
+        Some(Ok((id, name)))
     }
 
     fn size_hint(&self) -> (usize, Option<usize>) {
@@ -123,7 +152,7 @@ impl<'a> Iterator for Iter<'a> {
 impl FusedIterator for Iter<'_> {}
 
 impl<'a> IntoIterator for &CQDB<'a> {
-    type Item = (u32, &'a [u8]);
+    type Item = io::Result<(u32, &'a BStr)>;
     type IntoIter = Iter<'a>;
 
     fn into_iter(self) -> Iter<'a> {

@@ -31,12 +31,12 @@ macro_rules! refusals {
 
 refusals! {
     /// The image has fewer than 2,072 bytes.
-    TooShort = 1, "invalid file format, too short";
-    /// The writer's record and its buffer do not fit together. No [`CQDBWriter`](crate::CQDBWriter) gets there.
+    TooShort = 1, "invalid file format";
+    /// The writer's record and its buffer do not fit together. No writer of this crate gets there.
     Unfit = 2, "the writer does not fit its buffer";
     /// The finished image would exceed 4,294,967,295 bytes.
     NoRoom = 3, "no room: the image would be too large";
-    /// The buffer's entries are not those of the record. No [`CQDBWriter`](crate::CQDBWriter) gets there.
+    /// The buffer's entries are not those of the record. No writer of this crate gets there.
     Inconsistent = 4, "the buffer's entries are not those of the writer";
     /// The image does not begin with the letters CQDB.
     WrongLetters = 5, "invalid file format, magic mismatch";
@@ -64,6 +64,17 @@ impl Refusal {
     /// Its number, the same in all languages.
     pub fn number(self) -> u32 {
         self as u32
+    }
+
+    /// The refusal that an error holds; none where it has another cause, such as a stream that could not be written.
+    ///
+    /// ```
+    /// let error = cqdb::CQDB::new(b"CQDB").unwrap_err();
+    /// assert_eq!(cqdb::Refusal::of(&error), Some(cqdb::Refusal::TooShort));
+    /// assert_eq!(error.to_string(), "invalid file format");
+    /// ```
+    pub fn of(error: &io::Error) -> Option<Refusal> {
+        error.get_ref()?.downcast_ref().copied()
     }
 }
 

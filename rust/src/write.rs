@@ -1,7 +1,8 @@
-//! Writing an image.
+//! Writing an image in memory.
 use std::fmt;
 
 use crate::archive::{self, Counts, Record};
+use crate::flag::Flag;
 use crate::refusal::{self, Refusal};
 
 /// The head of an image, which the entries follow.
@@ -11,25 +12,38 @@ const FIRST: usize = 4_096;
 /// The size of the largest image.
 const LIMIT: u64 = 4_294_967_295;
 
-/// Does an image name ids?
-#[derive(Clone, Copy, Debug, Default, PartialEq, Eq, Hash)]
-pub enum Flag {
-    /// Two-way: names to ids and ids to names.
-    #[default]
-    NONE,
-    /// One-way: the array that names ids is left out.
-    ONEWAY,
-}
-
-/// Builds an image in memory.
+/// Builds an image in memory. [`CQDBWriter`](crate::CQDBWriter) writes one to a stream.
+///
+/// ```
+/// # fn main() -> Result<(), cqdb::Refusal> {
+/// let mut writer = cqdb::MemoryWriter::new();
+/// writer.put("north wall", 0)?;
+/// let image: Vec<u8> = writer.finish()?;
+/// assert_eq!(image.len(), 2_072 + 25 + 10 + 4);
+/// # Ok(())
+/// # }
+/// ```
+///
+/// A writer that is thrown away is a warning, and so is its image:
+///
+/// ```compile_fail
+/// #![deny(unused_must_use)]
+/// cqdb::MemoryWriter::new();
+/// ```
+///
+/// ```compile_fail
+/// #![deny(unused_must_use)]
+/// cqdb::MemoryWriter::new().finish();
+/// ```
 #[derive(Clone)]
-pub struct CQDBWriter {
+#[must_use = "a writer has to be given its names, and finish gives the image"]
+pub struct MemoryWriter {
     buffer: Vec<u8>,
     record: Record,
     counts: Counts,
 }
 
-impl CQDBWriter {
+impl MemoryWriter {
     /// A writer of a two-way image.
     pub fn new() -> Self {
         Self::with_flag(Flag::NONE)
@@ -39,9 +53,9 @@ impl CQDBWriter {
     pub fn with_flag(flag: Flag) -> Self {
         let buffer = vec![0; FIRST];
         let mut counts = [0; 256];
-        let begun = archive::begin(flag as u32, &mut counts, &buffer);
+        let begun = archive::begin(flag.bits(), &mut counts, &buffer);
         assert_eq!(begun.refusal, 0, "begin accepts every buffer of 2,072 bytes or more");
-        CQDBWriter { buffer, record: begun.record, counts }
+        MemoryWriter { buffer, record: begun.record, counts }
     }
 
     /// Puts a name, any bytes but 0, under an id. A name gives the id of its first put, and an id gives the name of its last.
@@ -94,14 +108,14 @@ impl CQDBWriter {
     }
 }
 
-impl Default for CQDBWriter {
+impl Default for MemoryWriter {
     fn default() -> Self {
         Self::new()
     }
 }
 
-impl fmt::Debug for CQDBWriter {
+impl fmt::Debug for MemoryWriter {
     fn fmt(&self, f: &mut fmt::Formatter<'_>) -> fmt::Result {
-        f.debug_struct("CQDBWriter").field("record", &self.record).finish_non_exhaustive()
+        f.debug_struct("MemoryWriter").field("record", &self.record).finish_non_exhaustive()
     }
 }
