@@ -7,7 +7,9 @@ fn main() {
     let target = ["ARCH", "OS", "POINTER_WIDTH"].map(|part| variable(&format!("CARGO_CFG_TARGET_{part}")));
     if target != ["x86_64", "linux", "64"] {
         let [arch, os, width] = target;
-        stop(&format!("the proved archive is for x86-64 Linux alone, and this build is for {arch} {os} with {width}-bit pointers"));
+        stop(&format!(
+            "the proved archive is for x86-64 Linux alone, and this build is for {arch} {os} with {width}-bit pointers"
+        ));
     }
     let folder = match env::var_os("CQDB_ARCHIVE") {
         Some(named) => of_the_caller(Path::new(&named)),

@@ -36,6 +36,12 @@ impl<'a> CQDB<'a> {
         self.num
     }
 
+    /// How many ids the back array has: the largest id that was put, plus 1. It is 0 where no id can have a name, as in a
+    /// one-way image.
+    pub fn back_size(&self) -> u32 {
+        archive::size_hint(self.image, 0)
+    }
+
     /// The id of a name, of its first put.
     pub fn to_id(&self, name: &str) -> Option<u32> {
         self.to_id_bytes(name.as_bytes())

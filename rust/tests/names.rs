@@ -1,5 +1,5 @@
 //! Names as text.
-#![allow(clippy::cmp_owned, clippy::op_ref, clippy::comparison_to_empty)]
+#![allow(clippy::cmp_owned, clippy::op_ref, clippy::comparison_to_empty, clippy::nonminimal_bool)]
 use std::collections::BTreeMap;
 
 use cqdb::BStr;
