@@ -33,7 +33,7 @@ copy-requires c κs =
     let buf = a .buf .now in
     let image = a .image .now in
     let none = sym (c .before .before .append-refusal .ensures) ∙ c .before .if1 .left in
-    passed buf (a .end) image none .room
+    omega (arith, passed buf (a .end) image none .room)
 
 same-length-2 : tie.Need-same-length-2
 same-length-2 c = search needs
