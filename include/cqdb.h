@@ -107,7 +107,9 @@ uint32_t cqdb_readings_agree(const uint8_t *image, size_t len);
    steps that a walk before the id `next` has left: back size minus next, at least 0; 0 where no back array can be read. */
 uint32_t cqdb_size_hint(const uint8_t *image, size_t len, uint32_t next);
 
-/* 1 when the id has a name and looking up that name finds this id, else 0. */
+/* 1 when the id has a name and some entry that the search for that name meets has this name and this id, else 0. For this
+   check the search goes on past an equal name until an empty bucket, a broken entry or all buckets are read. In an image of
+   cqdb_close every id that has a name is home. */
 uint32_t cqdb_home(const uint8_t *image, size_t len, uint32_t id);
 
 /* A printed catalogue, for paper. The page has a line of 45 bytes for every id below back size, in rising order:

@@ -73,7 +73,8 @@ impl<'a> CQDB<'a> {
         (answer.found == 1).then(|| &self.image[start..start + len])
     }
 
-    /// Does the id have a name whose lookup finds this id?
+    /// Does the id have a name, and does some entry that the search for that name meets have this name and this id? In an
+    /// image of a writer every id that has a name is home.
     pub fn home(&self, id: u32) -> bool {
         archive::home(self.image, id) == 1
     }

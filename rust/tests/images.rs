@@ -26,7 +26,7 @@ fn home() {
     let image = image(Flag::NONE, &[(b"A", 5), (b"A", 9)]);
     let db = CQDB::new(&image).unwrap();
     assert_eq!((db.to_id("A"), db.to_str(9)), (Some(5), Some(&b"A"[..])));
-    assert_eq!([db.home(5), db.home(9), db.home(0)], [true, false, false]);
+    assert_eq!([db.home(5), db.home(9), db.home(0)], [true, true, false]);
 }
 
 #[test]

@@ -147,7 +147,8 @@ impl Run {
         }
     }
 
-    // The last accepted put of an id; nothing exactly when there is none. Its name, looked up, gives that name's first id.
+    // The last accepted put of an id; nothing exactly when there is none. Its name, looked up, gives that name's first id; and
+    // an id is home exactly when it has a name (02 (vi)).
     fn id(&mut self, left: &Left, id: u32) {
         let ours = ours::named(&left.image, id);
         let want = last_name(&left.accepted, id);
@@ -156,8 +157,8 @@ impl Run {
             self.tally.rule(ours::panel(&left.image, id), ours::to_str(&left.image, id), || format!("the panel's reading of {id}"));
             let first = first_id(&left.accepted, name);
             self.tally.rule(ours::found_id(&left.image, name), first, || format!("the name of {id}"));
-            self.tally.rule(ours::home(&left.image, id), u32::from(first == Some(id)), || format!("home {id}"));
         }
+        self.tally.rule(ours::home(&left.image, id), u32::from(want.is_some()), || format!("home {id}"));
         if let Ok(db) = original::open(&left.image) {
             self.tally.rust(ours, db.to_str(id).map(|name| &**name), || format!("id {id}"));
         }

@@ -115,7 +115,8 @@ impl Run {
         self.tally.rule(ours, u32::from(rules::readings_agree(image)), || "the check of both readings".into());
     }
 
-    // The Rust has no home check. It is asked for the name, and for that name's id.
+    // The Rust has no home check. It is asked for the name, and for that name's id: an id that is found is home, and where
+    // nothing is found, none is. Where another id is found, the rules alone decide (02 (vi)).
     fn home(&mut self, image: &[u8], db: Option<&CQDB>, id: u32) {
         let ours = ours::home(image, id);
         self.tally.rule(ours, u32::from(rules::home(image, id)), || format!("home {id}"));
@@ -124,8 +125,10 @@ impl Run {
             Some(name) => std::str::from_utf8(name).ok().filter(|text| !rules::to_id(image, text.as_bytes()).unending),
             None => return self.tally.rust(ours, 0, || format!("home {id}")),
         };
-        if let Some(text) = text {
-            self.tally.rust(ours, u32::from(db.to_id(text) == Some(id)), || format!("home {id}"));
+        match text.map(|text| db.to_id(text)) {
+            Some(Some(found)) if found == id => self.tally.rust(ours, 1, || format!("home {id}")),
+            Some(None) => self.tally.rust(ours, 0, || format!("home {id}")),
+            _ => {}
         }
     }
 

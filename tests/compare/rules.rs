@@ -99,22 +99,28 @@ fn see(image: &[u8], name: &[u8], h: u32, bucket: usize) -> Seen {
     }
     match entry_name(image, at as u64) {
         None => Seen::Nothing,
-        Some((start, len)) if &image[start..start + len] == name => Seen::Found { id: word(image, at as usize), offset: at },
+        Some((start, len)) if &image[start..start + len] == name => {
+            Seen::Found { id: word(image, at as usize), offset: at }
+        }
         Some(_) => Seen::Pass,
     }
+}
+
+// The name's hash, and offset and bucket number of its table; none where no bucket is read.
+fn searched(image: &[u8], name: &[u8]) -> Option<(u32, u64, u64)> {
+    if image.len() < HEAD || name.len() as u64 > LONGEST {
+        return None;
+    }
+    let h = hash(name);
+    let (offset, n) = table(image, h as usize % 256);
+    let none = offset == 0 || n == 0 || table_leaves(image, (offset, n));
+    (!none).then_some((h, offset, n))
 }
 
 /// Looking up a name.
 pub fn to_id(image: &[u8], name: &[u8]) -> Lookup {
     let nothing = Lookup { id: None, buckets: 0, offset: 0, unending: false };
-    if image.len() < HEAD || name.len() as u64 > LONGEST {
-        return nothing;
-    }
-    let h = hash(name);
-    let (offset, n) = table(image, h as usize % 256);
-    if offset == 0 || n == 0 || table_leaves(image, (offset, n)) {
-        return nothing;
-    }
+    let Some((h, offset, n)) = searched(image, name) else { return nothing };
     let start = (h as u64 / 256) % n;
     for read in 0..n {
         let bucket = offset + 8 * ((start + read) % n);
@@ -159,10 +165,24 @@ pub fn upper_hint(image: &[u8], next: u32) -> u32 {
     back_size(image).saturating_sub(next as u64) as u32
 }
 
-/// The home check.
-pub fn home(image: &[u8], id: u32) -> bool {
-    match to_str(image, id) {
-        Some((start, len)) => to_id(image, &image[start..start + len]).id == Some(id),
-        None => false,
+/// 02 (vi): the ids of the entries met in a name's search that have this name. The search goes on past an equal name until an
+/// empty bucket, a broken entry or all buckets are read.
+pub fn met(image: &[u8], name: &[u8]) -> Vec<u32> {
+    let mut ids = Vec::new();
+    let Some((h, offset, n)) = searched(image, name) else { return ids };
+    for read in 0..n {
+        let bucket = offset + 8 * (((h as u64 / 256) + read) % n);
+        match see(image, name, h, bucket as usize) {
+            Seen::Pass => {}
+            Seen::Nothing => break,
+            Seen::Found { id, .. } => ids.push(id),
+        }
     }
+    ids
+}
+
+/// 02 (vi), the home check: yes exactly when the id has a name and some entry met in that name's search has this name and this
+/// id.
+pub fn home(image: &[u8], id: u32) -> bool {
+    to_str(image, id).is_some_and(|(start, len)| met(image, &image[start..start + len]).contains(&id))
 }

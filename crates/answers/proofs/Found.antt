@@ -1,4 +1,4 @@
--- Looking up a name in an image of entries: the entries of that name, the first of which is found, and how many buckets are read. Assumes nothing.
+-- Searching for a name in an image of entries: all entries of that name are met, in their order; and how many buckets a lookup reads. Assumes nothing.
 use mathlib.Core.Path.{_≡_, refl, sym, ap, _∙_}
 use mathlib.Core.Bool.{Bool, true, false, cond}
 use mathlib.Core.List.{List, [], _∷_, map, map-map}
@@ -16,12 +16,14 @@ use Rattle.image.specs.Tables.{Bucket, empty, tableOf, start, order, filled}
 use Rattle.image.specs.Image.{Entry, Placed, headSize, ofTable, inTable, count, bucketOf, bucketBytes, table, entriesBefore, tableOffset, backSize, entriesEnd, imageSize, image}
 use Rattle.image.specs.declared.Mode.{Mode}
 use Rattle.image.proofs.Sizes.{length-image}
-use Rattle.reader.specs.Lookup.{nothing, Hit, Seen, pass, hit, seeEntry, see, probe, searchTable, lookupHash, lookup}
+use Rattle.reader.specs.Lookup.{nothing, Hit, Seen, pass, hit, seeEntry, see, lookup}
+use Rattle.reader.specs.Meets.{over, meetAlong, metIn, metHash, entriesMet, firstMet}
+use Rattle.reader.proofs.Homes.{lookup-first}
 use Rattle.answers.specs.Answer.{tablePuts}
 use Rattle.image.proofs.Every.{All, all-map, all-both, all-keep, all-image, map-alike}
 use Rattle.image.proofs.Buckets.{filled-all}
-use Rattle.answers.proofs.Scan.{firstOf, Taken}
-use Rattle.answers.proofs.Order.{probe-alike}
+use Rattle.answers.proofs.Scan.{Taken}
+use Rattle.answers.proofs.Order.{meet-alike}
 use Rattle.answers.proofs.Filling.{hitsIn}
 use Rattle.answers.proofs.Searched.{look, Searched, searched-same, searched}
 use Rattle.image.proofs.At.{at-left, at-word, at-second}
@@ -32,22 +34,25 @@ use Rattle.answers.proofs.EntrySeen.{seen-entry}
 use Rattle.image.proofs.Equal.{same-true}
 use Rattle.answers.proofs.Names.{told, verdict, tellings, hits-of-name, none-tell, names-short}
 
--- an answer of nothing without a read, where nothing is to be found
-pub nothing-searched : (hs : List Hit) (m : ℕ) → hs ≡ [] → Searched hs m (nothing 0)
+-- a search without a read meets nothing, where nothing is to be found
+pub nothing-searched : (hs : List Hit) (m : ℕ) → hs ≡ [] → Searched hs m (over 0)
 nothing-searched hs m e = record {
-  finds = sym (ap firstOf e);
+  meets = sym e;
   most = omega arith;
   found-most = λ f q. let z : _≡_ {A = ℕ} 0 1 = cc in omega arith;
 }
 
 -- a name that is too long for a hash, in any bytes
-pub lookup-long : (image name : List ℕ) → 4294967295 ≤ length name → lookup image name ≡ nothing 0
-unfolding lookup
-lookup-long image name h = rw (le-leb 4294967295 (length name) h) (go (ltb (length image) headSize))
+met-long : (image name : List ℕ) → 4294967295 ≤ length name → entriesMet image name ≡ over 0
+unfolding entriesMet
+met-long image name h = rw (le-leb 4294967295 (length name) h) (go (ltb (length image) headSize))
   where
-    go : (b : Bool) → cond b (nothing 0) (nothing 0) ≡ nothing 0
+    go : (b : Bool) → cond b (over 0) (over 0) ≡ over 0
     go true = refl
     go false = refl
+
+pub lookup-long : (image name : List ℕ) → 4294967295 ≤ length name → lookup image name ≡ nothing 0
+lookup-long image name h = lookup-first image name ∙ ap firstMet (met-long image name h)
 
 module _ (mode : Mode) (es : List Entry) (fits : imageSize mode es ≤ 4294967295) (ids : backSize es ≤ 2 ^ 32) (name : List ℕ) where
   small : length (image mode es) ≤ 4294967295
@@ -141,16 +146,16 @@ module _ (mode : Mode) (es : List Entry) (fits : imageSize mode es ≤ 429496729
 
   -- each bucket is seen as the table has it
   search-alike : 0 < count (tableOf (hashOf name)) (placedIn es)
-      → searchTable (image mode es) name (hashOf name) at n
-      ≡ probe (λ (k : ℕ). look (hashOf name) v (getD (filled n (map bucketOf qs)) k empty)) (order n n (start (hashOf name) n)) 0
-  unfolding searchTable table n qs
+      → metIn (image mode es) name (hashOf name) at n
+      ≡ meetAlong (λ (k : ℕ). look (hashOf name) v (getD (filled n (map bucketOf qs)) k empty)) (order n n (start (hashOf name) n)) 0
+  unfolding metIn table n qs
   search-alike some-entry =
-      probe-alike (λ (k : ℕ). see (image mode es) name (hashOf name) (at + 8 * k))
+      meet-alike (λ (k : ℕ). see (image mode es) name (hashOf name) (at + 8 * k))
       (λ (k : ℕ). look (hashOf name) v (getD (table (tableOf (hashOf name)) (placedIn es)) k empty))
       n seen-bucket n (start (hashOf name) n) 0 (mod-lt (hashOf name / 256) (omega arith))
 
   in-table : 0 < count (tableOf (hashOf name)) (placedIn es)
-      → Searched (tellings name headSize es) (tablePuts name es) (searchTable (image mode es) name (hashOf name) at n)
+      → Searched (tellings name headSize es) (tablePuts name es) (metIn (image mode es) name (hashOf name) at n)
   unfolding n tablePuts
   in-table some-entry =
       searched-same name-hits length-qs (sym (search-alike some-entry))
@@ -166,8 +171,8 @@ module _ (mode : Mode) (es : List Entry) (fits : imageSize mode es ≤ 429496729
       go (p ∷ ps) z = absurd (omega arith)
 
   by-count : (b : Bool) → eqb (count (tableOf (hashOf name)) (placedIn es)) 0 ≡ b
-      → Searched (tellings name headSize es) (tablePuts name es) (lookupHash (image mode es) name (hashOf name))
-  unfolding lookupHash tableOffset at n
+      → Searched (tellings name headSize es) (tablePuts name es) (metHash (image mode es) name (hashOf name))
+  unfolding metHash tableOffset at n
   by-count true e =
       rw (tableAt-image mode es fits (tableOf (hashOf name)) t-below, e)
       (nothing-searched (tellings name headSize es) (tablePuts name es) (no-entry (eqb-true (count (tableOf (hashOf name)) (placedIn es)) 0 e)))
@@ -183,17 +188,17 @@ module _ (mode : Mode) (es : List Entry) (fits : imageSize mode es ≤ 429496729
       )
       (in-table c)
 
-  pub lookup-searched : Searched (tellings name headSize es) (tablePuts name es) (lookup (image mode es) name)
-  unfolding lookup
-  lookup-searched = go (decLt (length name) 4294967295)
+  pub met-searched : Searched (tellings name headSize es) (tablePuts name es) (entriesMet (image mode es) name)
+  unfolding entriesMet
+  met-searched = go (decLt (length name) 4294967295)
     where
       long : 4294967295 ≤ length name → tellings name headSize es ≡ []
       long l = none-tell name headSize es (all-map (λ e q. omega arith) es (names-short 4294967295 es (omega arith)))
 
-      go : Dec (length name < 4294967295) → Searched (tellings name headSize es) (tablePuts name es) (lookup (image mode es) name)
+      go : Dec (length name < 4294967295) → Searched (tellings name headSize es) (tablePuts name es) (entriesMet (image mode es) name)
       go (yes l) =
           rw (long-enough mode es fits, lt-leb 4294967295 (length name) l)
           (by-count (eqb (count (tableOf (hashOf name)) (placedIn es)) 0) refl)
       go (no l) =
           let m : 4294967295 ≤ length name = omega arith in
-          rw (lookup-long (image mode es) name m) (nothing-searched (tellings name headSize es) (tablePuts name es) (long m))
+          rw (met-long (image mode es) name m) (nothing-searched (tellings name headSize es) (tablePuts name es) (long m))

@@ -1,7 +1,8 @@
 -- What reading answers on the image of a list of entries: the theorems for the crates above (demand 3, on entries). Assumes nothing.
 use mathlib.Core.Path.{_≡_, refl, sym, ap, _∙_}
 use mathlib.Core.List.{List, [], _∷_}
-use mathlib.Core.Option.{Option, Option·map, none}
+use mathlib.Core.Bool.{true}
+use mathlib.Core.Option.{Option, Option·map, none, some}
 use mathlib.Core.Logic.{_↔_}
 use Prim.Native.Nat.{ℕ, _+_, _^_, _≤_}
 use native.Mathlib.Omega.{arith}
@@ -16,9 +17,11 @@ use Rattle.reader.specs.declared.Found.{Found}
 use Rattle.answers.specs.Answer.{foundId, foundOffset, nameGiven, ofName, ofId, tablePuts, firstId, lastName, firstAt}
 use Rattle.reader.specs.Cases.{reads}
 use Rattle.answers.proofs.Opened.{opening-image}
-use Rattle.answers.proofs.Scan.{foundHit}
-use Rattle.answers.proofs.Names.{idIn, offsetIn, first-id, first-at}
-use Rattle.answers.proofs.Found.{lookup-long, lookup-searched}
+use Rattle.reader.proofs.Homes.{lookup-first}
+use Rattle.reader.specs.Meets.{entriesMet, someMet}
+use Rattle.answers.proofs.Scan.{firstOf, foundHit, first-hit}
+use Rattle.answers.proofs.Names.{tellings, idIn, offsetIn, first-id, first-at, someId, some-met, named-told}
+use Rattle.answers.proofs.Found.{lookup-long, met-searched}
 use Rattle.answers.proofs.Named.{naming-image}
 
 -- ---- nothing is first or last of an empty list alone
@@ -56,15 +59,22 @@ module _ (mode : Mode) (es : List Entry) (fits : imageSize mode es ≤ 429496729
 
   -- every id is a word where the back size, the largest id plus 1, is at most 2 ^ 32
   module _ (ids : backSize es ≤ 2 ^ 32) (name : List ℕ) where
+    -- what is found is the first entry of the name
+    found-first : foundHit (lookup (image mode es) name) ≡ firstOf (tellings name headSize es)
+    found-first =
+        ap foundHit (lookup-first (image mode es) name)
+        ∙ first-hit (entriesMet (image mode es) name)
+        ∙ ap firstOf (met-searched mode es fits ids name .meets)
+
     -- a name gives the id of its first entry, and nothing exactly when none has it
     pub name-gives : foundId (lookup (image mode es) name) ≡ firstId (ofName name es)
     name-gives =
-        hit-id (lookup (image mode es) name) ∙ ap (Option·map idIn) (lookup-searched mode es fits ids name .finds) ∙ first-id name headSize es
+        hit-id (lookup (image mode es) name) ∙ ap (Option·map idIn) found-first ∙ first-id name headSize es
 
     -- 02 (ii): the found offset is the place of that entry
     pub name-stands : foundOffset (lookup (image mode es) name) ≡ firstAt name headSize es
     name-stands =
-        hit-offset (lookup (image mode es) name) ∙ ap (Option·map offsetIn) (lookup-searched mode es fits ids name .finds) ∙ first-at name headSize es
+        hit-offset (lookup (image mode es) name) ∙ ap (Option·map offsetIn) found-first ∙ first-at name headSize es
 
     pub name-nothing : (foundId (lookup (image mode es) name) ≡ none) ↔ (ofName name es ≡ [])
     name-nothing =
@@ -72,10 +82,17 @@ module _ (mode : Mode) (es : List Entry) (fits : imageSize mode es ≤ 429496729
 
     -- buckets read: at most one more than the entries of the name's table, and no more than those when it is found
     pub name-reads : reads (lookup (image mode es) name) ≤ tablePuts name es + 1
-    name-reads = lookup-searched mode es fits ids name .most
+    name-reads = rw (lookup-first (image mode es) name) (met-searched mode es fits ids name .most)
 
     pub found-reads : (f : Found) → lookup (image mode es) name ≡ found f → f .buckets ≤ tablePuts name es
-    found-reads = lookup-searched mode es fits ids name .found-most
+    found-reads f e = met-searched mode es fits ids name .found-most f (sym (lookup-first (image mode es) name) ∙ e)
+
+    -- 02 (vi): the search for the name that an id's last entry has meets that entry
+    pub last-met : (id : ℕ) → lastName (ofId id es) ≡ some name → someMet id (entriesMet (image mode es) name) ≡ true
+    last-met id h =
+        some-met id (entriesMet (image mode es) name)
+        ∙ ap (someId id) (met-searched mode es fits ids name .meets)
+        ∙ named-told id name headSize es h
 
 -- a name that is too long for a hash reads no bucket, whatever the bytes
 pub long-reads : (bytes name : List ℕ) → 4294967295 ≤ length name → lookup bytes name ≡ nothing 0

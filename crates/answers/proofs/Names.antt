@@ -1,6 +1,6 @@
 -- The entries of a name, of its table and of an id: among the entries alone, and where they stand. Assumes nothing.
 use mathlib.Core.Path.{_≡_, refl, ap, _∙_}
-use mathlib.Core.Bool.{Bool, true, false, cond}
+use mathlib.Core.Bool.{Bool, true, false, cond, _||_}
 use mathlib.Core.List.{List, [], _∷_, map}
 use mathlib.Core.Option.{Option, Option·map, none, some}
 use Prim.Native.Nat.{ℕ, _+_, _≤_, _<_}
@@ -11,12 +11,13 @@ use lib.ListN.{length}
 use Rattle.jhash.specs.NameHash.{hashOf}
 use Rattle.image.specs.Bytes.{keep, same}
 use Rattle.image.specs.Tables.{tableOf}
-use Rattle.image.specs.Image.{Entry, Placed, entrySize, entriesSize, placed, inTable, ofTable}
+use Rattle.image.specs.Image.{Entry, Placed, entrySize, entriesSize, placed, inTable, ofTable, hasId}
 use Rattle.reader.specs.Lookup.{Hit, Seen, pass, hit}
-use Rattle.answers.specs.Answer.{hasName, ofName, firstId, firstAt}
+use Rattle.reader.specs.Meets.{Met, met, over, someMet}
+use Rattle.answers.specs.Answer.{hasName, ofName, ofId, firstId, lastName, firstAt}
 use Rattle.image.proofs.Every.{All}
-use Rattle.image.proofs.Equal.{same-true, same-false}
-use Rattle.answers.proofs.Scan.{firstOf}
+use Rattle.image.proofs.Equal.{same-self, same-true, same-false}
+use Rattle.answers.proofs.Scan.{firstOf, metHits}
 use Rattle.answers.proofs.Filling.{hitsIn}
 
 -- ---- the entries of a name
@@ -89,7 +90,48 @@ first-at name o (e ∷ es) = go (hasName name e) (tellings name (o + entrySize e
     go true T ih = refl
     go false T ih = ih
 
--- no entry has a name that is longer than each of theirs
+-- ---- an entry of the name with this id
+
+abbrev pub someId : ℕ → List Hit → Bool
+someId id [] = false
+someId id (t ∷ ts) = eqb (t .id) id || someId id ts
+
+pub some-met : (id : ℕ) (m : Met) → someMet id m ≡ someId id (metHits m)
+some-met id (met f rest) = ap (λ (b : Bool). eqb (f .id) id || b) (some-met id rest)
+some-met id (over r) = refl
+
+or-true : (a b : Bool) → b ≡ true → (a || b) ≡ true
+or-true true b e = refl
+or-true false b e = e
+
+-- an id's last entry is one of the entries of the name that it has
+pub named-told : (id : ℕ) (name : List ℕ) (o : ℕ) (es : List Entry) → lastName (ofId id es) ≡ some name → someId id (tellings name o es) ≡ true
+unfolding tellings ofId keep
+named-told id name o [] h = let z : _≡_ {A = ℕ} 0 1 = cc in absurd (omega arith)
+named-told id name o (e ∷ es) h = by-id (hasId id e) refl (named-told id name (o + entrySize e) es) h
+  where
+    T : List Hit
+    T = tellings name (o + entrySize e) es
+
+    later : (s : Bool) → someId id T ≡ true → someId id (cond s (told (record { entry = e; at = o }) ∷ T) T) ≡ true
+    later true i = or-true (eqb (e .id) id) (someId id T) i
+    later false i = i
+
+    this : hasId id e ≡ true → e .name ≡ name → someId id (cond (hasName name e) (told (record { entry = e; at = o }) ∷ T) T) ≡ true
+    this p q = rw (ap (λ (l : List ℕ). same l name) q ∙ same-self name, p)
+
+    last : (fs : List Entry) → keep (hasId id) es ≡ fs → hasId id e ≡ true → (lastName (keep (hasId id) es) ≡ some name → someId id T ≡ true)
+        → lastName (e ∷ fs) ≡ some name → someId id (cond (hasName name e) (told (record { entry = e; at = o }) ∷ T) T) ≡ true
+    last [] k p rest h = this p cc
+    last (f ∷ fs) k p rest h = later (hasName name e) (rest (ap lastName k ∙ h))
+
+    by-id : (b : Bool) → hasId id e ≡ b → (lastName (keep (hasId id) es) ≡ some name → someId id T ≡ true)
+        → lastName (cond b (e ∷ keep (hasId id) es) (keep (hasId id) es)) ≡ some name
+        → someId id (cond (hasName name e) (told (record { entry = e; at = o }) ∷ T) T) ≡ true
+    by-id true p rest h = last (keep (hasId id) es) refl p rest h
+    by-id false p rest h = later (hasName name e) (rest h)
+
+-- ---- no entry has a name that is longer than each of theirs
 pub none-tell : (name : List ℕ) (o : ℕ) (es : List Entry) → All (λ (e : Entry). length (e .name) < length name) es → tellings name o es ≡ []
 unfolding tellings
 none-tell name o [] all = refl

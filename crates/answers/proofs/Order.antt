@@ -9,7 +9,8 @@ use native.Mathlib.Omega.{arith}
 use lib.ListN.{length, getD, set, length-set, length-map}
 use lib.Seq.{ext-getD, getD-set-same, getD-set-other}
 use Rattle.image.specs.Tables.{Bucket, empty, next, order}
-use Rattle.reader.specs.Lookup.{Seen, pass, probe}
+use Rattle.reader.specs.Lookup.{Seen, pass}
+use Rattle.reader.specs.Meets.{meetAlong}
 
 -- ---- the buckets in search order
 
@@ -28,12 +29,12 @@ order-at n (suc m) k (suc j) h i =
     ∙ mod-add-mod (k + 1) n j
     ∙ ap (λ (x : ℕ). x % n) e
 
--- two searches that see the same in each bucket answer alike
-pub probe-alike : (f g : ℕ → Seen) (n : ℕ) → ((k : ℕ) → k < n → f k ≡ g k) → (m k r : ℕ) → k < n → probe f (order n m k) r ≡ probe g (order n m k) r
-unfolding order probe
-probe-alike f g n same zero k r h = refl
-probe-alike f g n same (suc m) k r h =
-    rw (same k h, probe-alike f g n same m (next n k) (r + 1) (mod-lt (k + 1) (omega arith)))
+-- two searches that see the same in each bucket meet the same
+pub meet-alike : (f g : ℕ → Seen) (n : ℕ) → ((k : ℕ) → k < n → f k ≡ g k) → (m k r : ℕ) → k < n → meetAlong f (order n m k) r ≡ meetAlong g (order n m k) r
+unfolding order meetAlong
+meet-alike f g n same zero k r h = refl
+meet-alike f g n same (suc m) k r h =
+    rw (same k h, meet-alike f g n same m (next n k) (r + 1) (mod-lt (k + 1) (omega arith)))
 
 -- ---- each bucket once
 

@@ -6,20 +6,21 @@ use mathlib.Core.Option.{Option, none, some}
 use Prim.Native.Nat.{ℕ, zero, suc, _+_, _≤_, _<_}
 use native.Mathlib.Omega.{arith}
 use lib.ListN.{length, getD, set}
-use Rattle.reader.specs.Lookup.{Lookup, found, nothing, Hit, Seen, pass, ends, hit, decide, probe}
+use Rattle.reader.specs.Lookup.{Lookup, found, nothing, Hit, Seen, pass, ends, hit}
+use Rattle.reader.specs.Meets.{Met, met, over, meet, meetAlong, firstMet}
 use Rattle.reader.specs.declared.Found.{Found}
 use Rattle.reader.specs.Cases.{reads}
 
 -- ---- the search along a list
 
-unfoldable pub scan : List Seen → ℕ → Lookup
-scan [] r = nothing r
-scan (x ∷ w) r = decide x (r + 1) (scan w (r + 1))
+unfoldable pub scan : List Seen → ℕ → Met
+scan [] r = over r
+scan (x ∷ w) r = meet x (r + 1) (scan w (r + 1))
 
-pub probe-scan : (look : ℕ → Seen) (ks : List ℕ) (r : ℕ) → probe look ks r ≡ scan (map look ks) r
-unfolding probe scan
-probe-scan look [] r = refl
-probe-scan look (k ∷ ks) r = ap (decide (look k) (r + 1)) (probe-scan look ks (r + 1))
+pub meet-scan : (look : ℕ → Seen) (ks : List ℕ) (r : ℕ) → meetAlong look ks r ≡ scan (map look ks) r
+unfolding meetAlong scan
+meet-scan look [] r = refl
+meet-scan look (k ∷ ks) r = ap (meet (look k) (r + 1)) (meet-scan look ks (r + 1))
 
 -- the hits before the first empty bucket
 abbrev pub hits : List Seen → List Hit
@@ -28,13 +29,21 @@ hits (pass ∷ w) = hits w
 hits (ends ∷ w) = []
 hits (hit told ∷ w) = told ∷ hits w
 
+-- what the entries tell that a search meets
+abbrev hitAs : Found → Hit
+hitAs f = record { id = f .id; offset = f .offset }
+
+abbrev pub metHits : Met → List Hit
+metHits (met f rest) = hitAs f ∷ metHits rest
+metHits (over r) = []
+
 -- the first of them, and what a search that finds tells of its entry
 abbrev pub firstOf : List Hit → Option Hit
 firstOf [] = none
 firstOf (told ∷ more) = some told
 
 abbrev pub foundHit : Lookup → Option Hit
-foundHit (found f) = some (record { id = f .id; offset = f .offset })
+foundHit (found f) = some (hitAs f)
 foundHit (nothing reads) = none
 
 -- the buckets that are not empty
@@ -44,14 +53,18 @@ used (pass ∷ w) = suc (used w)
 used (ends ∷ w) = used w
 used (hit told ∷ w) = suc (used w)
 
-pub scan-first : (w : List Seen) (r : ℕ) → foundHit (scan w r) ≡ firstOf (hits w)
-unfolding scan
-scan-first [] r = refl
-scan-first (pass ∷ w) r = scan-first w (r + 1)
-scan-first (ends ∷ w) r = refl
-scan-first (hit told ∷ w) r = refl
+pub first-hit : (m : Met) → foundHit (firstMet m) ≡ firstOf (metHits m)
+first-hit (met f rest) = refl
+first-hit (over r) = refl
 
-pub scan-reads : (w : List Seen) (r : ℕ) → reads (scan w r) ≤ r + used w + 1
+pub scan-hits : (w : List Seen) (r : ℕ) → metHits (scan w r) ≡ hits w
+unfolding scan
+scan-hits [] r = refl
+scan-hits (pass ∷ w) r = scan-hits w (r + 1)
+scan-hits (ends ∷ w) r = refl
+scan-hits (hit told ∷ w) r = ap (λ (l : List Hit). told ∷ l) (scan-hits w (r + 1))
+
+pub scan-reads : (w : List Seen) (r : ℕ) → reads (firstMet (scan w r)) ≤ r + used w + 1
 unfolding scan
 scan-reads [] r = omega arith
 scan-reads (pass ∷ w) r = omega (arith, scan-reads w (r + 1))
@@ -59,7 +72,7 @@ scan-reads (ends ∷ w) r = omega arith
 scan-reads (hit told ∷ w) r = omega arith
 
 -- a search that finds has met no empty bucket
-pub scan-found : (w : List Seen) (r : ℕ) (f : Found) → scan w r ≡ found f → f .buckets ≤ r + used w
+pub scan-found : (w : List Seen) (r : ℕ) (f : Found) → firstMet (scan w r) ≡ found f → f .buckets ≤ r + used w
 unfolding scan
 scan-found [] r f e = let z : _≡_ {A = ℕ} 0 1 = cc in omega arith
 scan-found (pass ∷ w) r f e = omega (arith, scan-found w (r + 1) f e)

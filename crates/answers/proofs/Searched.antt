@@ -1,5 +1,5 @@
 -- A search in a filled table meets the entries, in the order in which the table took them, whose hash is the one sought and whose offset has a
--- hit, and finds the first of them; it reads at most one bucket more than there are entries, and no more than there are when it finds one. Assumes nothing.
+-- hit; a lookup, which finds the first of them, reads at most one bucket more than there are entries, and no more than there are when it finds one. Assumes nothing.
 use mathlib.Core.Path.{_≡_, refl, sym, ap, _∙_, fun-ext}
 use mathlib.Core.Bool.{Bool, true, false, cond}
 use mathlib.Core.List.{List, map}
@@ -12,12 +12,13 @@ use borrow.Author.Tests.{eq-eqb, ne-eqb}
 use lib.Dec.{eqb}
 use lib.ListN.{length, getD}
 use Rattle.image.specs.Tables.{Bucket, empty, start, order, filled}
-use Rattle.reader.specs.Lookup.{Lookup, found, Hit, Seen, pass, ends, hit, probe}
+use Rattle.reader.specs.Lookup.{found, Hit, Seen, pass, ends, hit}
+use Rattle.reader.specs.Meets.{Met, meetAlong, firstMet}
 use Rattle.reader.specs.declared.Found.{Found}
 use Rattle.reader.specs.Cases.{reads}
 use Rattle.image.proofs.Every.{All, all-map, map-alike}
 use Rattle.image.proofs.Buckets.{filled-all}
-use Rattle.answers.proofs.Scan.{probe-scan, scan-first, scan-reads, scan-found, hits, firstOf, foundHit, used, Taken}
+use Rattle.answers.proofs.Scan.{meet-scan, scan-hits, scan-reads, scan-found, hits, metHits, used, Taken}
 use Rattle.answers.proofs.Order.{view}
 use Rattle.answers.proofs.Filling.{hitsIn, Sees}
 use Rattle.answers.proofs.Table.{Apart, NotEmpty, filled-holds, filled-hits}
@@ -74,13 +75,13 @@ module _ (h : ℕ) (v : ℕ → Seen) where
 
 -- ---- the search
 
--- an answer: the first of the hits, and how many buckets were read in a table of m entries
-pub record Searched (hs : List Hit) (m : ℕ) (l : Lookup) : Type 0 where
-  pub finds : foundHit l ≡ firstOf hs
-  pub most : reads l ≤ m + 1
-  pub found-most : (f : Found) → l ≡ found f → f .buckets ≤ m
+-- what a search meets: the hits, and how many buckets a lookup reads in a table of m entries
+pub record Searched (hs : List Hit) (m : ℕ) (x : Met) : Type 0 where
+  pub meets : metHits x ≡ hs
+  pub most : reads (firstMet x) ≤ m + 1
+  pub found-most : (f : Found) → firstMet x ≡ found f → f .buckets ≤ m
 
-pub searched-same : {a b : List Hit} {m n : ℕ} {k l : Lookup} → a ≡ b → m ≡ n → k ≡ l → Searched a m k → Searched b n l
+pub searched-same : {a b : List Hit} {m n : ℕ} {k l : Met} → a ≡ b → m ≡ n → k ≡ l → Searched a m k → Searched b n l
 searched-same {a} {b} {m} {n} {k} {l} p q r s = rw (p, q, r) at s
 
 module _ (n h : ℕ) (v : ℕ → Seen) (bs : List Bucket) (some-bucket : 0 < n) (room : length bs ≤ n)
@@ -120,12 +121,12 @@ module _ (n h : ℕ) (v : ℕ → Seen) (bs : List Bucket) (some-bucket : 0 < n)
       ∙ filled-hits f (look-sees h settled-at (λ o. settle-taken (v o))) n (start h n) inside (look-apart h settled-at n) bs room full
       ∙ ap hitsIn (map-alike f (look h v) (settled h v) bs each)
 
-  pub searched : Searched (hitsIn (map (look h v) bs)) (length bs) (probe (λ (k : ℕ). look h v (getD (filled n bs) k empty)) (order n n (start h n)) 0)
+  pub searched : Searched (hitsIn (map (look h v) bs)) (length bs) (meetAlong (λ (k : ℕ). look h v (getD (filled n bs) k empty)) (order n n (start h n)) 0)
   unfolding seen
   searched =
-      rw (probe-scan (λ (k : ℕ). look h v (getD (filled n bs) k empty)) (order n n (start h n)) 0)
+      rw (meet-scan (λ (k : ℕ). look h v (getD (filled n bs) k empty)) (order n n (start h n)) 0)
       record {
-        finds = scan-first seen 0 ∙ ap firstOf seen-hits;
+        meets = scan-hits seen 0 ∙ seen-hits;
         most = omega (arith, scan-reads seen 0, seen-used);
         found-most = λ f e. omega (arith, scan-found seen 0 f e, seen-used);
       }

@@ -1,8 +1,8 @@
 -- What follows from naming and lookup: the part that is a name, the steps of a walk, its upper hint, and home. Assumes nothing.
-use mathlib.Core.Path.{_≡_, refl, ap, _∙_}
+use mathlib.Core.Path.{_≡_, refl, sym, ap, _∙_}
 use mathlib.Core.Bool.{Bool, true, false, cond, _||_}
 use mathlib.Core.List.{List}
-use mathlib.Core.Option.{Option, Option·map, Option·getD}
+use mathlib.Core.Option.{Option, some, Option·map, Option·getD}
 use Prim.Native.Nat.{ℕ, _+_, _*_, _-_, _≤_}
 use native.Mathlib.Omega.{arith}
 use borrow.Author.Tests.{eqb-true, eqb-false, ne-eqb}
@@ -10,11 +10,11 @@ use lib.Dec.{eqb}
 use lib.ListN.{length, take, drop}
 use Rattle.image.specs.Image.{Entry, backSizeOf, backOffset, entriesEnd, imageSize, image}
 use Rattle.image.specs.declared.Mode.{Mode}
-use Rattle.reader.specs.Lookup.{Lookup, found, nothing, lookup}
+use Rattle.reader.specs.Meets.{entriesMet, someMet}
 use Rattle.reader.specs.Slices.{Slice}
 use Rattle.reader.specs.Naming.{Naming, place, unnamed, partOr, nameOr, naming}
-use Rattle.reader.specs.Walk.{stepOf, step, upperHint, finds, homeBy, home}
-use Rattle.answers.specs.Answer.{foundId, heldAt, nameGiven, stepGiven, ofName, firstId, isId, homeNamed}
+use Rattle.reader.specs.Walk.{stepOf, step, upperHint, homeBy, home}
+use Rattle.answers.specs.Answer.{heldAt, nameGiven, stepGiven, isNamed}
 use Rattle.answers.proofs.Opened.{backSizeAt-image, backOffsetAt-image, long-enough, back-inside}
 
 -- ---- in any bytes, by what an id gives
@@ -37,19 +37,17 @@ module _ (img : List ℕ) (id : ℕ) where
   unfolding step
   step-given given h = step-held (naming img id) ∙ ap (Option·map (λ (name : List ℕ). record { name = name; id = id })) h
 
-  found-is : (l : Lookup) → finds id l ≡ isId id (foundId l)
-  found-is (found f) = refl
-  found-is (nothing r) = refl
+  -- the search for a name that is held meets an entry with this id
+  abbrev MetIf : Option (List ℕ) → Type 0
+  MetIf given = (name : List ℕ) → given ≡ some name → someMet id (entriesMet img name) ≡ true
 
-  module _ (es : List Entry) (names : (name : List ℕ) → foundId (lookup img name) ≡ firstId (ofName name es)) where
-    home-held : (p : Naming) → homeBy img id p ≡ homeNamed es id (heldAt img p)
-    home-held (place s n) =
-        found-is (lookup img (take n (drop s img))) ∙ ap (isId id) (names (take n (drop s img)))
-    home-held unnamed = refl
+  home-held : (p : Naming) → MetIf (heldAt img p) → homeBy img id p ≡ isNamed (heldAt img p)
+  home-held (place s n) meets = meets (take n (drop s img)) refl
+  home-held unnamed meets = refl
 
-    pub home-given : (given : Option (List ℕ)) → nameGiven img id ≡ given → home img id ≡ homeNamed es id given
-    unfolding home
-    home-given given h = home-held (naming img id) ∙ ap (homeNamed es id) h
+  pub home-given : (given : Option (List ℕ)) → nameGiven img id ≡ given → MetIf given → home img id ≡ isNamed given
+  unfolding home
+  home-given given h meets = home-held (naming img id) (λ name e. meets name (sym h ∙ e)) ∙ ap isNamed h
 
 -- ---- the upper hint of an image of entries
 

@@ -1,10 +1,9 @@
 -- What a lookup and a naming give, and what the entries of an image say they should: 01, "Whole lists (demand 3)".
 use Prim.Native.Nat.{ℕ, _+_}
-use mathlib.Core.Bool.{Bool, false, cond}
+use mathlib.Core.Bool.{Bool, true, false, cond}
 use mathlib.Core.List.{List, [], _∷_}
 use mathlib.Core.Option.{Option, none, some}
 use lib.ListN.{take, drop}
-use lib.Dec.{eqb}
 use Rattle.jhash.specs.NameHash.{hashOf}
 use Rattle.image.specs.Bytes.{keep, same}
 use Rattle.image.specs.Tables.{tableOf}
@@ -58,15 +57,10 @@ unfoldable pub firstAt : List ℕ → ℕ → List Entry → Option ℕ
 firstAt name o [] = none
 firstAt name o (e ∷ es) = cond (hasName name e) (some o) (firstAt name (o + entrySize e) es)
 
--- is this the id?
-abbrev pub isId : ℕ → Option ℕ → Bool
-isId id (some i) = eqb i id
-isId id none = false
-
--- an id is home (01's term) exactly when it has a name and looking up that name finds this id: when the first entry of that name has this id
-abbrev pub homeNamed : List Entry → ℕ → Option (List ℕ) → Bool
-homeNamed es id (some name) = isId id (firstId (ofName name es))
-homeNamed es id none = false
+-- 02 (vi): an id is home (01's term) exactly when it has a name: the search for that name meets every entry of it, the id's last one too
+abbrev pub isNamed : Option (List ℕ) → Bool
+isNamed (some name) = true
+isNamed none = false
 
 abbrev pub homeIn : List Entry → ℕ → Bool
-homeIn es id = homeNamed es id (lastName (ofId id es))
+homeIn es id = isNamed (lastName (ofId id es))

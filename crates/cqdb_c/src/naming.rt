@@ -70,7 +70,7 @@ pub extern "C" fn cqdb_size_hint(image: &[u8], next: u32) -> u32
     reader::walk::size_hint(image, Iter { next })
 }
 
-// 1 when the id has a name whose lookup finds this id, else 0.
+// 1 when the id has a name and some entry that the search for it meets has this name and this id, else 0.
 #[no_mangle]
 pub extern "C" fn cqdb_home(image: &[u8], id: u32) -> u32
     ensures { λ r. ⌜ r ≡ oneIf (home (now (image .entry)) id) ⌝ }

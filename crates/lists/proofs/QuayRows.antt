@@ -14,7 +14,7 @@ use Rattle.image.specs.Bytes.{word, keep, range, same}
 use Rattle.image.specs.Image.{Entry, Placed, headSize, entrySize, entriesSize, placed, hasId, placedOfId, lastFrom, link, backSize, backSizeOf, backOffset, imageSize, image}
 use Rattle.image.specs.Head.{backOffsetAt}
 use Rattle.image.specs.Zero.{hasZero}
-use Rattle.answers.specs.Answer.{ofName, firstId, homeNamed, ofId}
+use Rattle.answers.specs.Answer.{ofName, firstId, isNamed, ofId}
 use Rattle.image.proofs.At.{at-word}
 use Rattle.image.proofs.Parts.{link-at}
 use Rattle.answers.proofs.Opened.{backSizeAt-image, backOffsetAt-image}
@@ -87,7 +87,7 @@ Computed r =
     × (backOffset (r .mode) (entries r) ≡ r .backOffset)
     × (map (link (placed headSize (entries r))) (range 0 (backSizeOf (r .mode) (entries r))) ≡ r .links)
     × Each (λ (a : NameRow). firstId (ofName (a .name) (entries r)) ≡ a .gives) (r .names)
-    × Each (λ (a : IdRow). (namedIn (r .mode) (entries r) (a .id) ≡ a .gives) × (homeNamed (entries r) (a .id) (namedIn (r .mode) (entries r) (a .id)) ≡ a .isHome)) (r .ids)
+    × Each (λ (a : IdRow). (namedIn (r .mode) (entries r) (a .id) ≡ a .gives) × (isNamed (namedIn (r .mode) (entries r) (a .id)) ≡ a .isHome)) (r .ids)
 
 -- it holds of every buffer of that length
 module _ (r : Row) (c : Computed r) where

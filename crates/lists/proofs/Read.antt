@@ -7,7 +7,7 @@ use Rattle.image.specs.declared.Mode.{Mode}
 use Rattle.image.specs.declared.Mode.the-variants.{Twoway, Oneway}
 use Rattle.image.specs.Image.{Entry}
 use Rattle.reader.specs.Walk.{home}
-use Rattle.answers.specs.Answer.{nameGiven, ofId, lastName, homeNamed}
+use Rattle.answers.specs.Answer.{nameGiven, ofId, lastName, isNamed}
 use Rattle.lists.specs.Demand3.{NamesAnswered}
 
 -- an id gives the name of its last entry; in a one-way image, none
@@ -18,4 +18,4 @@ namedIn Oneway es id = none
 pub record Read (mode : Mode) (es : List Entry) (img : List ℕ) : Type 0 where
   pub names : NamesAnswered es img
   pub id-gives : (id : ℕ) → nameGiven img id ≡ namedIn mode es id
-  pub id-home : (id : ℕ) → home img id ≡ homeNamed es id (namedIn mode es id)
+  pub id-home : (id : ℕ) → home img id ≡ isNamed (namedIn mode es id)

@@ -2,6 +2,7 @@
 use Prim.Native.Nat.{ℕ, _^_, _≤_}
 use native.Mathlib.Omega.{arith}
 use mathlib.Core.Path.{_≡_, refl, ap}
+use mathlib.Core.Bool.{true}
 use mathlib.Core.List.{List}
 use mathlib.Core.Option.{some}
 use lib.ListN.{length}
@@ -10,10 +11,11 @@ use Rattle.image.specs.declared.Mode.the-variants.{Twoway, Oneway}
 use Rattle.image.specs.Image.{Entry, headSize, backSize, imageSize, image}
 use Rattle.reader.specs.Lookup.{Lookup, found, nothing, lookup}
 use Rattle.reader.specs.declared.Found.{Found}
+use Rattle.reader.specs.Meets.{entriesMet, someMet}
 use Rattle.reader.specs.Walk.{stepOf, step, homeBy, home}
 use Rattle.answers.specs.Answer.{foundId, heldAt, nameGiven, ofId, lastName, tablePuts}
 use Rattle.reader.specs.Cases.{reads}
-use Rattle.answers.proofs.Images.{image-opens, name-gives, name-nothing, name-reads, found-reads, long-reads, ids-fit, id-gives, id-nothing}
+use Rattle.answers.proofs.Images.{image-opens, name-gives, name-nothing, name-reads, found-reads, long-reads, last-met, ids-fit, id-gives, id-nothing}
 use Rattle.answers.proofs.Named.{naming-oneway}
 use Rattle.answers.proofs.Walked.{part-given, step-given, home-given, hint-image}
 use Rattle.lists.specs.Calls.{Call, accepted, WordIds}
@@ -48,12 +50,18 @@ module _ (es : List Entry) (ids : backSize es ≤ 2 ^ 32) where
   image-ids Twoway small id = id-gives es small id
   image-ids Oneway small id = ap (heldAt (image Oneway es)) (naming-oneway es small id)
 
+  -- the search for a name that an id has meets an entry with this id
+  image-met : (mode : Mode) → imageSize mode es ≤ 4294967295 → (id : ℕ) (name : List ℕ) → namedIn mode es id ≡ some name
+      → someMet id (entriesMet (image mode es) name) ≡ true
+  image-met Twoway small id name h = last-met Twoway es small ids name id h
+  image-met Oneway small id name h = absurd (let z : _≡_ {A = ℕ} 0 1 = cc in omega arith)
+
   read-image : (mode : Mode) → imageSize mode es ≤ 4294967295 → Read mode es (image mode es)
   read-image mode small =
       record {
         names = image-names mode small;
         id-gives = image-ids mode small;
-        id-home = λ id. home-given (image mode es) id es (name-gives mode es small ids) (namedIn mode es id) (image-ids mode small id);
+        id-home = λ id. home-given (image mode es) id (namedIn mode es id) (image-ids mode small id) (image-met mode small id);
       }
 
 -- ---- two-way, and one-way

@@ -7,7 +7,7 @@ use Rattle.image.specs.declared.Mode.{Mode}
 use Rattle.image.specs.declared.Mode.the-variants.{Twoway}
 use Rattle.image.specs.Image.{headSize, imageSize, image}
 use Rattle.reader.specs.Lookup.{lookup}
-use Rattle.answers.specs.Answer.{foundOffset, firstId, lastName}
+use Rattle.answers.specs.Answer.{foundOffset, firstId, lastName, isNamed}
 use Rattle.answers.proofs.Images.{name-stands, ids-fit}
 use Rattle.lists.specs.Calls.{Call, sizeOf, WordIds}
 use Rattle.lists.specs.Demand3.{acceptedPuts, imageOf, CallsAnswered, OneList, TwoLists, Demand3}
@@ -75,6 +75,7 @@ module _ (buffer : List ℕ) (cs : List Call) (room : headSize ≤ length buffer
         name-stands = λ name.
             ap (λ (bytes : List ℕ). foundOffset (lookup bytes name)) (calls-imaged Twoway buffer cs room (two-way cs))
             ∙ name-stands Twoway (acceptedPuts Twoway buffer cs) below (ids-fit (acceptedPuts Twoway buffer cs) below) name;
+        named-home = λ id name h. list-answered .homes id ∙ ap isNamed (sym (list-answered .ids .id-gives id) ∙ h);
         empty-image = λ h.
             calls-imaged Twoway buffer cs room (two-way cs)
             ∙ ap (image Twoway) (list-accepted Twoway buffer room cs (two-way cs) ∙ none-accepted Twoway (length buffer) cs h);

@@ -2,12 +2,14 @@
 use Prim.Native.Nat.{ℕ, _≤_}
 use mathlib.Core.Path.{_≡_}
 use mathlib.Core.Logic.{_↔_}
+use mathlib.Core.Bool.{true}
 use mathlib.Core.List.{List, []}
 use mathlib.Core.Option.{some}
 use lib.ListN.{length}
 use Rattle.image.specs.declared.Mode.the-variants.{Twoway}
 use Rattle.image.specs.Image.{Entry, headSize, image}
 use Rattle.reader.specs.Lookup.{lookup}
+use Rattle.reader.specs.Walk.{home}
 use Rattle.answers.specs.Answer.{foundId, foundOffset, nameGiven, ofName, ofId, firstId, firstAt}
 use Rattle.writer.specs.Close.{afterClose}
 use Rattle.lists.specs.Calls.{Call, puts}
@@ -26,6 +28,8 @@ pub record Corollaries (buffer : List ℕ) (cs : List Call) : Type 0 where
   pub together : Together (acceptedPuts Twoway buffer cs) (imageOf Twoway buffer cs)
   -- 02 (ii): a name's lookup says where the entry of its first accepted put stands: 2,072 plus the sizes of the entries before it; nothing without one
   pub name-stands : (name : List ℕ) → foundOffset (lookup (imageOf Twoway buffer cs) name) ≡ firstAt name headSize (acceptedPuts Twoway buffer cs)
+  -- 02 (vi): every id that has a name is home
+  pub named-home : (id : ℕ) (name : List ℕ) → nameGiven (imageOf Twoway buffer cs) id ≡ some name → home (imageOf Twoway buffer cs) id ≡ true
   -- a list without puts gives the empty image
   pub empty-image : puts cs ≡ [] → imageOf Twoway buffer cs ≡ image Twoway []
   -- closing twice gives the same image, and changes nothing more

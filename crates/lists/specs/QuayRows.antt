@@ -162,7 +162,7 @@ c6 =
       backOffset = 2124;
       links = 0 ∷ 0 ∷ 0 ∷ 0 ∷ 0 ∷ 2072 ∷ 0 ∷ 0 ∷ 0 ∷ 2082 ∷ [];
       names = record { name = A; gives = some 5 } ∷ [];
-      ids = record { id = 5; gives = some A; isHome = true } ∷ record { id = 9; gives = some A; isHome = false } ∷ [];
+      ids = record { id = 5; gives = some A; isHome = true } ∷ record { id = 9; gives = some A; isHome = true } ∷ [];
     }
 
 abbrev pub c7 : Row

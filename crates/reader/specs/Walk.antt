@@ -1,11 +1,10 @@
 -- Walking, and the home check: 01, "Walking, and the added home check".
 use Prim.Native.Nat.{ℕ, zero, suc, _+_, _-_}
-use mathlib.Core.Bool.{Bool, true, false, cond}
+use mathlib.Core.Bool.{Bool, false, cond}
 use mathlib.Core.List.{List, [], _∷_}
 use lib.ListN.{take, drop}
-use lib.Dec.{eqb}
 use Rattle.image.specs.Head.{backSizeAt}
-use Rattle.reader.specs.Lookup.{Lookup, found, nothing, lookup}
+use Rattle.reader.specs.Meets.{someMet, entriesMet}
 use Rattle.reader.specs.Naming.{Naming, place, unnamed, naming, noBack}
 
 -- a step of a walk that stands before id n: the id, the place of its name, and the id before which the walk then stands; or the end
@@ -25,14 +24,9 @@ step image n = stepOf n (naming image n)
 unfoldable pub upperHint : List ℕ → ℕ → ℕ
 upperHint image n = cond (noBack image) 0 (backSizeAt image - n)
 
--- does a lookup find this id?
-abbrev pub finds : ℕ → Lookup → Bool
-finds id (found f) = eqb (f .id) id
-finds id (nothing reads) = false
-
--- an id is home (01's term) exactly when it has a name and looking up that name finds this id
+-- 02 (vi): an id is home (01's term) exactly when it has a name and some entry met in that name's search has this name and this id
 abbrev pub homeBy : List ℕ → ℕ → Naming → Bool
-homeBy image id (place s n) = finds id (lookup image (take n (drop s image)))
+homeBy image id (place s n) = someMet id (entriesMet image (take n (drop s image)))
 homeBy image id unnamed = false
 
 unfoldable pub home : List ℕ → ℕ → Bool

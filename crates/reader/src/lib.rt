@@ -3,6 +3,7 @@
 mod start; // start.rt: the bucket that a search begins with
 pub mod opening; // opening.rt: open
 pub mod lookup; // lookup.rt: to_id
+mod meeting; // meeting.rt: the search of the home check, past an equal name
 pub mod naming; // naming.rt: to_str, name, name_or
 pub mod panel; // panel.rt: panel, panel_place, readings_agree
 pub mod walk; // walk.rt: iter, next, size_hint, home

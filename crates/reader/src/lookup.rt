@@ -37,7 +37,7 @@ fn see_entry(image: &[u8], name: &[u8], at: u32) -> Seen
 }
 
 // What a search for a name with the hash h sees in the bucket at `at`.
-fn see(image: &[u8], name: &[u8], h: u32, at: usize) -> Seen
+pub(super) fn see(image: &[u8], name: &[u8], h: u32, at: usize) -> Seen
     requires { ⌜ at + 8 ≤ length (now image) ⌝ }
     ensures { λ r. ⌜ seenOf r ≡ see (now (image .entry)) (now (name .entry)) h at ⌝ }
 {
@@ -52,7 +52,7 @@ fn see(image: &[u8], name: &[u8], h: u32, at: usize) -> Seen
 }
 
 // The bucket after k: by one, from the last to the first.
-fn next_bucket(k: u32, n: u32) -> u32
+pub(super) fn next_bucket(k: u32, n: u32) -> u32
     requires { ⌜ k < n ⌝ }
     ensures { λ r. ⌜ (r ≡ next n k) × (r < n) ⌝ }
 {

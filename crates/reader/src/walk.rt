@@ -5,8 +5,7 @@ ghost use Rattle.reader.specs.Cases.{steppedOf};
 use super::Iter;
 use super::Named;
 use super::Stepped;
-use super::ToId;
-use super::lookup::to_id;
+use super::meeting::meets;
 use super::naming::no_back;
 use super::naming::to_str;
 use jhash::word::word;
@@ -50,17 +49,14 @@ pub fn size_hint(image: &[u8], walk: Iter) -> u32
     size - id
 }
 
-// Has the id a name whose lookup finds this id?
+// Has the id a name, and has some entry that the search for that name meets this name and this id?
 pub fn home(image: &[u8], id: u32) -> bool
     ensures { λ r. ⌜ r ≡ home (now (image .entry)) id ⌝ }
 {
     match to_str(image, id) {
         Named::Place { start, len } => {
             let end = start + len;
-            match to_id(image, &image[start..end]) {
-                ToId::Found(found) => found.id == id,
-                ToId::Nothing { buckets: _ } => false,
-            }
+            meets(image, &image[start..end], id)
         }
         Named::Nothing => false,
     }

@@ -13,8 +13,8 @@
 //     miss 41                  the name finds nothing
 //     name 00000005 41         the id gives the name
 //     void 00000005            the id gives nothing
-//     home 00000005            the id has a name that finds this id
-//     away 00000005            it has not
+//     home 00000005            the id is home
+//     away 00000005            it is not
 // And on a walk over it (walk.rt):
 //     walk                     a new walk
 //     left 00000006            its upper hint

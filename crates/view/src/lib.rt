@@ -78,7 +78,7 @@ impl<'a> CQDB<'a> {
         reader::walk::next(self.image, walk)
     }
 
-    // Has the id a name whose lookup finds this id?
+    // Has the id a name, and has some entry that the search for that name meets this name and this id?
     pub fn home(self, id: u32) -> bool
         ensures { λ r. ⌜ r ≡ home (now (self .entry .image)) id ⌝ }
     {

@@ -75,7 +75,8 @@ impl Questions {
         }
     }
 
-    // The name of an id, and whether the id is home.
+    // The name of an id, and whether the id is home: it is where the name finds it, and is not where the name finds nothing.
+    // Where the name finds another id, the Rust cannot tell.
     fn naming(&mut self, db: &CQDB, image: &[u8], id: u32) {
         let Some(name) = db.to_str(id) else {
             self.line(format!("void {id:08x}"));
@@ -83,8 +84,9 @@ impl Questions {
         };
         self.line(numbered("name", id, name));
         match to_id(db, image, name) {
-            Some(found) => self.line(format!("{} {id:08x}", if found == Some(id) { "home" } else { "away" })),
-            None => {}
+            Some(Some(found)) if found == id => self.line(format!("home {id:08x}")),
+            Some(None) => self.line(format!("away {id:08x}")),
+            _ => {}
         }
     }
 

@@ -1,0 +1,72 @@
+// The search of the home check (02 (vi)). It goes on past an equal name, so that each of a name's ids is met; the lookup's own
+// search, which ends there, is in lookup.rt.
+ghost use mathlib.Core.Path.{_≡_};
+ghost use Prim.Native.Nat.{_+_, _*_, _<_, _≤_};
+ghost use lib.ListN.{length};
+ghost use Rattle.reader.specs.Meets.{metIn, metHash, entriesMet, someMet};
+use super::HEAD_SIZE;
+use super::Seen;
+use super::lookup::next_bucket;
+use super::lookup::see;
+use super::start::start;
+use jhash::Hashed;
+use jhash::word::word;
+
+// Does a search for the name in the table of n buckets at `at` meet an entry with this id? It ends at an empty bucket, at a
+// broken entry, and after n buckets.
+fn meets_in(image: &[u8], name: &[u8], h: u32, at: u32, n: u32, id: u32) -> bool
+    requires { ⌜ (0 < n) × (at + 8 * n ≤ length (now image)) ⌝ }
+    ensures { λ r. ⌜ r ≡ someMet id (metIn (now (image .entry)) (now (name .entry)) h at n) ⌝ }
+{
+    let mut k = start(h, n);
+    let mut left = n;
+    while 0 < left {
+        left -= 1;
+        match see(image, name, h, at as usize + 8 * (k as usize)) {
+            Seen::Pass => {}
+            Seen::Ends => {
+                return false;
+            }
+            Seen::Hit(hit) => {
+                if hit.id == id {
+                    return true;
+                }
+            }
+        }
+        k = next_bucket(k, n);
+    }
+    false
+}
+
+// The same in the image, for a name whose hash is h.
+fn meets_hashed(image: &[u8], name: &[u8], h: u32, id: u32) -> bool
+    requires { ⌜ 2072 ≤ length (now image) ⌝ }
+    ensures { λ r. ⌜ r ≡ someMet id (metHash (now (image .entry)) (now (name .entry)) h) ⌝ }
+{
+    let t = (h % 256) as usize;
+    let at = word(image, 24 + 8 * t);
+    let n = word(image, 28 + 8 * t);
+    if at == 0 {
+        return false;
+    }
+    if n == 0 {
+        return false;
+    }
+    if image.len() < at as usize + 8 * (n as usize) {
+        return false;
+    }
+    meets_in(image, name, h, at, n, id)
+}
+
+// Does a search for the name meet an entry with this id?
+pub(super) fn meets(image: &[u8], name: &[u8], id: u32) -> bool
+    ensures { λ r. ⌜ r ≡ someMet id (entriesMet (now (image .entry)) (now (name .entry))) ⌝ }
+{
+    if image.len() < HEAD_SIZE {
+        return false;
+    }
+    match jhash::name_hash(name) {
+        Hashed::Hash(h) => meets_hashed(image, name, h, id),
+        Hashed::Refused => false,
+    }
+}
