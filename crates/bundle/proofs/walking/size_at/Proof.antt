@@ -38,7 +38,7 @@ returns-3 c =
     let start = c .before .before .before .before .before in
     let of-word = c .before .before .word in
     let says = size-past (start .args .file .now) (start .args .at) (of-word .result) (start .pre) (c .before .before .before .if1 .left) (of-word .ensures)
-    (c .before .if2 .left) (c .if3 .taken) in
+    (c .before .if2 .left) (omega (arith, c .before .if2 .left, c .if3 .taken)) in
     (says, omega (arith, start .pre))
 
 returns-4 : tie.Need-returns-4
@@ -46,7 +46,7 @@ returns-4 c =
     let start = c .before .before .before .before .before in
     let of-word = c .before .before .word in
     let says = size-fine (start .args .file .now) (start .args .at) (of-word .result) (start .pre) (c .before .before .before .if1 .left) (of-word .ensures)
-    (c .before .if2 .left) (c .if3 .left) in
+    (c .before .if2 .left) (omega (arith, c .before .if2 .left, c .if3 .left)) in
     (says, omega (arith, start .pre))
 
 pub size-at-spec : {M : Type 1} → statement M
