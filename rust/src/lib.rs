@@ -29,6 +29,7 @@
 #![warn(missing_docs)]
 
 mod archive;
+mod bundle;
 mod flag;
 mod name;
 mod order;
@@ -42,6 +43,7 @@ mod write;
 #[doc = include_str!("../MOVING.md")]
 pub mod moving {}
 
+pub use bundle::{Bundle, Images};
 pub use flag::Flag;
 pub use name::BStr;
 pub use order::{references_first, Order, Pair};

@@ -31,6 +31,16 @@ impl<'a> CQDB<'a> {
         Ok(refusal::or(answer.refusal, CQDB { image, num: answer.num })?)
     }
 
+    /// An image that the archive has opened.
+    pub(crate) fn opened(image: &'a [u8], num: u32) -> Self {
+        CQDB { image, num }
+    }
+
+    /// The bytes that were opened.
+    pub fn bytes(&self) -> &'a [u8] {
+        self.image
+    }
+
     /// The number of associations.
     pub fn num(&self) -> u32 {
         self.num
