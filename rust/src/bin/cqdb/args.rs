@@ -120,6 +120,14 @@ impl Args {
         self.operands.get(at).map(OsString::as_os_str)
     }
 
+    pub fn count(&self) -> usize {
+        self.operands.len()
+    }
+
+    pub fn bytes(&self, at: usize) -> &[u8] {
+        self.operands[at].as_bytes()
+    }
+
     /// The operands from a place on, as bytes.
     pub fn bytes_from(&self, at: usize) -> impl Iterator<Item = &[u8]> {
         self.operands[at..].iter().map(|word| word.as_bytes())

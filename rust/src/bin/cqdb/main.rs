@@ -1,6 +1,7 @@
 //! `cqdb`: makes, asks and checks constant quark database images from a shell. Each command is a file of its own, over the
 //! crate's calls; COMMANDS lists them. The exit status is 0, 1 (not found, or no) or 2 (it could not be done).
 mod args;
+mod bundle;
 mod check;
 mod files;
 mod hash;
@@ -23,7 +24,7 @@ use std::process::ExitCode;
 use args::{Args, Command};
 use outcome::{Failure, Outcome};
 
-const COMMANDS: [&Command; 9] = [
+const COMMANDS: &[&Command] = &[
     &make::COMMAND,
     &id::COMMAND,
     &name::COMMAND,
@@ -31,6 +32,7 @@ const COMMANDS: [&Command; 9] = [
     &page::COMMAND,
     &check::COMMAND,
     &stats::COMMAND,
+    &bundle::COMMAND,
     &sheet::COMMAND,
     &hash::COMMAND,
 ];
@@ -64,7 +66,8 @@ fn run(first: &OsString, words: Vec<OsString>) -> Outcome {
 
 fn command_of(word: &OsString) -> Result<&'static Command, Failure> {
     COMMANDS
-        .into_iter()
+        .iter()
+        .copied()
         .find(|command| word == command.name)
         .ok_or_else(|| Failure::new("there is no such command: 'cqdb --help' lists them"))
 }
