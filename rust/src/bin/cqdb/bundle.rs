@@ -60,7 +60,7 @@ fn list(path: &Path) -> Outcome {
             Err(Refusal::BrokenBundle) => return Err(refused(path, Refusal::BrokenBundle)),
             Err(refusal) => {
                 all = false;
-                outcome::tell(&format!("bundle: image {position}: {}", files::refusal_in_words(refusal)));
+                out.tell(&format!("bundle: image {position}: {}", files::refusal_in_words(refusal)))?;
             }
         }
     }

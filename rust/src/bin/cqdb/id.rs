@@ -1,7 +1,7 @@
 //! `cqdb id`: the ids of names.
 use crate::args::{Args, Command, TAB, ZERO};
 use crate::lines;
-use crate::outcome::{self, Outcome, Output};
+use crate::outcome::{Outcome, Output};
 use crate::{files, questions};
 
 pub const COMMAND: Command = Command {
@@ -27,8 +27,7 @@ fn run(args: Args) -> Outcome {
         Some(id) => out.line(&[id.to_string().as_bytes(), &[args.between()], name], args.end()),
         None => {
             all = false;
-            outcome::tell(&format!("id: {} has no name {}", args.path(0).display(), lines::shown(name)));
-            Ok(())
+            out.tell(&format!("id: {} has no name {}", args.path(0).display(), lines::shown(name)))
         }
     })?;
     out.finish(all)

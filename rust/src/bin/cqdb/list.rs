@@ -1,7 +1,7 @@
 //! `cqdb list`: all ids with their names.
 use crate::args::{Args, Command, TAB, ZERO};
 use crate::files;
-use crate::outcome::{self, Answer, Failure, Outcome, Output};
+use crate::outcome::{Answer, Failure, Outcome, Output};
 
 pub const COMMAND: Command = Command {
     name: "list",
@@ -26,7 +26,7 @@ fn run(args: Args) -> Outcome {
         }
     }
     if db.back_size() == 0 && db.num() > 0 {
-        outcome::tell(&format!("list: {} is one-way: it names no ids", args.path(0).display()));
+        out.tell(&format!("list: {} is one-way: it names no ids", args.path(0).display()))?;
         return out.finish(Answer::No);
     }
     out.finish(Answer::Yes)

@@ -1,7 +1,7 @@
 //! `cqdb name`: the names of ids.
 use crate::args::{Args, Command, TAB, ZERO};
 use crate::lines;
-use crate::outcome::{self, Failure, Outcome, Output};
+use crate::outcome::{Failure, Outcome, Output};
 use crate::{files, list, questions};
 
 pub const COMMAND: Command = Command {
@@ -30,8 +30,7 @@ fn run(args: Args) -> Outcome {
             Some(name) => list::entry(&mut out, &args, id, name),
             None => {
                 all = false;
-                outcome::tell(&format!("name: {} has no name for id {id}", args.path(0).display()));
-                Ok(())
+                out.tell(&format!("name: {} has no name for id {id}", args.path(0).display()))
             }
         }
     })?;

@@ -87,6 +87,13 @@ impl Output {
         self.line(&[line.as_bytes()], b'\n')
     }
 
+    /// A line for people, behind what was printed so far.
+    pub fn tell(&mut self, what: &str) -> Result<(), Failure> {
+        self.0.flush().map_err(failed)?;
+        tell(what);
+        Ok(())
+    }
+
     /// The answer, once all is written.
     pub fn finish(mut self, answer: impl Into<Answer>) -> Outcome {
         self.0.flush().map_err(failed)?;
