@@ -49,8 +49,9 @@ pub fn replace(path: &Path, bytes: &[u8]) -> Result<(), Failure> {
         return Err(Failure::new(format!("cannot write {}: it is no regular file", path.display())));
     }
     let beside = beside(&place);
-    let written = write_new(&beside, bytes, before).and_then(|()| fs::rename(&beside, &place));
-    if let Err(error) = written {
+    let file = OpenOptions::new().write(true).create_new(true).open(&beside).map_err(failed)?;
+    let moved = fill(file, bytes, before).and_then(|()| fs::rename(&beside, &place));
+    if let Err(error) = moved {
         let _ = fs::remove_file(&beside);
         return Err(failed(error));
     }
@@ -64,8 +65,7 @@ fn beside(place: &Path) -> PathBuf {
     name.into()
 }
 
-fn write_new(path: &Path, bytes: &[u8], before: Option<fs::Metadata>) -> io::Result<()> {
-    let mut file = OpenOptions::new().write(true).create_new(true).open(path)?;
+fn fill(mut file: File, bytes: &[u8], before: Option<fs::Metadata>) -> io::Result<()> {
     if let Some(before) = before {
         file.set_permissions(before.permissions())?;
     }

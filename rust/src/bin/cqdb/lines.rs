@@ -1,9 +1,9 @@
 //! Lines of a file or of standard input.
 use std::ffi::OsStr;
 use std::fs::File;
-use std::io::{self, BufRead, BufReader};
+use std::io::{self, BufRead, BufReader, IsTerminal};
 
-use crate::outcome::Failure;
+use crate::outcome::{self, Failure};
 
 /// The lines of an input, counted from 1.
 pub struct Lines {
@@ -24,7 +24,12 @@ impl Lines {
                 let file = File::open(path).map_err(|error| Failure::new(format!("cannot read {name}: {error}")))?;
                 (Box::new(BufReader::with_capacity(1 << 16, file)), name)
             }
-            _ => (Box::new(BufReader::with_capacity(1 << 16, io::stdin())), "standard input".to_string()),
+            _ => {
+                if io::stdin().is_terminal() {
+                    outcome::tell("lines are read from the terminal; Ctrl-D ends them");
+                }
+                (Box::new(BufReader::with_capacity(1 << 16, io::stdin())), "standard input".to_string())
+            }
         };
         Ok(Lines { input, name, end, number: 0, line: Vec::new() })
     }
