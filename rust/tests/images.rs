@@ -139,6 +139,7 @@ fn too_large_is_refused_and_changes_nothing() {
 fn walks_and_their_hints() {
     let image = image(Flag::NONE, &[(b"zero", 0), (b"one", 1), (b"five", 5)]);
     let db = CQDB::new(&image).unwrap();
+    assert_eq!((db.back_size(), db.bytes()), (6, &image[..]));
     let mut walk = db.iter();
     assert_eq!(walk.size_hint(), (0, Some(6)));
     assert_eq!(walk.next().unwrap().unwrap(), (0, BStr::new(b"zero")));
@@ -153,6 +154,7 @@ fn a_one_way_image_has_no_walk() {
     let one_way = image(Flag::ONEWAY, &[(b"zero", 0)]);
     let mut none = CQDB::new(&one_way).unwrap().iter();
     assert_eq!((none.size_hint(), none.next().is_none()), ((0, Some(0)), true));
+    assert_eq!(CQDB::new(&one_way).unwrap().back_size(), 0);
 }
 
 #[test]
