@@ -20,6 +20,10 @@ fn ids_of_names() {
     let ran = folder.cqdb(&["id", "walls", "Crane", "crane", ""]).gives(1).prints("1 crane\n");
     ran.tells("cqdb: id: walls has no name \"Crane\"\ncqdb: id: walls has no name \"\"\n");
     folder.cqdb(&["id", "--tab", "walls", "crane"]).prints("1\tcrane\n");
+    folder.with("7 two\nlines\0", &["make", "-0", "lines"]).gives(0);
+    let told = "cqdb: id: the name of id 7 has a line feed: say --zero\n";
+    folder.cqdb(&["id", "lines", "two\nlines"]).gives(2).prints("").tells(told);
+    folder.cqdb(&["id", "-0", "lines", "two\nlines"]).gives(0).prints("7 two\nlines\0");
     let long = "x".repeat(99);
     let ran = folder.cqdb(&["id", "walls", &long]).gives(1);
     ran.tells(&format!("cqdb: id: walls has no name \"{}\"..\n", &long[..40]));

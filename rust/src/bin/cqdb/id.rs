@@ -2,7 +2,7 @@
 use crate::args::{Args, Command, TAB, ZERO};
 use crate::lines;
 use crate::outcome::{Outcome, Output};
-use crate::{files, questions};
+use crate::{files, list, questions};
 
 pub const COMMAND: Command = Command {
     name: "id",
@@ -24,7 +24,7 @@ fn run(args: Args) -> Outcome {
     let mut out = Output::new();
     let mut all = true;
     questions::each(&args, 1, |name| match db.to_id_bytes(name) {
-        Some(id) => out.line(&[id.to_string().as_bytes(), &[args.between()], name], args.end()),
+        Some(id) => list::entry(&mut out, &args, id, name),
         None => {
             all = false;
             out.tell(&format!("id: {} has no name {}", args.path(0).display(), lines::shown(name)))
