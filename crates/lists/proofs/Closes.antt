@@ -51,7 +51,7 @@ area-in-image mode es rest =
 
 -- ---- what is recorded
 
-module _ (mode : Mode) (n : ℕ) (es : List Entry) (s : State) (w : Written mode n es s) where
+module _ (mode : Mode) (repeats : Repeats) (n : ℕ) (es : List Entry) (s : State) (w : Written mode repeats n es s) where
   pub written-area : entryArea s ≡ cat entryBytes es
   written-area =
       let size : s .writer .end - headSize ≡ entriesSize es = omega (arith, w .end) in
@@ -94,7 +94,7 @@ module _ (mode : Mode) (n : ℕ) (es : List Entry) (s : State) (w : Written mode
 
   pub close-accepted : closeRefusal s ≡ 0
   unfolding closeRefusal
-  close-accepted = simp (written-fits mode n es s w, written-whole, counts-right, back-right, size-right)
+  close-accepted = simp (written-fits mode repeats n es s w, written-whole, counts-right, back-right, size-right)
 
   -- ---- the effect
 
@@ -122,7 +122,7 @@ module _ (mode : Mode) (n : ℕ) (es : List Entry) (s : State) (w : Written mode
       sum : (a b k l : ℕ) → a ≡ k → b ≡ l - k → l ≡ n → k ≤ n → a + b ≡ n
       sum a b k l p q r h = omega arith
 
-  closed-written : Written mode n es (closed s)
+  closed-written : Written mode repeats n es (closed s)
   unfolding closed
   closed-written =
       record {
@@ -140,27 +140,27 @@ module _ (mode : Mode) (n : ℕ) (es : List Entry) (s : State) (w : Written mode
         ids = w .ids;
       }
 
-  pub close-written : Written mode n es (afterClose s)
+  pub close-written : Written mode repeats n es (afterClose s)
   close-written = rw close-closed closed-written
 
 -- ---- closing twice
 
-module _ (mode : Mode) (n : ℕ) (es : List Entry) (s : State) (w : Written mode n es s) where
+module _ (mode : Mode) (repeats : Repeats) (n : ℕ) (es : List Entry) (s : State) (w : Written mode repeats n es s) where
   closed-again : closed (closed s) ≡ closed s
   unfolding closed
   closed-again = λ i. record { writer = s .writer; counts = s .counts; buffer = buffers i }
     where
       buffers : closed (closed s) .buffer ≡ closed s .buffer
       buffers =
-          closed-buffer mode n es (closed s) (closed-written mode n es s w)
-          ∙ ap (λ (l : List ℕ). image mode es ++ drop (imageSize mode es) l) (closed-buffer mode n es s w)
+          closed-buffer mode repeats n es (closed s) (closed-written mode repeats n es s w)
+          ∙ ap (λ (l : List ℕ). image mode es ++ drop (imageSize mode es) l) (closed-buffer mode repeats n es s w)
           ∙ ap (λ (l : List ℕ). image mode es ++ l)
           (drop-at (image mode es) (drop (imageSize mode es) (s .buffer)) (imageSize mode es) (length-image mode es))
-          ∙ sym (closed-buffer mode n es s w)
+          ∙ sym (closed-buffer mode repeats n es s w)
 
   pub close-again : afterClose (afterClose s) ≡ afterClose s
   close-again =
-      ap afterClose (close-closed mode n es s w)
-      ∙ close-closed mode n es (closed s) (closed-written mode n es s w)
+      ap afterClose (close-closed mode repeats n es s w)
+      ∙ close-closed mode repeats n es (closed s) (closed-written mode repeats n es s w)
       ∙ closed-again
-      ∙ sym (close-closed mode n es s w)
+      ∙ sym (close-closed mode repeats n es s w)

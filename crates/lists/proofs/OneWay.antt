@@ -17,11 +17,11 @@ module _ (buffer : List ℕ) (cs : List Call) (room : headSize ≤ length buffer
   one-way-list : OneWayList buffer cs
   one-way-list =
       record {
-        calls = calls-answered Oneway buffer cs room word;
-        names = rw (list-accepted Oneway buffer room cs word) (list-read Oneway buffer room cs word .names);
+        calls = calls-answered Oneway repeats buffer cs room word;
+        names = rw (list-accepted Oneway repeats buffer room cs word) (list-read Oneway repeats buffer room cs word .names);
         ids =
-            rw (calls-imaged Oneway buffer cs room word)
-            (one-way-unanswered (acceptedPuts Oneway buffer cs) (calls-below Oneway buffer cs room word));
+            rw (calls-imaged Oneway repeats buffer cs room word)
+            (one-way-unanswered (acceptedPuts Oneway repeats buffer cs) (calls-below Oneway repeats buffer cs room word));
       }
 
 pub one-way : OneWay

@@ -29,7 +29,7 @@ use Rattle.lists.proofs.Appended.{entriesSize-snoc, backSize-snoc, size
 
 -- ---- a written record fits
 
-module _ (mode : Mode) (n : ℕ) (es : List Entry) (s : State) (w : Written mode n es s) where
+module _ (mode : Mode) (repeats : Repeats) (n : ℕ) (es : List Entry) (s : State) (w : Written mode repeats n es s) where
   count-below : (k : ℕ) → k < 256 → getD (s .counts) k 0 ≤ s .writer .entries
   count-below k h = omega (arith, w .counts k h, count-within k (placed headSize es), length-placed headSize es, w .entries)
 
@@ -58,7 +58,7 @@ raised-back Oneway b es e h = h
 
 -- ---- the decision
 
-module _ (mode : Mode) (n : ℕ) (es : List Entry) (s : State) (w : Written mode n es s) (e : Entry) where
+module _ (mode : Mode) (repeats : Repeats) (n : ℕ) (es : List Entry) (s : State) (w : Written mode repeats n es s) (e : Entry) where
   back-then : raised (s .writer .mode) (s .writer .back) (e .id) ≡ backIn mode (backSize (es ++ (e ∷ [])))
   back-then =
       ap (λ (f : Mode). raised f (s .writer .back) (e .id)) (w .mode-is) ∙ raised-back mode (s .writer .back) es e (w .back-size)
@@ -70,9 +70,9 @@ module _ (mode : Mode) (n : ℕ) (es : List Entry) (s : State) (w : Written mode
       ap₂ backIn (w .mode-is) back-then ∙ backIn-twice mode (backSize (es ++ (e ∷ []))) in
       omega (arith, b, w .end, w .entries, entriesSize-snoc es e, length-append es (e ∷ []), sizeOf-is mode (es ++ (e ∷ [])))
 
-  pub put-due : putRefusal s e ≡ putDue mode n es e
+  pub put-due : putRefusal s e ≡ putDue mode repeats n es e
   unfolding putRefusal putDue
-  put-due = simp (written-fits mode n es s w, finished-then, w .length-is)
+  put-due = simp (written-fits mode repeats n es s w, finished-then, w .length-is)
 
 -- ---- the bytes
 
@@ -92,18 +92,18 @@ stored-after o E l area vs size stands room =
 -- ---- what is due
 
 -- a put to which nothing is due has a name without a zero byte, and room: its size exceeds neither limit
-pub due-free : (mode : Mode) (n : ℕ) (es : List Entry) (e : Entry) → putDue mode n es e ≡ 0 → hasZero (e .name) ≡ false
+pub due-free : (mode : Mode) (repeats : Repeats) (n : ℕ) (es : List Entry) (e : Entry) → putDue mode repeats n es e ≡ 0 → hasZero (e .name) ≡ false
 unfolding putDue
-due-free mode n es e due = go (hasZero (e .name)) refl due
+due-free mode repeats n es e due = go (hasZero (e .name)) refl due
   where
     go : (z : Bool) → hasZero (e .name) ≡ z → _≡_ {A = ℕ} (cond z 13 (cond (tooLarge n (sizeOf mode (es ++ (e ∷ [])))) 3 0)) 0 → hasZero (e .name) ≡ false
     go true p d = absurd (omega arith)
     go false p d = p
 
-pub due-room : (mode : Mode) (n : ℕ) (es : List Entry) (e : Entry) → putDue mode n es e ≡ 0
+pub due-room : (mode : Mode) (repeats : Repeats) (n : ℕ) (es : List Entry) (e : Entry) → putDue mode repeats n es e ≡ 0
     → (imageSize mode (es ++ (e ∷ [])) ≤ n) × (imageSize mode (es ++ (e ∷ [])) ≤ 4294967295)
 unfolding putDue
-due-room mode n es e due = go (hasZero (e .name)) (ltb n size) refl (ltb 4294967295 size) refl due
+due-room mode repeats n es e due = go (hasZero (e .name)) (ltb n size) refl (ltb 4294967295 size) refl due
   where
     size : ℕ
     size = sizeOf mode (es ++ (e ∷ []))
@@ -118,9 +118,9 @@ due-room mode n es e due = go (hasZero (e .name)) (ltb n size) refl (ltb 4294967
         (omega (arith, ltb-false n size p), omega (arith, ltb-false 4294967295 size q))
 
 -- it is 0, 13 or 3
-pub due-number : (mode : Mode) (n : ℕ) (es : List Entry) (e : Entry) → (putDue mode n es e ≡ 0) ⊎ ((putDue mode n es e ≡ 13) ⊎ (putDue mode n es e ≡ 3))
+pub due-number : (mode : Mode) (repeats : Repeats) (n : ℕ) (es : List Entry) (e : Entry) → (putDue mode repeats n es e ≡ 0) ⊎ ((putDue mode repeats n es e ≡ 13) ⊎ (putDue mode repeats n es e ≡ 3))
 unfolding putDue
-due-number mode n es e = go (hasZero (e .name)) (tooLarge n (sizeOf mode (es ++ (e ∷ []))))
+due-number mode repeats n es e = go (hasZero (e .name)) (tooLarge n (sizeOf mode (es ++ (e ∷ []))))
   where
     Due : ℕ → Type 0
     Due k = (k ≡ 0) ⊎ ((k ≡ 13) ⊎ (k ≡ 3))
@@ -138,12 +138,12 @@ ids-then : (mode : Mode) (es : List Entry) (e : Entry) → WordId mode (put e) �
 ids-then Twoway es e word h small = omega arith
 ids-then Oneway es e word h small = omega (arith, backSize-snoc es e)
 
-module _ (mode : Mode) (n : ℕ) (es : List Entry) (s : State) (w : Written mode n es s) (e : Entry) (room : putDue mode n es e ≡ 0) where
+module _ (mode : Mode) (repeats : Repeats) (n : ℕ) (es : List Entry) (s : State) (w : Written mode repeats n es s) (e : Entry) (room : putDue mode repeats n es e ≡ 0) where
   within-then : imageSize mode (es ++ (e ∷ [])) ≤ n
-  within-then = due-room mode n es e room .0
+  within-then = due-room mode repeats n es e room .0
 
   below-then : imageSize mode (es ++ (e ∷ [])) ≤ 4294967295
-  below-then = due-room mode n es e room .1
+  below-then = due-room mode repeats n es e room .1
 
   -- the entries' area after appending is the old area and the entry's bytes
   pub area-then : take (entriesSize es + entrySize e) (drop headSize (sets (s .buffer) (s .writer .end) (entryBytes e))) ≡ cat entryBytes es ++ entryBytes e
@@ -181,7 +181,7 @@ module _ (mode : Mode) (n : ℕ) (es : List Entry) (s : State) (w : Written mode
   unfolding countsAfter
   tables-then = length-set (s .counts) (tableOf (hashOf (e .name))) (getD (s .counts) (tableOf (hashOf (e .name))) 0 + 1) ∙ w .tables
 
-  pub appended-written : WordId mode (put e) → Written mode n (es ++ (e ∷ [])) (appended s e)
+  pub appended-written : WordId mode (put e) → Written mode repeats n (es ++ (e ∷ [])) (appended s e)
   unfolding appended writerAfter
   appended-written word =
       record {
@@ -190,7 +190,7 @@ module _ (mode : Mode) (n : ℕ) (es : List Entry) (s : State) (w : Written mode
         length-kept = length-sets (s .buffer) (s .writer .end) (entryBytes e) ∙ w .length-kept;
         end = omega (arith, w .end, entriesSize-snoc es e);
         entries = omega (arith, w .entries, length-append es (e ∷ []));
-        back-size = back-then mode n es s w e;
+        back-size = back-then mode repeats n es s w e;
         tables = tables-then;
         counts = counts-then;
         area = area-all;
@@ -201,23 +201,23 @@ module _ (mode : Mode) (n : ℕ) (es : List Entry) (s : State) (w : Written mode
 
 -- ---- the put, accepted or refused
 
-module _ (mode : Mode) (n : ℕ) (es : List Entry) (s : State) (w : Written mode n es s) (e : Entry) where
-  pub put-written : WordId mode (put e) → Written mode n (acceptedAfter mode n es (put e)) (afterPut s e)
+module _ (mode : Mode) (repeats : Repeats) (n : ℕ) (es : List Entry) (s : State) (w : Written mode repeats n es s) (e : Entry) where
+  pub put-written : WordId mode (put e) → Written mode repeats n (acceptedAfter mode repeats n es (put e)) (afterPut s e)
   unfolding afterPut
-  put-written word = go (eqb (putDue mode n es e) 0) refl
+  put-written word = go (eqb (putDue mode repeats n es e) 0) refl
     where
-      due : putRefusal s e ≡ putDue mode n es e
-      due = put-due mode n es s w e
+      due : putRefusal s e ≡ putDue mode repeats n es e
+      due = put-due mode repeats n es s w e
 
-      go : (b : Bool) → eqb (putDue mode n es e) 0 ≡ b → Written mode n (es ++ cond b (e ∷ []) []) (cond (eqb (putRefusal s e) 0) (appended s e) s)
-      go true d = rw (due, d) (appended-written mode n es s w e (eqb-true (putDue mode n es e) 0 d) word)
+      go : (b : Bool) → eqb (putDue mode repeats n es e) 0 ≡ b → Written mode repeats n (es ++ cond b (e ∷ []) []) (cond (eqb (putRefusal s e) 0) (appended s e) s)
+      go true d = rw (due, d) (appended-written mode repeats n es s w e (eqb-true (putDue mode repeats n es e) 0 d) word)
       go false d = rw (due, d, append-nil es) w
 
 -- ---- a fresh record
 
-pub fresh-written : (mode : Mode) (buffer : List ℕ) → headSize ≤ length buffer → Written mode (length buffer) [] (fresh mode buffer)
+pub fresh-written : (mode : Mode) (repeats : Repeats) (buffer : List ℕ) → headSize ≤ length buffer → Written mode repeats (length buffer) [] (fresh mode repeats buffer)
 unfolding fresh entriesSize placed ofTable backSize cat Rattle.image.specs.Bytes.keep
-fresh-written mode buffer room =
+fresh-written mode repeats buffer room =
     record {
       mode-is = refl;
       length-is = refl;

@@ -9,7 +9,7 @@ use Rattle.image.specs.Image.{Entry, headSize, entryBytes, entriesSize, entries
 use Rattle.writer.specs.State.{State}
 
 -- record and buffer hold these entries, in a buffer of n bytes, and their image has room
-pub record Written (mode : Mode) (n : ℕ) (es : List Entry) (s : State) : Type 0 where
+pub record Written (mode : Mode) (repeats : Repeats) (n : ℕ) (es : List Entry) (s : State) : Type 0 where
   pub mode-is : s .writer .mode ≡ mode
   pub length-is : s .writer .length ≡ n
   pub length-kept : length (s .buffer) ≡ n
