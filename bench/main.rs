@@ -1,5 +1,5 @@
 // The benchmarks: ours and the Rust's release build, in one run and one table. The two take turns, and each time is the best of
-// several repetitions.   main [hash | reading | building | page]
+// several repetitions.   main [hash | reading | building | repeats | page]
 mod building;
 mod hash;
 mod names;
@@ -7,6 +7,7 @@ mod names;
 mod ours;
 mod page;
 mod reading;
+mod repeats;
 mod table;
 
 fn main() {
@@ -21,6 +22,9 @@ fn main() {
     }
     if wanted("building") {
         building::run();
+    }
+    if wanted("repeats") {
+        repeats::run();
     }
     if wanted("page") {
         page::run();
