@@ -258,7 +258,8 @@ fn beside(random: &mut Random, calls: &[Call], others: Vec<Call>) -> Vec<Call> {
 
 fn pair(run: &mut Run, random: &mut Random, names: &Names, most: usize) {
     let puts = names.list(random, most);
-    let first = calls(random, names::repeating(random, names, puts));
+    let puts = names::repeating(random, names, puts);
+    let first = calls(random, puts);
     let puts = names.list(random, most);
     let others = calls(random, puts);
     let second = beside(random, &first, others);
