@@ -101,6 +101,9 @@ pub fn walk(buf: &[u8], end: usize, entries: u32, counts: &mut [u32; 256], sough
         }
         let name = &buf[at + 8..at + 7 + n];
         met = met | super::equality::same(name, sought);
+        back = larger(back, word(buf, at) as u64 + 1);
+        at += 8 + n;
+        left -= 1;
         let jhash::Hashed::Hash(h) = jhash::name_hash(name) else {
             return Walked {
                 whole: false,
@@ -109,9 +112,6 @@ pub fn walk(buf: &[u8], end: usize, entries: u32, counts: &mut [u32; 256], sough
             };
         };
         raise(&mut *counts, h);
-        back = larger(back, word(buf, at) as u64 + 1);
-        at += 8 + n;
-        left -= 1;
     }
     Walked {
         whole: at == end,

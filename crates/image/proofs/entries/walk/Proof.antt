@@ -99,40 +99,10 @@ part-name-end c =
 same-requires : tie.Need-same-requires Inv-loop μ-loop
 same-requires c κs = search needs
 
-name-hash-requires : tie.Need-name-hash-requires Inv-loop μ-loop
-name-hash-requires c κs = search needs
-
-enum-known-h : tie.Need-enum-known-h Inv-loop μ-loop
-enum-known-h c = search needs
-
-enum-told : tie.Need-enum-told Inv-loop μ-loop
-enum-told c = search needs
-
-returns-2 : tie.Need-returns-2 Inv-loop μ-loop
-returns-2 c =
-    let a = c .before .before .before .before .before .before .before .before .before .before .before .args in
-    let of-loop = c .before .before .before .before .before .before .before .before .loop in
-    let of-whole-length = c .before .before .before .before .before .before .whole-length in
-    let of-before = c .before .before .before .before .before in
-    let r = room (of-before) in
-    let long = told-refused (take (of-loop .at + 7 + of-whole-length .result - (of-loop .at + 8)) (drop (of-loop .at + 8) (a .buf .now))) 0 (c .before .before .name-hash .result) (c .before .before .name-hash .ensures) (c .enum-told .given .1) in
-    let l = simp length-take at long in
-    let s = of-whole-length .ensures .1 in
-    absurd (omega arith)
-
-raise-requires : tie.Need-raise-requires Inv-loop μ-loop
-raise-requires c κs =
-    let start-fits = c .before .before .before .before .before .before .before .before .before .before .before .before .before .fits in
-    let of-loop = c .before .before .before .before .before .before .before .before .before .before .loop in
-    let of-loop-test = c .before .before .before .before .before .before .before .before .before .loop-test in
-    let k = of-loop .inv .0 .counts-small (tableOf (c .before .before .h .given .0 .0)) in
-    omega (arith, of-loop-test .taken, start-fits .entries)
-
 word-requires : tie.Need-word-requires Inv-loop μ-loop
 word-requires c κs =
-    let of-before = c .before .before .before .before .before .before .before .before in
-    let r = room (of-before) in
-    omega (arith, c .before .before .before .before .before .before .before .before .before .before .before .before .before .before .pre .1)
+    let r = room (c .before .before) in
+    omega (arith, c .before .before .before .before .before .before .before .before .pre .1)
 
 cast-larger : tie.Need-cast-larger Inv-loop μ-loop
 cast-larger c = search needs
@@ -145,22 +115,48 @@ larger-requires c κs = search needs
 
 add-at : tie.Need-add-at Inv-loop μ-loop
 add-at c =
-    let start-good = c .before .before .before .before .before .before .before .before .before .before .before .before .before .before .before .before .good in
-    let start-pre = c .before .before .before .before .before .before .before .before .before .before .before .before .before .before .before .before .pre in
-    let of-before = c .before .before .before .before .before .before .before .before .before .before in
-    let r = room (of-before) in
+    let start-good = c .before .before .before .before .before .before .before .before .before .before .good in
+    let start-pre = c .before .before .before .before .before .before .before .before .before .before .pre in
+    let r = room (c .before .before .before .before) in
     omega (arith, start-good, start-pre .1)
 
 add-at-2 : tie.Need-add-at-2 Inv-loop μ-loop
 add-at-2 c =
-    let start-good = c .before .before .before .before .before .before .before .before .before .before .before .before .before .before .before .before .good in
-    let start-pre = c .before .before .before .before .before .before .before .before .before .before .before .before .before .before .before .before .pre in
-    let of-before = c .before .before .before .before .before .before .before .before .before .before in
-    let r = room (of-before) in
+    let start-good = c .before .before .before .before .before .before .before .before .before .before .good in
+    let start-pre = c .before .before .before .before .before .before .before .before .before .before .pre in
+    let r = room (c .before .before .before .before) in
     omega (arith, start-good, start-pre .1)
 
 sub-left : tie.Need-sub-left Inv-loop μ-loop
 sub-left c = omega arith
+
+name-hash-requires : tie.Need-name-hash-requires Inv-loop μ-loop
+name-hash-requires c κs = search needs
+
+enum-known-h : tie.Need-enum-known-h Inv-loop μ-loop
+enum-known-h c = search needs
+
+enum-told : tie.Need-enum-told Inv-loop μ-loop
+enum-told c = search needs
+
+returns-2 : tie.Need-returns-2 Inv-loop μ-loop
+returns-2 c =
+    let a = c .before .before .before .before .before .before .before .before .before .before .before .before .before .args in
+    let of-loop = c .before .before .before .before .before .before .before .before .before .before .loop in
+    let of-whole-length = c .before .before .before .before .before .before .before .before .whole-length in
+    let r = room (c .before .before .before .before .before .before .before) in
+    let long = told-refused (take (of-loop .at + 7 + of-whole-length .result - (of-loop .at + 8)) (drop (of-loop .at + 8) (a .buf .now))) 0 (c .before .before .name-hash .result) (c .before .before .name-hash .ensures) (c .enum-told .given .1) in
+    let l = simp length-take at long in
+    let s = of-whole-length .ensures .1 in
+    absurd (omega arith)
+
+raise-requires : tie.Need-raise-requires Inv-loop μ-loop
+raise-requires c κs =
+    let start-fits = c .before .before .before .before .before .before .before .before .before .before .before .before .before .before .before .fits in
+    let of-loop = c .before .before .before .before .before .before .before .before .before .before .before .before .loop in
+    let of-loop-test = c .before .before .before .before .before .before .before .before .before .before .before .loop-test in
+    let k = of-loop .inv .0 .counts-small (tableOf (c .before .before .h .given .0 .0)) in
+    omega (arith, of-loop-test .taken, start-fits .entries)
 
 loop-less : tie.Need-loop-less Inv-loop μ-loop
 loop-less c = omega arith
@@ -172,19 +168,20 @@ loop-again c =
     let of-loop = c .before .before .before .before .before .before .before .before .before .before .before .before .before .loop in
     let some = c .before .before .before .before .before .before .before .before .before .before .before .before .loop-test .taken in
     let of-whole-length = c .before .before .before .before .before .before .before .before .before .before .before .whole-length in
-    let of-before = c .before .before .before .before .before .before .before .before .before .before in
     let of-same = c .before .before .before .before .before .before .before .before .same in
-    let of-name-hash = c .before .before .before .before .before .before .before .name-hash in
-    let of-h = c .before .before .before .before .before .h in
-    let f = known (of-before) in
+    let of-word = c .before .before .before .before .before .before .before .word in
+    let of-larger = c .before .before .before .before .before .before .larger in
+    let of-name-hash = c .before .before .before .before .before .name-hash in
+    let of-h = c .before .before .before .h in
+    let f = known (c .before .before .before .before .before .before .before .before .before .before) in
     let name = take (of-loop .at + 7 + of-whole-length .result - (of-loop .at + 8)) (drop (of-loop .at + 8) (a .buf .now)) in
     let told = told-image-hash name (of-name-hash .result) (of-h .given .0 .0) (of-name-hash .ensures) (of-h .given .1) in
-    let small : c .before .word .result < 4294967296 = omega (arith, c .before .word .ok) in
+    let small : of-word .result < 4294967296 = omega (arith, of-word .ok) in
     let t = walk-turn (a .buf .now) (a .end) (a .entries) (a .counts .now) (of-loop .at) (of-loop .left) (of-loop .back) (of-loop .counts) (start-pre .1) (of-loop .inv .0) some
-    (of-whole-length .result) (of-h .given .0 .0) (c .before .word .result) name (c .before .before .raise .last .0) f (of-whole-length .ensures .1) small refl (told .1) (c .before .word .ensures) (c .before .before .raise .ensures) in
+    (of-whole-length .result) (of-h .given .0 .0) (of-word .result) name (c .raise .last .0) f (of-whole-length .ensures .1) small refl (told .1) (of-word .ensures) (c .raise .ensures) in
     let m = met-turn (a .buf .now) (a .end) (a .entries) (a .sought .now) (of-loop .at) (of-loop .left) (of-loop .met) (start-pre .1) (of-loop .inv .0 .inside) some (of-loop .inv .1)
     (of-whole-length .result) name (of-same .result) f refl (of-same .ensures) in
-    (rw (c .larger .ensures) t, m)
+    (rw (of-larger .ensures) t, m)
 
 returns-3 : tie.Need-returns-3 Inv-loop μ-loop
 returns-3 c =
@@ -212,11 +209,6 @@ walk-spec =
     part-name-start
     part-name-end
     same-requires
-    name-hash-requires
-    enum-known-h
-    enum-told
-    returns-2
-    raise-requires
     word-requires
     cast-larger
     add-larger
@@ -224,6 +216,11 @@ walk-spec =
     add-at
     add-at-2
     sub-left
+    name-hash-requires
+    enum-known-h
+    enum-told
+    returns-2
+    raise-requires
     loop-less
     loop-again
     returns-3)
