@@ -43,7 +43,7 @@ impl CQDBWriter {
 
     /// A writer of a two-way or one-way image that refuses a name which it already holds.
     ///
-    /// Each put then looks at all entries before it: 4,096 names take about 40 ms, 100,000 about 30 s. Where the names are
+    /// Each put then looks at all entries before it: 4,096 names take about 40 ms, 100,000 half a minute. Where the names are
     /// known to differ, [`with_repeats`](CQDBWriter::with_repeats) makes the same image without that look.
     pub fn with_flag(flag: Flag) -> Self {
         Self::begin(flag, Repeats::Off)

@@ -195,7 +195,7 @@ impl Run {
     }
 }
 
-// One state that calls left: its image is read in damaged copies, and copies of it are spoilt and written to.
+// One state that calls left: its image is read in damaged copies, and copies of it, most of them spoilt, are written to.
 fn round(run: &mut Run, random: &mut Random) {
     let Some(state) = run.begin(random) else { return };
     let names: Vec<Box<[u8]>> = match writing::entries(&state) {
@@ -213,7 +213,7 @@ fn round(run: &mut Run, random: &mut Random) {
     run.image(random, &noise, &names);
     for _ in 0..60 {
         let mut odd = if random.once_in(2) { state.clone() } else { closed.clone() };
-        for _ in 0..1 + random.below(3) {
+        for _ in 0..random.below(4) {
             spoil::state(random, &mut odd);
         }
         run.write(random, &odd, &names);
