@@ -34,7 +34,7 @@ extern "C" {
 #define CQDB_TOO_SHORT 1u        /* begin, open: under 2,072 bytes */
 #define CQDB_UNFIT 2u            /* begin, put, close: the writer does not fit the buffer, or its mode or repeats is neither 0 nor 1 */
 #define CQDB_NO_ROOM 3u          /* put, bundle_append: the image would exceed the buffer; put: or 4,294,967,295 bytes */
-#define CQDB_INCONSISTENT 4u     /* close, put with repeats off: the buffer's entries are not the writer's; close: or the image would be too large */
+#define CQDB_INCONSISTENT 4u     /* put, close: the buffer's entries are not the writer's (put: with repeats off); close: or the image would be too large */
 #define CQDB_WRONG_LETTERS 5u    /* open, bundle_open: the image does not begin with the letters CQDB */
 #define CQDB_WRONG_BYTE_ORDER 6u /* open, bundle_open: the word at 12, which shows the byte order, is wrong */
 #define CQDB_TABLE_LEAVES 7u     /* open, bundle_open: a table with an offset above 0 leaves the image */
@@ -44,7 +44,7 @@ extern "C" {
 #define CQDB_NO_SUCH_IMAGE 11u   /* bundle_open: the file ends at or before the position */
 #define CQDB_PAGE_TOO_LONG 12u   /* page: it has more bytes than the output */
 #define CQDB_ZERO_BYTE 13u       /* put: the name has a zero byte */
-#define CQDB_REPEATED 16u        /* put with repeats off: an earlier entry has this name */
+#define CQDB_REPEATED 16u        /* put: an earlier entry has this name, and repeats are off */
 #define CQDB_TOO_FEW_BYTES 19u   /* sheet_read: the file ends before its third section does */
 #define CQDB_LEFT_OVER_BYTES 20u /* sheet_read: bytes follow the third section */
 #define CQDB_SHEET_TOO_LARGE 21u /* sheet_write: a list has more than 65,535 ids, or the buffer is too short */

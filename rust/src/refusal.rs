@@ -56,6 +56,8 @@ refusals! {
     PageTooLong = 12, "the page is longer than the output";
     /// The name has a zero byte.
     ZeroByte = 13, "the name has a zero byte";
+    /// An earlier put has this name, and the writer takes no repeats.
+    Repeated = 16, "the name is repeated, and the writer takes no repeats";
     /// The round sheet has too few bytes.
     TooFewBytes = 19, "invalid round sheet, too few bytes";
     /// The round sheet has left-over bytes.
