@@ -31,6 +31,7 @@
 mod archive;
 mod bundle;
 mod flag;
+mod held;
 mod name;
 mod order;
 mod page;

@@ -50,6 +50,11 @@ impl<T: Write + Seek> CQDBWriter<T> {
         Self::over(stream, MemoryWriter::with_flag(flag))
     }
 
+    /// A writer that takes a name that it holds already, as cqdb-rs does.
+    pub fn with_repeats(stream: T, flag: Flag) -> io::Result<Self> {
+        Self::over(stream, MemoryWriter::with_repeats(flag))
+    }
+
     fn over(mut stream: T, image: MemoryWriter) -> io::Result<Self> {
         let begin = stream.stream_position()?;
         Ok(CQDBWriter { stream: Some(stream), begin, image })

@@ -3,12 +3,15 @@ use std::fmt;
 
 use crate::archive::{self, Counts, Record};
 use crate::flag::Flag;
+use crate::held::Held;
 use crate::refusal::{self, Refusal};
 
 /// The head of an image, which the entries follow.
 const HEAD: usize = 2_072;
 /// The length of the first buffer; it grows as needed.
 const FIRST: usize = 4_096;
+/// The archive's writer begins with repeats on: this crate's writers look for repeats themselves.
+const REPEATS_ON: u32 = 1;
 /// The size of the largest image.
 const LIMIT: u64 = 4_294_967_295;
 
@@ -41,6 +44,8 @@ pub struct MemoryWriter {
     buffer: Vec<u8>,
     record: Record,
     counts: Counts,
+    /// The names so far, where repeats are off.
+    held: Option<Held>,
 }
 
 impl MemoryWriter {
@@ -51,22 +56,41 @@ impl MemoryWriter {
 
     /// A writer of a two-way or one-way image.
     pub fn with_flag(flag: Flag) -> Self {
+        Self::begin(flag, Some(Held::default()))
+    }
+
+    /// A writer that takes a name that it holds already, as for a prism that is renewed under another id.
+    pub fn with_repeats(flag: Flag) -> Self {
+        Self::begin(flag, None)
+    }
+
+    fn begin(flag: Flag, held: Option<Held>) -> Self {
         let buffer = vec![0; FIRST];
         let mut counts = [0; 256];
-        let begun = archive::begin(flag.bits(), &mut counts, &buffer);
+        let begun = archive::begin(flag.bits(), REPEATS_ON, &mut counts, &buffer);
         assert_eq!(begun.refusal, 0, "begin accepts every buffer of 2,072 bytes or more");
-        MemoryWriter { buffer, record: begun.record, counts }
+        MemoryWriter { buffer, record: begun.record, counts, held }
     }
 
     /// Puts a name, any bytes but 0, under an id. A name gives the id of its first put, and an id gives the name of its last.
-    /// Refused, and nothing changes, with [`Refusal::ZeroByte`] when the name has a zero byte; else with [`Refusal::NoRoom`]
-    /// when the image would exceed 4,294,967,295 bytes; a two-way image has four bytes for each id up to the largest.
+    /// Refused, and nothing changes, with [`Refusal::ZeroByte`] when the name has a zero byte; else with
+    /// [`Refusal::Repeated`] when the writer holds the name, unless it was made by [`with_repeats`](Self::with_repeats); else
+    /// with [`Refusal::NoRoom`] when the image would exceed 4,294,967,295 bytes; a two-way image has four bytes for each id up
+    /// to the largest.
     pub fn put<K: AsRef<[u8]>>(&mut self, name: K, id: u32) -> Result<(), Refusal> {
         let name = name.as_ref();
+        if self.held.as_ref().is_some_and(|held| held.has(&self.buffer, name)) {
+            return Err(Refusal::Repeated);
+        }
+        let at = self.record.end as u32;
         match self.put_here(name, id) {
             Err(Refusal::NoRoom) if self.grow(name.len(), id) => self.put_here(name, id),
             answer => answer,
+        }?;
+        if let Some(held) = &mut self.held {
+            held.add(name, at);
         }
+        Ok(())
     }
 
     /// Closes the writer and gives the finished image.

@@ -36,6 +36,21 @@ fn writing() -> io::Result<()> {
     Ok(())
 }
 
+#[test]
+fn repeats() -> io::Result<()> {
+    let stream = Cursor::new(Vec::new());
+    let mut writer = CQDBWriter::with_repeats(stream, Flag::NONE)?;
+    writer.put("A", 5)?;
+    writer.put("A", 9)?;
+    let image = writer.finish()?.into_inner();
+    let db = CQDB::new(&image)?;
+    assert_eq!((db.num(), db.to_id("A"), db.to_str(9).map(|name| name == "A")), (2, Some(5), Some(true)));
+    let mut writer = CQDBWriter::new(Cursor::new(Vec::new()))?;
+    writer.put("A", 5)?;
+    assert_eq!(refused(writer.put("A", 9)), Refusal::Repeated);
+    Ok(())
+}
+
 /// A table of one bucket, taken by another hash.
 #[test]
 fn a_full_table() -> io::Result<()> {

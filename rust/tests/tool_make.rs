@@ -81,7 +81,21 @@ fn each_refusal_of_a_put_stops_it_with_its_number() {
     folder.write("list", "1 one\n2 two\n4294967295 far\n");
     let told = "cqdb: make: list, line 3: no room: the image would be too large (refusal 3)\n";
     folder.cqdb(&["make", "image", "list"]).gives(2).prints("").tells(told);
+    folder.write("list", "1 one\n2 two\n3 one\n");
+    let told = "cqdb: make: list, line 3: the writer already holds this name, and repeats are off (refusal 16)\n";
+    folder.cqdb(&["make", "image", "list"]).gives(2).prints("").tells(told);
     assert!(folder.read("image") == old && folder.files() == ["image", "list"]);
+}
+
+#[test]
+fn repeats_where_they_are_asked_for() {
+    let folder = Folder::new();
+    let list = "5 crane\n9 crane\n5 mole\n";
+    folder.with(list, &["make", "--repeats", "image"]).gives(0).prints("image: 3 entries, 2201 bytes\n").tells("");
+    folder.cqdb(&["id", "image", "crane"]).prints("5 crane\n");
+    folder.cqdb(&["list", "image"]).prints("5 mole\n9 crane\n");
+    let ran = folder.with(list, &["make", "--skip", "image"]).gives(0).prints("image: 2 entries, 2155 bytes\n");
+    assert!(ran.err.ends_with("cqdb: make: 1 line skipped: 1 refused with 16\n"), "{}", ran.err);
 }
 
 #[test]
@@ -117,8 +131,7 @@ fn lists_of_windows_are_noticed_and_named() {
 fn names_of_any_bytes_survive() {
     let folder = Folder::new();
     let all: Vec<u8> = (1..=255).collect();
-    let names: Vec<Vec<u8>> =
-        (1..=255).map(|byte| vec![byte]).chain([all, b"\r".to_vec(), b"ends \r".to_vec(), Vec::new()]).collect();
+    let names: Vec<Vec<u8>> = (1..=255).map(|byte| vec![byte]).chain([all, b"ends \r".to_vec(), Vec::new()]).collect();
     let lines: Vec<Vec<u8>> =
         names.iter().enumerate().map(|(id, name)| [format!("{id} ").as_bytes(), name, b"\0"].concat()).collect();
     folder.with(lines.concat(), &["make", "-0", "image"]).gives(0);

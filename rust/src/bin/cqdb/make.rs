@@ -12,6 +12,8 @@ use crate::progress::Progress;
 
 const ONE_WAY: Opt =
     Opt { long: "--one-way", short: None, text: "names to ids alone: the array that names ids is left out" };
+const REPEATS: Opt =
+    Opt { long: "--repeats", short: None, text: "take a name that was put before, as of a renewed prism" };
 const SKIP: Opt =
     Opt { long: "--skip", short: None, text: "pass over lines that cannot be put, tell them and count them" };
 const WINDOWS: Opt =
@@ -23,15 +25,16 @@ pub const COMMAND: Command = Command {
     summary: "make an image from a list of ids and names",
     text: "
 Makes IMAGE from the lines of LIST, or of standard input: a decimal id up to
-4294967295, a space, and the name, which is the rest of the line. A name gives
-the id of its first line, and an id gives the name of its last.
+4294967295, a space, and the name, which is the rest of the line. An id gives the
+name of its last line. A name that comes again is refused with 16; with --repeats
+it is put, and gives the id of its first line.
 
 A line of another form, or one whose put is refused, stops it: the message has
 the line's number, the reason and the refusal's number. The image is written
 beside its place and moved there: a reader never sees half of one, and where
 something fails the old image stays.
 ",
-    options: &[ONE_WAY, SKIP, TAB, WINDOWS, ZERO],
+    options: &[ONE_WAY, REPEATS, SKIP, TAB, WINDOWS, ZERO],
     operands: (1, 2),
     run,
 };
@@ -42,7 +45,8 @@ const SHOWN: u64 = 10;
 fn run(args: Args) -> Outcome {
     let flag = if args.has(&ONE_WAY) { Flag::ONEWAY } else { Flag::NONE };
     let mut list = Lines::open(args.operand(1), args.end())?;
-    let mut making = Making { writer: MemoryWriter::with_flag(flag), put: 0, skipped: Skipped::default() };
+    let writer = if args.has(&REPEATS) { MemoryWriter::with_repeats(flag) } else { MemoryWriter::with_flag(flag) };
+    let mut making = Making { writer, put: 0, skipped: Skipped::default() };
     let mut progress = Progress::new();
     while let Some((number, line)) = list.read()? {
         let put = making.line(&args, number, line);
