@@ -1,6 +1,2 @@
--- Laws of the load, and its theorem.
-pub mod Names
+-- x
 pub mod Turns
-pub mod Entered
-pub mod Theorem
-pub mod Rows

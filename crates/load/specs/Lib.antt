@@ -1,4 +1,3 @@
--- The load of a seed: its states, names and puts, and what is proved of it.
+-- x
 pub mod States
 pub mod Load
-pub mod Rebuilt
