@@ -10,6 +10,7 @@ use Rattle.jhash.specs.Outcome.{Outcome, value}
 use Rattle.image.specs.declared.Mode.{Mode}
 use Rattle.image.specs.declared.Mode.the-variants.{Twoway}
 use Rattle.image.specs.Image.{Entry, headSize, image}
+use Rattle.writer.specs.declared.Repeats.{Repeats}
 use Rattle.writer.specs.State.{State, fresh}
 use Rattle.writer.specs.Put.{afterPut}
 use Rattle.writer.specs.Close.{closing, closedSize, afterClose}
@@ -26,7 +27,7 @@ use Rattle.lists.proofs.Theorem.{calls-imaged, list-answered}
 value-same : {A : Type 0} {x y : A} → value x ≡ value y → x ≡ y
 value-same {A} {x} {y} h = cc
 
-module _ (buffer : List ℕ) (cs : List Call) (size : ℕ) (room : headSize ≤ length buffer) (gave : closing (afterList Twoway repeats buffer cs) ≡ value size) where
+module _ (repeats : Repeats) (buffer : List ℕ) (cs : List Call) (size : ℕ) (room : headSize ≤ length buffer) (gave : closing (afterList Twoway repeats buffer cs) ≡ value size) where
   -- the size that the close gave is that of the image
   size-is : size ≡ closedSize (afterList Twoway repeats buffer cs)
   size-is = value-same (sym gave ∙ list-gives Twoway repeats buffer room cs (two-way cs))
@@ -43,12 +44,12 @@ module _ (buffer : List ℕ) (cs : List Call) (size : ℕ) (room : headSize ≤ 
       ∙ accepted-after-close Twoway repeats (length buffer) cs []
       ∙ sym (list-accepted Twoway repeats buffer room cs (two-way cs))
 
-  after-close : AfterClose buffer cs size
+  after-close : AfterClose repeats buffer cs size
   after-close =
       record {
         same-puts = same-puts;
         stands = bytes-are ∙ calls-imaged Twoway repeats buffer cs room (two-way cs);
-        answered = rw bytes-are (list-answered buffer cs room);
+        answered = rw bytes-are (list-answered repeats buffer cs room);
       }
 
 -- ---- calls of which no put is accepted
@@ -76,7 +77,7 @@ module _ (mode : Mode) (repeats : Repeats) (n : ℕ) (es : List Entry) (s : Stat
           absurd (omega (arith, accepted-grows mode repeats n (es ++ (e ∷ [])) cs, length-append es (e ∷ []), ap length k))
       go false d k rest = rw (put-due mode repeats n es s w e, d) (rest (rw (append-nil es) at k))
 
-module _ (buffer : List ℕ) (cs more : List Call) (room : headSize ≤ length buffer) where
+module _ (repeats : Repeats) (buffer : List ℕ) (cs more : List Call) (room : headSize ≤ length buffer) where
   -- record and buffer after the close
   there : State
   there = afterClose (afterList Twoway repeats buffer cs)
@@ -104,4 +105,4 @@ module _ (buffer : List ℕ) (cs more : List Call) (room : headSize ≤ length b
 
 pub close-readable : CloseReadable
 close-readable =
-    record { after-close = after-close; kept = kept; repaired = λ buffer cs more. after-close buffer (cs ++ (close ∷ more)) }
+    record { after-close = after-close; kept = kept; repaired = λ repeats buffer cs more. after-close repeats buffer (cs ++ (close ∷ more)) }

@@ -8,6 +8,7 @@ use Rattle.jhash.specs.Outcome.{value}
 use Rattle.image.specs.declared.Mode.{Mode}
 use Rattle.image.specs.declared.Mode.the-variants.{Twoway}
 use Rattle.image.specs.Image.{Entry, headSize}
+use Rattle.writer.specs.declared.Repeats.{Repeats}
 use Rattle.writer.specs.State.{State, fresh, beginRefusal, beginning, countsBegun}
 use Rattle.lists.specs.Calls.{Call, put, close, afterCall, answer, after, answers, acceptedOne, acceptedBy, acceptedAfter, dueTo}
 use Rattle.lists.specs.Calls.{acceptedFrom, dueFrom, accepted, due, Permitted, AllPermitted, WordId, WordIds}
@@ -65,7 +66,7 @@ accepted-after-close mode repeats n cs ds =
 
 -- ---- what is due
 
--- 0, 13 or 3 to a put, 0 to a close
+-- 0, 13, 16 or 3 to a put, 0 to a close
 one-permitted : (mode : Mode) (repeats : Repeats) (n : ℕ) (es : List Entry) (c : Call) → Permitted c (dueTo mode repeats n es c)
 one-permitted mode repeats n es (put e) = due-number mode repeats n es e
 one-permitted mode repeats n es close = refl
@@ -85,8 +86,8 @@ unfolding acceptedFrom acceptedBy dueFrom
 accepted-from mode repeats n es [] = sym (append-nil es)
 accepted-from mode repeats n es (c ∷ cs) =
     let next : List Entry = acceptedAfter mode repeats n es c in
-    accepted-from mode n next cs
-    ∙ append-assoc es (acceptedOne c (dueTo mode repeats n es c)) (acceptedBy cs (dueFrom mode n next cs))
+    accepted-from mode repeats n next cs
+    ∙ append-assoc es (acceptedOne c (dueTo mode repeats n es c)) (acceptedBy cs (dueFrom mode repeats n next cs))
 
 pub accepted-by-due : (mode : Mode) (repeats : Repeats) (n : ℕ) (cs : List Call) → acceptedBy cs (due mode repeats n cs) ≡ accepted mode repeats n cs
 unfolding accepted due

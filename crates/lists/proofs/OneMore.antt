@@ -7,13 +7,15 @@ use lib.ListN.{length}
 use Rattle.jhash.specs.Outcome.{value}
 use Rattle.image.specs.declared.Mode.{Mode}
 use Rattle.image.specs.Image.{Entry, headSize, imageSize, image}
+use Rattle.writer.specs.declared.Repeats.{Repeats}
 use Rattle.writer.specs.State.{State}
 use Rattle.writer.specs.Close.{closeRefusal, closedSize, closedImage, closing, afterClose}
 use Rattle.lists.specs.Calls.{Call, put, close, acceptedFrom, accepted, sizeOf, puts, WordIds}
 use Rattle.lists.specs.Demand3.{afterList}
 use Rattle.lists.proofs.Written.{Written}
 use Rattle.lists.proofs.Appended.{sizeOf-is}
-use Rattle.lists.proofs.Closes.{written-size, close-accepted, close-image, close-again}
+use Rattle.lists.proofs.Recorded.{written-size}
+use Rattle.lists.proofs.Closes.{close-accepted, close-image, close-again}
 use Rattle.lists.proofs.Along.{list-written}
 
 module _ (mode : Mode) (repeats : Repeats) (buffer : List ℕ) (room : headSize ≤ length buffer) (cs : List Call) (word : WordIds mode cs) where

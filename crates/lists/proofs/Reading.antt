@@ -18,6 +18,7 @@ use Rattle.reader.specs.Cases.{reads}
 use Rattle.answers.proofs.Images.{image-opens, name-gives, name-nothing, name-reads, found-reads, long-reads, last-met, ids-fit, id-gives, id-nothing}
 use Rattle.answers.proofs.Named.{naming-oneway}
 use Rattle.answers.proofs.Walked.{part-given, step-given, home-given, hint-image}
+use Rattle.writer.specs.declared.Repeats.{Repeats}
 use Rattle.lists.specs.Calls.{Call, accepted, WordIds}
 use Rattle.lists.specs.Demand3.{imageOf, NamesAnswered, IdsAnswered}
 use Rattle.lists.specs.AfterClose.{Answered}

@@ -19,6 +19,7 @@ use Rattle.reader.specs.Naming.{Naming, place, unnamed, naming}
 use Rattle.reader.specs.Panel.{agreeOn, readingsAgree}
 use Rattle.reader.proofs.Panels.{agree-held, agree-unnamed}
 use Rattle.answers.specs.Answer.{heldAt, nameGiven, ofId, lastName}
+use Rattle.writer.specs.declared.Repeats.{Repeats}
 use Rattle.lists.specs.Calls.{Call, put, close, acceptedOne, putDue, acceptedFrom, accepted, WordIds}
 use Rattle.lists.specs.Demand3.{imageOf}
 use Rattle.lists.specs.Readings.{Readings}
@@ -86,6 +87,6 @@ module _ (mode : Mode) (repeats : Repeats) (buffer : List ℕ) (room : headSize 
 pub readings : Readings
 readings =
     record {
-      two-way = λ buffer cs room. list-agrees Twoway repeats buffer room cs (two-way cs);
-      one-way = λ buffer cs room word. list-agrees Oneway repeats buffer room cs word;
+      two-way = λ repeats buffer cs room. list-agrees Twoway repeats buffer room cs (two-way cs);
+      one-way = λ repeats buffer cs room word. list-agrees Oneway repeats buffer room cs word;
     }

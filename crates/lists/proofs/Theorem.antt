@@ -9,6 +9,7 @@ use Rattle.image.specs.Image.{headSize, imageSize, image}
 use Rattle.reader.specs.Lookup.{lookup}
 use Rattle.answers.specs.Answer.{foundOffset, firstId, lastName, isNamed}
 use Rattle.answers.proofs.Images.{name-stands, ids-fit}
+use Rattle.writer.specs.declared.Repeats.{Repeats}
 use Rattle.lists.specs.Calls.{Call, sizeOf, WordIds}
 use Rattle.lists.specs.Demand3.{acceptedPuts, imageOf, CallsAnswered, OneList, TwoLists, Demand3}
 use Rattle.lists.specs.Corollaries.{Together, Corollaries}
@@ -43,14 +44,14 @@ module _ (mode : Mode) (repeats : Repeats) (buffer : List ℕ) (cs : List Call) 
 
 -- ---- two-way
 
-module _ (buffer : List ℕ) (cs : List Call) (room : headSize ≤ length buffer) where
+module _ (repeats : Repeats) (buffer : List ℕ) (cs : List Call) (room : headSize ≤ length buffer) where
   -- each reading call answers by the accepted puts
   pub list-answered : Answered (acceptedPuts Twoway repeats buffer cs) (imageOf Twoway repeats buffer cs)
   list-answered =
       rw (calls-imaged Twoway repeats buffer cs room (two-way cs))
       (two-way-answered (acceptedPuts Twoway repeats buffer cs) (calls-below Twoway repeats buffer cs room (two-way cs)))
 
-  pub one-list : OneList buffer cs
+  pub one-list : OneList repeats buffer cs
   one-list = record { calls = calls-answered Twoway repeats buffer cs room (two-way cs); names = list-answered .names; ids = list-answered .ids }
 
   together : Together (acceptedPuts Twoway repeats buffer cs) (imageOf Twoway repeats buffer cs)
@@ -67,7 +68,7 @@ module _ (buffer : List ℕ) (cs : List Call) (room : headSize ≤ length buffer
         );
       }
 
-  pub corollaries : Corollaries buffer cs
+  pub corollaries : Corollaries repeats buffer cs
   corollaries =
       let below = calls-below Twoway repeats buffer cs room (two-way cs) in
       record {
@@ -82,11 +83,11 @@ module _ (buffer : List ℕ) (cs : List Call) (room : headSize ≤ length buffer
         closed-twice = list-twice Twoway repeats buffer room cs (two-way cs);
       }
 
-pub two-lists : (buffer₁ : List ℕ) (cs₁ : List Call) (buffer₂ : List ℕ) (cs₂ : List Call) → headSize ≤ length buffer₁ → headSize ≤ length buffer₂
-    → TwoLists buffer₁ cs₁ buffer₂ cs₂
-two-lists buffer₁ cs₁ buffer₂ cs₂ room₁ room₂ =
-    let one = list-answered buffer₁ cs₁ room₁ in
-    let two = list-answered buffer₂ cs₂ room₂ in
+pub two-lists : (repeats₁ : Repeats) (buffer₁ : List ℕ) (cs₁ : List Call) (repeats₂ : Repeats) (buffer₂ : List ℕ) (cs₂ : List Call) → headSize ≤ length buffer₁ → headSize ≤ length buffer₂
+    → TwoLists repeats₁ buffer₁ cs₁ repeats₂ buffer₂ cs₂
+two-lists repeats₁ buffer₁ cs₁ repeats₂ buffer₂ cs₂ room₁ room₂ =
+    let one = list-answered repeats₁ buffer₁ cs₁ room₁ in
+    let two = list-answered repeats₂ buffer₂ cs₂ room₂ in
     record {
       alike-name = λ name h. one .names .name-gives name ∙ ap firstId h ∙ sym (two .names .name-gives name);
       alike-id = λ id h. one .ids .id-gives id ∙ ap lastName h ∙ sym (two .ids .id-gives id);
