@@ -19,7 +19,7 @@ unfoldable pub putFrom : ℕ → ℕ → ℕ → State → State
 putFrom seed zero i s = s
 putFrom seed (suc n) i s =
     elim (eqb (putRefusal s (loadEntry seed i)) 0) [
-      true ↦ putFrom seed n (suc i) (afterPut s (loadEntry seed i))
+      | true ↦ putFrom seed n (suc i) (afterPut s (loadEntry seed i))
       | false ↦ s
     ]
 

@@ -24,13 +24,14 @@ fn put_entries(w: CQDBWriter, counts: &mut [u32; 256], buf: &mut [u8], seed: u32
     let mut state = seed;
     let mut i: u32 = 0;
     while i < 4096 {
-        state = stepped(state);
-        let name = state_name(state);
+        let next = stepped(state);
+        let name = state_name(next);
         let stored = writer::put(after, &mut *counts, &mut *buf, &name, i);
         after = stored.writer;
         if stored.refusal != 0 {
             return after;
         }
+        state = next;
         i += 1;
     }
     after
