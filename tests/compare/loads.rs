@@ -24,7 +24,8 @@ fn puts(seed: u32, n: usize) -> Vec<Put> {
 
 // One load in a buffer with room for n entries, and up to 37 bytes more.
 fn load(tally: &mut Tally, random: &mut Random, seed: u32, n: usize) {
-    let mut buf = random.bytes(2_072 + 38 * n + random.below(38));
+    let more = random.below(38);
+    let mut buf = random.bytes(2_072 + 38 * n + more);
     let answer = ours::load(seed, &mut buf);
     tally.rust((answer.refusal, answer.accepted), (0, n as u32), || format!("seed {seed} with room for {n}"));
     let image = &buf[..2_072 + 38 * n];
@@ -37,7 +38,7 @@ fn load(tally: &mut Tally, random: &mut Random, seed: u32, n: usize) {
         let (name, id) = &puts[random.below(n)];
         let text = std::str::from_utf8(name).expect("digits");
         tally.rust(ours::found_id(image, name), db.to_id(text), || format!("the id of {text} of seed {seed}"));
-        tally.rust(ours::named(image, *id), db.to_str(*id).map(|name| &name[..]), || format!("id {id} of seed {seed}"));
+        tally.rust(ours::named(image, *id), db.to_str(*id).map(|name| &**name), || format!("id {id} of seed {seed}"));
     }
 }
 
