@@ -48,7 +48,11 @@ fn bundles() {
     let mut copy = vec![0u8; file.len()];
     let open = || assert_eq!(ours::bundle_open(black_box(&file), LOADS as u64 - 1).num as usize, ENTRIES);
     let copy_file = || black_box(&mut copy[..]).copy_from_slice(black_box(&file));
-    table::row(&format!("open the last of {LOADS} loads, beside a copy of the file"), best(300, 1, open, copy_file), None);
+    table::row(
+        &format!("open the last of {LOADS} loads, beside a copy of the file"),
+        best(300, 1, open, copy_file),
+        None,
+    );
     let before = (file.len() - SIZE) as u64;
     let append = || assert_eq!(ours::bundle_append(black_box(&mut buf), before, black_box(&image)).length, end);
     let mut place = vec![0u8; SIZE];

@@ -34,7 +34,9 @@ fn names_and_ids() {
 #[test]
 fn buffers_with_room_for_fewer() {
     let whole = load(3);
-    for (room, entries, size) in [(157_719, 4_095, 157_682), (2_072 + 38, 1, 2_110), (2_072 + 37, 0, 2_072), (2_072, 0, 2_072)] {
+    for (room, entries, size) in
+        [(157_719, 4_095, 157_682), (2_072 + 38, 1, 2_110), (2_072 + 37, 0, 2_072), (2_072, 0, 2_072)]
+    {
         let mut buf = vec![7; room];
         assert_eq!(load_in(3, &mut buf), Ok(entries), "{room} bytes");
         assert_eq!(u32::from_le_bytes(buf[4..8].try_into().unwrap()) as usize, size);

@@ -113,6 +113,9 @@ fn main() {
         "load: {} seeds in {} buffers of {} bytes together, {} with all 4,096 entries and {} refused",
         seeds, run.loads, run.bytes, run.full, run.refused
     );
-    println!("load: {} answers and their bytes compared with 02's rule: {} different", run.tally.rule, run.tally.different);
+    println!(
+        "load: {} answers and their bytes compared with 02's rule: {} different",
+        run.tally.rule, run.tally.different
+    );
     std::process::exit(i32::from(run.tally.different > 0));
 }

@@ -52,6 +52,9 @@ fn main() {
         let n = if random.once_in(2) { 4_096 } else { random.below(4_096) };
         load(&mut tally, &mut random, seed, n);
     }
-    println!("loads: {seeds} images and {} answers compared with the Rust's: {} different", tally.rust, tally.different);
+    println!(
+        "loads: {seeds} images and {} answers compared with the Rust's: {} different",
+        tally.rust, tally.different
+    );
     std::process::exit(i32::from(tally.different > 0));
 }
