@@ -1,5 +1,5 @@
 // The benchmarks: ours and the Rust's release build, or a copy for bundles, in one run and one table. The two take turns, and each
-// time is the best of several repetitions.   main [hash | reading | building | page | bundle | load]
+// time is the best of several repetitions.   main [hash | reading | building | repeats | page | bundle | load]
 mod building;
 mod bundle;
 mod hash;
@@ -9,6 +9,7 @@ mod names;
 mod ours;
 mod page;
 mod reading;
+mod repeats;
 mod table;
 
 fn main() {
@@ -23,6 +24,9 @@ fn main() {
     }
     if wanted("building") {
         building::run();
+    }
+    if wanted("repeats") {
+        repeats::run();
     }
     if wanted("page") {
         page::run();

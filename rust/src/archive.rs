@@ -146,13 +146,7 @@ extern "C" {
     fn cqdb_home(image: *const u8, len: usize, id: u32) -> u32;
     fn cqdb_page_length(image: *const u8, len: usize) -> u64;
     fn cqdb_page(image: *const u8, len: usize, out: *mut u8, out_len: usize) -> PageAnswer;
-    fn cqdb_begin_parts(
-        mode: u32,
-        repeats: u32,
-        counts: *mut u32,
-        buf: *const u8,
-        len: usize,
-    ) -> RecordAnswer;
+    fn cqdb_begin_parts(mode: u32, repeats: u32, counts: *mut u32, buf: *const u8, len: usize) -> RecordAnswer;
     fn cqdb_put_parts(
         record: Record,
         counts: *mut u32,

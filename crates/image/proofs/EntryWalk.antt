@@ -15,6 +15,7 @@ use Rattle.image.specs.Tables.{tableOf}
 use Rattle.image.specs.Image.{Entry, backSize, hasName, holds}
 use Rattle.image.specs.Stored.{firstWhole, firstEntry, afterFirst, whole, entriesIn, between, wholeLength}
 use Rattle.image.specs.Tally.{tallied, raisedCounts, countsAfter}
+use Rattle.image.proofs.Equal.{same-false}
 use Rattle.image.proofs.Between.{Front, front, not-whole, length-between, drop-between, word-between, name-between}
 
 -- one more in one table raises no count by more than one
@@ -152,6 +153,12 @@ MetRest buf end entries sought at left met =
 holds-cons : (name : List ℕ) (e : Entry) (es : List Entry) → holds name (e ∷ es) ≡ (hasName name e || holds name es)
 unfolding holds
 holds-cons name e es = refl
+
+-- a name of another hash is another name
+pub other-hash : (name sought : List ℕ) (h want : ℕ) → length name < 4294967295 → h ≡ hashOf name → (length sought < 4294967295 → want ≡ hashOf sought)
+    → (h ≡ want → ⊥) → same name sought ≡ false
+other-hash name sought h want short is wants differ =
+    same-false name sought (λ e. differ (is ∙ ap hashOf e ∙ sym (wants (omega (arith, short, ap length e)))))
 
 -- one turn: b says whether the name of the entry at `at` is the one that is sought
 pub met-turn : (buf : List ℕ) (end entries : ℕ) (sought : List ℕ) (at left : ℕ) (met : Bool) → end ≤ length buf → at ≤ end → 0 < left

@@ -4,6 +4,8 @@ ghost use mathlib.Core.Path.{_≡_};
 ghost use mathlib.Core.Bool.{true};
 ghost use Prim.Native.Nat.{ℕ, _+_, _-_, _<_, _≤_, max};
 ghost use lib.ListN.{length, getD};
+ghost use Rattle.jhash.specs.NameHash.{hashOf};
+ghost use Rattle.image.specs.Bytes.{same};
 ghost use Rattle.image.specs.Tables.{tableOf};
 ghost use Rattle.image.specs.Image.{backSize, holds};
 ghost use Rattle.image.specs.Stored.{broken, whole, entriesIn, between, wholeLength};
@@ -76,9 +78,30 @@ pub fn whole_length(buf: &[u8], at: usize, end: usize) -> usize
     n
 }
 
-// Walks `entries` entries from 2,072 on, counts them by table and compares each name with the one that is sought. A name is
-// compared by its length and first bytes before anything else, and hashed for the counts only; the walk goes on where a name
-// is met, since a broken entry may follow.
+// The hash of a name that is sought; 0 for one that is too long for an entry.
+fn sought_hash(sought: &[u8]) -> u32
+    ensures { λ r. ⌜ (length (now (sought .entry)) < 4294967295 → r ≡ hashOf (now (sought .entry))) ⌝ }
+{
+    let jhash::Hashed::Hash(h) = jhash::name_hash(sought) else {
+        return 0;
+    };
+    h
+}
+
+// Whether an entry's name, which has hash h, is the one that is sought. The entry is hashed for the counts anyway, so its
+// bytes are compared only where the hashes are equal.
+fn is_sought(name: &[u8], h: u32, sought: &[u8], want: u32) -> bool
+    requires { ⌜ (length (now name) < 4294967295) × (h ≡ hashOf (now name)) × (length (now sought) < 4294967295 → want ≡ hashOf (now sought)) ⌝ }
+    ensures { λ r. ⌜ r ≡ same (now (name .entry)) (now (sought .entry)) ⌝ }
+{
+    if h != want {
+        return false;
+    }
+    super::equality::same(name, sought)
+}
+
+// Walks `entries` entries from 2,072 on, counts them by table and says whether one has the name that is sought. The walk goes
+// on where that name is met, since a broken entry may follow.
 pub fn walk(buf: &[u8], end: usize, entries: u32, counts: &mut [u32; 256], sought: &[u8]) -> Walked
     requires { ⌜ (2072 ≤ end) × (end ≤ length (now buf)) × ((t : ℕ) → getD (now counts) t 0 ≡ 0) ⌝ }
     ensures whole { λ r. ⌜ r .whole ≡ whole entries (between (now (buf .entry)) 2072 end) ⌝ }
@@ -90,6 +113,7 @@ pub fn walk(buf: &[u8], end: usize, entries: u32, counts: &mut [u32; 256], sough
     let mut left = entries;
     let mut back: u64 = 0;
     let mut met = false;
+    let want = sought_hash(sought);
     while left > 0 {
         let n = whole_length(buf, at, end);
         if n == 0 {
@@ -100,7 +124,7 @@ pub fn walk(buf: &[u8], end: usize, entries: u32, counts: &mut [u32; 256], sough
             };
         }
         let name = &buf[at + 8..at + 7 + n];
-        met = met | super::equality::same(name, sought);
+        back = larger(back, word(buf, at) as u64 + 1);
         let jhash::Hashed::Hash(h) = jhash::name_hash(name) else {
             return Walked {
                 whole: false,
@@ -109,7 +133,7 @@ pub fn walk(buf: &[u8], end: usize, entries: u32, counts: &mut [u32; 256], sough
             };
         };
         raise(&mut *counts, h);
-        back = larger(back, word(buf, at) as u64 + 1);
+        met = met | is_sought(name, h, sought, want);
         at += 8 + n;
         left -= 1;
     }
