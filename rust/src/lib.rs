@@ -27,6 +27,7 @@
 
 mod archive;
 mod bundle;
+mod load;
 mod order;
 mod page;
 mod read;
@@ -35,6 +36,7 @@ mod sheet;
 mod write;
 
 pub use bundle::{Bundle, Images};
+pub use load::{load, load_in};
 pub use order::{references_first, Order, Pair};
 pub use page::Page;
 pub use read::{Found, Iter, CQDB};
