@@ -1,8 +1,9 @@
 // The benchmarks: ours and the Rust's release build, or a copy for bundles, in one run and one table. The two take turns, and each
-// time is the best of several repetitions.   main [hash | reading | building | repeats | page | bundle]
+// time is the best of several repetitions.   main [hash | reading | building | repeats | page | bundle | load]
 mod building;
 mod bundle;
 mod hash;
+mod load;
 mod names;
 #[path = "../tests/compare/ours.rs"]
 mod ours;
@@ -32,5 +33,8 @@ fn main() {
     }
     if wanted("bundle") {
         bundle::run();
+    }
+    if wanted("load") {
+        load::run();
     }
 }

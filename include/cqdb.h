@@ -10,7 +10,7 @@
    - Bytes and lists are lent as a pointer and a length. The pointer is valid for that many bytes or elements. Where the
      length is 0 it may be NULL, which is taken as no bytes.
    - `counts` points to 256 words, and `w` to a whole cqdb_writer.
-   - What a call writes (the buffer of cqdb_put, cqdb_close, cqdb_sheet_write and cqdb_bundle_append, the counts, the writer,
+   - What a call writes (the buffer of cqdb_put, cqdb_close, cqdb_sheet_write, cqdb_bundle_append and cqdb_load, the counts, the writer,
      the output of cqdb_page) overlaps nothing else that the same call is lent: no name, no list, no buffer, no counts and no image.
      What a call only reads may overlap.
    - Nobody else writes to what is lent while the call runs.
@@ -46,7 +46,7 @@ extern "C" {
 
 /* The refusals: the same numbers in all calls, 0 for none. Each comment names the calls that give it. A refused call
    changes no byte of what it is lent, the writer included. docs/FORMAT.md has the same table. */
-#define CQDB_TOO_SHORT 1u        /* begin, open: under 2,072 bytes */
+#define CQDB_TOO_SHORT 1u        /* begin, open, load: under 2,072 bytes */
 #define CQDB_UNFIT 2u            /* begin, put, close, grown: the writer does not fit the buffer, or mode or repeats is neither 0 nor 1 */
 #define CQDB_NO_ROOM 3u          /* put, bundle_append: the image would exceed the buffer; put: or 4,294,967,295 bytes */
 #define CQDB_INCONSISTENT 4u     /* put, close: the buffer's entries are not the writer's (put asks with repeats off only), or the
@@ -402,6 +402,22 @@ typedef struct {
 
 /* The number of images in a file, by a walk of the whole file. Refusal: 10. */
 cqdb_bundle_count_answer cqdb_bundle_count(const uint8_t *file, size_t len);
+
+/* A load anyone can rebuild: an image to test and measure with, from a seed. A step takes a state s to
+   1664525 x s + 1013904223 modulo 2^32, and the first state is the seed. Entry i, from 0, has id i and the name P followed
+   by the state after step i + 1 in eight uppercase hexadecimal digits; the first of seed 0 is P3C6EF35F. */
+
+/* refusal is 0 when the call was accepted; accepted is the number of entries, 0 when it was refused. */
+typedef struct {
+    uint32_t refusal;
+    uint32_t accepted;
+} cqdb_load_answer;
+
+/* Puts the entries of a seed, two-way and with repeats on, until 4,096 are accepted or one finds no room, and closes. The
+   buffer's first 2,072 + 38 x accepted bytes, as many as the image's size word says, are then the image; those behind it
+   keep their content. 157,720 bytes have room for all 4,096 entries, whatever the seed. Refusal: 1 for a buffer under 2,072
+   bytes, and nothing is written. */
+cqdb_load_answer cqdb_load(uint32_t seed, uint8_t *buf, size_t len);
 
 #ifdef __cplusplus
 }

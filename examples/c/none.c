@@ -45,6 +45,7 @@ static void check_images(void) {
     expect(cqdb_begin(&w, CQDB_ONEWAY, NULL, 0) == CQDB_TOO_SHORT, "begin");
     expect(cqdb_put(&w, NULL, 0, NULL, 0, 0) == CQDB_UNFIT, "put");
     expect(cqdb_close(&w, NULL, 0).refusal == CQDB_UNFIT, "close");
+    expect(cqdb_load(7, NULL, 0).refusal == CQDB_TOO_SHORT, "load");
 }
 
 static void check_rounds(void) {

@@ -125,6 +125,13 @@ pub struct BundleCountAnswer {
     pub images: u64,
 }
 
+#[repr(C)]
+#[derive(Clone, Copy, Debug, PartialEq, Eq)]
+pub struct LoadAnswer {
+    pub refusal: u32,
+    pub accepted: u32,
+}
+
 /// The table counts of a writer.
 pub type Counts = [u32; 256];
 
@@ -171,6 +178,7 @@ extern "C" {
         image_len: usize,
     ) -> BundleAppendAnswer;
     fn cqdb_bundle_count(file: *const u8, len: usize) -> BundleCountAnswer;
+    fn cqdb_load(seed: u32, buf: *mut u8, len: usize) -> LoadAnswer;
 }
 
 /// The hash of a name with a start value, or the refusal.
@@ -271,4 +279,9 @@ pub fn bundle_append(buf: &mut [u8], file_len: u64, image: &[u8]) -> BundleAppen
 /// The number of images in a bundle, or the refusal.
 pub fn bundle_count(file: &[u8]) -> BundleCountAnswer {
     unsafe { cqdb_bundle_count(file.as_ptr(), file.len()) }
+}
+
+/// The load of a seed in the first bytes of `buf`, and the number of its entries; or the refusal.
+pub fn load(seed: u32, buf: &mut [u8]) -> LoadAnswer {
+    unsafe { cqdb_load(seed, buf.as_mut_ptr(), buf.len()) }
 }

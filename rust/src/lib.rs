@@ -32,6 +32,7 @@ mod archive;
 mod bundle;
 mod flag;
 mod held;
+mod load;
 mod name;
 mod order;
 mod page;
@@ -46,6 +47,7 @@ pub mod moving {}
 
 pub use bundle::{Bundle, Images};
 pub use flag::Flag;
+pub use load::{load, load_in};
 pub use name::BStr;
 pub use order::{references_first, Order, Pair};
 pub use page::Page;

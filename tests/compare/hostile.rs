@@ -1,5 +1,5 @@
 // Hostile calls, to be run under valgrind: damaged images, random bytes, records that do not fit, broken buffers, pairs and rounds
-// of any ids, round sheets cut anywhere, broken bundles, lists and outputs without room. Everything lent stands in a heap block of
+// of any ids, round sheets cut anywhere, broken bundles, lists and outputs without room, loads in buffers of any length. Everything lent stands in a heap block of
 // exactly its length, so that valgrind reports a read or write outside it. A refusal changes no byte, reading changes none, and
 // every place in an answer lies in what was lent.
 // hostile [CALLS | too-much]
@@ -31,6 +31,7 @@ struct Run {
     sheets: u64,
     repeated: u64,
     bundles: u64,
+    loads: u64,
 }
 
 // A heap block of exactly these bytes.
@@ -200,6 +201,22 @@ impl Run {
         self.bundles += 1;
     }
 
+    // The load of any seed in a buffer of any length: the image lies in its front, and nothing behind it is changed.
+    fn load(&mut self, random: &mut Random) {
+        let any = 1_900 + random.below(400);
+        let room = random.pick(&[0, 2_071, 2_072, 2_109, 2_110, any, any, any]);
+        let before = random.bytes(room);
+        let mut buf = exact(&before);
+        let answer = ours::load(random.word(), &mut buf);
+        let entries = room.saturating_sub(HEAD) / 38;
+        let (size, due) = if room < HEAD { (0, (1, 0)) } else { (HEAD + 38 * entries, (0, entries as u32)) };
+        self.tally.rule((answer.refusal, answer.accepted), due, || format!("{answer:?} in {room} bytes"));
+        self.tally.bytes(&buf[size..], &before[size..], || "the bytes behind a load".into());
+        self.refused += u64::from(answer.refusal > 0);
+        self.calls += 1;
+        self.loads += 1;
+    }
+
     fn unchanged(&mut self, (record, counts, buf): (ours::Record, &Counts, &[u8]), s: &State, what: &str) {
         self.refused += 1;
         self.tally.rule(record, s.record, || format!("the record after {what}"));
@@ -263,6 +280,7 @@ fn round(run: &mut Run, random: &mut Random) {
     for _ in 0..60 {
         run.order(random);
         run.sheet(random);
+        run.load(random);
     }
 }
 
@@ -280,13 +298,13 @@ fn main() {
     let calls = std::env::args().nth(1).map_or(CALLS, |text| text.parse().expect("a number of calls"));
     let mut random = Random::new();
     println!("hostile: seed {}", random.seed);
-    let mut run = Run { tally: Tally::default(), calls: 0, refused: 0, images: 0, states: 0, rounds: 0, sheets: 0, bundles: 0, repeated: 0 };
+    let mut run = Run { tally: Tally::default(), calls: 0, refused: 0, images: 0, states: 0, rounds: 0, sheets: 0, bundles: 0, loads: 0, repeated: 0 };
     while run.calls < calls {
         round(&mut run, &mut random);
     }
     println!(
-        "hostile: {} calls on {} images, {} records with their buffers, {} rounds, {} sheets and {} bundles; {} refused, {} of them repeats; {} of {} checks failed",
-        run.calls, run.images, run.states, run.rounds, run.sheets, run.bundles, run.refused, run.repeated, run.tally.different, run.tally.rule
+        "hostile: {} calls on {} images, {} records with their buffers, {} rounds, {} sheets, {} bundles and {} loads; {} refused, {} of them repeats; {} of {} checks failed",
+        run.calls, run.images, run.states, run.rounds, run.sheets, run.bundles, run.loads, run.refused, run.repeated, run.tally.different, run.tally.rule
     );
     std::process::exit(i32::from(run.tally.different > 0));
 }
