@@ -151,6 +151,20 @@ fn hashes() {
 }
 
 #[test]
+fn loads() {
+    let folder = Folder::new();
+    folder.cqdb(&["load", "0", "image"]).gives(0).prints("image: 4096 entries, 157720 bytes\n");
+    assert_eq!(folder.read("image"), cqdb::load(0));
+    folder.cqdb(&["name", "image", "0"]).prints("0 P3C6EF35F\n");
+    folder.cqdb(&["load", "4294967295", "other"]).gives(0);
+    assert_eq!(folder.read("other"), cqdb::load(u32::MAX));
+    for seed in ["x", "", "4294967296"] {
+        let told = format!("cqdb: load: the seed {seed:?} is no decimal number up to 4294967295\n");
+        folder.cqdb(&["load", seed, "image"]).gives(2).tells(&told);
+    }
+}
+
+#[test]
 fn helps_and_versions() {
     let folder = folder();
     let overview = String::from_utf8(folder.cqdb(&["--help"]).gives(0).out).unwrap();

@@ -8,6 +8,7 @@ mod hash;
 mod id;
 mod lines;
 mod list;
+mod load;
 mod make;
 mod name;
 mod outcome;
@@ -34,6 +35,7 @@ const COMMANDS: &[&Command] = &[
     &stats::COMMAND,
     &bundle::COMMAND,
     &sheet::COMMAND,
+    &load::COMMAND,
     &hash::COMMAND,
 ];
 
