@@ -23,12 +23,14 @@ rank-requires-2 c κs = search needs
 returns : tie.Need-returns
 returns c = 
     let ranked = c .before in
-    stronger-new _ _ _ (ranked .before .before .tell .ensures) _ _ (ranked .before .rank .ensures) (ranked .rank2 .ensures) (c .if1 .taken)
+    let s = ranked .before .before .before .args .s in
+    stronger-new s _ _ (ranked .before .before .tell .ensures) _ _ (ranked .before .rank .ensures) (ranked .rank2 .ensures) (c .if1 .taken)
 
 returns-2 : tie.Need-returns-2
 returns-2 c = 
     let ranked = c .before in
-    stronger-old _ _ _ (ranked .before .before .tell .ensures) _ _ (ranked .before .rank .ensures) (ranked .rank2 .ensures) (c .if1 .left)
+    let s = ranked .before .before .before .args .s in
+    stronger-old s _ _ (ranked .before .before .tell .ensures) _ _ (ranked .before .rank .ensures) (ranked .rank2 .ensures) (c .if1 .left)
 
 pub step-spec : {M : Type 1} → statement M
 step-spec = tie.close (tie.spec tell-requires rank-requires rank-requires-2 returns returns-2)
