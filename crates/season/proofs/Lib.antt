@@ -3,3 +3,4 @@ pub mod Months
 pub mod Dates
 pub mod Tells
 pub mod Laws
+pub mod Thin

@@ -73,3 +73,18 @@ pub fn part_by<'a>(image: &'a [u8], id: u32, date: Date, s: Standing) -> &'a [u8
         Standing::Undated => &image[0..0],
     }
 }
+
+// The place of an id's name on a date, or nothing; or refusal 22 for a date that does not exist or is out of bounds, the one
+// asked about or a window's, and after that 23 for a window that does not start before its end.
+pub fn to_str_on(image: &[u8], id: u32, date: Date, windows: &[Window]) -> NamedOn
+    ensures { λ r. ⌜ namedOnOf r ≡ namingOn (now (image .entry)) id date (now (windows .entry)) ⌝ }
+{
+    place_by(image, id, date, standing(windows, id, date))
+}
+
+// The part of the lent image that is an id's name on a date; empty if it has none, or is refused.
+pub fn name_on<'a>(image: &'a [u8], id: u32, date: Date, windows: &[Window]) -> &'a [u8]
+    ensures { λ r. ⌜ slice r ≡ namePartOn (slice (image .entry)) id date (now (windows .entry)) ⌝ }
+{
+    part_by(image, id, date, standing(windows, id, date))
+}
