@@ -1,13 +1,15 @@
 -- What one window says, by its six tests; and what is answered by what the windows say. Assumes nothing.
 use mathlib.Core.Path.{_≡_, sym, ap, _∙_}
 use Prim.Native.Nat.{ℕ, _≤_, _<_}
+use native.Mathlib.Omega.{arith}
 use mathlib.Core.Bool.{Bool, true, false, cond, not, _&&_, _||_}
 use mathlib.Core.List.{List}
 use lib.Dec.{eqb, ltb}
 use borrow.Author.Tests.{lt-ltb, le-ltb}
-use Rattle.jhash.specs.Outcome.{Outcome, refusal}
+use Rattle.jhash.specs.Outcome.{Outcome, value, refusal}
 use Rattle.reader.specs.Slices.{Slice, part}
-use Rattle.reader.specs.Naming.{Naming, naming, partOr}
+use Rattle.reader.specs.Naming.{Naming, place, unnamed, naming, partOr}
+use Rattle.reader.proofs.Namings.{never}
 use Rattle.season.specs.Calendar.{isDate, isEnd, earlier}
 use Rattle.season.specs.Rule.{undated, turned, holds, namedIn}
 use Rattle.season.specs.Fold.{told, rank, stronger}
@@ -45,6 +47,23 @@ module _ (image : List ℕ) (id : ℕ) (date : Date) (s : Standing) where
   by-saying t e q =
       ap (λ (u : Standing). answerBy u (naming image id)) (sym q)
       ∙ ap (λ (b : Bool). cond (not b) (refusal 22) (answerBy s (naming image id))) (sym e)
+
+  -- a place on a date is the place of the naming rule
+  pub named-so : (p n : ℕ) → placeBy image id date s ≡ value (place p n) → naming image id ≡ place p n
+  named-so p n e = dated (isDate date) e
+    where
+      refused : (k : ℕ) → _≡_ {A = Outcome Naming} (refusal k) (value (place p n)) → naming image id ≡ place p n
+      refused k e = let z : _≡_ {A = ℕ} 0 1 = cc in absurd (omega arith)
+
+      by-case : (t : Standing) → answerBy t (naming image id) ≡ value (place p n) → naming image id ≡ place p n
+      by-case Away e = let u : unnamed ≡ place p n = cc in never p n u
+      by-case Holds e = cc
+      by-case Turned e = refused 23 e
+      by-case Undated e = refused 22 e
+
+      dated : (t : Bool) → cond (not t) (refusal 22) (answerBy s (naming image id)) ≡ value (place p n) → naming image id ≡ place p n
+      dated true e = by-case s e
+      dated false e = refused 22 e
 
 -- the same of the part
 module _ (image : Slice) (id : ℕ) (date : Date) (s : Standing) where
