@@ -33,6 +33,7 @@ mod refusal;
 mod sheet;
 mod write;
 
+pub use archive::{Date, Window};
 pub use bundle::{Bundle, Images};
 pub use order::{references_first, Order, Pair};
 pub use page::Page;

@@ -9,7 +9,7 @@ use Rattle.jhash.specs.Outcome.{Outcome, value, refusal}
 use Rattle.reader.specs.Slices.{Slice, part}
 use Rattle.reader.specs.Naming.{Naming, unnamed, naming, partOr}
 use Rattle.season.specs.Calendar.{isDate}
-use Rattle.season.specs.Rule.{some, undated, turned, holds, namingOn, namedIn, namePartOn, said}
+use Rattle.season.specs.Rule.{some, undated, turned, holds, inSeason, namingOn, namedIn, namePartOn, said}
 use Rattle.season.specs.Fold.{told, rank, stronger, stepped, folded}
 use Rattle.season.specs.Answers.{answerBy, placeBy, partBy}
 use Rattle.season.specs.declared.Date.{Date}
@@ -79,7 +79,7 @@ module _ (id : ℕ) (date : Date) where
 -- ---- what is answered by what is said is the rule's answer
 module _ (image : List ℕ) (id : ℕ) (date : Date) (ws : List Window) where
   pub placed : placeBy image id date (said id date ws) ≡ namingOn image id date ws
-  unfolding said namingOn
+  unfolding said inSeason
   placed =
       ap (λ (x : Outcome Naming). cond (not (isDate date)) (refusal 22) x) (by-form (some undated ws) (some turned ws) (some (holds id date) ws))
     where

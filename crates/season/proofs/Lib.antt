@@ -4,3 +4,5 @@ pub mod Dates
 pub mod Tells
 pub mod Laws
 pub mod Thin
+pub mod Theorem
+pub mod Rows

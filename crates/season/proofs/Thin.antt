@@ -140,8 +140,10 @@ module _ (R : Lft → RattleType) where
   abbrev stayed : Stays (On .signature .params) (On .kept)
   stayed = (
     stay-dropped (shrSliceOf (0 ∷ []) tt (plain (λ _. u8))) yes,
-    (stay-dropped (plain (λ _. u32)) yes,
-    (stay-dropped (plain (λ _. D.the-row)) yes, (stay-dropped (shrSliceOf (1 ∷ []) tt (plain (λ _. P.the-row))) yes, tt))),
+    (
+      stay-dropped (plain (λ _. u32)) yes,
+      (stay-dropped (plain (λ _. D.the-row)) yes, (stay-dropped (shrSliceOf (1 ∷ []) tt (plain (λ _. P.the-row))) yes, tt)),
+    ),
   )
 
   module _ (G : Promise Standing) (F : Promise (List Window))
@@ -292,9 +294,13 @@ module _ (R : Lft → RattleType) where
       meets =
           walk-meets 𝓤 H A On stayed W (
             goes-dropped 𝓤 H A W 2 (shrSliceOf (0 ∷ []) tt (plain (λ _. u8))) yes (λ κs x f. refl),
-            (goes-dropped 𝓤 H A W 2 (plain (λ _. u32)) yes (λ κs x f. refl),
-            (goes-dropped 𝓤 H A W 2 (plain (λ _. D.the-row)) yes (λ κs x f. refl),
-            (goes-dropped 𝓤 H A W 2 (shrSliceOf (1 ∷ []) tt (plain (λ _. P.the-row))) yes (λ κs x f. refl), tt))),
+            (
+              goes-dropped 𝓤 H A W 2 (plain (λ _. u32)) yes (λ κs x f. refl),
+              (
+                goes-dropped 𝓤 H A W 2 (plain (λ _. D.the-row)) yes (λ κs x f. refl),
+                (goes-dropped 𝓤 H A W 2 (shrSliceOf (1 ∷ []) tt (plain (λ _. P.the-row))) yes (λ κs x f. refl), tt),
+              ),
+            ),
           )
           (on-clauses 𝓤 F) (WpFn 𝓤 H (𝓣 .C) (𝓣 .Λ) (thin g τ)) (WpFn-mono 𝓤 H (W .laws) 𝓣 (thin g τ)) walks
 

@@ -3,3 +3,5 @@ pub mod Calendar
 pub mod Rule
 pub mod Fold
 pub mod Answers
+pub mod Seasons
+pub mod Rows

@@ -29,14 +29,18 @@ turned w = not (earlier (w .first) (w .end))
 unfoldable pub holds : ℕ → Date → Window → Bool
 holds id date w = eqb (w .id) id && not (earlier date (w .first)) && earlier date (w .end)
 
--- "naming an id on a date gives its name exactly when it has one and some window of that id holds the date, else nothing"; 22 "first [for] the one asked
--- about and then those of the windows in list order; after these a window that doesn't start before its end gives 23"
-unfoldable pub namingOn : List ℕ → ℕ → Date → List Window → Outcome Naming
-namingOn image id date windows =
+-- of an id that the naming rule gives n: "gives its name exactly when it has one and some window of that id holds the date, else nothing"; 22 "first [for]
+-- the one asked about and then those of the windows in list order; after these a window that doesn't start before its end gives 23"
+unfoldable pub inSeason : Naming → ℕ → Date → List Window → Outcome Naming
+inSeason n id date windows =
     cond (not (isDate date)) (refusal 22)
     (cond (some undated windows) (refusal 22)
     (cond (some turned windows) (refusal 23)
-    (value (cond (some (holds id date) windows) (naming image id) unnamed))))
+    (value (cond (some (holds id date) windows) n unnamed))))
+
+-- "naming an id on a date", in an image
+abbrev pub namingOn : List ℕ → ℕ → Date → List Window → Outcome Naming
+namingOn image id date windows = inSeason (naming image id) id date windows
 
 -- the naming in an answer: a refused list names nothing
 abbrev pub namedIn : Outcome Naming → Naming

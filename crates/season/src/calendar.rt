@@ -23,13 +23,7 @@ pub fn month_length(year: u16, month: u8) -> u8
     match month {
         1 | 3 | 5 | 7 | 8 | 10 | 12 => 31,
         4 | 6 | 9 | 11 => 30,
-        2 => {
-            if leap(year) {
-                29
-            } else {
-                28
-            }
-        }
+        2 => { if leap(year) { 29 } else { 28 } }
         _ => 0,
     }
 }

@@ -49,5 +49,10 @@ pub fn answer_by(image: &[u8], id: u32, date: Date, s: Standing) -> OnAnswer
 pub extern "C" fn cqdb_name_on(image: &[u8], id: u32, date: Date, windows: &[Window]) -> OnAnswer
     ensures { λ r. ⌜ r ≡ onAnswer (namingOn (now (image .entry)) id date (now (windows .entry))) ⌝ }
 {
-    answer_by(image, id, date, season::windows::standing(windows, id, date))
+    answer_by(
+        image,
+        id,
+        date,
+        season::windows::standing(windows, id, date),
+    )
 }

@@ -24,7 +24,7 @@ part-result-end : tie.Need-part-result-end
 part-result-end c = search needs
 
 returns : tie.Need-returns
-returns c = 
+returns c =
     let a = c .before .before .before .before .args in
     no-date-part (slice (a .image)) (a .id) (a .date) (a .s) (sym (c .before .before .is-date .ensures) ∙ not-true _ (c .before .if1 .taken))
 
@@ -71,22 +71,22 @@ part-result-end-4 : tie.Need-part-result-end-4
 part-result-end-4 c = search needs
 
 returns-2 : tie.Need-returns-2
-returns-2 c = 
+returns-2 c =
     let a = c .before .before .before .before .before .before .args in
     by-saying-part (slice (a .image)) (a .id) (a .date) (a .s) _ (sym (c .before .before .before .before .is-date .ensures) ∙ not-false _ (c .before .before .before .if1 .left)) (c .before .enum-told .given .1)
 
 returns-3 : tie.Need-returns-3
-returns-3 c = 
+returns-3 c =
     let a = c .before .before .before .before .before .before .args in
     c .name .ensures ∙ by-saying-part (slice (a .image)) (a .id) (a .date) (a .s) _ (sym (c .before .before .before .before .is-date .ensures) ∙ not-false _ (c .before .before .before .if1 .left)) (c .before .enum-told2 .given .1)
 
 returns-4 : tie.Need-returns-4
-returns-4 c = 
+returns-4 c =
     let a = c .before .before .before .before .before .before .args in
     by-saying-part (slice (a .image)) (a .id) (a .date) (a .s) _ (sym (c .before .before .before .before .is-date .ensures) ∙ not-false _ (c .before .before .before .if1 .left)) (c .before .enum-told3 .given .1)
 
 returns-5 : tie.Need-returns-5
-returns-5 c = 
+returns-5 c =
     let a = c .before .before .before .before .before .before .args in
     by-saying-part (slice (a .image)) (a .id) (a .date) (a .s) _ (sym (c .before .before .before .before .is-date .ensures) ∙ not-false _ (c .before .before .before .if1 .left)) (c .before .enum-told4 .given .1)
 

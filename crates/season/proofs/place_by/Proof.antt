@@ -17,7 +17,7 @@ is-date-requires : tie.Need-is-date-requires
 is-date-requires c κs = search needs
 
 returns : tie.Need-returns
-returns c = 
+returns c =
     let a = c .before .before .before .args in
     no-date (a .image .now) (a .id) (a .date) (a .s) (sym (c .before .is-date .ensures) ∙ not-true _ (c .if1 .taken))
 
@@ -43,29 +43,29 @@ enum-told-5 : tie.Need-enum-told-5
 enum-told-5 c = search needs
 
 returns-2 : tie.Need-returns-2
-returns-2 c = 
+returns-2 c =
     let a = c .before .before .before .before .before .args in
     by-saying (a .image .now) (a .id) (a .date) (a .s) _ (sym (c .before .before .before .is-date .ensures) ∙ not-false _ (c .before .before .if1 .left)) (c .enum-told .given .1)
 
 returns-3 : tie.Need-returns-3
-returns-3 c = 
+returns-3 c =
     let a = c .before .before .before .before .before .before .before .before .before .args in
     ap value (ap namingOf (sym (c .before .start .given .1)) ∙ c .before .before .before .to-str .ensures)
     ∙ by-saying (a .image .now) (a .id) (a .date) (a .s) _ (sym (c .before .before .before .before .before .before .before .is-date .ensures) ∙ not-false _ (c .before .before .before .before .before .before .if1 .left)) (c .before .before .before .before .enum-told2 .given .1)
 
 returns-4 : tie.Need-returns-4
-returns-4 c = 
+returns-4 c =
     let a = c .before .before .before .before .before .before .before .before .args in
     ap value (ap namingOf (sym (c .enum-told3 .given .1)) ∙ c .before .before .to-str .ensures)
     ∙ by-saying (a .image .now) (a .id) (a .date) (a .s) _ (sym (c .before .before .before .before .before .before .is-date .ensures) ∙ not-false _ (c .before .before .before .before .before .if1 .left)) (c .before .before .before .enum-told2 .given .1)
 
 returns-5 : tie.Need-returns-5
-returns-5 c = 
+returns-5 c =
     let a = c .before .before .before .before .before .args in
     by-saying (a .image .now) (a .id) (a .date) (a .s) _ (sym (c .before .before .before .is-date .ensures) ∙ not-false _ (c .before .before .if1 .left)) (c .enum-told4 .given .1)
 
 returns-6 : tie.Need-returns-6
-returns-6 c = 
+returns-6 c =
     let a = c .before .before .before .before .before .args in
     by-saying (a .image .now) (a .id) (a .date) (a .s) _ (sym (c .before .before .before .is-date .ensures) ∙ not-false _ (c .before .before .if1 .left)) (c .enum-told5 .given .1)
 

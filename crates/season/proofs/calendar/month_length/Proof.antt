@@ -25,7 +25,7 @@ returns-4 : tie.Need-returns-4
 returns-4 c = no-month _ _ (inl (c .if2 .taken))
 
 returns-5 : tie.Need-returns-5
-returns-5 c = 
+returns-5 c =
     let others = c .before .before .match .rest in
     no-month _ _ (inr (above-12 _ (others .0 .0 .1) (others .0 .1) (others .1) (c .if3 .left)))
 
@@ -33,7 +33,7 @@ returns-6 : tie.Need-returns-6
 returns-6 c = months-31 _ _ (c .match .keys1)
 
 returns-7 : tie.Need-returns-7
-returns-7 c = 
+returns-7 c =
     let others = c .before .before .match .rest in
     july-august _ _ (seven-eight _ (others .0 .0 .1) (others .0 .1) (others .1) (c .before .if2 .left) (c .if3 .taken))
 

@@ -342,8 +342,10 @@ module _ {M : Type 1} (𝓤 : URA M) (H : Heap 𝓤) (A : Atoms 𝓤) (W : Given
   meets =
       walk-meets 𝓤 H A this.ended stayed W (
         goes-dropped 𝓤 H A W 1 (shrSliceOf (0 ∷ []) tt (plain (λ _. P.the-row))) stays-kept (λ κs x f. refl),
-        (goes-dropped 𝓤 H A W 1 (plain (λ _. u32)) stays-kept (λ κs x f. refl),
-        (goes-dropped 𝓤 H A W 1 (plain (λ _. D.the-row)) stays-kept (λ κs x f. refl), tt)),
+        (
+          goes-dropped 𝓤 H A W 1 (plain (λ _. u32)) stays-kept (λ κs x f. refl),
+          (goes-dropped 𝓤 H A W 1 (plain (λ _. D.the-row)) stays-kept (λ κs x f. refl), tt),
+        ),
       )
       (this.clauses 𝓤 H A mem run) (WpFn 𝓤 H (𝓣 .C) (𝓣 .Λ) code.function) (WpFn-mono 𝓤 H (W .laws) 𝓣 code.function) walks
 

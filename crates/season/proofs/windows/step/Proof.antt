@@ -21,13 +21,13 @@ rank-requires-2 : tie.Need-rank-requires-2
 rank-requires-2 c κs = search needs
 
 returns : tie.Need-returns
-returns c = 
+returns c =
     let ranked = c .before in
     let s = ranked .before .before .before .args .s in
     stronger-new s _ _ (ranked .before .before .tell .ensures) _ _ (ranked .before .rank .ensures) (ranked .rank2 .ensures) (c .if1 .taken)
 
 returns-2 : tie.Need-returns-2
-returns-2 c = 
+returns-2 c =
     let ranked = c .before in
     let s = ranked .before .before .before .args .s in
     stronger-old s _ _ (ranked .before .before .tell .ensures) _ _ (ranked .before .rank .ensures) (ranked .rank2 .ensures) (c .if1 .left)

@@ -16,7 +16,7 @@ is-date-requires : tie.Need-is-date-requires
 is-date-requires c κs = search needs
 
 returns : tie.Need-returns
-returns c = 
+returns c =
     let a = c .before .before .before .before .args in
     told-by (a .id) (a .date) (a .w) false _ _ _ _ _ (sym (c .before .is-date .ensures) ∙ not-true _ (c .if1 .taken)) refl refl refl refl refl
 
@@ -24,7 +24,7 @@ is-end-requires : tie.Need-is-end-requires
 is-end-requires c κs = search needs
 
 returns-2 : tie.Need-returns-2
-returns-2 c = 
+returns-2 c =
     let dated = c .before .before in
     let a = dated .before .before .before .before .args in
     told-by (a .id) (a .date) (a .w) true false _ _ _ _ (sym (dated .before .is-date .ensures) ∙ not-false _ (dated .if1 .left))
@@ -34,7 +34,7 @@ earlier-requires : tie.Need-earlier-requires
 earlier-requires c κs = search needs
 
 returns-3 : tie.Need-returns-3
-returns-3 c = 
+returns-3 c =
     let ended = c .before .before in
     let dated = ended .before .before in
     let a = dated .before .before .before .before .args in
@@ -42,7 +42,7 @@ returns-3 c =
     (sym (ended .before .is-end .ensures) ∙ not-false _ (ended .if2 .left)) (sym (c .before .earlier .ensures) ∙ not-true _ (c .if3 .taken)) refl refl refl
 
 returns-4 : tie.Need-returns-4
-returns-4 c = 
+returns-4 c =
     let started = c .before .before in
     let ended = started .before .before in
     let dated = ended .before .before in
@@ -55,7 +55,7 @@ earlier-requires-2 : tie.Need-earlier-requires-2
 earlier-requires-2 c κs = search needs
 
 returns-5 : tie.Need-returns-5
-returns-5 c = 
+returns-5 c =
     let same = c .before .before in
     let started = same .before .before in
     let ended = started .before .before in
@@ -69,7 +69,7 @@ earlier-requires-3 : tie.Need-earlier-requires-3
 earlier-requires-3 c κs = search needs
 
 returns-6 : tie.Need-returns-6
-returns-6 c = 
+returns-6 c =
     let began = c .before .before in
     let same = began .before .before in
     let started = same .before .before in
@@ -81,7 +81,7 @@ returns-6 c =
     (eq-eqb _ _ (same .if4 .left)) (sym (began .before .earlier2 .ensures) ∙ began .if5 .left) (sym (c .before .earlier3 .ensures) ∙ c .if6 .taken)
 
 returns-7 : tie.Need-returns-7
-returns-7 c = 
+returns-7 c =
     let began = c .before .before in
     let same = began .before .before in
     let started = same .before .before in
