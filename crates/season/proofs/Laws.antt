@@ -10,7 +10,7 @@ use Rattle.reader.specs.Slices.{Slice, part}
 use Rattle.reader.specs.Naming.{Naming, unnamed, naming, partOr}
 use Rattle.season.specs.Calendar.{isDate}
 use Rattle.season.specs.Rule.{some, undated, turned, holds, inSeason, namingOn, namedIn, namePartOn, said}
-use Rattle.season.specs.Fold.{told, rank, stronger, stepped, folded}
+use Rattle.season.specs.steps.Fold.{told, rank, stronger, stepped, folded}
 use Rattle.season.specs.Answers.{answerBy, placeBy, partBy}
 use Rattle.season.specs.declared.Date.{Date}
 use Rattle.season.specs.declared.Window.{Window}

@@ -12,7 +12,7 @@ use Rattle.reader.specs.Naming.{Naming, place, unnamed, naming, partOr}
 use Rattle.reader.proofs.Namings.{never}
 use Rattle.season.specs.Calendar.{isDate, isEnd, earlier}
 use Rattle.season.specs.Rule.{undated, turned, holds, namedIn}
-use Rattle.season.specs.Fold.{told, rank, stronger}
+use Rattle.season.specs.steps.Fold.{told, rank, stronger}
 use Rattle.season.specs.Answers.{answerBy, placeBy, partBy}
 use Rattle.season.specs.declared.Date.{Date}
 use Rattle.season.specs.declared.Window.{Window}

@@ -1,7 +1,7 @@
 // What windows say of an id on a date.
 ghost use mathlib.Core.Path.{_≡_};
 ghost use Rattle.season.specs.Rule.{said};
-ghost use Rattle.season.specs.Fold.{told, rank, stepped};
+ghost use Rattle.season.specs.steps.Fold.{told, rank, stepped};
 use super::Date;
 use super::Standing;
 use super::Window;

@@ -53,7 +53,7 @@ use denote.Triple.Walked.{says, Stays, stay-dropped, walkOf, goes-dropped, Walks
 use denote.Exit.{yes as stays-kept}
 use denote.Triple.Clauses.{ensured, lasts}
 use Rattle.season.specs.Rule.{said}
-use Rattle.season.specs.Fold.{stepped, folded}
+use Rattle.season.specs.steps.Fold.{stepped, folded}
 use Rattle.season.specs.declared.Date.{Date}
 use Rattle.season.specs.declared.Window.{Window}
 use Rattle.season.specs.declared.Standing.{Standing}
