@@ -202,9 +202,10 @@ impl Run {
     // Any dates and windows on one image: a name lies in it, and where a list is refused the rest are zeros.
     fn season(&mut self, random: &mut Random, bytes: &[u8]) {
         let date = |random: &mut Random| {
-            let year = random.pick(&[1899, 1900, 2024, 2024, 2024, 2024, 2199, 2200, random.word() as u16]);
-            let month = random.pick(&[0, 1, 2, 2, 2, 6, 12, 13, random.word() as u8]);
-            Date { year, month, day: random.pick(&[0, 1, 1, 28, 28, 29, 30, 31, 32, random.word() as u8]) }
+            let [a, b, c, d] = random.word().to_le_bytes();
+            let year = random.pick(&[1899, 1900, 2024, 2024, 2024, 2024, 2199, 2200, u16::from_le_bytes([a, b])]);
+            let month = random.pick(&[0, 1, 2, 2, 2, 6, 12, 13, c]);
+            Date { year, month, day: random.pick(&[0, 1, 1, 28, 28, 29, 30, 31, 32, d]) }
         };
         let good = |month| Date { year: 2024, month, day: 1 };
         let image = exact(bytes);
