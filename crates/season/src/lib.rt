@@ -10,6 +10,7 @@ use windows::standing;
 pub mod calendar; // calendar.rt: months, dates, and their order
 pub mod windows; // windows.rt: what the windows say of an id on a date
 
+// Year, month and day, whether such a day exists or not.
 #[repr(C)]
 pub struct Date {
     pub year: u16,

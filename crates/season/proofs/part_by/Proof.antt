@@ -72,23 +72,31 @@ part-result-end-4 c = search needs
 
 returns-2 : tie.Need-returns-2
 returns-2 c =
-    let a = c .before .before .before .before .before .before .args in
-    by-saying-part (slice (a .image)) (a .id) (a .date) (a .s) _ (sym (c .before .before .before .before .is-date .ensures) ∙ not-false _ (c .before .before .before .if1 .left)) (c .before .enum-told .given .1)
+    let dated = c .before .before .before in
+    let a = dated .before .before .before .args in
+    by-saying-part (slice (a .image)) (a .id) (a .date) (a .s) _ (sym (dated .before .is-date .ensures) ∙ not-false _ (dated .if1 .left))
+    (c .before .enum-told .given .1)
 
 returns-3 : tie.Need-returns-3
 returns-3 c =
-    let a = c .before .before .before .before .before .before .args in
-    c .name .ensures ∙ by-saying-part (slice (a .image)) (a .id) (a .date) (a .s) _ (sym (c .before .before .before .before .is-date .ensures) ∙ not-false _ (c .before .before .before .if1 .left)) (c .before .enum-told2 .given .1)
+    let dated = c .before .before .before in
+    let a = dated .before .before .before .args in
+    c .name .ensures ∙ by-saying-part (slice (a .image)) (a .id) (a .date) (a .s) _ (sym (dated .before .is-date .ensures) ∙ not-false _ (dated .if1 .left))
+    (c .before .enum-told2 .given .1)
 
 returns-4 : tie.Need-returns-4
 returns-4 c =
-    let a = c .before .before .before .before .before .before .args in
-    by-saying-part (slice (a .image)) (a .id) (a .date) (a .s) _ (sym (c .before .before .before .before .is-date .ensures) ∙ not-false _ (c .before .before .before .if1 .left)) (c .before .enum-told3 .given .1)
+    let dated = c .before .before .before in
+    let a = dated .before .before .before .args in
+    by-saying-part (slice (a .image)) (a .id) (a .date) (a .s) _ (sym (dated .before .is-date .ensures) ∙ not-false _ (dated .if1 .left))
+    (c .before .enum-told3 .given .1)
 
 returns-5 : tie.Need-returns-5
 returns-5 c =
-    let a = c .before .before .before .before .before .before .args in
-    by-saying-part (slice (a .image)) (a .id) (a .date) (a .s) _ (sym (c .before .before .before .before .is-date .ensures) ∙ not-false _ (c .before .before .before .if1 .left)) (c .before .enum-told4 .given .1)
+    let dated = c .before .before .before in
+    let a = dated .before .before .before .args in
+    by-saying-part (slice (a .image)) (a .id) (a .date) (a .s) _ (sym (dated .before .is-date .ensures) ∙ not-false _ (dated .if1 .left))
+    (c .before .enum-told4 .given .1)
 
 pub part-by-spec : {M : Type 1} → statement M
 part-by-spec =

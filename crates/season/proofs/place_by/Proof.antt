@@ -2,7 +2,6 @@
 use mathlib.Core.Path.{sym, ap, _∙_}
 use borrow.Author.Tests.{not-true, not-false}
 use Rattle.jhash.specs.Outcome.{value}
-use Rattle.reader.specs.Naming.{Naming}
 use Rattle.reader.specs.Cases.{namingOf}
 use Rattle.season.proofs.Tells.{no-date, by-saying}
 use borrow.Author.Needs.{needs}
@@ -44,30 +43,40 @@ enum-told-5 c = search needs
 
 returns-2 : tie.Need-returns-2
 returns-2 c =
-    let a = c .before .before .before .before .before .args in
-    by-saying (a .image .now) (a .id) (a .date) (a .s) _ (sym (c .before .before .before .is-date .ensures) ∙ not-false _ (c .before .before .if1 .left)) (c .enum-told .given .1)
+    let dated = c .before .before in
+    let a = dated .before .before .before .args in
+    by-saying (a .image .now) (a .id) (a .date) (a .s) _ (sym (dated .before .is-date .ensures) ∙ not-false _ (dated .if1 .left))
+    (c .enum-told .given .1)
 
 returns-3 : tie.Need-returns-3
 returns-3 c =
-    let a = c .before .before .before .before .before .before .before .before .before .args in
+    let dated = c .before .before .before .before .before .before in
+    let a = dated .before .before .before .args in
     ap value (ap namingOf (sym (c .before .start .given .1)) ∙ c .before .before .before .to-str .ensures)
-    ∙ by-saying (a .image .now) (a .id) (a .date) (a .s) _ (sym (c .before .before .before .before .before .before .before .is-date .ensures) ∙ not-false _ (c .before .before .before .before .before .before .if1 .left)) (c .before .before .before .before .enum-told2 .given .1)
+    ∙ by-saying (a .image .now) (a .id) (a .date) (a .s) _ (sym (dated .before .is-date .ensures) ∙ not-false _ (dated .if1 .left))
+    (c .before .before .before .before .enum-told2 .given .1)
 
 returns-4 : tie.Need-returns-4
 returns-4 c =
-    let a = c .before .before .before .before .before .before .before .before .args in
+    let dated = c .before .before .before .before .before in
+    let a = dated .before .before .before .args in
     ap value (ap namingOf (sym (c .enum-told3 .given .1)) ∙ c .before .before .to-str .ensures)
-    ∙ by-saying (a .image .now) (a .id) (a .date) (a .s) _ (sym (c .before .before .before .before .before .before .is-date .ensures) ∙ not-false _ (c .before .before .before .before .before .if1 .left)) (c .before .before .before .enum-told2 .given .1)
+    ∙ by-saying (a .image .now) (a .id) (a .date) (a .s) _ (sym (dated .before .is-date .ensures) ∙ not-false _ (dated .if1 .left))
+    (c .before .before .before .enum-told2 .given .1)
 
 returns-5 : tie.Need-returns-5
 returns-5 c =
-    let a = c .before .before .before .before .before .args in
-    by-saying (a .image .now) (a .id) (a .date) (a .s) _ (sym (c .before .before .before .is-date .ensures) ∙ not-false _ (c .before .before .if1 .left)) (c .enum-told4 .given .1)
+    let dated = c .before .before in
+    let a = dated .before .before .before .args in
+    by-saying (a .image .now) (a .id) (a .date) (a .s) _ (sym (dated .before .is-date .ensures) ∙ not-false _ (dated .if1 .left))
+    (c .enum-told4 .given .1)
 
 returns-6 : tie.Need-returns-6
 returns-6 c =
-    let a = c .before .before .before .before .before .args in
-    by-saying (a .image .now) (a .id) (a .date) (a .s) _ (sym (c .before .before .before .is-date .ensures) ∙ not-false _ (c .before .before .if1 .left)) (c .enum-told5 .given .1)
+    let dated = c .before .before in
+    let a = dated .before .before .before .args in
+    by-saying (a .image .now) (a .id) (a .date) (a .s) _ (sym (dated .before .is-date .ensures) ∙ not-false _ (dated .if1 .left))
+    (c .enum-told5 .given .1)
 
 pub place-by-spec : {M : Type 1} → statement M
 place-by-spec =
