@@ -1,5 +1,5 @@
 // The benchmarks: ours and the Rust's release build, or a copy for bundles, in one run and one table. The two take turns, and each
-// time is the best of several repetitions.   main [hash | reading | building | page | bundle]
+// time is the best of several repetitions.   main [hash | reading | building | repeats | page | bundle]
 mod building;
 mod bundle;
 mod hash;
@@ -8,6 +8,7 @@ mod names;
 mod ours;
 mod page;
 mod reading;
+mod repeats;
 mod table;
 
 fn main() {
@@ -22,6 +23,9 @@ fn main() {
     }
     if wanted("building") {
         building::run();
+    }
+    if wanted("repeats") {
+        repeats::run();
     }
     if wanted("page") {
         page::run();

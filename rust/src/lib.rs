@@ -20,7 +20,8 @@
 //! ```
 //!
 //! What differs from cqdb-rs: the writer keeps the image in memory, and [`CQDBWriter::finish`] gives it, where cqdb-rs
-//! writes to a stream when it is dropped. Names come as `&[u8]`, and a walk gives them without a `Result` around each.
+//! writes to a stream when it is dropped. It refuses a name that it already holds, unless it was made by
+//! [`CQDBWriter::with_repeats`]. Names come as `&[u8]`, and a walk gives them without a `Result` around each.
 //! A lookup ends on every image. A [`Refusal`] becomes an [`std::io::Error`] by `?`.
 #![warn(missing_docs)]
 

@@ -56,6 +56,8 @@ refusals! {
     PageTooLong = 12, "the page is longer than the output";
     /// The name has a zero byte.
     ZeroByte = 13, "the name has a zero byte";
+    /// The writer already holds this name, and was not begun [`with_repeats`](crate::CQDBWriter::with_repeats).
+    Repeated = 16, "the writer already holds this name, and repeats are off";
     /// The round sheet has too few bytes.
     TooFewBytes = 19, "invalid round sheet, too few bytes";
     /// The round sheet has left-over bytes.

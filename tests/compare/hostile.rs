@@ -29,6 +29,7 @@ struct Run {
     states: u64,
     rounds: u64,
     sheets: u64,
+    repeated: u64,
     bundles: u64,
     seasons: u64,
 }
@@ -91,15 +92,16 @@ impl Run {
         self.tally.bytes(&image, bytes, || "an image that was read".into());
     }
 
-    // A put and a close on one state.
-    fn write(&mut self, random: &mut Random, s: &State) {
+    // A put of a name that is there, or of another, and a close on one state.
+    fn write(&mut self, random: &mut Random, s: &State, names: &[Box<[u8]>]) {
         let mut buf = exact(&s.buf);
         let mut counts: Box<Counts> = Box::new(s.counts);
-        let name = exact(&names::any(random));
+        let name = if random.once_in(2) { names[random.below(names.len())].clone() } else { exact(&names::any(random)) };
         let id = random.pick(&[0, 9, s.record.back, 0xffff_fffe, 0xffff_ffff]);
         let answer = ours::put(s.record, &mut counts, &mut buf, &name, id);
         if answer.refusal > 0 {
             self.unchanged((answer.record, &counts, &buf), s, "a refused put");
+            self.repeated += u64::from(answer.refusal == 16);
         }
         let after = State { record: answer.record, counts: *counts, buf: buf.to_vec() };
         let answer = ours::close(after.record, &counts, &mut buf);
@@ -244,14 +246,15 @@ impl Run {
         self.tally.bytes(buf, &s.buf, || format!("the bytes after {what}"));
     }
 
-    // A begin that is refused, for its buffer or its mode; or a state with some puts.
+    // A begin that is refused, for its buffer, its mode or its repeats; or a state with some puts.
     fn begin(&mut self, random: &mut Random) -> Option<State> {
         let length = random.pick(&[0, 1, 2071, 2072, 2073, 2300, 2300, 2600, 2600, 3000]);
         let mode = random.pick(&[0, 0, 0, 0, 1, 1, 1, 2]);
         let buf = exact(&random.bytes(length));
         let mut counts: Box<Counts> = Box::new([random.word(); 256]);
         let before = counts.clone();
-        let begun = ours::begin(mode, &mut counts, &buf);
+        let repeats = random.pick(&[0, 0, 0, 0, 1, 1, 1, 2]);
+        let begun = ours::begin(mode, repeats, &mut counts, &buf);
         self.calls += 1;
         if begun.refusal > 0 {
             self.refused += 1;
@@ -268,7 +271,7 @@ impl Run {
     }
 }
 
-// One state that calls left: its image is read in damaged copies, and copies of it are spoilt and written to.
+// One state that calls left: its image is read in damaged copies, and copies of it, most of them spoilt, are written to.
 fn round(run: &mut Run, random: &mut Random) {
     let Some(state) = run.begin(random) else { return };
     let names: Vec<Box<[u8]>> = match writing::entries(&state) {
@@ -293,10 +296,10 @@ fn round(run: &mut Run, random: &mut Random) {
     run.image(random, &noise, &names);
     for _ in 0..60 {
         let mut odd = if random.once_in(2) { state.clone() } else { closed.clone() };
-        for _ in 0..1 + random.below(3) {
+        for _ in 0..random.below(4) {
             spoil::state(random, &mut odd);
         }
-        run.write(random, &odd);
+        run.write(random, &odd, &names);
     }
     for _ in 0..60 {
         run.order(random);
@@ -318,13 +321,13 @@ fn main() {
     let calls = std::env::args().nth(1).map_or(CALLS, |text| text.parse().expect("a number of calls"));
     let mut random = Random::new();
     println!("hostile: seed {}", random.seed);
-    let mut run = Run { tally: Tally::default(), calls: 0, refused: 0, images: 0, states: 0, rounds: 0, sheets: 0, bundles: 0, seasons: 0 };
+    let mut run = Run { tally: Tally::default(), calls: 0, refused: 0, images: 0, states: 0, rounds: 0, sheets: 0, bundles: 0, seasons: 0, repeated: 0 };
     while run.calls < calls {
         round(&mut run, &mut random);
     }
     println!(
-        "hostile: {} calls on {} images, {} records with their buffers, {} rounds, {} sheets, {} bundles and {} lists of windows; {} refused; {} of {} checks failed",
-        run.calls, run.images, run.states, run.rounds, run.sheets, run.bundles, run.seasons, run.refused, run.tally.different, run.tally.rule
+        "hostile: {} calls on {} images, {} records with their buffers, {} rounds, {} sheets, {} bundles and {} lists of windows; {} refused, {} of them repeats; {} of {} checks failed",
+        run.calls, run.images, run.states, run.rounds, run.sheets, run.bundles, run.seasons, run.refused, run.repeated, run.tally.different, run.tally.rule
     );
     std::process::exit(i32::from(run.tally.different > 0));
 }

@@ -182,7 +182,7 @@ fn window(random: &mut Random, center: i64, span: usize, odd: usize) -> Window {
 fn image(random: &mut Random) -> Vec<u8> {
     let mut buf = vec![0; HEAD + 400];
     let mut counts = [0; 256];
-    let mut record = ours::begin(u32::from(random.once_in(20)), &mut counts, &buf).record;
+    let mut record = ours::begin(u32::from(random.once_in(20)), 1, &mut counts, &buf).record;
     for id in (0..4).filter(|_| !random.once_in(5)).collect::<Vec<u32>>() {
         let name: Vec<u8> = (0..random.below(30)).map(|_| 1 + random.below(255) as u8).collect();
         record = ours::put(record, &mut counts, &mut buf, &name, id).record;
