@@ -44,7 +44,7 @@ mod write;
 
 #[doc = include_str!("../MOVING.md")]
 pub mod moving {}
-
+pub use archive::{Date, Window};
 pub use bundle::{Bundle, Images};
 pub use flag::Flag;
 pub use load::{load, load_in};
