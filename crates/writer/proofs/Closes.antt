@@ -13,7 +13,9 @@ use Rattle.image.specs.Image.{backIn, backSize, flagWord, headBytes, image}
 use Rattle.writer.specs.State.{State, stateWith, fits, finishedSize, tooLarge}
 use Rattle.image.specs.Stored.{whole}
 use Rattle.writer.specs.Close.{consistent, entryArea, recorded, countsAgree, closeRefusal, closedSize, closed, afterClose, closing}
-use Rattle.writer.specs.steps.Working.{linksAt, rowsFrom, cleared, takenFrom, written}
+use Rattle.writer.specs.steps.Working.{linksAt, rowsFrom, cleared, takenFrom}
+use Rattle.writer.specs.steps.Parting.{byTables}
+use Rattle.writer.specs.steps.Written.{backCleared, written}
 use Rattle.writer.specs.declared.CQDBWriter.{CQDBWriter}
 
 module _ (s : State) where

@@ -14,6 +14,8 @@ pub mod Partial
 pub mod Cleared
 pub mod OneMore
 pub mod Turn
+pub mod Parting
+pub mod Filling
 pub mod WrittenImage
 pub mod Accepted
 pub mod Kept

@@ -104,7 +104,7 @@ partial-all mode es = refl
 
 -- ---- before any entry is taken, tables and back array are zeros
 
-abbrev Zeros : List ℕ → Type 0
+abbrev pub Zeros : List ℕ → Type 0
 Zeros l = l ≡ replicate (length l) 0
 
 zeros-append : (a b : List ℕ) → Zeros a → Zeros b → Zeros (a ++ b)
@@ -118,7 +118,7 @@ unfolding cat
 zeros-cat f h [] = refl
 zeros-cat f h (x ∷ xs) = zeros-append (f x) (cat f xs) (h x) (zeros-cat f h xs)
 
-zeros-buckets : (n : ℕ) → Zeros (cat bucketBytes (replicate n empty))
+pub zeros-buckets : (n : ℕ) → Zeros (cat bucketBytes (replicate n empty))
 unfolding cat bucketBytes le32
 zeros-buckets zero = refl
 zeros-buckets (suc n) = zeros-append (bucketBytes empty) (cat bucketBytes (replicate n empty)) refl (zeros-buckets n)

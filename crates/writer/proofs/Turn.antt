@@ -61,7 +61,7 @@ module _ (e : Entry) (rest : List ℕ) (short : length (e .name) + 1 < 2 ^ 32) w
 
 -- ---- stores within one part
 
-store-in : (a b c vs : List ℕ) (i j : ℕ) → i ≡ length a + j → j + length vs ≤ length b → sets (a ++ b ++ c) i vs ≡ a ++ sets b j vs ++ c
+pub store-in : (a b c vs : List ℕ) (i j : ℕ) → i ≡ length a + j → j + length vs ≤ length b → sets (a ++ b ++ c) i vs ≡ a ++ sets b j vs ++ c
 store-in a b c vs i j e h =
     ap (λ (l : List ℕ). sets l i vs) (append-assoc a b c)
     ∙ sets-right-at vs a (b ++ c) j i e

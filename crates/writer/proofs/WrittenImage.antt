@@ -16,7 +16,9 @@ use Rattle.writer.specs.declared.CQDBWriter.{CQDBWriter}
 use Rattle.writer.specs.State.{stateWith, fits, finishedSize}
 use Rattle.image.specs.Stored.{whole}
 use Rattle.writer.specs.Close.{entryArea, recorded, countsAgree, closed}
-use Rattle.writer.specs.steps.Working.{linksAt, taken, takenFrom, written}
+use Rattle.writer.specs.steps.Working.{linksAt, taken, takenFrom}
+use Rattle.writer.specs.steps.Parting.{byTables}
+use Rattle.writer.specs.steps.Written.{backCleared, written}
 use Rattle.writer.proofs.Fits.{fitting}
 use Rattle.image.proofs.Area.{Bytes, bytes-drop, bytes-take, length-entriesIn, whole-bytes, ids-words}
 use Rattle.writer.proofs.HeadRows.{counts-agree}

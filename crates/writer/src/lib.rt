@@ -5,7 +5,7 @@ ghost use lib.ListN.{length};
 ghost use Rattle.writer.specs.State.{stateWith, beginning, begunOf, countsBegun, finishedSize};
 ghost use Rattle.writer.specs.Put.{putRefusal, appended, afterPut, entryOf};
 ghost use Rattle.writer.specs.Close.{closing, closedOf, afterClose};
-ghost use Rattle.writer.specs.steps.Working.{written};
+ghost use Rattle.writer.specs.steps.Written.{written};
 use image::Mode;
 
 mod batch;
@@ -14,6 +14,7 @@ mod entry;
 mod fill;
 mod head;
 mod record;
+mod tables;
 
 // The writer record (`CQDBWriter` of cqdb-rs), but for its 256 table counts, which are lent apart: the mode, the buffer's
 // length, the end of the entries, the number of entries and the back size.
@@ -141,6 +142,22 @@ fn write_image(w: CQDBWriter, counts: &[u32; 256], buf: &mut [u8])
         links as u32,
     );
     head::write_rows(&mut *buf, counts, w.end as u32);
+    if record::none_above(counts, 4608) {
+        head::clear(
+            &mut *buf,
+            (w.end + 16 * (w.entries as u64)) as usize,
+            size as usize,
+        );
+        tables::take_by_tables(
+            mode,
+            links as usize,
+            &mut *buf,
+            counts,
+            w.end as usize,
+            w.entries,
+        );
+        return;
+    }
     head::clear(&mut *buf, w.end as usize, size as usize);
     batch::take_entries(mode, links as usize, &mut *buf, w.end as usize, w.entries);
 }

@@ -84,7 +84,3 @@ pub record Noted (buf : List ℕ) (end from : ℕ) (hashes : List ℕ) (k : ℕ)
 abbrev pub linksApart : Mode → ℕ → ℕ → Bool
 linksApart Twoway links end = leb end links
 linksApart Oneway links end = true
-
--- all that close writes
-unfoldable pub written : CQDBWriter → List ℕ → List ℕ → List ℕ
-written w counts buf = takenFrom (w .mode) (linksAt w) (w .end) (w .entries) headSize (cleared w counts buf)
