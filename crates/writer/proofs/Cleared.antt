@@ -17,7 +17,8 @@ use Rattle.image.proofs.Parts.{placedIn}
 use Rattle.writer.specs.declared.CQDBWriter.{CQDBWriter}
 use Rattle.writer.specs.State.{finishedSize}
 use Rattle.image.specs.Stored.{between}
-use Rattle.writer.specs.steps.Working.{rowsFrom, linksAt, cleared}
+use Rattle.writer.specs.steps.Working.{rowsFrom, linksAt}
+use Rattle.writer.specs.steps.Written.{headed, zeroed}
 use Rattle.writer.proofs.HeadRows.{Counts, rows-image}
 use Rattle.writer.proofs.Partial.{tablesWith, upToEntries, partial, zeros-both}
 
@@ -90,8 +91,8 @@ module _ (w : CQDBWriter) (counts buf : List ℕ) (es : List Entry) (tells : Tel
       zeros-both (placedIn es) (backSizeOf (w .mode) es) (finishedSize w - w .end)
       (omega (arith, told-back, tells .number, length-placed headSize es))
 
-  pub cleared-partial : cleared w counts buf ≡ partial (w .mode) es [] ++ drop (finishedSize w) buf
-  unfolding cleared partial upToEntries placed
+  pub cleared-partial : zeroed (headed w counts buf) (w .end) (finishedSize w) ≡ partial (w .mode) es [] ++ drop (finishedSize w) buf
+  unfolding headed zeroed partial upToEntries placed
   cleared-partial =
       let h = headBytes (finishedSize w) (flagWord (w .mode)) (backIn (w .mode) (w .back)) (linksAt w) in
       let r = rowsFrom counts (w .end) 0 256 in

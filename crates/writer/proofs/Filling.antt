@@ -5,8 +5,8 @@ use native.Mathlib.Omega.{arith}
 use native.Mathlib.Nat.{mod-lt}
 use mathlib.Core.Path.{_≡_, refl, sym, ap, ap₂, _∙_}
 use mathlib.Core.Bool.{Bool, true, false, cond, _&&_}
-use mathlib.Core.List.{List, [], _∷_, _++_}
-use lib.ListN.{length, getD, take, drop, set, replicate, length-take, length-set}
+use mathlib.Core.List.{List, [], _∷_, _++_, append-nil}
+use lib.ListN.{length, getD, take, drop, set, replicate, length-set, length-replicate}
 use lib.Seq.{sets, sets-eq, length-sets, length-take-le, getD-set-same, getD-set-other}
 use lib.Dec.{leb}
 use borrow.Author.Tests.{le-leb, lt-leb, leb-true}
@@ -16,7 +16,7 @@ use Rattle.image.specs.Image.{bucketBytes}
 use Rattle.image.proofs.Bools.{first, second}
 use Rattle.image.proofs.Lists.{length-cat}
 use Rattle.image.proofs.Sizes.{length-bucketBytes, length-filled, filled-more}
-use Rattle.image.proofs.Stores.{sets-part}
+use Rattle.image.proofs.Stores.{sets-whole, sets-part}
 use Rattle.image.proofs.Every.{All, all-append}
 use Rattle.image.proofs.Buckets.{filled-all}
 use Rattle.image.proofs.At.{At, at-whole, at-same, at-equal, at-left, at-right, at-word, at-second, at-part}
@@ -131,20 +131,52 @@ pub record Filled (buf₀ hs os : List ℕ) (o c i : ℕ) (buf : List ℕ) : Typ
   pub is : buf ≡ sets buf₀ o (cat bucketBytes (filled (2 * c) (listed hs os i)))
   pub small : Small (listed hs os i)
 
-module _ (buf₀ hs os : List ℕ) (o c : ℕ) where
-  pub fill-start : (buf : List ℕ) → buf ≡ sets buf₀ o (replicate (o + 16 * c - o) 0) → Filled buf₀ hs os o c 0 buf
-  unfolding listed filled insertAll
-  fill-start buf e =
+-- the room of c entries at o in cleared bytes
+module _ (base : List ℕ) (o c : ℕ) (room : o + 16 * c ≤ length base) (buf₀ : List ℕ) (e : buf₀ ≡ sets base o (replicate (o + 16 * c - o) 0)) where
+  zeros : List ℕ
+  zeros = replicate (o + 16 * c - o) 0
+
+  length-zeros : length zeros ≡ 16 * c
+  unfolding zeros
+  length-zeros = length-replicate (o + 16 * c - o) 0 ∙ same o (16 * c)
+    where
+      same : (a b : ℕ) → a + b - a ≡ b
+      same a b = omega arith
+
+  over : (vs : List ℕ) → length vs ≡ 16 * c → sets buf₀ o vs ≡ sets base o vs
+  unfolding zeros
+  over vs h =
+      let n = length-zeros in
+      let z : o ≡ o + 0 = omega arith in
+      ap (λ (l : List ℕ). sets l o vs) e
+      ∙ sets-within base zeros vs o 0 o z (omega arith) (omega arith)
+      ∙ ap (λ (l : List ℕ). sets base o (sets l 0 vs)) (sym (append-nil zeros))
+      ∙ ap (sets base o) (sets-whole vs zeros [] (h ∙ sym n) ∙ append-nil vs)
+
+  pub fill-start : (hs os : List ℕ) → Filled buf₀ hs os o c 0 buf₀
+  unfolding listed filled insertAll zeros
+  fill-start hs os =
       let T : List Bucket = replicate (2 * c) empty in
-      let n : o + 16 * c - o ≡ length (cat bucketBytes T) =
-      omega (arith, length-cat bucketBytes 8 length-bucketBytes T, length-filled (2 * c) []) in
+      let n : length (cat bucketBytes T) ≡ 16 * c =
+      omega (arith, length-cat bucketBytes 8 length-bucketBytes T, length-replicate (2 * c) empty) in
+      let none : cat bucketBytes T ≡ zeros = zeros-buckets (2 * c) ∙ ap (λ (k : ℕ). replicate k 0) (n ∙ sym length-zeros ∙ length-replicate (o + 16 * c - o) 0) in
       record {
         few = omega arith;
-        long = ap length e ∙ length-sets buf₀ o (replicate (o + 16 * c - o) 0);
-        is = e ∙ ap (λ (k : ℕ). sets buf₀ o (replicate k 0)) n ∙ ap (sets buf₀ o) (sym (zeros-buckets (2 * c)));
+        long = refl;
+        is = e ∙ ap (sets base o) (sym none) ∙ sym (over (cat bucketBytes T) n);
         small = tt;
       }
 
+  pub fill-end : (hs os : List ℕ) (i : ℕ) (buf : List ℕ) → Filled buf₀ hs os o c i buf → c ≤ i
+      → buf ≡ sets base o (cat bucketBytes (filled (2 * c) (listed hs os c)))
+  fill-end hs os i buf f l =
+      let k : i ≡ c = omega (arith, f .few) in
+      let T = filled (2 * c) (listed hs os c) in
+      let n : length (cat bucketBytes T) ≡ 16 * c =
+      omega (arith, length-cat bucketBytes 8 length-bucketBytes T, length-filled (2 * c) (listed hs os c)) in
+      f .is ∙ ap (λ (j : ℕ). sets buf₀ o (cat bucketBytes (filled (2 * c) (listed hs os j)))) k ∙ over (cat bucketBytes T) n
+
+module _ (buf₀ hs os : List ℕ) (o c : ℕ) where
   pub fill-turn : (i : ℕ) (buf buf′ : List ℕ) → Filled buf₀ hs os o c i buf → o + 16 * c ≤ length buf₀ → i < c
       → (h at : ℕ) → h ≡ getD hs i 0 → at ≡ getD os i 0 → at < 4294967296 → length buf′ ≡ length buf → buf′ ≡ inserted buf o (2 * c) h at
       → Filled buf₀ hs os o c (i + 1) buf′
@@ -164,12 +196,6 @@ module _ (buf₀ hs os : List ℕ) (o c : ℕ) where
             ∙ ap (λ (r : List Bucket). sets buf₀ o (cat bucketBytes r)) (sym (filled-more n (listed hs os i) b) ∙ ap (filled n) more);
         small = rw (← more) (all-append (λ (x : Bucket). x .at < 2 ^ 32) (listed hs os i) (b ∷ []) (f .small) (word-small, tt));
       }
-
-  pub fill-end : (i : ℕ) (buf : List ℕ) → Filled buf₀ hs os o c i buf → c ≤ i
-      → buf ≡ sets buf₀ o (cat bucketBytes (filled (2 * c) (listed hs os c)))
-  fill-end i buf f l =
-      let e : i ≡ c = omega (arith, f .few) in
-      f .is ∙ ap (λ (k : ℕ). sets buf₀ o (cat bucketBytes (filled (2 * c) (listed hs os k)))) e
 
 -- ---- which tables are filled over the copy
 

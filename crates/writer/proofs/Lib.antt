@@ -16,6 +16,7 @@ pub mod OneMore
 pub mod Turn
 pub mod Parting
 pub mod Filling
+pub mod Rooms
 pub mod WrittenImage
 pub mod Accepted
 pub mod Kept

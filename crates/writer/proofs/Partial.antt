@@ -88,13 +88,16 @@ module _ (mode : Mode) (es qs : List Entry) (tail : List ℕ) where
       sum : length H + length R + length E ≡ entriesEnd es
       sum = omega (arith, length-headWords mode es, length-tableRows (entriesEnd es) (placedIn es), length-entries es)
 
--- the entries from one of them on
+-- the entries from one of them on, in any bytes where they stand
+pub entries-after : {img : List ℕ} (es rest done : List Entry) → At img headSize (cat entryBytes es) → es ≡ done ++ rest
+    → At img (headSize + entriesSize done) (cat entryBytes rest)
+entries-after es rest done there e =
+    at-same (ap (λ (n : ℕ). headSize + n) (length-entries done))
+    (at-right (cat entryBytes done) (cat entryBytes rest) (at-equal (ap (cat entryBytes) e ∙ cat-append entryBytes done rest) there))
+
 pub entries-from : (mode : Mode) (es qs rest done : List Entry) (tail : List ℕ) → es ≡ done ++ rest
     → At (partial mode es qs ++ tail) (headSize + entriesSize done) (cat entryBytes rest)
-entries-from mode es qs rest done tail e =
-    at-same (ap (λ (n : ℕ). headSize + n) (length-entries done))
-    (at-right (cat entryBytes done) (cat entryBytes rest)
-    (at-equal (ap (cat entryBytes) e ∙ cat-append entryBytes done rest) (entries-there mode es qs tail)))
+entries-from mode es qs rest done tail e = entries-after es rest done (entries-there mode es qs tail) e
 
 -- ---- when all entries are taken it is the image
 

@@ -5,7 +5,7 @@ use native.Mathlib.Omega.{arith}
 use mathlib.Core.Path.{_≡_, refl, sym, ap, ap₂, _∙_}
 use mathlib.Core.Bool.{Bool, true, false, cond, _&&_}
 use mathlib.Core.List.{List, [], _∷_, _++_}
-use lib.ListN.{length, getD, take, drop, set, length-set}
+use lib.ListN.{length, getD, take, drop, set, replicate}
 use lib.Seq.{sets}
 use lib.Dec.{eqb, leb}
 use borrow.Author.Tests.{eq-eqb, ne-eqb, le-leb, lt-leb}
@@ -121,3 +121,11 @@ tables-turn counts buf buf′ x o t n c h ec e inv =
 pub tables-end : (counts buf x : List ℕ) (o t : ℕ) → tablesFrom counts o t 0 buf ≡ x → buf ≡ x
 unfolding tablesFrom
 tables-end counts buf x o t p = p
+
+-- all of it
+pub by-tables : (mode : Mode) (links end entries : ℕ) (counts buf places b1 b2 : List ℕ)
+    → places ≡ sets (replicate 256 0) 0 (roomsFrom counts end 0 256) → b1 ≡ partedFrom mode links end entries 2072 places buf
+    → b2 ≡ tablesFrom counts end 0 256 b1 → b2 ≡ byTables mode links end entries counts buf
+unfolding byTables
+by-tables mode links end entries counts buf places b1 b2 p q r =
+    r ∙ ap (tablesFrom counts end 0 256) (q ∙ ap (λ (l : List ℕ). partedFrom mode links end entries 2072 l buf) p)

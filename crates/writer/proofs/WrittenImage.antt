@@ -18,7 +18,7 @@ use Rattle.image.specs.Stored.{whole}
 use Rattle.writer.specs.Close.{entryArea, recorded, countsAgree, closed}
 use Rattle.writer.specs.steps.Working.{linksAt, taken, takenFrom}
 use Rattle.writer.specs.steps.Parting.{byTables}
-use Rattle.writer.specs.steps.Written.{backCleared, written}
+use Rattle.writer.specs.steps.Written.{headed, zeroed, filledIn, written}
 use Rattle.writer.proofs.Fits.{fitting}
 use Rattle.image.proofs.Area.{Bytes, bytes-drop, bytes-take, length-entriesIn, whole-bytes, ids-words}
 use Rattle.writer.proofs.HeadRows.{counts-agree}

@@ -142,24 +142,15 @@ fn write_image(w: CQDBWriter, counts: &[u32; 256], buf: &mut [u8])
         links as u32,
     );
     head::write_rows(&mut *buf, counts, w.end as u32);
-    if record::none_above(counts, 4608) {
-        head::clear(
-            &mut *buf,
-            (w.end + 16 * (w.entries as u64)) as usize,
-            size as usize,
-        );
-        tables::take_by_tables(
-            mode,
-            links as usize,
-            &mut *buf,
-            counts,
-            w.end as usize,
-            w.entries,
-        );
-        return;
-    }
-    head::clear(&mut *buf, w.end as usize, size as usize);
-    batch::take_entries(mode, links as usize, &mut *buf, w.end as usize, w.entries);
+    tables::fill_in(
+        mode,
+        links as usize,
+        &mut *buf,
+        counts,
+        w.end as usize,
+        w.entries,
+        size as usize,
+    );
 }
 
 // Writes head, tables and back array into the lent buffer, and gives the image's size. May be called often.

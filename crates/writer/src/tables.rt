@@ -9,11 +9,14 @@ ghost use lib.Seq.{sets};
 ghost use Rattle.image.specs.Bytes.{word, le32, cat};
 ghost use Rattle.image.specs.Tables.{order, firstEmpty, filled};
 ghost use Rattle.image.specs.Image.{bucketBytes};
+ghost use Rattle.writer.specs.steps.Written.{filledIn};
 ghost use Rattle.writer.specs.steps.Parting.{roomsFrom, withPair, moved, hashAt, parted, partedFrom, pairsAt, listed, inserted, copied, withTable, tablesFrom, byTables};
+use super::batch::take_entries;
 use super::fill::store_link;
 use super::head::clear;
 use super::head::low;
 use super::head::wide;
+use super::record::none_above;
 use image::Mode;
 
 // The word v stored at `at`, where there is room for it. The compiler makes one store of it.
@@ -136,10 +139,11 @@ fn empty_bucket(buf: &[u8], o: usize, n: usize, k: usize) -> usize
     0
 }
 
-// A pair stored in the first empty bucket of its search among the n buckets at o.
+// A pair stored in the first empty bucket of its search among the n buckets at o. Its offset is a word, which the caller
+// is told.
 fn insert(buf: &mut [u8], o: usize, n: usize, h: u32, at: u32)
     requires { ⌜ (0 < n) × (o + 8 * n ≤ length (now buf)) ⌝ }
-    ensures { λ _. ⌜ now (buf .exit) ≡ inserted (now (buf .entry)) o n h at ⌝ }
+    ensures { λ _. ⌜ (now (buf .exit) ≡ inserted (now (buf .entry)) o n h at) × (at < 4294967296) ⌝ }
 {
     let k = empty_bucket(&*buf, o, n, (h / 256) as usize % n);
     store_pair(&mut *buf, o + 8 * k, h, at);
@@ -218,7 +222,7 @@ fn fill_tables(buf: &mut [u8], counts: &[u32; 256], end: usize)
 }
 
 // The entries from 2,072 on, taken by tables.
-pub(super) fn take_by_tables(
+fn take_by_tables(
     mode: Mode,
     links: usize,
     buf: &mut [u8],
@@ -233,4 +237,27 @@ pub(super) fn take_by_tables(
     rooms(counts, end, &mut places);
     part_entries(mode, links, &mut *buf, &mut places, end, entries);
     fill_tables(&mut *buf, counts, end);
+}
+
+// The entries from 2,072 on, taken into tables and back array of an image of `size` bytes: by tables where no table has more
+// than 4,608 entries, so that its pairs can be copied on the stack, and otherwise one by one.
+pub(super) fn fill_in(
+    mode: Mode,
+    links: usize,
+    buf: &mut [u8],
+    counts: &[u32; 256],
+    end: usize,
+    entries: u32,
+    size: usize,
+)
+    requires { ⌜ (2072 ≤ end) × (end + 16 * entries ≤ size) × (size ≤ length (now buf)) × (size < 4294967296) × (links < 4294967296) ⌝ }
+    ensures { λ _. ⌜ now (buf .exit) ≡ filledIn mode links end entries size (now (counts .entry)) (now (buf .entry)) ⌝ }
+{
+    if none_above(counts, 4608) {
+        clear(&mut *buf, end + 16 * (entries as usize), size);
+        take_by_tables(mode, links, &mut *buf, counts, end, entries);
+        return;
+    }
+    clear(&mut *buf, end, size);
+    take_entries(mode, links, &mut *buf, end, entries);
 }

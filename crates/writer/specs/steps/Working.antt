@@ -29,14 +29,6 @@ rowsFrom counts o t (suc m) =
 unfoldable pub linksAt : CQDBWriter → ℕ
 linksAt w = cond (eqb (backIn (w .mode) (w .back)) 0) 0 (w .end + 16 * w .entries)
 
--- head and rows written, tables and back array cleared
-unfoldable pub cleared : CQDBWriter → List ℕ → List ℕ → List ℕ
-cleared w counts buf =
-    sets
-    (sets (sets buf 0 (headBytes (finishedSize w) (flagWord (w .mode)) (backIn (w .mode) (w .back)) (linksAt w))) 24 (rowsFrom counts (w .end) 0 256))
-    (w .end)
-    (replicate (finishedSize w - w .end) 0)
-
 -- the bucket that takes an entry of hash h: its place in the buffer
 unfoldable pub slot : List ℕ → ℕ → ℕ
 slot buf h =

@@ -5,22 +5,27 @@ use mathlib.Core.List.{List}
 use lib.ListN.{replicate}
 use lib.Seq.{sets}
 use Rattle.image.specs.Image.{headSize, headBytes, flagWord, backIn}
+use Rattle.image.specs.declared.Mode.{Mode}
 use Rattle.writer.specs.declared.CQDBWriter.{CQDBWriter}
 use Rattle.writer.specs.State.{finishedSize, noneAbove}
-use Rattle.writer.specs.steps.Working.{rowsFrom, linksAt, cleared, takenFrom}
+use Rattle.writer.specs.steps.Working.{rowsFrom, linksAt, takenFrom}
 use Rattle.writer.specs.steps.Parting.{byTables}
 
--- head and rows written, the back array cleared
-unfoldable pub backCleared : CQDBWriter → List ℕ → List ℕ → List ℕ
-backCleared w counts buf =
-    sets
-    (sets (sets buf 0 (headBytes (finishedSize w) (flagWord (w .mode)) (backIn (w .mode) (w .back)) (linksAt w))) 24 (rowsFrom counts (w .end) 0 256))
-    (w .end + 16 * w .entries)
-    (replicate (finishedSize w - (w .end + 16 * w .entries)) 0)
+-- head and rows
+unfoldable pub headed : CQDBWriter → List ℕ → List ℕ → List ℕ
+headed w counts buf =
+    sets (sets buf 0 (headBytes (finishedSize w) (flagWord (w .mode)) (backIn (w .mode) (w .back)) (linksAt w))) 24 (rowsFrom counts (w .end) 0 256)
 
--- by tables where no table has more than 4,608 entries, otherwise entry by entry
-unfoldable pub written : CQDBWriter → List ℕ → List ℕ → List ℕ
-written w counts buf =
+-- zeros from one place to another
+unfoldable pub zeroed : List ℕ → ℕ → ℕ → List ℕ
+zeroed buf from to = sets buf from (replicate (to - from) 0)
+
+-- the entries in tables and back array: by tables where no table has more than 4,608 entries, otherwise one by one
+unfoldable pub filledIn : Mode → ℕ → ℕ → ℕ → ℕ → List ℕ → List ℕ → List ℕ
+filledIn mode links end entries size counts buf =
     cond (noneAbove counts 4608)
-    (byTables (w .mode) (linksAt w) (w .end) (w .entries) counts (backCleared w counts buf))
-    (takenFrom (w .mode) (linksAt w) (w .end) (w .entries) headSize (cleared w counts buf))
+    (byTables mode links end entries counts (zeroed buf (end + 16 * entries) size))
+    (takenFrom mode links end entries headSize (zeroed buf end size))
+
+unfoldable pub written : CQDBWriter → List ℕ → List ℕ → List ℕ
+written w counts buf = filledIn (w .mode) (linksAt w) (w .end) (w .entries) (finishedSize w) counts (headed w counts buf)

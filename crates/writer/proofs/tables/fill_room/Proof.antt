@@ -29,7 +29,7 @@ clear-requires c κs = (omega arith, omega arith)
 loop-holds : tie.Need-loop-holds Inv-loop μ-loop
 loop-holds c =
     let a = c .before .before .before .before .before .args in
-    fill-start (a .buf .now) (a .hashes .now) (a .offsets .now) (a .o) (a .c) (c .before .before .clear .last .0) (c .before .before .clear .ensures)
+    fill-start (a .buf .now) (a .o) (a .c) (c .before .before .before .before .before .pre .1) (c .before .before .clear .last .0) (c .before .before .clear .ensures) (a .hashes .now) (a .offsets .now)
 
 mul-insert : tie.Need-mul-insert Inv-loop μ-loop
 mul-insert c = omega arith
@@ -49,6 +49,7 @@ element-copy-out-insert-2 c = omega arith
 insert-requires : tie.Need-insert-requires Inv-loop μ-loop
 insert-requires c κs =
     let room = c .before .before .before .before .before .before .before .before .before .before .pre .1 in
+    let k = c .before .before .before .before .before .before .before .clear .kept .0 in
     (omega (arith, c .before .before .before .loop-test .taken), omega (arith, c .before .before .before .before .loop .inv .long))
 
 add-i : tie.Need-add-i Inv-loop μ-loop
@@ -61,17 +62,19 @@ loop-again : tie.Need-loop-again Inv-loop μ-loop
 loop-again c =
     let a = c .before .before .before .before .before .before .before .before .before .before .before .before .before .args in
     let i = c .before .before .before .before .before .before .before .loop in
+    let of-clear = c .before .before .before .before .before .before .before .before .before .before .clear in
     let of-insert = c .before .before .insert in
-    fill-turn (a .buf .now) (a .hashes .now) (a .offsets .now) (a .o) (a .c) (i .i) (i .buf) (of-insert .last .0) (i .inv) (c .before .before .before .before .before .before .before .before .before .before .before .before .before .pre .1) (c .before .before .before .before .before .before .loop-test .taken) _ _ refl refl (omega (arith, c .before .before .before .insert-arg3 .given)) (of-insert .kept .0) (of-insert .ensures)
+    fill-turn (of-clear .last .0) (a .hashes .now) (a .offsets .now) (a .o) (a .c) (i .i) (i .buf) (of-insert .last .0) (i .inv) (omega (arith, c .before .before .before .before .before .before .before .before .before .before .before .before .before .pre .1, of-clear .kept .0)) (c .before .before .before .before .before .before .loop-test .taken) _ _ refl refl (of-insert .ensures .1) (of-insert .kept .0) (of-insert .ensures .0)
 
 same-length : tie.Need-same-length Inv-loop μ-loop
-same-length c = c .before .loop .inv .long
+same-length c = search needs
 
 returns : tie.Need-returns Inv-loop μ-loop
 returns c =
     let a = c .before .before .before .before .before .before .before .args in
     let i = c .before .loop in
-    fill-end (a .buf .now) (a .hashes .now) (a .offsets .now) (a .o) (a .c) (i .i) (i .buf) (i .inv) (c .loop-test .left)
+    let of-clear = c .before .before .before .before .clear in
+    fill-end (a .buf .now) (a .o) (a .c) (c .before .before .before .before .before .before .before .pre .1) (of-clear .last .0) (of-clear .ensures) (a .hashes .now) (a .offsets .now) (i .i) (i .buf) (i .inv) (c .loop-test .left)
 
 pub fill-room-spec : {M : Type 1} → statement M
 fill-room-spec =

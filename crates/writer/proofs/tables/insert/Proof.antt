@@ -37,7 +37,7 @@ same-length c = search needs
 returns : tie.Need-returns
 returns c =
     let a = c .before .before .before .before .before .before .before .args in
-    inserted-at (a .buf .now) (c .before .before .store-pair .last .0) (a .o) (a .n) (a .h) (a .at) (c .before .before .before .before .empty-bucket .result) (c .before .before .before .before .empty-bucket .ensures .0) (c .before .before .store-pair .ensures)
+    (inserted-at (a .buf .now) (c .before .before .store-pair .last .0) (a .o) (a .n) (a .h) (a .at) (c .before .before .before .before .empty-bucket .result) (c .before .before .before .before .empty-bucket .ensures .0) (c .before .before .store-pair .ensures), omega arith)
 
 pub insert-spec : {M : Type 1} → statement M
 insert-spec =

@@ -1,0 +1,65 @@
+-- `writer::tables::fill_in` meets its contract. Assumes nothing.
+use mathlib.Core.Path.{sym, _∙_}
+use Rattle.writer.proofs.Closes.{filled-by-tables, filled-singly}
+use borrow.Author.Needs.{needs}
+use Rattle.writer.proofs.tables.fill_in.Statement.{statement}
+use Rattle.writer.proofs.tables.fill_in.Tie as tie
+use Rattle.writer.proofs.tables.fill_in.Reads as reads
+use Rattle.writer.proofs.tables.fill_in.Lts as lts
+use Rattle.writer.proofs.batch.take_entries.Reads as take-entries-reads
+use Rattle.writer.proofs.head.clear.Reads as clear-reads
+use Rattle.writer.proofs.record.none_above.Reads as none-above-reads
+use Rattle.writer.proofs.tables.take_by_tables.Reads as take-by-tables-reads
+
+none-above-requires : tie.Need-none-above-requires
+none-above-requires c κs = search needs
+
+mul-clear : tie.Need-mul-clear
+mul-clear c = search needs
+
+add-clear : tie.Need-add-clear
+add-clear c = search needs
+
+clear-requires : tie.Need-clear-requires
+clear-requires c κs = search needs
+
+take-by-tables-requires : tie.Need-take-by-tables-requires
+take-by-tables-requires c κs = search needs
+
+same-length : tie.Need-same-length
+same-length c = search needs
+
+returns : tie.Need-returns
+returns c =
+    let a = c .before .before .before .before .before .before .before .before .before .before .before .args in
+    filled-by-tables (a .mode) (a .links) (a .end) (a .entries) (a .size) (a .counts .now) (a .buf .now) (c .before .before .before .before .before .before .clear .last .0) (c .before .before .take-by-tables .last .1 .1 .0) (sym (c .before .before .before .before .before .before .before .before .before .none-above .ensures) ∙ c .before .before .before .before .before .before .before .before .if1 .taken) (c .before .before .before .before .before .before .clear .ensures) (c .before .before .take-by-tables .ensures)
+
+clear-requires-2 : tie.Need-clear-requires-2
+clear-requires-2 c κs = search needs
+
+take-entries-requires : tie.Need-take-entries-requires
+take-entries-requires c κs = search needs
+
+same-length-2 : tie.Need-same-length-2
+same-length-2 c = search needs
+
+returns-2 : tie.Need-returns-2
+returns-2 c =
+    let a = c .before .before .before .before .before .before .before .before .before .before .before .args in
+    filled-singly (a .mode) (a .links) (a .end) (a .entries) (a .size) (a .counts .now) (a .buf .now) (c .before .before .before .before .before .before .clear2 .last .0) (c .before .before .take-entries .last .1 .1 .0) (sym (c .before .before .before .before .before .before .before .before .before .none-above .ensures) ∙ c .before .before .before .before .before .before .before .before .if1 .left) (c .before .before .before .before .before .before .clear2 .ensures) (c .before .before .take-entries .ensures)
+
+pub fill-in-spec : {M : Type 1} → statement M
+fill-in-spec =
+    tie.close
+    (tie.spec
+    none-above-requires
+    mul-clear
+    add-clear
+    clear-requires
+    take-by-tables-requires
+    same-length
+    returns
+    clear-requires-2
+    take-entries-requires
+    same-length-2
+    returns-2)
