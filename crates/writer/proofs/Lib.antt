@@ -17,6 +17,7 @@ pub mod Turn
 pub mod Parting
 pub mod Filling
 pub mod Rooms
+pub mod ByTables
 pub mod WrittenImage
 pub mod Accepted
 pub mod Kept

@@ -12,7 +12,7 @@ use Rattle.jhash.specs.NameHash.{hashOf}
 use Rattle.image.specs.Bytes.{word, le32, cat, keep, range}
 use Rattle.image.specs.Tables.{Bucket, empty, tableOf}
 use Rattle.image.specs.Image.{Placed, inTable, ofTable, count, bucketOf, bucketBytes, entriesBefore}
-use Rattle.image.proofs.Lists.{cat-cons, cat-append, cat-ext, length-cat, keep-yes, keep-no, range-more, range-at}
+use Rattle.image.proofs.Lists.{cat-append, cat-ext, length-cat, keep-yes, keep-no, range-more, range-at}
 use Rattle.image.proofs.Sizes.{ofTable-append, length-bucketBytes, before-suc, before-all}
 use Rattle.image.proofs.Stores.{sets-right-at, sets-run}
 use Rattle.image.proofs.Parts.{before-most}
@@ -77,6 +77,10 @@ rooms-all ps X h =
     rooms-to ps X 256 ∙ ap (λ (n : ℕ). take (16 * n) X) (before-all ps) ∙ take-all (16 * length ps) X (omega arith)
 
 -- ---- pairs in them
+
+cat-one : (b : Bucket) → cat bucketBytes (b ∷ []) ≡ bucketBytes b
+unfolding cat
+cat-one b = append-nil (bucketBytes b)
 
 -- the pairs of table t's entries, in put order
 unfoldable pub pairsOf : List Placed → ℕ → List ℕ
@@ -153,16 +157,12 @@ module _ (ps : List Placed) (X : List ℕ) (long : length X ≡ 16 * length ps) 
         ap (λ (l : List Placed). cat bucketBytes (map bucketOf l)) ofTable-own
         ∙ ap (cat bucketBytes) (map-append bucketOf (ofTable t rs) (p ∷ []))
         ∙ cat-append bucketBytes (map bucketOf (ofTable t rs)) (bucketOf p ∷ [])
-        ∙ ap (λ (l : List ℕ). A ++ l) (cat-cons bucketBytes (bucketOf p) [] ∙ nothing b) in
+        ∙ ap (λ (l : List ℕ). A ++ l) (cat-one (bucketOf p)) in
         sets-right-at b A D 0 (8 * c) place
         ∙ ap (λ (l : List ℕ). A ++ l) (sets-eq b D 0 (omega (arith, length-drop (8 * c) (room ps X t), length-room t below)))
         ∙ ap (λ (l : List ℕ). A ++ (b ++ l)) (drop-drop (0 + length b) (8 * c) (room ps X t) ∙ ap (λ (k : ℕ). drop k (room ps X t)) later)
         ∙ sym (append-assoc A b (drop (8 * (c + 1)) (room ps X t)))
         ∙ ap₂ (λ (l : List ℕ) (k : ℕ). l ++ drop (8 * k) (room ps X t)) (sym pairs) (sym count-own)
-      where
-        nothing : (b : List ℕ) → b ++ cat bucketBytes [] ≡ b
-        unfolding cat
-        nothing b = append-nil b
 
     pub rooms-more : ((t : ℕ) → t < 256 → count t rs ≤ count t ps) → count (ownTable p) rs < count (ownTable p) ps → ownTable p < 256
         → sets (cat (roomWith ps X rs) (range 0 256)) (16 * entriesBefore (ownTable p) ps + 8 * count (ownTable p) rs) (bucketBytes (bucketOf p))

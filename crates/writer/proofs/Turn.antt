@@ -134,8 +134,12 @@ module _ (mode : Mode) (es qs rest : List Entry) (e : Entry) (tail : List ℕ) (
   u : ℕ
   u = tableOf (hashOf (e .name))
 
-  pub u-below : tableOf (hashOf (e .name)) < 256
-  u-below = mod-lt (hashOf (e .name)) (lit< tt)
+  pub own-below : tableOf (hashOf (e .name)) < 256
+  own-below = mod-lt (hashOf (e .name)) (lit< tt)
+
+  u-below : u < 256
+  unfolding u
+  u-below = own-below
 
   pub sizes : entriesSize es ≡ entriesSize qs + (entrySize e + entriesSize rest)
   unfolding entriesSize
@@ -149,9 +153,10 @@ module _ (mode : Mode) (es qs rest : List Entry) (e : Entry) (tail : List ℕ) (
       all-middle (λ (x : Entry). x .id < backSize es) qs rest e
       (ids-below (qs ++ e ∷ rest) (backSize es) (omega (arith, ap backSize split)))
 
-  pub some-there : count (tableOf (hashOf (e .name))) (placedIn qs) < count (tableOf (hashOf (e .name))) (placedIn es)
-  unfolding u placed
-  some-there =
+  pub one-there : count (tableOf (hashOf (e .name))) (placedIn qs) < count (tableOf (hashOf (e .name))) (placedIn es)
+  unfolding placed
+  one-there =
+      let u = tableOf (hashOf (e .name)) in
       let q = placed (headSize + entriesSize qs + entrySize e) rest in
       let c : count u (placedIn es) ≡ count u (placedIn qs) + count u (nextOf qs e ∷ q) =
       ap (λ (l : List Entry). count u (placedIn l)) split
@@ -160,6 +165,10 @@ module _ (mode : Mode) (es qs rest : List Entry) (e : Entry) (tail : List ℕ) (
       let d : count u (nextOf qs e ∷ q) ≡ 1 + count u q =
       count-cons u (nextOf qs e) q ∙ ap (λ (b : Bool). cond b 1 0 + count u q) (eq-eqb u u refl) in
       omega arith
+
+  some-there : 0 < count u ps
+  unfolding u ps
+  some-there = let o = one-there in omega arith
 
   -- ---- the entry as it is read
 
