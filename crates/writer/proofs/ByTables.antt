@@ -6,7 +6,7 @@ use native.Mathlib.Decide.{ℕ-discrete}
 use mathlib.Core.Path.{_≡_, refl, sym, ap, ap₂, _∙_}
 use mathlib.Core.Bool.{Bool, true, false, cond, _&&_}
 use mathlib.Core.List.{List, [], _∷_, _++_, map, append-nil, append-assoc}
-use lib.ListN.{length, getD, take, drop, set, length-append, length-set, length-map}
+use lib.ListN.{length, getD, set, replicate, length-append, length-set, length-replicate}
 use lib.Seq.{sets, getD-set-same, getD-set-other}
 use lib.Dec.{eqb, ltb, leb}
 use borrow.Author.Tests.{ne-eqb, le-leb, lt-ltb, le-ltb}
@@ -19,19 +19,19 @@ use Rattle.image.specs.Image.{entriesBefore, links, backSizeOf, backOffset, ent
 use Rattle.image.specs.Stored.{between, wholeLength}
 use Rattle.image.specs.declared.Mode.{Mode}
 use Rattle.image.proofs.Lists.{cat-ext, cat-run}
-use Rattle.image.proofs.Sizes.{length-entries, entriesSize-append, length-placed, placed-append, count-append, length-bucketBytes, length-tableBytes, length-headWords, length-tableRows, before-suc}
+use Rattle.image.proofs.Sizes.{length-entries, entriesSize-append, length-placed, placed-append, count-nil, count-append, length-bucketBytes, length-tableBytes, length-headWords, length-tableRows, before-suc}
 use Rattle.image.proofs.Stores.{sets-whole}
 use Rattle.image.proofs.Every.{All, all-keep, all-image}
 use Rattle.image.proofs.At.{At, at-same, at-equal, at-left, at-right, at-word}
 use Rattle.image.proofs.Parts.{placedIn, before-most}
 use Rattle.image.proofs.EntryAt.{id-word}
 use Rattle.writer.specs.steps.Working.{withLink}
-use Rattle.writer.specs.steps.Parting.{withPair, moved, hashAt, parted, partedFrom, pairsAt, copied, withTable, tablesFrom}
+use Rattle.writer.specs.steps.Parting.{withPair, moved, hashAt, parted, partedFrom, roomsFrom}
 use Rattle.writer.proofs.HeadRows.{Counts}
 use Rattle.writer.proofs.Partial.{upToEntries, length-upToEntries, entries-after}
 use Rattle.writer.proofs.OneMore.{ownTable}
 use Rattle.writer.proofs.Turn.{nextOf, placed-more, offsets, store-in, linked, entry-there, length-there, name-there, own-below, sizes, id-small, id-below, one-there, name-short, ends-there}
-use Rattle.writer.proofs.Rooms.{roomWith, pairsOf, length-pairsOf, length-rooms, room-at, room-set, length-roomWith, count-own, count-other, rooms-more, pairs-read}
+use Rattle.writer.proofs.Rooms.{roomWith, length-rooms, length-roomWith, count-own, count-other, rooms-more}
 
 -- ---- the entries in an image whose tables are not made yet
 
@@ -50,6 +50,51 @@ entries-in mode es rest =
 pub record Places (end : ℕ) (ps rs : List Placed) (places : List ℕ) : Type 0 where
   pub many : length places ≡ 256
   pub each : (t : ℕ) → t < 256 → getD places t 0 ≡ end + 16 * entriesBefore t ps + 8 * count t rs
+
+-- where the rooms begin, before any entry
+module _ (counts : List ℕ) (end : ℕ) (ps : List Placed) (tallies : Counts counts ps) (small : end + 16 * length ps ≤ 4294967295) where
+  length-begin : (m t o : ℕ) → length (roomsFrom counts o t m) ≡ m
+  unfolding roomsFrom
+  length-begin zero t o = refl
+  length-begin (suc m) t o = ap suc (length-begin m (suc t) (o + 16 * getD counts t 0))
+
+  begin-at : (m t o i : ℕ) → t + m ≤ 256 → o ≡ end + 16 * entriesBefore t ps → i < m
+      → getD (roomsFrom counts o t m) i 0 ≡ (end + 16 * entriesBefore (t + i) ps) % 4294967296
+  unfolding roomsFrom
+  begin-at zero t o i h e l = absurd (omega arith)
+  begin-at (suc m) t o zero h e l =
+      let z : t ≡ t + 0 = omega arith in
+      ap (λ (k : ℕ). k % 4294967296) (e ∙ ap (λ (k : ℕ). end + 16 * entriesBefore k ps) z)
+  begin-at (suc m) t o (suc i) h e l =
+      let z : suc t + i ≡ t + suc i = omega arith in
+      let c = tallies t (omega arith) in
+      begin-at m (suc t) (o + 16 * getD counts t 0) i (omega arith) (omega (arith, before-suc t ps)) (omega arith)
+      ∙ ap (λ (k : ℕ). (end + 16 * entriesBefore k ps) % 4294967296) z
+
+  pub places-begin : Places end ps [] (sets (replicate 256 0) 0 (roomsFrom counts end 0 256))
+  unfolding entriesBefore
+  places-begin = rw whole (record { many = length-begin 256 0 end; each = each })
+    where
+      R : List ℕ
+      R = roomsFrom counts end 0 256
+
+      zeros : List ℕ
+      zeros = replicate 256 0
+
+      whole : sets (replicate 256 0) 0 (roomsFrom counts end 0 256) ≡ roomsFrom counts end 0 256
+      whole =
+          ap (λ (l : List ℕ). sets l 0 R) (sym (append-nil zeros))
+          ∙ sets-whole R zeros [] (length-begin 256 0 end ∙ sym (length-replicate {A = ℕ} 256 0))
+          ∙ append-nil R
+
+      each : (t : ℕ) → t < 256 → getD (roomsFrom counts end 0 256) t 0 ≡ end + 16 * entriesBefore t ps + 8 * count t []
+      each t h =
+          let z : 0 + t ≡ t = omega arith in
+          let none : end ≡ end + 16 * entriesBefore 0 ps = omega arith in
+          begin-at 256 0 end t (omega arith) none h
+          ∙ ap (λ (k : ℕ). (end + 16 * entriesBefore k ps) % 4294967296) z
+          ∙ mod-eq-of-lt (omega (arith, before-most ps t h))
+          ∙ omega (arith, count-nil t)
 
 -- the image of the entries es whose tables have the pairs of the entries qs
 unfoldable pub halfway : Mode → List Entry → List ℕ → List Entry → List ℕ → List ℕ
@@ -155,7 +200,58 @@ module _ (mode : Mode) (es : List Entry) (X tail : List ℕ) (long : length X �
 
     pub half-places : Places (entriesEnd es) (placedIn es) (placedIn (qs ++ e ∷ []))
         (moved places (hashAt (halfway mode es X qs tail) (headSize + entriesSize qs) (length (e .name) + 1)))
-    half-places = rw (half-hash, placed-more qs e) moved-places
+    unfolding moved
+    half-places = rw (half-hash, placed-more qs e) (record { many = length-set places u v ∙ next .many; each = λ t h. go t h (ℕ-discrete t u) })
       where
-        moved-places : Places (entriesEnd es) (placedIn es) (placedIn qs ++ nextOf qs e ∷ []) (moved places (hashOf (e .name)))
-        moved-places = ?
+        u : ℕ
+        u = tableOf (hashOf (e .name))
+
+        v : ℕ
+        v = (getD places (tableOf (hashOf (e .name))) 0 + 8) % 4294967296
+
+        there : getD places (tableOf (hashOf (e .name))) 0 ≡ entriesEnd es + 16 * entriesBefore (tableOf (hashOf (e .name))) (placedIn es) + 8 * count (tableOf (hashOf (e .name))) (placedIn qs)
+        there = next .each (tableOf (hashOf (e .name))) (own-below mode es qs rest e tail split fits ids)
+
+        go : (t : ℕ) → t < 256 → Dec (t ≡ tableOf (hashOf (e .name)))
+            → getD (set places (tableOf (hashOf (e .name))) ((getD places (tableOf (hashOf (e .name))) 0 + 8) % 4294967296)) t 0
+            ≡ entriesEnd es + 16 * entriesBefore t (placedIn es) + 8 * count t (placedIn qs ++ nextOf qs e ∷ [])
+        go t h (yes y) =
+            let w = tableOf (hashOf (e .name)) in
+            let x = getD places w 0 + 8 in
+            let below = own-below mode es qs rest e tail split fits ids in
+            let one = one-there mode es qs rest e tail split fits ids in
+            let small : x < 4294967296 = omega (arith, there, before-most (placedIn es) w below, length-placed headSize es) in
+            rw y
+            (getD-set-same places w (x % 4294967296) 0 (omega (arith, next .many))
+            ∙ mod-eq-of-lt small
+            ∙ omega (arith, there, count-own (placedIn es) X long (placedIn qs) (nextOf qs e)))
+        go t h (no z) =
+            let w = tableOf (hashOf (e .name)) in
+            getD-set-other places w t ((getD places w 0 + 8) % 4294967296) 0 z
+            ∙ next .each t h
+            ∙ ap (λ (k : ℕ). entriesEnd es + 16 * entriesBefore t (placedIn es) + 8 * k)
+            (sym (count-other (placedIn es) X long (placedIn qs) (nextOf qs e) t z))
+
+  next-at : (qs : List Entry) (e : Entry) → headSize + entriesSize qs + (8 + (length (e .name) + 1)) ≡ headSize + entriesSize (qs ++ e ∷ [])
+  unfolding entriesSize
+  next-at qs e = omega (arith, entriesSize-append qs (e ∷ []))
+
+  pub half-walked : imageSize mode es ≤ 4294967295 → All (λ (x : Entry). x .id < 2 ^ 32) es → (rest qs : List Entry) → es ≡ qs ++ rest → (places : List ℕ)
+      → Places (entriesEnd es) (placedIn es) (placedIn qs) places
+      → partedFrom mode (backOffset mode es) (entriesEnd es) (length rest) (headSize + entriesSize qs) places (halfway mode es X qs tail)
+      ≡ halfway mode es X es tail
+  unfolding partedFrom
+  half-walked fits ids [] qs split places next = ap (λ (l : List Entry). halfway mode es X l tail) (sym (split ∙ append-nil qs))
+  half-walked fits ids (e ∷ rest) qs split places next =
+      let at = headSize + entriesSize qs in
+      let H = halfway mode es X qs tail in
+      let o = backOffset mode es in
+      let end = entriesEnd es in
+      let n = length (e .name) + 1 in
+      let moved′ = moved places (hashAt H at n) in
+      ap (λ (k : ℕ). cond (eqb k 0) H (partedFrom mode o end (length rest) (at + (8 + k)) (moved places (hashAt H at k)) (parted mode o places H at k)))
+      (half-length qs rest e split fits ids places next)
+      ∙ ap (λ (b : Bool). cond b H (partedFrom mode o end (length rest) (at + (8 + n)) moved′ (parted mode o places H at n))) (ne-eqb n 0 (λ z. omega arith))
+      ∙ ap (λ (l : List ℕ). partedFrom mode o end (length rest) (at + (8 + n)) moved′ l) (half-turn qs rest e split fits ids places next)
+      ∙ ap (λ (k : ℕ). partedFrom mode o end (length rest) k moved′ (halfway mode es X (qs ++ e ∷ []) tail)) (next-at qs e)
+      ∙ half-walked fits ids rest (qs ++ e ∷ []) (split ∙ sym (append-assoc qs (e ∷ []) rest)) moved′ (half-places qs rest e split fits ids places next)

@@ -18,6 +18,7 @@ pub mod Parting
 pub mod Filling
 pub mod Rooms
 pub mod ByTables
+pub mod TableByTable
 pub mod WrittenImage
 pub mod Accepted
 pub mod Kept

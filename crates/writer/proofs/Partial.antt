@@ -130,7 +130,7 @@ zeros-tables : (ps : List Placed) → Zeros (tablesWith ps [])
 unfolding tablesWith tableWith ofTable keep filled insertAll
 zeros-tables ps = zeros-cat (bucketsOf (tableWith ps [])) (λ t. zeros-buckets (2 * count t ps)) (range 0 256)
 
-zeros-links : (n : ℕ) → Zeros (links [] n)
+pub zeros-links : (n : ℕ) → Zeros (links [] n)
 unfolding links link placedOfId keep lastFrom le32
 zeros-links n = zeros-cat (λ (i : ℕ). le32 (link [] i)) (λ i. refl) (range 0 n)
 

@@ -93,7 +93,7 @@ roomWith ps X rs t = pairsOf rs t ++ drop (8 * count t rs) (room ps X t)
 pub length-pairsOf : (rs : List Placed) (t : ℕ) → length (pairsOf rs t) ≡ 8 * count t rs
 unfolding pairsOf
 length-pairsOf rs t =
-    length-cat bucketBytes 8 length-bucketBytes (map bucketOf (ofTable t rs)) ∙ ap (λ (n : ℕ). 8 * n) (length-map bucketOf (ofTable t rs))
+    length-cat bucketBytes 8 length-bucketBytes (map bucketOf (ofTable t rs)) ∙ ap (λ (n : ℕ). 8 * n) (length-map (ofTable t rs) bucketOf)
 
 pub rooms-none : (ps : List Placed) (X : List ℕ) → length X ≡ 16 * length ps → cat (roomWith ps X []) (range 0 256) ≡ X
 unfolding roomWith pairsOf ofTable keep cat
@@ -174,7 +174,7 @@ module _ (ps : List Placed) (X : List ℕ) (long : length X ≡ 16 * length ps) 
 
 -- ---- pairs as they are read
 
-abbrev Words : Bucket → Type 0
+abbrev pub Words : Bucket → Type 0
 Words b = (b .hash < 2 ^ 32) × (b .at < 2 ^ 32)
 
 each-one : (P : Bucket → Type 0) → P empty → (bs : List Bucket) → All P bs → (k : ℕ) → P (getD bs k empty)
