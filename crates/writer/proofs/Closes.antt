@@ -6,7 +6,7 @@ use mathlib.Core.Bool.{Bool, true, false, cond, not, _&&_, and-false, and-true}
 use mathlib.Core.List.{List, _++_}
 use lib.ListN.{length, drop, replicate}
 use lib.Seq.{sets}
-use borrow.Author.Tests.{eq-eqb, ne-eqb}
+use borrow.Author.Tests.{eq-eqb, ne-eqb, le-leb, lt-leb}
 use lib.Dec.{eqb}
 use Rattle.jhash.specs.Outcome.{Outcome, value, refusal}
 use Rattle.image.specs.declared.Mode.{Mode}
@@ -16,7 +16,7 @@ use Rattle.image.specs.Stored.{whole}
 use Rattle.writer.specs.Close.{consistent, entryArea, recorded, countsAgree, closeRefusal, closedSize, closed, afterClose, closing}
 use Rattle.writer.specs.steps.Working.{linksAt, rowsFrom, takenFrom}
 use Rattle.writer.specs.steps.Parting.{byTables}
-use Rattle.writer.specs.steps.Written.{headed, zeroed, filledIn, written}
+use Rattle.writer.specs.steps.Written.{headed, zeroed, parts, filledIn, written}
 use Rattle.writer.specs.declared.CQDBWriter.{CQDBWriter}
 
 module _ (s : State) where
@@ -70,13 +70,19 @@ written-parts w counts buf b1 b2 b3 n f k l en ef ek el p q r =
     ∙ ap (filledIn (w .mode) (linksAt w) (w .end) (w .entries) (finishedSize w) counts) second
 
 -- by tables, or one by one
+pub parts-few : (counts : List ℕ) (entries : ℕ) → entries < 1024 → false ≡ parts counts entries
+parts-few counts entries h = rw (lt-leb 1024 entries h)
+
+pub parts-many : (counts : List ℕ) (entries : ℕ) (b : Bool) → 1024 ≤ entries → b ≡ noneAbove counts 4608 → b ≡ parts counts entries
+parts-many counts entries b h e = rw (le-leb 1024 entries h) e
+
 module _ (mode : Mode) (links end entries size : ℕ) (counts buf : List ℕ) where
-  pub filled-by-tables : (b1 b2 : List ℕ) → noneAbove counts 4608 ≡ true → b1 ≡ sets buf (end + 16 * entries) (replicate (size - (end + 16 * entries)) 0)
+  pub filled-by-tables : (b1 b2 : List ℕ) → parts counts entries ≡ true → b1 ≡ sets buf (end + 16 * entries) (replicate (size - (end + 16 * entries)) 0)
       → b2 ≡ byTables mode links end entries counts b1 → b2 ≡ filledIn mode links end entries size counts buf
   unfolding filledIn zeroed
   filled-by-tables b1 b2 t p q = rw t (q ∙ ap (byTables mode links end entries counts) p)
 
-  pub filled-singly : (b1 b2 : List ℕ) → noneAbove counts 4608 ≡ false → b1 ≡ sets buf end (replicate (size - end) 0)
+  pub filled-singly : (b1 b2 : List ℕ) → parts counts entries ≡ false → b1 ≡ sets buf end (replicate (size - end) 0)
       → b2 ≡ takenFrom mode links end entries 2072 b1 → b2 ≡ filledIn mode links end entries size counts buf
   unfolding filledIn zeroed
   filled-singly b1 b2 t p q = rw t (q ∙ ap (takenFrom mode links end entries 2072) p)

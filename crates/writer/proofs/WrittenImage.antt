@@ -5,7 +5,7 @@ use mathlib.Core.Path.{_≡_, refl, sym, ap, _∙_}
 use mathlib.Core.Bool.{Bool, true, false, cond}
 use mathlib.Core.List.{List, [], _∷_, _++_, append-nil, append-assoc}
 use lib.ListN.{length, drop, length-take, length-drop}
-use lib.Dec.{eqb}
+use lib.Dec.{eqb, leb}
 use borrow.Author.Tests.{ne-eqb}
 use Rattle.image.specs.Bytes.{cat}
 use Rattle.image.specs.Image.{Entry, headSize, entryBytes, entriesSize, links, backIn, backSize, backSizeOf, backOffset, entriesEnd, imageSize, image}
@@ -13,6 +13,7 @@ use Rattle.image.specs.declared.Mode.{Mode}
 use Rattle.image.proofs.Sizes.{length-entries, length-placed, entriesSize-append}
 use Rattle.image.proofs.Between.{length-between}
 use Rattle.image.proofs.Parts.{placedIn}
+use Rattle.image.proofs.Bools.{second}
 use Rattle.image.proofs.Every.{All}
 use Rattle.writer.specs.declared.CQDBWriter.{CQDBWriter}
 use Rattle.writer.specs.State.{stateWith, noneAbove, fits, finishedSize}
@@ -20,7 +21,7 @@ use Rattle.image.specs.Stored.{whole, between}
 use Rattle.writer.specs.Close.{entryArea, recorded, countsAgree, closed}
 use Rattle.writer.specs.steps.Working.{linksAt, taken, takenFrom}
 use Rattle.writer.specs.steps.Parting.{byTables}
-use Rattle.writer.specs.steps.Written.{headed, zeroed, filledIn, written}
+use Rattle.writer.specs.steps.Written.{headed, zeroed, parts, filledIn, written}
 use Rattle.writer.proofs.Fits.{fitting}
 use Rattle.image.proofs.Area.{Bytes, bytes-drop, bytes-take, length-entriesIn, whole-bytes, ids-words}
 use Rattle.writer.proofs.HeadRows.{counts-agree}
@@ -115,7 +116,7 @@ module _ (w : CQDBWriter) (counts buf : List ℕ) (bytes : Bytes buf) (fit : fit
         ∙ ap (λ (l : List ℕ). l ++ tail) (partial-all mode es)
 
     -- by tables
-    written-by-tables : noneAbove counts 4608 ≡ true
+    written-by-tables : parts counts (w .entries) ≡ true
         → byTables (w .mode) (linksAt w) (w .end) (w .entries) counts (zeroed (headed w counts buf) (w .end + 16 * w .entries) (finishedSize w))
         ≡ image (w .mode) es ++ drop (finishedSize w) buf
     unfolding es
@@ -133,16 +134,16 @@ module _ (w : CQDBWriter) (counts buf : List ℕ) (bytes : Bytes buf) (fit : fit
         ∙ ap (λ (n : ℕ). byTables mode (backOffset mode es) (entriesEnd es) n counts Z) (sym recorded-number)
         ∙ by-tables-image mode es X tail counts long (rw (← size-image) small)
         (ids-words (w .entries) (entryArea (stateWith w counts buf)) area-bytes) (tells .tallies)
-        (counts-few counts (placedIn es) 4608 few (tells .tallies))
+        (counts-few counts (placedIn es) 4608 (second (leb 1024 (w .entries)) (noneAbove counts 4608) few) (tells .tallies))
       where
         same : (a n : ℕ) {m : ℕ} → n ≡ m → a + 16 * n - a ≡ 16 * m
         same a n e = omega arith
 
     pub written-image : written w counts buf ≡ image (w .mode) (recorded (stateWith w counts buf)) ++ drop (finishedSize w) buf
     unfolding written filledIn es
-    written-image = go (noneAbove counts 4608) refl
+    written-image = go (parts counts (w .entries)) refl
       where
-        go : (t : Bool) → noneAbove counts 4608 ≡ t
+        go : (t : Bool) → parts counts (w .entries) ≡ t
             → cond t
             (byTables (w .mode) (linksAt w) (w .end) (w .entries) counts (zeroed (headed w counts buf) (w .end + 16 * w .entries) (finishedSize w)))
             (takenFrom (w .mode) (linksAt w) (w .end) (w .entries) headSize (zeroed (headed w counts buf) (w .end) (finishedSize w)))

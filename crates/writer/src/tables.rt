@@ -9,7 +9,7 @@ ghost use lib.Seq.{sets};
 ghost use Rattle.image.specs.Bytes.{word, le32, cat};
 ghost use Rattle.image.specs.Tables.{order, firstEmpty, filled};
 ghost use Rattle.image.specs.Image.{bucketBytes};
-ghost use Rattle.writer.specs.steps.Written.{filledIn};
+ghost use Rattle.writer.specs.steps.Written.{parts, filledIn};
 ghost use Rattle.writer.specs.steps.Parting.{roomsFrom, withPair, moved, hashAt, parted, partedFrom, pairsAt, listed, inserted, copied, withTable, tablesFrom, byTables};
 use super::batch::take_entries;
 use super::fill::store_link;
@@ -239,8 +239,18 @@ fn take_by_tables(
     fill_tables(&mut *buf, counts, end);
 }
 
-// The entries from 2,072 on, taken into tables and back array of an image of `size` bytes: by tables where no table has more
-// than 4,608 entries, so that its pairs can be copied on the stack, and otherwise one by one.
+// Whether the entries are taken by tables: not where there are few, since clearing the copy takes longer than it saves, and
+// not where the pairs of a table are more than the copy has places.
+fn parts(counts: &[u32; 256], entries: u32) -> bool
+    ensures { λ r. ⌜ r ≡ parts (now (counts .entry)) entries ⌝ }
+{
+    if entries < 1024 {
+        return false;
+    }
+    none_above(counts, 4608)
+}
+
+// The entries from 2,072 on, taken into tables and back array of an image of `size` bytes: by tables, or one by one.
 pub(super) fn fill_in(
     mode: Mode,
     links: usize,
@@ -253,7 +263,7 @@ pub(super) fn fill_in(
     requires { ⌜ (2072 ≤ end) × (end + 16 * entries ≤ size) × (size ≤ length (now buf)) × (size < 4294967296) × (links < 4294967296) ⌝ }
     ensures { λ _. ⌜ now (buf .exit) ≡ filledIn mode links end entries size (now (counts .entry)) (now (buf .entry)) ⌝ }
 {
-    if none_above(counts, 4608) {
+    if parts(counts, entries) {
         clear(&mut *buf, end + 16 * (entries as usize), size);
         take_by_tables(mode, links, &mut *buf, counts, end, entries);
         return;

@@ -1,9 +1,10 @@
 -- All that close writes. No rule of 01 stands here: proofs/ shows that it is the image that specs/Close says.
 use Prim.Native.Nat.{ℕ, _+_, _*_, _-_}
-use mathlib.Core.Bool.{cond}
+use mathlib.Core.Bool.{Bool, cond, _&&_}
 use mathlib.Core.List.{List}
 use lib.ListN.{replicate}
 use lib.Seq.{sets}
+use lib.Dec.{leb}
 use Rattle.image.specs.Image.{headSize, headBytes, flagWord, backIn}
 use Rattle.image.specs.declared.Mode.{Mode}
 use Rattle.writer.specs.declared.CQDBWriter.{CQDBWriter}
@@ -20,10 +21,14 @@ headed w counts buf =
 unfoldable pub zeroed : List ℕ → ℕ → ℕ → List ℕ
 zeroed buf from to = sets buf from (replicate (to - from) 0)
 
--- the entries in tables and back array: by tables where no table has more than 4,608 entries, otherwise one by one
+-- are the entries taken by tables? From 1,024 entries on, where no table has more than 4,608
+abbrev pub parts : List ℕ → ℕ → Bool
+parts counts entries = leb 1024 entries && noneAbove counts 4608
+
+-- the entries in tables and back array: by tables, or one by one
 unfoldable pub filledIn : Mode → ℕ → ℕ → ℕ → ℕ → List ℕ → List ℕ → List ℕ
 filledIn mode links end entries size counts buf =
-    cond (noneAbove counts 4608)
+    cond (parts counts entries)
     (byTables mode links end entries counts (zeroed buf (end + 16 * entries) size))
     (takenFrom mode links end entries headSize (zeroed buf end size))
 

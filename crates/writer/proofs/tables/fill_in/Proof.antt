@@ -8,11 +8,11 @@ use Rattle.writer.proofs.tables.fill_in.Reads as reads
 use Rattle.writer.proofs.tables.fill_in.Lts as lts
 use Rattle.writer.proofs.batch.take_entries.Reads as take-entries-reads
 use Rattle.writer.proofs.head.clear.Reads as clear-reads
-use Rattle.writer.proofs.record.none_above.Reads as none-above-reads
+use Rattle.writer.proofs.tables.parts.Reads as parts-reads
 use Rattle.writer.proofs.tables.take_by_tables.Reads as take-by-tables-reads
 
-none-above-requires : tie.Need-none-above-requires
-none-above-requires c κs = search needs
+parts-requires : tie.Need-parts-requires
+parts-requires c κs = search needs
 
 mul-clear : tie.Need-mul-clear
 mul-clear c = search needs
@@ -32,7 +32,7 @@ same-length c = search needs
 returns : tie.Need-returns
 returns c =
     let a = c .before .before .before .before .before .before .before .before .before .before .before .args in
-    filled-by-tables (a .mode) (a .links) (a .end) (a .entries) (a .size) (a .counts .now) (a .buf .now) (c .before .before .before .before .before .before .clear .last .0) (c .before .before .take-by-tables .last .1 .1 .0) (sym (c .before .before .before .before .before .before .before .before .before .none-above .ensures) ∙ c .before .before .before .before .before .before .before .before .if1 .taken) (c .before .before .before .before .before .before .clear .ensures) (c .before .before .take-by-tables .ensures)
+    filled-by-tables (a .mode) (a .links) (a .end) (a .entries) (a .size) (a .counts .now) (a .buf .now) (c .before .before .before .before .before .before .clear .last .0) (c .before .before .take-by-tables .last .1 .1 .0) (sym (c .before .before .before .before .before .before .before .before .before .parts .ensures) ∙ c .before .before .before .before .before .before .before .before .if1 .taken) (c .before .before .before .before .before .before .clear .ensures) (c .before .before .take-by-tables .ensures)
 
 clear-requires-2 : tie.Need-clear-requires-2
 clear-requires-2 c κs = search needs
@@ -46,13 +46,13 @@ same-length-2 c = search needs
 returns-2 : tie.Need-returns-2
 returns-2 c =
     let a = c .before .before .before .before .before .before .before .before .before .before .before .args in
-    filled-singly (a .mode) (a .links) (a .end) (a .entries) (a .size) (a .counts .now) (a .buf .now) (c .before .before .before .before .before .before .clear2 .last .0) (c .before .before .take-entries .last .1 .1 .0) (sym (c .before .before .before .before .before .before .before .before .before .none-above .ensures) ∙ c .before .before .before .before .before .before .before .before .if1 .left) (c .before .before .before .before .before .before .clear2 .ensures) (c .before .before .take-entries .ensures)
+    filled-singly (a .mode) (a .links) (a .end) (a .entries) (a .size) (a .counts .now) (a .buf .now) (c .before .before .before .before .before .before .clear2 .last .0) (c .before .before .take-entries .last .1 .1 .0) (sym (c .before .before .before .before .before .before .before .before .before .parts .ensures) ∙ c .before .before .before .before .before .before .before .before .if1 .left) (c .before .before .before .before .before .before .clear2 .ensures) (c .before .before .take-entries .ensures)
 
 pub fill-in-spec : {M : Type 1} → statement M
 fill-in-spec =
     tie.close
     (tie.spec
-    none-above-requires
+    parts-requires
     mul-clear
     add-clear
     clear-requires
