@@ -1,6 +1,7 @@
-// The benchmarks: ours and the Rust's release build, in one run and one table. The two take turns, and each time is the best of
-// several repetitions.   main [hash | reading | building | page]
+// The benchmarks: ours and the Rust's release build, or a copy for bundles, in one run and one table. The two take turns, and each
+// time is the best of several repetitions.   main [hash | reading | building | page | bundle]
 mod building;
+mod bundle;
 mod hash;
 mod names;
 #[path = "../tests/compare/ours.rs"]
@@ -24,5 +25,8 @@ fn main() {
     }
     if wanted("page") {
         page::run();
+    }
+    if wanted("bundle") {
+        bundle::run();
     }
 }

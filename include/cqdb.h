@@ -9,8 +9,8 @@
    - Bytes are lent as a pointer and a length. The pointer is valid for that many bytes and is not NULL, also where the
      length is 0.
    - `counts` points to 256 words, and `w` to a whole cqdb_writer.
-   - What a call writes (the buffer of cqdb_put, cqdb_close and cqdb_sheet_write, the counts, the writer, the output of
-     cqdb_page) overlaps nothing else that the same call is lent: no name, no list, no buffer, no counts and no image.
+   - What a call writes (the buffer of cqdb_put, cqdb_close, cqdb_sheet_write and cqdb_bundle_append, the counts, the writer,
+     the output of cqdb_page) overlaps nothing else that the same call is lent: no name, no list, no buffer, no counts and no image.
      What a call only reads may overlap.
    - Nobody else writes to what is lent while the call runs.
 
@@ -33,13 +33,15 @@ extern "C" {
    changes no byte of what it is lent, the writer included. docs/FORMAT.md has the same table. */
 #define CQDB_TOO_SHORT 1u        /* begin, open: under 2,072 bytes */
 #define CQDB_UNFIT 2u            /* begin, put, close: the writer does not fit the buffer, or its mode is neither 0 nor 1 */
-#define CQDB_NO_ROOM 3u          /* put: the finished image would exceed the buffer or 4,294,967,295 bytes */
+#define CQDB_NO_ROOM 3u          /* put, bundle_append: the image would exceed the buffer; put: or 4,294,967,295 bytes */
 #define CQDB_INCONSISTENT 4u     /* close: the buffer's entries are not the writer's, or the image would be too large */
-#define CQDB_WRONG_LETTERS 5u    /* open: the image does not begin with the letters CQDB */
-#define CQDB_WRONG_BYTE_ORDER 6u /* open: the word at 12, which shows the byte order, is wrong */
-#define CQDB_TABLE_LEAVES 7u     /* open: a table with an offset above 0 leaves the image */
-#define CQDB_BACK_LEAVES 8u      /* open: a back array with an offset above 0 leaves the image */
+#define CQDB_WRONG_LETTERS 5u    /* open, bundle_open: the image does not begin with the letters CQDB */
+#define CQDB_WRONG_BYTE_ORDER 6u /* open, bundle_open: the word at 12, which shows the byte order, is wrong */
+#define CQDB_TABLE_LEAVES 7u     /* open, bundle_open: a table with an offset above 0 leaves the image */
+#define CQDB_BACK_LEAVES 8u      /* open, bundle_open: a back array with an offset above 0 leaves the image */
 #define CQDB_NAME_TOO_LONG 9u    /* hash: the name has 4,294,967,295 bytes or more */
+#define CQDB_BROKEN_BUNDLE 10u   /* bundle_open, bundle_append, bundle_count: the images do not lie back to back, or append's new one is unfit */
+#define CQDB_NO_SUCH_IMAGE 11u   /* bundle_open: the file ends at or before the position */
 #define CQDB_PAGE_TOO_LONG 12u   /* page: it has more bytes than the output */
 #define CQDB_ZERO_BYTE 13u       /* put: the name has a zero byte */
 #define CQDB_TOO_FEW_BYTES 19u   /* sheet_read: the file ends before its third section does */
@@ -289,6 +291,47 @@ typedef struct {
    shorter than the file; then no byte is changed. The lists are not NULL, also where their number is 0. */
 cqdb_sheet_length_answer cqdb_sheet_write(uint8_t *buf, size_t len, const uint32_t *references, size_t n,
                                           const uint32_t *walls, size_t m, const uint32_t *retired, size_t k);
+
+/* Several walls in a file. A bundle holds images back to back: an image's size word, at its offset 4, says where the next
+   begins. An empty file is a bundle of none. A walk goes from the front by the size words and looks at nothing else of an
+   image. It breaks off, and the call gives 10, at 1 to 7 last bytes and at a size word that is under 2,072 or leads past the
+   file's end. */
+
+/* refusal is 0 when the image was accepted. Its bytes are the size bytes from file + start on, which lie in the file, and num is
+   its number of associations: all calls of reading take file + start and size as an image. All are 0 where refused. */
+typedef struct {
+    uint32_t refusal;
+    uint32_t num;
+    uint64_t start;
+    uint64_t size;
+} cqdb_bundle_open_answer;
+
+/* Opens the image at a position, counted from 0. The walk goes only as far as the position, so an image behind it may be
+   broken; its time grows with the position. Refusals, the first that applies: 10 where the walk breaks off at or before the
+   position, 11 where the file ends there; then 5, 6, 7 or 8 as cqdb_open gives them for the image's own bytes. */
+cqdb_bundle_open_answer cqdb_bundle_open(const uint8_t *file, size_t len, uint64_t position);
+
+/* refusal is 0 when the image was appended; length is the file's new length, 0 where refused. */
+typedef struct {
+    uint32_t refusal;
+    uint64_t length;
+} cqdb_bundle_append_answer;
+
+/* Appends an image to the file that is the buffer's first file_len bytes: writes its bytes right after them and changes no
+   other byte. Every earlier image then opens at its position to the same bytes as before, and the new one at the position after
+   the last. The new image is not opened: append what cqdb_close gave. Refusals, the first that applies, which change nothing:
+   10 where file_len exceeds len, a walk of the whole file breaks off, or the new image is under 2,072 bytes or not as long as
+   its size word says; 3 where file_len + image_len exceeds len. */
+cqdb_bundle_append_answer cqdb_bundle_append(uint8_t *buf, size_t len, uint64_t file_len, const uint8_t *image, size_t image_len);
+
+/* refusal is 0 or 10; images is the number of images in the file, 0 where refused. */
+typedef struct {
+    uint32_t refusal;
+    uint64_t images;
+} cqdb_bundle_count_answer;
+
+/* The number of images in a file, by a walk of the whole file. Refusal: 10. */
+cqdb_bundle_count_answer cqdb_bundle_count(const uint8_t *file, size_t len);
 
 #ifdef __cplusplus
 }

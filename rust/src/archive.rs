@@ -100,6 +100,30 @@ pub struct PageAnswer {
     pub length: u64,
 }
 
+/// num, and the place of the image in its file.
+#[repr(C)]
+#[derive(Clone, Copy, Debug, PartialEq, Eq)]
+pub struct BundleOpenAnswer {
+    pub refusal: u32,
+    pub num: u32,
+    pub start: u64,
+    pub size: u64,
+}
+
+#[repr(C)]
+#[derive(Clone, Copy, Debug, PartialEq, Eq)]
+pub struct BundleAppendAnswer {
+    pub refusal: u32,
+    pub length: u64,
+}
+
+#[repr(C)]
+#[derive(Clone, Copy, Debug, PartialEq, Eq)]
+pub struct BundleCountAnswer {
+    pub refusal: u32,
+    pub images: u64,
+}
+
 /// The table counts of a writer.
 pub type Counts = [u32; 256];
 
@@ -137,6 +161,15 @@ extern "C" {
         retired: *const u32,
         k: usize,
     ) -> SheetLengthAnswer;
+    fn cqdb_bundle_open(file: *const u8, len: usize, position: u64) -> BundleOpenAnswer;
+    fn cqdb_bundle_append(
+        buf: *mut u8,
+        len: usize,
+        file_len: u64,
+        image: *const u8,
+        image_len: usize,
+    ) -> BundleAppendAnswer;
+    fn cqdb_bundle_count(file: *const u8, len: usize) -> BundleCountAnswer;
 }
 
 /// The hash of a name with a start value, or the refusal.
@@ -221,4 +254,20 @@ pub fn sheet_write(buf: &mut [u8], lists: [&[u32]; 3]) -> SheetLengthAnswer {
     let [a, b, c] = lists;
     let (buf, len) = (buf.as_mut_ptr(), buf.len());
     unsafe { cqdb_sheet_write(buf, len, a.as_ptr(), a.len(), b.as_ptr(), b.len(), c.as_ptr(), c.len()) }
+}
+
+/// The image at a position of a bundle, or the refusal.
+pub fn bundle_open(file: &[u8], position: u64) -> BundleOpenAnswer {
+    unsafe { cqdb_bundle_open(file.as_ptr(), file.len(), position) }
+}
+
+/// Appends an image to the file that is the buffer's first `file_len` bytes.
+pub fn bundle_append(buf: &mut [u8], file_len: u64, image: &[u8]) -> BundleAppendAnswer {
+    let (buf, len) = (buf.as_mut_ptr(), buf.len());
+    unsafe { cqdb_bundle_append(buf, len, file_len, image.as_ptr(), image.len()) }
+}
+
+/// The number of images in a bundle, or the refusal.
+pub fn bundle_count(file: &[u8]) -> BundleCountAnswer {
+    unsafe { cqdb_bundle_count(file.as_ptr(), file.len()) }
 }

@@ -25,6 +25,7 @@
 #![warn(missing_docs)]
 
 mod archive;
+mod bundle;
 mod order;
 mod page;
 mod read;
@@ -32,6 +33,7 @@ mod refusal;
 mod sheet;
 mod write;
 
+pub use bundle::{Bundle, Images};
 pub use order::{references_first, Order, Pair};
 pub use page::Page;
 pub use read::{Found, Iter, CQDB};

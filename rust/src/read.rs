@@ -29,6 +29,11 @@ impl<'a> CQDB<'a> {
         refusal::or(answer.refusal, CQDB { image, num: answer.num })
     }
 
+    /// An image that the archive has opened.
+    pub(crate) fn opened(image: &'a [u8], num: u32) -> Self {
+        CQDB { image, num }
+    }
+
     /// The number of associations.
     pub fn num(&self) -> u32 {
         self.num

@@ -1,7 +1,7 @@
 // Hostile calls, to be run under valgrind: damaged images, random bytes, records that do not fit, broken buffers, pairs and rounds
-// of any ids, round sheets cut anywhere, lists and outputs without room. Everything lent stands in a heap block of exactly its
-// length, so that valgrind reports a read or write outside it. A refusal changes no byte, reading changes none, and every place
-// in an answer lies in what was lent.
+// of any ids, round sheets cut anywhere, broken bundles, lists and outputs without room. Everything lent stands in a heap block of
+// exactly its length, so that valgrind reports a read or write outside it. A refusal changes no byte, reading changes none, and
+// every place in an answer lies in what was lent.
 // hostile [CALLS | too-much]
 mod damage;
 mod names;
@@ -29,6 +29,7 @@ struct Run {
     states: u64,
     rounds: u64,
     sheets: u64,
+    bundles: u64,
 }
 
 // A heap block of exactly these bytes.
@@ -161,6 +162,42 @@ impl Run {
         self.sheets += 1;
     }
 
+    // One file of images, opened at some positions and counted; then an append to it, or to another part of its buffer.
+    fn bundle(&mut self, random: &mut Random, images: &[Vec<u8>]) {
+        let mut file: Vec<u8> = (0..random.below(4)).flat_map(|_| images[random.below(images.len())].clone()).collect();
+        match random.below(4) {
+            0 => file.truncate(random.below(file.len() + 1)),
+            1 => file.extend(vec![random.word() as u8; random.below(2080)]),
+            _ => {}
+        }
+        let file = exact(&file);
+        for position in [0, 1, 2, 3, random.next()] {
+            let answer = ours::bundle_open(&file, position);
+            let inside = answer.start + answer.size <= file.len() as u64
+                && (answer.refusal == 0) == (answer.size >= HEAD as u64);
+            self.tally.rule(inside, true, || format!("{answer:?}"));
+            self.refused += u64::from(answer.refusal > 0);
+        }
+        let counted = ours::bundle_count(&file);
+        self.tally.rule(counted.images <= (file.len() / HEAD) as u64, true, || format!("{counted:?}"));
+        let image = exact(&images[random.below(images.len())]);
+        let room = (file.len() + image.len() + random.below(3)).saturating_sub(1);
+        let mut before = file.to_vec();
+        before.resize(room, 7);
+        let mut buf = exact(&before);
+        let end = random.pick(&[file.len(), file.len(), file.len(), 0, room, room + 1, usize::MAX]);
+        let answer = ours::bundle_append(&mut buf, end as u64, &image);
+        if answer.refusal > 0 {
+            self.refused += 1;
+            self.tally.bytes(&buf, &before, || "the buffer after a refused append".into());
+        } else {
+            before[end..end + image.len()].copy_from_slice(&image);
+            self.tally.bytes(&buf, &before, || "the buffer after an append".into());
+        }
+        self.calls += 7;
+        self.bundles += 1;
+    }
+
     fn unchanged(&mut self, (record, counts, buf): (ours::Record, &Counts, &[u8]), s: &State, what: &str) {
         self.refused += 1;
         self.tally.rule(record, s.record, || format!("the record after {what}"));
@@ -201,9 +238,14 @@ fn round(run: &mut Run, random: &mut Random) {
     };
     let mut closed = state.clone();
     let size = ours::close(closed.record, &closed.counts, &mut closed.buf).size as usize;
+    let mut images = vec![closed.buf[..size].to_vec(); 8];
     for kind in 0..damage::KINDS {
         let copy = damage::copy(random, &closed.buf[..size], kind);
         run.image(random, &copy, &names);
+        images.push(copy);
+    }
+    for _ in 0..20 {
+        run.bundle(random, &images);
     }
     let n = random.below(4000);
     let noise = random.bytes(n);
@@ -235,13 +277,13 @@ fn main() {
     let calls = std::env::args().nth(1).map_or(CALLS, |text| text.parse().expect("a number of calls"));
     let mut random = Random::new();
     println!("hostile: seed {}", random.seed);
-    let mut run = Run { tally: Tally::default(), calls: 0, refused: 0, images: 0, states: 0, rounds: 0, sheets: 0 };
+    let mut run = Run { tally: Tally::default(), calls: 0, refused: 0, images: 0, states: 0, rounds: 0, sheets: 0, bundles: 0 };
     while run.calls < calls {
         round(&mut run, &mut random);
     }
     println!(
-        "hostile: {} calls on {} images, {} records with their buffers, {} rounds and {} sheets; {} refused; {} of {} checks failed",
-        run.calls, run.images, run.states, run.rounds, run.sheets, run.refused, run.tally.different, run.tally.rule
+        "hostile: {} calls on {} images, {} records with their buffers, {} rounds, {} sheets and {} bundles; {} refused; {} of {} checks failed",
+        run.calls, run.images, run.states, run.rounds, run.sheets, run.bundles, run.refused, run.tally.different, run.tally.rule
     );
     std::process::exit(i32::from(run.tally.different > 0));
 }

@@ -1,5 +1,4 @@
--- `image::zero::zero_from` meets its contract. The loop's invariant: what is left has a zero byte exactly where all from `from` on has.
--- Assumes nothing.
+-- `image::zero::zero_in_few` meets its contract. The loop's invariant: what is left has a zero byte exactly where all has. Assumes nothing.
 use Prim.Native.Nat.{_-_, _≤_}
 use native.Mathlib.Omega.{arith}
 use mathlib.Core.Path.{_≡_, refl, sym, _∙_}
@@ -7,14 +6,14 @@ use lib.ListN.{length, drop}
 use Rattle.image.specs.Zero.{hasZero}
 use Rattle.image.proofs.Zeros.{zero-none, zero-there, zero-further}
 use borrow.Author.Needs.{needs}
-use Rattle.image.proofs.zero.zero_from.Statement.{statement}
-use Rattle.image.proofs.zero.zero_from.Tie as tie
+use Rattle.image.proofs.zero.zero_in_few.Statement.{statement}
+use Rattle.image.proofs.zero.zero_in_few.Tie as tie
 
 abbrev Inv-loop : tie.InvT-loop
-Inv-loop s from i₀ i = (i ≤ length s) × (hasZero (drop i s) ≡ hasZero (drop from s))
+Inv-loop s i₀ i = (i ≤ length s) × (hasZero (drop i s) ≡ hasZero s)
 
 abbrev μ-loop : tie.MeasureT-loop
-μ-loop s from i₀ i = length s - i
+μ-loop s i₀ i = length s - i
 
 loop-holds : tie.Need-loop-holds Inv-loop μ-loop
 loop-holds c = (search needs, refl)
@@ -46,8 +45,8 @@ returns-2 c =
     let of-loop = c .before .loop in
     sym (zero-none (a .s .now) (of-loop .i) (c .loop-test .left)) ∙ of-loop .inv .1
 
-pub zero-from-spec : {M : Type 1} → statement M
-zero-from-spec =
+pub zero-in-few-spec : {M : Type 1} → statement M
+zero-in-few-spec =
     tie.close
     (tie.spec
     Inv-loop
