@@ -4,33 +4,30 @@ use native.Mathlib.Omega.{arith}
 use native.Mathlib.Nat.{mod-eq-of-lt}
 use native.Mathlib.Decide.{ℕ-discrete}
 use mathlib.Core.Path.{_≡_, refl, sym, ap, ap₂, _∙_}
-use mathlib.Core.Bool.{Bool, true, false, cond, _&&_}
-use mathlib.Core.List.{List, [], _∷_, _++_, map, append-nil, append-assoc}
+use mathlib.Core.Bool.{Bool, cond}
+use mathlib.Core.List.{List, [], _∷_, _++_, append-nil, append-assoc}
 use lib.ListN.{length, getD, set, replicate, length-append, length-set, length-replicate}
 use lib.Seq.{sets, getD-set-same, getD-set-other}
-use lib.Dec.{eqb, ltb, leb}
-use borrow.Author.Tests.{ne-eqb, le-leb, lt-ltb, le-ltb}
+use lib.Dec.{eqb}
+use borrow.Author.Tests.{ne-eqb}
 use Rattle.jhash.specs.NameHash.{hashOf}
-use Rattle.jhash.proofs.Outcomes.{hashOf-below}
-use Rattle.image.specs.Bytes.{word, le32, cat, range}
-use Rattle.image.specs.Tables.{Bucket, tableOf, filled}
-use Rattle.image.specs.Image.{Entry, Placed, headSize, entryBytes, entriesSize, placed, inTable, ofTable, count, bucketOf, bucketBytes, table, tableBytes, tables}
+use Rattle.image.specs.Bytes.{word, cat, range}
+use Rattle.image.specs.Tables.{tableOf}
+use Rattle.image.specs.Image.{Entry, Placed, headSize, entryBytes, entriesSize, placed, count, bucketOf, bucketBytes}
 use Rattle.image.specs.Image.{entriesBefore, links, backSizeOf, backOffset, entriesEnd, imageSize, headWords, tableRows}
 use Rattle.image.specs.Stored.{between, wholeLength}
 use Rattle.image.specs.declared.Mode.{Mode}
-use Rattle.image.proofs.Lists.{cat-ext, cat-run}
-use Rattle.image.proofs.Sizes.{length-entries, entriesSize-append, length-placed, placed-append, count-nil, count-append, length-bucketBytes, length-tableBytes, length-headWords, length-tableRows, before-suc}
+use Rattle.image.proofs.Sizes.{entriesSize-append, length-placed, placed-append, count-nil, count-append, length-bucketBytes, length-headWords, length-tableRows, before-suc}
 use Rattle.image.proofs.Stores.{sets-whole}
-use Rattle.image.proofs.Every.{All, all-keep, all-image}
-use Rattle.image.proofs.At.{At, at-same, at-equal, at-left, at-right, at-word}
+use Rattle.image.proofs.Every.{All}
+use Rattle.image.proofs.At.{At, at-same, at-right}
 use Rattle.image.proofs.Parts.{placedIn, before-most}
 use Rattle.image.proofs.EntryAt.{id-word}
 use Rattle.writer.specs.steps.Working.{withLink}
 use Rattle.writer.specs.steps.Parting.{withPair, moved, hashAt, parted, partedFrom, roomsFrom}
 use Rattle.writer.proofs.HeadRows.{Counts}
 use Rattle.writer.proofs.Partial.{upToEntries, length-upToEntries, entries-after}
-use Rattle.writer.proofs.OneMore.{ownTable}
-use Rattle.writer.proofs.Turn.{nextOf, placed-more, offsets, store-in, linked, entry-there, length-there, name-there, own-below, sizes, id-small, id-below, one-there, name-short, ends-there}
+use Rattle.writer.proofs.Turn.{nextOf, placed-more, store-in, linked, entry-there, length-there, name-there, own-below, id-small, id-below, one-there, name-short, ends-there}
 use Rattle.writer.proofs.Rooms.{roomWith, length-rooms, length-roomWith, count-own, count-other, rooms-more}
 
 -- ---- the entries in an image whose tables are not made yet
@@ -135,9 +132,6 @@ module _ (mode : Mode) (es : List Entry) (X tail : List ℕ) (long : length X �
 
     at : ℕ
     at = headSize + entriesSize qs
-
-    n : ℕ
-    n = length (e .name) + 1
 
     from-here : At B at (cat entryBytes (e ∷ rest))
     unfolding B halfway at

@@ -3,17 +3,15 @@
 use Prim.Native.Nat.{ℕ, zero, suc, _+_, _*_, _-_, _^_, _≤_, _<_}
 use native.Mathlib.Omega.{arith}
 use mathlib.Core.Path.{_≡_, refl, sym, ap, ap₂, _∙_}
-use mathlib.Core.Bool.{Bool, true, false}
 use mathlib.Core.List.{List, [], _∷_, _++_, map, map-append, append-nil, append-assoc}
 use lib.ListN.{length, getD, take, drop, length-append, length-drop, length-map}
 use lib.Seq.{sets, sets-eq, take-add, take-all, take-suc, length-take-le, drop-drop}
 use borrow.Author.Tests.{eq-eqb, ne-eqb}
-use Rattle.jhash.specs.NameHash.{hashOf}
 use Rattle.image.specs.Bytes.{word, le32, cat, keep, range}
-use Rattle.image.specs.Tables.{Bucket, empty, tableOf}
+use Rattle.image.specs.Tables.{Bucket, empty}
 use Rattle.image.specs.Image.{Placed, inTable, ofTable, count, bucketOf, bucketBytes, entriesBefore}
 use Rattle.image.proofs.Lists.{cat-append, cat-ext, length-cat, keep-yes, keep-no, range-more, range-at}
-use Rattle.image.proofs.Sizes.{ofTable-append, length-bucketBytes, before-suc, before-all}
+use Rattle.image.proofs.Sizes.{ofTable-append, length-bucketBytes, before-all}
 use Rattle.image.proofs.Stores.{sets-right-at, sets-run}
 use Rattle.image.proofs.Parts.{before-most}
 use Rattle.image.proofs.At.{At, at-same, at-equal, at-left, at-after, at-part, at-word, at-second}

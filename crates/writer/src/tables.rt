@@ -19,7 +19,8 @@ use super::head::wide;
 use super::record::none_above;
 use image::Mode;
 
-// The word v stored at `at`, where there is room for it. The compiler makes one store of it.
+// The word v stored at `at`. The caller knows that there is room for it, so that no store is tested twice; the compiler makes
+// one store of it.
 fn store_word(buf: &mut [u8], at: usize, v: u32)
     requires { ⌜ at + 4 ≤ length (now buf) ⌝ }
     ensures { λ _. ⌜ now (buf .exit) ≡ sets (now (buf .entry)) at (le32 v) ⌝ }
@@ -122,7 +123,8 @@ fn part_entries(
     }
 }
 
-// The first empty of the n buckets at o, from bucket k on; bucket 0 where none is empty.
+// The first empty of the n buckets at o, from bucket k on; bucket 0 where none is empty. All of them lie in the buffer, so
+// that no read is tested, as in `first_empty`, which is asked of any place.
 fn empty_bucket(buf: &[u8], o: usize, n: usize, k: usize) -> usize
     requires { ⌜ (k < n) × (o + 8 * n ≤ length (now buf)) ⌝ }
     ensures { λ r. ⌜ (r ≡ firstEmpty (λ (i : ℕ). word (now (buf .entry)) (o + 8 * i + 4)) (order n n k)) × (r < n) ⌝ }

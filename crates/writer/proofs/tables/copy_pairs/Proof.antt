@@ -1,8 +1,7 @@
 -- `writer::tables::copy_pairs` meets its contract. Assumes nothing.
 use native.Mathlib.Omega.{arith}
-use borrow.Author.Needs.{needs}
-use Prim.Native.Nat.{_+_, _*_, _≤_, _-_}
-use mathlib.Core.Path.{_≡_, refl, ap, _∙_}
+use Prim.Native.Nat.{_≤_, _-_}
+use mathlib.Core.Path.{_≡_, _∙_}
 use lib.ListN.{length, length-set}
 use Rattle.writer.specs.steps.Parting.{listed, pairsAt}
 use Rattle.writer.proofs.Filling.{copy-none, copy-turn}

@@ -32,7 +32,10 @@ same-length c = search needs
 returns : tie.Need-returns
 returns c =
     let a = c .before .before .before .before .before .before .before .before .before .before .before .args in
-    filled-by-tables (a .mode) (a .links) (a .end) (a .entries) (a .size) (a .counts .now) (a .buf .now) (c .before .before .before .before .before .before .clear .last .0) (c .before .before .take-by-tables .last .1 .1 .0) (sym (c .before .before .before .before .before .before .before .before .before .parts .ensures) ∙ c .before .before .before .before .before .before .before .before .if1 .taken) (c .before .before .before .before .before .before .clear .ensures) (c .before .before .take-by-tables .ensures)
+    let of-clear = c .before .before .before .before .before .before .clear in
+    let of-take = c .before .before .take-by-tables in
+    let way = sym (c .before .before .before .before .before .before .before .before .before .parts .ensures) ∙ c .before .before .before .before .before .before .before .before .if1 .taken in
+    filled-by-tables (a .mode) (a .links) (a .end) (a .entries) (a .size) (a .counts .now) (a .buf .now) (of-clear .last .0) (of-take .last .1 .1 .0) way (of-clear .ensures) (of-take .ensures)
 
 clear-requires-2 : tie.Need-clear-requires-2
 clear-requires-2 c κs = search needs
@@ -46,7 +49,10 @@ same-length-2 c = search needs
 returns-2 : tie.Need-returns-2
 returns-2 c =
     let a = c .before .before .before .before .before .before .before .before .before .before .before .args in
-    filled-singly (a .mode) (a .links) (a .end) (a .entries) (a .size) (a .counts .now) (a .buf .now) (c .before .before .before .before .before .before .clear2 .last .0) (c .before .before .take-entries .last .1 .1 .0) (sym (c .before .before .before .before .before .before .before .before .before .parts .ensures) ∙ c .before .before .before .before .before .before .before .before .if1 .left) (c .before .before .before .before .before .before .clear2 .ensures) (c .before .before .take-entries .ensures)
+    let of-clear = c .before .before .before .before .before .before .clear2 in
+    let of-take = c .before .before .take-entries in
+    let way = sym (c .before .before .before .before .before .before .before .before .before .parts .ensures) ∙ c .before .before .before .before .before .before .before .before .if1 .left in
+    filled-singly (a .mode) (a .links) (a .end) (a .entries) (a .size) (a .counts .now) (a .buf .now) (of-clear .last .0) (of-take .last .1 .1 .0) way (of-clear .ensures) (of-take .ensures)
 
 pub fill-in-spec : {M : Type 1} → statement M
 fill-in-spec =

@@ -1,7 +1,8 @@
 -- `writer::tables::fill_room` meets its contract. Assumes nothing.
 use native.Mathlib.Omega.{arith}
 use borrow.Author.Needs.{needs}
-use Prim.Native.Nat.{_-_}
+use Prim.Native.Nat.{_+_, _*_, _-_, _≤_}
+use lib.ListN.{length}
 use mathlib.Core.Path.{refl}
 use Rattle.writer.proofs.Filling.{Filled, fill-start, fill-turn, fill-end}
 use Rattle.writer.proofs.tables.fill_room.Statement.{statement}
@@ -64,7 +65,9 @@ loop-again c =
     let i = c .before .before .before .before .before .before .before .loop in
     let of-clear = c .before .before .before .before .before .before .before .before .before .before .clear in
     let of-insert = c .before .before .insert in
-    fill-turn (of-clear .last .0) (a .hashes .now) (a .offsets .now) (a .o) (a .c) (i .i) (i .buf) (of-insert .last .0) (i .inv) (omega (arith, c .before .before .before .before .before .before .before .before .before .before .before .before .before .pre .1, of-clear .kept .0)) (c .before .before .before .before .before .before .loop-test .taken) _ _ refl refl (of-insert .ensures .1) (of-insert .kept .0) (of-insert .ensures .0)
+    let room : a .o + 16 * a .c ≤ length (of-clear .last .0) = omega (arith, c .before .before .before .before .before .before .before .before .before .before .before .before .before .pre .1, of-clear .kept .0) in
+    let less = c .before .before .before .before .before .before .loop-test .taken in
+    fill-turn (of-clear .last .0) (a .hashes .now) (a .offsets .now) (a .o) (a .c) (i .i) (i .buf) (of-insert .last .0) (i .inv) room less _ _ refl refl (of-insert .ensures .1) (of-insert .kept .0) (of-insert .ensures .0)
 
 same-length : tie.Need-same-length Inv-loop μ-loop
 same-length c = search needs

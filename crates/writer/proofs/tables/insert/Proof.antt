@@ -1,7 +1,7 @@
 -- `writer::tables::insert` meets its contract. Assumes nothing.
 use native.Mathlib.Omega.{arith}
 use native.Mathlib.Nat.{mod-lt}
-use Prim.Native.Nat.{_/_, _%_}
+use Prim.Native.Nat.{_/_}
 use Rattle.writer.proofs.Filling.{inserted-at}
 use borrow.Author.Needs.{needs}
 use Rattle.writer.proofs.tables.insert.Statement.{statement}

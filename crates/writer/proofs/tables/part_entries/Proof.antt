@@ -5,7 +5,7 @@ use Prim.Native.Nat.{_+_, _≤_}
 use mathlib.Core.Path.{_≡_, refl, _∙_}
 use lib.ListN.{length}
 use Rattle.image.specs.Stored.{between}
-use Rattle.image.proofs.Between.{Front, front, length-between}
+use Rattle.image.proofs.Between.{front, length-between}
 use Rattle.writer.specs.steps.Parting.{partedFrom}
 use Rattle.writer.proofs.Parting.{parted-broken, parted-turn, parted-none}
 use Rattle.writer.proofs.tables.part_entries.Statement.{statement}
