@@ -10,7 +10,7 @@ const IMAGES: usize = 256;
 fn image(n: usize) -> Vec<u8> {
     let mut buf = vec![0; 2072 + n * (25 + 9) + 4 * n];
     let mut counts = [0; 256];
-    let mut record = ours::begin(0, &mut counts, &buf).record;
+    let mut record = ours::begin(0, 1, &mut counts, &buf).record;
     for id in 0..n {
         record = ours::put(record, &mut counts, &mut buf, format!("p{id:08}").as_bytes(), id as u32).record;
     }

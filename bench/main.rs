@@ -1,13 +1,15 @@
 // The benchmarks: ours and the Rust's release build, or a copy for bundles, in one run and one table. The two take turns, and each
-// time is the best of several repetitions.   main [hash | reading | building | page | bundle]
+// time is the best of several repetitions.   main [hash | reading | building | repeats | page | bundle | load]
 mod building;
 mod bundle;
 mod hash;
+mod load;
 mod names;
 #[path = "../tests/compare/ours.rs"]
 mod ours;
 mod page;
 mod reading;
+mod repeats;
 mod table;
 
 fn main() {
@@ -23,10 +25,16 @@ fn main() {
     if wanted("building") {
         building::run();
     }
+    if wanted("repeats") {
+        repeats::run();
+    }
     if wanted("page") {
         page::run();
     }
     if wanted("bundle") {
         bundle::run();
+    }
+    if wanted("load") {
+        load::run();
     }
 }

@@ -9,7 +9,7 @@
    - Bytes are lent as a pointer and a length. The pointer is valid for that many bytes and is not NULL, also where the
      length is 0.
    - `counts` points to 256 words, and `w` to a whole cqdb_writer.
-   - What a call writes (the buffer of cqdb_put, cqdb_close, cqdb_sheet_write and cqdb_bundle_append, the counts, the writer,
+   - What a call writes (the buffer of cqdb_put, cqdb_close, cqdb_sheet_write, cqdb_bundle_append and cqdb_load, the counts, the writer,
      the output of cqdb_page) overlaps nothing else that the same call is lent: no name, no list, no buffer, no counts and no image.
      What a call only reads may overlap.
    - Nobody else writes to what is lent while the call runs.
@@ -31,10 +31,11 @@ extern "C" {
 
 /* The refusals: the same numbers in all calls, 0 for none. Each comment names the calls that give it. A refused call
    changes no byte of what it is lent, the writer included. docs/FORMAT.md has the same table. */
-#define CQDB_TOO_SHORT 1u        /* begin, open: under 2,072 bytes */
-#define CQDB_UNFIT 2u            /* begin, put, close: the writer does not fit the buffer, or its mode is neither 0 nor 1 */
+#define CQDB_TOO_SHORT 1u        /* begin, open, load: under 2,072 bytes */
+#define CQDB_UNFIT 2u            /* begin, put, close: the writer does not fit the buffer, or mode or repeats is neither 0 nor 1 */
 #define CQDB_NO_ROOM 3u          /* put, bundle_append: the image would exceed the buffer; put: or 4,294,967,295 bytes */
-#define CQDB_INCONSISTENT 4u     /* close: the buffer's entries are not the writer's, or the image would be too large */
+#define CQDB_INCONSISTENT 4u     /* put, close: the buffer's entries are not the writer's (put asks with repeats off only), or the
+                                    image that close would write is too large */
 #define CQDB_WRONG_LETTERS 5u    /* open, bundle_open: the image does not begin with the letters CQDB */
 #define CQDB_WRONG_BYTE_ORDER 6u /* open, bundle_open: the word at 12, which shows the byte order, is wrong */
 #define CQDB_TABLE_LEAVES 7u     /* open, bundle_open: a table with an offset above 0 leaves the image */
@@ -44,9 +45,12 @@ extern "C" {
 #define CQDB_NO_SUCH_IMAGE 11u   /* bundle_open: the file ends at or before the position */
 #define CQDB_PAGE_TOO_LONG 12u   /* page: it has more bytes than the output */
 #define CQDB_ZERO_BYTE 13u       /* put: the name has a zero byte */
+#define CQDB_REPEATED 16u        /* put: repeats are off, and an earlier entry has this name */
 #define CQDB_TOO_FEW_BYTES 19u   /* sheet_read: the file ends before its third section does */
 #define CQDB_LEFT_OVER_BYTES 20u /* sheet_read: bytes follow the third section */
 #define CQDB_SHEET_TOO_LARGE 21u /* sheet_write: a list has more than 65,535 ids, or the buffer is too short */
+#define CQDB_NO_SUCH_DATE 22u    /* name_on: a date, the one asked about or a window's, does not exist or is out of bounds */
+#define CQDB_NOT_BEFORE_END 23u  /* name_on: a window does not start before its end */
 
 /* The name hash. */
 
@@ -137,11 +141,12 @@ typedef struct {
 cqdb_page_answer cqdb_page(const uint8_t *image, size_t len, uint8_t *out, size_t out_len);
 
 /* Writing. One buffer takes the entries, and close makes it the image. The writer belongs to the caller: all of its fields
-   are open, and the calls answer every value of them. A writer fits a buffer when its mode is 0 or 1, its length is the
-   buffer's, 2,072 <= end <= length, and no count exceeds entries. */
+   are open, and the calls answer every value of them. A writer fits a buffer when its mode is 0 or 1, its repeats is 0
+   or 1, its length is the buffer's, 2,072 <= end <= length, and no count exceeds entries. */
 
 typedef struct {
     uint32_t mode;        /* CQDB_TWOWAY or CQDB_ONEWAY, as the image's flag word */
+    uint32_t repeats;     /* CQDB_REPEATS_OFF or CQDB_REPEATS_ON: does put take a name that an earlier entry has? */
     uint32_t entries;     /* the number of entries */
     uint32_t back;        /* the back size: the largest id plus 1; 0 in a one-way image */
     uint64_t length;      /* the buffer's length */
@@ -152,11 +157,15 @@ typedef struct {
 #define CQDB_TWOWAY 0u
 #define CQDB_ONEWAY 1u
 
+#define CQDB_REPEATS_OFF 0u
+#define CQDB_REPEATS_ON 1u
+
 /* The archive exports cqdb_begin_parts, cqdb_put_parts and cqdb_close_parts; cqdb_begin, cqdb_put and cqdb_close below
    call them, and programs in other languages may. They take the writer in two parts: a cqdb_record by value, and the
    counts, which are lent and changed in place. */
 typedef struct {
     uint32_t mode;
+    uint32_t repeats;
     uint32_t entries;
     uint32_t back;
     uint64_t length;
@@ -182,7 +191,7 @@ typedef struct {
     cqdb_record record;
 } cqdb_close_parts_answer;
 
-cqdb_begin_answer cqdb_begin_parts(uint32_t mode, uint32_t *counts, const uint8_t *buf, size_t len);
+cqdb_begin_answer cqdb_begin_parts(uint32_t mode, uint32_t repeats, uint32_t *counts, const uint8_t *buf, size_t len);
 cqdb_put_answer cqdb_put_parts(cqdb_record record, uint32_t *counts, uint8_t *buf, size_t len,
                                const uint8_t *name, size_t name_len, uint32_t id);
 cqdb_close_parts_answer cqdb_close_parts(cqdb_record record, const uint32_t *counts, uint8_t *buf, size_t len);
@@ -194,33 +203,51 @@ typedef struct {
 } cqdb_close_answer;
 
 static inline cqdb_record cqdb_record_of(const cqdb_writer *w) {
-    cqdb_record r = {w->mode, w->entries, w->back, w->length, w->end};
+    cqdb_record r = {w->mode, w->repeats, w->entries, w->back, w->length, w->end};
     return r;
 }
 
 static inline void cqdb_keep(cqdb_writer *w, cqdb_record r) {
     w->mode = r.mode;
+    w->repeats = r.repeats;
     w->entries = r.entries;
     w->back = r.back;
     w->length = r.length;
     w->end = r.end;
 }
 
-/* Makes *w, whatever it held, a fresh writer for the buffer: the mode, the buffer's length, end 2,072, otherwise zeros.
-   Reads and changes no byte of the buffer. Gives 0, or the first refusal that applies: 2 for a mode that is neither 0 nor
-   1, 1 for a buffer under 2,072 bytes. */
-static inline uint32_t cqdb_begin(cqdb_writer *w, uint32_t mode, const uint8_t *buf, size_t len) {
-    cqdb_begin_answer a = cqdb_begin_parts(mode, w->counts, buf, len);
+/* The two calls that follow, in one. */
+static inline uint32_t cqdb_begin_with(cqdb_writer *w, uint32_t mode, uint32_t repeats, const uint8_t *buf, size_t len) {
+    cqdb_begin_answer a = cqdb_begin_parts(mode, repeats, w->counts, buf, len);
     if (a.refusal == 0) {
         cqdb_keep(w, a.record);
     }
     return a.refusal;
 }
 
+/* Makes *w, whatever it held, a fresh writer for the buffer: the mode, repeats off, the buffer's length, end 2,072,
+   otherwise zeros. Reads and changes no byte of the buffer. Gives 0, or the first refusal that applies: 2 for a mode that is
+   neither 0 nor 1, 1 for a buffer under 2,072 bytes. Each put then looks at all earlier entries (see cqdb_put). */
+static inline uint32_t cqdb_begin(cqdb_writer *w, uint32_t mode, const uint8_t *buf, size_t len) {
+    return cqdb_begin_with(w, mode, CQDB_REPEATS_OFF, buf, len);
+}
+
+/* The same with repeats on, for callers that renew prisms, or whose names are known to differ: put then takes a name that
+   an earlier entry has, and does not look at the earlier entries. Both choices make the same image of the same accepted
+   puts. */
+static inline uint32_t cqdb_begin_repeats(cqdb_writer *w, uint32_t mode, const uint8_t *buf, size_t len) {
+    return cqdb_begin_with(w, mode, CQDB_REPEATS_ON, buf, len);
+}
+
 /* Appends an entry of name_len + 9 bytes at w->end and raises the writer's numbers; changes no other byte of the buffer.
    Gives 0, or the first refusal that applies: 2 when the writer does not fit the buffer, 13 when the name has a zero byte,
-   whatever its length, 3 when the finished size exceeds the buffer or 4,294,967,295. The finished size is, after this put,
-   end + 16 x entries + 4 x back (back counts in two-way mode only).
+   whatever its length; with repeats off 4 when the bytes from 2,072 to end are not the writer's number of whole entries with
+   its counts and back size, otherwise 16 when one of them has this name; 3 when the finished size exceeds the buffer or
+   4,294,967,295. The finished size is, after this put, end + 16 x entries + 4 x back (back counts in two-way mode only).
+
+   With repeats off a put walks all earlier entries, some 5 ns for each with names of 9 bytes. So n puts take n x n / 2 such
+   steps: 40 ms for 4,096 names, half a minute for 100,000. With repeats on a put does not look at them: 4,096 puts take
+   0.1 ms, 100,000 take 3 ms.
 
    The bytes at w->end are those where the last close placed its tables. After an accepted put the buffer is therefore no
    image, though its head is still that of the last close and cqdb_open may accept it. After A->0, B->1, close and C->2,
@@ -332,6 +359,55 @@ typedef struct {
 
 /* The number of images in a file, by a walk of the whole file. Refusal: 10. */
 cqdb_bundle_count_answer cqdb_bundle_count(const uint8_t *file, size_t len);
+
+/* A load anyone can rebuild: an image to test and measure with, from a seed. A step takes a state s to
+   1664525 x s + 1013904223 modulo 2^32, and the first state is the seed. Entry i, from 0, has id i and the name P followed
+   by the state after step i + 1 in eight uppercase hexadecimal digits; the first of seed 0 is P3C6EF35F. */
+
+/* refusal is 0 when the call was accepted; accepted is the number of entries, 0 when it was refused. */
+typedef struct {
+    uint32_t refusal;
+    uint32_t accepted;
+} cqdb_load_answer;
+
+/* Puts the entries of a seed, two-way and with repeats on, until 4,096 are accepted or one finds no room, and closes. The
+   buffer's first 2,072 + 38 x accepted bytes, as many as the image's size word says, are then the image; those behind it
+   keep their content. 157,720 bytes have room for all 4,096 entries, whatever the seed. Refusal: 1 for a buffer under 2,072
+   bytes, and nothing is written. */
+cqdb_load_answer cqdb_load(uint32_t seed, uint8_t *buf, size_t len);
+
+/* Names with a season. Some prisms stand only between two dates. Takes any bytes as an image, opened or not. */
+
+/* A date of the Gregorian calendar: the years 1900 to 2199, months 1 to 12, days from 1 on. As the end date of a window also
+   1 January 2200. */
+typedef struct {
+    uint16_t year;
+    uint8_t month;
+    uint8_t day;
+} cqdb_date;
+
+/* The id's prism stands from the first date on; on the end date it stands no longer. */
+typedef struct {
+    uint32_t id;
+    cqdb_date first;
+    cqdb_date end;
+} cqdb_window;
+
+/* refusal is 0 when the call was accepted. found is 1 or 0; the name is the len bytes from image + start on, which lie in the
+   image. found, len and start are 0 where there is no name on that date, and where the call was refused. */
+typedef struct {
+    uint32_t refusal;
+    uint32_t found;
+    uint32_t len;
+    uint64_t start;
+} cqdb_on_answer;
+
+/* The place of an id's name on a date: that of cqdb_to_str where some of the n windows has this id and holds the date, first
+   date included, end date not; otherwise nothing. All windows are checked, also those of other ids and also where the id has
+   no name. Refusals: 22 when a date does not exist or is out of bounds, the one asked about or one of a window; 23 when none is,
+   and a window does not start before its end. Changes nothing, and reads each window once. windows is not NULL, also where n
+   is 0. */
+cqdb_on_answer cqdb_name_on(const uint8_t *image, size_t len, uint32_t id, cqdb_date date, const cqdb_window *windows, size_t n);
 
 #ifdef __cplusplus
 }

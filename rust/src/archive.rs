@@ -38,6 +38,7 @@ pub struct StrAnswer {
 #[derive(Clone, Copy, Debug, PartialEq, Eq)]
 pub struct Record {
     pub mode: u32,
+    pub repeats: u32,
     pub entries: u32,
     pub back: u32,
     pub length: u64,
@@ -124,6 +125,46 @@ pub struct BundleCountAnswer {
     pub images: u64,
 }
 
+#[repr(C)]
+#[derive(Clone, Copy, Debug, PartialEq, Eq)]
+pub struct LoadAnswer {
+    pub refusal: u32,
+    pub accepted: u32,
+}
+
+/// A date of the Gregorian calendar.
+#[repr(C)]
+#[derive(Clone, Copy, Debug, PartialEq, Eq, Hash)]
+pub struct Date {
+    /// 1900 to 2199; 2200 only for 1 January as the end date of a window.
+    pub year: u16,
+    /// 1 to 12.
+    pub month: u8,
+    /// From 1 on, to the month's length.
+    pub day: u8,
+}
+
+/// A time in which the prism of an id stands.
+#[repr(C)]
+#[derive(Clone, Copy, Debug, PartialEq, Eq, Hash)]
+pub struct Window {
+    /// The id of the prism.
+    pub id: u32,
+    /// The first date on which it stands.
+    pub first: Date,
+    /// The date from which on it stands no longer.
+    pub end: Date,
+}
+
+#[repr(C)]
+#[derive(Clone, Copy, Debug, PartialEq, Eq)]
+pub struct OnAnswer {
+    pub refusal: u32,
+    pub found: u32,
+    pub len: u32,
+    pub start: u64,
+}
+
 /// The table counts of a writer.
 pub type Counts = [u32; 256];
 
@@ -138,7 +179,7 @@ extern "C" {
     fn cqdb_home(image: *const u8, len: usize, id: u32) -> u32;
     fn cqdb_page_length(image: *const u8, len: usize) -> u64;
     fn cqdb_page(image: *const u8, len: usize, out: *mut u8, out_len: usize) -> PageAnswer;
-    fn cqdb_begin_parts(mode: u32, counts: *mut u32, buf: *const u8, len: usize) -> RecordAnswer;
+    fn cqdb_begin_parts(mode: u32, repeats: u32, counts: *mut u32, buf: *const u8, len: usize) -> RecordAnswer;
     fn cqdb_put_parts(
         record: Record,
         counts: *mut u32,
@@ -170,6 +211,8 @@ extern "C" {
         image_len: usize,
     ) -> BundleAppendAnswer;
     fn cqdb_bundle_count(file: *const u8, len: usize) -> BundleCountAnswer;
+    fn cqdb_load(seed: u32, buf: *mut u8, len: usize) -> LoadAnswer;
+    fn cqdb_name_on(image: *const u8, len: usize, id: u32, date: Date, windows: *const Window, n: usize) -> OnAnswer;
 }
 
 /// The hash of a name with a start value, or the refusal.
@@ -223,8 +266,8 @@ pub fn page(image: &[u8], out: &mut [u8]) -> PageAnswer {
 }
 
 /// A fresh record, or the refusal.
-pub fn begin(mode: u32, counts: &mut Counts, buf: &[u8]) -> RecordAnswer {
-    unsafe { cqdb_begin_parts(mode, counts.as_mut_ptr(), buf.as_ptr(), buf.len()) }
+pub fn begin(mode: u32, repeats: u32, counts: &mut Counts, buf: &[u8]) -> RecordAnswer {
+    unsafe { cqdb_begin_parts(mode, repeats, counts.as_mut_ptr(), buf.as_ptr(), buf.len()) }
 }
 
 /// One put.
@@ -270,4 +313,14 @@ pub fn bundle_append(buf: &mut [u8], file_len: u64, image: &[u8]) -> BundleAppen
 /// The number of images in a bundle, or the refusal.
 pub fn bundle_count(file: &[u8]) -> BundleCountAnswer {
     unsafe { cqdb_bundle_count(file.as_ptr(), file.len()) }
+}
+
+/// The load of a seed in the first bytes of `buf`, and the number of its entries; or the refusal.
+pub fn load(seed: u32, buf: &mut [u8]) -> LoadAnswer {
+    unsafe { cqdb_load(seed, buf.as_mut_ptr(), buf.len()) }
+}
+
+/// The place of an id's name on a date, or nothing, or the refusal.
+pub fn name_on(image: &[u8], id: u32, date: Date, windows: &[Window]) -> OnAnswer {
+    unsafe { cqdb_name_on(image.as_ptr(), image.len(), id, date, windows.as_ptr(), windows.len()) }
 }

@@ -56,12 +56,18 @@ refusals! {
     PageTooLong = 12, "the page is longer than the output";
     /// The name has a zero byte.
     ZeroByte = 13, "the name has a zero byte";
+    /// The writer already holds this name, and was not begun [`with_repeats`](crate::CQDBWriter::with_repeats).
+    Repeated = 16, "the writer already holds this name, and repeats are off";
     /// The round sheet has too few bytes.
     TooFewBytes = 19, "invalid round sheet, too few bytes";
     /// The round sheet has left-over bytes.
     LeftOverBytes = 20, "invalid round sheet, left-over bytes";
     /// A list of a round sheet has more than 65,535 ids, or its buffer is too short.
     SheetTooLarge = 21, "no room: a list of the round sheet is too long, or its buffer too short";
+    /// A date, the one asked about or a window's, does not exist or is out of bounds.
+    NoSuchDate = 22, "a date does not exist, or is out of bounds";
+    /// A window does not start before its end.
+    NotBeforeEnd = 23, "a window does not start before its end";
 }
 
 impl Refusal {

@@ -89,7 +89,7 @@ fn put_word(bytes: &mut [u8], at: usize, value: u32) {
 fn image(random: &mut Random) -> Vec<u8> {
     let mut buf = vec![0; HEAD + 600];
     let mut counts = [0; 256];
-    let mut record = ours::begin(u32::from(random.once_in(3)), &mut counts, &buf).record;
+    let mut record = ours::begin(u32::from(random.once_in(3)), 1, &mut counts, &buf).record;
     for id in 0..random.below(9) as u32 {
         let n = random.below(20);
         let name: Vec<u8> = random.bytes(n).into_iter().map(|b| b.max(1)).collect();

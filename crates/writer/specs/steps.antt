@@ -2,3 +2,4 @@
 pub mod Working
 pub mod Parting
 pub mod Written
+pub mod Earlier
