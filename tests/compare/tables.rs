@@ -68,7 +68,7 @@ fn compare(tally: &mut Tally, random: &mut Random, oneway: bool, puts: &[Put], w
     let spare = random.below(50);
     let buf = random.bytes(size + spare);
     let mut counts = [0; 256];
-    let record = ours::begin(oneway as u32, &mut counts, &buf).record;
+    let record = ours::begin(oneway as u32, 1, &mut counts, &buf).record;
     let mut writing = Writing { record, counts, buf };
     let (first, last) = puts.split_at(puts.len() - MORE);
     writing.puts(tally, first);
