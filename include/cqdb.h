@@ -242,7 +242,7 @@ static inline void cqdb_keep(cqdb_writer *w, cqdb_record r) {
     w->end = r.end;
 }
 
-/* The two calls that follow, in one. */
+/* Begins with the choice that `repeats` names: what cqdb_begin and cqdb_begin_repeats do. */
 CQDB_LENGTH_ALONE(4) CQDB_INLINED
 static inline uint32_t cqdb_begin_with(cqdb_writer *w, uint32_t mode, uint32_t repeats, const uint8_t *buf, size_t len) {
     cqdb_begin_answer a = cqdb_begin_parts(mode, repeats, w->counts, buf, len);
