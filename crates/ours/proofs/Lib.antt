@@ -11,4 +11,5 @@ pub mod Holds
 pub mod Theorem
 pub mod Loops
 pub mod Steps
+pub mod Enters
 pub mod Bodies

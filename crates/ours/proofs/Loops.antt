@@ -1,5 +1,5 @@
 -- A turn, a way out and the end of each loop. Assumes nothing.
-use Prim.Native.Nat.{ℕ, zero, suc, _+_, _*_, _-_, _≤_, _<_}
+use Prim.Native.Nat.{ℕ, zero, suc, _+_, _*_, _-_, _/_, _≤_, _<_}
 use native.Mathlib.Omega.{arith}
 use native.Mathlib.Numerals.{add-one}
 use mathlib.Core.Path.{_≡_, refl, sym, ap, ap₂, _∙_}
@@ -14,7 +14,8 @@ use Rattle.image.specs.Head.{tableAt, bucketNumber}
 use Rattle.masks.specs.Masks.{bit, above}
 use Rattle.image.specs.Zero.{hasZero}
 use Rattle.ours.specs.steps.InPlace.{wordsAt}
-use Rattle.ours.specs.steps.Tests.{clean, usedIn, tableRight, rowsRight}
+use Rattle.ours.specs.steps.Tests.{clean, usedIn, tableRight, rowsRight, rowCounts}
+use Rattle.ours.proofs.Joins.{getD-run}
 
 -- ---- how many of a run of words are not zero
 
@@ -151,6 +152,29 @@ module _ (img counts : List ℕ) (o t c : ℕ) (x : Bool) (more : t < 256) (is :
 pub rows-end : (img counts : List ℕ) (o t : ℕ) (x : Bool) → 256 ≤ t → rowsRight img counts o t (256 - t) ≡ x → true ≡ x
 unfolding rowsRight
 rows-end img counts o t x h e = let z : 256 - t ≡ 0 = omega arith in sym (ap (λ (m : ℕ). rowsRight img counts o t m) z) ∙ e
+
+-- the count that a row says
+pub count-said : (img : List ℕ) (t w : ℕ) → t < 256 → w ≡ bucketNumber img t → w / 2 ≡ getD (rowCounts img) t 0
+unfolding rowCounts
+count-said img t w h e = ap (λ (n : ℕ). n / 2) e ∙ sym (getD-run (λ (t : ℕ). bucketNumber img t / 2) 256 t 0 h)
+
+-- rows beside counts
+module _ (img counts : List ℕ) (t : ℕ) (x : Bool) where
+  abbrev says : ℕ → Bool
+  says t = eqb (bucketNumber img t) (2 * getD counts t 0)
+
+  module _ (more : t < 256) (w c : ℕ) (ew : w ≡ bucketNumber img t) (ec : c ≡ getD counts t 0) where
+    pub said-not : (w ≡ 2 * c → ⊥) → all says t (256 - t) ≡ x → false ≡ x
+    said-not d e =
+        all-stop says t 256 x more (ne-eqb (bucketNumber img t) (2 * getD counts t 0) (λ y. d (ew ∙ y ∙ ap (λ (k : ℕ). 2 * k) (sym ec)))) e
+
+    pub said-next : w ≡ 2 * c → all says t (256 - t) ≡ x → all says (t + 1) (256 - (t + 1)) ≡ x
+    said-next y e =
+        all-next says t 256 x more (eq-eqb (bucketNumber img t) (2 * getD counts t 0) (sym ew ∙ y ∙ ap (λ (k : ℕ). 2 * k) ec)) e
+
+  pub said-end : 256 ≤ t → all says t (256 - t) ≡ x → true ≡ x
+  unfolding all
+  said-end h e = let z : 256 - t ≡ 0 = omega arith in sym (ap (λ (m : ℕ). all says t m) z) ∙ e
 
 -- ---- the links that are not 0
 
