@@ -168,8 +168,8 @@ not-opened img o e d bytes = go (ours img) refl
         let y : Made img = ours-only img bytes q in
         absurd (d (length (y .puts)) (e ∙ ours-checked img y .opened))
 
-pub never-num : (img : List ℕ) (k : ℕ) → opening img ≡ refusal k → Bytes img → false ≡ ours img
-never-num img k e bytes = not-opened img (opening img) refl (λ n f. differ n (sym e ∙ f)) bytes
+pub never-opened : (img : List ℕ) (k : ℕ) → opening img ≡ refusal k → Bytes img → false ≡ ours img
+never-opened img k e bytes = not-opened img (opening img) refl (λ n f. differ n (sym e ∙ f)) bytes
   where
     differ : (n : ℕ) → refusal k ≡ value n → ⊥
     differ n f = let z : _≡_ {A = ℕ} 0 1 = cc in omega arith
@@ -193,8 +193,8 @@ module _ (img : List ℕ) (bytes : Bytes img) (n : ℕ) (o : Outcome ℕ) (eo : 
   pub wrong-size : (s : ℕ) → s ≡ word img 4 → (s ≡ length img → ⊥) → false ≡ ours img
   wrong-size s es d = refuse (λ c. d (es ∙ c .size))
 
-  pub wrong-mode : (m : ℕ) → m ≡ word img 8 → 1 < m → false ≡ ours img
-  wrong-mode m em d = refuse (λ c. let h = c .flag in omega arith)
+  pub wrong-flag : (m : ℕ) → m ≡ word img 8 → 1 < m → false ≡ ours img
+  wrong-flag m em d = refuse (λ c. let h = c .flag in omega arith)
 
   pub wrong-room : (s k b : ℕ) → s ≡ length img → k ≡ n → b ≡ word img 16 → s < 2072 + (16 * k + 4 * b) → false ≡ ours img
   wrong-room s k b ys ek eb d = refuse (λ c. let h = c .room in omega arith)

@@ -4,7 +4,7 @@ use Prim.Native.Nat.{ℕ, _<_}
 use mathlib.Core.Path.{_≡_, refl, _∙_}
 use lib.ListN.{getD}
 use Rattle.reader.specs.Open.{opening}
-use Rattle.ours.proofs.Bodies.{wrong-size, wrong-mode, wrong-room, wrong-back, decided}
+use Rattle.ours.proofs.Bodies.{wrong-size, wrong-flag, wrong-room, wrong-back, decided}
 use Rattle.ours.proofs.opened_right.Statement.{statement}
 use Rattle.ours.proofs.opened_right.Tie as tie
 
@@ -21,7 +21,7 @@ get-u32-requires-2 : tie.Need-get-u32-requires-2
 get-u32-requires-2 c κs = search needs
 
 returns-2 : tie.Need-returns-2
-returns-2 c = wrong-mode (c .before .before .before .before .before .before .args .image .now) (λ i. omega (arith, c .before .before .before .before .before .shared-slice-known .given i)) (c .before .before .before .before .before .before .args .n) (opening (c .before .before .before .before .before .before .args .image .now)) refl (c .before .before .before .before .before .before .pre) (c .before .get-u322 .result) (c .before .get-u322 .ensures) (c .if2 .taken)
+returns-2 c = wrong-flag (c .before .before .before .before .before .before .args .image .now) (λ i. omega (arith, c .before .before .before .before .before .shared-slice-known .given i)) (c .before .before .before .before .before .before .args .n) (opening (c .before .before .before .before .before .before .args .image .now)) refl (c .before .before .before .before .before .before .pre) (c .before .get-u322 .result) (c .before .get-u322 .ensures) (c .if2 .taken)
 
 wide-requires-2 : tie.Need-wide-requires-2
 wide-requires-2 c κs = search needs
