@@ -43,7 +43,7 @@ free-from mode n es (put e ∷ cs) all =
     free-from mode n _ cs (all-append Free es (acceptedOne (put e) (putDue mode n es e)) all (one-free mode n es e (eqb (putDue mode n es e) 0) refl))
 free-from mode n es (close ∷ cs) all = free-from mode n _ cs (all-append Free es [] all tt)
 
-accepted-free : (mode : Mode) (n : ℕ) (cs : List Call) → All Free (accepted mode n cs)
+pub accepted-free : (mode : Mode) (n : ℕ) (cs : List Call) → All Free (accepted mode n cs)
 unfolding accepted
 accepted-free mode n cs = free-from mode n [] cs tt
 

@@ -8,6 +8,7 @@ pub mod Tests
 pub mod Walks
 pub mod Told
 pub mod Holds
+pub mod Closing
 pub mod Theorem
 pub mod Loops
 pub mod Steps

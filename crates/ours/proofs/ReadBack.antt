@@ -119,17 +119,23 @@ puttables [] f i = tt
 puttables (e ∷ es) f i =
     (record { free = not-true (hasZero (e .name)) (first (not (hasZero (e .name))) (allFree es) f); id-word = i .0 }, puttables es (second (not (hasZero (e .name))) (allFree es) f) (i .1))
 
+-- puts and direction of an image that puts make are read back
+pub made-puts : (img : List ℕ) (m : Made img) → putsIn img ≡ m .puts
+made-puts img m = ap putsIn (sym (m .is)) ∙ puts-image (m .mode) (m .puts) (ids-of (m .puts) (m .each)) (m .fits)
+
+pub made-mode : (img : List ℕ) (m : Made img) → modeIn img ≡ m .mode
+made-mode img m = ap modeIn (sym (m .is)) ∙ flag-of-image (m .mode) (m .puts) (ids-of (m .puts) (m .each)) (m .fits)
+
 pub ours-yes : (img : List ℕ) → Made img → ours img ≡ true
 unfolding ours
-ours-yes img o =
-    let ids = ids-of (o .puts) (o .each) in
-    let p : putsIn img ≡ o .puts = ap putsIn (sym (o .is)) ∙ puts-image (o .mode) (o .puts) ids (o .fits) in
-    let f : modeIn img ≡ o .mode = ap modeIn (sym (o .is)) ∙ flag-of-image (o .mode) (o .puts) ids (o .fits) in
-    let i : image (modeIn img) (putsIn img) ≡ img = ap₂ image f p ∙ o .is in
-    let s : imageSize (modeIn img) (putsIn img) ≡ imageSize (o .mode) (o .puts) = ap₂ imageSize f p in
+ours-yes img m =
+    let p = made-puts img m in
+    let d = made-mode img m in
+    let i : image (modeIn img) (putsIn img) ≡ img = ap₂ image d p ∙ m .is in
+    let s : imageSize (modeIn img) (putsIn img) ≡ imageSize (m .mode) (m .puts) = ap₂ imageSize d p in
     both (allFree (putsIn img) && leb (imageSize (modeIn img) (putsIn img)) 4294967295) (same (image (modeIn img) (putsIn img)) img)
-    (both (allFree (putsIn img)) (leb (imageSize (modeIn img) (putsIn img)) 4294967295) (ap allFree p ∙ frees (o .puts) (o .each))
-    (le-leb (imageSize (modeIn img) (putsIn img)) 4294967295 (rw s (o .fits))))
+    (both (allFree (putsIn img)) (leb (imageSize (modeIn img) (putsIn img)) 4294967295) (ap allFree p ∙ frees (m .puts) (m .each))
+    (le-leb (imageSize (modeIn img) (putsIn img)) 4294967295 (rw s (m .fits))))
     (ap (λ (l : List ℕ). same l img) i ∙ same-self img)
 
 pub ours-only : (img : List ℕ) → Bytes img → ours img ≡ true → Made img

@@ -1,18 +1,33 @@
--- Is this image one of ours? 02 (ix): "a yes exactly when the bytes are the image that some list of puts, one-way or two-way, repeats allowed, names free
--- of zero bytes, closes to, with no byte after it". The decision reads the puts back, makes their image and compares.
-use Prim.Native.Nat.{ℕ}
+-- Is this image one of ours? 02 (ix): what it means, by the lists' own definitions, and the decision.
+use Prim.Native.Nat.{ℕ, _≤_}
+use mathlib.Core.Path.{_≡_}
 use mathlib.Core.Bool.{Bool, true, cond, not, _&&_}
-use mathlib.Core.List.{List, [], _∷_}
-use lib.ListN.{drop}
+use mathlib.Core.List.{List, [], _∷_, map}
+use lib.ListN.{length, drop}
 use lib.Dec.{eqb, leb}
 use Rattle.jhash.specs.Outcome.{Outcome, value, refusal}
-use Rattle.image.specs.Bytes.{word, same}
+use Rattle.image.specs.Bytes.{word, same, Each}
 use Rattle.image.specs.Image.{Entry, headSize, imageSize, image}
 use Rattle.image.specs.Stored.{entriesIn}
 use Rattle.image.specs.Zero.{hasZero}
 use Rattle.image.specs.declared.Mode.{Mode}
 use Rattle.image.specs.declared.Mode.the-variants.{Twoway, Oneway}
 use Rattle.reader.specs.Open.{opening}
+use Rattle.lists.specs.Calls.{put}
+use Rattle.lists.specs.Demand3.{imageOf}
+use Rattle.ours.specs.Made.{Puttable}
+
+-- "the bytes are the image that some list of puts, one-way or two-way, repeats allowed, names free of zero bytes, closes to, with no byte after it": there
+-- are a direction and puts that are made from a fresh record in some buffer, whose close gives exactly these bytes
+pub record Ours (img : List ℕ) : Type 0 where
+  pub mode : Mode
+  pub buffer : List ℕ
+  pub room : headSize ≤ length buffer
+  pub puts : List Entry
+  pub each : Each Puttable puts
+  pub closes : imageOf mode buffer (map put puts) ≡ img
+
+-- ---- the decision reads the puts back, makes their image and compares
 
 -- how many entries opening counts, 0 where it refuses
 abbrev pub counted : Outcome ℕ → ℕ
