@@ -9,10 +9,10 @@ ghost use Rattle.image.specs.Stored.{whole, between};
 ghost use Rattle.masks.specs.Masks.{above};
 ghost use Rattle.ours.specs.steps.InPlace.{wordsAt};
 ghost use Rattle.ours.specs.steps.Tests.{aheadIn, selvesIn, linked, placedFrom};
-use image::entries::whole_length;
-use image::get_u32;
 use super::tables::one;
 use super::tables::wide;
+use image::entries::whole_length;
+use image::get_u32;
 
 // 1 for equal numbers, else 0.
 fn match_of(w: u32, at: u32) -> u32

@@ -1,3 +1,4 @@
+-- `ours::opened_right` meets its contract. Assumes nothing.
 use borrow.Author.Needs.{needs}
 use native.Mathlib.Omega.{arith}
 use Prim.Native.Nat.{ℕ, _<_}
@@ -15,13 +16,24 @@ wide-requires : tie.Need-wide-requires
 wide-requires c κs = search needs
 
 returns : tie.Need-returns
-returns c = wrong-size (c .before .before .before .before .args .image .now) (λ i. omega (arith, c .before .before .before .shared-slice-known .given i)) (c .before .before .before .before .args .n) (opening (c .before .before .before .before .args .image .now)) refl (c .before .before .before .before .pre) (c .before .wide .result) (c .before .wide .ensures .0 ∙ c .before .before .get-u32 .ensures) (c .if1 .taken)
+returns c =
+    let a = c .before .before .before .before .args in
+    let pre = c .before .before .before .before .pre in
+    let shared-slice-known = c .before .before .before .shared-slice-known in
+    let get-u32 = c .before .before .get-u32 in
+    let wide = c .before .wide in
+    wrong-size (a .image .now) (λ i. omega (arith, shared-slice-known .given i)) (a .n) (opening (a .image .now)) refl (pre) (wide .result) (wide .ensures .0 ∙ get-u32 .ensures) (c .if1 .taken)
 
 get-u32-requires-2 : tie.Need-get-u32-requires-2
 get-u32-requires-2 c κs = search needs
 
 returns-2 : tie.Need-returns-2
-returns-2 c = wrong-flag (c .before .before .before .before .before .before .args .image .now) (λ i. omega (arith, c .before .before .before .before .before .shared-slice-known .given i)) (c .before .before .before .before .before .before .args .n) (opening (c .before .before .before .before .before .before .args .image .now)) refl (c .before .before .before .before .before .before .pre) (c .before .get-u322 .result) (c .before .get-u322 .ensures) (c .if2 .taken)
+returns-2 c =
+    let a = c .before .before .before .before .before .before .args in
+    let pre = c .before .before .before .before .before .before .pre in
+    let shared-slice-known = c .before .before .before .before .before .shared-slice-known in
+    let get-u322 = c .before .get-u322 in
+    wrong-flag (a .image .now) (λ i. omega (arith, shared-slice-known .given i)) (a .n) (opening (a .image .now)) refl (pre) (get-u322 .result) (get-u322 .ensures) (c .if2 .taken)
 
 wide-requires-2 : tie.Need-wide-requires-2
 wide-requires-2 c κs = search needs
@@ -45,7 +57,16 @@ add-if3 : tie.Need-add-if3
 add-if3 c = search needs
 
 returns-3 : tie.Need-returns-3
-returns-3 c = wrong-room (c .before .before .before .before .before .before .before .before .before .before .args .image .now) (λ i. omega (arith, c .before .before .before .before .before .before .before .before .before .shared-slice-known .given i)) (c .before .before .before .before .before .before .before .before .before .before .args .n) (opening (c .before .before .before .before .before .before .before .before .before .before .args .image .now)) refl (c .before .before .before .before .before .before .before .before .before .before .pre) (c .before .before .before .before .before .before .before .wide .result) (c .before .before .before .wide2 .result) (c .before .wide3 .result) (c .before .before .before .before .before .before .if1 .left) (c .before .before .before .wide2 .ensures .0) (c .before .wide3 .ensures .0 ∙ c .before .before .get-u323 .ensures) (c .if3 .taken)
+returns-3 c =
+    let a = c .before .before .before .before .before .before .before .before .before .before .args in
+    let pre = c .before .before .before .before .before .before .before .before .before .before .pre in
+    let shared-slice-known = c .before .before .before .before .before .before .before .before .before .shared-slice-known in
+    let wide = c .before .before .before .before .before .before .before .wide in
+    let if1 = c .before .before .before .before .before .before .if1 in
+    let wide2 = c .before .before .before .wide2 in
+    let get-u323 = c .before .before .get-u323 in
+    let wide3 = c .before .wide3 in
+    wrong-room (a .image .now) (λ i. omega (arith, shared-slice-known .given i)) (a .n) (opening (a .image .now)) refl (pre) (wide .result) (wide2 .result) (wide3 .result) (if1 .left) (wide2 .ensures .0) (wide3 .ensures .0 ∙ get-u323 .ensures) (c .if3 .taken)
 
 sub-end : tie.Need-sub-end
 sub-end c = search needs
@@ -66,13 +87,48 @@ wide-requires-4 : tie.Need-wide-requires-4
 wide-requires-4 c κs = search needs
 
 returns-4 : tie.Need-returns-4
-returns-4 c = wrong-back (c .before .before .before .before .before .before .before .before .before .before .before .before .before .before .args .image .now) (λ i. omega (arith, c .before .before .before .before .before .before .before .before .before .before .before .before .before .shared-slice-known .given i)) (c .before .before .before .before .before .before .before .before .before .before .before .before .before .before .args .n) (opening (c .before .before .before .before .before .before .before .before .before .before .before .before .before .before .args .image .now)) refl (c .before .before .before .before .before .before .before .before .before .before .before .before .before .before .pre) (c .before .before .before .before .before .before .before .before .before .before .before .wide .result) (c .before .before .before .before .before .before .before .before .before .get-u322 .result) (c .before .before .before .before .before .before .before .wide2 .result) (c .before .before .before .before .before .wide3 .result) (c .before .wide4 .result) (c .before .before .before .place-of .result) _ (c .before .before .before .before .before .before .before .before .before .before .before .wide .ensures .0 ∙ c .before .before .before .before .before .before .before .before .before .before .before .before .get-u32 .ensures) (c .before .before .before .before .before .before .before .before .before .before .if1 .left) (c .before .before .before .before .before .before .before .before .before .get-u322 .ensures) (omega (arith, c .before .before .before .before .before .before .before .before .if2 .left)) (c .before .before .before .before .before .before .before .wide2 .ensures .0) (c .before .before .before .before .before .wide3 .ensures .0 ∙ c .before .before .before .before .before .before .get-u323 .ensures) (omega (arith, c .before .before .before .before .if3 .left)) refl (c .before .before .before .place-of .ensures) (c .before .wide4 .ensures .0 ∙ c .before .before .get-u324 .ensures) (c .if4 .taken)
+returns-4 c =
+    let a = c .before .before .before .before .before .before .before .before .before .before .before .before .before .before .args in
+    let pre = c .before .before .before .before .before .before .before .before .before .before .before .before .before .before .pre in
+    let shared-slice-known = c .before .before .before .before .before .before .before .before .before .before .before .before .before .shared-slice-known in
+    let get-u32 = c .before .before .before .before .before .before .before .before .before .before .before .before .get-u32 in
+    let wide = c .before .before .before .before .before .before .before .before .before .before .before .wide in
+    let if1 = c .before .before .before .before .before .before .before .before .before .before .if1 in
+    let get-u322 = c .before .before .before .before .before .before .before .before .before .get-u322 in
+    let if2 = c .before .before .before .before .before .before .before .before .if2 in
+    let wide2 = c .before .before .before .before .before .before .before .wide2 in
+    let get-u323 = c .before .before .before .before .before .before .get-u323 in
+    let wide3 = c .before .before .before .before .before .wide3 in
+    let if3 = c .before .before .before .before .if3 in
+    let place-of = c .before .before .before .place-of in
+    let get-u324 = c .before .before .get-u324 in
+    let wide4 = c .before .wide4 in
+    wrong-back (a .image .now) (λ i. omega (arith, shared-slice-known .given i)) (a .n) (opening (a .image .now)) refl (pre) (wide .result) (get-u322 .result) (wide2 .result) (wide3 .result) (wide4 .result) (place-of .result) _
+    (wide .ensures .0 ∙ get-u32 .ensures) (if1 .left) (get-u322 .ensures) (omega (arith, if2 .left)) (wide2 .ensures .0) (wide3 .ensures .0 ∙ get-u323 .ensures) (omega (arith, if3 .left)) refl (place-of .ensures) (wide4 .ensures .0 ∙ get-u324 .ensures) (c .if4 .taken)
 
 body-right-requires : tie.Need-body-right-requires
 body-right-requires c κs = search needs
 
 returns-5 : tie.Need-returns-5
-returns-5 c = decided (c .before .before .before .before .before .before .before .before .before .before .before .before .before .before .before .args .image .now) (λ i. omega (arith, c .before .before .before .before .before .before .before .before .before .before .before .before .before .before .shared-slice-known .given i)) (c .before .before .before .before .before .before .before .before .before .before .before .before .before .before .before .args .n) (opening (c .before .before .before .before .before .before .before .before .before .before .before .before .before .before .before .args .image .now)) refl (c .before .before .before .before .before .before .before .before .before .before .before .before .before .before .before .pre) (c .before .before .before .before .before .before .before .before .before .before .before .before .wide .result) (c .before .before .before .before .before .before .before .before .before .before .get-u322 .result) (c .before .before .before .before .before .before .before .before .wide2 .result) (c .before .before .before .before .before .before .wide3 .result) (c .before .before .wide4 .result) (c .before .before .before .before .place-of .result) _ (c .before .before .before .before .before .before .before .before .before .before .before .before .wide .ensures .0 ∙ c .before .before .before .before .before .before .before .before .before .before .before .before .before .get-u32 .ensures) (c .before .before .before .before .before .before .before .before .before .before .before .if1 .left) (c .before .before .before .before .before .before .before .before .before .before .get-u322 .ensures) (omega (arith, c .before .before .before .before .before .before .before .before .before .if2 .left)) (c .before .before .before .before .before .before .before .before .wide2 .ensures .0) (c .before .before .before .before .before .before .wide3 .ensures .0 ∙ c .before .before .before .before .before .before .before .get-u323 .ensures) (omega (arith, c .before .before .before .before .before .if3 .left)) refl (c .before .before .before .before .place-of .ensures) (c .before .before .wide4 .ensures .0 ∙ c .before .before .before .get-u324 .ensures) (c .body-right .result) (c .before .if4 .left) (c .body-right .ensures)
+returns-5 c =
+    let a = c .before .before .before .before .before .before .before .before .before .before .before .before .before .before .before .args in
+    let pre = c .before .before .before .before .before .before .before .before .before .before .before .before .before .before .before .pre in
+    let shared-slice-known = c .before .before .before .before .before .before .before .before .before .before .before .before .before .before .shared-slice-known in
+    let get-u32 = c .before .before .before .before .before .before .before .before .before .before .before .before .before .get-u32 in
+    let wide = c .before .before .before .before .before .before .before .before .before .before .before .before .wide in
+    let if1 = c .before .before .before .before .before .before .before .before .before .before .before .if1 in
+    let get-u322 = c .before .before .before .before .before .before .before .before .before .before .get-u322 in
+    let if2 = c .before .before .before .before .before .before .before .before .before .if2 in
+    let wide2 = c .before .before .before .before .before .before .before .before .wide2 in
+    let get-u323 = c .before .before .before .before .before .before .before .get-u323 in
+    let wide3 = c .before .before .before .before .before .before .wide3 in
+    let if3 = c .before .before .before .before .before .if3 in
+    let place-of = c .before .before .before .before .place-of in
+    let get-u324 = c .before .before .before .get-u324 in
+    let wide4 = c .before .before .wide4 in
+    let if4 = c .before .if4 in
+    decided (a .image .now) (λ i. omega (arith, shared-slice-known .given i)) (a .n) (opening (a .image .now)) refl (pre) (wide .result) (get-u322 .result) (wide2 .result) (wide3 .result) (wide4 .result) (place-of .result) _
+    (wide .ensures .0 ∙ get-u32 .ensures) (if1 .left) (get-u322 .ensures) (omega (arith, if2 .left)) (wide2 .ensures .0) (wide3 .ensures .0 ∙ get-u323 .ensures) (omega (arith, if3 .left)) refl (place-of .ensures) (wide4 .ensures .0 ∙ get-u324 .ensures) (c .body-right .result) (if4 .left) (c .body-right .ensures)
 
 pub opened-right-spec : {M : Type 1} → statement M
 opened-right-spec =

@@ -1,4 +1,4 @@
--- `ours::first_free` meets its contract. Assumes nothing.
+-- `ours::entries::first_free` meets its contract. Assumes nothing.
 use native.Mathlib.Omega.{arith}
 use borrow.Author.Needs.{needs}
 use Prim.Native.Nat.{ℕ, _+_, _*_, _<_, _≤_, _-_}

@@ -1,4 +1,4 @@
--- `ours::hide` meets its contract. Assumes nothing.
+-- `ours::entries::hide` meets its contract. Assumes nothing.
 use borrow.Author.Tests.{lt-ltb, le-ltb}
 use native.Mathlib.Omega.{arith}
 use Rattle.ours.proofs.entries.hide.Statement.{statement}

@@ -1,3 +1,4 @@
+-- `ours::entries::stands` meets its contract. Assumes nothing.
 use borrow.Author.Needs.{needs}
 use native.Mathlib.Omega.{arith}
 use native.Mathlib.Nat.{mod-lt}
@@ -34,7 +35,10 @@ cast-n : tie.Need-cast-n
 cast-n c = search needs
 
 returns : tie.Need-returns
-returns c = stands-none (c .before .before .before .before .args .image .now) (c .before .before .before .before .args .h) (c .before .before .before .before .args .at) (c .before .get-u322 .result) (c .before .get-u322 .ensures) (c .if1 .taken)
+returns c =
+    let a = c .before .before .before .before .args in
+    let get-u322 = c .before .get-u322 in
+    stands-none (a .image .now) (a .h) (a .at) (get-u322 .result) (get-u322 .ensures) (c .if1 .taken)
 
 cast-first-free : tie.Need-cast-first-free
 cast-first-free c = search needs
@@ -43,7 +47,11 @@ rem-first-free : tie.Need-rem-first-free
 rem-first-free c = search needs
 
 first-free-requires : tie.Need-first-free-requires
-first-free-requires c κs = (mod-lt (c .before .before .before .before .args .h / 256) (omega (arith, c .if1 .left)), omega (arith, c .before .before .get-u32 .ok), omega (arith, c .before .get-u322 .ok))
+first-free-requires c κs =
+    let a = c .before .before .before .before .args in
+    let get-u32 = c .before .before .get-u32 in
+    let get-u322 = c .before .get-u322 in
+    (mod-lt (a .h / 256) (omega (arith, c .if1 .left)), omega (arith, get-u32 .ok), omega (arith, get-u322 .ok))
 
 mul-get-u32-3 : tie.Need-mul-get-u32-3
 mul-get-u32-3 c = search needs
@@ -55,7 +63,14 @@ get-u32-requires-3 : tie.Need-get-u32-requires-3
 get-u32-requires-3 c κs = search needs
 
 returns-2 : tie.Need-returns-2
-returns-2 c = stands-other (c .before .before .before .before .before .before .before .args .image .now) (c .before .before .before .before .before .before .before .args .h) (c .before .before .before .before .before .before .before .args .at) (c .before .before .before .before .before .get-u32 .result) (c .before .before .before .before .get-u322 .result) (c .before .before .first-free .result) (c .before .get-u323 .result) (c .before .before .before .before .before .get-u32 .ensures) (c .before .before .before .before .get-u322 .ensures) (c .before .before .before .if1 .left) (c .before .before .first-free .ensures .0) (c .before .get-u323 .ensures) (c .if2 .taken)
+returns-2 c =
+    let a = c .before .before .before .before .before .before .before .args in
+    let get-u32 = c .before .before .before .before .before .get-u32 in
+    let get-u322 = c .before .before .before .before .get-u322 in
+    let if1 = c .before .before .before .if1 in
+    let first-free = c .before .before .first-free in
+    let get-u323 = c .before .get-u323 in
+    stands-other (a .image .now) (a .h) (a .at) (get-u32 .result) (get-u322 .result) (first-free .result) (get-u323 .result) (get-u32 .ensures) (get-u322 .ensures) (if1 .left) (first-free .ensures .0) (get-u323 .ensures) (c .if2 .taken)
 
 mul-get-u32-4 : tie.Need-mul-get-u32-4
 mul-get-u32-4 c = search needs
@@ -70,7 +85,15 @@ get-u32-requires-4 : tie.Need-get-u32-requires-4
 get-u32-requires-4 c κs = search needs
 
 returns-3 : tie.Need-returns-3
-returns-3 c = stands-last (c .before .before .before .before .before .before .before .before .args .image .now) (c .before .before .before .before .before .before .before .before .args .h) (c .before .before .before .before .before .before .before .before .args .at) (c .before .before .before .before .before .before .get-u32 .result) (c .before .before .before .before .before .get-u322 .result) (c .before .before .before .first-free .result) (c .before .before .get-u323 .result) (c .before .before .before .before .before .before .get-u32 .ensures) (c .before .before .before .before .before .get-u322 .ensures) (c .before .before .before .before .if1 .left) (c .before .before .before .first-free .ensures .0) (c .before .before .get-u323 .ensures) (c .get-u324 .result) (c .before .if2 .left) (c .get-u324 .ensures)
+returns-3 c =
+    let a = c .before .before .before .before .before .before .before .before .args in
+    let get-u32 = c .before .before .before .before .before .before .get-u32 in
+    let get-u322 = c .before .before .before .before .before .get-u322 in
+    let if1 = c .before .before .before .before .if1 in
+    let first-free = c .before .before .before .first-free in
+    let get-u323 = c .before .before .get-u323 in
+    let if2 = c .before .if2 in
+    stands-last (a .image .now) (a .h) (a .at) (get-u32 .result) (get-u322 .result) (first-free .result) (get-u323 .result) (get-u32 .ensures) (get-u322 .ensures) (if1 .left) (first-free .ensures .0) (get-u323 .ensures) (c .get-u324 .result) (if2 .left) (c .get-u324 .ensures)
 
 pub stands-spec : {M : Type 1} → statement M
 stands-spec =

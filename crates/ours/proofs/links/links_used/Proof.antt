@@ -1,3 +1,4 @@
+-- `ours::links::links_used` meets its contract. Assumes nothing.
 use native.Mathlib.Omega.{arith}
 use borrow.Author.Needs.{needs}
 use Prim.Native.Nat.{ℕ, _+_, _*_, _-_, _≤_}
@@ -17,7 +18,9 @@ abbrev μ-loop : tie.MeasureT-loop
 μ-loop img o n used₀ k₀ used k = n - k
 
 loop-holds : tie.Need-loop-holds Inv-loop μ-loop
-loop-holds c = (omega arith, omega arith, links-start (c .before .args .image .now) (c .before .args .o) (c .before .args .n))
+loop-holds c =
+    let a = c .before .args in
+    (omega arith, omega arith, links-start (a .image .now) (a .o) (a .n))
 
 mul-get-u32 : tie.Need-mul-get-u32 Inv-loop μ-loop
 mul-get-u32 c = omega arith
@@ -32,7 +35,11 @@ one-requires : tie.Need-one-requires Inv-loop μ-loop
 one-requires c κs = search needs
 
 add-used : tie.Need-add-used Inv-loop μ-loop
-add-used c = let m = bit-most (λ (j : ℕ). word (c .before .before .before .before .before .args .image .now) (c .before .before .before .before .before .args .o + 4 * j)) (c .before .before .before .loop .k) (c .one .result) (c .one .ensures ∙ ap (bit 1) (c .before .get-u32 .ensures)) in omega arith
+add-used c =
+    let a = c .before .before .before .before .before .args in
+    let l = c .before .before .before .loop in
+    let get-u32 = c .before .get-u32 in
+    let m = bit-most (λ (j : ℕ). word (a .image .now) (a .o + 4 * j)) (l .k) (c .one .result) (c .one .ensures ∙ ap (bit 1) (get-u32 .ensures)) in omega arith
 
 add-k : tie.Need-add-k Inv-loop μ-loop
 add-k c = omega arith
@@ -41,10 +48,18 @@ loop-less : tie.Need-loop-less Inv-loop μ-loop
 loop-less c = omega arith
 
 loop-again : tie.Need-loop-again Inv-loop μ-loop
-loop-again c = (omega arith, (let m = bit-most (λ (j : ℕ). word (c .before .before .before .before .before .args .image .now) (c .before .before .before .before .before .args .o + 4 * j)) (c .before .before .before .loop .k) (c .one .result) (c .one .ensures ∙ ap (bit 1) (c .before .get-u32 .ensures)) in omega arith), run-next (λ (j : ℕ). word (c .before .before .before .before .before .args .image .now) (c .before .before .before .before .before .args .o + 4 * j)) (c .before .before .before .loop .k) (c .before .before .before .before .before .args .n) (c .before .before .before .loop .used) (c .one .result) _ (c .before .before .loop-test .taken) (c .one .ensures ∙ ap (bit 1) (c .before .get-u32 .ensures)) (c .before .before .before .loop .inv .2))
+loop-again c =
+    let a = c .before .before .before .before .before .args in
+    let l = c .before .before .before .loop in
+    let test = c .before .before .loop-test in
+    let get-u32 = c .before .get-u32 in
+    (omega arith, (let m = bit-most (λ (j : ℕ). word (a .image .now) (a .o + 4 * j)) (l .k) (c .one .result) (c .one .ensures ∙ ap (bit 1) (get-u32 .ensures)) in omega arith), run-next (λ (j : ℕ). word (a .image .now) (a .o + 4 * j)) (l .k) (a .n) (l .used) (c .one .result) _ (test .taken) (c .one .ensures ∙ ap (bit 1) (get-u32 .ensures)) (l .inv .2))
 
 returns : tie.Need-returns Inv-loop μ-loop
-returns c = run-end (λ (j : ℕ). word (c .before .before .before .args .image .now) (c .before .before .before .args .o + 4 * j)) (c .before .loop .k) (c .before .before .before .args .n) (c .before .loop .used) _ (omega arith) (c .before .loop .inv .2)
+returns c =
+    let a = c .before .before .before .args in
+    let l = c .before .loop in
+    run-end (λ (j : ℕ). word (a .image .now) (a .o + 4 * j)) (l .k) (a .n) (l .used) _ (omega arith) (l .inv .2)
 
 pub links-used-spec : {M : Type 1} → statement M
 links-used-spec =

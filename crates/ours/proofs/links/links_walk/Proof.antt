@@ -1,3 +1,4 @@
+-- `ours::links::links_walk` meets its contract. Assumes nothing.
 use native.Mathlib.Omega.{arith}
 use borrow.Author.Needs.{needs}
 use Prim.Native.Nat.{ℕ, _+_, _*_, _≤_, _<_}
@@ -22,23 +23,43 @@ abbrev μ-loop : tie.MeasureT-loop
 
 -- the entry is whole, and lies before the end
 known : (c : tie.Else1 Inv-loop μ-loop) → Front (between (c .before .before .before .before .before .args .image .now) (c .before .before .before .loop .at) (c .before .before .before .before .before .args .end)) (c .before .whole-length .result)
-known c = front _ (c .before .whole-length .result) (c .before .whole-length .ensures .0) (c .if1 .left)
+known c =
+    let whole-length = c .before .whole-length in
+    front _ (whole-length .result) (whole-length .ensures .0) (c .if1 .left)
 
 room : (c : tie.Else1 Inv-loop μ-loop) → c .before .before .before .loop .at + (8 + c .before .whole-length .result) ≤ c .before .before .before .before .before .args .end
-room c = walk-inside (c .before .before .before .before .before .args .image .now) (c .before .before .before .loop .at) (c .before .before .before .before .before .args .end) (c .before .whole-length .result) (c .before .before .before .loop .left) (c .before .before .before .loop .inv .0) (c .before .before .before .before .before .pre .1) (known c) (c .before .before .loop-test .taken)
+room c =
+    let a = c .before .before .before .before .before .args in
+    let pre = c .before .before .before .before .before .pre in
+    let l = c .before .before .before .loop in
+    let test = c .before .before .loop-test in
+    let whole-length = c .before .whole-length in
+    walk-inside (a .image .now) (l .at) (a .end) (whole-length .result) (l .left) (l .inv .0) (pre .1) (known c) (test .taken)
 
 -- the entry's link
-linked : (c : tie.After-get-u322 Inv-loop μ-loop) → c .get-u322 .result ≡ word (c .before .before .before .before .before .before .before .before .args .image .now) (c .before .before .before .before .before .before .before .before .args .o + 4 * word (c .before .before .before .before .before .before .before .before .args .image .now) (c .before .before .before .before .before .before .loop .at))
-linked c = c .get-u322 .ensures ∙ ap (λ (i : ℕ). word (c .before .before .before .before .before .before .before .before .args .image .now) (c .before .before .before .before .before .before .before .before .args .o + 4 * i)) (c .before .wide .ensures .0 ∙ c .before .before .get-u32 .ensures)
+linked : (c : tie.After-get-u322 Inv-loop μ-loop)
+    → c .get-u322 .result ≡ word (c .before .before .before .before .before .before .before .before .args .image .now) (c .before .before .before .before .before .before .before .before .args .o + 4 * word (c .before .before .before .before .before .before .before .before .args .image .now) (c .before .before .before .before .before .before .loop .at))
+linked c =
+    let a = c .before .before .before .before .before .before .before .before .args in
+    let get-u32 = c .before .before .get-u32 in
+    let wide = c .before .wide in
+    c .get-u322 .ensures ∙ ap (λ (i : ℕ). word (a .image .now) (a .o + 4 * i)) (wide .ensures .0 ∙ get-u32 .ensures)
 
 loop-holds : tie.Need-loop-holds Inv-loop μ-loop
-loop-holds c = (c .before .pre .0, omega arith, c .before .pre .4, refl, omega arith)
+loop-holds c =
+    let pre = c .before .pre in
+    (pre .0, omega arith, pre .4, refl, omega arith)
 
 whole-length-requires : tie.Need-whole-length-requires Inv-loop μ-loop
 whole-length-requires c κs = (c .before .loop .inv .0, c .before .before .before .pre .1)
 
 returns : tie.Need-returns Inv-loop μ-loop
-returns c = absurd (whole-broken (c .before .before .before .before .before .args .image .now) (c .before .before .before .loop .at) (c .before .before .before .before .before .args .end) (c .before .before .before .loop .left) (c .before .whole-length .result) (c .before .before .loop-test .taken) (c .before .whole-length .ensures .0) (c .if1 .taken) (c .before .before .before .loop .inv .2))
+returns c =
+    let a = c .before .before .before .before .before .args in
+    let l = c .before .before .before .loop in
+    let test = c .before .before .loop-test in
+    let whole-length = c .before .whole-length in
+    absurd (whole-broken (a .image .now) (l .at) (a .end) (l .left) (whole-length .result) (test .taken) (whole-length .ensures .0) (c .if1 .taken) (l .inv .2))
 
 get-u32-requires : tie.Need-get-u32-requires Inv-loop μ-loop
 get-u32-requires c κs = search needs
@@ -59,13 +80,22 @@ wide-requires-2 : tie.Need-wide-requires-2 Inv-loop μ-loop
 wide-requires-2 c κs = search needs
 
 returns-2 : tie.Need-returns-2 Inv-loop μ-loop
-returns-2 c = (
-  ahead-stop (c .before .before .before .before .before .before .before .before .before .before .args .image .now) (c .before .before .before .before .before .before .before .before .loop .at) (c .before .before .before .before .before .before .before .before .before .before .args .end) (c .before .before .before .before .before .before .whole-length .result) (c .before .before .before .before .before .before .before .before .loop .left) (c .before .before .before .before .before .before .before .before .loop .inv .0) (c .before .before .before .before .before .before .before .before .before .before .pre .1) (known (c .before .before .before .before .before)) (c .before .before .before .before .before .before .before .loop-test .taken) (c .before .before .before .before .before .before .before .before .before .before .args .o) (c .before .before .get-u322 .result) (linked (c .before .before)) _ (omega (arith, c .before .wide2 .ensures .0, c .if2 .taken)) (c .before .before .before .before .before .before .before .before .loop .inv .3),
-  λ z. absurd (not-both z),
-)
+returns-2 c =
+    let a = c .before .before .before .before .before .before .before .before .before .before .args in
+    let pre = c .before .before .before .before .before .before .before .before .before .before .pre in
+    let l = c .before .before .before .before .before .before .before .before .loop in
+    let test = c .before .before .before .before .before .before .before .loop-test in
+    let whole-length = c .before .before .before .before .before .before .whole-length in
+    let get-u322 = c .before .before .get-u322 in
+    let wide2 = c .before .wide2 in (
+      ahead-stop (a .image .now) (l .at) (a .end) (whole-length .result) (l .left) (l .inv .0) (pre .1) (known (c .before .before .before .before .before)) (test .taken) (a .o) (get-u322 .result) (linked (c .before .before)) _ (omega (arith, wide2 .ensures .0, c .if2 .taken)) (l .inv .3),
+      λ z. absurd (not-both z),
+    )
 
 cast-match-of : tie.Need-cast-match-of Inv-loop μ-loop
-cast-match-of c = let r = room (c .before .before .before .before .before) in omega (arith, c .before .before .before .before .before .before .before .before .before .before .pre .2)
+cast-match-of c =
+    let pre = c .before .before .before .before .before .before .before .before .before .before .pre in
+    let r = room (c .before .before .before .before .before) in omega (arith, pre .2)
 
 match-of-requires : tie.Need-match-of-requires Inv-loop μ-loop
 match-of-requires c κs = search needs
@@ -77,10 +107,14 @@ add-selves : tie.Need-add-selves Inv-loop μ-loop
 add-selves c = omega (arith, c .match-of .ensures .1, c .before .before .before .before .before .before .before .before .before .before .before .fits .entries)
 
 add-at : tie.Need-add-at Inv-loop μ-loop
-add-at c = let r = room (c .before .before .before .before .before .before) in omega (arith, c .before .before .before .before .before .before .before .before .before .before .before .pre .2)
+add-at c =
+    let pre = c .before .before .before .before .before .before .before .before .before .before .before .pre in
+    let r = room (c .before .before .before .before .before .before) in omega (arith, pre .2)
 
 add-at-2 : tie.Need-add-at-2 Inv-loop μ-loop
-add-at-2 c = let r = room (c .before .before .before .before .before .before) in omega (arith, c .before .before .before .before .before .before .before .before .before .before .before .pre .2)
+add-at-2 c =
+    let pre = c .before .before .before .before .before .before .before .before .before .before .before .pre in
+    let r = room (c .before .before .before .before .before .before) in omega (arith, pre .2)
 
 sub-left : tie.Need-sub-left Inv-loop μ-loop
 sub-left c = omega arith
@@ -90,20 +124,29 @@ loop-less c = omega arith
 
 loop-again : tie.Need-loop-again Inv-loop μ-loop
 loop-again c =
+    let a = c .before .before .before .before .before .before .before .before .before .before .before .args in
+    let pre = c .before .before .before .before .before .before .before .before .before .before .before .pre in
+    let l = c .before .before .before .before .before .before .before .before .before .loop in
+    let test = c .before .before .before .before .before .before .before .before .loop-test in
+    let whole-length = c .before .before .before .before .before .before .before .whole-length in
+    let get-u322 = c .before .before .before .get-u322 in
+    let wide2 = c .before .before .wide2 in
+    let if2 = c .before .if2 in
     let r = room (c .before .before .before .before .before .before) in (
       r,
-      omega (arith, c .match-of .ensures .1, c .before .before .before .before .before .before .before .before .before .loop .inv .1, c .before .before .before .before .before .before .before .before .loop-test .taken),
-      walk-whole (c .before .before .before .before .before .before .before .before .before .before .before .args .image .now) (c .before .before .before .before .before .before .before .before .before .loop .at) (c .before .before .before .before .before .before .before .before .before .before .before .args .end) (c .before .before .before .before .before .before .before .whole-length .result) (c .before .before .before .before .before .before .before .before .before .loop .left) (c .before .before .before .before .before .before .before .before .before .loop .inv .0) (c .before .before .before .before .before .before .before .before .before .before .before .pre .1) (known (c .before .before .before .before .before .before)) (c .before .before .before .before .before .before .before .before .loop-test .taken) (c .before .before .before .before .before .before .before .before .before .loop .inv .2),
-      ahead-next (c .before .before .before .before .before .before .before .before .before .before .before .args .image .now) (c .before .before .before .before .before .before .before .before .before .loop .at) (c .before .before .before .before .before .before .before .before .before .before .before .args .end) (c .before .before .before .before .before .before .before .whole-length .result) (c .before .before .before .before .before .before .before .before .before .loop .left) (c .before .before .before .before .before .before .before .before .before .loop .inv .0) (c .before .before .before .before .before .before .before .before .before .before .before .pre .1) (known (c .before .before .before .before .before .before)) (c .before .before .before .before .before .before .before .before .loop-test .taken) (c .before .before .before .before .before .before .before .before .before .before .before .args .o) (c .before .before .before .get-u322 .result) (linked (c .before .before .before)) _ (omega (arith, c .before .before .wide2 .ensures .0, c .before .if2 .left)) (c .before .before .before .before .before .before .before .before .before .loop .inv .3),
-      selves-next (c .before .before .before .before .before .before .before .before .before .before .before .args .image .now) (c .before .before .before .before .before .before .before .before .before .loop .at) (c .before .before .before .before .before .before .before .before .before .before .before .args .end) (c .before .before .before .before .before .before .before .whole-length .result) (c .before .before .before .before .before .before .before .before .before .loop .left) (c .before .before .before .before .before .before .before .before .before .loop .inv .0) (c .before .before .before .before .before .before .before .before .before .before .before .pre .1) (known (c .before .before .before .before .before .before)) (c .before .before .before .before .before .before .before .before .loop-test .taken) (c .before .before .before .before .before .before .before .before .before .before .before .args .o) (c .before .before .before .get-u322 .result) (linked (c .before .before .before)) (c .before .before .before .before .before .before .before .before .before .loop .selves) (c .match-of .result) _ (c .match-of .ensures .0) (c .before .before .before .before .before .before .before .before .before .loop .inv .4),
+      omega (arith, c .match-of .ensures .1, l .inv .1, test .taken),
+      walk-whole (a .image .now) (l .at) (a .end) (whole-length .result) (l .left) (l .inv .0) (pre .1) (known (c .before .before .before .before .before .before)) (test .taken) (l .inv .2),
+      ahead-next (a .image .now) (l .at) (a .end) (whole-length .result) (l .left) (l .inv .0) (pre .1) (known (c .before .before .before .before .before .before)) (test .taken) (a .o) (get-u322 .result) (linked (c .before .before .before)) _ (omega (arith, wide2 .ensures .0, if2 .left)) (l .inv .3),
+      selves-next (a .image .now) (l .at) (a .end) (whole-length .result) (l .left) (l .inv .0) (pre .1) (known (c .before .before .before .before .before .before)) (test .taken) (a .o) (get-u322 .result) (linked (c .before .before .before)) (l .selves) (c .match-of .result) _ (c .match-of .ensures .0) (l .inv .4),
     )
 
 returns-3 : tie.Need-returns-3 Inv-loop μ-loop
 returns-3 c =
-    let z : c .before .loop .left ≡ 0 = omega arith in
-    let a = c .before .before .before .args in (
-      ahead-none (a .image .now) (a .o) (c .before .loop .at) (a .end) _ (rw z at (c .before .loop .inv .3)),
-      λ w. selves-none (a .image .now) (a .o) (c .before .loop .at) (a .end) (c .before .loop .selves) _ (rw z at (c .before .loop .inv .4)),
+    let a = c .before .before .before .args in
+    let l = c .before .loop in
+    let z : l .left ≡ 0 = omega arith in (
+      ahead-none (a .image .now) (a .o) (l .at) (a .end) _ (rw z at (l .inv .3)),
+      λ w. selves-none (a .image .now) (a .o) (l .at) (a .end) (l .selves) _ (rw z at (l .inv .4)),
     )
 
 pub links-walk-spec : {M : Type 1} → statement M

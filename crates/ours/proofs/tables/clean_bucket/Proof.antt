@@ -1,4 +1,4 @@
--- `ours::clean_bucket` meets its contract. Assumes nothing.
+-- `ours::tables::clean_bucket` meets its contract. Assumes nothing.
 use borrow.Author.Needs.{needs}
 use mathlib.Core.Path.{sym, _∙_}
 use Rattle.image.specs.Bytes.{word}

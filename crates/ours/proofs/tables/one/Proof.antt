@@ -1,4 +1,4 @@
--- `ours::one` meets its contract. Assumes nothing.
+-- `ours::tables::one` meets its contract. Assumes nothing.
 use borrow.Author.Tests.{le-leb, lt-leb}
 use native.Mathlib.Omega.{arith}
 use Rattle.ours.proofs.tables.one.Statement.{statement}

@@ -1,4 +1,4 @@
--- `ours::place_of` meets its contract. Assumes nothing.
+-- `ours::tables::place_of` meets its contract. Assumes nothing.
 use borrow.Author.Tests.{eq-eqb, ne-eqb}
 use Rattle.ours.proofs.tables.place_of.Statement.{statement}
 use Rattle.ours.proofs.tables.place_of.Tie as tie

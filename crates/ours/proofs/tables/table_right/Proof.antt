@@ -1,4 +1,4 @@
--- `ours::table_right` meets its contract. Assumes nothing.
+-- `ours::tables::table_right` meets its contract. Assumes nothing.
 use native.Mathlib.Omega.{arith}
 use borrow.Author.Needs.{needs}
 use borrow.Author.Tests.{not-true, not-false}
@@ -20,7 +20,9 @@ mul-n : tie.Need-mul-n Inv-loop μ-loop
 mul-n c = omega arith
 
 loop-holds : tie.Need-loop-holds Inv-loop μ-loop
-loop-holds c = (refl, buckets-start (c .before .args .image .now) (c .before .args .o) (2 * c .before .args .c))
+loop-holds c =
+    let a = c .before .args in
+    (refl, buckets-start (a .image .now) (a .o) (2 * a .c))
 
 mul-clean-bucket : tie.Need-mul-clean-bucket Inv-loop μ-loop
 mul-clean-bucket c = omega arith
@@ -35,7 +37,9 @@ returns : tie.Need-returns Inv-loop μ-loop
 returns c =
     let a = c .before .before .before .before .before .args in
     let l = c .before .before .before .loop in
-    buckets-dirty (a .image .now) (a .o) (2 * a .c) (l .k) (l .used) (l .inv .1) (c .before .before .loop-test .taken) (c .before .clean-bucket .result) (a .c) refl (c .before .clean-bucket .ensures) (not-true _ (c .if1 .taken))
+    let test = c .before .before .loop-test in
+    let clean-bucket = c .before .clean-bucket in
+    buckets-dirty (a .image .now) (a .o) (2 * a .c) (l .k) (l .used) (l .inv .1) (test .taken) (clean-bucket .result) (a .c) refl (clean-bucket .ensures) (not-true _ (c .if1 .taken))
 
 mul-get-u32 : tie.Need-mul-get-u32 Inv-loop μ-loop
 mul-get-u32 c = omega arith
@@ -52,11 +56,16 @@ get-u32-requires c κs = search needs
 one-requires : tie.Need-one-requires Inv-loop μ-loop
 one-requires c κs = search needs
 
-counted : (c : tie.After-one Inv-loop μ-loop) → Buckets (c .before .before .before .before .before .before .before .args .image .now) (c .before .before .before .before .before .before .before .args .o) (2 * c .before .before .before .before .before .before .before .args .c) (c .before .before .before .before .before .loop .k + 1) (c .before .before .before .before .before .loop .used + c .one .result)
+counted : (c : tie.After-one Inv-loop μ-loop)
+    → Buckets (c .before .before .before .before .before .before .before .args .image .now) (c .before .before .before .before .before .before .before .args .o) (2 * c .before .before .before .before .before .before .before .args .c) (c .before .before .before .before .before .loop .k + 1) (c .before .before .before .before .before .loop .used + c .one .result)
 counted c =
     let a = c .before .before .before .before .before .before .before .args in
     let l = c .before .before .before .before .before .loop in
-    buckets-next (a .image .now) (a .o) (2 * a .c) (l .k) (l .used) (l .inv .1) (c .before .before .before .before .loop-test .taken) (c .before .before .before .clean-bucket .result) (c .one .result) (c .before .before .before .clean-bucket .ensures) (not-false _ (c .before .before .if1 .left)) (c .one .ensures ∙ ap (bit 1) (c .before .get-u32 .ensures))
+    let test = c .before .before .before .before .loop-test in
+    let clean-bucket = c .before .before .before .clean-bucket in
+    let if1 = c .before .before .if1 in
+    let get-u32 = c .before .get-u32 in
+    buckets-next (a .image .now) (a .o) (2 * a .c) (l .k) (l .used) (l .inv .1) (test .taken) (clean-bucket .result) (c .one .result) (clean-bucket .ensures) (not-false _ (if1 .left)) (c .one .ensures ∙ ap (bit 1) (get-u32 .ensures))
 
 add-used : tie.Need-add-used Inv-loop μ-loop
 add-used c = let b = counted c in let f = b .few in let i = b .inside in omega arith
