@@ -5,7 +5,7 @@ use Rattle.ours.proofs.entries.hide.Statement.{statement}
 use Rattle.ours.proofs.entries.hide.Tie as tie
 
 returns : tie.Need-returns
-returns c = rw (lt-ltb _ _ (c .if1 .taken))
+returns c = rw (lt-ltb (c .before .args .w) (c .before .args .at) (omega (arith, c .if1 .taken)))
 
 returns-2 : tie.Need-returns-2
 returns-2 c = rw (le-ltb (c .before .args .w) (c .before .args .at) (omega (arith, c .if1 .left)))
