@@ -27,6 +27,7 @@
 mod archive;
 mod order;
 mod page;
+mod puts;
 mod read;
 mod refusal;
 mod sheet;
@@ -34,6 +35,7 @@ mod write;
 
 pub use order::{references_first, Order, Pair};
 pub use page::Page;
+pub use puts::Puts;
 pub use read::{Found, Iter, CQDB};
 pub use refusal::Refusal;
 pub use sheet::{Ids, Sheet};
