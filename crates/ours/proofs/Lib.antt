@@ -10,6 +10,7 @@ pub mod Told
 pub mod Holds
 pub mod Closing
 pub mod Theorem
+pub mod Rows
 pub mod Loops
 pub mod Steps
 pub mod Enters

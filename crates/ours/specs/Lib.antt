@@ -2,4 +2,5 @@
 pub mod Made
 pub mod Ours
 pub mod Theorem
+pub mod Rows
 pub mod steps

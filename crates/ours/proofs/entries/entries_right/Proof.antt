@@ -4,6 +4,7 @@ use borrow.Author.Tests.{not-true, not-false}
 use native.Mathlib.Omega.{arith}
 use Prim.Native.Nat.{ℕ, _<_}
 use mathlib.Core.Path.{_≡_}
+use mathlib.Core.Bool.{true}
 use Rattle.image.specs.Tables.{tableOf}
 use Rattle.image.proofs.Bools.{not-both}
 use Rattle.ours.proofs.Enters.{Enter, enter-start, enter-broken, enter-room, enter-wrong, enter-turn, enter-end}
@@ -103,7 +104,7 @@ loop-again c =
     let entry = c .before .before .before .before .before .before .entry-right in
     let id = c .before .get-u32 in
     let raised = c .before .before .raise in
-    let right = not-false _ (c .before .before .before .before .if2 .left) in
+    let right : entry .result .right ≡ true = not-false _ (c .before .before .before .before .if2 .left) in
     let small : id .result < 4294967296 = omega (arith, id .ok) in
     let t = enter-turn (a .image .now) (a .end) (a .entries) (a .counts .now) (p .1) (l .at) (l .left) (l .back) (l .counts) (l .inv) (c .before .before .before .before .before .before .before .before .before .loop-test .taken) (w .result) (w .ensures .0) (c .before .before .before .before .before .before .before .if1 .left)
     (entry .result .right) (entry .result .hash) (id .result) (raised .last .0) (entry .ensures .0) right (entry .ensures .1 right) (w .ensures .1) small (id .ensures) (raised .ensures) in
