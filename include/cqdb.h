@@ -32,9 +32,9 @@ extern "C" {
 /* The refusals: the same numbers in all calls, 0 for none. Each comment names the calls that give it. A refused call
    changes no byte of what it is lent, the writer included. docs/FORMAT.md has the same table. */
 #define CQDB_TOO_SHORT 1u        /* begin, open: under 2,072 bytes */
-#define CQDB_UNFIT 2u            /* begin, put, close: the writer does not fit the buffer, or its mode is neither 0 nor 1 */
+#define CQDB_UNFIT 2u            /* begin, put, close: the writer does not fit the buffer, or its mode or repeats is neither 0 nor 1 */
 #define CQDB_NO_ROOM 3u          /* put: the finished image would exceed the buffer or 4,294,967,295 bytes */
-#define CQDB_INCONSISTENT 4u     /* close: the buffer's entries are not the writer's, or the image would be too large */
+#define CQDB_INCONSISTENT 4u     /* close, put with repeats off: the buffer's entries are not the writer's; close: or the image would be too large */
 #define CQDB_WRONG_LETTERS 5u    /* open: the image does not begin with the letters CQDB */
 #define CQDB_WRONG_BYTE_ORDER 6u /* open: the word at 12, which shows the byte order, is wrong */
 #define CQDB_TABLE_LEAVES 7u     /* open: a table with an offset above 0 leaves the image */
@@ -42,6 +42,7 @@ extern "C" {
 #define CQDB_NAME_TOO_LONG 9u    /* hash: the name has 4,294,967,295 bytes or more */
 #define CQDB_PAGE_TOO_LONG 12u   /* page: it has more bytes than the output */
 #define CQDB_ZERO_BYTE 13u       /* put: the name has a zero byte */
+#define CQDB_REPEATED 16u        /* put with repeats off: an earlier entry has this name */
 #define CQDB_TOO_FEW_BYTES 19u   /* sheet_read: the file ends before its third section does */
 #define CQDB_LEFT_OVER_BYTES 20u /* sheet_read: bytes follow the third section */
 #define CQDB_SHEET_TOO_LARGE 21u /* sheet_write: a list has more than 65,535 ids, or the buffer is too short */
@@ -143,11 +144,12 @@ typedef struct {
 cqdb_page_answer cqdb_page(const uint8_t *image, size_t len, uint8_t *out, size_t out_len);
 
 /* Writing. One buffer takes the entries, and close makes it the image. The writer belongs to the caller: all of its fields
-   are open, and the calls answer every value of them. A writer fits a buffer when its mode is 0 or 1, its length is the
-   buffer's, 2,072 <= end <= length, and no count exceeds entries. */
+   are open, and the calls answer every value of them. A writer fits a buffer when its mode is 0 or 1, its repeats is 0
+   or 1, its length is the buffer's, 2,072 <= end <= length, and no count exceeds entries. */
 
 typedef struct {
     uint32_t mode;        /* CQDB_TWOWAY or CQDB_ONEWAY, as the image's flag word */
+    uint32_t repeats;     /* CQDB_REPEATS_OFF or CQDB_REPEATS_ON: whether put takes a name that an earlier entry has */
     uint32_t entries;     /* the number of entries */
     uint32_t back;        /* the back size: the largest id plus 1; 0 in a one-way image */
     uint64_t length;      /* the buffer's length */
@@ -158,11 +160,15 @@ typedef struct {
 #define CQDB_TWOWAY 0u
 #define CQDB_ONEWAY 1u
 
+#define CQDB_REPEATS_OFF 0u
+#define CQDB_REPEATS_ON 1u
+
 /* The archive exports cqdb_begin_parts, cqdb_put_parts and cqdb_close_parts; cqdb_begin, cqdb_put and cqdb_close below
    call them, and programs in other languages may. They take the writer in two parts: a cqdb_record by value, and the
    counts, which are lent and changed in place. */
 typedef struct {
     uint32_t mode;
+    uint32_t repeats;
     uint32_t entries;
     uint32_t back;
     uint64_t length;
@@ -188,7 +194,7 @@ typedef struct {
     cqdb_record record;
 } cqdb_close_parts_answer;
 
-cqdb_begin_answer cqdb_begin_parts(uint32_t mode, uint32_t *counts, const uint8_t *buf, size_t len);
+cqdb_begin_answer cqdb_begin_parts(uint32_t mode, uint32_t repeats, uint32_t *counts, const uint8_t *buf, size_t len);
 cqdb_put_answer cqdb_put_parts(cqdb_record record, uint32_t *counts, uint8_t *buf, size_t len,
                                const uint8_t *name, size_t name_len, uint32_t id);
 cqdb_close_parts_answer cqdb_close_parts(cqdb_record record, const uint32_t *counts, uint8_t *buf, size_t len);
@@ -200,32 +206,44 @@ typedef struct {
 } cqdb_close_answer;
 
 static inline cqdb_record cqdb_record_of(const cqdb_writer *w) {
-    cqdb_record r = {w->mode, w->entries, w->back, w->length, w->end};
+    cqdb_record r = {w->mode, w->repeats, w->entries, w->back, w->length, w->end};
     return r;
 }
 
 static inline void cqdb_keep(cqdb_writer *w, cqdb_record r) {
     w->mode = r.mode;
+    w->repeats = r.repeats;
     w->entries = r.entries;
     w->back = r.back;
     w->length = r.length;
     w->end = r.end;
 }
 
-/* Makes *w, whatever it held, a fresh writer for the buffer: the mode, the buffer's length, end 2,072, otherwise zeros.
-   Reads and changes no byte of the buffer. Gives 0, or the first refusal that applies: 2 for a mode that is neither 0 nor
-   1, 1 for a buffer under 2,072 bytes. */
-static inline uint32_t cqdb_begin(cqdb_writer *w, uint32_t mode, const uint8_t *buf, size_t len) {
-    cqdb_begin_answer a = cqdb_begin_parts(mode, w->counts, buf, len);
+static inline uint32_t cqdb_begin_with(cqdb_writer *w, uint32_t mode, uint32_t repeats, const uint8_t *buf, size_t len) {
+    cqdb_begin_answer a = cqdb_begin_parts(mode, repeats, w->counts, buf, len);
     if (a.refusal == 0) {
         cqdb_keep(w, a.record);
     }
     return a.refusal;
 }
 
+/* Makes *w, whatever it held, a fresh writer for the buffer, with repeats off: the mode, the buffer's length, end 2,072,
+   otherwise zeros. Reads and changes no byte of the buffer. Gives 0, or the first refusal that applies: 2 for a mode that is
+   neither 0 nor 1, 1 for a buffer under 2,072 bytes. */
+static inline uint32_t cqdb_begin(cqdb_writer *w, uint32_t mode, const uint8_t *buf, size_t len) {
+    return cqdb_begin_with(w, mode, CQDB_REPEATS_OFF, buf, len);
+}
+
+/* The same with repeats on: put then takes a name that an earlier entry has, and does not look at the earlier entries. */
+static inline uint32_t cqdb_begin_repeats(cqdb_writer *w, uint32_t mode, const uint8_t *buf, size_t len) {
+    return cqdb_begin_with(w, mode, CQDB_REPEATS_ON, buf, len);
+}
+
 /* Appends an entry of name_len + 9 bytes at w->end and raises the writer's numbers; changes no other byte of the buffer.
    Gives 0, or the first refusal that applies: 2 when the writer does not fit the buffer, 13 when the name has a zero byte,
-   whatever its length, 3 when the finished size exceeds the buffer or 4,294,967,295. The finished size is, after this put,
+   whatever its length; with repeats off 4 when the bytes from 2,072 to end are not the writer's number of whole entries with
+   its counts and back size, then 16 when one of them has this name; 3 when the finished size exceeds the buffer or
+   4,294,967,295. The finished size is, after this put,
    end + 16 x entries + 4 x back (back counts in two-way mode only).
 
    The bytes at w->end are those where the last close placed its tables. After an accepted put the buffer is therefore no

@@ -38,6 +38,7 @@ pub struct StrAnswer {
 #[derive(Clone, Copy, Debug, PartialEq, Eq)]
 pub struct Record {
     pub mode: u32,
+    pub repeats: u32,
     pub entries: u32,
     pub back: u32,
     pub length: u64,
@@ -115,7 +116,13 @@ extern "C" {
     fn cqdb_ours(image: *const u8, len: usize) -> u32;
     fn cqdb_page_length(image: *const u8, len: usize) -> u64;
     fn cqdb_page(image: *const u8, len: usize, out: *mut u8, out_len: usize) -> PageAnswer;
-    fn cqdb_begin_parts(mode: u32, counts: *mut u32, buf: *const u8, len: usize) -> RecordAnswer;
+    fn cqdb_begin_parts(
+        mode: u32,
+        repeats: u32,
+        counts: *mut u32,
+        buf: *const u8,
+        len: usize,
+    ) -> RecordAnswer;
     fn cqdb_put_parts(
         record: Record,
         counts: *mut u32,
@@ -196,8 +203,8 @@ pub fn page(image: &[u8], out: &mut [u8]) -> PageAnswer {
 }
 
 /// A fresh record, or the refusal.
-pub fn begin(mode: u32, counts: &mut Counts, buf: &[u8]) -> RecordAnswer {
-    unsafe { cqdb_begin_parts(mode, counts.as_mut_ptr(), buf.as_ptr(), buf.len()) }
+pub fn begin(mode: u32, repeats: u32, counts: &mut Counts, buf: &[u8]) -> RecordAnswer {
+    unsafe { cqdb_begin_parts(mode, repeats, counts.as_mut_ptr(), buf.as_ptr(), buf.len()) }
 }
 
 /// One put.

@@ -39,7 +39,7 @@ impl CQDBWriter {
     pub fn with_flag(flag: Flag) -> Self {
         let buffer = vec![0; FIRST];
         let mut counts = [0; 256];
-        let begun = archive::begin(flag as u32, &mut counts, &buffer);
+        let begun = archive::begin(flag as u32, 0, &mut counts, &buffer);
         assert_eq!(begun.refusal, 0, "begin accepts every buffer of 2,072 bytes or more");
         CQDBWriter { buffer, record: begun.record, counts }
     }

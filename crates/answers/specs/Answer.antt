@@ -5,13 +5,14 @@ use mathlib.Core.List.{List, [], _∷_}
 use mathlib.Core.Option.{Option, none, some}
 use lib.ListN.{take, drop}
 use Rattle.jhash.specs.NameHash.{hashOf}
-use Rattle.image.specs.Bytes.{keep, same}
+use Rattle.image.specs.Bytes.{keep}
 use Rattle.image.specs.Tables.{tableOf}
 use Rattle.image.specs.Image.{Entry, headSize, entrySize, placed, count, hasId}
 use Rattle.reader.specs.Lookup.{Lookup, found, nothing}
 use Rattle.reader.specs.Walk.{Step, item, done}
 -- an id gives a name when naming it answers a place that holds exactly that name's bytes
 pub use Rattle.reader.specs.Naming.{heldAt, nameGiven}
+pub use Rattle.image.specs.Image.{hasName}
 
 -- a name gives an id when its lookup finds the id
 abbrev pub foundId : Lookup → Option ℕ
@@ -29,9 +30,6 @@ stepGiven image (item id s n next) = some (record { name = take n (drop s image)
 stepGiven image done = none
 
 -- the entries of a name and of an id, in put order
-abbrev pub hasName : List ℕ → Entry → Bool
-hasName name e = same (e .name) name
-
 unfoldable pub ofName : List ℕ → List Entry → List Entry
 ofName name es = keep (hasName name) es
 

@@ -7,6 +7,7 @@ use lib.ListN.{length, take, length-take}
 use Rattle.jhash.specs.Outcome.{Outcome, value, refusal}
 use Rattle.image.specs.declared.Mode.the-variants.{Twoway}
 use Rattle.image.specs.Image.{headSize}
+use Rattle.writer.specs.declared.Repeats.the-variants.{Off}
 use Rattle.writer.specs.State.{State, stateWith, fresh, beginning, countsBegun}
 use Rattle.writer.specs.Close.{closedSize, closing, afterClose}
 use Rattle.writer.specs.declared.CQDBWriter.{CQDBWriter}
@@ -20,32 +21,32 @@ use Rattle.catalogue.specs.Left.{putsOf, Left, Built}
 
 -- begin does not refuse, and leaves a fresh record
 module _ (buffer : List ℕ) (room : headSize ≤ length buffer) where
-  fresh-writer : (w : CQDBWriter) → value w ≡ value (fresh Twoway buffer .writer) → w ≡ fresh Twoway buffer .writer
+  fresh-writer : (w : CQDBWriter) → value w ≡ value (fresh Twoway Off buffer .writer) → w ≡ fresh Twoway Off buffer .writer
   fresh-writer w e = cc
 
-  begin-fresh : (w : CQDBWriter) (given counts : List ℕ) → value w ≡ beginning Twoway (length buffer) → counts ≡ countsBegun (length buffer) given
-      → stateWith w counts buffer ≡ fresh Twoway buffer
+  begin-fresh : (w : CQDBWriter) (given counts : List ℕ) → value w ≡ beginning Twoway Off (length buffer) → counts ≡ countsBegun (length buffer) given
+      → stateWith w counts buffer ≡ fresh Twoway Off buffer
   unfolding fresh
   begin-fresh w given counts e f =
-      let same = fresh-writer w (e ∙ list-begins Twoway buffer room) in
-      let cleared = f ∙ list-counts Twoway buffer room given in
+      let same = fresh-writer w (e ∙ list-begins Twoway Off buffer room) in
+      let cleared = f ∙ list-counts Twoway Off buffer room given in
       λ i. record { writer = same i; counts = cleared i; buffer = buffer }
 
-  pub begin-accepted : {P : Type 0} (n : ℕ) → refusal n ≡ beginning Twoway (length buffer) → P
-  begin-accepted n e = let z : _≡_ {A = ℕ} 0 1 = cc (e ∙ list-begins Twoway buffer room) in absurd (omega arith)
+  pub begin-accepted : {P : Type 0} (n : ℕ) → refusal n ≡ beginning Twoway Off (length buffer) → P
+  begin-accepted n e = let z : _≡_ {A = ℕ} 0 1 = cc (e ∙ list-begins Twoway Off buffer room) in absurd (omega arith)
 
-  begin-length : (w : CQDBWriter) → value w ≡ beginning Twoway (length buffer) → w .length ≡ length buffer
+  begin-length : (w : CQDBWriter) → value w ≡ beginning Twoway Off (length buffer) → w .length ≡ length buffer
   unfolding fresh
-  begin-length w e = ap (λ (x : CQDBWriter). x .length) (fresh-writer w (e ∙ list-begins Twoway buffer room))
+  begin-length w e = ap (λ (x : CQDBWriter). x .length) (fresh-writer w (e ∙ list-begins Twoway Off buffer room))
 
 -- the puts of an input from a fresh record, and the close after them
-module _ (buffer : List ℕ) (room : headSize ≤ length buffer) (input : List ℕ) (s : State) (e : s ≡ afterInput (fresh Twoway buffer) input) where
-  so : s ≡ after (fresh Twoway buffer) (inputCalls input)
+module _ (buffer : List ℕ) (room : headSize ≤ length buffer) (input : List ℕ) (s : State) (e : s ≡ afterInput (fresh Twoway Off buffer) input) where
+  so : s ≡ after (fresh Twoway Off buffer) (inputCalls input)
   unfolding afterInput
   so = e
 
   closes : closing s ≡ value (closedSize s)
-  closes = rw so (list-gives Twoway buffer room (inputCalls input) (two-way (inputCalls input)))
+  closes = rw so (list-gives Twoway Off buffer room (inputCalls input) (two-way (inputCalls input)))
 
   close-accepted : {P : Type 0} (n : ℕ) → refusal n ≡ closing s → P
   close-accepted n f = let z : _≡_ {A = ℕ} 0 1 = cc (f ∙ closes) in absurd (omega arith)
@@ -57,25 +58,25 @@ module _ (buffer : List ℕ) (room : headSize ≤ length buffer) (input : List �
       let es : n ≡ closedSize s = inside (f ∙ closes) in
       record {
         input = input;
-        counted = ap (λ (x : State). x .writer .entries) so ∙ list-written Twoway buffer room cs (two-way cs) .entries;
-        sized = es ∙ ap closedSize so ∙ list-formula Twoway buffer room cs (two-way cs);
+        counted = ap (λ (x : State). x .writer .entries) so ∙ list-written Twoway Off buffer room cs (two-way cs) .entries;
+        sized = es ∙ ap closedSize so ∙ list-formula Twoway Off buffer room cs (two-way cs);
         imaged =
             ap (λ (k : ℕ). take k (t .buffer)) es
             ∙ ap (λ (x : State). take (closedSize s) (x .buffer)) g
             ∙ ap (λ (x : State). take (closedSize x) (afterClose x .buffer)) so
-            ∙ list-image Twoway buffer room cs (two-way cs);
+            ∙ list-image Twoway Off buffer room cs (two-way cs);
       }
     where
       inside : {k : ℕ} → value n ≡ value k → n ≡ k
       inside p = cc
 
 -- all of it, in a room for lines that is no shorter than the buffer
-module _ (buffer room given counts : List ℕ) (w : CQDBWriter) (e : value w ≡ beginning Twoway (length buffer)) (f : counts ≡ countsBegun (length buffer) given)
+module _ (buffer room given counts : List ℕ) (w : CQDBWriter) (e : value w ≡ beginning Twoway Off (length buffer)) (f : counts ≡ countsBegun (length buffer) given)
     (s : State) (put : w .length ≤ length room → Left (stateWith w counts buffer) s) (big : headSize ≤ length buffer) (enough : length buffer ≤ length room) where
   put-left : Left (stateWith w counts buffer) s
   put-left = let same = begin-length buffer big w e in put (omega arith)
 
-  from-fresh : s ≡ afterInput (fresh Twoway buffer) (put-left .input)
+  from-fresh : s ≡ afterInput (fresh Twoway Off buffer) (put-left .input)
   from-fresh = put-left .left ∙ ap (λ (x : State). afterInput x (put-left .input)) (begin-fresh buffer big w given counts e f)
 
   pub built : (n : ℕ) (t : State) → value n ≡ closing s → t ≡ afterClose s → Built (length buffer) (s .writer .entries) n (t .buffer)

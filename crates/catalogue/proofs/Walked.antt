@@ -6,19 +6,20 @@ use mathlib.Core.List.{List, [], _∷_}
 use mathlib.Core.Option.{Option}
 use lib.ListN.{length, replicate, length-replicate}
 use lib.Dec.{lit≤}
-use Rattle.image.specs.Bytes.{keep}
+use Rattle.image.specs.Bytes.{keep, same}
 use Rattle.image.specs.declared.Mode.the-variants.{Twoway}
 use Rattle.image.specs.Zero.{hasZero}
-use Rattle.image.specs.Image.{Entry, headSize, backSize, image}
+use Rattle.image.specs.Image.{Entry, headSize, backSize, holds, image}
 use Rattle.reader.specs.Naming.{Naming, place, unnamed, naming}
 use Rattle.reader.specs.Walk.{stepOf, step}
 use Rattle.answers.specs.Answer.{heldAt, nameGiven, ofId, lastName}
+use Rattle.writer.specs.declared.Repeats.the-variants.{Off}
 use Rattle.writer.specs.Put.{entryOf}
 use Rattle.lists.specs.Calls.{Call, putDue, acceptedFrom, accepted, putsSize, sizeOf}
 use Rattle.lists.proofs.Theorem.{one-list}
 use Rattle.lines.specs.Lines.{withByte, linesOf, leadingDigits, numberFrom, parseLine, lineCalls, linesCalls, inputCalls}
 use Rattle.catalogue.specs.Left.{putsOf}
-use Rattle.catalogue.specs.Printed.{itemBy, items, namedBy, itemsOf, example, Demonstration}
+use Rattle.catalogue.specs.Printed.{itemBy, items, namedBy, itemsOf, example, repeated, Demonstration}
 
 -- one step, by what naming answers
 item-named : (img : List ℕ) (n : ℕ) (x : Naming) (rest : List Entry) → itemBy img (stepOf n x) rest ≡ namedBy n (heldAt img x) rest
@@ -35,9 +36,9 @@ items-by img es h n (suc m) =
 
 -- on the image of a list of calls
 module _ (buffer : List ℕ) (cs : List Call) (room : headSize ≤ length buffer) where
-  image-named : (id : ℕ) → nameGiven (image Twoway (accepted Twoway (length buffer) cs)) id ≡ lastName (ofId id (accepted Twoway (length buffer) cs))
+  image-named : (id : ℕ) → nameGiven (image Twoway (accepted Twoway Off (length buffer) cs)) id ≡ lastName (ofId id (accepted Twoway Off (length buffer) cs))
   image-named id =
-      let one = one-list buffer cs room in
+      let one = one-list Off buffer cs room in
       ap (λ (img : List ℕ). nameGiven img id) (sym (one .calls .imaged ∙ ap (image Twoway) (one .calls .decided)))
       ∙ one .ids .id-gives id
       ∙ ap (λ (es : List Entry). lastName (ofId id es)) (one .calls .decided)
@@ -48,7 +49,7 @@ walk n input m h =
     let buffer : List ℕ = replicate n 0 in
     let e : length buffer ≡ n = length-replicate n 0 in
     let room : headSize ≤ length buffer = omega arith in
-    items-by (image Twoway (accepted Twoway n (inputCalls input))) (accepted Twoway n (inputCalls input)) (rw e at (image-named buffer (inputCalls input) room)) 0 m
+    items-by (image Twoway (accepted Twoway Off n (inputCalls input))) (accepted Twoway Off n (inputCalls input)) (rw e at (image-named buffer (inputCalls input) room)) 0 m
 
 -- ---- the example, computed of the rules
 
@@ -56,8 +57,12 @@ puts : List Entry
 puts = entryOf (65 ∷ []) 0 ∷ entryOf (66 ∷ []) 3 ∷ entryOf (67 ∷ []) 0 ∷ []
 
 example-puts : putsOf 65536 example ≡ puts
-unfolding puts putsOf inputCalls linesOf withByte linesCalls lineCalls parseLine leadingDigits numberFrom accepted acceptedFrom putDue hasZero sizeOf putsSize backSize
+unfolding puts putsOf inputCalls linesOf withByte linesCalls lineCalls parseLine leadingDigits numberFrom accepted acceptedFrom putDue hasZero holds same sizeOf putsSize backSize
 example-puts = refl
+
+repeated-puts : putsOf 65536 repeated ≡ entryOf (65 ∷ []) 0 ∷ entryOf (66 ∷ []) 2 ∷ []
+unfolding putsOf inputCalls linesOf withByte linesCalls lineCalls parseLine leadingDigits numberFrom accepted acceptedFrom putDue hasZero holds same sizeOf putsSize backSize
+repeated-puts = refl
 
 example-size : sizeOf Twoway puts ≡ 2166
 unfolding puts sizeOf putsSize backSize
@@ -72,6 +77,7 @@ unfolding puts
 demonstration =
     record {
       walk = walk;
+      repeated-puts = repeated-puts;
       example-entries = ap length example-puts;
       example-size = ap (sizeOf Twoway) example-puts ∙ example-size;
       example-walk = λ m. walk 65536 example (suc (suc m)) (lit≤ tt) ∙ ap (λ (es : List Entry). itemsOf es 0 (suc (suc m))) example-puts ∙ example-walk m;

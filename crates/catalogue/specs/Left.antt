@@ -6,13 +6,15 @@ use mathlib.Core.List.{List}
 use lib.ListN.{length, take}
 use Rattle.image.specs.declared.Mode.the-variants.{Twoway}
 use Rattle.image.specs.Image.{Entry, image}
+use Rattle.writer.specs.declared.Repeats.the-variants.{Off}
 use Rattle.writer.specs.State.{State}
 use Rattle.lists.specs.Calls.{accepted, sizeOf}
 use Rattle.lines.specs.Lines.{inputCalls, afterInput}
 
--- the puts of an input that are accepted two-way in a buffer of n bytes, in their order
+-- the puts of an input that are accepted two-way in a buffer of n bytes, in their order; the demonstration program begins without the repeats mode
+-- (02 (viii)), so a line with a name that was put before is skipped
 unfoldable pub putsOf : ℕ → List ℕ → List Entry
-putsOf n input = accepted Twoway n (inputCalls input)
+putsOf n input = accepted Twoway Off n (inputCalls input)
 
 -- what putting an input leaves of a writer record and its buffer
 pub record Left (before after : State) : Type 0 where

@@ -1,5 +1,5 @@
-// Reads lines (decimal id, space, name), puts them two-way in 65,536 bytes, and prints entries and size, then the walk as
-// id and name.
+// Reads lines (decimal id, space, name), puts them two-way in 65,536 bytes, with repeats off, and prints entries and size,
+// then the walk as id and name.
 ghost use Prim.Native.Nat.{_≤_};
 ghost use lib.ListN.{length};
 ghost use Rattle.writer.specs.State.{stateWith};
@@ -12,6 +12,7 @@ use lines::Intake;
 use reader::Stepped;
 use writer::CQDBWriter;
 use writer::Closed;
+use writer::Repeats;
 
 // Puts the lines of standard input, read piece by piece. A proved loop has to end, and nothing says that an input does: it
 // counts its turns down from a number that no run uses up.
@@ -48,7 +49,8 @@ struct Image {
 fn build(counts: &mut [u32; 256], buf: &mut [u8], room: &mut [u8], piece: &mut [u8]) -> Image
     ensures { λ r. ⌜ (headSize ≤ length (now (buf .entry)) → length (now (buf .entry)) ≤ length (now (room .entry)) → Built (length (now (buf .entry))) (r .entries) (r .size) (now (buf .exit))) ⌝ }
 {
-    let writer::Begun::Fresh(fresh) = writer::begin(Mode::Twoway, &mut *counts, &*buf) else {
+    let writer::Begun::Fresh(fresh) = writer::begin(Mode::Twoway, Repeats::Off, &mut *counts, &*buf)
+    else {
         return Image {
             entries: 0,
             size: 0,

@@ -1,27 +1,37 @@
 -- The writer record as C has it: 01, "The writer record". Assumes nothing.
 use Prim.Native.Nat.{ℕ}
-use mathlib.Core.Bool.{Bool, cond}
+use mathlib.Core.Bool.{Bool, cond, _&&_}
 use mathlib.Core.List.{List}
 use lib.Dec.{eqb, leb}
 use Rattle.image.specs.Image.{flagWord}
 use Rattle.image.specs.declared.Mode.{Mode}
 use Rattle.image.specs.declared.Mode.the-variants.{Twoway, Oneway}
+use Rattle.writer.specs.declared.Repeats.{Repeats}
+use Rattle.writer.specs.declared.Repeats.the-variants.{Off, On}
 use Rattle.writer.specs.declared.CQDBWriter.{CQDBWriter}
 use Rattle.writer.specs.State.{State, stateWith}
 use Rattle.cqdb_c.specs.declared.record.Record.{Record}
 
--- a mode is 0, two-way, or 1, one-way, as the flag word; a record with another number is none of 01's
-abbrev pub known : ℕ → Bool
-known mode = leb mode 1
+-- a mode is 0, two-way, or 1, one-way, as the flag word; a repeats mode (02 (viii)) is 0, off, or 1, on. A record with another number is none of 01's
+abbrev pub known : ℕ → ℕ → Bool
+known mode repeats = leb mode 1 && leb repeats 1
 
 abbrev pub modeOf : ℕ → Mode
 modeOf mode = cond (eqb mode 0) Twoway Oneway
+
+abbrev pub repeatsOf : ℕ → Repeats
+repeatsOf repeats = cond (eqb repeats 0) Off On
+
+abbrev pub repeatsWord : Repeats → ℕ
+repeatsWord Off = 0
+repeatsWord On = 1
 
 -- the writer record that C's stands for, and the other way round
 abbrev pub writerOf : Record → CQDBWriter
 writerOf r =
     record {
       mode = modeOf (r .mode);
+      repeats = repeatsOf (r .repeats);
       length = r .length;
       end = r .end;
       entries = r .entries;
@@ -32,6 +42,7 @@ abbrev pub recordOf : CQDBWriter → Record
 recordOf w =
     record {
       mode = flagWord (w .mode);
+      repeats = repeatsWord (w .repeats);
       entries = w .entries;
       back = w .back;
       length = w .length;

@@ -1,7 +1,7 @@
--- The exported writing calls: each rule's answer as numbers, and what it leaves. A record with a mode that is neither 0 nor 1 fits no buffer:
--- refusal 2, and nothing changes. Assumes nothing.
+-- The exported writing calls: each rule's answer as numbers, and what it leaves. A record with a mode or a repeats mode that is neither 0 nor 1 fits no
+-- buffer: refusal 2, and nothing changes. Assumes nothing.
 use Prim.Native.Nat.{ℕ}
-use mathlib.Core.Bool.{cond}
+use mathlib.Core.Bool.{Bool, cond}
 use mathlib.Core.List.{List}
 use Rattle.jhash.specs.Outcome.{Outcome, value, refusal}
 use Rattle.image.specs.Image.{Entry}
@@ -10,11 +10,11 @@ use Rattle.writer.specs.State.{beginning, countsBegun}
 use Rattle.writer.specs.Put.{putRefusal, afterPut}
 use Rattle.writer.specs.Close.{closing, afterClose}
 use Rattle.cqdb_c.specs.declared.writing.BeginAnswer.{BeginAnswer}
-use Rattle.cqdb_c.specs.Record.{known, modeOf, recordOf, Held, stateOf, heldOf}
+use Rattle.cqdb_c.specs.Record.{known, modeOf, repeatsOf, recordOf, Held, stateOf, heldOf}
 
 -- a refused begin has the refusal's number, and zeros for the record
 abbrev pub notBegun : ℕ → BeginAnswer
-notBegun k = record { refusal = k; writer = record { mode = 0; entries = 0; back = 0; length = 0; end = 0 } }
+notBegun k = record { refusal = k; writer = record { mode = 0; repeats = 0; entries = 0; back = 0; length = 0; end = 0 } }
 
 -- a begin is accepted, 0, and the fresh record stands beside it
 abbrev pub begunAnswer : Outcome CQDBWriter → BeginAnswer
@@ -22,23 +22,27 @@ begunAnswer (value w) = record { refusal = 0; writer = recordOf w }
 begunAnswer (refusal k) = notBegun k
 
 -- the rule of begin, so answered, for a buffer of n bytes
-unfoldable pub beginAnswer : ℕ → ℕ → BeginAnswer
-beginAnswer mode n = cond (known mode) (begunAnswer (beginning (modeOf mode) n)) (notBegun 2)
+unfoldable pub beginAnswer : ℕ → ℕ → ℕ → BeginAnswer
+beginAnswer mode repeats n = cond (known mode repeats) (begunAnswer (beginning (modeOf mode) (repeatsOf repeats) n)) (notBegun 2)
 
 -- the counts that begin leaves
-unfoldable pub countsLeft : ℕ → ℕ → List ℕ → List ℕ
-countsLeft mode n counts = cond (known mode) (countsBegun n counts) counts
+unfoldable pub countsLeft : ℕ → ℕ → ℕ → List ℕ → List ℕ
+countsLeft mode repeats n counts = cond (known mode repeats) (countsBegun n counts) counts
+
+-- is a lent record one of 01's?
+abbrev pub knownIn : Held → Bool
+knownIn h = known (h .writer .mode) (h .writer .repeats)
 
 -- the rule of put: the refusal's number, 0 when accepted; and what put leaves
 unfoldable pub putNumber : Held → Entry → ℕ
-putNumber h e = cond (known (h .writer .mode)) (putRefusal (stateOf h) e) 2
+putNumber h e = cond (knownIn h) (putRefusal (stateOf h) e) 2
 
 unfoldable pub leftByPut : Held → Entry → Held
-leftByPut h e = cond (known (h .writer .mode)) (heldOf (afterPut (stateOf h) e)) h
+leftByPut h e = cond (knownIn h) (heldOf (afterPut (stateOf h) e)) h
 
 -- the rule of close: the image's size or the refusal's number, each 0 where it is the other; and what close leaves
 unfoldable pub closingHeld : Held → Outcome ℕ
-closingHeld h = cond (known (h .writer .mode)) (closing (stateOf h)) (refusal 2)
+closingHeld h = cond (knownIn h) (closing (stateOf h)) (refusal 2)
 
 abbrev pub refusalIn : Outcome ℕ → ℕ
 refusalIn (value n) = 0
@@ -49,4 +53,4 @@ sizeIn (value n) = n
 sizeIn (refusal k) = 0
 
 unfoldable pub leftByClose : Held → Held
-leftByClose h = cond (known (h .writer .mode)) (heldOf (afterClose (stateOf h))) h
+leftByClose h = cond (knownIn h) (heldOf (afterClose (stateOf h))) h

@@ -1,8 +1,10 @@
 // Writing, for C: the record goes in and comes back by value, the 256 table counts and the buffer are lent. A record whose
-// mode is neither 0 nor 1 is none of 01's and fits no buffer.
+// mode or repeats mode is neither 0 nor 1 is none of 01's and fits no buffer.
 use super::record::Record;
+use super::record::known;
 use super::record::mode_of;
 use super::record::record_of;
+use super::record::repeats_of;
 use super::record::writer_of;
 use writer::Begun;
 use writer::Closed;
@@ -43,6 +45,7 @@ fn not_begun(refusal: u32) -> BeginAnswer
         refusal,
         writer: Record {
             mode: 0,
+            repeats: 0,
             entries: 0,
             back: 0,
             length: 0,
@@ -51,16 +54,22 @@ fn not_begun(refusal: u32) -> BeginAnswer
     }
 }
 
-// A fresh record for a buffer, whose counts are made 0; or refusal 1, or 2 for a mode that is neither 0 nor 1.
+// A fresh record for a buffer, whose counts are made 0; or refusal 1, or 2 for a mode or a repeats mode that is neither 0
+// nor 1.
 #[no_mangle]
-pub extern "C" fn cqdb_begin_parts(mode: u32, counts: &mut [u32; 256], buf: &[u8]) -> BeginAnswer
-    ensures answer { λ r. ⌜ r ≡ beginAnswer mode (length (now (buf .entry))) ⌝ }
-    ensures counts { λ r. ⌜ now (counts .exit) ≡ countsLeft mode (length (now (buf .entry))) (now (counts .entry)) ⌝ }
+pub extern "C" fn cqdb_begin_parts(
+    mode: u32,
+    repeats: u32,
+    counts: &mut [u32; 256],
+    buf: &[u8],
+) -> BeginAnswer
+    ensures answer { λ r. ⌜ r ≡ beginAnswer mode repeats (length (now (buf .entry))) ⌝ }
+    ensures counts { λ r. ⌜ now (counts .exit) ≡ countsLeft mode repeats (length (now (buf .entry))) (now (counts .entry)) ⌝ }
 {
-    if 1 < mode {
+    if !known(mode, repeats) {
         return not_begun(2);
     }
-    let begun = writer::begin(mode_of(mode), &mut *counts, buf);
+    let begun = writer::begin(mode_of(mode), repeats_of(repeats), &mut *counts, buf);
     match begun {
         Begun::Fresh(w) => BeginAnswer {
             refusal: 0,
@@ -70,7 +79,7 @@ pub extern "C" fn cqdb_begin_parts(mode: u32, counts: &mut [u32; 256], buf: &[u8
     }
 }
 
-// Appends an entry and raises the counts; or refusal 2 or 3.
+// Appends an entry and raises the counts; or refusal 2, 13, 4, 16 or 3.
 #[no_mangle]
 pub extern "C" fn cqdb_put_parts(
     w: Record,
@@ -82,7 +91,7 @@ pub extern "C" fn cqdb_put_parts(
     ensures answer { λ r. ⌜ r .refusal ≡ putNumber (held w (now (counts .entry)) (now (buf .entry))) (entryOf (now (name .entry)) id) ⌝ }
     ensures leaves { λ r. ⌜ held (r .writer) (now (counts .exit)) (now (buf .exit)) ≡ leftByPut (held w (now (counts .entry)) (now (buf .entry))) (entryOf (now (name .entry)) id) ⌝ }
 {
-    if 1 < w.mode {
+    if !known(w.mode, w.repeats) {
         return PutAnswer {
             refusal: 2,
             writer: w,
@@ -122,7 +131,7 @@ pub extern "C" fn cqdb_close_parts(w: Record, counts: &[u32; 256], buf: &mut [u8
     ensures answer { λ r. ⌜ (r .refusal ≡ refusalIn (closingHeld (held w (now (counts .entry)) (now (buf .entry))))) × (r .size ≡ sizeIn (closingHeld (held w (now (counts .entry)) (now (buf .entry))))) ⌝ }
     ensures leaves { λ r. ⌜ held (r .writer) (now (counts .entry)) (now (buf .exit)) ≡ leftByClose (held w (now (counts .entry)) (now (buf .entry))) ⌝ }
 {
-    if 1 < w.mode {
+    if !known(w.mode, w.repeats) {
         return CloseAnswer {
             refusal: 2,
             size: 0,

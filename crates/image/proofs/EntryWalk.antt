@@ -3,18 +3,19 @@ use Prim.Native.Nat.{ℕ, zero, suc, _+_, _-_, _*_, _≤_, _<_, max}
 use native.Mathlib.Omega.{arith}
 use native.Mathlib.Decide.{decLt, ℕ-discrete}
 use mathlib.Core.Path.{_≡_, refl, sym, ap, ap₂, _∙_}
-use mathlib.Core.Bool.{Bool, true, false, cond, _&&_}
+use mathlib.Core.Bool.{Bool, true, false, cond, _&&_, _||_, or-assoc, or-false}
 use mathlib.Core.List.{List, [], _∷_}
 use lib.ListN.{length, getD, take, drop, set}
 use lib.Seq.{getD-set-same, getD-set-other, set-out}
 use lib.Dec.{eqb}
 use borrow.Author.Tests.{eq-eqb, ne-eqb}
 use Rattle.jhash.specs.NameHash.{hashOf}
-use Rattle.image.specs.Bytes.{word}
+use Rattle.image.specs.Bytes.{word, same}
 use Rattle.image.specs.Tables.{tableOf}
-use Rattle.image.specs.Image.{Entry, backSize}
+use Rattle.image.specs.Image.{Entry, backSize, hasName, holds}
 use Rattle.image.specs.Stored.{firstWhole, firstEntry, afterFirst, whole, entriesIn, between, wholeLength}
 use Rattle.image.specs.Tally.{tallied, raisedCounts, countsAfter}
+use Rattle.image.proofs.Equal.{same-false}
 use Rattle.image.proofs.Between.{Front, front, not-whole, length-between, drop-between, word-between, name-between}
 
 -- one more in one table raises no count by more than one
@@ -141,6 +142,49 @@ walk-turn buf end entries counts₀ at left back counts k r some n h id name cou
     small-count : (t : ℕ) → getD (raisedCounts counts h) t 0 ≤ getD counts t 0 + 1 → getD counts t 0 + left ≤ entries
         → getD counts′ t 0 + (left - 1) ≤ entries
     small-count t p q = let e = ap (λ (c : List ℕ). getD c t 0) ec in omega arith
+
+-- ---- whether a name is met
+
+-- met so far, or to be met among the entries from `at` on
+abbrev pub MetRest : List ℕ → ℕ → ℕ → List ℕ → ℕ → ℕ → Bool → Type 0
+MetRest buf end entries sought at left met =
+    (met || holds sought (entriesIn left (between buf at end))) ≡ holds sought (entriesIn entries (between buf 2072 end))
+
+holds-cons : (name : List ℕ) (e : Entry) (es : List Entry) → holds name (e ∷ es) ≡ (hasName name e || holds name es)
+unfolding holds
+holds-cons name e es = refl
+
+-- a name of another hash is another name
+pub other-hash : (name sought : List ℕ) (h want : ℕ) → length name < 4294967295 → h ≡ hashOf name → (length sought < 4294967295 → want ≡ hashOf sought)
+    → (h ≡ want → ⊥) → same name sought ≡ false
+other-hash name sought h want short is wants differ =
+    same-false name sought (λ e. differ (is ∙ ap hashOf e ∙ sym (wants (omega (arith, short, ap length e)))))
+
+-- one turn: b says whether the name of the entry at `at` is the one that is sought
+pub met-turn : (buf : List ℕ) (end entries : ℕ) (sought : List ℕ) (at left : ℕ) (met : Bool) → end ≤ length buf → at ≤ end → 0 < left
+    → MetRest buf end entries sought at left met → (n : ℕ) (name : List ℕ) (b : Bool) → Front (between buf at end) n
+    → name ≡ take (at + 7 + n - (at + 8)) (drop (at + 8) buf) → b ≡ same name sought
+    → MetRest buf end entries sought (at + (8 + n)) (left - 1) (met || b)
+met-turn buf end entries sought at left met k a some m n name b f en eb =
+    let later = entriesIn (left - 1) (between buf (at + (8 + n)) end) in
+    let first = firstEntry (between buf at end) in
+    let l : left ≡ suc (left - 1) = omega arith in
+    let es : entriesIn left (between buf at end) ≡ first ∷ later =
+    ap (λ (q : ℕ). entriesIn q (between buf at end)) l ∙ entries-rest buf at end n (left - 1) a k f in
+    let h : b ≡ hasName sought first = eb ∙ ap (λ (q : List ℕ). same q sought) (en ∙ sym (first-name buf at end n (left - 1) a k f)) in
+    or-assoc met b (holds sought later)
+    ∙ ap (λ (q : Bool). met || (q || holds sought later)) h
+    ∙ ap (λ (q : Bool). met || q) (sym (holds-cons sought first later) ∙ ap (holds sought) (sym es))
+    ∙ m
+
+-- no entry is left
+pub met-end : (buf : List ℕ) (end entries : ℕ) (sought : List ℕ) (at left : ℕ) (met : Bool) → left ≡ 0 → MetRest buf end entries sought at left met
+    → met ≡ holds sought (entriesIn entries (between buf 2072 end))
+unfolding holds entriesIn
+met-end buf end entries sought at left met z m =
+    sym (or-false met)
+    ∙ ap (λ (q : ℕ). met || holds sought (entriesIn q (between buf at end))) (sym z)
+    ∙ m
 
 -- a broken entry
 pub walk-broken : (buf : List ℕ) (end entries : ℕ) (counts₀ : List ℕ) (at left back : ℕ) (counts : List ℕ)

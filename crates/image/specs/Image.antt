@@ -1,11 +1,11 @@
 -- The image record: 01, "The image record", from top to bottom.
 use Prim.Native.Nat.{ℕ, zero, suc, _+_, _*_, max}
-use mathlib.Core.Bool.{Bool, cond}
+use mathlib.Core.Bool.{Bool, false, cond, _||_}
 use mathlib.Core.List.{List, [], _∷_, _++_, map}
 use lib.ListN.{length}
 use lib.Dec.{eqb}
 use Rattle.jhash.specs.NameHash.{hashOf}
-use Rattle.image.specs.Bytes.{le32, cat, keep, range}
+use Rattle.image.specs.Bytes.{le32, cat, keep, range, same}
 use Rattle.image.specs.Tables.{Bucket, tableOf, filled}
 use Rattle.image.specs.declared.Mode.{Mode}
 use Rattle.image.specs.declared.Mode.the-variants.{Twoway, Oneway}
@@ -85,6 +85,14 @@ backSize (e ∷ es) = max (e .id + 1) (backSize es)
 -- the entries of an id, in put order, with their offsets
 abbrev pub hasId : ℕ → Entry → Bool
 hasId i e = eqb (e .id) i
+
+-- does an entry have this name, and does some entry of a list?
+abbrev pub hasName : List ℕ → Entry → Bool
+hasName name e = same (e .name) name
+
+unfoldable pub holds : List ℕ → List Entry → Bool
+holds name [] = false
+holds name (e ∷ es) = hasName name e || holds name es
 
 unfoldable pub placedOfId : ℕ → List Placed → List Placed
 placedOfId i ps = keep (λ (p : Placed). hasId i (p .entry)) ps

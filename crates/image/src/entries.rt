@@ -1,10 +1,13 @@
-// The entries that bytes hold: whether the one at a place is broken, or whole, and a walk over them that counts them by table.
+// The entries that bytes hold: whether the one at a place is broken, or whole, and a walk over them that counts them by table
+// and says whether one has a given name.
 ghost use mathlib.Core.Path.{_≡_};
 ghost use mathlib.Core.Bool.{true};
 ghost use Prim.Native.Nat.{ℕ, _+_, _-_, _<_, _≤_, max};
 ghost use lib.ListN.{length, getD};
+ghost use Rattle.jhash.specs.NameHash.{hashOf};
+ghost use Rattle.image.specs.Bytes.{same};
 ghost use Rattle.image.specs.Tables.{tableOf};
-ghost use Rattle.image.specs.Image.{backSize};
+ghost use Rattle.image.specs.Image.{backSize, holds};
 ghost use Rattle.image.specs.Stored.{broken, whole, entriesIn, between, wholeLength};
 ghost use Rattle.image.specs.Tally.{raisedCounts, tallied};
 use jhash::word::word;
@@ -46,10 +49,12 @@ pub fn raise(counts: &mut [u32; 256], h: u32)
     counts[t] = c + 1;
 }
 
-// What a walk over the entries found: whether they are whole, and the back size that they have.
+// What a walk over the entries found: whether they are whole, the back size that they have, and whether one has the name
+// that was sought.
 pub struct Walked {
     pub whole: bool,
     pub back: u64,
+    pub met: bool,
 }
 
 // The length word of the entry at `at`, 0 where it is not whole before `end`.
@@ -60,7 +65,7 @@ pub fn whole_length(buf: &[u8], at: usize, end: usize) -> usize
     if end - at < 8 {
         return 0;
     }
-    let n = super::get_u32(buf, at + 4) as usize;
+    let n = word(buf, at + 4) as usize;
     if n == 0 {
         return 0;
     }
@@ -73,38 +78,68 @@ pub fn whole_length(buf: &[u8], at: usize, end: usize) -> usize
     n
 }
 
-// Walks `entries` entries from 2,072 on and counts them by table.
-pub fn walk(buf: &[u8], end: usize, entries: u32, counts: &mut [u32; 256]) -> Walked
+// The hash of a name that is sought; 0 for one that is too long for an entry.
+fn sought_hash(sought: &[u8]) -> u32
+    ensures { λ r. ⌜ (length (now (sought .entry)) < 4294967295 → r ≡ hashOf (now (sought .entry))) ⌝ }
+{
+    let jhash::Hashed::Hash(h) = jhash::name_hash(sought) else {
+        return 0;
+    };
+    h
+}
+
+// Whether an entry's name, which has hash h, is the one that is sought. The entry is hashed for the counts anyway, so its
+// bytes are compared only where the hashes are equal.
+fn is_sought(name: &[u8], h: u32, sought: &[u8], want: u32) -> bool
+    requires { ⌜ (length (now name) < 4294967295) × (h ≡ hashOf (now name)) × (length (now sought) < 4294967295 → want ≡ hashOf (now sought)) ⌝ }
+    ensures { λ r. ⌜ r ≡ same (now (name .entry)) (now (sought .entry)) ⌝ }
+{
+    if h != want {
+        return false;
+    }
+    super::equality::same(name, sought)
+}
+
+// Walks `entries` entries from 2,072 on, counts them by table and says whether one has the name that is sought. The walk goes
+// on where that name is met, since a broken entry may follow.
+pub fn walk(buf: &[u8], end: usize, entries: u32, counts: &mut [u32; 256], sought: &[u8]) -> Walked
     requires { ⌜ (2072 ≤ end) × (end ≤ length (now buf)) × ((t : ℕ) → getD (now counts) t 0 ≡ 0) ⌝ }
     ensures whole { λ r. ⌜ r .whole ≡ whole entries (between (now (buf .entry)) 2072 end) ⌝ }
     ensures back { λ r. ⌜ (r .whole ≡ true → r .back ≡ backSize (entriesIn entries (between (now (buf .entry)) 2072 end))) ⌝ }
+    ensures met { λ r. ⌜ (r .whole ≡ true → r .met ≡ holds (now (sought .entry)) (entriesIn entries (between (now (buf .entry)) 2072 end))) ⌝ }
     ensures counts { λ r. ⌜ (r .whole ≡ true → now (counts .exit) ≡ tallied (now (counts .entry)) (entriesIn entries (between (now (buf .entry)) 2072 end))) ⌝ }
 {
     let mut at = 2072;
     let mut left = entries;
     let mut back: u64 = 0;
+    let mut met = false;
+    let want = sought_hash(sought);
     while left > 0 {
         let n = whole_length(buf, at, end);
         if n == 0 {
             return Walked {
                 whole: false,
                 back: 0,
+                met: false,
             };
         }
         let name = &buf[at + 8..at + 7 + n];
+        back = larger(back, word(buf, at) as u64 + 1);
         let jhash::Hashed::Hash(h) = jhash::name_hash(name) else {
             return Walked {
                 whole: false,
                 back: 0,
+                met: false,
             };
         };
         raise(&mut *counts, h);
-        back = larger(back, super::get_u32(buf, at) as u64 + 1);
+        met = met | is_sought(name, h, sought, want);
         at += 8 + n;
         left -= 1;
     }
     Walked {
         whole: at == end,
         back,
+        met,
     }
 }

@@ -10,6 +10,7 @@ use Rattle.jhash.specs.Outcome.{Outcome, value}
 use Rattle.image.specs.declared.Mode.{Mode}
 use Rattle.image.specs.declared.Mode.the-variants.{Twoway}
 use Rattle.image.specs.Image.{Entry, headSize, image}
+use Rattle.writer.specs.declared.Repeats.{Repeats}
 use Rattle.writer.specs.State.{State, fresh}
 use Rattle.writer.specs.Put.{afterPut}
 use Rattle.writer.specs.Close.{closing, closedSize, afterClose}
@@ -26,82 +27,82 @@ use Rattle.lists.proofs.Theorem.{calls-imaged, list-answered}
 value-same : {A : Type 0} {x y : A} → value x ≡ value y → x ≡ y
 value-same {A} {x} {y} h = cc
 
-module _ (buffer : List ℕ) (cs : List Call) (size : ℕ) (room : headSize ≤ length buffer) (gave : closing (afterList Twoway buffer cs) ≡ value size) where
+module _ (repeats : Repeats) (buffer : List ℕ) (cs : List Call) (size : ℕ) (room : headSize ≤ length buffer) (gave : closing (afterList Twoway repeats buffer cs) ≡ value size) where
   -- the size that the close gave is that of the image
-  size-is : size ≡ closedSize (afterList Twoway buffer cs)
-  size-is = value-same (sym gave ∙ list-gives Twoway buffer room cs (two-way cs))
+  size-is : size ≡ closedSize (afterList Twoway repeats buffer cs)
+  size-is = value-same (sym gave ∙ list-gives Twoway repeats buffer room cs (two-way cs))
 
   -- so the bytes that stand are the image of the one more close after cs
-  bytes-are : take size (afterList Twoway buffer (cs ++ (close ∷ [])) .buffer) ≡ imageOf Twoway buffer cs
+  bytes-are : take size (afterList Twoway repeats buffer (cs ++ (close ∷ [])) .buffer) ≡ imageOf Twoway repeats buffer cs
   unfolding imageOf after
-  bytes-are = ap₂ take size-is (ap (λ (s : State). s .buffer) (after-append (fresh Twoway buffer) cs (close ∷ [])))
+  bytes-are = ap₂ take size-is (ap (λ (s : State). s .buffer) (after-append (fresh Twoway repeats buffer) cs (close ∷ [])))
 
-  same-puts : acceptedPuts Twoway buffer (cs ++ (close ∷ [])) ≡ acceptedPuts Twoway buffer cs
+  same-puts : acceptedPuts Twoway repeats buffer (cs ++ (close ∷ [])) ≡ acceptedPuts Twoway repeats buffer cs
   unfolding acceptedFrom
   same-puts =
-      list-accepted Twoway buffer room (cs ++ (close ∷ [])) (two-way (cs ++ (close ∷ [])))
-      ∙ accepted-after-close Twoway (length buffer) cs []
-      ∙ sym (list-accepted Twoway buffer room cs (two-way cs))
+      list-accepted Twoway repeats buffer room (cs ++ (close ∷ [])) (two-way (cs ++ (close ∷ [])))
+      ∙ accepted-after-close Twoway repeats (length buffer) cs []
+      ∙ sym (list-accepted Twoway repeats buffer room cs (two-way cs))
 
-  after-close : AfterClose buffer cs size
+  after-close : AfterClose repeats buffer cs size
   after-close =
       record {
         same-puts = same-puts;
-        stands = bytes-are ∙ calls-imaged Twoway buffer cs room (two-way cs);
-        answered = rw bytes-are (list-answered buffer cs room);
+        stands = bytes-are ∙ calls-imaged Twoway repeats buffer cs room (two-way cs);
+        answered = rw bytes-are (list-answered repeats buffer cs room);
       }
 
 -- ---- calls of which no put is accepted
 
-accepted-grows : (mode : Mode) (n : ℕ) (es : List Entry) (cs : List Call) → length es ≤ length (acceptedFrom mode n es cs)
+accepted-grows : (mode : Mode) (repeats : Repeats) (n : ℕ) (es : List Entry) (cs : List Call) → length es ≤ length (acceptedFrom mode repeats n es cs)
 unfolding acceptedFrom
-accepted-grows mode n es [] = omega arith
-accepted-grows mode n es (c ∷ cs) =
-    let one = acceptedOne c (dueTo mode n es c) in
-    omega (arith, accepted-grows mode n (es ++ one) cs, length-append es one)
+accepted-grows mode repeats n es [] = omega arith
+accepted-grows mode repeats n es (c ∷ cs) =
+    let one = acceptedOne c (dueTo mode repeats n es c) in
+    omega (arith, accepted-grows mode repeats n (es ++ one) cs, length-append es one)
 
 -- they leave a closed state as it is
-module _ (mode : Mode) (n : ℕ) (es : List Entry) (s : State) (w : Written mode n es s) (closed : afterClose s ≡ s) where
-  none-changes : (cs : List Call) → acceptedFrom mode n es cs ≡ es → after s cs ≡ s
+module _ (mode : Mode) (repeats : Repeats) (n : ℕ) (es : List Entry) (s : State) (w : Written mode repeats n es s) (closed : afterClose s ≡ s) where
+  none-changes : (cs : List Call) → acceptedFrom mode repeats n es cs ≡ es → after s cs ≡ s
   unfolding after acceptedFrom afterPut
   none-changes [] h = refl
   none-changes (close ∷ cs) h =
       let same : es ++ [] ≡ es = append-nil es in
-      ap (λ (x : State). after x cs) closed ∙ none-changes cs (ap (λ (l : List Entry). acceptedFrom mode n l cs) (sym same) ∙ h)
-  none-changes (put e ∷ cs) h = go (eqb (putDue mode n es e) 0) refl h (none-changes cs)
+      ap (λ (x : State). after x cs) closed ∙ none-changes cs (ap (λ (l : List Entry). acceptedFrom mode repeats n l cs) (sym same) ∙ h)
+  none-changes (put e ∷ cs) h = go (eqb (putDue mode repeats n es e) 0) refl h (none-changes cs)
     where
-      go : (b : Bool) → eqb (putDue mode n es e) 0 ≡ b → acceptedFrom mode n (es ++ cond b (e ∷ []) []) cs ≡ es
-          → (acceptedFrom mode n es cs ≡ es → after s cs ≡ s) → after (afterPut s e) cs ≡ s
+      go : (b : Bool) → eqb (putDue mode repeats n es e) 0 ≡ b → acceptedFrom mode repeats n (es ++ cond b (e ∷ []) []) cs ≡ es
+          → (acceptedFrom mode repeats n es cs ≡ es → after s cs ≡ s) → after (afterPut s e) cs ≡ s
       go true d k rest =
-          absurd (omega (arith, accepted-grows mode n (es ++ (e ∷ [])) cs, length-append es (e ∷ []), ap length k))
-      go false d k rest = rw (put-due mode n es s w e, d) (rest (rw (append-nil es) at k))
+          absurd (omega (arith, accepted-grows mode repeats n (es ++ (e ∷ [])) cs, length-append es (e ∷ []), ap length k))
+      go false d k rest = rw (put-due mode repeats n es s w e, d) (rest (rw (append-nil es) at k))
 
-module _ (buffer : List ℕ) (cs more : List Call) (room : headSize ≤ length buffer) where
+module _ (repeats : Repeats) (buffer : List ℕ) (cs more : List Call) (room : headSize ≤ length buffer) where
   -- record and buffer after the close
   there : State
-  there = afterClose (afterList Twoway buffer cs)
+  there = afterClose (afterList Twoway repeats buffer cs)
 
-  there-written : Written Twoway (length buffer) (accepted Twoway (length buffer) cs) there
+  there-written : Written Twoway repeats (length buffer) (accepted Twoway repeats (length buffer) cs) there
   unfolding there
   there-written =
-      close-written Twoway (length buffer) (accepted Twoway (length buffer) cs) (afterList Twoway buffer cs) (list-written Twoway buffer room cs (two-way cs))
+      close-written Twoway repeats (length buffer) (accepted Twoway repeats (length buffer) cs) (afterList Twoway repeats buffer cs) (list-written Twoway repeats buffer room cs (two-way cs))
 
-  no-more : acceptedPuts Twoway buffer (cs ++ (close ∷ more)) ≡ acceptedPuts Twoway buffer cs
-      → acceptedFrom Twoway (length buffer) (accepted Twoway (length buffer) cs) more ≡ accepted Twoway (length buffer) cs
+  no-more : acceptedPuts Twoway repeats buffer (cs ++ (close ∷ more)) ≡ acceptedPuts Twoway repeats buffer cs
+      → acceptedFrom Twoway repeats (length buffer) (accepted Twoway repeats (length buffer) cs) more ≡ accepted Twoway repeats (length buffer) cs
   no-more h =
-      sym (accepted-after-close Twoway (length buffer) cs more)
-      ∙ sym (list-accepted Twoway buffer room (cs ++ (close ∷ more)) (two-way (cs ++ (close ∷ more))))
+      sym (accepted-after-close Twoway repeats (length buffer) cs more)
+      ∙ sym (list-accepted Twoway repeats buffer room (cs ++ (close ∷ more)) (two-way (cs ++ (close ∷ more))))
       ∙ h
-      ∙ list-accepted Twoway buffer room cs (two-way cs)
+      ∙ list-accepted Twoway repeats buffer room cs (two-way cs)
 
-  kept : acceptedPuts Twoway buffer (cs ++ (close ∷ more)) ≡ acceptedPuts Twoway buffer cs
-      → afterList Twoway buffer (cs ++ (close ∷ more)) ≡ afterList Twoway buffer (cs ++ (close ∷ []))
+  kept : acceptedPuts Twoway repeats buffer (cs ++ (close ∷ more)) ≡ acceptedPuts Twoway repeats buffer cs
+      → afterList Twoway repeats buffer (cs ++ (close ∷ more)) ≡ afterList Twoway repeats buffer (cs ++ (close ∷ []))
   unfolding after there
   kept h =
-      after-append (fresh Twoway buffer) cs (close ∷ more)
-      ∙ none-changes Twoway (length buffer) (accepted Twoway (length buffer) cs) there there-written (list-twice Twoway buffer room cs (two-way cs)) more (no-more h)
-      ∙ sym (after-append (fresh Twoway buffer) cs (close ∷ []))
+      after-append (fresh Twoway repeats buffer) cs (close ∷ more)
+      ∙ none-changes Twoway repeats (length buffer) (accepted Twoway repeats (length buffer) cs) there there-written (list-twice Twoway repeats buffer room cs (two-way cs)) more (no-more h)
+      ∙ sym (after-append (fresh Twoway repeats buffer) cs (close ∷ []))
 
 pub close-readable : CloseReadable
 close-readable =
-    record { after-close = after-close; kept = kept; repaired = λ buffer cs more. after-close buffer (cs ++ (close ∷ more)) }
+    record { after-close = after-close; kept = kept; repaired = λ repeats buffer cs more. after-close repeats buffer (cs ++ (close ∷ more)) }

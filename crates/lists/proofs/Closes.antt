@@ -2,7 +2,7 @@
 use Prim.Native.Nat.{ℕ, zero, suc, _+_, _-_, _^_, _≤_, _<_}
 use native.Mathlib.Omega.{arith}
 use mathlib.Core.Path.{_≡_, refl, sym, ap, ap₂, _∙_}
-use mathlib.Core.Bool.{Bool, true, false, _&&_, _||_}
+use mathlib.Core.Bool.{Bool, true, false, cond, not, _&&_, _||_}
 use mathlib.Core.List.{List, [], _∷_, _++_, append-assoc}
 use lib.ListN.{length, getD, take, drop, length-append, length-drop}
 use lib.Seq.{drop-at, take-at}
@@ -13,19 +13,12 @@ use Rattle.image.specs.Bytes.{cat}
 use Rattle.image.specs.Image.{Entry, headSize, entryBytes, entriesSize, entriesEnd, placed, count, backSize, backIn, backSizeOf, imageSize, headWords, tableRows, tables, links, image}
 use Rattle.image.proofs.All.{all-true}
 use Rattle.image.proofs.Sizes.{length-entries, length-headWords, length-tableRows, length-image}
-use Rattle.writer.specs.State.{State, finishedSize, tooLarge}
+use Rattle.writer.specs.declared.Repeats.{Repeats}
+use Rattle.writer.specs.State.{State, fits, finishedSize, tooLarge}
 use Rattle.image.specs.Stored.{whole, entriesIn}
-use Rattle.writer.specs.Close.{entryArea, recorded, countsAgree, closeRefusal, closedSize, closed, afterClose}
+use Rattle.writer.specs.Close.{consistent, closeRefusal, closedSize, closed, afterClose}
 use Rattle.lists.proofs.Written.{Written}
-use Rattle.lists.proofs.Parse.{AllWordly, parsed, parsed-whole}
-use Rattle.lists.proofs.Puts.{written-fits, backIn-twice}
-
--- ---- sizes below 2^32 leave words
-
-all-wordly : (es : List Entry) → backSize es ≤ 2 ^ 32 → entriesSize es < 2 ^ 32 → AllWordly es
-unfolding backSize entriesSize
-all-wordly [] b s = tt
-all-wordly (e ∷ es) b s = (record { id-word = omega arith; length-word = omega arith }, all-wordly es (omega arith) (omega arith))
+use Rattle.lists.proofs.Recorded.{written-fits, written-recorded, written-size, written-consistent}
 
 -- ---- the entries in an image
 
@@ -49,52 +42,22 @@ area-in-image mode es rest =
     ∙ ap (take (entriesSize es)) (drop-at head (cat entryBytes es ++ after) headSize (head-length mode es))
     ∙ take-at (cat entryBytes es) after (entriesSize es) (length-entries es)
 
--- ---- what is recorded
+-- ---- the decision
 
-module _ (mode : Mode) (n : ℕ) (es : List Entry) (s : State) (w : Written mode n es s) where
-  pub written-area : entryArea s ≡ cat entryBytes es
-  written-area =
-      let size : s .writer .end - headSize ≡ entriesSize es = omega (arith, w .end) in
-      ap (λ (k : ℕ). take k (drop headSize (s .buffer))) size ∙ w .area
-
-  words : AllWordly es
-  words = all-wordly es (w .ids) (omega (arith, w .below))
-
-  pub written-whole : whole (s .writer .entries) (entryArea s) ≡ true
-  written-whole = ap₂ whole (w .entries) written-area ∙ parsed-whole es words
-
-  pub written-recorded : recorded s ≡ es
-  written-recorded = ap₂ entriesIn (w .entries) written-area ∙ parsed es words
-
-  -- the size that close gives
-  pub written-size : closedSize s ≡ imageSize mode es
-  written-size =
-      let b : backIn (s .writer .mode) (s .writer .back) ≡ backSizeOf mode es =
-      ap₂ backIn (w .mode-is) (w .back-size) ∙ backIn-twice mode (backSize es) in
-      omega (arith, b, w .end, w .entries)
-
-  -- ---- the decision
-
-  counts-right : countsAgree (s .counts) (recorded s) ≡ true
-  counts-right =
-      ap (λ (l : List Entry). countsAgree (s .counts) l) written-recorded
-      ∙ all-true (λ (t : ℕ). eqb (getD (s .counts) t 0) (count t (placed headSize es))) 0 256
-      (λ i h. eq-eqb (getD (s .counts) (0 + i) 0) (count (0 + i) (placed headSize es)) (w .counts (0 + i) (omega arith)))
-
-  back-right : eqb (s .writer .back) (backIn (s .writer .mode) (backSize (recorded s))) ≡ true
-  back-right =
-      eq-eqb (s .writer .back) (backIn (s .writer .mode) (backSize (recorded s)))
-      (w .back-size ∙ sym (ap₂ (λ (f : Mode) (l : List Entry). backIn f (backSize l)) (w .mode-is) written-recorded))
-
+module _ (mode : Mode) (repeats : Repeats) (n : ℕ) (es : List Entry) (s : State) (w : Written mode repeats n es s) where
   size-right : tooLarge (s .writer .length) (finishedSize (s .writer)) ≡ false
   size-right =
       ap₂ {C = Bool} (λ (x y : Bool). x || y)
-      (le-ltb (s .writer .length) (finishedSize (s .writer)) (omega (arith, written-size, w .length-is, w .within)))
-      (le-ltb 4294967295 (finishedSize (s .writer)) (omega (arith, written-size, w .below)))
+      (le-ltb (s .writer .length) (finishedSize (s .writer)) (omega (arith, written-size mode repeats n es s w, w .length-is, w .within)))
+      (le-ltb 4294967295 (finishedSize (s .writer)) (omega (arith, written-size mode repeats n es s w, w .below)))
 
   pub close-accepted : closeRefusal s ≡ 0
   unfolding closeRefusal
-  close-accepted = simp (written-fits mode n es s w, written-whole, counts-right, back-right, size-right)
+  close-accepted =
+      decided (fits s) (consistent s) (tooLarge (s .writer .length) (finishedSize (s .writer))) (written-fits mode repeats n es s w) (written-consistent mode repeats n es s w) size-right
+    where
+      decided : (f c t : Bool) → f ≡ true → c ≡ true → t ≡ false → _≡_ {A = ℕ} (cond (not f) 2 (cond (c && not t) 0 4)) 0
+      decided f c t p q r = rw (p, q, r) refl
 
   -- ---- the effect
 
@@ -105,12 +68,12 @@ module _ (mode : Mode) (n : ℕ) (es : List Entry) (s : State) (w : Written mode
   pub closed-buffer : closed s .buffer ≡ image mode es ++ drop (imageSize mode es) (s .buffer)
   unfolding closed
   closed-buffer =
-      ap₂ (λ (l : List ℕ) (k : ℕ). l ++ drop k (s .buffer)) (ap₂ image (w .mode-is) written-recorded) written-size
+      ap₂ (λ (l : List ℕ) (k : ℕ). l ++ drop k (s .buffer)) (ap₂ image (w .mode-is) (written-recorded mode repeats n es s w)) (written-size mode repeats n es s w)
 
   -- the image is the buffer's first bytes, as many as the size that close gives
   pub close-image : take (closedSize s) (afterClose s .buffer) ≡ image mode es
   close-image =
-      ap₂ take written-size (ap (λ (r : State). r .buffer) close-closed ∙ closed-buffer)
+      ap₂ take (written-size mode repeats n es s w) (ap (λ (r : State). r .buffer) close-closed ∙ closed-buffer)
       ∙ take-at (image mode es) (drop (imageSize mode es) (s .buffer)) (imageSize mode es) (length-image mode es)
 
   closed-length : length (closed s .buffer) ≡ n
@@ -122,11 +85,12 @@ module _ (mode : Mode) (n : ℕ) (es : List Entry) (s : State) (w : Written mode
       sum : (a b k l : ℕ) → a ≡ k → b ≡ l - k → l ≡ n → k ≤ n → a + b ≡ n
       sum a b k l p q r h = omega arith
 
-  closed-written : Written mode n es (closed s)
+  closed-written : Written mode repeats n es (closed s)
   unfolding closed
   closed-written =
       record {
         mode-is = w .mode-is;
+        repeats-is = w .repeats-is;
         length-is = w .length-is;
         length-kept = closed-length;
         end = w .end;
@@ -140,27 +104,27 @@ module _ (mode : Mode) (n : ℕ) (es : List Entry) (s : State) (w : Written mode
         ids = w .ids;
       }
 
-  pub close-written : Written mode n es (afterClose s)
+  pub close-written : Written mode repeats n es (afterClose s)
   close-written = rw close-closed closed-written
 
 -- ---- closing twice
 
-module _ (mode : Mode) (n : ℕ) (es : List Entry) (s : State) (w : Written mode n es s) where
+module _ (mode : Mode) (repeats : Repeats) (n : ℕ) (es : List Entry) (s : State) (w : Written mode repeats n es s) where
   closed-again : closed (closed s) ≡ closed s
   unfolding closed
   closed-again = λ i. record { writer = s .writer; counts = s .counts; buffer = buffers i }
     where
       buffers : closed (closed s) .buffer ≡ closed s .buffer
       buffers =
-          closed-buffer mode n es (closed s) (closed-written mode n es s w)
-          ∙ ap (λ (l : List ℕ). image mode es ++ drop (imageSize mode es) l) (closed-buffer mode n es s w)
+          closed-buffer mode repeats n es (closed s) (closed-written mode repeats n es s w)
+          ∙ ap (λ (l : List ℕ). image mode es ++ drop (imageSize mode es) l) (closed-buffer mode repeats n es s w)
           ∙ ap (λ (l : List ℕ). image mode es ++ l)
           (drop-at (image mode es) (drop (imageSize mode es) (s .buffer)) (imageSize mode es) (length-image mode es))
-          ∙ sym (closed-buffer mode n es s w)
+          ∙ sym (closed-buffer mode repeats n es s w)
 
   pub close-again : afterClose (afterClose s) ≡ afterClose s
   close-again =
-      ap afterClose (close-closed mode n es s w)
-      ∙ close-closed mode n es (closed s) (closed-written mode n es s w)
+      ap afterClose (close-closed mode repeats n es s w)
+      ∙ close-closed mode repeats n es (closed s) (closed-written mode repeats n es s w)
       ∙ closed-again
-      ∙ sym (close-closed mode n es s w)
+      ∙ sym (close-closed mode repeats n es s w)

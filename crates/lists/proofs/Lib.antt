@@ -3,6 +3,7 @@ pub mod Written
 pub mod Read
 pub mod Parse
 pub mod Appended
+pub mod Recorded
 pub mod Puts
 pub mod Closes
 pub mod Along
@@ -12,6 +13,7 @@ pub mod Reading
 pub mod Theorem
 pub mod AfterClose
 pub mod OneWay
+pub mod RepeatsOff
 pub mod Readings
 pub mod QuayRows
 pub mod Quay

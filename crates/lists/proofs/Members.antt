@@ -13,6 +13,7 @@ use Rattle.image.specs.Image.{Entry, hasId}
 use Rattle.image.proofs.Lists.{keep-yes, keep-cons}
 use Rattle.image.proofs.Equal.{same-self, same-true}
 use Rattle.answers.specs.Answer.{hasName, ofName, ofId, firstId, lastName}
+use Rattle.writer.specs.Put.{entryOf}
 
 -- ---- an entry of a list
 
@@ -92,3 +93,12 @@ module _ (es : List Entry) (name : List ℕ) (id : ℕ) where
       only-one (m .0) (keep (hasName name) es)
       (kept (hasName name) (m .0) es (there .0) (ap (λ (l : List ℕ). same l name) (m .2) ∙ same-self name)) one in
       ap firstId single ∙ ap {B = Option ℕ} (λ (i : ℕ). some i) (eqb-true (m .0 .id) id (there .1))
+
+  -- where a name was put at most once, the entry by which it gives an id is its only one
+  pub only-entry : length (ofName name es) ≤ 1 → firstId (ofName name es) ≡ some id → ofName name es ≡ entryOf name id ∷ []
+  unfolding ofName
+  only-entry one h =
+      let m = first-in (keep (hasName name) es) id h in
+      let there = kept-from (hasName name) (m .0) es (m .1) in
+      let named = same-true (m .0 .name) name (there .1) in
+      only-one (m .0) (keep (hasName name) es) (m .1) one ∙ ap {B = List Entry} (λ (y : Entry). y ∷ []) (λ i. record { name = named i; id = m .2 i })

@@ -6,6 +6,7 @@ use lib.ListN.{length}
 use Rattle.image.specs.declared.Mode.the-variants.{Oneway}
 use Rattle.image.specs.Image.{headSize}
 use Rattle.answers.specs.Answer.{firstId}
+use Rattle.writer.specs.declared.Repeats.{Repeats}
 use Rattle.lists.specs.Calls.{Call, WordIds}
 use Rattle.lists.specs.Demand3.{acceptedPuts, imageOf}
 use Rattle.lists.specs.OneWay.{IdsUnanswered, OneWayList, OneWay}
@@ -13,23 +14,23 @@ use Rattle.lists.proofs.Along.{list-accepted}
 use Rattle.lists.proofs.Reading.{one-way-unanswered, list-read}
 use Rattle.lists.proofs.Theorem.{calls-imaged, calls-below, calls-answered}
 
-module _ (buffer : List ℕ) (cs : List Call) (room : headSize ≤ length buffer) (word : WordIds Oneway cs) where
-  one-way-list : OneWayList buffer cs
+module _ (repeats : Repeats) (buffer : List ℕ) (cs : List Call) (room : headSize ≤ length buffer) (word : WordIds Oneway cs) where
+  one-way-list : OneWayList repeats buffer cs
   one-way-list =
       record {
-        calls = calls-answered Oneway buffer cs room word;
-        names = rw (list-accepted Oneway buffer room cs word) (list-read Oneway buffer room cs word .names);
+        calls = calls-answered Oneway repeats buffer cs room word;
+        names = rw (list-accepted Oneway repeats buffer room cs word) (list-read Oneway repeats buffer room cs word .names);
         ids =
-            rw (calls-imaged Oneway buffer cs room word)
-            (one-way-unanswered (acceptedPuts Oneway buffer cs) (calls-below Oneway buffer cs room word));
+            rw (calls-imaged Oneway repeats buffer cs room word)
+            (one-way-unanswered (acceptedPuts Oneway repeats buffer cs) (calls-below Oneway repeats buffer cs room word));
       }
 
 pub one-way : OneWay
 one-way =
     record {
       one-list = one-way-list;
-      alike-name = λ buffer₁ cs₁ buffer₂ cs₂ room₁ room₂ word₁ word₂ name h.
-          one-way-list buffer₁ cs₁ room₁ word₁ .names .name-gives name
+      alike-name = λ repeats₁ buffer₁ cs₁ repeats₂ buffer₂ cs₂ room₁ room₂ word₁ word₂ name h.
+          one-way-list repeats₁ buffer₁ cs₁ room₁ word₁ .names .name-gives name
           ∙ ap firstId h
-          ∙ sym (one-way-list buffer₂ cs₂ room₂ word₂ .names .name-gives name);
+          ∙ sym (one-way-list repeats₂ buffer₂ cs₂ room₂ word₂ .names .name-gives name);
     }

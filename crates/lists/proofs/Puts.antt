@@ -4,7 +4,7 @@ use native.Mathlib.Omega.{arith}
 use native.Mathlib.Decide.{ℕ-discrete}
 use mathlib.Core.Path.{_≡_, refl, sym, ap, ap₂, _∙_}
 use mathlib.Core.Logic.{_⊎_, inl, inr}
-use mathlib.Core.Bool.{Bool, true, false, cond, _&&_, _||_}
+use mathlib.Core.Bool.{Bool, true, false, cond, not, _&&_, _||_}
 use mathlib.Core.List.{List, [], _∷_, _++_, append-assoc, append-nil}
 use lib.ListN.{length, getD, take, drop, set, length-append, length-set, length-replicate, getD-replicate}
 use lib.Seq.{sets, length-sets, sets-eq, take-add, drop-at, take-at, length-take-le, getD-set-same, getD-set-other}
@@ -15,41 +15,23 @@ use Rattle.image.specs.declared.Mode.{Mode}
 use Rattle.image.specs.declared.Mode.the-variants.{Twoway, Oneway}
 use Rattle.image.specs.Bytes.{cat}
 use Rattle.image.specs.Tables.{tableOf}
-use Rattle.image.specs.Image.{Entry, headSize, entryBytes, entrySize, entriesSize, placed, count, ofTable, backSize, backIn, imageSize}
+use Rattle.image.specs.Image.{Entry, headSize, entryBytes, entrySize, entriesSize, placed, count, ofTable, backSize, backIn, imageSize, holds}
 use Rattle.image.specs.Zero.{hasZero}
-use Rattle.writer.specs.State.{State, noneAbove, fits, finishedSize, tooLarge, fresh}
+use Rattle.writer.specs.declared.Repeats.{Repeats}
+use Rattle.writer.specs.declared.Repeats.the-variants.{Off, On}
+use Rattle.writer.specs.State.{State, refusesRepeats, fits, finishedSize, tooLarge, fresh}
 use Rattle.image.specs.Tally.{countsAfter}
 use Rattle.writer.specs.Put.{raised, writerAfter, putRefusal, appended, afterPut}
+use Rattle.writer.specs.Close.{recorded, consistent}
 use Rattle.lists.specs.Calls.{put, sizeOf, putDue, acceptedAfter, WordId}
 use Rattle.lists.proofs.Written.{Written}
 use Rattle.image.proofs.All.{all-true}
 use Rattle.image.proofs.Lists.{cat-append}
 use Rattle.image.proofs.Sizes.{length-entryBytes, length-entries, length-placed}
-use Rattle.lists.proofs.Appended.{entriesSize-snoc, backSize-snoc, sizeOf-is, count-within, count-same, count-other}
-
--- ---- a written record fits
-
-module _ (mode : Mode) (n : ℕ) (es : List Entry) (s : State) (w : Written mode n es s) where
-  count-below : (k : ℕ) → k < 256 → getD (s .counts) k 0 ≤ s .writer .entries
-  count-below k h = omega (arith, w .counts k h, count-within k (placed headSize es), length-placed headSize es, w .entries)
-
-  pub written-fits : fits s ≡ true
-  unfolding fits
-  written-fits =
-      let none : noneAbove (s .counts) (s .writer .entries) ≡ true =
-      all-true (λ (t : ℕ). leb (getD (s .counts) t 0) (s .writer .entries)) 0 256
-      (λ i h. le-leb (getD (s .counts) (0 + i) 0) (s .writer .entries) (count-below (0 + i) (omega arith))) in
-      let cap : s .writer .length ≡ length (s .buffer) = w .length-is ∙ sym (w .length-kept) in
-      let low : headSize ≤ s .writer .end = omega (arith, w .end) in
-      let high : s .writer .end ≤ s .writer .length = omega (arith, w .end, w .length-is, w .within) in
-      simp
-      (eq-eqb (s .writer .length) (length (s .buffer)) cap, le-leb headSize (s .writer .end) low, le-leb (s .writer .end) (s .writer .length) high, none)
+use Rattle.lists.proofs.Appended.{entriesSize-snoc, backSize-snoc, sizeOf-is, count-same, count-other}
+use Rattle.lists.proofs.Recorded.{backIn-twice, written-fits, written-recorded, written-consistent}
 
 -- ---- what the mode changes
-
-pub backIn-twice : (mode : Mode) (b : ℕ) → backIn mode (backIn mode b) ≡ backIn mode b
-backIn-twice Twoway b = refl
-backIn-twice Oneway b = refl
 
 raised-back : (mode : Mode) (b : ℕ) (es : List Entry) (e : Entry) → b ≡ backIn mode (backSize es)
     → raised mode b (e .id) ≡ backIn mode (backSize (es ++ (e ∷ [])))
@@ -58,7 +40,7 @@ raised-back Oneway b es e h = h
 
 -- ---- the decision
 
-module _ (mode : Mode) (n : ℕ) (es : List Entry) (s : State) (w : Written mode n es s) (e : Entry) where
+module _ (mode : Mode) (repeats : Repeats) (n : ℕ) (es : List Entry) (s : State) (w : Written mode repeats n es s) (e : Entry) where
   back-then : raised (s .writer .mode) (s .writer .back) (e .id) ≡ backIn mode (backSize (es ++ (e ∷ [])))
   back-then =
       ap (λ (f : Mode). raised f (s .writer .back) (e .id)) (w .mode-is) ∙ raised-back mode (s .writer .back) es e (w .back-size)
@@ -70,9 +52,20 @@ module _ (mode : Mode) (n : ℕ) (es : List Entry) (s : State) (w : Written mode
       ap₂ backIn (w .mode-is) back-then ∙ backIn-twice mode (backSize (es ++ (e ∷ []))) in
       omega (arith, b, w .end, w .entries, entriesSize-snoc es e, length-append es (e ∷ []), sizeOf-is mode (es ++ (e ∷ [])))
 
-  pub put-due : putRefusal s e ≡ putDue mode n es e
+  pub put-due : putRefusal s e ≡ putDue mode repeats n es e
   unfolding putRefusal putDue
-  put-due = simp (written-fits mode n es s w, finished-then, w .length-is)
+  put-due =
+      let zero = hasZero (e .name) in
+      let held = holds (e .name) (recorded s) in
+      let full = tooLarge (s .writer .length) (finishedSize (writerAfter (s .writer) e)) in
+      checked (fits s) zero (consistent s) held (refusesRepeats (s .writer .repeats)) full (written-fits mode repeats n es s w) (written-consistent mode repeats n es s w)
+      ∙ ap (λ (l : List Entry). cond zero 13 (cond (holds (e .name) l && refusesRepeats (s .writer .repeats)) 16 (cond full 3 0))) (written-recorded mode repeats n es s w)
+      ∙ ap (λ (r : Repeats). cond zero 13 (cond (holds (e .name) es && refusesRepeats r) 16 (cond full 3 0))) (w .repeats-is)
+      ∙ ap₂ (λ (room size : ℕ). cond zero 13 (cond (holds (e .name) es && refusesRepeats repeats) 16 (cond (tooLarge room size) 3 0))) (w .length-is) finished-then
+    where
+      checked : (f z c h r t : Bool) → f ≡ true → c ≡ true
+          → _≡_ {A = ℕ} (cond (not f) 2 (cond z 13 (cond (not c && r) 4 (cond (h && r) 16 (cond t 3 0))))) (cond z 13 (cond (h && r) 16 (cond t 3 0)))
+      checked f z c h r t p q = rw (p, q) refl
 
 -- ---- the bytes
 
@@ -91,44 +84,72 @@ stored-after o E l area vs size stands room =
 
 -- ---- what is due
 
--- a put to which nothing is due has a name without a zero byte, and room: its size exceeds neither limit
-pub due-free : (mode : Mode) (n : ℕ) (es : List Entry) (e : Entry) → putDue mode n es e ≡ 0 → hasZero (e .name) ≡ false
+-- a put to which nothing is due has a name without a zero byte; with repeats off, a name that no accepted put before it has; and room: its size exceeds
+-- neither limit
+pub due-free : (mode : Mode) (repeats : Repeats) (n : ℕ) (es : List Entry) (e : Entry) → putDue mode repeats n es e ≡ 0 → hasZero (e .name) ≡ false
 unfolding putDue
-due-free mode n es e due = go (hasZero (e .name)) refl due
+due-free mode repeats n es e due = go (hasZero (e .name)) refl _ due
   where
-    go : (z : Bool) → hasZero (e .name) ≡ z → _≡_ {A = ℕ} (cond z 13 (cond (tooLarge n (sizeOf mode (es ++ (e ∷ [])))) 3 0)) 0 → hasZero (e .name) ≡ false
-    go true p d = absurd (omega arith)
-    go false p d = p
+    go : (z : Bool) → hasZero (e .name) ≡ z → (rest : ℕ) → _≡_ {A = ℕ} (cond z 13 rest) 0 → hasZero (e .name) ≡ false
+    go true p rest d = absurd (omega arith)
+    go false p rest d = p
 
-pub due-room : (mode : Mode) (n : ℕ) (es : List Entry) (e : Entry) → putDue mode n es e ≡ 0
+pub due-new : (mode : Mode) (repeats : Repeats) (n : ℕ) (es : List Entry) (e : Entry) → putDue mode repeats n es e ≡ 0
+    → (holds (e .name) es && refusesRepeats repeats) ≡ false
+unfolding putDue
+due-new mode repeats n es e due = go (hasZero (e .name)) (holds (e .name) es && refusesRepeats repeats) refl _ due
+  where
+    held : Bool
+    held = holds (e .name) es && refusesRepeats repeats
+
+    go : (z b : Bool) → held ≡ b → (rest : ℕ) → _≡_ {A = ℕ} (cond z 13 (cond b 16 rest)) 0 → held ≡ false
+    go true b p rest d = absurd (omega arith)
+    go false true p rest d = absurd (omega arith)
+    go false false p rest d = p
+
+pub due-room : (mode : Mode) (repeats : Repeats) (n : ℕ) (es : List Entry) (e : Entry) → putDue mode repeats n es e ≡ 0
     → (imageSize mode (es ++ (e ∷ [])) ≤ n) × (imageSize mode (es ++ (e ∷ [])) ≤ 4294967295)
 unfolding putDue
-due-room mode n es e due = go (hasZero (e .name)) (ltb n size) refl (ltb 4294967295 size) refl due
+due-room mode repeats n es e due = go (hasZero (e .name)) (holds (e .name) es && refusesRepeats repeats) (ltb n size) refl (ltb 4294967295 size) refl due
   where
     size : ℕ
     size = sizeOf mode (es ++ (e ∷ []))
 
-    go : (z a : Bool) → ltb n size ≡ a → (b : Bool) → ltb 4294967295 size ≡ b → _≡_ {A = ℕ} (cond z 13 (cond (a || b) 3 0)) 0
+    go : (z h a : Bool) → ltb n size ≡ a → (b : Bool) → ltb 4294967295 size ≡ b → _≡_ {A = ℕ} (cond z 13 (cond h 16 (cond (a || b) 3 0))) 0
         → (imageSize mode (es ++ (e ∷ [])) ≤ n) × (imageSize mode (es ++ (e ∷ [])) ≤ 4294967295)
-    go true a p b q d = absurd (omega arith)
-    go false true p b q d = absurd (omega arith)
-    go false false p true q d = absurd (omega arith)
-    go false false p false q d =
+    go true h a p b q d = absurd (omega arith)
+    go false true a p b q d = absurd (omega arith)
+    go false false true p b q d = absurd (omega arith)
+    go false false false p true q d = absurd (omega arith)
+    go false false false p false q d =
         let is = sizeOf-is mode (es ++ (e ∷ [])) in
         (omega (arith, ltb-false n size p), omega (arith, ltb-false 4294967295 size q))
 
--- it is 0, 13 or 3
-pub due-number : (mode : Mode) (n : ℕ) (es : List Entry) (e : Entry) → (putDue mode n es e ≡ 0) ⊎ ((putDue mode n es e ≡ 13) ⊎ (putDue mode n es e ≡ 3))
+-- what is accepted with repeats off is accepted with either choice
+pub due-either : (mode : Mode) (n : ℕ) (es : List Entry) (e : Entry) → putDue mode Off n es e ≡ 0 → (repeats : Repeats) → putDue mode repeats n es e ≡ 0
 unfolding putDue
-due-number mode n es e = go (hasZero (e .name)) (tooLarge n (sizeOf mode (es ++ (e ∷ []))))
+due-either mode n es e due Off = due
+due-either mode n es e due On = go (hasZero (e .name)) (holds (e .name) es) _ due
+  where
+    go : (z h : Bool) (rest : ℕ) → _≡_ {A = ℕ} (cond z 13 (cond (h && true) 16 rest)) 0 → _≡_ {A = ℕ} (cond z 13 (cond (h && false) 16 rest)) 0
+    go true h rest d = d
+    go false true rest d = absurd (omega arith)
+    go false false rest d = d
+
+-- it is 0, 13, 16 or 3
+pub due-number : (mode : Mode) (repeats : Repeats) (n : ℕ) (es : List Entry) (e : Entry)
+    → (putDue mode repeats n es e ≡ 0) ⊎ ((putDue mode repeats n es e ≡ 13) ⊎ ((putDue mode repeats n es e ≡ 16) ⊎ (putDue mode repeats n es e ≡ 3)))
+unfolding putDue
+due-number mode repeats n es e = go (hasZero (e .name)) (holds (e .name) es && refusesRepeats repeats) (tooLarge n (sizeOf mode (es ++ (e ∷ []))))
   where
     Due : ℕ → Type 0
-    Due k = (k ≡ 0) ⊎ ((k ≡ 13) ⊎ (k ≡ 3))
+    Due k = (k ≡ 0) ⊎ ((k ≡ 13) ⊎ ((k ≡ 16) ⊎ (k ≡ 3)))
 
-    go : (z b : Bool) → Due (cond z 13 (cond b 3 0))
-    go true b = inr (inl refl)
-    go false true = inr (inr refl)
-    go false false = inl refl
+    go : (z h b : Bool) → Due (cond z 13 (cond h 16 (cond b 3 0)))
+    go true h b = inr (inl refl)
+    go false true b = inr (inr (inl refl))
+    go false false true = inr (inr (inr refl))
+    go false false false = inl refl
 
 -- ---- what an accepted put leaves
 
@@ -138,12 +159,12 @@ ids-then : (mode : Mode) (es : List Entry) (e : Entry) → WordId mode (put e) �
 ids-then Twoway es e word h small = omega arith
 ids-then Oneway es e word h small = omega (arith, backSize-snoc es e)
 
-module _ (mode : Mode) (n : ℕ) (es : List Entry) (s : State) (w : Written mode n es s) (e : Entry) (room : putDue mode n es e ≡ 0) where
+module _ (mode : Mode) (repeats : Repeats) (n : ℕ) (es : List Entry) (s : State) (w : Written mode repeats n es s) (e : Entry) (room : putDue mode repeats n es e ≡ 0) where
   within-then : imageSize mode (es ++ (e ∷ [])) ≤ n
-  within-then = due-room mode n es e room .0
+  within-then = due-room mode repeats n es e room .0
 
   below-then : imageSize mode (es ++ (e ∷ [])) ≤ 4294967295
-  below-then = due-room mode n es e room .1
+  below-then = due-room mode repeats n es e room .1
 
   -- the entries' area after appending is the old area and the entry's bytes
   pub area-then : take (entriesSize es + entrySize e) (drop headSize (sets (s .buffer) (s .writer .end) (entryBytes e))) ≡ cat entryBytes es ++ entryBytes e
@@ -181,16 +202,17 @@ module _ (mode : Mode) (n : ℕ) (es : List Entry) (s : State) (w : Written mode
   unfolding countsAfter
   tables-then = length-set (s .counts) (tableOf (hashOf (e .name))) (getD (s .counts) (tableOf (hashOf (e .name))) 0 + 1) ∙ w .tables
 
-  pub appended-written : WordId mode (put e) → Written mode n (es ++ (e ∷ [])) (appended s e)
+  pub appended-written : WordId mode (put e) → Written mode repeats n (es ++ (e ∷ [])) (appended s e)
   unfolding appended writerAfter
   appended-written word =
       record {
         mode-is = w .mode-is;
+        repeats-is = w .repeats-is;
         length-is = w .length-is;
         length-kept = length-sets (s .buffer) (s .writer .end) (entryBytes e) ∙ w .length-kept;
         end = omega (arith, w .end, entriesSize-snoc es e);
         entries = omega (arith, w .entries, length-append es (e ∷ []));
-        back-size = back-then mode n es s w e;
+        back-size = back-then mode repeats n es s w e;
         tables = tables-then;
         counts = counts-then;
         area = area-all;
@@ -201,25 +223,26 @@ module _ (mode : Mode) (n : ℕ) (es : List Entry) (s : State) (w : Written mode
 
 -- ---- the put, accepted or refused
 
-module _ (mode : Mode) (n : ℕ) (es : List Entry) (s : State) (w : Written mode n es s) (e : Entry) where
-  pub put-written : WordId mode (put e) → Written mode n (acceptedAfter mode n es (put e)) (afterPut s e)
+module _ (mode : Mode) (repeats : Repeats) (n : ℕ) (es : List Entry) (s : State) (w : Written mode repeats n es s) (e : Entry) where
+  pub put-written : WordId mode (put e) → Written mode repeats n (acceptedAfter mode repeats n es (put e)) (afterPut s e)
   unfolding afterPut
-  put-written word = go (eqb (putDue mode n es e) 0) refl
+  put-written word = go (eqb (putDue mode repeats n es e) 0) refl
     where
-      due : putRefusal s e ≡ putDue mode n es e
-      due = put-due mode n es s w e
+      due : putRefusal s e ≡ putDue mode repeats n es e
+      due = put-due mode repeats n es s w e
 
-      go : (b : Bool) → eqb (putDue mode n es e) 0 ≡ b → Written mode n (es ++ cond b (e ∷ []) []) (cond (eqb (putRefusal s e) 0) (appended s e) s)
-      go true d = rw (due, d) (appended-written mode n es s w e (eqb-true (putDue mode n es e) 0 d) word)
+      go : (b : Bool) → eqb (putDue mode repeats n es e) 0 ≡ b → Written mode repeats n (es ++ cond b (e ∷ []) []) (cond (eqb (putRefusal s e) 0) (appended s e) s)
+      go true d = rw (due, d) (appended-written mode repeats n es s w e (eqb-true (putDue mode repeats n es e) 0 d) word)
       go false d = rw (due, d, append-nil es) w
 
 -- ---- a fresh record
 
-pub fresh-written : (mode : Mode) (buffer : List ℕ) → headSize ≤ length buffer → Written mode (length buffer) [] (fresh mode buffer)
+pub fresh-written : (mode : Mode) (repeats : Repeats) (buffer : List ℕ) → headSize ≤ length buffer → Written mode repeats (length buffer) [] (fresh mode repeats buffer)
 unfolding fresh entriesSize placed ofTable backSize cat Rattle.image.specs.Bytes.keep
-fresh-written mode buffer room =
+fresh-written mode repeats buffer room =
     record {
       mode-is = refl;
+      repeats-is = refl;
       length-is = refl;
       length-kept = refl;
       end = refl;

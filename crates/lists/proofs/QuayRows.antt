@@ -11,17 +11,18 @@ use borrow.Author.Tests.{ne-eqb}
 use Rattle.jhash.specs.Outcome.{value}
 use Rattle.image.specs.declared.Mode.{Mode}
 use Rattle.image.specs.Bytes.{word, keep, range, same}
-use Rattle.image.specs.Image.{Entry, Placed, headSize, entrySize, entriesSize, placed, hasId, placedOfId, lastFrom, link, backSize, backSizeOf, backOffset, imageSize, image}
+use Rattle.image.specs.Image.{Entry, Placed, headSize, entrySize, entriesSize, placed, hasId, placedOfId, lastFrom, link, backSize, backSizeOf, backOffset, imageSize, holds, image}
 use Rattle.image.specs.Head.{backOffsetAt}
 use Rattle.image.specs.Zero.{hasZero}
 use Rattle.answers.specs.Answer.{ofName, firstId, isNamed, ofId}
 use Rattle.image.proofs.At.{at-word}
 use Rattle.image.proofs.Parts.{link-at}
 use Rattle.answers.proofs.Opened.{backSizeAt-image, backOffsetAt-image}
+use Rattle.writer.specs.declared.Repeats.{Repeats}
 use Rattle.lists.specs.Calls.{acceptedFrom, dueFrom, accepted, due, putDue, putsSize, sizeOf, WordIds}
 use Rattle.lists.proofs.Read.{namedIn, Read}
 use Rattle.lists.specs.Demand3.{imageOf}
-use Rattle.lists.specs.QuayRows.{NameRow, IdRow, Row, Each, backArray, ImageHolds, RowHolds, HoldsInAny, rows}
+use Rattle.lists.specs.QuayRows.{NameRow, IdRow, Row, Each, backArray, ImageHolds, RowHolds, HoldsInAny, rows, namedRows}
 use Rattle.lists.proofs.Along.{list-answers}
 use Rattle.lists.proofs.OneMore.{list-gives, list-formula, list-image, list-below}
 use Rattle.lists.proofs.Reading.{list-read}
@@ -74,14 +75,14 @@ module _ (mode : Mode) (es : List Entry) (small : imageSize mode es ≤ 42949672
 -- ---- what is computed of a row
 
 abbrev entries : Row → List Entry
-entries r = accepted (r .mode) (r .bytes) (r .calls)
+entries r = accepted (r .mode) (r .repeats) (r .bytes) (r .calls)
 
 -- room for a head, the ids, each call's refusal, size, num, back offset, back array, what names give, what ids give and whether they are home
 abbrev Computed : Row → Type 0
 Computed r =
     (headSize ≤ r .bytes)
     × WordIds (r .mode) (r .calls)
-    × (due (r .mode) (r .bytes) (r .calls) ≡ r .refusals)
+    × (due (r .mode) (r .repeats) (r .bytes) (r .calls) ≡ r .refusals)
     × (sizeOf (r .mode) (entries r) ≡ r .size)
     × (length (entries r) ≡ r .number)
     × (backOffset (r .mode) (entries r) ≡ r .backOffset)
@@ -105,23 +106,23 @@ module _ (r : Row) (c : Computed r) where
   unfolding imageOf
   holds-in buffer long =
       let fits : headSize ≤ length buffer = omega (arith, c .0) in
-      let same-entries : accepted (r .mode) (length buffer) (r .calls) ≡ entries r = ap (λ (n : ℕ). accepted (r .mode) n (r .calls)) long in
+      let same-entries : accepted (r .mode) (r .repeats) (length buffer) (r .calls) ≡ entries r = ap (λ (n : ℕ). accepted (r .mode) (r .repeats) n (r .calls)) long in
       record {
-        answered = list-answers (r .mode) buffer fits (r .calls) (c .1) ∙ ap (λ (n : ℕ). due (r .mode) n (r .calls)) long ∙ c .2;
-        closes = list-gives (r .mode) buffer fits (r .calls) (c .1)
-            ∙ ap value (list-formula (r .mode) buffer fits (r .calls) (c .1) ∙ ap (sizeOf (r .mode)) same-entries ∙ c .3);
+        answered = list-answers (r .mode) (r .repeats) buffer fits (r .calls) (c .1) ∙ ap (λ (n : ℕ). due (r .mode) (r .repeats) n (r .calls)) long ∙ c .2;
+        closes = list-gives (r .mode) (r .repeats) buffer fits (r .calls) (c .1)
+            ∙ ap value (list-formula (r .mode) (r .repeats) buffer fits (r .calls) (c .1) ∙ ap (sizeOf (r .mode)) same-entries ∙ c .3);
         imaged =
-            image-holds (imageOf (r .mode) buffer (r .calls))
-            (list-image (r .mode) buffer fits (r .calls) (c .1) ∙ ap (image (r .mode)) same-entries)
-            (rw same-entries at (list-below (r .mode) buffer fits (r .calls) (c .1)))
-            (rw same-entries at (list-read (r .mode) buffer fits (r .calls) (c .1)));
+            image-holds (imageOf (r .mode) (r .repeats) buffer (r .calls))
+            (list-image (r .mode) (r .repeats) buffer fits (r .calls) (c .1) ∙ ap (image (r .mode)) same-entries)
+            (rw same-entries at (list-below (r .mode) (r .repeats) buffer fits (r .calls) (c .1)))
+            (rw same-entries at (list-read (r .mode) (r .repeats) buffer fits (r .calls) (c .1)));
       }
 
 -- ---- the rows
 
-computed : Each Computed rows
-unfolding accepted acceptedFrom due dueFrom putDue hasZero sizeOf putsSize backSize entriesSize backOffset placed placedOfId ofId keep link lastFrom range ofName same
-computed = (
+computed : (repeats : Repeats) → Each Computed (rows repeats)
+unfolding accepted acceptedFrom due dueFrom putDue hasZero holds sizeOf putsSize backSize entriesSize backOffset placed placedOfId ofId keep link lastFrom range ofName same
+computed repeats = (
   (lit≤ tt, tt, refl, refl, refl, refl, refl, (refl, tt), ((refl, refl), tt)),
   (
     (lit≤ tt, (tt, tt), refl, refl, refl, refl, refl, (refl, tt), ((refl, refl), tt)),
@@ -132,15 +133,12 @@ computed = (
         (
           (lit≤ tt, (lit< tt, (lit< tt, tt)), refl, refl, refl, refl, refl, (refl, (refl, tt)), ((refl, refl), tt)),
           (
-            (lit≤ tt, (tt, (tt, tt)), refl, refl, refl, refl, refl, (refl, tt), ((refl, refl), ((refl, refl), tt))),
+            (lit≤ tt, (tt, (tt, tt)), refl, refl, refl, refl, refl, (refl, (refl, tt)), ((refl, refl), tt)),
             (
-              (lit≤ tt, (tt, (tt, tt)), refl, refl, refl, refl, refl, (refl, (refl, tt)), ((refl, refl), tt)),
+              (lit≤ tt, (tt, tt), refl, refl, refl, refl, refl, (refl, tt), ((refl, refl), tt)),
               (
-                (lit≤ tt, (tt, tt), refl, refl, refl, refl, refl, (refl, tt), ((refl, refl), tt)),
-                (
-                  (lit≤ tt, (lit< tt, tt), refl, refl, refl, refl, refl, (refl, tt), ((refl, refl), tt)),
-                  tt,
-                ),
+                (lit≤ tt, (lit< tt, tt), refl, refl, refl, refl, refl, (refl, tt), ((refl, refl), tt)),
+                tt,
               ),
             ),
           ),
@@ -150,5 +148,19 @@ computed = (
   ),
 )
 
-pub rows-right : Each HoldsInAny rows
-rows-right = each-map holds-in rows computed
+-- C6, and C6 without the repeats mode
+computed-named : Each Computed namedRows
+unfolding accepted acceptedFrom due dueFrom putDue hasZero holds sizeOf putsSize backSize entriesSize backOffset placed placedOfId ofId keep link lastFrom range ofName same
+computed-named = (
+  (lit≤ tt, (tt, (tt, tt)), refl, refl, refl, refl, refl, (refl, tt), ((refl, refl), ((refl, refl), tt))),
+  (
+    (lit≤ tt, (tt, (tt, tt)), refl, refl, refl, refl, refl, (refl, tt), ((refl, refl), ((refl, refl), tt))),
+    tt,
+  ),
+)
+
+pub rows-right : (repeats : Repeats) → Each HoldsInAny (rows repeats)
+rows-right repeats = each-map holds-in (rows repeats) (computed repeats)
+
+pub named-right : Each HoldsInAny namedRows
+named-right = each-map holds-in namedRows computed-named

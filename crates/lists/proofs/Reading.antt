@@ -18,6 +18,7 @@ use Rattle.reader.specs.Cases.{reads}
 use Rattle.answers.proofs.Images.{image-opens, name-gives, name-nothing, name-reads, found-reads, long-reads, last-met, ids-fit, id-gives, id-nothing}
 use Rattle.answers.proofs.Named.{naming-oneway}
 use Rattle.answers.proofs.Walked.{part-given, step-given, home-given, hint-image}
+use Rattle.writer.specs.declared.Repeats.{Repeats}
 use Rattle.lists.specs.Calls.{Call, accepted, WordIds}
 use Rattle.lists.specs.Demand3.{imageOf, NamesAnswered, IdsAnswered}
 use Rattle.lists.specs.AfterClose.{Answered}
@@ -90,9 +91,9 @@ one-way-unanswered es small =
 
 -- ---- the image of a list of calls
 
-pub list-read : (mode : Mode) (buffer : List ℕ) → headSize ≤ length buffer → (cs : List Call) → WordIds mode cs
-    → Read mode (accepted mode (length buffer) cs) (imageOf mode buffer cs)
+pub list-read : (mode : Mode) (repeats : Repeats) (buffer : List ℕ) → headSize ≤ length buffer → (cs : List Call) → WordIds mode cs
+    → Read mode (accepted mode repeats (length buffer) cs) (imageOf mode repeats buffer cs)
 unfolding imageOf
-list-read mode buffer room cs word =
-    rw (list-image mode buffer room cs word)
-    (read-image (accepted mode (length buffer) cs) (list-written mode buffer room cs word .ids) mode (list-below mode buffer room cs word))
+list-read mode repeats buffer room cs word =
+    rw (list-image mode repeats buffer room cs word)
+    (read-image (accepted mode repeats (length buffer) cs) (list-written mode repeats buffer room cs word .ids) mode (list-below mode repeats buffer room cs word))

@@ -19,6 +19,7 @@ use Rattle.reader.specs.Naming.{Naming, place, unnamed, naming}
 use Rattle.reader.specs.Panel.{agreeOn, readingsAgree}
 use Rattle.reader.proofs.Panels.{agree-held, agree-unnamed}
 use Rattle.answers.specs.Answer.{heldAt, nameGiven, ofId, lastName}
+use Rattle.writer.specs.declared.Repeats.{Repeats}
 use Rattle.lists.specs.Calls.{Call, put, close, acceptedOne, putDue, acceptedFrom, accepted, WordIds}
 use Rattle.lists.specs.Demand3.{imageOf}
 use Rattle.lists.specs.Readings.{Readings}
@@ -32,20 +33,20 @@ Free e = hasZero (e .name) ≡ false
 
 -- ---- the accepted puts
 
-one-free : (mode : Mode) (n : ℕ) (es : List Entry) (e : Entry) (b : Bool) → eqb (putDue mode n es e) 0 ≡ b → All Free (cond b (e ∷ []) [])
-one-free mode n es e true d = (due-free mode n es e (eqb-true (putDue mode n es e) 0 d), tt)
-one-free mode n es e false d = tt
+one-free : (mode : Mode) (repeats : Repeats) (n : ℕ) (es : List Entry) (e : Entry) (b : Bool) → eqb (putDue mode repeats n es e) 0 ≡ b → All Free (cond b (e ∷ []) [])
+one-free mode repeats n es e true d = (due-free mode repeats n es e (eqb-true (putDue mode repeats n es e) 0 d), tt)
+one-free mode repeats n es e false d = tt
 
-free-from : (mode : Mode) (n : ℕ) (es : List Entry) (cs : List Call) → All Free es → All Free (acceptedFrom mode n es cs)
+free-from : (mode : Mode) (repeats : Repeats) (n : ℕ) (es : List Entry) (cs : List Call) → All Free es → All Free (acceptedFrom mode repeats n es cs)
 unfolding acceptedFrom
-free-from mode n es [] all = all
-free-from mode n es (put e ∷ cs) all =
-    free-from mode n _ cs (all-append Free es (acceptedOne (put e) (putDue mode n es e)) all (one-free mode n es e (eqb (putDue mode n es e) 0) refl))
-free-from mode n es (close ∷ cs) all = free-from mode n _ cs (all-append Free es [] all tt)
+free-from mode repeats n es [] all = all
+free-from mode repeats n es (put e ∷ cs) all =
+    free-from mode repeats n _ cs (all-append Free es (acceptedOne (put e) (putDue mode repeats n es e)) all (one-free mode repeats n es e (eqb (putDue mode repeats n es e) 0) refl))
+free-from mode repeats n es (close ∷ cs) all = free-from mode repeats n _ cs (all-append Free es [] all tt)
 
-pub accepted-free : (mode : Mode) (n : ℕ) (cs : List Call) → All Free (accepted mode n cs)
+pub accepted-free : (mode : Mode) (repeats : Repeats) (n : ℕ) (cs : List Call) → All Free (accepted mode repeats n cs)
 unfolding accepted
-accepted-free mode n cs = free-from mode n [] cs tt
+accepted-free mode repeats n cs = free-from mode repeats n [] cs tt
 
 -- ---- the names that ids give
 
@@ -78,14 +79,14 @@ image-agrees mode es img r all =
 
 -- ---- lists of calls
 
-module _ (mode : Mode) (buffer : List ℕ) (room : headSize ≤ length buffer) (cs : List Call) (word : WordIds mode cs) where
-  list-agrees : readingsAgree (imageOf mode buffer cs) ≡ true
+module _ (mode : Mode) (repeats : Repeats) (buffer : List ℕ) (room : headSize ≤ length buffer) (cs : List Call) (word : WordIds mode cs) where
+  list-agrees : readingsAgree (imageOf mode repeats buffer cs) ≡ true
   list-agrees =
-      image-agrees mode (accepted mode (length buffer) cs) (imageOf mode buffer cs) (list-read mode buffer room cs word) (accepted-free mode (length buffer) cs)
+      image-agrees mode (accepted mode repeats (length buffer) cs) (imageOf mode repeats buffer cs) (list-read mode repeats buffer room cs word) (accepted-free mode repeats (length buffer) cs)
 
 pub readings : Readings
 readings =
     record {
-      two-way = λ buffer cs room. list-agrees Twoway buffer room cs (two-way cs);
-      one-way = λ buffer cs room word. list-agrees Oneway buffer room cs word;
+      two-way = λ repeats buffer cs room. list-agrees Twoway repeats buffer room cs (two-way cs);
+      one-way = λ repeats buffer cs room word. list-agrees Oneway repeats buffer room cs word;
     }

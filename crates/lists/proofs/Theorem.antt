@@ -9,6 +9,7 @@ use Rattle.image.specs.Image.{headSize, imageSize, image}
 use Rattle.reader.specs.Lookup.{lookup}
 use Rattle.answers.specs.Answer.{foundOffset, firstId, lastName, isNamed}
 use Rattle.answers.proofs.Images.{name-stands, ids-fit}
+use Rattle.writer.specs.declared.Repeats.{Repeats}
 use Rattle.lists.specs.Calls.{Call, sizeOf, WordIds}
 use Rattle.lists.specs.Demand3.{acceptedPuts, imageOf, CallsAnswered, OneList, TwoLists, Demand3}
 use Rattle.lists.specs.Corollaries.{Together, Corollaries}
@@ -20,73 +21,73 @@ use Rattle.lists.proofs.Reading.{two-way-answered}
 
 -- ---- in either mode
 
-module _ (mode : Mode) (buffer : List ℕ) (cs : List Call) (room : headSize ≤ length buffer) (word : WordIds mode cs) where
-  pub calls-imaged : imageOf mode buffer cs ≡ image mode (acceptedPuts mode buffer cs)
+module _ (mode : Mode) (repeats : Repeats) (buffer : List ℕ) (cs : List Call) (room : headSize ≤ length buffer) (word : WordIds mode cs) where
+  pub calls-imaged : imageOf mode repeats buffer cs ≡ image mode (acceptedPuts mode repeats buffer cs)
   unfolding imageOf
-  calls-imaged = list-image mode buffer room cs word ∙ ap (image mode) (sym (list-accepted mode buffer room cs word))
+  calls-imaged = list-image mode repeats buffer room cs word ∙ ap (image mode) (sym (list-accepted mode repeats buffer room cs word))
 
-  pub calls-below : imageSize mode (acceptedPuts mode buffer cs) ≤ 4294967295
-  calls-below = rw (list-accepted mode buffer room cs word) (list-below mode buffer room cs word)
+  pub calls-below : imageSize mode (acceptedPuts mode repeats buffer cs) ≤ 4294967295
+  calls-below = rw (list-accepted mode repeats buffer room cs word) (list-below mode repeats buffer room cs word)
 
-  pub calls-answered : CallsAnswered mode buffer cs
+  pub calls-answered : CallsAnswered mode repeats buffer cs
   calls-answered =
       record {
-        begins = list-begins mode buffer room;
-        begins-counts = list-counts mode buffer room;
-        answered = list-answers mode buffer room cs word;
-        permitted = list-permitted mode buffer room cs word;
-        decided = list-accepted mode buffer room cs word;
-        closes = list-gives mode buffer room cs word;
-        sized = list-formula mode buffer room cs word ∙ ap (sizeOf mode) (sym (list-accepted mode buffer room cs word));
+        begins = list-begins mode repeats buffer room;
+        begins-counts = list-counts mode repeats buffer room;
+        answered = list-answers mode repeats buffer room cs word;
+        permitted = list-permitted mode repeats buffer room cs word;
+        decided = list-accepted mode repeats buffer room cs word;
+        closes = list-gives mode repeats buffer room cs word;
+        sized = list-formula mode repeats buffer room cs word ∙ ap (sizeOf mode) (sym (list-accepted mode repeats buffer room cs word));
         imaged = calls-imaged;
       }
 
 -- ---- two-way
 
-module _ (buffer : List ℕ) (cs : List Call) (room : headSize ≤ length buffer) where
+module _ (repeats : Repeats) (buffer : List ℕ) (cs : List Call) (room : headSize ≤ length buffer) where
   -- each reading call answers by the accepted puts
-  pub list-answered : Answered (acceptedPuts Twoway buffer cs) (imageOf Twoway buffer cs)
+  pub list-answered : Answered (acceptedPuts Twoway repeats buffer cs) (imageOf Twoway repeats buffer cs)
   list-answered =
-      rw (calls-imaged Twoway buffer cs room (two-way cs))
-      (two-way-answered (acceptedPuts Twoway buffer cs) (calls-below Twoway buffer cs room (two-way cs)))
+      rw (calls-imaged Twoway repeats buffer cs room (two-way cs))
+      (two-way-answered (acceptedPuts Twoway repeats buffer cs) (calls-below Twoway repeats buffer cs room (two-way cs)))
 
-  pub one-list : OneList buffer cs
-  one-list = record { calls = calls-answered Twoway buffer cs room (two-way cs); names = list-answered .names; ids = list-answered .ids }
+  pub one-list : OneList repeats buffer cs
+  one-list = record { calls = calls-answered Twoway repeats buffer cs room (two-way cs); names = list-answered .names; ids = list-answered .ids }
 
-  together : Together (acceptedPuts Twoway buffer cs) (imageOf Twoway buffer cs)
+  together : Together (acceptedPuts Twoway repeats buffer cs) (imageOf Twoway repeats buffer cs)
   together =
       let name-gives = list-answered .names .name-gives in
       let id-gives = list-answered .ids .id-gives in
       record {
         back-and-forth = λ id name h.
-            let m = named-first (acceptedPuts Twoway buffer cs) name id (sym (id-gives id) ∙ h) in
+            let m = named-first (acceptedPuts Twoway repeats buffer cs) name id (sym (id-gives id) ∙ h) in
             (m .0, name-gives name ∙ m .1, m .1);
         inverse = λ names ids name id. (
-          λ h. id-gives id ∙ first-last (acceptedPuts Twoway buffer cs) name id (ids id) (sym (name-gives name) ∙ h),
-          λ h. name-gives name ∙ last-first (acceptedPuts Twoway buffer cs) name id (names name) (sym (id-gives id) ∙ h),
+          λ h. id-gives id ∙ first-last (acceptedPuts Twoway repeats buffer cs) name id (ids id) (sym (name-gives name) ∙ h),
+          λ h. name-gives name ∙ last-first (acceptedPuts Twoway repeats buffer cs) name id (names name) (sym (id-gives id) ∙ h),
         );
       }
 
-  pub corollaries : Corollaries buffer cs
+  pub corollaries : Corollaries repeats buffer cs
   corollaries =
-      let below = calls-below Twoway buffer cs room (two-way cs) in
+      let below = calls-below Twoway repeats buffer cs room (two-way cs) in
       record {
         together = together;
         name-stands = λ name.
-            ap (λ (bytes : List ℕ). foundOffset (lookup bytes name)) (calls-imaged Twoway buffer cs room (two-way cs))
-            ∙ name-stands Twoway (acceptedPuts Twoway buffer cs) below (ids-fit (acceptedPuts Twoway buffer cs) below) name;
+            ap (λ (bytes : List ℕ). foundOffset (lookup bytes name)) (calls-imaged Twoway repeats buffer cs room (two-way cs))
+            ∙ name-stands Twoway (acceptedPuts Twoway repeats buffer cs) below (ids-fit (acceptedPuts Twoway repeats buffer cs) below) name;
         named-home = λ id name h. list-answered .homes id ∙ ap isNamed (sym (list-answered .ids .id-gives id) ∙ h);
         empty-image = λ h.
-            calls-imaged Twoway buffer cs room (two-way cs)
-            ∙ ap (image Twoway) (list-accepted Twoway buffer room cs (two-way cs) ∙ none-accepted Twoway (length buffer) cs h);
-        closed-twice = list-twice Twoway buffer room cs (two-way cs);
+            calls-imaged Twoway repeats buffer cs room (two-way cs)
+            ∙ ap (image Twoway) (list-accepted Twoway repeats buffer room cs (two-way cs) ∙ none-accepted Twoway repeats (length buffer) cs h);
+        closed-twice = list-twice Twoway repeats buffer room cs (two-way cs);
       }
 
-pub two-lists : (buffer₁ : List ℕ) (cs₁ : List Call) (buffer₂ : List ℕ) (cs₂ : List Call) → headSize ≤ length buffer₁ → headSize ≤ length buffer₂
-    → TwoLists buffer₁ cs₁ buffer₂ cs₂
-two-lists buffer₁ cs₁ buffer₂ cs₂ room₁ room₂ =
-    let one = list-answered buffer₁ cs₁ room₁ in
-    let two = list-answered buffer₂ cs₂ room₂ in
+pub two-lists : (repeats₁ : Repeats) (buffer₁ : List ℕ) (cs₁ : List Call) (repeats₂ : Repeats) (buffer₂ : List ℕ) (cs₂ : List Call) → headSize ≤ length buffer₁ → headSize ≤ length buffer₂
+    → TwoLists repeats₁ buffer₁ cs₁ repeats₂ buffer₂ cs₂
+two-lists repeats₁ buffer₁ cs₁ repeats₂ buffer₂ cs₂ room₁ room₂ =
+    let one = list-answered repeats₁ buffer₁ cs₁ room₁ in
+    let two = list-answered repeats₂ buffer₂ cs₂ room₂ in
     record {
       alike-name = λ name h. one .names .name-gives name ∙ ap firstId h ∙ sym (two .names .name-gives name);
       alike-id = λ id h. one .ids .id-gives id ∙ ap lastName h ∙ sym (two .ids .id-gives id);

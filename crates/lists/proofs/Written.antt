@@ -6,11 +6,13 @@ use lib.ListN.{length, getD, take, drop}
 use Rattle.image.specs.declared.Mode.{Mode}
 use Rattle.image.specs.Bytes.{cat}
 use Rattle.image.specs.Image.{Entry, headSize, entryBytes, entriesSize, entriesEnd, placed, count, backSizeOf, backSize, imageSize}
+use Rattle.writer.specs.declared.Repeats.{Repeats}
 use Rattle.writer.specs.State.{State}
 
 -- record and buffer hold these entries, in a buffer of n bytes, and their image has room
-pub record Written (mode : Mode) (n : ℕ) (es : List Entry) (s : State) : Type 0 where
+pub record Written (mode : Mode) (repeats : Repeats) (n : ℕ) (es : List Entry) (s : State) : Type 0 where
   pub mode-is : s .writer .mode ≡ mode
+  pub repeats-is : s .writer .repeats ≡ repeats
   pub length-is : s .writer .length ≡ n
   pub length-kept : length (s .buffer) ≡ n
   pub end : s .writer .end ≡ entriesEnd es

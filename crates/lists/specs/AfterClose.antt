@@ -13,6 +13,7 @@ use Rattle.reader.specs.Slices.{Slice}
 use Rattle.reader.specs.Naming.{nameOr}
 use Rattle.reader.specs.Walk.{step, upperHint, home}
 use Rattle.answers.specs.Answer.{stepGiven, ofId, lastName, homeIn}
+use Rattle.writer.specs.declared.Repeats.{Repeats}
 use Rattle.writer.specs.Put.{entryOf}
 use Rattle.writer.specs.Close.{closing}
 use Rattle.lists.specs.Calls.{Call, close}
@@ -37,22 +38,22 @@ pub record Answered (es : List Entry) (img : List ℕ) : Type 0 where
 
 -- ---- a list of calls whose last is a close, which gave this size
 
-pub record AfterClose (buffer : List ℕ) (cs : List Call) (size : ℕ) : Type 0 where
+pub record AfterClose (repeats : Repeats) (buffer : List ℕ) (cs : List Call) (size : ℕ) : Type 0 where
   -- the close accepts no put: the accepted puts so far are those of cs
-  pub same-puts : acceptedPuts Twoway buffer (cs ++ (close ∷ [])) ≡ acceptedPuts Twoway buffer cs
+  pub same-puts : acceptedPuts Twoway repeats buffer (cs ++ (close ∷ [])) ≡ acceptedPuts Twoway repeats buffer cs
   -- the buffer's first bytes as they stand, as many as this size, are the image that 01's rules give for them
-  pub stands : take size (afterList Twoway buffer (cs ++ (close ∷ [])) .buffer) ≡ image Twoway (acceptedPuts Twoway buffer cs)
+  pub stands : take size (afterList Twoway repeats buffer (cs ++ (close ∷ [])) .buffer) ≡ image Twoway (acceptedPuts Twoway repeats buffer cs)
   -- lent these bytes, each reading call answers by them
-  pub answered : Answered (acceptedPuts Twoway buffer cs) (take size (afterList Twoway buffer (cs ++ (close ∷ [])) .buffer))
+  pub answered : Answered (acceptedPuts Twoway repeats buffer cs) (take size (afterList Twoway repeats buffer (cs ++ (close ∷ [])) .buffer))
 
 -- for every list on a buffer of 2,072 bytes or more
 pub record CloseReadable : Type 0 where
-  pub after-close : (buffer : List ℕ) (cs : List Call) (size : ℕ) → headSize ≤ length buffer → closing (afterList Twoway buffer cs) ≡ value size
-      → AfterClose buffer cs size
+  pub after-close : (repeats : Repeats) (buffer : List ℕ) (cs : List Call) (size : ℕ) → headSize ≤ length buffer → closing (afterList Twoway repeats buffer cs) ≡ value size
+      → AfterClose repeats buffer cs size
   -- calls of which no put is accepted, so refused puts and further closes, change neither record nor buffer
-  pub kept : (buffer : List ℕ) (cs more : List Call) → headSize ≤ length buffer
-      → acceptedPuts Twoway buffer (cs ++ (close ∷ more)) ≡ acceptedPuts Twoway buffer cs
-      → afterList Twoway buffer (cs ++ (close ∷ more)) ≡ afterList Twoway buffer (cs ++ (close ∷ []))
+  pub kept : (repeats : Repeats) (buffer : List ℕ) (cs more : List Call) → headSize ≤ length buffer
+      → acceptedPuts Twoway repeats buffer (cs ++ (close ∷ more)) ≡ acceptedPuts Twoway repeats buffer cs
+      → afterList Twoway repeats buffer (cs ++ (close ∷ more)) ≡ afterList Twoway repeats buffer (cs ++ (close ∷ []))
   -- whatever calls follow it, a put above all: one more close repairs everything, and the answers are by the accepted puts until then
-  pub repaired : (buffer : List ℕ) (cs more : List Call) (size : ℕ) → headSize ≤ length buffer
-      → closing (afterList Twoway buffer (cs ++ (close ∷ more))) ≡ value size → AfterClose buffer (cs ++ (close ∷ more)) size
+  pub repaired : (repeats : Repeats) (buffer : List ℕ) (cs more : List Call) (size : ℕ) → headSize ≤ length buffer
+      → closing (afterList Twoway repeats buffer (cs ++ (close ∷ more))) ≡ value size → AfterClose repeats buffer (cs ++ (close ∷ more)) size

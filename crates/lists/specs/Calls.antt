@@ -3,15 +3,16 @@
 use Prim.Native.Nat.{ℕ, _+_, _*_, _^_, _<_}
 use mathlib.Core.Path.{_≡_}
 use mathlib.Core.Logic.{_⊎_}
-use mathlib.Core.Bool.{cond}
+use mathlib.Core.Bool.{cond, _&&_}
 use mathlib.Core.List.{List, [], _∷_, _++_}
 use lib.ListN.{length}
 use lib.Dec.{eqb}
 use Rattle.image.specs.declared.Mode.{Mode}
 use Rattle.image.specs.declared.Mode.the-variants.{Twoway, Oneway}
-use Rattle.image.specs.Image.{Entry, backSize, backIn}
+use Rattle.image.specs.Image.{Entry, backSize, backIn, holds}
 use Rattle.image.specs.Zero.{hasZero}
-use Rattle.writer.specs.State.{State, tooLarge}
+use Rattle.writer.specs.declared.Repeats.{Repeats}
+use Rattle.writer.specs.State.{State, refusesRepeats, tooLarge}
 use Rattle.writer.specs.Put.{putRefusal, afterPut}
 use Rattle.writer.specs.Close.{closeRefusal, afterClose}
 
@@ -58,39 +59,42 @@ putsSize (e ∷ es) = 25 + length (e .name) + putsSize es
 unfoldable pub sizeOf : Mode → List Entry → ℕ
 sizeOf mode es = 2072 + putsSize es + 4 * backIn mode (backSize es)
 
--- the refusal that is due to a put after the accepted puts es, in a buffer of n bytes: 13 for a zero byte in the name (02 (v)); then 3 when the size,
--- which counts the put at hand, exceeds either limit. 0: none
-unfoldable pub putDue : Mode → ℕ → List Entry → Entry → ℕ
-putDue mode n es e = cond (hasZero (e .name)) 13 (cond (tooLarge n (sizeOf mode (es ++ (e ∷ [])))) 3 0)
+-- the refusal that is due to a put after the accepted puts es, in a buffer of n bytes: 13 for a zero byte in the name (02 (v)); then, with repeats off, 16
+-- when an accepted put before it has this name (02 (viii)); then 3 when the size, which counts the put at hand, exceeds either limit. 0: none
+unfoldable pub putDue : Mode → Repeats → ℕ → List Entry → Entry → ℕ
+putDue mode repeats n es e =
+    cond (hasZero (e .name)) 13
+    (cond (holds (e .name) es && refusesRepeats repeats) 16
+    (cond (tooLarge n (sizeOf mode (es ++ (e ∷ [])))) 3 0))
 
 -- the refusal that is due to a call: none to a close
-abbrev pub dueTo : Mode → ℕ → List Entry → Call → ℕ
-dueTo mode n es (put e) = putDue mode n es e
-dueTo mode n es close = 0
+abbrev pub dueTo : Mode → Repeats → ℕ → List Entry → Call → ℕ
+dueTo mode repeats n es (put e) = putDue mode repeats n es e
+dueTo mode repeats n es close = 0
 
 -- the accepted puts after one call more
-abbrev pub acceptedAfter : Mode → ℕ → List Entry → Call → List Entry
-acceptedAfter mode n es c = es ++ acceptedOne c (dueTo mode n es c)
+abbrev pub acceptedAfter : Mode → Repeats → ℕ → List Entry → Call → List Entry
+acceptedAfter mode repeats n es c = es ++ acceptedOne c (dueTo mode repeats n es c)
 
-unfoldable pub acceptedFrom : Mode → ℕ → List Entry → List Call → List Entry
-acceptedFrom mode n es [] = es
-acceptedFrom mode n es (c ∷ cs) = acceptedFrom mode n (acceptedAfter mode n es c) cs
+unfoldable pub acceptedFrom : Mode → Repeats → ℕ → List Entry → List Call → List Entry
+acceptedFrom mode repeats n es [] = es
+acceptedFrom mode repeats n es (c ∷ cs) = acceptedFrom mode repeats n (acceptedAfter mode repeats n es c) cs
 
-unfoldable pub dueFrom : Mode → ℕ → List Entry → List Call → List ℕ
-dueFrom mode n es [] = []
-dueFrom mode n es (c ∷ cs) = dueTo mode n es c ∷ dueFrom mode n (acceptedAfter mode n es c) cs
+unfoldable pub dueFrom : Mode → Repeats → ℕ → List Entry → List Call → List ℕ
+dueFrom mode repeats n es [] = []
+dueFrom mode repeats n es (c ∷ cs) = dueTo mode repeats n es c ∷ dueFrom mode repeats n (acceptedAfter mode repeats n es c) cs
 
 -- the accepted puts of a list of calls, and the refusal due to each call, by the buffer's length and the calls alone
-unfoldable pub accepted : Mode → ℕ → List Call → List Entry
-accepted mode n cs = acceptedFrom mode n [] cs
+unfoldable pub accepted : Mode → Repeats → ℕ → List Call → List Entry
+accepted mode repeats n cs = acceptedFrom mode repeats n [] cs
 
-unfoldable pub due : Mode → ℕ → List Call → List ℕ
-due mode n cs = dueFrom mode n [] cs
+unfoldable pub due : Mode → Repeats → ℕ → List Call → List ℕ
+due mode repeats n cs = dueFrom mode repeats n [] cs
 
--- no call of a list gives 2 or 4, and no close is refused there: a put may be answered by 0, 13 or 3, a close by 0, and there is one answer for
+-- no call of a list gives 2 or 4, and no close is refused there: a put may be answered by 0, 13, 16 or 3, a close by 0, and there is one answer for
 -- each call
 abbrev pub Permitted : Call → ℕ → Type 0
-Permitted (put e) r = (r ≡ 0) ⊎ ((r ≡ 13) ⊎ (r ≡ 3))
+Permitted (put e) r = (r ≡ 0) ⊎ ((r ≡ 13) ⊎ ((r ≡ 16) ⊎ (r ≡ 3)))
 Permitted close r = r ≡ 0
 
 abbrev pub AllPermitted : List Call → List ℕ → Type 0

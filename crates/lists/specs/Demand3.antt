@@ -1,6 +1,7 @@
 -- Demand 3, and 01, "Whole lists (demand 3)": what holds of every list of put and close calls from a fresh two-way writer on one buffer, whatever bytes
--- stand there. It speaks of the definitions with which the promises of the public functions are equations: `beginning` and `countsBegun` of begin,
--- `putRefusal` and `afterPut` of put, `closing` and `afterClose` of close, `opening` of open, `lookup` of to_id, `naming` of to_str.
+-- stand there; the lists start with either choice of 02 (viii), repeats off or on. It speaks of the definitions with which the promises of the public
+-- functions are equations: `beginning` and `countsBegun` of begin, `putRefusal` and `afterPut` of put, `closing` and `afterClose` of close, `opening` of
+-- open, `lookup` of to_id, `naming` of to_str.
 use Prim.Native.Nat.{ℕ, _+_, _≤_}
 use mathlib.Core.Path.{_≡_}
 use mathlib.Core.Logic.{_↔_}
@@ -15,41 +16,42 @@ use Rattle.reader.specs.Open.{opening}
 use Rattle.reader.specs.Lookup.{lookup}
 use Rattle.answers.specs.Answer.{foundId, nameGiven, ofName, ofId, tablePuts, firstId, lastName}
 use Rattle.reader.specs.Cases.{reads}
+use Rattle.writer.specs.declared.Repeats.{Repeats}
 use Rattle.writer.specs.State.{State, fresh, beginning, countsBegun}
 use Rattle.writer.specs.Close.{closing, closedSize, closedImage}
 use Rattle.lists.specs.Calls.{Call, after, answers, acceptedBy, accepted, due, sizeOf, AllPermitted}
 
 -- a list starts from the record of an accepted begin and that begin's buffer: what its calls answer, and the record and the buffer after them
-abbrev pub answersOf : Mode → List ℕ → List Call → List ℕ
-answersOf mode buffer cs = answers (fresh mode buffer) cs
+abbrev pub answersOf : Mode → Repeats → List ℕ → List Call → List ℕ
+answersOf mode repeats buffer cs = answers (fresh mode repeats buffer) cs
 
-abbrev pub afterList : Mode → List ℕ → List Call → State
-afterList mode buffer cs = after (fresh mode buffer) cs
+abbrev pub afterList : Mode → Repeats → List ℕ → List Call → State
+afterList mode repeats buffer cs = after (fresh mode repeats buffer) cs
 
 -- its accepted puts: those whose answer is no refusal
-unfoldable pub acceptedPuts : Mode → List ℕ → List Call → List Entry
-acceptedPuts mode buffer cs = acceptedBy cs (answersOf mode buffer cs)
+unfoldable pub acceptedPuts : Mode → Repeats → List ℕ → List Call → List Entry
+acceptedPuts mode repeats buffer cs = acceptedBy cs (answersOf mode repeats buffer cs)
 
 -- the image of the one more close is the buffer's first bytes after it, as many as the size it gives
-unfoldable pub imageOf : Mode → List ℕ → List Call → List ℕ
-imageOf mode buffer cs = closedImage (afterList mode buffer cs)
+unfoldable pub imageOf : Mode → Repeats → List ℕ → List Call → List ℕ
+imageOf mode repeats buffer cs = closedImage (afterList mode repeats buffer cs)
 
 -- ---- what is said of one list
 
 -- its calls and the one more close
-pub record CallsAnswered (mode : Mode) (buffer : List ℕ) (cs : List Call) : Type 0 where
+pub record CallsAnswered (mode : Mode) (repeats : Repeats) (buffer : List ℕ) (cs : List Call) : Type 0 where
   -- begin gives a fresh writer for this buffer: the record, and the table counts in what was lent for them
-  pub begins : beginning mode (length buffer) ≡ value (fresh mode buffer .writer)
-  pub begins-counts : (lent : List ℕ) → countsBegun (length buffer) lent ≡ fresh mode buffer .counts
-  -- each call is refused exactly when 01 says: by the buffer's length and the calls alone, never by 2 or 4, and no close
-  pub answered : answersOf mode buffer cs ≡ due mode (length buffer) cs
-  pub permitted : AllPermitted cs (answersOf mode buffer cs)
-  pub decided : acceptedPuts mode buffer cs ≡ accepted mode (length buffer) cs
+  pub begins : beginning mode repeats (length buffer) ≡ value (fresh mode repeats buffer .writer)
+  pub begins-counts : (lent : List ℕ) → countsBegun (length buffer) lent ≡ fresh mode repeats buffer .counts
+  -- each call is refused exactly when 01 and 02 say: by the choices at begin, the buffer's length and the calls alone, never by 2 or 4, and no close
+  pub answered : answersOf mode repeats buffer cs ≡ due mode repeats (length buffer) cs
+  pub permitted : AllPermitted cs (answersOf mode repeats buffer cs)
+  pub decided : acceptedPuts mode repeats buffer cs ≡ accepted mode repeats (length buffer) cs
   -- one more close is accepted, and gives the size of 01's formula
-  pub closes : closing (afterList mode buffer cs) ≡ value (closedSize (afterList mode buffer cs))
-  pub sized : closedSize (afterList mode buffer cs) ≡ sizeOf mode (acceptedPuts mode buffer cs)
+  pub closes : closing (afterList mode repeats buffer cs) ≡ value (closedSize (afterList mode repeats buffer cs))
+  pub sized : closedSize (afterList mode repeats buffer cs) ≡ sizeOf mode (acceptedPuts mode repeats buffer cs)
   -- its image is the one that 01's rules give for the accepted puts
-  pub imaged : imageOf mode buffer cs ≡ image mode (acceptedPuts mode buffer cs)
+  pub imaged : imageOf mode repeats buffer cs ≡ image mode (acceptedPuts mode repeats buffer cs)
 
 -- opening and looking up names in an image, by the accepted puts es
 pub record NamesAnswered (es : List Entry) (img : List ℕ) : Type 0 where
@@ -72,22 +74,22 @@ pub record IdsAnswered (es : List Entry) (img : List ℕ) : Type 0 where
 -- ---- demand 3
 
 -- what demand 3 says of one list
-pub record OneList (buffer : List ℕ) (cs : List Call) : Type 0 where
-  pub calls : CallsAnswered Twoway buffer cs
-  pub names : NamesAnswered (acceptedPuts Twoway buffer cs) (imageOf Twoway buffer cs)
-  pub ids : IdsAnswered (acceptedPuts Twoway buffer cs) (imageOf Twoway buffer cs)
+pub record OneList (repeats : Repeats) (buffer : List ℕ) (cs : List Call) : Type 0 where
+  pub calls : CallsAnswered Twoway repeats buffer cs
+  pub names : NamesAnswered (acceptedPuts Twoway repeats buffer cs) (imageOf Twoway repeats buffer cs)
+  pub ids : IdsAnswered (acceptedPuts Twoway repeats buffer cs) (imageOf Twoway repeats buffer cs)
 
--- and of two, whatever their buffers and whatever else they put: only the found id, the bytes of the name, or nothing, are compared
-pub record TwoLists (buffer₁ : List ℕ) (cs₁ : List Call) (buffer₂ : List ℕ) (cs₂ : List Call) : Type 0 where
+-- and of two, whatever their choices, their buffers and whatever else they put: only the found id, the bytes of the name, or nothing, are compared
+pub record TwoLists (repeats₁ : Repeats) (buffer₁ : List ℕ) (cs₁ : List Call) (repeats₂ : Repeats) (buffer₂ : List ℕ) (cs₂ : List Call) : Type 0 where
   -- with the same accepted puts of one name, in the same order, both images answer that name alike
-  pub alike-name : (name : List ℕ) → ofName name (acceptedPuts Twoway buffer₁ cs₁) ≡ ofName name (acceptedPuts Twoway buffer₂ cs₂)
-      → foundId (lookup (imageOf Twoway buffer₁ cs₁) name) ≡ foundId (lookup (imageOf Twoway buffer₂ cs₂) name)
+  pub alike-name : (name : List ℕ) → ofName name (acceptedPuts Twoway repeats₁ buffer₁ cs₁) ≡ ofName name (acceptedPuts Twoway repeats₂ buffer₂ cs₂)
+      → foundId (lookup (imageOf Twoway repeats₁ buffer₁ cs₁) name) ≡ foundId (lookup (imageOf Twoway repeats₂ buffer₂ cs₂) name)
   -- with the same accepted puts of one id, in the same order, both give it the same name or nothing
-  pub alike-id : (id : ℕ) → ofId id (acceptedPuts Twoway buffer₁ cs₁) ≡ ofId id (acceptedPuts Twoway buffer₂ cs₂)
-      → nameGiven (imageOf Twoway buffer₁ cs₁) id ≡ nameGiven (imageOf Twoway buffer₂ cs₂) id
+  pub alike-id : (id : ℕ) → ofId id (acceptedPuts Twoway repeats₁ buffer₁ cs₁) ≡ ofId id (acceptedPuts Twoway repeats₂ buffer₂ cs₂)
+      → nameGiven (imageOf Twoway repeats₁ buffer₁ cs₁) id ≡ nameGiven (imageOf Twoway repeats₂ buffer₂ cs₂) id
 
 -- for every list, and every two, on buffers of 2,072 bytes or more
 pub record Demand3 : Type 0 where
-  pub one-list : (buffer : List ℕ) (cs : List Call) → headSize ≤ length buffer → OneList buffer cs
-  pub two-lists : (buffer₁ : List ℕ) (cs₁ : List Call) (buffer₂ : List ℕ) (cs₂ : List Call) → headSize ≤ length buffer₁ → headSize ≤ length buffer₂
-      → TwoLists buffer₁ cs₁ buffer₂ cs₂
+  pub one-list : (repeats : Repeats) (buffer : List ℕ) (cs : List Call) → headSize ≤ length buffer → OneList repeats buffer cs
+  pub two-lists : (repeats₁ : Repeats) (buffer₁ : List ℕ) (cs₁ : List Call) (repeats₂ : Repeats) (buffer₂ : List ℕ) (cs₂ : List Call) → headSize ≤ length buffer₁ → headSize ≤ length buffer₂
+      → TwoLists repeats₁ buffer₁ cs₁ repeats₂ buffer₂ cs₂

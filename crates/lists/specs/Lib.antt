@@ -6,3 +6,4 @@ pub mod AfterClose
 pub mod OneWay
 pub mod QuayRows
 pub mod Readings
+pub mod RepeatsOff

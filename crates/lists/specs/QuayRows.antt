@@ -1,4 +1,5 @@
--- The examples C1 to C7 and C11 of 01, "Examples from the quay", as rows: a list of calls on a buffer, and what it gives.
+-- The examples C1 to C7 and C11 of 01, "Examples from the quay", as rows: a list of calls on a buffer, and what it gives. C6 names the repeats mode
+-- (02 (viii)); the others hold with either choice.
 use Prim.Native.Nat.{ℕ, _+_, _*_}
 use mathlib.Core.Path.{_≡_}
 use mathlib.Core.Bool.{Bool, true, false}
@@ -15,6 +16,8 @@ use Rattle.reader.specs.Open.{opening}
 use Rattle.reader.specs.Lookup.{lookup}
 use Rattle.reader.specs.Walk.{home}
 use Rattle.answers.specs.Answer.{foundId, nameGiven}
+use Rattle.writer.specs.declared.Repeats.{Repeats}
+use Rattle.writer.specs.declared.Repeats.the-variants.{Off, On}
 use Rattle.writer.specs.Put.{entryOf}
 use Rattle.writer.specs.Close.{closing}
 use Rattle.lists.specs.Calls.{Call, put}
@@ -33,6 +36,7 @@ pub record IdRow : Type 0 where
 -- calls on a buffer of `bytes` bytes; the refusal of each, the size that one more close gives, num, the back array's offset and words, and answers
 pub record Row : Type 0 where
   pub mode : Mode
+  pub repeats : Repeats
   pub bytes : ℕ
   pub calls : List Call
   pub refusals : List ℕ
@@ -56,9 +60,9 @@ pub record ImageHolds (r : Row) (img : List ℕ) : Type 0 where
   pub placed : Each (λ (a : IdRow). (nameGiven img (a .id) ≡ a .gives) × (home img (a .id) ≡ a .isHome)) (r .ids)
 
 pub record RowHolds (r : Row) (buffer : List ℕ) : Type 0 where
-  pub answered : answersOf (r .mode) buffer (r .calls) ≡ r .refusals
-  pub closes : closing (afterList (r .mode) buffer (r .calls)) ≡ value (r .size)
-  pub imaged : ImageHolds r (imageOf (r .mode) buffer (r .calls))
+  pub answered : answersOf (r .mode) (r .repeats) buffer (r .calls) ≡ r .refusals
+  pub closes : closing (afterList (r .mode) (r .repeats) buffer (r .calls)) ≡ value (r .size)
+  pub imaged : ImageHolds r (imageOf (r .mode) (r .repeats) buffer (r .calls))
 
 -- whatever bytes stand in the buffer
 abbrev pub HoldsInAny : Row → Type 0
@@ -75,10 +79,11 @@ B = 66 ∷ []
 abbrev pub entered : List ℕ → ℕ → Call
 entered name id = put (entryOf name id)
 
-abbrev pub c1 : Row
-c1 =
+abbrev pub c1 : Repeats → Row
+c1 repeats =
     record {
       mode = Twoway;
+      repeats = repeats;
       bytes = 2072;
       calls = [];
       refusals = [];
@@ -90,10 +95,11 @@ c1 =
       ids = record { id = 0; gives = none; isHome = false } ∷ [];
     }
 
-abbrev pub c2 : Row
-c2 =
+abbrev pub c2 : Repeats → Row
+c2 repeats =
     record {
       mode = Twoway;
+      repeats = repeats;
       bytes = 2101;
       calls = entered [] 0 ∷ [];
       refusals = 0 ∷ [];
@@ -105,10 +111,11 @@ c2 =
       ids = record { id = 0; gives = some []; isHome = true } ∷ [];
     }
 
-abbrev pub c3 : Row
-c3 =
+abbrev pub c3 : Repeats → Row
+c3 repeats =
     record {
       mode = Twoway;
+      repeats = repeats;
       bytes = 2100;
       calls = entered [] 0 ∷ [];
       refusals = 3 ∷ [];
@@ -120,10 +127,11 @@ c3 =
       ids = record { id = 0; gives = none; isHome = false } ∷ [];
     }
 
-abbrev pub c4 : Row
-c4 =
+abbrev pub c4 : Repeats → Row
+c4 repeats =
     record {
       mode = Twoway;
+      repeats = repeats;
       bytes = 2140;
       calls = entered A 0 ∷ entered B 3 ∷ [];
       refusals = 0 ∷ 0 ∷ [];
@@ -135,10 +143,11 @@ c4 =
       ids = record { id = 0; gives = some A; isHome = true } ∷ record { id = 1; gives = none; isHome = false } ∷ record { id = 3; gives = some B; isHome = true } ∷ [];
     }
 
-abbrev pub c5 : Row
-c5 =
+abbrev pub c5 : Repeats → Row
+c5 repeats =
     record {
       mode = Oneway;
+      repeats = repeats;
       bytes = 2140;
       calls = entered A 0 ∷ entered B 3 ∷ [];
       refusals = 0 ∷ 0 ∷ [];
@@ -154,6 +163,7 @@ abbrev pub c6 : Row
 c6 =
     record {
       mode = Twoway;
+      repeats = On;
       bytes = 3000;
       calls = entered A 5 ∷ entered A 9 ∷ [];
       refusals = 0 ∷ 0 ∷ [];
@@ -165,10 +175,28 @@ c6 =
       ids = record { id = 5; gives = some A; isHome = true } ∷ record { id = 9; gives = some A; isHome = true } ∷ [];
     }
 
-abbrev pub c7 : Row
-c7 =
+-- C6 without the repeats mode: the second put is refused
+abbrev pub c6-off : Row
+c6-off =
     record {
       mode = Twoway;
+      repeats = Off;
+      bytes = 3000;
+      calls = entered A 5 ∷ entered A 9 ∷ [];
+      refusals = 0 ∷ 16 ∷ [];
+      size = 2122;
+      number = 1;
+      backOffset = 2098;
+      links = 0 ∷ 0 ∷ 0 ∷ 0 ∷ 0 ∷ 2072 ∷ [];
+      names = record { name = A; gives = some 5 } ∷ [];
+      ids = record { id = 5; gives = some A; isHome = true } ∷ record { id = 9; gives = none; isHome = false } ∷ [];
+    }
+
+abbrev pub c7 : Repeats → Row
+c7 repeats =
+    record {
+      mode = Twoway;
+      repeats = repeats;
       bytes = 3000;
       calls = entered A 0 ∷ entered B 0 ∷ [];
       refusals = 0 ∷ 0 ∷ [];
@@ -181,10 +209,11 @@ c7 =
     }
 
 -- C11, two-way and one-way
-abbrev pub c11 : Row
-c11 =
+abbrev pub c11 : Repeats → Row
+c11 repeats =
     record {
       mode = Twoway;
+      repeats = repeats;
       bytes = 3000;
       calls = entered A 4294967295 ∷ [];
       refusals = 3 ∷ [];
@@ -196,10 +225,11 @@ c11 =
       ids = record { id = 4294967295; gives = none; isHome = false } ∷ [];
     }
 
-abbrev pub c11-one-way : Row
-c11-one-way =
+abbrev pub c11-one-way : Repeats → Row
+c11-one-way repeats =
     record {
       mode = Oneway;
+      repeats = repeats;
       bytes = 3000;
       calls = entered A 4294967295 ∷ [];
       refusals = 0 ∷ [];
@@ -211,5 +241,9 @@ c11-one-way =
       ids = record { id = 4294967295; gives = none; isHome = false } ∷ [];
     }
 
-abbrev pub rows : List Row
-rows = c1 ∷ c2 ∷ c3 ∷ c4 ∷ c5 ∷ c6 ∷ c7 ∷ c11 ∷ c11-one-way ∷ []
+-- those that hold with either choice, and those that name it
+abbrev pub rows : Repeats → List Row
+rows repeats = c1 repeats ∷ c2 repeats ∷ c3 repeats ∷ c4 repeats ∷ c5 repeats ∷ c7 repeats ∷ c11 repeats ∷ c11-one-way repeats ∷ []
+
+abbrev pub namedRows : List Row
+namedRows = c6 ∷ c6-off ∷ []

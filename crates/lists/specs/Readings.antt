@@ -9,9 +9,10 @@ use lib.ListN.{length}
 use Rattle.image.specs.declared.Mode.the-variants.{Twoway, Oneway}
 use Rattle.image.specs.Image.{headSize}
 use Rattle.reader.specs.Panel.{readingsAgree}
+use Rattle.writer.specs.declared.Repeats.{Repeats}
 use Rattle.lists.specs.Calls.{Call, WordIds}
 use Rattle.lists.specs.Demand3.{imageOf}
 
 pub record Readings : Type 0 where
-  pub two-way : (buffer : List ℕ) (cs : List Call) → headSize ≤ length buffer → readingsAgree (imageOf Twoway buffer cs) ≡ true
-  pub one-way : (buffer : List ℕ) (cs : List Call) → headSize ≤ length buffer → WordIds Oneway cs → readingsAgree (imageOf Oneway buffer cs) ≡ true
+  pub two-way : (repeats : Repeats) (buffer : List ℕ) (cs : List Call) → headSize ≤ length buffer → readingsAgree (imageOf Twoway repeats buffer cs) ≡ true
+  pub one-way : (repeats : Repeats) (buffer : List ℕ) (cs : List Call) → headSize ≤ length buffer → WordIds Oneway cs → readingsAgree (imageOf Oneway repeats buffer cs) ≡ true

@@ -2,19 +2,22 @@
 use Prim.Native.Nat.{ℕ, _+_, _^_, _≤_, _<_}
 use native.Mathlib.Omega.{arith}
 use mathlib.Core.Path.{_≡_, refl, sym, ap, _∙_}
-use mathlib.Core.Bool.{Bool, true, false, cond}
-use mathlib.Core.List.{List, [], _∷_, _++_, map, append-assoc, append-nil}
+use mathlib.Core.Bool.{Bool, true, false, cond, and-false}
+use mathlib.Core.List.{List, [], _∷_, _++_, append-assoc, append-nil}
 use lib.ListN.{length}
 use lib.Dec.{eqb}
 use borrow.Author.Tests.{le-ltb}
-use Rattle.image.specs.Image.{Entry, headSize, backSize, imageSize, image}
+use Rattle.image.specs.Image.{Entry, headSize, backSize, imageSize, image, holds}
 use Rattle.image.specs.Zero.{hasZero}
 use Rattle.image.specs.declared.Mode.{Mode}
 use Rattle.image.specs.declared.Mode.the-variants.{Twoway, Oneway}
 use Rattle.image.proofs.Every.{All}
 use Rattle.image.proofs.Sizes.{length-image}
+use Rattle.writer.specs.declared.Repeats.{Repeats}
+use Rattle.writer.specs.declared.Repeats.the-variants.{On}
 use Rattle.lists.specs.Calls.{Call, put, acceptedOne, putsSize, sizeOf, putDue, acceptedFrom, accepted, WordIds}
 use Rattle.lists.specs.Demand3.{acceptedPuts, imageOf}
+use Rattle.lists.specs.RepeatsOff.{putAll}
 use Rattle.lists.proofs.Appended.{sizeOf-is}
 use Rattle.lists.proofs.Along.{list-written, list-accepted}
 use Rattle.lists.proofs.OneMore.{list-image, list-below}
@@ -29,40 +32,40 @@ puttables : (es : List Entry) → All (λ (e : Entry). hasZero (e .name) ≡ fal
 puttables [] f i = tt
 puttables (e ∷ es) f i = (record { free = f .0; id-word = i .0 }, puttables es (f .1) (i .1))
 
-module _ (mode : Mode) (buffer : List ℕ) (room : headSize ≤ length buffer) (cs : List Call) (word : WordIds mode cs) where
-  ids : All (λ (e : Entry). e .id < 2 ^ 32) (accepted mode (length buffer) cs)
+module _ (mode : Mode) (repeats : Repeats) (buffer : List ℕ) (room : headSize ≤ length buffer) (cs : List Call) (word : WordIds mode cs) where
+  ids : All (λ (e : Entry). e .id < 2 ^ 32) (accepted mode repeats (length buffer) cs)
   ids =
-      let w = list-written mode buffer room cs word in
-      word-ids (accepted mode (length buffer) cs) (2 ^ 32) (w .ids) (omega arith)
+      let w = list-written mode repeats buffer room cs word in
+      word-ids (accepted mode repeats (length buffer) cs) (2 ^ 32) (w .ids) (omega arith)
 
-  of-accepted : imageOf mode buffer cs ≡ image mode (accepted mode (length buffer) cs)
+  of-accepted : imageOf mode repeats buffer cs ≡ image mode (accepted mode repeats (length buffer) cs)
   unfolding imageOf
-  of-accepted = list-image mode buffer room cs word
+  of-accepted = list-image mode repeats buffer room cs word
 
-  pub list-made : Made (imageOf mode buffer cs)
+  pub list-made : Made (imageOf mode repeats buffer cs)
   list-made = record {
     mode = mode;
-    puts = accepted mode (length buffer) cs;
-    each = puttables (accepted mode (length buffer) cs) (accepted-free mode (length buffer) cs) ids;
-    fits = list-below mode buffer room cs word;
+    puts = accepted mode repeats (length buffer) cs;
+    each = puttables (accepted mode repeats (length buffer) cs) (accepted-free mode repeats (length buffer) cs) ids;
+    fits = list-below mode repeats buffer room cs word;
     is = sym of-accepted;
   }
 
-  pub list-puts : putsIn (imageOf mode buffer cs) ≡ acceptedPuts mode buffer cs
+  pub list-puts : putsIn (imageOf mode repeats buffer cs) ≡ acceptedPuts mode repeats buffer cs
   list-puts =
       ap putsIn of-accepted
-      ∙ puts-image mode (accepted mode (length buffer) cs) ids (list-below mode buffer room cs word)
-      ∙ sym (list-accepted mode buffer room cs word)
+      ∙ puts-image mode (accepted mode repeats (length buffer) cs) ids (list-below mode repeats buffer room cs word)
+      ∙ sym (list-accepted mode repeats buffer room cs word)
 
-  pub list-mode : modeIn (imageOf mode buffer cs) ≡ mode
-  list-mode = ap modeIn of-accepted ∙ flag-of-image mode (accepted mode (length buffer) cs) ids (list-below mode buffer room cs word)
+  pub list-mode : modeIn (imageOf mode repeats buffer cs) ≡ mode
+  list-mode = ap modeIn of-accepted ∙ flag-of-image mode (accepted mode repeats (length buffer) cs) ids (list-below mode repeats buffer room cs word)
 
 -- two lists that close to the same image have the same accepted puts
-pub lists-injective : (mode : Mode) (buffer₁ : List ℕ) (room₁ : headSize ≤ length buffer₁) (cs₁ : List Call) (word₁ : WordIds mode cs₁)
-    (buffer₂ : List ℕ) (room₂ : headSize ≤ length buffer₂) (cs₂ : List Call) (word₂ : WordIds mode cs₂)
-    → imageOf mode buffer₁ cs₁ ≡ imageOf mode buffer₂ cs₂ → acceptedPuts mode buffer₁ cs₁ ≡ acceptedPuts mode buffer₂ cs₂
-lists-injective mode buffer₁ room₁ cs₁ word₁ buffer₂ room₂ cs₂ word₂ e =
-    sym (list-puts mode buffer₁ room₁ cs₁ word₁) ∙ ap putsIn e ∙ list-puts mode buffer₂ room₂ cs₂ word₂
+pub lists-injective : (mode : Mode) (repeats₁ : Repeats) (buffer₁ : List ℕ) (room₁ : headSize ≤ length buffer₁) (cs₁ : List Call) (word₁ : WordIds mode cs₁)
+    (repeats₂ : Repeats) (buffer₂ : List ℕ) (room₂ : headSize ≤ length buffer₂) (cs₂ : List Call) (word₂ : WordIds mode cs₂)
+    → imageOf mode repeats₁ buffer₁ cs₁ ≡ imageOf mode repeats₂ buffer₂ cs₂ → acceptedPuts mode repeats₁ buffer₁ cs₁ ≡ acceptedPuts mode repeats₂ buffer₂ cs₂
+lists-injective mode repeats₁ buffer₁ room₁ cs₁ word₁ repeats₂ buffer₂ room₂ cs₂ word₂ e =
+    sym (list-puts mode repeats₁ buffer₁ room₁ cs₁ word₁) ∙ ap putsIn e ∙ list-puts mode repeats₂ buffer₂ room₂ cs₂ word₂
 
 -- ---- what is ours is the image of the list of its puts
 
@@ -81,25 +84,26 @@ unfolding sizeOf
 sizeOf-more Twoway xs ys = omega (arith, putsSize-more xs ys, backSize-more xs ys)
 sizeOf-more Oneway xs ys = omega (arith, putsSize-more xs ys)
 
--- nothing is due to a put whose name has no zero byte, where its size exceeds neither limit
+-- in the repeats mode nothing is due to a put whose name has no zero byte, where its size exceeds neither limit
 none-due : (mode : Mode) (n : ℕ) (done : List Entry) (e : Entry) → hasZero (e .name) ≡ false → sizeOf mode (done ++ (e ∷ [])) ≤ n
-    → sizeOf mode (done ++ (e ∷ [])) ≤ 4294967295 → putDue mode n done e ≡ 0
+    → sizeOf mode (done ++ (e ∷ [])) ≤ 4294967295 → putDue mode On n done e ≡ 0
 unfolding putDue
-none-due mode n done e free h k = rw (free, le-ltb n (sizeOf mode (done ++ (e ∷ []))) h, le-ltb 4294967295 (sizeOf mode (done ++ (e ∷ []))) k)
+none-due mode n done e free h k = rw (free, and-false (holds (e .name) done), le-ltb n (sizeOf mode (done ++ (e ∷ []))) h, le-ltb 4294967295 (sizeOf mode (done ++ (e ∷ []))) k)
 
 all-accepted : (mode : Mode) (n : ℕ) (done es : List Entry) → All Puttable es → sizeOf mode (done ++ es) ≤ n → sizeOf mode (done ++ es) ≤ 4294967295
-    → acceptedFrom mode n done (map put es) ≡ done ++ es
-unfolding acceptedFrom
+    → acceptedFrom mode On n done (putAll es) ≡ done ++ es
+unfolding acceptedFrom putAll
 all-accepted mode n done [] a h k = sym (append-nil done)
 all-accepted mode n done (e ∷ es) a h k =
     let g : (done ++ (e ∷ [])) ++ es ≡ done ++ e ∷ es = append-assoc done (e ∷ []) es in
     let s = ap (sizeOf mode) g in
     let m = sizeOf-more mode (done ++ (e ∷ [])) es in
-    ap (λ (r : ℕ). acceptedFrom mode n (done ++ acceptedOne (put e) r) (map put es)) (none-due mode n done e (a .0 .free) (omega arith) (omega arith))
+    ap (λ (r : ℕ). acceptedFrom mode On n (done ++ acceptedOne (put e) r) (putAll es)) (none-due mode n done e (a .0 .free) (omega arith) (omega arith))
     ∙ all-accepted mode n (done ++ (e ∷ [])) es (a .1) (omega arith) (omega arith)
     ∙ g
 
-pub words : (mode : Mode) (es : List Entry) → All Puttable es → WordIds mode (map put es)
+pub words : (mode : Mode) (es : List Entry) → All Puttable es → WordIds mode (putAll es)
+unfolding putAll
 words mode [] a = tt
 words Twoway (e ∷ es) a = (tt, words Twoway es (a .1))
 words Oneway (e ∷ es) a = (a .0 .id-word, words Oneway es (a .1))
@@ -111,18 +115,18 @@ module _ (img : List ℕ) (m : Made img) (buffer : List ℕ) (long : length img 
   pub made-room : headSize ≤ length buffer
   made-room = omega (arith, made-size)
 
-  pub accepted-all : accepted (m .mode) (length buffer) (map put (m .puts)) ≡ m .puts
+  pub accepted-all : accepted (m .mode) On (length buffer) (putAll (m .puts)) ≡ m .puts
   unfolding accepted
   accepted-all =
       let e = sizeOf-is (m .mode) (m .puts) in
       let f = m .fits in
       all-accepted (m .mode) (length buffer) [] (m .puts) (m .each) (omega (arith, made-size)) (omega arith)
 
-  pub made-accepted : acceptedPuts (m .mode) buffer (map put (m .puts)) ≡ m .puts
-  made-accepted = list-accepted (m .mode) buffer made-room (map put (m .puts)) (words (m .mode) (m .puts) (m .each)) ∙ accepted-all
+  pub made-accepted : acceptedPuts (m .mode) On buffer (putAll (m .puts)) ≡ m .puts
+  made-accepted = list-accepted (m .mode) On buffer made-room (putAll (m .puts)) (words (m .mode) (m .puts) (m .each)) ∙ accepted-all
 
-  pub made-closes : imageOf (m .mode) buffer (map put (m .puts)) ≡ img
+  pub made-closes : imageOf (m .mode) On buffer (putAll (m .puts)) ≡ img
   made-closes =
-      of-accepted (m .mode) buffer made-room (map put (m .puts)) (words (m .mode) (m .puts) (m .each))
+      of-accepted (m .mode) On buffer made-room (putAll (m .puts)) (words (m .mode) (m .puts) (m .each))
       ∙ ap (image (m .mode)) accepted-all
       ∙ m .is

@@ -3,7 +3,7 @@ use Prim.Native.Nat.{ℕ, _+_, _≤_, _<_}
 use native.Mathlib.Omega.{arith}
 use mathlib.Core.Path.{_≡_, refl, sym, ap, ap₂, _∙_}
 use mathlib.Core.Bool.{Bool, true, false}
-use mathlib.Core.List.{List, [], _∷_, _++_, map, append-assoc, append-nil}
+use mathlib.Core.List.{List, [], _∷_, _++_, append-assoc, append-nil}
 use mathlib.Core.Option.{Option, none, some}
 use lib.ListN.{length, getD, replicate, length-append, length-replicate, List·getD-append}
 use Rattle.jhash.specs.Outcome.{value}
@@ -21,8 +21,10 @@ use Rattle.reader.specs.Lookup.{lookup}
 use Rattle.reader.specs.Panel.{readingsAgree}
 use Rattle.reader.specs.Walk.{home}
 use Rattle.answers.specs.Answer.{foundId, nameGiven, hasName, ofName, firstId, isNamed}
-use Rattle.lists.specs.Calls.{Call, put, accepted, WordIds}
-use Rattle.lists.specs.Demand3.{acceptedPuts, imageOf}
+use Rattle.writer.specs.declared.Repeats.the-variants.{On}
+use Rattle.lists.specs.Calls.{Call, WordIds}
+use Rattle.lists.specs.Demand3.{imageOf}
+use Rattle.lists.specs.RepeatsOff.{putAll}
 use Rattle.lists.proofs.Read.{Read}
 use Rattle.lists.proofs.Reading.{list-read}
 use Rattle.lists.proofs.Readings.{readings}
@@ -80,23 +82,18 @@ module _ (img : List ℕ) (m : Made img) where
   room : length img ≤ length img
   room = omega arith
 
-  calls : List Call
-  calls = map put (m .puts)
-
   read : Read (m .mode) (m .puts) img
-  unfolding calls
   read =
       let all = accepted-all img m img room in
       let closed = made-closes img m img room in
-      rw (all, closed) at (list-read (m .mode) img (made-room img m img room) (map put (m .puts)) (words (m .mode) (m .puts) (m .each)))
+      rw (all, closed) at (list-read (m .mode) On img (made-room img m img room) (putAll (m .puts)) (words (m .mode) (m .puts) (m .each)))
 
   made-agrees : readingsAgree img ≡ true
-  unfolding calls
   made-agrees = sym (ap readingsAgree (made-closes img m img room)) ∙ go (m .mode) (words (m .mode) (m .puts) (m .each))
     where
-      go : (mode : Mode) → WordIds mode (map put (m .puts)) → readingsAgree (imageOf mode img (map put (m .puts))) ≡ true
-      go Twoway w = readings .two-way img (map put (m .puts)) (made-room img m img room)
-      go Oneway w = readings .one-way img (map put (m .puts)) (made-room img m img room) w
+      go : (mode : Mode) → WordIds mode (putAll (m .puts)) → readingsAgree (imageOf mode On img (putAll (m .puts))) ≡ true
+      go Twoway w = readings .two-way On img (putAll (m .puts)) (made-room img m img room)
+      go Oneway w = readings .one-way On img (putAll (m .puts)) (made-room img m img room) w
 
   made-homes : (id : ℕ) (name : List ℕ) → nameGiven img id ≡ some name → home img id ≡ true
   made-homes id name h = read .id-home id ∙ ap isNamed (sym (read .id-gives id) ∙ h)
@@ -135,7 +132,7 @@ module _ (img : List ℕ) (bytes : Bytes img) (yes : ours img ≡ true) where
 -- ---- the rule, and lists
 
 ours-made : (img : List ℕ) → Ours img → Made img
-ours-made img o = rw (o .closes) at (list-made (o .mode) (o .buffer) (o .room) (map put (o .puts)) (words (o .mode) (o .puts) (o .each)))
+ours-made img o = rw (o .closes) at (list-made (o .mode) On (o .buffer) (o .room) (putAll (o .puts)) (words (o .mode) (o .puts) (o .each)))
 
 made-ours : (img : List ℕ) → Made img → Ours img
 made-ours img m =
@@ -154,11 +151,12 @@ theorem =
       exactly = λ img bytes. (λ yes. made-ours img (ours-only img bytes yes), λ o. ours-yes img (ours-made img o));
       holds = is-ours;
       of-list =
-          λ mode buffer cs room word. record {
-            is-ours = ours-yes (imageOf mode buffer cs) (list-made mode buffer room cs word);
-            read-back = list-puts mode buffer room cs word;
-            mode-back = list-mode mode buffer room cs word;
+          λ mode repeats buffer cs room word. record {
+            is-ours = ours-yes (imageOf mode repeats buffer cs) (list-made mode repeats buffer room cs word);
+            read-back = list-puts mode repeats buffer room cs word;
+            mode-back = list-mode mode repeats buffer room cs word;
           };
       different =
-          λ mode buffer₁ buffer₂ cs₁ cs₂ room₁ room₂ word₁ word₂ d e. d (lists-injective mode buffer₁ room₁ cs₁ word₁ buffer₂ room₂ cs₂ word₂ e);
+          λ mode repeats₁ buffer₁ cs₁ repeats₂ buffer₂ cs₂ room₁ room₂ word₁ word₂ d e.
+          d (lists-injective mode repeats₁ buffer₁ room₁ cs₁ word₁ repeats₂ buffer₂ room₂ cs₂ word₂ e);
     }

@@ -2,7 +2,7 @@
 use Prim.Native.Nat.{ℕ, _≤_}
 use mathlib.Core.Path.{_≡_}
 use mathlib.Core.Bool.{Bool, true, cond, not, _&&_}
-use mathlib.Core.List.{List, [], _∷_, map}
+use mathlib.Core.List.{List, [], _∷_}
 use lib.ListN.{length, drop}
 use lib.Dec.{eqb, leb}
 use Rattle.jhash.specs.Outcome.{Outcome, value, refusal}
@@ -13,19 +13,20 @@ use Rattle.image.specs.Zero.{hasZero}
 use Rattle.image.specs.declared.Mode.{Mode}
 use Rattle.image.specs.declared.Mode.the-variants.{Twoway, Oneway}
 use Rattle.reader.specs.Open.{opening}
-use Rattle.lists.specs.Calls.{put}
+use Rattle.writer.specs.declared.Repeats.the-variants.{On}
 use Rattle.lists.specs.Demand3.{imageOf}
+use Rattle.lists.specs.RepeatsOff.{putAll}
 use Rattle.ours.specs.Made.{Puttable}
 
 -- "the bytes are the image that some list of puts, one-way or two-way, repeats allowed, names free of zero bytes, closes to, with no byte after it": there
--- are a direction and puts that are made from a fresh record in some buffer, whose close gives exactly these bytes
+-- are a direction and puts that are made from a fresh record in some buffer, in the repeats mode of 02 (viii), whose close gives exactly these bytes
 pub record Ours (img : List ℕ) : Type 0 where
   pub mode : Mode
   pub buffer : List ℕ
   pub room : headSize ≤ length buffer
   pub puts : List Entry
   pub each : Each Puttable puts
-  pub closes : imageOf mode buffer (map put puts) ≡ img
+  pub closes : imageOf mode On buffer (putAll puts) ≡ img
 
 -- ---- the decision reads the puts back, makes their image and compares
 

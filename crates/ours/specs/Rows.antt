@@ -7,6 +7,8 @@ use lib.ListN.{length, replicate}
 use Rattle.image.specs.Image.{Entry, headBytes}
 use Rattle.image.specs.declared.Mode.{Mode}
 use Rattle.image.specs.declared.Mode.the-variants.{Twoway, Oneway}
+use Rattle.writer.specs.declared.Repeats.{Repeats}
+use Rattle.writer.specs.declared.Repeats.the-variants.{Off, On}
 use Rattle.writer.specs.Put.{entryOf}
 use Rattle.lists.specs.Calls.{Call, put, close}
 use Rattle.lists.specs.Demand3.{imageOf}
@@ -15,6 +17,7 @@ use Rattle.ours.specs.Ours.{putsIn, ours}
 -- calls on a buffer of `bytes` bytes, and the puts of the image
 pub record Row : Type 0 where
   pub mode : Mode
+  pub repeats : Repeats
   pub bytes : ℕ
   pub calls : List Call
   pub puts : List Entry
@@ -23,7 +26,7 @@ pub record Row : Type 0 where
 abbrev pub Holds : Row → Type 0
 Holds r =
     (buffer : List ℕ) → length buffer ≡ r .bytes
-    → (ours (imageOf (r .mode) buffer (r .calls)) ≡ true) × (putsIn (imageOf (r .mode) buffer (r .calls)) ≡ r .puts)
+    → (ours (imageOf (r .mode) (r .repeats) buffer (r .calls)) ≡ true) × (putsIn (imageOf (r .mode) (r .repeats) buffer (r .calls)) ≡ r .puts)
 
 -- A, B, and a name with a zero byte
 abbrev A : ℕ → Entry
@@ -35,19 +38,20 @@ B id = entryOf (66 ∷ []) id
 abbrev Z : ℕ → Entry
 Z id = entryOf (97 ∷ 0 ∷ 98 ∷ []) id
 
-abbrev row : Mode → ℕ → List Call → List Entry → Row
-row mode bytes calls puts = record { mode = mode; bytes = bytes; calls = calls; puts = puts }
+abbrev row : Mode → Repeats → ℕ → List Call → List Entry → Row
+row mode repeats bytes calls puts = record { mode = mode; repeats = repeats; bytes = bytes; calls = calls; puts = puts }
 
 abbrev pub rows : List Row
 rows =
     -- no put; only a close
-    row Twoway 2072 [] []
-    ∷ row Oneway 2072 (close ∷ []) []
-    -- A renewed, with a refused name and a close between
-    ∷ row Twoway 3000 (put (A 0) ∷ put (Z 1) ∷ close ∷ put (B 2) ∷ put (A 2) ∷ []) (A 0 ∷ B 2 ∷ A 2 ∷ [])
+    row Twoway Off 2072 [] []
+    ∷ row Oneway On 2072 (close ∷ []) []
+    -- A renewed, with a refused name and a close between; the same calls with repeats off
+    ∷ row Twoway On 3000 (put (A 0) ∷ put (Z 1) ∷ close ∷ put (B 2) ∷ put (A 2) ∷ []) (A 0 ∷ B 2 ∷ A 2 ∷ [])
+    ∷ row Twoway Off 3000 (put (A 0) ∷ put (Z 1) ∷ close ∷ put (B 2) ∷ put (A 2) ∷ []) (A 0 ∷ B 2 ∷ [])
     -- room for one put: the second is refused, and so is a two-way put, which needs a back array
-    ∷ row Oneway 2098 (put (A 5) ∷ put (B 6) ∷ []) (A 5 ∷ [])
-    ∷ row Twoway 2098 (put (A 0) ∷ []) []
+    ∷ row Oneway On 2098 (put (A 5) ∷ put (B 6) ∷ []) (A 5 ∷ [])
+    ∷ row Twoway On 2098 (put (A 0) ∷ []) []
     ∷ []
 
 -- bytes that are a head by size word, flag word, back size and back offset, and 2,048 zeros, and whether they are ours

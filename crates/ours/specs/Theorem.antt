@@ -3,7 +3,7 @@ use Prim.Native.Nat.{ℕ, _≤_}
 use mathlib.Core.Path.{_≡_}
 use mathlib.Core.Logic.{_↔_}
 use mathlib.Core.Bool.{true, false}
-use mathlib.Core.List.{List, [], _++_, map}
+use mathlib.Core.List.{List, [], _++_}
 use mathlib.Core.Option.{some}
 use lib.ListN.{length}
 use Rattle.jhash.specs.Outcome.{value}
@@ -16,8 +16,11 @@ use Rattle.reader.specs.Lookup.{lookup}
 use Rattle.reader.specs.Panel.{readingsAgree}
 use Rattle.reader.specs.Walk.{home}
 use Rattle.answers.specs.Answer.{foundId, nameGiven}
-use Rattle.lists.specs.Calls.{Call, put, WordIds}
+use Rattle.writer.specs.declared.Repeats.{Repeats}
+use Rattle.writer.specs.declared.Repeats.the-variants.{On}
+use Rattle.lists.specs.Calls.{Call, WordIds}
 use Rattle.lists.specs.Demand3.{acceptedPuts, imageOf}
+use Rattle.lists.specs.RepeatsOff.{putAll}
 use Rattle.ours.specs.Ours.{Ours, putsIn, modeIn, ours}
 
 -- ---- an image that is ours
@@ -33,24 +36,26 @@ pub record IsOurs (img : List ℕ) : Type 0 where
   pub found : Each (λ (e : Entry). (id : ℕ) × (foundId (lookup img (e .name)) ≡ some id)) (putsIn img)
   -- its puts are the list that makes it: from a fresh record in every buffer that has room for it all of them are accepted, and they close to it
   pub made : (buffer : List ℕ) → length img ≤ length buffer
-      → (acceptedPuts (modeIn img) buffer (map put (putsIn img)) ≡ putsIn img) × (imageOf (modeIn img) buffer (map put (putsIn img)) ≡ img)
+      → (acceptedPuts (modeIn img) On buffer (putAll (putsIn img)) ≡ putsIn img) × (imageOf (modeIn img) On buffer (putAll (putsIn img)) ≡ img)
   -- no image that is ours goes on behind it, by one byte or more, or ends before it
   pub alone : (more : List ℕ) → Bytes (img ++ more) → (more ≡ [] → ⊥) → ours (img ++ more) ≡ false
 
--- ---- the image of a list of calls, which may hold refused puts and closes
+-- ---- the image of a list of calls, which may hold refused puts and closes, with either choice of 02 (viii)
 
-pub record OfList (mode : Mode) (buffer : List ℕ) (cs : List Call) : Type 0 where
-  pub is-ours : ours (imageOf mode buffer cs) ≡ true
+pub record OfList (mode : Mode) (repeats : Repeats) (buffer : List ℕ) (cs : List Call) : Type 0 where
+  pub is-ours : ours (imageOf mode repeats buffer cs) ≡ true
   -- the puts that are read back from it are the accepted ones, in their order
-  pub read-back : putsIn (imageOf mode buffer cs) ≡ acceptedPuts mode buffer cs
-  pub mode-back : modeIn (imageOf mode buffer cs) ≡ mode
+  pub read-back : putsIn (imageOf mode repeats buffer cs) ≡ acceptedPuts mode repeats buffer cs
+  pub mode-back : modeIn (imageOf mode repeats buffer cs) ≡ mode
 
 pub record Theorem : Type 0 where
   -- a yes exactly when the bytes are the image of some list of puts
   pub exactly : (img : List ℕ) → Bytes img → (ours img ≡ true) ↔ Ours img
   pub holds : (img : List ℕ) → Bytes img → ours img ≡ true → IsOurs img
-  pub of-list : (mode : Mode) (buffer : List ℕ) (cs : List Call) → headSize ≤ length buffer → WordIds mode cs → OfList mode buffer cs
-  -- two different lists of accepted puts in a given direction never close to the same image, whatever their buffers
-  pub different : (mode : Mode) (buffer₁ buffer₂ : List ℕ) (cs₁ cs₂ : List Call) → headSize ≤ length buffer₁ → headSize ≤ length buffer₂
-      → WordIds mode cs₁ → WordIds mode cs₂ → (acceptedPuts mode buffer₁ cs₁ ≡ acceptedPuts mode buffer₂ cs₂ → ⊥)
-      → imageOf mode buffer₁ cs₁ ≡ imageOf mode buffer₂ cs₂ → ⊥
+  pub of-list : (mode : Mode) (repeats : Repeats) (buffer : List ℕ) (cs : List Call) → headSize ≤ length buffer → WordIds mode cs
+      → OfList mode repeats buffer cs
+  -- two different lists of accepted puts in a given direction never close to the same image, whatever their buffers and their choices of 02 (viii)
+  pub different : (mode : Mode) (repeats₁ : Repeats) (buffer₁ : List ℕ) (cs₁ : List Call) (repeats₂ : Repeats) (buffer₂ : List ℕ) (cs₂ : List Call)
+      → headSize ≤ length buffer₁ → headSize ≤ length buffer₂ → WordIds mode cs₁ → WordIds mode cs₂
+      → (acceptedPuts mode repeats₁ buffer₁ cs₁ ≡ acceptedPuts mode repeats₂ buffer₂ cs₂ → ⊥)
+      → imageOf mode repeats₁ buffer₁ cs₁ ≡ imageOf mode repeats₂ buffer₂ cs₂ → ⊥

@@ -2,8 +2,9 @@
 pub mod Joined
 pub mod Fits
 pub mod EntryStored
-pub mod Puts
 pub mod Agree
+pub mod Earlier
+pub mod Puts
 pub mod Heads
 pub mod Empties
 pub mod Taking

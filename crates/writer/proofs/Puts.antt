@@ -8,7 +8,7 @@ use lib.ListN.{length, getD}
 use native.Mathlib.Nat.{mod-lt}
 use lib.Seq.{sets}
 use lib.Dec.{eqb, leb, ltb, lit<}
-use borrow.Author.Tests.{lt-ltb, leb-true, eq-eqb, ne-eqb}
+use borrow.Author.Tests.{lt-ltb, leb-true, eq-eqb, ne-eqb, eqb-false}
 use Rattle.jhash.specs.NameHash.{hashOf}
 use Rattle.image.specs.Tables.{tableOf}
 use Rattle.image.specs.Image.{Entry, entryBytes}
@@ -18,7 +18,9 @@ use Rattle.image.specs.Tally.{raisedCounts, countsAfter}
 use Rattle.writer.specs.Put.{entryOf, writerWith, writerAfter, putRefusal, appended, afterPut}
 use Rattle.writer.specs.declared.CQDBWriter.{CQDBWriter}
 use Rattle.image.proofs.All.{all-each}
+use Rattle.writer.specs.steps.Earlier.{earlierRefusal}
 use Rattle.writer.proofs.Fits.{Fitting, fitting, not-too-large}
+use Rattle.writer.proofs.Earlier.{in-order}
 
 -- a refusal's number is not 0
 some-none : (k : ℕ) → suc k ≡ 0 → ⊥
@@ -27,6 +29,14 @@ some-none k z = omega arith
 module _ (s : State) (e : Entry) where
   abbrev full : Bool
   full = tooLarge (s .writer .length) (finishedSize (writerAfter (s .writer) e))
+
+  abbrev early : ℕ
+  early = earlierRefusal s (e .name)
+
+  -- the decision, with what the earlier entries make due as one number
+  by-number : putRefusal s e ≡ cond (not (fits s)) 2 (cond (hasZero (e .name)) 13 (cond (eqb early 0) (cond full 3 0) early))
+  unfolding putRefusal
+  by-number = ap (λ (k : ℕ). cond (not (fits s)) 2 (cond (hasZero (e .name)) 13 k)) (in-order s (e .name) (cond full 3 0))
 
   -- the decision, check by check
   pub refuses-unfit : fits s ≡ false → 2 ≡ putRefusal s e
@@ -37,13 +47,14 @@ module _ (s : State) (e : Entry) where
   unfolding putRefusal
   refuses-zero h z = rw (h, z) refl
 
-  pub refuses-full : fits s ≡ true → hasZero (e .name) ≡ false → full ≡ true → 3 ≡ putRefusal s e
-  unfolding putRefusal
-  refuses-full h z k = rw (h, z, k) refl
+  pub refuses-earlier : fits s ≡ true → hasZero (e .name) ≡ false → (k : ℕ) → k ≡ earlierRefusal s (e .name) → (k ≡ 0 → ⊥) → k ≡ putRefusal s e
+  refuses-earlier h z k told some = rw by-number (rw (h, z, ne-eqb early 0 (λ y. some (told ∙ y))) told)
 
-  pub accepts : fits s ≡ true → hasZero (e .name) ≡ false → full ≡ false → 0 ≡ putRefusal s e
-  unfolding putRefusal
-  accepts h z k = rw (h, z, k) refl
+  pub refuses-full : fits s ≡ true → hasZero (e .name) ≡ false → earlierRefusal s (e .name) ≡ 0 → full ≡ true → 3 ≡ putRefusal s e
+  refuses-full h z none k = rw by-number (rw (h, z, eq-eqb early 0 none, k) refl)
+
+  pub accepts : fits s ≡ true → hasZero (e .name) ≡ false → earlierRefusal s (e .name) ≡ 0 → full ≡ false → 0 ≡ putRefusal s e
+  accepts h z none k = rw by-number (rw (h, z, eq-eqb early 0 none, k) refl)
 
   -- what an accepted put has passed
   pub record Passed : Type 0 where
@@ -52,14 +63,15 @@ module _ (s : State) (e : Entry) where
     pub roomy : full ≡ false
 
   pub passed : putRefusal s e ≡ 0 → Passed
-  unfolding putRefusal
-  passed h = go (fits s) (hasZero (e .name)) full refl refl refl h
+  passed h = go (fits s) (hasZero (e .name)) (eqb early 0) full refl refl refl refl (sym by-number ∙ h)
     where
-      go : (f z t : Bool) → fits s ≡ f → hasZero (e .name) ≡ z → full ≡ t → _≡_ {A = ℕ} (cond (not f) 2 (cond z 13 (cond t 3 0))) 0 → Passed
-      go true false false p q r e = record { fitted = p; zero-free = q; roomy = r }
-      go true false true p q r e = absurd (some-none 2 e)
-      go true true t p q r e = absurd (some-none 12 e)
-      go false z t p q r e = absurd (some-none 1 e)
+      go : (f z b t : Bool) → fits s ≡ f → hasZero (e .name) ≡ z → eqb early 0 ≡ b → full ≡ t
+          → _≡_ {A = ℕ} (cond (not f) 2 (cond z 13 (cond b (cond t 3 0) early))) 0 → Passed
+      go true false true false p q b r e = record { fitted = p; zero-free = q; roomy = r }
+      go true false true true p q b r e = absurd (some-none 2 e)
+      go true false false t p q b r e = absurd (eqb-false early 0 b e)
+      go true true b t p q g r e = absurd (some-none 12 e)
+      go false z b t p q g r e = absurd (some-none 1 e)
 
   -- the effect: a refusal leaves everything, an accepted put appends
   pub refused-leaves : (k : ℕ) → k ≡ putRefusal s e → (k ≡ 0 → ⊥) → s ≡ afterPut s e

@@ -1,17 +1,18 @@
 -- Put: 01, "Writing" and "When a call is refused". The decision is apart from the effect.
 use Prim.Native.Nat.{ℕ, _+_, _*_, _%_, max}
-use mathlib.Core.Bool.{Bool, cond, not}
+use mathlib.Core.Bool.{Bool, cond, not, _&&_}
 use mathlib.Core.List.{List}
 use lib.ListN.{length}
 use lib.Seq.{sets}
 use lib.Dec.{eqb}
-use Rattle.image.specs.Image.{Entry, entryBytes}
+use Rattle.image.specs.Image.{Entry, entryBytes, holds}
 use Rattle.image.specs.Tally.{countsAfter}
 use Rattle.image.specs.Zero.{hasZero}
 use Rattle.image.specs.declared.Mode.{Mode}
 use Rattle.image.specs.declared.Mode.the-variants.{Twoway, Oneway}
 use Rattle.writer.specs.declared.CQDBWriter.{CQDBWriter}
-use Rattle.writer.specs.State.{State, fits, finishedSize, tooLarge}
+use Rattle.writer.specs.State.{State, refusesRepeats, fits, finishedSize, tooLarge}
+use Rattle.writer.specs.Close.{recorded, consistent}
 
 -- in two-way mode the back size becomes the larger of itself and id + 1
 abbrev pub raised : Mode → ℕ → ℕ → ℕ
@@ -27,6 +28,7 @@ unfoldable pub writerWith : CQDBWriter → ℕ → ℕ → CQDBWriter
 writerWith w n id =
     record {
       mode = w .mode;
+      repeats = w .repeats;
       length = w .length;
       end = w .end + (n + 9);
       entries = w .entries + 1;
@@ -38,13 +40,22 @@ unfoldable pub writerAfter : CQDBWriter → Entry → CQDBWriter
 unfolding writerWith
 writerAfter w e = writerWith w (length (e .name)) (e .id)
 
--- 2 when the record doesn't fit the buffer; then 13 for a zero byte in the name (02 (v)); then 3 when the finished size, all after this put, exceeds the
--- buffer or 4,294,967,295. 0: no refusal
+-- 02 (viii): with repeats off, put walks the earlier entries. A walk that fails close's checks of entries, counts or back size; otherwise an equal name
+abbrev pub walkFails : State → Bool
+walkFails s = not (consistent s) && refusesRepeats (s .writer .repeats)
+
+abbrev pub repeated : State → List ℕ → Bool
+repeated s name = holds name (recorded s) && refusesRepeats (s .writer .repeats)
+
+-- 2 when the record doesn't fit the buffer; then 13 for a zero byte in the name (02 (v)); with repeats off, 4 when the walk fails, otherwise 16 when it
+-- meets an equal name (02 (viii)); then 3 when the finished size, all after this put, exceeds the buffer or 4,294,967,295. 0: no refusal
 unfoldable pub putRefusal : State → Entry → ℕ
 putRefusal s e =
     cond (not (fits s)) 2
     (cond (hasZero (e .name)) 13
-    (cond (tooLarge (s .writer .length) (finishedSize (writerAfter (s .writer) e))) 3 0))
+    (cond (walkFails s) 4
+    (cond (repeated s (e .name)) 16
+    (cond (tooLarge (s .writer .length) (finishedSize (writerAfter (s .writer) e))) 3 0))))
 
 -- put appends an entry and raises the counts; only that entry's bytes change
 unfoldable pub appended : State → Entry → State

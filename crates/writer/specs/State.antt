@@ -8,6 +8,8 @@ use Rattle.jhash.specs.Outcome.{Outcome, value, refusal}
 use Rattle.image.specs.Bytes.{all}
 use Rattle.image.specs.Image.{headSize, backIn}
 use Rattle.image.specs.declared.Mode.{Mode}
+use Rattle.writer.specs.declared.Repeats.{Repeats}
+use Rattle.writer.specs.declared.Repeats.the-variants.{Off, On}
 use Rattle.writer.specs.declared.CQDBWriter.{CQDBWriter}
 use Rattle.writer.specs.declared.Begun.{Begun}
 use Rattle.writer.specs.declared.Begun.the-variants.{Fresh, Refused}
@@ -20,6 +22,11 @@ pub record State : Type 0 where
 
 abbrev pub stateWith : CQDBWriter → List ℕ → List ℕ → State
 stateWith w counts buffer = record { writer = w; counts = counts; buffer = buffer }
+
+-- 02 (viii): a writer refuses a name that it already holds, unless begun in the repeats mode. The writer record carries this choice, through every call
+abbrev pub refusesRepeats : Repeats → Bool
+refusesRepeats Off = true
+refusesRepeats On = false
 
 -- no table count exceeds the number of entries
 abbrev pub noneAbove : List ℕ → ℕ → Bool
@@ -41,20 +48,20 @@ finishedSize w = w .end + 16 * w .entries + 4 * backIn (w .mode) (w .back)
 abbrev pub tooLarge : ℕ → ℕ → Bool
 tooLarge room size = ltb room size || ltb 4294967295 size
 
--- a fresh record: the chosen mode, the buffer's length, end 2,072 and otherwise zeros
-abbrev pub freshWriter : Mode → ℕ → CQDBWriter
-freshWriter mode n = record { mode = mode; length = n; end = headSize; entries = 0; back = 0 }
+-- a fresh record: the chosen mode, the chosen repeats mode (02 (viii)), the buffer's length, end 2,072 and otherwise zeros
+abbrev pub freshWriter : Mode → Repeats → ℕ → CQDBWriter
+freshWriter mode repeats n = record { mode = mode; repeats = repeats; length = n; end = headSize; entries = 0; back = 0 }
 
-unfoldable pub fresh : Mode → List ℕ → State
-fresh mode buffer = record { writer = freshWriter mode (length buffer); counts = replicate 256 0; buffer = buffer }
+unfoldable pub fresh : Mode → Repeats → List ℕ → State
+fresh mode repeats buffer = record { writer = freshWriter mode repeats (length buffer); counts = replicate 256 0; buffer = buffer }
 
 -- begin gives 1 when the buffer, of n bytes, is under 2,072 bytes; 0 stands for no refusal
 abbrev pub beginRefusal : ℕ → ℕ
 beginRefusal n = cond (ltb n headSize) 1 0
 
 -- what begin answers: the fresh record, or only the refusal's number
-unfoldable pub beginning : Mode → ℕ → Outcome CQDBWriter
-beginning mode n = cond (eqb (beginRefusal n) 0) (value (freshWriter mode n)) (refusal (beginRefusal n))
+unfoldable pub beginning : Mode → Repeats → ℕ → Outcome CQDBWriter
+beginning mode repeats n = cond (eqb (beginRefusal n) 0) (value (freshWriter mode repeats n)) (refusal (beginRefusal n))
 
 -- the table counts of a fresh record; a refused begin leaves what was lent for them as it was
 unfoldable pub countsBegun : ℕ → List ℕ → List ℕ

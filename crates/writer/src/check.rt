@@ -1,11 +1,14 @@
-// Whether the bytes from 2,072 to the record's end are its entries.
+// Whether the bytes from 2,072 to the record's end are its entries, and whether one of them has a name already. One walk tells
+// both.
 ghost use mathlib.Core.Path.{_≡_};
 ghost use Prim.Native.Nat.{_≤_};
 ghost use lib.ListN.{length};
 ghost use Rattle.writer.specs.State.{stateWith};
 ghost use Rattle.writer.specs.Close.{consistent};
+ghost use Rattle.writer.specs.steps.Earlier.{walkRefusal, earlierRefusal};
 ghost use Rattle.image.specs.Tally.{sameCounts};
 use super::CQDBWriter;
+use super::Repeats;
 use super::record;
 
 // Whether two lists of counts are the same.
@@ -21,19 +24,43 @@ fn same_counts(a: &[u32; 256], b: &[u32; 256]) -> bool
     same
 }
 
-// Whether the entries are whole and have the record's counts and back size.
+// What a walk over the record's entries gives: 4 where they are not whole, or have not the record's counts and back size;
+// otherwise 16 where one has this name; 0 where none has.
+pub(super) fn walk_refusal(w: CQDBWriter, counts: &[u32; 256], buf: &[u8], name: &[u8]) -> u32
+    requires { ⌜ (2072 ≤ w .end) × (w .end ≤ length (now buf)) ⌝ }
+    ensures { λ r. ⌜ r ≡ walkRefusal (stateWith w (now (counts .entry)) (now (buf .entry))) (now (name .entry)) ⌝ }
+{
+    let mut tally = [0; 256];
+    let walked = image::entries::walk(buf, w.end as usize, w.entries, &mut tally, name);
+    if !walked.whole {
+        return 4;
+    }
+    if !same_counts(counts, &tally) {
+        return 4;
+    }
+    let mode = w.mode;
+    if w.back as u64 != record::back_in(mode, walked.back) {
+        return 4;
+    }
+    if walked.met { 16 } else { 0 }
+}
+
+// Whether the entries are whole and have the record's counts and back size. No name is sought: the empty one stands in.
 pub(super) fn agrees(w: CQDBWriter, counts: &[u32; 256], buf: &[u8]) -> bool
     requires { ⌜ (2072 ≤ w .end) × (w .end ≤ length (now buf)) ⌝ }
     ensures { λ r. ⌜ r ≡ consistent (stateWith w (now (counts .entry)) (now (buf .entry))) ⌝ }
 {
-    let mut tally = [0; 256];
-    let walked = image::entries::walk(buf, w.end as usize, w.entries, &mut tally);
-    if !walked.whole {
-        return false;
+    walk_refusal(w, counts, buf, &buf[..0]) != 4
+}
+
+// The refusal that the earlier entries make due to a put of this name, 0 for none. With repeats on they are not looked at.
+pub(super) fn earlier_refusal(w: CQDBWriter, counts: &[u32; 256], buf: &[u8], name: &[u8]) -> u32
+    requires { ⌜ (2072 ≤ w .end) × (w .end ≤ length (now buf)) ⌝ }
+    ensures { λ r. ⌜ r ≡ earlierRefusal (stateWith w (now (counts .entry)) (now (buf .entry))) (now (name .entry)) ⌝ }
+{
+    let repeats = w.repeats;
+    match repeats {
+        Repeats::Off => walk_refusal(w, counts, buf, name),
+        Repeats::On => 0,
     }
-    if !same_counts(counts, &tally) {
-        return false;
-    }
-    let mode = w.mode;
-    w.back as u64 == record::back_in(mode, walked.back)
 }

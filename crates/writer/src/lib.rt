@@ -15,10 +15,17 @@ mod fill;
 mod head;
 mod record;
 
-// The writer record (`CQDBWriter` of cqdb-rs), but for its 256 table counts, which are lent apart: the mode, the buffer's
-// length, the end of the entries, the number of entries and the back size.
+// 02 (viii)'s repeats mode: with repeats off a writer refuses a name that it already holds.
+pub enum Repeats {
+    Off,
+    On,
+}
+
+// The writer record (`CQDBWriter` of cqdb-rs), but for its 256 table counts, which are lent apart: the mode, the repeats mode,
+// the buffer's length, the end of the entries, the number of entries and the back size.
 pub struct CQDBWriter {
     pub mode: Mode,
+    pub repeats: Repeats,
     pub length: u64,
     pub end: u64,
     pub entries: u32,
@@ -50,8 +57,8 @@ pub struct CloseAnswer {
 }
 
 // A fresh record for a buffer (`with_flag` of cqdb-rs). Changes no byte of the buffer.
-pub fn begin(mode: Mode, counts: &mut [u32; 256], buf: &[u8]) -> Begun
-    ensures answer { λ r. ⌜ begunOf r ≡ beginning mode (length (now (buf .entry))) ⌝ }
+pub fn begin(mode: Mode, repeats: Repeats, counts: &mut [u32; 256], buf: &[u8]) -> Begun
+    ensures answer { λ r. ⌜ begunOf r ≡ beginning mode repeats (length (now (buf .entry))) ⌝ }
     ensures fresh { λ r. ⌜ now (counts .exit) ≡ countsBegun (length (now (buf .entry))) (now (counts .entry)) ⌝ }
 {
     if buf.len() < 2072 {
@@ -60,6 +67,7 @@ pub fn begin(mode: Mode, counts: &mut [u32; 256], buf: &[u8]) -> Begun
     *counts = [0; 256];
     Begun::Fresh(CQDBWriter {
         mode,
+        repeats,
         length: buf.len() as u64,
         end: 2072,
         entries: 0,
@@ -76,6 +84,10 @@ fn put_refusal(w: CQDBWriter, counts: &[u32; 256], buf: &[u8], name: &[u8], id: 
     }
     if image::zero::has_zero(name) {
         return 13;
+    }
+    let earlier = check::earlier_refusal(w, counts, buf, name);
+    if earlier != 0 {
+        return earlier;
     }
     if 4294967295 <= name.len() {
         return 3;

@@ -132,8 +132,10 @@ pub(super) fn after(w: CQDBWriter, n: usize, id: u32) -> CQDBWriter
     ensures { λ r. ⌜ r ≡ writerWith w n id ⌝ }
 {
     let mode = w.mode;
+    let repeats = w.repeats;
     CQDBWriter {
         mode,
+        repeats,
         length: w.length,
         end: w.end + (n as u64 + 9),
         entries: w.entries + 1,

@@ -10,6 +10,7 @@ use lib.ListN.{length, take, drop}
 use lib.Seq.{length-take-le}
 use Rattle.jhash.specs.Outcome.{Outcome, value, refusal}
 use Rattle.image.specs.declared.Mode.{Mode}
+use Rattle.writer.specs.declared.Repeats.the-variants.{On}
 use Rattle.writer.specs.State.{stateWith, begunOf, beginning, countsBegun}
 use Rattle.writer.specs.State as writer
 use Rattle.writer.specs.Put.{entryOf, putRefusal, afterPut}
@@ -32,7 +33,7 @@ module _ (s : State) (counts left buffer : List ℕ) (mode : Mode) (n : ℕ) (r 
   unfolding begins
   begins-more h er = rw (er, lt-ltb (length buffer) n h)
 
-  module _ (b : Begun) (h : n ≤ length buffer) (promise : begunOf b ≡ beginning mode (length (take (n - 0) buffer)))
+  module _ (b : Begun) (h : n ≤ length buffer) (promise : begunOf b ≡ beginning mode On (length (take (n - 0) buffer)))
       (leaves : left ≡ countsBegun (length (take (n - 0) buffer)) counts) where
     sized : length (take (n - 0) buffer) ≡ n
     sized =

@@ -7,6 +7,7 @@ use lib.Dec.{eqb, ltb}
 use Rattle.jhash.specs.Outcome.{Outcome, value, refusal}
 use Rattle.image.specs.declared.Mode.{Mode}
 use Rattle.image.specs.declared.Mode.the-variants.{Twoway, Oneway}
+use Rattle.writer.specs.declared.Repeats.the-variants.{On}
 use Rattle.writer.specs.State.{stateWith, beginning, countsBegun}
 use Rattle.writer.specs.State as writer
 use Rattle.writer.specs.Put.{entryOf, putRefusal, afterPut}
@@ -36,21 +37,22 @@ built r counts buffer = judged (given (r .state) counts buffer) (r .verdict)
 
 -- no record yet: one for no bytes, which fits nothing
 abbrev pub noRecord : CQDBWriter
-noRecord = record { mode = Twoway; length = 0; end = 0; entries = 0; back = 0 }
+noRecord = record { mode = Twoway; repeats = On; length = 0; end = 0; entries = 0; back = 0 }
 
 -- a call that answers as it should asks for no answer that is counted
 abbrev pub silentIf : Bool → Verdict
 silentIf true = Silent
 silentIf false = Different
 
--- new2 00001000, new1 00001000: a fresh record, two-way or one-way, for the first bytes of the buffer, so many
+-- new2 00001000, new1 00001000: a fresh record, two-way or one-way, for the first bytes of the buffer, so many. It is begun in the repeats mode
+-- (02 (viii)), since the Rust takes every repeat
 abbrev pub begunWith : Replay → List ℕ → Outcome CQDBWriter → Judged Replay
 begunWith s counts (value w) = judged (given (record { writer = w; size = 0; done = 0 }) counts (s .buffer)) Silent
 begunWith s counts (refusal k) = judged (given (s .state) counts (s .buffer)) Different
 
 unfoldable pub begins : Replay → Mode → ℕ → Judged Replay
 begins s mode n =
-    cond (ltb (length (s .buffer)) n) (judged s Malformed) (begunWith s (countsBegun n (s .counts)) (beginning mode n))
+    cond (ltb (length (s .buffer)) n) (judged s Malformed) (begunWith s (countsBegun n (s .counts)) (beginning mode On n))
 
 -- what the record's call is lent: its part of the buffer; and the buffer with what the call leaves there
 abbrev pub part : Replay → writer.State

@@ -11,6 +11,7 @@ use replay_lines::equal_if;
 use replay_lines::hex;
 use writer::Begun;
 use writer::Closed;
+use writer::Repeats;
 
 const NEW2: u32 = 0x6e65_7732;
 
@@ -40,7 +41,7 @@ fn silent_if(same: bool) -> Verdict
     }
 }
 
-// A fresh record for the first n bytes of the buffer.
+// A fresh record for the first n bytes of the buffer, in the repeats mode: the Rust takes every repeat.
 fn begin(s: State, mode: Mode, n: usize, counts: &mut [u32; 256], buf: &[u8]) -> Built
     ensures { λ r. ⌜ built r (now (counts .exit)) (now (buf .entry)) ≡ begins (given s (now (counts .entry)) (now (buf .entry))) mode n ⌝ }
 {
@@ -48,7 +49,7 @@ fn begin(s: State, mode: Mode, n: usize, counts: &mut [u32; 256], buf: &[u8]) ->
     if buf.len() < n {
         return judged(w, s.size, s.done, Verdict::Malformed);
     }
-    match writer::begin(mode, &mut *counts, &buf[0..n]) {
+    match writer::begin(mode, Repeats::On, &mut *counts, &buf[0..n]) {
         Begun::Fresh(fresh) => judged(fresh, 0, 0, Verdict::Silent),
         Begun::Refused(_) => judged(w, s.size, s.done, Verdict::Different),
     }

@@ -29,6 +29,7 @@ use replay_lines::hex;
 use replay_lines::lines;
 use replay_lines::words;
 use writer::CQDBWriter;
+use writer::Repeats;
 
 // What the lines so far left: the writer record, the size of the image that close made last, and how many of its bytes
 // have been compared.
@@ -119,6 +120,7 @@ fn nothing_yet() -> State
     State {
         writer: CQDBWriter {
             mode: Mode::Twoway,
+            repeats: Repeats::On,
             length: 0,
             end: 0,
             entries: 0,

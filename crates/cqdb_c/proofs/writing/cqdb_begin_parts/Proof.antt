@@ -1,6 +1,7 @@
 -- `cqdb_c::writing::cqdb_begin_parts` meets its contract: what `begin` promises, put into the struct. Assumes nothing.
 use mathlib.Core.Path.{sym, ap, _∙_}
 use lib.ListN.{length}
+use borrow.Author.Tests.{not-true, not-false}
 use Rattle.writer.specs.declared.Begun.{Begun}
 use Rattle.writer.specs.State.{begunOf}
 use Rattle.cqdb_c.specs.declared.record.Record.{Record}
@@ -14,17 +15,23 @@ use Rattle.cqdb_c.proofs.writing.cqdb_begin_parts.Tie as tie
 abbrev fresh : Record → BeginAnswer
 fresh r = record { refusal = 0; writer = r }
 
+known-requires : tie.Need-known-requires
+known-requires c κs = search needs
+
 not-begun-requires : tie.Need-not-begun-requires
 not-begun-requires c κs = search needs
 
 returns : tie.Need-returns
 returns c =
-    let a = c .before .before .before .args in
-    let told = begin-unknown (a .mode) (length (a .buf .now)) (a .counts .now) (c .before .if1 .taken) in
+    let a = c .before .before .before .before .args in
+    let told = begin-unknown (a .mode) (a .repeats) (length (a .buf .now)) (a .counts .now) (sym (c .before .before .known .ensures) ∙ not-true _ (c .before .if1 .taken)) in
     (c .not-begun .ensures ∙ told .0, told .1)
 
 mode-of-requires : tie.Need-mode-of-requires
 mode-of-requires c κs = search needs
+
+repeats-of-requires : tie.Need-repeats-of-requires
+repeats-of-requires c κs = search needs
 
 begin-requires : tie.Need-begin-requires
 begin-requires c κs = search needs
@@ -43,29 +50,35 @@ not-begun-requires-2 c κs = search needs
 
 returns-2 : tie.Need-returns-2
 returns-2 c =
-    let a = c .before .before .before .before .before .before .before .before .before .args in
-    let of-if1 = c .before .before .before .before .before .before .before .if1 in
-    let of-mode-of = c .before .before .before .before .before .before .mode-of in
+    let a = c .before .before .before .before .before .before .before .before .before .before .before .args in
+    let of-mode-of = c .before .before .before .before .before .before .before .mode-of in
+    let of-repeats-of = c .before .before .before .before .before .before .repeats-of in
     let of-begin = c .before .before .before .before .begin in
-    let told = begin-known (a .mode) (length (a .buf .now)) (a .counts .now) (of-begin .last .1 .0) (of-mode-of .result) (begunOf (of-begin .result)) (of-if1 .left) (of-mode-of .ensures) (of-begin .ensures .0) (of-begin .ensures .1) in
+    let fine = sym (c .before .before .before .before .before .before .before .before .before .known .ensures) ∙ not-false _ (c .before .before .before .before .before .before .before .before .if1 .left) in
+    let told = begin-known (a .mode) (a .repeats) (length (a .buf .now)) (a .counts .now) (of-begin .last .1 .1 .0) (of-mode-of .result) (of-repeats-of .result) (begunOf (of-begin .result))
+    fine (of-mode-of .ensures) (of-repeats-of .ensures) (of-begin .ensures .0) (of-begin .ensures .1) in
     (ap (λ (r : Record). fresh r) (c .record-of .ensures) ∙ ap (λ (b : Begun). begunAnswer (begunOf b)) (sym (c .before .before .begun .given .1)) ∙ told .0, told .1)
 
 returns-3 : tie.Need-returns-3
 returns-3 c =
-    let a = c .before .before .before .before .before .before .before .before .before .args in
-    let of-mode-of = c .before .before .before .before .before .before .mode-of in
+    let a = c .before .before .before .before .before .before .before .before .before .before .before .args in
+    let of-mode-of = c .before .before .before .before .before .before .before .mode-of in
+    let of-repeats-of = c .before .before .before .before .before .before .repeats-of in
     let of-begin = c .before .before .before .before .begin in
-    let told = begin-known (a .mode) (length (a .buf .now)) (a .counts .now) (of-begin .last .1 .0) (of-mode-of .result) (begunOf (of-begin .result))
-    (c .before .before .before .before .before .before .before .if1 .left) (of-mode-of .ensures) (of-begin .ensures .0) (of-begin .ensures .1) in
+    let fine = sym (c .before .before .before .before .before .before .before .before .before .known .ensures) ∙ not-false _ (c .before .before .before .before .before .before .before .before .if1 .left) in
+    let told = begin-known (a .mode) (a .repeats) (length (a .buf .now)) (a .counts .now) (of-begin .last .1 .1 .0) (of-mode-of .result) (of-repeats-of .result) (begunOf (of-begin .result))
+    fine (of-mode-of .ensures) (of-repeats-of .ensures) (of-begin .ensures .0) (of-begin .ensures .1) in
     (c .not-begun2 .ensures ∙ ap (λ (b : Begun). begunAnswer (begunOf b)) (sym (c .before .before .begun2 .given .1)) ∙ told .0, told .1)
 
 pub cqdb-begin-parts-spec : {M : Type 1} → statement M
 cqdb-begin-parts-spec =
     tie.close
     (tie.spec
+    known-requires
     not-begun-requires
     returns
     mode-of-requires
+    repeats-of-requires
     begin-requires
     enum-known-begun
     record-of-requires

@@ -1,4 +1,6 @@
 -- `cqdb_c::writing::cqdb_close_parts` meets its contract: what `close` promises, put into the struct. Assumes nothing.
+use mathlib.Core.Path.{sym, _∙_}
+use borrow.Author.Tests.{not-true, not-false}
 use Rattle.writer.specs.Close.{closedOf}
 use Rattle.cqdb_c.specs.Record.{held}
 use Rattle.cqdb_c.proofs.Calls.{close-unknown, close-known}
@@ -6,10 +8,13 @@ use borrow.Author.Needs.{needs}
 use Rattle.cqdb_c.proofs.writing.cqdb_close_parts.Statement.{statement}
 use Rattle.cqdb_c.proofs.writing.cqdb_close_parts.Tie as tie
 
+known-requires : tie.Need-known-requires
+known-requires c κs = search needs
+
 returns : tie.Need-returns
 returns c =
     let a = c .before .before .before .args in
-    close-unknown (held (a .w) (a .counts .now) (a .buf .now)) (c .if1 .taken)
+    close-unknown (held (a .w) (a .counts .now) (a .buf .now)) (sym (c .before .known .ensures) ∙ not-true _ (c .if1 .taken))
 
 writer-of-requires : tie.Need-writer-of-requires
 writer-of-requires c κs = search needs
@@ -32,17 +37,18 @@ same-length c = search needs
 returns-2 : tie.Need-returns-2
 returns-2 c =
     let a = c .before .before .before .before .before .before .before .before .before .before .before .before .args in
-    let of-if1 = c .before .before .before .before .before .before .before .before .before .if1 in
     let of-writer-of = c .before .before .before .before .before .before .before .before .writer-of in
     let of-close = c .before .before .before .before .before .before .close in
+    let fine = sym (c .before .before .before .before .before .before .before .before .before .before .known .ensures) ∙ not-false _ (c .before .before .before .before .before .before .before .before .before .if1 .left) in
     close-known (held (a .w) (a .counts .now) (a .buf .now)) (of-writer-of .result) (of-close .result .writer) (c .record-of .result)
     (of-close .last .1 .1 .0) (closedOf (of-close .result .answer)) (c .before .before .close-number .result) (c .before .close-size .result)
-    (of-if1 .left) (of-writer-of .ensures) (of-close .ensures .0) (of-close .ensures .1) (c .before .before .close-number .ensures) (c .before .close-size .ensures) (c .record-of .ensures)
+    fine (of-writer-of .ensures) (of-close .ensures .0) (of-close .ensures .1) (c .before .before .close-number .ensures) (c .before .close-size .ensures) (c .record-of .ensures)
 
 pub cqdb-close-parts-spec : {M : Type 1} → statement M
 cqdb-close-parts-spec =
     tie.close
     (tie.spec
+    known-requires
     returns
     writer-of-requires
     close-requires

@@ -1,4 +1,6 @@
 -- `cqdb_c::writing::cqdb_put_parts` meets its contract: what `put` promises, put into the struct. Assumes nothing.
+use mathlib.Core.Path.{sym, _∙_}
+use borrow.Author.Tests.{not-true, not-false}
 use Rattle.writer.specs.Put.{entryOf}
 use Rattle.cqdb_c.specs.Record.{held}
 use Rattle.cqdb_c.proofs.Calls.{put-unknown, put-known}
@@ -6,10 +8,13 @@ use borrow.Author.Needs.{needs}
 use Rattle.cqdb_c.proofs.writing.cqdb_put_parts.Statement.{statement}
 use Rattle.cqdb_c.proofs.writing.cqdb_put_parts.Tie as tie
 
+known-requires : tie.Need-known-requires
+known-requires c κs = search needs
+
 returns : tie.Need-returns
 returns c =
     let a = c .before .before .before .before .args in
-    put-unknown (held (a .w) (a .counts .now) (a .buf .now)) (entryOf (a .name .now) (a .id)) (c .if1 .taken)
+    put-unknown (held (a .w) (a .counts .now) (a .buf .now)) (entryOf (a .name .now) (a .id)) (sym (c .before .known .ensures) ∙ not-true _ (c .if1 .taken))
 
 writer-of-requires : tie.Need-writer-of-requires
 writer-of-requires c κs = search needs
@@ -28,14 +33,16 @@ returns-2 c =
     let a = c .before .before .before .before .before .before .before .before .before .before .before .before .args in
     let of-put = c .before .before .before .before .put in
     let of-writer-of = c .before .before .before .before .before .before .before .writer-of in
+    let fine = sym (c .before .before .before .before .before .before .before .before .before .known .ensures) ∙ not-false _ (c .before .before .before .before .before .before .before .before .if1 .left) in
     put-known (held (a .w) (a .counts .now) (a .buf .now)) (entryOf (a .name .now) (a .id)) (of-writer-of .result) (of-put .result .writer) (c .record-of .result)
     (of-put .last .1 .0) (of-put .last .1 .1 .0) (of-put .result .refusal)
-    (c .before .before .before .before .before .before .before .before .if1 .left) (of-writer-of .ensures) (of-put .ensures .0) (of-put .ensures .1) (c .record-of .ensures)
+    fine (of-writer-of .ensures) (of-put .ensures .0) (of-put .ensures .1) (c .record-of .ensures)
 
 pub cqdb-put-parts-spec : {M : Type 1} → statement M
 cqdb-put-parts-spec =
     tie.close
     (tie.spec
+    known-requires
     returns
     writer-of-requires
     put-requires

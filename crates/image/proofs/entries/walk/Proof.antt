@@ -11,70 +11,79 @@ use Rattle.image.proofs.Between.{Front, front, length-between}
 use native.Mathlib.Omega.{arith}
 use Prim.Native.Nat.{ℕ, _<_, _≤_, _-_}
 use mathlib.Core.Path.{_≡_, refl}
-use Rattle.image.proofs.EntryWalk.{Rest, walk-start, walk-turn, walk-broken, walk-end}
+use Rattle.image.proofs.EntryWalk.{Rest, MetRest, walk-start, walk-turn, walk-broken, walk-end, met-turn, met-end}
 use Rattle.image.proofs.entries.walk.Statement.{statement}
 use Rattle.image.proofs.entries.walk.Tie as tie
 use Rattle.image.proofs.entries.walk.Reads as reads
 use Rattle.image.proofs.entries.walk.Lts as lts
-use Rattle.image.proofs.get_u32.Reads as get-u32-reads
+use Rattle.image.proofs.entries.is_sought.Reads as is-sought-reads
+use Rattle.image.proofs.entries.sought_hash.Reads as sought-hash-reads
+use Rattle.jhash.proofs.word.word.Reads as word-reads
 use Rattle.jhash.proofs.name_hash.Reads as name-hash-reads
 use Rattle.image.proofs.entries.whole_length.Reads as whole-length-reads
 use Rattle.image.proofs.entries.larger.Reads as larger-reads
 use Rattle.image.proofs.entries.raise.Reads as raise-reads
 
 abbrev Inv-loop : tie.InvT-loop
-Inv-loop buf end entries counts₀ at₀ left₀ back₀ counts at left back = Rest buf end entries counts₀ at left back counts
+Inv-loop buf end entries counts₀ sought at₀ left₀ back₀ met₀ want counts at left back met =
+    Rest buf end entries counts₀ at left back counts × MetRest buf end entries sought at left met
 
 abbrev μ-loop : tie.MeasureT-loop
-μ-loop buf end entries counts₀ at₀ left₀ back₀ counts at left back = left
+μ-loop buf end entries counts₀ sought at₀ left₀ back₀ met₀ want counts at left back met = left
 
 -- what the entry's length word says, where it is not 0
 known : (c : tie.Else1 Inv-loop μ-loop)
-    → Front (between (c .before .before .before .before .before .args .buf .now) (c .before .before .before .loop .at) (c .before .before .before .before .before .args .end)) (c .before .whole-length .result)
+    → Front (between (c .before .before .before .before .before .before .before .args .buf .now) (c .before .before .before .loop .at) (c .before .before .before .before .before .before .before .args .end)) (c .before .whole-length .result)
 known c =
     front _ (c .before .whole-length .result) (c .before .whole-length .ensures .0) (c .if1 .left)
 
 -- and that it lies before the end
 room : (c : tie.Else1 Inv-loop μ-loop)
-    → (c .before .before .before .loop .at + (8 + c .before .whole-length .result) ≤ c .before .before .before .before .before .args .end) × (1 ≤ c .before .whole-length .result)
+    → (c .before .before .before .loop .at + (8 + c .before .whole-length .result) ≤ c .before .before .before .before .before .before .before .args .end) × (1 ≤ c .before .whole-length .result)
 room c =
-    let a = c .before .before .before .before .before .args in
-    let start-pre = c .before .before .before .before .before .pre in
+    let a = c .before .before .before .before .before .before .before .args in
+    let start-pre = c .before .before .before .before .before .before .before .pre in
     let of-loop = c .before .before .before .loop in
     let k = known c in
     let i = k .inside in
-    let j = of-loop .inv .inside in
+    let j = of-loop .inv .0 .inside in
     let l = length-between (a .buf .now) (of-loop .at) (a .end) j (start-pre .1) in
     (omega arith, k .some)
 
+sought-hash-requires : tie.Need-sought-hash-requires Inv-loop μ-loop
+sought-hash-requires c κs = search needs
+
 loop-holds : tie.Need-loop-holds Inv-loop μ-loop
-loop-holds c = walk-start (c .before .args .buf .now) (c .before .args .end) (c .before .args .entries) (c .before .args .counts .now) (c .before .pre .0) (c .before .pre .2)
+loop-holds c =
+    let a = c .before .before .before .args in
+    let start-pre = c .before .before .before .pre in
+    (walk-start (a .buf .now) (a .end) (a .entries) (a .counts .now) (start-pre .0) (start-pre .2), refl)
 
 whole-length-requires : tie.Need-whole-length-requires Inv-loop μ-loop
-whole-length-requires c κs = (c .before .loop .inv .inside, c .before .before .before .pre .1)
+whole-length-requires c κs = (c .before .loop .inv .0 .inside, c .before .before .before .before .before .pre .1)
 
 returns : tie.Need-returns Inv-loop μ-loop
 returns c =
-    let a = c .before .before .before .before .before .args in
+    let a = c .before .before .before .before .before .before .before .args in
     let of-loop = c .before .before .before .loop in (
-      walk-broken (a .buf .now) (a .end) (a .entries) (a .counts .now) (of-loop .at) (of-loop .left) (of-loop .back) (of-loop .counts) (of-loop .inv) (c .before .before .loop-test .taken) (sym (c .if1 .taken) ∙ c .before .whole-length .ensures .0),
-      ((λ z. absurd (not-both z)), (λ z. absurd (not-both z))),
+      walk-broken (a .buf .now) (a .end) (a .entries) (a .counts .now) (of-loop .at) (of-loop .left) (of-loop .back) (of-loop .counts) (of-loop .inv .0) (c .before .before .loop-test .taken) (sym (c .if1 .taken) ∙ c .before .whole-length .ensures .0),
+      ((λ z. absurd (not-both z)), ((λ z. absurd (not-both z)), (λ z. absurd (not-both z)))),
     )
 
 add-name : tie.Need-add-name Inv-loop μ-loop
 add-name c =
     let r = room c in
-    omega (arith, c .before .before .before .before .before .good, c .before .before .before .before .before .pre .1)
+    omega (arith, c .before .before .before .before .before .before .before .good, c .before .before .before .before .before .before .before .pre .1)
 
 add-name-2 : tie.Need-add-name-2 Inv-loop μ-loop
 add-name-2 c =
     let r = room c in
-    omega (arith, c .before .before .before .before .before .good, c .before .before .before .before .before .pre .1)
+    omega (arith, c .before .before .before .before .before .before .before .good, c .before .before .before .before .before .before .before .pre .1)
 
 add-name-3 : tie.Need-add-name-3 Inv-loop μ-loop
 add-name-3 c =
     let r = room c in
-    omega (arith, c .before .before .before .before .before .good, c .before .before .before .before .before .pre .1)
+    omega (arith, c .before .before .before .before .before .before .before .good, c .before .before .before .before .before .before .before .pre .1)
 
 sub-name : tie.Need-sub-name Inv-loop μ-loop
 sub-name c =
@@ -89,7 +98,21 @@ part-name-start c =
 part-name-end : tie.Need-part-name-end Inv-loop μ-loop
 part-name-end c =
     let r = room c in
-    omega (arith, c .before .before .before .before .before .pre .1)
+    omega (arith, c .before .before .before .before .before .before .before .pre .1)
+
+word-requires : tie.Need-word-requires Inv-loop μ-loop
+word-requires c κs =
+    let r = room (c .before) in
+    omega (arith, c .before .before .before .before .before .before .before .before .pre .1)
+
+cast-larger : tie.Need-cast-larger Inv-loop μ-loop
+cast-larger c = search needs
+
+add-larger : tie.Need-add-larger Inv-loop μ-loop
+add-larger c = omega (arith, c .word .ok)
+
+larger-requires : tie.Need-larger-requires Inv-loop μ-loop
+larger-requires c κs = search needs
 
 name-hash-requires : tie.Need-name-hash-requires Inv-loop μ-loop
 name-hash-requires c κs = search needs
@@ -102,11 +125,10 @@ enum-told c = search needs
 
 returns-2 : tie.Need-returns-2 Inv-loop μ-loop
 returns-2 c =
-    let a = c .before .before .before .before .before .before .before .before .before .args in
-    let of-loop = c .before .before .before .before .before .before .before .loop in
-    let of-whole-length = c .before .before .before .before .before .whole-length in
-    let of-before = c .before .before .before .before in
-    let r = room (of-before) in
+    let a = c .before .before .before .before .before .before .before .before .before .before .before .before .before .args in
+    let of-loop = c .before .before .before .before .before .before .before .before .before .loop in
+    let of-whole-length = c .before .before .before .before .before .before .before .whole-length in
+    let r = room (c .before .before .before .before .before .before) in
     let long = told-refused (take (of-loop .at + 7 + of-whole-length .result - (of-loop .at + 8)) (drop (of-loop .at + 8) (a .buf .now))) 0 (c .before .before .name-hash .result) (c .before .before .name-hash .ensures) (c .enum-told .given .1) in
     let l = simp length-take at long in
     let s = of-whole-length .ensures .1 in
@@ -114,38 +136,34 @@ returns-2 c =
 
 raise-requires : tie.Need-raise-requires Inv-loop μ-loop
 raise-requires c κs =
-    let start-fits = c .before .before .before .before .before .before .before .before .before .before .before .fits in
-    let of-loop = c .before .before .before .before .before .before .before .before .before .loop in
-    let of-loop-test = c .before .before .before .before .before .before .before .before .loop-test in
-    let k = of-loop .inv .counts-small (tableOf (c .before .before .h .given .0 .0)) in
+    let start-fits = c .before .before .before .before .before .before .before .before .before .before .before .before .before .before .before .fits in
+    let of-loop = c .before .before .before .before .before .before .before .before .before .before .before .loop in
+    let of-loop-test = c .before .before .before .before .before .before .before .before .before .before .loop-test in
+    let k = of-loop .inv .0 .counts-small (tableOf (c .before .before .h .given .0 .0)) in
     omega (arith, of-loop-test .taken, start-fits .entries)
 
-get-u32-requires : tie.Need-get-u32-requires Inv-loop μ-loop
-get-u32-requires c κs = search needs
-
-cast-larger : tie.Need-cast-larger Inv-loop μ-loop
-cast-larger c = search needs
-
-add-larger : tie.Need-add-larger Inv-loop μ-loop
-add-larger c = omega (arith, c .get-u32 .ok)
-
-larger-requires : tie.Need-larger-requires Inv-loop μ-loop
-larger-requires c κs = search needs
+is-sought-requires : tie.Need-is-sought-requires Inv-loop μ-loop
+is-sought-requires c κs =
+    let a = c .before .before .before .before .before .before .before .before .before .before .before .before .before .before .before .before .args in
+    let of-loop = c .before .before .before .before .before .before .before .before .before .before .before .before .loop in
+    let of-whole-length = c .before .before .before .before .before .before .before .before .before .before .whole-length in
+    let of-name-hash = c .before .before .before .before .before .name-hash in
+    let of-h = c .before .before .before .h in
+    let told = told-image-hash (take (of-loop .at + 7 + of-whole-length .result - (of-loop .at + 8)) (drop (of-loop .at + 8) (a .buf .now))) (of-name-hash .result) (of-h .given .0 .0) (of-name-hash .ensures) (of-h .given .1) in
+    (told .0, told .1, c .before .before .before .before .before .before .before .before .before .before .before .before .before .sought-hash .ensures)
 
 add-at : tie.Need-add-at Inv-loop μ-loop
 add-at c =
-    let start-good = c .before .before .before .before .before .before .before .before .before .before .before .before .before .before .good in
-    let start-pre = c .before .before .before .before .before .before .before .before .before .before .before .before .before .before .pre in
-    let of-before = c .before .before .before .before .before .before .before .before .before in
-    let r = room (of-before) in
+    let start-good = c .before .before .before .before .before .before .before .before .before .before .before .before .before .before .before .before .before .good in
+    let start-pre = c .before .before .before .before .before .before .before .before .before .before .before .before .before .before .before .before .before .pre in
+    let r = room (c .before .before .before .before .before .before .before .before .before .before) in
     omega (arith, start-good, start-pre .1)
 
 add-at-2 : tie.Need-add-at-2 Inv-loop μ-loop
 add-at-2 c =
-    let start-good = c .before .before .before .before .before .before .before .before .before .before .before .before .before .before .good in
-    let start-pre = c .before .before .before .before .before .before .before .before .before .before .before .before .before .before .pre in
-    let of-before = c .before .before .before .before .before .before .before .before .before in
-    let r = room (of-before) in
+    let start-good = c .before .before .before .before .before .before .before .before .before .before .before .before .before .before .before .before .before .good in
+    let start-pre = c .before .before .before .before .before .before .before .before .before .before .before .before .before .before .before .before .before .pre in
+    let r = room (c .before .before .before .before .before .before .before .before .before .before) in
     omega (arith, start-good, start-pre .1)
 
 sub-left : tie.Need-sub-left Inv-loop μ-loop
@@ -156,28 +174,35 @@ loop-less c = omega arith
 
 loop-again : tie.Need-loop-again Inv-loop μ-loop
 loop-again c =
-    let a = c .before .before .before .before .before .before .before .before .before .before .before .before .before .before .args in
-    let start-pre = c .before .before .before .before .before .before .before .before .before .before .before .before .before .before .pre in
-    let of-loop = c .before .before .before .before .before .before .before .before .before .before .before .before .loop in
-    let of-loop-test = c .before .before .before .before .before .before .before .before .before .before .before .loop-test in
-    let of-whole-length = c .before .before .before .before .before .before .before .before .before .before .whole-length in
-    let of-before = c .before .before .before .before .before .before .before .before .before in
-    let of-name-hash = c .before .before .before .before .before .before .before .name-hash in
-    let of-h = c .before .before .before .before .before .h in
-    let f = known (of-before) in
-    let told = told-image-hash (take (of-loop .at + 7 + of-whole-length .result - (of-loop .at + 8)) (drop (of-loop .at + 8) (a .buf .now))) (of-name-hash .result) (of-h .given .0 .0) (of-name-hash .ensures) (of-h .given .1) in
-    let small : c .before .get-u32 .result < 4294967296 = omega (arith, c .before .get-u32 .ok) in
-    let t = walk-turn (a .buf .now) (a .end) (a .entries) (a .counts .now) (of-loop .at) (of-loop .left) (of-loop .back) (of-loop .counts) (start-pre .1) (of-loop .inv) (of-loop-test .taken)
-    (of-whole-length .result) (of-h .given .0 .0) (c .before .get-u32 .result) (take (of-loop .at + 7 + of-whole-length .result - (of-loop .at + 8)) (drop (of-loop .at + 8) (a .buf .now))) (c .before .before .raise .last .0) f (of-whole-length .ensures .1) small refl (told .1) (c .before .get-u32 .ensures) (c .before .before .raise .ensures) in
-    rw (c .larger .ensures) t
+    let a = c .before .before .before .before .before .before .before .before .before .before .before .before .before .before .before .before .before .args in
+    let start-pre = c .before .before .before .before .before .before .before .before .before .before .before .before .before .before .before .before .before .pre in
+    let of-loop = c .before .before .before .before .before .before .before .before .before .before .before .before .before .loop in
+    let some = c .before .before .before .before .before .before .before .before .before .before .before .before .loop-test .taken in
+    let of-whole-length = c .before .before .before .before .before .before .before .before .before .before .before .whole-length in
+    let of-word = c .before .before .before .before .before .before .before .before .word in
+    let of-larger = c .before .before .before .before .before .before .before .larger in
+    let of-name-hash = c .before .before .before .before .before .before .name-hash in
+    let of-h = c .before .before .before .before .h in
+    let of-raise = c .before .raise in
+    let f = known (c .before .before .before .before .before .before .before .before .before .before) in
+    let name = take (of-loop .at + 7 + of-whole-length .result - (of-loop .at + 8)) (drop (of-loop .at + 8) (a .buf .now)) in
+    let told = told-image-hash name (of-name-hash .result) (of-h .given .0 .0) (of-name-hash .ensures) (of-h .given .1) in
+    let small : of-word .result < 4294967296 = omega (arith, of-word .ok) in
+    let t = walk-turn (a .buf .now) (a .end) (a .entries) (a .counts .now) (of-loop .at) (of-loop .left) (of-loop .back) (of-loop .counts) (start-pre .1) (of-loop .inv .0) some
+    (of-whole-length .result) (of-h .given .0 .0) (of-word .result) name (of-raise .last .0) f (of-whole-length .ensures .1) small refl (told .1) (of-word .ensures) (of-raise .ensures) in
+    let m = met-turn (a .buf .now) (a .end) (a .entries) (a .sought .now) (of-loop .at) (of-loop .left) (of-loop .met) (start-pre .1) (of-loop .inv .0 .inside) some (of-loop .inv .1)
+    (of-whole-length .result) name (c .is-sought .result) f refl (c .is-sought .ensures) in
+    (rw (of-larger .ensures) t, m)
 
 returns-3 : tie.Need-returns-3 Inv-loop μ-loop
 returns-3 c =
-    let a = c .before .before .before .args in
-    let start-pre = c .before .before .before .pre in
-    let z : c .before .loop .left ≡ 0 = omega arith in
-    let e = walk-end (a .buf .now) (a .end) (a .entries) (a .counts .now) (c .before .loop .at) (c .before .loop .back) (c .before .loop .counts) (start-pre .1) (rw z at (c .before .loop .inv)) in
-    (e .0, ((λ w. e .1), (λ w. e .2)))
+    let a = c .before .before .before .before .before .args in
+    let start-pre = c .before .before .before .before .before .pre in
+    let of-loop = c .before .loop in
+    let z : of-loop .left ≡ 0 = omega arith in
+    let e = walk-end (a .buf .now) (a .end) (a .entries) (a .counts .now) (of-loop .at) (of-loop .back) (of-loop .counts) (start-pre .1) (rw z at (of-loop .inv .0)) in
+    let m = met-end (a .buf .now) (a .end) (a .entries) (a .sought .now) (of-loop .at) (of-loop .left) (of-loop .met) z (of-loop .inv .1) in
+    (e .0, ((λ w. e .1), ((λ w. m), (λ w. e .2))))
 
 pub walk-spec : {M : Type 1} → statement M
 walk-spec =
@@ -185,6 +210,7 @@ walk-spec =
     (tie.spec
     Inv-loop
     μ-loop
+    sought-hash-requires
     loop-holds
     whole-length-requires
     returns
@@ -194,15 +220,16 @@ walk-spec =
     sub-name
     part-name-start
     part-name-end
+    word-requires
+    cast-larger
+    add-larger
+    larger-requires
     name-hash-requires
     enum-known-h
     enum-told
     returns-2
     raise-requires
-    get-u32-requires
-    cast-larger
-    add-larger
-    larger-requires
+    is-sought-requires
     add-at
     add-at-2
     sub-left

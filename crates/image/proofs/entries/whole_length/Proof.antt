@@ -6,7 +6,7 @@ use Rattle.image.proofs.entries.whole_length.Statement.{statement}
 use Rattle.image.proofs.entries.whole_length.Tie as tie
 use Rattle.image.proofs.entries.whole_length.Reads as reads
 use Rattle.image.proofs.entries.whole_length.Lts as lts
-use Rattle.image.proofs.get_u32.Reads as get-u32-reads
+use Rattle.jhash.proofs.word.word.Reads as word-reads
 
 sub-if1 : tie.Need-sub-if1
 sub-if1 c = search needs
@@ -15,11 +15,11 @@ returns : tie.Need-returns
 returns c =
     (short-there (c .before .before .args .buf .now) (c .before .before .args .at) (c .before .before .args .end) (c .before .before .pre .0) (c .before .before .pre .1) (c .if1 .taken), omega arith)
 
-add-get-u32 : tie.Need-add-get-u32
-add-get-u32 c = search needs
+add-word : tie.Need-add-word
+add-word c = search needs
 
-get-u32-requires : tie.Need-get-u32-requires
-get-u32-requires c κs = search needs
+word-requires : tie.Need-word-requires
+word-requires c κs = search needs
 
 cast-n : tie.Need-cast-n
 cast-n c = search needs
@@ -28,7 +28,7 @@ returns-2 : tie.Need-returns-2
 returns-2 c =
     let a = c .before .before .before .before .args in
     let start-pre = c .before .before .before .before .pre in
-    (none-there (a .buf .now) (a .at) (a .end) (start-pre .0) (start-pre .1) (c .before .before .if1 .left) (c .before .get-u32 .result) (c .before .get-u32 .ensures) (c .if2 .taken), omega arith)
+    (none-there (a .buf .now) (a .at) (a .end) (start-pre .0) (start-pre .1) (c .before .before .if1 .left) (c .before .word .result) (c .before .word .ensures) (c .if2 .taken), omega arith)
 
 sub-if3 : tie.Need-sub-if3
 sub-if3 c = search needs
@@ -41,7 +41,7 @@ returns-3 c =
     let a = c .before .before .before .before .before .args in
     let start-pre = c .before .before .before .before .before .pre in
     let of-if1 = c .before .before .before .if1 in
-    (cut-there (a .buf .now) (a .at) (a .end) (start-pre .0) (start-pre .1) (of-if1 .left) (c .before .before .get-u32 .result) (c .before .before .get-u32 .ensures) (c .before .if2 .left) (c .if3 .taken), omega arith)
+    (cut-there (a .buf .now) (a .at) (a .end) (start-pre .0) (start-pre .1) (of-if1 .left) (c .before .before .word .result) (c .before .before .word .ensures) (c .before .if2 .left) (c .if3 .taken), omega arith)
 
 add-if4 : tie.Need-add-if4
 add-if4 c = search needs
@@ -57,18 +57,18 @@ returns-4 c =
     let a = c .before .before .before .before .before .before .before .args in
     let start-pre = c .before .before .before .before .before .before .before .pre in
     let of-if1 = c .before .before .before .before .before .if1 in
-    let of-get-u32 = c .before .before .before .before .get-u32 in
+    let of-word = c .before .before .before .before .word in
     let of-if2 = c .before .before .before .if2 in
-    (open-there (a .buf .now) (a .at) (a .end) (start-pre .0) (start-pre .1) (of-if1 .left) (of-get-u32 .result) (of-get-u32 .ensures) (of-if2 .left) (c .before .before .if3 .left) (c .if4 .taken), omega arith)
+    (open-there (a .buf .now) (a .at) (a .end) (start-pre .0) (start-pre .1) (of-if1 .left) (of-word .result) (of-word .ensures) (of-if2 .left) (c .before .before .if3 .left) (c .if4 .taken), omega arith)
 
 returns-5 : tie.Need-returns-5
 returns-5 c =
     let a = c .before .before .before .before .before .before .before .args in
     let start-pre = c .before .before .before .before .before .before .before .pre in
     let of-if1 = c .before .before .before .before .before .if1 in
-    let of-get-u32 = c .before .before .before .before .get-u32 in
+    let of-word = c .before .before .before .before .word in
     let of-if2 = c .before .before .before .if2 in
-    (whole-there (a .buf .now) (a .at) (a .end) (start-pre .0) (start-pre .1) (of-if1 .left) (of-get-u32 .result) (of-get-u32 .ensures) (of-if2 .left) (c .before .before .if3 .left) (c .if4 .left), omega (arith, of-get-u32 .ok))
+    (whole-there (a .buf .now) (a .at) (a .end) (start-pre .0) (start-pre .1) (of-if1 .left) (of-word .result) (of-word .ensures) (of-if2 .left) (c .before .before .if3 .left) (c .if4 .left), omega (arith, of-word .ok))
 
 pub whole-length-spec : {M : Type 1} → statement M
 whole-length-spec =
@@ -76,8 +76,8 @@ whole-length-spec =
     (tie.spec
     sub-if1
     returns
-    add-get-u32
-    get-u32-requires
+    add-word
+    word-requires
     cast-n
     returns-2
     sub-if3

@@ -10,10 +10,6 @@ use borrow.Author.Needs.{needs}
 use Rattle.writer.proofs.record.after.Statement.{statement}
 use Rattle.writer.proofs.record.after.Tie as tie
 
-add-t6 : tie.Need-add-t6
-unfolding writerWith
-add-t6 c = omega arith
-
 add-t7 : tie.Need-add-t7
 unfolding writerWith
 add-t7 c = omega arith
@@ -22,12 +18,16 @@ add-t8 : tie.Need-add-t8
 unfolding writerWith
 add-t8 c = omega arith
 
+add-t9 : tie.Need-add-t9
+unfolding writerWith
+add-t9 c = omega arith
+
 raised-requires : tie.Need-raised-requires
 raised-requires c κs = search needs
 
-cast-t10 : tie.Need-cast-t10
+cast-t11 : tie.Need-cast-t11
 unfolding writerWith
-cast-t10 c =
+cast-t11 c =
     let a = c .before .before .before .args in
     let k : 4 * backIn (a .w .mode) (raised (a .w .mode) (a .w .back) (a .id)) ≤ 4294967295 = omega arith in
     let f = raised-fits (a .w .mode) (a .w .back) (a .id) (omega arith) k in
@@ -40,6 +40,7 @@ returns c =
     let n = c .before .before .before .args .n in
     λ i. record {
       mode = w .mode;
+      repeats = w .repeats;
       length = w .length;
       end = w .end + (n + 9);
       entries = w .entries + 1;
@@ -47,4 +48,4 @@ returns c =
     }
 
 pub after-spec : {M : Type 1} → statement M
-after-spec = tie.close (tie.spec add-t6 add-t7 add-t8 raised-requires cast-t10 returns)
+after-spec = tie.close (tie.spec add-t7 add-t8 add-t9 raised-requires cast-t11 returns)

@@ -1,0 +1,21 @@
+-- `image::entries::is_sought` meets its contract. Assumes nothing.
+use mathlib.Core.Path.{sym}
+use Rattle.image.proofs.EntryWalk.{other-hash}
+use borrow.Author.Needs.{needs}
+use Rattle.image.proofs.entries.is_sought.Statement.{statement}
+use Rattle.image.proofs.entries.is_sought.Tie as tie
+
+returns : tie.Need-returns
+returns c =
+    let a = c .before .before .before .args in
+    let start-pre = c .before .before .before .pre in
+    sym (other-hash (a .name .now) (a .sought .now) (a .h) (a .want) (start-pre .0) (start-pre .1) (start-pre .2) (c .if1 .taken))
+
+same-requires : tie.Need-same-requires
+same-requires c κs = search needs
+
+returns-2 : tie.Need-returns-2
+returns-2 c = search needs
+
+pub is-sought-spec : {M : Type 1} → statement M
+is-sought-spec = tie.close (tie.spec returns same-requires returns-2)

@@ -1,0 +1,154 @@
+-- Lists of calls with repeats off: each name is put once, and the accepted puts make the same image with either choice. Assumes nothing.
+use Prim.Native.Nat.{ℕ, _+_, _^_, _≤_}
+use native.Mathlib.Omega.{arith}
+use mathlib.Core.Path.{_≡_, refl, sym, ap, _∙_}
+use mathlib.Core.Bool.{Bool, true, false, cond, _||_, _&&_, and-true}
+use mathlib.Core.List.{List, [], _∷_, _++_, append-assoc, append-nil}
+use lib.ListN.{length, length-append}
+use lib.Dec.{eqb}
+use borrow.Author.Tests.{eqb-true, eq-eqb}
+use Rattle.image.specs.declared.Mode.{Mode}
+use Rattle.image.specs.declared.Mode.the-variants.{Twoway, Oneway}
+use Rattle.image.specs.Bytes.{keep, same}
+use Rattle.image.specs.Image.{Entry, headSize, backSize, hasName, holds, image}
+use Rattle.image.proofs.Lists.{keep-nil, keep-yes, keep-no, keep-append}
+use Rattle.image.proofs.Equal.{same-true}
+use Rattle.image.proofs.Bools.{neither-first, neither-second}
+use Rattle.answers.specs.Answer.{ofName, firstId}
+use Rattle.writer.specs.declared.Repeats.{Repeats}
+use Rattle.writer.specs.declared.Repeats.the-variants.{Off}
+use Rattle.lists.specs.Calls.{Call, put, close, acceptedBy, putDue, acceptedFrom, dueFrom, accepted, due, WordIds}
+use Rattle.lists.specs.Demand3.{acceptedPuts, imageOf}
+use Rattle.lists.specs.RepeatsOff.{putAll, ListOff, RepeatsOff}
+use Rattle.lists.proofs.Puts.{due-new, due-either}
+use Rattle.lists.proofs.Members.{only-entry}
+use Rattle.lists.proofs.Along.{accepted-by-due, list-accepted, list-written}
+use Rattle.lists.proofs.Reading.{list-read}
+use Rattle.lists.proofs.Theorem.{calls-imaged}
+
+-- ---- each name once
+
+none-named : (name : List ℕ) (es : List Entry) → holds name es ≡ false → ofName name es ≡ []
+unfolding holds ofName
+none-named name [] h = keep-nil (hasName name)
+none-named name (e ∷ es) h =
+    keep-no (hasName name) e es (neither-first (hasName name e) (holds name es) h)
+    ∙ none-named name es (neither-second (hasName name e) (holds name es) h)
+
+-- one put more of a name that is new
+one-more : (name : List ℕ) (es : List Entry) (e : Entry) → holds (e .name) es ≡ false → length (ofName name es) ≤ 1 → length (ofName name (es ++ (e ∷ []))) ≤ 1
+unfolding ofName
+one-more name es e new once = go (hasName name e) refl
+  where
+    split : ofName name (es ++ (e ∷ [])) ≡ ofName name es ++ keep (hasName name) (e ∷ [])
+    split = keep-append (hasName name) es (e ∷ [])
+
+    long : length (ofName name (es ++ (e ∷ []))) ≡ length (ofName name es) + length (keep (hasName name) (e ∷ []))
+    long = ap length split ∙ length-append (ofName name es) (keep (hasName name) (e ∷ []))
+
+    go : (b : Bool) → hasName name e ≡ b → length (ofName name (es ++ (e ∷ []))) ≤ 1
+    go true h =
+        let same-name = same-true (e .name) name h in
+        let none : ofName name es ≡ [] = ap (λ (l : List ℕ). ofName l es) (sym same-name) ∙ none-named (e .name) es new in
+        omega (arith, long, ap length none, ap length (keep-yes (hasName name) e [] h), ap length (keep-nil (hasName name)))
+    go false h = omega (arith, long, ap length (keep-no (hasName name) e [] h), ap length (keep-nil (hasName name)))
+
+module _ (mode : Mode) (n : ℕ) where
+  once-from : (name : List ℕ) (es : List Entry) (cs : List Call) → length (ofName name es) ≤ 1 → length (ofName name (acceptedFrom mode Off n es cs)) ≤ 1
+  unfolding acceptedFrom
+  once-from name es [] once = once
+  once-from name es (close ∷ cs) once = once-from name (es ++ []) cs (rw (append-nil es) once)
+  once-from name es (put e ∷ cs) once = once-from name _ cs (go (eqb (putDue mode Off n es e) 0) refl)
+    where
+      go : (b : Bool) → eqb (putDue mode Off n es e) 0 ≡ b → length (ofName name (es ++ cond b (e ∷ []) [])) ≤ 1
+      go true d =
+          one-more name es e (sym (and-true (holds (e .name) es)) ∙ due-new mode Off n es e (eqb-true (putDue mode Off n es e) 0 d)) once
+      go false d = rw (append-nil es) once
+
+  once : (name : List ℕ) (cs : List Call) → length (ofName name (accepted mode Off n cs)) ≤ 1
+  unfolding accepted ofName
+  once name cs = once-from name [] cs (omega (arith, ap length (keep-nil (hasName name))))
+
+  -- ---- the accepted puts, put again
+
+  -- with repeats off none of these is refused, each put after those before it
+  abbrev Again : List Entry → List Entry → Type 0
+  Again es [] = Unit {0}
+  Again es (f ∷ fs) = (putDue mode Off n es f ≡ 0) × Again (es ++ (f ∷ [])) fs
+
+  again-from : (es : List Entry) (cs : List Call) → Again es (acceptedBy cs (dueFrom mode Off n es cs))
+  unfolding acceptedBy dueFrom
+  again-from es [] = tt
+  again-from es (close ∷ cs) = rw (append-nil es) (again-from es cs)
+  again-from es (put e ∷ cs) = go (eqb (putDue mode Off n es e) 0) refl (again-from es cs) (again-from (es ++ (e ∷ [])) cs)
+    where
+      go : (b : Bool) → eqb (putDue mode Off n es e) 0 ≡ b → Again es (acceptedBy cs (dueFrom mode Off n es cs))
+          → Again (es ++ (e ∷ [])) (acceptedBy cs (dueFrom mode Off n (es ++ (e ∷ [])) cs))
+          → Again es (cond b (e ∷ []) [] ++ acceptedBy cs (dueFrom mode Off n (es ++ cond b (e ∷ []) []) cs))
+      go true d without with-it = (eqb-true (putDue mode Off n es e) 0 d, with-it)
+      go false d without with-it = rw (append-nil es) without
+
+  -- so with either choice all are accepted
+  all-accepted : (repeats : Repeats) (es fs : List Entry) → Again es fs → acceptedFrom mode repeats n es (putAll fs) ≡ es ++ fs
+  unfolding acceptedFrom putAll
+  all-accepted repeats es [] again = sym (append-nil es)
+  all-accepted repeats es (f ∷ fs) again =
+      ap (λ (b : Bool). acceptedFrom mode repeats n (es ++ cond b (f ∷ []) []) (putAll fs))
+      (eq-eqb (putDue mode repeats n es f) 0 (due-either mode n es f (again .0) repeats))
+      ∙ all-accepted repeats (es ++ (f ∷ [])) fs (again .1)
+      ∙ append-assoc es (f ∷ []) fs
+
+  accepted-again : (repeats : Repeats) (cs : List Call) → accepted mode repeats n (putAll (accepted mode Off n cs)) ≡ accepted mode Off n cs
+  unfolding accepted due
+  accepted-again repeats cs =
+      let by = accepted-by-due mode Off n cs in
+      ap (λ (es : List Entry). acceptedFrom mode repeats n [] (putAll es)) (sym by) ∙ all-accepted repeats [] (acceptedBy cs (due mode Off n cs)) (again-from [] cs) ∙ by
+
+-- their ids are words
+words-again : (mode : Mode) (es : List Entry) → backSize es ≤ 2 ^ 32 → WordIds mode (putAll es)
+unfolding putAll backSize
+words-again mode [] h = tt
+words-again Twoway (e ∷ es) h = (tt, words-again Twoway es (omega arith))
+words-again Oneway (e ∷ es) h = (omega arith, words-again Oneway es (omega arith))
+
+-- ---- the theorem
+
+pub same-image : (mode : Mode) (repeats₁ : Repeats) (buffer₁ : List ℕ) (cs₁ : List Call) (repeats₂ : Repeats) (buffer₂ : List ℕ) (cs₂ : List Call)
+    → headSize ≤ length buffer₁ → headSize ≤ length buffer₂ → WordIds mode cs₁ → WordIds mode cs₂
+    → acceptedPuts mode repeats₁ buffer₁ cs₁ ≡ acceptedPuts mode repeats₂ buffer₂ cs₂ → imageOf mode repeats₁ buffer₁ cs₁ ≡ imageOf mode repeats₂ buffer₂ cs₂
+same-image mode repeats₁ buffer₁ cs₁ repeats₂ buffer₂ cs₂ room₁ room₂ word₁ word₂ h =
+    calls-imaged mode repeats₁ buffer₁ cs₁ room₁ word₁ ∙ ap (image mode) h ∙ sym (calls-imaged mode repeats₂ buffer₂ cs₂ room₂ word₂)
+
+module _ (mode : Mode) (buffer : List ℕ) (cs : List Call) (room : headSize ≤ length buffer) (word : WordIds mode cs) where
+  entered : acceptedPuts mode Off buffer cs ≡ accepted mode Off (length buffer) cs
+  entered = list-accepted mode Off buffer room cs word
+
+  put-once : (name : List ℕ) → length (ofName name (acceptedPuts mode Off buffer cs)) ≤ 1
+  put-once name = rw entered (once mode (length buffer) name cs)
+
+  again-words : WordIds mode (putAll (acceptedPuts mode Off buffer cs))
+  again-words = rw entered (words-again mode (accepted mode Off (length buffer) cs) (list-written mode Off buffer room cs word .ids))
+
+  puts-again : (repeats : Repeats) → acceptedPuts mode repeats buffer (putAll (acceptedPuts mode Off buffer cs)) ≡ acceptedPuts mode Off buffer cs
+  puts-again repeats =
+      list-accepted mode repeats buffer room (putAll (acceptedPuts mode Off buffer cs)) again-words
+      ∙ ap (λ (es : List Entry). accepted mode repeats (length buffer) (putAll es)) entered
+      ∙ accepted-again mode (length buffer) repeats cs
+      ∙ sym entered
+
+  list-off : ListOff mode buffer cs
+  list-off =
+      let gives = rw (sym entered) at (list-read mode Off buffer room cs word .names .name-gives) in
+      record {
+        put-once = put-once;
+        own-id = λ name id. (
+          λ h. only-entry (acceptedPuts mode Off buffer cs) name id (put-once name) (sym (gives name) ∙ h),
+          λ h. gives name ∙ ap firstId h,
+        );
+        puts-again = puts-again;
+        image-again = λ repeats.
+            same-image mode repeats buffer (putAll (acceptedPuts mode Off buffer cs)) Off buffer cs room room again-words word (puts-again repeats);
+      }
+
+pub repeats-off : RepeatsOff
+repeats-off = record { list-off = list-off; same-image = same-image }

@@ -1,0 +1,16 @@
+-- What put makes of the earlier entries, as the code goes. No rule of 02 stands here: proofs/ joins it to specs/Put.
+use Prim.Native.Nat.{ℕ}
+use mathlib.Core.Bool.{cond, not}
+use mathlib.Core.List.{List}
+use Rattle.image.specs.Image.{holds}
+use Rattle.writer.specs.State.{State, refusesRepeats}
+use Rattle.writer.specs.Close.{recorded, consistent}
+
+-- what a walk over them gives: 4 where it fails close's checks, otherwise 16 where it meets the name, 0 for neither
+unfoldable pub walkRefusal : State → List ℕ → ℕ
+walkRefusal s name = cond (not (consistent s)) 4 (cond (holds name (recorded s)) 16 0)
+
+-- with repeats on there is no walk
+unfoldable pub earlierRefusal : State → List ℕ → ℕ
+unfolding walkRefusal
+earlierRefusal s name = cond (refusesRepeats (s .writer .repeats)) (walkRefusal s name) 0
