@@ -1,8 +1,9 @@
 // The benchmarks: ours and the Rust's release build, in one run and one table. The two take turns, and each time is the best of
-// several repetitions.   main [hash | reading | building | page]
+// several repetitions.   main [hash | reading | building | page | origin]
 mod building;
 mod hash;
 mod names;
+mod origin;
 #[path = "../tests/compare/ours.rs"]
 mod ours;
 mod page;
@@ -24,5 +25,8 @@ fn main() {
     }
     if wanted("page") {
         page::run();
+    }
+    if wanted("origin") {
+        origin::run();
     }
 }

@@ -1,7 +1,7 @@
 //! Is this image one of ours? Through the safe calls.
 use cqdb::{CQDBWriter, Flag, CQDB};
 
-const PUTS: [(&[u8], u32); 4] = [(b"A", 0), (b"north wall", 7), (b"A", 9), (b"", 7)];
+const PUTS: [(&[u8], u32); 4] = [(b"A", 0), (b"north wall", 7), (b"B", 9), (b"", 7)];
 
 fn image(flag: Flag, puts: &[(&[u8], u32)]) -> Vec<u8> {
     let mut writer = CQDBWriter::with_flag(flag);

@@ -135,7 +135,7 @@ fn closed(random: &mut Random, oneway: bool, puts: &[Put]) -> Vec<u8> {
     let largest = puts.iter().map(|put| put.1 as usize + 1).max().unwrap_or(0);
     let mut buf = random.bytes(HEAD + puts.iter().map(|put| put.0.len() + 25).sum::<usize>() + 4 * largest + 99);
     let mut counts = [0; 256];
-    let mut record = ours::begin(oneway as u32, &mut counts, &buf).record;
+    let mut record = ours::begin(oneway as u32, 1, &mut counts, &buf).record;
     for (name, id) in puts {
         record = ours::put(record, &mut counts, &mut buf, name, *id).record;
     }

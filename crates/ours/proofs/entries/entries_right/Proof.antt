@@ -12,52 +12,56 @@ use Rattle.ours.proofs.entries.entries_right.Statement.{statement}
 use Rattle.ours.proofs.entries.entries_right.Tie as tie
 
 abbrev Inv-loop : tie.InvT-loop
-Inv-loop image end entries counts₀ at₀ left₀ back₀ counts at left back = Enter image end entries counts₀ at left back counts
+Inv-loop image end entries counts₀ at₀ left₀ back₀ seen₀ counts at left back seen = Enter image end entries counts₀ at left back counts
 
 abbrev μ-loop : tie.MeasureT-loop
-μ-loop image end entries counts₀ at₀ left₀ back₀ counts at left back = left
+μ-loop image end entries counts₀ at₀ left₀ back₀ seen₀ counts at left back seen = left
 
 loop-holds : tie.Need-loop-holds Inv-loop μ-loop
 loop-holds c =
     let a = c .before .args in
-    enter-start (a .image .now) (a .end) (a .entries) (a .counts .now) (c .before .pre .1) (c .before .pre .0) (c .before .pre .3)
+    let p = c .before .pre in
+    enter-start (a .image .now) (a .end) (a .entries) (a .counts .now) (p .1) (p .0) (p .3)
+
+ahead-requires : tie.Need-ahead-requires Inv-loop μ-loop
+ahead-requires c κs = (c .before .loop .inv .rest .inside, c .before .before .before .pre .1, c .before .before .before .pre .2)
 
 whole-length-requires : tie.Need-whole-length-requires Inv-loop μ-loop
-whole-length-requires c κs = (c .before .loop .inv .rest .inside, c .before .before .before .pre .1)
+whole-length-requires c κs = (c .before .before .loop .inv .rest .inside, c .before .before .before .before .pre .1)
 
 returns : tie.Need-returns Inv-loop μ-loop
 returns c =
-    let a = c .before .before .before .before .before .args in
-    let p = c .before .before .before .before .before .pre in
-    let l = c .before .before .before .loop in
+    let a = c .before .before .before .before .before .before .args in
+    let p = c .before .before .before .before .before .before .pre in
+    let l = c .before .before .before .before .loop in
     let w = c .before .whole-length in
-    (enter-broken (a .image .now) (a .end) (a .entries) (a .counts .now) (p .1) (l .at) (l .left) (l .back) (l .counts) (l .inv) (c .before .before .loop-test .taken) (w .result) (w .ensures .0) (c .if1 .taken), (λ z. absurd (not-both z), λ z. absurd (not-both z)))
+    (enter-broken (a .image .now) (a .end) (a .entries) (a .counts .now) (p .1) (l .at) (l .left) (l .back) (l .counts) (l .inv) (c .before .before .before .loop-test .taken) (w .result) (w .ensures .0) (c .if1 .taken), (λ z. absurd (not-both z), λ z. absurd (not-both z)))
 
 entry-right-requires : tie.Need-entry-right-requires Inv-loop μ-loop
 entry-right-requires c κs =
-    let a = c .before .before .before .before .before .args in
-    let p = c .before .before .before .before .before .pre in
-    let l = c .before .before .before .loop in
+    let a = c .before .before .before .before .before .before .args in
+    let p = c .before .before .before .before .before .before .pre in
+    let l = c .before .before .before .before .loop in
     let w = c .before .whole-length in
-    let r = enter-room (a .image .now) (a .end) (a .entries) (a .counts .now) (p .1) (l .at) (l .left) (l .back) (l .counts) (l .inv) (c .before .before .loop-test .taken) (w .result) (w .ensures .0) (c .if1 .left) in
+    let r = enter-room (a .image .now) (a .end) (a .entries) (a .counts .now) (p .1) (l .at) (l .left) (l .back) (l .counts) (l .inv) (c .before .before .before .loop-test .taken) (w .result) (w .ensures .0) (c .if1 .left) in
     (omega (arith, p .1), r .1, w .ensures .1, omega (arith, p .2))
 
 returns-2 : tie.Need-returns-2 Inv-loop μ-loop
 returns-2 c =
-    let a = c .before .before .before .before .before .before .before .before .args in
-    let p = c .before .before .before .before .before .before .before .before .pre in
-    let l = c .before .before .before .before .before .before .loop in
+    let a = c .before .before .before .before .before .before .before .before .before .args in
+    let p = c .before .before .before .before .before .before .before .before .before .pre in
+    let l = c .before .before .before .before .before .before .before .loop in
     let w = c .before .before .before .before .whole-length in
     let entry = c .before .before .entry-right in (
-      enter-wrong (a .image .now) (a .end) (a .entries) (a .counts .now) (p .1) (l .at) (l .left) (l .back) (l .counts) (l .inv) (c .before .before .before .before .before .loop-test .taken) (w .result) (w .ensures .0) (c .before .before .before .if1 .left) (entry .result .right) (entry .ensures .0) (not-true _ (c .if2 .taken)),
+      enter-wrong (a .image .now) (a .end) (a .entries) (a .counts .now) (p .1) (l .at) (l .left) (l .back) (l .counts) (l .inv) (c .before .before .before .before .before .before .loop-test .taken) (w .result) (w .ensures .0) (c .before .before .before .if1 .left) (entry .result .right) (entry .ensures .0) (not-true _ (c .if2 .taken)),
       (λ z. absurd (not-both z), λ z. absurd (not-both z)),
     )
 
 raise-requires : tie.Need-raise-requires Inv-loop μ-loop
 raise-requires c κs =
-    let l = c .before .before .before .before .before .before .before .loop in
+    let l = c .before .before .before .before .before .before .before .before .loop in
     let small = l .inv .rest .counts-small (tableOf (c .before .before .before .entry-right .result .hash)) in
-    omega (arith, c .before .before .before .before .before .before .loop-test .taken, c .before .before .before .before .before .before .before .before .before .fits .entries)
+    omega (arith, c .before .before .before .before .before .before .before .loop-test .taken, c .before .before .before .before .before .before .before .before .before .before .fits .entries)
 
 get-u32-requires : tie.Need-get-u32-requires Inv-loop μ-loop
 get-u32-requires c κs = search needs
@@ -73,20 +77,20 @@ larger-requires c κs = search needs
 
 add-at : tie.Need-add-at Inv-loop μ-loop
 add-at c =
-    let a = c .before .before .before .before .before .before .before .before .before .before .before .before .args in
-    let p = c .before .before .before .before .before .before .before .before .before .before .before .before .pre in
-    let l = c .before .before .before .before .before .before .before .before .before .before .loop in
+    let a = c .before .before .before .before .before .before .before .before .before .before .before .before .before .args in
+    let p = c .before .before .before .before .before .before .before .before .before .before .before .before .before .pre in
+    let l = c .before .before .before .before .before .before .before .before .before .before .before .loop in
     let w = c .before .before .before .before .before .before .before .before .whole-length in
-    let r = enter-room (a .image .now) (a .end) (a .entries) (a .counts .now) (p .1) (l .at) (l .left) (l .back) (l .counts) (l .inv) (c .before .before .before .before .before .before .before .before .before .loop-test .taken) (w .result) (w .ensures .0) (c .before .before .before .before .before .before .before .if1 .left) in
+    let r = enter-room (a .image .now) (a .end) (a .entries) (a .counts .now) (p .1) (l .at) (l .left) (l .back) (l .counts) (l .inv) (c .before .before .before .before .before .before .before .before .before .before .loop-test .taken) (w .result) (w .ensures .0) (c .before .before .before .before .before .before .before .if1 .left) in
     omega (arith, p .2)
 
 add-at-2 : tie.Need-add-at-2 Inv-loop μ-loop
 add-at-2 c =
-    let a = c .before .before .before .before .before .before .before .before .before .before .before .before .args in
-    let p = c .before .before .before .before .before .before .before .before .before .before .before .before .pre in
-    let l = c .before .before .before .before .before .before .before .before .before .before .loop in
+    let a = c .before .before .before .before .before .before .before .before .before .before .before .before .before .args in
+    let p = c .before .before .before .before .before .before .before .before .before .before .before .before .before .pre in
+    let l = c .before .before .before .before .before .before .before .before .before .before .before .loop in
     let w = c .before .before .before .before .before .before .before .before .whole-length in
-    let r = enter-room (a .image .now) (a .end) (a .entries) (a .counts .now) (p .1) (l .at) (l .left) (l .back) (l .counts) (l .inv) (c .before .before .before .before .before .before .before .before .before .loop-test .taken) (w .result) (w .ensures .0) (c .before .before .before .before .before .before .before .if1 .left) in
+    let r = enter-room (a .image .now) (a .end) (a .entries) (a .counts .now) (p .1) (l .at) (l .left) (l .back) (l .counts) (l .inv) (c .before .before .before .before .before .before .before .before .before .before .loop-test .taken) (w .result) (w .ensures .0) (c .before .before .before .before .before .before .before .if1 .left) in
     omega (arith, p .2)
 
 sub-left : tie.Need-sub-left Inv-loop μ-loop
@@ -97,16 +101,16 @@ loop-less c = omega arith
 
 loop-again : tie.Need-loop-again Inv-loop μ-loop
 loop-again c =
-    let a = c .before .before .before .before .before .before .before .before .before .before .before .before .args in
-    let p = c .before .before .before .before .before .before .before .before .before .before .before .before .pre in
-    let l = c .before .before .before .before .before .before .before .before .before .before .loop in
+    let a = c .before .before .before .before .before .before .before .before .before .before .before .before .before .args in
+    let p = c .before .before .before .before .before .before .before .before .before .before .before .before .before .pre in
+    let l = c .before .before .before .before .before .before .before .before .before .before .before .loop in
     let w = c .before .before .before .before .before .before .before .before .whole-length in
     let entry = c .before .before .before .before .before .before .entry-right in
     let id = c .before .get-u32 in
     let raised = c .before .before .raise in
     let right : entry .result .right ≡ true = not-false _ (c .before .before .before .before .if2 .left) in
     let small : id .result < 4294967296 = omega (arith, id .ok) in
-    let t = enter-turn (a .image .now) (a .end) (a .entries) (a .counts .now) (p .1) (l .at) (l .left) (l .back) (l .counts) (l .inv) (c .before .before .before .before .before .before .before .before .before .loop-test .taken) (w .result) (w .ensures .0) (c .before .before .before .before .before .before .before .if1 .left)
+    let t = enter-turn (a .image .now) (a .end) (a .entries) (a .counts .now) (p .1) (l .at) (l .left) (l .back) (l .counts) (l .inv) (c .before .before .before .before .before .before .before .before .before .before .loop-test .taken) (w .result) (w .ensures .0) (c .before .before .before .before .before .before .before .if1 .left)
     (entry .result .right) (entry .result .hash) (id .result) (raised .last .0) (entry .ensures .0) right (entry .ensures .1 right) (w .ensures .1) small (id .ensures) (raised .ensures) in
     rw (c .larger .ensures) t
 
@@ -125,6 +129,7 @@ entries-right-spec =
     Inv-loop
     μ-loop
     loop-holds
+    ahead-requires
     whole-length-requires
     returns
     entry-right-requires
