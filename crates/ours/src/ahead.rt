@@ -52,15 +52,21 @@ fn look(image: &[u8], places: &[usize; 64]) -> usize {
     if all == 4294967295 { 31 } else { 63 }
 }
 
-// How many entries after the one at `at` are looked at already, where it was one of `left`. A small image needs no look.
+// How many entries may be walked before the first look: so many that none comes where the image is small.
+pub fn before_looking(image: &[u8]) -> usize {
+    if image.len() < LARGE {
+        1099511627776
+    } else {
+        0
+    }
+}
+
+// How many entries after the one at `at` may be walked before the next look, where `left` were before it.
 pub fn ahead(image: &[u8], at: usize, end: usize, left: usize) -> usize
     requires { ⌜ (at ≤ end) × (end ≤ length (now image)) × (end < 4294967296) ⌝ }
 {
     if left > 0 {
         return left - 1;
-    }
-    if image.len() < LARGE {
-        return 0;
     }
     let mut places = [0; 64];
     plan(image, at, end, &mut places);
