@@ -49,16 +49,26 @@ fn look(image: &[u8], places: &[usize; 64]) -> usize {
         all = all | get_u32(image, places[i]);
         i += 1;
     }
-    if all == 4294967295 { 31 } else { 63 }
+    if all == 4294967295 { 32 } else { 64 }
 }
 
-// How many entries may be walked before the first look: so many that none comes where the image is small.
-pub fn before_looking(image: &[u8]) -> usize {
+// Looks at the buckets of the next entries from `at` on. The result is how many entries may be walked before the next look.
+fn look_from(image: &[u8], at: usize, end: usize) -> usize
+    requires { ⌜ (at ≤ end) × (end ≤ length (now image)) × (end < 4294967296) ⌝ }
+{
+    let mut places = [0; 64];
+    plan(image, at, end, &mut places);
+    look(image, &places)
+}
+
+// The first look; in a small image none is needed, and so many entries may be walked that no other comes.
+pub fn first_look(image: &[u8], end: usize) -> usize
+    requires { ⌜ (2072 ≤ end) × (end ≤ length (now image)) × (end < 4294967296) ⌝ }
+{
     if image.len() < LARGE {
-        1099511627776
-    } else {
-        0
+        return 1099511627776;
     }
+    look_from(image, 2072, end)
 }
 
 // How many entries after the one at `at` may be walked before the next look, where `left` were before it.
@@ -68,7 +78,5 @@ pub fn ahead(image: &[u8], at: usize, end: usize, left: usize) -> usize
     if left > 0 {
         return left - 1;
     }
-    let mut places = [0; 64];
-    plan(image, at, end, &mut places);
-    look(image, &places)
+    look_from(image, at, end)
 }

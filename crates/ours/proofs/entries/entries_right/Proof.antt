@@ -17,8 +17,8 @@ Inv-loop image end entries counts₀ at₀ left₀ back₀ seen₀ counts at lef
 abbrev μ-loop : tie.MeasureT-loop
 μ-loop image end entries counts₀ at₀ left₀ back₀ seen₀ counts at left back seen = left
 
-before-looking-requires : tie.Need-before-looking-requires Inv-loop μ-loop
-before-looking-requires c κs = search needs
+first-look-requires : tie.Need-first-look-requires Inv-loop μ-loop
+first-look-requires c κs = (c .before .pre .0, c .before .pre .1, c .before .pre .2)
 
 loop-holds : tie.Need-loop-holds Inv-loop μ-loop
 loop-holds c =
@@ -131,7 +131,7 @@ entries-right-spec =
     (tie.spec
     Inv-loop
     μ-loop
-    before-looking-requires
+    first-look-requires
     loop-holds
     ahead-requires
     whole-length-requires
