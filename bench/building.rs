@@ -9,7 +9,7 @@ use std::io::Cursor;
 
 fn build(names: &[&str], buf: &mut [u8]) {
     let mut counts = [0; 256];
-    let mut record = ours::begin(0, &mut counts, buf).record;
+    let mut record = ours::begin(0, 1, &mut counts, buf).record;
     for (id, name) in names.iter().enumerate() {
         record = ours::put(record, &mut counts, buf, name.as_bytes(), id as u32).record;
     }
@@ -40,7 +40,7 @@ fn building(n: usize, repetitions: usize) -> (f64, f64) {
 fn count_check() {
     let mut counts = [0; 256];
     let mut buf = vec![0u8; 4096];
-    let fresh = ours::begin(0, &mut counts, &buf).record;
+    let fresh = ours::begin(0, 1, &mut counts, &buf).record;
     let mut refused = |record: Record, refusal: u32| {
         let calls = 10_000;
         let mut run = || {

@@ -1,13 +1,16 @@
-// The benchmarks: ours and the Rust's release build, in one run and one table. The two take turns, and each time is the best of
-// several repetitions.   main [hash | reading | building | page | origin]
+// The benchmarks: ours and the Rust's release build, or a copy for bundles, in one run and one table. The two take turns, and each
+// time is the best of several repetitions.   main [hash | reading | building | repeats | page | bundle | load | origin]
 mod building;
+mod bundle;
 mod hash;
+mod load;
 mod names;
 mod origin;
 #[path = "../tests/compare/ours.rs"]
 mod ours;
 mod page;
 mod reading;
+mod repeats;
 mod table;
 
 fn main() {
@@ -23,8 +26,17 @@ fn main() {
     if wanted("building") {
         building::run();
     }
+    if wanted("repeats") {
+        repeats::run();
+    }
     if wanted("page") {
         page::run();
+    }
+    if wanted("bundle") {
+        bundle::run();
+    }
+    if wanted("load") {
+        load::run();
     }
     if wanted("origin") {
         origin::run();

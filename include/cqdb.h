@@ -9,8 +9,8 @@
    - Bytes are lent as a pointer and a length. The pointer is valid for that many bytes and is not NULL, also where the
      length is 0.
    - `counts` points to 256 words, and `w` to a whole cqdb_writer.
-   - What a call writes (the buffer of cqdb_put, cqdb_close and cqdb_sheet_write, the counts, the writer, the output of
-     cqdb_page) overlaps nothing else that the same call is lent: no name, no list, no buffer, no counts and no image.
+   - What a call writes (the buffer of cqdb_put, cqdb_close, cqdb_sheet_write, cqdb_bundle_append and cqdb_load, the counts, the writer,
+     the output of cqdb_page) overlaps nothing else that the same call is lent: no name, no list, no buffer, no counts and no image.
      What a call only reads may overlap.
    - Nobody else writes to what is lent while the call runs.
 
@@ -31,21 +31,26 @@ extern "C" {
 
 /* The refusals: the same numbers in all calls, 0 for none. Each comment names the calls that give it. A refused call
    changes no byte of what it is lent, the writer included. docs/FORMAT.md has the same table. */
-#define CQDB_TOO_SHORT 1u        /* begin, open: under 2,072 bytes */
-#define CQDB_UNFIT 2u            /* begin, put, close: the writer does not fit the buffer, or its mode or repeats is neither 0 nor 1 */
-#define CQDB_NO_ROOM 3u          /* put: the finished image would exceed the buffer or 4,294,967,295 bytes */
-#define CQDB_INCONSISTENT 4u     /* close, put with repeats off: the buffer's entries are not the writer's; close: or the image would be too large */
-#define CQDB_WRONG_LETTERS 5u    /* open: the image does not begin with the letters CQDB */
-#define CQDB_WRONG_BYTE_ORDER 6u /* open: the word at 12, which shows the byte order, is wrong */
-#define CQDB_TABLE_LEAVES 7u     /* open: a table with an offset above 0 leaves the image */
-#define CQDB_BACK_LEAVES 8u      /* open: a back array with an offset above 0 leaves the image */
+#define CQDB_TOO_SHORT 1u        /* begin, open, load: under 2,072 bytes */
+#define CQDB_UNFIT 2u            /* begin, put, close: the writer does not fit the buffer, or mode or repeats is neither 0 nor 1 */
+#define CQDB_NO_ROOM 3u          /* put, bundle_append: the image would exceed the buffer; put: or 4,294,967,295 bytes */
+#define CQDB_INCONSISTENT 4u     /* put, close: the buffer's entries are not the writer's (put asks with repeats off only), or the
+                                    image that close would write is too large */
+#define CQDB_WRONG_LETTERS 5u    /* open, bundle_open: the image does not begin with the letters CQDB */
+#define CQDB_WRONG_BYTE_ORDER 6u /* open, bundle_open: the word at 12, which shows the byte order, is wrong */
+#define CQDB_TABLE_LEAVES 7u     /* open, bundle_open: a table with an offset above 0 leaves the image */
+#define CQDB_BACK_LEAVES 8u      /* open, bundle_open: a back array with an offset above 0 leaves the image */
 #define CQDB_NAME_TOO_LONG 9u    /* hash: the name has 4,294,967,295 bytes or more */
+#define CQDB_BROKEN_BUNDLE 10u   /* bundle_open, bundle_append, bundle_count: the images do not lie back to back, or append's new one is unfit */
+#define CQDB_NO_SUCH_IMAGE 11u   /* bundle_open: the file ends at or before the position */
 #define CQDB_PAGE_TOO_LONG 12u   /* page: it has more bytes than the output */
 #define CQDB_ZERO_BYTE 13u       /* put: the name has a zero byte */
-#define CQDB_REPEATED 16u        /* put with repeats off: an earlier entry has this name */
+#define CQDB_REPEATED 16u        /* put: repeats are off, and an earlier entry has this name */
 #define CQDB_TOO_FEW_BYTES 19u   /* sheet_read: the file ends before its third section does */
 #define CQDB_LEFT_OVER_BYTES 20u /* sheet_read: bytes follow the third section */
 #define CQDB_SHEET_TOO_LARGE 21u /* sheet_write: a list has more than 65,535 ids, or the buffer is too short */
+#define CQDB_NO_SUCH_DATE 22u    /* name_on: a date, the one asked about or a window's, does not exist or is out of bounds */
+#define CQDB_NOT_BEFORE_END 23u  /* name_on: a window does not start before its end */
 
 /* The name hash. */
 
@@ -149,7 +154,7 @@ cqdb_page_answer cqdb_page(const uint8_t *image, size_t len, uint8_t *out, size_
 
 typedef struct {
     uint32_t mode;        /* CQDB_TWOWAY or CQDB_ONEWAY, as the image's flag word */
-    uint32_t repeats;     /* CQDB_REPEATS_OFF or CQDB_REPEATS_ON: whether put takes a name that an earlier entry has */
+    uint32_t repeats;     /* CQDB_REPEATS_OFF or CQDB_REPEATS_ON: does put take a name that an earlier entry has? */
     uint32_t entries;     /* the number of entries */
     uint32_t back;        /* the back size: the largest id plus 1; 0 in a one-way image */
     uint64_t length;      /* the buffer's length */
@@ -219,6 +224,7 @@ static inline void cqdb_keep(cqdb_writer *w, cqdb_record r) {
     w->end = r.end;
 }
 
+/* The two calls that follow, in one. */
 static inline uint32_t cqdb_begin_with(cqdb_writer *w, uint32_t mode, uint32_t repeats, const uint8_t *buf, size_t len) {
     cqdb_begin_answer a = cqdb_begin_parts(mode, repeats, w->counts, buf, len);
     if (a.refusal == 0) {
@@ -227,14 +233,16 @@ static inline uint32_t cqdb_begin_with(cqdb_writer *w, uint32_t mode, uint32_t r
     return a.refusal;
 }
 
-/* Makes *w, whatever it held, a fresh writer for the buffer, with repeats off: the mode, the buffer's length, end 2,072,
+/* Makes *w, whatever it held, a fresh writer for the buffer: the mode, repeats off, the buffer's length, end 2,072,
    otherwise zeros. Reads and changes no byte of the buffer. Gives 0, or the first refusal that applies: 2 for a mode that is
-   neither 0 nor 1, 1 for a buffer under 2,072 bytes. */
+   neither 0 nor 1, 1 for a buffer under 2,072 bytes. Each put then looks at all earlier entries (see cqdb_put). */
 static inline uint32_t cqdb_begin(cqdb_writer *w, uint32_t mode, const uint8_t *buf, size_t len) {
     return cqdb_begin_with(w, mode, CQDB_REPEATS_OFF, buf, len);
 }
 
-/* The same with repeats on: put then takes a name that an earlier entry has, and does not look at the earlier entries. */
+/* The same with repeats on, for callers that renew prisms, or whose names are known to differ: put then takes a name that
+   an earlier entry has, and does not look at the earlier entries. Both choices make the same image of the same accepted
+   puts. */
 static inline uint32_t cqdb_begin_repeats(cqdb_writer *w, uint32_t mode, const uint8_t *buf, size_t len) {
     return cqdb_begin_with(w, mode, CQDB_REPEATS_ON, buf, len);
 }
@@ -242,9 +250,12 @@ static inline uint32_t cqdb_begin_repeats(cqdb_writer *w, uint32_t mode, const u
 /* Appends an entry of name_len + 9 bytes at w->end and raises the writer's numbers; changes no other byte of the buffer.
    Gives 0, or the first refusal that applies: 2 when the writer does not fit the buffer, 13 when the name has a zero byte,
    whatever its length; with repeats off 4 when the bytes from 2,072 to end are not the writer's number of whole entries with
-   its counts and back size, then 16 when one of them has this name; 3 when the finished size exceeds the buffer or
-   4,294,967,295. The finished size is, after this put,
-   end + 16 x entries + 4 x back (back counts in two-way mode only).
+   its counts and back size, otherwise 16 when one of them has this name; 3 when the finished size exceeds the buffer or
+   4,294,967,295. The finished size is, after this put, end + 16 x entries + 4 x back (back counts in two-way mode only).
+
+   With repeats off a put walks all earlier entries, some 5 ns for each with names of 9 bytes. So n puts take n x n / 2 such
+   steps: 40 ms for 4,096 names, half a minute for 100,000. With repeats on a put does not look at them: 4,096 puts take
+   0.1 ms, 100,000 take 3 ms.
 
    The bytes at w->end are those where the last close placed its tables. After an accepted put the buffer is therefore no
    image, though its head is still that of the last close and cqdb_open may accept it. After A->0, B->1, close and C->2,
@@ -315,6 +326,96 @@ typedef struct {
    shorter than the file; then no byte is changed. The lists are not NULL, also where their number is 0. */
 cqdb_sheet_length_answer cqdb_sheet_write(uint8_t *buf, size_t len, const uint32_t *references, size_t n,
                                           const uint32_t *walls, size_t m, const uint32_t *retired, size_t k);
+
+/* Several walls in a file. A bundle holds images back to back: an image's size word, at its offset 4, says where the next
+   begins. An empty file is a bundle of none. A walk goes from the front by the size words and looks at nothing else of an
+   image. It breaks off, and the call gives 10, at 1 to 7 last bytes and at a size word that is under 2,072 or leads past the
+   file's end. */
+
+/* refusal is 0 when the image was accepted. Its bytes are the size bytes from file + start on, which lie in the file, and num is
+   its number of associations: all calls of reading take file + start and size as an image. All are 0 where refused. */
+typedef struct {
+    uint32_t refusal;
+    uint32_t num;
+    uint64_t start;
+    uint64_t size;
+} cqdb_bundle_open_answer;
+
+/* Opens the image at a position, counted from 0. The walk goes only as far as the position, so an image behind it may be
+   broken; its time grows with the position. Refusals, the first that applies: 10 where the walk breaks off at or before the
+   position, 11 where the file ends there; then 5, 6, 7 or 8 as cqdb_open gives them for the image's own bytes. */
+cqdb_bundle_open_answer cqdb_bundle_open(const uint8_t *file, size_t len, uint64_t position);
+
+/* refusal is 0 when the image was appended; length is the file's new length, 0 where refused. */
+typedef struct {
+    uint32_t refusal;
+    uint64_t length;
+} cqdb_bundle_append_answer;
+
+/* Appends an image to the file that is the buffer's first file_len bytes: writes its bytes right after them and changes no
+   other byte. Every earlier image then opens at its position to the same bytes as before, and the new one at the position after
+   the last. The new image is not opened: append what cqdb_close gave. Refusals, the first that applies, which change nothing:
+   10 where file_len exceeds len, a walk of the whole file breaks off, or the new image is under 2,072 bytes or not as long as
+   its size word says; 3 where file_len + image_len exceeds len. */
+cqdb_bundle_append_answer cqdb_bundle_append(uint8_t *buf, size_t len, uint64_t file_len, const uint8_t *image, size_t image_len);
+
+/* refusal is 0 or 10; images is the number of images in the file, 0 where refused. */
+typedef struct {
+    uint32_t refusal;
+    uint64_t images;
+} cqdb_bundle_count_answer;
+
+/* The number of images in a file, by a walk of the whole file. Refusal: 10. */
+cqdb_bundle_count_answer cqdb_bundle_count(const uint8_t *file, size_t len);
+
+/* A load anyone can rebuild: an image to test and measure with, from a seed. A step takes a state s to
+   1664525 x s + 1013904223 modulo 2^32, and the first state is the seed. Entry i, from 0, has id i and the name P followed
+   by the state after step i + 1 in eight uppercase hexadecimal digits; the first of seed 0 is P3C6EF35F. */
+
+/* refusal is 0 when the call was accepted; accepted is the number of entries, 0 when it was refused. */
+typedef struct {
+    uint32_t refusal;
+    uint32_t accepted;
+} cqdb_load_answer;
+
+/* Puts the entries of a seed, two-way and with repeats on, until 4,096 are accepted or one finds no room, and closes. The
+   buffer's first 2,072 + 38 x accepted bytes, as many as the image's size word says, are then the image; those behind it
+   keep their content. 157,720 bytes have room for all 4,096 entries, whatever the seed. Refusal: 1 for a buffer under 2,072
+   bytes, and nothing is written. */
+cqdb_load_answer cqdb_load(uint32_t seed, uint8_t *buf, size_t len);
+
+/* Names with a season. Some prisms stand only between two dates. Takes any bytes as an image, opened or not. */
+
+/* A date of the Gregorian calendar: the years 1900 to 2199, months 1 to 12, days from 1 on. As the end date of a window also
+   1 January 2200. */
+typedef struct {
+    uint16_t year;
+    uint8_t month;
+    uint8_t day;
+} cqdb_date;
+
+/* The id's prism stands from the first date on; on the end date it stands no longer. */
+typedef struct {
+    uint32_t id;
+    cqdb_date first;
+    cqdb_date end;
+} cqdb_window;
+
+/* refusal is 0 when the call was accepted. found is 1 or 0; the name is the len bytes from image + start on, which lie in the
+   image. found, len and start are 0 where there is no name on that date, and where the call was refused. */
+typedef struct {
+    uint32_t refusal;
+    uint32_t found;
+    uint32_t len;
+    uint64_t start;
+} cqdb_on_answer;
+
+/* The place of an id's name on a date: that of cqdb_to_str where some of the n windows has this id and holds the date, first
+   date included, end date not; otherwise nothing. All windows are checked, also those of other ids and also where the id has
+   no name. Refusals: 22 when a date does not exist or is out of bounds, the one asked about or one of a window; 23 when none is,
+   and a window does not start before its end. Changes nothing, and reads each window once. windows is not NULL, also where n
+   is 0. */
+cqdb_on_answer cqdb_name_on(const uint8_t *image, size_t len, uint32_t id, cqdb_date date, const cqdb_window *windows, size_t n);
 
 #ifdef __cplusplus
 }

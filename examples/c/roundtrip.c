@@ -113,20 +113,47 @@ static void check_refused(cqdb_writer *w, uint8_t *buf, size_t len) {
     memcpy(buf_before, buf, len);
     expect(cqdb_begin(w, CQDB_TWOWAY, buf, 2071) == CQDB_TOO_SHORT, "begin: a buffer of 2,071 bytes");
     expect(cqdb_begin(w, 2, buf, len) == CQDB_UNFIT, "begin: a mode that is neither 0 nor 1");
+    expect(cqdb_begin_repeats(w, 2, buf, len) == CQDB_UNFIT, "begin with repeats: the same");
+    expect(cqdb_begin_parts(CQDB_TWOWAY, 2, w->counts, buf, len).refusal == CQDB_UNFIT, "begin: repeats neither off nor on");
     expect(cqdb_put(w, buf, len - 1, bytes("E"), 1, 5) == CQDB_UNFIT, "put: another buffer's writer");
     expect(cqdb_put(w, buf, len, bytes("E"), 1, UINT32_MAX) == CQDB_NO_ROOM, "put: no room for 2^32 ids");
     expect(cqdb_put(w, buf, len, bytes("E\0F"), 3, 5) == CQDB_ZERO_BYTE, "put: a zero byte in the name");
     expect(cqdb_put(w, buf, len, bytes("E\0F"), 3, UINT32_MAX) == CQDB_ZERO_BYTE, "put: 13 before 3");
     expect(cqdb_put(w, buf, len - 1, bytes("E\0F"), 3, 5) == CQDB_UNFIT, "put: 2 before 13");
+    expect(cqdb_put(w, buf, len, bytes("A"), 1, 5) == CQDB_REPEATED, "put: a name that is there");
+    expect(cqdb_put(w, buf, len, bytes("A"), 1, UINT32_MAX) == CQDB_REPEATED, "put: 16 before 3");
     expect(cqdb_close(w, buf, len - 1).refusal == CQDB_UNFIT, "close: another buffer's writer");
     expect(memcmp(w, &w_before, sizeof *w) == 0, "the writer is as it was");
     w->back = 5;
     expect(cqdb_close(w, buf, len).refusal == CQDB_INCONSISTENT, "close: a back size that the entries do not have");
+    expect(cqdb_put(w, buf, len, bytes("A"), 1, 5) == CQDB_INCONSISTENT, "put: 4 before 16");
     w->back = 4;
+    w->repeats = 2;
+    expect(cqdb_put(w, buf, len, bytes("E\0F"), 3, 5) == CQDB_UNFIT, "put: repeats neither off nor on, before 13");
+    expect(cqdb_close(w, buf, len).refusal == CQDB_UNFIT, "close: the same");
+    w->repeats = CQDB_REPEATS_OFF;
+    expect(memcmp(w, &w_before, sizeof *w) == 0, "the writer is as it was again");
     expect(memcmp(buf, buf_before, len) == 0, "the buffer is as it was");
     buf[0] = 'c';
     expect(cqdb_open(buf, len).refusal == CQDB_WRONG_LETTERS, "open: wrong letters");
     expect(cqdb_open(buf, 2071).refusal == CQDB_TOO_SHORT, "open: 2,071 bytes");
+}
+
+/* A prism that was replaced keeps its name and gets a new id: the writer must be begun with repeats. */
+static void check_repeats(cqdb_writer *w, uint8_t *buf, size_t len) {
+    expect(cqdb_begin(w, CQDB_TWOWAY, buf, len) == 0 && w->repeats == CQDB_REPEATS_OFF, "repeats are off");
+    expect(cqdb_put(w, buf, len, bytes("crane"), 5, 5) == 0, "a first put");
+    expect(cqdb_close(w, buf, len).refusal == 0, "a close");
+    expect(cqdb_put(w, buf, len, bytes("crane"), 5, 9) == CQDB_REPEATED, "its name again, after the close");
+    expect(cqdb_put(w, buf, len, bytes("crane 2"), 7, 9) == 0, "a longer name");
+    expect(cqdb_begin_repeats(w, CQDB_TWOWAY, buf, len) == 0 && w->repeats == CQDB_REPEATS_ON, "repeats are on");
+    expect(cqdb_put(w, buf, len, bytes("crane"), 5, 5) == 0, "a first put again");
+    expect(cqdb_put(w, buf, len, bytes("crane"), 5, 9) == 0 && w->repeats == CQDB_REPEATS_ON, "the same name under another id");
+    cqdb_close_answer closed = cqdb_close(w, buf, len);
+    expect(closed.refusal == 0 && closed.size == 2072 + 2 * 30 + 4 * 10, "the image's size");
+    expect(finds(buf, closed.size, "crane", 5), "the name finds its first id");
+    expect(gives(buf, closed.size, 5, "crane") && gives(buf, closed.size, 9, "crane"), "both ids give the name");
+    expect(cqdb_home(buf, closed.size, 5) == 1 && cqdb_home(buf, closed.size, 9) == 1, "both are home");
 }
 
 int main(void) {
@@ -137,6 +164,7 @@ int main(void) {
     check_two_way(&w, buf, sizeof buf);
     check_one_way(&w, buf, sizeof buf);
     check_refused(&w, buf, sizeof buf);
+    check_repeats(&w, buf, sizeof buf);
     printf("roundtrip: %u checked, %u different\n", checked, different);
     return different > 0;
 }

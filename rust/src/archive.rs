@@ -101,6 +101,70 @@ pub struct PageAnswer {
     pub length: u64,
 }
 
+/// num, and the place of the image in its file.
+#[repr(C)]
+#[derive(Clone, Copy, Debug, PartialEq, Eq)]
+pub struct BundleOpenAnswer {
+    pub refusal: u32,
+    pub num: u32,
+    pub start: u64,
+    pub size: u64,
+}
+
+#[repr(C)]
+#[derive(Clone, Copy, Debug, PartialEq, Eq)]
+pub struct BundleAppendAnswer {
+    pub refusal: u32,
+    pub length: u64,
+}
+
+#[repr(C)]
+#[derive(Clone, Copy, Debug, PartialEq, Eq)]
+pub struct BundleCountAnswer {
+    pub refusal: u32,
+    pub images: u64,
+}
+
+#[repr(C)]
+#[derive(Clone, Copy, Debug, PartialEq, Eq)]
+pub struct LoadAnswer {
+    pub refusal: u32,
+    pub accepted: u32,
+}
+
+/// A date of the Gregorian calendar.
+#[repr(C)]
+#[derive(Clone, Copy, Debug, PartialEq, Eq, Hash)]
+pub struct Date {
+    /// 1900 to 2199; 2200 only for 1 January as the end date of a window.
+    pub year: u16,
+    /// 1 to 12.
+    pub month: u8,
+    /// From 1 on, to the month's length.
+    pub day: u8,
+}
+
+/// A time in which the prism of an id stands.
+#[repr(C)]
+#[derive(Clone, Copy, Debug, PartialEq, Eq, Hash)]
+pub struct Window {
+    /// The id of the prism.
+    pub id: u32,
+    /// The first date on which it stands.
+    pub first: Date,
+    /// The date from which on it stands no longer.
+    pub end: Date,
+}
+
+#[repr(C)]
+#[derive(Clone, Copy, Debug, PartialEq, Eq)]
+pub struct OnAnswer {
+    pub refusal: u32,
+    pub found: u32,
+    pub len: u32,
+    pub start: u64,
+}
+
 /// The table counts of a writer.
 pub type Counts = [u32; 256];
 
@@ -116,13 +180,7 @@ extern "C" {
     fn cqdb_ours(image: *const u8, len: usize) -> u32;
     fn cqdb_page_length(image: *const u8, len: usize) -> u64;
     fn cqdb_page(image: *const u8, len: usize, out: *mut u8, out_len: usize) -> PageAnswer;
-    fn cqdb_begin_parts(
-        mode: u32,
-        repeats: u32,
-        counts: *mut u32,
-        buf: *const u8,
-        len: usize,
-    ) -> RecordAnswer;
+    fn cqdb_begin_parts(mode: u32, repeats: u32, counts: *mut u32, buf: *const u8, len: usize) -> RecordAnswer;
     fn cqdb_put_parts(
         record: Record,
         counts: *mut u32,
@@ -145,6 +203,17 @@ extern "C" {
         retired: *const u32,
         k: usize,
     ) -> SheetLengthAnswer;
+    fn cqdb_bundle_open(file: *const u8, len: usize, position: u64) -> BundleOpenAnswer;
+    fn cqdb_bundle_append(
+        buf: *mut u8,
+        len: usize,
+        file_len: u64,
+        image: *const u8,
+        image_len: usize,
+    ) -> BundleAppendAnswer;
+    fn cqdb_bundle_count(file: *const u8, len: usize) -> BundleCountAnswer;
+    fn cqdb_load(seed: u32, buf: *mut u8, len: usize) -> LoadAnswer;
+    fn cqdb_name_on(image: *const u8, len: usize, id: u32, date: Date, windows: *const Window, n: usize) -> OnAnswer;
 }
 
 /// The hash of a name with a start value, or the refusal.
@@ -234,4 +303,30 @@ pub fn sheet_write(buf: &mut [u8], lists: [&[u32]; 3]) -> SheetLengthAnswer {
     let [a, b, c] = lists;
     let (buf, len) = (buf.as_mut_ptr(), buf.len());
     unsafe { cqdb_sheet_write(buf, len, a.as_ptr(), a.len(), b.as_ptr(), b.len(), c.as_ptr(), c.len()) }
+}
+
+/// The image at a position of a bundle, or the refusal.
+pub fn bundle_open(file: &[u8], position: u64) -> BundleOpenAnswer {
+    unsafe { cqdb_bundle_open(file.as_ptr(), file.len(), position) }
+}
+
+/// Appends an image to the file that is the buffer's first `file_len` bytes.
+pub fn bundle_append(buf: &mut [u8], file_len: u64, image: &[u8]) -> BundleAppendAnswer {
+    let (buf, len) = (buf.as_mut_ptr(), buf.len());
+    unsafe { cqdb_bundle_append(buf, len, file_len, image.as_ptr(), image.len()) }
+}
+
+/// The number of images in a bundle, or the refusal.
+pub fn bundle_count(file: &[u8]) -> BundleCountAnswer {
+    unsafe { cqdb_bundle_count(file.as_ptr(), file.len()) }
+}
+
+/// The load of a seed in the first bytes of `buf`, and the number of its entries; or the refusal.
+pub fn load(seed: u32, buf: &mut [u8]) -> LoadAnswer {
+    unsafe { cqdb_load(seed, buf.as_mut_ptr(), buf.len()) }
+}
+
+/// The place of an id's name on a date, or nothing, or the refusal.
+pub fn name_on(image: &[u8], id: u32, date: Date, windows: &[Window]) -> OnAnswer {
+    unsafe { cqdb_name_on(image.as_ptr(), image.len(), id, date, windows.as_ptr(), windows.len()) }
 }

@@ -20,11 +20,14 @@
 //! ```
 //!
 //! What differs from cqdb-rs: the writer keeps the image in memory, and [`CQDBWriter::finish`] gives it, where cqdb-rs
-//! writes to a stream when it is dropped. Names come as `&[u8]`, and a walk gives them without a `Result` around each.
+//! writes to a stream when it is dropped. It refuses a name that it already holds, unless it was made by
+//! [`CQDBWriter::with_repeats`]. Names come as `&[u8]`, and a walk gives them without a `Result` around each.
 //! A lookup ends on every image. A [`Refusal`] becomes an [`std::io::Error`] by `?`.
 #![warn(missing_docs)]
 
 mod archive;
+mod bundle;
+mod load;
 mod order;
 mod page;
 mod puts;
@@ -33,6 +36,9 @@ mod refusal;
 mod sheet;
 mod write;
 
+pub use archive::{Date, Window};
+pub use bundle::{Bundle, Images};
+pub use load::{load, load_in};
 pub use order::{references_first, Order, Pair};
 pub use page::Page;
 pub use puts::Puts;

@@ -34,7 +34,7 @@ refusals! {
     TooShort = 1, "invalid file format, too short";
     /// The writer's record and its buffer do not fit together. No [`CQDBWriter`](crate::CQDBWriter) gets there.
     Unfit = 2, "the writer does not fit its buffer";
-    /// The finished image would exceed 4,294,967,295 bytes.
+    /// The finished image would exceed 4,294,967,295 bytes. No [`Bundle`](crate::Bundle) gets there: its file grows.
     NoRoom = 3, "no room: the image would be too large";
     /// The buffer's entries are not those of the record. No [`CQDBWriter`](crate::CQDBWriter) gets there.
     Inconsistent = 4, "the buffer's entries are not those of the writer";
@@ -48,16 +48,26 @@ refusals! {
     BackLeaves = 8, "invalid backward link data: out of bounds";
     /// The name has 4,294,967,295 bytes or more.
     NameTooLong = 9, "the name is too long";
+    /// A bundle's images do not lie back to back, or the size word of an image to append isn't its length.
+    BrokenBundle = 10, "invalid bundle: no image begins where one should";
+    /// The bundle has no image at the position.
+    NoSuchImage = 11, "the bundle has no image at this position";
     /// The page has more bytes than the output.
     PageTooLong = 12, "the page is longer than the output";
     /// The name has a zero byte.
     ZeroByte = 13, "the name has a zero byte";
+    /// The writer already holds this name, and was not begun [`with_repeats`](crate::CQDBWriter::with_repeats).
+    Repeated = 16, "the writer already holds this name, and repeats are off";
     /// The round sheet has too few bytes.
     TooFewBytes = 19, "invalid round sheet, too few bytes";
     /// The round sheet has left-over bytes.
     LeftOverBytes = 20, "invalid round sheet, left-over bytes";
     /// A list of a round sheet has more than 65,535 ids, or its buffer is too short.
     SheetTooLarge = 21, "no room: a list of the round sheet is too long, or its buffer too short";
+    /// A date, the one asked about or a window's, does not exist or is out of bounds.
+    NoSuchDate = 22, "a date does not exist, or is out of bounds";
+    /// A window does not start before its end.
+    NotBeforeEnd = 23, "a window does not start before its end";
 }
 
 impl Refusal {

@@ -23,7 +23,7 @@ impl Writer {
     fn with_two_names() -> Writer {
         let buffer = vec![0xa5; LENGTH];
         let mut counts = [0; 256];
-        let begun = archive::begin(0, &mut counts, &buffer);
+        let begun = archive::begin(0, 0, &mut counts, &buffer);
         assert_eq!(begun.refusal, 0);
         let mut writer = Writer { record: begun.record, counts, buffer };
         writer.put(b"A", 0);

@@ -2,7 +2,10 @@
 use cqdb::{jhash, CQDBWriter, Flag, Found, Refusal, CQDB};
 
 fn image(flag: Flag, puts: &[(&[u8], u32)]) -> Vec<u8> {
-    let mut writer = CQDBWriter::with_flag(flag);
+    filled(CQDBWriter::with_flag(flag), puts)
+}
+
+fn filled(mut writer: CQDBWriter, puts: &[(&[u8], u32)]) -> Vec<u8> {
     for (name, id) in puts {
         writer.put(name, *id).expect("there is room");
     }
@@ -23,7 +26,7 @@ fn first_name_last_id() {
 
 #[test]
 fn home() {
-    let image = image(Flag::NONE, &[(b"A", 5), (b"A", 9)]);
+    let image = filled(CQDBWriter::with_repeats(Flag::NONE), &[(b"A", 5), (b"A", 9)]);
     let db = CQDB::new(&image).unwrap();
     assert_eq!((db.to_id("A"), db.to_str(9)), (Some(5), Some(&b"A"[..])));
     assert_eq!([db.home(5), db.home(9), db.home(0)], [true, true, false]);
@@ -61,6 +64,47 @@ fn a_zero_byte_is_refused_and_changes_nothing() {
 }
 
 #[test]
+fn a_repeated_name_is_refused_and_changes_nothing() {
+    for flag in [Flag::NONE, Flag::ONEWAY] {
+        let mut writer = CQDBWriter::with_flag(flag);
+        for (name, id) in [("A", 5), ("prism 7", 6), ("", 7)] {
+            writer.put(name, id).unwrap();
+        }
+        for name in ["A", "prism 7", ""] {
+            // 16 comes before 3: no image has room for the id 4,294,967,295.
+            for id in [5, 8, u32::MAX] {
+                assert_eq!(writer.put(name, id), Err(Refusal::Repeated));
+            }
+        }
+        assert_eq!(writer.put("A\0", 5), Err(Refusal::ZeroByte));
+        writer.put("prism 70", 8).unwrap();
+        let puts: [(&[u8], u32); 4] = [(b"A", 5), (b"prism 7", 6), (b"", 7), (b"prism 70", 8)];
+        let made = writer.finish().unwrap();
+        assert_eq!(made, filled(CQDBWriter::with_repeats(flag), &puts));
+    }
+    assert_eq!(Refusal::Repeated.number(), 16);
+    assert_eq!(Refusal::Repeated.to_string(), "the writer already holds this name, and repeats are off");
+}
+
+#[test]
+fn the_choice_outlives_a_larger_buffer() {
+    let name = |id: u32| format!("prism {id}");
+    for repeats in [false, true] {
+        let mut writer = if repeats { CQDBWriter::with_repeats(Flag::NONE) } else { CQDBWriter::new() };
+        for id in 0..2_000 {
+            writer.put(name(id), id).unwrap();
+            let again = writer.put(name(id / 2), id);
+            assert_eq!(again, if repeats { Ok(()) } else { Err(Refusal::Repeated) });
+        }
+        let image = writer.finish().unwrap();
+        let db = CQDB::new(&image).unwrap();
+        assert_eq!(db.num(), if repeats { 4_000 } else { 2_000 });
+        assert_eq!(db.to_id("prism 3"), Some(3));
+        assert_eq!(db.to_str(6), Some(if repeats { &b"prism 3"[..] } else { b"prism 6" }));
+    }
+}
+
+#[test]
 fn the_panel_reads_up_to_a_zero_byte() {
     let mut bytes = image(Flag::NONE, &[(b"first", 0), (b"second", 1), (b"third", 4)]);
     assert!(CQDB::new(&bytes).unwrap().readings_agree());
@@ -81,7 +125,7 @@ fn the_panel_reads_up_to_a_zero_byte() {
 fn the_buffer_grows() {
     let name = |id: u32| format!("prism {id}");
     for flag in [Flag::NONE, Flag::ONEWAY] {
-        let mut writer = CQDBWriter::with_flag(flag);
+        let mut writer = CQDBWriter::with_repeats(flag);
         for id in 0..20_000 {
             writer.put(name(id), id).unwrap();
         }

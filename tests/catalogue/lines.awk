@@ -1,5 +1,5 @@
 # Lines for the demonstration program: -v seed=S -v lines=N. Few of them are accepted, so that the buffer does not fill early;
-# the others have another form, or their put is refused.
+# the others have another form, or their put is refused, some for a name that was there before.
 function below(n) {
     seed = (seed * 16807) % 2147483647
     return seed % n
@@ -19,7 +19,10 @@ BEGIN {
             printf "%d %s%c%s", below(400), word(below(12)), 0, word(below(12))
         } else if (below(200) == 0) {
             id = below(5) == 0 ? below(2000) : below(400)
-            printf "%0" (1 + below(10)) "d %s", id, word(below(12))
+            name[names] = word(below(12))
+            printf "%0" (1 + below(10)) "d %s", id, name[names++]
+        } else if (names > 0 && below(300) == 0) {
+            printf "%d %s", below(400), name[below(names)]
         } else if (below(20000) == 0) {
             printf "%d %s", below(400), substr(long, 1, 60000 + below(10000))
         } else {

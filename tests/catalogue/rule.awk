@@ -7,11 +7,13 @@ BEGIN { top = -1 }
     if (id > 4294967295) next
     name = substr($0, RLENGTH + 1)
     if (name ~ /\000/) next
+    if (name in held) next
     high = id > top ? id : top
     if (2072 + puts + 25 + length(name) + 4 * (high + 1) > 65536) next
     puts += 25 + length(name)
     top = high
     entries++
+    held[name] = 1
     named[id] = name
 }
 END {

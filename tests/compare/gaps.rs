@@ -21,7 +21,7 @@ const NO_MEMORY: &str = "aborted for want of memory";
 // Bytes of address space for the Rust. A name of 2^32 bytes fits in.
 const MEMORY: u64 = 6 << 30;
 
-const CASES: [Case; 11] = [
+const CASES: [Case; 12] = [
     Case { name: "full table", seconds: 3, rust: full_table_rust, ours: full_table, want: (NEVER, "nothing, 1 read") },
     Case { name: "id 4294967294", seconds: 3, rust: || put_rust(0xffff_fffe), ours: || put(0xffff_fffe), want: (NEVER, "3") },
     Case { name: "id 4294967295", seconds: 3, rust: || put_rust(0xffff_ffff), ours: || put(0xffff_ffff), want: (NEVER, "3") },
@@ -33,6 +33,7 @@ const CASES: [Case; 11] = [
     Case { name: "buffer of 2071 bytes", seconds: 3, rust: short_rust, ours: short, want: ("accepted", "1") },
     Case { name: "flag word 2", seconds: 3, rust: flag_rust, ours: flag, want: ("flag word 2", "2") },
     Case { name: "name with a zero byte", seconds: 3, rust: zero_byte_rust, ours: zero_byte, want: ("a name of 3 bytes", "13") },
+    Case { name: "name twice", seconds: 3, rust: twice_rust, ours: twice, want: ("A finds 5, 9 gives A", "off 16, on 0") },
 ];
 
 // The table of the name A has one bucket, which another hash has taken (C12).
@@ -69,7 +70,7 @@ fn put(id: u32) -> String {
 fn refusal(mode: u32, length: usize, name: &[u8], id: u32) -> String {
     let mut buf = vec![0; length];
     let mut counts = [0; 256];
-    let record: Record = ours::begin(mode, &mut counts, &buf).record;
+    let record: Record = ours::begin(mode, 1, &mut counts, &buf).record;
     ours::put(record, &mut counts, &mut buf, name, id).refusal.to_string()
 }
 
@@ -134,7 +135,7 @@ fn room_rust(length: usize, name: &[u8]) -> String {
 fn room(length: usize, name: &[u8]) -> String {
     let mut buf = vec![0xa5; length];
     let mut counts = [0; 256];
-    let record = ours::begin(0, &mut counts, &buf).record;
+    let record = ours::begin(0, 1, &mut counts, &buf).record;
     let refusal = ours::put(record, &mut counts, &mut buf, name, 0).refusal;
     format!("{refusal}, {}", if buf.iter().all(|&b| b == 0xa5) { "no byte changed" } else { "bytes changed" })
 }
@@ -146,7 +147,7 @@ fn short_rust() -> String {
 }
 
 fn short() -> String {
-    ours::begin(0, &mut [0; 256], &[0; 2071]).refusal.to_string()
+    ours::begin(0, 1, &mut [0; 256], &[0; 2071]).refusal.to_string()
 }
 
 fn flag_rust() -> String {
@@ -156,7 +157,7 @@ fn flag_rust() -> String {
 }
 
 fn flag() -> String {
-    ours::begin(2, &mut [0; 256], &[0; 2072]).refusal.to_string()
+    ours::begin(2, 1, &mut [0; 256], &[0; 2072]).refusal.to_string()
 }
 
 fn zero_byte_rust() -> String {
@@ -171,6 +172,30 @@ fn zero_byte_rust() -> String {
 
 fn zero_byte() -> String {
     refusal(0, 3000, b"a\0b", 0)
+}
+
+fn twice_rust() -> String {
+    let mut stream = Cursor::new(Vec::new());
+    let mut writer = CQDBWriter::new(&mut stream).expect("a stream");
+    for id in [5, 9] {
+        writer.put("A", id).expect("a stream without an end");
+    }
+    drop(writer);
+    let image = stream.into_inner();
+    let db = CQDB::new(&image).expect("an image");
+    format!("A finds {}, 9 gives {}", db.to_id("A").expect("an id"), db.to_str(9).expect("a name"))
+}
+
+// The refusals of the second put, with repeats off and on.
+fn twice() -> String {
+    let second = |repeats: u32| {
+        let mut buf = vec![0; 3000];
+        let mut counts = [0; 256];
+        let record = ours::begin(0, repeats, &mut counts, &buf).record;
+        let record = ours::put(record, &mut counts, &mut buf, b"A", 5).record;
+        ours::put(record, &mut counts, &mut buf, b"A", 9).refusal
+    };
+    format!("off {}, on {}", second(0), second(1))
 }
 
 // The Rust's answer, from a process with limits.

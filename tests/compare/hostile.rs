@@ -1,7 +1,7 @@
 // Hostile calls, to be run under valgrind: damaged images, random bytes, records that do not fit, broken buffers, pairs and rounds
-// of any ids, round sheets cut anywhere, lists and outputs without room. Everything lent stands in a heap block of exactly its
-// length, so that valgrind reports a read or write outside it. A refusal changes no byte, reading changes none, and every place
-// in an answer lies in what was lent.
+// of any ids, round sheets cut anywhere, broken bundles, any dates and windows, lists and outputs without room, loads in buffers of any length. Everything lent
+// stands in a heap block of exactly its length, so that valgrind reports a read or write outside it. A refusal changes no byte,
+// reading changes none, and every place in an answer lies in what was lent.
 // hostile [CALLS | too-much]
 mod damage;
 mod names;
@@ -13,7 +13,7 @@ mod spoil;
 mod tally;
 mod writing;
 
-use ours::{Counts, Pair};
+use ours::{Counts, Date, Pair, Window};
 use rules::HEAD;
 use seed::Random;
 use tally::Tally;
@@ -29,6 +29,10 @@ struct Run {
     states: u64,
     rounds: u64,
     sheets: u64,
+    repeated: u64,
+    bundles: u64,
+    loads: u64,
+    seasons: u64,
 }
 
 // A heap block of exactly these bytes.
@@ -91,15 +95,16 @@ impl Run {
         self.tally.bytes(&image, bytes, || "an image that was read".into());
     }
 
-    // A put and a close on one state.
-    fn write(&mut self, random: &mut Random, s: &State) {
+    // A put of a name that is there, or of another, and a close on one state.
+    fn write(&mut self, random: &mut Random, s: &State, names: &[Box<[u8]>]) {
         let mut buf = exact(&s.buf);
         let mut counts: Box<Counts> = Box::new(s.counts);
-        let name = exact(&names::any(random));
+        let name = if random.once_in(2) { names[random.below(names.len())].clone() } else { exact(&names::any(random)) };
         let id = random.pick(&[0, 9, s.record.back, 0xffff_fffe, 0xffff_ffff]);
         let answer = ours::put(s.record, &mut counts, &mut buf, &name, id);
         if answer.refusal > 0 {
             self.unchanged((answer.record, &counts, &buf), s, "a refused put");
+            self.repeated += u64::from(answer.refusal == 16);
         }
         let after = State { record: answer.record, counts: *counts, buf: buf.to_vec() };
         let answer = ours::close(after.record, &counts, &mut buf);
@@ -163,6 +168,96 @@ impl Run {
         self.sheets += 1;
     }
 
+    // One file of images, opened at some positions and counted; then an append to it, or to another part of its buffer.
+    fn bundle(&mut self, random: &mut Random, images: &[Vec<u8>]) {
+        let mut file: Vec<u8> = (0..random.below(4)).flat_map(|_| images[random.below(images.len())].clone()).collect();
+        match random.below(4) {
+            0 => file.truncate(random.below(file.len() + 1)),
+            1 => file.extend(vec![random.word() as u8; random.below(2080)]),
+            _ => {}
+        }
+        let file = exact(&file);
+        for position in [0, 1, 2, 3, random.next()] {
+            let answer = ours::bundle_open(&file, position);
+            let inside = answer.start + answer.size <= file.len() as u64
+                && (answer.refusal == 0) == (answer.size >= HEAD as u64);
+            self.tally.rule(inside, true, || format!("{answer:?}"));
+            self.refused += u64::from(answer.refusal > 0);
+        }
+        let counted = ours::bundle_count(&file);
+        self.tally.rule(counted.images <= (file.len() / HEAD) as u64, true, || format!("{counted:?}"));
+        let image = exact(&images[random.below(images.len())]);
+        let room = (file.len() + image.len() + random.below(3)).saturating_sub(1);
+        let mut before = file.to_vec();
+        before.resize(room, 7);
+        let mut buf = exact(&before);
+        let end = random.pick(&[file.len(), file.len(), file.len(), 0, room, room + 1, usize::MAX]);
+        let answer = ours::bundle_append(&mut buf, end as u64, &image);
+        if answer.refusal > 0 {
+            self.refused += 1;
+            self.tally.bytes(&buf, &before, || "the buffer after a refused append".into());
+        } else {
+            before[end..end + image.len()].copy_from_slice(&image);
+            self.tally.bytes(&buf, &before, || "the buffer after an append".into());
+        }
+        self.calls += 7;
+        self.bundles += 1;
+    }
+
+    // The load of any seed in a buffer of any length: the image lies in its front, and nothing behind it is changed.
+    fn load(&mut self, random: &mut Random) {
+        let any = 1_900 + random.below(400);
+        let room = random.pick(&[0, 2_071, 2_072, 2_109, 2_110, any, any, any]);
+        let before = random.bytes(room);
+        let mut buf = exact(&before);
+        let answer = ours::load(random.word(), &mut buf);
+        let entries = room.saturating_sub(HEAD) / 38;
+        let (size, due) = if room < HEAD { (0, (1, 0)) } else { (HEAD + 38 * entries, (0, entries as u32)) };
+        self.tally.rule((answer.refusal, answer.accepted), due, || format!("{answer:?} in {room} bytes"));
+        self.tally.bytes(&buf[size..], &before[size..], || "the bytes behind a load".into());
+        self.refused += u64::from(answer.refusal > 0);
+        self.calls += 1;
+        self.loads += 1;
+    }
+
+    // Any dates and windows on one image: a name lies in it, and where a list is refused the rest are zeros.
+    fn season(&mut self, random: &mut Random, bytes: &[u8]) {
+        let date = |random: &mut Random| {
+            let [a, b, c, d] = random.word().to_le_bytes();
+            let year = random.pick(&[1899, 1900, 2024, 2024, 2024, 2024, 2199, 2200, u16::from_le_bytes([a, b])]);
+            let month = random.pick(&[0, 1, 2, 2, 2, 6, 12, 13, c]);
+            Date { year, month, day: random.pick(&[0, 1, 1, 28, 28, 29, 30, 31, 32, d]) }
+        };
+        let good = |month| Date { year: 2024, month, day: 1 };
+        let image = exact(bytes);
+        let windows: Box<[Window]> = (0..random.below(6))
+            .map(|_| {
+                let odd = random.once_in(3);
+                let (first, end) = if odd { (date(random), date(random)) } else { (good(1), good(7)) };
+                Window { id: random.below(4) as u32, first, end }
+            })
+            .collect();
+        let before = windows.clone();
+        let asked = if random.once_in(3) { date(random) } else { good(3) };
+        let id = random.pick(&[0, 1, 2, 3, u32::MAX]);
+        let answer = ours::name_on(&image, id, asked, &windows);
+        let named = ours::to_str(&image, id);
+        let place = (answer.found, answer.len, answer.start);
+        let so = match answer.refusal {
+            0 if answer.found == 1 => {
+                place == (named.found, named.len, named.start) && windows.iter().any(|w| w.id == id)
+            }
+            0 | 22 | 23 => place == (0, 0, 0),
+            _ => false,
+        };
+        self.tally.rule(so, true, || format!("{answer:?} for {id} on {asked:?} by {windows:?}"));
+        self.tally.rule(windows == before, true, || "windows that were read".into());
+        self.tally.bytes(&image, bytes, || "an image that was asked on a date".into());
+        self.refused += u64::from(answer.refusal > 0);
+        self.calls += 2;
+        self.seasons += 1;
+    }
+
     fn unchanged(&mut self, (record, counts, buf): (ours::Record, &Counts, &[u8]), s: &State, what: &str) {
         self.refused += 1;
         self.tally.rule(record, s.record, || format!("the record after {what}"));
@@ -170,14 +265,15 @@ impl Run {
         self.tally.bytes(buf, &s.buf, || format!("the bytes after {what}"));
     }
 
-    // A begin that is refused, for its buffer or its mode; or a state with some puts.
+    // A begin that is refused, for its buffer, its mode or its repeats; or a state with some puts.
     fn begin(&mut self, random: &mut Random) -> Option<State> {
         let length = random.pick(&[0, 1, 2071, 2072, 2073, 2300, 2300, 2600, 2600, 3000]);
         let mode = random.pick(&[0, 0, 0, 0, 1, 1, 1, 2]);
         let buf = exact(&random.bytes(length));
         let mut counts: Box<Counts> = Box::new([random.word(); 256]);
         let before = counts.clone();
-        let begun = ours::begin(mode, &mut counts, &buf);
+        let repeats = random.pick(&[0, 0, 0, 0, 1, 1, 1, 2]);
+        let begun = ours::begin(mode, repeats, &mut counts, &buf);
         self.calls += 1;
         if begun.refusal > 0 {
             self.refused += 1;
@@ -194,7 +290,7 @@ impl Run {
     }
 }
 
-// One state that calls left: its image is read in damaged copies, and copies of it are spoilt and written to.
+// One state that calls left: its image is read in damaged copies, and copies of it, most of them spoilt, are written to.
 fn round(run: &mut Run, random: &mut Random) {
     let Some(state) = run.begin(random) else { return };
     let names: Vec<Box<[u8]>> = match writing::entries(&state) {
@@ -203,23 +299,31 @@ fn round(run: &mut Run, random: &mut Random) {
     };
     let mut closed = state.clone();
     let size = ours::close(closed.record, &closed.counts, &mut closed.buf).size as usize;
+    let mut images = vec![closed.buf[..size].to_vec(); 8];
     for kind in 0..damage::KINDS {
         let copy = damage::copy(random, &closed.buf[..size], kind);
         run.image(random, &copy, &names);
+        images.push(copy);
+    }
+    for _ in 0..20 {
+        run.bundle(random, &images);
+        let image = &images[random.below(images.len())];
+        run.season(random, image);
     }
     let n = random.below(4000);
     let noise = random.bytes(n);
     run.image(random, &noise, &names);
     for _ in 0..60 {
         let mut odd = if random.once_in(2) { state.clone() } else { closed.clone() };
-        for _ in 0..1 + random.below(3) {
+        for _ in 0..random.below(4) {
             spoil::state(random, &mut odd);
         }
-        run.write(random, &odd);
+        run.write(random, &odd, &names);
     }
     for _ in 0..60 {
         run.order(random);
         run.sheet(random);
+        run.load(random);
     }
 }
 
@@ -237,13 +341,13 @@ fn main() {
     let calls = std::env::args().nth(1).map_or(CALLS, |text| text.parse().expect("a number of calls"));
     let mut random = Random::new();
     println!("hostile: seed {}", random.seed);
-    let mut run = Run { tally: Tally::default(), calls: 0, refused: 0, images: 0, states: 0, rounds: 0, sheets: 0 };
+    let mut run = Run { tally: Tally::default(), calls: 0, refused: 0, images: 0, states: 0, rounds: 0, sheets: 0, bundles: 0, loads: 0, seasons: 0, repeated: 0 };
     while run.calls < calls {
         round(&mut run, &mut random);
     }
     println!(
-        "hostile: {} calls on {} images, {} records with their buffers, {} rounds and {} sheets; {} refused; {} of {} checks failed",
-        run.calls, run.images, run.states, run.rounds, run.sheets, run.refused, run.tally.different, run.tally.rule
+        "hostile: {} calls on {} images, {} records with their buffers, {} rounds, {} sheets, {} bundles, {} loads and {} lists of windows; {} refused, {} of them repeats; {} of {} checks failed",
+        run.calls, run.images, run.states, run.rounds, run.sheets, run.bundles, run.loads, run.seasons, run.refused, run.repeated, run.tally.different, run.tally.rule
     );
     std::process::exit(i32::from(run.tally.different > 0));
 }

@@ -18,7 +18,7 @@ fn puts(random: &mut Random, n: usize) -> Vec<Put> {
 
 fn build(tally: &mut Tally, puts: &[Put], buf: &mut [u8]) -> usize {
     let mut counts = [0; 256];
-    let mut record = ours::begin(0, &mut counts, buf).record;
+    let mut record = ours::begin(0, 1, &mut counts, buf).record;
     for (name, id) in puts {
         let answer = ours::put(record, &mut counts, buf, name, *id);
         tally.rule(answer.refusal, 0, || "a put".into());

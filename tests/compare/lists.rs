@@ -1,7 +1,9 @@
-// Whole lists of calls through the archive: puts and closes mixed, refused ones among them, from a two-way begin. Each answer
-// is compared with the formula of 01 and 02 (v), which knows the calls and the buffer's length alone: 13 for a zero byte in the
-// name, then 3. The last image is compared with the Rust's and with first and last puts, passes the check of both readings,
-// and every two lists are compared with each other.   lists [PAIRS]
+// Whole lists of calls through the archive: puts and closes mixed, refused ones among them, from a two-way begin with repeats
+// off or on. Each answer is compared with the formula of 01, 02 (v) and 02 (viii), which knows the calls, the choice and the
+// buffer's length alone: 13 for a zero byte in the name, then with repeats off 16 for a name that was accepted before, then 3.
+// The last image is compared with the Rust's of the accepted puts and with first and last puts, passes the check of both
+// readings, and every two lists are compared with each other. With repeats off no name is accepted twice, and the accepted
+// puts alone, with repeats on, make the same image.   lists [PAIRS]
 mod names;
 mod original;
 mod ours;
@@ -39,8 +41,8 @@ struct Lent {
 
 struct Run {
     tally: Tally,
-    // Puts that were accepted, refused with 13 and refused with 3.
-    puts: [u64; 3],
+    // Puts that were accepted, refused with 13, with 16 and with 3.
+    puts: [u64; 4],
     closes: u64,
     // How often two lists had the same accepted puts of a name, or of an id, and at least one of them.
     alike: [u64; 2],
@@ -78,10 +80,12 @@ impl Run {
     fn put(&mut self, lent: &mut Lent, accepted: &mut Vec<Put>, put: &Put) {
         let size = finished_size(accepted.iter().chain([put]));
         let too_large = size > lent.buf.len() as u128 || size > 4_294_967_295;
-        let (want, kind) = match (put.0.contains(&0), too_large) {
-            (true, _) => (13, 1),
-            (false, true) => (3, 2),
-            (false, false) => (0, 0),
+        let held = lent.record.repeats == 0 && accepted.iter().any(|earlier| earlier.0 == put.0);
+        let (want, kind) = match (put.0.contains(&0), held, too_large) {
+            (true, _, _) => (13, 1),
+            (false, true, _) => (16, 2),
+            (false, false, true) => (3, 3),
+            (false, false, false) => (0, 0),
         };
         let answer = ours::put(lent.record, &mut lent.counts, &mut lent.buf, &put.0, put.1);
         self.puts[kind] += 1;
@@ -104,10 +108,10 @@ impl Run {
     }
 
     // The calls, one more close, and a further one that leaves the same bytes.
-    fn list(&mut self, random: &mut Random, length: usize, calls: &[Call]) -> Left {
+    fn list(&mut self, random: &mut Random, repeats: u32, length: usize, calls: &[Call]) -> Left {
         let buf = random.bytes(length);
         let mut counts = [random.word(); 256];
-        let begun = ours::begin(0, &mut counts, &buf);
+        let begun = ours::begin(0, repeats, &mut counts, &buf);
         self.tally.rule(begun.refusal, 0, || format!("begin in {length} bytes"));
         let mut lent = Lent { record: begun.record, counts, buf };
         let mut accepted = Vec::new();
@@ -123,7 +127,18 @@ impl Run {
         self.tally.bytes(&lent.buf, &closed, || "closing twice".into());
         let image = lent.buf[..size].to_vec();
         self.tally.rust(image == original::image(false, &accepted), true, || format!("image of {accepted:?}"));
+        self.tally.rule(lent.record.repeats, repeats, || "the choice that the record carries".into());
         Left { accepted, image }
+    }
+
+    // With repeats off: each name has one accepted put at most, and these puts alone, with repeats on, make the same image.
+    fn without_repeats(&mut self, random: &mut Random, length: usize, left: &Left) {
+        let names: HashSet<&Vec<u8>> = left.accepted.iter().map(|put| &put.0).collect();
+        self.tally.rule(names.len(), left.accepted.len(), || format!("names of {:?}", left.accepted));
+        let alone: Vec<Call> = left.accepted.iter().map(|(name, id)| Call::Put(name.clone(), *id)).collect();
+        let again = self.list(random, 1, length, &alone);
+        self.tally.rule(again.accepted == left.accepted, true, || "the accepted puts, put again".into());
+        self.tally.bytes(&again.image, &left.image, || "the image of the accepted puts with repeats on".into());
     }
 
     fn opens(&mut self, left: &Left) {
@@ -243,6 +258,7 @@ fn beside(random: &mut Random, calls: &[Call], others: Vec<Call>) -> Vec<Call> {
 
 fn pair(run: &mut Run, random: &mut Random, names: &Names, most: usize) {
     let puts = names.list(random, most);
+    let puts = names::repeating(random, names, puts);
     let first = calls(random, puts);
     let puts = names.list(random, most);
     let others = calls(random, puts);
@@ -255,8 +271,12 @@ fn pair(run: &mut Run, random: &mut Random, names: &Names, most: usize) {
     let mut ids: HashSet<u32> = all.iter().flat_map(|put| [put.1, put.1.wrapping_add(1)]).collect();
     ids.extend([0, 1, 2, u32::MAX, random.word()]);
     let lefts = [&first, &second].map(|calls| {
-        let length = length_for(random, calls);
-        run.list(random, length, calls)
+        let (length, repeats) = (length_for(random, calls), random.below(2) as u32);
+        let left = run.list(random, repeats, length, calls);
+        if repeats == 0 {
+            run.without_repeats(random, length, &left);
+        }
+        left
     });
     for left in &lefts {
         run.opens(left);
@@ -271,16 +291,20 @@ fn main() {
     let mut random = Random::new();
     println!("lists: seed {}", random.seed);
     let names = Names::new(&mut random);
-    let mut run = Run { tally: Tally::default(), puts: [0; 3], closes: 0, alike: [0; 2] };
-    let empty = run.list(&mut random, 2072, &[]);
+    let mut run = Run { tally: Tally::default(), puts: [0; 4], closes: 0, alike: [0; 2] };
+    let empty = run.list(&mut random, 0, 2072, &[]);
     run.opens(&empty);
-    let one = run.list(&mut random, 3000, &[Call::Put(Vec::new(), 0)]);
+    let one = run.list(&mut random, 0, 3000, &[Call::Put(Vec::new(), 0)]);
     run.too_long(&one);
     for i in 0..pairs {
         pair(&mut run, &mut random, &names, if i % 100 == 99 { 200 } else { 14 });
     }
-    let [accepted, zero, full] = run.puts;
-    println!("lists: {} lists with {accepted} puts accepted, {zero} refused with 13, {full} with 3, {} closes", 2 * pairs + 2, run.closes);
+    let [accepted, zero, repeated, full] = run.puts;
+    println!(
+        "lists: {} lists with {accepted} puts accepted, {zero} refused with 13, {repeated} with 16, {full} with 3, {} closes",
+        2 * pairs + 2,
+        run.closes
+    );
     println!("lists: two lists alike in the puts of {} names and {} ids", run.alike[0], run.alike[1]);
     run.tally.end("lists");
 }

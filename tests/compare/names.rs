@@ -86,6 +86,30 @@ impl Names {
     }
 }
 
+/// The same puts, half of them with a name that was put before, or nearly so.
+pub fn repeating(random: &mut Random, names: &Names, mut puts: Vec<Put>) -> Vec<Put> {
+    for i in 1..puts.len() {
+        if random.once_in(2) {
+            let earlier = puts[random.below(i)].0.clone();
+            puts[i].0 = near(random, names, earlier);
+        }
+    }
+    puts
+}
+
+// A name again; or one byte longer or shorter, with another byte somewhere, or another name of its table.
+fn near(random: &mut Random, names: &Names, mut name: Vec<u8>) -> Vec<u8> {
+    let n = name.len();
+    match random.below(10) {
+        0 => name.push(1 + random.below(255) as u8),
+        1 => name.truncate(n.saturating_sub(1)),
+        2 if n > 0 => name[random.below(n)] ^= 1 << random.below(8),
+        3 => name = names.of_table(random, rules::hash(&name) as usize % 256),
+        _ => (),
+    }
+    name
+}
+
 /// A name of any bytes, of the lengths that matter, or short. One in six has zero bytes.
 pub fn any(random: &mut Random) -> Vec<u8> {
     let n = if random.once_in(3) { random.pick(&LENGTHS) } else { random.below(30) };

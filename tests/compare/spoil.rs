@@ -16,7 +16,7 @@ pub fn state(random: &mut Random, s: &mut State) {
         _ => old.wrapping_sub(random.below(60) as u64),
     };
     let t = random.below(256);
-    match random.below(12) {
+    match random.below(14) {
         0 => s.record.length = near(random, s.record.length),
         1 => s.record.end = near(random, s.record.end),
         2 => s.record.entries = near(random, s.record.entries as u64) as u32,
@@ -27,6 +27,7 @@ pub fn state(random: &mut Random, s: &mut State) {
         7 => s.counts[t] = random.pick(&[0, 1, s.record.entries, s.record.entries.wrapping_add(1), u32::MAX]),
         8 => move_count(random, &mut s.counts),
         9 => other_length(random, s),
+        10 => s.record.repeats = random.pick(&[0, 1, 1 - s.record.repeats.min(1), 2, 0xffff_ffff]),
         _ => spoil_entry(random, s),
     }
 }

@@ -1,5 +1,6 @@
-// Writing, compared live: lists of puts in both modes, whose image must be the Rust's for the accepted puts, byte for byte; and
-// records, buffers and entries that do not go together, compared with the rules of 01 and 02.   writer [LISTS]
+// Writing, compared live: lists of puts in both modes, with repeats off and on, whose image must be the Rust's for the accepted
+// puts, byte for byte; and records, buffers and entries that do not go together, compared with the rules of 01 and 02.
+//   writer [LISTS]
 mod names;
 mod original;
 mod ours;
@@ -24,9 +25,11 @@ struct Run {
     tally: Tally,
     images: u64,
     // How often each call was accepted, and how often it gave each refusal.
-    begins: [u64; 14],
-    puts: [u64; 14],
-    closes: [u64; 14],
+    begins: [u64; 17],
+    puts: [u64; 17],
+    closes: [u64; 17],
+    // Puts of a name that was put before a close, by whether repeats are on.
+    again: [u64; 2],
 }
 
 impl Run {
@@ -37,21 +40,21 @@ impl Run {
     }
 
     // A begin on bytes and counts of any content.
-    fn begin(&mut self, random: &mut Random, mode: u32, length: usize) -> Option<State> {
+    fn begin(&mut self, random: &mut Random, (mode, repeats): (u32, u32), length: usize) -> Option<State> {
         let buf = random.bytes(length);
         let before = [random.word(); 256];
         let mut counts = before;
-        let answer = ours::begin(mode, &mut counts, &buf);
-        self.begins[answer.refusal.min(13) as usize] += 1;
+        let answer = ours::begin(mode, repeats, &mut counts, &buf);
+        self.begins[answer.refusal.min(16) as usize] += 1;
         let what = || format!("begin in {length} bytes");
-        match writing::begin(mode, length) {
+        match writing::begin(mode, repeats, length) {
             Ok(record) => {
                 self.tally.rule(answer, RecordAnswer { refusal: 0, record }, what);
                 self.tally.rule(counts, [0; 256], what);
                 Some(State { record, counts, buf })
             }
             Err(refusal) => {
-                let record = Record { mode: 0, entries: 0, back: 0, length: 0, end: 0 };
+                let record = Record { mode: 0, repeats: 0, entries: 0, back: 0, length: 0, end: 0 };
                 self.tally.rule(answer, RecordAnswer { refusal, record }, what);
                 self.tally.rule(counts, before, what);
                 None
@@ -106,23 +109,42 @@ impl Run {
         image
     }
 
-    // A list from its begin to its close, then small changes of the state that it left.
-    fn list(&mut self, random: &mut Random, mode: u32, length: usize, puts: &[Put]) {
-        let Some(mut s) = self.begin(random, mode, length) else { return };
+    // Puts after a close: some of them are names that were put before it.
+    fn further(&mut self, random: &mut Random, s: &mut State, puts: &[Put]) {
+        for _ in 0..random.below(4) {
+            let name = known_or_any(random, puts);
+            let held = writing::entries(s).is_some_and(|entries| entries.iter().any(|put| put.0 == name));
+            self.again[s.record.repeats as usize] += u64::from(held);
+            self.put(s, &name, random.below(20) as u32);
+        }
+    }
+
+    // A list from its begin to its close, some puts more, then small changes of the state that it left.
+    fn list(&mut self, random: &mut Random, choices: (u32, u32), length: usize, puts: &[Put]) {
+        let Some(mut s) = self.begin(random, choices, length) else { return };
         for (name, id) in puts {
             self.put(&mut s, name, *id);
         }
         let in_slice = random.once_in(2);
         self.close(&mut s, in_slice);
+        self.further(random, &mut s, puts);
         for _ in 0..ODD_STATES_OF_ONE {
             let mut odd = s.clone();
             spoil::state(random, &mut odd);
-            let (name, id) = (names::any(random), random.pick(&[0, 7, odd.record.back, 0xffff_fffe, 0xffff_ffff]));
+            let (name, id) = (known_or_any(random, puts), random.pick(&[0, 7, odd.record.back, 0xffff_fffe, 0xffff_ffff]));
             if random.once_in(2) {
                 self.put(&mut odd, &name, id);
             }
             self.close(&mut odd, false);
         }
+    }
+}
+
+// A name of a list, or another.
+fn known_or_any(random: &mut Random, puts: &[Put]) -> Vec<u8> {
+    match puts {
+        [_, ..] if random.once_in(2) => puts[random.below(puts.len())].0.clone(),
+        _ => names::any(random),
     }
 }
 
@@ -164,7 +186,7 @@ fn with_large_ids(random: &mut Random, mut puts: Vec<Put>) -> Vec<Put> {
 fn limits(run: &mut Run) {
     let mut counts = [0; 256];
     let mut room = vec![0u8; (1 << 32) + 5000];
-    let fresh = ours::begin(0, &mut counts, &room).record;
+    let fresh = ours::begin(0, 1, &mut counts, &room).record;
     let oneway = Record { mode: 1, ..fresh };
     let mut put = |record: Record, name: &[u8], id: u32, refusal: u32| {
         let mut counts = [0; 256];
@@ -183,14 +205,25 @@ fn limits(run: &mut Run) {
     put(Record { end: 4_294_967_295 - 25, ..oneway }, b"A", 0, 3);
     put(Record { entries: u32::MAX, ..oneway }, b"A", 0, 3);
     put(Record { back: u32::MAX, ..fresh }, b"A", 0, 3);
+    // With repeats off an entry that is not there gives 4 before 3, and a record without entries looks at none.
+    let off = Record { repeats: 0, ..oneway };
+    put(off, b"A", u32::MAX, 0);
+    put(Record { repeats: 0, ..fresh }, b"A", u32::MAX, 3);
+    put(Record { entries: u32::MAX, ..off }, b"A", 0, 4);
+    put(Record { back: u32::MAX, ..off }, b"A", 0, 4);
+    put(Record { repeats: 2, ..oneway }, b"A", 0, 2);
+    put(Record { repeats: 2, ..oneway }, b"\0", 0, 2);
     // Names at the hash's own limit. They are longer than any image: 13 for a zero byte in front or at the end, else 3.
     let mut long = vec![0u8; 1 << 32];
     put(oneway, &long, 0, 13);
+    put(Record { entries: 1, ..off }, &long, 0, 13);
     put(oneway, &long[..u32::MAX as usize], 0, 13);
     put(Record { end: 0, ..oneway }, &long[..u32::MAX as usize], 0, 2);
     long.fill(b'x');
     put(oneway, &long, 0, 3);
     put(oneway, &long[..u32::MAX as usize], 0, 3);
+    put(off, &long[..u32::MAX as usize], 0, 3);
+    put(Record { entries: 1, ..off }, &long[..u32::MAX as usize], 0, 4);
     long[u32::MAX as usize - 1] = 0;
     put(oneway, &long[..u32::MAX as usize], 0, 13);
     put(oneway, &long[..u32::MAX as usize - 1], 0, 3);
@@ -207,18 +240,21 @@ fn main() {
     let mut random = Random::new();
     println!("writer: seed {}", random.seed);
     let names = Names::new(&mut random);
-    let mut run = Run { tally: Tally::default(), images: 0, begins: [0; 14], puts: [0; 14], closes: [0; 14] };
+    let mut run = Run { tally: Tally::default(), images: 0, begins: [0; 17], puts: [0; 17], closes: [0; 17], again: [0; 2] };
     limits(&mut run);
     for i in 0..lists {
         let mode = if random.once_in(100) { 2 + random.word() / 2 } else { random.below(2) as u32 };
         let puts = names.list(&mut random, if i % 100 == 99 { 300 } else { 16 });
+        let puts = if random.once_in(2) { names::repeating(&mut random, &names, puts) } else { puts };
         let puts = with_large_ids(&mut random, puts);
+        let repeats = if random.once_in(100) { 2 + random.word() / 2 } else { random.below(2) as u32 };
         let length = length_for(&mut random, mode, &puts);
-        run.list(&mut random, mode, length, &puts);
+        run.list(&mut random, (mode, repeats), length, &puts);
     }
     println!("writer: {lists} lists, {} images compared with the Rust's in every byte", run.images);
-    let shown = |calls: &[u64; 14]| -> Vec<u64> { calls[..5].iter().chain([&calls[13]]).copied().collect() };
+    let shown = |calls: &[u64; 17]| -> Vec<u64> { calls[..5].iter().chain([&calls[13], &calls[16]]).copied().collect() };
     let [begins, puts, closes] = [&run.begins, &run.puts, &run.closes].map(shown);
-    println!("writer: by refusal 0 to 4 and 13: begins {begins:?}, puts {puts:?}, closes {closes:?}");
+    println!("writer: by refusal 0 to 4, 13 and 16: begins {begins:?}, puts {puts:?}, closes {closes:?}");
+    println!("writer: names put before a close and again after it: with repeats off {}, on {}", run.again[0], run.again[1]);
     run.tally.end("writer");
 }

@@ -1,5 +1,5 @@
-// The rules for writing of 01 and 02 (v), written a second time, straight from their paragraphs: the record, what fits, the
-// refusals of put and close, and what they leave. All sums have 128 bits. The rules share no line with the product.
+// The rules for writing of 01, 02 (v) and 02 (viii), written a second time, straight from their paragraphs: the record, what
+// fits, the refusals of put and close, and what they leave. All sums have 128 bits. The rules share no line with the product.
 #![allow(dead_code)]
 use crate::original::Put;
 use crate::ours::{Counts, Record};
@@ -17,21 +17,22 @@ fn oneway(record: &Record) -> bool {
     record.mode == 1
 }
 
-/// A fresh record: the mode, the buffer's length, end 2,072 and otherwise zeros; or 1.
-pub fn begin(mode: u32, length: usize) -> Result<Record, u32> {
-    if mode > 1 {
+/// A fresh record: the mode, repeats off (0) or on (1), the buffer's length, end 2,072 and otherwise zeros; or 1.
+pub fn begin(mode: u32, repeats: u32, length: usize) -> Result<Record, u32> {
+    if mode > 1 || repeats > 1 {
         return Err(2);
     }
     if length < HEAD {
         return Err(1);
     }
-    Ok(Record { mode, entries: 0, back: 0, length: length as u64, end: HEAD as u64 })
+    Ok(Record { mode, repeats, entries: 0, back: 0, length: length as u64, end: HEAD as u64 })
 }
 
 /// A record fits when the lengths agree, 2,072 <= end <= length, and no table count exceeds the entries. A record with a mode
-/// that 01 does not know fits nothing.
+/// or a choice about repeats that the papers do not know fits nothing.
 pub fn fits(s: &State) -> bool {
     s.record.mode <= 1
+        && s.record.repeats <= 1
         && s.record.length == s.buf.len() as u64
         && s.record.end >= HEAD as u64
         && s.record.end <= s.record.length
@@ -47,13 +48,27 @@ fn too_large(s: &State, size: u128) -> bool {
     size > s.buf.len() as u128 || size > 4_294_967_295
 }
 
-/// The record after an accepted put of a name; or 2, then 13 for a zero byte in the name, then 3.
+/// With repeats off a put walks the earlier entries: 4 where these fail close's checks of entries, counts or back size,
+/// otherwise 16 where one has this name.
+fn earlier(s: &State, name: &[u8]) -> Result<(), u32> {
+    match entries(s) {
+        Some(puts) if agree(s, &puts) && puts.iter().any(|put| put.0 == name) => Err(16),
+        Some(puts) if agree(s, &puts) => Ok(()),
+        _ => Err(4),
+    }
+}
+
+/// The record after an accepted put of a name; or 2, then 13 for a zero byte in the name, then what the earlier entries make
+/// due, then 3.
 pub fn put_record(s: &State, name: &[u8], id: u32) -> Result<Record, u32> {
     if !fits(s) {
         return Err(2);
     }
     if name.contains(&0) {
         return Err(13);
+    }
+    if s.record.repeats == 0 {
+        earlier(s, name)?;
     }
     let r = s.record;
     let end = r.end as u128 + name.len() as u128 + 9;

@@ -1,14 +1,14 @@
 -- Zero bytes in a name, step by step; and what precedes the first of them. Assumes nothing.
-use Prim.Native.Nat.{ℕ, zero, suc, _+_, _≤_, _<_}
+use Prim.Native.Nat.{ℕ, zero, suc, _+_, _-_, _≤_, _<_}
 use native.Mathlib.Omega.{arith}
 use native.Mathlib.Numerals.{add-one}
-use mathlib.Core.Path.{_≡_, refl, sym, ap, _∙_}
+use mathlib.Core.Path.{_≡_, refl, sym, ap, ap₂, _∙_}
 use mathlib.Core.Bool.{Bool, true, false, not, cond, _&&_, _||_}
-use mathlib.Core.List.{List, [], _∷_}
+use mathlib.Core.List.{List, [], _∷_, _++_}
 use borrow.Author.Tests.{eq-eqb, ne-eqb}
 use lib.Dec.{eqb}
-use lib.ListN.{length, getD, take, drop, drop-of-length-le}
-use lib.Seq.{drop-cons}
+use lib.ListN.{length, getD, take, drop, drop-of-length-le, take-append-drop, length-drop}
+use lib.Seq.{drop-cons, drop-drop, take-add, take-all}
 use Rattle.image.specs.Bytes.{same}
 use Rattle.image.specs.Zero.{hasZero, beforeZero}
 use Rattle.image.proofs.Bools.{not-both}
@@ -38,52 +38,119 @@ module _ (s : List ℕ) (i j : ℕ) (e : i + 1 ≡ j) (p : i < length s) where
   unfolding beforeZero
   before-further h = rw (← e, add-one, drop-cons s i 0 p, ne-eqb (getD s i 0) 0 h)
 
--- eight bytes at i: a test of all of them
-join : (a b c d t : Bool) → (a || (b || (c || (d || t)))) ≡ ((((a || b) || c) || d) || t)
-join true b c d t = refl
-join false true c d t = refl
-join false false true d t = refl
-join false false false d t = refl
+-- two joined parts have a zero byte where one of them has
+zero-append : (a b : List ℕ) → hasZero (a ++ b) ≡ (hasZero a || hasZero b)
+unfolding hasZero
+zero-append [] b = refl
+zero-append (x ∷ a) b = go (eqb x 0) (zero-append a b)
+  where
+    go : (t : Bool) → hasZero (a ++ b) ≡ (hasZero a || hasZero b) → (t || hasZero (a ++ b)) ≡ ((t || hasZero a) || hasZero b)
+    go true e = refl
+    go false e = e
+
+-- the first k bytes and the others
+zero-parts : (s : List ℕ) (k : ℕ) → hasZero s ≡ (hasZero (take k s) || hasZero (drop k s))
+zero-parts s k = ap hasZero (sym (take-append-drop k s)) ∙ zero-append (take k s) (drop k s)
+
+-- the same of the bytes from i on
+zero-split : (s : List ℕ) (i k : ℕ) → hasZero (drop i s) ≡ (hasZero (take k (drop i s)) || hasZero (drop (i + k) s))
+zero-split s i k = zero-parts (drop i s) k ∙ ap (λ (l : List ℕ). hasZero (take k (drop i s)) || hasZero l) (drop-drop k i s)
+
+-- a test of each of the four bytes at i
+first-byte : (s : List ℕ) (i j k : ℕ) → i + 1 ≡ j → i < length s → hasZero (take (suc k) (drop i s)) ≡ (eqb (getD s i 0) 0 || hasZero (take k (drop j s)))
+unfolding hasZero
+first-byte s i j k e p = rw (← e, add-one, drop-cons s i 0 p)
+
+join : (a b c d : Bool) → (a || (b || (c || (d || false)))) ≡ (((a || b) || c) || d)
+join true b c d = refl
+join false true c d = refl
+join false false true d = refl
+join false false false true = refl
+join false false false false = refl
 
 abbrev pub four : List ℕ → ℕ → Bool
 four s i = ((eqb (getD s i 0) 0 || eqb (getD s (i + 1) 0) 0) || eqb (getD s (i + 2) 0) 0) || eqb (getD s (i + 3) 0) 0
 
-zero-four : (s : List ℕ) (i : ℕ) → i + 4 ≤ length s → hasZero (drop i s) ≡ (four s i || hasZero (drop (i + 4) s))
+pub zero-four : (s : List ℕ) (i : ℕ) → i + 4 ≤ length s → four s i ≡ hasZero (take 4 (drop i s))
+unfolding hasZero
 zero-four s i p =
-    zero-byte s i (i + 1) refl (omega arith)
+    sym
+    (first-byte s i (i + 1) 3 refl (omega arith)
     ∙ ap (λ (t : Bool). eqb (getD s i 0) 0 || t)
-    (zero-byte s (i + 1) (i + 2) (omega arith) (omega arith)
+    (first-byte s (i + 1) (i + 2) 2 (omega arith) (omega arith)
     ∙ ap (λ (t : Bool). eqb (getD s (i + 1) 0) 0 || t)
-    (zero-byte s (i + 2) (i + 3) (omega arith) (omega arith)
-    ∙ ap (λ (t : Bool). eqb (getD s (i + 2) 0) 0 || t) (zero-byte s (i + 3) (i + 4) (omega arith) (omega arith))))
-    ∙ join (eqb (getD s i 0) 0) (eqb (getD s (i + 1) 0) 0) (eqb (getD s (i + 2) 0) 0) (eqb (getD s (i + 3) 0) 0) (hasZero (drop (i + 4) s))
+    (first-byte s (i + 2) (i + 3) 1 (omega arith) (omega arith)
+    ∙ ap (λ (t : Bool). eqb (getD s (i + 2) 0) 0 || t) (first-byte s (i + 3) (i + 4) 0 (omega arith) (omega arith))))
+    ∙ join (eqb (getD s i 0) 0) (eqb (getD s (i + 1) 0) 0) (eqb (getD s (i + 2) 0) 0) (eqb (getD s (i + 3) 0) 0))
 
-module _ (s : List ℕ) (i : ℕ) (p : i + 8 ≤ length s) (a b : Bool) (ea : a ≡ four s i) (eb : b ≡ four s (i + 4)) where
-  eight : hasZero (drop i s) ≡ (a || (b || hasZero (drop (i + 8) s)))
-  eight =
-      let j : i + 4 + 4 ≡ i + 8 = omega arith in
-      zero-four s i (omega arith)
-      ∙ ap (λ (t : Bool). t || hasZero (drop (i + 4) s)) (sym ea)
-      ∙ ap (λ (t : Bool). a || t)
-      (zero-four s (i + 4) (omega arith)
-      ∙ ap (λ (t : Bool). t || hasZero (drop (i + 4 + 4) s)) (sym eb)
-      ∙ ap (λ (k : ℕ). b || hasZero (drop k s)) j)
+-- eight bytes are four and four
+pub zero-eight : (s : List ℕ) (i : ℕ) (a b : Bool) → a ≡ hasZero (take 4 (drop i s)) → b ≡ hasZero (take 4 (drop (i + 4) s))
+    → (a || b) ≡ hasZero (take 8 (drop i s))
+zero-eight s i a b ea eb =
+    ap₂ (λ (x y : Bool). x || y) ea (eb ∙ ap (λ (l : List ℕ). hasZero (take 4 l)) (sym (drop-drop 4 i s)))
+    ∙ sym (zero-append (take 4 (drop i s)) (take 4 (drop 4 (drop i s))))
+    ∙ ap hasZero (sym (take-add 4 4 (drop i s)))
 
-  pub zero-in-eight : (a || b) ≡ true → hasZero (drop i s) ≡ true
-  zero-in-eight h = eight ∙ go a b (hasZero (drop (i + 8) s)) h
-    where
-      go : (x y t : Bool) → (x || y) ≡ true → (x || (y || t)) ≡ true
-      go true y t h = refl
-      go false true t h = refl
-      go false false t h = absurd (not-both h)
+-- the last k bytes are all from there on
+pub zero-last : (s : List ℕ) (k : ℕ) → k ≤ length s → hasZero (take k (drop (length s - k) s)) ≡ hasZero (drop (length s - k) s)
+zero-last s k p =
+    let l = length-drop (length s - k) s in
+    ap hasZero (take-all k (drop (length s - k) s) (omega arith))
 
-  pub none-in-eight : (a || b) ≡ false → hasZero (drop i s) ≡ hasZero (drop (i + 8) s)
-  none-in-eight h = eight ∙ go a b (hasZero (drop (i + 8) s)) h
-    where
-      go : (x y t : Bool) → (x || y) ≡ false → (x || (y || t)) ≡ t
-      go true y t h = absurd (not-both (sym h))
-      go false true t h = absurd (not-both (sym h))
-      go false false t h = refl
+-- the first k bytes at i have a zero byte, or it is left to the others
+pub zero-in-front : (s : List ℕ) (i k : ℕ) → hasZero (take k (drop i s)) ≡ true → hasZero (drop i s) ≡ true
+zero-in-front s i k h = zero-split s i k ∙ ap (λ (t : Bool). t || hasZero (drop (i + k) s)) h
+
+pub none-in-front : (s : List ℕ) (i k : ℕ) → hasZero (take k (drop i s)) ≡ false → hasZero (drop i s) ≡ hasZero (drop (i + k) s)
+none-in-front s i k h = zero-split s i k ∙ ap (λ (t : Bool). t || hasZero (drop (i + k) s)) h
+
+pub none-in-first : (s : List ℕ) (k : ℕ) → hasZero (take k s) ≡ false → hasZero (drop k s) ≡ hasZero s
+none-in-first s k h = sym (zero-parts s k ∙ ap (λ (t : Bool). t || hasZero (drop k s)) h)
+
+-- a zero byte of the first k bytes, or of the k bytes at j, is one of all
+pub zero-at-an-end : (s : List ℕ) (k j : ℕ) (a b : Bool) → a ≡ hasZero (take k s) → b ≡ hasZero (take k (drop j s)) → (a || b) ≡ true → true ≡ hasZero s
+zero-at-an-end s k j a b ea eb h = sym (go a ea h)
+  where
+    later : (x : Bool) → (x || true) ≡ true
+    later true = refl
+    later false = refl
+
+    go : (t : Bool) → t ≡ hasZero (take k s) → (t || b) ≡ true → hasZero s ≡ true
+    go true e h = zero-parts s k ∙ ap (λ (x : Bool). x || hasZero (drop k s)) (sym e)
+    go false e h =
+        zero-parts s j
+        ∙ ap (λ (x : Bool). hasZero (take j s) || x) (zero-in-front s j k (sym eb ∙ h))
+        ∙ later (hasZero (take j s))
+
+-- where the question is left to the bytes from i on, it may be left to more bytes: those from j on
+pub zero-overlap : (s : List ℕ) (j i : ℕ) → j ≤ i → hasZero (drop i s) ≡ hasZero s → hasZero (drop j s) ≡ hasZero s
+zero-overlap s j i p h = go (hasZero (take j s)) (hasZero (drop j s)) (hasZero (take (i - j) (drop j s))) (hasZero (drop i s)) (hasZero s) h (zero-parts s j) part
+  where
+    e : j + (i - j) ≡ i
+    e = omega arith
+
+    part : hasZero (drop j s) ≡ (hasZero (take (i - j) (drop j s)) || hasZero (drop i s))
+    part = zero-split s j (i - j) ∙ ap (λ (k : ℕ). hasZero (take (i - j) (drop j s)) || hasZero (drop k s)) e
+
+    go : (a b c d t : Bool) → d ≡ t → t ≡ (a || b) → b ≡ (c || d) → b ≡ t
+    go a true c d true ed et eb = refl
+    go a false c d false ed et eb = refl
+    go true true c d false ed et eb = absurd (not-both et)
+    go false true c d false ed et eb = absurd (not-both et)
+    go a false true d true ed et eb = absurd (not-both eb)
+    go a false false d true ed et eb = absurd (not-both (eb ∙ ed))
+
+-- a name of k to 2 k bytes: its first k and its last k
+pub zero-ends : (s : List ℕ) (k : ℕ) (a b : Bool) → k ≤ length s → length s ≤ k + k → a ≡ hasZero (take k s) → b ≡ hasZero (take k (drop (length s - k) s))
+    → (a || b) ≡ hasZero s
+zero-ends s k a b p q ea eb = go a ea
+  where
+    parts : (t : Bool) → t ≡ hasZero (take k s) → hasZero s ≡ (t || hasZero (drop k s))
+    parts t e = zero-parts s k ∙ ap (λ (x : Bool). x || hasZero (drop k s)) (sym e)
+
+    go : (t : Bool) → t ≡ hasZero (take k s) → (t || b) ≡ hasZero s
+    go true e = sym (parts true e)
+    go false e = eb ∙ zero-last s k p ∙ zero-overlap s (length s - k) k (omega arith) (sym (parts false e))
 
 -- nothing is left to precede a zero byte
 pub before-none : (s : List ℕ) (i : ℕ) → length s ≤ i → length (beforeZero (drop i s)) ≡ 0
@@ -139,3 +206,24 @@ readings-same (x ∷ xs) = go (eqb x 0) (readings-same xs)
     go : (t : Bool) → same (beforeZero xs) xs ≡ not (hasZero xs) → same (cond t [] (x ∷ beforeZero xs)) (x ∷ xs) ≡ not (t || hasZero xs)
     go true rest = refl
     go false rest = ap (λ (b : Bool). b && same (beforeZero xs) xs) (eq-eqb x x refl) ∙ rest
+
+-- it is as long as the name exactly where the name has none
+pub before-all : (s : List ℕ) → hasZero s ≡ false → length (beforeZero s) ≡ length s
+unfolding beforeZero hasZero
+before-all [] h = refl
+before-all (x ∷ xs) h = go (eqb x 0) h (before-all xs)
+  where
+    go : (t : Bool) → (t || hasZero xs) ≡ false → (hasZero xs ≡ false → length (beforeZero xs) ≡ length xs)
+        → length (cond t [] (x ∷ beforeZero xs)) ≡ length (x ∷ xs)
+    go true e rest = absurd (not-both (sym e))
+    go false e rest = ap suc (rest e)
+
+pub before-less : (s : List ℕ) → hasZero s ≡ true → length (beforeZero s) < length s
+unfolding beforeZero hasZero
+before-less [] h = absurd (not-both h)
+before-less (x ∷ xs) h = go (eqb x 0) h (before-less xs)
+  where
+    go : (t : Bool) → (t || hasZero xs) ≡ true → (hasZero xs ≡ true → length (beforeZero xs) < length xs)
+        → length (cond t [] (x ∷ beforeZero xs)) < length (x ∷ xs)
+    go true e rest = omega arith
+    go false e rest = let l = rest e in omega arith

@@ -5,13 +5,13 @@ use mathlib.Core.Path.{_≡_, refl, sym, ap, ap₂, _∙_, subst}
 use mathlib.Core.Bool.{Bool, true, false, cond, not, _&&_}
 use mathlib.Core.List.{List, []}
 use borrow.Author.Tests.{not-true, not-false}
-use lib.ListN.{length, take, drop, length-take}
+use lib.ListN.{length, take, drop, length-take, length-drop}
 use lib.Seq.{take-take}
 use Rattle.image.specs.Bytes.{same, all}
 use Rattle.image.specs.Head.{backSizeAt}
 use Rattle.image.specs.Zero.{hasZero, beforeZero}
 use Rattle.image.proofs.All.{all-true, all-turn}
-use Rattle.image.proofs.Zeros.{before-front, before-short, before-free, before-longest, readings-same}
+use Rattle.image.proofs.Zeros.{before-front, before-short, before-free, before-longest, before-all, before-less, readings-same}
 use Rattle.reader.specs.Slices.{Slice, slice, part}
 use Rattle.reader.specs.Naming.{Naming, place, unnamed, noBack, naming, partOr}
 use Rattle.reader.specs.Panel.{cutAtZero, panel, reading, LongestFront, PanelReads, agreeOn, readingsAgree}
@@ -39,6 +39,29 @@ module _ (image : List ℕ) (id : ℕ) where
         ∙ sym (readings-same name)
         ∙ ap (λ (l : List ℕ). same l name) front
         ∙ ap (λ (x : Naming). same (reading image (cutAtZero image x)) (reading image x)) e
+
+    -- they agree exactly where the panel's is as long as the name
+    name-long : s + n ≤ length image → length (take (s + n - s) (drop s image)) ≡ n
+    name-long inside =
+        let k : s + n - s ≡ n = omega arith in
+        let took = length-take (s + n - s) (drop s image) in
+        let left = length-drop s image in
+        omega arith
+
+    module _ (inside : s + n ≤ length image) (r : ℕ) (er : r ≡ length (beforeZero (take (s + n - s) (drop s image)))) where
+      pub look-agrees : r ≡ n → id + 1 ≡ cond (agreeOn image id) (id + 1) 0
+      look-agrees h = go (hasZero (take (s + n - s) (drop s image))) refl
+        where
+          go : (z : Bool) → hasZero (take (s + n - s) (drop s image)) ≡ z → id + 1 ≡ cond (agreeOn image id) (id + 1) 0
+          go true q = let less = before-less (take (s + n - s) (drop s image)) q in let long = name-long inside in absurd (omega arith)
+          go false q = ap (λ (t : Bool). cond t (id + 1) 0) (agree-named false (sym q))
+
+      pub look-differs : (r ≡ n → ⊥) → 0 ≡ cond (agreeOn image id) (id + 1) 0
+      look-differs h = go (hasZero (take (s + n - s) (drop s image))) refl
+        where
+          go : (z : Bool) → hasZero (take (s + n - s) (drop s image)) ≡ z → 0 ≡ cond (agreeOn image id) (id + 1) 0
+          go true q = ap (λ (t : Bool). cond t (id + 1) 0) (agree-named true (sym q))
+          go false q = absurd (h (er ∙ before-all (take (s + n - s) (drop s image)) q ∙ name-long inside))
 
   -- the same, by the name that its place holds
   pub agree-held : (s n : ℕ) → place s n ≡ naming image id → (z : Bool) → z ≡ hasZero (take n (drop s image)) → not z ≡ agreeOn image id
@@ -103,6 +126,19 @@ module _ (image : List ℕ) (n id : ℕ) (less : id < n) where
 
   pub agree-further : agreeOn image id ≡ true → all (agreeOn image) (id + 1) (n - (id + 1)) ≡ all (agreeOn image) id (n - id)
   agree-further h = sym (all-turn (agreeOn image) id n less ∙ ap (λ (b : Bool). b && all (agreeOn image) (id + 1) (n - (id + 1))) h)
+
+-- a look at an id gives the next id exactly where both readings agree on it, else 0
+pub looked-off : (b : Bool) (id next : ℕ) → next ≡ cond b (id + 1) 0 → next ≡ 0 → b ≡ false
+looked-off true id next e h = absurd (omega arith)
+looked-off false id next e h = refl
+
+pub looked-on : (b : Bool) (id next : ℕ) → next ≡ cond b (id + 1) 0 → (next ≡ 0 → ⊥) → b ≡ true
+looked-on true id next e h = refl
+looked-on false id next e h = absurd (h e)
+
+pub looked-next : (b : Bool) (id next : ℕ) → next ≡ cond b (id + 1) 0 → (next ≡ 0 → ⊥) → next ≡ id + 1
+looked-next true id next e h = e
+looked-next false id next e h = absurd (h e)
 
 -- what the hint at id 0 leaves to look at
 pub agree-hinted : (image : List ℕ) (n : ℕ) → n ≡ upperHint image 0 → all (agreeOn image) 0 n ≡ readingsAgree image

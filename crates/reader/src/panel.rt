@@ -1,5 +1,7 @@
 // The panel's reading of names (02 (v)): a name up to its first zero byte, as a C string is read; and whether it is the whole name.
 ghost use mathlib.Core.Path.{_≡_};
+ghost use mathlib.Core.Bool.{cond};
+ghost use Prim.Native.Nat.{_+_, _<_};
 ghost use Rattle.reader.specs.Slices.{slice};
 ghost use Rattle.reader.specs.Panel.{panel, panelPart, agreeOn, readingsAgree};
 ghost use Rattle.reader.specs.Cases.{namingOf};
@@ -7,7 +9,6 @@ use super::Named;
 use super::naming::to_str;
 use super::walk::iter;
 use super::walk::size_hint;
-use image::zero::has_zero;
 use image::zero::length_before_zero;
 
 // The place of an id's name up to its first zero byte, or nothing. A name that begins with a zero byte has a place of length 0.
@@ -36,16 +37,19 @@ pub fn panel<'a>(image: &'a [u8], id: u32) -> &'a [u8]
     }
 }
 
-// Do both readings agree on an id?
-fn agree_on(image: &[u8], id: u32) -> bool
-    ensures { λ r. ⌜ r ≡ agreeOn (now (image .entry)) id ⌝ }
+// The id to look at after this one, or 0 where both readings differ on this one. On an id without a name they agree.
+fn after_look(image: &[u8], id: u32) -> u32
+    requires { ⌜ id < 4294967295 ⌝ }
+    ensures { λ r. ⌜ r ≡ cond (agreeOn (now (image .entry)) id) (id + 1) 0 ⌝ }
 {
+    let next = id + 1;
     match to_str(image, id) {
         Named::Place { start, len } => {
             let end = start + len;
-            !has_zero(&image[start..end])
+            let shown = length_before_zero(&image[start..end]);
+            if shown == len { next } else { 0 }
         }
-        Named::Nothing => true,
+        Named::Nothing => next,
     }
 }
 
@@ -56,10 +60,11 @@ pub fn readings_agree(image: &[u8]) -> bool
     let n = size_hint(image, iter());
     let mut id = 0;
     while id < n {
-        if !agree_on(image, id) {
+        let next = after_look(image, id);
+        if next == 0 {
             return false;
         }
-        id += 1;
+        id = next;
     }
     true
 }

@@ -1,43 +1,60 @@
 -- `image::zero::has_zero` meets its contract. The loop's invariant: what is left has a zero byte exactly where the name has. Assumes nothing.
 use Prim.Native.Nat.{_-_, _≤_}
 use native.Mathlib.Omega.{arith}
-use mathlib.Core.Path.{_≡_, refl, sym, _∙_}
+use mathlib.Core.Path.{_≡_, sym, _∙_}
 use lib.ListN.{length, drop}
 use Rattle.image.specs.Zero.{hasZero}
-use Rattle.image.proofs.Zeros.{zero-in-eight, none-in-eight}
+use Rattle.image.proofs.Bools.{neither-first, neither-second}
+use Rattle.image.proofs.Zeros.{zero-at-an-end, none-in-first, zero-in-front, none-in-front, zero-last, zero-overlap}
 use borrow.Author.Needs.{needs}
 use Rattle.image.proofs.zero.has_zero.Statement.{statement}
 use Rattle.image.proofs.zero.has_zero.Tie as tie
 
 abbrev Inv-loop : tie.InvT-loop
-Inv-loop name i₀ i = (i ≤ length name) × (hasZero (drop i name) ≡ hasZero name)
+Inv-loop name last i₀ i = (i ≤ length name) × (hasZero (drop i name) ≡ hasZero name)
 
 abbrev μ-loop : tie.MeasureT-loop
-μ-loop name i₀ i = length name - i
+μ-loop name last i₀ i = length name - i
 
-loop-holds : tie.Need-loop-holds Inv-loop μ-loop
-loop-holds c = (search needs, refl)
-
-sub-loop : tie.Need-sub-loop Inv-loop μ-loop
-sub-loop c = search needs
-
-zero-in-four-requires : tie.Need-zero-in-four-requires Inv-loop μ-loop
-zero-in-four-requires c κs = search needs
-
-add-zero-in-four : tie.Need-add-zero-in-four Inv-loop μ-loop
-add-zero-in-four c = search needs
-
-zero-in-four-requires-2 : tie.Need-zero-in-four-requires-2 Inv-loop μ-loop
-zero-in-four-requires-2 c κs = search needs
+zero-in-short-requires : tie.Need-zero-in-short-requires Inv-loop μ-loop
+zero-in-short-requires c κs = search needs
 
 returns : tie.Need-returns Inv-loop μ-loop
-returns c =
-    let a = c .before .before .before .before .before .before .args in
-    let of-loop = c .before .before .before .before .loop in
-    let first = c .before .before .zero-in-four in
-    let second = c .before .zero-in-four2 in
-    sym (zero-in-eight (a .name .now) (of-loop .i) (omega arith) (first .result) (second .result) (first .ensures) (second .ensures) (c .if1 .taken))
-    ∙ of-loop .inv .1
+returns c = c .zero-in-short .ensures
+
+sub-last : tie.Need-sub-last Inv-loop μ-loop
+sub-last c = search needs
+
+zero-in-eight-requires : tie.Need-zero-in-eight-requires Inv-loop μ-loop
+zero-in-eight-requires c κs = search needs
+
+zero-in-eight-requires-2 : tie.Need-zero-in-eight-requires-2 Inv-loop μ-loop
+zero-in-eight-requires-2 c κs = search needs
+
+returns-2 : tie.Need-returns-2 Inv-loop μ-loop
+returns-2 c =
+    let name = c .before .before .before .before .before .args .name .now in
+    let first = c .before .before .zero-in-eight in
+    let last = c .before .zero-in-eight2 in
+    zero-at-an-end name 8 (length name - 8) (first .result) (last .result) (first .ensures) (last .ensures) (c .if2 .taken)
+
+loop-holds : tie.Need-loop-holds Inv-loop μ-loop
+loop-holds c =
+    let name = c .before .before .before .before .before .args .name .now in
+    let first = c .before .before .zero-in-eight in
+    let last = c .before .zero-in-eight2 in
+    let none = sym (first .ensures) ∙ neither-first (first .result) (last .result) (c .if2 .left) in
+    (omega arith, none-in-first name 8 none)
+
+zero-in-eight-requires-3 : tie.Need-zero-in-eight-requires-3 Inv-loop μ-loop
+zero-in-eight-requires-3 c κs = search needs
+
+returns-3 : tie.Need-returns-3 Inv-loop μ-loop
+returns-3 c =
+    let name = c .before .before .before .before .before .before .before .before .before .args .name .now in
+    let of-loop = c .before .before .before .loop in
+    let eight = sym (c .before .zero-in-eight3 .ensures) ∙ c .if3 .taken in
+    sym (zero-in-front name (of-loop .i) 8 eight) ∙ of-loop .inv .1
 
 add-i : tie.Need-add-i Inv-loop μ-loop
 add-i c = search needs
@@ -47,20 +64,20 @@ loop-less c = omega arith
 
 loop-again : tie.Need-loop-again Inv-loop μ-loop
 loop-again c =
-    let a = c .before .before .before .before .before .before .args in
-    let of-loop = c .before .before .before .before .loop in
-    let first = c .before .before .zero-in-four in
-    let second = c .before .zero-in-four2 in (
-      omega arith,
-      sym (none-in-eight (a .name .now) (of-loop .i) (omega arith) (first .result) (second .result) (first .ensures) (second .ensures) (c .if1 .left))
-          ∙ of-loop .inv .1,
-    )
+    let name = c .before .before .before .before .before .before .before .before .before .args .name .now in
+    let of-loop = c .before .before .before .loop in
+    let eight = sym (c .before .zero-in-eight3 .ensures) ∙ c .if3 .left in
+    (omega arith, sym (none-in-front name (of-loop .i) 8 eight) ∙ of-loop .inv .1)
 
-zero-from-requires : tie.Need-zero-from-requires Inv-loop μ-loop
-zero-from-requires c κs = search needs
-
-returns-2 : tie.Need-returns-2 Inv-loop μ-loop
-returns-2 c = c .zero-from .ensures ∙ c .before .before .loop .inv .1
+returns-4 : tie.Need-returns-4 Inv-loop μ-loop
+returns-4 c =
+    let name = c .before .before .before .before .before .before .before .args .name .now in
+    let of-loop = c .before .loop in
+    let first = c .before .before .before .before .zero-in-eight in
+    let last = c .before .before .before .zero-in-eight2 in
+    let none = sym (last .ensures) ∙ neither-second (first .result) (last .result) (c .before .before .if2 .left) in
+    sym (sym (zero-last name 8 (omega arith)) ∙ none)
+    ∙ zero-overlap name (length name - 8) (of-loop .i) (omega arith) (of-loop .inv .1)
 
 pub has-zero-spec : {M : Type 1} → statement M
 has-zero-spec =
@@ -68,14 +85,16 @@ has-zero-spec =
     (tie.spec
     Inv-loop
     μ-loop
-    loop-holds
-    sub-loop
-    zero-in-four-requires
-    add-zero-in-four
-    zero-in-four-requires-2
+    zero-in-short-requires
     returns
+    sub-last
+    zero-in-eight-requires
+    zero-in-eight-requires-2
+    returns-2
+    loop-holds
+    zero-in-eight-requires-3
+    returns-3
     add-i
     loop-less
     loop-again
-    zero-from-requires
-    returns-2)
+    returns-4)

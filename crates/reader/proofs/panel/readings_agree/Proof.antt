@@ -3,12 +3,11 @@ use Prim.Native.Nat.{ℕ, _-_, _≤_}
 use native.Mathlib.Omega.{arith}
 use mathlib.Core.Path.{_≡_, refl, sym, ap, _∙_}
 use mathlib.Core.Bool.{Bool, true, false}
-use borrow.Author.Tests.{not-true, not-false}
 use borrow.Author.Needs.{needs}
 use Rattle.image.specs.Bytes.{all}
 use Rattle.reader.specs.Panel.{agreeOn, readingsAgree}
 use Rattle.reader.specs.Walk.{upperHint}
-use Rattle.reader.proofs.Panels.{disagree, agree-further, agree-hinted, agree-none}
+use Rattle.reader.proofs.Panels.{disagree, agree-further, agree-hinted, agree-none, looked-on, looked-off, looked-next}
 use Rattle.reader.proofs.panel.readings_agree.Statement.{statement}
 use Rattle.reader.proofs.panel.readings_agree.Tie as tie
 
@@ -32,8 +31,8 @@ loop-holds c =
     let hint = c .size-hint .ensures ∙ ap (upperHint image) (c .before .iter .ensures) in
     (omega arith, ap (all (agreeOn image) 0) whole ∙ agree-hinted image n hint)
 
-agree-on-requires : tie.Need-agree-on-requires Inv-loop μ-loop
-agree-on-requires c κs = search needs
+after-look-requires : tie.Need-after-look-requires Inv-loop μ-loop
+after-look-requires c κs = search needs
 
 returns : tie.Need-returns Inv-loop μ-loop
 returns c =
@@ -41,14 +40,18 @@ returns c =
     let of-loop = c .before .before .before .loop in
     let n = c .before .before .before .before .size-hint .result in
     let less = c .before .before .loop-test .taken in
-    let no = sym (c .before .agree-on .ensures) ∙ not-true _ (c .if1 .taken) in
+    let look = c .before .after-look in
+    let no = looked-off (agreeOn image (of-loop .id)) (of-loop .id) (look .result) (look .ensures) (c .if1 .taken) in
     sym (disagree image n (of-loop .id) less no) ∙ of-loop .inv .1
 
-add-id : tie.Need-add-id Inv-loop μ-loop
-add-id c = search needs
-
 loop-less : tie.Need-loop-less Inv-loop μ-loop
-loop-less c = omega arith
+loop-less c =
+    let image = c .before .before .before .before .before .before .before .args .image .now in
+    let of-loop = c .before .before .before .loop in
+    let look = c .before .after-look in
+    let less = c .before .before .loop-test .taken in
+    let next = looked-next (agreeOn image (of-loop .id)) (of-loop .id) (look .result) (look .ensures) (c .if1 .left) in
+    omega arith
 
 loop-again : tie.Need-loop-again Inv-loop μ-loop
 loop-again c =
@@ -56,8 +59,10 @@ loop-again c =
     let of-loop = c .before .before .before .loop in
     let n = c .before .before .before .before .size-hint .result in
     let less = c .before .before .loop-test .taken in
-    let yes = sym (c .before .agree-on .ensures) ∙ not-false _ (c .if1 .left) in
-    (omega arith, agree-further image n (of-loop .id) less yes ∙ of-loop .inv .1)
+    let look = c .before .after-look in
+    let yes = looked-on (agreeOn image (of-loop .id)) (of-loop .id) (look .result) (look .ensures) (c .if1 .left) in
+    let next = looked-next (agreeOn image (of-loop .id)) (of-loop .id) (look .result) (look .ensures) (c .if1 .left) in
+    (omega arith, ap (λ (k : ℕ). all (agreeOn image) k (n - k)) next ∙ agree-further image n (of-loop .id) less yes ∙ of-loop .inv .1)
 
 returns-2 : tie.Need-returns-2 Inv-loop μ-loop
 returns-2 c =
@@ -76,9 +81,8 @@ readings-agree-spec =
     iter-requires
     size-hint-requires
     loop-holds
-    agree-on-requires
+    after-look-requires
     returns
-    add-id
     loop-less
     loop-again
     returns-2)

@@ -1,0 +1,12 @@
+-- Laws of the bundle's definitions.
+pub mod Steps
+pub mod Walks
+pub mod Places
+pub mod Appends
+pub mod Holding
+pub mod Agreeing
+pub mod Growing
+pub mod Accepting
+pub mod Listing
+pub mod Theorem
+pub mod Rows

@@ -1,0 +1,60 @@
+-- `bundle::appending::append` meets its contract: the decision, then the effect. Assumes nothing.
+use native.Mathlib.Omega.{arith}
+use mathlib.Core.Path.{sym, _∙_}
+use Rattle.bundle.proofs.Appends.{passed, refused, accepted}
+use borrow.Author.Needs.{needs}
+use Rattle.bundle.proofs.appending.append.Statement.{statement}
+use Rattle.bundle.proofs.appending.append.Tie as tie
+
+append-refusal-requires : tie.Need-append-refusal-requires
+append-refusal-requires c κs = search needs
+
+same-length : tie.Need-same-length
+same-length c = search needs
+
+returns : tie.Need-returns
+returns c =
+    let a = c .before .before .before .before .before .args in
+    let buf = a .buf .now in
+    let image = a .image .now in
+    refused buf (a .end) image (c .before .append-refusal .result) (c .before .append-refusal .ensures) (c .if1 .taken)
+
+add-joined : tie.Need-add-joined
+add-joined c =
+    let a = c .before .before .before .before .before .args in
+    let buf = a .buf .now in
+    let image = a .image .now in
+    let none = sym (c .before .append-refusal .ensures) ∙ c .if1 .left in
+    omega (arith, passed buf (a .end) image none .room)
+
+copy-requires : tie.Need-copy-requires
+copy-requires c κs =
+    let a = c .before .before .before .before .before .before .args in
+    let buf = a .buf .now in
+    let image = a .image .now in
+    let none = sym (c .before .before .append-refusal .ensures) ∙ c .before .if1 .left in
+    omega (arith, passed buf (a .end) image none .room)
+
+same-length-2 : tie.Need-same-length-2
+same-length-2 c = search needs
+
+returns-2 : tie.Need-returns-2
+returns-2 c =
+    let a = c .before .before .before .before .before .before .before .before .before .args in
+    let buf = a .buf .now in
+    let image = a .image .now in
+    let none = sym (c .before .before .before .before .before .append-refusal .ensures) ∙ c .before .before .before .before .if1 .left in
+    let done = accepted buf (a .end) image none in
+    (done .0, c .before .before .copy .ensures ∙ done .1)
+
+pub append-spec : {M : Type 1} → statement M
+append-spec =
+    tie.close
+    (tie.spec
+    append-refusal-requires
+    same-length
+    returns
+    add-joined
+    copy-requires
+    same-length-2
+    returns-2)

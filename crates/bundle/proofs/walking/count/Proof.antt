@@ -1,0 +1,67 @@
+-- `bundle::walking::count` meets its contract. Assumes nothing.
+use Prim.Native.Nat.{_-_}
+use native.Mathlib.Omega.{arith}
+use mathlib.Core.Path.{_≡_, sym, _∙_}
+use lib.ListN.{length}
+use Rattle.bundle.specs.Walk.{counting}
+use Rattle.bundle.proofs.Steps.{none-there, some-there}
+use Rattle.bundle.proofs.Walks.{Counting, counting-starts, counting-turn, count-broke, count-ended}
+use Rattle.bundle.proofs.walking.count.Statement.{statement}
+use Rattle.bundle.proofs.walking.count.Tie as tie
+
+abbrev Inv-loop : tie.InvT-loop
+Inv-loop file at₀ images₀ at images = Counting file at images (counting file)
+
+abbrev μ-loop : tie.MeasureT-loop
+μ-loop file at₀ images₀ at images = length file - at
+
+loop-holds : tie.Need-loop-holds Inv-loop μ-loop
+loop-holds c = counting-starts (c .before .args .file .now)
+
+size-at-requires : tie.Need-size-at-requires Inv-loop μ-loop
+size-at-requires c κs = c .before .loop .inv .inside
+
+returns : tie.Need-returns Inv-loop μ-loop
+returns c =
+    let file = c .before .before .before .before .before .args .file .now in
+    let i = c .before .before .before .loop in
+    let there = none-there file (i .at) (sym (c .if1 .taken) ∙ c .before .size-at .ensures .0) in
+    sym (count-broke file (i .at) (i .inv .most) (i .images) (λ e. omega arith) there) ∙ i .inv .rest
+
+add-images : tie.Need-add-images Inv-loop μ-loop
+add-images c = omega (arith, c .before .before .before .loop .inv .few)
+
+add-at : tie.Need-add-at Inv-loop μ-loop
+add-at c = omega (arith, c .before .size-at .ensures .1)
+
+loop-less : tie.Need-loop-less Inv-loop μ-loop
+loop-less c = omega (arith, c .before .size-at .ensures .1)
+
+loop-again : tie.Need-loop-again Inv-loop μ-loop
+loop-again c =
+    let file = c .before .before .before .before .before .args .file .now in
+    let i = c .before .before .before .loop in
+    let b = some-there file (i .at) (c .before .size-at .result) (c .before .size-at .ensures .0) (c .if1 .left) in
+    counting-turn file (i .at) (i .images) (c .before .size-at .result) (counting file) (b .0) (b .1) (i .inv)
+
+returns-2 : tie.Need-returns-2 Inv-loop μ-loop
+returns-2 c =
+    let file = c .before .before .before .args .file .now in
+    let i = c .before .loop in
+    let e : i .at ≡ length file = omega (arith, i .inv .inside) in
+    sym (count-ended file (i .at) (i .inv .most) (i .images) e) ∙ i .inv .rest
+
+pub count-spec : {M : Type 1} → statement M
+count-spec =
+    tie.close
+    (tie.spec
+    Inv-loop
+    μ-loop
+    loop-holds
+    size-at-requires
+    returns
+    add-images
+    add-at
+    loop-less
+    loop-again
+    returns-2)

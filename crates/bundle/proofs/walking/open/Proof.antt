@@ -1,0 +1,90 @@
+-- `bundle::walking::open` meets its contract. Assumes nothing.
+use native.Mathlib.Omega.{arith}
+use mathlib.Core.Path.{sym, ap, _∙_}
+use Rattle.jhash.specs.Outcome.{value, refusal}
+use Rattle.reader.specs.Cases.{openedOf}
+use Rattle.bundle.specs.Cases.{placedOf}
+use Rattle.bundle.proofs.Places.{place-inside, opened-there, not-opened}
+use borrow.Author.Needs.{needs}
+use Rattle.bundle.proofs.walking.open.Statement.{statement}
+use Rattle.bundle.proofs.walking.open.Tie as tie
+
+place-requires : tie.Need-place-requires
+place-requires c κs = search needs
+
+enum-known-start : tie.Need-enum-known-start
+enum-known-start c = search needs
+
+add-open : tie.Need-add-open
+add-open c =
+    let a = c .before .before .before .before .before .args in
+    let of-start = c .before .start .given in
+    let told = sym (c .before .before .before .place .ensures) ∙ ap placedOf (of-start .1) in
+    omega (arith, place-inside (a .file .now) (a .position) (of-start .0 .0) (of-start .0 .1 .0) told)
+
+sub-open : tie.Need-sub-open
+sub-open c = search needs
+
+part-open-start : tie.Need-part-open-start
+part-open-start c = search needs
+
+part-open-end : tie.Need-part-open-end
+part-open-end c =
+    let a = c .before .before .before .before .before .args in
+    let of-start = c .before .start .given in
+    let told = sym (c .before .before .before .place .ensures) ∙ ap placedOf (of-start .1) in
+    omega (arith, place-inside (a .file .now) (a .position) (of-start .0 .0) (of-start .0 .1 .0) told)
+
+open-requires : tie.Need-open-requires
+open-requires c κs = search needs
+
+enum-known-num : tie.Need-enum-known-num
+enum-known-num c = search needs
+
+enum-known-k : tie.Need-enum-known-k
+enum-known-k c = search needs
+
+enum-known-k-2 : tie.Need-enum-known-k-2
+enum-known-k-2 c = search needs
+
+returns : tie.Need-returns
+returns c =
+    let a = c .before .before .before .before .before .before .before .before .before .before .args in
+    let of-start = c .before .before .before .before .before .before .start .given in
+    let of-place = c .before .before .before .before .before .before .before .before .place in
+    let of-num = c .before .num .given in
+    opened-there (a .file .now) (a .position) (of-start .0 .0) (of-start .0 .1 .0) (value (of-num .0 .0))
+    (sym (of-place .ensures) ∙ ap placedOf (of-start .1)) (ap openedOf (sym (of-num .1)) ∙ c .before .before .before .«open» .ensures)
+
+returns-2 : tie.Need-returns-2
+returns-2 c =
+    let a = c .before .before .before .before .before .before .before .before .before .before .args in
+    let of-start = c .before .before .before .before .before .before .start .given in
+    let of-place = c .before .before .before .before .before .before .before .before .place in
+    let of-k = c .before .k .given in
+    opened-there (a .file .now) (a .position) (of-start .0 .0) (of-start .0 .1 .0) (refusal (of-k .0 .0))
+    (sym (of-place .ensures) ∙ ap placedOf (of-start .1)) (ap openedOf (sym (of-k .1)) ∙ c .before .before .before .«open» .ensures)
+
+returns-3 : tie.Need-returns-3
+returns-3 c =
+    let a = c .before .before .before .before .before .args in
+    let of-k = c .before .k2 .given in
+    not-opened (a .file .now) (a .position) (of-k .0 .0) (sym (c .before .before .before .place .ensures) ∙ ap placedOf (of-k .1))
+
+pub open-spec : {M : Type 1} → statement M
+open-spec =
+    tie.close
+    (tie.spec
+    place-requires
+    enum-known-start
+    add-open
+    sub-open
+    part-open-start
+    part-open-end
+    open-requires
+    enum-known-num
+    enum-known-k
+    enum-known-k-2
+    returns
+    returns-2
+    returns-3)

@@ -1,0 +1,80 @@
+// Appending an image to a bundle. The file is the buffer's first bytes, their number given.
+ghost use mathlib.Core.Path.{_≡_};
+ghost use mathlib.Core.Bool.{not};
+ghost use Prim.Native.Nat.{_+_, _≤_};
+ghost use lib.ListN.{length};
+ghost use lib.Seq.{sets};
+ghost use Rattle.bundle.specs.Append.{whole, unfit, appendRefusal, appending, afterAppend};
+ghost use Rattle.bundle.specs.Cases.{appendedOf};
+use super::Appended;
+use super::Counted;
+use super::HEAD_SIZE;
+use super::walking::count;
+use jhash::word::word;
+
+// Does a walk of the whole file come to its end?
+fn whole(file: &[u8]) -> bool
+    ensures { λ r. ⌜ r ≡ whole (now (file .entry)) ⌝ }
+{
+    let counted = count(file);
+    match counted {
+        Counted::Images(_) => true,
+        Counted::Refused(_) => false,
+    }
+}
+
+// Has a new image under 2,072 bytes, or another length than its size word says?
+fn unfit(image: &[u8]) -> bool
+    ensures { λ r. ⌜ r ≡ unfit (now (image .entry)) ⌝ }
+{
+    if image.len() < HEAD_SIZE {
+        return true;
+    }
+    word(image, 4) as usize != image.len()
+}
+
+// The number of the refusal that is due to an append, 0 where it is accepted. All of append's decision stands here.
+fn append_refusal(buf: &[u8], end: usize, image: &[u8]) -> u32
+    ensures { λ r. ⌜ r ≡ appendRefusal (now (buf .entry)) end (now (image .entry)) ⌝ }
+{
+    if buf.len() < end {
+        return 10;
+    }
+    if !whole(&buf[..end]) {
+        return 10;
+    }
+    if unfit(image) {
+        return 10;
+    }
+    if buf.len() - end < image.len() {
+        return 3;
+    }
+    0
+}
+
+// The bytes of src stored from `at` on.
+fn copy(buf: &mut [u8], at: usize, src: &[u8])
+    requires { ⌜ at + length (now src) ≤ length (now buf) ⌝ }
+    ensures { λ _. ⌜ now (buf .exit) ≡ sets (now (buf .entry)) at (now (src .entry)) ⌝ }
+{
+    let mut j = 0;
+    while j < src.len() {
+        buf[at + j] = src[j];
+        j += 1;
+    }
+}
+
+// Writes the image's bytes right after the file's and gives the joined length, or is refused and changes nothing: 10 where the
+// file is longer than the buffer or its walk breaks off, or the image is unfit; then 3 where the buffer has no room.
+pub fn append(buf: &mut [u8], end: usize, image: &[u8]) -> Appended
+    ensures answer { λ r. ⌜ appendedOf r ≡ appending (now (buf .entry)) end (now (image .entry)) ⌝ }
+    ensures leaves { λ r. ⌜ now (buf .exit) ≡ afterAppend (now (buf .entry)) end (now (image .entry)) ⌝ }
+{
+    let refusal = append_refusal(&*buf, end, image);
+    if refusal != 0 {
+        return Appended::Refused(refusal);
+    }
+    let joined = end + image.len();
+    copy(&mut *buf, end, image);
+    Appended::Length(joined)
+}

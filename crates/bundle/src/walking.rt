@@ -1,0 +1,94 @@
+// The walk over a bundle's images from the front, by their size words; letters are not looked at.
+ghost use mathlib.Core.Path.{_≡_};
+ghost use mathlib.Core.Bool.{cond};
+ghost use Prim.Native.Nat.{_+_, _≤_};
+ghost use lib.ListN.{length};
+ghost use Rattle.bundle.specs.Walk.{sizeAt, breaks, placeAt, counting};
+ghost use Rattle.reader.specs.Slices.{slice};
+ghost use Rattle.bundle.specs.Opening.{returnedPart, openingAt};
+ghost use Rattle.bundle.specs.Cases.{placedOf, openedAtOf, countedOf};
+use super::Counted;
+use super::HEAD_SIZE;
+use super::OpenedAt;
+use super::Placed;
+use jhash::word::word;
+use reader::Opened;
+
+// The size of the image that begins at `at`; 0 where the walk breaks off there.
+fn size_at(file: &[u8], at: usize) -> usize
+    requires { ⌜ at ≤ length (now file) ⌝ }
+    ensures { λ r. ⌜ (r ≡ cond (breaks (now (file .entry)) at) 0 (sizeAt (now (file .entry)) at)) × (at + r ≤ length (now (file .entry))) ⌝ }
+{
+    if file.len() - at < 8 {
+        return 0;
+    }
+    let size = word(file, at + 4) as usize;
+    if size < HEAD_SIZE {
+        return 0;
+    }
+    if file.len() - at < size {
+        return 0;
+    }
+    size
+}
+
+// Where the image at a position stands; 10 where the walk breaks off, 11 where the file ends at or before the position.
+pub fn place(file: &[u8], position: usize) -> Placed
+    ensures { λ r. ⌜ placedOf r ≡ placeAt (now (file .entry)) position ⌝ }
+{
+    let mut at = 0;
+    let mut left = position;
+    while at < file.len() {
+        let size = size_at(file, at);
+        if size == 0 {
+            return Placed::Refused(10);
+        }
+        if left == 0 {
+            return Placed::Image { start: at, size };
+        }
+        left -= 1;
+        at += size;
+    }
+    Placed::Refused(11)
+}
+
+// The part of the lent file that is the image at a position, exactly the size word's bytes; empty where the walk is refused.
+pub fn part<'a>(file: &'a [u8], position: usize) -> &'a [u8]
+    ensures { λ r. ⌜ slice r ≡ returnedPart (slice (file .entry)) position ⌝ }
+{
+    match place(file, position) {
+        Placed::Image { start, size } => &file[start..start + size],
+        Placed::Refused(_) => &file[0..0],
+    }
+}
+
+// The number of associations of the image at a position, and where it stands; or why it is refused: 10 or 11 by the walk, then
+// 5, 6, 7 or 8 by the checks of opening, on the image's own bytes alone.
+pub fn open(file: &[u8], position: usize) -> OpenedAt
+    ensures { λ r. ⌜ openedAtOf r ≡ openingAt (now (file .entry)) position ⌝ }
+{
+    match place(file, position) {
+        Placed::Image { start, size } => match reader::open(&file[start..start + size]) {
+            Opened::Num(num) => OpenedAt::Image { num, start, size },
+            Opened::Refused(k) => OpenedAt::Refused(k),
+        },
+        Placed::Refused(k) => OpenedAt::Refused(k),
+    }
+}
+
+// How many images the file holds; 10 where the walk breaks off.
+pub fn count(file: &[u8]) -> Counted
+    ensures { λ r. ⌜ countedOf r ≡ counting (now (file .entry)) ⌝ }
+{
+    let mut at = 0;
+    let mut images = 0;
+    while at < file.len() {
+        let size = size_at(file, at);
+        if size == 0 {
+            return Counted::Refused(10);
+        }
+        images += 1;
+        at += size;
+    }
+    Counted::Images(images)
+}

@@ -1,0 +1,39 @@
+-- `image::zero::zero_in_short` meets its contract. Assumes nothing.
+use native.Mathlib.Omega.{arith}
+use borrow.Author.Needs.{needs}
+use Rattle.image.proofs.Zeros.{zero-ends}
+use Rattle.image.proofs.zero.zero_in_short.Statement.{statement}
+use Rattle.image.proofs.zero.zero_in_short.Tie as tie
+
+zero-in-few-requires : tie.Need-zero-in-few-requires
+zero-in-few-requires c κs = search needs
+
+returns : tie.Need-returns
+returns c = c .zero-in-few .ensures
+
+zero-in-four-requires : tie.Need-zero-in-four-requires
+zero-in-four-requires c κs = search needs
+
+sub-zero-in-four : tie.Need-sub-zero-in-four
+sub-zero-in-four c = search needs
+
+zero-in-four-requires-2 : tie.Need-zero-in-four-requires-2
+zero-in-four-requires-2 c κs = search needs
+
+returns-2 : tie.Need-returns-2
+returns-2 c =
+    let a = c .before .before .before .before .args in
+    let first = c .before .zero-in-four in
+    let second = c .zero-in-four2 in
+    zero-ends (a .name .now) 4 (first .result) (second .result) (omega arith) (omega arith) (first .ensures) (second .ensures)
+
+pub zero-in-short-spec : {M : Type 1} → statement M
+zero-in-short-spec =
+    tie.close
+    (tie.spec
+    zero-in-few-requires
+    returns
+    zero-in-four-requires
+    sub-zero-in-four
+    zero-in-four-requires-2
+    returns-2)
