@@ -5,6 +5,7 @@ use std::{fmt, io};
 use crate::archive::{self, Date, StrAnswer, Window};
 use crate::name::BStr;
 use crate::page::Page;
+use crate::puts::Puts;
 use crate::refusal::{self, Refusal};
 
 /// What a lookup finds.
@@ -121,6 +122,18 @@ impl<'a> CQDB<'a> {
     /// image of a writer every id that has a name is home.
     pub fn home(&self, id: u32) -> bool {
         archive::home(self.image, id) == 1
+    }
+
+    /// Are these bytes the image that some list of puts closes to, one-way or two-way, repeats allowed, with no byte after it?
+    /// Every image that a writer of this crate makes is. Two different lists of puts in one direction never make
+    /// the same image, so owners may compare images by their bytes. The time is linear in the bytes apart from the probing.
+    pub fn is_ours(&self) -> bool {
+        archive::ours(self.image) == 1
+    }
+
+    /// The puts of an image that is ours, in put order; nothing where it is not, which is asked first.
+    pub fn puts(&self) -> Option<Puts<'a>> {
+        self.is_ours().then(|| Puts::new(self.image, self.num))
     }
 
     /// The printed catalogue.
