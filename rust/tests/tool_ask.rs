@@ -69,6 +69,29 @@ fn lists() {
 }
 
 #[test]
+fn lists_of_puts() {
+    let folder = folder();
+    for image in ["walls", "one-way"] {
+        folder.cqdb(&["list", "--puts", image]).gives(0).prints(LIST).tells("");
+    }
+    // The list of an image makes the image again.
+    let list = "5 crane\n9 crane\n5 mole\n0 \n";
+    folder.with(list, &["make", "--repeats", "image"]).gives(0);
+    folder.cqdb(&["list", "--puts", "image"]).prints(list);
+    let mut bytes = folder.read("image");
+    bytes.push(0);
+    folder.write("longer", bytes);
+    let ran = folder.cqdb(&["list", "--puts", "longer"]).gives(1).prints("");
+    ran.tells("cqdb: list: longer is not one of ours: it has no list of puts\n");
+    folder.cqdb(&["check", "longer"]).gives(1).prints(
+        "yes  it opens\n\
+         no   it is one of ours: no list of puts makes these bytes\n\
+         yes  readings agree\n\
+         yes  every name is home\n",
+    );
+}
+
+#[test]
 fn pages() {
     let folder = folder();
     let page = folder.cqdb(&["page", "walls"]).gives(0);
@@ -105,7 +128,7 @@ fn checks() {
     for image in ["walls", "one-way"] {
         let ran = folder.cqdb(&["check", image]).gives(0);
         let text = String::from_utf8(ran.out).unwrap();
-        assert!(text.lines().count() >= 3 && text.lines().all(|line| line.starts_with("yes  ")), "{text}");
+        assert!(text.lines().count() == 4 && text.lines().all(|line| line.starts_with("yes  ")), "{text}");
     }
     // A zero byte in the name of id 0, whose entry is the first: it is no longer found under its hash either.
     let mut bytes = folder.read("walls");

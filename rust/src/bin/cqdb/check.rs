@@ -14,6 +14,7 @@ Asks the questions below and prints a line for each: yes or no, and the question
 The exit status is 1 where an answer is no.
 
   it opens             the head is whole and no table leaves the file
+  it is one of ours    a list of puts makes exactly these bytes
   readings agree       no name has a zero byte, so a C string shows all of it
   every name is home   the search for each id's name meets that id
 ",
@@ -33,7 +34,13 @@ fn run(args: Args) -> Outcome {
         }
     };
     let mut all = true;
-    let questions = [("it opens", Ok(())), ("readings agree", readings(&db)), ("every name is home", homes(&db))];
+    let ours = if db.is_ours() { Ok(()) } else { Err("no list of puts makes these bytes".to_string()) };
+    let questions = [
+        ("it opens", Ok(())),
+        ("it is one of ours", ours),
+        ("readings agree", readings(&db)),
+        ("every name is home", homes(&db)),
+    ];
     for (question, answer) in questions {
         all &= answer.is_ok();
         line(&mut out, answer, question)?;
