@@ -1,11 +1,12 @@
 -- What the steps of a round tell of its names, so that equal ones are searched for once.
-use Prim.Native.Nat.{ℕ, _-_, _%_, _≤_, _<_}
+use Prim.Native.Nat.{ℕ, _+_, _*_, _-_, _%_, _≤_, _<_}
 use mathlib.Core.Path.{_≡_}
-use mathlib.Core.Bool.{cond}
+use mathlib.Core.Bool.{Bool, cond}
 use mathlib.Core.List.{List, []}
 use lib.ListN.{length, getD}
 use lib.Dec.{eqb, ltb}
 use Rattle.jhash.specs.NameHash.{hashOf}
+use Rattle.image.specs.Bytes.{keep, range}
 
 -- where the i-th name begins
 abbrev pub beginOf : List ℕ → ℕ → ℕ
@@ -46,3 +47,23 @@ pub record Equal (xs : List (List ℕ)) (i q : ℕ) : Type 0 where
 -- so of each of the first n names
 abbrev pub Told : List (List ℕ) → ℕ → List ℕ → Type 0
 Told xs n equals = (i : ℕ) → i < n → Equal xs i (getD equals i 0)
+
+-- the numbers of the names, counted from 0, that no earlier one equals
+abbrev pub isNew : List ℕ → ℕ → Bool
+isNew equals i = eqb (getD equals i 0) 0
+
+unfoldable pub news : List ℕ → ℕ → List ℕ
+news equals n = keep (isNew equals) (range 0 n)
+
+-- a place holds these words
+abbrev pub Has : List ℕ → ℕ → List ℕ → Type 0
+Has answers i words = (w : ℕ) → w < 4 → getD answers (4 * i + w) 0 ≡ getD words w 0
+
+-- what stands from the n-th place on is kept
+abbrev pub Kept : List ℕ → ℕ → List ℕ → Type 0
+Kept before n after = (p : ℕ) → 4 * n ≤ p → getD after p 0 ≡ getD before p 0
+
+-- what holds of a list of answers and of the words that belong to the n places: those of the new names stand already, and equal names have equal words
+pub record Begun (equals : List ℕ) (n : ℕ) (answers : List ℕ) (words : ℕ → List ℕ) : Type 0 where
+  pub stand : (i : ℕ) → i < n → getD equals i 0 ≡ 0 → Has answers i (words i)
+  pub alike : (i : ℕ) → i < n → 0 < getD equals i 0 → (getD equals i 0 ≤ i) × (words (getD equals i 0 - 1) ≡ words i)

@@ -32,7 +32,7 @@ fn begin_of(ends: &[u64], i: usize) -> u64
 }
 
 // The i-th name, counted from 0.
-pub(crate) fn name_of<'a>(bytes: &'a [u8], ends: &'a [u64], i: usize) -> &'a [u8]
+pub(crate) fn name_of<'a>(bytes: &'a [u8], ends: &[u64], i: usize) -> &'a [u8]
     requires { ⌜ (i < length (now ends)) × (astray (length (now bytes)) 0 (now ends) ≡ false) ⌝ }
     ensures { λ r. ⌜ now r ≡ getD (names (now (bytes .entry)) (now (ends .entry))) i [] ⌝ }
 {

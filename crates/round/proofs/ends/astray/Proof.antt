@@ -1,41 +1,46 @@
+-- `round::ends::astray` meets its contract. The loop's invariant: what was found, joined with what is left, is the whole test. Assumes nothing.
+use Prim.Native.Nat.{_-_, _≤_}
+use native.Mathlib.Omega.{arith}
+use mathlib.Core.Path.{_≡_, refl}
+use mathlib.Core.Bool.{_||_}
+use lib.ListN.{length, drop}
+use Rattle.round.specs.Names.{astray}
+use Rattle.round.proofs.NameEnds.{astray-turn, astray-end}
 use Rattle.round.proofs.ends.astray.Statement.{statement}
 use Rattle.round.proofs.ends.astray.Tie as tie
-use Rattle.round.proofs.ends.astray.Reads as reads
-use Rattle.round.proofs.ends.astray.Lts as lts
 
 abbrev Inv-loop : tie.InvT-loop
-Inv-loop ends size bad₀ start₀ i₀ bad start i = ?
+Inv-loop ends size bad₀ start₀ i₀ bad start i = (i ≤ length ends) × ((bad || astray size start (drop i ends)) ≡ astray size 0 ends)
 
 abbrev μ-loop : tie.MeasureT-loop
-μ-loop ends size bad₀ start₀ i₀ bad start i = ?
+μ-loop ends size bad₀ start₀ i₀ bad start i = length ends - i
 
--- src/ends.rt:17:5
 loop-holds : tie.Need-loop-holds Inv-loop μ-loop
-loop-holds c = ?
+loop-holds c = (omega arith, refl)
 
--- src/ends.rt:18:19
 mul-end : tie.Need-mul-end Inv-loop μ-loop
-mul-end c = ?
+mul-end c = omega arith
 
--- src/ends.rt:18:19
 shared-slice-read-end : tie.Need-shared-slice-read-end Inv-loop μ-loop
-shared-slice-read-end c = ?
+shared-slice-read-end c = omega arith
 
--- src/ends.rt:21:9
 add-i : tie.Need-add-i Inv-loop μ-loop
-add-i c = ?
+add-i c = omega arith
 
--- src/ends.rt:17:5
 loop-less : tie.Need-loop-less Inv-loop μ-loop
-loop-less c = ?
+loop-less c = omega arith
 
--- src/ends.rt:17:5
 loop-again : tie.Need-loop-again Inv-loop μ-loop
-loop-again c = ?
+loop-again c =
+    let a = c .before .before .before .args in
+    let l = c .before .before .loop in
+    (omega arith, astray-turn (a .size) (l .start) (a .ends .now) (l .i) (l .bad) _ (omega arith) (l .inv .1))
 
--- src/ends.rt:11:1
 returns : tie.Need-returns Inv-loop μ-loop
-returns c = ?
+returns c =
+    let a = c .before .before .args in
+    let l = c .before .loop in
+    astray-end (a .size) (l .start) (a .ends .now) (l .i) (l .bad) _ (omega arith) (l .inv .1)
 
 pub astray-spec : {M : Type 1} → statement M
 astray-spec =

@@ -1,28 +1,31 @@
+-- `round::ends::begin_of` meets its contract. Assumes nothing.
+use Prim.Native.Nat.{ℕ, _-_}
+use mathlib.Core.Path.{sym, ap}
+use mathlib.Core.Bool.{Bool, cond}
+use borrow.Author.Tests.{eq-eqb, ne-eqb}
+use lib.ListN.{getD}
 use borrow.Author.Needs.{needs}
 use Rattle.round.proofs.ends.begin_of.Statement.{statement}
 use Rattle.round.proofs.ends.begin_of.Tie as tie
-use Rattle.round.proofs.ends.begin_of.Reads as reads
-use Rattle.round.proofs.ends.begin_of.Lts as lts
 
--- src/ends.rt:31:33
 sub-result : tie.Need-sub-result
 sub-result c = search needs
 
--- src/ends.rt:31:28
 mul-result : tie.Need-mul-result
 mul-result c = search needs
 
--- src/ends.rt:31:28
 shared-slice-read-result : tie.Need-shared-slice-read-result
 shared-slice-read-result c = search needs
 
--- src/ends.rt:27:1
 returns : tie.Need-returns
-returns c = ?
+returns c =
+    let a = c .before .args in
+    sym (ap (λ (t : Bool). cond t 0 (getD (a .ends .now) (a .i - 1) 0)) (eq-eqb (a .i) 0 (c .if1 .taken)))
 
--- src/ends.rt:27:1
 returns-2 : tie.Need-returns-2
-returns-2 c = ?
+returns-2 c =
+    let a = c .before .before .args in
+    sym (ap (λ (t : Bool). cond t 0 (getD (a .ends .now) (a .i - 1) 0)) (ne-eqb (a .i) 0 (c .before .if1 .left)))
 
 pub begin-of-spec : {M : Type 1} → statement M
 begin-of-spec =

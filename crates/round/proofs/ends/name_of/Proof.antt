@@ -1,37 +1,46 @@
+-- `round::ends::name_of` meets its contract. Assumes nothing.
+use Prim.Native.Nat.{ℕ}
+use native.Mathlib.Omega.{arith}
+use mathlib.Core.Path.{sym, ap, _∙_}
+use lib.ListN.{length, getD}
+use Rattle.image.specs.Stored.{between}
+use Rattle.round.specs.Telling.{beginOf}
+use Rattle.round.proofs.NameEnds.{Placed, placed, nth-name}
 use borrow.Author.Needs.{needs}
 use Rattle.round.proofs.ends.name_of.Statement.{statement}
 use Rattle.round.proofs.ends.name_of.Tie as tie
-use Rattle.round.proofs.ends.name_of.Reads as reads
-use Rattle.round.proofs.ends.name_of.Lts as lts
-use Rattle.round.proofs.ends.begin_of.Reads as begin-of-reads
 
--- src/ends.rt:39:17
+-- where the name begins and ends
+at : (c : tie.After-begin-of)
+    → Placed (length (c .before .before .before .args .bytes .now)) (beginOf (c .before .before .before .args .ends .now) (c .before .before .before .args .i))
+    (getD (c .before .before .before .args .ends .now) (c .before .before .before .args .i) 0)
+at c =
+    let a = c .before .before .before .args in
+    placed (length (a .bytes .now)) (a .ends .now) (a .i) (c .before .before .before .pre .1) (c .before .before .before .pre .0)
+
 begin-of-requires : tie.Need-begin-of-requires
 begin-of-requires c κs = search needs
 
--- src/ends.rt:40:15
 mul-end : tie.Need-mul-end
 mul-end c = search needs
 
--- src/ends.rt:40:15
 shared-slice-read-end : tie.Need-shared-slice-read-end
 shared-slice-read-end c = search needs
 
--- src/ends.rt:41:5
 sub-result : tie.Need-sub-result
-sub-result c = ?
+sub-result c = omega (arith, at (c .before), c .before .begin-of .ensures)
 
--- src/ends.rt:41:5
 part-result-start : tie.Need-part-result-start
-part-result-start c = ?
+part-result-start c = omega (arith, at (c .before), c .before .begin-of .ensures)
 
--- src/ends.rt:41:5
 part-result-end : tie.Need-part-result-end
-part-result-end c = ?
+part-result-end c = omega (arith, at (c .before), c .before .begin-of .ensures)
 
--- src/ends.rt:35:1
 returns : tie.Need-returns
-returns c = ?
+returns c =
+    let a = c .before .before .before .before .before .args in
+    ap (λ (s : ℕ). between (a .bytes .now) s (getD (a .ends .now) (a .i) 0)) (c .before .before .begin-of .ensures)
+    ∙ sym (nth-name (a .bytes .now) (a .ends .now) (a .i) (c .before .before .before .before .before .pre .0))
 
 pub name-of-spec : {M : Type 1} → statement M
 name-of-spec =

@@ -1,0 +1,6 @@
+-- Laws of a round.
+pub mod NameEnds
+pub mod Tells
+pub mod Places
+pub mod News
+pub mod Finds
