@@ -4,3 +4,4 @@ pub mod Tells
 pub mod Places
 pub mod News
 pub mod Finds
+pub mod Rounds

@@ -1,90 +1,74 @@
+-- `round::round` meets its contract. Assumes nothing.
+use Prim.Native.Nat.{ℕ, _*_, _/_, _≤_}
+use native.Mathlib.Omega.{arith}
+use mathlib.Core.Path.{_≡_, refl, sym, ap, _∙_}
+use mathlib.Core.Bool.{Bool, true, false, cond, _||_}
+use mathlib.Core.List.{List}
+use borrow.Author.Tests.{lt-ltb, le-ltb}
+use native.Mathlib.Nat.{div-add-mod'}
+use lib.Dec.{ltb}
+use lib.ListN.{length}
+use Rattle.jhash.specs.Outcome.{Outcome, value, refusal}
+use Rattle.round.specs.Names.{names, astray}
+use Rattle.round.specs.Round.{roundBuckets, rounding, leftBy, afterRound}
+use Rattle.round.proofs.Rounds.{rounding-by, left}
 use borrow.Author.Needs.{needs}
 use Rattle.round.proofs.round.Statement.{statement}
 use Rattle.round.proofs.round.Tie as tie
-use Rattle.round.proofs.round.Reads as reads
-use Rattle.round.proofs.round.Lts as lts
-use Rattle.round.proofs.answering.find_all.Reads as find-all-reads
-use Rattle.round.proofs.answering.repeat_all.Reads as repeat-all-reads
-use Rattle.round.proofs.ends.astray.Reads as astray-reads
-use Rattle.round.proofs.telling.hash_all.Reads as hash-all-reads
-use Rattle.round.proofs.telling.list_new.Reads as list-new-reads
-use Rattle.round.proofs.telling.tell.Reads as tell-reads
 
--- src/lib.rt:31:9
+-- what is given, and the answer list that it leaves
+settled : (s : tie.Start) (o : Outcome ℕ)
+    → o ≡ rounding (s .args .image .now) (s .args .bytes .now) (s .args .ends .now) (length (s .args .answers .now) / 4)
+    → (o ≡ rounding (s .args .image .now) (s .args .bytes .now) (s .args .ends .now) (length (s .args .answers .now) / 4))
+    × (leftBy (s .args .image .now) (names (s .args .bytes .now) (s .args .ends .now)) (s .args .answers .now) o
+    ≡ afterRound (s .args .image .now) (s .args .bytes .now) (s .args .ends .now) (s .args .answers .now))
+settled s o e = (e, left (s .args .image .now) (s .args .bytes .now) (s .args .ends .now) (s .args .answers .now) o e)
+
 returns : tie.Need-returns
-returns c = ?
+returns c =
+    let s = c .before .before .before .before .before in
+    settled s (refusal 14) (rounding-by _ _ (s .args .ends .now) _ true _ _ (lt-ltb 512 (length (s .args .ends .now)) (c .if1 .taken)) refl refl)
 
--- src/lib.rt:33:8
 astray-requires : tie.Need-astray-requires
 astray-requires c κs = search needs
 
--- src/lib.rt:34:9
 returns-2 : tie.Need-returns-2
-returns-2 c = ?
+returns-2 c =
+    let s = c .before .before .before .before .before .before .before in
+    let n = le-ltb 512 (length (s .args .ends .now)) (omega (arith, c .before .before .if1 .left)) in
+    settled s (refusal 14)
+    (rounding-by (s .args .image .now) (s .args .bytes .now) (s .args .ends .now) (length (s .args .answers .now) / 4) false true _ n (sym (c .before .astray .ensures) ∙ c .if2 .taken) refl)
 
--- src/lib.rt:37:9
 returns-3 : tie.Need-returns-3
-returns-3 c = ?
+returns-3 c =
+    let s = c .before .before .before .before .before .before .before .before in
+    let n = le-ltb 512 (length (s .args .ends .now)) (omega (arith, c .before .before .before .if1 .left)) in
+    let places = length (s .args .answers .now) / 4 in
+    settled s (refusal 15)
+    (rounding-by (s .args .image .now) (s .args .bytes .now) (s .args .ends .now) places false false true n (sym (c .before .before .astray .ensures) ∙ c .before .if2 .left)
+    (lt-ltb places (length (s .args .ends .now)) (c .if3 .taken)))
 
--- src/lib.rt:40:27
-slice-aggregate-hash-all : tie.Need-slice-aggregate-hash-all
-slice-aggregate-hash-all c = search needs
+answer-all-requires : tie.Need-answer-all-requires
+answer-all-requires c κs =
+    let s = c .before .before .before .before .before .before .before .before .before in
+    (omega (arith, c .before .before .before .before .if1 .left), sym (c .before .before .before .astray .ensures) ∙ c .before .before .if2 .left, omega (arith, c .before .if3 .left))
 
--- src/lib.rt:40:5
-hash-all-requires : tie.Need-hash-all-requires
-hash-all-requires c κs = ?
-
--- src/lib.rt:42:23
-slice-aggregate-tell : tie.Need-slice-aggregate-tell
-slice-aggregate-tell c = search needs
-
--- src/lib.rt:42:30
-slice-aggregate-tell-2 : tie.Need-slice-aggregate-tell-2
-slice-aggregate-tell-2 c = search needs
-
--- src/lib.rt:42:5
-tell-requires : tie.Need-tell-requires
-tell-requires c κs = ?
-
--- src/lib.rt:44:22
-slice-aggregate-list-new : tie.Need-slice-aggregate-list-new
-slice-aggregate-list-new c = search needs
-
--- src/lib.rt:44:34
-slice-aggregate-list-new-2 : tie.Need-slice-aggregate-list-new-2
-slice-aggregate-list-new-2 c = search needs
-
--- src/lib.rt:44:9
-list-new-requires : tie.Need-list-new-requires
-list-new-requires c κs = search needs
-
--- src/lib.rt:45:44
-slice-aggregate-find-all : tie.Need-slice-aggregate-find-all
-slice-aggregate-find-all c = search needs
-
--- src/lib.rt:45:51
-slice-aggregate-find-all-2 : tie.Need-slice-aggregate-find-all-2
-slice-aggregate-find-all-2 c = search needs
-
--- src/lib.rt:45:9
-find-all-requires : tie.Need-find-all-requires
-find-all-requires c κs = ?
-
--- src/lib.rt:46:16
-slice-aggregate-repeat-all : tie.Need-slice-aggregate-repeat-all
-slice-aggregate-repeat-all c = search needs
-
--- src/lib.rt:46:5
-repeat-all-requires : tie.Need-repeat-all-requires
-repeat-all-requires c κs = ?
-
--- src/lib.rt:25:1
 same-length : tie.Need-same-length
 same-length c = search needs
 
--- src/lib.rt:25:1
 returns-4 : tie.Need-returns-4
-returns-4 c = ?
+returns-4 c =
+    let s = c .before .before .before .before .before .before .before .before .before .before .before .before in
+    let image = s .args .image .now in
+    let ends = s .args .ends .now in
+    let places = length (s .args .answers .now) / 4 in
+    let n = le-ltb 512 (length ends) (omega (arith, c .before .before .before .before .before .before .before .if1 .left)) in
+    let all = c .before .before .answer-all in
+    let e =
+          rounding-by image (s .args .bytes .now) ends places false false false n (sym (c .before .before .before .before .before .before .astray .ensures) ∙ c .before .before .before .before .before .if2 .left)
+          (le-ltb places (length ends) (c .before .before .before .before .if3 .left)) in
+    let whole = settled s (value (roundBuckets image (names (s .args .bytes .now) ends))) e in
+    (ap value (all .ensures .0) ∙ whole .0, all .ensures .1 ∙ whole .1)
 
 pub round-spec : {M : Type 1} → statement M
 round-spec =
@@ -94,18 +78,6 @@ round-spec =
     astray-requires
     returns-2
     returns-3
-    slice-aggregate-hash-all
-    hash-all-requires
-    slice-aggregate-tell
-    slice-aggregate-tell-2
-    tell-requires
-    slice-aggregate-list-new
-    slice-aggregate-list-new-2
-    list-new-requires
-    slice-aggregate-find-all
-    slice-aggregate-find-all-2
-    find-all-requires
-    slice-aggregate-repeat-all
-    repeat-all-requires
+    answer-all-requires
     same-length
     returns-4)
