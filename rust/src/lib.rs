@@ -29,6 +29,7 @@ mod order;
 mod page;
 mod read;
 mod refusal;
+mod round;
 mod sheet;
 mod write;
 
@@ -36,6 +37,7 @@ pub use order::{references_first, Order, Pair};
 pub use page::Page;
 pub use read::{Found, Iter, CQDB};
 pub use refusal::Refusal;
+pub use round::Round;
 pub use sheet::{Ids, Sheet};
 pub use write::{CQDBWriter, Flag};
 

@@ -6,7 +6,8 @@ use mathlib.Core.Bool.{Bool, true, false, cond, _||_}
 use mathlib.Core.List.{List}
 use borrow.Author.Tests.{ltb-false, leb-false}
 use lib.Dec.{eqb, ltb, leb}
-use lib.ListN.{length, take, drop}
+use lib.ListN.{length, getD, take, drop}
+use Rattle.jhash.proofs.WordRead.{word-below}
 use Rattle.image.specs.Bytes.{word}
 use Rattle.image.proofs.Bools.{neither-first, neither-second}
 use Rattle.image.specs.Head.{backSizeAt, backOffsetAt, backLeaves}
@@ -81,6 +82,28 @@ named image id s n e = backed (noBack image) refl e
     backed : (t : Bool) → noBack image ≡ t → cond t unnamed (cond (leb (backSizeAt image) id) unnamed (namingAt image at)) ≡ place s n → HasPlace image id s n
     backed true p e = never s n e
     backed false p e = below (leb (backSizeAt image) id) refl p e
+
+-- the length of a name in an image of bytes is below 2^32, since it is an entry's length word minus 1
+pub named-small : (image : List ℕ) (id s n : ℕ) → ((i : ℕ) → getD image i 0 < 256) → naming image id ≡ place s n → n < 4294967296
+unfolding naming namingAt
+named-small image id s n bytes e = backed (noBack image) e
+  where
+    at : ℕ
+    at = word image (backOffsetAt image + 4 * id)
+
+    placed : (t : Bool) → cond t unnamed (place (at + 8) (word image (at + 4) - 1)) ≡ place s n → n < 4294967296
+    placed true e = never s n e
+    placed false e =
+        let en : word image (at + 4) - 1 ≡ n = cc in
+        omega (arith, word-below image (at + 4) bytes)
+
+    below : (t : Bool) → cond t unnamed (namingAt image at) ≡ place s n → n < 4294967296
+    below true e = never s n e
+    below false e = placed (eqb at 0 || broken image at) e
+
+    backed : (t : Bool) → cond t unnamed (cond (leb (backSizeAt image) id) unnamed (namingAt image at)) ≡ place s n → n < 4294967296
+    backed true e = never s n e
+    backed false e = below (leb (backSizeAt image) id) e
 
 -- the part of the image that a reading x gives, by its start and end
 pub named-part : (image other : Slice) (x : Naming) (s n : ℕ) → place s n ≡ x → part image s (s + n - s) ≡ partOr image other x

@@ -5,3 +5,6 @@ pub mod Places
 pub mod News
 pub mod Finds
 pub mod Rounds
+pub mod NameWords
+pub mod Different
+pub mod Theorem

@@ -3,3 +3,4 @@ pub mod Names
 pub mod Telling
 pub mod Round
 pub mod NameRound
+pub mod Theorem

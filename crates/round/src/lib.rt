@@ -16,6 +16,9 @@ use telling::tell;
 mod ends; // ends.rt: the names by their ends
 mod telling; // telling.rt: equal names told
 mod answering; // answering.rt: the answers in their places
+pub mod naming; // naming.rt: name_round
+
+pub use naming::name_round;
 
 // What a round answers: the buckets read over the different names, or the number of the refusal.
 pub enum Rounded {
