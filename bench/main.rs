@@ -1,5 +1,5 @@
 // The benchmarks: ours and the Rust's release build, in one run and one table. The two take turns, and each time is the best of
-// several repetitions.   main [hash | reading | building | page]
+// several repetitions.   main [hash | reading | building | page | round]
 mod building;
 mod hash;
 mod names;
@@ -7,6 +7,7 @@ mod names;
 mod ours;
 mod page;
 mod reading;
+mod round;
 mod table;
 
 fn main() {
@@ -24,5 +25,8 @@ fn main() {
     }
     if wanted("page") {
         page::run();
+    }
+    if wanted("round") {
+        round::run();
     }
 }

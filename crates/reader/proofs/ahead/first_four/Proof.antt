@@ -90,7 +90,10 @@ this-or-requires-3 : tie.Need-this-or-requires-3
 this-or-requires-3 c κs = search needs
 
 add-word-4 : tie.Need-add-word-4
-add-word-4 c = omega (arith, c .before .before .before .before .before .before .before .before .before .before .before .before .before .before .pre .1, c .before .before .before .before .before .before .before .before .before .before .before .before .start .ensures .1)
+add-word-4 c =
+    let s = c .before .before .before .before .before .before .before .before .before .before .before .before .before .before in
+    let of-start = c .before .before .before .before .before .before .before .before .before .before .before .before .start in
+    omega (arith, s .pre .1, s .fits, s .good, of-start .ensures .1)
 
 word-requires-7 : tie.Need-word-requires-7
 word-requires-7 c κs = omega (arith, c .before .before .before .before .before .before .before .before .before .before .before .before .before .before .pre .1, c .before .before .before .before .before .before .before .before .before .before .before .before .start .ensures .1)
