@@ -8,3 +8,4 @@ pub mod Rounds
 pub mod NameWords
 pub mod Different
 pub mod Theorem
+pub mod Rows

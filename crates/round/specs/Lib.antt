@@ -4,3 +4,4 @@ pub mod Telling
 pub mod Round
 pub mod NameRound
 pub mod Theorem
+pub mod Rows
