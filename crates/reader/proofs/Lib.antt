@@ -3,7 +3,6 @@ pub mod Reciprocal
 pub mod Opens
 pub mod Searches
 pub mod Near
-pub mod Glances
 pub mod Meetings
 pub mod Namings
 pub mod Panels

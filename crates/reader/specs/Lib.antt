@@ -1,7 +1,6 @@
 -- What reading gives, as 01 says it, on every slice of bytes.
 pub mod Open
 pub mod Lookup
-pub mod Glances
 pub mod Slices
 pub mod Meets
 pub mod Naming

@@ -2,8 +2,7 @@
 // fixes for the bytes that it is lent, whether an open accepted them or not.
 mod start; // start.rt: the bucket that a search begins with
 pub mod opening; // opening.rt: open
-pub mod lookup; // lookup.rt: to_id, to_id_by
-pub mod ahead; // ahead.rt: look_ahead, to_id_from: the first buckets of many searches
+pub mod lookup; // lookup.rt: to_id
 mod meeting; // meeting.rt: the search of the home check, past an equal name
 pub mod naming; // naming.rt: to_str, name, name_or
 pub mod panel; // panel.rt: panel, panel_place, readings_agree
@@ -38,13 +37,6 @@ pub struct Found {
 pub enum ToId {
     Found(Found),
     Nothing { buckets: u32 },
-}
-
-// What the first buckets of a search tell: after how many of them an empty one, or one with the hash, is met, and the offset in
-// it. 0 buckets tell nothing.
-pub struct Glance {
-    pub buckets: u32,
-    pub offset: u32,
 }
 
 // What an entry with the wanted name tells: its id, and the offset at which it stands.

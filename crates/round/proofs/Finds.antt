@@ -1,19 +1,17 @@
 -- The lookups of listed names: their answers, and the buckets that they read. Assumes nothing.
 use Prim.Native.Nat.{ℕ, zero, suc, _+_, _*_, _≤_, _<_}
 use native.Mathlib.Omega.{arith}
-use native.Mathlib.Decide.{ℕ-discrete, decLt}
-use mathlib.Core.Path.{_≡_, refl, sym, ap, subst, _∙_}
+use native.Mathlib.Decide.{decLt}
+use mathlib.Core.Path.{_≡_, refl, sym, ap, _∙_}
 use mathlib.Core.List.{List, [], _∷_, map}
-use lib.ListN.{length, getD, set, take, drop, length-take, drop-of-length-le}
-use lib.Seq.{sets, drop-cons, getD-take, getD-set-same, getD-set-other}
+use lib.ListN.{length, getD, take, drop, length-take, drop-of-length-le}
+use lib.Seq.{sets, drop-cons, getD-take}
 use Rattle.reader.specs.Lookup.{Lookup, found, nothing, lookupBy, lookup}
 use Rattle.reader.specs.Cases.{reads, lookupOf}
 use Rattle.reader.specs.declared.ToId.{ToId}
-use Rattle.reader.specs.declared.Glance.{Glance}
-use Rattle.reader.specs.Glances.{GlanceOf}
 use Rattle.reader.proofs.Searches.{lookup-own}
 use Rattle.round.specs.Round.{answerWords, bucketsOf}
-use Rattle.round.specs.Telling.{nth, key, Glances, Has}
+use Rattle.round.specs.Telling.{nth, key, Has}
 use Rattle.round.proofs.Tells.{key-short}
 use Rattle.round.proofs.Places.{has-after}
 
@@ -69,25 +67,3 @@ held-turn image xs list l x i z e own room all y h =
       where
         at : y ≡ x → getD list y 0 ≡ i
         at q = ap (λ (k : ℕ). getD list k 0) q ∙ sym e
-
--- one more glance
-pub glances-turn : (image keys list : List ℕ) (x : ℕ) (buckets offsets : List ℕ) (g : Glance) → x < length buckets → x < length offsets
-    → GlanceOf image (getD keys (getD list x 0) 0) g → Glances image keys list x buckets offsets
-    → Glances image keys list (x + 1) (set buckets x (g .buckets)) (set offsets x (g .offset))
-glances-turn image keys list x buckets offsets g hb ho told all y h =
-    elim (ℕ-discrete y x) [
-      | yes p ↦
-          subst
-          (λ (j : ℕ). GlanceOf image (getD keys (getD list j 0) 0) (record { buckets = getD (set buckets x (g .buckets)) j 0; offset = getD (set offsets x (g .offset)) j 0 }))
-          (sym p)
-          (subst (λ (k : Glance). GlanceOf image (getD keys (getD list x 0) 0) k) (sym (at-x (getD-set-same buckets x (g .buckets) 0 hb) (getD-set-same offsets x (g .offset) 0 ho))) told)
-      | no p ↦
-          subst (λ (k : Glance). GlanceOf image (getD keys (getD list y 0) 0) k)
-          (sym (λ i. record { buckets = getD-set-other buckets x y (g .buckets) 0 p i; offset = getD-set-other offsets x y (g .offset) 0 p i })) (all y (less p))
-    ]
-  where
-    at-x : {b o : ℕ} → b ≡ g .buckets → o ≡ g .offset → _≡_ {A = Glance} (record { buckets = b; offset = o }) g
-    at-x eb eo = λ i. record { buckets = eb i; offset = eo i }
-
-    less : (y ≡ x → ⊥) → y < x
-    less p = elim (decLt y x) [ yes u ↦ u | no u ↦ absurd (p (omega arith)) ]

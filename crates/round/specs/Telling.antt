@@ -7,7 +7,6 @@ use lib.ListN.{length, getD}
 use lib.Dec.{eqb, ltb}
 use Rattle.jhash.specs.NameHash.{hashOf}
 use Rattle.image.specs.Bytes.{keep, range}
-use Rattle.reader.specs.Glances.{GlanceOf}
 
 -- where the i-th name begins
 abbrev pub beginOf : List ℕ → ℕ → ℕ
@@ -55,11 +54,6 @@ isNew equals i = eqb (getD equals i 0) 0
 
 unfoldable pub news : List ℕ → ℕ → List ℕ
 news equals n = keep (isNew equals) (range 0 n)
-
--- glances at the first m listed names, their buckets and offsets in two lists
-abbrev pub Glances : List ℕ → List ℕ → List ℕ → ℕ → List ℕ → List ℕ → Type 0
-Glances image keys list m buckets offsets = (x : ℕ) → x < m
-    → GlanceOf image (getD keys (getD list x 0) 0) (record { buckets = getD buckets x 0; offset = getD offsets x 0 })
 
 -- a place holds these words
 abbrev pub Has : List ℕ → ℕ → List ℕ → Type 0

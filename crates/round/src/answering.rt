@@ -9,12 +9,10 @@ ghost use Rattle.reader.specs.Cases.{reads, lookupOf};
 ghost use Rattle.reader.specs.Lookup.{lookup};
 ghost use Rattle.round.specs.Names.{names, astray};
 ghost use Rattle.round.specs.Round.{answerWords, bucketsOf};
-ghost use Rattle.round.specs.Telling.{nth, Keys, Glances, Has, Kept, Begun};
+ghost use Rattle.round.specs.Telling.{nth, Keys, Has, Kept, Begun};
 use super::ends::name_of;
-use reader::Glance;
 use reader::ToId;
-use reader::ahead::look_ahead;
-use reader::ahead::to_id_from;
+use reader::lookup::to_id_by;
 
 // Four words stored at a place.
 pub(crate) fn put_words(answers: &mut [u32], at: usize, found: u32, id: u32, buckets: u32, offset: u32)
@@ -57,28 +55,6 @@ fn copy_answer(answers: &mut [u32], from: usize, at: usize)
     put_words(&mut *answers, at, found, id, buckets, offset);
 }
 
-// A glance at the first buckets of each of the first m listed names. None waits for another, so they are read side by side.
-pub(crate) fn glance_all(
-    image: &[u8],
-    keys: &[u32],
-    list: &[u16],
-    m: usize,
-    buckets: &mut [u32],
-    offsets: &mut [u32],
-)
-    requires { ⌜ (m ≤ length (now list)) × (m ≤ length (now buckets)) × (m ≤ length (now offsets)) × ((x : ℕ) → x < m → getD (now list) x 0 < length (now keys)) ⌝ }
-    ensures { λ _. ⌜ Glances (now (image .entry)) (now (keys .entry)) (now (list .entry)) m (now (buckets .exit)) (now (offsets .exit)) ⌝ }
-{
-    let mut x: usize = 0;
-    while x < m {
-        let i = list[x] as usize;
-        let glance = look_ahead(image, keys[i]);
-        buckets[x] = glance.buckets;
-        offsets[x] = glance.offset;
-        x += 1;
-    }
-}
-
 // The lookups of the first m listed names, each stored in its place. Gives the buckets that they read.
 pub(crate) fn find_all(
     image: &[u8],
@@ -87,11 +63,9 @@ pub(crate) fn find_all(
     keys: &[u32],
     list: &[u16],
     m: usize,
-    buckets: &[u32],
-    offsets: &[u32],
     answers: &mut [u32],
 ) -> u64
-    requires { ⌜ (astray (length (now bytes)) 0 (now ends) ≡ false) × (length (now ends) ≤ length (now keys)) × (4 * length (now ends) ≤ length (now answers)) × (m ≤ 512) × (m ≤ length (now list)) × ((x : ℕ) → x < m → getD (now list) x 0 < length (now ends)) × Keys (names (now bytes) (now ends)) (now keys) × (m ≤ length (now buckets)) × (m ≤ length (now offsets)) × Glances (now image) (now keys) (now list) m (now buckets) (now offsets) ⌝ }
+    requires { ⌜ (astray (length (now bytes)) 0 (now ends) ≡ false) × (length (now ends) ≤ length (now keys)) × (4 * length (now ends) ≤ length (now answers)) × (m ≤ 512) × (m ≤ length (now list)) × ((x : ℕ) → x < m → getD (now list) x 0 < length (now ends)) × Keys (names (now bytes) (now ends)) (now keys) ⌝ }
     ensures count { λ r. ⌜ r ≡ bucketsOf (now (image .entry)) (map (nth (names (now (bytes .entry)) (now (ends .entry)))) (take m (now (list .entry)))) ⌝ }
     ensures stored { λ _. ⌜ ((x : ℕ) → x < m → Has (now (answers .exit)) (getD (now (list .entry)) x 0) (answerWords (lookup (now (image .entry)) (nth (names (now (bytes .entry)) (now (ends .entry))) (getD (now (list .entry)) x 0))))) ⌝ }
     ensures kept { λ _. ⌜ Kept (now (answers .entry)) (length (now (ends .entry))) (now (answers .exit)) ⌝ }
@@ -100,11 +74,7 @@ pub(crate) fn find_all(
     let mut x: usize = 0;
     while x < m {
         let i = list[x] as usize;
-        let glance = Glance {
-            buckets: buckets[x],
-            offset: offsets[x],
-        };
-        let answer = to_id_from(image, name_of(bytes, ends, i), keys[i], glance);
+        let answer = to_id_by(image, name_of(bytes, ends, i), keys[i]);
         sum += put_answer(&mut *answers, 4 * i, answer) as u64;
         x += 1;
     }

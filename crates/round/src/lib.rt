@@ -7,7 +7,6 @@ ghost use lib.ListN.{length, drop};
 ghost use Rattle.round.specs.Names.{names, astray};
 ghost use Rattle.round.specs.Round.{roundWords, roundBuckets, rounding, afterRound, roundedOf};
 use answering::find_all;
-use answering::glance_all;
 use answering::repeat_all;
 use ends::astray;
 use telling::hash_all;
@@ -40,20 +39,7 @@ fn answer_all(image: &[u8], bytes: &[u8], ends: &[u64], answers: &mut [u32]) -> 
     tell(bytes, ends, &keys, &mut equals);
     let mut list: [u16; 512] = [0; 512];
     let m = list_new(&equals, n, &mut list);
-    let mut buckets: [u32; 512] = [0; 512];
-    let mut offsets: [u32; 512] = [0; 512];
-    glance_all(image, &keys, &list, m, &mut buckets, &mut offsets);
-    let sum = find_all(
-        image,
-        bytes,
-        ends,
-        &keys,
-        &list,
-        m,
-        &buckets,
-        &offsets,
-        &mut *answers,
-    );
+    let sum = find_all(image, bytes, ends, &keys, &list, m, &mut *answers);
     repeat_all(&equals, n, &mut *answers);
     sum
 }

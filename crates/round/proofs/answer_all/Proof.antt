@@ -34,63 +34,26 @@ slice-aggregate-list-new-2 c = search needs
 list-new-requires : tie.Need-list-new-requires
 list-new-requires c κs = search needs
 
-slice-aggregate-glance-all : tie.Need-slice-aggregate-glance-all
-slice-aggregate-glance-all c = search needs
-
-slice-aggregate-glance-all-2 : tie.Need-slice-aggregate-glance-all-2
-slice-aggregate-glance-all-2 c = search needs
-
-slice-aggregate-glance-all-3 : tie.Need-slice-aggregate-glance-all-3
-slice-aggregate-glance-all-3 c = search needs
-
-slice-aggregate-glance-all-4 : tie.Need-slice-aggregate-glance-all-4
-slice-aggregate-glance-all-4 c = search needs
-
-glance-all-requires : tie.Need-glance-all-requires
-glance-all-requires c κs =
-    let s = c .before .before .before .before .before .before .before .before .before .before .before .before .before .before .before .before .before .before .before in
-    let of-list = c .before .before .before .before .before .list-new in
-    let equals = c .before .before .before .before .before .before .before .before .before .tell .last .1 .1 .1 .0 in
-    let list = of-list .last .1 .1 .0 in
-    let room : of-list .result ≤ length list = omega (arith, of-list .kept, length-replicate {A = ℕ} 512 0, of-list .ensures .0, s .pre .0) in
-    let wide = c .before .before .before .before .before .before .before .before .before .before .before .before .before .hash-all .kept in (
-      room,
-      omega (arith, of-list .ensures .0, s .pre .0),
-      omega (arith, of-list .ensures .0, s .pre .0),
-      λ x h. omega (arith, listed-below equals list (length (s .args .ends .now)) (of-list .result) room (of-list .ensures .1) x h, wide, length-replicate {A = ℕ} 512 0, s .pre .0),
-    )
-
 slice-aggregate-find-all : tie.Need-slice-aggregate-find-all
 slice-aggregate-find-all c = search needs
 
 slice-aggregate-find-all-2 : tie.Need-slice-aggregate-find-all-2
 slice-aggregate-find-all-2 c = search needs
 
-slice-aggregate-find-all-3 : tie.Need-slice-aggregate-find-all-3
-slice-aggregate-find-all-3 c = search needs
-
-slice-aggregate-find-all-4 : tie.Need-slice-aggregate-find-all-4
-slice-aggregate-find-all-4 c = search needs
-
 find-all-requires : tie.Need-find-all-requires
 find-all-requires c κs =
-    let s = c .before .before .before .before .before .before .before .before .before .before .before .before .before .before .before .before .before .before .before .before .before .before .before .before .before .before .before in
-    let of-list = c .before .before .before .before .before .before .before .before .before .before .before .before .before .list-new in
-    let of-glance = c .before .before .before .before .before .before .before .glance-all in
-    let equals = c .before .before .before .before .before .before .before .before .before .before .before .before .before .before .before .before .before .tell .last .1 .1 .1 .0 in
+    let s = c .before .before .before .before .before .before .before .before .before .before .before .before .before .before .before .before .before .before in
+    let of-list = c .before .before .before .before .list-new in
+    let equals = c .before .before .before .before .before .before .before .before .tell .last .1 .1 .1 .0 in
     let list = of-list .last .1 .1 .0 in
-    let small : of-list .result ≤ 512 = omega (arith, of-list .ensures .0, s .pre .0) in
-    let room : of-list .result ≤ length list = omega (arith, of-list .kept, length-replicate {A = ℕ} 512 0, small) in (
+    let room : of-list .result ≤ length list = omega (arith, of-list .kept, length-replicate {A = ℕ} 512 0, of-list .ensures .0, s .pre .0) in (
       s .pre .1,
-      omega (arith, c .before .before .before .before .before .before .before .before .before .before .before .before .before .before .before .before .before .before .before .before .before .hash-all .kept, length-replicate {A = ℕ} 512 0, s .pre .0),
+      omega (arith, c .before .before .before .before .before .before .before .before .before .before .before .before .hash-all .kept, length-replicate {A = ℕ} 512 0, s .pre .0),
       s .pre .2,
-      small,
+      omega (arith, of-list .ensures .0, s .pre .0),
       room,
       listed-below equals list (length (s .args .ends .now)) (of-list .result) room (of-list .ensures .1),
-      c .before .before .before .before .before .before .before .before .before .before .before .before .before .before .before .before .before .before .before .before .before .hash-all .ensures,
-      omega (arith, of-glance .kept, length-replicate {A = ℕ} 512 0, small),
-      omega (arith, of-glance .kept, length-replicate {A = ℕ} 512 0, small),
-      of-glance .ensures,
+      c .before .before .before .before .before .before .before .before .before .before .before .before .hash-all .ensures,
     )
 
 slice-aggregate-repeat-all : tie.Need-slice-aggregate-repeat-all
@@ -98,10 +61,10 @@ slice-aggregate-repeat-all c = search needs
 
 repeat-all-requires : tie.Need-repeat-all-requires
 repeat-all-requires c κs =
-    let s = c .before .before .before .before .before .before .before .before .before .before .before .before .before .before .before .before .before .before .before .before .before .before .before .before .before .before .before .before .before .before .before .before in (
-      omega (arith, c .before .before .before .before .before .before .before .before .before .before .before .before .before .before .before .before .before .before .before .before .before .before .tell .kept, length-replicate {A = ℕ} 512 0, s .pre .0),
+    let s = c .before .before .before .before .before .before .before .before .before .before .before .before .before .before .before .before .before .before .before .before .before .before .before in (
+      omega (arith, c .before .before .before .before .before .before .before .before .before .before .before .before .before .tell .kept, length-replicate {A = ℕ} 512 0, s .pre .0),
       omega (arith, c .before .before .before .before .find-all .kept, s .pre .2),
-      λ i h. c .before .before .before .before .before .before .before .before .before .before .before .before .before .before .before .before .before .before .before .before .before .before .tell .ensures i h .below,
+      λ i h. c .before .before .before .before .before .before .before .before .before .before .before .before .before .tell .ensures i h .below,
     )
 
 same-length : tie.Need-same-length
@@ -109,19 +72,19 @@ same-length c = search needs
 
 returns : tie.Need-returns
 returns c =
-    let s = c .before .before .before .before .before .before .before .before .before .before .before .before .before .before .before .before .before .before .before .before .before .before .before .before .before .before .before .before .before .before .before .before .before .before .before in
+    let s = c .before .before .before .before .before .before .before .before .before .before .before .before .before .before .before .before .before .before .before .before .before .before .before .before .before .before in
     let image = s .args .image .now in
     let xs = names (s .args .bytes .now) (s .args .ends .now) in
     let size = length-names (s .args .bytes .now) (s .args .ends .now) in
-    let of-tell = c .before .before .before .before .before .before .before .before .before .before .before .before .before .before .before .before .before .before .before .before .before .before .before .before .before .tell in
-    let of-list = c .before .before .before .before .before .before .before .before .before .before .before .before .before .before .before .before .before .before .before .before .before .list-new in
+    let of-tell = c .before .before .before .before .before .before .before .before .before .before .before .before .before .before .before .before .tell in
+    let of-list = c .before .before .before .before .before .before .before .before .before .before .before .before .list-new in
     let find = c .before .before .before .before .before .before .before .find-all in
     let again = c .before .before .repeat-all in
     let n = length (s .args .ends .now) in
     let m = of-list .result in
     let equals = of-tell .last .1 .1 .1 .0 in
     let list = of-list .last .1 .1 .0 in
-    let after = find .last .1 .1 .1 .1 .1 .1 .1 .1 .0 in
+    let after = find .last .1 .1 .1 .1 .1 .1 .0 in
     let last = again .last .1 .1 .0 in
     let room : m ≤ length list = omega (arith, of-list .kept, length-replicate {A = ℕ} 512 0, of-list .ensures .0, s .pre .0) in
     let e₁ : length after ≡ length (s .args .answers .now) = omega (arith, find .kept) in
@@ -143,15 +106,8 @@ answer-all-spec =
     slice-aggregate-list-new
     slice-aggregate-list-new-2
     list-new-requires
-    slice-aggregate-glance-all
-    slice-aggregate-glance-all-2
-    slice-aggregate-glance-all-3
-    slice-aggregate-glance-all-4
-    glance-all-requires
     slice-aggregate-find-all
     slice-aggregate-find-all-2
-    slice-aggregate-find-all-3
-    slice-aggregate-find-all-4
     find-all-requires
     slice-aggregate-repeat-all
     repeat-all-requires
