@@ -46,6 +46,8 @@ static void check_images(void) {
     expect(cqdb_put(&w, NULL, 0, NULL, 0, 0) == CQDB_UNFIT, "put");
     expect(cqdb_close(&w, NULL, 0).refusal == CQDB_UNFIT, "close");
     expect(cqdb_ours(NULL, 0) == 0, "ours");
+    expect(cqdb_round(NULL, 0, NULL, 0, NULL, 0, NULL, 0).refusal == 0, "a round of no names");
+    expect(cqdb_name_round(NULL, 0, NULL, 0, NULL, 0) == 0, "a round of no ids");
     cqdb_date date = {2024, 2, 29};
     expect(cqdb_name_on(NULL, 0, 7, date, NULL, 0).refusal == 0 && cqdb_name_on(NULL, 0, 7, date, NULL, 0).found == 0, "name_on");
     expect(cqdb_load(7, NULL, 0).refusal == CQDB_TOO_SHORT, "load");

@@ -39,12 +39,14 @@ mod page;
 mod puts;
 mod read;
 mod refusal;
+mod round;
 mod sheet;
 mod stream;
 mod write;
 
 #[doc = include_str!("../MOVING.md")]
 pub mod moving {}
+
 pub use archive::{Date, Window};
 pub use bundle::{Bundle, Images};
 pub use flag::Flag;
@@ -55,6 +57,7 @@ pub use page::Page;
 pub use puts::Puts;
 pub use read::{Found, Iter, CQDB};
 pub use refusal::Refusal;
+pub use round::Round;
 pub use sheet::{Ids, Sheet};
 pub use stream::CQDBWriter;
 pub use write::MemoryWriter;

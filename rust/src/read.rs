@@ -113,7 +113,7 @@ impl<'a> CQDB<'a> {
         refusal::or(answer.refusal, self.part(place))
     }
 
-    fn part(&self, answer: StrAnswer) -> Option<&'a BStr> {
+    pub(crate) fn part(&self, answer: StrAnswer) -> Option<&'a BStr> {
         let (start, len) = (answer.start as usize, answer.len as usize);
         (answer.found == 1).then(|| BStr::new(&self.image[start..start + len]))
     }
