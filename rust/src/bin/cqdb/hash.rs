@@ -21,9 +21,11 @@ digits are the number of the name's table.
 
 fn run(args: Args) -> Outcome {
     let mut out = Output::new();
-    questions::each(&args, 0, |name| {
-        let hash = jhash(name, 0).map_err(|refusal| Failure::new(files::refusal_in_words(refusal)))?;
-        out.line(&[format!("{hash:08x} ").as_bytes(), name], args.end())
+    questions::rounds(&args, 0, |names| {
+        names.iter().try_for_each(|name| {
+            let hash = jhash(name, 0).map_err(|refusal| Failure::new(files::refusal_in_words(refusal)))?;
+            out.line(&[format!("{hash:08x} ").as_bytes(), name], args.end())
+        })
     })?;
     out.finish(Answer::Yes)
 }

@@ -23,16 +23,23 @@ fn run(args: Args) -> Outcome {
     let db = files::open(args.path(0), &bytes)?;
     let mut out = Output::new();
     let mut all = true;
-    questions::each(&args, 1, |word| {
-        let id = lines::id_of(word)
-            .ok_or_else(|| Failure::new(format!("{} is no decimal id up to 4294967295", lines::shown(word))))?;
-        match db.to_str(id) {
-            Some(name) => list::entry(&mut out, &args, id, name),
-            None => {
-                all = false;
-                out.tell(&format!("name: {} has no name for id {id}", args.path(0).display()))
+    questions::rounds(&args, 1, |words| {
+        let ids = words.iter().map(|word| id_of(word)).collect::<Result<Vec<u32>, Failure>>()?;
+        let names = db.name_round(&ids).map_err(|refusal| Failure::new(files::refusal_in_words(refusal)))?;
+        for (id, name) in ids.into_iter().zip(names) {
+            match name {
+                Some(name) => list::entry(&mut out, &args, id, name)?,
+                None => {
+                    all = false;
+                    out.tell(&format!("name: {} has no name for id {id}", args.path(0).display()))?;
+                }
             }
         }
+        Ok(())
     })?;
     out.finish(all)
+}
+
+fn id_of(word: &[u8]) -> Result<u32, Failure> {
+    lines::id_of(word).ok_or_else(|| Failure::new(format!("{} is no decimal id up to 4294967295", lines::shown(word))))
 }
