@@ -180,3 +180,21 @@ fn progress_on_a_terminal() {
     // No terminal, no progress.
     folder.shell("bash run").gives(0).tells("");
 }
+
+/// From a terminal each line is answered at once, before the next one comes.
+#[test]
+fn questions_from_a_terminal() {
+    let folder = Folder::new();
+    if folder.shell("command -v script").status != Some(0) {
+        eprintln!("skipped: there is no program 'script' to give a terminal");
+        return;
+    }
+    folder.image("image", "0 north wall\n1 crane\n");
+    folder.write("asks", "(sleep 0.3; echo crane; sleep 2; echo 'north wall'; sleep 0.3; printf '\\004')");
+    let ran = folder.shell("bash asks | script -qec '\"$CQDB\" id image' /dev/null").gives(0);
+    let text = String::from_utf8_lossy(&ran.out).replace('\r', "");
+    let at = |what: &str| text.find(what).unwrap_or_else(|| panic!("{what} is missing: {text:?}"));
+    assert!(at("lines are read from the terminal") < at("1 crane") && at("1 crane") < at("0 north wall"), "{text:?}");
+    // What is typed is shown by the terminal: the first answer comes before the second name.
+    assert!(at("1 crane") < text.rfind("\nnorth wall").unwrap_or(usize::MAX), "{text:?}");
+}

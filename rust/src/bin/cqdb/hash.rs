@@ -25,7 +25,8 @@ fn run(args: Args) -> Outcome {
         names.iter().try_for_each(|name| {
             let hash = jhash(name, 0).map_err(|refusal| Failure::new(files::refusal_in_words(refusal)))?;
             out.line(&[format!("{hash:08x} ").as_bytes(), name], args.end())
-        })
+        })?;
+        out.flush()
     })?;
     out.finish(Answer::Yes)
 }

@@ -35,7 +35,7 @@ fn run(args: Args) -> Outcome {
                 }
             }
         }
-        Ok(())
+        out.flush()
     })?;
     out.finish(all)
 }

@@ -87,16 +87,21 @@ impl Output {
         self.line(&[line.as_bytes()], b'\n')
     }
 
+    /// Lets what was printed so far go out.
+    pub fn flush(&mut self) -> Result<(), Failure> {
+        self.0.flush().map_err(failed)
+    }
+
     /// A line for people, behind what was printed so far.
     pub fn tell(&mut self, what: &str) -> Result<(), Failure> {
-        self.0.flush().map_err(failed)?;
+        self.flush()?;
         tell(what);
         Ok(())
     }
 
     /// The answer, once all is written.
     pub fn finish(mut self, answer: impl Into<Answer>) -> Outcome {
-        self.0.flush().map_err(failed)?;
+        self.flush()?;
         Ok(answer.into())
     }
 }
