@@ -1,5 +1,5 @@
 // The benchmarks: ours and the Rust's release build, or a copy for bundles, in one run and one table. The two take turns, and each
-// time is the best of several repetitions.   main [hash | reading | building | repeats | page | bundle | load | origin]
+// time is the best of several repetitions.   main [hash | reading | building | repeats | page | bundle | load | origin | round]
 mod building;
 mod bundle;
 mod hash;
@@ -11,6 +11,7 @@ mod ours;
 mod page;
 mod reading;
 mod repeats;
+mod round;
 mod table;
 
 fn main() {
@@ -40,5 +41,8 @@ fn main() {
     }
     if wanted("origin") {
         origin::run();
+    }
+    if wanted("round") {
+        round::run();
     }
 }
