@@ -60,9 +60,9 @@ extern "C" {
 #define CQDB_NO_SUCH_IMAGE 11u   /* bundle_open: the file ends at or before the position */
 #define CQDB_PAGE_TOO_LONG 12u   /* page: it has more bytes than the output */
 #define CQDB_ZERO_BYTE 13u       /* put: the name has a zero byte */
-#define CQDB_REPEATED 16u        /* put: repeats are off, and an earlier entry has this name */
 #define CQDB_ROUND_UNFIT 14u     /* round, name_round: more than 512 names or ids, or ends that fall or pass the names */
 #define CQDB_ANSWERS_TOO_FEW 15u /* round, name_round: fewer answer places than names or ids */
+#define CQDB_REPEATED 16u        /* put: repeats are off, and an earlier entry has this name */
 #define CQDB_TOO_FEW_BYTES 19u   /* sheet_read: the file ends before its third section does */
 #define CQDB_LEFT_OVER_BYTES 20u /* sheet_read: bytes follow the third section */
 #define CQDB_SHEET_TOO_LARGE 21u /* sheet_write: a list has more than 65,535 ids, or the buffer is too short */
