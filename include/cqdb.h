@@ -49,6 +49,8 @@ extern "C" {
 #define CQDB_TOO_FEW_BYTES 19u   /* sheet_read: the file ends before its third section does */
 #define CQDB_LEFT_OVER_BYTES 20u /* sheet_read: bytes follow the third section */
 #define CQDB_SHEET_TOO_LARGE 21u /* sheet_write: a list has more than 65,535 ids, or the buffer is too short */
+#define CQDB_NO_SUCH_DATE 22u    /* name_on: a date, the one asked about or a window's, does not exist or is out of bounds */
+#define CQDB_NOT_BEFORE_END 23u  /* name_on: a window does not start before its end */
 
 /* The name hash. */
 
@@ -373,6 +375,39 @@ typedef struct {
    keep their content. 157,720 bytes have room for all 4,096 entries, whatever the seed. Refusal: 1 for a buffer under 2,072
    bytes, and nothing is written. */
 cqdb_load_answer cqdb_load(uint32_t seed, uint8_t *buf, size_t len);
+
+/* Names with a season. Some prisms stand only between two dates. Takes any bytes as an image, opened or not. */
+
+/* A date of the Gregorian calendar: the years 1900 to 2199, months 1 to 12, days from 1 on. As the end date of a window also
+   1 January 2200. */
+typedef struct {
+    uint16_t year;
+    uint8_t month;
+    uint8_t day;
+} cqdb_date;
+
+/* The id's prism stands from the first date on; on the end date it stands no longer. */
+typedef struct {
+    uint32_t id;
+    cqdb_date first;
+    cqdb_date end;
+} cqdb_window;
+
+/* refusal is 0 when the call was accepted. found is 1 or 0; the name is the len bytes from image + start on, which lie in the
+   image. found, len and start are 0 where there is no name on that date, and where the call was refused. */
+typedef struct {
+    uint32_t refusal;
+    uint32_t found;
+    uint32_t len;
+    uint64_t start;
+} cqdb_on_answer;
+
+/* The place of an id's name on a date: that of cqdb_to_str where some of the n windows has this id and holds the date, first
+   date included, end date not; otherwise nothing. All windows are checked, also those of other ids and also where the id has
+   no name. Refusals: 22 when a date does not exist or is out of bounds, the one asked about or one of a window; 23 when none is,
+   and a window does not start before its end. Changes nothing, and reads each window once. windows is not NULL, also where n
+   is 0. */
+cqdb_on_answer cqdb_name_on(const uint8_t *image, size_t len, uint32_t id, cqdb_date date, const cqdb_window *windows, size_t n);
 
 #ifdef __cplusplus
 }

@@ -132,6 +132,39 @@ pub struct LoadAnswer {
     pub accepted: u32,
 }
 
+/// A date of the Gregorian calendar.
+#[repr(C)]
+#[derive(Clone, Copy, Debug, PartialEq, Eq, Hash)]
+pub struct Date {
+    /// 1900 to 2199; 2200 only for 1 January as the end date of a window.
+    pub year: u16,
+    /// 1 to 12.
+    pub month: u8,
+    /// From 1 on, to the month's length.
+    pub day: u8,
+}
+
+/// A time in which the prism of an id stands.
+#[repr(C)]
+#[derive(Clone, Copy, Debug, PartialEq, Eq, Hash)]
+pub struct Window {
+    /// The id of the prism.
+    pub id: u32,
+    /// The first date on which it stands.
+    pub first: Date,
+    /// The date from which on it stands no longer.
+    pub end: Date,
+}
+
+#[repr(C)]
+#[derive(Clone, Copy, Debug, PartialEq, Eq)]
+pub struct OnAnswer {
+    pub refusal: u32,
+    pub found: u32,
+    pub len: u32,
+    pub start: u64,
+}
+
 /// The table counts of a writer.
 pub type Counts = [u32; 256];
 
@@ -179,6 +212,7 @@ extern "C" {
     ) -> BundleAppendAnswer;
     fn cqdb_bundle_count(file: *const u8, len: usize) -> BundleCountAnswer;
     fn cqdb_load(seed: u32, buf: *mut u8, len: usize) -> LoadAnswer;
+    fn cqdb_name_on(image: *const u8, len: usize, id: u32, date: Date, windows: *const Window, n: usize) -> OnAnswer;
 }
 
 /// The hash of a name with a start value, or the refusal.
@@ -284,4 +318,9 @@ pub fn bundle_count(file: &[u8]) -> BundleCountAnswer {
 /// The load of a seed in the first bytes of `buf`, and the number of its entries; or the refusal.
 pub fn load(seed: u32, buf: &mut [u8]) -> LoadAnswer {
     unsafe { cqdb_load(seed, buf.as_mut_ptr(), buf.len()) }
+}
+
+/// The place of an id's name on a date, or nothing, or the refusal.
+pub fn name_on(image: &[u8], id: u32, date: Date, windows: &[Window]) -> OnAnswer {
+    unsafe { cqdb_name_on(image.as_ptr(), image.len(), id, date, windows.as_ptr(), windows.len()) }
 }

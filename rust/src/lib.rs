@@ -35,6 +35,7 @@ mod refusal;
 mod sheet;
 mod write;
 
+pub use archive::{Date, Window};
 pub use bundle::{Bundle, Images};
 pub use load::{load, load_in};
 pub use order::{references_first, Order, Pair};

@@ -2,7 +2,7 @@
 use std::fmt;
 use std::iter::FusedIterator;
 
-use crate::archive::{self, StrAnswer};
+use crate::archive::{self, Date, StrAnswer, Window};
 use crate::page::Page;
 use crate::refusal::{self, Refusal};
 
@@ -71,6 +71,32 @@ impl<'a> CQDB<'a> {
     /// [`CQDBWriter`](crate::CQDBWriter) makes.
     pub fn readings_agree(&self) -> bool {
         archive::readings_agree(self.image) == 1
+    }
+
+    /// The name of an id on a date: [`to_str`](CQDB::to_str)'s where some window of this id holds the date, first date
+    /// included, end date not; otherwise none. All windows are checked, also those of other ids. Refused with
+    /// [`Refusal::NoSuchDate`] where a date does not exist or is out of bounds, then with [`Refusal::NotBeforeEnd`] where a
+    /// window does not start before its end.
+    ///
+    /// ```
+    /// use cqdb::{CQDBWriter, Date, Window, CQDB};
+    ///
+    /// # fn main() -> std::io::Result<()> {
+    /// let mut writer = CQDBWriter::new();
+    /// writer.put("crane", 1)?;
+    /// let image = writer.finish()?;
+    /// let db = CQDB::new(&image)?;
+    /// let date = |month, day| Date { year: 2024, month, day };
+    /// let spring = Window { id: 1, first: date(3, 1), end: date(6, 1) };
+    /// assert_eq!(db.name_on(1, date(5, 31), &[spring])?, Some(&b"crane"[..]));
+    /// assert_eq!(db.name_on(1, date(6, 1), &[spring])?, None);
+    /// # Ok(())
+    /// # }
+    /// ```
+    pub fn name_on(&self, id: u32, date: Date, windows: &[Window]) -> Result<Option<&'a [u8]>, Refusal> {
+        let answer = archive::name_on(self.image, id, date, windows);
+        let place = StrAnswer { found: answer.found, len: answer.len, start: answer.start };
+        refusal::or(answer.refusal, self.part(place))
     }
 
     fn part(&self, answer: StrAnswer) -> Option<&'a [u8]> {

@@ -64,6 +64,10 @@ refusals! {
     LeftOverBytes = 20, "invalid round sheet, left-over bytes";
     /// A list of a round sheet has more than 65,535 ids, or its buffer is too short.
     SheetTooLarge = 21, "no room: a list of the round sheet is too long, or its buffer too short";
+    /// A date, the one asked about or a window's, does not exist or is out of bounds.
+    NoSuchDate = 22, "a date does not exist, or is out of bounds";
+    /// A window does not start before its end.
+    NotBeforeEnd = 23, "a window does not start before its end";
 }
 
 impl Refusal {

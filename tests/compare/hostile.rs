@@ -1,7 +1,7 @@
 // Hostile calls, to be run under valgrind: damaged images, random bytes, records that do not fit, broken buffers, pairs and rounds
-// of any ids, round sheets cut anywhere, broken bundles, lists and outputs without room, loads in buffers of any length. Everything lent stands in a heap block of
-// exactly its length, so that valgrind reports a read or write outside it. A refusal changes no byte, reading changes none, and
-// every place in an answer lies in what was lent.
+// of any ids, round sheets cut anywhere, broken bundles, any dates and windows, lists and outputs without room, loads in buffers of any length. Everything lent
+// stands in a heap block of exactly its length, so that valgrind reports a read or write outside it. A refusal changes no byte,
+// reading changes none, and every place in an answer lies in what was lent.
 // hostile [CALLS | too-much]
 mod damage;
 mod names;
@@ -13,7 +13,7 @@ mod spoil;
 mod tally;
 mod writing;
 
-use ours::{Counts, Pair};
+use ours::{Counts, Date, Pair, Window};
 use rules::HEAD;
 use seed::Random;
 use tally::Tally;
@@ -32,6 +32,7 @@ struct Run {
     repeated: u64,
     bundles: u64,
     loads: u64,
+    seasons: u64,
 }
 
 // A heap block of exactly these bytes.
@@ -217,6 +218,44 @@ impl Run {
         self.loads += 1;
     }
 
+    // Any dates and windows on one image: a name lies in it, and where a list is refused the rest are zeros.
+    fn season(&mut self, random: &mut Random, bytes: &[u8]) {
+        let date = |random: &mut Random| {
+            let [a, b, c, d] = random.word().to_le_bytes();
+            let year = random.pick(&[1899, 1900, 2024, 2024, 2024, 2024, 2199, 2200, u16::from_le_bytes([a, b])]);
+            let month = random.pick(&[0, 1, 2, 2, 2, 6, 12, 13, c]);
+            Date { year, month, day: random.pick(&[0, 1, 1, 28, 28, 29, 30, 31, 32, d]) }
+        };
+        let good = |month| Date { year: 2024, month, day: 1 };
+        let image = exact(bytes);
+        let windows: Box<[Window]> = (0..random.below(6))
+            .map(|_| {
+                let odd = random.once_in(3);
+                let (first, end) = if odd { (date(random), date(random)) } else { (good(1), good(7)) };
+                Window { id: random.below(4) as u32, first, end }
+            })
+            .collect();
+        let before = windows.clone();
+        let asked = if random.once_in(3) { date(random) } else { good(3) };
+        let id = random.pick(&[0, 1, 2, 3, u32::MAX]);
+        let answer = ours::name_on(&image, id, asked, &windows);
+        let named = ours::to_str(&image, id);
+        let place = (answer.found, answer.len, answer.start);
+        let so = match answer.refusal {
+            0 if answer.found == 1 => {
+                place == (named.found, named.len, named.start) && windows.iter().any(|w| w.id == id)
+            }
+            0 | 22 | 23 => place == (0, 0, 0),
+            _ => false,
+        };
+        self.tally.rule(so, true, || format!("{answer:?} for {id} on {asked:?} by {windows:?}"));
+        self.tally.rule(windows == before, true, || "windows that were read".into());
+        self.tally.bytes(&image, bytes, || "an image that was asked on a date".into());
+        self.refused += u64::from(answer.refusal > 0);
+        self.calls += 2;
+        self.seasons += 1;
+    }
+
     fn unchanged(&mut self, (record, counts, buf): (ours::Record, &Counts, &[u8]), s: &State, what: &str) {
         self.refused += 1;
         self.tally.rule(record, s.record, || format!("the record after {what}"));
@@ -266,6 +305,8 @@ fn round(run: &mut Run, random: &mut Random) {
     }
     for _ in 0..20 {
         run.bundle(random, &images);
+        let image = &images[random.below(images.len())];
+        run.season(random, image);
     }
     let n = random.below(4000);
     let noise = random.bytes(n);
@@ -298,13 +339,13 @@ fn main() {
     let calls = std::env::args().nth(1).map_or(CALLS, |text| text.parse().expect("a number of calls"));
     let mut random = Random::new();
     println!("hostile: seed {}", random.seed);
-    let mut run = Run { tally: Tally::default(), calls: 0, refused: 0, images: 0, states: 0, rounds: 0, sheets: 0, bundles: 0, loads: 0, repeated: 0 };
+    let mut run = Run { tally: Tally::default(), calls: 0, refused: 0, images: 0, states: 0, rounds: 0, sheets: 0, bundles: 0, loads: 0, seasons: 0, repeated: 0 };
     while run.calls < calls {
         round(&mut run, &mut random);
     }
     println!(
-        "hostile: {} calls on {} images, {} records with their buffers, {} rounds, {} sheets, {} bundles and {} loads; {} refused, {} of them repeats; {} of {} checks failed",
-        run.calls, run.images, run.states, run.rounds, run.sheets, run.bundles, run.loads, run.refused, run.repeated, run.tally.different, run.tally.rule
+        "hostile: {} calls on {} images, {} records with their buffers, {} rounds, {} sheets, {} bundles, {} loads and {} lists of windows; {} refused, {} of them repeats; {} of {} checks failed",
+        run.calls, run.images, run.states, run.rounds, run.sheets, run.bundles, run.loads, run.seasons, run.refused, run.repeated, run.tally.different, run.tally.rule
     );
     std::process::exit(i32::from(run.tally.different > 0));
 }
