@@ -1,10 +1,11 @@
 // The benchmarks: ours and the Rust's release build, or a copy for bundles, in one run and one table. The two take turns, and each
-// time is the best of several repetitions.   main [hash | reading | building | repeats | page | bundle | load]
+// time is the best of several repetitions.   main [hash | reading | building | repeats | page | bundle | load | origin]
 mod building;
 mod bundle;
 mod hash;
 mod load;
 mod names;
+mod origin;
 #[path = "../tests/compare/ours.rs"]
 mod ours;
 mod page;
@@ -36,5 +37,8 @@ fn main() {
     }
     if wanted("load") {
         load::run();
+    }
+    if wanted("origin") {
+        origin::run();
     }
 }

@@ -118,6 +118,14 @@ uint32_t cqdb_size_hint(const uint8_t *image, size_t len, uint32_t next);
    cqdb_close every id that has a name is home. */
 uint32_t cqdb_home(const uint8_t *image, size_t len, uint32_t id);
 
+/* 1 when these bytes are the image that some list of puts closes to, one-way or two-way, repeats allowed, names free of zero
+   bytes, with no byte after it; else 0. It is 1 for the image of every list of calls from a begin: the first `size` bytes of
+   the buffer after the close, lent with exactly that length. Two different lists of accepted puts in one direction never
+   make the same image, so images that are ours can be compared by their bytes: their puts, in put order, stand one after the
+   other from 2,072 on, as many as cqdb_open's num. Lent the image alone, changes nothing, and takes time linear in len apart
+   from the probing. */
+uint32_t cqdb_ours(const uint8_t *image, size_t len);
+
 /* A printed catalogue, for paper. The page has a line of 45 bytes for every id below back size, in rising order:
 
         the id, right-aligned in 10 bytes; a space; 32 bytes of name; a plus sign where the name is longer, else a space;

@@ -177,6 +177,7 @@ extern "C" {
     fn cqdb_readings_agree(image: *const u8, len: usize) -> u32;
     fn cqdb_size_hint(image: *const u8, len: usize, next: u32) -> u32;
     fn cqdb_home(image: *const u8, len: usize, id: u32) -> u32;
+    fn cqdb_ours(image: *const u8, len: usize) -> u32;
     fn cqdb_page_length(image: *const u8, len: usize) -> u64;
     fn cqdb_page(image: *const u8, len: usize, out: *mut u8, out_len: usize) -> PageAnswer;
     fn cqdb_begin_parts(mode: u32, repeats: u32, counts: *mut u32, buf: *const u8, len: usize) -> RecordAnswer;
@@ -253,6 +254,11 @@ pub fn size_hint(image: &[u8], next: u32) -> u32 {
 /// 1 where the id is home, else 0.
 pub fn home(image: &[u8], id: u32) -> u32 {
     unsafe { cqdb_home(image.as_ptr(), image.len(), id) }
+}
+
+/// 1 when the bytes are the image that some list of puts closes to, with no byte after it, else 0.
+pub fn ours(image: &[u8]) -> u32 {
+    unsafe { cqdb_ours(image.as_ptr(), image.len()) }
 }
 
 /// The length of the printed catalogue.

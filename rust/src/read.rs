@@ -4,6 +4,7 @@ use std::iter::FusedIterator;
 
 use crate::archive::{self, Date, StrAnswer, Window};
 use crate::page::Page;
+use crate::puts::Puts;
 use crate::refusal::{self, Refusal};
 
 /// What a lookup finds.
@@ -108,6 +109,18 @@ impl<'a> CQDB<'a> {
     /// image of a writer every id that has a name is home.
     pub fn home(&self, id: u32) -> bool {
         archive::home(self.image, id) == 1
+    }
+
+    /// Are these bytes the image that some list of puts closes to, one-way or two-way, repeats allowed, with no byte after it?
+    /// Every image that [`CQDBWriter`](crate::CQDBWriter) makes is. Two different lists of puts in one direction never make
+    /// the same image, so owners may compare images by their bytes. The time is linear in the bytes apart from the probing.
+    pub fn is_ours(&self) -> bool {
+        archive::ours(self.image) == 1
+    }
+
+    /// The puts of an image that is ours, in put order; nothing where it is not, which is asked first.
+    pub fn puts(&self) -> Option<Puts<'a>> {
+        self.is_ours().then(|| Puts::new(self.image, self.num))
     }
 
     /// The printed catalogue.

@@ -63,7 +63,9 @@ impl Run {
         }
         let agree = ours::readings_agree(image);
         self.tally.rule(agree <= 1, true, || format!("the check of both readings gave {agree}"));
-        self.calls += 2 + names.len() as u64 + 4 * ids.len() as u64;
+        let one_of_ours = ours::ours(image);
+        self.tally.rule(one_of_ours <= u32::from(refusal == 0), true, || format!("one of ours gave {one_of_ours}"));
+        self.calls += 3 + names.len() as u64 + 4 * ids.len() as u64;
         self.page(random, image);
     }
 
