@@ -1,0 +1,4 @@
+-- Average search length: 02 (x).
+pub mod Lengths
+pub mod Average
+pub mod Theorem
