@@ -1,7 +1,8 @@
 // Averages (02 (x)): the average search length of 1,000 loads beside the Rust's opening and its lookups of the same names. Ours also
-// checks that each load is an image of ours, byte by byte.
+// checks that each load is an image of ours, byte by byte. Each side's time of a load is the best of five; a row has the mean of
+// these 1,000 times.
 use crate::ours;
-use crate::table::{self, time};
+use crate::table::{self, best, time};
 use cqdb::CQDB;
 use std::hint::black_box;
 
@@ -24,12 +25,15 @@ pub fn run() {
     for seed in 0..LOADS {
         assert_eq!(ours::load(seed, &mut image).accepted as usize, ENTRIES);
         let names = names(seed);
-        // Once before the clock runs, so that both sides find the image in the cache.
         let average = ours::average(&image);
         total += average.quotient * ENTRIES as u64 + average.remainder;
-        own += time(ENTRIES, || assert_eq!(black_box(ours::average(black_box(&image))), average));
-        check += time(ENTRIES, || assert_eq!(ours::ours(black_box(&image)), 1));
-        rust += time(ENTRIES, || assert_eq!(lookups(black_box(&image), &names), (ENTRIES * (ENTRIES - 1) / 2) as u64));
+        let ours = || assert_eq!(ours::average(black_box(&image)), average);
+        let theirs = || assert_eq!(lookups(black_box(&image), &names), (ENTRIES * (ENTRIES - 1) / 2) as u64);
+        let (a, b) = best(5, ENTRIES, ours, theirs);
+        own += a;
+        rust += b;
+        check +=
+            (0..5).map(|_| time(ENTRIES, || assert_eq!(ours::ours(black_box(&image)), 1))).fold(f64::MAX, f64::min);
     }
     let each = f64::from(LOADS);
     table::row(&format!("average of {LOADS} loads, an entry"), (own / each, rust / each), None);

@@ -13,7 +13,7 @@ use rules::word;
 use seed::Random;
 use tally::Tally;
 
-const IMAGES: usize = 4_000;
+const IMAGES: usize = 20_000;
 
 // The puts that an image would have, read one after the other: half as many as its tables have buckets.
 fn puts(image: &[u8]) -> Option<Vec<Put>> {
@@ -46,9 +46,8 @@ fn made(image: &[u8]) -> Option<Vec<Put>> {
 fn search_length(image: &[u8], name: &[u8]) -> u64 {
     let h = plain::hash(name);
     let (offset, n) = rules::table(image, h as usize % 256);
-    let entry_has = |at: usize| {
-        word(image, at + 4) as usize == name.len() + 1 && &image[at + 8..at + 8 + name.len()] == name
-    };
+    let entry_has =
+        |at: usize| word(image, at + 4) as usize == name.len() + 1 && &image[at + 8..at + 8 + name.len()] == name;
     let decides = |read: &u64| {
         let bucket = (offset + 8 * ((u64::from(h) / 256 + read) % n)) as usize;
         word(image, bucket) == h && entry_has(word(image, bucket + 4) as usize)
@@ -103,27 +102,19 @@ impl Run {
     }
 }
 
-// Puts of names that repeat, of which many share a table: a name is a letter, then up to three digits.
+// Puts of names that repeat: from one name for all to mostly different ones.
 fn some_puts(random: &mut Random) -> Vec<Put> {
     let n = random.pick(&[0, 1, 2, 5, 20, 60, 200]);
     let names = random.pick(&[1, 2, 7, 40, 1_000]);
-    let one_table = random.once_in(4);
-    let mut puts: Vec<Put> = Vec::new();
-    while puts.len() < n {
-        let name = format!("p{}", random.below(names)).into_bytes();
-        // Where all stand in one table the searches grow long. A few names of that table are enough, since they repeat.
-        if !one_table || plain::hash(&name) % 256 < 64 / (1 + names as u32 / 40).min(16) || names < 8 {
-            puts.push((name, random.below(n + 3) as u32));
-        }
-    }
-    puts
+    (0..n).map(|_| (format!("p{}", random.below(names)).into_bytes(), random.below(n + 3) as u32)).collect()
 }
 
-// Names of one table, all different: later ones are found after many buckets.
-fn one_table(random: &mut Random) -> Vec<Put> {
+// Forty names of one table whose searches begin in the first four of its 80 buckets, each put once: they are found after up to
+// forty buckets.
+fn crowded(random: &mut Random) -> Vec<Put> {
     let table = random.below(256) as u32;
-    let names = (0..).map(|_| random.word().to_string().into_bytes()).filter(|name| plain::hash(name) % 256 == table);
-    names.take(40).zip(0..).collect()
+    let crowd = |name: &Vec<u8>| plain::hash(name) % 256 == table && plain::hash(name) / 256 % 80 < 4;
+    (0..).map(|_| random.word().to_string().into_bytes()).filter(crowd).take(40).zip(0..).collect()
 }
 
 fn repeats(puts: &[Put]) -> u64 {
@@ -162,7 +153,7 @@ fn main() {
     let mut run = Run::default();
     loads(&mut run, &mut random);
     for i in 0..images {
-        let puts = if i % 200 == 0 { one_table(&mut random) } else { some_puts(&mut random) };
+        let puts = if i % 500 == 0 { crowded(&mut random) } else { some_puts(&mut random) };
         image(&mut run, &mut random, &puts);
     }
     println!(

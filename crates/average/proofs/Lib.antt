@@ -4,3 +4,4 @@ pub mod Counting
 pub mod Answers
 pub mod Found
 pub mod Theorem
+pub mod Rows

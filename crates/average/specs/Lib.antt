@@ -2,3 +2,4 @@
 pub mod Lengths
 pub mod Average
 pub mod Theorem
+pub mod Rows
