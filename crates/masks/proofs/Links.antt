@@ -1,16 +1,16 @@
 -- Links that are linked are those of the entries: each link is the offset of its id's last entry. Assumes nothing.
-use Prim.Native.Nat.{ℕ, zero, suc, _+_, _≤_, _<_}
+use Prim.Native.Nat.{ℕ, suc, _+_, _≤_, _<_}
 use native.Mathlib.Omega.{arith}
-use native.Mathlib.Decide.{decLt, decLe, ℕ-discrete}
+use native.Mathlib.Decide.{decLt, ℕ-discrete}
 use mathlib.Core.Path.{_≡_, refl, sym, ap, _∙_}
 use mathlib.Core.Logic.{_⊎_, inl, inr}
-use mathlib.Core.Bool.{Bool, true, false, cond}
+use mathlib.Core.Bool.{cond}
 use mathlib.Core.List.{List, [], _∷_, map}
 use lib.ListN.{length, getD, List·getD-eq-default}
 use lib.Dec.{eqb, leb}
 use borrow.Author.Tests.{eq-eqb, ne-eqb, le-leb, lt-leb}
 use Rattle.image.specs.Bytes.{keep}
-use Rattle.image.specs.Image.{Placed, hasId, placedOfId, lastFrom, link}
+use Rattle.image.specs.Image.{Placed, placedOfId, lastFrom, link}
 use Rattle.image.proofs.Every.{All}
 use Rattle.masks.specs.Masks.{above, Rising, selves, Linked}
 use Rattle.masks.proofs.Above.{above-in, above-only, above-mono, above-same, above-one, above-none}

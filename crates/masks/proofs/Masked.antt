@@ -1,10 +1,10 @@
--- A table that is right is the filled one: the table before each entry is the final one with that entry and all later ones hidden. Assumes nothing.
+-- A right table is the filled one: each insertion turns the table with an entry hidden into the table with it shown. Assumes nothing.
 use Prim.Native.Nat.{ℕ, zero, suc, _+_, _≤_, _<_}
 use native.Mathlib.Omega.{arith}
-use native.Mathlib.Decide.{decLt, decLe, ℕ-discrete}
+use native.Mathlib.Decide.{decLt, ℕ-discrete}
 use mathlib.Core.Path.{_≡_, refl, sym, ap, _∙_}
 use mathlib.Core.Bool.{Bool, true, false, cond}
-use mathlib.Core.List.{List, [], _∷_, map}
+use mathlib.Core.List.{List, [], _∷_}
 use lib.ListN.{length, getD, set, replicate, length-set, length-replicate, length-map, List·getD-eq-default, List·getD-map}
 use lib.Seq.{ext-getD, getD-set-same, getD-set-other}
 use lib.Dec.{ltb}
@@ -13,7 +13,7 @@ use Rattle.image.specs.Tables.{Bucket, empty, atOf, start, order, firstEmpty, i
 use Rattle.image.proofs.Buckets.{getD-empties}
 use Rattle.image.proofs.Every.{All}
 use Rattle.masks.specs.Masks.{above, Rising, ats, hide, masked, place, Right}
-use Rattle.masks.proofs.Above.{above-in, above-only, above-mono}
+use Rattle.masks.proofs.Above.{above-in, above-only}
 
 -- ---- hiding
 

@@ -9,19 +9,16 @@ use lib.Dec.{eqb}
 use borrow.Author.Tests.{eq-eqb, ne-eqb, eqb-true}
 use Rattle.jhash.specs.Outcome.{Outcome, value, refusal}
 use Rattle.image.specs.Bytes.{word}
-use Rattle.image.specs.Head.{backSizeAt, backOffsetAt}
+use Rattle.image.specs.Head.{backSizeAt}
 use Rattle.image.specs.Image.{backSize, backIn}
 use Rattle.image.specs.Stored.{whole, entriesIn, between}
 use Rattle.image.specs.Tally.{tallied}
 use Rattle.image.proofs.Area.{Bytes}
 use Rattle.image.proofs.Bools.{not-both, first, second, both}
 use Rattle.reader.specs.Open.{opening}
-use Rattle.image.specs.declared.Mode.{Mode}
 use Rattle.image.specs.declared.Mode.the-variants.{Twoway, Oneway}
-use Rattle.masks.specs.Masks.{above}
 use Rattle.ours.specs.Made.{Made}
 use Rattle.ours.specs.Ours.{ours, modeIn}
-use Rattle.ours.specs.steps.InPlace.{wordsAt}
 use Rattle.ours.specs.steps.Tests.{endIn, rowsRight, rowCounts, sayCounts, entriesRight, linked, linksRight, Checked, placedFrom, bodyRight}
 use Rattle.ours.proofs.ReadBack.{ours-yes, ours-only}
 use Rattle.ours.proofs.Tests.{said-rows, rows-said}

@@ -1,30 +1,29 @@
 -- In the image of entries all that is looked at in place is right. Assumes nothing.
-use mathlib.Core.Path.{_≡_, refl, sym, ap, ap₂, _∙_}
-use mathlib.Core.Bool.{true}
-use mathlib.Core.List.{List, [], _∷_, _++_, map}
-use Prim.Native.Nat.{ℕ, zero, suc, _+_, _*_, _^_, _≤_, _<_}
+use mathlib.Core.Path.{_≡_, sym, _∙_}
+use mathlib.Core.List.{List, [], _∷_, map}
+use Prim.Native.Nat.{ℕ, _+_, _*_, _^_, _≤_, _<_}
 use native.Mathlib.Omega.{arith}
 use lib.ListN.{length, getD, length-map}
 use lib.Seq.{ext-getD}
 use Rattle.jhash.proofs.Outcomes.{hashOf-below}
-use Rattle.image.specs.Bytes.{word, le32, cat}
-use Rattle.image.specs.Image.{Entry, Placed, headSize, placed, inTable, ofTable, count, bucketOf, bucketBytes, table, entriesBefore, hasId, placedOfId, lastFrom, link, backSize, backSizeOf, entriesEnd, imageSize, image}
-use Rattle.image.specs.Tables.{Bucket, empty, filled}
-use Rattle.image.proofs.At.{At, at-left, at-word, at-second}
+use Rattle.image.specs.Bytes.{word, le32}
+use Rattle.image.specs.Image.{Entry, Placed, headSize, placed, inTable, ofTable, count, bucketOf, bucketBytes, table, entriesBefore, hasId, placedOfId, lastFrom, link, backSizeOf, entriesEnd, imageSize, image}
+use Rattle.image.specs.Tables.{Bucket, empty}
+use Rattle.image.proofs.At.{at-left, at-word, at-second}
 use Rattle.image.proofs.Buckets.{filled-all}
 use Rattle.image.proofs.EntryAt.{Stands, entry-fits, all-stand, all-placed, ids-below}
-use Rattle.image.proofs.Every.{All, all-map, all-keep, all-image}
+use Rattle.image.proofs.Every.{All, all-keep, all-image}
 use Rattle.image.proofs.Parts.{tableAt-image, bucketNumber-image, bucket-at, link-at, entries-at}
 use Rattle.image.proofs.Sizes.{length-image, length-table}
 use Rattle.answers.proofs.Opened.{letters-image, magic-image, size-image, backSizeAt-image, backOffsetAt-image}
 use Rattle.ours.proofs.ReadBack.{flag-image}
 use Rattle.image.specs.declared.Mode.{Mode}
 use Rattle.image.specs.declared.Mode.the-variants.{Twoway, Oneway}
-use Rattle.masks.specs.Masks.{ats, Right, Linked}
+use Rattle.masks.specs.Masks.{ats, Right}
 use Rattle.masks.proofs.Above.{rising-less}
 use Rattle.masks.proofs.Filled.{filled-right}
 use Rattle.masks.proofs.Links.{offsets, right-linked}
-use Rattle.ours.specs.steps.InPlace.{bucketAt, bucketsAt, wordsAt, LinksIn, InPlace}
+use Rattle.ours.specs.steps.InPlace.{bucketsAt, wordsAt, LinksIn, InPlace}
 use Rattle.ours.proofs.Joins.{getD-bucketsAt, length-bucketsAt, getD-wordsAt, length-wordsAt}
 use Rattle.ours.proofs.Rises.{rises, rises-table}
 

@@ -1,36 +1,35 @@
 -- In an image that is ours all tests hold. Assumes nothing.
-use Prim.Native.Nat.{ℕ, zero, suc, _+_, _*_, _-_, _/_, _^_, _≤_, _<_}
+use Prim.Native.Nat.{ℕ, suc, _+_, _*_, _-_, _≤_, _<_}
 use native.Mathlib.Omega.{arith}
-use native.Mathlib.Decide.{decLt, ℕ-discrete}
+use native.Mathlib.Decide.{ℕ-discrete}
 use mathlib.Core.Path.{_≡_, refl, sym, ap, ap₂, _∙_}
-use mathlib.Core.Bool.{Bool, true, false, cond, not, _&&_}
-use mathlib.Core.List.{List, [], _∷_, _++_, map}
+use mathlib.Core.Bool.{Bool, true, cond, not}
+use mathlib.Core.List.{List, [], _∷_, map}
 use lib.ListN.{length, getD, take, drop, replicate, length-map}
 use lib.Dec.{eqb}
-use borrow.Author.Tests.{eq-eqb, ne-eqb}
+use borrow.Author.Tests.{ne-eqb}
 use Rattle.jhash.specs.NameHash.{hashOf}
-use Rattle.image.specs.Bytes.{word, cat, range, all}
+use Rattle.image.specs.Bytes.{word, cat, range}
 use Rattle.image.specs.Head.{tableAt, bucketNumber, backSizeAt, backOffsetAt}
-use Rattle.image.specs.Image.{Entry, Placed, headSize, entryBytes, entrySize, entriesSize, placed, ofTable, count, bucketOf, entriesBefore, tableOffset, flagWord, backSize, backIn, backSizeOf, backOffset, entriesEnd, imageSize, image}
+use Rattle.image.specs.Image.{Entry, Placed, headSize, entryBytes, placed, ofTable, count, bucketOf, entriesBefore, tableOffset, flagWord, backSize, backIn, backOffset, entriesEnd, imageSize, image}
 use Rattle.image.specs.Stored.{whole, entriesIn}
 use Rattle.image.specs.Tables.{Bucket, empty, tableOf}
 use Rattle.image.specs.Tally.{tallied}
-use Rattle.image.proofs.All.{all-true}
 use Rattle.image.proofs.At.{At, at-take}
 use Rattle.image.proofs.Bools.{both}
 use Rattle.image.proofs.EntryAt.{Stands, all-stand, all-placed, ids-below}
 use Rattle.image.proofs.Every.{All, all-map, all-both}
 use Rattle.image.proofs.Parts.{entries-at}
-use Rattle.image.proofs.Sizes.{length-entries, length-placed, length-image, before-suc}
+use Rattle.image.proofs.Sizes.{length-entries, before-suc}
 use Rattle.answers.proofs.Opened.{opening-image}
 use Rattle.lists.proofs.Parse.{parsed, parsed-whole}
 use Rattle.image.specs.declared.Mode.{Mode}
 use Rattle.image.specs.declared.Mode.the-variants.{Twoway, Oneway}
-use Rattle.masks.specs.Masks.{above, ats, place, Right, Linked}
+use Rattle.masks.specs.Masks.{place, Right}
 use Rattle.image.specs.Zero.{hasZero}
 use Rattle.ours.specs.Made.{Puttable, Made}
 use Rattle.ours.specs.Ours.{modeIn}
-use Rattle.ours.specs.steps.InPlace.{bucketsAt, wordsAt, LinksIn, InPlace}
+use Rattle.ours.specs.steps.InPlace.{bucketsAt, LinksIn, InPlace}
 use Rattle.ours.specs.steps.Tests.{endIn, areaIn, entriesOf, tableRight, rowsRight, standsIn, entryRight, entriesRight, linksRight, Checked}
 use Rattle.ours.proofs.ReadBack.{all-wordly, ids-of, flag-of-image}
 use Rattle.ours.proofs.Tests.{table-test, Row, rows-test}

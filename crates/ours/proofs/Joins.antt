@@ -1,16 +1,15 @@
 -- Bytes that stand one after the other stand together. Assumes nothing.
 use mathlib.Core.Path.{_≡_, refl, sym, ap, _∙_}
 use mathlib.Core.List.{List, [], _∷_, _++_, append-assoc, append-nil, map}
-use Prim.Native.Nat.{ℕ, zero, suc, _+_, _*_, _^_, _≤_, _<_}
+use Prim.Native.Nat.{ℕ, zero, suc, _+_, _*_, _≤_, _<_}
 use native.Mathlib.Omega.{arith}
 use lib.ListN.{length, getD, drop, length-append, length-drop, length-map}
 use lib.Seq.{drop-append-seam, drop-drop}
 use Rattle.image.specs.Bytes.{word, le32, cat, range}
-use Rattle.image.specs.Image.{bucketBytes}
-use Rattle.image.specs.Tables.{Bucket, empty}
+use Rattle.image.specs.Tables.{empty}
 use Rattle.image.proofs.Area.{Bytes, bytes-drop}
 use Rattle.image.proofs.At.{At, at-same}
-use Rattle.image.proofs.Lists.{cat-cons, length-range, getD-range}
+use Rattle.image.proofs.Lists.{length-range, getD-range}
 use Rattle.image.proofs.Words.{word-drop, le32-bytes, length-le32}
 use Rattle.ours.specs.steps.InPlace.{bucketAt, bucketsAt, wordsAt}
 

@@ -1,13 +1,13 @@
 -- Two different lists of puts in one direction never close to the same image; and the rule decides what is ours. Assumes nothing.
-use Prim.Native.Nat.{ℕ, zero, suc, _+_, _^_, _≤_, _<_}
+use Prim.Native.Nat.{ℕ, _+_, _^_, _≤_, _<_}
 use native.Mathlib.Omega.{arith}
 use mathlib.Core.Path.{_≡_, refl, sym, ap, ap₂, _∙_}
-use mathlib.Core.Bool.{Bool, true, false, cond, not, _&&_}
+use mathlib.Core.Bool.{true, cond, not, _&&_}
 use mathlib.Core.List.{List, [], _∷_, _++_, append-assoc}
-use lib.ListN.{length, getD, drop}
+use lib.ListN.{length, drop}
 use lib.Dec.{eqb, leb}
 use borrow.Author.Tests.{leb-true, le-leb, not-true}
-use Rattle.jhash.specs.Outcome.{Outcome, value}
+use Rattle.jhash.specs.Outcome.{Outcome}
 use Rattle.image.specs.Bytes.{word, le32, cat, same}
 use Rattle.image.specs.Image.{Entry, headSize, entryBytes, entriesSize, backSize, backSizeOf, backOffset, imageSize, flagWord, headWords, image}
 use Rattle.image.specs.Stored.{entriesIn, firstEntry, afterFirst}
@@ -20,7 +20,7 @@ use Rattle.image.proofs.Parts.{head-at, entries-at}
 use Rattle.image.proofs.Words.{length-le32}
 use Rattle.reader.specs.Open.{opening}
 use Rattle.answers.proofs.Opened.{opening-image}
-use Rattle.lists.proofs.Parse.{Wordly, AllWordly, first-entry, after-first}
+use Rattle.lists.proofs.Parse.{AllWordly, first-entry, after-first}
 use Rattle.image.specs.declared.Mode.{Mode}
 use Rattle.image.specs.declared.Mode.the-variants.{Twoway, Oneway}
 use Rattle.image.specs.Zero.{hasZero}

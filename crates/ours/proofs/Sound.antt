@@ -1,31 +1,30 @@
 -- Bytes in which all that is looked at in place is right are the image of the entries. Assumes nothing.
-use mathlib.Core.Path.{_≡_, refl, sym, ap, ap₂, _∙_}
-use mathlib.Core.Bool.{Bool, true, _&&_}
+use mathlib.Core.Path.{_≡_, refl, sym, ap, _∙_}
+use mathlib.Core.Bool.{true, _&&_}
 use mathlib.Core.List.{List, [], _∷_, _++_, map}
-use Prim.Native.Nat.{ℕ, zero, suc, _+_, _*_, _^_, _≤_, _<_}
+use Prim.Native.Nat.{ℕ, suc, _+_, _*_, _≤_, _<_}
 use native.Mathlib.Omega.{arith}
 use lib.Dec.{eqb}
 use lib.ListN.{length, getD, drop, length-append}
 use borrow.Author.Tests.{eqb-true}
 use Rattle.image.specs.Bytes.{word, le32, cat, range}
-use Rattle.image.specs.Head.{tableAt, bucketNumber}
-use Rattle.image.specs.Image.{Entry, Placed, headSize, entryBytes, placed, ofTable, count, bucketOf, bucketBytes, table, tableBytes, entriesBefore, tableOffset, tableRow, tableRows, tables, link, links, flagWord, backSizeOf, backOffset, entriesEnd, imageSize, headWords, headBytes, image}
-use Rattle.image.specs.Tables.{Bucket, empty, filled}
+use Rattle.image.specs.Image.{Entry, Placed, headSize, entryBytes, placed, ofTable, count, bucketOf, bucketBytes, table, tableBytes, entriesBefore, tableOffset, tableRow, tableRows, tables, link, links, flagWord, backSizeOf, backOffset, entriesEnd, imageSize, headWords, image}
+use Rattle.image.specs.Tables.{Bucket, empty}
 use Rattle.image.proofs.Area.{Bytes}
 use Rattle.image.proofs.At.{At, at-same, at-equal}
 use Rattle.image.proofs.Bools.{first, second}
 use Rattle.image.proofs.Lists.{length-range, getD-range}
 use Rattle.image.proofs.Parts.{before-most}
-use Rattle.image.proofs.Sizes.{length-entries, length-placed, length-bucketBytes, length-table, length-tableBytes, length-tables, before-suc, length-headWords, length-tableRow, length-tableRows, length-image}
+use Rattle.image.proofs.Sizes.{length-entries, length-placed, length-bucketBytes, length-table, length-tableBytes, length-tables, length-headWords, length-tableRow, length-tableRows, length-image}
 use Rattle.image.proofs.Words.{length-le32}
 use Rattle.reader.specs.Open.{hasLetters}
 use Rattle.image.specs.declared.Mode.{Mode}
 use Rattle.image.specs.declared.Mode.the-variants.{Twoway, Oneway}
-use Rattle.masks.specs.Masks.{ats, Right, Linked}
+use Rattle.masks.specs.Masks.{ats}
 use Rattle.masks.proofs.Above.{rising-less}
 use Rattle.masks.proofs.Masked.{right-filled}
 use Rattle.masks.proofs.Links.{offsets, linked-right}
-use Rattle.ours.specs.steps.InPlace.{bucketAt, bucketsAt, wordsAt, LinksIn, InPlace}
+use Rattle.ours.specs.steps.InPlace.{bucketsAt, wordsAt, LinksIn, InPlace}
 use Rattle.ours.proofs.Joins.{at-nothing, at-join, at-all, at-cat, at-parts, at-le32, at-two, getD-bucketsAt, getD-wordsAt, length-wordsAt}
 use Rattle.ours.proofs.Rises.{rises, rises-table}
 

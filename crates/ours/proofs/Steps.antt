@@ -1,20 +1,19 @@
 -- One entry of a walk, where all entries are known to be whole. Assumes nothing.
-use Prim.Native.Nat.{ℕ, zero, suc, _+_, _*_, _-_, _/_, _%_, _≤_, _<_}
+use Prim.Native.Nat.{ℕ, suc, _+_, _*_, _-_, _/_, _%_, _≤_, _<_}
 use native.Mathlib.Omega.{arith}
-use mathlib.Core.Path.{_≡_, refl, sym, ap, ap₂, _∙_}
+use mathlib.Core.Path.{_≡_, sym, ap, ap₂, _∙_}
 use mathlib.Core.Bool.{Bool, true, false, cond, not, _&&_, _||_}
-use mathlib.Core.List.{List, [], _∷_}
+use mathlib.Core.List.{List, _∷_}
 use lib.ListN.{length, take, drop, length-take, length-drop}
 use lib.Dec.{eqb, leb}
 use borrow.Author.Tests.{eq-eqb, ne-eqb, le-leb, lt-leb}
 use Rattle.jhash.specs.NameHash.{hashOf}
 use Rattle.image.specs.Bytes.{word}
-use Rattle.image.specs.Head.{tableAt, bucketNumber}
-use Rattle.image.specs.Image.{Entry, Placed, entrySize, placed}
-use Rattle.image.specs.Stored.{firstEntry, firstWhole, afterFirst, whole, entriesIn, between, wholeLength}
+use Rattle.image.specs.Image.{Placed, entrySize, placed}
+use Rattle.image.specs.Stored.{firstEntry, afterFirst, whole, entriesIn, between, wholeLength}
 use Rattle.image.specs.Tables.{order, firstEmpty}
-use Rattle.image.proofs.Between.{Front, front, not-whole, length-between}
-use Rattle.image.proofs.Bools.{not-both, second}
+use Rattle.image.proofs.Between.{Front, not-whole, length-between}
+use Rattle.image.proofs.Bools.{not-both}
 use Rattle.image.proofs.EntryWalk.{whole-rest, first-id, first-name, entries-rest}
 use Rattle.image.specs.Zero.{hasZero}
 use Rattle.ours.specs.steps.Tests.{hidden, slotIn, standsIn, entryRight, entriesRight, aheadIn, selvesIn, nameAt, placedFrom, nameRight}

@@ -1,29 +1,22 @@
 -- What each test tells. Assumes nothing.
 use Prim.Native.Nat.{ℕ, zero, suc, _+_, _*_, _-_, _/_, _%_, _^_, _≤_, _<_}
 use native.Mathlib.Omega.{arith}
-use native.Mathlib.Nat.{mod-lt}
 use native.Mathlib.Decide.{decLt, ℕ-discrete}
-use mathlib.Core.Path.{_≡_, refl, sym, ap, ap₂, _∙_}
+use mathlib.Core.Path.{_≡_, refl, sym, ap, _∙_}
 use mathlib.Core.Bool.{Bool, true, false, cond, not, _&&_, _||_}
-use mathlib.Core.List.{List, [], _∷_, map, map-map}
+use mathlib.Core.List.{List, map-map}
 use lib.ListN.{length, getD, List·getD-eq-default}
-use lib.Dec.{eqb, ltb, leb}
-use borrow.Author.Tests.{ltb-false, eqb-true, eqb-false, eq-eqb, ne-eqb, leb-true, le-leb, lt-ltb, le-ltb}
-use Rattle.jhash.specs.NameHash.{hashOf}
+use lib.Dec.{eqb, ltb}
+use borrow.Author.Tests.{ltb-false, eqb-true, eq-eqb, ne-eqb}
 use Rattle.jhash.specs.Outcome.{Outcome, value, refusal}
-use Rattle.image.specs.Bytes.{word, range, all, keep}
+use Rattle.image.specs.Bytes.{word, range, all}
 use Rattle.image.specs.Head.{tableAt, bucketNumber, backOffsetAt, backLeaves}
-use Rattle.image.specs.Image.{Entry, Placed, inTable, ofTable, bucketOf}
-use Rattle.image.specs.Tables.{Bucket, empty, atOf, tableOf, start, order, firstEmpty}
+use Rattle.image.specs.Tables.{Bucket, empty, atOf, order}
 use Rattle.image.proofs.All.{all-each, all-true}
-use Rattle.image.proofs.Bools.{not-both, first, second, both}
-use Rattle.image.proofs.Every.{All}
+use Rattle.image.proofs.Bools.{first, second, both}
 use Rattle.reader.specs.Open.{opening, hasLetters, someLeaves, halves}
-use Rattle.answers.proofs.Order.{order-length, order-at}
-use Rattle.masks.specs.Masks.{above, ats, hide, masked, place, Right, selves, Linked}
-use Rattle.masks.proofs.Masked.{getD-masked}
-use Rattle.ours.specs.Made.{Puttable}
-use Rattle.ours.specs.steps.InPlace.{bucketAt, bucketsAt, wordsAt}
+use Rattle.masks.specs.Masks.{above, ats}
+use Rattle.ours.specs.steps.InPlace.{bucketAt, bucketsAt}
 use Rattle.ours.specs.steps.Tests.{clean, usedIn, tableRight, rowsRight, rowCounts, sayCounts}
 use Rattle.ours.proofs.Joins.{getD-run, getD-bucketsAt, length-bucketsAt}
 

@@ -1,36 +1,33 @@
 -- Is this image one of ours? The decision is the rule, and what holds of images that are ours. Assumes nothing.
 use Prim.Native.Nat.{ℕ, _+_, _≤_, _<_}
 use native.Mathlib.Omega.{arith}
-use mathlib.Core.Path.{_≡_, refl, sym, ap, ap₂, _∙_}
+use mathlib.Core.Path.{_≡_, refl, sym, ap, _∙_}
 use mathlib.Core.Bool.{Bool, true, false}
-use mathlib.Core.List.{List, [], _∷_, _++_, append-assoc, append-nil}
-use mathlib.Core.Option.{Option, none, some}
-use lib.ListN.{length, getD, replicate, length-append, length-replicate, List·getD-append}
-use Rattle.jhash.specs.Outcome.{value}
-use Rattle.image.specs.Bytes.{word, same}
+use mathlib.Core.List.{List, [], _∷_, _++_, append-assoc}
+use mathlib.Core.Option.{some}
+use lib.ListN.{length, getD, length-append, List·getD-append}
+use Rattle.image.specs.Bytes.{word}
 use Rattle.image.specs.Image.{Entry, headSize}
 use Rattle.image.specs.declared.Mode.{Mode}
 use Rattle.image.specs.declared.Mode.the-variants.{Twoway, Oneway}
 use Rattle.image.proofs.Area.{Bytes}
-use Rattle.image.proofs.Bools.{not-both}
 use Rattle.image.proofs.Equal.{same-self}
 use Rattle.image.proofs.Every.{All, all-map}
 use Rattle.image.proofs.Lists.{keep-append, keep-yes}
-use Rattle.reader.specs.Open.{opening}
 use Rattle.reader.specs.Lookup.{lookup}
 use Rattle.reader.specs.Panel.{readingsAgree}
 use Rattle.reader.specs.Walk.{home}
 use Rattle.answers.specs.Answer.{foundId, nameGiven, hasName, ofName, firstId, isNamed}
 use Rattle.writer.specs.declared.Repeats.the-variants.{On}
-use Rattle.lists.specs.Calls.{Call, WordIds}
+use Rattle.lists.specs.Calls.{WordIds}
 use Rattle.lists.specs.Demand3.{imageOf}
 use Rattle.lists.specs.RepeatsOff.{putAll}
 use Rattle.lists.proofs.Read.{Read}
 use Rattle.lists.proofs.Reading.{list-read}
 use Rattle.lists.proofs.Readings.{readings}
-use Rattle.ours.specs.Made.{Puttable, Made}
+use Rattle.ours.specs.Made.{Made}
 use Rattle.ours.specs.Ours.{Ours, putsIn, modeIn, ours}
-use Rattle.ours.specs.Theorem.{IsOurs, OfList, Theorem}
+use Rattle.ours.specs.Theorem.{IsOurs, Theorem}
 use Rattle.ours.proofs.ReadBack.{made-puts, made-mode, ours-yes, ours-only}
 use Rattle.ours.proofs.Holds.{ours-checked}
 use Rattle.ours.proofs.Closing.{words, list-made, list-puts, list-mode, lists-injective, accepted-all, made-accepted, made-closes, made-size, made-room}

@@ -1,36 +1,34 @@
 -- Where all tests hold, the image is ours. Assumes nothing.
-use Prim.Native.Nat.{ℕ, zero, suc, _+_, _*_, _-_, _/_, _^_, _≤_, _<_}
+use Prim.Native.Nat.{ℕ, suc, _+_, _*_, _-_, _^_, _<_}
 use native.Mathlib.Omega.{arith}
-use native.Mathlib.Decide.{decLt, ℕ-discrete}
-use mathlib.Core.Path.{_≡_, refl, sym, ap, ap₂, _∙_}
-use mathlib.Core.Bool.{Bool, true, false, cond, not, _&&_}
+use native.Mathlib.Decide.{ℕ-discrete}
+use mathlib.Core.Path.{_≡_, sym, ap, ap₂, _∙_}
+use mathlib.Core.Bool.{Bool, true, cond, not}
 use mathlib.Core.List.{List, [], _∷_, _++_, map}
-use lib.ListN.{length, getD, take, drop, replicate, length-take, length-drop, length-map, length-replicate, take-append-drop}
+use lib.ListN.{length, getD, drop, replicate, length-take, length-drop, length-map, length-replicate, take-append-drop}
 use lib.Dec.{eqb}
-use borrow.Author.Tests.{eqb-true, eq-eqb, ne-eqb, not-true}
+use borrow.Author.Tests.{eq-eqb, ne-eqb, not-true}
 use Rattle.jhash.specs.NameHash.{hashOf}
-use Rattle.image.specs.Bytes.{word, cat, range, all}
+use Rattle.image.specs.Bytes.{word, cat, range}
 use Rattle.image.specs.Head.{tableAt, bucketNumber, backSizeAt, backOffsetAt}
-use Rattle.image.specs.Image.{Entry, Placed, headSize, entryBytes, entrySize, entriesSize, placed, ofTable, count, bucketOf, entriesBefore, tableOffset, flagWord, backSize, backIn, backSizeOf, backOffset, entriesEnd, imageSize, image}
-use Rattle.image.specs.Stored.{entriesIn}
+use Rattle.image.specs.Image.{Entry, Placed, headSize, entryBytes, entrySize, placed, ofTable, count, bucketOf, entriesBefore, tableOffset, flagWord, backSize, backIn, backSizeOf, backOffset, entriesEnd, imageSize}
 use Rattle.image.specs.Tables.{Bucket, empty, tableOf}
 use Rattle.image.specs.Tally.{tallied}
-use Rattle.image.proofs.All.{all-each}
 use Rattle.image.proofs.Area.{Bytes, bytes-drop, bytes-take, whole-bytes, length-entriesIn, ids-words}
 use Rattle.image.proofs.At.{At}
 use Rattle.image.proofs.Bools.{first, second}
 use Rattle.image.proofs.EntryAt.{all-placed, ids-below}
 use Rattle.image.proofs.Every.{All, all-map, all-image}
-use Rattle.image.proofs.Sizes.{length-entries, length-placed, before-suc}
+use Rattle.image.proofs.Sizes.{length-entries, before-suc}
 use Rattle.writer.proofs.Agree.{zeros, tallied-count}
 use Rattle.image.specs.declared.Mode.{Mode}
 use Rattle.image.specs.declared.Mode.the-variants.{Twoway, Oneway}
-use Rattle.masks.specs.Masks.{above, ats, place, Right, Linked}
+use Rattle.masks.specs.Masks.{place, Right}
 use Rattle.image.specs.Zero.{hasZero}
 use Rattle.ours.specs.Made.{Puttable, Made}
 use Rattle.ours.specs.Ours.{modeIn}
-use Rattle.ours.specs.steps.InPlace.{bucketsAt, wordsAt, LinksIn, InPlace}
-use Rattle.ours.specs.steps.Tests.{endIn, areaIn, entriesOf, tableRight, rowsRight, standsIn, entryRight, entriesRight, linksRight, Checked}
+use Rattle.ours.specs.steps.InPlace.{bucketsAt, LinksIn, InPlace}
+use Rattle.ours.specs.steps.Tests.{endIn, areaIn, entriesOf, tableRight, rowsRight, standsIn, entryRight, linksRight, Checked}
 use Rattle.ours.proofs.Joins.{length-bucketsAt}
 use Rattle.ours.proofs.Tests.{opens, table-told, Row, rows-told}
 use Rattle.ours.proofs.Walks.{stands-told, entries-told, to-table, links-told}

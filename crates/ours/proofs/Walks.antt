@@ -1,8 +1,8 @@
 -- What the walk over the entries tells. Assumes nothing.
-use Prim.Native.Nat.{ℕ, zero, suc, _+_, _*_, _/_, _%_, _≤_, _<_}
+use Prim.Native.Nat.{ℕ, suc, _+_, _*_, _/_, _≤_, _<_}
 use native.Mathlib.Omega.{arith}
 use native.Mathlib.Nat.{mod-lt}
-use native.Mathlib.Decide.{decLt, ℕ-discrete}
+use native.Mathlib.Decide.{ℕ-discrete}
 use mathlib.Core.Path.{_≡_, refl, sym, ap, ap₂, _∙_}
 use mathlib.Core.Bool.{Bool, true, false, cond, not, _&&_}
 use mathlib.Core.List.{List, [], _∷_, map}
@@ -12,11 +12,10 @@ use borrow.Author.Tests.{eqb-true, eqb-false, eq-eqb, ne-eqb, leb-true, le-leb, 
 use Rattle.jhash.specs.NameHash.{hashOf}
 use Rattle.image.specs.Bytes.{word, keep}
 use Rattle.image.specs.Head.{tableAt, bucketNumber}
-use Rattle.image.specs.Image.{Entry, Placed, inTable, ofTable, bucketOf}
+use Rattle.image.specs.Image.{Placed, inTable, ofTable}
 use Rattle.image.specs.Tables.{Bucket, empty, atOf, tableOf, start, order, firstEmpty}
 use Rattle.image.proofs.Bools.{not-both, first, second, both}
-use Rattle.image.proofs.Every.{All, all-map, all-image}
-use Rattle.image.proofs.Lists.{keep-yes, keep-cons}
+use Rattle.image.proofs.Every.{All}
 use Rattle.answers.proofs.Order.{order-length, order-at}
 use Rattle.masks.specs.Masks.{above, hide, masked, place, selves, Linked}
 use Rattle.masks.proofs.Masked.{getD-masked, place-in}

@@ -49,20 +49,34 @@ fn look(image: &[u8], places: &[usize; 64]) -> usize {
         all = all | get_u32(image, places[i]);
         i += 1;
     }
-    if all == 4294967295 { 31 } else { 63 }
+    if all == 4294967295 { 32 } else { 64 }
 }
 
-// How many entries after the one at `at` are looked at already, where it was one of `left`. A small image needs no look.
+// Looks at the buckets of the next entries from `at` on. The result is how many entries may be walked before the next look.
+fn look_from(image: &[u8], at: usize, end: usize) -> usize
+    requires { ⌜ (at ≤ end) × (end ≤ length (now image)) × (end < 4294967296) ⌝ }
+{
+    let mut places = [0; 64];
+    plan(image, at, end, &mut places);
+    look(image, &places)
+}
+
+// The first look; in a small image none is needed, and so many entries may be walked that no other comes.
+pub fn first_look(image: &[u8], end: usize) -> usize
+    requires { ⌜ (2072 ≤ end) × (end ≤ length (now image)) × (end < 4294967296) ⌝ }
+{
+    if image.len() < LARGE {
+        return 1099511627776;
+    }
+    look_from(image, 2072, end)
+}
+
+// How many entries after the one at `at` may be walked before the next look, where `left` were before it.
 pub fn ahead(image: &[u8], at: usize, end: usize, left: usize) -> usize
     requires { ⌜ (at ≤ end) × (end ≤ length (now image)) × (end < 4294967296) ⌝ }
 {
     if left > 0 {
         return left - 1;
     }
-    if image.len() < LARGE {
-        return 0;
-    }
-    let mut places = [0; 64];
-    plan(image, at, end, &mut places);
-    look(image, &places)
+    look_from(image, at, end)
 }

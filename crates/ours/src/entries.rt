@@ -12,6 +12,7 @@ ghost use Rattle.image.specs.Tally.{tallied};
 ghost use Rattle.jhash.specs.NameHash.{hashOf};
 ghost use Rattle.ours.specs.steps.Tests.{hidden, standsIn, nameAt, nameRight, entriesRight, placedFrom};
 use super::ahead::ahead;
+use super::ahead::first_look;
 use image::entries::larger;
 use image::entries::raise;
 use image::entries::whole_length;
@@ -106,7 +107,7 @@ pub fn entries_right(image: &[u8], end: usize, entries: u32, counts: &mut [u32; 
     let mut at: usize = 2072;
     let mut left = entries;
     let mut back: u64 = 0;
-    let mut seen: usize = 0;
+    let mut seen = first_look(image, end);
     while left > 0 {
         seen = ahead(image, at, end, seen);
         let n = whole_length(image, at, end);

@@ -1,9 +1,7 @@
 -- `ours::opened_right` meets its contract. Assumes nothing.
 use borrow.Author.Needs.{needs}
 use native.Mathlib.Omega.{arith}
-use Prim.Native.Nat.{ℕ, _<_}
-use mathlib.Core.Path.{_≡_, refl, _∙_}
-use lib.ListN.{getD}
+use mathlib.Core.Path.{refl, _∙_}
 use Rattle.reader.specs.Open.{opening}
 use Rattle.ours.proofs.Bodies.{wrong-size, wrong-flag, wrong-room, wrong-back, decided}
 use Rattle.ours.proofs.opened_right.Statement.{statement}

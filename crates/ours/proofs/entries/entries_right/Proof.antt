@@ -2,7 +2,7 @@
 use borrow.Author.Needs.{needs}
 use borrow.Author.Tests.{not-true, not-false}
 use native.Mathlib.Omega.{arith}
-use Prim.Native.Nat.{ℕ, _<_}
+use Prim.Native.Nat.{_<_}
 use mathlib.Core.Path.{_≡_}
 use mathlib.Core.Bool.{true}
 use Rattle.image.specs.Tables.{tableOf}
@@ -17,30 +17,33 @@ Inv-loop image end entries counts₀ at₀ left₀ back₀ seen₀ counts at lef
 abbrev μ-loop : tie.MeasureT-loop
 μ-loop image end entries counts₀ at₀ left₀ back₀ seen₀ counts at left back seen = left
 
+first-look-requires : tie.Need-first-look-requires Inv-loop μ-loop
+first-look-requires c κs = (c .before .pre .0, c .before .pre .1, c .before .pre .2)
+
 loop-holds : tie.Need-loop-holds Inv-loop μ-loop
 loop-holds c =
-    let a = c .before .args in
-    let p = c .before .pre in
+    let a = c .before .before .args in
+    let p = c .before .before .pre in
     enter-start (a .image .now) (a .end) (a .entries) (a .counts .now) (p .1) (p .0) (p .3)
 
 ahead-requires : tie.Need-ahead-requires Inv-loop μ-loop
-ahead-requires c κs = (c .before .loop .inv .rest .inside, c .before .before .before .pre .1, c .before .before .before .pre .2)
+ahead-requires c κs = (c .before .loop .inv .rest .inside, c .before .before .before .before .pre .1, c .before .before .before .before .pre .2)
 
 whole-length-requires : tie.Need-whole-length-requires Inv-loop μ-loop
-whole-length-requires c κs = (c .before .before .loop .inv .rest .inside, c .before .before .before .before .pre .1)
+whole-length-requires c κs = (c .before .before .loop .inv .rest .inside, c .before .before .before .before .before .pre .1)
 
 returns : tie.Need-returns Inv-loop μ-loop
 returns c =
-    let a = c .before .before .before .before .before .before .args in
-    let p = c .before .before .before .before .before .before .pre in
+    let a = c .before .before .before .before .before .before .before .args in
+    let p = c .before .before .before .before .before .before .before .pre in
     let l = c .before .before .before .before .loop in
     let w = c .before .whole-length in
     (enter-broken (a .image .now) (a .end) (a .entries) (a .counts .now) (p .1) (l .at) (l .left) (l .back) (l .counts) (l .inv) (c .before .before .before .loop-test .taken) (w .result) (w .ensures .0) (c .if1 .taken), (λ z. absurd (not-both z), λ z. absurd (not-both z)))
 
 entry-right-requires : tie.Need-entry-right-requires Inv-loop μ-loop
 entry-right-requires c κs =
-    let a = c .before .before .before .before .before .before .args in
-    let p = c .before .before .before .before .before .before .pre in
+    let a = c .before .before .before .before .before .before .before .args in
+    let p = c .before .before .before .before .before .before .before .pre in
     let l = c .before .before .before .before .loop in
     let w = c .before .whole-length in
     let r = enter-room (a .image .now) (a .end) (a .entries) (a .counts .now) (p .1) (l .at) (l .left) (l .back) (l .counts) (l .inv) (c .before .before .before .loop-test .taken) (w .result) (w .ensures .0) (c .if1 .left) in
@@ -48,8 +51,8 @@ entry-right-requires c κs =
 
 returns-2 : tie.Need-returns-2 Inv-loop μ-loop
 returns-2 c =
-    let a = c .before .before .before .before .before .before .before .before .before .args in
-    let p = c .before .before .before .before .before .before .before .before .before .pre in
+    let a = c .before .before .before .before .before .before .before .before .before .before .args in
+    let p = c .before .before .before .before .before .before .before .before .before .before .pre in
     let l = c .before .before .before .before .before .before .before .loop in
     let w = c .before .before .before .before .whole-length in
     let entry = c .before .before .entry-right in (
@@ -61,7 +64,7 @@ raise-requires : tie.Need-raise-requires Inv-loop μ-loop
 raise-requires c κs =
     let l = c .before .before .before .before .before .before .before .before .loop in
     let small = l .inv .rest .counts-small (tableOf (c .before .before .before .entry-right .result .hash)) in
-    omega (arith, c .before .before .before .before .before .before .before .loop-test .taken, c .before .before .before .before .before .before .before .before .before .before .fits .entries)
+    omega (arith, c .before .before .before .before .before .before .before .loop-test .taken, c .before .before .before .before .before .before .before .before .before .before .before .fits .entries)
 
 get-u32-requires : tie.Need-get-u32-requires Inv-loop μ-loop
 get-u32-requires c κs = search needs
@@ -77,8 +80,8 @@ larger-requires c κs = search needs
 
 add-at : tie.Need-add-at Inv-loop μ-loop
 add-at c =
-    let a = c .before .before .before .before .before .before .before .before .before .before .before .before .before .args in
-    let p = c .before .before .before .before .before .before .before .before .before .before .before .before .before .pre in
+    let a = c .before .before .before .before .before .before .before .before .before .before .before .before .before .before .args in
+    let p = c .before .before .before .before .before .before .before .before .before .before .before .before .before .before .pre in
     let l = c .before .before .before .before .before .before .before .before .before .before .before .loop in
     let w = c .before .before .before .before .before .before .before .before .whole-length in
     let r = enter-room (a .image .now) (a .end) (a .entries) (a .counts .now) (p .1) (l .at) (l .left) (l .back) (l .counts) (l .inv) (c .before .before .before .before .before .before .before .before .before .before .loop-test .taken) (w .result) (w .ensures .0) (c .before .before .before .before .before .before .before .if1 .left) in
@@ -86,8 +89,8 @@ add-at c =
 
 add-at-2 : tie.Need-add-at-2 Inv-loop μ-loop
 add-at-2 c =
-    let a = c .before .before .before .before .before .before .before .before .before .before .before .before .before .args in
-    let p = c .before .before .before .before .before .before .before .before .before .before .before .before .before .pre in
+    let a = c .before .before .before .before .before .before .before .before .before .before .before .before .before .before .args in
+    let p = c .before .before .before .before .before .before .before .before .before .before .before .before .before .before .pre in
     let l = c .before .before .before .before .before .before .before .before .before .before .before .loop in
     let w = c .before .before .before .before .before .before .before .before .whole-length in
     let r = enter-room (a .image .now) (a .end) (a .entries) (a .counts .now) (p .1) (l .at) (l .left) (l .back) (l .counts) (l .inv) (c .before .before .before .before .before .before .before .before .before .before .loop-test .taken) (w .result) (w .ensures .0) (c .before .before .before .before .before .before .before .if1 .left) in
@@ -101,8 +104,8 @@ loop-less c = omega arith
 
 loop-again : tie.Need-loop-again Inv-loop μ-loop
 loop-again c =
-    let a = c .before .before .before .before .before .before .before .before .before .before .before .before .before .args in
-    let p = c .before .before .before .before .before .before .before .before .before .before .before .before .before .pre in
+    let a = c .before .before .before .before .before .before .before .before .before .before .before .before .before .before .args in
+    let p = c .before .before .before .before .before .before .before .before .before .before .before .before .before .before .pre in
     let l = c .before .before .before .before .before .before .before .before .before .before .before .loop in
     let w = c .before .before .before .before .before .before .before .before .whole-length in
     let entry = c .before .before .before .before .before .before .entry-right in
@@ -116,10 +119,10 @@ loop-again c =
 
 returns-3 : tie.Need-returns-3 Inv-loop μ-loop
 returns-3 c =
-    let a = c .before .before .before .args in
+    let a = c .before .before .before .before .args in
     let l = c .before .loop in
     let z : l .left ≡ 0 = omega arith in
-    let e = enter-end (a .image .now) (a .end) (a .entries) (a .counts .now) (c .before .before .before .pre .1) (l .at) (l .back) (l .counts) (rw z at (l .inv)) in
+    let e = enter-end (a .image .now) (a .end) (a .entries) (a .counts .now) (c .before .before .before .before .pre .1) (l .at) (l .back) (l .counts) (rw z at (l .inv)) in
     (e .0, (λ y. e .1, λ y. e .2))
 
 pub entries-right-spec : {M : Type 1} → statement M
@@ -128,6 +131,7 @@ entries-right-spec =
     (tie.spec
     Inv-loop
     μ-loop
+    first-look-requires
     loop-holds
     ahead-requires
     whole-length-requires

@@ -1,6 +1,5 @@
 -- `ours::links::match_of` meets its contract. Assumes nothing.
 use native.Mathlib.Omega.{arith}
-use mathlib.Core.Path.{refl}
 use borrow.Author.Tests.{eq-eqb, ne-eqb}
 use Rattle.ours.proofs.links.match_of.Statement.{statement}
 use Rattle.ours.proofs.links.match_of.Tie as tie

@@ -1,6 +1,6 @@
 -- `ours::tables::clean_bucket` meets its contract. Assumes nothing.
 use borrow.Author.Needs.{needs}
-use mathlib.Core.Path.{sym, _∙_}
+use mathlib.Core.Path.{_∙_}
 use Rattle.image.specs.Bytes.{word}
 use Prim.Native.Nat.{_+_}
 use Rattle.ours.proofs.Steps.{clean-used, clean-empty}

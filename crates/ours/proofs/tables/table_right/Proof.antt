@@ -2,11 +2,10 @@
 use native.Mathlib.Omega.{arith}
 use borrow.Author.Needs.{needs}
 use borrow.Author.Tests.{not-true, not-false}
-use Prim.Native.Nat.{ℕ, _+_, _*_, _-_, _<_, _≤_}
-use mathlib.Core.Path.{_≡_, refl, sym, ap, _∙_}
-use Rattle.image.specs.Bytes.{word}
+use Prim.Native.Nat.{_+_, _*_, _-_}
+use mathlib.Core.Path.{_≡_, refl, ap, _∙_}
 use Rattle.masks.specs.Masks.{bit}
-use Rattle.ours.proofs.Loops.{Buckets, buckets-start, buckets-next, buckets-dirty, buckets-end, bit-most}
+use Rattle.ours.proofs.Loops.{Buckets, buckets-start, buckets-next, buckets-dirty, buckets-end}
 use Rattle.ours.proofs.tables.table_right.Statement.{statement}
 use Rattle.ours.proofs.tables.table_right.Tie as tie
 
