@@ -294,7 +294,7 @@ static inline uint32_t cqdb_put(cqdb_writer *w, uint8_t *buf, size_t len, const 
    Entries, and bytes from size on, keep their content, and the writer stays as it is: puts and closes may follow. Gives
    the first refusal that applies: 2 when the writer does not fit the buffer; 4 when the bytes from 2,072 to end are not the
    writer's number of whole entries with its counts and back size, or when the finished size exceeds the buffer or
-   4,294,967,295. */
+   4,294,967,295. Takes 38 KB of stack. */
 static inline cqdb_close_answer cqdb_close(const cqdb_writer *w, uint8_t *buf, size_t len) {
     cqdb_close_parts_answer a = cqdb_close_parts(cqdb_record_of(w), w->counts, buf, len);
     cqdb_close_answer c = {a.refusal, a.size};
