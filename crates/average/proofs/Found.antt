@@ -1,19 +1,18 @@
 -- Each entry of an image that is ours is found, after at least one bucket and at most as many as its table has entries. Assumes nothing.
-use Prim.Native.Nat.{ℕ, zero, suc, _+_, _*_, _^_, _≤_, _<_, max}
+use Prim.Native.Nat.{ℕ, _+_, _*_, _^_, _≤_, _<_}
 use native.Mathlib.Omega.{arith}
-use mathlib.Core.Path.{_≡_, refl, sym, ap, ap₂, _∙_}
+use mathlib.Core.Path.{_≡_, refl, ap, _∙_}
 use mathlib.Core.Bool.{Bool, true, false, cond}
-use mathlib.Core.List.{List, [], _∷_, _++_}
-use mathlib.Core.Option.{Option, none, some}
+use mathlib.Core.List.{List, [], _∷_}
+use mathlib.Core.Option.{some}
 use lib.ListN.{length}
-use lib.Dec.{eqb, ltb, leb}
+use lib.Dec.{ltb, leb}
 use Rattle.jhash.specs.NameHash.{hashOf}
-use Rattle.image.specs.Bytes.{keep}
 use Rattle.image.specs.Head.{tableAt, bucketNumber}
 use Rattle.image.specs.Image.{Entry, headSize, backSize, image}
 use Rattle.image.specs.Tables.{tableOf, start, order}
 use Rattle.image.proofs.Area.{Bytes}
-use Rattle.image.proofs.Every.{All, all-map, all-both}
+use Rattle.image.proofs.Every.{All, all-map}
 use Rattle.reader.specs.Cases.{reads}
 use Rattle.reader.specs.Lookup.{Lookup, found, nothing, Seen, pass, ends, hit, see, decide, probe, searchTable, unsearched, lookupHash, lookup}
 use Rattle.reader.specs.declared.Found.{Found}
@@ -44,9 +43,6 @@ lookup-some : (img name : List ℕ) (f : Found) → lookup img name ≡ found f 
 unfolding lookup lookupHash searchTable
 lookup-some img name f e = by-size (ltb (length img) headSize) e
   where
-    h : ℕ
-    h = hashOf name
-
     searched : Lookup
     searched = probe (λ (k : ℕ). see img name (hashOf name) (tableAt img (tableOf (hashOf name)) + 8 * k)) (order (bucketNumber img (tableOf (hashOf name))) (bucketNumber img (tableOf (hashOf name))) (start (hashOf name) (bucketNumber img (tableOf (hashOf name))))) 0
 

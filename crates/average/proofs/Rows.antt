@@ -1,7 +1,7 @@
 -- The worked examples hold: what is computed of them are the lookups. Assumes nothing.
 use Prim.Native.Nat.{ℕ, _/_, _%_, _≤_, _<_}
 use native.Mathlib.Omega.{arith}
-use mathlib.Core.Path.{_≡_, refl, sym, ap, ap₂, _∙_}
+use mathlib.Core.Path.{_≡_, refl, ap, ap₂, _∙_}
 use mathlib.Core.Bool.{false}
 use mathlib.Core.List.{List, [], _∷_}
 use lib.ListN.{length}
@@ -22,7 +22,7 @@ use Rattle.ours.specs.Made.{Puttable, Made}
 use Rattle.ours.specs.Ours.{putsIn, allFree, ours}
 use Rattle.ours.proofs.ReadBack.{made-puts, ours-yes}
 use Rattle.average.specs.Lengths.{totalOf}
-use Rattle.average.specs.Average.{entriesOf, total, averageOf, averaging}
+use Rattle.average.specs.Average.{entriesOf, total, averaging}
 use Rattle.average.specs.Rows.{RowHolds, letter, rows}
 use Rattle.average.specs.declared.Mean.{Mean}
 use Rattle.average.proofs.Theorem.{average-search}

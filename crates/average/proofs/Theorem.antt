@@ -2,16 +2,16 @@
 use Prim.Native.Nat.{ℕ, suc, _+_, _*_, _/_, _%_, _<_, _≤_}
 use native.Mathlib.Omega.{arith}
 use native.Mathlib.Nat.{mod-lt, div-add-mod', suc-mul}
-use mathlib.Core.Path.{_≡_, refl, sym, ap, ap₂, _∙_, subst}
-use mathlib.Core.Bool.{Bool, true, false, cond, not}
+use mathlib.Core.Path.{_≡_, refl, sym, ap, _∙_, subst}
+use mathlib.Core.Bool.{Bool, true, false, cond}
 use mathlib.Core.List.{List, [], _∷_, _++_}
-use lib.ListN.{length, getD, replicate}
+use lib.ListN.{length, replicate}
 use lib.Dec.{eqb}
-use borrow.Author.Tests.{eq-eqb, ne-eqb, eqb-true}
+use borrow.Author.Tests.{ne-eqb, eqb-true}
 use Rattle.jhash.specs.NameHash.{hashOf}
 use Rattle.jhash.specs.Outcome.{Outcome, value, refusal}
 use Rattle.image.specs.Bytes.{keep}
-use Rattle.image.specs.Image.{Entry, Placed, headSize, entrySize, placed}
+use Rattle.image.specs.Image.{Entry, headSize, entrySize, placed}
 use Rattle.image.specs.Image as image
 use Rattle.image.specs.Tables.{tableOf}
 use Rattle.image.proofs.Area.{Bytes}
@@ -19,7 +19,7 @@ use Rattle.image.proofs.Every.{All}
 use Rattle.answers.specs.Answer.{tablePuts}
 use Rattle.ours.specs.Ours.{ours, putsIn}
 use Rattle.average.specs.Lengths.{searchLength, totalOf}
-use Rattle.average.specs.Average.{entriesOf, total, firstRefusal, averageRefusal, averageOf, averaging, lengthsOf, afterLengths}
+use Rattle.average.specs.Average.{entriesOf, total, averageRefusal, averageOf, averaging, lengthsOf, afterLengths}
 use Rattle.average.specs.Theorem.{inTable, ofTable, boundOf, sum, Searched, AverageSearch}
 use Rattle.average.specs.declared.Mean.{Mean}
 use Rattle.average.proofs.Counting.{lengths-sixteen, lengths-sum, lengths-are, zeros, long}

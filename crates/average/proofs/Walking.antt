@@ -6,7 +6,6 @@ use mathlib.Core.Path.{_≡_, refl, sym, ap, ap₂, _∙_}
 use mathlib.Core.List.{List, [], _∷_}
 use lib.ListN.{length, take, drop, length-drop}
 use Rattle.image.specs.Bytes.{word}
-use Rattle.image.specs.Image.{Entry}
 use Rattle.image.specs.Stored.{entriesIn, firstEntry, afterFirst}
 use Rattle.reader.specs.Cases.{reads}
 use Rattle.reader.specs.Lookup.{Lookup, lookup}

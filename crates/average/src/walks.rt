@@ -1,7 +1,7 @@
 // The search lengths of the entries that bytes hold: their total, and how many entries have each. Both walk over a number of
 // entries from 2,072 on; bytes that an entry would have past the end are left out, as the definition of the entries says.
 ghost use mathlib.Core.Path.{_≡_};
-ghost use Prim.Native.Nat.{ℕ, _+_, _-_, _<_, _≤_, min};
+ghost use Prim.Native.Nat.{_+_, _-_, _<_, min};
 ghost use lib.ListN.{length, getD, drop, replicate};
 ghost use Rattle.image.specs.Bytes.{word};
 ghost use Rattle.image.specs.Image.{headSize};

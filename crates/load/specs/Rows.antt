@@ -3,7 +3,7 @@ use Prim.Native.Nat.{ℕ}
 use mathlib.Core.Path.{_≡_}
 use mathlib.Core.List.{List, [], _∷_}
 use lib.ListN.{length}
-use Rattle.jhash.specs.Outcome.{Outcome, value, refusal}
+use Rattle.jhash.specs.Outcome.{value, refusal}
 use Rattle.writer.specs.Close.{closing}
 use Rattle.load.specs.States.{stateAfter, stateName}
 use Rattle.load.specs.Load.{loadPut, loading}

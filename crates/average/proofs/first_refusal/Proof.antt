@@ -1,6 +1,6 @@
 -- `average::first_refusal` meets its contract. Assumes nothing.
 use borrow.Author.Needs.{needs}
-use borrow.Author.Tests.{eq-eqb, ne-eqb, not-false}
+use borrow.Author.Tests.{eq-eqb, ne-eqb}
 use Rattle.average.proofs.first_refusal.Statement.{statement}
 use Rattle.average.proofs.first_refusal.Tie as tie
 

@@ -1,7 +1,7 @@
 -- `average::walks::count_lengths` meets its contract: what is counted and what the entries that are left add are the whole. Assumes nothing.
 use Prim.Native.Nat.{ℕ, _+_, min}
 use native.Mathlib.Omega.{arith}
-use mathlib.Core.Path.{_≡_, ap, _∙_}
+use mathlib.Core.Path.{ap, _∙_}
 use lib.ListN.{length}
 use borrow.Author.Needs.{needs}
 use Rattle.image.specs.Bytes.{word}
