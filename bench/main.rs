@@ -1,5 +1,5 @@
 // The benchmarks: ours and the Rust's release build, or a copy for bundles, in one run and one table. The two take turns, and each
-// time is the best of several repetitions.   main [hash | reading | building | repeats | page | bundle | load | origin | average]
+// time is the best of several repetitions.   main [hash | reading | building | repeats | page | bundle | load | origin | round | average]
 mod average;
 mod building;
 mod bundle;
@@ -12,6 +12,7 @@ mod ours;
 mod page;
 mod reading;
 mod repeats;
+mod round;
 mod table;
 
 fn main() {
@@ -41,6 +42,9 @@ fn main() {
     }
     if wanted("origin") {
         origin::run();
+    }
+    if wanted("round") {
+        round::run();
     }
     if wanted("average") {
         average::run();

@@ -1,5 +1,6 @@
-// Is this image one of ours? Ours in one call, lent the image alone; beside it a rebuild by the Rust: all puts, the close into
-// a second slice of the same size, and the comparison of the bytes. Names of 9 bytes, ids in put order.
+// Is this image one of ours? Ours in one call, lent the image alone; beside it a rebuild by the Rust: all puts, the close and the
+// comparison of the bytes. The rebuild needs memory of the image's size: taken for it each time, or at hand and used again. Names
+// of 9 bytes, ids in put order.
 use crate::names::Names;
 use crate::ours;
 use crate::table::{self, best};
@@ -19,13 +20,16 @@ fn deciding(n: usize, repetitions: usize) {
     let names = names.all();
     let mut image = vec![0u8; 2072 + n * (25 + 9) + 4 * n];
     build(&names, &mut image);
-    let mut again = vec![0u8; image.len()];
-    let rust = || {
-        build(black_box(&names), black_box(&mut again));
-        assert!(black_box(&again) == black_box(&image), "the same image");
+    let ours = || assert_eq!(ours::ours(black_box(&image)), 1);
+    let rebuild = |room: &mut [u8]| {
+        build(black_box(&names), black_box(&mut *room));
+        assert!(black_box(&*room) == black_box(&image[..]), "the same image");
     };
-    let times = best(repetitions, n, || assert_eq!(ours::ours(black_box(&image)), 1), rust);
-    table::row(&format!("one of ours, an entry of {n}, beside a rebuild"), times, None);
+    let taken = best(repetitions, n, ours, || rebuild(&mut vec![0u8; image.len()]));
+    table::row(&format!("one of ours, an entry of {n}, beside a rebuild in memory of its own"), taken, None);
+    let mut again = vec![0u8; image.len()];
+    let at_hand = best(repetitions, n, ours, || rebuild(&mut again));
+    table::row(&format!("one of ours, an entry of {n}, beside a rebuild in memory at hand"), at_hand, None);
 }
 
 pub fn run() {

@@ -10,7 +10,7 @@
      length is 0.
    - `counts` points to 256 words, those of cqdb_lengths to 16, and `w` to a whole cqdb_writer.
    - What a call writes (the buffer of cqdb_put, cqdb_close, cqdb_sheet_write, cqdb_bundle_append and cqdb_load, the counts, the writer,
-     the output of cqdb_page) overlaps nothing else that the same call is lent: no name, no list, no buffer, no counts and no image.
+     the output of cqdb_page, the answers of cqdb_round and cqdb_name_round) overlaps nothing else that the same call is lent: no name, no list, no buffer, no counts and no image.
      What a call only reads may overlap.
    - Nobody else writes to what is lent while the call runs.
 
@@ -45,6 +45,8 @@ extern "C" {
 #define CQDB_NO_SUCH_IMAGE 11u   /* bundle_open: the file ends at or before the position */
 #define CQDB_PAGE_TOO_LONG 12u   /* page: it has more bytes than the output */
 #define CQDB_ZERO_BYTE 13u       /* put: the name has a zero byte */
+#define CQDB_ROUND_UNFIT 14u     /* round, name_round: more than 512 names or ids, or ends that fall or pass the names */
+#define CQDB_ANSWERS_TOO_FEW 15u /* round, name_round: fewer answer places than names or ids */
 #define CQDB_REPEATED 16u        /* put: repeats are off, and an earlier entry has this name */
 #define CQDB_NOT_OURS 17u        /* average, lengths: the bytes are not the image that some list of puts closes to */
 #define CQDB_NO_ENTRIES 18u      /* average, lengths: the image has no entry */
@@ -247,7 +249,7 @@ static inline void cqdb_keep(cqdb_writer *w, cqdb_record r) {
     w->end = r.end;
 }
 
-/* The two calls that follow, in one. */
+/* Begins with the choice that `repeats` names: what cqdb_begin and cqdb_begin_repeats do. */
 static inline uint32_t cqdb_begin_with(cqdb_writer *w, uint32_t mode, uint32_t repeats, const uint8_t *buf, size_t len) {
     cqdb_begin_answer a = cqdb_begin_parts(mode, repeats, w->counts, buf, len);
     if (a.refusal == 0) {
@@ -439,6 +441,38 @@ typedef struct {
    and a window does not start before its end. Changes nothing, and reads each window once. windows is not NULL, also where n
    is 0. */
 cqdb_on_answer cqdb_name_on(const uint8_t *image, size_t len, uint32_t id, cqdb_date date, const cqdb_window *windows, size_t n);
+
+/* A whole round in one call, in both directions. The archive exports cqdb_round_words and cqdb_name_round_words, which take the
+   answers as words of 32 bits, four to an answer, as the structs above lie in memory; cqdb_round and cqdb_name_round hand the
+   answers over so. */
+
+/* refusal is 0 when the round was accepted; buckets is 0 when it was refused. */
+typedef struct {
+    uint32_t refusal;
+    uint64_t buckets;
+} cqdb_round_answer;
+
+cqdb_round_answer cqdb_round_words(const uint8_t *image, size_t len, const uint8_t *names, size_t names_len,
+                                   const uint64_t *ends, size_t n, uint32_t *answers, size_t words);
+uint32_t cqdb_name_round_words(const uint8_t *image, size_t len, const uint32_t *ids, size_t n, uint32_t *answers,
+                               size_t words);
+
+/* The ids of up to 512 names. They lie joined in names, the first from byte 0 on, and ends[i] is where the i-th ends; bytes may
+   follow the last. answers[i] is what cqdb_to_id gives for the i-th name, and equal names are searched for once: buckets is the
+   sum over the different names. Places past the n-th keep their content. Refusals, the first that applies, and then nothing is
+   written: 14 for more than 512 names, or an end below the one before or above names_len; 15 for fewer places than names. Uses
+   about 11 KB of stack. */
+static inline cqdb_round_answer cqdb_round(const uint8_t *image, size_t len, const uint8_t *names, size_t names_len,
+                                           const uint64_t *ends, size_t n, cqdb_id_answer *answers, size_t places) {
+    return cqdb_round_words(image, len, names, names_len, ends, n, (uint32_t *)answers, 4 * places);
+}
+
+/* The names of up to 512 ids: answers[i] is what cqdb_to_str gives for ids[i], and places past the n-th keep their content. Gives
+   0, or the first refusal that applies, and then nothing is written: 14 for more than 512 ids, 15 for fewer places than ids. */
+static inline uint32_t cqdb_name_round(const uint8_t *image, size_t len, const uint32_t *ids, size_t n,
+                                       cqdb_str_answer *answers, size_t places) {
+    return cqdb_name_round_words(image, len, ids, n, (uint32_t *)answers, 4 * places);
+}
 
 #ifdef __cplusplus
 }

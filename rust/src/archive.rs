@@ -165,6 +165,14 @@ pub struct OnAnswer {
     pub start: u64,
 }
 
+/// The buckets read over the different names of a round.
+#[repr(C)]
+#[derive(Clone, Copy, Debug, PartialEq, Eq)]
+pub struct RoundAnswer {
+    pub refusal: u32,
+    pub buckets: u64,
+}
+
 #[repr(C)]
 #[derive(Clone, Copy, Debug, PartialEq, Eq)]
 pub struct AverageAnswer {
@@ -189,6 +197,24 @@ extern "C" {
     fn cqdb_ours(image: *const u8, len: usize) -> u32;
     fn cqdb_page_length(image: *const u8, len: usize) -> u64;
     fn cqdb_page(image: *const u8, len: usize, out: *mut u8, out_len: usize) -> PageAnswer;
+    fn cqdb_round_words(
+        image: *const u8,
+        len: usize,
+        names: *const u8,
+        names_len: usize,
+        ends: *const u64,
+        n: usize,
+        answers: *mut u32,
+        words: usize,
+    ) -> RoundAnswer;
+    fn cqdb_name_round_words(
+        image: *const u8,
+        len: usize,
+        ids: *const u32,
+        n: usize,
+        answers: *mut u32,
+        words: usize,
+    ) -> u32;
     fn cqdb_begin_parts(mode: u32, repeats: u32, counts: *mut u32, buf: *const u8, len: usize) -> RecordAnswer;
     fn cqdb_put_parts(
         record: Record,
@@ -280,6 +306,22 @@ pub fn page_length(image: &[u8]) -> u64 {
 /// The printed catalogue in the first bytes of `out`, and its length; or the refusal.
 pub fn page(image: &[u8], out: &mut [u8]) -> PageAnswer {
     unsafe { cqdb_page(image.as_ptr(), image.len(), out.as_mut_ptr(), out.len()) }
+}
+
+/// The ids of the names that lie joined with these ends, an answer in the place of each; and the buckets read over the different
+/// names, or the refusal.
+pub fn round(image: &[u8], names: &[u8], ends: &[u64], answers: &mut [IdAnswer]) -> RoundAnswer {
+    let (image, len, names, names_len) = (image.as_ptr(), image.len(), names.as_ptr(), names.len());
+    // An answer is four words of 32 bits, one after the other.
+    let (words, count) = (answers.as_mut_ptr().cast(), 4 * answers.len());
+    unsafe { cqdb_round_words(image, len, names, names_len, ends.as_ptr(), ends.len(), words, count) }
+}
+
+/// The places of the ids' names, an answer in the place of each; 0, or the refusal.
+pub fn name_round(image: &[u8], ids: &[u32], answers: &mut [StrAnswer]) -> u32 {
+    // An answer is four words of 32 bits: found, the length, and the start, low word first.
+    let (words, count) = (answers.as_mut_ptr().cast(), 4 * answers.len());
+    unsafe { cqdb_name_round_words(image.as_ptr(), image.len(), ids.as_ptr(), ids.len(), words, count) }
 }
 
 /// A fresh record, or the refusal.

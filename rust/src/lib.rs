@@ -34,6 +34,7 @@ mod page;
 mod puts;
 mod read;
 mod refusal;
+mod round;
 mod sheet;
 mod write;
 
@@ -46,6 +47,7 @@ pub use page::Page;
 pub use puts::Puts;
 pub use read::{Found, Iter, CQDB};
 pub use refusal::Refusal;
+pub use round::Round;
 pub use sheet::{Ids, Sheet};
 pub use write::{CQDBWriter, Flag};
 

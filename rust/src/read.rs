@@ -101,7 +101,11 @@ impl<'a> CQDB<'a> {
         refusal::or(answer.refusal, self.part(place))
     }
 
-    fn part(&self, answer: StrAnswer) -> Option<&'a [u8]> {
+    pub(crate) fn bytes(&self) -> &'a [u8] {
+        self.image
+    }
+
+    pub(crate) fn part(&self, answer: StrAnswer) -> Option<&'a [u8]> {
         let (start, len) = (answer.start as usize, answer.len as usize);
         (answer.found == 1).then(|| &self.image[start..start + len])
     }

@@ -13,7 +13,7 @@ mod spoil;
 mod tally;
 mod writing;
 
-use ours::{Counts, Date, Pair, Window};
+use ours::{Counts, Date, IdAnswer, Pair, StrAnswer, Window};
 use rules::HEAD;
 use seed::Random;
 use tally::Tally;
@@ -68,6 +68,44 @@ impl Run {
         self.calls += 3 + names.len() as u64 + 4 * ids.len() as u64;
         self.average(random, image, one_of_ours);
         self.page(random, image);
+        self.whole_round(random, image, names, &ids);
+    }
+
+    // A whole round of these names, and of these ids, each some times over, with ends that may be anything and places that may be too
+    // few: what is refused leaves every place, and places behind the last keep their content.
+    fn whole_round(&mut self, random: &mut Random, image: &[u8], names: &[Box<[u8]>], ids: &[u32]) {
+        let n = random.pick(&[0, 1, 3, 20, 20, 512, 513]);
+        let mut joined = Vec::new();
+        let mut ends = Vec::new();
+        for i in 0..n {
+            joined.extend_from_slice(&names[i % names.len()]);
+            ends.push(joined.len() as u64);
+        }
+        if random.once_in(3) && n > 0 {
+            ends[random.below(n)] = random.pick(&[0, 1, joined.len() as u64 + 1, u64::MAX, 1 << 63]);
+        }
+        let (bytes, ends) = (exact(&joined), ends.into_boxed_slice());
+        let places = random.pick(&[n, n + 2, n.saturating_sub(1), 0]);
+        let before: Box<[IdAnswer]> =
+            vec![IdAnswer { found: random.word(), id: 7, buckets: random.word(), offset: 9 }; places].into();
+        let mut answers = before.clone();
+        let answer = ours::round(image, &bytes, &ends, &mut answers);
+        let kept = if answer.refusal > 0 { 0 } else { n };
+        self.tally.rule([0, 14, 15].contains(&answer.refusal), true, || format!("{answer:?} of {n} names"));
+        self.tally.rule(answers[kept..] == before[kept..], true, || format!("the places behind {kept} of {n} names"));
+        self.tally.rule(answers[..kept].iter().all(|a| a.found <= 1), true, || format!("the places of {n} names"));
+        let asked: Box<[u32]> = (0..n).map(|i| ids[i % ids.len()]).collect();
+        let before: Box<[StrAnswer]> =
+            vec![StrAnswer { found: random.word(), len: random.word(), start: random.next() }; places].into();
+        let mut named = before.clone();
+        let refusal = ours::name_round(image, &asked, &mut named);
+        let kept = if refusal > 0 { 0 } else { n };
+        self.tally.rule([0, 14, 15].contains(&refusal), true, || format!("{refusal} of {n} ids"));
+        self.tally.rule(named[kept..] == before[kept..], true, || format!("the places behind {kept} of {n} ids"));
+        let inside = |a: &StrAnswer| a.start + u64::from(a.len) <= image.len() as u64;
+        self.tally.rule(named[..kept].iter().all(inside), true, || format!("the places of {n} ids"));
+        self.refused += u64::from(answer.refusal > 0) + u64::from(refusal > 0);
+        self.calls += 2;
     }
 
     // The average search length and its counts: refused where the image is not ours, and then no count is changed.

@@ -7,7 +7,7 @@ use lib.ListN.{length, take, drop}
 use lib.Dec.{ltb}
 use Rattle.jhash.specs.Outcome.{value, refusal}
 use Rattle.image.specs.declared.Mode.the-variants.{Twoway}
-use Rattle.image.specs.Image.{Entry, headSize, image}
+use Rattle.image.specs.Image.{Entry, headSize}
 use Rattle.writer.specs.declared.Repeats.the-variants.{On}
 use Rattle.writer.specs.Close.{closing}
 use Rattle.writer.specs.Put.{putRefusal}

@@ -3,8 +3,8 @@ use Prim.Native.Nat.{ℕ, suc, _+_, _*_, _-_, _≤_, _<_}
 use native.Mathlib.Omega.{arith}
 use mathlib.Core.Path.{_≡_, refl, sym, ap, ap₂, _∙_}
 use mathlib.Core.Bool.{Bool, true, false, cond, _||_}
-use borrow.Author.Tests.{lt-ltb, le-ltb, eq-eqb, ne-eqb}
 use mathlib.Core.List.{List}
+use borrow.Author.Tests.{lt-ltb, le-ltb, leb-false, eq-eqb, ne-eqb}
 use lib.Dec.{eqb, ltb, leb}
 use lib.ListN.{length, take, drop}
 use Rattle.jhash.specs.NameHash.{hashOf}
@@ -12,7 +12,7 @@ use Rattle.image.specs.Bytes.{word, same}
 use Rattle.image.specs.Tables.{tableOf, start, next, order}
 use Rattle.image.specs.Head.{tableAt, bucketNumber}
 use Rattle.image.specs.Stored.{nameOf, broken}
-use Rattle.reader.specs.Lookup.{Lookup, nothing, Seen, pass, ends, hit, hitAt, seeEntry, see, decide, probe, unsearched, searchTable, lookupHash, lookup}
+use Rattle.reader.specs.Lookup.{Lookup, nothing, Seen, pass, ends, hit, hitAt, seeEntry, see, decide, probe, unsearched, searchTable, lookupHash, lookupBy, lookup}
 
 -- ---- what is seen in an entry and in a bucket
 
@@ -121,3 +121,19 @@ pub lookup-by : (image name : List ℕ) (s l : Bool) → ltb (length image) 2072
     → cond s (nothing 0) (cond l (nothing 0) (lookupHash image name (hashOf name))) ≡ lookup image name
 unfolding lookup
 lookup-by image name s l es el = sym (λ i. cond (es i) (nothing 0) (cond (el i) (nothing 0) (lookupHash image name (hashOf name))))
+
+-- with a hash at hand
+pub lookup-with : (image name : List ℕ) (h : ℕ) (s l : Bool) → ltb (length image) 2072 ≡ s → leb 4294967295 (length name) ≡ l
+    → cond s (nothing 0) (cond l (nothing 0) (lookupHash image name h)) ≡ lookupBy image name h
+unfolding lookupBy
+lookup-with image name h s l es el = sym (λ i. cond (es i) (nothing 0) (cond (el i) (nothing 0) (lookupHash image name h)))
+
+-- it is the lookup, where the hash of a name that is not too long is its own
+pub lookup-own : (image name : List ℕ) (h : ℕ) → (length name < 4294967295 → h ≡ hashOf name) → lookupBy image name h ≡ lookup image name
+unfolding lookupBy lookup
+lookup-own image name h e = ap (λ (x : Lookup). cond (ltb (length image) 2072) (nothing 0) x) (go (leb 4294967295 (length name)) refl)
+  where
+    go : (t : Bool) → leb 4294967295 (length name) ≡ t
+        → cond t (nothing 0) (lookupHash image name h) ≡ cond t (nothing 0) (lookupHash image name (hashOf name))
+    go true q = refl
+    go false q = ap (lookupHash image name) (e (leb-false 4294967295 (length name) q))

@@ -6,7 +6,7 @@ ghost use mathlib.Core.List.{List};
 ghost use lib.ListN.{length};
 ghost use Rattle.image.specs.Tables.{tableOf, start, next};
 ghost use Rattle.image.specs.Head.{tableAt, bucketNumber};
-ghost use Rattle.reader.specs.Lookup.{nothing, seeEntry, see, unsearched, searchTable, lookupHash, lookup};
+ghost use Rattle.reader.specs.Lookup.{nothing, seeEntry, see, unsearched, searchTable, lookupHash, lookupBy, lookup};
 ghost use Rattle.reader.specs.Cases.{seenOf, lookupOf};
 use super::Found;
 use super::HEAD_SIZE;
@@ -189,4 +189,17 @@ pub fn to_id(image: &[u8], name: &[u8]) -> ToId
         Hashed::Hash(h) => to_id_hashed(bytes, wanted, h),
         Hashed::Refused => ToId::Nothing { buckets: 0 },
     }
+}
+
+// The same for a name whose hash is h, for a caller that has hashed it already.
+pub fn to_id_by(image: &[u8], name: &[u8], h: u32) -> ToId
+    ensures { λ r. ⌜ lookupOf r ≡ lookupBy (now (image .entry)) (now (name .entry)) h ⌝ }
+{
+    if image.len() < HEAD_SIZE {
+        return ToId::Nothing { buckets: 0 };
+    }
+    if 4294967295 <= name.len() {
+        return ToId::Nothing { buckets: 0 };
+    }
+    to_id_hashed(image, name, h)
 }

@@ -1,6 +1,6 @@
 -- Dates of 02 (xiv): "Dates are Gregorian, years 1900 to 2199, for an end date also 1 January 2200".
 use Prim.Native.Nat.{ℕ, _%_}
-use mathlib.Core.Bool.{Bool, true, false, cond, not, _&&_, _||_}
+use mathlib.Core.Bool.{Bool, true, false, cond, _&&_, _||_}
 use mathlib.Core.List.{List, [], _∷_}
 use lib.Dec.{eqb, ltb, leb}
 use Rattle.season.specs.declared.Date.{Date}

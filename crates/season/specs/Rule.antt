@@ -1,6 +1,6 @@
 -- Names with a season: 02 (xiv). "A lent list of windows gives id, first date and end date, the end date not included."
 use Prim.Native.Nat.{ℕ}
-use mathlib.Core.Bool.{Bool, true, false, cond, not, _&&_, _||_}
+use mathlib.Core.Bool.{Bool, false, cond, not, _&&_, _||_}
 use mathlib.Core.List.{List, [], _∷_}
 use lib.Dec.{eqb}
 use Rattle.jhash.specs.Outcome.{Outcome, value, refusal}
