@@ -29,6 +29,7 @@
 #![warn(missing_docs)]
 
 mod archive;
+mod average;
 mod bundle;
 mod flag;
 mod held;
@@ -48,6 +49,7 @@ mod write;
 pub mod moving {}
 
 pub use archive::{Date, Window};
+pub use average::Average;
 pub use bundle::{Bundle, Images};
 pub use flag::Flag;
 pub use load::{load, load_in};
