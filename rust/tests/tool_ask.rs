@@ -123,6 +123,28 @@ fn stats() {
 }
 
 #[test]
+fn search_lengths() {
+    let folder = folder();
+    folder.cqdb(&["load", "0", "load"]).gives(0);
+    let text = String::from_utf8(folder.cqdb(&["stats", "load"]).gives(0).out).unwrap();
+    assert!(text.contains("average   1.385 (5673 buckets, 4096 entries)\n"), "{text}");
+    let lines = text.lines().filter(|line| line.starts_with("length-"));
+    let words: Vec<Vec<&str>> = lines.map(|line| line.split_whitespace().collect()).collect();
+    let entries: Vec<u64> = words.iter().map(|words| words[1].parse().unwrap()).collect();
+    assert_eq!(entries.iter().sum::<u64>(), 4_096);
+    assert_eq!(entries.iter().zip(1..).map(|(entries, length)| entries * length).sum::<u64>(), 5_673);
+    assert_eq!((words[0][0], words[0][2].len()), ("length-1", 50));
+    assert!(words.iter().skip(1).all(|words| words.get(2).map_or(0, |bar| bar.len()) <= 25), "{text}");
+    // Without entries, and not one of ours.
+    folder.cqdb(&["make", "empty"]).gives(0);
+    let text = String::from_utf8(folder.cqdb(&["stats", "empty"]).gives(0).out).unwrap();
+    assert!(text.ends_with("(refusal 18)\n") && text.contains("average   none: "), "{text}");
+    folder.write("longer", [&folder.read("load")[..], b"\0"].concat());
+    let text = String::from_utf8(folder.cqdb(&["stats", "longer"]).gives(0).out).unwrap();
+    assert!(text.ends_with("(refusal 17)\n") && text.contains("average   none: "), "{text}");
+}
+
+#[test]
 fn checks() {
     let folder = folder();
     for image in ["walls", "one-way"] {

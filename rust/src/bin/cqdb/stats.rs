@@ -1,7 +1,9 @@
 //! `cqdb stats`: the numbers of an image.
+use cqdb::CQDB;
+
 use crate::args::{Args, Command};
 use crate::files;
-use crate::outcome::{Answer, Outcome, Output};
+use crate::outcome::{Answer, Failure, Outcome, Output};
 
 pub const COMMAND: Command = Command {
     name: "stats",
@@ -17,6 +19,9 @@ Prints a line for each number, its name first:
   back-size   ids up to the largest that was put
   named       ids that have a name
   gaps        ids below the back size that have none
+  average     buckets read when the name of each entry is looked up, over the
+              entries, and both numbers; of an image that is one of ours
+  length-N    entries whose name is found after N buckets, with a bar
 ",
     options: &[],
     operands: (1, 1),
@@ -45,5 +50,28 @@ fn run(args: Args) -> Outcome {
     ];
     let mut out = Output::new();
     lines.iter().try_for_each(|(name, value)| out.text(&format!("{name:<9} {value}")))?;
+    search_lengths(&mut out, &db)?;
     out.finish(Answer::Yes)
+}
+
+/// The widest bar.
+const WIDE: u64 = 50;
+
+/// The average search length with its three first decimals, and a bar for each length that some entry has.
+fn search_lengths(out: &mut Output, db: &CQDB) -> Result<(), Failure> {
+    let (average, lengths) = match db.average().and_then(|average| Ok((average, db.lengths()?))) {
+        Ok(both) => both,
+        Err(refusal) => return out.text(&format!("average   none: {}", files::refusal_in_words(refusal))),
+    };
+    let (total, entries) = (average.total(), average.entries);
+    let thousandths = average.remainder * 1_000 / u64::from(entries);
+    out.text(&format!("average   {}.{thousandths:03} ({total} buckets, {entries} entries)", average.quotient))?;
+    let last = lengths.iter().rposition(|entries| *entries > 0).map_or(0, |last| last + 1);
+    let most = u64::from(*lengths.iter().max().expect("there are 16")).max(1);
+    for (place, entries) in lengths[..last].iter().enumerate() {
+        let length = if place == 15 { "16+".to_string() } else { (place + 1).to_string() };
+        let bar = "#".repeat((u64::from(*entries) * WIDE).div_ceil(most) as usize);
+        out.text(format!("length-{length:<3}{entries} {bar}").trim_end())?;
+    }
+    Ok(())
 }
