@@ -1,13 +1,14 @@
 /* The C interface of Lithwennog: constant quark database (CQDB) images, proved in Rattle.
-   Link with target/staticlib/libcqdb_c.a, which `./make-archive` makes (x86-64 Linux). docs/FORMAT.md describes images.
+   Link with target/staticlib/libcqdb_c.a, which `./make-archive` makes (x86-64 Linux); once it is installed (`./install
+   PREFIX`), with what `pkg-config --cflags --libs cqdb` prints. docs/FORMAT.md describes images.
 
    What every call promises: it ends for all bytes and numbers, answers as said below, and reads and writes only what it
    is lent. No function keeps a pointer after it has returned, allocates memory, or touches anything global. Calls on
    different buffers may run at the same time.
 
    What the caller owes:
-   - Bytes are lent as a pointer and a length. The pointer is valid for that many bytes and is not NULL, also where the
-     length is 0.
+   - Bytes and lists are lent as a pointer and a length. The pointer is valid for that many bytes or elements. Where the
+     length is 0 it may be NULL, which is taken as no bytes.
    - `counts` points to 256 words, those of cqdb_lengths to 16, and `w` to a whole cqdb_writer.
    - What a call writes (the buffer of cqdb_put, cqdb_close, cqdb_sheet_write, cqdb_bundle_append and cqdb_load, the counts, the writer,
      the output of cqdb_page, the answers of cqdb_round and cqdb_name_round) overlaps nothing else that the same call is lent: no name, no list, no buffer, no counts and no image.
@@ -24,15 +25,29 @@
 
 #include <stddef.h>
 #include <stdint.h>
+#include <string.h>
+
+/* The version of this header and of the archive that comes with it. */
+#define CQDB_VERSION "0.2.0"
 
 #ifdef __cplusplus
 extern "C" {
 #endif
 
+/* Begin takes a buffer for its length alone, so bytes that were never written, as those of malloc, are no reason for a
+   compiler's warning. */
+#if defined(__GNUC__) && !defined(__clang__) && __GNUC__ >= 11
+#define CQDB_LENGTH_ALONE(parameter) __attribute__((access(none, parameter)))
+#define CQDB_INLINED __attribute__((always_inline))
+#else
+#define CQDB_LENGTH_ALONE(parameter)
+#define CQDB_INLINED
+#endif
+
 /* The refusals: the same numbers in all calls, 0 for none. Each comment names the calls that give it. A refused call
    changes no byte of what it is lent, the writer included. docs/FORMAT.md has the same table. */
 #define CQDB_TOO_SHORT 1u        /* begin, open, load: under 2,072 bytes */
-#define CQDB_UNFIT 2u            /* begin, put, close: the writer does not fit the buffer, or mode or repeats is neither 0 nor 1 */
+#define CQDB_UNFIT 2u            /* begin, put, close, grown: the writer does not fit the buffer, or mode or repeats is neither 0 nor 1 */
 #define CQDB_NO_ROOM 3u          /* put, bundle_append: the image would exceed the buffer; put: or 4,294,967,295 bytes */
 #define CQDB_INCONSISTENT 4u     /* put, close: the buffer's entries are not the writer's (put asks with repeats off only), or the
                                     image that close would write is too large */
@@ -68,6 +83,11 @@ typedef struct {
    caller does not append. Refusal: 9, before a byte of the name is read. */
 cqdb_hash_answer cqdb_hash(const uint8_t *name, size_t len, uint32_t start);
 
+/* The same of a name that is a C string. */
+static inline cqdb_hash_answer cqdb_hash_text(const char *name, uint32_t start) {
+    return cqdb_hash((const uint8_t *)name, strlen(name), start);
+}
+
 /* Reading. Every call takes any bytes as an image, opened or not; bytes may follow the image. A buffer that is being
    written can be read between a close and the next put (see the top of this file). */
 
@@ -93,6 +113,11 @@ typedef struct {
 
 /* The id of a name and where its entry stands (those of its first put). Never refused: a damaged image or a name too long for a hash gives nothing. */
 cqdb_id_answer cqdb_to_id(const uint8_t *image, size_t len, const uint8_t *name, size_t name_len);
+
+/* The same of a name that is a C string. */
+static inline cqdb_id_answer cqdb_to_id_text(const uint8_t *image, size_t len, const char *name) {
+    return cqdb_to_id(image, len, (const uint8_t *)name, strlen(name));
+}
 
 /* found is 1 or 0. The name is the len bytes from image + start on, which lie in the image; len and start are 0 where
    there is no name. A name has at most 4,294,967,294 bytes; start may be as large as 4,294,967,303, which takes 33 bits. */
@@ -224,6 +249,7 @@ typedef struct {
     cqdb_record record;
 } cqdb_close_parts_answer;
 
+CQDB_LENGTH_ALONE(4)
 cqdb_begin_answer cqdb_begin_parts(uint32_t mode, uint32_t repeats, uint32_t *counts, const uint8_t *buf, size_t len);
 cqdb_put_answer cqdb_put_parts(cqdb_record record, uint32_t *counts, uint8_t *buf, size_t len,
                                const uint8_t *name, size_t name_len, uint32_t id);
@@ -250,6 +276,7 @@ static inline void cqdb_keep(cqdb_writer *w, cqdb_record r) {
 }
 
 /* Begins with the choice that `repeats` names: what cqdb_begin and cqdb_begin_repeats do. */
+CQDB_LENGTH_ALONE(4) CQDB_INLINED
 static inline uint32_t cqdb_begin_with(cqdb_writer *w, uint32_t mode, uint32_t repeats, const uint8_t *buf, size_t len) {
     cqdb_begin_answer a = cqdb_begin_parts(mode, repeats, w->counts, buf, len);
     if (a.refusal == 0) {
@@ -261,6 +288,7 @@ static inline uint32_t cqdb_begin_with(cqdb_writer *w, uint32_t mode, uint32_t r
 /* Makes *w, whatever it held, a fresh writer for the buffer: the mode, repeats off, the buffer's length, end 2,072,
    otherwise zeros. Reads and changes no byte of the buffer. Gives 0, or the first refusal that applies: 2 for a mode that is
    neither 0 nor 1, 1 for a buffer under 2,072 bytes. Each put then looks at all earlier entries (see cqdb_put). */
+CQDB_LENGTH_ALONE(3) CQDB_INLINED
 static inline uint32_t cqdb_begin(cqdb_writer *w, uint32_t mode, const uint8_t *buf, size_t len) {
     return cqdb_begin_with(w, mode, CQDB_REPEATS_OFF, buf, len);
 }
@@ -268,6 +296,7 @@ static inline uint32_t cqdb_begin(cqdb_writer *w, uint32_t mode, const uint8_t *
 /* The same with repeats on, for callers that renew prisms, or whose names are known to differ: put then takes a name that
    an earlier entry has, and does not look at the earlier entries. Both choices make the same image of the same accepted
    puts. */
+CQDB_LENGTH_ALONE(3) CQDB_INLINED
 static inline uint32_t cqdb_begin_repeats(cqdb_writer *w, uint32_t mode, const uint8_t *buf, size_t len) {
     return cqdb_begin_with(w, mode, CQDB_REPEATS_ON, buf, len);
 }
@@ -290,6 +319,22 @@ static inline uint32_t cqdb_put(cqdb_writer *w, uint8_t *buf, size_t len, const 
     cqdb_put_answer a = cqdb_put_parts(cqdb_record_of(w), w->counts, buf, len, name, name_len, id);
     cqdb_keep(w, a.record);
     return a.refusal;
+}
+
+/* The same of a name that is a C string. */
+static inline uint32_t cqdb_put_text(cqdb_writer *w, uint8_t *buf, size_t len, const char *name, uint32_t id) {
+    return cqdb_put(w, buf, len, (const uint8_t *)name, strlen(name), id);
+}
+
+/* Takes the new length of a buffer that has grown, as by realloc after refusal 3. The bytes up to w->end are those of
+   before; what follows them does not matter, and where the buffer stands does not either. The writer is then as if it had
+   begun with the larger buffer. Gives 0, or 2, and the writer stays as it was, when the buffer has become shorter. */
+static inline uint32_t cqdb_grown(cqdb_writer *w, size_t len) {
+    if (len < w->length) {
+        return CQDB_UNFIT;
+    }
+    w->length = len;
+    return 0;
 }
 
 /* Writes head, tables and back array: the buffer's first `size` bytes are then the image, up to the next accepted put.
@@ -320,7 +365,7 @@ typedef struct {
 /* A pair is kept in a round, a list of ids, when its wall prism does not occur, or its reference occurs before the wall
    prism's first occurrence. ok is 1 when each of the n pairs is kept; otherwise pair is the place, counted from 0, of the
    first that is not. A pair of an id with itself is kept only where that id does not occur. Never refused, and changes
-   nothing; both pointers are not NULL, also where their number is 0. For each pair the round is read once at most, up to
+   nothing. For each pair the round is read once at most, up to
    the first of its two ids: up to n x m steps. */
 cqdb_order_answer cqdb_references_first(const cqdb_pair *pairs, size_t n, const uint32_t *round, size_t m);
 
@@ -348,7 +393,7 @@ typedef struct {
 
 /* Writes the sheet of n references, m wall prisms and k retired prisms, 6 + 4 x (n + m + k) bytes: the buffer's first
    `length` bytes are then the file, and no byte past it is changed. Refusal 21: n, m or k exceeds 65,535, or the buffer is
-   shorter than the file; then no byte is changed. The lists are not NULL, also where their number is 0. */
+   shorter than the file; then no byte is changed. */
 cqdb_sheet_length_answer cqdb_sheet_write(uint8_t *buf, size_t len, const uint32_t *references, size_t n,
                                           const uint32_t *walls, size_t m, const uint32_t *retired, size_t k);
 
@@ -438,8 +483,7 @@ typedef struct {
 /* The place of an id's name on a date: that of cqdb_to_str where some of the n windows has this id and holds the date, first
    date included, end date not; otherwise nothing. All windows are checked, also those of other ids and also where the id has
    no name. Refusals: 22 when a date does not exist or is out of bounds, the one asked about or one of a window; 23 when none is,
-   and a window does not start before its end. Changes nothing, and reads each window once. windows is not NULL, also where n
-   is 0. */
+   and a window does not start before its end. Changes nothing, and reads each window once. */
 cqdb_on_answer cqdb_name_on(const uint8_t *image, size_t len, uint32_t id, cqdb_date date, const cqdb_window *windows, size_t n);
 
 /* A whole round in one call, in both directions. The archive exports cqdb_round_words and cqdb_name_round_words, which take the

@@ -9,12 +9,12 @@ use crate::refusal::{self, Refusal};
 /// A file that holds images back to back; an empty file holds none.
 ///
 /// ```
-/// use cqdb::{Bundle, CQDBWriter};
+/// use cqdb::{Bundle, MemoryWriter};
 ///
 /// # fn main() -> std::io::Result<()> {
 /// let mut file = Vec::new();
 /// for wall in ["north wall", "quay"] {
-///     let mut writer = CQDBWriter::new();
+///     let mut writer = MemoryWriter::new();
 ///     writer.put(wall, 0)?;
 ///     Bundle::append(&mut file, &writer.finish()?)?;
 /// }

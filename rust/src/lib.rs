@@ -4,31 +4,37 @@
 //!
 //! ```
 //! use cqdb::{CQDBWriter, CQDB};
+//! use std::io::Cursor;
 //!
 //! # fn main() -> std::io::Result<()> {
-//! let mut writer = CQDBWriter::new();
+//! let mut stream = Cursor::new(Vec::new());
+//! let mut writer = CQDBWriter::new(&mut stream)?;
 //! writer.put("north wall", 0)?;
 //! writer.put("crane", 1)?;
-//! let image = writer.finish()?;
+//! writer.finish()?;
 //!
+//! let image = stream.into_inner();
 //! let db = CQDB::new(&image)?;
 //! assert_eq!(db.to_id("crane"), Some(1));
-//! assert_eq!(db.to_str(0), Some(&b"north wall"[..]));
-//! assert_eq!(db.iter().count(), 2);
+//! assert_eq!(db.to_str(0).unwrap(), "north wall");
+//! for entry in &db {
+//!     let (id, name) = entry?;
+//!     println!("{id} {name}");
+//! }
 //! # Ok(())
 //! # }
 //! ```
 //!
-//! What differs from cqdb-rs: the writer keeps the image in memory, and [`CQDBWriter::finish`] gives it, where cqdb-rs
-//! writes to a stream when it is dropped. It refuses a name that it already holds, unless it was made by
-//! [`CQDBWriter::with_repeats`]. Names come as `&[u8]`, and a walk gives them without a `Result` around each.
-//! A lookup ends on every image. A [`Refusal`] becomes an [`std::io::Error`] by `?`.
+//! [`MemoryWriter`] builds an image without a stream. [`moving`] says how a program moves from cqdb-rs, and what differs.
 #![warn(missing_docs)]
 
 mod archive;
 mod average;
 mod bundle;
+mod flag;
+mod held;
 mod load;
+mod name;
 mod order;
 mod page;
 mod puts;
@@ -36,12 +42,18 @@ mod read;
 mod refusal;
 mod round;
 mod sheet;
+mod stream;
 mod write;
+
+#[doc = include_str!("../MOVING.md")]
+pub mod moving {}
 
 pub use archive::{Date, Window};
 pub use average::Average;
 pub use bundle::{Bundle, Images};
+pub use flag::Flag;
 pub use load::{load, load_in};
+pub use name::BStr;
 pub use order::{references_first, Order, Pair};
 pub use page::Page;
 pub use puts::Puts;
@@ -49,7 +61,8 @@ pub use read::{Found, Iter, CQDB};
 pub use refusal::Refusal;
 pub use round::Round;
 pub use sheet::{Ids, Sheet};
-pub use write::{CQDBWriter, Flag};
+pub use stream::CQDBWriter;
+pub use write::MemoryWriter;
 
 /// The hash of a name with a start value (images use 0): lookup3's `hashlittle` over the name and one zero byte. Refused
 /// with [`Refusal::NameTooLong`] when the name has 4,294,967,295 bytes or more.

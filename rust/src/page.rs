@@ -13,7 +13,7 @@ use crate::refusal::{self, Refusal};
 ///
 /// ```
 /// # fn main() -> std::io::Result<()> {
-/// let mut writer = cqdb::CQDBWriter::new();
+/// let mut writer = cqdb::MemoryWriter::new();
 /// writer.put("north wall", 0)?;
 /// writer.put("crane", 2)?;
 /// let image = writer.finish()?;
@@ -29,6 +29,7 @@ use crate::refusal::{self, Refusal};
 /// # }
 /// ```
 #[derive(Clone, Copy)]
+#[must_use = "a page does nothing until it is printed"]
 pub struct Page<'a> {
     image: &'a [u8],
 }

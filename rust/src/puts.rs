@@ -1,18 +1,20 @@
 //! The puts of an image that is ours, read back.
 use std::iter::FusedIterator;
 
+use crate::name::BStr;
+
 const HEAD: usize = 2072;
 
 /// The puts of an image, name and id, in put order: the list that makes the image. See [`CQDB::puts`](crate::CQDB::puts).
 ///
 /// ```
 /// # fn main() -> std::io::Result<()> {
-/// let mut writer = cqdb::CQDBWriter::new();
+/// let mut writer = cqdb::MemoryWriter::new();
 /// writer.put("north wall", 7)?;
 /// writer.put("crane", 2)?;
 /// let image = writer.finish()?;
 /// let puts = cqdb::CQDB::new(&image)?.puts().expect("an image of a writer");
-/// assert_eq!(puts.collect::<Vec<_>>(), [(&b"north wall"[..], 7), (&b"crane"[..], 2)]);
+/// assert_eq!(puts.collect::<Vec<_>>(), [(cqdb::BStr::new("north wall"), 7), (cqdb::BStr::new("crane"), 2)]);
 /// # Ok(())
 /// # }
 /// ```
@@ -30,7 +32,7 @@ impl<'a> Puts<'a> {
 }
 
 impl<'a> Iterator for Puts<'a> {
-    type Item = (&'a [u8], u32);
+    type Item = (&'a BStr, u32);
 
     fn next(&mut self) -> Option<Self::Item> {
         self.left = self.left.checked_sub(1)?;
@@ -39,7 +41,7 @@ impl<'a> Iterator for Puts<'a> {
         let (length, rest) = word(rest);
         let (name, rest) = rest.split_at(length as usize - 1);
         self.entries = &rest[1..];
-        Some((name, id))
+        Some((BStr::new(name), id))
     }
 
     fn size_hint(&self) -> (usize, Option<usize>) {

@@ -1,9 +1,10 @@
 //! Reading an image.
-use std::fmt;
 use std::iter::FusedIterator;
+use std::{fmt, io};
 
 use crate::archive::{self, Date, StrAnswer, Window};
 use crate::average::Average;
+use crate::name::BStr;
 use crate::page::Page;
 use crate::puts::Puts;
 use crate::refusal::{self, Refusal};
@@ -19,16 +20,17 @@ pub struct Found {
 
 /// An opened image.
 #[derive(Clone, Copy)]
+#[must_use = "an opened image does nothing until it is asked"]
 pub struct CQDB<'a> {
     image: &'a [u8],
     num: u32,
 }
 
 impl<'a> CQDB<'a> {
-    /// Opens an image; bytes may follow it.
-    pub fn new(image: &'a [u8]) -> Result<Self, Refusal> {
+    /// Opens an image; bytes may follow it. The error holds the [`Refusal`](crate::Refusal).
+    pub fn new(image: &'a [u8]) -> io::Result<Self> {
         let answer = archive::open(image);
-        refusal::or(answer.refusal, CQDB { image, num: answer.num })
+        Ok(refusal::or(answer.refusal, CQDB { image, num: answer.num })?)
     }
 
     /// An image that the archive has opened.
@@ -36,9 +38,20 @@ impl<'a> CQDB<'a> {
         CQDB { image, num }
     }
 
+    /// The bytes that were opened.
+    pub fn bytes(&self) -> &'a [u8] {
+        self.image
+    }
+
     /// The number of associations.
     pub fn num(&self) -> u32 {
         self.num
+    }
+
+    /// How many ids the back array has: the largest id that was put, plus 1. It is 0 where no id can have a name, as in a
+    /// one-way image.
+    pub fn back_size(&self) -> u32 {
+        archive::size_hint(self.image, 0)
     }
 
     /// The id of a name, of its first put.
@@ -60,17 +73,17 @@ impl<'a> CQDB<'a> {
     }
 
     /// The name of an id, of its last put. A one-way image names none.
-    pub fn to_str(&self, id: u32) -> Option<&'a [u8]> {
+    pub fn to_str(&self, id: u32) -> Option<&'a BStr> {
         self.part(archive::to_str(self.image, id))
     }
 
     /// The name of an id up to its first zero byte, as a C string is read; all of it where it has none.
-    pub fn panel(&self, id: u32) -> Option<&'a [u8]> {
+    pub fn panel(&self, id: u32) -> Option<&'a BStr> {
         self.part(archive::panel(self.image, id))
     }
 
     /// Does [`panel`](CQDB::panel) give the whole name for every id? It does in every image that
-    /// [`CQDBWriter`](crate::CQDBWriter) makes.
+    /// a writer of this crate makes.
     pub fn readings_agree(&self) -> bool {
         archive::readings_agree(self.image) == 1
     }
@@ -81,33 +94,29 @@ impl<'a> CQDB<'a> {
     /// window does not start before its end.
     ///
     /// ```
-    /// use cqdb::{CQDBWriter, Date, Window, CQDB};
+    /// use cqdb::{BStr, Date, MemoryWriter, Window, CQDB};
     ///
     /// # fn main() -> std::io::Result<()> {
-    /// let mut writer = CQDBWriter::new();
+    /// let mut writer = MemoryWriter::new();
     /// writer.put("crane", 1)?;
     /// let image = writer.finish()?;
     /// let db = CQDB::new(&image)?;
     /// let date = |month, day| Date { year: 2024, month, day };
     /// let spring = Window { id: 1, first: date(3, 1), end: date(6, 1) };
-    /// assert_eq!(db.name_on(1, date(5, 31), &[spring])?, Some(&b"crane"[..]));
+    /// assert_eq!(db.name_on(1, date(5, 31), &[spring])?, Some(BStr::new("crane")));
     /// assert_eq!(db.name_on(1, date(6, 1), &[spring])?, None);
     /// # Ok(())
     /// # }
     /// ```
-    pub fn name_on(&self, id: u32, date: Date, windows: &[Window]) -> Result<Option<&'a [u8]>, Refusal> {
+    pub fn name_on(&self, id: u32, date: Date, windows: &[Window]) -> Result<Option<&'a BStr>, Refusal> {
         let answer = archive::name_on(self.image, id, date, windows);
         let place = StrAnswer { found: answer.found, len: answer.len, start: answer.start };
         refusal::or(answer.refusal, self.part(place))
     }
 
-    pub(crate) fn bytes(&self) -> &'a [u8] {
-        self.image
-    }
-
-    pub(crate) fn part(&self, answer: StrAnswer) -> Option<&'a [u8]> {
+    pub(crate) fn part(&self, answer: StrAnswer) -> Option<&'a BStr> {
         let (start, len) = (answer.start as usize, answer.len as usize);
-        (answer.found == 1).then(|| &self.image[start..start + len])
+        (answer.found == 1).then(|| BStr::new(&self.image[start..start + len]))
     }
 
     /// Does the id have a name, and does some entry that the search for that name meets have this name and this id? In an
@@ -117,7 +126,7 @@ impl<'a> CQDB<'a> {
     }
 
     /// Are these bytes the image that some list of puts closes to, one-way or two-way, repeats allowed, with no byte after it?
-    /// Every image that [`CQDBWriter`](crate::CQDBWriter) makes is. Two different lists of puts in one direction never make
+    /// Every image that a writer of this crate makes is. Two different lists of puts in one direction never make
     /// the same image, so owners may compare images by their bytes. The time is linear in the bytes apart from the probing.
     pub fn is_ours(&self) -> bool {
         archive::ours(self.image) == 1
@@ -163,28 +172,55 @@ impl<'a> CQDB<'a> {
     }
 }
 
+/// The words of the head, as `{:?}` shows them.
+#[derive(Debug)]
+#[allow(dead_code)]
+struct Header {
+    chunk_id: [u8; 4],
+    size: u32,
+    flag: u32,
+    byteorder: u32,
+    bwd_size: u32,
+    bwd_offset: u32,
+}
+
 impl fmt::Debug for CQDB<'_> {
     fn fmt(&self, f: &mut fmt::Formatter<'_>) -> fmt::Result {
-        f.debug_struct("CQDB").field("len", &self.image.len()).field("num", &self.num).finish()
+        let four = |at: usize| -> [u8; 4] { self.image[at..at + 4].try_into().expect("an opened image has a head") };
+        let word = |at: usize| u32::from_le_bytes(four(at));
+        let header = Header {
+            chunk_id: four(0),
+            size: word(4),
+            flag: word(8),
+            byteorder: word(12),
+            bwd_size: word(16),
+            bwd_offset: word(20),
+        };
+        f.debug_struct("CQDB")
+            .field("header", &header)
+            .field("bwd_offset", &header.bwd_offset)
+            .field("num", &self.num)
+            .finish()
     }
 }
 
-/// A walk over the ids and names of an image.
+/// A walk over the ids and names of an image. As with cqdb-rs each step is a `Result`; it is never an error.
 #[derive(Clone, Debug)]
+#[must_use = "a walk does nothing until it is asked for its steps"]
 pub struct Iter<'a> {
     db: CQDB<'a>,
     next: u32,
 }
 
 impl<'a> Iterator for Iter<'a> {
-    type Item = (u32, &'a [u8]);
+    type Item = io::Result<(u32, &'a BStr)>;
 
     fn next(&mut self) -> Option<Self::Item> {
         let id = self.next;
         let name = self.db.to_str(id)?;
         // An id that has a name is below the back size, and so below 4,294,967,295.
         self.next += 1;
-        Some((id, name))
+        Some(Ok((id, name)))
     }
 
     fn size_hint(&self) -> (usize, Option<usize>) {
@@ -196,7 +232,7 @@ impl<'a> Iterator for Iter<'a> {
 impl FusedIterator for Iter<'_> {}
 
 impl<'a> IntoIterator for &CQDB<'a> {
-    type Item = (u32, &'a [u8]);
+    type Item = io::Result<(u32, &'a BStr)>;
     type IntoIter = Iter<'a>;
 
     fn into_iter(self) -> Iter<'a> {

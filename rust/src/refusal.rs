@@ -31,12 +31,12 @@ macro_rules! refusals {
 
 refusals! {
     /// The image has fewer than 2,072 bytes.
-    TooShort = 1, "invalid file format, too short";
-    /// The writer's record and its buffer do not fit together. No [`CQDBWriter`](crate::CQDBWriter) gets there.
+    TooShort = 1, "invalid file format";
+    /// The writer's record and its buffer do not fit together. No writer of this crate gets there.
     Unfit = 2, "the writer does not fit its buffer";
     /// The finished image would exceed 4,294,967,295 bytes. No [`Bundle`](crate::Bundle) gets there: its file grows.
     NoRoom = 3, "no room: the image would be too large";
-    /// The buffer's entries are not those of the record. No [`CQDBWriter`](crate::CQDBWriter) gets there.
+    /// The buffer's entries are not those of the record. No writer of this crate gets there.
     Inconsistent = 4, "the buffer's entries are not those of the writer";
     /// The image does not begin with the letters CQDB.
     WrongLetters = 5, "invalid file format, magic mismatch";
@@ -60,7 +60,7 @@ refusals! {
     RoundUnfit = 14, "the round has too many names or ids, or ends that do not fit its names";
     /// The answer list of a round is shorter than the round. No call of this crate gets there.
     AnswersTooFew = 15, "the answer list is shorter than the round";
-    /// The writer already holds this name, and was not begun [`with_repeats`](crate::CQDBWriter::with_repeats).
+    /// The writer already holds this name, and repeats were not [asked for](crate::CQDBWriter::with_repeats).
     Repeated = 16, "the writer already holds this name, and repeats are off";
     /// The bytes are not the image that some list of puts closes to.
     NotOurs = 17, "the image is none that a list of puts makes";
@@ -82,6 +82,17 @@ impl Refusal {
     /// Its number, the same in all languages.
     pub fn number(self) -> u32 {
         self as u32
+    }
+
+    /// The refusal that an error holds; none where it has another cause, such as a stream that could not be written.
+    ///
+    /// ```
+    /// let error = cqdb::CQDB::new(b"CQDB").unwrap_err();
+    /// assert_eq!(cqdb::Refusal::of(&error), Some(cqdb::Refusal::TooShort));
+    /// assert_eq!(error.to_string(), "invalid file format");
+    /// ```
+    pub fn of(error: &io::Error) -> Option<Refusal> {
+        error.get_ref()?.downcast_ref().copied()
     }
 }
 

@@ -1,5 +1,6 @@
 //! A whole round in one call.
 use crate::archive::{self, IdAnswer, StrAnswer};
+use crate::name::BStr;
 use crate::read::{Found, CQDB};
 use crate::refusal::{self, Refusal};
 
@@ -19,7 +20,7 @@ impl<'a> CQDB<'a> {
     ///
     /// ```
     /// # fn main() -> std::io::Result<()> {
-    /// let mut writer = cqdb::CQDBWriter::new();
+    /// let mut writer = cqdb::MemoryWriter::new();
     /// writer.put("north wall", 0)?;
     /// writer.put("crane", 1)?;
     /// let image = writer.finish()?;
@@ -51,7 +52,7 @@ impl<'a> CQDB<'a> {
 
     /// The names of up to 512 ids, as [`CQDB::to_str`] gives them, in their order. Refused with [`Refusal::RoundUnfit`] where there
     /// are more.
-    pub fn name_round(&self, ids: &[u32]) -> Result<Vec<Option<&'a [u8]>>, Refusal> {
+    pub fn name_round(&self, ids: &[u32]) -> Result<Vec<Option<&'a BStr>>, Refusal> {
         let mut places = vec![StrAnswer { found: 0, len: 0, start: 0 }; ids.len()];
         let number = archive::name_round(self.bytes(), ids, &mut places);
         refusal::or(number, places.into_iter().map(|place| self.part(place)).collect())

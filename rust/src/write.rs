@@ -1,78 +1,96 @@
-//! Writing an image.
+//! Writing an image in memory.
 use std::fmt;
 
 use crate::archive::{self, Counts, Record};
+use crate::flag::Flag;
+use crate::held::Held;
 use crate::refusal::{self, Refusal};
 
 /// The head of an image, which the entries follow.
 const HEAD: usize = 2_072;
 /// The length of the first buffer; it grows as needed.
 const FIRST: usize = 4_096;
+/// The archive's writer begins with repeats on: this crate's writers look for repeats themselves.
+const REPEATS_ON: u32 = 1;
 /// The size of the largest image.
 const LIMIT: u64 = 4_294_967_295;
 
-/// Does an image name ids?
-#[derive(Clone, Copy, Debug, Default, PartialEq, Eq, Hash)]
-pub enum Flag {
-    /// Two-way: names to ids and ids to names.
-    #[default]
-    NONE,
-    /// One-way: the array that names ids is left out.
-    ONEWAY,
-}
-
-/// Does a writer take a name that it already holds? The record carries this.
-enum Repeats {
-    Off,
-    On,
-}
-
-/// Builds an image in memory. A name may be put once, unless the writer is one [`with_repeats`](CQDBWriter::with_repeats).
+/// Builds an image in memory. [`CQDBWriter`](crate::CQDBWriter) writes one to a stream.
+///
+/// ```
+/// # fn main() -> Result<(), cqdb::Refusal> {
+/// let mut writer = cqdb::MemoryWriter::new();
+/// writer.put("north wall", 0)?;
+/// let image: Vec<u8> = writer.finish()?;
+/// assert_eq!(image.len(), 2_072 + 25 + 10 + 4);
+/// # Ok(())
+/// # }
+/// ```
+///
+/// A writer that is thrown away is a warning, and so is its image:
+///
+/// ```compile_fail
+/// #![deny(unused_must_use)]
+/// cqdb::MemoryWriter::new();
+/// ```
+///
+/// ```compile_fail
+/// #![deny(unused_must_use)]
+/// cqdb::MemoryWriter::new().finish();
+/// ```
 #[derive(Clone)]
-pub struct CQDBWriter {
+#[must_use = "a writer has to be given its names, and finish gives the image"]
+pub struct MemoryWriter {
     buffer: Vec<u8>,
     record: Record,
     counts: Counts,
+    /// The names so far, where repeats are off.
+    held: Option<Held>,
 }
 
-impl CQDBWriter {
-    /// A writer of a two-way image that refuses a name which it already holds.
+impl MemoryWriter {
+    /// A writer of a two-way image.
     pub fn new() -> Self {
         Self::with_flag(Flag::NONE)
     }
 
-    /// A writer of a two-way or one-way image that refuses a name which it already holds.
-    ///
-    /// Each put then looks at all entries before it: 4,096 names take about 40 ms, 100,000 half a minute. Where the names are
-    /// known to differ, [`with_repeats`](CQDBWriter::with_repeats) makes the same image without that look.
+    /// A writer of a two-way or one-way image.
     pub fn with_flag(flag: Flag) -> Self {
-        Self::begin(flag, Repeats::Off)
+        Self::begin(flag, Some(Held::default()))
     }
 
-    /// A writer that takes a name again, as cqdb-rs does: for renewed prisms, which keep their name and get a new id.
+    /// A writer that takes a name that it holds already, as for a prism that is renewed under another id.
     pub fn with_repeats(flag: Flag) -> Self {
-        Self::begin(flag, Repeats::On)
+        Self::begin(flag, None)
     }
 
-    fn begin(flag: Flag, repeats: Repeats) -> Self {
+    fn begin(flag: Flag, held: Option<Held>) -> Self {
         let buffer = vec![0; FIRST];
         let mut counts = [0; 256];
-        let begun = archive::begin(flag as u32, repeats as u32, &mut counts, &buffer);
+        let begun = archive::begin(flag.bits(), REPEATS_ON, &mut counts, &buffer);
         assert_eq!(begun.refusal, 0, "begin accepts every buffer of 2,072 bytes or more");
-        CQDBWriter { buffer, record: begun.record, counts }
+        MemoryWriter { buffer, record: begun.record, counts, held }
     }
 
     /// Puts a name, any bytes but 0, under an id. A name gives the id of its first put, and an id gives the name of its last.
-    /// Refused, and nothing changes, with the first of these: [`Refusal::ZeroByte`] when the name has a zero byte;
-    /// [`Refusal::Repeated`] when the writer already holds the name and is not one
-    /// [`with_repeats`](CQDBWriter::with_repeats); [`Refusal::NoRoom`] when the image would exceed 4,294,967,295 bytes. A
-    /// two-way image has four bytes for each id up to the largest.
+    /// Refused, and nothing changes, with [`Refusal::ZeroByte`] when the name has a zero byte; else with
+    /// [`Refusal::Repeated`] when the writer holds the name, unless it was made by [`with_repeats`](Self::with_repeats); else
+    /// with [`Refusal::NoRoom`] when the image would exceed 4,294,967,295 bytes; a two-way image has four bytes for each id up
+    /// to the largest.
     pub fn put<K: AsRef<[u8]>>(&mut self, name: K, id: u32) -> Result<(), Refusal> {
         let name = name.as_ref();
+        if self.held.as_ref().is_some_and(|held| held.has(&self.buffer, name)) {
+            return Err(Refusal::Repeated);
+        }
+        let at = self.record.end as u32;
         match self.put_here(name, id) {
             Err(Refusal::NoRoom) if self.grow(name.len(), id) => self.put_here(name, id),
             answer => answer,
+        }?;
+        if let Some(held) = &mut self.held {
+            held.add(name, at);
         }
+        Ok(())
     }
 
     /// Closes the writer and gives the finished image.
@@ -114,14 +132,14 @@ impl CQDBWriter {
     }
 }
 
-impl Default for CQDBWriter {
+impl Default for MemoryWriter {
     fn default() -> Self {
         Self::new()
     }
 }
 
-impl fmt::Debug for CQDBWriter {
+impl fmt::Debug for MemoryWriter {
     fn fmt(&self, f: &mut fmt::Formatter<'_>) -> fmt::Result {
-        f.debug_struct("CQDBWriter").field("record", &self.record).finish_non_exhaustive()
+        f.debug_struct("MemoryWriter").field("record", &self.record).finish_non_exhaustive()
     }
 }

@@ -1,7 +1,7 @@
 //! The average search length, through the safe calls.
-use cqdb::{load, Average, CQDBWriter, Flag, Refusal, CQDB};
+use cqdb::{load, Average, Flag, MemoryWriter, Refusal, CQDB};
 
-fn image(mut writer: CQDBWriter, names: &[&str]) -> Vec<u8> {
+fn image(mut writer: MemoryWriter, names: &[&str]) -> Vec<u8> {
     for (id, name) in names.iter().enumerate() {
         writer.put(name, id as u32).unwrap();
     }
@@ -26,7 +26,7 @@ fn loads() {
 
 #[test]
 fn a_repeated_name_counts_each_time() {
-    let image = image(CQDBWriter::with_repeats(Flag::NONE), &["A"; 20]);
+    let image = image(MemoryWriter::with_repeats(Flag::NONE), &["A"; 20]);
     let db = CQDB::new(&image).unwrap();
     // Each of the twenty lookups finds the first entry, in the first bucket of its search.
     assert_eq!(db.average().unwrap(), Average { entries: 20, quotient: 1, remainder: 0 });
@@ -35,14 +35,14 @@ fn a_repeated_name_counts_each_time() {
 
 #[test]
 fn one_way() {
-    let image = image(CQDBWriter::with_flag(Flag::ONEWAY), &["north wall", "crane", "quay"]);
+    let image = image(MemoryWriter::with_flag(Flag::ONEWAY), &["north wall", "crane", "quay"]);
     let average = CQDB::new(&image).unwrap().average().unwrap();
     assert_eq!((average.entries, average.total()), (3, 3));
 }
 
 #[test]
 fn refusals() {
-    let empty = image(CQDBWriter::new(), &[]);
+    let empty = image(MemoryWriter::new(), &[]);
     let db = CQDB::new(&empty).unwrap();
     assert_eq!((db.average(), db.lengths()), (Err(Refusal::NoEntries), Err(Refusal::NoEntries)));
     // 17 comes before 18: an empty image with a byte behind it.

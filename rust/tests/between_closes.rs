@@ -1,6 +1,6 @@
 //! What a buffer holds between an accepted put and the next close: no image, though opening may accept it. docs/FORMAT.md,
 //! "Reading between closes", tells these cases. The crate's writer cannot get there, so the archive is called as C calls it.
-use cqdb::CQDB;
+use cqdb::{BStr, CQDB};
 
 #[path = "../src/archive.rs"]
 #[allow(dead_code)]
@@ -29,7 +29,10 @@ impl Writer {
         writer.put(b"A", 0);
         writer.put(b"B", 1);
         writer.close();
-        assert_eq!(writer.image().iter().collect::<Vec<_>>(), [(0, &b"A"[..]), (1, &b"B"[..])]);
+        assert_eq!(
+            writer.image().iter().map(Result::unwrap).collect::<Vec<_>>(),
+            [(0, BStr::new("A")), (1, BStr::new("B"))]
+        );
         writer
     }
 
@@ -52,7 +55,7 @@ impl Writer {
     fn assert_swapped(&self) {
         let db = self.image();
         assert_eq!(db.num(), 2);
-        assert_eq!([db.to_str(0), db.to_str(1)], [Some(&b"B"[..]), Some(&b"A"[..])]);
+        assert_eq!([db.to_str(0), db.to_str(1)], [Some(BStr::new(b"B")), Some(BStr::new(b"A"))]);
     }
 
     /// After one more close every name and every id gives what was put, also what was put before it.
@@ -62,7 +65,7 @@ impl Writer {
         let puts = [&[(&b"A"[..], 0), (&b"B"[..], 1)], later].concat();
         assert_eq!(db.num() as usize, puts.len());
         for (name, id) in puts {
-            assert_eq!((db.to_id_bytes(name), db.to_str(id)), (Some(id), Some(name)));
+            assert_eq!((db.to_id_bytes(name), db.to_str(id)), (Some(id), Some(BStr::new(name))));
         }
     }
 }
@@ -87,7 +90,7 @@ fn a_name_with_a_zero_byte_is_refused_and_changes_nothing() {
     let answer = archive::put(record, &mut writer.counts, &mut writer.buffer, &name, 2);
     assert_eq!((answer.refusal, answer.record), (13, record));
     assert_eq!((writer.counts, &writer.buffer), (counts, &buffer));
-    assert_eq!([writer.image().to_str(0), writer.image().to_str(1)], [Some(&b"A"[..]), Some(&b"B"[..])]);
+    assert_eq!([writer.image().to_str(0), writer.image().to_str(1)], [Some(BStr::new(b"A")), Some(BStr::new(b"B"))]);
 }
 
 #[test]

@@ -1,8 +1,8 @@
 //! Several walls in a file: append, open by position, count, walk.
-use cqdb::{Bundle, CQDBWriter, Refusal, CQDB};
+use cqdb::{BStr, Bundle, MemoryWriter, Refusal, CQDB};
 
 fn image(names: &[&str]) -> Vec<u8> {
-    let mut writer = CQDBWriter::new();
+    let mut writer = MemoryWriter::new();
     for (name, id) in names.iter().zip(0..) {
         writer.put(name, id).unwrap();
     }
@@ -41,7 +41,7 @@ fn images_back_to_back() {
     assert_eq!(nums, [2, 0, 2]);
     assert_eq!(bundle.open(0).unwrap().to_id("B"), Some(1));
     assert_eq!(bundle.open(2).unwrap().to_id("B"), Some(0));
-    assert_eq!(bundle.open(2).unwrap().to_str(1), Some(&b"quay"[..]));
+    assert_eq!(bundle.open(2).unwrap().to_str(1), Some(BStr::new(b"quay")));
     assert_eq!([refused(&file, 3), refused(&file, u64::MAX)], [Some(Refusal::NoSuchImage); 2]);
 }
 

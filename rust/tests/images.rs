@@ -1,15 +1,25 @@
 //! Images built and read back through the safe calls.
-use cqdb::{jhash, CQDBWriter, Flag, Found, Refusal, CQDB};
+use std::io;
+
+use cqdb::{jhash, BStr, Flag, Found, MemoryWriter, Refusal, CQDB};
 
 fn image(flag: Flag, puts: &[(&[u8], u32)]) -> Vec<u8> {
-    filled(CQDBWriter::with_flag(flag), puts)
+    filled(MemoryWriter::with_flag(flag), puts)
 }
 
-fn filled(mut writer: CQDBWriter, puts: &[(&[u8], u32)]) -> Vec<u8> {
+fn filled(mut writer: MemoryWriter, puts: &[(&[u8], u32)]) -> Vec<u8> {
     for (name, id) in puts {
         writer.put(name, *id).expect("there is room");
     }
     writer.finish().expect("a finished writer is consistent")
+}
+
+fn walked<'a>(db: &CQDB<'a>) -> Vec<(u32, &'a BStr)> {
+    db.iter().collect::<Result<_, _>>().expect("no step is an error")
+}
+
+fn refused<T>(answer: io::Result<T>) -> Option<Refusal> {
+    answer.err().as_ref().and_then(Refusal::of)
 }
 
 #[test]
@@ -19,16 +29,16 @@ fn first_name_last_id() {
     let db = CQDB::new(&image).unwrap();
     assert_eq!(db.num(), 3);
     assert_eq!([db.to_id("A"), db.to_id("B"), db.to_id("C"), db.to_id("D")], [Some(0), Some(3), Some(0), None]);
-    assert_eq!([db.to_str(0), db.to_str(3)], [Some(&b"C"[..]), Some(&b"B"[..])]);
+    assert_eq!([db.to_str(0), db.to_str(3)], [Some(BStr::new(b"C")), Some(BStr::new(b"B"))]);
     assert_eq!([db.to_str(1), db.to_str(4), db.to_str(u32::MAX)], [None; 3]);
-    assert_eq!(db.iter().collect::<Vec<_>>(), [(0, &b"C"[..])]);
+    assert_eq!(walked(&db), [(0, BStr::new("C"))]);
 }
 
 #[test]
 fn home() {
-    let image = filled(CQDBWriter::with_repeats(Flag::NONE), &[(b"A", 5), (b"A", 9)]);
+    let image = filled(MemoryWriter::with_repeats(Flag::NONE), &[(b"A", 5), (b"A", 9)]);
     let db = CQDB::new(&image).unwrap();
-    assert_eq!((db.to_id("A"), db.to_str(9)), (Some(5), Some(&b"A"[..])));
+    assert_eq!((db.to_id("A"), db.to_str(9)), (Some(5), Some(BStr::new(b"A"))));
     assert_eq!([db.home(5), db.home(9), db.home(0)], [true, true, false]);
 }
 
@@ -41,14 +51,14 @@ fn any_bytes_but_zero_are_a_name() {
     let db = CQDB::new(&image).unwrap();
     for (name, id) in puts {
         assert_eq!(db.to_id_bytes(name), Some(id));
-        assert_eq!(db.to_str(id), Some(name));
+        assert_eq!(db.to_str(id), Some(BStr::new(name)));
     }
     assert_eq!(db.to_id("Grüße"), Some(3));
 }
 
 #[test]
 fn a_zero_byte_is_refused_and_changes_nothing() {
-    let mut writer = CQDBWriter::new();
+    let mut writer = MemoryWriter::new();
     writer.put("A", 5).unwrap();
     let mut long = vec![b'x'; 100_000];
     long[99_999] = 0;
@@ -66,7 +76,7 @@ fn a_zero_byte_is_refused_and_changes_nothing() {
 #[test]
 fn a_repeated_name_is_refused_and_changes_nothing() {
     for flag in [Flag::NONE, Flag::ONEWAY] {
-        let mut writer = CQDBWriter::with_flag(flag);
+        let mut writer = MemoryWriter::with_flag(flag);
         for (name, id) in [("A", 5), ("prism 7", 6), ("", 7)] {
             writer.put(name, id).unwrap();
         }
@@ -80,7 +90,7 @@ fn a_repeated_name_is_refused_and_changes_nothing() {
         writer.put("prism 70", 8).unwrap();
         let puts: [(&[u8], u32); 4] = [(b"A", 5), (b"prism 7", 6), (b"", 7), (b"prism 70", 8)];
         let made = writer.finish().unwrap();
-        assert_eq!(made, filled(CQDBWriter::with_repeats(flag), &puts));
+        assert_eq!(made, filled(MemoryWriter::with_repeats(flag), &puts));
     }
     assert_eq!(Refusal::Repeated.number(), 16);
     assert_eq!(Refusal::Repeated.to_string(), "the writer already holds this name, and repeats are off");
@@ -90,7 +100,7 @@ fn a_repeated_name_is_refused_and_changes_nothing() {
 fn the_choice_outlives_a_larger_buffer() {
     let name = |id: u32| format!("prism {id}");
     for repeats in [false, true] {
-        let mut writer = if repeats { CQDBWriter::with_repeats(Flag::NONE) } else { CQDBWriter::new() };
+        let mut writer = if repeats { MemoryWriter::with_repeats(Flag::NONE) } else { MemoryWriter::new() };
         for id in 0..2_000 {
             writer.put(name(id), id).unwrap();
             let again = writer.put(name(id / 2), id);
@@ -100,7 +110,7 @@ fn the_choice_outlives_a_larger_buffer() {
         let db = CQDB::new(&image).unwrap();
         assert_eq!(db.num(), if repeats { 4_000 } else { 2_000 });
         assert_eq!(db.to_id("prism 3"), Some(3));
-        assert_eq!(db.to_str(6), Some(if repeats { &b"prism 3"[..] } else { b"prism 6" }));
+        assert_eq!(db.to_str(6), Some(BStr::new(if repeats { "prism 3" } else { "prism 6" })));
     }
 }
 
@@ -112,9 +122,12 @@ fn the_panel_reads_up_to_a_zero_byte() {
     bytes[2_072 + 8 + 2] = 0;
     bytes[2_072 + 14 + 15 + 8] = 0;
     let db = CQDB::new(&bytes).unwrap();
-    assert_eq!([db.panel(0), db.panel(1), db.panel(4)], [Some(&b"fi"[..]), Some(&b"second"[..]), Some(&b""[..])]);
+    assert_eq!(
+        [db.panel(0), db.panel(1), db.panel(4)],
+        [Some(BStr::new(b"fi")), Some(BStr::new(b"second")), Some(BStr::new(b""))]
+    );
     assert_eq!([db.panel(2), db.panel(5), db.panel(u32::MAX)], [None; 3]);
-    assert_eq!((db.to_str(0), db.to_str(4)), (Some(&b"fi\0st"[..]), Some(&b"\0hird"[..])));
+    assert_eq!((db.to_str(0), db.to_str(4)), (Some(BStr::new(b"fi\0st")), Some(BStr::new(b"\0hird"))));
     assert!(!db.readings_agree());
     // Only the last id, behind a gap where a walk ends, has a zero byte.
     bytes[2_072 + 8 + 2] = b'r';
@@ -125,7 +138,7 @@ fn the_panel_reads_up_to_a_zero_byte() {
 fn the_buffer_grows() {
     let name = |id: u32| format!("prism {id}");
     for flag in [Flag::NONE, Flag::ONEWAY] {
-        let mut writer = CQDBWriter::with_repeats(flag);
+        let mut writer = MemoryWriter::with_repeats(flag);
         for id in 0..20_000 {
             writer.put(name(id), id).unwrap();
         }
@@ -140,7 +153,7 @@ fn the_buffer_grows() {
             assert_eq!(found, Some(Found { id, offset }));
             offset += 9 + name(id).len() as u32;
             assert!((1..=20_000).contains(&buckets));
-            assert_eq!(db.to_str(id), (flag == Flag::NONE).then_some(name(id).as_bytes()));
+            assert_eq!(db.to_str(id), (flag == Flag::NONE).then_some(BStr::new(&name(id))));
         }
     }
 }
@@ -149,12 +162,12 @@ fn the_buffer_grows() {
 fn one_put_may_need_much_room() {
     let image = image(Flag::NONE, &[(b"far", 1_000_000)]);
     assert_eq!(image.len(), 2_072 + 28 + 4 * 1_000_001);
-    assert_eq!(CQDB::new(&image).unwrap().to_str(1_000_000), Some(&b"far"[..]));
+    assert_eq!(CQDB::new(&image).unwrap().to_str(1_000_000), Some(BStr::new(b"far")));
 }
 
 #[test]
 fn too_large_is_refused_and_changes_nothing() {
-    let mut writer = CQDBWriter::new();
+    let mut writer = MemoryWriter::new();
     writer.put("A", 5).unwrap();
     for id in [u32::MAX, u32::MAX - 1, 1 << 30, (1 << 30) - 532] {
         assert_eq!(writer.put("B", id), Err(Refusal::NoRoom));
@@ -170,54 +183,56 @@ fn too_large_is_refused_and_changes_nothing() {
 fn walks_and_their_hints() {
     let image = image(Flag::NONE, &[(b"zero", 0), (b"one", 1), (b"five", 5)]);
     let db = CQDB::new(&image).unwrap();
+    assert_eq!((db.back_size(), db.bytes()), (6, &image[..]));
     let mut walk = db.iter();
     assert_eq!(walk.size_hint(), (0, Some(6)));
-    assert_eq!(walk.next(), Some((0, &b"zero"[..])));
-    assert_eq!(walk.next(), Some((1, &b"one"[..])));
+    assert_eq!(walk.next().unwrap().unwrap(), (0, BStr::new(b"zero")));
+    assert_eq!(walk.next().unwrap().unwrap(), (1, BStr::new(b"one")));
     assert_eq!(walk.size_hint(), (0, Some(4)));
-    assert_eq!([walk.next(), walk.next()], [None, None]);
-    assert_eq!((&db).into_iter().map(|(id, _)| id).collect::<Vec<_>>(), [0, 1]);
+    assert!(walk.next().is_none() && walk.next().is_none());
+    assert_eq!((&db).into_iter().map(|step| step.unwrap().0).collect::<Vec<_>>(), [0, 1]);
 }
 
 #[test]
 fn a_one_way_image_has_no_walk() {
     let one_way = image(Flag::ONEWAY, &[(b"zero", 0)]);
     let mut none = CQDB::new(&one_way).unwrap().iter();
-    assert_eq!((none.size_hint(), none.next()), ((0, Some(0)), None));
+    assert_eq!((none.size_hint(), none.next().is_none()), ((0, Some(0)), true));
+    assert_eq!(CQDB::new(&one_way).unwrap().back_size(), 0);
 }
 
 #[test]
 fn an_empty_image() {
-    let image = CQDBWriter::default().finish().unwrap();
+    let image = MemoryWriter::default().finish().unwrap();
     assert_eq!(image.len(), 2_072);
     let db = CQDB::new(&image).unwrap();
-    assert_eq!((db.num(), db.to_id(""), db.to_str(0), db.iter().next()), (0, None, None, None));
+    assert_eq!((db.num(), db.to_id(""), db.to_str(0), db.iter().count()), (0, None, None, 0));
 }
 
 #[test]
 fn what_open_refuses() {
     let good = image(Flag::NONE, &[(b"A", 0)]);
-    let refused = |at: usize, value: u32| {
+    let changed = |at: usize, value: u32| {
         let mut bad = good.clone();
         bad[at..at + 4].copy_from_slice(&value.to_le_bytes());
-        CQDB::new(&bad).map(|db| db.num())
+        refused(CQDB::new(&bad))
     };
-    assert_eq!(CQDB::new(&good[..2_071]).err(), Some(Refusal::TooShort));
-    assert_eq!(refused(0, 0), Err(Refusal::WrongLetters));
-    assert_eq!(refused(12, 0), Err(Refusal::WrongByteOrder));
-    assert_eq!(refused(24, good.len() as u32 + 1), Err(Refusal::TableLeaves));
-    assert_eq!(refused(20, good.len() as u32 - 3), Err(Refusal::BackLeaves));
-    assert_eq!(refused(4, 0), Ok(1));
+    assert_eq!(refused(CQDB::new(&good[..2_071])), Some(Refusal::TooShort));
+    assert_eq!(changed(0, 0), Some(Refusal::WrongLetters));
+    assert_eq!(changed(12, 0), Some(Refusal::WrongByteOrder));
+    assert_eq!(changed(24, good.len() as u32 + 1), Some(Refusal::TableLeaves));
+    assert_eq!(changed(20, good.len() as u32 - 3), Some(Refusal::BackLeaves));
+    assert_eq!(changed(4, 0), None);
     let numbers = [Refusal::TooShort, Refusal::WrongLetters, Refusal::BackLeaves].map(Refusal::number);
     assert_eq!(numbers, [1, 5, 8]);
 }
 
 #[test]
 fn a_refusal_is_an_io_error() {
-    let open = |bytes: &[u8]| -> std::io::Result<u32> { Ok(CQDB::new(bytes)?.num()) };
+    let open = |bytes: &[u8]| -> io::Result<u32> { Ok(CQDB::new(bytes)?.num()) };
     let error = open(b"CQDB").unwrap_err();
-    let inner = error.get_ref().and_then(|e| e.downcast_ref::<Refusal>());
-    assert_eq!(inner, Some(&Refusal::TooShort));
+    assert_eq!((Refusal::of(&error), error.kind()), (Some(Refusal::TooShort), io::ErrorKind::Other));
+    assert_eq!(Refusal::of(&io::Error::other("a disk")), None);
 }
 
 /// Changes every byte of an image, one at a time. Whatever opens is searched, named and walked without a fault.
@@ -240,7 +255,7 @@ fn damaged_images() {
                 }
             }
             for id in 0..4 {
-                assert!(db.to_str(id).is_none_or(|name| name.len() < bad.len()));
+                assert!(db.to_str(id).map_or(true, |name| name.len() < bad.len()));
                 assert!(!db.home(id) || db.to_str(id).is_some());
             }
             assert!(db.iter().count() <= 3);

@@ -1,5 +1,5 @@
 //! The load of a seed, through the safe calls.
-use cqdb::{load, load_in, CQDBWriter, Refusal, CQDB};
+use cqdb::{load, load_in, BStr, MemoryWriter, Refusal, CQDB};
 
 /// The names of a seed.
 fn names(seed: u32) -> Vec<String> {
@@ -11,7 +11,7 @@ fn names(seed: u32) -> Vec<String> {
 fn it_is_the_image_of_its_puts() {
     for seed in [0, 1, 0x8000_0000, u32::MAX] {
         // No name occurs twice in these, so a writer takes them all with repeats off.
-        let mut writer = CQDBWriter::new();
+        let mut writer = MemoryWriter::new();
         for (id, name) in names(seed).iter().enumerate() {
             writer.put(name, id as u32).unwrap();
         }
@@ -26,7 +26,7 @@ fn names_and_ids() {
     assert_eq!((image.len(), db.num()), (157_720, 4_096));
     for (id, name) in names(7).iter().enumerate() {
         assert_eq!(db.to_id(name), Some(id as u32));
-        assert_eq!(db.to_str(id as u32), Some(name.as_bytes()));
+        assert_eq!(db.to_str(id as u32), Some(BStr::new(name)));
     }
     assert_eq!(names(0)[0], "P3C6EF35F");
 }

@@ -1,14 +1,19 @@
 //! Is this image one of ours? Through the safe calls.
-use cqdb::{CQDBWriter, Flag, CQDB};
+use cqdb::{BStr, Flag, MemoryWriter, CQDB};
 
 const PUTS: [(&[u8], u32); 4] = [(b"A", 0), (b"north wall", 7), (b"B", 9), (b"", 7)];
 
 fn image(flag: Flag, puts: &[(&[u8], u32)]) -> Vec<u8> {
-    let mut writer = CQDBWriter::with_flag(flag);
+    let mut writer = MemoryWriter::with_flag(flag);
     for (name, id) in puts {
         writer.put(name, *id).unwrap();
     }
     writer.finish().unwrap()
+}
+
+/// The puts as reading them back gives them.
+fn read_back(puts: &[(&'static [u8], u32)]) -> Vec<(&'static BStr, u32)> {
+    puts.iter().map(|(name, id)| (BStr::new(*name), *id)).collect()
 }
 
 fn is_ours(image: &[u8]) -> bool {
@@ -21,7 +26,7 @@ fn images_of_a_writer() {
         for n in 0..=PUTS.len() {
             let image = image(flag, &PUTS[..n]);
             assert!(is_ours(&image), "{n} puts");
-            assert_eq!(CQDB::new(&image).unwrap().puts().unwrap().collect::<Vec<_>>(), &PUTS[..n]);
+            assert_eq!(CQDB::new(&image).unwrap().puts().unwrap().collect::<Vec<_>>(), read_back(&PUTS[..n]));
         }
     }
 }
@@ -51,7 +56,7 @@ fn words_of_a_lost_disk() {
 fn puts_know_their_number() {
     let image = image(Flag::ONEWAY, &PUTS);
     let mut puts = CQDB::new(&image).unwrap().puts().unwrap();
-    assert_eq!((puts.len(), puts.next()), (4, Some(PUTS[0])));
-    assert_eq!((puts.len(), puts.clone().last()), (3, Some(PUTS[3])));
+    assert_eq!((puts.len(), puts.next()), (4, Some(read_back(&PUTS)[0])));
+    assert_eq!((puts.len(), puts.clone().last()), (3, Some(read_back(&PUTS)[3])));
     assert_eq!((puts.by_ref().count(), puts.next()), (3, None));
 }

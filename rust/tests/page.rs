@@ -1,8 +1,8 @@
 //! The printed catalogue, through the safe calls.
-use cqdb::{CQDBWriter, Flag, Page, Refusal, CQDB};
+use cqdb::{Flag, MemoryWriter, Page, Refusal, CQDB};
 
 fn image(puts: &[(&[u8], u32)]) -> Vec<u8> {
-    let mut writer = CQDBWriter::new();
+    let mut writer = MemoryWriter::new();
     for (name, id) in puts {
         writer.put(name, *id).unwrap();
     }
@@ -56,7 +56,7 @@ fn an_output_that_is_too_short() {
 #[test]
 fn no_line() {
     let oneway = {
-        let mut writer = CQDBWriter::with_flag(Flag::ONEWAY);
+        let mut writer = MemoryWriter::with_flag(Flag::ONEWAY);
         writer.put("A", 0).unwrap();
         writer.finish().unwrap()
     };

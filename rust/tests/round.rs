@@ -1,10 +1,10 @@
 //! Whole rounds through the safe calls, beside single calls.
-use cqdb::{CQDBWriter, Refusal, CQDB};
+use cqdb::{MemoryWriter, Refusal, CQDB};
 
 fn image(n: u32) -> Vec<u8> {
-    let mut writer = CQDBWriter::new();
+    let mut writer = MemoryWriter::new();
     for id in 0..n {
-        writer.put(&format!("prism {id}"), id).expect("a put");
+        writer.put(format!("prism {id}"), id).expect("a put");
     }
     writer.finish().expect("an image")
 }

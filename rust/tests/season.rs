@@ -1,5 +1,5 @@
 //! Names with a season, through the safe call.
-use cqdb::{CQDBWriter, Date, Refusal, Window, CQDB};
+use cqdb::{BStr, Date, MemoryWriter, Refusal, Window, CQDB};
 
 const WHOLE: (Date, Date) = (date(1900, 1, 1), date(2200, 1, 1));
 
@@ -12,7 +12,7 @@ fn window(id: u32, (first, end): (Date, Date)) -> Window {
 }
 
 fn image() -> Vec<u8> {
-    let mut writer = CQDBWriter::new();
+    let mut writer = MemoryWriter::new();
     writer.put("north wall", 0).unwrap();
     writer.put("crane", 5).unwrap();
     writer.finish().unwrap()
@@ -25,8 +25,8 @@ fn the_end_date_is_not_included() {
     let spring = [window(5, (date(2024, 3, 1), date(2024, 6, 1)))];
     let on = |day| db.name_on(5, day, &spring).unwrap();
     assert_eq!(on(date(2024, 2, 29)), None);
-    assert_eq!(on(date(2024, 3, 1)), Some(&b"crane"[..]));
-    assert_eq!(on(date(2024, 5, 31)), Some(&b"crane"[..]));
+    assert_eq!(on(date(2024, 3, 1)), Some(BStr::new(b"crane")));
+    assert_eq!(on(date(2024, 5, 31)), Some(BStr::new(b"crane")));
     assert_eq!(on(date(2024, 6, 1)), None);
     assert_eq!(db.name_on(0, date(2024, 4, 1), &spring), Ok(None), "a window of another id");
     assert_eq!(db.name_on(5, date(2024, 4, 1), &[]), Ok(None), "no window");
@@ -49,7 +49,7 @@ fn dates_that_do_not_exist() {
         assert_eq!(db.name_on(5, date(2024, 1, 1), &[window(9, (day, WHOLE.1))]), Err(Refusal::NoSuchDate), "{day:?}");
         assert_eq!(db.name_on(5, date(2024, 1, 1), &[window(9, (WHOLE.0, day))]), Err(Refusal::NoSuchDate), "{day:?}");
     }
-    assert_eq!(db.name_on(5, date(2000, 2, 29), &[window(5, WHOLE)]), Ok(Some(&b"crane"[..])));
+    assert_eq!(db.name_on(5, date(2000, 2, 29), &[window(5, WHOLE)]), Ok(Some(BStr::new(b"crane"))));
 }
 
 #[test]
@@ -57,7 +57,7 @@ fn bounds() {
     let image = image();
     let db = CQDB::new(&image).unwrap();
     for day in [date(1900, 1, 1), date(2199, 12, 31)] {
-        assert_eq!(db.name_on(0, day, &[window(0, WHOLE)]), Ok(Some(&b"north wall"[..])));
+        assert_eq!(db.name_on(0, day, &[window(0, WHOLE)]), Ok(Some(BStr::new(b"north wall"))));
     }
     for day in [date(1899, 12, 31), date(2200, 1, 1)] {
         assert_eq!(db.name_on(0, day, &[window(0, WHOLE)]), Err(Refusal::NoSuchDate));

@@ -1,6 +1,6 @@
 //! Calls on different buffers run side by side: threads that build and read images at the same time get what one thread
 //! gets alone.
-use cqdb::{CQDBWriter, CQDB};
+use cqdb::{MemoryWriter, CQDB};
 use std::sync::Barrier;
 use std::thread;
 
@@ -14,7 +14,7 @@ fn name(image: u32, id: u32) -> String {
 
 /// An image of some hundred names, and all that reading it gives.
 fn built(image: u32) -> (Vec<u8>, Vec<Option<u32>>, Vec<Vec<u8>>) {
-    let mut writer = CQDBWriter::new();
+    let mut writer = MemoryWriter::new();
     for id in 0..NAMES {
         writer.put(name(image, id), id).unwrap();
     }
@@ -23,7 +23,7 @@ fn built(image: u32) -> (Vec<u8>, Vec<Option<u32>>, Vec<Vec<u8>>) {
     let present = (0..NAMES).map(|id| name(image, id));
     let absent = (0..NAMES).map(|id| name(IMAGES + image, id));
     let ids = present.chain(absent).map(|name| db.to_id(&name)).collect();
-    let names = db.iter().map(|(_, name)| name.to_vec()).collect();
+    let names = db.iter().map(|step| step.unwrap().1.to_vec()).collect();
     (bytes, ids, names)
 }
 

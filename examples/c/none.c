@@ -1,0 +1,85 @@
+/* NULL with length 0 is no bytes: each call is lent NULL wherever it takes bytes or a list, and answers as it does for an empty
+   array. Ends with status 1 where something differs.
+
+       cc -I include examples/c/none.c target/staticlib/libcqdb_c.a -o none && ./none */
+#include <stdio.h>
+#include <string.h>
+
+#include "cqdb.h"
+
+static unsigned checked, different;
+
+static void expect(int holds, const char *what) {
+    checked++;
+    if (!holds) {
+        different++;
+        fprintf(stderr, "none: wrong: %s\n", what);
+    }
+}
+
+/* An empty name in an image, put and asked by NULL. */
+static void check_names(void) {
+    static uint8_t buf[4096];
+    uint8_t empty[1] = {7};
+    cqdb_writer w;
+    cqdb_hash_answer h = cqdb_hash(NULL, 0, 5), same = cqdb_hash(empty, 0, 5);
+    expect(h.refusal == 0 && h.hash == same.hash, "hash");
+    expect(cqdb_begin(&w, CQDB_TWOWAY, buf, sizeof buf) == 0, "begin");
+    expect(cqdb_put(&w, buf, sizeof buf, NULL, 0, 3) == 0, "put");
+    cqdb_close_answer closed = cqdb_close(&w, buf, sizeof buf);
+    cqdb_id_answer a = cqdb_to_id(buf, closed.size, NULL, 0);
+    expect(closed.refusal == 0 && a.found == 1 && a.id == 3, "to_id of the empty name");
+    expect(cqdb_page(NULL, 0, NULL, 0).refusal == 0, "a page of no bytes in no bytes");
+    expect(cqdb_page(buf, closed.size, NULL, 0).refusal == CQDB_PAGE_TOO_LONG, "a page in no bytes");
+}
+
+/* No bytes as an image and as a buffer. */
+static void check_images(void) {
+    cqdb_writer w;
+    memset(&w, 0, sizeof w);
+    expect(cqdb_open(NULL, 0).refusal == CQDB_TOO_SHORT, "open");
+    expect(cqdb_to_id(NULL, 0, NULL, 0).found == 0, "to_id");
+    expect(cqdb_to_str(NULL, 0, 0).found == 0 && cqdb_panel(NULL, 0, 0).found == 0, "to_str and panel");
+    expect(cqdb_readings_agree(NULL, 0) == 1, "readings_agree");
+    expect(cqdb_size_hint(NULL, 0, 0) == 0 && cqdb_home(NULL, 0, 0) == 0 && cqdb_page_length(NULL, 0) == 0, "hint, home, page");
+    expect(cqdb_begin(&w, CQDB_ONEWAY, NULL, 0) == CQDB_TOO_SHORT, "begin");
+    expect(cqdb_put(&w, NULL, 0, NULL, 0, 0) == CQDB_UNFIT, "put");
+    expect(cqdb_close(&w, NULL, 0).refusal == CQDB_UNFIT, "close");
+    uint32_t counts[16] = {7};
+    expect(cqdb_ours(NULL, 0) == 0, "ours");
+    expect(cqdb_average(NULL, 0).refusal == CQDB_NOT_OURS, "average");
+    expect(cqdb_lengths(NULL, 0, counts) == CQDB_NOT_OURS && counts[0] == 7, "lengths");
+    expect(cqdb_round(NULL, 0, NULL, 0, NULL, 0, NULL, 0).refusal == 0, "a round of no names");
+    expect(cqdb_name_round(NULL, 0, NULL, 0, NULL, 0) == 0, "a round of no ids");
+    cqdb_date date = {2024, 2, 29};
+    expect(cqdb_name_on(NULL, 0, 7, date, NULL, 0).refusal == 0 && cqdb_name_on(NULL, 0, 7, date, NULL, 0).found == 0, "name_on");
+    expect(cqdb_load(7, NULL, 0).refusal == CQDB_TOO_SHORT, "load");
+}
+
+static void check_rounds(void) {
+    uint8_t file[6] = {9, 9, 9, 9, 9, 9};
+    uint32_t round[1] = {7};
+    cqdb_pair pairs[1] = {{1, 7}};
+    expect(cqdb_references_first(NULL, 0, NULL, 0).ok == 1, "no pairs and no round");
+    expect(cqdb_references_first(NULL, 0, round, 1).ok == 1 && cqdb_references_first(pairs, 1, NULL, 0).ok == 1, "one of the two");
+    expect(cqdb_sheet_write(NULL, 0, NULL, 0, NULL, 0, NULL, 0).refusal == CQDB_SHEET_TOO_LARGE, "a sheet in no bytes");
+    expect(cqdb_sheet_write(file, 6, NULL, 0, NULL, 0, NULL, 0).length == 6, "a sheet of empty lists");
+    expect(cqdb_sheet_read(file, 6).refusal == 0 && cqdb_sheet_read(NULL, 0).refusal == CQDB_TOO_FEW_BYTES, "sheet_read");
+}
+
+static void check_bundles(void) {
+    uint8_t buf[8] = {0};
+    expect(cqdb_bundle_count(NULL, 0).refusal == 0 && cqdb_bundle_count(NULL, 0).images == 0, "an empty bundle");
+    expect(cqdb_bundle_open(NULL, 0, 0).refusal == CQDB_NO_SUCH_IMAGE, "no image in it");
+    expect(cqdb_bundle_append(buf, 8, 0, NULL, 0).refusal == CQDB_BROKEN_BUNDLE, "no bytes appended");
+    expect(cqdb_bundle_append(NULL, 0, 0, NULL, 0).refusal == CQDB_BROKEN_BUNDLE, "no bytes in no bytes");
+}
+
+int main(void) {
+    check_names();
+    check_images();
+    check_rounds();
+    check_bundles();
+    printf("none: checked %u, %u wrong\n", checked, different);
+    return different != 0;
+}

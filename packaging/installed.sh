@@ -1,0 +1,6 @@
+# For ./install and ./uninstall: the files below the prefix.
+header=include/cqdb.h
+archive=lib/libcqdb_c.a
+package=lib/pkgconfig/cqdb.pc
+program=bin/cqdb
+manual=share/man/man1/cqdb.1

@@ -1,0 +1,90 @@
+//! `cqdb`: makes, asks and checks constant quark database images from a shell. Each command is a file of its own, over the
+//! crate's calls; COMMANDS lists them. The exit status is 0, 1 (not found, or no) or 2 (it could not be done).
+mod args;
+mod bundle;
+mod check;
+mod files;
+mod hash;
+mod id;
+mod lines;
+mod list;
+mod load;
+mod make;
+mod name;
+mod outcome;
+mod page;
+mod progress;
+mod questions;
+mod sheet;
+mod stats;
+
+use std::ffi::OsString;
+use std::io::Write;
+use std::process::ExitCode;
+
+use args::{Args, Command};
+use outcome::{Failure, Outcome};
+
+const COMMANDS: &[&Command] = &[
+    &make::COMMAND,
+    &id::COMMAND,
+    &name::COMMAND,
+    &list::COMMAND,
+    &page::COMMAND,
+    &check::COMMAND,
+    &stats::COMMAND,
+    &bundle::COMMAND,
+    &sheet::COMMAND,
+    &load::COMMAND,
+    &hash::COMMAND,
+];
+
+fn main() -> ExitCode {
+    files::keep_running_at_a_size_limit();
+    let mut words = std::env::args_os().skip(1);
+    let Some(first) = words.next() else {
+        eprint!("{}", overview());
+        return ExitCode::from(2);
+    };
+    outcome::exit(&first.to_string_lossy(), run(&first, words.collect()))
+}
+
+fn run(first: &OsString, words: Vec<OsString>) -> Outcome {
+    match first.to_str() {
+        Some("--help" | "-h" | "help") => match words.first() {
+            Some(command) => outcome::say(&command_of(command)?.help()),
+            None => outcome::say(&overview()),
+        },
+        Some("--version" | "-V") => outcome::say(&version()),
+        _ => {
+            let command = command_of(first)?;
+            match Args::parse(command, words)? {
+                Some(args) => (command.run)(args),
+                None => outcome::say(&command.help()),
+            }
+        }
+    }
+}
+
+fn command_of(word: &OsString) -> Result<&'static Command, Failure> {
+    COMMANDS
+        .iter()
+        .copied()
+        .find(|command| word == command.name)
+        .ok_or_else(|| Failure::new("there is no such command: 'cqdb --help' lists them"))
+}
+
+fn overview() -> String {
+    let mut text = Vec::new();
+    let _ = writeln!(text, "Constant quark database images: names to ids and ids to names.\n");
+    for command in COMMANDS {
+        let _ = writeln!(text, "  cqdb {:6} {}", command.name, command.summary);
+    }
+    let _ = writeln!(text, "\n'cqdb COMMAND --help' says more. 'cqdb --version' names the versions.");
+    let _ = writeln!(text, "Exit status: 0; 1 for not found, or no; 2 where it could not be done, with a message.");
+    String::from_utf8(text).expect("it was written as text")
+}
+
+fn version() -> String {
+    format!("cqdb {0}\nlibrary lithwennog {0}\nproved with {1}\n", env!("CARGO_PKG_VERSION"), env!("CQDB_KIT"))
+}

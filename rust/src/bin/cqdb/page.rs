@@ -1,0 +1,27 @@
+//! `cqdb page`: the printed catalogue.
+use crate::args::{Args, Command};
+use crate::files;
+use crate::outcome::{Answer, Outcome, Output};
+
+pub const COMMAND: Command = Command {
+    name: "page",
+    usage: "IMAGE",
+    summary: "print the catalogue for paper",
+    text: "
+Prints a line of 45 bytes for every id up to the largest: the id right-aligned in
+10 bytes, a space, 32 bytes of the name, a plus sign where the name is longer,
+and a line feed. Bytes outside 32 to 126 are printed as full stops; an id without
+a name has 32 hyphens.
+",
+    options: &[],
+    operands: (1, 1),
+    run,
+};
+
+fn run(args: Args) -> Outcome {
+    let bytes = files::read(args.path(0))?;
+    let db = files::open(args.path(0), &bytes)?;
+    let mut out = Output::new();
+    out.bytes(&db.page().to_vec())?;
+    out.finish(Answer::Yes)
+}

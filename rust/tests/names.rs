@@ -1,0 +1,37 @@
+//! Names as text.
+#![allow(clippy::cmp_owned, clippy::op_ref, clippy::comparison_to_empty, clippy::nonminimal_bool)]
+use std::collections::BTreeMap;
+
+use cqdb::BStr;
+
+#[test]
+fn comparing() {
+    let name = BStr::new("crane");
+    assert!(name == "crane" && *name == *"crane" && "crane" == name && *"crane" == *name);
+    assert!(name == b"crane" && *name == b"crane"[..] && *name == *b"crane" && *b"crane" == *name);
+    assert!(name == "crane".to_string() && name == b"crane".to_vec() && *name == "crane" && *name == &b"crane"[..]);
+    assert!(name != "Crane" && name != b"cran" && name != "crane ".to_string() && BStr::new("") == "");
+    assert!(*name < "crane ".to_string() && *name > b"bollard"[..] && *"quay" > *name && name < BStr::new("d"));
+}
+
+#[test]
+fn as_bytes_and_as_text() {
+    let name = BStr::new(b"mole\xff");
+    assert_eq!((name.len(), name[4], name.to_vec()), (5, 0xff, b"mole\xff".to_vec()));
+    assert_eq!((name.to_str().is_err(), name.to_str_lossy().into_owned()), (true, "mole\u{fffd}".to_string()));
+    assert_eq!(BStr::new("Grüße").to_str(), Ok("Grüße"));
+    let from: [&BStr; 4] = ["a".into(), b"a".into(), b"a"[..].into(), "a".as_ref()];
+    assert!(from.iter().all(|name| *name == "a") && <&BStr>::default().is_empty());
+    let mut ids = BTreeMap::new();
+    ids.insert(name.to_owned(), 7);
+    assert_eq!(ids.get(name), Some(&7));
+}
+
+#[test]
+fn as_printed() {
+    let shown = |bytes: &[u8]| format!("{0} {0:?}", BStr::new(bytes));
+    assert_eq!(shown(b"a\xffb"), "a\u{fffd}b \"a\\xffb\"");
+    assert_eq!(shown(b"\xf0\x9f"), "\u{fffd} \"\\xf0\\x9f\"");
+    assert_eq!(shown(b"\0\t\"\x1b"), "\0\t\"\x1b \"\\0\\t\\\"\\u{1b}\"");
+    assert_eq!(format!("[{:-<5}] [{:>5}] [{1:^6}]", BStr::new("ab"), BStr::new("cd")), "[ab---] [   cd] [  cd  ]");
+}

@@ -1,0 +1,243 @@
+//! The commands that ask an image, as they are run.
+mod tool;
+
+use tool::Folder;
+
+const LIST: &str = "0 north wall\n1 crane\n4 mole\n4 pier\n";
+
+fn folder() -> Folder {
+    let folder = Folder::new();
+    folder.image("walls", LIST);
+    folder.with(LIST, &["make", "--one-way", "one-way"]).gives(0);
+    folder
+}
+
+#[test]
+fn ids_of_names() {
+    let folder = folder();
+    folder.cqdb(&["id", "walls", "crane", "pier", "mole"]).gives(0).prints("1 crane\n4 pier\n4 mole\n").tells("");
+    folder.cqdb(&["id", "one-way", "north wall"]).gives(0).prints("0 north wall\n");
+    let ran = folder.cqdb(&["id", "walls", "Crane", "crane", ""]).gives(1).prints("1 crane\n");
+    ran.tells("cqdb: id: walls has no name \"Crane\"\ncqdb: id: walls has no name \"\"\n");
+    folder.cqdb(&["id", "--tab", "walls", "crane"]).prints("1\tcrane\n");
+    folder.with("7 two\nlines\0", &["make", "-0", "lines"]).gives(0);
+    let told = "cqdb: id: the name of id 7 has a line feed: say --zero\n";
+    folder.cqdb(&["id", "lines", "two\nlines"]).gives(2).prints("").tells(told);
+    folder.cqdb(&["id", "-0", "lines", "two\nlines"]).gives(0).prints("7 two\nlines\0");
+    let long = "x".repeat(99);
+    let ran = folder.cqdb(&["id", "walls", &long]).gives(1);
+    ran.tells(&format!("cqdb: id: walls has no name \"{}\"..\n", &long[..40]));
+}
+
+#[test]
+fn names_of_ids() {
+    let folder = folder();
+    folder.cqdb(&["name", "walls", "4", "000", "1"]).gives(0).prints("4 pier\n0 north wall\n1 crane\n").tells("");
+    let ran = folder.cqdb(&["name", "walls", "2", "1", "4294967295"]).gives(1).prints("1 crane\n");
+    ran.tells("cqdb: name: walls has no name for id 2\ncqdb: name: walls has no name for id 4294967295\n");
+    folder.cqdb(&["name", "one-way", "0"]).gives(1).prints("");
+    for word in ["x", "", "4294967296", "1 "] {
+        let told = format!("cqdb: name: {word:?} is no decimal id up to 4294967295\n");
+        folder.cqdb(&["name", "walls", word]).gives(2).tells(&told);
+    }
+}
+
+#[test]
+fn questions_from_standard_input() {
+    let folder = folder();
+    folder.with("pier\nnobody\nnorth wall", &["id", "walls"]).gives(1).prints("4 pier\n0 north wall\n");
+    folder.with("4\n0\n", &["name", "walls"]).gives(0).prints("4 pier\n0 north wall\n");
+    folder.with("", &["id", "walls"]).gives(0).prints("");
+    folder.with("pier\0crane\0", &["id", "-0", "walls"]).gives(0).prints("4 pier\x001 crane\0");
+    // More than one round of 512 names.
+    let list: String = (0..2_000).map(|id| format!("{id} prism {id}\n")).collect();
+    let names: String = (0..2_000).map(|id| format!("prism {id}\n")).collect();
+    let ids: String = (0..2_000).map(|id| format!("{id}\n")).collect();
+    folder.image("many", &list);
+    folder.with(names, &["id", "many"]).gives(0).prints(&list);
+    folder.with(ids, &["name", "many"]).gives(0).prints(&list);
+}
+
+#[test]
+fn lists() {
+    let folder = folder();
+    folder.cqdb(&["list", "walls"]).gives(0).prints("0 north wall\n1 crane\n4 pier\n").tells("");
+    folder.cqdb(&["make", "empty"]).gives(0);
+    folder.cqdb(&["list", "empty"]).gives(0).prints("").tells("");
+    let ran = folder.cqdb(&["list", "one-way"]).gives(1).prints("");
+    assert!(ran.err.starts_with("cqdb: list: one-way is one-way: it names no ids"), "{}", ran.err);
+}
+
+#[test]
+fn lists_of_puts() {
+    let folder = folder();
+    for image in ["walls", "one-way"] {
+        folder.cqdb(&["list", "--puts", image]).gives(0).prints(LIST).tells("");
+    }
+    // The list of an image makes the image again.
+    let list = "5 crane\n9 crane\n5 mole\n0 \n";
+    folder.with(list, &["make", "--repeats", "image"]).gives(0);
+    folder.cqdb(&["list", "--puts", "image"]).prints(list);
+    let mut bytes = folder.read("image");
+    bytes.push(0);
+    folder.write("longer", bytes);
+    let ran = folder.cqdb(&["list", "--puts", "longer"]).gives(1).prints("");
+    ran.tells("cqdb: list: longer is not one of ours: it has no list of puts\n");
+    folder.cqdb(&["check", "longer"]).gives(1).prints(
+        "yes  it opens\n\
+         no   it is one of ours: no list of puts makes these bytes\n\
+         yes  readings agree\n\
+         yes  every name is home\n",
+    );
+}
+
+#[test]
+fn pages() {
+    let folder = folder();
+    let page = folder.cqdb(&["page", "walls"]).gives(0);
+    assert_eq!(page.out.len(), 5 * 45);
+    let text = String::from_utf8(page.out).unwrap();
+    let lines: Vec<&str> = text.lines().collect();
+    assert_eq!(lines[0], format!("{:>10} {:32} ", 0, "north wall"));
+    assert_eq!(lines[2], format!("{:>10} {} ", 2, "-".repeat(32)));
+    folder.cqdb(&["page", "one-way"]).gives(0).prints("");
+}
+
+#[test]
+fn stats() {
+    let folder = folder();
+    let ran = folder.cqdb(&["stats", "walls"]).gives(0);
+    let text = String::from_utf8(ran.out).unwrap();
+    let value = |name: &str| {
+        let words = text.lines().map(|line| line.split_whitespace().collect::<Vec<_>>());
+        words.filter(|words| words[0] == name).map(|words| words[1].to_string()).collect::<Vec<_>>()
+    };
+    assert_eq!(
+        (value("num"), value("size"), value("file")),
+        (vec!["4".into()], vec!["2215".into()], vec!["2215".into()])
+    );
+    assert_eq!((value("mode"), value("back-size")), (vec!["two-way".into()], vec!["5".into()]));
+    assert_eq!((value("named"), value("gaps")), (vec!["3".into()], vec!["2".into()]));
+    let one_way = String::from_utf8(folder.cqdb(&["stats", "one-way"]).gives(0).out).unwrap();
+    assert!(one_way.contains("mode      one-way\n") && one_way.contains("back-size 0\n"), "{one_way}");
+}
+
+#[test]
+fn search_lengths() {
+    let folder = folder();
+    folder.cqdb(&["load", "0", "load"]).gives(0);
+    let text = String::from_utf8(folder.cqdb(&["stats", "load"]).gives(0).out).unwrap();
+    assert!(text.contains("average   1.385 (5673 buckets, 4096 entries)\n"), "{text}");
+    let lines = text.lines().filter(|line| line.starts_with("length-"));
+    let words: Vec<Vec<&str>> = lines.map(|line| line.split_whitespace().collect()).collect();
+    let entries: Vec<u64> = words.iter().map(|words| words[1].parse().unwrap()).collect();
+    assert_eq!(entries.iter().sum::<u64>(), 4_096);
+    assert_eq!(entries.iter().zip(1..).map(|(entries, length)| entries * length).sum::<u64>(), 5_673);
+    assert_eq!((words[0][0], words[0][2].len()), ("length-1", 50));
+    assert!(words.iter().skip(1).all(|words| words.get(2).map_or(0, |bar| bar.len()) <= 25), "{text}");
+    // Without entries, and not one of ours.
+    folder.cqdb(&["make", "empty"]).gives(0);
+    let text = String::from_utf8(folder.cqdb(&["stats", "empty"]).gives(0).out).unwrap();
+    assert!(text.ends_with("(refusal 18)\n") && text.contains("average   none: "), "{text}");
+    folder.write("longer", [&folder.read("load")[..], b"\0"].concat());
+    let text = String::from_utf8(folder.cqdb(&["stats", "longer"]).gives(0).out).unwrap();
+    assert!(text.ends_with("(refusal 17)\n") && text.contains("average   none: "), "{text}");
+}
+
+#[test]
+fn checks() {
+    let folder = folder();
+    for image in ["walls", "one-way"] {
+        let ran = folder.cqdb(&["check", image]).gives(0);
+        let text = String::from_utf8(ran.out).unwrap();
+        assert!(text.lines().count() == 4 && text.lines().all(|line| line.starts_with("yes  ")), "{text}");
+    }
+    // A zero byte in the name of id 0, whose entry is the first: it is no longer found under its hash either.
+    let mut bytes = folder.read("walls");
+    bytes[2_072 + 8 + 3] = 0;
+    folder.write("damaged", &bytes);
+    let text = String::from_utf8(folder.cqdb(&["check", "damaged"]).gives(1).out).unwrap();
+    assert!(text.contains("yes  it opens\n"), "{text}");
+    assert!(text.contains("no   readings agree: the name of id 0 has a zero byte\n"), "{text}");
+    assert!(text.contains("no   every name is home: id 0 is not\n"), "{text}");
+}
+
+#[test]
+fn sheets() {
+    let folder = folder();
+    let ran =
+        folder.with("wall 7\nreference 1\nretired 9\nwall 5\nreference 2\n", &["sheet", "make", "round"]).gives(0);
+    ran.prints("round: 5 ids, 26 bytes\n");
+    folder.cqdb(&["sheet", "show", "round"]).gives(0).prints("reference 1\nreference 2\nwall 7\nwall 5\nretired 9\n");
+    folder.write("list", "wall x\n");
+    let ran = folder.cqdb(&["sheet", "make", "round", "list"]).gives(2);
+    assert!(ran.err.starts_with("cqdb: sheet: list, line 1: not reference, wall or retired"), "{}", ran.err);
+    let bytes = folder.read("round");
+    folder.write("short", &bytes[..25]);
+    folder.write("long", [&bytes[..], b"\0"].concat());
+    folder
+        .cqdb(&["sheet", "show", "short"])
+        .gives(2)
+        .tells("cqdb: sheet: short: invalid round sheet, too few bytes (refusal 19)\n");
+    folder
+        .cqdb(&["sheet", "show", "long"])
+        .gives(2)
+        .tells("cqdb: sheet: long: invalid round sheet, left-over bytes (refusal 20)\n");
+    let ran = folder.with("wall 1\n".repeat(65_536), &["sheet", "make", "round"]).gives(2);
+    assert!(ran.err.ends_with("(refusal 21)\n") && folder.read("round") == bytes, "{}", ran.err);
+    folder.cqdb(&["sheet", "print", "round"]).gives(2);
+}
+
+#[test]
+fn hashes() {
+    let folder = folder();
+    folder.cqdb(&["hash", "A", ""]).gives(0).prints("89284101 A\n8ba9414b \n");
+    folder.with("A\n", &["hash"]).gives(0).prints("89284101 A\n");
+}
+
+#[test]
+fn loads() {
+    let folder = Folder::new();
+    folder.cqdb(&["load", "0", "image"]).gives(0).prints("image: 4096 entries, 157720 bytes\n");
+    assert_eq!(folder.read("image"), cqdb::load(0));
+    folder.cqdb(&["name", "image", "0"]).prints("0 P3C6EF35F\n");
+    folder.cqdb(&["load", "4294967295", "other"]).gives(0);
+    assert_eq!(folder.read("other"), cqdb::load(u32::MAX));
+    for seed in ["x", "", "4294967296"] {
+        let told = format!("cqdb: load: the seed {seed:?} is no decimal number up to 4294967295\n");
+        folder.cqdb(&["load", seed, "image"]).gives(2).tells(&told);
+    }
+}
+
+#[test]
+fn helps_and_versions() {
+    let folder = folder();
+    let overview = String::from_utf8(folder.cqdb(&["--help"]).gives(0).out).unwrap();
+    let commands: Vec<&str> =
+        overview.lines().filter_map(|line| line.strip_prefix("  cqdb ")?.split_whitespace().next()).collect();
+    assert!(commands.len() >= 9, "{overview}");
+    for command in commands {
+        let help = folder.cqdb(&[command, "--help"]).gives(0);
+        assert!(help.out.starts_with(format!("Usage: cqdb {command} ").as_bytes()), "{help:?}");
+        folder.cqdb(&["help", command]).gives(0).prints(&help.out);
+        folder.cqdb(&[command, "--no-such"]).gives(2);
+    }
+    let version = String::from_utf8(folder.cqdb(&["--version"]).gives(0).out).unwrap();
+    assert!(version.starts_with(concat!("cqdb ", env!("CARGO_PKG_VERSION"), "\n")), "{version}");
+    assert!(version.contains(include_str!("../../KIT").trim()), "{version}");
+}
+
+#[test]
+fn words_that_do_not_fit() {
+    let folder = folder();
+    assert_eq!(folder.cqdb(&[]).status, Some(2));
+    folder.cqdb(&["lst", "walls"]).gives(2).tells("cqdb: lst: there is no such command: 'cqdb --help' lists them\n");
+    folder.cqdb(&["list"]).gives(2).tells("cqdb: list: a word is missing: cqdb list [OPTION].. IMAGE\n");
+    folder
+        .cqdb(&["list", "walls", "more"])
+        .gives(2)
+        .tells("cqdb: list: there are too many words: cqdb list [OPTION].. IMAGE\n");
+    let ran = folder.cqdb(&["id", "walls", "-crane"]).gives(2);
+    assert!(ran.err.contains("no option -crane") && ran.err.contains("'--' ends the options"), "{}", ran.err);
+    folder.cqdb(&["id", "walls", "--", "-crane"]).gives(1);
+}
