@@ -45,9 +45,9 @@ extern "C" {
 #define CQDB_NO_SUCH_IMAGE 11u   /* bundle_open: the file ends at or before the position */
 #define CQDB_PAGE_TOO_LONG 12u   /* page: it has more bytes than the output */
 #define CQDB_ZERO_BYTE 13u       /* put: the name has a zero byte */
-#define CQDB_REPEATED 16u        /* put: repeats are off, and an earlier entry has this name */
 #define CQDB_ROUND_UNFIT 14u     /* round, name_round: more than 512 names or ids, or ends that fall or pass the names */
 #define CQDB_ANSWERS_TOO_FEW 15u /* round, name_round: fewer answer places than names or ids */
+#define CQDB_REPEATED 16u        /* put: repeats are off, and an earlier entry has this name */
 #define CQDB_TOO_FEW_BYTES 19u   /* sheet_read: the file ends before its third section does */
 #define CQDB_LEFT_OVER_BYTES 20u /* sheet_read: bytes follow the third section */
 #define CQDB_SHEET_TOO_LARGE 21u /* sheet_write: a list has more than 65,535 ids, or the buffer is too short */
@@ -437,8 +437,8 @@ uint32_t cqdb_name_round_words(const uint8_t *image, size_t len, const uint32_t 
 /* The ids of up to 512 names. They lie joined in names, the first from byte 0 on, and ends[i] is where the i-th ends; bytes may
    follow the last. answers[i] is what cqdb_to_id gives for the i-th name, and equal names are searched for once: buckets is the
    sum over the different names. Places past the n-th keep their content. Refusals, the first that applies, and then nothing is
-   written: 14 for more than 512 names, or an end below the one before or above names_len; 15 for fewer places than names. Uses
-   about 11 KB of stack. */
+   written: 14 for more than 512 names, or an end below the one before or above names_len; 15 for fewer places than names. Takes
+   10 KB of stack. */
 static inline cqdb_round_answer cqdb_round(const uint8_t *image, size_t len, const uint8_t *names, size_t names_len,
                                            const uint64_t *ends, size_t n, cqdb_id_answer *answers, size_t places) {
     return cqdb_round_words(image, len, names, names_len, ends, n, (uint32_t *)answers, 4 * places);

@@ -56,12 +56,12 @@ refusals! {
     PageTooLong = 12, "the page is longer than the output";
     /// The name has a zero byte.
     ZeroByte = 13, "the name has a zero byte";
-    /// The writer already holds this name, and was not begun [`with_repeats`](crate::CQDBWriter::with_repeats).
-    Repeated = 16, "the writer already holds this name, and repeats are off";
     /// A round has more than 512 names or ids, or the ends of its names fall or pass their bytes.
     RoundUnfit = 14, "the round has too many names or ids, or ends that do not fit its names";
     /// The answer list of a round is shorter than the round. No call of this crate gets there.
     AnswersTooFew = 15, "the answer list is shorter than the round";
+    /// The writer already holds this name, and was not begun [`with_repeats`](crate::CQDBWriter::with_repeats).
+    Repeated = 16, "the writer already holds this name, and repeats are off";
     /// The round sheet has too few bytes.
     TooFewBytes = 19, "invalid round sheet, too few bytes";
     /// The round sheet has left-over bytes.
