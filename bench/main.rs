@@ -1,5 +1,6 @@
 // The benchmarks: ours and the Rust's release build, or a copy for bundles, in one run and one table. The two take turns, and each
-// time is the best of several repetitions.   main [hash | reading | building | repeats | page | bundle | load | origin | round]
+// time is the best of several repetitions.   main [hash | reading | building | repeats | page | bundle | load | origin | round | average]
+mod average;
 mod building;
 mod bundle;
 mod hash;
@@ -44,5 +45,8 @@ fn main() {
     }
     if wanted("round") {
         round::run();
+    }
+    if wanted("average") {
+        average::run();
     }
 }

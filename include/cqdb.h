@@ -8,7 +8,7 @@
    What the caller owes:
    - Bytes are lent as a pointer and a length. The pointer is valid for that many bytes and is not NULL, also where the
      length is 0.
-   - `counts` points to 256 words, and `w` to a whole cqdb_writer.
+   - `counts` points to 256 words, those of cqdb_lengths to 16, and `w` to a whole cqdb_writer.
    - What a call writes (the buffer of cqdb_put, cqdb_close, cqdb_sheet_write, cqdb_bundle_append and cqdb_load, the counts, the writer,
      the output of cqdb_page, the answers of cqdb_round and cqdb_name_round) overlaps nothing else that the same call is lent: no name, no list, no buffer, no counts and no image.
      What a call only reads may overlap.
@@ -48,6 +48,8 @@ extern "C" {
 #define CQDB_ROUND_UNFIT 14u     /* round, name_round: more than 512 names or ids, or ends that fall or pass the names */
 #define CQDB_ANSWERS_TOO_FEW 15u /* round, name_round: fewer answer places than names or ids */
 #define CQDB_REPEATED 16u        /* put: repeats are off, and an earlier entry has this name */
+#define CQDB_NOT_OURS 17u        /* average, lengths: the bytes are not the image that some list of puts closes to */
+#define CQDB_NO_ENTRIES 18u      /* average, lengths: the image has no entry */
 #define CQDB_TOO_FEW_BYTES 19u   /* sheet_read: the file ends before its third section does */
 #define CQDB_LEFT_OVER_BYTES 20u /* sheet_read: bytes follow the third section */
 #define CQDB_SHEET_TOO_LARGE 21u /* sheet_write: a list has more than 65,535 ids, or the buffer is too short */
@@ -127,6 +129,27 @@ uint32_t cqdb_home(const uint8_t *image, size_t len, uint32_t id);
    other from 2,072 on, as many as cqdb_open's num. Lent the image alone, changes nothing, and takes time linear in len apart
    from the probing. */
 uint32_t cqdb_ours(const uint8_t *image, size_t len);
+
+/* Search lengths, to compare lists of names. The search length of an entry is the number of buckets that are read when its name
+   is looked up; each entry counts, so a repeated name counts each time. */
+
+/* refusal is 0 when the image was accepted; entries is the number of its entries. The total of the search lengths is
+   quotient x entries + remainder, and remainder is below entries. All are 0 where refused. */
+typedef struct {
+    uint32_t refusal;
+    uint32_t entries;
+    uint64_t quotient;
+    uint64_t remainder;
+} cqdb_average_answer;
+
+/* The average search length of an image. Refusals, the first that applies: 17 where cqdb_ours gives 0, 18 where the image has
+   no entry. The call asks cqdb_ours and then looks up each name. */
+cqdb_average_answer cqdb_average(const uint8_t *image, size_t len);
+
+/* How many entries have each search length: counts[0] to counts[14] for the lengths 1 to 15, and counts[15] for 16 and more.
+   Their sum is the number of entries. Gives 0, or the refusals of cqdb_average; where refused, the 16 counts stay as they
+   were. */
+uint32_t cqdb_lengths(const uint8_t *image, size_t len, uint32_t *counts);
 
 /* A printed catalogue, for paper. The page has a line of 45 bytes for every id below back size, in rising order:
 

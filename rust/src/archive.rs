@@ -173,6 +173,15 @@ pub struct RoundAnswer {
     pub buckets: u64,
 }
 
+#[repr(C)]
+#[derive(Clone, Copy, Debug, PartialEq, Eq)]
+pub struct AverageAnswer {
+    pub refusal: u32,
+    pub entries: u32,
+    pub quotient: u64,
+    pub remainder: u64,
+}
+
 /// The table counts of a writer.
 pub type Counts = [u32; 256];
 
@@ -239,6 +248,8 @@ extern "C" {
     ) -> BundleAppendAnswer;
     fn cqdb_bundle_count(file: *const u8, len: usize) -> BundleCountAnswer;
     fn cqdb_load(seed: u32, buf: *mut u8, len: usize) -> LoadAnswer;
+    fn cqdb_average(image: *const u8, len: usize) -> AverageAnswer;
+    fn cqdb_lengths(image: *const u8, len: usize, counts: *mut u32) -> u32;
     fn cqdb_name_on(image: *const u8, len: usize, id: u32, date: Date, windows: *const Window, n: usize) -> OnAnswer;
 }
 
@@ -371,4 +382,14 @@ pub fn load(seed: u32, buf: &mut [u8]) -> LoadAnswer {
 /// The place of an id's name on a date, or nothing, or the refusal.
 pub fn name_on(image: &[u8], id: u32, date: Date, windows: &[Window]) -> OnAnswer {
     unsafe { cqdb_name_on(image.as_ptr(), image.len(), id, date, windows.as_ptr(), windows.len()) }
+}
+
+/// Entries, quotient and remainder of the average search length, or the refusal.
+pub fn average(image: &[u8]) -> AverageAnswer {
+    unsafe { cqdb_average(image.as_ptr(), image.len()) }
+}
+
+/// How many entries have each search length, into the counts; the refusal, 0 for none.
+pub fn lengths(image: &[u8], counts: &mut [u32; 16]) -> u32 {
+    unsafe { cqdb_lengths(image.as_ptr(), image.len(), counts.as_mut_ptr()) }
 }

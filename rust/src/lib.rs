@@ -26,6 +26,7 @@
 #![warn(missing_docs)]
 
 mod archive;
+mod average;
 mod bundle;
 mod load;
 mod order;
@@ -38,6 +39,7 @@ mod sheet;
 mod write;
 
 pub use archive::{Date, Window};
+pub use average::Average;
 pub use bundle::{Bundle, Images};
 pub use load::{load, load_in};
 pub use order::{references_first, Order, Pair};

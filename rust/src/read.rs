@@ -3,6 +3,7 @@ use std::fmt;
 use std::iter::FusedIterator;
 
 use crate::archive::{self, Date, StrAnswer, Window};
+use crate::average::Average;
 use crate::page::Page;
 use crate::puts::Puts;
 use crate::refusal::{self, Refusal};
@@ -125,6 +126,30 @@ impl<'a> CQDB<'a> {
     /// The puts of an image that is ours, in put order; nothing where it is not, which is asked first.
     pub fn puts(&self) -> Option<Puts<'a>> {
         self.is_ours().then(|| Puts::new(self.image, self.num))
+    }
+
+    /// The average search length, to compare lists of names: how many buckets are read when the name of each entry is looked up,
+    /// over the number of entries. A repeated name counts each time. Refused with [`Refusal::NotOurs`] where
+    /// [`CQDB::is_ours`] says no, then with [`Refusal::NoEntries`].
+    ///
+    /// ```
+    /// # fn main() -> std::io::Result<()> {
+    /// let image = cqdb::load(0);
+    /// let average = cqdb::CQDB::new(&image)?.average()?;
+    /// assert_eq!((average.entries, average.quotient, average.remainder), (4_096, 1, 1_577));
+    /// # Ok(())
+    /// # }
+    /// ```
+    pub fn average(&self) -> Result<Average, Refusal> {
+        let a = archive::average(self.image);
+        refusal::or(a.refusal, Average { entries: a.entries, quotient: a.quotient, remainder: a.remainder })
+    }
+
+    /// How many entries are found after 1, 2, .. 15 buckets, and after 16 or more. Refused as [`CQDB::average`] is.
+    pub fn lengths(&self) -> Result<[u32; 16], Refusal> {
+        let mut counts = [0; 16];
+        let refusal = archive::lengths(self.image, &mut counts);
+        refusal::or(refusal, counts)
     }
 
     /// The printed catalogue.

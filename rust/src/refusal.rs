@@ -62,6 +62,10 @@ refusals! {
     AnswersTooFew = 15, "the answer list is shorter than the round";
     /// The writer already holds this name, and was not begun [`with_repeats`](crate::CQDBWriter::with_repeats).
     Repeated = 16, "the writer already holds this name, and repeats are off";
+    /// The bytes are not the image that some list of puts closes to.
+    NotOurs = 17, "the image is none that a list of puts makes";
+    /// The image has no entry.
+    NoEntries = 18, "the image has no entry";
     /// The round sheet has too few bytes.
     TooFewBytes = 19, "invalid round sheet, too few bytes";
     /// The round sheet has left-over bytes.

@@ -66,6 +66,7 @@ impl Run {
         let one_of_ours = ours::ours(image);
         self.tally.rule(one_of_ours <= u32::from(refusal == 0), true, || format!("one of ours gave {one_of_ours}"));
         self.calls += 3 + names.len() as u64 + 4 * ids.len() as u64;
+        self.average(random, image, one_of_ours);
         self.page(random, image);
         self.whole_round(random, image, names, &ids);
     }
@@ -104,6 +105,24 @@ impl Run {
         let inside = |a: &StrAnswer| a.start + u64::from(a.len) <= image.len() as u64;
         self.tally.rule(named[..kept].iter().all(inside), true, || format!("the places of {n} ids"));
         self.refused += u64::from(answer.refusal > 0) + u64::from(refusal > 0);
+        self.calls += 2;
+    }
+
+    // The average search length and its counts: refused where the image is not ours, and then no count is changed.
+    fn average(&mut self, random: &mut Random, image: &[u8], one_of_ours: u32) {
+        let answer = ours::average(image);
+        let fits = match answer.refusal {
+            0 => one_of_ours == 1 && answer.remainder < u64::from(answer.entries) && answer.quotient > 0,
+            k => k == 18 - (1 - one_of_ours) && (answer.entries, answer.quotient, answer.remainder) == (0, 0, 0),
+        };
+        self.tally.rule(fits, true, || format!("{answer:?} of an image that ours gave {one_of_ours}"));
+        let before: Box<[u32; 16]> = Box::new([random.word(); 16]);
+        let mut counts = before.clone();
+        let refusal = ours::lengths(image, &mut counts);
+        let due = if refusal == 0 { counts.iter().map(|&count| u64::from(count)).sum() } else { 0 };
+        self.tally.rule((refusal, due), (answer.refusal, u64::from(answer.entries)), || "the sum of the counts".into());
+        self.tally.rule(refusal == 0 || counts == before, true, || "the counts of a refused call".into());
+        self.refused += 2 * u64::from(refusal > 0);
         self.calls += 2;
     }
 

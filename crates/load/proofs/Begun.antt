@@ -1,7 +1,7 @@
 -- The load's answer and bytes, by what begin answered. Assumes nothing.
 use Prim.Native.Nat.{ℕ}
 use native.Mathlib.Omega.{arith}
-use mathlib.Core.Path.{_≡_, refl, sym, ap, ap₂, _∙_}
+use mathlib.Core.Path.{_≡_, refl, sym, ap, ap₂}
 use mathlib.Core.Bool.{Bool, true, false, cond}
 use mathlib.Core.List.{List}
 use lib.ListN.{length, replicate}
@@ -10,7 +10,7 @@ use Rattle.jhash.specs.Outcome.{Outcome, value, refusal}
 use Rattle.image.specs.declared.Mode.the-variants.{Twoway}
 use Rattle.writer.specs.declared.CQDBWriter.{CQDBWriter}
 use Rattle.writer.specs.declared.Repeats.the-variants.{On}
-use Rattle.writer.specs.State.{State, stateWith, freshWriter, fresh, beginRefusal, beginning, countsBegun}
+use Rattle.writer.specs.State.{stateWith, freshWriter, fresh, beginRefusal, beginning, countsBegun}
 use Rattle.writer.specs.Close.{afterClose}
 use Rattle.load.specs.Load.{loadPut, loading, afterLoad}
 

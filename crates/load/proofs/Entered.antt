@@ -1,20 +1,18 @@
 -- The load as a list of calls: which entries are accepted follows from the buffer's length alone. Assumes nothing.
-use Prim.Native.Nat.{ℕ, zero, suc, _+_, _*_, _-_, _/_, _<_, _≤_, min, max}
+use Prim.Native.Nat.{ℕ, zero, suc, _+_, _*_, _-_, _<_, _≤_}
 use native.Mathlib.Omega.{arith}
 use native.Mathlib.Decide.{decLt}
-use mathlib.Core.Path.{_≡_, refl, sym, ap, ap₂, _∙_}
-use mathlib.Core.Bool.{Bool, true, false, cond, _&&_, _||_}
-use mathlib.Core.List.{List, [], _∷_, _++_, append-nil}
+use mathlib.Core.Path.{_≡_, refl, sym, ap, _∙_}
+use mathlib.Core.Bool.{Bool, true, false, cond, _&&_}
+use mathlib.Core.List.{List, [], _∷_, _++_}
 use lib.ListN.{length, length-append}
-use lib.Dec.{eqb, ltb}
 use borrow.Author.Tests.{lt-ltb, le-ltb}
 use Rattle.image.specs.declared.Mode.the-variants.{Twoway}
-use Rattle.image.specs.Image.{Entry, headSize, entrySize, entriesSize, backSize, imageSize, holds}
-use Rattle.image.specs.Zero.{hasZero}
+use Rattle.image.specs.Image.{Entry, headSize, entrySize, entriesSize, backSize, holds}
 use Rattle.writer.specs.declared.Repeats.the-variants.{On}
-use Rattle.writer.specs.State.{State, fresh, tooLarge}
+use Rattle.writer.specs.State.{fresh, tooLarge}
 use Rattle.writer.specs.Put.{putRefusal, afterPut}
-use Rattle.lists.specs.Calls.{Call, put, after, putDue, accepted, acceptedAfter, acceptedFrom, acceptedOne, sizeOf}
+use Rattle.lists.specs.Calls.{put, after, putDue, accepted, acceptedAfter, acceptedFrom, acceptedOne, sizeOf}
 use Rattle.lists.specs.Demand3.{afterList}
 use Rattle.lists.proofs.Appended.{entriesSize-snoc, backSize-snoc, sizeOf-is}
 use Rattle.lists.proofs.Puts.{put-due}

@@ -1,15 +1,11 @@
 -- The worked examples of the load, computed. Assumes nothing.
 use Prim.Native.Nat.{ℕ, _+_, _*_, _≤_}
 use native.Mathlib.Omega.{arith}
-use mathlib.Core.Path.{_≡_, refl, sym, ap, _∙_}
-use mathlib.Core.List.{List}
-use lib.ListN.{length}
+use mathlib.Core.Path.{_≡_, refl, ap, _∙_}
 use Rattle.jhash.specs.Outcome.{value}
 use Rattle.image.specs.Image.{headSize}
-use Rattle.writer.specs.Close.{closing}
 use Rattle.load.specs.States.{stateAfter, stateName}
-use Rattle.load.specs.Load.{loadPut, loading}
-use Rattle.load.specs.Rebuilt.{roomFor, Load}
+use Rattle.load.specs.Rebuilt.{roomFor}
 use Rattle.load.specs.Rows.{Row, RowHolds, Rows}
 use Rattle.load.proofs.Theorem.{loaded, rebuilt}
 

@@ -1,21 +1,21 @@
 -- What is proved of the load: 02 (xiii). Assumes nothing.
-use Prim.Native.Nat.{ℕ, _+_, _*_, _<_, _≤_}
+use Prim.Native.Nat.{ℕ, _+_, _*_, _≤_}
 use native.Mathlib.Omega.{arith}
 use mathlib.Core.Path.{_≡_, refl, sym, ap, ap₂, _∙_}
 use mathlib.Core.Bool.{true}
-use mathlib.Core.List.{List, [], _∷_, _++_}
+use mathlib.Core.List.{List, _++_}
 use lib.ListN.{length, take, drop}
 use lib.Seq.{drop-at}
 use lib.Dec.{eqb}
-use borrow.Author.Tests.{lt-ltb, le-ltb}
+use borrow.Author.Tests.{lt-ltb}
 use Rattle.jhash.specs.Outcome.{value}
 use Rattle.image.specs.declared.Mode.the-variants.{Twoway}
 use Rattle.image.specs.Image.{Entry, headSize, imageSize, image}
 use Rattle.image.proofs.Sizes.{length-image}
 use Rattle.writer.specs.declared.Repeats.the-variants.{On}
-use Rattle.writer.specs.State.{State, fresh, beginRefusal}
+use Rattle.writer.specs.State.{State, beginRefusal}
 use Rattle.writer.specs.Put.{putRefusal}
-use Rattle.writer.specs.Close.{closing, closed, closedSize, closedImage, afterClose}
+use Rattle.writer.specs.Close.{closing, closedSize, afterClose}
 use Rattle.lists.specs.Calls.{after, accepted, sizeOf}
 use Rattle.lists.specs.Demand3.{afterList, acceptedPuts, imageOf}
 use Rattle.lists.proofs.Written.{Written}
@@ -24,7 +24,7 @@ use Rattle.lists.proofs.Closes.{close-closed, closed-buffer}
 use Rattle.lists.proofs.Along.{two-way, list-accepted, list-written, begin-accepts}
 use Rattle.lists.proofs.Theorem.{one-list, calls-answered}
 use Rattle.load.specs.States.{loadEntry}
-use Rattle.load.specs.Load.{putFrom, loadPut, loading, afterLoad}
+use Rattle.load.specs.Load.{loadPut, loading, afterLoad}
 use Rattle.load.specs.Rebuilt.{firstEntries, firstPuts, roomFor, Load, Rebuilt}
 use Rattle.load.proofs.Names.{nine-bytes, state-word, digits-read}
 use Rattle.load.proofs.Begun.{accepted-load}

@@ -1,8 +1,7 @@
 -- `load::load` meets its contract. Assumes nothing.
-use Prim.Native.Nat.{ℕ}
-use mathlib.Core.Path.{_≡_, refl, sym, ap, _∙_}
+use mathlib.Core.Path.{sym, ap, _∙_}
 use Rattle.jhash.specs.Outcome.{value}
-use Rattle.writer.specs.State.{State, begunOf, stateWith}
+use Rattle.writer.specs.State.{State, begunOf}
 use Rattle.writer.specs.Close.{afterClose}
 use Rattle.load.specs.Load.{putFrom, loadPut}
 use Rattle.load.proofs.Begun.{refused-load, begun-fresh, accepted-load}

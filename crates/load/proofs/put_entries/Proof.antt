@@ -1,11 +1,10 @@
 -- `load::put_entries` meets its contract: what is left to be put makes of what was put what the whole load leaves. Assumes nothing.
-use Prim.Native.Nat.{ℕ, _+_, _-_, _≤_}
+use Prim.Native.Nat.{ℕ, _-_, _≤_}
 use native.Mathlib.Omega.{arith}
 use mathlib.Core.Path.{_≡_, refl, sym, ap, _∙_}
 use lib.ListN.{length}
 use borrow.Author.Needs.{needs}
 use Rattle.writer.specs.State.{stateWith}
-use Rattle.writer.specs.Put.{entryOf}
 use native.Mathlib.Numerals.{add-one}
 use Rattle.load.specs.States.{stepped, stateAfter}
 use Rattle.load.specs.Load.{putFrom}

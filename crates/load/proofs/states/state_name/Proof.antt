@@ -1,5 +1,4 @@
 -- `load::states::state_name` meets its contract. Assumes nothing.
-use mathlib.Core.Path.{_≡_, refl, sym, ap, ap₂, _∙_}
 use Rattle.load.specs.States.{stateName}
 use borrow.Author.Needs.{needs}
 use Rattle.load.proofs.states.state_name.Statement.{statement}
