@@ -504,8 +504,8 @@ uint32_t cqdb_name_round_words(const uint8_t *image, size_t len, const uint32_t 
 /* The ids of up to 512 names. They lie joined in names, the first from byte 0 on, and ends[i] is where the i-th ends; bytes may
    follow the last. answers[i] is what cqdb_to_id gives for the i-th name, and equal names are searched for once: buckets is the
    sum over the different names. Places past the n-th keep their content. Refusals, the first that applies, and then nothing is
-   written: 14 for more than 512 names, or an end below the one before or above names_len; 15 for fewer places than names. Uses
-   about 11 KB of stack. */
+   written: 14 for more than 512 names, or an end below the one before or above names_len; 15 for fewer places than names. Takes
+   10 KB of stack. */
 static inline cqdb_round_answer cqdb_round(const uint8_t *image, size_t len, const uint8_t *names, size_t names_len,
                                            const uint64_t *ends, size_t n, cqdb_id_answer *answers, size_t places) {
     return cqdb_round_words(image, len, names, names_len, ends, n, (uint32_t *)answers, 4 * places);

@@ -10,9 +10,8 @@ use Rattle.image.proofs.Bools.{not-both, neither-first, neither-second}
 use Rattle.image.proofs.Equal.{same-self, same-true, same-false}
 use Rattle.reader.specs.Lookup.{lookup}
 use Rattle.reader.specs.Cases.{reads}
-use Rattle.round.specs.Names.{among, newOnly, differentFrom, different}
+use Rattle.round.specs.Names.{among, newOnly, differentFrom, different, nth}
 use Rattle.round.specs.Round.{bucketsOf}
-use Rattle.round.specs.Telling.{nth}
 use Rattle.round.specs.Theorem.{Distinct, OnceEach}
 
 -- ---- among

@@ -10,8 +10,9 @@ use Rattle.reader.specs.Lookup.{Lookup, found, nothing, lookupBy, lookup}
 use Rattle.reader.specs.Cases.{reads, lookupOf}
 use Rattle.reader.specs.declared.ToId.{ToId}
 use Rattle.reader.proofs.Searches.{lookup-own}
+use Rattle.round.specs.Names.{nth}
 use Rattle.round.specs.Round.{answerWords, bucketsOf}
-use Rattle.round.specs.Telling.{nth, key, Has}
+use Rattle.round.specs.steps.Telling.{key, Has}
 use Rattle.round.proofs.Tells.{key-short}
 use Rattle.round.proofs.Places.{has-after}
 

@@ -10,8 +10,8 @@ use lib.ListN.{length, getD, drop, drop-of-length-le}
 use lib.Seq.{drop-cons}
 use Rattle.image.proofs.Bools.{neither-first, neither-second}
 use Rattle.image.specs.Stored.{between}
-use Rattle.round.specs.Names.{namesFrom, names, astray}
-use Rattle.round.specs.Telling.{beginOf, nth}
+use Rattle.round.specs.Names.{namesFrom, names, astray, nth}
+use Rattle.round.specs.steps.Telling.{beginOf}
 
 -- where the i-th name begins, the first at s
 abbrev begins : ℕ → List ℕ → ℕ → ℕ

@@ -13,7 +13,7 @@ use lib.Seq.{take-suc-set, take-set-le}
 use Rattle.image.specs.Bytes.{keep, range}
 use Rattle.image.proofs.Lists.{keep-yes, keep-no}
 use Rattle.image.proofs.Bools.{not-both}
-use Rattle.round.specs.Telling.{isNew, news}
+use Rattle.round.specs.steps.Telling.{isNew, news}
 
 -- the run from i on, one number at a time
 range-cons : (n i : ℕ) → i < n → range i (n - i) ≡ i ∷ range (i + 1) (n - (i + 1))

@@ -6,7 +6,7 @@ use mathlib.Core.List.{List, [], _∷_, _++_}
 use native.Mathlib.Decide.{ℕ-discrete, decLt}
 use lib.ListN.{length, getD, set, take, drop, length-set, length-take, length-drop}
 use lib.Seq.{sets, drop-cons, getD-set-same, getD-set-other, getD-take, getD-drop, ext-getD}
-use Rattle.round.specs.Telling.{Has, Kept, Begun}
+use Rattle.round.specs.steps.Telling.{Has, Kept, Begun}
 
 -- four words stored one by one
 pub four-stored : (l : List ℕ) (at a b c d : ℕ) → set (set (set (set l at a) (at + 1) b) (at + 2) c) (at + 3) d ≡ sets l at (a ∷ b ∷ c ∷ d ∷ [])

@@ -10,7 +10,8 @@ use lib.Dec.{ltb}
 use lib.ListN.{length, getD, set, replicate, getD-replicate}
 use lib.Seq.{getD-set-same, getD-set-other}
 use Rattle.jhash.specs.NameHash.{hashOf}
-use Rattle.round.specs.Telling.{nth, key, Keys, slot, Last, Linked, Equal, Told}
+use Rattle.round.specs.Names.{nth}
+use Rattle.round.specs.steps.Telling.{key, Keys, slot, Last, Linked, Equal, Told}
 
 -- ---- keys
 

@@ -13,9 +13,8 @@ use Rattle.image.specs.Bytes.{cat}
 use Rattle.image.specs.Stored.{between}
 use Rattle.image.proofs.Lists.{length-cat}
 use Rattle.reader.specs.Lookup.{lookup}
-use Rattle.round.specs.Names.{namesFrom, names, astray, joined, endsFrom}
+use Rattle.round.specs.Names.{namesFrom, names, astray, joined, endsFrom, nth}
 use Rattle.round.specs.Round.{answerWords, roundWords, roundBuckets, rounding, leftBy, afterRound}
-use Rattle.round.specs.Telling.{nth}
 use Rattle.round.specs.Theorem.{placeAt, Accepted, RoundHolds}
 use Rattle.round.proofs.NameEnds.{length-names}
 use Rattle.round.proofs.Finds.{length-words}

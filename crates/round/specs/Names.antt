@@ -3,7 +3,7 @@ use Prim.Native.Nat.{ℕ, _+_}
 use mathlib.Core.Path.{_≡_}
 use mathlib.Core.Bool.{Bool, true, false, _||_}
 use mathlib.Core.List.{List, [], _∷_, _++_}
-use lib.ListN.{length}
+use lib.ListN.{length, getD}
 use lib.Dec.{ltb}
 use Rattle.image.specs.Bytes.{same}
 use Rattle.image.specs.Stored.{between}
@@ -16,6 +16,10 @@ namesFrom bytes s (e ∷ es) = between bytes s e ∷ namesFrom bytes e es
 -- "The first name begins at byte 0"
 unfoldable pub names : List ℕ → List ℕ → List (List ℕ)
 names bytes ends = namesFrom bytes 0 ends
+
+-- the i-th name, counted from 0
+abbrev pub nth : List (List ℕ) → ℕ → List ℕ
+nth xs i = getD xs i []
 
 -- "ends that fall or pass the bytes", of which there are `size`, where the name before ends at s
 unfoldable pub astray : ℕ → ℕ → List ℕ → Bool

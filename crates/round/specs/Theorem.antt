@@ -6,9 +6,8 @@ use mathlib.Core.List.{List}
 use lib.ListN.{length, take, drop}
 use Rattle.jhash.specs.Outcome.{value, refusal}
 use Rattle.reader.specs.Lookup.{lookup}
-use Rattle.round.specs.Names.{names, astray, among, different, joined, endsFrom}
+use Rattle.round.specs.Names.{names, astray, among, different, joined, endsFrom, nth}
 use Rattle.round.specs.Round.{answerWords, bucketsOf, roundBuckets, rounding, afterRound}
-use Rattle.round.specs.Telling.{nth}
 
 -- no two of the names are equal
 abbrev pub Distinct : List (List ℕ) → Type 0

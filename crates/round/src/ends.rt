@@ -5,7 +5,7 @@ ghost use mathlib.Core.List.{[]};
 ghost use Prim.Native.Nat.{_<_};
 ghost use lib.ListN.{length, getD};
 ghost use Rattle.round.specs.Names.{names, astray};
-ghost use Rattle.round.specs.Telling.{beginOf};
+ghost use Rattle.round.specs.steps.Telling.{beginOf};
 
 // Do the ends fall or pass `size` bytes? Each is looked at, and none ends the loop, so the compiler makes no branch of it.
 pub(crate) fn astray(ends: &[u64], size: usize) -> bool

@@ -8,9 +8,9 @@ use lib.ListN.{length, getD, take, drop}
 use lib.Seq.{sets}
 use Rattle.reader.specs.Lookup.{Lookup, lookup}
 use Rattle.reader.specs.Cases.{lookupOf}
-use Rattle.round.specs.Names.{names}
+use Rattle.round.specs.Names.{names, nth}
 use Rattle.round.specs.Round.{answerWords, bucketsOf}
-use Rattle.round.specs.Telling.{nth, Has, Kept}
+use Rattle.round.specs.steps.Telling.{Has, Kept}
 use Rattle.round.proofs.NameEnds.{length-names}
 use Rattle.round.proofs.Finds.{length-words, by-key, sum-turn, sum-end, held-turn}
 use Rattle.round.proofs.Places.{kept-after}
@@ -43,7 +43,9 @@ name-of-requires : tie.Need-name-of-requires Inv-loop μ-loop
 name-of-requires c κs = let s = c .before .before .before .before .before .before .before .before .before in (s .pre .5 (c .before .before .loop .x) (omega arith), s .pre .0)
 
 mul-to-id-by : tie.Need-mul-to-id-by Inv-loop μ-loop
-mul-to-id-by c = omega (arith, c .before .before .before .before .before .before .before .before .before .before .pre .5 (c .before .before .before .loop .x) (omega arith), c .before .before .before .before .before .before .before .before .before .before .pre .2, c .before .before .before .loop .inv .1)
+mul-to-id-by c =
+    let s = c .before .before .before .before .before .before .before .before .before .before in
+    omega (arith, s .pre .5 (c .before .before .before .loop .x) (omega arith), s .pre .2, c .before .before .before .loop .inv .1)
 
 shared-slice-read-to-id-by : tie.Need-shared-slice-read-to-id-by Inv-loop μ-loop
 shared-slice-read-to-id-by c = let s = c .before .before .before .before .before .before .before .before .before .before .before in omega (arith, s .pre .5 (c .before .before .before .before .loop .x) (omega arith), s .pre .1)
@@ -52,10 +54,16 @@ to-id-by-requires : tie.Need-to-id-by-requires Inv-loop μ-loop
 to-id-by-requires c κs = tt
 
 mul-put-answer : tie.Need-mul-put-answer Inv-loop μ-loop
-mul-put-answer c = omega (arith, c .before .before .before .before .before .before .before .before .before .before .before .before .before .pre .5 (c .before .before .before .before .before .before .loop .x) (omega arith), c .before .before .before .before .before .before .before .before .before .before .before .before .before .pre .2, c .before .before .before .before .before .before .loop .inv .1)
+mul-put-answer c =
+    let s = c .before .before .before .before .before .before .before .before .before .before .before .before .before in
+    let l = c .before .before .before .before .before .before in
+    omega (arith, s .pre .5 (l .loop .x) (omega arith), s .pre .2, l .loop .inv .1)
 
 put-answer-requires : tie.Need-put-answer-requires Inv-loop μ-loop
-put-answer-requires c κs = omega (arith, c .before .before .before .before .before .before .before .before .before .before .before .before .before .pre .5 (c .before .before .before .before .before .before .loop .x) (omega arith), c .before .before .before .before .before .before .before .before .before .before .before .before .before .pre .2, c .before .before .before .before .before .before .loop .inv .1)
+put-answer-requires c κs =
+    let s = c .before .before .before .before .before .before .before .before .before .before .before .before .before in
+    let l = c .before .before .before .before .before .before in
+    omega (arith, s .pre .5 (l .loop .x) (omega arith), s .pre .2, l .loop .inv .1)
 
 cast-sum : tie.Need-cast-sum Inv-loop μ-loop
 cast-sum c = omega (arith, c .before .before .put-answer .ok)

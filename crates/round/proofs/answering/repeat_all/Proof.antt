@@ -5,7 +5,7 @@ use mathlib.Core.Path.{_≡_, refl, sym, ap, subst, _∙_}
 use mathlib.Core.List.{List}
 use lib.ListN.{length, getD, take, drop}
 use lib.Seq.{sets}
-use Rattle.round.specs.Telling.{Has, Kept, Begun}
+use Rattle.round.specs.steps.Telling.{Has, Kept, Begun}
 use Rattle.round.proofs.Places.{Copied, copied-turn, copied-kept}
 use borrow.Author.Needs.{needs}
 use Rattle.round.proofs.answering.repeat_all.Statement.{statement}

@@ -4,7 +4,7 @@ use native.Mathlib.Omega.{arith}
 use mathlib.Core.Path.{sym, ap, _∙_}
 use lib.ListN.{length, getD}
 use Rattle.image.specs.Stored.{between}
-use Rattle.round.specs.Telling.{beginOf}
+use Rattle.round.specs.steps.Telling.{beginOf}
 use Rattle.round.proofs.NameEnds.{Placed, placed, nth-name}
 use borrow.Author.Needs.{needs}
 use Rattle.round.proofs.ends.name_of.Statement.{statement}

@@ -7,8 +7,7 @@ use lib.ListN.{length}
 use Rattle.image.specs.Bytes.{same}
 use Rattle.image.proofs.Equal.{same-true, same-self}
 use Rattle.image.proofs.Bools.{not-both}
-use Rattle.round.specs.Names.{names}
-use Rattle.round.specs.Telling.{nth}
+use Rattle.round.specs.Names.{names, nth}
 use Rattle.round.proofs.NameEnds.{length-names}
 use Rattle.round.proofs.Tells.{Walked, walk-start, walk-step, walk-end, walk-found}
 use Rattle.round.proofs.telling.equal_before.Statement.{statement}
@@ -31,7 +30,9 @@ mul-q : tie.Need-mul-q Inv-loop μ-loop
 mul-q c = omega arith
 
 shared-slice-read-q : tie.Need-shared-slice-read-q Inv-loop μ-loop
-shared-slice-read-q c = omega (arith, c .before .before .before .before .before .pre .1, c .before .before .before .before .before .pre .3)
+shared-slice-read-q c =
+    let s = c .before .before .before .before .before in
+    omega (arith, s .pre .1, s .pre .3)
 
 loop-holds : tie.Need-loop-holds Inv-loop μ-loop
 loop-holds c =

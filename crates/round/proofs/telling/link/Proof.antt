@@ -3,7 +3,7 @@ use Prim.Native.Nat.{ℕ, _-_, _≤_, _<_}
 use native.Mathlib.Omega.{arith}
 use mathlib.Core.Path.{_≡_, refl}
 use lib.ListN.{length, replicate, length-set, length-replicate, getD-replicate}
-use Rattle.round.specs.Telling.{Linked, slot}
+use Rattle.round.specs.steps.Telling.{Linked, slot}
 use Rattle.round.proofs.Tells.{Slots, slots-none, slots-turn, linked-turn}
 use borrow.Author.Needs.{needs}
 use Rattle.round.proofs.telling.link.Statement.{statement}

@@ -5,7 +5,7 @@ use mathlib.Core.Path.{_≡_, refl, sym, _∙_}
 use mathlib.Core.List.{_++_}
 use lib.ListN.{length, take, length-set}
 use Rattle.image.specs.Bytes.{keep, range}
-use Rattle.round.specs.Telling.{isNew, news}
+use Rattle.round.specs.steps.Telling.{isNew, news}
 use Rattle.round.proofs.News.{news-start, news-turn, news-end}
 use borrow.Author.Needs.{needs}
 use Rattle.round.proofs.telling.list_new.Statement.{statement}

@@ -4,7 +4,7 @@ use native.Mathlib.Omega.{arith}
 use mathlib.Core.Path.{_≡_, refl}
 use lib.ListN.{length, length-set, length-replicate}
 use Rattle.round.specs.Names.{names}
-use Rattle.round.specs.Telling.{Told}
+use Rattle.round.specs.steps.Telling.{Told}
 use Rattle.round.proofs.Tells.{told-turn}
 use borrow.Author.Needs.{needs}
 use Rattle.round.proofs.telling.tell.Statement.{statement}

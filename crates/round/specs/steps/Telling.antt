@@ -2,19 +2,16 @@
 use Prim.Native.Nat.{ℕ, _+_, _*_, _-_, _%_, _≤_, _<_}
 use mathlib.Core.Path.{_≡_}
 use mathlib.Core.Bool.{Bool, cond}
-use mathlib.Core.List.{List, []}
+use mathlib.Core.List.{List}
 use lib.ListN.{length, getD}
 use lib.Dec.{eqb, ltb}
 use Rattle.jhash.specs.NameHash.{hashOf}
 use Rattle.image.specs.Bytes.{keep, range}
+use Rattle.round.specs.Names.{nth}
 
 -- where the i-th name begins
 abbrev pub beginOf : List ℕ → ℕ → ℕ
 beginOf ends i = cond (eqb i 0) 0 (getD ends (i - 1) 0)
-
--- the i-th name, counted from 0
-abbrev pub nth : List (List ℕ) → ℕ → List ℕ
-nth xs i = getD xs i []
 
 -- the key of a name: its hash, 0 where it is too long to have one
 unfoldable pub key : List ℕ → ℕ

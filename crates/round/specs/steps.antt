@@ -1,0 +1,2 @@
+-- What the steps of the code tell. No promise of a public function cites them.
+pub mod Telling
