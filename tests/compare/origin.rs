@@ -1,6 +1,6 @@
 // Is this image one of ours? cqdb_ours, held to 02 (ix) told once more in plain Rust: the entries are read back, their image is
 // made anew, and the answer is yes exactly when the bytes are the same. Asked of images of lists, of the Rust's own images, of
-// every kind of damage, of images that are wrong in one thing alone, and of all single-byte changes of small images.
+// every kind of damage, of images that are wrong in one thing alone, of large ones, and of all single-byte changes of small images.
 // origin [COPIES]
 mod damage;
 mod names;
@@ -172,8 +172,10 @@ fn one_thing(run: &mut Run, random: &mut Random, image: &[u8], puts: &[Put]) {
     ask(4, size + 1, "a size word above the length");
     ask(8, 2, "a flag word that is neither 0 nor 1");
     let absent: Vec<usize> = (0..256).filter(|&t| rules::table(image, t).1 == 0).collect();
-    let t = absent[random.below(absent.len())];
-    ask(24 + 8 * t, size - 8 * random.below(3) as u32, "an absent table with an offset");
+    if !absent.is_empty() {
+        let t = absent[random.below(absent.len())];
+        ask(24 + 8 * t, size - 8 * random.below(3) as u32, "an absent table with an offset");
+    }
     for (t, _) in damage::tables(image).into_iter().take(3) {
         let (offset, n) = rules::table(image, t);
         let bucket = |k: u64| (offset + 8 * (k % n)) as usize;
@@ -216,6 +218,19 @@ fn misplaced(run: &mut Run, random: &mut Random, image: &[u8], puts: &[Put]) {
     run.expect(false, &spoilt, "a name with a zero byte");
 }
 
+// An image of more than 1 MiB, where the buckets are read ahead, and damaged copies of it.
+fn large(run: &mut Run, random: &mut Random) {
+    let puts: Vec<Put> = (0..32_000).map(|i| (format!("prism {i:06}").into_bytes(), random.below(32_000) as u32)).collect();
+    let image = lists(run, random, &puts);
+    assert!(image.len() > 1 << 20, "a large image");
+    one_thing(run, random, &image, &puts);
+    misplaced(run, random, &image, &puts);
+    for kind in 0..2 * damage::KINDS {
+        let copy = damage::copy(random, &image, kind % damage::KINDS);
+        run.ask(&copy, || format!("damage of kind {} in a large image", kind % damage::KINDS));
+    }
+}
+
 // Every byte of a small image with each of the 255 other values.
 fn every_byte(run: &mut Run, image: &[u8]) {
     let mut copy = image.to_vec();
@@ -245,7 +260,10 @@ fn main() {
             run.ask(&copy, || format!("damage of kind {}", kind % damage::KINDS));
         }
     }
-    println!("origin: {} images, {} of them ours", run.images, run.yes);
+    for _ in 0..4 {
+        large(&mut run, &mut random);
+    }
+    println!("origin: {} images, four of them large with their copies; {} of them ours", run.images, run.yes);
     let before = (run.images, run.yes);
     let prism = |text: &str, id: u32| (text.as_bytes().to_vec(), id);
     let renewed = [prism("A", 0), prism("B", 2), prism("A", 5), prism("", 2)];

@@ -111,7 +111,7 @@ round-holds =
       ends-stand = λ xs. stand-from xs (length (joined xs)) 0 (omega arith);
       single = single;
       order-free = λ image bytes ends answers bytes' ends' answers' a a' i j h k e.
-        single image bytes ends answers a i h ∙ ap (words-of image) e ∙ sym (single image bytes' ends' answers' a' j k);
+          single image bytes ends answers a i h ∙ ap (words-of image) e ∙ sym (single image bytes' ends' answers' a' j k);
       counted = count-is;
       once-each = once-each;
       not-above = not-above;

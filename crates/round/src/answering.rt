@@ -15,7 +15,14 @@ use reader::ToId;
 use reader::lookup::to_id_by;
 
 // Four words stored at a place.
-pub(crate) fn put_words(answers: &mut [u32], at: usize, found: u32, id: u32, buckets: u32, offset: u32)
+pub(crate) fn put_words(
+    answers: &mut [u32],
+    at: usize,
+    found: u32,
+    id: u32,
+    buckets: u32,
+    offset: u32,
+)
     requires { ⌜ at + 4 ≤ length (now answers) ⌝ }
     ensures { λ _. ⌜ now (answers .exit) ≡ sets (now (answers .entry)) at (found ∷ id ∷ buckets ∷ offset ∷ []) ⌝ }
 {

@@ -65,8 +65,8 @@ returns-4 c =
     let n = le-ltb 512 (length ends) (omega (arith, c .before .before .before .before .before .before .before .if1 .left)) in
     let all = c .before .before .answer-all in
     let e =
-          rounding-by image (s .args .bytes .now) ends places false false false n (sym (c .before .before .before .before .before .before .astray .ensures) ∙ c .before .before .before .before .before .if2 .left)
-          (le-ltb places (length ends) (c .before .before .before .before .if3 .left)) in
+    rounding-by image (s .args .bytes .now) ends places false false false n (sym (c .before .before .before .before .before .before .astray .ensures) ∙ c .before .before .before .before .before .if2 .left)
+    (le-ltb places (length ends) (c .before .before .before .before .if3 .left)) in
     let whole = settled s (value (roundBuckets image (names (s .args .bytes .now) ends))) e in
     (ap value (all .ensures .0) ∙ whole .0, all .ensures .1 ∙ whole .1)
 

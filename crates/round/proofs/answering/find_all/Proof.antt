@@ -80,8 +80,8 @@ loop-again c =
     let i = getD (s .args .list .now) (l .x) 0 in
     let small = s .pre .5 (l .x) (omega arith) in
     let own : lookupOf (asked .result) ≡ lookup image (nth xs i) =
-          asked .ensures
-          ∙ by-key image _ (nth xs i) _ (c .before .before .before .before .before .before .name-of .ensures) (s .pre .6 i (omega (arith, small, length-names (s .args .bytes .now) (s .args .ends .now)))) in
+    asked .ensures
+    ∙ by-key image _ (nth xs i) _ (c .before .before .before .before .before .before .name-of .ensures) (s .pre .6 i (omega (arith, small, length-names (s .args .bytes .now) (s .args .ends .now)))) in
     let after = sym (put .ensures .1) in
     let ws = answerWords (lookupOf (asked .result)) in
     let four = length-words (lookupOf (asked .result)) in
