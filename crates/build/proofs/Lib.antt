@@ -1,0 +1,4 @@
+-- Laws of a whole list in one call.
+pub mod Chained
+pub mod Turns
+pub mod Going
