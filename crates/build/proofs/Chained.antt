@@ -253,6 +253,9 @@ module _ (xs : List (List ℕ)) where
     pub none-more : (j : ℕ) → heldBefore xs rs j name ≡ false → (eqb (getD rs j 0) 0 && same (nth xs j) name) ≡ false → heldBefore xs rs (j + 1) name ≡ false
     none-more j h e = held-more rs j name ∙ ap₂ {C = Bool} (λ (a b : Bool). a || b) h e
 
+    pub none-all : (i j : ℕ) → i ≡ j → heldBefore xs rs j name ≡ false → false ≡ heldBefore xs rs i name
+    none-all i j e h = sym (ap (λ (k : ℕ). heldBefore xs rs k name) e ∙ h)
+
     pub one-found : (i j : ℕ) → j < i → (eqb (getD rs j 0) 0 && same (nth xs j) name) ≡ true → heldBefore xs rs i name ≡ true
     one-found i j h e =
         let z = first (eqb (getD rs j 0) 0) (same (nth xs j) name) e in

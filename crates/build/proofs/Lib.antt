@@ -2,3 +2,4 @@
 pub mod Chained
 pub mod Turns
 pub mod Going
+pub mod Whole

@@ -2,7 +2,7 @@
 use Prim.Native.Nat.{ℕ, _+_}
 use native.Mathlib.Omega.{arith}
 use mathlib.Core.Path.{_≡_, refl, sym, ap, ap₂, subst, _∙_}
-use mathlib.Core.Bool.{Bool, true, false, cond, _&&_}
+use mathlib.Core.Bool.{Bool, true, false, cond, _&&_, and-true}
 use mathlib.Core.List.{List, [], _∷_, _++_}
 use lib.Dec.{eqb}
 use Rattle.image.specs.declared.Mode.{Mode}
@@ -145,3 +145,15 @@ plain-answer s e held h = sym (ap (λ (b : Bool). cond b 16 (putRefusal s e)) h)
 pub plain-leaves : (s : State) (e : Entry) (held : Bool) → held ≡ false → afterPut s e ≡ leftBy held s e
 unfolding leftBy
 plain-leaves s e held h = sym (ap (λ (b : Bool). cond b s (afterPut s e)) h)
+
+-- ---- the choice
+
+pub off-held : (h : Bool) (repeats : Repeats) → repeats ≡ Off → h ≡ (h && refusesRepeats repeats)
+off-held h repeats e = sym (ap (λ (r : Repeats). h && refusesRepeats r) e ∙ and-true h)
+
+pub on-held : (h : Bool) (repeats : Repeats) → repeats ≡ On → false ≡ (h && refusesRepeats repeats)
+on-held h repeats e = sym (ap (λ (r : Repeats). h && refusesRepeats r) e ∙ none h)
+  where
+    none : (b : Bool) → (b && false) ≡ false
+    none true = refl
+    none false = refl

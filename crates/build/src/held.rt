@@ -27,7 +27,11 @@ pub(crate) fn slots_for(repeats: Repeats, words: usize, n: usize) -> u32
                 return 0;
             }
             let left = words - n;
-            if left < 2 * n { left as u32 } else { (2 * n) as u32 }
+            if left < 2 * n {
+                left as u32
+            } else {
+                (2 * n) as u32
+            }
         }
     }
 }
@@ -56,7 +60,15 @@ pub(crate) fn slot_of(name: &[u8], slots: u32) -> u32
 }
 
 // By the chain of the slot s of the i-th name.
-fn chained(bytes: &[u8], ends: &[u64], rs: &[u32], work: &[u32], slots: u32, s: u32, i: usize) -> bool
+fn chained(
+    bytes: &[u8],
+    ends: &[u64],
+    rs: &[u32],
+    work: &[u32],
+    slots: u32,
+    s: u32,
+    i: usize,
+) -> bool
     requires { ⌜ (astray (length (now bytes)) 0 (now ends) ≡ false) × (i < length (now ends)) × (slots + length (now ends) ≤ length (now work)) × (s ≡ slotOf slots (nth (names (now bytes) (now ends)) i)) × (s < slots) × Chains (names (now bytes) (now ends)) (now rs) slots i (now work) ⌝ }
     ensures { λ r. ⌜ r ≡ heldBefore (names (now (bytes .entry)) (now (ends .entry))) (now (rs .entry)) i (nth (names (now (bytes .entry)) (now (ends .entry))) i) ⌝ }
 {
@@ -100,7 +112,16 @@ fn walked(bytes: &[u8], ends: &[u64], rs: &[u32], i: usize) -> bool
 }
 
 // Is the i-th name to be refused as a repeat? Only with repeats off.
-pub(crate) fn held(repeats: Repeats, bytes: &[u8], ends: &[u64], rs: &[u32], work: &[u32], slots: u32, s: u32, i: usize) -> bool
+pub(crate) fn held(
+    repeats: Repeats,
+    bytes: &[u8],
+    ends: &[u64],
+    rs: &[u32],
+    work: &[u32],
+    slots: u32,
+    s: u32,
+    i: usize,
+) -> bool
     requires { ⌜ (astray (length (now bytes)) 0 (now ends) ≡ false) × (i < length (now ends)) × (length (now ends) ≤ length (now rs)) × (0 < slots → (slots + length (now ends) ≤ length (now work)) × (s ≡ slotOf slots (nth (names (now bytes) (now ends)) i)) × (s < slots) × Chains (names (now bytes) (now ends)) (now rs) slots i (now work)) ⌝ }
     ensures { λ r. ⌜ r ≡ (heldBefore (names (now (bytes .entry)) (now (ends .entry))) (now (rs .entry)) i (nth (names (now (bytes .entry)) (now (ends .entry))) i) && refusesRepeats repeats) ⌝ }
 {

@@ -42,7 +42,14 @@ pub enum Built {
 }
 
 // A put of a name that is held or not. The writer itself takes repeats.
-fn put_one(w: CQDBWriter, counts: &mut [u32; 256], buf: &mut [u8], held: bool, name: &[u8], id: u32) -> PutAnswer
+fn put_one(
+    w: CQDBWriter,
+    counts: &mut [u32; 256],
+    buf: &mut [u8],
+    held: bool,
+    name: &[u8],
+    id: u32,
+) -> PutAnswer
     ensures answer { λ r. ⌜ r .refusal ≡ answered held (stateWith w (now (counts .entry)) (now (buf .entry))) (entryOf (now (name .entry)) id) ⌝ }
     ensures leaves { λ r. ⌜ stateWith (r .writer) (now (counts .exit)) (now (buf .exit)) ≡ leftBy held (stateWith w (now (counts .entry)) (now (buf .entry))) (entryOf (now (name .entry)) id) ⌝ }
 {
@@ -56,7 +63,18 @@ fn put_one(w: CQDBWriter, counts: &mut [u32; 256], buf: &mut [u8], held: bool, n
 }
 
 // The puts of all names in their order, with the number of each put's refusal.
-fn put_all(w: CQDBWriter, counts: &mut [u32; 256], buf: &mut [u8], repeats: Repeats, bytes: &[u8], ends: &[u64], ids: &[u32], rs: &mut [u32], work: &mut [u32], slots: u32) -> CQDBWriter
+fn put_all(
+    w: CQDBWriter,
+    counts: &mut [u32; 256],
+    buf: &mut [u8],
+    repeats: Repeats,
+    bytes: &[u8],
+    ends: &[u64],
+    ids: &[u32],
+    rs: &mut [u32],
+    work: &mut [u32],
+    slots: u32,
+) -> CQDBWriter
     requires { ⌜ (astray (length (now bytes)) 0 (now ends) ≡ false) × (length (now ends) ≤ length (now ids)) × (length (now ends) ≤ length (now rs)) × (headSize ≤ length (now buf)) × (stateWith w (now counts) (now buf) ≡ fresh (w .mode) On (now buf)) × (0 < slots → (slots + length (now ends) ≤ length (now work)) × (length (now ends) ≤ 4294967295) × ((s : ℕ) → s < slots → getD (now work) s 0 ≡ 0)) ⌝ }
     ensures state { λ r. ⌜ Puts (w .mode) repeats (now (buf .entry)) (listed (now (bytes .entry)) (now (ends .entry)) (now (ids .entry))) (stateWith r (now (counts .exit)) (now (buf .exit))) ⌝ }
     ensures answers { λ _. ⌜ now (rs .exit) ≡ answersOf (w .mode) repeats (now (buf .entry)) (listed (now (bytes .entry)) (now (ends .entry)) (now (ids .entry))) ++ drop (length (now (ends .entry))) (now (rs .entry)) ⌝ }
@@ -77,7 +95,16 @@ fn put_all(w: CQDBWriter, counts: &mut [u32; 256], buf: &mut [u8], repeats: Repe
 }
 
 // Begin, the puts and one close, where nothing is refused before.
-fn build_list(mode: Mode, repeats: Repeats, buf: &mut [u8], bytes: &[u8], ends: &[u64], ids: &[u32], rs: &mut [u32], work: &mut [u32]) -> Built
+fn build_list(
+    mode: Mode,
+    repeats: Repeats,
+    buf: &mut [u8],
+    bytes: &[u8],
+    ends: &[u64],
+    ids: &[u32],
+    rs: &mut [u32],
+    work: &mut [u32],
+) -> Built
     requires { ⌜ (astray (length (now bytes)) 0 (now ends) ≡ false) × (length (now ends) ≤ length (now ids)) × (length (now ends) ≤ length (now rs)) × (headSize ≤ length (now buf)) ⌝ }
     ensures answer { λ r. ⌜ builtOf r ≡ building mode repeats (now (buf .entry)) (now (bytes .entry)) (now (ends .entry)) (now (ids .entry)) (length (now (rs .entry))) ⌝ }
     ensures leaves { λ _. ⌜ now (buf .exit) ≡ bufferAfter mode repeats (now (buf .entry)) (now (bytes .entry)) (now (ends .entry)) (now (ids .entry)) (length (now (rs .entry))) ⌝ }
@@ -94,7 +121,18 @@ fn build_list(mode: Mode, repeats: Repeats, buf: &mut [u8], bytes: &[u8], ends: 
         entries: 0,
         back: 0,
     };
-    let after = put_all(w, &mut counts, &mut *buf, repeats, bytes, ends, ids, &mut *rs, &mut *work, slots);
+    let after = put_all(
+        w,
+        &mut counts,
+        &mut *buf,
+        repeats,
+        bytes,
+        ends,
+        ids,
+        &mut *rs,
+        &mut *work,
+        slots,
+    );
     let accepted = after.entries;
     let closed = writer::close(after, &counts, &mut *buf);
     let answer = closed.answer;
@@ -107,7 +145,16 @@ fn build_list(mode: Mode, repeats: Repeats, buf: &mut [u8], bytes: &[u8], ends: 
 // The image of the names that lie joined in `bytes` with these ends, each put with the id at its place; the number of each put's
 // refusal goes to `rs`. Refused with 14, 15 or 1, and then nothing is written. What `work` holds changes only the time, and what it holds
 // afterwards is left free.
-pub fn build(mode: Mode, repeats: Repeats, buf: &mut [u8], bytes: &[u8], ends: &[u64], ids: &[u32], rs: &mut [u32], work: &mut [u32]) -> Built
+pub fn build(
+    mode: Mode,
+    repeats: Repeats,
+    buf: &mut [u8],
+    bytes: &[u8],
+    ends: &[u64],
+    ids: &[u32],
+    rs: &mut [u32],
+    work: &mut [u32],
+) -> Built
     ensures answer { λ r. ⌜ builtOf r ≡ building mode repeats (now (buf .entry)) (now (bytes .entry)) (now (ends .entry)) (now (ids .entry)) (length (now (rs .entry))) ⌝ }
     ensures leaves { λ _. ⌜ now (buf .exit) ≡ bufferAfter mode repeats (now (buf .entry)) (now (bytes .entry)) (now (ends .entry)) (now (ids .entry)) (length (now (rs .entry))) ⌝ }
     ensures answers { λ _. ⌜ now (rs .exit) ≡ answersAfter mode repeats (now (buf .entry)) (now (bytes .entry)) (now (ends .entry)) (now (ids .entry)) (now (rs .entry)) ⌝ }
@@ -126,5 +173,14 @@ pub fn build(mode: Mode, repeats: Repeats, buf: &mut [u8], bytes: &[u8], ends: &
     if buf.len() < 2072 {
         return Built::Refused(1);
     }
-    build_list(mode, repeats, &mut *buf, bytes, ends, ids, &mut *rs, &mut *work)
+    build_list(
+        mode,
+        repeats,
+        &mut *buf,
+        bytes,
+        ends,
+        ids,
+        &mut *rs,
+        &mut *work,
+    )
 }

@@ -67,10 +67,12 @@ loop-again c = (let s = c .before .before .before .before .before .before .befor
     let l = c .before .before .before .before .before .loop in
     let xs = names (s .args .bytes .now) (s .args .ends .now) in
     let w = l .inv .1 in
-    let some : 0 < l .q = omega arith in
-    (l .inv .0, walk-step xs (s .args .slots) (s .args .rs .now) (s .args .i) (l .q) _ some w
-    (ap₂ same (sym (c .before .before .before .name-of2 .ensures)) (sym (l .inv .0)) ∙ sym (c .before .before .same .ensures) ∙ c .before .if1 .left)
-    (s .pre .5 .links (l .q - 1) (omega (arith, w .below)) (w .taken some))))
+    let some : 0 < l .q = omega arith in (
+      l .inv .0,
+      walk-step xs (s .args .slots) (s .args .rs .now) (s .args .i) (l .q) _ some w
+          (ap₂ same (sym (c .before .before .before .name-of2 .ensures)) (sym (l .inv .0)) ∙ sym (c .before .before .same .ensures) ∙ c .before .if1 .left)
+          (s .pre .5 .links (l .q - 1) (omega (arith, w .below)) (w .taken some)),
+    ))
 
 returns-2 : tie.Need-returns-2 Inv-loop μ-loop
 returns-2 c = (let s = c .before .before .before .before .before .before .before .before in
