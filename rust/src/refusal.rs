@@ -56,6 +56,10 @@ refusals! {
     PageTooLong = 12, "the page is longer than the output";
     /// The name has a zero byte.
     ZeroByte = 13, "the name has a zero byte";
+    /// The ends of a list's names fall or pass their bytes. No call of this crate gets there.
+    RoundUnfit = 14, "the ends of the names do not fit their bytes";
+    /// The list of ids or of answers is shorter than the names. No call of this crate gets there.
+    AnswersTooFew = 15, "the list of ids or answers is shorter than the names";
     /// The writer already holds this name, and was not begun [`with_repeats`](crate::CQDBWriter::with_repeats).
     Repeated = 16, "the writer already holds this name, and repeats are off";
     /// The round sheet has too few bytes.

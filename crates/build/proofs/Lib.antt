@@ -3,3 +3,4 @@ pub mod Chained
 pub mod Turns
 pub mod Going
 pub mod Whole
+pub mod Theorem

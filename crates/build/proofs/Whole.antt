@@ -5,7 +5,7 @@ use native.Mathlib.Decide.{decLt}
 use mathlib.Core.Path.{_≡_, refl, sym, ap, ap₂, _∙_}
 use mathlib.Core.Bool.{Bool, true, false, cond, _||_}
 use mathlib.Core.List.{List, _++_}
-use borrow.Author.Tests.{lt-ltb, le-ltb}
+use borrow.Author.Tests.{lt-ltb, le-ltb, ltb-true}
 use lib.Dec.{ltb, eqb}
 use lib.ListN.{length, drop}
 use Rattle.jhash.specs.Outcome.{Outcome, value, refusal}
@@ -122,6 +122,23 @@ module _ (mode : Mode) (repeats : Repeats) (buffer bytes ends ids places : List 
 
       pub never-refused : (k : ℕ) → refusal k ≡ closing s → ⊥
       never-refused k e = let z : _≡_ {A = ℕ} 0 1 = ap isValue (e ∙ gives) in omega arith
+
+abbrev isMade : Outcome Made → ℕ
+isMade (value m) = 1
+isMade (refusal k) = 0
+
+-- a refusal has a number
+pub refused-some : (mode : Mode) (repeats : Repeats) (buffer bytes ends ids : List ℕ) (places k : ℕ) → building mode repeats buffer bytes ends ids places ≡ refusal k
+    → 0 < buildRefusal bytes ends (length ids) places (length buffer)
+unfolding building
+refused-some mode repeats buffer bytes ends ids places k e = go (ltb 0 due) refl e
+  where
+    due : ℕ
+    due = buildRefusal bytes ends (length ids) places (length buffer)
+
+    go : (b : Bool) → ltb 0 due ≡ b → cond b (refusal due) (value (madeOf mode repeats buffer (listed bytes ends ids))) ≡ refusal k → 0 < due
+    go true p q = ltb-true 0 due p
+    go false p q = let z : _≡_ {A = ℕ} 1 0 = ap isMade q in absurd (omega arith)
 
 -- slots are within the lent memory
 pub slots-within : (r n words most : ℕ) → (0 < r → (r + n ≤ words) × (n ≤ most)) → r ≤ words

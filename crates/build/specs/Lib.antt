@@ -2,3 +2,4 @@
 pub mod Build
 pub mod Held
 pub mod Along
+pub mod Theorem

@@ -59,6 +59,13 @@ pub(crate) fn slot_of(name: &[u8], slots: u32) -> u32
     key(name) % slots
 }
 
+// Are two names equal? Equal keys do not tell: different names with one hash do occur.
+fn alike(a: &[u8], b: &[u8]) -> bool
+    ensures { λ r. ⌜ r ≡ same (now (a .entry)) (now (b .entry)) ⌝ }
+{
+    same(a, b)
+}
+
 // By the chain of the slot s of the i-th name.
 fn chained(
     bytes: &[u8],
@@ -76,7 +83,7 @@ fn chained(
     let mut q = work[s as usize];
     while 0 < q {
         let j = (q - 1) as usize;
-        if same(name_of(bytes, ends, j), name) {
+        if alike(name_of(bytes, ends, j), name) {
             return true;
         }
         q = work[slots as usize + j];
@@ -92,7 +99,7 @@ fn equals(bytes: &[u8], ends: &[u64], rs: &[u32], j: usize, name: &[u8]) -> bool
     if rs[j] != 0 {
         return false;
     }
-    same(name_of(bytes, ends, j), name)
+    alike(name_of(bytes, ends, j), name)
 }
 
 // By a walk along the names before the i-th.

@@ -40,15 +40,15 @@ cast-j c = omega arith
 name-of-requires-2 : tie.Need-name-of-requires-2 Inv-loop μ-loop
 name-of-requires-2 c κs = (omega (arith, c .before .loop .inv .1 .below, c .before .before .before .before .before .before .before .before .pre .1), c .before .before .before .before .before .before .before .before .pre .0)
 
-same-requires : tie.Need-same-requires Inv-loop μ-loop
-same-requires c κs = search needs
+alike-requires : tie.Need-alike-requires Inv-loop μ-loop
+alike-requires c κs = search needs
 
 returns : tie.Need-returns Inv-loop μ-loop
 returns c = (let s = c .before .before .before .before .before .before .before .before .before .before .before in
     let l = c .before .before .before .before .loop in
     let xs = names (s .args .bytes .now) (s .args .ends .now) in
     walk-found xs (s .args .slots) (s .args .rs .now) (s .args .i) (l .q) (omega arith) (l .inv .1)
-    (ap₂ same (sym (c .before .before .name-of2 .ensures)) (sym (l .inv .0)) ∙ sym (c .before .same .ensures) ∙ c .if1 .taken))
+    (ap₂ same (sym (c .before .before .name-of2 .ensures)) (sym (l .inv .0)) ∙ sym (c .before .alike .ensures) ∙ c .if1 .taken))
 
 add-q : tie.Need-add-q Inv-loop μ-loop
 add-q c = omega (arith, c .before .before .before .before .loop .inv .1 .below, c .before .before .before .before .before .before .before .before .before .before .before .pre .1, c .before .before .before .before .before .before .before .before .before .before .before .pre .2)
@@ -70,7 +70,7 @@ loop-again c = (let s = c .before .before .before .before .before .before .befor
     let some : 0 < l .q = omega arith in (
       l .inv .0,
       walk-step xs (s .args .slots) (s .args .rs .now) (s .args .i) (l .q) _ some w
-          (ap₂ same (sym (c .before .before .before .name-of2 .ensures)) (sym (l .inv .0)) ∙ sym (c .before .before .same .ensures) ∙ c .before .if1 .left)
+          (ap₂ same (sym (c .before .before .before .name-of2 .ensures)) (sym (l .inv .0)) ∙ sym (c .before .before .alike .ensures) ∙ c .before .if1 .left)
           (s .pre .5 .links (l .q - 1) (omega (arith, w .below)) (w .taken some)),
     ))
 
@@ -92,7 +92,7 @@ chained-spec =
     sub-j
     cast-j
     name-of-requires-2
-    same-requires
+    alike-requires
     returns
     add-q
     mul-q-2

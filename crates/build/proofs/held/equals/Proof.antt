@@ -24,15 +24,15 @@ returns c =
 name-of-requires : tie.Need-name-of-requires
 name-of-requires c κs = search needs
 
-same-requires : tie.Need-same-requires
-same-requires c κs = search needs
+alike-requires : tie.Need-alike-requires
+alike-requires c κs = search needs
 
 returns-2 : tie.Need-returns-2
 returns-2 c =
     let a = c .before .before .before .before .before .before .before .before .args in
-    c .same .ensures
+    c .alike .ensures
     ∙ ap (λ (l : List ℕ). same l (a .name .now)) (c .before .name-of .ensures)
     ∙ sym (ap (λ (b : Bool). b && same (nth (names (a .bytes .now) (a .ends .now)) (a .j)) (a .name .now)) (eq-eqb _ 0 (c .before .before .if1 .left)))
 
 pub equals-spec : {M : Type 1} → statement M
-equals-spec = tie.close (tie.spec mul-if1 shared-slice-read-if1 returns name-of-requires same-requires returns-2)
+equals-spec = tie.close (tie.spec mul-if1 shared-slice-read-if1 returns name-of-requires alike-requires returns-2)
