@@ -40,7 +40,7 @@ pub use page::Page;
 pub use read::{Found, Iter, CQDB};
 pub use refusal::Refusal;
 pub use sheet::{Ids, Sheet};
-pub use write::{CQDBWriter, Flag};
+pub use write::{Built, CQDBWriter, Flag};
 
 /// The hash of a name with a start value (images use 0): lookup3's `hashlittle` over the name and one zero byte. Refused
 /// with [`Refusal::NameTooLong`] when the name has 4,294,967,295 bytes or more.

@@ -1,7 +1,7 @@
 //! Writing an image.
 use std::fmt;
 
-use crate::archive::{self, Counts, Record};
+use crate::archive::{self, Counts, Joined, Record};
 use crate::refusal::{self, Refusal};
 
 /// The head of an image, which the entries follow.
@@ -27,6 +27,17 @@ enum Repeats {
     On,
 }
 
+/// The image of a whole list, with the refusal of each put that was refused.
+#[derive(Clone, Debug, PartialEq, Eq)]
+pub struct Built {
+    /// The finished image of the accepted puts.
+    pub image: Vec<u8>,
+    /// How many puts were accepted.
+    pub accepted: u32,
+    /// The place in the list, counted from 0, and the refusal of each put that was refused.
+    pub refused: Vec<(usize, Refusal)>,
+}
+
 /// Builds an image in memory. A name may be put once, unless the writer is one [`with_repeats`](CQDBWriter::with_repeats).
 #[derive(Clone)]
 pub struct CQDBWriter {
@@ -44,7 +55,8 @@ impl CQDBWriter {
     /// A writer of a two-way or one-way image that refuses a name which it already holds.
     ///
     /// Each put then looks at all entries before it: 4,096 names take about 40 ms, 100,000 half a minute. Where the names are
-    /// known to differ, [`with_repeats`](CQDBWriter::with_repeats) makes the same image without that look.
+    /// known to differ, [`with_repeats`](CQDBWriter::with_repeats) makes the same image without that look; a whole list goes in one
+    /// call, [`build`](CQDBWriter::build).
     pub fn with_flag(flag: Flag) -> Self {
         Self::begin(flag, Repeats::Off)
     }
@@ -52,6 +64,58 @@ impl CQDBWriter {
     /// A writer that takes a name again, as cqdb-rs does: for renewed prisms, which keep their name and get a new id.
     pub fn with_repeats(flag: Flag) -> Self {
         Self::begin(flag, Repeats::On)
+    }
+
+    /// The image of a whole list of names and ids: the puts in order and one close, in time that grows with the list, also where
+    /// names repeat. A name that the list holds before is refused with [`Refusal::Repeated`], one with a zero byte with
+    /// [`Refusal::ZeroByte`], and the rest are accepted, as by single puts.
+    ///
+    /// ```
+    /// use cqdb::{CQDBWriter, Flag, Refusal, CQDB};
+    ///
+    /// # fn main() -> std::io::Result<()> {
+    /// let built = CQDBWriter::build(Flag::NONE, [("north wall", 0), ("crane", 1), ("crane", 2)])?;
+    /// assert_eq!(built.accepted, 2);
+    /// assert_eq!(built.refused, [(2, Refusal::Repeated)]);
+    /// assert_eq!(CQDB::new(&built.image)?.to_id("crane"), Some(1));
+    /// # Ok(())
+    /// # }
+    /// ```
+    pub fn build<K: AsRef<[u8]>>(flag: Flag, list: impl IntoIterator<Item = (K, u32)>) -> Result<Built, Refusal> {
+        Self::build_list(flag, Repeats::Off, list)
+    }
+
+    /// The same where a name may be put again, as by a writer [`with_repeats`](CQDBWriter::with_repeats).
+    pub fn build_with_repeats<K: AsRef<[u8]>>(
+        flag: Flag,
+        list: impl IntoIterator<Item = (K, u32)>,
+    ) -> Result<Built, Refusal> {
+        Self::build_list(flag, Repeats::On, list)
+    }
+
+    fn build_list<K: AsRef<[u8]>>(
+        flag: Flag,
+        repeats: Repeats,
+        list: impl IntoIterator<Item = (K, u32)>,
+    ) -> Result<Built, Refusal> {
+        let (mut names, mut ends, mut ids) = (Vec::new(), Vec::new(), Vec::new());
+        for (name, id) in list {
+            names.extend_from_slice(name.as_ref());
+            ends.push(names.len() as u64);
+            ids.push(id);
+        }
+        let back = match flag {
+            Flag::NONE => ids.iter().map(|&id| 4 * (u64::from(id) + 1)).max().unwrap_or(0),
+            Flag::ONEWAY => 0,
+        };
+        let needed = HEAD as u64 + names.len() as u64 + 25 * ids.len() as u64 + back;
+        let mut image = vec![0; needed.min(LIMIT) as usize];
+        let (mut refusals, mut work) = (vec![0; ids.len()], vec![0; 3 * ids.len()]);
+        let joined = Joined { names: &names, ends: &ends, ids: &ids };
+        let answer = archive::build(flag as u32, repeats as u32, &mut image, joined, &mut refusals, &mut work);
+        image.truncate(answer.size as usize);
+        let refused = refusals.iter().enumerate().filter_map(|(i, &k)| refusal::or(k, ()).err().map(|why| (i, why))).collect();
+        refusal::or(answer.refusal, Built { image, accepted: answer.accepted, refused })
     }
 
     fn begin(flag: Flag, repeats: Repeats) -> Self {
