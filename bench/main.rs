@@ -1,14 +1,18 @@
 // The benchmarks: ours and the Rust's release build, or a copy for bundles, in one run and one table. The two take turns, and each
-// time is the best of several repetitions.   main [hash | reading | building | repeats | page | bundle]
+// time is the best of several repetitions.   main [hash | reading | building | repeats | page | bundle | load | origin | round | average]
+mod average;
 mod building;
 mod bundle;
 mod hash;
+mod load;
 mod names;
+mod origin;
 #[path = "../tests/compare/ours.rs"]
 mod ours;
 mod page;
 mod reading;
 mod repeats;
+mod round;
 mod table;
 
 fn main() {
@@ -32,5 +36,17 @@ fn main() {
     }
     if wanted("bundle") {
         bundle::run();
+    }
+    if wanted("load") {
+        load::run();
+    }
+    if wanted("origin") {
+        origin::run();
+    }
+    if wanted("round") {
+        round::run();
+    }
+    if wanted("average") {
+        average::run();
     }
 }

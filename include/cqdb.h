@@ -8,9 +8,10 @@
    What the caller owes:
    - Bytes are lent as a pointer and a length. The pointer is valid for that many bytes and is not NULL, also where the
      length is 0.
-   - `counts` points to 256 words, and `w` to a whole cqdb_writer.
-   - What a call writes (the buffer of cqdb_put, cqdb_close, cqdb_build, cqdb_sheet_write and cqdb_bundle_append, the counts, the
-     writer, the refusals and the work of cqdb_build, the output of cqdb_page) overlaps nothing else that the same call is lent: no name, no list, no buffer, no counts and no image.
+   - `counts` points to 256 words, those of cqdb_lengths to 16, and `w` to a whole cqdb_writer.
+   - What a call writes (the buffer of cqdb_put, cqdb_close, cqdb_sheet_write, cqdb_bundle_append, cqdb_load and cqdb_build, the counts, the writer,
+     the output of cqdb_page, the answers of cqdb_round and cqdb_name_round,
+     the refusals and the work of cqdb_build) overlaps nothing else that the same call is lent: no name, no list, no buffer, no counts and no image.
      What a call only reads may overlap.
    - Nobody else writes to what is lent while the call runs.
 
@@ -31,7 +32,7 @@ extern "C" {
 
 /* The refusals: the same numbers in all calls, 0 for none. Each comment names the calls that give it. A refused call
    changes no byte of what it is lent, the writer included. docs/FORMAT.md has the same table. */
-#define CQDB_TOO_SHORT 1u        /* begin, open, build: under 2,072 bytes */
+#define CQDB_TOO_SHORT 1u        /* begin, open, load, build: under 2,072 bytes */
 #define CQDB_UNFIT 2u            /* begin, put, close, build: the writer does not fit the buffer, or mode or repeats is neither 0 nor 1 */
 #define CQDB_NO_ROOM 3u          /* put, bundle_append: the image would exceed the buffer; put: or 4,294,967,295 bytes */
 #define CQDB_INCONSISTENT 4u     /* put, close: the buffer's entries are not the writer's (put asks with repeats off only), or the
@@ -45,12 +46,16 @@ extern "C" {
 #define CQDB_NO_SUCH_IMAGE 11u   /* bundle_open: the file ends at or before the position */
 #define CQDB_PAGE_TOO_LONG 12u   /* page: it has more bytes than the output */
 #define CQDB_ZERO_BYTE 13u       /* put: the name has a zero byte */
-#define CQDB_ROUND_UNFIT 14u     /* build: ends that fall or pass the names */
-#define CQDB_ANSWERS_TOO_FEW 15u /* build: fewer ids or answer places than names */
+#define CQDB_ROUND_UNFIT 14u     /* round, name_round, build: ends that fall or pass the names; rounds: or more than 512 names or ids */
+#define CQDB_ANSWERS_TOO_FEW 15u /* round, name_round, build: fewer answer places than names or ids; build: or fewer ids */
 #define CQDB_REPEATED 16u        /* put: repeats are off, and an earlier entry has this name */
+#define CQDB_NOT_OURS 17u        /* average, lengths: the bytes are not the image that some list of puts closes to */
+#define CQDB_NO_ENTRIES 18u      /* average, lengths: the image has no entry */
 #define CQDB_TOO_FEW_BYTES 19u   /* sheet_read: the file ends before its third section does */
 #define CQDB_LEFT_OVER_BYTES 20u /* sheet_read: bytes follow the third section */
 #define CQDB_SHEET_TOO_LARGE 21u /* sheet_write: a list has more than 65,535 ids, or the buffer is too short */
+#define CQDB_NO_SUCH_DATE 22u    /* name_on: a date, the one asked about or a window's, does not exist or is out of bounds */
+#define CQDB_NOT_BEFORE_END 23u  /* name_on: a window does not start before its end */
 
 /* The name hash. */
 
@@ -117,6 +122,35 @@ uint32_t cqdb_size_hint(const uint8_t *image, size_t len, uint32_t next);
    check the search goes on past an equal name until an empty bucket, a broken entry or all buckets are read. In an image of
    cqdb_close every id that has a name is home. */
 uint32_t cqdb_home(const uint8_t *image, size_t len, uint32_t id);
+
+/* 1 when these bytes are the image that some list of puts closes to, one-way or two-way, repeats allowed, names free of zero
+   bytes, with no byte after it; else 0. It is 1 for the image of every list of calls from a begin: the first `size` bytes of
+   the buffer after the close, lent with exactly that length. Two different lists of accepted puts in one direction never
+   make the same image, so images that are ours can be compared by their bytes: their puts, in put order, stand one after the
+   other from 2,072 on, as many as cqdb_open's num. Lent the image alone, changes nothing, and takes time linear in len apart
+   from the probing. */
+uint32_t cqdb_ours(const uint8_t *image, size_t len);
+
+/* Search lengths, to compare lists of names. The search length of an entry is the number of buckets that are read when its name
+   is looked up; each entry counts, so a repeated name counts each time. */
+
+/* refusal is 0 when the image was accepted; entries is the number of its entries. The total of the search lengths is
+   quotient x entries + remainder, and remainder is below entries. All are 0 where refused. */
+typedef struct {
+    uint32_t refusal;
+    uint32_t entries;
+    uint64_t quotient;
+    uint64_t remainder;
+} cqdb_average_answer;
+
+/* The average search length of an image. Refusals, the first that applies: 17 where cqdb_ours gives 0, 18 where the image has
+   no entry. The call asks cqdb_ours and then looks up each name. */
+cqdb_average_answer cqdb_average(const uint8_t *image, size_t len);
+
+/* How many entries have each search length: counts[0] to counts[14] for the lengths 1 to 15, and counts[15] for 16 and more.
+   Their sum is the number of entries. Gives 0, or the refusals of cqdb_average; where refused, the 16 counts stay as they
+   were. */
+uint32_t cqdb_lengths(const uint8_t *image, size_t len, uint32_t *counts);
 
 /* A printed catalogue, for paper. The page has a line of 45 bytes for every id below back size, in rising order:
 
@@ -216,7 +250,7 @@ static inline void cqdb_keep(cqdb_writer *w, cqdb_record r) {
     w->end = r.end;
 }
 
-/* The two calls that follow, in one. */
+/* Begins with the choice that `repeats` names: what cqdb_begin and cqdb_begin_repeats do. */
 static inline uint32_t cqdb_begin_with(cqdb_writer *w, uint32_t mode, uint32_t repeats, const uint8_t *buf, size_t len) {
     cqdb_begin_answer a = cqdb_begin_parts(mode, repeats, w->counts, buf, len);
     if (a.refusal == 0) {
@@ -263,7 +297,7 @@ static inline uint32_t cqdb_put(cqdb_writer *w, uint8_t *buf, size_t len, const 
    Entries, and bytes from size on, keep their content, and the writer stays as it is: puts and closes may follow. Gives
    the first refusal that applies: 2 when the writer does not fit the buffer; 4 when the bytes from 2,072 to end are not the
    writer's number of whole entries with its counts and back size, or when the finished size exceeds the buffer or
-   4,294,967,295. */
+   4,294,967,295. Takes 38 KB of stack. */
 static inline cqdb_close_answer cqdb_close(const cqdb_writer *w, uint8_t *buf, size_t len) {
     cqdb_close_parts_answer a = cqdb_close_parts(cqdb_record_of(w), w->counts, buf, len);
     cqdb_close_answer c = {a.refusal, a.size};
@@ -412,6 +446,87 @@ typedef struct {
 
 /* The number of images in a file, by a walk of the whole file. Refusal: 10. */
 cqdb_bundle_count_answer cqdb_bundle_count(const uint8_t *file, size_t len);
+
+/* A load anyone can rebuild: an image to test and measure with, from a seed. A step takes a state s to
+   1664525 x s + 1013904223 modulo 2^32, and the first state is the seed. Entry i, from 0, has id i and the name P followed
+   by the state after step i + 1 in eight uppercase hexadecimal digits; the first of seed 0 is P3C6EF35F. */
+
+/* refusal is 0 when the call was accepted; accepted is the number of entries, 0 when it was refused. */
+typedef struct {
+    uint32_t refusal;
+    uint32_t accepted;
+} cqdb_load_answer;
+
+/* Puts the entries of a seed, two-way and with repeats on, until 4,096 are accepted or one finds no room, and closes. The
+   buffer's first 2,072 + 38 x accepted bytes, as many as the image's size word says, are then the image; those behind it
+   keep their content. 157,720 bytes have room for all 4,096 entries, whatever the seed. Refusal: 1 for a buffer under 2,072
+   bytes, and nothing is written. */
+cqdb_load_answer cqdb_load(uint32_t seed, uint8_t *buf, size_t len);
+
+/* Names with a season. Some prisms stand only between two dates. Takes any bytes as an image, opened or not. */
+
+/* A date of the Gregorian calendar: the years 1900 to 2199, months 1 to 12, days from 1 on. As the end date of a window also
+   1 January 2200. */
+typedef struct {
+    uint16_t year;
+    uint8_t month;
+    uint8_t day;
+} cqdb_date;
+
+/* The id's prism stands from the first date on; on the end date it stands no longer. */
+typedef struct {
+    uint32_t id;
+    cqdb_date first;
+    cqdb_date end;
+} cqdb_window;
+
+/* refusal is 0 when the call was accepted. found is 1 or 0; the name is the len bytes from image + start on, which lie in the
+   image. found, len and start are 0 where there is no name on that date, and where the call was refused. */
+typedef struct {
+    uint32_t refusal;
+    uint32_t found;
+    uint32_t len;
+    uint64_t start;
+} cqdb_on_answer;
+
+/* The place of an id's name on a date: that of cqdb_to_str where some of the n windows has this id and holds the date, first
+   date included, end date not; otherwise nothing. All windows are checked, also those of other ids and also where the id has
+   no name. Refusals: 22 when a date does not exist or is out of bounds, the one asked about or one of a window; 23 when none is,
+   and a window does not start before its end. Changes nothing, and reads each window once. windows is not NULL, also where n
+   is 0. */
+cqdb_on_answer cqdb_name_on(const uint8_t *image, size_t len, uint32_t id, cqdb_date date, const cqdb_window *windows, size_t n);
+
+/* A whole round in one call, in both directions. The archive exports cqdb_round_words and cqdb_name_round_words, which take the
+   answers as words of 32 bits, four to an answer, as the structs above lie in memory; cqdb_round and cqdb_name_round hand the
+   answers over so. */
+
+/* refusal is 0 when the round was accepted; buckets is 0 when it was refused. */
+typedef struct {
+    uint32_t refusal;
+    uint64_t buckets;
+} cqdb_round_answer;
+
+cqdb_round_answer cqdb_round_words(const uint8_t *image, size_t len, const uint8_t *names, size_t names_len,
+                                   const uint64_t *ends, size_t n, uint32_t *answers, size_t words);
+uint32_t cqdb_name_round_words(const uint8_t *image, size_t len, const uint32_t *ids, size_t n, uint32_t *answers,
+                               size_t words);
+
+/* The ids of up to 512 names. They lie joined in names, the first from byte 0 on, and ends[i] is where the i-th ends; bytes may
+   follow the last. answers[i] is what cqdb_to_id gives for the i-th name, and equal names are searched for once: buckets is the
+   sum over the different names. Places past the n-th keep their content. Refusals, the first that applies, and then nothing is
+   written: 14 for more than 512 names, or an end below the one before or above names_len; 15 for fewer places than names. Uses
+   about 11 KB of stack. */
+static inline cqdb_round_answer cqdb_round(const uint8_t *image, size_t len, const uint8_t *names, size_t names_len,
+                                           const uint64_t *ends, size_t n, cqdb_id_answer *answers, size_t places) {
+    return cqdb_round_words(image, len, names, names_len, ends, n, (uint32_t *)answers, 4 * places);
+}
+
+/* The names of up to 512 ids: answers[i] is what cqdb_to_str gives for ids[i], and places past the n-th keep their content. Gives
+   0, or the first refusal that applies, and then nothing is written: 14 for more than 512 ids, 15 for fewer places than ids. */
+static inline uint32_t cqdb_name_round(const uint8_t *image, size_t len, const uint32_t *ids, size_t n,
+                                       cqdb_str_answer *answers, size_t places) {
+    return cqdb_name_round_words(image, len, ids, n, (uint32_t *)answers, 4 * places);
+}
 
 #ifdef __cplusplus
 }

@@ -125,6 +125,63 @@ pub struct BundleCountAnswer {
     pub images: u64,
 }
 
+#[repr(C)]
+#[derive(Clone, Copy, Debug, PartialEq, Eq)]
+pub struct LoadAnswer {
+    pub refusal: u32,
+    pub accepted: u32,
+}
+
+/// A date of the Gregorian calendar.
+#[repr(C)]
+#[derive(Clone, Copy, Debug, PartialEq, Eq, Hash)]
+pub struct Date {
+    /// 1900 to 2199; 2200 only for 1 January as the end date of a window.
+    pub year: u16,
+    /// 1 to 12.
+    pub month: u8,
+    /// From 1 on, to the month's length.
+    pub day: u8,
+}
+
+/// A time in which the prism of an id stands.
+#[repr(C)]
+#[derive(Clone, Copy, Debug, PartialEq, Eq, Hash)]
+pub struct Window {
+    /// The id of the prism.
+    pub id: u32,
+    /// The first date on which it stands.
+    pub first: Date,
+    /// The date from which on it stands no longer.
+    pub end: Date,
+}
+
+#[repr(C)]
+#[derive(Clone, Copy, Debug, PartialEq, Eq)]
+pub struct OnAnswer {
+    pub refusal: u32,
+    pub found: u32,
+    pub len: u32,
+    pub start: u64,
+}
+
+/// The buckets read over the different names of a round.
+#[repr(C)]
+#[derive(Clone, Copy, Debug, PartialEq, Eq)]
+pub struct RoundAnswer {
+    pub refusal: u32,
+    pub buckets: u64,
+}
+
+#[repr(C)]
+#[derive(Clone, Copy, Debug, PartialEq, Eq)]
+pub struct AverageAnswer {
+    pub refusal: u32,
+    pub entries: u32,
+    pub quotient: u64,
+    pub remainder: u64,
+}
+
 /// size is the image's, and accepted the number of accepted puts.
 #[repr(C)]
 #[derive(Clone, Copy, Debug, PartialEq, Eq)]
@@ -154,8 +211,27 @@ extern "C" {
     fn cqdb_readings_agree(image: *const u8, len: usize) -> u32;
     fn cqdb_size_hint(image: *const u8, len: usize, next: u32) -> u32;
     fn cqdb_home(image: *const u8, len: usize, id: u32) -> u32;
+    fn cqdb_ours(image: *const u8, len: usize) -> u32;
     fn cqdb_page_length(image: *const u8, len: usize) -> u64;
     fn cqdb_page(image: *const u8, len: usize, out: *mut u8, out_len: usize) -> PageAnswer;
+    fn cqdb_round_words(
+        image: *const u8,
+        len: usize,
+        names: *const u8,
+        names_len: usize,
+        ends: *const u64,
+        n: usize,
+        answers: *mut u32,
+        words: usize,
+    ) -> RoundAnswer;
+    fn cqdb_name_round_words(
+        image: *const u8,
+        len: usize,
+        ids: *const u32,
+        n: usize,
+        answers: *mut u32,
+        words: usize,
+    ) -> u32;
     fn cqdb_begin_parts(mode: u32, repeats: u32, counts: *mut u32, buf: *const u8, len: usize) -> RecordAnswer;
     fn cqdb_put_parts(
         record: Record,
@@ -188,6 +264,10 @@ extern "C" {
         image_len: usize,
     ) -> BundleAppendAnswer;
     fn cqdb_bundle_count(file: *const u8, len: usize) -> BundleCountAnswer;
+    fn cqdb_load(seed: u32, buf: *mut u8, len: usize) -> LoadAnswer;
+    fn cqdb_average(image: *const u8, len: usize) -> AverageAnswer;
+    fn cqdb_lengths(image: *const u8, len: usize, counts: *mut u32) -> u32;
+    fn cqdb_name_on(image: *const u8, len: usize, id: u32, date: Date, windows: *const Window, n: usize) -> OnAnswer;
     fn cqdb_build_parts(
         mode: u32,
         repeats: u32,
@@ -246,6 +326,11 @@ pub fn home(image: &[u8], id: u32) -> u32 {
     unsafe { cqdb_home(image.as_ptr(), image.len(), id) }
 }
 
+/// 1 when the bytes are the image that some list of puts closes to, with no byte after it, else 0.
+pub fn ours(image: &[u8]) -> u32 {
+    unsafe { cqdb_ours(image.as_ptr(), image.len()) }
+}
+
 /// The length of the printed catalogue.
 pub fn page_length(image: &[u8]) -> u64 {
     unsafe { cqdb_page_length(image.as_ptr(), image.len()) }
@@ -254,6 +339,22 @@ pub fn page_length(image: &[u8]) -> u64 {
 /// The printed catalogue in the first bytes of `out`, and its length; or the refusal.
 pub fn page(image: &[u8], out: &mut [u8]) -> PageAnswer {
     unsafe { cqdb_page(image.as_ptr(), image.len(), out.as_mut_ptr(), out.len()) }
+}
+
+/// The ids of the names that lie joined with these ends, an answer in the place of each; and the buckets read over the different
+/// names, or the refusal.
+pub fn round(image: &[u8], names: &[u8], ends: &[u64], answers: &mut [IdAnswer]) -> RoundAnswer {
+    let (image, len, names, names_len) = (image.as_ptr(), image.len(), names.as_ptr(), names.len());
+    // An answer is four words of 32 bits, one after the other.
+    let (words, count) = (answers.as_mut_ptr().cast(), 4 * answers.len());
+    unsafe { cqdb_round_words(image, len, names, names_len, ends.as_ptr(), ends.len(), words, count) }
+}
+
+/// The places of the ids' names, an answer in the place of each; 0, or the refusal.
+pub fn name_round(image: &[u8], ids: &[u32], answers: &mut [StrAnswer]) -> u32 {
+    // An answer is four words of 32 bits: found, the length, and the start, low word first.
+    let (words, count) = (answers.as_mut_ptr().cast(), 4 * answers.len());
+    unsafe { cqdb_name_round_words(image.as_ptr(), image.len(), ids.as_ptr(), ids.len(), words, count) }
 }
 
 /// A fresh record, or the refusal.
@@ -304,6 +405,26 @@ pub fn bundle_append(buf: &mut [u8], file_len: u64, image: &[u8]) -> BundleAppen
 /// The number of images in a bundle, or the refusal.
 pub fn bundle_count(file: &[u8]) -> BundleCountAnswer {
     unsafe { cqdb_bundle_count(file.as_ptr(), file.len()) }
+}
+
+/// The load of a seed in the first bytes of `buf`, and the number of its entries; or the refusal.
+pub fn load(seed: u32, buf: &mut [u8]) -> LoadAnswer {
+    unsafe { cqdb_load(seed, buf.as_mut_ptr(), buf.len()) }
+}
+
+/// The place of an id's name on a date, or nothing, or the refusal.
+pub fn name_on(image: &[u8], id: u32, date: Date, windows: &[Window]) -> OnAnswer {
+    unsafe { cqdb_name_on(image.as_ptr(), image.len(), id, date, windows.as_ptr(), windows.len()) }
+}
+
+/// Entries, quotient and remainder of the average search length, or the refusal.
+pub fn average(image: &[u8]) -> AverageAnswer {
+    unsafe { cqdb_average(image.as_ptr(), image.len()) }
+}
+
+/// How many entries have each search length, into the counts; the refusal, 0 for none.
+pub fn lengths(image: &[u8], counts: &mut [u32; 16]) -> u32 {
+    unsafe { cqdb_lengths(image.as_ptr(), image.len(), counts.as_mut_ptr()) }
 }
 
 /// The image of a whole list, and the number of each put's refusal; or the refusal of the list. `work` is lent for speed.

@@ -26,19 +26,28 @@
 #![warn(missing_docs)]
 
 mod archive;
+mod average;
 mod bundle;
+mod load;
 mod order;
 mod page;
+mod puts;
 mod read;
 mod refusal;
+mod round;
 mod sheet;
 mod write;
 
+pub use archive::{Date, Window};
+pub use average::Average;
 pub use bundle::{Bundle, Images};
+pub use load::{load, load_in};
 pub use order::{references_first, Order, Pair};
 pub use page::Page;
+pub use puts::Puts;
 pub use read::{Found, Iter, CQDB};
 pub use refusal::Refusal;
+pub use round::Round;
 pub use sheet::{Ids, Sheet};
 pub use write::{Built, CQDBWriter, Flag};
 

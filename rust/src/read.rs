@@ -2,8 +2,10 @@
 use std::fmt;
 use std::iter::FusedIterator;
 
-use crate::archive::{self, StrAnswer};
+use crate::archive::{self, Date, StrAnswer, Window};
+use crate::average::Average;
 use crate::page::Page;
+use crate::puts::Puts;
 use crate::refusal::{self, Refusal};
 
 /// What a lookup finds.
@@ -73,7 +75,37 @@ impl<'a> CQDB<'a> {
         archive::readings_agree(self.image) == 1
     }
 
-    fn part(&self, answer: StrAnswer) -> Option<&'a [u8]> {
+    /// The name of an id on a date: [`to_str`](CQDB::to_str)'s where some window of this id holds the date, first date
+    /// included, end date not; otherwise none. All windows are checked, also those of other ids. Refused with
+    /// [`Refusal::NoSuchDate`] where a date does not exist or is out of bounds, then with [`Refusal::NotBeforeEnd`] where a
+    /// window does not start before its end.
+    ///
+    /// ```
+    /// use cqdb::{CQDBWriter, Date, Window, CQDB};
+    ///
+    /// # fn main() -> std::io::Result<()> {
+    /// let mut writer = CQDBWriter::new();
+    /// writer.put("crane", 1)?;
+    /// let image = writer.finish()?;
+    /// let db = CQDB::new(&image)?;
+    /// let date = |month, day| Date { year: 2024, month, day };
+    /// let spring = Window { id: 1, first: date(3, 1), end: date(6, 1) };
+    /// assert_eq!(db.name_on(1, date(5, 31), &[spring])?, Some(&b"crane"[..]));
+    /// assert_eq!(db.name_on(1, date(6, 1), &[spring])?, None);
+    /// # Ok(())
+    /// # }
+    /// ```
+    pub fn name_on(&self, id: u32, date: Date, windows: &[Window]) -> Result<Option<&'a [u8]>, Refusal> {
+        let answer = archive::name_on(self.image, id, date, windows);
+        let place = StrAnswer { found: answer.found, len: answer.len, start: answer.start };
+        refusal::or(answer.refusal, self.part(place))
+    }
+
+    pub(crate) fn bytes(&self) -> &'a [u8] {
+        self.image
+    }
+
+    pub(crate) fn part(&self, answer: StrAnswer) -> Option<&'a [u8]> {
         let (start, len) = (answer.start as usize, answer.len as usize);
         (answer.found == 1).then(|| &self.image[start..start + len])
     }
@@ -82,6 +114,42 @@ impl<'a> CQDB<'a> {
     /// image of a writer every id that has a name is home.
     pub fn home(&self, id: u32) -> bool {
         archive::home(self.image, id) == 1
+    }
+
+    /// Are these bytes the image that some list of puts closes to, one-way or two-way, repeats allowed, with no byte after it?
+    /// Every image that [`CQDBWriter`](crate::CQDBWriter) makes is. Two different lists of puts in one direction never make
+    /// the same image, so owners may compare images by their bytes. The time is linear in the bytes apart from the probing.
+    pub fn is_ours(&self) -> bool {
+        archive::ours(self.image) == 1
+    }
+
+    /// The puts of an image that is ours, in put order; nothing where it is not, which is asked first.
+    pub fn puts(&self) -> Option<Puts<'a>> {
+        self.is_ours().then(|| Puts::new(self.image, self.num))
+    }
+
+    /// The average search length, to compare lists of names: how many buckets are read when the name of each entry is looked up,
+    /// over the number of entries. A repeated name counts each time. Refused with [`Refusal::NotOurs`] where
+    /// [`CQDB::is_ours`] says no, then with [`Refusal::NoEntries`].
+    ///
+    /// ```
+    /// # fn main() -> std::io::Result<()> {
+    /// let image = cqdb::load(0);
+    /// let average = cqdb::CQDB::new(&image)?.average()?;
+    /// assert_eq!((average.entries, average.quotient, average.remainder), (4_096, 1, 1_577));
+    /// # Ok(())
+    /// # }
+    /// ```
+    pub fn average(&self) -> Result<Average, Refusal> {
+        let a = archive::average(self.image);
+        refusal::or(a.refusal, Average { entries: a.entries, quotient: a.quotient, remainder: a.remainder })
+    }
+
+    /// How many entries are found after 1, 2, .. 15 buckets, and after 16 or more. Refused as [`CQDB::average`] is.
+    pub fn lengths(&self) -> Result<[u32; 16], Refusal> {
+        let mut counts = [0; 16];
+        let refusal = archive::lengths(self.image, &mut counts);
+        refusal::or(refusal, counts)
     }
 
     /// The printed catalogue.

@@ -56,18 +56,26 @@ refusals! {
     PageTooLong = 12, "the page is longer than the output";
     /// The name has a zero byte.
     ZeroByte = 13, "the name has a zero byte";
-    /// The ends of a list's names fall or pass their bytes. No call of this crate gets there.
-    RoundUnfit = 14, "the ends of the names do not fit their bytes";
-    /// The list of ids or of answers is shorter than the names. No call of this crate gets there.
-    AnswersTooFew = 15, "the list of ids or answers is shorter than the names";
+    /// A round has more than 512 names or ids, or the ends of its names, or of a list's, fall or pass their bytes.
+    RoundUnfit = 14, "the round has too many names or ids, or ends that do not fit its names";
+    /// The answer list of a round is shorter than the round. No call of this crate gets there.
+    AnswersTooFew = 15, "the answer list is shorter than the round";
     /// The writer already holds this name, and was not begun [`with_repeats`](crate::CQDBWriter::with_repeats).
     Repeated = 16, "the writer already holds this name, and repeats are off";
+    /// The bytes are not the image that some list of puts closes to.
+    NotOurs = 17, "the image is none that a list of puts makes";
+    /// The image has no entry.
+    NoEntries = 18, "the image has no entry";
     /// The round sheet has too few bytes.
     TooFewBytes = 19, "invalid round sheet, too few bytes";
     /// The round sheet has left-over bytes.
     LeftOverBytes = 20, "invalid round sheet, left-over bytes";
     /// A list of a round sheet has more than 65,535 ids, or its buffer is too short.
     SheetTooLarge = 21, "no room: a list of the round sheet is too long, or its buffer too short";
+    /// A date, the one asked about or a window's, does not exist or is out of bounds.
+    NoSuchDate = 22, "a date does not exist, or is out of bounds";
+    /// A window does not start before its end.
+    NotBeforeEnd = 23, "a window does not start before its end";
 }
 
 impl Refusal {

@@ -1,7 +1,7 @@
 // Hostile calls, to be run under valgrind: damaged images, random bytes, records that do not fit, broken buffers, pairs and rounds
-// of any ids, round sheets cut anywhere, broken bundles, lists and outputs without room. Everything lent stands in a heap block of
-// exactly its length, so that valgrind reports a read or write outside it. A refusal changes no byte, reading changes none, and
-// every place in an answer lies in what was lent.
+// of any ids, round sheets cut anywhere, broken bundles, any dates and windows, lists and outputs without room, loads in buffers of any length. Everything lent
+// stands in a heap block of exactly its length, so that valgrind reports a read or write outside it. A refusal changes no byte,
+// reading changes none, and every place in an answer lies in what was lent.
 // hostile [CALLS | too-much]
 mod damage;
 mod names;
@@ -13,7 +13,7 @@ mod spoil;
 mod tally;
 mod writing;
 
-use ours::{Counts, Pair};
+use ours::{Counts, Date, IdAnswer, Pair, StrAnswer, Window};
 use rules::HEAD;
 use seed::Random;
 use tally::Tally;
@@ -31,6 +31,8 @@ struct Run {
     sheets: u64,
     repeated: u64,
     bundles: u64,
+    loads: u64,
+    seasons: u64,
 }
 
 // A heap block of exactly these bytes.
@@ -61,8 +63,67 @@ impl Run {
         }
         let agree = ours::readings_agree(image);
         self.tally.rule(agree <= 1, true, || format!("the check of both readings gave {agree}"));
-        self.calls += 2 + names.len() as u64 + 4 * ids.len() as u64;
+        let one_of_ours = ours::ours(image);
+        self.tally.rule(one_of_ours <= u32::from(refusal == 0), true, || format!("one of ours gave {one_of_ours}"));
+        self.calls += 3 + names.len() as u64 + 4 * ids.len() as u64;
+        self.average(random, image, one_of_ours);
         self.page(random, image);
+        self.whole_round(random, image, names, &ids);
+    }
+
+    // A whole round of these names, and of these ids, each some times over, with ends that may be anything and places that may be too
+    // few: what is refused leaves every place, and places behind the last keep their content.
+    fn whole_round(&mut self, random: &mut Random, image: &[u8], names: &[Box<[u8]>], ids: &[u32]) {
+        let n = random.pick(&[0, 1, 3, 20, 20, 512, 513]);
+        let mut joined = Vec::new();
+        let mut ends = Vec::new();
+        for i in 0..n {
+            joined.extend_from_slice(&names[i % names.len()]);
+            ends.push(joined.len() as u64);
+        }
+        if random.once_in(3) && n > 0 {
+            ends[random.below(n)] = random.pick(&[0, 1, joined.len() as u64 + 1, u64::MAX, 1 << 63]);
+        }
+        let (bytes, ends) = (exact(&joined), ends.into_boxed_slice());
+        let places = random.pick(&[n, n + 2, n.saturating_sub(1), 0]);
+        let before: Box<[IdAnswer]> =
+            vec![IdAnswer { found: random.word(), id: 7, buckets: random.word(), offset: 9 }; places].into();
+        let mut answers = before.clone();
+        let answer = ours::round(image, &bytes, &ends, &mut answers);
+        let kept = if answer.refusal > 0 { 0 } else { n };
+        self.tally.rule([0, 14, 15].contains(&answer.refusal), true, || format!("{answer:?} of {n} names"));
+        self.tally.rule(answers[kept..] == before[kept..], true, || format!("the places behind {kept} of {n} names"));
+        self.tally.rule(answers[..kept].iter().all(|a| a.found <= 1), true, || format!("the places of {n} names"));
+        let asked: Box<[u32]> = (0..n).map(|i| ids[i % ids.len()]).collect();
+        let before: Box<[StrAnswer]> =
+            vec![StrAnswer { found: random.word(), len: random.word(), start: random.next() }; places].into();
+        let mut named = before.clone();
+        let refusal = ours::name_round(image, &asked, &mut named);
+        let kept = if refusal > 0 { 0 } else { n };
+        self.tally.rule([0, 14, 15].contains(&refusal), true, || format!("{refusal} of {n} ids"));
+        self.tally.rule(named[kept..] == before[kept..], true, || format!("the places behind {kept} of {n} ids"));
+        let inside = |a: &StrAnswer| a.start + u64::from(a.len) <= image.len() as u64;
+        self.tally.rule(named[..kept].iter().all(inside), true, || format!("the places of {n} ids"));
+        self.refused += u64::from(answer.refusal > 0) + u64::from(refusal > 0);
+        self.calls += 2;
+    }
+
+    // The average search length and its counts: refused where the image is not ours, and then no count is changed.
+    fn average(&mut self, random: &mut Random, image: &[u8], one_of_ours: u32) {
+        let answer = ours::average(image);
+        let fits = match answer.refusal {
+            0 => one_of_ours == 1 && answer.remainder < u64::from(answer.entries) && answer.quotient > 0,
+            k => k == 18 - (1 - one_of_ours) && (answer.entries, answer.quotient, answer.remainder) == (0, 0, 0),
+        };
+        self.tally.rule(fits, true, || format!("{answer:?} of an image that ours gave {one_of_ours}"));
+        let before: Box<[u32; 16]> = Box::new([random.word(); 16]);
+        let mut counts = before.clone();
+        let refusal = ours::lengths(image, &mut counts);
+        let due = if refusal == 0 { counts.iter().map(|&count| u64::from(count)).sum() } else { 0 };
+        self.tally.rule((refusal, due), (answer.refusal, u64::from(answer.entries)), || "the sum of the counts".into());
+        self.tally.rule(refusal == 0 || counts == before, true, || "the counts of a refused call".into());
+        self.refused += 2 * u64::from(refusal > 0);
+        self.calls += 2;
     }
 
     // The page, in an output of its length, of a little more, or of less, where it is refused.
@@ -200,6 +261,60 @@ impl Run {
         self.bundles += 1;
     }
 
+    // The load of any seed in a buffer of any length: the image lies in its front, and nothing behind it is changed.
+    fn load(&mut self, random: &mut Random) {
+        let any = 1_900 + random.below(400);
+        let room = random.pick(&[0, 2_071, 2_072, 2_109, 2_110, any, any, any]);
+        let before = random.bytes(room);
+        let mut buf = exact(&before);
+        let answer = ours::load(random.word(), &mut buf);
+        let entries = room.saturating_sub(HEAD) / 38;
+        let (size, due) = if room < HEAD { (0, (1, 0)) } else { (HEAD + 38 * entries, (0, entries as u32)) };
+        self.tally.rule((answer.refusal, answer.accepted), due, || format!("{answer:?} in {room} bytes"));
+        self.tally.bytes(&buf[size..], &before[size..], || "the bytes behind a load".into());
+        self.refused += u64::from(answer.refusal > 0);
+        self.calls += 1;
+        self.loads += 1;
+    }
+
+    // Any dates and windows on one image: a name lies in it, and where a list is refused the rest are zeros.
+    fn season(&mut self, random: &mut Random, bytes: &[u8]) {
+        let date = |random: &mut Random| {
+            let [a, b, c, d] = random.word().to_le_bytes();
+            let year = random.pick(&[1899, 1900, 2024, 2024, 2024, 2024, 2199, 2200, u16::from_le_bytes([a, b])]);
+            let month = random.pick(&[0, 1, 2, 2, 2, 6, 12, 13, c]);
+            Date { year, month, day: random.pick(&[0, 1, 1, 28, 28, 29, 30, 31, 32, d]) }
+        };
+        let good = |month| Date { year: 2024, month, day: 1 };
+        let image = exact(bytes);
+        let windows: Box<[Window]> = (0..random.below(6))
+            .map(|_| {
+                let odd = random.once_in(3);
+                let (first, end) = if odd { (date(random), date(random)) } else { (good(1), good(7)) };
+                Window { id: random.below(4) as u32, first, end }
+            })
+            .collect();
+        let before = windows.clone();
+        let asked = if random.once_in(3) { date(random) } else { good(3) };
+        let id = random.pick(&[0, 1, 2, 3, u32::MAX]);
+        let answer = ours::name_on(&image, id, asked, &windows);
+        let named = ours::to_str(&image, id);
+        let place = (answer.found, answer.len, answer.start);
+        let so = match answer.refusal {
+            0 if answer.found == 1 => {
+                place == (named.found, named.len, named.start) && windows.iter().any(|w| w.id == id)
+            }
+            0 | 22 | 23 => place == (0, 0, 0),
+            _ => false,
+        };
+        self.tally.rule(so, true, || format!("{answer:?} for {id} on {asked:?} by {windows:?}"));
+        self.tally.rule(windows == before, true, || "windows that were read".into());
+        self.tally.bytes(&image, bytes, || "an image that was asked on a date".into());
+        self.refused += u64::from(answer.refusal > 0);
+        self.calls += 2;
+        self.seasons += 1;
+    }
+
     fn unchanged(&mut self, (record, counts, buf): (ours::Record, &Counts, &[u8]), s: &State, what: &str) {
         self.refused += 1;
         self.tally.rule(record, s.record, || format!("the record after {what}"));
@@ -249,6 +364,8 @@ fn round(run: &mut Run, random: &mut Random) {
     }
     for _ in 0..20 {
         run.bundle(random, &images);
+        let image = &images[random.below(images.len())];
+        run.season(random, image);
     }
     let n = random.below(4000);
     let noise = random.bytes(n);
@@ -263,6 +380,7 @@ fn round(run: &mut Run, random: &mut Random) {
     for _ in 0..60 {
         run.order(random);
         run.sheet(random);
+        run.load(random);
     }
 }
 
@@ -280,13 +398,13 @@ fn main() {
     let calls = std::env::args().nth(1).map_or(CALLS, |text| text.parse().expect("a number of calls"));
     let mut random = Random::new();
     println!("hostile: seed {}", random.seed);
-    let mut run = Run { tally: Tally::default(), calls: 0, refused: 0, images: 0, states: 0, rounds: 0, sheets: 0, bundles: 0, repeated: 0 };
+    let mut run = Run { tally: Tally::default(), calls: 0, refused: 0, images: 0, states: 0, rounds: 0, sheets: 0, bundles: 0, loads: 0, seasons: 0, repeated: 0 };
     while run.calls < calls {
         round(&mut run, &mut random);
     }
     println!(
-        "hostile: {} calls on {} images, {} records with their buffers, {} rounds, {} sheets and {} bundles; {} refused, {} of them repeats; {} of {} checks failed",
-        run.calls, run.images, run.states, run.rounds, run.sheets, run.bundles, run.refused, run.repeated, run.tally.different, run.tally.rule
+        "hostile: {} calls on {} images, {} records with their buffers, {} rounds, {} sheets, {} bundles, {} loads and {} lists of windows; {} refused, {} of them repeats; {} of {} checks failed",
+        run.calls, run.images, run.states, run.rounds, run.sheets, run.bundles, run.loads, run.seasons, run.refused, run.repeated, run.tally.different, run.tally.rule
     );
     std::process::exit(i32::from(run.tally.different > 0));
 }

@@ -103,8 +103,8 @@ module _ (file : List ℕ) (k : ℕ) where
 
 -- an image that a walk comes to is opened as it is alone
 pub opens-alone : (file : List ℕ) (o : Outcome Place) (image : List ℕ) → partIn file o ≡ value image
-    → (p : Place) × (openIn file o ≡ withNum p (opening image))
-opens-alone file (value p) image e = (p, ap (λ (l : List ℕ). withNum p (opening l)) (same-value (take (p .size) (drop (p .start) file)) image e))
+    → (p : Place) × (o ≡ value p) × (openIn file o ≡ withNum p (opening image))
+opens-alone file (value p) image e = (p, refl, ap (λ (l : List ℕ). withNum p (opening l)) (same-value (take (p .size) (drop (p .start) file)) image e))
 opens-alone file (refusal k) image e = absurd (no-value k image e)
 
 -- a refusal stays the same for every position behind

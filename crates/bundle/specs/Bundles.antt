@@ -80,7 +80,7 @@ pub record Bundles : Type 1 where
   pub position : (buf : List ℕ) (images : List (List ℕ)) (k : ℕ) → imageAt (bytes (left buf images)) k ≡ nth (accepted (empty buf) images) k
   -- and opens as it does alone
   pub position-opens : (buf : List ℕ) (images : List (List ℕ)) (k : ℕ) (image : List ℕ) → nth (accepted (empty buf) images) k ≡ value image
-      → (p : Place) × (openingAt (bytes (left buf images)) k ≡ withNum p (opening image))
+      → (p : Place) × (placeAt (bytes (left buf images)) k ≡ value p) × (openingAt (bytes (left buf images)) k ≡ withNum p (opening image))
   -- which of them are accepted: the image and the buffer's room alone decide
   pub decided : (buf : List ℕ) (images : List (List ℕ)) (image : List ℕ)
       → appendRefusal (left buf images .buffer) (left buf images .size) image

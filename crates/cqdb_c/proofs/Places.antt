@@ -1,42 +1,14 @@
--- The place of a name: its length is an entry's length word minus 1, which four bytes make, so that it is below 2^32. Assumes nothing.
-use Prim.Native.Nat.{ℕ, _+_, _*_, _-_, _<_}
+-- The place of a name: its length is below 2^32. Assumes nothing.
+use Prim.Native.Nat.{ℕ, _<_}
 use native.Mathlib.Omega.{arith}
 use mathlib.Core.Path.{_≡_, refl}
-use mathlib.Core.Bool.{Bool, true, false, cond, _||_}
 use mathlib.Core.List.{List}
-use lib.Dec.{eqb, leb}
 use lib.ListN.{getD, take, drop, length-take}
-use Rattle.jhash.proofs.WordRead.{word-below}
-use Rattle.image.specs.Bytes.{word}
-use Rattle.image.specs.Head.{backSizeAt, backOffsetAt}
-use Rattle.image.specs.Stored.{broken}
 use Rattle.image.proofs.Zeros.{before-short}
-use Rattle.reader.specs.Naming.{Naming, place, unnamed, noBack, namingAt, naming}
+use Rattle.reader.specs.Naming.{Naming, place, unnamed, naming}
 use Rattle.reader.specs.Panel.{cutAtZero, panel}
-use Rattle.reader.proofs.Namings.{never}
+use Rattle.reader.proofs.Lengths.{named-small}
 use Rattle.cqdb_c.specs.ReadAnswers.{lengthIn}
-
--- the length of a name in an image of bytes
-named-small : (image : List ℕ) (id s n : ℕ) → ((i : ℕ) → getD image i 0 < 256) → naming image id ≡ place s n → n < 4294967296
-unfolding naming namingAt
-named-small image id s n bytes e = backed (noBack image) e
-  where
-    at : ℕ
-    at = word image (backOffsetAt image + 4 * id)
-
-    placed : (t : Bool) → cond t unnamed (place (at + 8) (word image (at + 4) - 1)) ≡ place s n → n < 4294967296
-    placed true e = never s n e
-    placed false e =
-        let en : word image (at + 4) - 1 ≡ n = cc in
-        omega (arith, word-below image (at + 4) bytes)
-
-    below : (t : Bool) → cond t unnamed (namingAt image at) ≡ place s n → n < 4294967296
-    below true e = never s n e
-    below false e = placed (eqb at 0 || broken image at) e
-
-    backed : (t : Bool) → cond t unnamed (cond (leb (backSizeAt image) id) unnamed (namingAt image at)) ≡ place s n → n < 4294967296
-    backed true e = never s n e
-    backed false e = below (leb (backSizeAt image) id) e
 
 -- of naming's answer, and of the panel's, which is no longer
 pub naming-small : (image : List ℕ) (id : ℕ) → ((i : ℕ) → getD image i 0 < 256) → lengthIn (naming image id) < 4294967296

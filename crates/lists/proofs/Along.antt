@@ -51,7 +51,7 @@ unfolding after
 after-append s [] ds = refl
 after-append s (c ∷ cs) ds = after-append (afterCall s c) cs ds
 
-accepted-append : (mode : Mode) (repeats : Repeats) (n : ℕ) (es : List Entry) (cs ds : List Call)
+pub accepted-append : (mode : Mode) (repeats : Repeats) (n : ℕ) (es : List Entry) (cs ds : List Call)
     → acceptedFrom mode repeats n es (cs ++ ds) ≡ acceptedFrom mode repeats n (acceptedFrom mode repeats n es cs) ds
 unfolding acceptedFrom
 accepted-append mode repeats n es [] ds = refl

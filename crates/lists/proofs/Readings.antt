@@ -44,7 +44,7 @@ free-from mode repeats n es (put e ∷ cs) all =
     free-from mode repeats n _ cs (all-append Free es (acceptedOne (put e) (putDue mode repeats n es e)) all (one-free mode repeats n es e (eqb (putDue mode repeats n es e) 0) refl))
 free-from mode repeats n es (close ∷ cs) all = free-from mode repeats n _ cs (all-append Free es [] all tt)
 
-accepted-free : (mode : Mode) (repeats : Repeats) (n : ℕ) (cs : List Call) → All Free (accepted mode repeats n cs)
+pub accepted-free : (mode : Mode) (repeats : Repeats) (n : ℕ) (cs : List Call) → All Free (accepted mode repeats n cs)
 unfolding accepted
 accepted-free mode repeats n cs = free-from mode repeats n [] cs tt
 

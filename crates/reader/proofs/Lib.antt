@@ -5,6 +5,7 @@ pub mod Searches
 pub mod Near
 pub mod Meetings
 pub mod Namings
+pub mod Lengths
 pub mod Panels
 pub mod Walks
 pub mod Bounds

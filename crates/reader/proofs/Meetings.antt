@@ -1,7 +1,7 @@
 -- The search of the home check along the buckets, a turn at a time. Assumes nothing.
 use Prim.Native.Nat.{ℕ, suc, _+_, _*_, _-_, _≤_, _<_}
 use native.Mathlib.Omega.{arith}
-use mathlib.Core.Path.{_≡_, refl, sym, ap, _∙_}
+use mathlib.Core.Path.{_≡_, refl, sym, ap, ap₂, _∙_}
 use mathlib.Core.Bool.{Bool, true, false, cond, _||_}
 use mathlib.Core.List.{List}
 use borrow.Author.Tests.{eq-eqb, ne-eqb}
@@ -10,7 +10,7 @@ use lib.ListN.{length}
 use Rattle.jhash.specs.NameHash.{hashOf}
 use Rattle.image.specs.Tables.{tableOf, start, next, order}
 use Rattle.image.specs.Head.{tableAt, bucketNumber}
-use Rattle.reader.specs.Lookup.{Seen, see}
+use Rattle.reader.specs.Lookup.{Seen, see, unsearched}
 use Rattle.reader.specs.Meets.{Met, over, meet, meetAlong, metIn, metHash, entriesMet, someMet}
 
 -- ---- the search
@@ -62,14 +62,14 @@ another i id rest e = sym (ap (λ (b : Bool). b || rest) (ne-eqb i id e))
 
 -- ---- by the table's row, and by image and name
 
--- for a table at `at` with n buckets
-pub met-hash-by : (image name : List ℕ) (h at n id : ℕ) (z y x : Bool) → at ≡ tableAt image (tableOf h) → n ≡ bucketNumber image (tableOf h)
-    → eqb at 0 ≡ z → eqb n 0 ≡ y → ltb (length image) (at + 8 * n) ≡ x
-    → someMet id (cond (z || y || x) (over 0) (metIn image name h at n)) ≡ someMet id (metHash image name h)
+pub met-unread : (image name : List ℕ) (h id : ℕ) → unsearched image (tableOf h) ≡ true → false ≡ someMet id (metHash image name h)
 unfolding metHash
-met-hash-by image name h at n id z y x ea en ez ey ex =
-    sym (λ i. someMet id (cond (ez i || ey i || ex i) (over 0) (metIn image name h at n)))
-    ∙ (λ i. someMet id (cond (eqb (ea i) 0 || eqb (en i) 0 || ltb (length image) (ea i + 8 * en i)) (over 0) (metIn image name h (ea i) (en i))))
+met-unread image name h id e = rw e
+
+pub met-read : (image name : List ℕ) (h at n id : ℕ) → unsearched image (tableOf h) ≡ false → at ≡ tableAt image (tableOf h) → n ≡ bucketNumber image (tableOf h)
+    → someMet id (metIn image name h at n) ≡ someMet id (metHash image name h)
+unfolding metHash
+met-read image name h at n id e ea en = rw e (ap (someMet id) (ap₂ (metIn image name h) ea en))
 
 pub met-by : (image name : List ℕ) (id : ℕ) (s l : Bool) → ltb (length image) 2072 ≡ s → leb 4294967295 (length name) ≡ l
     → someMet id (cond s (over 0) (cond l (over 0) (metHash image name (hashOf name)))) ≡ someMet id (entriesMet image name)

@@ -1,9 +1,10 @@
 -- The search along the buckets, a turn at a time. Assumes nothing.
 use Prim.Native.Nat.{ℕ, suc, _+_, _*_, _-_, _≤_, _<_}
 use native.Mathlib.Omega.{arith}
-use mathlib.Core.Path.{_≡_, refl, sym, ap, _∙_}
-use mathlib.Core.Bool.{Bool, cond, _||_}
+use mathlib.Core.Path.{_≡_, refl, sym, ap, ap₂, _∙_}
+use mathlib.Core.Bool.{Bool, true, false, cond, _||_}
 use mathlib.Core.List.{List}
+use borrow.Author.Tests.{lt-ltb, le-ltb, leb-false, eq-eqb, ne-eqb}
 use lib.Dec.{eqb, ltb, leb}
 use lib.ListN.{length, take, drop}
 use Rattle.jhash.specs.NameHash.{hashOf}
@@ -11,7 +12,7 @@ use Rattle.image.specs.Bytes.{word, same}
 use Rattle.image.specs.Tables.{tableOf, start, next, order}
 use Rattle.image.specs.Head.{tableAt, bucketNumber}
 use Rattle.image.specs.Stored.{nameOf, broken}
-use Rattle.reader.specs.Lookup.{Lookup, nothing, Seen, pass, ends, hit, hitAt, seeEntry, see, decide, probe, searchTable, lookupHash, lookup}
+use Rattle.reader.specs.Lookup.{Lookup, nothing, Seen, pass, ends, hit, hitAt, seeEntry, see, decide, probe, unsearched, searchTable, lookupHash, lookupBy, lookup}
 
 -- ---- what is seen in an entry and in a bucket
 
@@ -72,7 +73,40 @@ module _ (image name : List ℕ) (h o n : ℕ) where
       ∙ ap (λ (i : ℕ). decide (see image name h (o + 8 * k)) i (probe (λ (j : ℕ). see image name h (o + 8 * j)) (order n (m - 1) (next n k)) i)) r
       ∙ sym (ap (λ (i : ℕ). probe (λ (j : ℕ). see image name h (o + 8 * j)) (order n i k) (n - m)) p ∙ more (m - 1) k (n - m))
 
+-- ---- the table of a hash
+
+module _ (image : List ℕ) (h at n : ℕ) (ea : at ≡ tableAt image (tableOf h)) (en : n ≡ bucketNumber image (tableOf h)) where
+  by-tests : (z y x : Bool) → eqb at 0 ≡ z → eqb n 0 ≡ y → ltb (length image) (at + 8 * n) ≡ x → unsearched image (tableOf h) ≡ (z || y || x)
+  by-tests z y x ez ey ex =
+      sym (λ i. eqb (ea i) 0 || eqb (en i) 0 || ltb (length image) (ea i + 8 * en i)) ∙ (λ i. ez i || ey i || ex i)
+
+  pub unread-offset : at ≡ 0 → unsearched image (tableOf h) ≡ true
+  unread-offset e = by-tests true _ _ (eq-eqb at 0 e) refl refl
+
+  pub unread-number : (at ≡ 0 → ⊥) → n ≡ 0 → unsearched image (tableOf h) ≡ true
+  unread-number o e = by-tests false true _ (ne-eqb at 0 o) (eq-eqb n 0 e) refl
+
+  pub unread-leaves : (at ≡ 0 → ⊥) → length image < at + 8 * n → unsearched image (tableOf h) ≡ true
+  unread-leaves o out = go (eqb n 0) refl
+    where
+      go : (y : Bool) → eqb n 0 ≡ y → unsearched image (tableOf h) ≡ true
+      go true ey = by-tests false true _ (ne-eqb at 0 o) ey refl
+      go false ey = by-tests false false true (ne-eqb at 0 o) ey (lt-ltb (length image) (at + 8 * n) out)
+
+  pub read-table : (at ≡ 0 → ⊥) → 0 < n → at + 8 * n ≤ length image → unsearched image (tableOf h) ≡ false
+  read-table o some inside =
+      by-tests false false false (ne-eqb at 0 o) (ne-eqb n 0 (λ z. omega arith)) (le-ltb (length image) (at + 8 * n) inside)
+
 -- ---- the lookup
+
+pub lookup-unread : (image name : List ℕ) (h : ℕ) → unsearched image (tableOf h) ≡ true → nothing 0 ≡ lookupHash image name h
+unfolding lookupHash
+lookup-unread image name h e = rw e
+
+pub lookup-read : (image name : List ℕ) (h at n : ℕ) → unsearched image (tableOf h) ≡ false → at ≡ tableAt image (tableOf h) → n ≡ bucketNumber image (tableOf h)
+    → searchTable image name h at n ≡ lookupHash image name h
+unfolding lookupHash
+lookup-read image name h at n e ea en = rw e (ap₂ (searchTable image name h) ea en)
 
 -- by its tests, for a table at `at` with n buckets
 pub lookup-hash-by : (image name : List ℕ) (h at n : ℕ) (z y x : Bool) → at ≡ tableAt image (tableOf h) → n ≡ bucketNumber image (tableOf h)
@@ -87,3 +121,19 @@ pub lookup-by : (image name : List ℕ) (s l : Bool) → ltb (length image) 2072
     → cond s (nothing 0) (cond l (nothing 0) (lookupHash image name (hashOf name))) ≡ lookup image name
 unfolding lookup
 lookup-by image name s l es el = sym (λ i. cond (es i) (nothing 0) (cond (el i) (nothing 0) (lookupHash image name (hashOf name))))
+
+-- with a hash at hand
+pub lookup-with : (image name : List ℕ) (h : ℕ) (s l : Bool) → ltb (length image) 2072 ≡ s → leb 4294967295 (length name) ≡ l
+    → cond s (nothing 0) (cond l (nothing 0) (lookupHash image name h)) ≡ lookupBy image name h
+unfolding lookupBy
+lookup-with image name h s l es el = sym (λ i. cond (es i) (nothing 0) (cond (el i) (nothing 0) (lookupHash image name h)))
+
+-- it is the lookup, where the hash of a name that is not too long is its own
+pub lookup-own : (image name : List ℕ) (h : ℕ) → (length name < 4294967295 → h ≡ hashOf name) → lookupBy image name h ≡ lookup image name
+unfolding lookupBy lookup
+lookup-own image name h e = ap (λ (x : Lookup). cond (ltb (length image) 2072) (nothing 0) x) (go (leb 4294967295 (length name)) refl)
+  where
+    go : (t : Bool) → leb 4294967295 (length name) ≡ t
+        → cond t (nothing 0) (lookupHash image name h) ≡ cond t (nothing 0) (lookupHash image name (hashOf name))
+    go true q = refl
+    go false q = ap (lookupHash image name) (e (leb-false 4294967295 (length name) q))

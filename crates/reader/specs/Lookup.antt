@@ -71,3 +71,8 @@ lookupHash image name h =
 unfoldable pub lookup : List ℕ → List ℕ → Lookup
 lookup image name =
     cond (ltb (length image) headSize) (nothing 0) (cond (leb 4294967295 (length name)) (nothing 0) (lookupHash image name (hashOf name)))
+
+-- the same with a hash h that is at hand; by the name's own hash it is the lookup
+unfoldable pub lookupBy : List ℕ → List ℕ → ℕ → Lookup
+lookupBy image name h =
+    cond (ltb (length image) headSize) (nothing 0) (cond (leb 4294967295 (length name)) (nothing 0) (lookupHash image name h))

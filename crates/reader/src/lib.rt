@@ -39,6 +39,12 @@ pub enum ToId {
     Nothing { buckets: u32 },
 }
 
+// A table: its offset and its bucket number.
+struct Table {
+    at: u32,
+    n: u32,
+}
+
 // What an entry with the wanted name tells: its id, and the offset at which it stands.
 struct Hit {
     id: u32,

@@ -1,15 +1,18 @@
 // Looking up a name (reference `to_id`): what a bucket shows, the search along the buckets, and the call.
 ghost use mathlib.Core.Path.{_≡_};
 ghost use Prim.Native.Nat.{ℕ, _+_, _*_, _<_, _≤_};
+ghost use mathlib.Core.Bool.{true, false};
 ghost use mathlib.Core.List.{List};
 ghost use lib.ListN.{length};
-ghost use Rattle.image.specs.Tables.{start, next};
-ghost use Rattle.reader.specs.Lookup.{nothing, seeEntry, see, searchTable, lookupHash, lookup};
+ghost use Rattle.image.specs.Tables.{tableOf, start, next};
+ghost use Rattle.image.specs.Head.{tableAt, bucketNumber};
+ghost use Rattle.reader.specs.Lookup.{nothing, seeEntry, see, unsearched, searchTable, lookupHash, lookupBy, lookup};
 ghost use Rattle.reader.specs.Cases.{seenOf, lookupOf};
 use super::Found;
 use super::HEAD_SIZE;
 use super::Hit;
 use super::Seen;
+use super::Table;
 use super::ToId;
 use super::start::start;
 use image::entries::broken;
@@ -138,24 +141,35 @@ fn search(image: &[u8], name: &[u8], h: u32, at: u32, n: u32) -> ToId
     ToId::Nothing { buckets: n - left }
 }
 
-// The lookup of a name whose hash is h.
-fn to_id_hashed(image: &[u8], name: &[u8], h: u32) -> ToId
+// The table that a hash is searched in, its offset and bucket number. The number is 0 where no bucket is read: offset 0, bucket
+// number 0 or an end past the image.
+pub(super) fn table_of(image: &[u8], h: u32) -> Table
     requires { ⌜ 2072 ≤ length (now image) ⌝ }
-    ensures { λ r. ⌜ lookupOf r ≡ lookupHash (now (image .entry)) (now (name .entry)) h ⌝ }
+    ensures unread { λ r. ⌜ (r .n ≡ 0 → unsearched (now (image .entry)) (tableOf h) ≡ true) ⌝ }
+    ensures searched { λ r. ⌜ (0 < r .n → (unsearched (now (image .entry)) (tableOf h) ≡ false) × (r .at ≡ tableAt (now (image .entry)) (tableOf h)) × (r .n ≡ bucketNumber (now (image .entry)) (tableOf h)) × (r .at + 8 * r .n ≤ length (now (image .entry)))) ⌝ }
 {
     let t = (h % 256) as usize;
     let at = word(image, 24 + 8 * t);
     let n = word(image, 28 + 8 * t);
     if at == 0 {
-        return ToId::Nothing { buckets: 0 };
-    }
-    if n == 0 {
-        return ToId::Nothing { buckets: 0 };
+        return Table { at: 0, n: 0 };
     }
     if image.len() < at as usize + 8 * (n as usize) {
+        return Table { at: 0, n: 0 };
+    }
+    Table { at, n }
+}
+
+// The lookup of a name whose hash is h.
+fn to_id_hashed(image: &[u8], name: &[u8], h: u32) -> ToId
+    requires { ⌜ 2072 ≤ length (now image) ⌝ }
+    ensures { λ r. ⌜ lookupOf r ≡ lookupHash (now (image .entry)) (now (name .entry)) h ⌝ }
+{
+    let table = table_of(image, h);
+    if table.n == 0 {
         return ToId::Nothing { buckets: 0 };
     }
-    search(image, name, h, at, n)
+    search(image, name, h, table.at, table.n)
 }
 
 // The id of a name and the offset of its entry, or nothing, with the number of buckets that the search reads.
@@ -175,4 +189,17 @@ pub fn to_id(image: &[u8], name: &[u8]) -> ToId
         Hashed::Hash(h) => to_id_hashed(bytes, wanted, h),
         Hashed::Refused => ToId::Nothing { buckets: 0 },
     }
+}
+
+// The same for a name whose hash is h, for a caller that has hashed it already.
+pub fn to_id_by(image: &[u8], name: &[u8], h: u32) -> ToId
+    ensures { λ r. ⌜ lookupOf r ≡ lookupBy (now (image .entry)) (now (name .entry)) h ⌝ }
+{
+    if image.len() < HEAD_SIZE {
+        return ToId::Nothing { buckets: 0 };
+    }
+    if 4294967295 <= name.len() {
+        return ToId::Nothing { buckets: 0 };
+    }
+    to_id_hashed(image, name, h)
 }

@@ -8,9 +8,9 @@ use super::HEAD_SIZE;
 use super::Seen;
 use super::lookup::next_bucket;
 use super::lookup::see;
+use super::lookup::table_of;
 use super::start::start;
 use jhash::Hashed;
-use jhash::word::word;
 
 // Does a search for the name in the table of n buckets at `at` meet an entry with this id? It ends at an empty bucket, at a
 // broken entry, and after n buckets.
@@ -43,19 +43,11 @@ fn meets_hashed(image: &[u8], name: &[u8], h: u32, id: u32) -> bool
     requires { ⌜ 2072 ≤ length (now image) ⌝ }
     ensures { λ r. ⌜ r ≡ someMet id (metHash (now (image .entry)) (now (name .entry)) h) ⌝ }
 {
-    let t = (h % 256) as usize;
-    let at = word(image, 24 + 8 * t);
-    let n = word(image, 28 + 8 * t);
-    if at == 0 {
+    let table = table_of(image, h);
+    if table.n == 0 {
         return false;
     }
-    if n == 0 {
-        return false;
-    }
-    if image.len() < at as usize + 8 * (n as usize) {
-        return false;
-    }
-    meets_in(image, name, h, at, n, id)
+    meets_in(image, name, h, table.at, table.n, id)
 }
 
 // Does a search for the name meet an entry with this id?

@@ -12,7 +12,7 @@ use Rattle.image.proofs.Bools.{first, second}
 use Rattle.writer.specs.State.{State, stateWith, fits, finishedSize, tooLarge}
 use Rattle.image.specs.Stored.{whole}
 use Rattle.writer.specs.Close.{entryArea, recorded, countsAgree, afterClose}
-use Rattle.writer.specs.steps.Working.{written}
+use Rattle.writer.specs.steps.Written.{written}
 use Rattle.writer.specs.declared.CQDBWriter.{CQDBWriter}
 use Rattle.writer.proofs.Fits.{Fitting, fitting, not-too-large}
 use Rattle.writer.specs.Close.{consistent}

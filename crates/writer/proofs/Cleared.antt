@@ -4,22 +4,23 @@ use native.Mathlib.Omega.{arith}
 use mathlib.Core.Path.{_≡_, refl, sym, ap, _∙_}
 use mathlib.Core.Bool.{cond}
 use mathlib.Core.List.{List, [], _++_, append-assoc}
-use lib.ListN.{length, drop, replicate, length-append, length-drop, length-replicate}
-use lib.Seq.{sets, sets-eq, drop-drop}
+use lib.ListN.{length, take, drop, replicate, length-append, length-drop, length-replicate}
+use lib.Seq.{sets, sets-eq, take-add, drop-drop}
 use lib.Dec.{eqb}
 use Rattle.image.specs.Bytes.{cat}
 use Rattle.image.specs.Image.{Entry, headSize, entryBytes, placed, flagWord, backIn, backSize, backSizeOf, entriesEnd, imageSize, backOffset, headBytes, headWords, tableRows, links}
 use Rattle.image.specs.declared.Mode.{Mode}
 use Rattle.image.specs.declared.Mode.the-variants.{Twoway, Oneway}
-use Rattle.image.proofs.Sizes.{length-placed, length-headWords, length-tableRows}
+use Rattle.image.proofs.Sizes.{length-placed, length-headWords, length-tableRows, length-links}
 use Rattle.image.proofs.Stores.{sets-then, sets-right-at}
 use Rattle.image.proofs.Parts.{placedIn}
 use Rattle.writer.specs.declared.CQDBWriter.{CQDBWriter}
 use Rattle.writer.specs.State.{finishedSize}
 use Rattle.image.specs.Stored.{between}
-use Rattle.writer.specs.steps.Working.{rowsFrom, linksAt, cleared}
+use Rattle.writer.specs.steps.Working.{rowsFrom, linksAt}
+use Rattle.writer.specs.steps.Written.{headed, zeroed}
 use Rattle.writer.proofs.HeadRows.{Counts, rows-image}
-use Rattle.writer.proofs.Partial.{tablesWith, upToEntries, partial, zeros-both}
+use Rattle.writer.proofs.Partial.{tablesWith, upToEntries, partial, zeros-both, zeros-links}
 
 -- ---- three stores: head, rows, and what follows the entries
 
@@ -46,6 +47,15 @@ stores buf h r z end size lh lr low lz high room =
   where
     regroup : (a b c d : List ℕ) → a ++ (b ++ c ++ d) ≡ a ++ b ++ c ++ d
     regroup a b c d = simp append-assoc
+
+-- bytes in two parts
+between-parts : (buf : List ℕ) (a b c : ℕ) → a ≤ b → b ≤ c → between buf a c ≡ between buf a b ++ between buf b c
+between-parts buf a b c h k =
+    let sum : c - a ≡ b - a + (c - b) = omega arith in
+    let place : a + (b - a) ≡ b = omega arith in
+    ap (λ (n : ℕ). take n (drop a buf)) sum
+    ∙ take-add (b - a) (c - b) (drop a buf)
+    ∙ ap (λ (l : List ℕ). between buf a b ++ take (c - b) l) (drop-drop (b - a) a buf ∙ ap (λ (n : ℕ). drop n buf) place)
 
 -- ---- a record that says what its entries are
 
@@ -90,8 +100,8 @@ module _ (w : CQDBWriter) (counts buf : List ℕ) (es : List Entry) (tells : Tel
       zeros-both (placedIn es) (backSizeOf (w .mode) es) (finishedSize w - w .end)
       (omega (arith, told-back, tells .number, length-placed headSize es))
 
-  pub cleared-partial : cleared w counts buf ≡ partial (w .mode) es [] ++ drop (finishedSize w) buf
-  unfolding cleared partial upToEntries placed
+  pub cleared-partial : zeroed (headed w counts buf) (w .end) (finishedSize w) ≡ partial (w .mode) es [] ++ drop (finishedSize w) buf
+  unfolding headed zeroed partial upToEntries placed
   cleared-partial =
       let h = headBytes (finishedSize w) (flagWord (w .mode)) (backIn (w .mode) (w .back)) (linksAt w) in
       let r = rowsFrom counts (w .end) 0 256 in
@@ -106,3 +116,34 @@ module _ (w : CQDBWriter) (counts buf : List ℕ) (es : List Entry) (tells : Tel
       ∙ ap (λ (l : List ℕ). headWords (w .mode) es ++ tableRows (entriesEnd es) (placedIn es) ++ l ++ z ++ tail) (tells .area)
       ∙ ap (λ (l : List ℕ). upToEntries (w .mode) es ++ l ++ tail) zeros-told
       ∙ ap (λ (l : List ℕ). l ++ tail) (sym (append-assoc (upToEntries (w .mode) es) (tablesWith (placedIn es) []) (links [] (backSizeOf (w .mode) es))))
+
+  -- the back array alone cleared: what stands in the tables' rooms is whatever stood there
+  zeros-back : replicate (finishedSize w - (w .end + 16 * w .entries)) 0 ≡ links [] (backSizeOf (w .mode) es)
+  zeros-back =
+      let n = backSizeOf (w .mode) es in
+      let size : finishedSize w - (w .end + 16 * w .entries) ≡ length (links [] n) = omega (arith, told-back, length-links [] n) in
+      ap (λ (k : ℕ). replicate k 0) size ∙ sym (zeros-links n)
+
+  pub back-cleared : zeroed (headed w counts buf) (w .end + 16 * w .entries) (finishedSize w)
+      ≡ upToEntries (w .mode) es ++ between buf (w .end) (w .end + 16 * w .entries) ++ links [] (backSizeOf (w .mode) es) ++ drop (finishedSize w) buf
+  unfolding headed zeroed upToEntries
+  back-cleared =
+      let h = headBytes (finishedSize w) (flagWord (w .mode)) (backIn (w .mode) (w .back)) (linksAt w) in
+      let r = rowsFrom counts (w .end) 0 256 in
+      let from = w .end + 16 * w .entries in
+      let z : List ℕ = replicate (finishedSize w - from) 0 in
+      let X = between buf (w .end) from in
+      let tail = drop (finishedSize w) buf in
+      let H = headWords (w .mode) es in
+      let R = tableRows (entriesEnd es) (placedIn es) in
+      let E = cat entryBytes es in
+      stores buf h r z from (finishedSize w)
+      (ap length head-told ∙ length-headWords (w .mode) es)
+      (ap length rows-told ∙ length-tableRows (entriesEnd es) (placedIn es))
+      (omega (arith, tells .ends)) (length-replicate (finishedSize w - from) 0) (omega arith) (tells .room)
+      ∙ ap (λ (l : List ℕ). l ++ r ++ between buf headSize from ++ z ++ tail) head-told
+      ∙ ap (λ (l : List ℕ). H ++ l ++ between buf headSize from ++ z ++ tail) rows-told
+      ∙ ap (λ (l : List ℕ). H ++ R ++ l ++ z ++ tail)
+      (between-parts buf headSize (w .end) from (omega (arith, tells .ends)) (omega arith) ∙ ap (λ (l : List ℕ). l ++ X) (tells .area))
+      ∙ ap (λ (l : List ℕ). l ++ z ++ tail) (sym (append-assoc (H ++ R) E X))
+      ∙ ap (λ (l : List ℕ). H ++ R ++ E ++ X ++ l ++ tail) zeros-back

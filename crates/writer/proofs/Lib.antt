@@ -15,6 +15,11 @@ pub mod Partial
 pub mod Cleared
 pub mod OneMore
 pub mod Turn
+pub mod Parting
+pub mod Filling
+pub mod Rooms
+pub mod ByTables
+pub mod TableByTable
 pub mod WrittenImage
 pub mod Accepted
 pub mod Kept

@@ -88,13 +88,16 @@ module _ (mode : Mode) (es qs : List Entry) (tail : List ℕ) where
       sum : length H + length R + length E ≡ entriesEnd es
       sum = omega (arith, length-headWords mode es, length-tableRows (entriesEnd es) (placedIn es), length-entries es)
 
--- the entries from one of them on
+-- the entries from one of them on, in any bytes where they stand
+pub entries-after : {img : List ℕ} (es rest done : List Entry) → At img headSize (cat entryBytes es) → es ≡ done ++ rest
+    → At img (headSize + entriesSize done) (cat entryBytes rest)
+entries-after es rest done there e =
+    at-same (ap (λ (n : ℕ). headSize + n) (length-entries done))
+    (at-right (cat entryBytes done) (cat entryBytes rest) (at-equal (ap (cat entryBytes) e ∙ cat-append entryBytes done rest) there))
+
 pub entries-from : (mode : Mode) (es qs rest done : List Entry) (tail : List ℕ) → es ≡ done ++ rest
     → At (partial mode es qs ++ tail) (headSize + entriesSize done) (cat entryBytes rest)
-entries-from mode es qs rest done tail e =
-    at-same (ap (λ (n : ℕ). headSize + n) (length-entries done))
-    (at-right (cat entryBytes done) (cat entryBytes rest)
-    (at-equal (ap (cat entryBytes) e ∙ cat-append entryBytes done rest) (entries-there mode es qs tail)))
+entries-from mode es qs rest done tail e = entries-after es rest done (entries-there mode es qs tail) e
 
 -- ---- when all entries are taken it is the image
 
@@ -104,7 +107,7 @@ partial-all mode es = refl
 
 -- ---- before any entry is taken, tables and back array are zeros
 
-abbrev Zeros : List ℕ → Type 0
+abbrev pub Zeros : List ℕ → Type 0
 Zeros l = l ≡ replicate (length l) 0
 
 zeros-append : (a b : List ℕ) → Zeros a → Zeros b → Zeros (a ++ b)
@@ -118,7 +121,7 @@ unfolding cat
 zeros-cat f h [] = refl
 zeros-cat f h (x ∷ xs) = zeros-append (f x) (cat f xs) (h x) (zeros-cat f h xs)
 
-zeros-buckets : (n : ℕ) → Zeros (cat bucketBytes (replicate n empty))
+pub zeros-buckets : (n : ℕ) → Zeros (cat bucketBytes (replicate n empty))
 unfolding cat bucketBytes le32
 zeros-buckets zero = refl
 zeros-buckets (suc n) = zeros-append (bucketBytes empty) (cat bucketBytes (replicate n empty)) refl (zeros-buckets n)
@@ -127,7 +130,7 @@ zeros-tables : (ps : List Placed) → Zeros (tablesWith ps [])
 unfolding tablesWith tableWith ofTable keep filled insertAll
 zeros-tables ps = zeros-cat (bucketsOf (tableWith ps [])) (λ t. zeros-buckets (2 * count t ps)) (range 0 256)
 
-zeros-links : (n : ℕ) → Zeros (links [] n)
+pub zeros-links : (n : ℕ) → Zeros (links [] n)
 unfolding links link placedOfId keep lastFrom le32
 zeros-links n = zeros-cat (λ (i : ℕ). le32 (link [] i)) (λ i. refl) (range 0 n)
 

@@ -59,9 +59,26 @@ module _ (e : Entry) (rest : List ℕ) (short : length (e .name) + 1 < 2 ^ 32) w
       (is-whole l (omega arith) (omega arith) (omega arith) (ap (λ (k : ℕ). getD l (7 + k) 0) n ∙ front-end))
       ∙ n
 
+-- entries in any bytes where they stand: the first of them as it is read
+module _ {img : List ℕ} (at : ℕ) (e : Entry) (rest : List Entry) (there : At img at (cat entryBytes (e ∷ rest))) where
+  pub entry-there : At img at (entryBytes e)
+  entry-there = at-left (entryBytes e) (cat entryBytes rest) (at-equal (cat-cons entryBytes e rest) there)
+
+  pub length-there : (end : ℕ) → end ≡ at + length (cat entryBytes (e ∷ rest)) → length (e .name) + 1 < 2 ^ 32
+      → wholeLength (between img at end) ≡ length (e .name) + 1
+  length-there end h short =
+      let n : end - at ≡ length (cat entryBytes (e ∷ rest)) = omega arith in
+      ap wholeLength (ap (λ (k : ℕ). take k (drop at img)) n ∙ at-take there ∙ cat-cons entryBytes e rest)
+      ∙ front-whole e (cat entryBytes rest) short
+
+  pub name-there : take (length (e .name) + 1 - 1) (drop (at + 8) img) ≡ e .name
+  name-there =
+      let n : length (e .name) + 1 - 1 ≡ length (e .name) = omega arith in
+      ap (λ (k : ℕ). take k (drop (at + 8) img)) n ∙ name-bytes e entry-there
+
 -- ---- stores within one part
 
-store-in : (a b c vs : List ℕ) (i j : ℕ) → i ≡ length a + j → j + length vs ≤ length b → sets (a ++ b ++ c) i vs ≡ a ++ sets b j vs ++ c
+pub store-in : (a b c vs : List ℕ) (i j : ℕ) → i ≡ length a + j → j + length vs ≤ length b → sets (a ++ b ++ c) i vs ≡ a ++ sets b j vs ++ c
 store-in a b c vs i j e h =
     ap (λ (l : List ℕ). sets l i vs) (append-assoc a b c)
     ∙ sets-right-at vs a (b ++ c) j i e
@@ -69,7 +86,7 @@ store-in a b c vs i j e h =
     ∙ sym (append-assoc a (sets b j vs) c)
 
 -- the link of an entry, behind what stands before the back array
-linked : (mode : Mode) (es : List Entry) (rs : List Placed) (p : Placed) (front tail : List ℕ) → length front ≡ entriesEnd es + 16 * length es
+pub linked : (mode : Mode) (es : List Entry) (rs : List Placed) (p : Placed) (front tail : List ℕ) → length front ≡ entriesEnd es + 16 * length es
     → p .entry .id < backSize es
     → withLink mode (front ++ links rs (backSizeOf mode es) ++ tail) (backOffset mode es) (p .entry .id) (p .at)
     ≡ front ++ links (rs ++ p ∷ []) (backSizeOf mode es) ++ tail
@@ -95,7 +112,7 @@ unfolding placed
 placed-more qs e = placed-append headSize qs (e ∷ [])
 
 -- offsets of entries are at most where the entries end
-offsets : (o n : ℕ) (es : List Entry) → o + entriesSize es ≤ n → All (λ (p : Placed). p .at ≤ n) (placed o es)
+pub offsets : (o n : ℕ) (es : List Entry) → o + entriesSize es ≤ n → All (λ (p : Placed). p .at ≤ n) (placed o es)
 unfolding placed entriesSize
 offsets o n [] h = tt
 offsets o n (e ∷ es) h = (omega arith, offsets (o + entrySize e) n es (omega arith))
@@ -117,25 +134,29 @@ module _ (mode : Mode) (es qs rest : List Entry) (e : Entry) (tail : List ℕ) (
   u : ℕ
   u = tableOf (hashOf (e .name))
 
+  pub own-below : tableOf (hashOf (e .name)) < 256
+  own-below = mod-lt (hashOf (e .name)) (lit< tt)
+
   u-below : u < 256
   unfolding u
-  u-below = mod-lt (hashOf (e .name)) (lit< tt)
+  u-below = own-below
 
-  sizes : entriesSize es ≡ entriesSize qs + (entrySize e + entriesSize rest)
+  pub sizes : entriesSize es ≡ entriesSize qs + (entrySize e + entriesSize rest)
   unfolding entriesSize
   sizes = ap entriesSize split ∙ entriesSize-append qs (e ∷ rest)
 
-  id-small : e .id < 2 ^ 32
+  pub id-small : e .id < 2 ^ 32
   id-small = all-middle (λ (x : Entry). x .id < 2 ^ 32) qs rest e (rw split at ids)
 
-  id-below : e .id < backSize es
+  pub id-below : e .id < backSize es
   id-below =
       all-middle (λ (x : Entry). x .id < backSize es) qs rest e
       (ids-below (qs ++ e ∷ rest) (backSize es) (omega (arith, ap backSize split)))
 
-  some-there : 0 < count u ps
-  unfolding u ps placed
-  some-there =
+  pub one-there : count (tableOf (hashOf (e .name))) (placedIn qs) < count (tableOf (hashOf (e .name))) (placedIn es)
+  unfolding placed
+  one-there =
+      let u = tableOf (hashOf (e .name)) in
       let q = placed (headSize + entriesSize qs + entrySize e) rest in
       let c : count u (placedIn es) ≡ count u (placedIn qs) + count u (nextOf qs e ∷ q) =
       ap (λ (l : List Entry). count u (placedIn l)) split
@@ -145,32 +166,32 @@ module _ (mode : Mode) (es qs rest : List Entry) (e : Entry) (tail : List ℕ) (
       count-cons u (nextOf qs e) q ∙ ap (λ (b : Bool). cond b 1 0 + count u q) (eq-eqb u u refl) in
       omega arith
 
+  some-there : 0 < count u ps
+  unfolding u ps
+  some-there = let o = one-there in omega arith
+
   -- ---- the entry as it is read
+
+  from-here : At (partial mode es qs ++ tail) (headSize + entriesSize qs) (cat entryBytes (e ∷ rest))
+  from-here = entries-from mode es qs (e ∷ rest) qs tail split
 
   here : At B (headSize + entriesSize qs) (entryBytes e)
   unfolding B
-  here =
-      at-left (entryBytes e) (cat entryBytes rest)
-      (at-equal (cat-cons entryBytes e rest) (entries-from mode es qs (e ∷ rest) qs tail split))
+  here = entry-there (headSize + entriesSize qs) e rest from-here
 
-  name-short : length (e .name) + 1 < 2 ^ 32
+  pub name-short : length (e .name) + 1 < 2 ^ 32
   name-short = omega (arith, sizes)
 
-  pub length-found : wholeLength (between (partial mode es qs ++ tail) (headSize + entriesSize qs) (entriesEnd es)) ≡ length (e .name) + 1
+  pub ends-there : entriesEnd es ≡ headSize + entriesSize qs + length (cat entryBytes (e ∷ rest))
   unfolding entriesSize
-  length-found =
-      let at = headSize + entriesSize qs in
-      let n : entriesEnd es - at ≡ length (cat entryBytes (e ∷ rest)) = omega (arith, sizes, length-entries (e ∷ rest)) in
-      ap wholeLength
-      (ap (λ (k : ℕ). take k (drop at (partial mode es qs ++ tail))) n
-      ∙ at-take (entries-from mode es qs (e ∷ rest) qs tail split)
-      ∙ cat-cons entryBytes e rest)
-      ∙ front-whole e (cat entryBytes rest) name-short
+  ends-there = omega (arith, sizes, length-entries (e ∷ rest))
+
+  pub length-found : wholeLength (between (partial mode es qs ++ tail) (headSize + entriesSize qs) (entriesEnd es)) ≡ length (e .name) + 1
+  length-found = length-there (headSize + entriesSize qs) e rest from-here (entriesEnd es) ends-there name-short
 
   name-read : take (length (e .name) + 1 - 1) (drop (headSize + entriesSize qs + 8) B) ≡ e .name
-  name-read =
-      let n : length (e .name) + 1 - 1 ≡ length (e .name) = omega arith in
-      ap (λ (k : ℕ). take k (drop (headSize + entriesSize qs + 8) B)) n ∙ name-bytes e here
+  unfolding B
+  name-read = name-there (headSize + entriesSize qs) e rest from-here
 
   -- ---- the bucket that takes it
 

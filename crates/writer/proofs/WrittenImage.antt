@@ -1,28 +1,34 @@
 -- All that close writes is the image of the entries that stand in the buffer. Assumes nothing.
-use Prim.Native.Nat.{ℕ, _+_, _-_, _^_, _≤_, _<_}
+use Prim.Native.Nat.{ℕ, _+_, _-_, _*_, _^_, _≤_, _<_}
 use native.Mathlib.Omega.{arith}
 use mathlib.Core.Path.{_≡_, refl, sym, ap, _∙_}
-use mathlib.Core.Bool.{Bool, true, cond}
+use mathlib.Core.Bool.{Bool, true, false, cond}
 use mathlib.Core.List.{List, [], _∷_, _++_, append-nil, append-assoc}
 use lib.ListN.{length, drop, length-take, length-drop}
-use lib.Dec.{eqb}
+use lib.Dec.{eqb, leb}
 use borrow.Author.Tests.{ne-eqb}
 use Rattle.image.specs.Bytes.{cat}
-use Rattle.image.specs.Image.{Entry, headSize, entryBytes, entriesSize, backIn, backSize, backOffset, entriesEnd, imageSize, image}
+use Rattle.image.specs.Image.{Entry, headSize, entryBytes, entriesSize, links, backIn, backSize, backSizeOf, backOffset, entriesEnd, imageSize, image}
 use Rattle.image.specs.declared.Mode.{Mode}
-use Rattle.image.proofs.Sizes.{length-entries, entriesSize-append}
+use Rattle.image.proofs.Sizes.{length-entries, length-placed, entriesSize-append}
+use Rattle.image.proofs.Between.{length-between}
+use Rattle.image.proofs.Parts.{placedIn}
+use Rattle.image.proofs.Bools.{second}
 use Rattle.image.proofs.Every.{All}
 use Rattle.writer.specs.declared.CQDBWriter.{CQDBWriter}
-use Rattle.writer.specs.State.{stateWith, fits, finishedSize}
-use Rattle.image.specs.Stored.{whole}
+use Rattle.writer.specs.State.{stateWith, noneAbove, fits, finishedSize}
+use Rattle.image.specs.Stored.{whole, between}
 use Rattle.writer.specs.Close.{entryArea, recorded, countsAgree, closed}
-use Rattle.writer.specs.steps.Working.{linksAt, taken, takenFrom, written}
+use Rattle.writer.specs.steps.Working.{linksAt, taken, takenFrom}
+use Rattle.writer.specs.steps.Parting.{byTables}
+use Rattle.writer.specs.steps.Written.{headed, zeroed, parts, filledIn, written}
 use Rattle.writer.proofs.Fits.{fitting}
 use Rattle.image.proofs.Area.{Bytes, bytes-drop, bytes-take, length-entriesIn, whole-bytes, ids-words}
 use Rattle.writer.proofs.HeadRows.{counts-agree}
-use Rattle.writer.proofs.Partial.{partial, partial-all}
-use Rattle.writer.proofs.Cleared.{Tells, told-size, told-links, cleared-partial}
+use Rattle.writer.proofs.Partial.{upToEntries, partial, partial-all}
+use Rattle.writer.proofs.Cleared.{Tells, told-size, told-links, cleared-partial, back-cleared}
 use Rattle.writer.proofs.Turn.{length-found, turn}
+use Rattle.writer.proofs.TableByTable.{counts-few, by-tables-image}
 
 -- ---- the walk, from any entry on
 
@@ -95,9 +101,11 @@ module _ (w : CQDBWriter) (counts buf : List ℕ) (bytes : Bytes buf) (fit : fit
     unfolding es
     size-image = told-size w counts buf es tells
 
-    pub written-image : written w counts buf ≡ image (w .mode) (recorded (stateWith w counts buf)) ++ drop (finishedSize w) buf
-    unfolding written es entriesSize
-    written-image =
+    -- entry by entry
+    written-singly : takenFrom (w .mode) (linksAt w) (w .end) (w .entries) headSize (zeroed (headed w counts buf) (w .end) (finishedSize w))
+        ≡ image (w .mode) es ++ drop (finishedSize w) buf
+    unfolding es entriesSize
+    written-singly =
         let mode = w .mode in
         let tail = drop (finishedSize w) buf in
         ap (takenFrom mode (linksAt w) (w .end) (w .entries) headSize) (cleared-partial w counts buf es tells)
@@ -106,6 +114,42 @@ module _ (w : CQDBWriter) (counts buf : List ℕ) (bytes : Bytes buf) (fit : fit
         ∙ ap (λ (n : ℕ). takenFrom mode (backOffset mode es) (entriesEnd es) n headSize (partial mode es [] ++ tail)) (sym recorded-number)
         ∙ walked mode es tail (rw (← size-image) small) (ids-words (w .entries) (entryArea (stateWith w counts buf)) area-bytes) es [] refl
         ∙ ap (λ (l : List ℕ). l ++ tail) (partial-all mode es)
+
+    -- by tables
+    written-by-tables : parts counts (w .entries) ≡ true
+        → byTables (w .mode) (linksAt w) (w .end) (w .entries) counts (zeroed (headed w counts buf) (w .end + 16 * w .entries) (finishedSize w))
+        ≡ image (w .mode) es ++ drop (finishedSize w) buf
+    unfolding es
+    written-by-tables few =
+        let mode = w .mode in
+        let tail = drop (finishedSize w) buf in
+        let X = between buf (w .end) (w .end + 16 * w .entries) in
+        let Z = upToEntries mode es ++ X ++ links [] (backSizeOf mode es) ++ tail in
+        let long : length X ≡ 16 * length (placedIn es) =
+        length-between buf (w .end) (w .end + 16 * w .entries) (omega arith) (omega arith)
+        ∙ same (w .end) (w .entries) (sym recorded-number ∙ sym (length-placed headSize es)) in
+        ap (byTables mode (linksAt w) (w .end) (w .entries) counts) (back-cleared w counts buf es tells)
+        ∙ ap (λ (o : ℕ). byTables mode o (w .end) (w .entries) counts Z) (told-links w counts buf es tells)
+        ∙ ap (λ (o : ℕ). byTables mode (backOffset mode es) o (w .entries) counts Z) recorded-end
+        ∙ ap (λ (n : ℕ). byTables mode (backOffset mode es) (entriesEnd es) n counts Z) (sym recorded-number)
+        ∙ by-tables-image mode es X tail counts long (rw (← size-image) small)
+        (ids-words (w .entries) (entryArea (stateWith w counts buf)) area-bytes) (tells .tallies)
+        (counts-few counts (placedIn es) 4608 (second (leb 1024 (w .entries)) (noneAbove counts 4608) few) (tells .tallies))
+      where
+        same : (a n : ℕ) {m : ℕ} → n ≡ m → a + 16 * n - a ≡ 16 * m
+        same a n e = omega arith
+
+    pub written-image : written w counts buf ≡ image (w .mode) (recorded (stateWith w counts buf)) ++ drop (finishedSize w) buf
+    unfolding written filledIn es
+    written-image = go (parts counts (w .entries)) refl
+      where
+        go : (t : Bool) → parts counts (w .entries) ≡ t
+            → cond t
+            (byTables (w .mode) (linksAt w) (w .end) (w .entries) counts (zeroed (headed w counts buf) (w .end + 16 * w .entries) (finishedSize w)))
+            (takenFrom (w .mode) (linksAt w) (w .end) (w .entries) headSize (zeroed (headed w counts buf) (w .end) (finishedSize w)))
+            ≡ image (w .mode) (recorded (stateWith w counts buf)) ++ drop (finishedSize w) buf
+        go true few = written-by-tables few
+        go false many = written-singly
 
     -- as the rule of close says it
     pub written-closed : stateWith w counts (written w counts buf) ≡ closed (stateWith w counts buf)

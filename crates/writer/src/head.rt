@@ -27,14 +27,14 @@ pub(super) fn write_head(buf: &mut [u8], size: u32, flag: u32, back: u32, back_a
 }
 
 // The low 32 bits of a number.
-fn low(x: u64) -> u32
+pub(super) fn low(x: u64) -> u32
     ensures { λ r. ⌜ r ≡ x % 4294967296 ⌝ }
 {
     (x % 4294967296) as u32
 }
 
 // A count in 64 bits.
-fn wide(x: u32) -> u64
+pub(super) fn wide(x: u32) -> u64
     ensures { λ r. ⌜ (r ≡ x) × (r < 4294967296) ⌝ }
 {
     x as u64

@@ -5,7 +5,7 @@ ghost use lib.ListN.{length};
 ghost use Rattle.writer.specs.State.{stateWith, beginning, begunOf, countsBegun, finishedSize};
 ghost use Rattle.writer.specs.Put.{putRefusal, appended, afterPut, entryOf};
 ghost use Rattle.writer.specs.Close.{closing, closedOf, afterClose};
-ghost use Rattle.writer.specs.steps.Working.{written};
+ghost use Rattle.writer.specs.steps.Written.{written};
 use image::Mode;
 
 mod batch;
@@ -14,6 +14,7 @@ mod entry;
 mod fill;
 mod head;
 mod record;
+mod tables;
 
 // 02 (viii)'s repeats mode: with repeats off a writer refuses a name that it already holds.
 pub enum Repeats {
@@ -153,8 +154,15 @@ fn write_image(w: CQDBWriter, counts: &[u32; 256], buf: &mut [u8])
         links as u32,
     );
     head::write_rows(&mut *buf, counts, w.end as u32);
-    head::clear(&mut *buf, w.end as usize, size as usize);
-    batch::take_entries(mode, links as usize, &mut *buf, w.end as usize, w.entries);
+    tables::fill_in(
+        mode,
+        links as usize,
+        &mut *buf,
+        counts,
+        w.end as usize,
+        w.entries,
+        size as usize,
+    );
 }
 
 // Writes head, tables and back array into the lent buffer, and gives the image's size. May be called often.

@@ -6,8 +6,7 @@ use Rattle.writer.proofs.write_image.Statement.{statement}
 use Rattle.writer.proofs.write_image.Tie as tie
 use Rattle.writer.proofs.write_image.Reads as reads
 use Rattle.writer.proofs.write_image.Lts as lts
-use Rattle.writer.proofs.batch.take_entries.Reads as take-entries-reads
-use Rattle.writer.proofs.head.clear.Reads as clear-reads
+use Rattle.writer.proofs.tables.fill_in.Reads as fill-in-reads
 use Rattle.writer.proofs.head.write_head.Reads as write-head-reads
 use Rattle.writer.proofs.head.write_rows.Reads as write-rows-reads
 use Rattle.writer.proofs.record.back_at.Reads as back-at-reads
@@ -51,41 +50,33 @@ cast-write-rows c = search needs
 write-rows-requires : tie.Need-write-rows-requires
 write-rows-requires c κs = search needs
 
-clear-requires : tie.Need-clear-requires
-clear-requires c κs = search needs
-
-take-entries-requires : tie.Need-take-entries-requires
-take-entries-requires c κs =
-    let a = c .before .before .before .before .before .before .before .before .before .before .before .before .before .before .before .before .before .before .before .before .args in
-    let start-pre = c .before .before .before .before .before .before .before .before .before .before .before .before .before .before .before .before .before .before .before .before .pre in
-    let of-back-at = c .before .before .before .before .before .before .before .before .before .before .before .before .before .before .before .back-at in
-    let of-write-head = c .before .before .before .before .before .before .before .before .before .before .before .before .write-head in
-    let of-write-rows = c .before .before .before .before .before .before .before .write-rows in
-    let of-clear = c .before .before .before .clear in
-    let k = of-clear .kept .0 in
-    let l = of-write-rows .kept .0 in
-    let m = of-write-head .kept .0 in
+fill-in-requires : tie.Need-fill-in-requires
+fill-in-requires c κs =
+    let a = c .before .before .before .before .before .before .before .before .before .before .before .before .before .before .before .before .args in
+    let start-pre = c .before .before .before .before .before .before .before .before .before .before .before .before .before .before .before .before .pre in
+    let k = c .before .before .before .write-rows .kept .0 in
+    let l = c .before .before .before .before .before .before .before .before .write-head .kept .0 in
+    let size = c .before .before .before .before .before .before .before .before .before .before .before .before .before .before .finished-size .ensures in
     let small = start-pre .2 in
-    let fits = start-pre .1 in
-    (start-pre .0, omega arith, omega arith, omega (arith, of-back-at .ensures, linksAt-le (a .w)))
+    let room = start-pre .1 in
+    (start-pre .0, omega arith, omega arith, omega arith, omega (arith, c .before .before .before .before .before .before .before .before .before .before .before .back-at .ensures, linksAt-le (a .w)))
 
 same-length : tie.Need-same-length
 same-length c = search needs
 
 returns : tie.Need-returns
 returns c =
-    let a = c .before .before .before .before .before .before .before .before .before .before .before .before .before .before .before .before .before .before .before .before .before .before .before .args in
-    let of-finished-size = c .before .before .before .before .before .before .before .before .before .before .before .before .before .before .before .before .before .before .before .before .before .finished-size in
-    let of-back-in = c .before .before .before .before .before .before .before .before .before .before .before .before .before .before .before .before .before .before .before .back-in in
-    let of-back-at = c .before .before .before .before .before .before .before .before .before .before .before .before .before .before .before .before .before .before .back-at in
-    let of-flag-word = c .before .before .before .before .before .before .before .before .before .before .before .before .before .before .before .before .flag-word in
-    let of-write-head = c .before .before .before .before .before .before .before .before .before .before .before .before .before .before .before .write-head in
-    let of-write-rows = c .before .before .before .before .before .before .before .before .before .before .write-rows in
-    let of-clear = c .before .before .before .before .before .before .clear in
-    written-parts (a .w) (a .counts .now) (a .buf .now) (of-write-head .last .0) (of-write-rows .last .0) (of-clear .last .0) (c .before .before .take-entries .last .1 .1 .0)
+    let a = c .before .before .before .before .before .before .before .before .before .before .before .before .before .before .before .before .before .before .before .args in
+    let of-finished-size = c .before .before .before .before .before .before .before .before .before .before .before .before .before .before .before .before .before .finished-size in
+    let of-back-in = c .before .before .before .before .before .before .before .before .before .before .before .before .before .before .before .back-in in
+    let of-back-at = c .before .before .before .before .before .before .before .before .before .before .before .before .before .before .back-at in
+    let of-flag-word = c .before .before .before .before .before .before .before .before .before .before .before .before .flag-word in
+    let of-write-head = c .before .before .before .before .before .before .before .before .before .before .before .write-head in
+    let of-write-rows = c .before .before .before .before .before .before .write-rows in
+    written-parts (a .w) (a .counts .now) (a .buf .now) (of-write-head .last .0) (of-write-rows .last .0) (c .before .before .fill-in .last .1 .1 .0)
     (of-finished-size .result) (of-flag-word .result) (of-back-in .result) (of-back-at .result)
     (of-finished-size .ensures) (of-flag-word .ensures) (of-back-in .ensures) (of-back-at .ensures)
-    (of-write-head .ensures) (of-write-rows .ensures) (of-clear .ensures) (c .before .before .take-entries .ensures)
+    (of-write-head .ensures) (of-write-rows .ensures) (c .before .before .fill-in .ensures)
 
 pub write-image-spec : {M : Type 1} → statement M
 write-image-spec =
@@ -102,7 +93,6 @@ write-image-spec =
     write-head-requires
     cast-write-rows
     write-rows-requires
-    clear-requires
-    take-entries-requires
+    fill-in-requires
     same-length
     returns)

@@ -2,19 +2,18 @@
 -- specs/Close says.
 use Prim.Native.Nat.{ℕ, zero, suc, _+_, _*_, _-_, _≤_}
 use mathlib.Core.Path.{_≡_}
-use mathlib.Core.Bool.{Bool, true, false, cond, _&&_}
-use mathlib.Core.List.{List, [], _∷_, _++_}
-use lib.ListN.{length, getD, take, drop, replicate}
+use mathlib.Core.Bool.{Bool, true, cond}
+use mathlib.Core.List.{List, [], _++_}
+use lib.ListN.{getD, take, drop}
 use lib.Seq.{sets}
 use lib.Dec.{eqb, leb}
 use Rattle.jhash.specs.NameHash.{hashOf}
 use Rattle.image.specs.Bytes.{word, le32}
 use Rattle.image.specs.Tables.{tableOf, start, order, firstEmpty}
-use Rattle.image.specs.Image.{Entry, headSize, headBytes, flagWord, backIn, backSize}
+use Rattle.image.specs.Image.{backIn}
 use Rattle.image.specs.declared.Mode.{Mode}
 use Rattle.image.specs.declared.Mode.the-variants.{Twoway, Oneway}
 use Rattle.writer.specs.declared.CQDBWriter.{CQDBWriter}
-use Rattle.writer.specs.State.{State, finishedSize}
 use Rattle.image.specs.Stored.{between, wholeLength}
 
 -- the rows of the m tables from t on, the first with entries standing at o
@@ -28,14 +27,6 @@ rowsFrom counts o t (suc m) =
 -- where the back array stands, 0 where there is none
 unfoldable pub linksAt : CQDBWriter → ℕ
 linksAt w = cond (eqb (backIn (w .mode) (w .back)) 0) 0 (w .end + 16 * w .entries)
-
--- head and rows written, tables and back array cleared
-unfoldable pub cleared : CQDBWriter → List ℕ → List ℕ → List ℕ
-cleared w counts buf =
-    sets
-    (sets (sets buf 0 (headBytes (finishedSize w) (flagWord (w .mode)) (backIn (w .mode) (w .back)) (linksAt w))) 24 (rowsFrom counts (w .end) 0 256))
-    (w .end)
-    (replicate (finishedSize w - w .end) 0)
 
 -- the bucket that takes an entry of hash h: its place in the buffer
 unfoldable pub slot : List ℕ → ℕ → ℕ
@@ -84,7 +75,3 @@ pub record Noted (buf : List ℕ) (end from : ℕ) (hashes : List ℕ) (k : ℕ)
 abbrev pub linksApart : Mode → ℕ → ℕ → Bool
 linksApart Twoway links end = leb end links
 linksApart Oneway links end = true
-
--- all that close writes
-unfoldable pub written : CQDBWriter → List ℕ → List ℕ → List ℕ
-written w counts buf = takenFrom (w .mode) (linksAt w) (w .end) (w .entries) headSize (cleared w counts buf)

@@ -1,0 +1,42 @@
+// Averages (02 (x)): the average search length of 1,000 loads beside the Rust's opening and its lookups of the same names. Ours also
+// checks that each load is an image of ours, byte by byte. Each side's time of a load is the best of five; a row has the mean of
+// these 1,000 times.
+use crate::ours;
+use crate::table::{self, best, time};
+use cqdb::CQDB;
+use std::hint::black_box;
+
+const LOADS: u32 = 1_000;
+const ENTRIES: usize = 4_096;
+
+fn names(seed: u32) -> Vec<String> {
+    let step = |s: &u32| Some(s.wrapping_mul(1_664_525).wrapping_add(1_013_904_223));
+    std::iter::successors(Some(seed), step).skip(1).take(ENTRIES).map(|s| format!("P{s:08X}")).collect()
+}
+
+fn lookups(image: &[u8], names: &[String]) -> u64 {
+    let db = CQDB::new(image).expect("a load opens");
+    names.iter().map(|name| u64::from(db.to_id(name).expect("a name of the load"))).sum()
+}
+
+pub fn run() {
+    let mut image = vec![0; 157_720];
+    let (mut own, mut check, mut rust, mut total) = (0.0, 0.0, 0.0, 0);
+    for seed in 0..LOADS {
+        assert_eq!(ours::load(seed, &mut image).accepted as usize, ENTRIES);
+        let names = names(seed);
+        let average = ours::average(&image);
+        total += average.quotient * ENTRIES as u64 + average.remainder;
+        let ours = || assert_eq!(ours::average(black_box(&image)), average);
+        let theirs = || assert_eq!(lookups(black_box(&image), &names), (ENTRIES * (ENTRIES - 1) / 2) as u64);
+        let (a, b) = best(5, ENTRIES, ours, theirs);
+        own += a;
+        rust += b;
+        check +=
+            (0..5).map(|_| time(ENTRIES, || assert_eq!(ours::ours(black_box(&image)), 1))).fold(f64::MAX, f64::min);
+    }
+    let each = f64::from(LOADS);
+    table::row(&format!("average of {LOADS} loads, an entry"), (own / each, rust / each), None);
+    table::own_row("of this the check that the image is ours", check / each);
+    println!("the average of these {LOADS} loads: {:.4} buckets", total as f64 / (each * ENTRIES as f64));
+}

@@ -1,0 +1,46 @@
+// The average search length for C. Each function is a thin call of the proved function that bears the work.
+use average::Averaged;
+ghost use mathlib.Core.Path.{_≡_};
+ghost use Rattle.average.specs.Average.{averageRefusal, afterLengths};
+ghost use Rattle.average_c.specs.Answer.{averageAnswer};
+
+// The refusal's number, 0 when accepted; the number of entries, quotient and remainder, 0 when refused.
+#[repr(C)]
+pub struct AverageAnswer {
+    pub refusal: u32,
+    pub entries: u32,
+    pub quotient: u64,
+    pub remainder: u64,
+}
+
+// The average search length of an image; or refusal 17 or 18.
+#[no_mangle]
+pub extern "C" fn cqdb_average(image: &[u8]) -> AverageAnswer
+    ensures { λ r. ⌜ r ≡ averageAnswer (now (image .entry)) ⌝ }
+{
+    let averaged = average::average(image);
+    match averaged {
+        Averaged::Given(m) => AverageAnswer {
+            refusal: 0,
+            entries: m.entries,
+            quotient: m.quotient,
+            remainder: m.remainder,
+        },
+        Averaged::Refused(k) => AverageAnswer {
+            refusal: k,
+            entries: 0,
+            quotient: 0,
+            remainder: 0,
+        },
+    }
+}
+
+// How many entries are found after 1, 2, .. 15 and 16 or more buckets, into the lent list; or the refusal's number, and the list
+// stays as it was.
+#[no_mangle]
+pub extern "C" fn cqdb_lengths(image: &[u8], counts: &mut [u32; 16]) -> u32
+    ensures answer { λ r. ⌜ r ≡ averageRefusal (now (image .entry)) ⌝ }
+    ensures leaves { λ r. ⌜ now (counts .exit) ≡ afterLengths (now (image .entry)) (now (counts .entry)) ⌝ }
+{
+    average::lengths(image, &mut *counts)
+}

@@ -1,0 +1,56 @@
+-- `load::states::state_name` meets its contract. Assumes nothing.
+use Rattle.load.specs.States.{stateName}
+use borrow.Author.Needs.{needs}
+use Rattle.load.proofs.states.state_name.Statement.{statement}
+use Rattle.load.proofs.states.state_name.Tie as tie
+
+hex-digit-requires : tie.Need-hex-digit-requires
+hex-digit-requires c κs = search needs
+
+hex-digit-requires-2 : tie.Need-hex-digit-requires-2
+hex-digit-requires-2 c κs = search needs
+
+hex-digit-requires-3 : tie.Need-hex-digit-requires-3
+hex-digit-requires-3 c κs = search needs
+
+hex-digit-requires-4 : tie.Need-hex-digit-requires-4
+hex-digit-requires-4 c κs = search needs
+
+hex-digit-requires-5 : tie.Need-hex-digit-requires-5
+hex-digit-requires-5 c κs = search needs
+
+hex-digit-requires-6 : tie.Need-hex-digit-requires-6
+hex-digit-requires-6 c κs = search needs
+
+hex-digit-requires-7 : tie.Need-hex-digit-requires-7
+hex-digit-requires-7 c κs = search needs
+
+hex-digit-requires-8 : tie.Need-hex-digit-requires-8
+hex-digit-requires-8 c κs = search needs
+
+returns : tie.Need-returns
+unfolding stateName
+returns c =
+    let c7 = c .before in
+    let c6 = c7 .before in
+    let c5 = c6 .before in
+    let c4 = c5 .before in
+    let c3 = c4 .before in
+    let c2 = c3 .before in
+    let c1 = c2 .before in
+    rw
+    (c1 .hex-digit .ensures, c2 .hex-digit2 .ensures, c3 .hex-digit3 .ensures, c4 .hex-digit4 .ensures, c5 .hex-digit5 .ensures, c6 .hex-digit6 .ensures, c7 .hex-digit7 .ensures, c .hex-digit8 .ensures)
+
+pub state-name-spec : {M : Type 1} → statement M
+state-name-spec =
+    tie.close
+    (tie.spec
+    hex-digit-requires
+    hex-digit-requires-2
+    hex-digit-requires-3
+    hex-digit-requires-4
+    hex-digit-requires-5
+    hex-digit-requires-6
+    hex-digit-requires-7
+    hex-digit-requires-8
+    returns)

@@ -1,0 +1,181 @@
+-- A right table is the filled one: each insertion turns the table with an entry hidden into the table with it shown. Assumes nothing.
+use Prim.Native.Nat.{ℕ, zero, suc, _+_, _≤_, _<_}
+use native.Mathlib.Omega.{arith}
+use native.Mathlib.Decide.{decLt, ℕ-discrete}
+use mathlib.Core.Path.{_≡_, refl, sym, ap, _∙_}
+use mathlib.Core.Bool.{Bool, true, false, cond}
+use mathlib.Core.List.{List, [], _∷_}
+use lib.ListN.{length, getD, set, replicate, length-set, length-replicate, length-map, List·getD-eq-default, List·getD-map}
+use lib.Seq.{ext-getD, getD-set-same, getD-set-other}
+use lib.Dec.{ltb}
+use borrow.Author.Tests.{lt-ltb, le-ltb}
+use Rattle.image.specs.Tables.{Bucket, empty, atOf, start, order, firstEmpty, insert, insertAll, filled}
+use Rattle.image.proofs.Buckets.{getD-empties}
+use Rattle.image.proofs.Every.{All}
+use Rattle.masks.specs.Masks.{above, Rising, ats, hide, masked, place, Right}
+use Rattle.masks.proofs.Above.{above-in, above-only}
+
+-- ---- hiding
+
+pub hide-shows : (a : ℕ) (b : Bucket) → b .at < a → hide a b ≡ b
+hide-shows a b h = rw (lt-ltb (b .at) a h)
+
+pub hide-hides : (a : ℕ) (b : Bucket) → a ≤ b .at → hide a b ≡ empty
+hide-hides a b h = rw (le-ltb (b .at) a h)
+
+pub hide-empty : (a : ℕ) → hide a empty ≡ empty
+hide-empty a = go (ltb 0 a)
+  where
+    go : (t : Bool) → cond t empty empty ≡ empty
+    go true = refl
+    go false = refl
+
+pub getD-masked : (a : ℕ) (table : List Bucket) (k : ℕ) → getD (masked a table) k empty ≡ hide a (getD table k empty)
+unfolding masked
+getD-masked a [] k = sym (hide-empty a)
+getD-masked a (b ∷ table) zero = refl
+getD-masked a (b ∷ table) (suc k) = getD-masked a table k
+
+pub length-masked : (a : ℕ) (table : List Bucket) → length (masked a table) ≡ length table
+unfolding masked
+length-masked a table = length-map table (hide a)
+
+pub getD-ats : (table : List Bucket) (k : ℕ) → getD (ats table) k 0 ≡ atOf table k
+getD-ats table k = List·getD-map (λ (b : Bucket). b .at) table k empty
+
+pub length-ats : (table : List Bucket) → length (ats table) ≡ length table
+length-ats table = length-map table (λ (b : Bucket). b .at)
+
+-- a masked table by its buckets
+pub masked-is : (a : ℕ) (table other : List Bucket) → length other ≡ length table
+    → ((k : ℕ) → k < length table → hide a (getD table k empty) ≡ getD other k empty) → masked a table ≡ other
+masked-is a table other size each =
+    ext-getD empty (masked a table) other (length-masked a table ∙ sym size)
+    (λ k h. getD-masked a table k ∙ each k (rw (length-masked a table) at h))
+
+-- ---- an entry that stands where it belongs
+
+module _ (n : ℕ) (table : List Bucket) (b : Bucket) (pos : 0 < b .at) (stands : getD table (place n table b) empty ≡ b) where
+  pub place-in : place n table b < length table
+  place-in =
+      elim (decLt (place n table b) (length table)) [
+        | yes h ↦ h
+        | no h ↦
+            let e : getD table (place n table b) empty ≡ empty = List·getD-eq-default table empty {n = place n table b} (omega arith) in
+            let z : empty ≡ b = sym e ∙ stands in
+            let y : 0 ≡ b .at = ap (λ (x : Bucket). x .at) z in
+            absurd (omega arith)
+      ]
+
+  pub place-at : atOf table (place n table b) ≡ b .at
+  place-at = ap (λ (x : Bucket). x .at) stands
+
+  pub place-count : (a : ℕ) → a ≤ b .at → above (suc (b .at)) (ats table) + 1 ≤ above a (ats table)
+  place-count a h =
+      let e = getD-ats table (place n table b) ∙ place-at in
+      above-in a (suc (b .at)) (ats table) (place n table b) (rw (length-ats table) place-in) (omega arith) (omega arith)
+
+  -- no other bucket has an offset from a to its own
+  module _ (a : ℕ) (le : a ≤ b .at) (one : above a (ats table) ≤ above (suc (b .at)) (ats table) + 1) where
+    only : (k : ℕ) → k < length table → a ≤ atOf table k → atOf table k < suc (b .at) → k ≡ place n table b
+    only k h p q =
+        let e = getD-ats table k in
+        let f = getD-ats table (place n table b) ∙ place-at in
+        above-only a (suc (b .at)) (ats table) k (place n table b) one (rw (length-ats table) h) (rw (length-ats table) place-in)
+        (omega arith) (omega arith) (omega arith) (omega arith)
+
+    same-mask : masked a table ≡ masked (b .at) table
+    same-mask = masked-is a table (masked (b .at) table) (length-masked (b .at) table) (λ k h. each k h ∙ sym (getD-masked (b .at) table k))
+      where
+        each : (k : ℕ) → k < length table → hide a (getD table k empty) ≡ hide (b .at) (getD table k empty)
+        each k h =
+            elim (decLt (atOf table k) a) [
+              | yes p ↦ hide-shows a (getD table k empty) p ∙ sym (hide-shows (b .at) (getD table k empty) (omega arith))
+              | no p ↦ elim (decLt (atOf table k) (b .at)) [
+                | yes q ↦
+                    let e : k ≡ place n table b = only k h (omega arith) (omega arith) in
+                    let f : atOf table k ≡ b .at = ap (atOf table) e ∙ place-at in
+                    absurd (omega arith)
+                | no q ↦ hide-hides a (getD table k empty) (omega arith) ∙ sym (hide-hides (b .at) (getD table k empty) (omega arith))
+              ]
+            ]
+
+    pub step : insert n (masked a table) b ≡ masked (suc (b .at)) table
+    unfolding insert
+    step =
+        ap (λ (l : List Bucket). set l (firstEmpty (atOf l) (order n n (start (b .hash) n))) b) same-mask
+        ∙ sym (masked-is (suc (b .at)) table (set (masked (b .at) table) (place n table b) b)
+        (length-set (masked (b .at) table) (place n table b) b ∙ length-masked (b .at) table) each)
+      where
+        here : place n table b < length (masked (b .at) table)
+        here = rw (length-masked (b .at) table) place-in
+
+        each : (k : ℕ) → k < length table
+            → hide (suc (b .at)) (getD table k empty) ≡ getD (set (masked (b .at) table) (place n table b) b) k empty
+        each k h =
+            elim (ℕ-discrete k (place n table b)) [
+              | yes e ↦
+                  rw e
+                  (ap (hide (suc (b .at))) stands
+                  ∙ hide-shows (suc (b .at)) b (omega arith)
+                  ∙ sym (getD-set-same (masked (b .at) table) (place n table b) b empty here))
+              | no e ↦
+                  other e (decLt (atOf table k) (b .at))
+                  ∙ sym (getD-set-other (masked (b .at) table) (place n table b) k b empty e ∙ getD-masked (b .at) table k)
+            ]
+          where
+            other : (k ≡ place n table b → ⊥) → Dec (atOf table k < b .at) → hide (suc (b .at)) (getD table k empty) ≡ hide (b .at) (getD table k empty)
+            other e (yes p) = hide-shows (suc (b .at)) (getD table k empty) (omega arith) ∙ sym (hide-shows (b .at) (getD table k empty) p)
+            other e (no p) =
+                elim (decLt (atOf table k) (suc (b .at))) [
+                  | yes q ↦ absurd (e (only k h (omega arith) q))
+                  | no q ↦
+                      hide-hides (suc (b .at)) (getD table k empty) (omega arith) ∙ sym (hide-hides (b .at) (getD table k empty) (omega arith))
+                ]
+
+-- ---- all of them
+
+abbrev Stands : ℕ → List Bucket → Bucket → Type 0
+Stands n table b = getD table (place n table b) empty ≡ b
+
+at-least : (n : ℕ) (table : List Bucket) (a : ℕ) (bs : List Bucket) → 0 < a → Rising a (ats bs) → All (Stands n table) bs
+    → length bs ≤ above a (ats table)
+at-least n table a [] p r s = omega arith
+at-least n table a (b ∷ bs) p r s =
+    let rest = at-least n table (suc (b .at)) bs (omega arith) (r .1) (s .1) in
+    let h = r .0 in
+    omega (arith, place-count n table b (omega arith) (s .0) a h)
+
+filled-from : (n : ℕ) (table : List Bucket) (a : ℕ) (bs : List Bucket) → 0 < a → Rising a (ats bs) → All (Stands n table) bs
+    → above a (ats table) ≡ length bs → insertAll n (masked a table) bs ≡ table
+unfolding insertAll
+filled-from n table a [] p r s e = masked-is a table table refl (λ k h. hide-shows a (getD table k empty) (below k h))
+  where
+    below : (k : ℕ) → k < length table → atOf table k < a
+    below k h =
+        elim (decLt (atOf table k) a) [
+          | yes q ↦ q
+          | no q ↦
+              let f = getD-ats table k in
+              absurd (omega (arith, above-in a (suc (atOf table k)) (ats table) k (rw (length-ats table) h) (omega arith) (omega arith)))
+        ]
+filled-from n table a (b ∷ bs) p r s e =
+    let h = r .0 in
+    let least = at-least n table (suc (b .at)) bs (omega arith) (r .1) (s .1) in
+    let more = place-count n table b (omega arith) (s .0) a h in
+    ap (λ (l : List Bucket). insertAll n l bs) (step n table b (omega arith) (s .0) a h (omega arith))
+    ∙ filled-from n table (suc (b .at)) bs (omega arith) (r .1) (s .1) (omega arith)
+
+pub right-filled : (n : ℕ) (table bs : List Bucket) → Rising 1 (ats bs) → Right n table bs → table ≡ filled n bs
+unfolding filled
+right-filled n table bs rising right =
+    sym (filled-from n table 1 bs (omega arith) rising (right .stand) (right .used))
+    ∙ ap (λ (l : List Bucket). insertAll n l bs)
+    (masked-is 1 table (replicate n empty) (length-replicate n empty ∙ sym (right .sized)) (λ k h. each k ∙ sym (getD-empties n k)))
+  where
+    each : (k : ℕ) → hide 1 (getD table k empty) ≡ empty
+    each k =
+        elim (decLt (atOf table k) 1) [
+          | yes p ↦ hide-shows 1 (getD table k empty) p ∙ right .zeros k (omega arith)
+          | no p ↦ hide-hides 1 (getD table k empty) (omega arith)
+        ]

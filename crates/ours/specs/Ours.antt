@@ -1,0 +1,56 @@
+-- Is this image one of ours? 02 (ix): what it means, by the lists' own definitions, and the decision.
+use Prim.Native.Nat.{ℕ, _≤_}
+use mathlib.Core.Path.{_≡_}
+use mathlib.Core.Bool.{Bool, true, cond, not, _&&_}
+use mathlib.Core.List.{List, [], _∷_}
+use lib.ListN.{length, drop}
+use lib.Dec.{eqb, leb}
+use Rattle.jhash.specs.Outcome.{Outcome, value, refusal}
+use Rattle.image.specs.Bytes.{word, same, Each}
+use Rattle.image.specs.Image.{Entry, headSize, imageSize, image}
+use Rattle.image.specs.Stored.{entriesIn}
+use Rattle.image.specs.Zero.{hasZero}
+use Rattle.image.specs.declared.Mode.{Mode}
+use Rattle.image.specs.declared.Mode.the-variants.{Twoway, Oneway}
+use Rattle.reader.specs.Open.{opening}
+use Rattle.writer.specs.declared.Repeats.the-variants.{On}
+use Rattle.lists.specs.Demand3.{imageOf}
+use Rattle.lists.specs.RepeatsOff.{putAll}
+use Rattle.ours.specs.Made.{Puttable}
+
+-- "the bytes are the image that some list of puts, one-way or two-way, repeats allowed, names free of zero bytes, closes to, with no byte after it": there
+-- are a direction and puts that are made from a fresh record in some buffer, in the repeats mode of 02 (viii), whose close gives exactly these bytes
+pub record Ours (img : List ℕ) : Type 0 where
+  pub mode : Mode
+  pub buffer : List ℕ
+  pub room : headSize ≤ length buffer
+  pub puts : List Entry
+  pub each : Each Puttable puts
+  pub closes : imageOf mode On buffer (putAll puts) ≡ img
+
+-- ---- the decision reads the puts back, makes their image and compares
+
+-- how many entries opening counts, 0 where it refuses
+abbrev pub counted : Outcome ℕ → ℕ
+counted (value n) = n
+counted (refusal r) = 0
+
+-- the puts that an image holds, in put order: that many entries, from the head's end on
+unfoldable pub putsIn : List ℕ → List Entry
+putsIn img = entriesIn (counted (opening img)) (drop headSize img)
+
+-- the direction that its flag word says
+abbrev pub modeIn : List ℕ → Mode
+modeIn img = cond (eqb (word img 8) 0) Twoway Oneway
+
+-- has no name a zero byte?
+unfoldable pub allFree : List Entry → Bool
+allFree [] = true
+allFree (e ∷ es) = not (hasZero (e .name)) && allFree es
+
+-- is it ours? Its puts have names free of zero bytes, the size of their image is a word, and their image is these bytes
+unfoldable pub ours : List ℕ → Bool
+ours img =
+    allFree (putsIn img)
+    && leb (imageSize (modeIn img) (putsIn img)) 4294967295
+    && same (image (modeIn img) (putsIn img)) img

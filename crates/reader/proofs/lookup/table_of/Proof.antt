@@ -1,0 +1,89 @@
+-- `reader::lookup::table_of` meets its contract. Assumes nothing.
+use Prim.Native.Nat.{_+_, _*_, _≤_, _<_}
+use native.Mathlib.Omega.{arith}
+use lib.ListN.{length}
+use mathlib.Core.Path.{_≡_}
+use Rattle.reader.proofs.Searches.{unread-offset, unread-number, unread-leaves, read-table}
+use borrow.Author.Needs.{needs}
+use Rattle.reader.proofs.lookup.table_of.Statement.{statement}
+use Rattle.reader.proofs.lookup.table_of.Tie as tie
+
+cast-t : tie.Need-cast-t
+cast-t c = search needs
+
+mul-word : tie.Need-mul-word
+mul-word c = search needs
+
+add-word : tie.Need-add-word
+add-word c = search needs
+
+word-requires : tie.Need-word-requires
+word-requires c κs = search needs
+
+mul-word-2 : tie.Need-mul-word-2
+mul-word-2 c = search needs
+
+add-word-2 : tie.Need-add-word-2
+add-word-2 c = search needs
+
+word-requires-2 : tie.Need-word-requires-2
+word-requires-2 c κs = search needs
+
+returns : tie.Need-returns
+returns c =
+    let row = c .before in
+    let a = row .before .before .before .args in
+    (λ z. unread-offset (a .image .now) (a .h) (row .before .word .result) (row .word2 .result) (row .before .word .ensures) (row .word2 .ensures) (c .if1 .taken), λ z. absurd (omega arith))
+
+cast-if2 : tie.Need-cast-if2
+cast-if2 c = search needs
+
+cast-if2-2 : tie.Need-cast-if2-2
+cast-if2-2 c = search needs
+
+mul-if2 : tie.Need-mul-if2
+mul-if2 c = search needs
+
+add-if2 : tie.Need-add-if2
+add-if2 c = search needs
+
+returns-2 : tie.Need-returns-2
+returns-2 c =
+    let row = c .before .before in
+    let a = row .before .before .before .args in
+    (λ z. unread-leaves (a .image .now) (a .h) (row .before .word .result) (row .word2 .result) (row .before .word .ensures) (row .word2 .ensures) (c .before .if1 .left) (c .if2 .taken), λ z. absurd (omega arith))
+
+returns-3 : tie.Need-returns-3
+returns-3 c =
+    let row = c .before .before in
+    let a = row .before .before .before .args in
+    let at = row .before .word .result in
+    let n = row .word2 .result in
+    let offset = c .before .if1 .left in (
+      λ z. unread-number (a .image .now) (a .h) at n (row .before .word .ensures) (row .word2 .ensures) offset z,
+      λ some. (
+        read-table (a .image .now) (a .h) at n (row .before .word .ensures) (row .word2 .ensures) offset some (c .if2 .left),
+        row .before .word .ensures,
+        row .word2 .ensures,
+        c .if2 .left,
+      ),
+    )
+
+pub table-of-spec : {M : Type 1} → statement M
+table-of-spec =
+    tie.close
+    (tie.spec
+    cast-t
+    mul-word
+    add-word
+    word-requires
+    mul-word-2
+    add-word-2
+    word-requires-2
+    returns
+    cast-if2
+    cast-if2-2
+    mul-if2
+    add-if2
+    returns-2
+    returns-3)

@@ -1,0 +1,11 @@
+-- Laws of a round.
+pub mod NameEnds
+pub mod Tells
+pub mod Places
+pub mod News
+pub mod Finds
+pub mod Rounds
+pub mod NameWords
+pub mod Different
+pub mod Theorem
+pub mod Rows

@@ -1,0 +1,114 @@
+// Equal names, told by slots on the stack: names whose keys have one slot are chained, from each to the last before it. Along the
+// chain names are compared where the whole keys are equal, since different names with one hash do occur.
+ghost use mathlib.Core.Path.{_≡_};
+ghost use mathlib.Core.Bool.{false};
+ghost use Prim.Native.Nat.{_≤_, _<_};
+ghost use lib.ListN.{length, take};
+ghost use Rattle.image.specs.Bytes.{same};
+ghost use Rattle.round.specs.Names.{names, astray};
+ghost use Rattle.round.specs.Telling.{nth, key, Keys, Linked, Equal, Told, news};
+use super::ends::name_of;
+use image::equality::same;
+use jhash::Hashed;
+
+const SLOTS: u32 = 2048;
+
+// The key of a name: its hash, 0 where it is too long to have one.
+fn key(name: &[u8]) -> u32
+    ensures { λ r. ⌜ r ≡ key (now (name .entry)) ⌝ }
+{
+    match jhash::name_hash(name) {
+        Hashed::Hash(h) => h,
+        Hashed::Refused => 0,
+    }
+}
+
+// The keys of all names.
+pub(crate) fn hash_all(bytes: &[u8], ends: &[u64], keys: &mut [u32])
+    requires { ⌜ (astray (length (now bytes)) 0 (now ends) ≡ false) × (length (now ends) ≤ length (now keys)) ⌝ }
+    ensures { λ _. ⌜ Keys (names (now (bytes .entry)) (now (ends .entry))) (now (keys .exit)) ⌝ }
+{
+    let mut i = 0;
+    while i < ends.len() {
+        keys[i] = key(name_of(bytes, ends, i));
+        i += 1;
+    }
+}
+
+// Links each of the first n keys to the last before it in its slot, without a branch.
+fn link(keys: &[u32], n: usize, links: &mut [u16])
+    requires { ⌜ (n ≤ 512) × (n ≤ length (now keys)) × (n ≤ length (now links)) ⌝ }
+    ensures { λ _. ⌜ Linked (now (keys .entry)) n (now (links .exit)) ⌝ }
+{
+    let mut slots: [u16; 2048] = [0; 2048];
+    let mut i = 0;
+    while i < n {
+        let s = (keys[i] % SLOTS) as usize;
+        links[i] = slots[s];
+        slots[s] = (i + 1) as u16;
+        i += 1;
+    }
+}
+
+// Are two of the names equal? Names are compared only where their keys are equal.
+fn equal_names(bytes: &[u8], ends: &[u64], keys: &[u32], j: usize, i: usize) -> bool
+    requires { ⌜ (astray (length (now bytes)) 0 (now ends) ≡ false) × (j < length (now ends)) × (i < length (now ends)) × (length (now ends) ≤ length (now keys)) × Keys (names (now bytes) (now ends)) (now keys) ⌝ }
+    ensures { λ r. ⌜ r ≡ same (nth (names (now (bytes .entry)) (now (ends .entry))) j) (nth (names (now (bytes .entry)) (now (ends .entry))) i) ⌝ }
+{
+    if keys[j] != keys[i] {
+        return false;
+    }
+    same(name_of(bytes, ends, j), name_of(bytes, ends, i))
+}
+
+// The number, counted from 1, of a name before the i-th that equals it; 0 where there is none.
+fn equal_before(bytes: &[u8], ends: &[u64], keys: &[u32], links: &[u16], i: usize) -> u16
+    requires { ⌜ (astray (length (now bytes)) 0 (now ends) ≡ false) × (i < length (now ends)) × (length (now ends) ≤ length (now keys)) × (length (now ends) ≤ length (now links)) × Keys (names (now bytes) (now ends)) (now keys) × Linked (now keys) (length (now ends)) (now links) ⌝ }
+    ensures { λ r. ⌜ Equal (names (now (bytes .entry)) (now (ends .entry))) i r ⌝ }
+{
+    let mut q = links[i];
+    while 0 < q {
+        let j = (q - 1) as usize;
+        if equal_names(bytes, ends, keys, j, i) {
+            return q;
+        }
+        q = links[j];
+    }
+    0
+}
+
+// For each name the number of an equal one before it, or 0.
+pub(crate) fn tell(bytes: &[u8], ends: &[u64], keys: &[u32], equals: &mut [u16])
+    requires { ⌜ (astray (length (now bytes)) 0 (now ends) ≡ false) × (length (now ends) ≤ 512) × (length (now ends) ≤ length (now keys)) × (length (now ends) ≤ length (now equals)) × Keys (names (now bytes) (now ends)) (now keys) ⌝ }
+    ensures { λ _. ⌜ Told (names (now (bytes .entry)) (now (ends .entry))) (length (now (ends .entry))) (now (equals .exit)) ⌝ }
+{
+    let mut links: [u16; 512] = [0; 512];
+    link(keys, ends.len(), &mut links);
+    let mut i = 0;
+    while i < ends.len() {
+        equals[i] = equal_before(bytes, ends, keys, &links, i);
+        i += 1;
+    }
+}
+
+// 1 for 0, 0 for all others.
+fn one_if_zero(q: u16) -> usize
+    ensures { λ r. ⌜ (q ≡ 0 → r ≡ 1) × (0 < q → r ≡ 0) × (r ≤ 1) ⌝ }
+{
+    if q == 0 { 1 } else { 0 }
+}
+
+// The numbers of the names that no earlier one equals, listed without a branch. Gives how many they are.
+pub(crate) fn list_new(equals: &[u16], n: usize, list: &mut [u16]) -> usize
+    requires { ⌜ (n ≤ 512) × (n ≤ length (now equals)) × (n ≤ length (now list)) ⌝ }
+    ensures { λ r. ⌜ (r ≤ n) × (take r (now (list .exit)) ≡ news (now (equals .entry)) n) ⌝ }
+{
+    let mut m: usize = 0;
+    let mut i: usize = 0;
+    while i < n {
+        list[m] = i as u16;
+        m += one_if_zero(equals[i]);
+        i += 1;
+    }
+    m
+}

@@ -1,0 +1,7 @@
+-- What the functions answer, and what is proved of it.
+pub mod Calendar
+pub mod Rule
+pub mod steps
+pub mod Answers
+pub mod Seasons
+pub mod Rows
