@@ -1,7 +1,7 @@
 // Writing: all puts and the close, names of 9 bytes, into a slice of exactly the image's size. Neither side clears its slice
 // between the repetitions. Then what the check of the 256 counts costs by itself.
 use crate::names::Names;
-use crate::ours::{self, Record};
+use crate::ours::{self, Joined, Record};
 use crate::table::{self, best, time};
 use cqdb::CQDBWriter;
 use std::hint::black_box;
@@ -36,6 +36,26 @@ fn building(n: usize, repetitions: usize) -> (f64, f64) {
     times
 }
 
+// The same list in one call with repeats off, with three words of lent memory for each name; beside the Rust's puts and close.
+fn whole_list(n: usize, repetitions: usize) {
+    let names = Names::new('p', 9, 0..n);
+    let names = names.all();
+    let joined = names.concat().into_bytes();
+    let ends: Vec<u64> = (1..=n as u64).map(|i| 9 * i).collect();
+    let ids: Vec<u32> = (0..n as u32).collect();
+    let list = Joined { names: &joined, ends: &ends, ids: &ids };
+    let (mut refusals, mut work) = (vec![0; n], vec![0; 3 * n]);
+    let size = 2072 + n * (25 + 9) + 4 * n;
+    let (mut a, mut b) = (vec![0u8; size], vec![0u8; size]);
+    let mut one_call = || {
+        let answer = ours::build(0, 0, black_box(&mut a), list, &mut refusals, &mut work);
+        assert_eq!((answer.refusal, answer.size as usize, answer.accepted as usize), (0, size, n));
+    };
+    let times = best(repetitions, n, &mut one_call, || build_rust(&names, black_box(&mut b)));
+    assert!(a == b, "both wrote one image");
+    table::row(&format!("a list in one call, repeats off, an entry of {n}"), times, None);
+}
+
 // Two closes that are refused: one by the record's length, before the counts are read, and one by the size, after it.
 fn count_check() {
     let mut counts = [0; 256];
@@ -61,5 +81,8 @@ pub fn run() {
     building(100_000, 200);
     let large = building(1_000_000, 31);
     println!("| build, an entry of 1000000 over one of 4096 | {:.2} | {:.2} | | |", large.0 / small.0, large.1 / small.1);
+    whole_list(4_096, 2_000);
+    whole_list(100_000, 100);
+    whole_list(1_000_000, 15);
     count_check();
 }

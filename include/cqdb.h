@@ -10,8 +10,9 @@
    - Bytes and lists are lent as a pointer and a length. The pointer is valid for that many bytes or elements. Where the
      length is 0 it may be NULL, which is taken as no bytes.
    - `counts` points to 256 words, those of cqdb_lengths to 16, and `w` to a whole cqdb_writer.
-   - What a call writes (the buffer of cqdb_put, cqdb_close, cqdb_sheet_write, cqdb_bundle_append and cqdb_load, the counts, the writer,
-     the output of cqdb_page, the answers of cqdb_round and cqdb_name_round) overlaps nothing else that the same call is lent: no name, no list, no buffer, no counts and no image.
+   - What a call writes (the buffer of cqdb_put, cqdb_close, cqdb_sheet_write, cqdb_bundle_append, cqdb_load and cqdb_build, the counts, the writer,
+     the output of cqdb_page, the answers of cqdb_round and cqdb_name_round,
+     the refusals and the work of cqdb_build) overlaps nothing else that the same call is lent: no name, no list, no buffer, no counts and no image.
      What a call only reads may overlap.
    - Nobody else writes to what is lent while the call runs.
 
@@ -46,8 +47,8 @@ extern "C" {
 
 /* The refusals: the same numbers in all calls, 0 for none. Each comment names the calls that give it. A refused call
    changes no byte of what it is lent, the writer included. docs/FORMAT.md has the same table. */
-#define CQDB_TOO_SHORT 1u        /* begin, open, load: under 2,072 bytes */
-#define CQDB_UNFIT 2u            /* begin, put, close, grown: the writer does not fit the buffer, or mode or repeats is neither 0 nor 1 */
+#define CQDB_TOO_SHORT 1u        /* begin, open, load, build: under 2,072 bytes */
+#define CQDB_UNFIT 2u            /* begin, put, close, grown, build: the writer does not fit the buffer, or mode or repeats is neither 0 nor 1 */
 #define CQDB_NO_ROOM 3u          /* put, bundle_append: the image would exceed the buffer; put: or 4,294,967,295 bytes */
 #define CQDB_INCONSISTENT 4u     /* put, close: the buffer's entries are not the writer's (put asks with repeats off only), or the
                                     image that close would write is too large */
@@ -60,8 +61,8 @@ extern "C" {
 #define CQDB_NO_SUCH_IMAGE 11u   /* bundle_open: the file ends at or before the position */
 #define CQDB_PAGE_TOO_LONG 12u   /* page: it has more bytes than the output */
 #define CQDB_ZERO_BYTE 13u       /* put: the name has a zero byte */
-#define CQDB_ROUND_UNFIT 14u     /* round, name_round: more than 512 names or ids, or ends that fall or pass the names */
-#define CQDB_ANSWERS_TOO_FEW 15u /* round, name_round: fewer answer places than names or ids */
+#define CQDB_ROUND_UNFIT 14u     /* round, name_round, build: ends that fall or pass the names; rounds: or more than 512 names or ids */
+#define CQDB_ANSWERS_TOO_FEW 15u /* round, name_round, build: fewer answer places than names or ids; build: or fewer ids */
 #define CQDB_REPEATED 16u        /* put: repeats are off, and an earlier entry has this name */
 #define CQDB_NOT_OURS 17u        /* average, lengths: the bytes are not the image that some list of puts closes to */
 #define CQDB_NO_ENTRIES 18u      /* average, lengths: the image has no entry */
@@ -346,6 +347,59 @@ static inline cqdb_close_answer cqdb_close(const cqdb_writer *w, uint8_t *buf, s
     cqdb_close_parts_answer a = cqdb_close_parts(cqdb_record_of(w), w->counts, buf, len);
     cqdb_close_answer c = {a.refusal, a.size};
     return c;
+}
+
+/* A whole list in one call. */
+
+/* refusal is 0 when the list was accepted; size is the image's, and accepted the number of accepted puts. Both are 0 where it
+   was refused. */
+typedef struct {
+    uint32_t refusal;
+    uint32_t size;
+    uint32_t accepted;
+} cqdb_build_answer;
+
+cqdb_build_answer cqdb_build_parts(uint32_t mode, uint32_t repeats, uint8_t *buf, size_t len,
+                                   const uint8_t *names, size_t names_len, const uint64_t *ends, size_t n,
+                                   const uint32_t *ids, size_t ids_len, uint32_t *refusals, size_t places,
+                                   uint32_t *work, size_t words);
+
+/* Begins a writer in the buffer, puts each of n names with the id at its place, in order, and closes: the buffer, the size and
+   the number of each put's refusal, in refusals[0] to refusals[n - 1], are those of the single calls. The names lie joined from
+   names on; name i ends before byte ends[i], and begins where the one before ends, the first at 0. Refusals of the whole list,
+   the first that applies: 2 for a mode or a choice of repeats that is neither 0 nor 1; 14 when an end is below the one before or
+   above names_len; 15 when there are fewer than n places; 1 for a buffer under 2,072 bytes. Then nothing is written.
+
+   The words at work are lent for speed with repeats off: how many there are, and what they hold, changes no answer, and what
+   they hold afterwards is left open. With 3 words for each name the time grows with the list, also where names repeat or are
+   refused; with fewer than one for each name, each name is compared with those before it. No pointer is NULL, also where its
+   number is 0. */
+static inline cqdb_build_answer cqdb_build(uint32_t mode, uint32_t repeats, uint8_t *buf, size_t len,
+                                           const uint8_t *names, size_t names_len, const uint64_t *ends, const uint32_t *ids,
+                                           size_t n, uint32_t *refusals, size_t places, uint32_t *work, size_t words) {
+    return cqdb_build_parts(mode, repeats, buf, len, names, names_len, ends, n, ids, n, refusals, places, work, words);
+}
+
+/* How many bytes and words a list needs. */
+typedef struct {
+    uint64_t bytes;
+    uint64_t words;
+} cqdb_build_needs_answer;
+
+/* In a buffer of so many bytes no put of the list is refused for room, unless they exceed 4,294,967,295; with so many words the
+   time is linear. names_len is the length of the joined names. */
+static inline cqdb_build_needs_answer cqdb_build_needs(uint32_t mode, size_t names_len, const uint32_t *ids, size_t n) {
+    cqdb_build_needs_answer a = {2072 + (uint64_t)names_len + 25 * (uint64_t)n, 3 * (uint64_t)n};
+    uint64_t back = 0;
+    for (size_t i = 0; i < n; i++) {
+        if (ids[i] >= back) {
+            back = (uint64_t)ids[i] + 1;
+        }
+    }
+    if (mode == CQDB_TWOWAY) {
+        a.bytes += 4 * back;
+    }
+    return a;
 }
 
 /* Order of a round. Needs no image. */

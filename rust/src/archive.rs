@@ -182,6 +182,23 @@ pub struct AverageAnswer {
     pub remainder: u64,
 }
 
+/// size is the image's, and accepted the number of accepted puts.
+#[repr(C)]
+#[derive(Clone, Copy, Debug, PartialEq, Eq)]
+pub struct BuildAnswer {
+    pub refusal: u32,
+    pub size: u32,
+    pub accepted: u32,
+}
+
+/// The names of a list, joined, with the place where each ends, and their ids.
+#[derive(Clone, Copy, Debug)]
+pub struct Joined<'a> {
+    pub names: &'a [u8],
+    pub ends: &'a [u64],
+    pub ids: &'a [u32],
+}
+
 /// The table counts of a writer.
 pub type Counts = [u32; 256];
 
@@ -251,6 +268,22 @@ extern "C" {
     fn cqdb_average(image: *const u8, len: usize) -> AverageAnswer;
     fn cqdb_lengths(image: *const u8, len: usize, counts: *mut u32) -> u32;
     fn cqdb_name_on(image: *const u8, len: usize, id: u32, date: Date, windows: *const Window, n: usize) -> OnAnswer;
+    fn cqdb_build_parts(
+        mode: u32,
+        repeats: u32,
+        buf: *mut u8,
+        len: usize,
+        names: *const u8,
+        names_len: usize,
+        ends: *const u64,
+        n: usize,
+        ids: *const u32,
+        ids_len: usize,
+        refusals: *mut u32,
+        places: usize,
+        work: *mut u32,
+        words: usize,
+    ) -> BuildAnswer;
 }
 
 /// The hash of a name with a start value, or the refusal.
@@ -392,4 +425,34 @@ pub fn average(image: &[u8]) -> AverageAnswer {
 /// How many entries have each search length, into the counts; the refusal, 0 for none.
 pub fn lengths(image: &[u8], counts: &mut [u32; 16]) -> u32 {
     unsafe { cqdb_lengths(image.as_ptr(), image.len(), counts.as_mut_ptr()) }
+}
+
+/// The image of a whole list, and the number of each put's refusal; or the refusal of the list. `work` is lent for speed.
+pub fn build(
+    mode: u32,
+    repeats: u32,
+    buf: &mut [u8],
+    list: Joined<'_>,
+    refusals: &mut [u32],
+    work: &mut [u32],
+) -> BuildAnswer {
+    let Joined { names, ends, ids } = list;
+    unsafe {
+        cqdb_build_parts(
+            mode,
+            repeats,
+            buf.as_mut_ptr(),
+            buf.len(),
+            names.as_ptr(),
+            names.len(),
+            ends.as_ptr(),
+            ends.len(),
+            ids.as_ptr(),
+            ids.len(),
+            refusals.as_mut_ptr(),
+            refusals.len(),
+            work.as_mut_ptr(),
+            work.len(),
+        )
+    }
 }

@@ -30,6 +30,7 @@
 
 mod archive;
 mod average;
+mod build;
 mod bundle;
 mod flag;
 mod held;
@@ -50,6 +51,7 @@ pub mod moving {}
 
 pub use archive::{Date, Window};
 pub use average::Average;
+pub use build::Built;
 pub use bundle::{Bundle, Images};
 pub use flag::Flag;
 pub use load::{load, load_in};

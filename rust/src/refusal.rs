@@ -56,7 +56,7 @@ refusals! {
     PageTooLong = 12, "the page is longer than the output";
     /// The name has a zero byte.
     ZeroByte = 13, "the name has a zero byte";
-    /// A round has more than 512 names or ids, or the ends of its names fall or pass their bytes.
+    /// A round has more than 512 names or ids, or the ends of its names, or of a list's, fall or pass their bytes.
     RoundUnfit = 14, "the round has too many names or ids, or ends that do not fit its names";
     /// The answer list of a round is shorter than the round. No call of this crate gets there.
     AnswersTooFew = 15, "the answer list is shorter than the round";

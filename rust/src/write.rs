@@ -7,13 +7,13 @@ use crate::held::Held;
 use crate::refusal::{self, Refusal};
 
 /// The head of an image, which the entries follow.
-const HEAD: usize = 2_072;
+pub(crate) const HEAD: usize = 2_072;
 /// The length of the first buffer; it grows as needed.
 const FIRST: usize = 4_096;
 /// The archive's writer begins with repeats on: this crate's writers look for repeats themselves.
 const REPEATS_ON: u32 = 1;
 /// The size of the largest image.
-const LIMIT: u64 = 4_294_967_295;
+pub(crate) const LIMIT: u64 = 4_294_967_295;
 
 /// Builds an image in memory. [`CQDBWriter`](crate::CQDBWriter) writes one to a stream.
 ///

@@ -1,3 +1,4 @@
 -- Laws of the exported calls.
 pub mod Calls
 pub mod Places
+pub mod Builds

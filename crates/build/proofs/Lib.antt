@@ -1,0 +1,6 @@
+-- Laws of a whole list in one call.
+pub mod Chained
+pub mod Turns
+pub mod Going
+pub mod Whole
+pub mod Theorem

@@ -1,0 +1,145 @@
+-- The whole call: its refusals, and what it gives and leaves where none applies. Assumes nothing.
+use Prim.Native.Nat.{ℕ, _+_, _≤_, _<_}
+use native.Mathlib.Omega.{arith}
+use native.Mathlib.Decide.{decLt}
+use mathlib.Core.Path.{_≡_, refl, sym, ap, ap₂, _∙_}
+use mathlib.Core.Bool.{Bool, true, false, cond, _||_}
+use mathlib.Core.List.{List, _++_}
+use borrow.Author.Tests.{lt-ltb, le-ltb, ltb-true}
+use lib.Dec.{ltb, eqb}
+use lib.ListN.{length, drop}
+use Rattle.jhash.specs.Outcome.{Outcome, value, refusal}
+use Rattle.image.specs.declared.Mode.{Mode}
+use Rattle.image.specs.Image.{headSize}
+use Rattle.joined.specs.Names.{astray}
+use Rattle.writer.specs.declared.Repeats.{Repeats}
+use Rattle.writer.specs.State.{State, fits}
+use Rattle.writer.specs.Close.{closeRefusal, closing, closedSize, closed, afterClose}
+use Rattle.lists.specs.Demand3.{answersOf, afterList, acceptedPuts}
+use Rattle.build.specs.declared.Made.{Made}
+use Rattle.build.specs.Along.{chosen, Puts}
+use Rattle.build.specs.Build.{listed, buildRefusal, madeOf, building, bufferAfter, answersAfter}
+
+-- ---- the refusals, in their order
+
+abbrev number : Bool → Bool → Bool → Bool → ℕ
+number a b c d = cond a 14 (cond (b || c) 15 (cond d 1 0))
+
+module _ (bytes ends : List ℕ) (ids places room : ℕ) where
+  abbrev n : ℕ
+  n = length ends
+
+  pub refusal-14 : astray (length bytes) 0 ends ≡ true → buildRefusal bytes ends ids places room ≡ 14
+  unfolding buildRefusal
+  refusal-14 e = ap (λ (t : Bool). number t (ltb ids n) (ltb places n) (ltb room headSize)) e
+
+  pub refusal-15 : astray (length bytes) 0 ends ≡ false → ids < n → buildRefusal bytes ends ids places room ≡ 15
+  unfolding buildRefusal
+  refusal-15 e h =
+      ap₂ (λ (t u : Bool). number t u (ltb places n) (ltb room headSize)) e (lt-ltb ids n h)
+
+  pub refusal-15-places : astray (length bytes) 0 ends ≡ false → n ≤ ids → places < n → buildRefusal bytes ends ids places room ≡ 15
+  unfolding buildRefusal
+  refusal-15-places e h k =
+      ap₂ (λ (t u : Bool). number t u (ltb places n) (ltb room headSize)) e (le-ltb ids n h)
+      ∙ ap (λ (t : Bool). number false false t (ltb room headSize)) (lt-ltb places n k)
+
+  pub refusal-1 : astray (length bytes) 0 ends ≡ false → n ≤ ids → n ≤ places → room < headSize → buildRefusal bytes ends ids places room ≡ 1
+  unfolding buildRefusal
+  refusal-1 e h k l =
+      ap₂ (λ (t u : Bool). number t u (ltb places n) (ltb room headSize)) e (le-ltb ids n h)
+      ∙ ap₂ (λ (t u : Bool). number false false t u) (le-ltb places n k) (lt-ltb room headSize l)
+
+  pub refusal-none : astray (length bytes) 0 ends ≡ false → n ≤ ids → n ≤ places → headSize ≤ room → buildRefusal bytes ends ids places room ≡ 0
+  unfolding buildRefusal
+  refusal-none e h k l =
+      ap₂ (λ (t u : Bool). number t u (ltb places n) (ltb room headSize)) e (le-ltb ids n h)
+      ∙ ap₂ (λ (t u : Bool). number false false t u) (le-ltb places n k) (le-ltb room headSize l)
+
+-- ---- the choice of repeats changes no close
+
+module _ (repeats : Repeats) (s : State) where
+  chosen-buffer : afterClose (chosen repeats s) .buffer ≡ afterClose s .buffer
+  unfolding afterClose closeRefusal closed fits
+  chosen-buffer = go (eqb (closeRefusal s) 0)
+    where
+      go : (b : Bool) → cond b (closed (chosen repeats s)) (chosen repeats s) .buffer ≡ cond b (closed s) s .buffer
+      go true = refl
+      go false = refl
+
+-- ---- what is given and left
+
+abbrev valueIn : Outcome ℕ → ℕ
+valueIn (value k) = k
+valueIn (refusal k) = 0
+
+abbrev isValue : Outcome ℕ → ℕ
+isValue (value k) = 1
+isValue (refusal k) = 0
+
+module _ (mode : Mode) (repeats : Repeats) (buffer bytes ends ids places : List ℕ) where
+  -- a refusal writes nothing
+  pub refused-build : (k : ℕ) → buildRefusal bytes ends (length ids) (length places) (length buffer) ≡ k → 0 < k
+      → (refusal k ≡ building mode repeats buffer bytes ends ids (length places))
+      × (buffer ≡ bufferAfter mode repeats buffer bytes ends ids (length places))
+      × (places ≡ answersAfter mode repeats buffer bytes ends ids places)
+  unfolding building bufferAfter answersAfter
+  refused-build k e h =
+      let t : ltb 0 (buildRefusal bytes ends (length ids) (length places) (length buffer)) ≡ true = ap (ltb 0) e ∙ lt-ltb 0 k h in (
+        sym (ap₂ (λ (b : Bool) (m : ℕ). cond b (refusal m) (value (madeOf mode repeats buffer (listed bytes ends ids)))) t e),
+        sym (ap (λ (b : Bool). cond b buffer (afterClose (afterList mode repeats buffer (listed bytes ends ids)) .buffer)) t),
+        sym (ap (λ (b : Bool). cond b places (answersOf mode repeats buffer (listed bytes ends ids) ++ drop (length ends) places)) t),
+      )
+
+  module _ (ok : buildRefusal bytes ends (length ids) (length places) (length buffer) ≡ 0) where
+    none : ltb 0 (buildRefusal bytes ends (length ids) (length places) (length buffer)) ≡ false
+    none = ap (ltb 0) ok
+
+    pub told-all : (rs : List ℕ) → rs ≡ answersOf mode repeats buffer (listed bytes ends ids) ++ drop (length ends) places → rs ≡ answersAfter mode repeats buffer bytes ends ids places
+    unfolding answersAfter
+    told-all rs e = e ∙ sym (ap (λ (b : Bool). cond b places (answersOf mode repeats buffer (listed bytes ends ids) ++ drop (length ends) places)) none)
+
+    module _ (s : State) (p : Puts mode repeats buffer (listed bytes ends ids) s) where
+      gives : closing s ≡ value (closedSize s)
+      unfolding closing
+      gives = ap (λ (k : ℕ). cond (eqb k 0) (value (closedSize s)) (refusal k)) (p .closes)
+
+      pub left-all : (l : List ℕ) → l ≡ afterClose s .buffer → l ≡ bufferAfter mode repeats buffer bytes ends ids (length places)
+      unfolding bufferAfter
+      left-all l e =
+          e
+          ∙ sym (chosen-buffer repeats s)
+          ∙ ap (λ (t : State). afterClose t .buffer) (p .left)
+          ∙ sym (ap (λ (b : Bool). cond b buffer (afterClose (afterList mode repeats buffer (listed bytes ends ids)) .buffer)) none)
+
+      pub built-image : (size : ℕ) → value size ≡ closing s
+          → value (record { size = size; accepted = s .writer .entries }) ≡ building mode repeats buffer bytes ends ids (length places)
+      unfolding building madeOf
+      built-image size e =
+          let is : size ≡ closedSize (afterList mode repeats buffer (listed bytes ends ids)) = ap valueIn (e ∙ gives) ∙ ap closedSize (p .left) in
+          ap₂ {C = Outcome Made} (λ (x y : ℕ). value (record { size = x; accepted = y })) is (p .counted)
+          ∙ sym (ap (λ (b : Bool). cond b (refusal (buildRefusal bytes ends (length ids) (length places) (length buffer))) (value (madeOf mode repeats buffer (listed bytes ends ids)))) none)
+
+      pub never-refused : (k : ℕ) → refusal k ≡ closing s → ⊥
+      never-refused k e = let z : _≡_ {A = ℕ} 0 1 = ap isValue (e ∙ gives) in omega arith
+
+abbrev isMade : Outcome Made → ℕ
+isMade (value m) = 1
+isMade (refusal k) = 0
+
+-- a refusal has a number
+pub refused-some : (mode : Mode) (repeats : Repeats) (buffer bytes ends ids : List ℕ) (places k : ℕ) → building mode repeats buffer bytes ends ids places ≡ refusal k
+    → 0 < buildRefusal bytes ends (length ids) places (length buffer)
+unfolding building
+refused-some mode repeats buffer bytes ends ids places k e = go (ltb 0 due) refl e
+  where
+    due : ℕ
+    due = buildRefusal bytes ends (length ids) places (length buffer)
+
+    go : (b : Bool) → ltb 0 due ≡ b → cond b (refusal due) (value (madeOf mode repeats buffer (listed bytes ends ids))) ≡ refusal k → 0 < due
+    go true p q = ltb-true 0 due p
+    go false p q = let z : _≡_ {A = ℕ} 1 0 = ap isMade q in absurd (omega arith)
+
+-- slots are within the lent memory
+pub slots-within : (r n words most : ℕ) → (0 < r → (r + n ≤ words) × (n ≤ most)) → r ≤ words
+slots-within r n words most f = elim (decLt 0 r) [ yes p ↦ omega (arith, f p .0) | no p ↦ omega arith ]

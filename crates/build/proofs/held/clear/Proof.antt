@@ -1,0 +1,56 @@
+-- `build::held::clear` meets its contract. The loop's invariant: the words passed are zero. Assumes nothing.
+use Prim.Native.Nat.{ℕ, _+_, _-_, _≤_, _<_}
+use native.Mathlib.Omega.{arith}
+use mathlib.Core.Path.{_≡_, refl}
+use lib.ListN.{length, getD, length-set}
+use borrow.Author.Needs.{needs}
+use Rattle.build.proofs.Chained.{zeros-turn}
+use Rattle.build.proofs.held.clear.Statement.{statement}
+use Rattle.build.proofs.held.clear.Tie as tie
+
+abbrev Inv-loop : tie.InvT-loop
+Inv-loop work₀ slots end i₀ work i = (i ≤ end) × (length work ≡ length work₀) × ((s : ℕ) → s < i → getD work s 0 ≡ 0)
+
+abbrev μ-loop : tie.MeasureT-loop
+μ-loop work₀ slots end i₀ work i = end - i
+
+loop-holds : tie.Need-loop-holds Inv-loop μ-loop
+loop-holds c = (omega arith, refl, λ s h. absurd (omega arith))
+
+mul-work : tie.Need-mul-work Inv-loop μ-loop
+mul-work c = omega arith
+
+slice-write-work : tie.Need-slice-write-work Inv-loop μ-loop
+slice-write-work c = omega arith
+
+add-i : tie.Need-add-i Inv-loop μ-loop
+add-i c = omega arith
+
+loop-less : tie.Need-loop-less Inv-loop μ-loop
+loop-less c = omega arith
+
+loop-again : tie.Need-loop-again Inv-loop μ-loop
+loop-again c =
+    let l = c .before .loop in
+    (omega arith, simp length-set (l .inv .1), zeros-turn (l .work) (l .i) (omega (arith, l .inv .1)) (l .inv .2))
+
+same-length : tie.Need-same-length Inv-loop μ-loop
+same-length c = search needs
+
+returns : tie.Need-returns Inv-loop μ-loop
+returns c = λ s h. c .before .loop .inv .2 s (omega arith)
+
+pub clear-spec : {M : Type 1} → statement M
+clear-spec =
+    tie.close
+    (tie.spec
+    Inv-loop
+    μ-loop
+    loop-holds
+    mul-work
+    slice-write-work
+    add-i
+    loop-less
+    loop-again
+    same-length
+    returns)

@@ -1,0 +1,5 @@
+-- A whole list in one call: what it gives, and what its steps tell.
+pub mod Build
+pub mod Held
+pub mod Along
+pub mod Theorem

@@ -1,0 +1,54 @@
+-- A whole list as C has it: what `build` promises, put into the struct. Assumes nothing.
+use Prim.Native.Nat.{ℕ}
+use mathlib.Core.Path.{_≡_, refl, sym, ap, ap₂, _∙_}
+use mathlib.Core.Bool.{Bool, true, false, cond}
+use mathlib.Core.List.{List}
+use lib.ListN.{length}
+use Rattle.jhash.specs.Outcome.{Outcome, value, refusal}
+use Rattle.image.specs.declared.Mode.{Mode}
+use Rattle.writer.specs.declared.Repeats.{Repeats}
+use Rattle.build.specs.declared.Made.{Made}
+use Rattle.build.specs.Build.{building, bufferAfter, answersAfter}
+use Rattle.cqdb_c.specs.declared.building.BuildAnswer.{BuildAnswer}
+use Rattle.cqdb_c.specs.Record.{known, modeOf, repeatsOf}
+use Rattle.cqdb_c.specs.Building.{builtAnswer, buildAnswer, bufferBuilt, answersBuilt}
+
+module _ (mode repeats : ℕ) (buffer bytes ends ids places : List ℕ) where
+  abbrev answer : BuildAnswer
+  answer = builtAnswer (building (modeOf mode) (repeatsOf repeats) buffer bytes ends ids (length places))
+
+  abbrev left : List ℕ
+  left = bufferAfter (modeOf mode) (repeatsOf repeats) buffer bytes ends ids (length places)
+
+  abbrev told : List ℕ
+  told = answersAfter (modeOf mode) (repeatsOf repeats) buffer bytes ends ids places
+
+  -- a mode or a repeats mode that stands for nothing
+  pub unknown-build : known mode repeats ≡ false
+      → (builtAnswer (refusal 2) ≡ buildAnswer mode repeats buffer bytes ends ids (length places))
+      × (buffer ≡ bufferBuilt mode repeats buffer bytes ends ids (length places))
+      × (places ≡ answersBuilt mode repeats buffer bytes ends ids places)
+  unfolding buildAnswer bufferBuilt answersBuilt
+  unknown-build e = (
+    sym (ap (λ (b : Bool). cond b answer (builtAnswer (refusal 2))) e),
+    sym (ap (λ (b : Bool). cond b left buffer) e),
+    sym (ap (λ (b : Bool). cond b told places) e),
+  )
+
+  pub known-build : known mode repeats ≡ true → (m : Mode) (r : Repeats) → m ≡ modeOf mode → r ≡ repeatsOf repeats
+      → (out : Outcome Made) (l rs : List ℕ) → out ≡ building m r buffer bytes ends ids (length places)
+      → l ≡ bufferAfter m r buffer bytes ends ids (length places) → rs ≡ answersAfter m r buffer bytes ends ids places
+      → (builtAnswer out ≡ buildAnswer mode repeats buffer bytes ends ids (length places))
+      × (l ≡ bufferBuilt mode repeats buffer bytes ends ids (length places))
+      × (rs ≡ answersBuilt mode repeats buffer bytes ends ids places)
+  unfolding buildAnswer bufferBuilt answersBuilt
+  known-build e m r em er out l rs eo el ers = (
+    ap builtAnswer (eo ∙ ap₂ (λ (x : Mode) (y : Repeats). building x y buffer bytes ends ids (length places)) em er)
+        ∙ sym (ap (λ (b : Bool). cond b answer (builtAnswer (refusal 2))) e),
+    el
+        ∙ ap₂ (λ (x : Mode) (y : Repeats). bufferAfter x y buffer bytes ends ids (length places)) em er
+        ∙ sym (ap (λ (b : Bool). cond b left buffer) e),
+    ers
+        ∙ ap₂ (λ (x : Mode) (y : Repeats). answersAfter x y buffer bytes ends ids places) em er
+        ∙ sym (ap (λ (b : Bool). cond b told places) e),
+  )

@@ -1,0 +1,66 @@
+// A whole list in one call, for C.
+use super::record::known;
+use super::record::mode_of;
+use super::record::repeats_of;
+use build::Built;
+ghost use mathlib.Core.Path.{_≡_};
+ghost use Prim.Native.Nat.{_<_};
+ghost use lib.ListN.{length};
+ghost use Rattle.cqdb_c.specs.Building.{buildAnswer, bufferBuilt, answersBuilt};
+
+// The refusal's number, 0 when accepted; the image's size and the number of accepted puts, zeros when refused.
+#[repr(C)]
+pub struct BuildAnswer {
+    pub refusal: u32,
+    pub size: u32,
+    pub accepted: u32,
+}
+
+// Puts each name with its id and closes, with the number of each put's refusal in `refusals`; or refusal 2 for a mode or a
+// repeats mode that is neither 0 nor 1, then 14, 15 or 1, and nothing is written.
+#[no_mangle]
+pub extern "C" fn cqdb_build_parts(
+    mode: u32,
+    repeats: u32,
+    buf: &mut [u8],
+    names: &[u8],
+    ends: &[u64],
+    ids: &[u32],
+    refusals: &mut [u32],
+    work: &mut [u32],
+) -> BuildAnswer
+    ensures answer { λ r. ⌜ r ≡ buildAnswer mode repeats (now (buf .entry)) (now (names .entry)) (now (ends .entry)) (now (ids .entry)) (length (now (refusals .entry))) ⌝ }
+    ensures leaves { λ _. ⌜ now (buf .exit) ≡ bufferBuilt mode repeats (now (buf .entry)) (now (names .entry)) (now (ends .entry)) (now (ids .entry)) (length (now (refusals .entry))) ⌝ }
+    ensures answers { λ _. ⌜ now (refusals .exit) ≡ answersBuilt mode repeats (now (buf .entry)) (now (names .entry)) (now (ends .entry)) (now (ids .entry)) (now (refusals .entry)) ⌝ }
+    ensures untouched { λ r. ⌜ (0 < r .refusal → now (work .exit) ≡ now (work .entry)) ⌝ }
+{
+    if !known(mode, repeats) {
+        return BuildAnswer {
+            refusal: 2,
+            size: 0,
+            accepted: 0,
+        };
+    }
+    let built = build::build(
+        mode_of(mode),
+        repeats_of(repeats),
+        &mut *buf,
+        names,
+        ends,
+        ids,
+        &mut *refusals,
+        &mut *work,
+    );
+    match built {
+        Built::Image(made) => BuildAnswer {
+            refusal: 0,
+            size: made.size,
+            accepted: made.accepted,
+        },
+        Built::Refused(k) => BuildAnswer {
+            refusal: k,
+            size: 0,
+            accepted: 0,
+        },
+    }
+}

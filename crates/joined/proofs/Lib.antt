@@ -1,0 +1,3 @@
+-- Laws of names by their ends.
+pub mod NameEnds
+pub mod Keys
