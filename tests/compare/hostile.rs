@@ -33,6 +33,7 @@ struct Run {
     bundles: u64,
     loads: u64,
     seasons: u64,
+    lists: u64,
 }
 
 // A heap block of exactly these bytes.
@@ -277,6 +278,40 @@ impl Run {
         self.loads += 1;
     }
 
+    // Any ends, ids, places, buffers and lent memory: a list is answered in what it is lent, or refused with 2, 14, 15 or 1, and
+    // then nothing changes.
+    fn list(&mut self, random: &mut Random) {
+        let (n, size) = (random.below(12), random.below(60));
+        let names = exact(&random.bytes(size));
+        let mut ends: Vec<u64> = (0..n).map(|_| random.below(size + 1) as u64).collect();
+        ends.sort_unstable();
+        if n > 0 && random.once_in(4) {
+            ends[random.below(n)] = random.pick(&[0, size as u64 + 1, u64::MAX]);
+        }
+        let words = |random: &mut Random, k: usize| -> Box<[u32]> { (0..k).map(|_| random.word() % 40).collect() };
+        let much = [n, n, n, n + 1, n.saturating_sub(1)];
+        let (ids, places, lent) = (random.pick(&much), random.pick(&much), random.pick(&[0, 1, n, 2 * n, 3 * n, 4 * n]));
+        let (ids, before, mut work) = (words(random, ids), words(random, places), words(random, lent));
+        let room = random.pick(&[0, 2_071, 2_072, 2_300, 3_000]);
+        let first = random.bytes(room);
+        let (ends, mut buf, mut answers) = (ends.into_boxed_slice(), exact(&first), before.clone());
+        let (mode, repeats) = (random.pick(&[0, 0, 1, 2]), random.pick(&[0, 0, 1, 2]));
+        let joined = ours::Joined { names: &names, ends: &ends, ids: &ids };
+        let answer = ours::build(mode, repeats, &mut buf, joined, &mut answers, &mut work);
+        self.tally.rule([0, 1, 2, 14, 15].contains(&answer.refusal), true, || format!("{answer:?}"));
+        if answer.refusal > 0 {
+            self.tally.rule(answers == before, true, || "the answers of a refused list".into());
+            self.tally.bytes(&buf, &first, || "the buffer of a refused list".into());
+        } else {
+            let size = answer.size as usize;
+            self.tally.rule(ours::open(&buf[..size]).num, answer.accepted, || format!("{answer:?}"));
+            self.tally.bytes(&buf[size..], &first[size..], || "the bytes behind a list's image".into());
+        }
+        self.refused += u64::from(answer.refusal > 0);
+        self.calls += 1;
+        self.lists += 1;
+    }
+
     // Any dates and windows on one image: a name lies in it, and where a list is refused the rest are zeros.
     fn season(&mut self, random: &mut Random, bytes: &[u8]) {
         let date = |random: &mut Random| {
@@ -366,6 +401,7 @@ fn round(run: &mut Run, random: &mut Random) {
         run.bundle(random, &images);
         let image = &images[random.below(images.len())];
         run.season(random, image);
+        run.list(random);
     }
     let n = random.below(4000);
     let noise = random.bytes(n);
@@ -398,13 +434,13 @@ fn main() {
     let calls = std::env::args().nth(1).map_or(CALLS, |text| text.parse().expect("a number of calls"));
     let mut random = Random::new();
     println!("hostile: seed {}", random.seed);
-    let mut run = Run { tally: Tally::default(), calls: 0, refused: 0, images: 0, states: 0, rounds: 0, sheets: 0, bundles: 0, loads: 0, seasons: 0, repeated: 0 };
+    let mut run = Run { tally: Tally::default(), calls: 0, refused: 0, images: 0, states: 0, rounds: 0, sheets: 0, bundles: 0, loads: 0, seasons: 0, lists: 0, repeated: 0 };
     while run.calls < calls {
         round(&mut run, &mut random);
     }
     println!(
-        "hostile: {} calls on {} images, {} records with their buffers, {} rounds, {} sheets, {} bundles, {} loads and {} lists of windows; {} refused, {} of them repeats; {} of {} checks failed",
-        run.calls, run.images, run.states, run.rounds, run.sheets, run.bundles, run.loads, run.seasons, run.refused, run.repeated, run.tally.different, run.tally.rule
+        "hostile: {} calls on {} images, {} records with their buffers, {} rounds, {} sheets, {} bundles, {} loads, {} lists of windows and {} whole lists; {} refused, {} of them repeats; {} of {} checks failed",
+        run.calls, run.images, run.states, run.rounds, run.sheets, run.bundles, run.loads, run.seasons, run.lists, run.refused, run.repeated, run.tally.different, run.tally.rule
     );
     std::process::exit(i32::from(run.tally.different > 0));
 }
