@@ -8,7 +8,7 @@ use lib.ListN.{length, getD}
 use lib.Dec.{eqb, ltb, leb}
 use Rattle.image.specs.Image.{Placed}
 use Rattle.image.specs.Tables.{Bucket, empty, atOf, start, order, firstEmpty}
-use Rattle.image.proofs.Every.{All}
+use Rattle.image.specs.Bytes.{Each}
 
 -- how many numbers of a list are a or more
 abbrev pub bit : ℕ → ℕ → ℕ
@@ -46,7 +46,7 @@ pub record Right (n : ℕ) (table bs : List Bucket) : Type 0 where
   -- there are as many used buckets as entries
   pub used : above 1 (ats table) ≡ length bs
   -- the bucket that each put took holds its entry
-  pub stand : All (λ (b : Bucket). getD table (place n table b) empty ≡ b) bs
+  pub stand : Each (λ (b : Bucket). getD table (place n table b) empty ≡ b) bs
 
 -- how many entries their own id's link points to
 unfoldable pub selves : List ℕ → List Placed → ℕ
@@ -56,6 +56,6 @@ selves links (p ∷ ps) = cond (eqb (getD links (p .entry .id) 0) (p .at)) 1 0 +
 -- a back array whose links are those of these entries
 pub record Linked (links : List ℕ) (ps : List Placed) : Type 0 where
   -- the link of each entry's id points to it or behind it
-  pub ahead : All (λ (p : Placed). p .at ≤ getD links (p .entry .id) 0) ps
+  pub ahead : Each (λ (p : Placed). p .at ≤ getD links (p .entry .id) 0) ps
   -- there are as many links above 0 as entries that their own link points to
   pub used : above 1 links ≡ selves links ps

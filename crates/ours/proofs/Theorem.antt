@@ -1,16 +1,16 @@
 -- Is this image one of ours? The decision is the rule, and what holds of images that are ours. Assumes nothing.
-use Prim.Native.Nat.{ℕ, _+_, _≤_, _<_}
+use Prim.Native.Nat.{ℕ, _+_, _-_, _≤_, _<_}
 use native.Mathlib.Omega.{arith}
 use mathlib.Core.Path.{_≡_, refl, sym, ap, _∙_}
 use mathlib.Core.Bool.{Bool, true, false}
 use mathlib.Core.List.{List, [], _∷_, _++_, append-assoc}
 use mathlib.Core.Option.{some}
-use lib.ListN.{length, getD, length-append, List·getD-append}
+use lib.ListN.{length, getD, take, drop, length-append, length-drop, take-append-drop, List·getD-append}
 use Rattle.image.specs.Bytes.{word}
 use Rattle.image.specs.Image.{Entry, headSize}
 use Rattle.image.specs.declared.Mode.{Mode}
 use Rattle.image.specs.declared.Mode.the-variants.{Twoway, Oneway}
-use Rattle.image.proofs.Area.{Bytes}
+use Rattle.image.proofs.Area.{Bytes, bytes-take}
 use Rattle.image.proofs.Equal.{same-self}
 use Rattle.image.proofs.Every.{All, all-map}
 use Rattle.image.proofs.Lists.{keep-append, keep-yes}
@@ -120,8 +120,18 @@ module _ (img : List ℕ) (bytes : Bytes img) (yes : ours img ≡ true) where
           let b = made-closes img made buffer long in rw (puts-are, mode-is) at b,
         );
         alone = λ more b d. alone more b d (ours (img ++ more)) refl;
+        cut = λ k h. cut k h (ours (take k img)) refl;
       }
     where
+      -- an image that is ours and shorter would go on behind it
+      cut : (k : ℕ) → k < length img → (r : Bool) → ours (take k img) ≡ r → ours (take k img) ≡ false
+      cut k h true e =
+          let whole : Made (take k img ++ drop k img) = rw (take-append-drop k img) made in
+          let none : drop k img ≡ [] = made-alone (take k img) (drop k img) (ours-only (take k img) (bytes-take k img bytes) e) whole in
+          let short : length img - k ≡ 0 = sym (length-drop k img) ∙ ap length none in
+          absurd (omega arith)
+      cut k h false e = e
+
       alone : (more : List ℕ) → Bytes (img ++ more) → (more ≡ [] → ⊥) → (r : Bool) → ours (img ++ more) ≡ r → ours (img ++ more) ≡ false
       alone more b d true e = absurd (d (made-alone img more made (ours-only (img ++ more) b e)))
       alone more b d false e = e

@@ -1,16 +1,15 @@
 -- What holds of images that are ours, on every byte string, and of lists of calls of every length: 02 (ix).
-use Prim.Native.Nat.{ℕ, _≤_}
+use Prim.Native.Nat.{ℕ, _≤_, _<_}
 use mathlib.Core.Path.{_≡_}
 use mathlib.Core.Logic.{_↔_}
 use mathlib.Core.Bool.{true, false}
 use mathlib.Core.List.{List, [], _++_}
 use mathlib.Core.Option.{some}
-use lib.ListN.{length}
+use lib.ListN.{length, getD, take}
 use Rattle.jhash.specs.Outcome.{value}
 use Rattle.image.specs.Bytes.{Each}
 use Rattle.image.specs.Image.{Entry, headSize}
 use Rattle.image.specs.declared.Mode.{Mode}
-use Rattle.image.proofs.Area.{Bytes}
 use Rattle.reader.specs.Open.{opening}
 use Rattle.reader.specs.Lookup.{lookup}
 use Rattle.reader.specs.Panel.{readingsAgree}
@@ -22,6 +21,10 @@ use Rattle.lists.specs.Calls.{Call, WordIds}
 use Rattle.lists.specs.Demand3.{acceptedPuts, imageOf}
 use Rattle.lists.specs.RepeatsOff.{putAll}
 use Rattle.ours.specs.Ours.{Ours, putsIn, modeIn, ours}
+
+-- a slice of bytes: each is below 256
+abbrev pub Bytes : List ℕ → Type 0
+Bytes s = (i : ℕ) → getD s i 0 < 256
 
 -- ---- an image that is ours
 
@@ -37,8 +40,9 @@ pub record IsOurs (img : List ℕ) : Type 0 where
   -- its puts are the list that makes it: from a fresh record in every buffer that has room for it all of them are accepted, and they close to it
   pub made : (buffer : List ℕ) → length img ≤ length buffer
       → (acceptedPuts (modeIn img) On buffer (putAll (putsIn img)) ≡ putsIn img) × (imageOf (modeIn img) On buffer (putAll (putsIn img)) ≡ img)
-  -- no image that is ours goes on behind it, by one byte or more, or ends before it
+  -- with one byte or more behind it, or missing at its end, it is not ours
   pub alone : (more : List ℕ) → Bytes (img ++ more) → (more ≡ [] → ⊥) → ours (img ++ more) ≡ false
+  pub cut : (k : ℕ) → k < length img → ours (take k img) ≡ false
 
 -- ---- the image of a list of calls, which may hold refused puts and closes, with either choice of 02 (viii)
 

@@ -13,7 +13,7 @@ use Rattle.reader.proofs.Searches.{lookup-own}
 use Rattle.round.specs.Names.{nth}
 use Rattle.round.specs.Round.{answerWords, bucketsOf}
 use Rattle.round.specs.steps.Telling.{key, Has}
-use Rattle.round.proofs.Tells.{key-short}
+use Rattle.joined.proofs.Keys.{key-short}
 use Rattle.round.proofs.Places.{has-after}
 
 pub length-words : (x : Lookup) → length (answerWords x) ≡ 4

@@ -1,5 +1,4 @@
 -- Laws of a round.
-pub mod NameEnds
 pub mod Tells
 pub mod Places
 pub mod News

@@ -4,24 +4,13 @@ use native.Mathlib.Omega.{arith}
 use native.Mathlib.Decide.{ℕ-discrete, decLt}
 use mathlib.Core.Path.{_≡_, refl, sym, ap, subst, _∙_}
 use mathlib.Core.List.{List}
-use borrow.Author.Tests.{lt-ltb, le-ltb}
-use mathlib.Core.Bool.{Bool, cond}
 use lib.Dec.{ltb}
 use lib.ListN.{length, getD, set, replicate, getD-replicate}
 use lib.Seq.{getD-set-same, getD-set-other}
-use Rattle.jhash.specs.NameHash.{hashOf}
 use Rattle.round.specs.Names.{nth}
 use Rattle.round.specs.steps.Telling.{key, Keys, slot, Last, Linked, Equal, Told}
 
 -- ---- keys
-
-pub key-short : (name : List ℕ) → length name < 4294967295 → key name ≡ hashOf name
-unfolding key
-key-short name h = ap (λ (t : Bool). cond t (hashOf name) 0) (lt-ltb (length name) 4294967295 h)
-
-pub key-long : (name : List ℕ) → 4294967295 ≤ length name → key name ≡ 0
-unfolding key
-key-long name h = ap (λ (t : Bool). cond t (hashOf name) 0) (le-ltb (length name) 4294967295 h)
 
 -- one more key; the first i stand already
 abbrev pub KeysTo : List (List ℕ) → ℕ → List ℕ → Type 0

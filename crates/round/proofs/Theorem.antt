@@ -16,7 +16,7 @@ use Rattle.reader.specs.Lookup.{lookup}
 use Rattle.round.specs.Names.{namesFrom, names, astray, joined, endsFrom, nth}
 use Rattle.round.specs.Round.{answerWords, roundWords, roundBuckets, rounding, leftBy, afterRound}
 use Rattle.round.specs.Theorem.{placeAt, Accepted, RoundHolds}
-use Rattle.round.proofs.NameEnds.{length-names}
+use Rattle.joined.proofs.NameEnds.{length-names}
 use Rattle.round.proofs.Finds.{length-words}
 use Rattle.round.proofs.Rounds.{left}
 use Rattle.round.proofs.Different.{once-each, not-above, all-different}

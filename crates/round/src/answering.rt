@@ -10,7 +10,7 @@ ghost use Rattle.reader.specs.Lookup.{lookup};
 ghost use Rattle.round.specs.Names.{names, astray, nth};
 ghost use Rattle.round.specs.Round.{answerWords, bucketsOf};
 ghost use Rattle.round.specs.steps.Telling.{Keys, Has, Kept, Begun};
-use super::ends::name_of;
+use joined::name_of;
 use reader::ToId;
 use reader::lookup::to_id_by;
 

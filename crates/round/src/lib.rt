@@ -8,12 +8,11 @@ ghost use Rattle.round.specs.Names.{names, astray};
 ghost use Rattle.round.specs.Round.{roundWords, roundBuckets, rounding, afterRound, roundedOf};
 use answering::find_all;
 use answering::repeat_all;
-use ends::astray;
+use joined::astray;
 use telling::hash_all;
 use telling::list_new;
 use telling::tell;
 
-mod ends; // ends.rt: the names by their ends
 mod telling; // telling.rt: equal names told
 mod answering; // answering.rt: the answers in their places
 pub mod naming; // naming.rt: name_round

@@ -7,21 +7,11 @@ ghost use lib.ListN.{length, take};
 ghost use Rattle.image.specs.Bytes.{same};
 ghost use Rattle.round.specs.Names.{names, astray, nth};
 ghost use Rattle.round.specs.steps.Telling.{key, Keys, Linked, Equal, Told, news};
-use super::ends::name_of;
 use image::equality::same;
-use jhash::Hashed;
+use joined::key;
+use joined::name_of;
 
 const SLOTS: u32 = 2048;
-
-// The key of a name: its hash, 0 where it is too long to have one.
-fn key(name: &[u8]) -> u32
-    ensures { λ r. ⌜ r ≡ key (now (name .entry)) ⌝ }
-{
-    match jhash::name_hash(name) {
-        Hashed::Hash(h) => h,
-        Hashed::Refused => 0,
-    }
-}
 
 // The keys of all names.
 pub(crate) fn hash_all(bytes: &[u8], ends: &[u64], keys: &mut [u32])

@@ -4,7 +4,7 @@ use native.Mathlib.Omega.{arith}
 use mathlib.Core.Path.{_≡_, refl, sym, ap, _∙_}
 use lib.ListN.{length, length-replicate}
 use Rattle.round.specs.Names.{names}
-use Rattle.round.proofs.NameEnds.{length-names}
+use Rattle.joined.proofs.NameEnds.{length-names}
 use Rattle.round.proofs.Rounds.{listed-below, counted, answered}
 use borrow.Author.Needs.{needs}
 use Rattle.round.proofs.answer_all.Statement.{statement}

@@ -5,17 +5,9 @@ use mathlib.Core.Bool.{Bool, cond}
 use mathlib.Core.List.{List}
 use lib.ListN.{length, getD}
 use lib.Dec.{eqb, ltb}
-use Rattle.jhash.specs.NameHash.{hashOf}
+unfoldable pub use Rattle.joined.specs.Keys.{key}
 use Rattle.image.specs.Bytes.{keep, range}
 use Rattle.round.specs.Names.{nth}
-
--- where the i-th name begins
-abbrev pub beginOf : List ℕ → ℕ → ℕ
-beginOf ends i = cond (eqb i 0) 0 (getD ends (i - 1) 0)
-
--- the key of a name: its hash, 0 where it is too long to have one
-unfoldable pub key : List ℕ → ℕ
-key name = cond (ltb (length name) 4294967295) (hashOf name) 0
 
 -- a list that begins with the names' keys
 abbrev pub Keys : List (List ℕ) → List ℕ → Type 0

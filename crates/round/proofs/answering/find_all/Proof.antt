@@ -11,7 +11,7 @@ use Rattle.reader.specs.Cases.{lookupOf}
 use Rattle.round.specs.Names.{names, nth}
 use Rattle.round.specs.Round.{answerWords, bucketsOf}
 use Rattle.round.specs.steps.Telling.{Has, Kept}
-use Rattle.round.proofs.NameEnds.{length-names}
+use Rattle.joined.proofs.NameEnds.{length-names}
 use Rattle.round.proofs.Finds.{length-words, by-key, sum-turn, sum-end, held-turn}
 use Rattle.round.proofs.Places.{kept-after}
 use borrow.Author.Needs.{needs}

@@ -7,7 +7,7 @@ use lib.ListN.{length}
 use Rattle.image.specs.Bytes.{same}
 use Rattle.image.proofs.Equal.{same-false}
 use Rattle.round.specs.Names.{names, nth}
-use Rattle.round.proofs.NameEnds.{length-names}
+use Rattle.joined.proofs.NameEnds.{length-names}
 use Rattle.round.proofs.Tells.{other-key}
 use borrow.Author.Needs.{needs}
 use Rattle.round.proofs.telling.equal_names.Statement.{statement}

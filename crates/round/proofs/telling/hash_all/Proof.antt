@@ -5,7 +5,7 @@ use mathlib.Core.Path.{_≡_, refl, ap, _∙_}
 use lib.ListN.{length, length-set}
 use Rattle.round.specs.Names.{names}
 use Rattle.round.specs.steps.Telling.{key}
-use Rattle.round.proofs.NameEnds.{length-names}
+use Rattle.joined.proofs.NameEnds.{length-names}
 use Rattle.round.proofs.Tells.{KeysTo, keys-turn}
 use borrow.Author.Needs.{needs}
 use Rattle.round.proofs.telling.hash_all.Statement.{statement}
