@@ -133,7 +133,7 @@ fn image(puts: &[Put], mode: u32) -> Vec<u8> {
     let largest = puts.iter().map(|put| put.1 as usize + 1).max().unwrap_or(0);
     let mut buf = vec![0; HEAD + puts.iter().map(|put| put.0.len() + 25).sum::<usize>() + 4 * largest];
     let mut counts = [0; 256];
-    let mut record = ours::begin(mode, &mut counts, &buf).record;
+    let mut record = ours::begin(mode, 1, &mut counts, &buf).record;
     for (name, id) in puts {
         record = ours::put(record, &mut counts, &mut buf, name, *id).record;
     }
