@@ -1,4 +1,3 @@
 -- Laws of the exported calls.
 pub mod Calls
 pub mod Places
-pub mod Builds

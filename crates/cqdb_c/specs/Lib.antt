@@ -3,4 +3,3 @@ pub mod Hash
 pub mod ReadAnswers
 pub mod Record
 pub mod Writing
-pub mod Building

@@ -10,21 +10,8 @@ use Rattle.writer.specs.declared.Repeats.{Repeats}
 use Rattle.writer.specs.declared.Repeats.the-variants.{Off, On}
 use Rattle.writer.specs.declared.CQDBWriter.{CQDBWriter}
 use Rattle.writer.specs.State.{State, stateWith}
+pub use Rattle.modes.specs.Modes.{known, modeOf, repeatsOf, repeatsWord}
 use Rattle.cqdb_c.specs.declared.record.Record.{Record}
-
--- a mode is 0, two-way, or 1, one-way, as the flag word; a repeats mode (02 (viii)) is 0, off, or 1, on. A record with another number is none of 01's
-abbrev pub known : ℕ → ℕ → Bool
-known mode repeats = leb mode 1 && leb repeats 1
-
-abbrev pub modeOf : ℕ → Mode
-modeOf mode = cond (eqb mode 0) Twoway Oneway
-
-abbrev pub repeatsOf : ℕ → Repeats
-repeatsOf repeats = cond (eqb repeats 0) Off On
-
-abbrev pub repeatsWord : Repeats → ℕ
-repeatsWord Off = 0
-repeatsWord On = 1
 
 -- the writer record that C's stands for, and the other way round
 abbrev pub writerOf : Record → CQDBWriter

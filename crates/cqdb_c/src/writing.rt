@@ -1,11 +1,11 @@
 // Writing, for C: the record goes in and comes back by value, the 256 table counts and the buffer are lent. A record whose
 // mode or repeats mode is neither 0 nor 1 is none of 01's and fits no buffer.
 use super::record::Record;
-use super::record::known;
-use super::record::mode_of;
 use super::record::record_of;
-use super::record::repeats_of;
 use super::record::writer_of;
+use modes::known;
+use modes::mode_of;
+use modes::repeats_of;
 use writer::Begun;
 use writer::Closed;
 ghost use mathlib.Core.Path.{_≡_};

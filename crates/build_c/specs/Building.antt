@@ -7,8 +7,8 @@ use lib.ListN.{length}
 use Rattle.jhash.specs.Outcome.{Outcome, value, refusal}
 use Rattle.build.specs.declared.Made.{Made}
 use Rattle.build.specs.Build.{building, bufferAfter, answersAfter}
-use Rattle.cqdb_c.specs.declared.building.BuildAnswer.{BuildAnswer}
-use Rattle.cqdb_c.specs.Record.{known, modeOf, repeatsOf}
+use Rattle.build_c.specs.declared.BuildAnswer.{BuildAnswer}
+use Rattle.modes.specs.Modes.{known, modeOf, repeatsOf}
 
 -- zeros where refused
 abbrev pub builtAnswer : Outcome Made → BuildAnswer

@@ -1,4 +1,4 @@
--- `cqdb_c::building::cqdb_build_parts` meets its contract: what `build` promises, put into the struct. Assumes nothing.
+-- `build_c::cqdb_build_parts` meets its contract: what `build` promises, put into the struct. Assumes nothing.
 use native.Mathlib.Omega.{arith}
 use mathlib.Core.Path.{_≡_, refl, sym, ap, _∙_}
 use lib.ListN.{length}
@@ -7,10 +7,10 @@ use borrow.Author.Needs.{needs}
 use Rattle.build.specs.declared.Built.{Built}
 use Rattle.build.specs.Build.{builtOf}
 use Rattle.build.proofs.Whole.{refused-some}
-use Rattle.cqdb_c.specs.Building.{builtAnswer}
-use Rattle.cqdb_c.proofs.Builds.{unknown-build, known-build}
-use Rattle.cqdb_c.proofs.building.cqdb_build_parts.Statement.{statement}
-use Rattle.cqdb_c.proofs.building.cqdb_build_parts.Tie as tie
+use Rattle.build_c.specs.Building.{builtAnswer}
+use Rattle.build_c.proofs.Builds.{unknown-build, known-build}
+use Rattle.build_c.proofs.cqdb_build_parts.Statement.{statement}
+use Rattle.build_c.proofs.cqdb_build_parts.Tie as tie
 
 known-requires : tie.Need-known-requires
 known-requires c κs = search needs

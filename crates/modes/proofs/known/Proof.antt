@@ -1,7 +1,7 @@
--- `cqdb_c::record::known` meets its contract. Assumes nothing.
+-- `modes::known` meets its contract. Assumes nothing.
 use borrow.Author.Tests.{le-leb, lt-leb}
-use Rattle.cqdb_c.proofs.record.known.Statement.{statement}
-use Rattle.cqdb_c.proofs.record.known.Tie as tie
+use Rattle.modes.proofs.known.Statement.{statement}
+use Rattle.modes.proofs.known.Tie as tie
 
 returns : tie.Need-returns
 returns c = rw (le-leb (c .before .args .mode) 1 (c .if1 .taken))

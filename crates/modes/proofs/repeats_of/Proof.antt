@@ -1,10 +1,10 @@
--- `cqdb_c::record::repeats_of` meets its contract. Assumes nothing.
+-- `modes::repeats_of` meets its contract. Assumes nothing.
 use mathlib.Core.Path.{sym, ap}
 use mathlib.Core.Bool.{Bool, cond}
 use borrow.Author.Tests.{eq-eqb, ne-eqb}
 use Rattle.writer.specs.declared.Repeats.the-variants.{Off, On}
-use Rattle.cqdb_c.proofs.record.repeats_of.Statement.{statement}
-use Rattle.cqdb_c.proofs.record.repeats_of.Tie as tie
+use Rattle.modes.proofs.repeats_of.Statement.{statement}
+use Rattle.modes.proofs.repeats_of.Tie as tie
 
 returns : tie.Need-returns
 returns c = ap (λ (t : Bool). cond t Off On) (sym (eq-eqb (c .before .args .repeats) 0 (c .if1 .taken)))

@@ -1,12 +1,13 @@
-// A whole list in one call, for C.
-use super::record::known;
-use super::record::mode_of;
-use super::record::repeats_of;
+// A whole list in one call, for C. It is compiled by itself, so that put and close have one caller each in cqdb_c and are inlined
+// there.
 use build::Built;
+use modes::known;
+use modes::mode_of;
+use modes::repeats_of;
 ghost use mathlib.Core.Path.{_≡_};
 ghost use Prim.Native.Nat.{_<_};
 ghost use lib.ListN.{length};
-ghost use Rattle.cqdb_c.specs.Building.{buildAnswer, bufferBuilt, answersBuilt};
+ghost use Rattle.build_c.specs.Building.{buildAnswer, bufferBuilt, answersBuilt};
 
 // The refusal's number, 0 when accepted; the image's size and the number of accepted puts, zeros when refused.
 #[repr(C)]

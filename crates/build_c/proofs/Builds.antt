@@ -9,9 +9,9 @@ use Rattle.image.specs.declared.Mode.{Mode}
 use Rattle.writer.specs.declared.Repeats.{Repeats}
 use Rattle.build.specs.declared.Made.{Made}
 use Rattle.build.specs.Build.{building, bufferAfter, answersAfter}
-use Rattle.cqdb_c.specs.declared.building.BuildAnswer.{BuildAnswer}
-use Rattle.cqdb_c.specs.Record.{known, modeOf, repeatsOf}
-use Rattle.cqdb_c.specs.Building.{builtAnswer, buildAnswer, bufferBuilt, answersBuilt}
+use Rattle.build_c.specs.declared.BuildAnswer.{BuildAnswer}
+use Rattle.modes.specs.Modes.{known, modeOf, repeatsOf}
+use Rattle.build_c.specs.Building.{builtAnswer, buildAnswer, bufferBuilt, answersBuilt}
 
 module _ (mode repeats : ℕ) (buffer bytes ends ids places : List ℕ) where
   abbrev answer : BuildAnswer

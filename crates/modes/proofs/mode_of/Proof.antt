@@ -1,10 +1,10 @@
--- `cqdb_c::record::mode_of` meets its contract. Assumes nothing.
+-- `modes::mode_of` meets its contract. Assumes nothing.
 use mathlib.Core.Path.{sym, ap}
 use mathlib.Core.Bool.{Bool, cond}
 use borrow.Author.Tests.{eq-eqb, ne-eqb}
 use Rattle.image.specs.declared.Mode.the-variants.{Twoway, Oneway}
-use Rattle.cqdb_c.proofs.record.mode_of.Statement.{statement}
-use Rattle.cqdb_c.proofs.record.mode_of.Tie as tie
+use Rattle.modes.proofs.mode_of.Statement.{statement}
+use Rattle.modes.proofs.mode_of.Tie as tie
 
 returns : tie.Need-returns
 returns c = ap (λ (t : Bool). cond t Twoway Oneway) (sym (eq-eqb (c .before .args .mode) 0 (c .if1 .taken)))

@@ -1,0 +1,2 @@
+-- Laws of the exported building of a list.
+pub mod Builds

@@ -1,0 +1,2 @@
+-- What the exported building of a list answers.
+pub mod Building

@@ -1,0 +1,2 @@
+-- The numbers of modes and repeats modes.
+pub mod Modes
