@@ -53,7 +53,7 @@ fn front_length(image: &[u8], rest: &[u8]) -> u32
 }
 
 // The total of n entries.
-pub fn total(image: &[u8], n: u32) -> u64
+pub(super) fn total(image: &[u8], n: u32) -> u64
     ensures { λ r. ⌜ r ≡ totalOf (now (image .entry)) (entriesIn n (drop headSize (now (image .entry)))) ⌝ }
 {
     let head = lesser(2072, image.len());
@@ -92,7 +92,7 @@ fn raise_at(counts: &mut [u32; 16], k: usize)
 }
 
 // How many of n entries have each length; the 16 counts are 0 before.
-pub fn count_lengths(image: &[u8], n: u32, counts: &mut [u32; 16])
+pub(super) fn count_lengths(image: &[u8], n: u32, counts: &mut [u32; 16])
     requires { ⌜ now counts ≡ replicate 16 0 ⌝ }
     ensures { λ _. ⌜ now (counts .exit) ≡ lengthsFrom (now (image .entry)) (replicate 16 0) (entriesIn n (drop headSize (now (image .entry)))) ⌝ }
 {

@@ -61,8 +61,9 @@ fn look_from(image: &[u8], at: usize, end: usize) -> usize
     look(image, &places)
 }
 
-// The first look; in a small image none is needed, and so many entries may be walked that no other comes.
-pub fn first_look(image: &[u8], end: usize) -> usize
+// The first look; in a small image none is needed, and so many entries may be walked that no other comes. Nothing is promised of
+// the number: it decides how much is read ahead, and no answer.
+pub(super) fn first_look(image: &[u8], end: usize) -> usize
     requires { ⌜ (2072 ≤ end) × (end ≤ length (now image)) × (end < 4294967296) ⌝ }
 {
     if image.len() < LARGE {
@@ -72,7 +73,7 @@ pub fn first_look(image: &[u8], end: usize) -> usize
 }
 
 // How many entries after the one at `at` may be walked before the next look, where `left` were before it.
-pub fn ahead(image: &[u8], at: usize, end: usize, left: usize) -> usize
+pub(super) fn ahead(image: &[u8], at: usize, end: usize, left: usize) -> usize
     requires { ⌜ (at ≤ end) × (end ≤ length (now image)) × (end < 4294967296) ⌝ }
 {
     if left > 0 {

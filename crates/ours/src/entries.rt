@@ -98,7 +98,12 @@ pub struct Entered {
 }
 
 // Walks `entries` entries from 2,072 to `end` and counts them by table.
-pub fn entries_right(image: &[u8], end: usize, entries: u32, counts: &mut [u32; 256]) -> Entered
+pub(super) fn entries_right(
+    image: &[u8],
+    end: usize,
+    entries: u32,
+    counts: &mut [u32; 256],
+) -> Entered
     requires { ⌜ (2072 ≤ end) × (end ≤ length (now image)) × (end < 4294967296) × ((t : ℕ) → getD (now counts) t 0 ≡ 0) ⌝ }
     ensures right { λ r. ⌜ r .right ≡ (whole entries (between (now (image .entry)) 2072 end) && entriesRight (now (image .entry)) (placedFrom (now (image .entry)) end entries 2072)) ⌝ }
     ensures back { λ r. ⌜ (r .right ≡ true → r .back ≡ backSize (entriesIn entries (between (now (image .entry)) 2072 end))) ⌝ }

@@ -77,7 +77,7 @@ fn links_used(image: &[u8], o: usize, n: usize) -> usize
 }
 
 // Are the n links at o those of the entries?
-pub fn links_right(image: &[u8], end: usize, entries: u32, o: usize, n: usize) -> bool
+pub(super) fn links_right(image: &[u8], end: usize, entries: u32, o: usize, n: usize) -> bool
     requires { ⌜ (2072 ≤ end) × (end ≤ length (now image)) × (end < 4294967296) × (o < 2 ^ 48) × (n < 4294967296) × (whole entries (between (now image) 2072 end) ≡ true) ⌝ }
     ensures { λ r. ⌜ r ≡ linked (now (image .entry)) o n (placedFrom (now (image .entry)) end entries 2072) ⌝ }
 {

@@ -9,21 +9,21 @@ ghost use Rattle.ours.specs.steps.Tests.{tableRight, rowsRight, rowCount
 use image::get_u32;
 
 // A word as a size.
-pub fn wide(x: u32) -> usize
+pub(super) fn wide(x: u32) -> usize
     ensures { λ r. ⌜ (r ≡ x) × (r < 4294967296) ⌝ }
 {
     x as usize
 }
 
 // Where a part of n elements stands whose place is o: nowhere, 0, without one.
-pub fn place_of(n: usize, o: usize) -> usize
+pub(super) fn place_of(n: usize, o: usize) -> usize
     ensures { λ r. ⌜ r ≡ cond (eqb n 0) 0 o ⌝ }
 {
     if n == 0 { 0 } else { o }
 }
 
 // 1 for a number above 0, else 0.
-pub fn one(w: u32) -> usize
+pub(super) fn one(w: u32) -> usize
     ensures { λ r. ⌜ r ≡ bit 1 w ⌝ }
 {
     if w == 0 { 0 } else { 1 }
@@ -59,7 +59,7 @@ fn table_right(image: &[u8], o: usize, c: usize) -> bool
 }
 
 // Do the tables stand one after the other from `end` on, each with twice as many buckets as are used?
-pub fn rows_right(image: &[u8], end: usize) -> bool
+pub(super) fn rows_right(image: &[u8], end: usize) -> bool
     requires { ⌜ end < 4294967296 ⌝ }
     ensures { λ r. ⌜ r ≡ rowsRight (now (image .entry)) (rowCounts (now (image .entry))) end 0 256 ⌝ }
 {
@@ -84,7 +84,7 @@ pub fn rows_right(image: &[u8], end: usize) -> bool
 }
 
 // Has each table twice as many buckets as its count says?
-pub fn say_counts(image: &[u8], counts: &[u32; 256]) -> bool
+pub(super) fn say_counts(image: &[u8], counts: &[u32; 256]) -> bool
     ensures { λ r. ⌜ r ≡ sayCounts (now (image .entry)) (now (counts .entry)) ⌝ }
 {
     let mut t: usize = 0;
