@@ -1,4 +1,4 @@
--- The tags of lines: four letters as a number, the first the highest byte.
+-- The tags of the lines of all replays: four letters as a number, the first the highest byte.
 use Prim.Native.Nat.{ℕ}
 use mathlib.Core.Bool.{Bool, _&&_, _||_}
 use lib.Dec.{eqb}
@@ -11,7 +11,7 @@ either tag a b = eqb tag a || eqb tag b
 abbrev pub says : ℕ → ℕ → ℕ → ℕ → Bool
 says tag n due k = eqb tag due && eqb n k
 
--- changes of the image: zero, edit, size
+-- of a replay of the reader: changes of the image (zero, edit, size)
 abbrev pub ZERO : ℕ
 ZERO = 0x7a65726f
 
@@ -58,3 +58,23 @@ ITEM = 0x6974656d
 
 abbrev pub ENDS : ℕ
 ENDS = 0x656e6473
+
+-- of a replay of the writer: its calls (new2, new1, puts, full, and size as above)
+abbrev pub NEW2 : ℕ
+NEW2 = 0x6e657732
+
+abbrev pub NEW1 : ℕ
+NEW1 = 0x6e657731
+
+abbrev pub PUTS : ℕ
+PUTS = 0x70757473
+
+abbrev pub FULL : ℕ
+FULL = 0x66756c6c
+
+-- and what the image of the last close is (hash, part, and zero and ends as above)
+abbrev pub HASH : ℕ
+HASH = 0x68617368
+
+abbrev pub PART : ℕ
+PART = 0x70617274

@@ -1,16 +1,15 @@
 -- What a caller learns of a word that was read: a number, bytes, or neither; and of two byte strings that were compared. Assumes nothing.
-use Prim.Native.Nat.{ℕ, zero, suc, _+_, _-_, _/_, _≤_}
+use Prim.Native.Nat.{ℕ, _+_, _-_, _/_, _≤_}
 use native.Mathlib.Omega.{arith}
 use mathlib.Core.Path.{_≡_, refl, sym, ap, _∙_}
-use mathlib.Core.Bool.{Bool, true, false, cond, _&&_}
-use mathlib.Core.List.{List, [], _∷_, _++_}
-use borrow.Author.Tests.{eq-eqb, eqb-true}
-use lib.Dec.{eqb}
+use mathlib.Core.Bool.{Bool, true, false, cond}
+use mathlib.Core.List.{List, [], _∷_}
 use lib.ListN.{length, take, drop}
-use lib.Seq.{sets, sets-eq, take-at}
+use lib.Seq.{sets-eq, take-at}
 use Rattle.image.specs.Bytes.{same}
+use Rattle.image.proofs.Equal.{same-self, same-true}
 use Rattle.replay_lines.specs.Hex.{wordIn, bytesIn, isBytes, countIn, afterDecode, ofNumber, withNumber, twoIn, ofNumbers, withNumbers, withBytes}
-use Rattle.replay_lines.proofs.Steps.{false-true, whole-bytes}
+use Rattle.replay_lines.proofs.LoopSteps.{false-true, whole-bytes}
 use Rattle.replay_lines.specs.declared.Number.{Number}
 use Rattle.replay_lines.specs.declared.Number.the-variants as number
 use Rattle.replay_lines.specs.declared.Numbers.{Numbers}
@@ -90,26 +89,10 @@ module _ (text out left : List ℕ) (k : ℕ) (is : k ≡ length out) (r : Bytes
   is-bytes bad f = rw (readable text k (length out) is r promise n told .0) (ap f (sym bytes-taken))
 
 -- two byte strings that were compared, by what `check::same` promises of the answer r
-same-self : (a : List ℕ) → same a a ≡ true
-unfolding same
-same-self [] = refl
-same-self (x ∷ xs) = rw (eq-eqb x x refl) (same-self xs)
-
-heads : (x y : ℕ) (xs ys : List ℕ) (t : Bool) → eqb x y ≡ t → (same xs ys ≡ true → xs ≡ ys) → t && same xs ys ≡ true → x ∷ xs ≡ y ∷ ys
-heads x y xs ys true e rest h = let p : x ≡ y = eqb-true x y e in let q : xs ≡ ys = rest h in cc
-heads x y xs ys false e rest h = absurd (false-true h)
-
-same-equal : (a b : List ℕ) → same a b ≡ true → a ≡ b
-unfolding same
-same-equal [] [] h = refl
-same-equal [] (y ∷ ys) h = absurd (false-true h)
-same-equal (x ∷ xs) [] h = absurd (false-true h)
-same-equal (x ∷ xs) (y ∷ ys) h = heads x y xs ys (eqb x y) refl (same-equal xs ys) h
-
 pub compared : (r : Bool) (a b : List ℕ) → (r ≡ true → a ≡ b) × (a ≡ b → r ≡ true) → r ≡ same a b
 compared true a b h = let e : a ≡ b = h .0 refl in rw e (sym (same-self b))
 compared false a b h = other (same a b) refl
   where
     other : (t : Bool) → same a b ≡ t → false ≡ t
-    other true e = h .1 (same-equal a b e)
+    other true e = h .1 (same-true a b e)
     other false e = refl

@@ -1,16 +1,16 @@
 -- One digit, one byte and one verdict more: how the loops go on. Assumes nothing.
-use Prim.Native.Nat.{ℕ, zero, suc, _+_, _-_, _*_, _/_, _%_, _≤_, _<_}
+use Prim.Native.Nat.{ℕ, suc, _+_, _-_, _*_, _/_, _%_, _≤_, _<_}
 use native.Mathlib.Omega.{arith}
 use native.Mathlib.Numerals.{add-one}
-use mathlib.Core.Path.{_≡_, refl, sym, ap, _∙_}
+use mathlib.Core.Path.{_≡_, refl, ap, _∙_}
 use mathlib.Core.Bool.{Bool, true, false, cond, _&&_}
-use mathlib.Core.List.{List, [], _∷_}
+use mathlib.Core.List.{List, _∷_}
 use borrow.Author.Tests.{lt-ltb, le-ltb, eq-eqb, ne-eqb, eqb-true, leb-true}
 use lib.Dec.{eqb, ltb, leb}
 use lib.ListN.{length, getD, set, drop, drop-of-length-le}
 use lib.Seq.{sets, drop-cons}
 use Rattle.replay_lines.specs.Hex.{digitOf, areDigits, valueFrom, wordIn, byteOf, bytesIn, isBytes, countIn, afterDecode}
-use Rattle.replay_lines.specs.Words.{tagIn}
+use Rattle.replay_lines.specs.LineWords.{tagIn}
 use Rattle.replay_lines.specs.Verdicts.{more, countedWith}
 use Rattle.replay_lines.specs.declared.Number.{Number}
 use Rattle.replay_lines.specs.declared.Number.the-variants as number

@@ -7,7 +7,7 @@ use lib.Dec.{eqb, leb}
 use Rattle.image.specs.Bytes.{same}
 use Rattle.reader.specs.Walk.{Step, item, done, step, upperHint}
 use Rattle.reader.specs.WalkSteps.{standsAfter}
-use Rattle.reader_replay.specs.Tags.{either, says, WALK, LEFT, ITEM, ENDS}
+use Rattle.replay_lines.specs.Tags.{either, says, WALK, LEFT, ITEM, ENDS}
 
 -- is a name what stands at a place of an image?
 unfoldable pub isAt : List ℕ → ℕ → ℕ → List ℕ → Bool

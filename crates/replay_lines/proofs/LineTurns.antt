@@ -9,13 +9,13 @@ use borrow.Author.Tests.{le-leb, lt-leb}
 use lib.Dec.{eqb}
 use lib.ListN.{length, take, drop, length-drop, drop-of-length-le}
 use lib.Seq.{take-all, drop-drop}
-use Rattle.replay_lines.specs.Words.{until, past}
-use Rattle.replay_lines.specs.Lines.{lengthened, linesIn, Judged, tally, lineAt, afterLine}
+use Rattle.replay_lines.specs.LineWords.{until, past}
+use Rattle.replay_lines.specs.Replay.{lengthened, linesIn, Judged, tally, lineAt, progressAfter}
 use Rattle.replay_lines.specs.Verdicts.{countedWith}
 use Rattle.replay_lines.specs.declared.Counts.{Counts}
 use Rattle.replay_lines.specs.declared.Progress.{Progress}
 use Rattle.replay_lines.specs.declared.Verdict.{Verdict}
-use Rattle.replay_lines.proofs.Split.{behind}
+use Rattle.replay_lines.proofs.BeforeByte.{behind}
 
 -- a text that is not empty: its first line, and the lines of what follows it
 lines-step : (b : ℕ) (bs : List ℕ) (t : Bool) → (0 < length bs → linesIn bs ≡ until 10 bs ∷ linesIn (past 10 bs))
@@ -42,13 +42,13 @@ line-of text rest at e = e ∙ ap (until 10) (take-all (length text - at) (drop 
 
 -- a line of a text, and past the end
 module _ (text : List ℕ) (p : Progress) (v : Verdict) where
-  pub past-end : length text ≤ p .at → p ≡ afterLine text p v
-  unfolding afterLine
+  pub past-end : length text ≤ p .at → p ≡ progressAfter text p v
+  unfolding progressAfter
   past-end h = rw (le-leb (length text) (p .at) h)
 
   pub behind-line : (n : ℕ) (c : Counts) → p .at < length text → n ≡ length (lineAt text (p .at)) → c ≡ countedWith (p .counts) v
-      → _≡_ {A = Progress} (record { at = p .at + n + 1; counts = c }) (afterLine text p v)
-  unfolding afterLine
+      → _≡_ {A = Progress} (record { at = p .at + n + 1; counts = c }) (progressAfter text p v)
+  unfolding progressAfter
   behind-line n c h e f = rw (lt-leb (length text) (p .at) h, e, f)
 
 -- what the lines that are left make of the counts, judged from a state s on
@@ -70,16 +70,16 @@ module _ {S : Type 0} (judge : S → List ℕ → Judged S) (s : S) (text : List
         ∙ ap (λ (rest : List ℕ). lineAt text (p .at) ∷ linesIn rest)
         (sym (behind 10 (drop (p .at) text)) ∙ drop-drop (suc n) (p .at) text ∙ ap (λ (k : ℕ). drop k text) sum)
 
-    judged-on : left judge (judge s (lineAt text (p .at)) .state) text (afterLine text p (judge s (lineAt text (p .at)) .verdict)) ≡ left judge s text p
-    unfolding tally afterLine
+    judged-on : left judge (judge s (lineAt text (p .at)) .state) text (progressAfter text p (judge s (lineAt text (p .at)) .verdict)) ≡ left judge s text p
+    unfolding tally progressAfter
     judged-on = rw (lt-leb (length text) (p .at) h, next-lines)
 
     -- a turn: the next line is read, judged and noted, and what is left then gives the same
-    pub turn : (l : List ℕ) (j : Judged S) (q : Progress) → l ≡ lineAt text (p .at) → j ≡ judge s l → q ≡ afterLine text p (j .verdict)
+    pub turn : (l : List ℕ) (j : Judged S) (q : Progress) → l ≡ lineAt text (p .at) → j ≡ judge s l → q ≡ progressAfter text p (j .verdict)
         → left judge (j .state) text q ≡ left judge s text p
     turn l j q el ej eq = rw (eq, ej, el) judged-on
 
 -- each turn leaves less of the text
-pub nearer : (text : List ℕ) (p q : Progress) (v : Verdict) → p .at < length text → q ≡ afterLine text p v → length text - q .at < length text - p .at
-unfolding afterLine
+pub nearer : (text : List ℕ) (p q : Progress) (v : Verdict) → p .at < length text → q ≡ progressAfter text p v → length text - q .at < length text - p .at
+unfolding progressAfter
 nearer text p q v h e = rw (e, lt-leb (length text) (p .at) h) (omega arith)

@@ -10,7 +10,7 @@ use lib.Dec.{eqb}
 use lib.ListN.{length, take, drop, length-drop, drop-of-length-le}
 use lib.Seq.{take-all, take-length}
 use Rattle.bytes.specs.Bytes.{indexOf, indexAfter, slice}
-use Rattle.replay_lines.specs.Words.{until, past}
+use Rattle.replay_lines.specs.LineWords.{until, past}
 
 module _ (b : ℕ) where
   until-step : (x : ℕ) (xs : List ℕ) (t : Bool) → take (indexOf b xs) xs ≡ until b xs → take (indexAfter t (indexOf b xs)) (x ∷ xs) ≡ cond t [] (x ∷ until b xs)

@@ -7,15 +7,16 @@ use lib.Dec.{eqb}
 use Rattle.jhash.specs.NameHash.{hashOutcome}
 use Rattle.image.specs.Bytes.{same}
 use Rattle.replay_lines.specs.Hex.{withNumber, withNumbers, withBytes}
-use Rattle.replay_lines.specs.Lines.{Judged, judged}
+use Rattle.replay_lines.specs.Replay.{Judged, judged}
+use Rattle.replay_lines.specs.Tags.{HASH, PART, ZERO, ENDS}
 use Rattle.replay_lines.specs.Verdicts.{hashIs, verdictIf}
 use Rattle.replay_lines.specs.declared.Verdict.{Verdict}
 use Rattle.replay_lines.specs.declared.Verdict.the-variants.{Malformed}
 use Rattle.writer_replay.specs.declared.Compared.{Compared}
 
 -- how many bytes have been compared after a line, and the line's verdict
-abbrev pub compared : Compared → Judged ℕ
-compared r = judged (r .done) (r .verdict)
+abbrev pub comparedOf : Compared → Judged ℕ
+comparedOf r = judged (r .done) (r .verdict)
 
 -- hash 01234567 89abcdef: the image's hashes, with the start values 0 and deadbeef
 unfoldable pub hashes : List ℕ → List ℕ → List ℕ → Verdict
@@ -28,8 +29,8 @@ areNext image done want =
     let bytes = take (length want) (drop done image) in
     judged (done + length bytes) (verdictIf (same bytes want))
 
-unfoldable pub part : List ℕ → ℕ → List ℕ → Judged ℕ
-part image done text = withBytes 4096 text (judged done Malformed) (areNext image done)
+unfoldable pub partCompared : List ℕ → ℕ → List ℕ → Judged ℕ
+partCompared image done text = withBytes 4096 text (judged done Malformed) (areNext image done)
 
 -- are these bytes zeros?
 unfoldable pub allZero : List ℕ → Bool
@@ -45,23 +46,11 @@ zerosNext image done n =
 unfoldable pub zeros : List ℕ → ℕ → List ℕ → Judged ℕ
 zeros image done text = withNumber text (judged done Malformed) (zerosNext image done)
 
-abbrev pub HASH : ℕ
-HASH = 0x68617368
-
-abbrev pub PART : ℕ
-PART = 0x70617274
-
-abbrev pub ZERO : ℕ
-ZERO = 0x7a65726f
-
-abbrev pub ENDS : ℕ
-ENDS = 0x656e6473
-
 -- ends: all its bytes have been compared
 unfoldable pub looking : List ℕ → ℕ → ℕ → List ℕ → List ℕ → Judged ℕ
 looking image done tag first second =
     cond (eqb tag HASH) (judged done (hashes image first second))
-    (cond (eqb tag PART) (part image done first)
+    (cond (eqb tag PART) (partCompared image done first)
     (cond (eqb tag ZERO) (zeros image done first)
     (cond (eqb tag ENDS) (judged done (verdictIf (eqb done (length image))))
     (judged done Malformed))))

@@ -14,8 +14,8 @@ use Rattle.replay_lines.specs.Hex.{withNumber, withBytes}
 use Rattle.replay_lines.specs.Verdicts.{verdictIf}
 use Rattle.replay_lines.specs.declared.Verdict.{Verdict}
 use Rattle.replay_lines.specs.declared.Verdict.the-variants.{Malformed, Silent}
-use Rattle.reader_replay.specs.Tags.{either, says, OPEN, FAIL, FIND, MISS, NAME, VOID, HOME, AWAY, WALK, LEFT, ITEM, ENDS}
-use Rattle.reader_replay.specs.Walk.{walkAgrees}
+use Rattle.replay_lines.specs.Tags.{either, says, OPEN, FAIL, FIND, MISS, NAME, VOID, HOME, AWAY, WALK, LEFT, ITEM, ENDS}
+use Rattle.reader_replay.specs.WalkLines.{walkAgrees}
 
 -- open 00000002: the number of associations. fail 00000007: the refusal
 abbrev pub opensAs : ℕ → ℕ → Outcome ℕ → Bool
@@ -53,14 +53,14 @@ agrees image next tag n name =
     (walkAgrees image next tag n name))))
 
 -- the verdict on them, with the name in digits, of up to 4,096 bytes
-unfoldable pub compared : List ℕ → ℕ → ℕ → ℕ → List ℕ → Verdict
-compared image next tag n text = withBytes 4096 text Malformed (λ (name : List ℕ). verdictIf (agrees image next tag n name))
+unfoldable pub nameCompared : List ℕ → ℕ → ℕ → ℕ → List ℕ → Verdict
+nameCompared image next tag n text = withBytes 4096 text Malformed (λ (name : List ℕ). verdictIf (agrees image next tag n name))
 
 -- the verdict on a tag and two words. walk asks nothing; miss and ends have no number
-unfoldable pub verdict : List ℕ → ℕ → ℕ → List ℕ → List ℕ → Verdict
-verdict image next tag first second =
+unfoldable pub askVerdict : List ℕ → ℕ → ℕ → List ℕ → List ℕ → Verdict
+askVerdict image next tag first second =
     cond (eqb tag WALK) Silent
     (cond (asks tag)
-    (cond (either tag MISS ENDS) (compared image next tag 0 first)
-    (withNumber first Malformed (λ (n : ℕ). compared image next tag n second)))
+    (cond (either tag MISS ENDS) (nameCompared image next tag 0 first)
+    (withNumber first Malformed (λ (n : ℕ). nameCompared image next tag n second)))
     Malformed)
