@@ -1,23 +1,24 @@
--- The answers' cases, and what is answered where the windows' saying is known.
+-- What the windows alone say, and what a saying makes of a naming: the code finds the one first and then the other. `placed` and `parted` (proofs/WindowLaws)
+-- join both to the rule.
 use Prim.Native.Nat.{ℕ}
 use mathlib.Core.Bool.{cond, not}
 use mathlib.Core.List.{List}
 use Rattle.jhash.specs.Outcome.{Outcome, value, refusal}
 use Rattle.reader.specs.Slices.{Slice, part}
-use Rattle.reader.specs.Naming.{Naming, place, unnamed, naming, partOr}
+use Rattle.reader.specs.Naming.{Naming, unnamed, naming, partOr}
 use Rattle.season.specs.Calendar.{isDate}
-use Rattle.season.specs.Rule.{namedIn}
+use Rattle.season.specs.Rule.{some, undated, turned, holdsDate, namedIn}
 use Rattle.season.specs.declared.Date.{Date}
+use Rattle.season.specs.declared.Window.{Window}
 use Rattle.season.specs.declared.Standing.{Standing}
 use Rattle.season.specs.declared.Standing.the-variants.{Away, Holds, Turned, Undated}
-use Rattle.season.specs.declared.NamedOn.{NamedOn}
-use Rattle.season.specs.declared.NamedOn.the-variants as on
 
--- the number and the values of each case of the answer
-abbrev pub namedOnOf : NamedOn → Outcome Naming
-namedOnOf (on.Place start len) = value (place start len)
-namedOnOf on.Nothing = value unnamed
-namedOnOf (on.Refused k) = refusal k
+-- what the windows say, in the rule's order
+unfoldable pub said : ℕ → Date → List Window → Standing
+said id date windows =
+    cond (some undated windows) Undated
+    (cond (some turned windows) Turned
+    (cond (some (holdsDate id date) windows) Holds Away))
 
 -- what a saying makes of a naming
 abbrev pub answerBy : Standing → Naming → Outcome Naming

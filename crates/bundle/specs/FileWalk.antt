@@ -23,24 +23,24 @@ breaks file at = ltb (length file) (at + 8) || ltb (sizeAt file at) headSize || 
 
 -- a step of the walk, at a place: what is given at "exactly the file's end, where no image begins"; 10 where the walk breaks off; what is given where
 -- an image begins
-unfoldable pub step : {A : Type 0} → List ℕ → ℕ → Outcome A → Outcome A → Outcome A
-step file at end image = cond (eqb at (length file)) end (cond (breaks file at) (refusal 10) image)
+unfoldable pub fileStep : {A : Type 0} → List ℕ → ℕ → Outcome A → Outcome A → Outcome A
+fileStep file at end image = cond (eqb at (length file)) end (cond (breaks file at) (refusal 10) image)
 
 -- the image at a position, counted from 0, of those from a place on; 11 where the walk comes to the file's end "at or before the position"
 unfoldable pub placeFrom : List ℕ → ℕ → ℕ → Outcome Place
-unfolding step
-placeFrom file at zero = step file at (refusal 11) (value (record { start = at; size = sizeAt file at }))
-placeFrom file at (suc position) = step file at (refusal 11) (placeFrom file (at + sizeAt file at) position)
+unfolding fileStep
+placeFrom file at zero = fileStep file at (refusal 11) (value (record { start = at; size = sizeAt file at }))
+placeFrom file at (suc position) = fileStep file at (refusal 11) (placeFrom file (at + sizeAt file at) position)
 
 -- "walks from the front only as far as the position"
-abbrev pub placeAt : List ℕ → ℕ → Outcome Place
-placeAt file position = placeFrom file 0 position
+abbrev pub placeOfImage : List ℕ → ℕ → Outcome Place
+placeOfImage file position = placeFrom file 0 position
 
 -- a walk of the whole file: n and the number of images from a place on, or 10. At most m images are to come
 unfoldable pub countFrom : ℕ → List ℕ → ℕ → ℕ → Outcome ℕ
-unfolding step
-countFrom zero file at n = step file at (value n) (refusal 10)
-countFrom (suc m) file at n = step file at (value n) (countFrom m file (at + sizeAt file at) (suc n))
+unfolding fileStep
+countFrom zero file at n = fileStep file at (value n) (refusal 10)
+countFrom (suc m) file at n = fileStep file at (value n) (countFrom m file (at + sizeAt file at) (suc n))
 
 -- the number of images in a file. Each has at least 2,072 bytes, so m is large enough
 abbrev pub counting : List ℕ → Outcome ℕ

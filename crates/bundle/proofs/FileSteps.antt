@@ -10,7 +10,7 @@ use lib.Dec.{ltb}
 use lib.ListN.{length}
 use Rattle.jhash.specs.Outcome.{Outcome, refusal}
 use Rattle.image.proofs.Bools.{neither-first, neither-second}
-use Rattle.bundle.specs.Walk.{sizeAt, breaks, step}
+use Rattle.bundle.specs.FileWalk.{sizeAt, breaks, fileStep}
 
 -- an image begins at the place: its size word is there, is at least 2,072, and does not lead past the file's end
 pub record Begins (file : List ℕ) (at : ℕ) : Type 0 where
@@ -53,16 +53,16 @@ module _ (file : List ℕ) (at : ℕ) where
 
   -- what a step gives in each case
   module _ {A : Type 0} (end image : Outcome A) where
-    pub step-ended : at ≡ length file → step file at end image ≡ end
-    unfolding step
+    pub step-ended : at ≡ length file → fileStep file at end image ≡ end
+    unfolding fileStep
     step-ended e = rw (eq-eqb at (length file) e)
 
-    pub step-broke : (at ≡ length file → ⊥) → breaks file at ≡ true → step file at end image ≡ refusal 10
-    unfolding step
+    pub step-broke : (at ≡ length file → ⊥) → breaks file at ≡ true → fileStep file at end image ≡ refusal 10
+    unfolding fileStep
     step-broke n b = rw (ne-eqb at (length file) n, b)
 
-    pub step-began : Begins file at → step file at end image ≡ image
-    unfolding step
+    pub step-began : Begins file at → fileStep file at end image ≡ image
+    unfolding fileStep
     step-began b =
         let n : at ≡ length file → ⊥ = λ e. (let h = b .head in omega arith) in
         rw (ne-eqb at (length file) n, begins-unbroken b)

@@ -10,13 +10,13 @@ use lib.Seq.{drop-cons, take-all}
 use borrow.Author.Tests.{lt-ltb, le-ltb, eq-eqb, ne-eqb}
 use Rattle.writer.specs.State.{State}
 use Rattle.writer.specs.Put.{entryOf, afterPut}
-use Rattle.lines.specs.Lines.{entry, parseLine, afterLine}
-use Rattle.lines.specs.steps.Pieces.{Gathering, counted, gathered, lineEnded, takeByte, takePiece}
+use Rattle.lines.specs.Lines.{entry, parseLine, afterPutLine}
+use Rattle.lines.specs.steps.Pieces.{Gathering, haveAfter, gathered, lineEnded, takeByte, takePiece}
 use Rattle.lines.proofs.Skipped.{after-entry}
 
 -- a line's put, of the part of the line that is the name
 pub put-part : (s : State) (line : List ℕ) (id at : ℕ) → parseLine line ≡ entry id at
-    → afterPut s (entryOf (take (length line - at) (drop at line)) id) ≡ afterLine s line
+    → afterPut s (entryOf (take (length line - at) (drop at line)) id) ≡ afterPutLine s line
 put-part s line id at e =
     let l = length-drop at line in
     ap (λ (name : List ℕ). afterPut s (entryOf name id)) (take-all (length line - at) (drop at line) (omega arith))
@@ -24,18 +24,18 @@ put-part s line id at e =
 
 -- the line at hand, ended: put where it has room, dropped where it has not
 module _ (s : State) (room : List ℕ) (have : ℕ) where
-  pub ended-put : (t : State) → have < length room → t ≡ afterLine s (take have room)
+  pub ended-put : (t : State) → have < length room → t ≡ afterPutLine s (take have room)
       → _≡_ {A = Gathering} (record { state = t; room = room; have = 0 }) (lineEnded (record { state = s; room = room; have = have }))
   unfolding lineEnded
   ended-put t h e =
       ap {B = Gathering} (λ (x : State). record { state = x; room = room; have = 0 })
-      (e ∙ sym (ap (λ (b : Bool). cond b (afterLine s (take have room)) s) (lt-ltb have (length room) h)))
+      (e ∙ sym (ap (λ (b : Bool). cond b (afterPutLine s (take have room)) s) (lt-ltb have (length room) h)))
 
   pub ended-dropped : length room ≤ have → _≡_ {A = Gathering} (record { state = s; room = room; have = 0 }) (lineEnded (record { state = s; room = room; have = have }))
   unfolding lineEnded
   ended-dropped h =
       ap {B = Gathering} (λ (x : State). record { state = x; room = room; have = 0 })
-      (sym (ap (λ (b : Bool). cond b (afterLine s (take have room)) s) (le-ltb have (length room) h)))
+      (sym (ap (λ (b : Bool). cond b (afterPutLine s (take have room)) s) (le-ltb have (length room) h)))
 
   -- one byte: a line feed, or one more of the line
   pub byte-feed : (b : ℕ) (g : Gathering) → b ≡ 10 → g ≡ lineEnded (record { state = s; room = room; have = have })
@@ -43,7 +43,7 @@ module _ (s : State) (room : List ℕ) (have : ℕ) where
   unfolding takeByte
   byte-feed b g e f = rw (eq-eqb b 10 e) f
 
-  pub byte-more : (b n : ℕ) (after : List ℕ) → (b ≡ 10 → ⊥) → n ≡ counted room have → after ≡ set room have b
+  pub byte-more : (b n : ℕ) (after : List ℕ) → (b ≡ 10 → ⊥) → n ≡ haveAfter room have → after ≡ set room have b
       → _≡_ {A = Gathering} (record { state = s; room = after; have = n }) (takeByte (record { state = s; room = room; have = have }) b)
   unfolding takeByte gathered
   byte-more b n after e f h = rw (ne-eqb b 10 e) (λ i. record { state = s; room = h i; have = f i })

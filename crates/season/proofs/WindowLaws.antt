@@ -1,5 +1,5 @@
 -- The rule over lists of windows, and the fold that computes it. Assumes nothing.
-use mathlib.Core.Path.{_≡_, refl, sym, ap, _∙_}
+use mathlib.Core.Path.{_≡_, refl, ap, _∙_}
 use Prim.Native.Nat.{ℕ, suc, _<_, _≤_}
 use mathlib.Core.Bool.{Bool, true, false, cond, not, _||_}
 use mathlib.Core.List.{List, [], _∷_}
@@ -9,9 +9,9 @@ use Rattle.jhash.specs.Outcome.{Outcome, value, refusal}
 use Rattle.reader.specs.Slices.{Slice, part}
 use Rattle.reader.specs.Naming.{Naming, unnamed, naming, partOr}
 use Rattle.season.specs.Calendar.{isDate}
-use Rattle.season.specs.Rule.{some, undated, turned, holds, inSeason, namingOn, namedIn, namePartOn, said}
-use Rattle.season.specs.steps.Fold.{told, rank, stronger, stepped, folded}
-use Rattle.season.specs.Answers.{answerBy, placeBy, partBy}
+use Rattle.season.specs.Rule.{some, undated, turned, holdsDate, inSeason, namingOn, namedIn, namePartOn}
+use Rattle.season.specs.steps.Fold.{told, stronger, stepped, folded}
+use Rattle.season.specs.steps.Saying.{said, answerBy, placeBy, partBy}
 use Rattle.season.specs.declared.Date.{Date}
 use Rattle.season.specs.declared.Window.{Window}
 use Rattle.season.specs.declared.Standing.{Standing}
@@ -50,16 +50,16 @@ module _ (id : ℕ) (date : Date) where
   none-more false = refl
 
   folded-form : (a b c : Bool) (ws : List Window)
-      → folded id date (form a b c) ws ≡ form (a || some undated ws) (b || some turned ws) (c || some (holds id date) ws)
+      → folded id date (form a b c) ws ≡ form (a || some undated ws) (b || some turned ws) (c || some (holdsDate id date) ws)
   unfolding folded some told
   folded-form a b c [] = λ i. form (none-more a i) (none-more b i) (none-more c i)
   folded-form a b c (w ∷ ws) =
       ap (λ (s : Standing). folded id date s ws) (stepped-form w)
-      ∙ folded-form (a || undated w) (b || turned w) (c || holds id date w) ws
-      ∙ (λ i. form (or-assoc a (undated w) (some undated ws) i) (or-assoc b (turned w) (some turned ws) i) (or-assoc c (holds id date w) (some (holds id date) ws) i))
+      ∙ folded-form (a || undated w) (b || turned w) (c || holdsDate id date w) ws
+      ∙ (λ i. form (or-assoc a (undated w) (some undated ws) i) (or-assoc b (turned w) (some turned ws) i) (or-assoc c (holdsDate id date w) (some (holdsDate id date) ws) i))
     where
-      stepped-form : (w : Window) → stepped id date (form a b c) w ≡ form (a || undated w) (b || turned w) (c || holds id date w)
-      stepped-form w = joined a b c (undated w) (turned w) (holds id date w)
+      stepped-form : (w : Window) → stepped id date (form a b c) w ≡ form (a || undated w) (b || turned w) (c || holdsDate id date w)
+      stepped-form w = joined a b c (undated w) (turned w) (holdsDate id date w)
 
   -- one pass computes the rule
   pub folded-is-said : (ws : List Window) → folded id date Away ws ≡ said id date ws
@@ -81,7 +81,7 @@ module _ (image : List ℕ) (id : ℕ) (date : Date) (ws : List Window) where
   pub placed : placeBy image id date (said id date ws) ≡ namingOn image id date ws
   unfolding said inSeason
   placed =
-      ap (λ (x : Outcome Naming). cond (not (isDate date)) (refusal 22) x) (by-form (some undated ws) (some turned ws) (some (holds id date) ws))
+      ap (λ (x : Outcome Naming). cond (not (isDate date)) (refusal 22) x) (by-form (some undated ws) (some turned ws) (some (holdsDate id date) ws))
     where
       by-form : (a b c : Bool) → answerBy (form a b c) (naming image id)
           ≡ cond a (refusal 22) (cond b (refusal 23) (value (cond c (naming image id) unnamed)))

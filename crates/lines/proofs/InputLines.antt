@@ -6,8 +6,9 @@ use mathlib.Core.List.{List, [], _∷_, _++_, append-assoc, append-nil}
 use lib.Dec.{eqb}
 use borrow.Author.Tests.{eqb-true}
 use Rattle.writer.specs.State.{State}
-use Rattle.lists.specs.Calls.{Call, afterCall, after}
-use Rattle.lines.specs.Lines.{withByte, linesOf, leadingDigits, parseLine, lineCalls, linesCalls, inputCalls, afterLine, afterInput}
+use Rattle.lists.specs.Calls.{after}
+use Rattle.lists.proofs.Along.{after-append}
+use Rattle.lines.specs.Lines.{withByte, linesOf, leadingDigits, parseLine, lineCalls, linesCalls, inputCalls, afterPutLine, afterInput}
 
 -- bytes without a line feed
 abbrev pub NoFeed : List ℕ → Type 0
@@ -34,22 +35,15 @@ lines-last b (x ∷ xs) h =
     ap (λ (t : Bool). cond t ([] ∷ linesOf (x ∷ xs)) (withByte b (linesOf (x ∷ xs)))) (h .0)
     ∙ ap (withByte b) (lines-last x xs (h .1))
 
--- ---- calls one after the other
-
-pub after-append : (s : State) (xs ys : List Call) → after s (xs ++ ys) ≡ after (after s xs) ys
-unfolding after
-after-append s [] ys = refl
-after-append s (c ∷ cs) ys = after-append (afterCall s c) cs ys
-
 -- what an input leaves whose first line ends here
-pub input-feed : (s : State) (p rest : List ℕ) → NoFeed p → afterInput s (p ++ 10 ∷ rest) ≡ afterInput (afterLine s p) rest
-unfolding afterInput inputCalls linesCalls afterLine
+pub input-feed : (s : State) (p rest : List ℕ) → NoFeed p → afterInput s (p ++ 10 ∷ rest) ≡ afterInput (afterPutLine s p) rest
+unfolding afterInput inputCalls linesCalls afterPutLine
 input-feed s p rest h =
     ap (λ (ls : List (List ℕ)). after s (linesCalls ls)) (lines-feed p rest h) ∙ after-append s (lineCalls p) (linesCalls (linesOf rest))
 
 -- and one that has no line feed: an empty one has no line, which leaves what an empty line leaves
-pub input-last : (s : State) (p : List ℕ) → NoFeed p → afterInput s p ≡ afterLine s p
-unfolding afterInput inputCalls linesCalls linesOf afterLine lineCalls parseLine leadingDigits
+pub input-last : (s : State) (p : List ℕ) → NoFeed p → afterInput s p ≡ afterPutLine s p
+unfolding afterInput inputCalls linesCalls linesOf afterPutLine lineCalls parseLine leadingDigits
 input-last s [] h = refl
 input-last s (b ∷ bs) h =
     ap (λ (ls : List (List ℕ)). after s (linesCalls ls)) (lines-last b bs h) ∙ ap (after s) (append-nil (lineCalls (b ∷ bs)))
@@ -71,7 +65,7 @@ cuts-more b xs ih s p ys n = go (eqb b 10) refl
         let f = eqb-true b 10 e in
         ap (λ (k : ℕ). afterInput s (p ++ k ∷ (xs ++ 10 ∷ ys))) f
         ∙ input-feed s p (xs ++ 10 ∷ ys) n
-        ∙ ih (afterLine s p) [] ys tt
+        ∙ ih (afterPutLine s p) [] ys tt
         ∙ ap (λ (t : State). afterInput t ys) (sym (ap (λ (k : ℕ). afterInput s (p ++ k ∷ xs)) f ∙ input-feed s p xs n))
     go false e =
         ap (afterInput s) (sym (append-assoc p (b ∷ []) (xs ++ 10 ∷ ys)))

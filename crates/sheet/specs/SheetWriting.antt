@@ -23,9 +23,9 @@ unfoldable pub writing : ℕ → Lists → Outcome ℕ
 writing room l = cond (tooLong l || ltb room (length (sheetBytes l))) (refusal 21) (value (length (sheetBytes l)))
 
 -- the buffer afterwards: the file in front, every byte past it as it was; all as it was where the writer is refused
-abbrev pub leftBy : List ℕ → Lists → Outcome ℕ → List ℕ
-leftBy buf l (value n) = sheetBytes l ++ drop n buf
-leftBy buf l (refusal k) = buf
+abbrev pub leftByWriter : List ℕ → Lists → Outcome ℕ → List ℕ
+leftByWriter buf l (value n) = sheetBytes l ++ drop n buf
+leftByWriter buf l (refusal k) = buf
 
 unfoldable pub afterWriting : List ℕ → Lists → List ℕ
-afterWriting buf l = leftBy buf l (writing (length buf) l)
+afterWriting buf l = leftByWriter buf l (writing (length buf) l)

@@ -3,8 +3,8 @@ use Prim.Native.Nat.{ℕ, _+_, _-_, min}
 use mathlib.Core.Bool.{cond}
 use mathlib.Core.List.{List, [], _∷_}
 use lib.Dec.{eqb}
-use lib.ListN.{getD, set}
 use Rattle.image.specs.Image.{Entry}
+use Rattle.image.specs.Tally.{oneMore}
 use Rattle.reader.specs.Cases.{reads}
 use Rattle.reader.specs.Lookup.{lookup}
 
@@ -20,20 +20,15 @@ totalOf img [] = 0
 totalOf img (e ∷ es) = searchLength img e + totalOf img es
 
 -- the histogram has 16 counts: for the lengths 1, 2, .. 15, and for 16 and more. The place of a length among them:
-abbrev pub placeOf : ℕ → ℕ
-placeOf n = min (n - 1) 15
-
--- one more at a place
-unfoldable pub oneMore : List ℕ → ℕ → List ℕ
-oneMore counts k = set counts k (getD counts k 0 + 1)
+abbrev pub binOf : ℕ → ℕ
+binOf n = min (n - 1) 15
 
 -- the counts after these entries
 unfoldable pub lengthsFrom : List ℕ → List ℕ → List Entry → List ℕ
-unfolding oneMore
 lengthsFrom img counts [] = counts
-lengthsFrom img counts (e ∷ es) = lengthsFrom img (oneMore counts (placeOf (searchLength img e))) es
+lengthsFrom img counts (e ∷ es) = lengthsFrom img (oneMore counts (binOf (searchLength img e))) es
 
 -- how many of these entries have their length at place k
-unfoldable pub withPlace : List ℕ → ℕ → List Entry → ℕ
-withPlace img k [] = 0
-withPlace img k (e ∷ es) = cond (eqb (placeOf (searchLength img e)) k) 1 0 + withPlace img k es
+unfoldable pub inBin : List ℕ → ℕ → List Entry → ℕ
+inBin img k [] = 0
+inBin img k (e ∷ es) = cond (eqb (binOf (searchLength img e)) k) 1 0 + inBin img k es

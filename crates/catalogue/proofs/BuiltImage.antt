@@ -4,7 +4,7 @@ use native.Mathlib.Omega.{arith}
 use mathlib.Core.Path.{_≡_, ap, _∙_}
 use mathlib.Core.List.{List}
 use lib.ListN.{length, take, length-take}
-use Rattle.jhash.specs.Outcome.{Outcome, value, refusal}
+use Rattle.jhash.specs.Outcome.{value, refusal}
 use Rattle.image.specs.declared.Mode.the-variants.{Twoway}
 use Rattle.image.specs.Image.{headSize}
 use Rattle.writer.specs.declared.Repeats.the-variants.{Off}

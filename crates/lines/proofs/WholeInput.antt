@@ -10,10 +10,10 @@ use lib.Seq.{take-suc-set}
 use lib.Dec.{eqb, ltb}
 use borrow.Author.Tests.{ltb-true, ltb-false, eqb-true}
 use Rattle.writer.specs.State.{State}
-use Rattle.lines.specs.Lines.{afterLine, afterInput}
-use Rattle.lines.specs.steps.Pieces.{Gathering, started, gathered, lineEnded, takeByte, takePiece, takePieces, joined, inputEnded, AnyPieces}
+use Rattle.lines.specs.Lines.{afterPutLine, afterInput}
+use Rattle.lines.specs.steps.Pieces.{Gathering, started, gathered, lineEnded, takeByte, takePiece, takePieces, wholeInput, inputEnded, AnyPieces}
 use Rattle.lines.proofs.Skipped.{long-line, line-length}
-use Rattle.lines.proofs.Split.{NoFeed, no-feed-more, input-feed, input-last, input-cut}
+use Rattle.lines.proofs.InputLines.{NoFeed, no-feed-more, input-feed, input-last, input-cut}
 
 -- the line at hand has the bytes p so far
 pub record Holds (g : Gathering) (p : List ℕ) : Type 0 where
@@ -23,13 +23,13 @@ pub record Holds (g : Gathering) (p : List ℕ) : Type 0 where
 
 -- ---- a line that has ended
 
-ended : (g : Gathering) (p : List ℕ) → Holds g p → lineEnded g .state ≡ afterLine (g .state) p
+ended : (g : Gathering) (p : List ℕ) → Holds g p → lineEnded g .state ≡ afterPutLine (g .state) p
 unfolding lineEnded
 ended g p h = go (ltb (g .have) (length (g .room))) refl
   where
     go : (t : Bool) → ltb (g .have) (length (g .room)) ≡ t
-        → cond t (afterLine (g .state) (take (g .have) (g .room))) (g .state) ≡ afterLine (g .state) p
-    go true e = ap (afterLine (g .state)) (h .short (ltb-true (g .have) (length (g .room)) e) .1)
+        → cond t (afterPutLine (g .state) (take (g .have) (g .room))) (g .state) ≡ afterPutLine (g .state) p
+    go true e = ap (afterPutLine (g .state)) (h .short (ltb-true (g .have) (length (g .room)) e) .1)
     go false e =
         let l = h .long (ltb-false (g .have) (length (g .room)) e) in
         let c = h .enough in
@@ -119,17 +119,17 @@ unfolding takePiece
 piece-append g [] ys = refl
 piece-append g (b ∷ xs) ys = piece-append (takeByte g b) xs ys
 
-pieces-joined : (g : Gathering) (ps : List (List ℕ)) → takePieces g ps ≡ takePiece g (joined ps)
-unfolding takePieces takePiece joined
+pieces-joined : (g : Gathering) (ps : List (List ℕ)) → takePieces g ps ≡ takePiece g (wholeInput ps)
+unfolding takePieces takePiece wholeInput
 pieces-joined g [] = refl
-pieces-joined g (p ∷ ps) = pieces-joined (takePiece g p) ps ∙ sym (piece-append g p (joined ps))
+pieces-joined g (p ∷ ps) = pieces-joined (takePiece g p) ps ∙ sym (piece-append g p (wholeInput ps))
 
 pub in-one : (s : State) (room input : List ℕ) → s .writer .length ≤ length room → inputEnded (takePiece (started s room) input) ≡ afterInput s input
 in-one s room input h = takes input (started s room) [] (record { short = λ k. (refl, refl); long = λ k. k; enough = h }) tt
 
 in-pieces : (s : State) (room : List ℕ) (ps : List (List ℕ)) → s .writer .length ≤ length room
-    → inputEnded (takePieces (started s room) ps) ≡ afterInput s (joined ps)
-in-pieces s room ps h = ap inputEnded (pieces-joined (started s room) ps) ∙ in-one s room (joined ps) h
+    → inputEnded (takePieces (started s room) ps) ≡ afterInput s (wholeInput ps)
+in-pieces s room ps h = ap inputEnded (pieces-joined (started s room) ps) ∙ in-one s room (wholeInput ps) h
 
 pub any-pieces : AnyPieces
 any-pieces = record { whole = in-pieces; cut = input-cut; long = long-line }

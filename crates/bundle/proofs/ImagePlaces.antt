@@ -6,38 +6,13 @@ use mathlib.Core.Path.{_≡_, refl, sym, ap, _∙_}
 use mathlib.Core.List.{List}
 use lib.ListN.{length, take, drop}
 use Rattle.jhash.specs.Outcome.{Outcome, value, refusal}
-use Rattle.bundle.specs.Walk.{Place, sizeAt, placeFrom, placeAt}
+use Rattle.jhash.proofs.ValueOrRefusal.{no-value, same-value}
+use Rattle.bundle.specs.FileWalk.{Place, sizeAt, placeFrom, placeOfImage}
 use Rattle.reader.specs.Open.{opening}
 use Rattle.reader.specs.Slices.{Slice, part}
-use Rattle.bundle.specs.Opening.{partOr, returnedPart, partIn, withNum, openIn, openingAt}
-use Rattle.bundle.proofs.Steps.{Begins, Met, ended, broke, began, met}
-use Rattle.bundle.proofs.Walks.{place-ended, place-broke, place-here, place-next}
-
--- a refusal is no value, and equal values hold the same
-module _ {A : Type 0} where
-  marked : Outcome A → ℕ
-  marked (value x) = 1
-  marked (refusal k) = 0
-
-  pub no-value : (k : ℕ) (x : A) → refusal k ≡ value x → ⊥
-  unfolding marked
-  no-value k x e = let z : _≡_ {A = ℕ} 0 1 = ap marked e in omega arith
-
-  held : A → Outcome A → A
-  held x (value y) = y
-  held x (refusal k) = x
-
-  pub same-value : (x y : A) → value x ≡ value y → x ≡ y
-  unfolding held
-  same-value x y e = ap (held x) e
-
--- equal refusals have the same number
-pub same-refusal : {A : Type 0} (j k : ℕ) → _≡_ {A = Outcome A} (refusal j) (refusal k) → j ≡ k
-same-refusal {A} j k e = ap number e
-  where
-    number : Outcome A → ℕ
-    number (value x) = 0
-    number (refusal n) = n
+use Rattle.bundle.specs.Opening.{partOrNone, returnedPart, imageOr, withNum, openIn, openingAt}
+use Rattle.bundle.proofs.FileSteps.{Begins, Met, ended, broke, began, met}
+use Rattle.bundle.proofs.FileWalks.{place-ended, place-broke, place-here, place-next}
 
 -- the image at a place begins there, at `from` or behind it, and its size word says its size
 pub record Stands (file : List ℕ) (from : ℕ) (p : Place) : Type 0 where
@@ -71,7 +46,7 @@ stands file (suc k) at p e = go (met file at) (λ d. stands file k (at + sizeAt 
 cut : (start size : ℕ) (file : List ℕ) → take (start + size - start) (drop start file) ≡ take size (drop start file)
 cut start size file = let d : start + size - start ≡ size = omega arith in ap (λ (n : ℕ). take n (drop start file)) d
 
-module _ (file : List ℕ) (k start size : ℕ) (e : placeAt file k ≡ value (record { start = start; size = size })) where
+module _ (file : List ℕ) (k start size : ℕ) (e : placeOfImage file k ≡ value (record { start = start; size = size })) where
   -- the place lies in the file
   pub place-inside : start + size ≤ length file
   place-inside =
@@ -80,29 +55,29 @@ module _ (file : List ℕ) (k start size : ℕ) (e : placeAt file k ≡ value (r
 
 -- the part that is returned, by its start and end; and an empty one
 module _ (file : Slice) (k : ℕ) where
-  pub part-there : (start size : ℕ) → placeAt (file .bytes) k ≡ value (record { start = start; size = size })
+  pub part-there : (start size : ℕ) → placeOfImage (file .bytes) k ≡ value (record { start = start; size = size })
       → part file start (start + size - start) ≡ returnedPart file k
   part-there start size e =
       let d : start + size - start ≡ size = omega arith in
-      ap (part file start) d ∙ ap (partOr file) (sym e)
+      ap (part file start) d ∙ ap (partOrNone file) (sym e)
 
-  pub no-part : (n : ℕ) → placeAt (file .bytes) k ≡ refusal n → part file 0 0 ≡ returnedPart file k
-  no-part n e = ap (partOr file) (sym e)
+  pub no-part : (n : ℕ) → placeOfImage (file .bytes) k ≡ refusal n → part file 0 0 ≡ returnedPart file k
+  no-part n e = ap (partOrNone file) (sym e)
 
 -- opening: by the walk, then by the checks of opening on the cut part
 module _ (file : List ℕ) (k : ℕ) where
-  pub opened-there : (start size : ℕ) (o : Outcome ℕ) → placeAt file k ≡ value (record { start = start; size = size })
+  pub opened-there : (start size : ℕ) (o : Outcome ℕ) → placeOfImage file k ≡ value (record { start = start; size = size })
       → o ≡ opening (take (start + size - start) (drop start file))
       → withNum (record { start = start; size = size }) o ≡ openingAt file k
   opened-there start size o e is =
       let p : Place = record { start = start; size = size } in
       ap (withNum p) (is ∙ ap opening (cut start size file)) ∙ ap (openIn file) (sym e)
 
-  pub not-opened : (n : ℕ) → placeAt file k ≡ refusal n → refusal n ≡ openingAt file k
+  pub not-opened : (n : ℕ) → placeOfImage file k ≡ refusal n → refusal n ≡ openingAt file k
   not-opened n e = ap (openIn file) (sym e)
 
 -- an image that a walk comes to is opened as it is alone
-pub opens-alone : (file : List ℕ) (o : Outcome Place) (image : List ℕ) → partIn file o ≡ value image
+pub opens-alone : (file : List ℕ) (o : Outcome Place) (image : List ℕ) → imageOr file o ≡ value image
     → (p : Place) × (o ≡ value p) × (openIn file o ≡ withNum p (opening image))
 opens-alone file (value p) image e = (p, refl, ap (λ (l : List ℕ). withNum p (opening l)) (same-value (take (p .size) (drop (p .start) file)) image e))
 opens-alone file (refusal k) image e = absurd (no-value k image e)

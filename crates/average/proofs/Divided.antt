@@ -15,9 +15,9 @@ use Rattle.image.proofs.Area.{length-entriesIn}
 use Rattle.image.proofs.Bools.{not-both}
 use Rattle.reader.specs.Open.{opening}
 use Rattle.ours.specs.Ours.{ours, counted, putsIn}
-use Rattle.average.specs.Lengths.{totalOf, lengthsFrom}
+use Rattle.average.specs.SearchLengths.{totalOf, lengthsFrom}
 use Rattle.average.specs.declared.Mean.{Mean}
-use Rattle.average.specs.Average.{entriesOf, total, firstRefusal, averageRefusal, averageOf, averaging, lengthsOf, afterLengths}
+use Rattle.average.specs.Average.{entryCount, total, firstRefusal, averageRefusal, averageOf, averaging, lengthsOf, afterLengths}
 
 -- no refusal: there are entries
 pub first-zero : (own : Bool) (n : ℕ) → firstRefusal own n ≡ 0 → 0 < n
@@ -40,7 +40,7 @@ module _ (image : List ℕ) (n : ℕ) (number : n ≡ counted (opening image)) w
   unfolding putsIn
   entries-are = ap (λ (k : ℕ). entriesIn k (drop headSize image)) number
 
-  number-is : n ≡ entriesOf image
+  number-is : n ≡ entryCount image
   number-is = sym (length-entriesIn n (drop headSize image)) ∙ ap length entries-are
 
   -- the refusal, or none

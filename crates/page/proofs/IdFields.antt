@@ -6,7 +6,7 @@ use mathlib.Core.Bool.{Bool, true, false, cond}
 use mathlib.Core.List.{List, [], _∷_, _++_}
 use lib.Dec.{eqb}
 use borrow.Author.Tests.{ne-eqb, eqb-true}
-use Rattle.page.specs.Page.{places, number}
+use Rattle.page.specs.Page.{places, idField}
 use Rattle.page.specs.PrintedPage.{readFrom}
 
 read-append : (v : ℕ) (xs ys : List ℕ) → readFrom v (xs ++ ys) ≡ readFrom (readFrom v xs) ys
@@ -32,8 +32,8 @@ read-places (suc k) n h =
     ∙ ap (λ (v : ℕ). readFrom v (cond (eqb n 0) 32 (48 + n % 10) ∷ [])) (read-places k (n / 10) (omega arith))
     ∙ read-place n (eqb n 0) refl
 
-pub read-number : (id : ℕ) → id < 10 ^ 10 → readFrom 0 (number id) ≡ id
-unfolding number readFrom
+pub read-number : (id : ℕ) → id < 10 ^ 10 → readFrom 0 (idField id) ≡ id
+unfolding idField readFrom
 read-number id h =
     read-append 0 (places 9 (id / 10)) ((48 + id % 10) ∷ [])
     ∙ ap (λ (v : ℕ). readFrom v ((48 + id % 10) ∷ [])) (read-places 9 (id / 10) (omega arith))

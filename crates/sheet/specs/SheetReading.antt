@@ -12,8 +12,8 @@ use Rattle.sheet.specs.declared.Which.{Which}
 use Rattle.sheet.specs.declared.Which.the-variants.{References, Walls, Retired}
 
 -- a part as a place: the offset of its first byte, and the number of its ids, four bytes each. Where it ends
-abbrev pub endOf : Place → ℕ
-endOf p = p .start + 4 * p .count
+abbrev pub partEnd : Place → ℕ
+partEnd p = p .start + 4 * p .count
 
 -- the part itself, and the ids in a part
 abbrev pub partOf : List ℕ → Place → List ℕ
@@ -29,34 +29,34 @@ sectionAt file o =
     (cond (ltb (length file) (o + 2 + 4 * countAt file o)) (refusal 19) (value (record { start = o + 2; count = countAt file o })))
 
 -- what is done with a value; a refusal stays
-abbrev pub next : {A B : Type 0} → Outcome A → (A → Outcome B) → Outcome B
-next (value x) f = f x
-next (refusal n) f = refusal n
+abbrev pub andThen : {A B : Type 0} → Outcome A → (A → Outcome B) → Outcome B
+andThen (value x) f = f x
+andThen (refusal n) f = refusal n
 
 -- the three sections from the front, each where the one before ends
 unfoldable pub sections : List ℕ → Outcome Sheet
 sections file =
-    next (sectionAt file 0)
-    (λ references. next (sectionAt file (endOf references))
-    (λ walls. next (sectionAt file (endOf walls))
+    andThen (sectionAt file 0)
+    (λ references. andThen (sectionAt file (partEnd references))
+    (λ walls. andThen (sectionAt file (partEnd walls))
     (λ retired. value (record { references = references; walls = walls; retired = retired }))))
 
 -- "left-over bytes 20"
 abbrev pub nothingLeft : List ℕ → Sheet → Outcome Sheet
-nothingLeft file s = cond (ltb (endOf (s .retired)) (length file)) (refusal 20) (value s)
+nothingLeft file s = cond (ltb (partEnd (s .retired)) (length file)) (refusal 20) (value s)
 
-unfoldable pub reading : List ℕ → Outcome Sheet
-reading file = next (sections file) (nothingLeft file)
+unfoldable pub readSheet : List ℕ → Outcome Sheet
+readSheet file = andThen (sections file) (nothingLeft file)
 
 -- the part of one of the three sections, empty where the file is refused
-abbrev pub placeOf : Sheet → Which → Place
-placeOf s References = s .references
-placeOf s Walls = s .walls
-placeOf s Retired = s .retired
+abbrev pub sectionOf : Sheet → Which → Place
+sectionOf s References = s .references
+sectionOf s Walls = s .walls
+sectionOf s Retired = s .retired
 
-abbrev pub partIn : List ℕ → Which → Outcome Sheet → List ℕ
-partIn file which (value s) = partOf file (placeOf s which)
-partIn file which (refusal n) = []
+abbrev pub partOrEmpty : List ℕ → Which → Outcome Sheet → List ℕ
+partOrEmpty file which (value s) = partOf file (sectionOf s which)
+partOrEmpty file which (refusal n) = []
 
 -- the three lists that a file reads as
 abbrev pub listsOf : List ℕ → Sheet → Lists
@@ -68,4 +68,4 @@ listsOf file s =
     }
 
 unfoldable pub readLists : List ℕ → Outcome Lists
-readLists file = next (reading file) (λ s. value (listsOf file s))
+readLists file = andThen (readSheet file) (λ s. value (listsOf file s))

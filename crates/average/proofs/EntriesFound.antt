@@ -9,9 +9,9 @@ use lib.ListN.{length}
 use lib.Dec.{ltb, leb}
 use Rattle.jhash.specs.NameHash.{hashOf}
 use Rattle.image.specs.Head.{tableAt, bucketNumber}
-use Rattle.image.specs.Image.{Entry, headSize, backSize, image}
+use Rattle.image.specs.Image.{Entry, headSize, backSize}
 use Rattle.image.specs.Tables.{tableOf, start, order}
-use Rattle.image.proofs.Area.{Bytes}
+use Rattle.jhash.specs.Word.{Bytes}
 use Rattle.image.proofs.Every.{All, all-map}
 use Rattle.reader.specs.Cases.{reads}
 use Rattle.reader.specs.Lookup.{Lookup, found, nothing, Seen, pass, ends, hit, see, decide, probe, searchTable, unsearched, lookupHash, lookup}
@@ -22,7 +22,7 @@ use Rattle.ours.specs.Made.{Made}
 use Rattle.ours.specs.Ours.{ours, putsIn}
 use Rattle.ours.proofs.ReadBack.{ids-of, made-puts, ours-only}
 use Rattle.ours.proofs.Theorem.{theorem}
-use Rattle.average.specs.Lengths.{searchLength}
+use Rattle.average.specs.SearchLengths.{searchLength}
 
 -- ---- what is found was read
 

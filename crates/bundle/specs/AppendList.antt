@@ -15,40 +15,40 @@ abbrev pub bytes : File → List ℕ
 bytes f = take (f .size) (f .buffer)
 
 -- "an empty file has none": no bytes of a buffer
-abbrev pub empty : List ℕ → File
-empty buf = record { buffer = buf; size = 0 }
+abbrev pub emptyFile : List ℕ → File
+emptyFile buf = record { buffer = buf; size = 0 }
 
 -- the answer of an append to a file, and the file that it leaves: the joined length, or the length before where it is refused
-abbrev pub answer : File → List ℕ → Outcome ℕ
-answer f image = appending (f .buffer) (f .size) image
+abbrev pub appendTo : File → List ℕ → Outcome ℕ
+appendTo f image = appending (f .buffer) (f .size) image
 
 abbrev pub sizeAfter : ℕ → Outcome ℕ → ℕ
 sizeAfter n (value m) = m
 sizeAfter n (refusal k) = n
 
-unfoldable pub after : File → List ℕ → File
-after f image = record { buffer = afterAppend (f .buffer) (f .size) image; size = sizeAfter (f .size) (answer f image) }
+unfoldable pub afterOne : File → List ℕ → File
+afterOne f image = record { buffer = afterAppend (f .buffer) (f .size) image; size = sizeAfter (f .size) (appendTo f image) }
 
 -- the file after a list of appends
 unfoldable pub afterAll : File → List (List ℕ) → File
 afterAll f [] = f
-afterAll f (x ∷ xs) = afterAll (after f x) xs
+afterAll f (x ∷ xs) = afterAll (afterOne f x) xs
 
 -- the images whose append was accepted, in their order
-abbrev pub kept : Outcome ℕ → List ℕ → List (List ℕ) → List (List ℕ)
-kept (value n) x xs = x ∷ xs
-kept (refusal k) x xs = xs
+abbrev pub keptIf : Outcome ℕ → List ℕ → List (List ℕ) → List (List ℕ)
+keptIf (value n) x xs = x ∷ xs
+keptIf (refusal k) x xs = xs
 
-unfoldable pub accepted : File → List (List ℕ) → List (List ℕ)
-accepted f [] = []
-accepted f (x ∷ xs) = kept (answer f x) x (accepted (after f x) xs)
+unfoldable pub acceptedImages : File → List (List ℕ) → List (List ℕ)
+acceptedImages f [] = []
+acceptedImages f (x ∷ xs) = keptIf (appendTo f x) x (acceptedImages (afterOne f x) xs)
 
 -- "images back to back"
-abbrev pub joined : List (List ℕ) → List ℕ
-joined xs = cat (λ (x : List ℕ). x) xs
+abbrev pub backToBack : List (List ℕ) → List ℕ
+backToBack xs = cat (λ (x : List ℕ). x) xs
 
 -- the image at a position of a list, counted from 0; 11 behind the last
-unfoldable pub nth : List (List ℕ) → ℕ → Outcome (List ℕ)
-nth [] k = refusal 11
-nth (x ∷ xs) zero = value x
-nth (x ∷ xs) (suc k) = nth xs k
+unfoldable pub nthImage : List (List ℕ) → ℕ → Outcome (List ℕ)
+nthImage [] k = refusal 11
+nthImage (x ∷ xs) zero = value x
+nthImage (x ∷ xs) (suc k) = nthImage xs k

@@ -19,7 +19,7 @@ use Rattle.lists.specs.Calls.{Call, putDue, acceptedFrom, accepted, putsSize, s
 use Rattle.lists.proofs.Theorem.{one-list}
 use Rattle.lines.specs.Lines.{withByte, linesOf, leadingDigits, numberFrom, parseLine, lineCalls, linesCalls, inputCalls}
 use Rattle.catalogue.specs.Left.{putsOf}
-use Rattle.catalogue.specs.Printed.{itemBy, items, namedBy, itemsOf, example, repeated, Demonstration}
+use Rattle.catalogue.specs.Printed.{itemBy, items, namedBy, itemsOf, example, repeatedLines, Demonstration}
 
 -- one step, by what naming answers
 item-named : (img : List ℕ) (n : ℕ) (x : Naming) (rest : List Entry) → itemBy img (stepOf n x) rest ≡ namedBy n (heldAt img x) rest
@@ -60,7 +60,7 @@ example-puts : putsOf 65536 example ≡ puts
 unfolding puts putsOf inputCalls linesOf withByte linesCalls lineCalls parseLine leadingDigits numberFrom accepted acceptedFrom putDue hasZero holds same sizeOf putsSize backSize
 example-puts = refl
 
-repeated-puts : putsOf 65536 repeated ≡ entryOf (65 ∷ []) 0 ∷ entryOf (66 ∷ []) 2 ∷ []
+repeated-puts : putsOf 65536 repeatedLines ≡ entryOf (65 ∷ []) 0 ∷ entryOf (66 ∷ []) 2 ∷ []
 unfolding putsOf inputCalls linesOf withByte linesCalls lineCalls parseLine leadingDigits numberFrom accepted acceptedFrom putDue hasZero holds same sizeOf putsSize backSize
 repeated-puts = refl
 

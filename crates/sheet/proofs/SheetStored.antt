@@ -15,9 +15,9 @@ use Rattle.image.proofs.Words.{length-le32}
 use Rattle.image.proofs.Stores.{sets-then}
 use Rattle.jhash.specs.Outcome.{Outcome, value, refusal}
 use Rattle.sheet.specs.Format.{countBytes, idBytes, sectionBytes, Lists, sheetBytes}
-use Rattle.sheet.specs.Writing.{passes, tooLong, writing, leftBy, afterWriting}
+use Rattle.sheet.specs.SheetWriting.{passes, tooLong, writing, leftByWriter, afterWriting}
 use Rattle.sheet.specs.RoundSheet.{Fits}
-use Rattle.sheet.proofs.Words.{length-countBytes}
+use Rattle.sheet.proofs.CountsAndIds.{length-countBytes}
 use Rattle.sheet.proofs.Sections.{length-section}
 
 -- ---- the answer
@@ -48,9 +48,9 @@ module _ (room : ℕ) (l : Lists) where
       by false e = cc
 
 module _ (buf : List ℕ) (l : Lists) where
-  pub left : (o : Outcome ℕ) → o ≡ writing (length buf) l → leftBy buf l o ≡ afterWriting buf l
+  pub left : (o : Outcome ℕ) → o ≡ writing (length buf) l → leftByWriter buf l o ≡ afterWriting buf l
   unfolding afterWriting
-  left o e = ap (leftBy buf l) e
+  left o e = ap (leftByWriter buf l) e
 
   -- the buffer's first bytes are the file
   pub file-in : (n : ℕ) → writing (length buf) l ≡ value n → take n (afterWriting buf l) ≡ sheetBytes l

@@ -8,7 +8,7 @@ use borrow.Author.Tests.{eq-eqb, ne-eqb}
 use Rattle.writer.specs.State.{State}
 use Rattle.image.specs.Image.{Entry}
 use Rattle.writer.specs.Put.{putRefusal, afterPut, entryOf}
-use Rattle.load.specs.States.{stepped, stateAfter, stateName, loadEntry}
+use Rattle.load.specs.States.{nextState, stateAfter, stateName, loadEntry}
 use Rattle.load.specs.Load.{putFrom}
 
 abbrev turn : ℕ → ℕ → ℕ → State → Bool → State
@@ -31,11 +31,11 @@ refused-leaves s seed i h = rw (ne-eqb (putRefusal s (loadEntry seed i)) 0 h)
 -- ---- a turn of the loop, before entry i, with a state that is the seed's after i steps
 
 -- the entry that the loop puts
-pub entry-is : (seed i state next : ℕ) (name : List ℕ) → state ≡ stateAfter seed i → next ≡ stepped state → name ≡ stateName next
+pub entry-is : (seed i state next : ℕ) (name : List ℕ) → state ≡ stateAfter seed i → next ≡ nextState state → name ≡ stateName next
     → entryOf name i ≡ loadEntry seed i
 unfolding loadEntry stateAfter
 entry-is seed i state next name at step is =
-    ap (λ (bytes : List ℕ). entryOf bytes i) (is ∙ ap stateName (step ∙ ap (λ (s : ℕ). stepped s) at))
+    ap (λ (bytes : List ℕ). entryOf bytes i) (is ∙ ap stateName (step ∙ ap (λ (s : ℕ). nextState s) at))
 
 module _ (seed i r : ℕ) (s after : State) (e : Entry) (is : e ≡ loadEntry seed i) (answered : r ≡ putRefusal s e) (leaves : after ≡ afterPut s e) where
   -- it is accepted, and the next follows

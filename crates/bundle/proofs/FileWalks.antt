@@ -6,8 +6,8 @@ use mathlib.Core.Bool.{true}
 use mathlib.Core.List.{List}
 use lib.ListN.{length}
 use Rattle.jhash.specs.Outcome.{Outcome, value, refusal}
-use Rattle.bundle.specs.Walk.{Place, sizeAt, breaks, placeFrom, countFrom, counting}
-use Rattle.bundle.proofs.Steps.{Begins, step-ended, step-broke, step-began}
+use Rattle.bundle.specs.FileWalk.{Place, sizeAt, breaks, placeFrom, countFrom, counting}
+use Rattle.bundle.proofs.FileSteps.{Begins, step-ended, step-broke, step-began}
 
 module _ (file : List ℕ) (at : ℕ) where
   pub place-ended : (k : ℕ) → at ≡ length file → placeFrom file at k ≡ refusal 11

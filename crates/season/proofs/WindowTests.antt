@@ -11,9 +11,9 @@ use Rattle.reader.specs.Slices.{Slice, part}
 use Rattle.reader.specs.Naming.{Naming, place, unnamed, naming, partOr}
 use Rattle.reader.proofs.Namings.{never}
 use Rattle.season.specs.Calendar.{isDate, isEnd, earlier}
-use Rattle.season.specs.Rule.{undated, turned, holds, namedIn}
+use Rattle.season.specs.Rule.{undated, turned, holdsDate, namedIn}
 use Rattle.season.specs.steps.Fold.{told, rank, stronger}
-use Rattle.season.specs.Answers.{answerBy, placeBy, partBy}
+use Rattle.season.specs.steps.Saying.{answerBy, placeBy, partBy}
 use Rattle.season.specs.declared.Date.{Date}
 use Rattle.season.specs.declared.Window.{Window}
 use Rattle.season.specs.declared.Standing.{Standing}
@@ -24,7 +24,7 @@ pub told-by : (id : ℕ) (date : Date) (w : Window) (f e b i p q : Bool)
     → isDate (w .first) ≡ f → isEnd (w .end) ≡ e → earlier (w .first) (w .end) ≡ b → eqb (w .id) id ≡ i
     → earlier date (w .first) ≡ p → earlier date (w .end) ≡ q
     → cond (not f || not e) Undated (cond (not b) Turned (cond (i && not p && q) Holds Away)) ≡ told id date w
-unfolding told undated turned holds
+unfolding told undated turned holdsDate
 told-by id date w f e b i p q ef ee eb ei ep eq =
     sym (λ k. cond (not (ef k) || not (ee k)) Undated (cond (not (eb k)) Turned (cond (ei k && not (ep k) && eq k) Holds Away)))
 
