@@ -1,4 +1,4 @@
--- `CQDB::home` promises of its image what `reader::home` does: it is a thin call of it.
+-- `CQDB::home` promises of its image what `agreement::home` does: it is a thin call of it.
 use mathlib.Core.Path.{_≡_, refl}
 use base.Logic.{id⊢}
 use contract.Monad.{fact}
@@ -8,7 +8,7 @@ use denote.Builtin.{bool, u32}
 use denote.Plain.{bool-lawful}
 use denote.Ref.{now}
 use denote.Signature.{plain}
-use Rattle.reader.specs.Walk.{home}
+use Rattle.agreement.specs.Home.{home}
 use Rattle.reader.proofs.home as on-image
 use Rattle.reader.proofs.home.Symbol as callee
 use Rattle.reader.proofs.home.Met as kept

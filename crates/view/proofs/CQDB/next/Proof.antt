@@ -1,4 +1,4 @@
--- `CQDB::next` promises of its image what `reader::walk::next` does: it is a thin call of it.
+-- `CQDB::next` promises of its image what `reader::id_walk::next` does: it is a thin call of it.
 use mathlib.Core.Path.{_≡_, refl}
 use base.Logic.{id⊢}
 use contract.Monad.{fact}
@@ -7,15 +7,15 @@ use denote.Enum.Laws as EL
 use denote.Struct.Laws as LL
 use denote.Ref.{now}
 use denote.Signature.{plain}
-use Rattle.reader.specs.Walk.{step}
+use Rattle.reader.specs.IdWalk.{step}
 use Rattle.reader.specs.Cases.{steppedOf}
 use Rattle.reader.proofs.Stepped as S
 use Rattle.reader.proofs.Stepped.Laws as S′
 use Rattle.reader.proofs.Iter as I
 use Rattle.reader.proofs.Iter.Laws as I′
-use Rattle.reader.proofs.walk.next as on-image
-use Rattle.reader.proofs.walk.next.Symbol as callee
-use Rattle.reader.proofs.walk.next.Met as kept
+use Rattle.reader.proofs.id_walk.next as on-image
+use Rattle.reader.proofs.id_walk.next.Symbol as callee
+use Rattle.reader.proofs.id_walk.next.Met as kept
 use Rattle.view.proofs.OverView.{keeps₁}
 use Rattle.view.proofs.CQDB.next as on-view
 use Rattle.view.proofs.CQDB.next.Key.{name as #view·next}
