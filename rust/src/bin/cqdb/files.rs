@@ -1,6 +1,6 @@
 //! Files: read whole, and written beside and moved into place.
 use std::fs::{self, File, OpenOptions};
-use std::io::{self, Write};
+use std::io::{self, Read, Write};
 use std::path::{Path, PathBuf};
 use std::process;
 
@@ -36,6 +36,21 @@ pub fn in_words(error: &io::Error) -> String {
 
 pub fn refusal_in_words(refusal: Refusal) -> String {
     format!("{refusal} (refusal {})", refusal.number())
+}
+
+/// Fails where another file than an image stands at an image's place, such as the list that it is made from: where the IMAGE of a
+/// command is left out, that list would be lost. An empty file may stand there.
+pub fn no_other_file(path: &Path) -> Result<(), Failure> {
+    let mut start = Vec::new();
+    if fs::metadata(path).is_ok_and(|about| about.is_file()) {
+        let file = File::open(path).and_then(|file| file.take(4).read_to_end(&mut start));
+        file.map_err(|error| Failure::new(format!("cannot read {}: {error}", path.display())))?;
+    }
+    if start.is_empty() || start == b"CQDB" {
+        return Ok(());
+    }
+    let what = "a file is there that is no image; remove it, or name another place";
+    Err(Failure::new(format!("cannot write {}: {what}", path.display())))
 }
 
 /// Writes a file beside its place and moves it there, so that a reader sees the old file or the new one, never a part.
