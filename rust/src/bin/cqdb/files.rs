@@ -6,7 +6,7 @@ use std::process;
 
 use cqdb::{Refusal, CQDB};
 
-use crate::outcome::Failure;
+use crate::outcome::{Failure, Outcome, Output};
 
 extern "C" {
     fn signal(number: i32, handler: usize) -> usize;
@@ -27,6 +27,15 @@ pub fn read(path: &Path) -> Result<Vec<u8>, Failure> {
 /// The image of a file's bytes.
 pub fn open<'a>(path: &Path, bytes: &'a [u8]) -> Result<CQDB<'a>, Failure> {
     CQDB::new(bytes).map_err(|error| Failure::new(format!("{}: {}", path.display(), in_words(&error))))
+}
+
+/// Opens the image of a file and prints what is asked of it.
+pub fn asked(path: &Path, ask: impl FnOnce(&CQDB, &mut Output) -> Outcome) -> Outcome {
+    let bytes = read(path)?;
+    let db = open(path, &bytes)?;
+    let mut out = Output::new();
+    let answer = ask(&db, &mut out)?;
+    out.finish(answer)
 }
 
 /// An error of the crate, with its refusal's number.

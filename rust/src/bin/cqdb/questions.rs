@@ -5,7 +5,7 @@ use cqdb::CQDB;
 
 use crate::args::Args;
 use crate::lines::Lines;
-use crate::outcome::{Failure, Outcome, Output};
+use crate::outcome::{Failure, Outcome};
 use crate::{files, list};
 
 /// What an image gives for each question: an id and its name, or what it lacks.
@@ -17,23 +17,22 @@ pub fn put_to_image(
     command: &str,
     ask: for<'a> fn(&'a CQDB<'a>, &'a [&'a [u8]]) -> Result<Answers<'a>, Failure>,
 ) -> Outcome {
-    let bytes = files::read(args.path(0))?;
-    let db = files::open(args.path(0), &bytes)?;
-    let mut out = Output::new();
-    let mut all = true;
-    rounds(args, 1, |questions| {
-        for answer in ask(&db, questions)? {
-            match answer {
-                Ok((id, name)) => list::entry(&mut out, args, id, name)?,
-                Err(lacking) => {
-                    all = false;
-                    out.tell(&format!("{command}: {} has {lacking}", args.path(0).display()))?;
+    files::asked(args.path(0), |db, out| {
+        let mut all = true;
+        rounds(args, 1, |questions| {
+            for answer in ask(db, questions)? {
+                match answer {
+                    Ok((id, name)) => list::entry(out, args, id, name)?,
+                    Err(lacking) => {
+                        all = false;
+                        out.tell(&format!("{command}: {} has {lacking}", args.path(0).display()))?;
+                    }
                 }
             }
-        }
-        out.flush()
-    })?;
-    out.finish(all)
+            out.flush()
+        })?;
+        Ok(all.into())
+    })
 }
 
 /// The most questions that one call of the library takes.
