@@ -13,5 +13,6 @@ pub mod Theorem
 pub mod Rows
 pub mod Loops
 pub mod Steps
+pub mod Noting
 pub mod Enters
 pub mod Bodies

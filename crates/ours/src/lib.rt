@@ -19,7 +19,7 @@ use tables::rows_right;
 use tables::say_counts;
 use tables::wide;
 
-mod ahead; // ahead.rt: buckets read before they are needed
+mod ahead; // ahead.rt: the next entries noted before they are walked
 mod entries; // entries.rt: one walk over the entries, each compared with its bucket
 mod links; // links.rt: the back array
 mod tables; // tables.rt: the rows of the head, and the buckets that no entry has
