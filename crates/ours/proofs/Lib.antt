@@ -1,5 +1,6 @@
 -- Laws about images that are ours.
 pub mod ReadBack
+pub mod InPlace
 pub mod Joins
 pub mod Rises
 pub mod Sound

@@ -11,7 +11,7 @@ use borrow.Author.Tests.{eq-eqb, ne-eqb}
 use Rattle.image.specs.Bytes.{word, range, all}
 use Rattle.image.specs.Head.{tableAt, bucketNumber}
 use Rattle.image.proofs.All.{all-turn, all-more, all-end}
-use Rattle.masks.specs.Masks.{bit, above}
+use Rattle.masks.specs.steps.Masks.{bit, above}
 use Rattle.ours.specs.steps.InPlace.{wordsAt}
 use Rattle.ours.specs.steps.Tests.{clean, usedIn, tableRight, rowsRight, rowCounts, TablesInside}
 use Rattle.ours.proofs.Joins.{getD-run}

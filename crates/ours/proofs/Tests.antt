@@ -15,7 +15,7 @@ use Rattle.image.specs.Tables.{Bucket, empty, atOf, order}
 use Rattle.image.proofs.All.{all-each, all-true}
 use Rattle.image.proofs.Bools.{first, second, both, neither-first, neither-second}
 use Rattle.reader.specs.Open.{opening, hasLetters, someLeaves, halves}
-use Rattle.masks.specs.Masks.{above, ats}
+use Rattle.masks.specs.steps.Masks.{above, ats}
 use Rattle.ours.specs.steps.InPlace.{bucketAt, bucketsAt}
 use Rattle.ours.specs.steps.Tests.{clean, usedIn, tableRight, rowsRight, rowCounts, sayCounts, TablesInside}
 use Rattle.ours.proofs.Joins.{getD-run, getD-bucketsAt, length-bucketsAt}

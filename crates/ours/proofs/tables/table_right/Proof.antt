@@ -4,7 +4,7 @@ use borrow.Author.Needs.{needs}
 use Prim.Native.Nat.{_+_, _*_, _-_}
 use mathlib.Core.Path.{_≡_, refl, ap, _∙_}
 use mathlib.Core.Bool.{_&&_}
-use Rattle.masks.specs.Masks.{bit}
+use Rattle.masks.specs.steps.Masks.{bit}
 use Rattle.ours.proofs.Loops.{Buckets, buckets-start, buckets-next, buckets-end}
 use Rattle.ours.proofs.tables.table_right.Statement.{statement}
 use Rattle.ours.proofs.tables.table_right.Tie as tie
