@@ -63,11 +63,14 @@ empty-image : image Oneway [] ≡ headBytes 2072 1 0 0 ++ replicate 2048 0
 unfolding le32 cat keep range entryBytes entriesSize placed ofTable bucketBytes table tableBytes entriesBefore tableOffset tableRow backSize placedOfId lastFrom link backOffset headBytes headWords tableRows tables links image order firstEmpty insert insertAll filled
 empty-image = refl
 
+empty-fits : imageSize Oneway [] ≤ 4294967295
+unfolding entriesSize
+empty-fits = lit≤ tt
+
 empty-ours : ours (headBytes 2072 1 0 0 ++ replicate 2048 0) ≡ true
-empty-ours = ours-yes (headBytes 2072 1 0 0 ++ replicate 2048 0) record { mode = Oneway; puts = []; each = tt; fits = fits; is = empty-image }
-  where
-    fits : imageSize Oneway [] ≤ 4294967295
-    fits = lit≤ tt
+empty-ours =
+    ours-yes (headBytes 2072 1 0 0 ++ replicate 2048 0)
+    record { mode = Oneway; puts = []; each = tt; fits = empty-fits; is = empty-image }
 
 -- bytes that are looked at one by one, and bytes behind them
 bytes-behind : (l r : List ℕ) → All (λ (x : ℕ). x < 256) l → Bytes r → Bytes (l ++ r)
@@ -101,7 +104,7 @@ offset-not = go (ours (headBytes 2072 0 0 2072 ++ replicate 2048 0)) refl
         let made = ours-only bytes all e in
         let said = ours-checked bytes made .back-offset in
         let end = endIn bytes (length (made .puts)) + 16 * length (made .puts) in
-        let z : 2072 ≡ 0 = sym an-offset ∙ said ∙ ap (λ (b : ℕ). cond (eqb b 0) 0 end) no-array in
+        let z : _≡_ {A = ℕ} 2072 0 = sym an-offset ∙ said ∙ ap (λ (b : ℕ). cond (eqb b 0) 0 end) no-array in
         absurd (omega arith)
 
 pub bares-hold : map (λ (b : Bare). ours (b .bytes)) bares ≡ map (λ (b : Bare). b .answer) bares
