@@ -131,14 +131,14 @@ module _ (img : List ℕ) (end : ℕ) (hs ps : List ℕ) (at i : ℕ) where
 
 -- i entries from `from` on are noted and the next stands at `at`: what is noted of it and those behind it joins them, as long as the first i stay
 pub record Planned (img : List ℕ) (end from : ℕ) (hashes places : List ℕ) (at i : ℕ) : Type 0 where
-  pub few : i ≤ 64
+  pub few : i ≤ 256
   pub inside : at ≤ end
-  pub hashes-long : length hashes ≡ 64
-  pub places-long : length places ≡ 64
+  pub hashes-long : length hashes ≡ 256
+  pub places-long : length places ≡ 256
   pub joins : (hs ps : List ℕ) → ((k : ℕ) → k < i → getD hs k 0 ≡ getD hashes k 0) → ((k : ℕ) → k < i → getD ps k 0 ≡ getD places k 0)
       → (m : ℕ) → NotedFrom img end hs ps at i m → NotedFrom img end hs ps from 0 (i + m)
 
-pub plan-start : (img : List ℕ) (end from : ℕ) (hashes places : List ℕ) → from ≤ end → length hashes ≡ 64 → length places ≡ 64
+pub plan-start : (img : List ℕ) (end from : ℕ) (hashes places : List ℕ) → from ≤ end → length hashes ≡ 256 → length places ≡ 256
     → Planned img end from hashes places from 0
 plan-start img end from hashes places l a b = record {
   few = omega arith;
@@ -156,7 +156,7 @@ module _ (img : List ℕ) (end from : ℕ) (hashes places : List ℕ) (at i : �
         let s = length-between img at end (p .inside) l in
         (omega (arith, f .inside, p .inside), f .some)
 
-    pub plan-turn : i < 64 → (h place : ℕ) (name : List ℕ) → name ≡ take (at + 7 + n - (at + 8)) (drop (at + 8) img) → h ≡ hashOf name
+    pub plan-turn : i < 256 → (h place : ℕ) (name : List ℕ) → name ≡ take (at + 7 + n - (at + 8)) (drop (at + 8) img) → h ≡ hashOf name
         → place ≡ firstPlace img h → Planned img end from (set hashes i h) (set places i place) (at + (8 + n)) (i + 1)
     plan-turn q h place name en eh ep = record {
       few = omega arith;
@@ -178,21 +178,21 @@ module _ (img : List ℕ) (end from : ℕ) (hashes places : List ℕ) (at i : �
             let size : at + 7 + n - (at + 8) ≡ n - 1 = omega arith in
             eh ∙ ap hashOf (en ∙ ap (λ (j : ℕ). take j (drop (at + 8) img)) size)
 
-  -- the next is not whole, or all 64 are noted
-  pub plan-stop : (m : ℕ) → i + m ≡ 64 → NotedFrom img end hashes places at i m → NotedFrom img end hashes places from 0 64
+  -- the next is not whole, or all 256 are noted
+  pub plan-stop : (m : ℕ) → i + m ≡ 256 → NotedFrom img end hashes places at i m → NotedFrom img end hashes places from 0 256
   plan-stop m s x = subst (NotedFrom img end hashes places from 0) s (p .joins hashes places (λ k r. refl) (λ k r. refl) m x)
 
-  pub plan-broken : (n : ℕ) → n ≡ wholeLength (between img at end) → n ≡ 0 → NotedFrom img end hashes places from 0 64
+  pub plan-broken : (n : ℕ) → n ≡ wholeLength (between img at end) → n ≡ 0 → NotedFrom img end hashes places from 0 256
   plan-broken n e z =
-      let s : i + (64 - i) ≡ 64 = omega (arith, p .few) in
-      plan-stop (64 - i) s (noted-broken img end hashes places at i (64 - i) (sym e ∙ z))
+      let s : i + (256 - i) ≡ 256 = omega (arith, p .few) in
+      plan-stop (256 - i) s (noted-broken img end hashes places at i (256 - i) (sym e ∙ z))
 
-  pub plan-all : 64 ≤ i → NotedFrom img end hashes places from 0 64
-  plan-all q = let s : i + 0 ≡ 64 = omega (arith, p .few) in plan-stop 0 s (noted-none img end hashes places at i)
+  pub plan-all : 256 ≤ i → NotedFrom img end hashes places from 0 256
+  plan-all q = let s : i + 0 ≡ 256 = omega (arith, p .few) in plan-stop 0 s (noted-none img end hashes places at i)
 
 -- ---- reading
 
-pub look-turn : (img places firsts : List ℕ) (i w : ℕ) → length firsts ≡ 64 → i < 64 → w ≡ word img (getD places i 0)
+pub look-turn : (img places firsts : List ℕ) (i w : ℕ) → length firsts ≡ 256 → i < 256 → w ≡ word img (getD places i 0)
     → ((k : ℕ) → k < i → getD firsts k 0 ≡ word img (getD places k 0)) → (k : ℕ) → k < i + 1 → getD (set firsts i w) k 0 ≡ word img (getD places k 0)
 look-turn img places firsts i w l q e before k r = go (decLt k i)
   where
@@ -204,51 +204,51 @@ look-turn img places firsts i w l q e before k r = go (decLt k i)
 
 -- ---- walking
 
-pub notes-start : (img : List ℕ) (end : ℕ) (hashes places firsts : List ℕ) (at : ℕ) → length hashes ≡ 64 → length places ≡ 64 → length firsts ≡ 64
+pub notes-start : (img : List ℕ) (end : ℕ) (hashes places firsts : List ℕ) (at : ℕ) → length hashes ≡ 256 → length places ≡ 256 → length firsts ≡ 256
     → Notes img end hashes places firsts at 0
 notes-start img end hashes places firsts at a b c = record {
   few = omega arith;
   hashes-long = a;
   places-long = b;
   firsts-long = c;
-  noted = noted-none img end hashes places at (64 - 0);
+  noted = noted-none img end hashes places at (256 - 0);
   read = λ h k r. absurd (omega arith);
 }
 
-pub notes-new : (img : List ℕ) (end : ℕ) (hashes places firsts : List ℕ) (at : ℕ) → length hashes ≡ 64 → length places ≡ 64 → length firsts ≡ 64
-    → NotedFrom img end hashes places at 0 64 → ((k : ℕ) → k < 64 → getD firsts k 0 ≡ word img (getD places k 0))
-    → Notes img end hashes places firsts at 64
+pub notes-new : (img : List ℕ) (end : ℕ) (hashes places firsts : List ℕ) (at : ℕ) → length hashes ≡ 256 → length places ≡ 256 → length firsts ≡ 256
+    → NotedFrom img end hashes places at 0 256 → ((k : ℕ) → k < 256 → getD firsts k 0 ≡ word img (getD places k 0))
+    → Notes img end hashes places firsts at 256
 notes-new img end hashes places firsts at a b c x y =
-    let z : 0 ≡ 64 - 64 = omega arith in
+    let z : 0 ≡ 256 - 256 = omega arith in
     record {
       few = omega arith;
       hashes-long = a;
       places-long = b;
       firsts-long = c;
-      noted = subst (λ (i : ℕ). NotedFrom img end hashes places at i 64) z x;
+      noted = subst (λ (i : ℕ). NotedFrom img end hashes places at i 256) z x;
       read = λ h k r. y k r;
     }
 
 module _ (img : List ℕ) (end : ℕ) (hashes places firsts : List ℕ) (at seen : ℕ) (s : Notes img end hashes places firsts at seen) (some : 0 < seen) (n : ℕ)
     (e : n ≡ wholeLength (between img at end)) (nz : n ≡ 0 → ⊥) where
-  own : (getD hashes (64 - seen) 0 ≡ hashOf (nameAt img at n)) × (getD places (64 - seen) 0 ≡ firstPlace img (getD hashes (64 - seen) 0))
-      × NotedFrom img end hashes places (at + (8 + n)) (64 - seen + 1) (seen - 1)
+  own : (getD hashes (256 - seen) 0 ≡ hashOf (nameAt img at n)) × (getD places (256 - seen) 0 ≡ firstPlace img (getD hashes (256 - seen) 0))
+      × NotedFrom img end hashes places (at + (8 + n)) (256 - seen + 1) (seen - 1)
   own =
       let q : seen ≡ suc (seen - 1) = omega arith in
-      noted-first img end hashes places at (64 - seen) (seen - 1) n e (subst (NotedFrom img end hashes places at (64 - seen)) q (s .noted)) nz
+      noted-first img end hashes places at (256 - seen) (seen - 1) n e (subst (NotedFrom img end hashes places at (256 - seen)) q (s .noted)) nz
 
-  pub notes-hash : getD hashes (64 - seen) 0 ≡ hashOf (nameAt img at n)
+  pub notes-hash : getD hashes (256 - seen) 0 ≡ hashOf (nameAt img at n)
   notes-hash = own .0
 
-  pub notes-place : getD places (64 - seen) 0 ≡ firstPlace img (getD hashes (64 - seen) 0)
+  pub notes-place : getD places (256 - seen) 0 ≡ firstPlace img (getD hashes (256 - seen) 0)
   notes-place = own .1
 
-  pub notes-word : getD firsts (64 - seen) 0 ≡ word img (getD places (64 - seen) 0)
-  notes-word = s .read some (64 - seen) (omega (arith, s .few))
+  pub notes-word : getD firsts (256 - seen) 0 ≡ word img (getD places (256 - seen) 0)
+  notes-word = s .read some (256 - seen) (omega (arith, s .few))
 
   pub notes-next : Notes img end hashes places firsts (at + (8 + n)) (seen - 1)
   notes-next =
-      let q : 64 - seen + 1 ≡ 64 - (seen - 1) = omega (arith, s .few) in
+      let q : 256 - seen + 1 ≡ 256 - (seen - 1) = omega (arith, s .few) in
       record {
         few = omega (arith, s .few);
         hashes-long = s .hashes-long;

@@ -22,14 +22,14 @@ fn first_place(image: &[u8], h: u32) -> usize
     o + 8 * ((h / 256) as usize % n) + 4
 }
 
-// The hashes of the next 64 entries from `from` on, and the places that they are searched at first, up to one that is not whole.
-fn plan(image: &[u8], from: usize, end: usize, hashes: &mut [u32; 64], places: &mut [usize; 64])
-    requires { ⌜ (from ≤ end) × (end ≤ length (now image)) × (end < 4294967296) × (length (now hashes) ≡ 64) × (length (now places) ≡ 64) ⌝ }
-    ensures { λ _. ⌜ (length (now (hashes .exit)) ≡ 64) × (length (now (places .exit)) ≡ 64) × NotedFrom (now (image .entry)) end (now (hashes .exit)) (now (places .exit)) from 0 64 ⌝ }
+// The hashes of the next 256 entries from `from` on, and the places that they are searched at first, up to one that is not whole.
+fn plan(image: &[u8], from: usize, end: usize, hashes: &mut [u32; 256], places: &mut [usize; 256])
+    requires { ⌜ (from ≤ end) × (end ≤ length (now image)) × (end < 4294967296) × (length (now hashes) ≡ 256) × (length (now places) ≡ 256) ⌝ }
+    ensures { λ _. ⌜ (length (now (hashes .exit)) ≡ 256) × (length (now (places .exit)) ≡ 256) × NotedFrom (now (image .entry)) end (now (hashes .exit)) (now (places .exit)) from 0 256 ⌝ }
 {
     let mut at = from;
     let mut i: usize = 0;
-    while i < 64 {
+    while i < 256 {
         let n = whole_length(image, at, end);
         if n == 0 {
             return;
@@ -46,34 +46,34 @@ fn plan(image: &[u8], from: usize, end: usize, hashes: &mut [u32; 64], places: &
 }
 
 // The word at each place, one read not waiting for another.
-fn look(image: &[u8], places: &[usize; 64], firsts: &mut [u32; 64])
-    requires { ⌜ (length (now firsts) ≡ 64) ⌝ }
-    ensures { λ _. ⌜ (length (now (firsts .exit)) ≡ 64) × ((k : ℕ) → k < 64 → getD (now (firsts .exit)) k 0 ≡ word (now (image .entry)) (getD (now (places .entry)) k 0)) ⌝ }
+fn look(image: &[u8], places: &[usize; 256], firsts: &mut [u32; 256])
+    requires { ⌜ (length (now firsts) ≡ 256) ⌝ }
+    ensures { λ _. ⌜ (length (now (firsts .exit)) ≡ 256) × ((k : ℕ) → k < 256 → getD (now (firsts .exit)) k 0 ≡ word (now (image .entry)) (getD (now (places .entry)) k 0)) ⌝ }
 {
     let mut i: usize = 0;
-    while i < 64 {
+    while i < 256 {
         firsts[i] = get_u32(image, places[i]);
         i += 1;
     }
 }
 
-// How many entries from `at` on are noted, `seen` being noted before: where none was, the next 64 are.
+// How many entries from `at` on are noted, `seen` being noted before: where none was, the next 256 are.
 pub(super) fn ahead(
     image: &[u8],
     at: usize,
     end: usize,
     seen: usize,
-    hashes: &mut [u32; 64],
-    places: &mut [usize; 64],
-    firsts: &mut [u32; 64],
+    hashes: &mut [u32; 256],
+    places: &mut [usize; 256],
+    firsts: &mut [u32; 256],
 ) -> usize
     requires { ⌜ (at ≤ end) × (end ≤ length (now image)) × (end < 4294967296) × Notes (now image) end (now hashes) (now places) (now firsts) at seen ⌝ }
-    ensures { λ r. ⌜ (0 < r) × (r ≤ 64) × Notes (now (image .entry)) end (now (hashes .exit)) (now (places .exit)) (now (firsts .exit)) at r ⌝ }
+    ensures { λ r. ⌜ (0 < r) × (r ≤ 256) × Notes (now (image .entry)) end (now (hashes .exit)) (now (places .exit)) (now (firsts .exit)) at r ⌝ }
 {
     if seen > 0 {
         return seen;
     }
     plan(image, at, end, &mut *hashes, &mut *places);
     look(image, &*places, &mut *firsts);
-    64
+    256
 }

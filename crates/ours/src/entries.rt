@@ -107,9 +107,9 @@ pub(super) fn entries_right(
     let mut at: usize = 2072;
     let mut left = entries;
     let mut back: u64 = 0;
-    let mut hashes = [0; 64];
-    let mut places = [0; 64];
-    let mut firsts = [0; 64];
+    let mut hashes = [0; 256];
+    let mut places = [0; 256];
+    let mut firsts = [0; 256];
     let mut seen: usize = 0;
     while left > 0 {
         seen = ahead(image, at, end, seen, &mut hashes, &mut places, &mut firsts);
@@ -120,7 +120,7 @@ pub(super) fn entries_right(
                 back: 0,
             };
         }
-        let i = 64 - seen;
+        let i = 256 - seen;
         let h = hashes[i];
         if !entry_right(image, at, n, h, places[i], firsts[i]) {
             return Entered {

@@ -27,11 +27,11 @@ NotedFrom img end hashes places at i (suc m) =
     → (getD hashes i 0 ≡ hashOf (nameAt img at n)) × (getD places i 0 ≡ firstPlace img (getD hashes i 0))
     × NotedFrom img end hashes places (at + (8 + n)) (i + 1) m
 
--- `seen` entries from `at` on are noted, the last of 64, and the words at their first places were read
+-- `seen` entries from `at` on are noted, the last of 256, and the words at their first places were read
 pub record Notes (img : List ℕ) (end : ℕ) (hashes places firsts : List ℕ) (at seen : ℕ) : Type 0 where
-  pub few : seen ≤ 64
-  pub hashes-long : length hashes ≡ 64
-  pub places-long : length places ≡ 64
-  pub firsts-long : length firsts ≡ 64
-  pub noted : NotedFrom img end hashes places at (64 - seen) seen
-  pub read : 0 < seen → (k : ℕ) → k < 64 → getD firsts k 0 ≡ word img (getD places k 0)
+  pub few : seen ≤ 256
+  pub hashes-long : length hashes ≡ 256
+  pub places-long : length places ≡ 256
+  pub firsts-long : length firsts ≡ 256
+  pub noted : NotedFrom img end hashes places at (256 - seen) seen
+  pub read : 0 < seen → (k : ℕ) → k < 256 → getD firsts k 0 ≡ word img (getD places k 0)

@@ -11,10 +11,10 @@ use Rattle.ours.proofs.ahead.look.Tie as tie
 
 abbrev Inv-loop : tie.InvT-loop
 Inv-loop image places firsts₀ i₀ firsts i =
-    (i ≤ 64) × (length firsts ≡ 64) × ((k : ℕ) → k < i → getD firsts k 0 ≡ word image (getD places k 0))
+    (i ≤ 256) × (length firsts ≡ 256) × ((k : ℕ) → k < i → getD firsts k 0 ≡ word image (getD places k 0))
 
 abbrev μ-loop : tie.MeasureT-loop
-μ-loop image places firsts₀ i₀ firsts i = 64 - i
+μ-loop image places firsts₀ i₀ firsts i = 256 - i
 
 loop-holds : tie.Need-loop-holds Inv-loop μ-loop
 loop-holds c = (omega arith, c .before .pre, λ k h. absurd (omega arith))

@@ -13,7 +13,7 @@ abbrev Inv-loop : tie.InvT-loop
 Inv-loop image from end hashes₀ places₀ at₀ i₀ hashes places at i = Planned image end from hashes places at i
 
 abbrev μ-loop : tie.MeasureT-loop
-μ-loop image from end hashes₀ places₀ at₀ i₀ hashes places at i = 64 - i
+μ-loop image from end hashes₀ places₀ at₀ i₀ hashes places at i = 256 - i
 
 -- a whole entry lies before the end
 room : (c : tie.Else1 Inv-loop μ-loop)

@@ -99,7 +99,7 @@ raise-requires : tie.Need-raise-requires Inv-loop μ-loop
 raise-requires c κs =
     let l = c .before .before .before .before .before .before .before .before .before .before .loop in
     let seen = c .before .before .before .before .before .ahead in
-    let h = getD (seen .last .1 .1 .1 .1 .0) (64 - seen .result) 0 in
+    let h = getD (seen .last .1 .1 .1 .1 .0) (256 - seen .result) 0 in
     let small = l .inv .0 .rest .counts-small (tableOf h) in
     omega (arith, c .before .before .before .before .before .before .before .before .before .loop-test .taken, c .before .before .before .before .before .before .before .before .before .before .before .before .fits .entries)
 
@@ -158,7 +158,7 @@ loop-again c =
     let raised = c .before .before .raise in
     let right : entry .result ≡ true = not-false _ (c .before .before .before .before .if2 .left) in
     let small : id .result < 4294967296 = omega (arith, id .ok) in
-    let h = getD (seen .last .1 .1 .1 .1 .0) (64 - seen .result) 0 in
+    let h = getD (seen .last .1 .1 .1 .1 .0) (256 - seen .result) 0 in
     let t = enter-turn (a .image .now) (a .end) (a .entries) (a .counts .now) (p .1) (l .at) (l .left) (l .back) (l .counts) (l .inv .0) some (w .result) (w .ensures .0) whole
     (entry .result) h (id .result) (raised .last .0) (entry .ensures) right (notes-hash (a .image .now) (a .end) _ _ _ (l .at) (seen .result) (seen .ensures .2) (seen .ensures .0) (w .result) (w .ensures .0) whole) (w .ensures .1) small (id .ensures) (raised .ensures) in
     (rw (c .larger .ensures) t, notes-next (a .image .now) (a .end) _ _ _ (l .at) (seen .result) (seen .ensures .2) (seen .ensures .0) (w .result) (w .ensures .0) whole)

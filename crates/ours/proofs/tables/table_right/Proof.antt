@@ -1,9 +1,8 @@
 -- `ours::tables::table_right` meets its contract. Assumes nothing.
 use native.Mathlib.Omega.{arith}
 use borrow.Author.Needs.{needs}
-use Prim.Native.Nat.{_+_, _*_, _-_}
+use Prim.Native.Nat.{_*_, _-_}
 use mathlib.Core.Path.{_≡_, refl, ap, _∙_}
-use mathlib.Core.Bool.{_&&_}
 use Rattle.masks.specs.steps.Masks.{bit}
 use Rattle.ours.proofs.Loops.{Buckets, buckets-start, buckets-next, buckets-end}
 use Rattle.ours.proofs.tables.table_right.Statement.{statement}
@@ -47,17 +46,16 @@ word-requires c κs = omega arith
 one-requires : tie.Need-one-requires Inv-loop μ-loop
 one-requires c κs = search needs
 
-counted : (c : tie.After-one Inv-loop μ-loop)
-    → Buckets (c .before .before .before .before .before .before .args .image .now) (c .before .before .before .before .before .before .args .o) (2 * c .before .before .before .before .before .before .args .c) (c .before .before .before .before .loop .k + 1) (c .before .before .before .before .loop .tidy && c .before .before .clean-bucket .result) (c .before .before .before .before .loop .used + c .one .result)
-counted c =
+add-used : tie.Need-add-used Inv-loop μ-loop
+add-used c =
     let a = c .before .before .before .before .before .before .args in
     let l = c .before .before .before .before .loop in
     let test = c .before .before .before .loop-test in
     let bucket = c .before .before .clean-bucket in
-    buckets-next (a .image .now) (a .o) (2 * a .c) (l .k) (l .tidy) (l .used) (l .inv .1) (test .taken) (bucket .result) (c .one .result) (bucket .ensures) (c .one .ensures ∙ ap (bit 1) (c .before .word .ensures))
-
-add-used : tie.Need-add-used Inv-loop μ-loop
-add-used c = let b = counted c in let f = b .few in let i = b .inside in omega arith
+    let next = buckets-next (a .image .now) (a .o) (2 * a .c) (l .k) (l .tidy) (l .used) (l .inv .1) (test .taken) (bucket .result) (c .one .result) (bucket .ensures) (c .one .ensures ∙ ap (bit 1) (c .before .word .ensures)) in
+    let f = next .few in
+    let i = next .inside in
+    omega arith
 
 add-k : tie.Need-add-k Inv-loop μ-loop
 add-k c = omega arith
@@ -66,7 +64,13 @@ loop-less : tie.Need-loop-less Inv-loop μ-loop
 loop-less c = omega arith
 
 loop-again : tie.Need-loop-again Inv-loop μ-loop
-loop-again c = (refl, counted c)
+loop-again c =
+    let a = c .before .before .before .before .before .before .args in
+    let l = c .before .before .before .before .loop in
+    let test = c .before .before .before .loop-test in
+    let bucket = c .before .before .clean-bucket in
+    let next = buckets-next (a .image .now) (a .o) (2 * a .c) (l .k) (l .tidy) (l .used) (l .inv .1) (test .taken) (bucket .result) (c .one .result) (bucket .ensures) (c .one .ensures ∙ ap (bit 1) (c .before .word .ensures)) in
+    (refl, next)
 
 returns : tie.Need-returns Inv-loop μ-loop
 returns c =
