@@ -9,7 +9,8 @@ use mathlib.Core.List.{List}
 use borrow.Author.Tests.{ne-eqb}
 use lib.Dec.{ltb}
 use lib.ListN.{length, take, length-take}
-use Rattle.jhash.proofs.WordRead.{Bytes, word-below}
+use Rattle.jhash.specs.Word.{Bytes}
+use Rattle.jhash.proofs.WordRead.{word-below}
 use Rattle.image.specs.Bytes.{word}
 use Rattle.jhash.specs.Outcome.{Outcome, value, refusal}
 use Rattle.reader.specs.Slices.{Slice}

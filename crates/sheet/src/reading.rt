@@ -10,13 +10,7 @@ use super::Place;
 use super::ReadAnswer;
 use super::Sheet;
 use super::Which;
-
-// A byte as a number of 32 bits.
-fn wide(x: u8) -> u32
-    ensures { λ r. ⌜ (r ≡ x) × (r < 256) ⌝ }
-{
-    x as u32
-}
+use jhash::word::wide;
 
 // The 16-bit count at `at`.
 fn count_at(file: &[u8], at: usize) -> u32

@@ -1,17 +1,17 @@
--- `bundle::appending::copy` meets its contract. Assumes nothing.
+-- `image::store::store_bytes` meets its contract. Assumes nothing.
 use native.Mathlib.Nat.{add-zero}
 use mathlib.Core.List.{[]}
 use lib.ListN.{drop-of-length-le, length-set}
 use mathlib.Core.Path.{_∙_}
 use Rattle.image.proofs.Stores.{sets-turn}
 use native.Mathlib.Omega.{arith}
 use Prim.Native.Nat.{_+_, _≤_, _-_}
 use mathlib.Core.Path.{_≡_, refl}
 use lib.ListN.{length, drop}
 use lib.Seq.{sets}
 use borrow.Author.Needs.{needs}
-use Rattle.bundle.proofs.appending.copy.Statement.{statement}
-use Rattle.bundle.proofs.appending.copy.Tie as tie
+use Rattle.image.proofs.store.store_bytes.Statement.{statement}
+use Rattle.image.proofs.store.store_bytes.Tie as tie
 
 abbrev Inv-loop : tie.InvT-loop
 Inv-loop buf₀ at src j₀ buf j = (j ≤ length src) × (length buf ≡ length buf₀) × (sets buf (at + j) (drop j src) ≡ sets buf₀ at src)
@@ -53,8 +53,8 @@ returns c =
     let e : drop (i .j) (a .src .now) ≡ [] = drop-of-length-le (a .src .now) {i = i .j} (omega arith) in
     rw e at (i .inv .2)
 
-pub copy-spec : {M : Type 1} → statement M
-copy-spec =
+pub store-bytes-spec : {M : Type 1} → statement M
+store-bytes-spec =
     tie.close
     (tie.spec
     Inv-loop
