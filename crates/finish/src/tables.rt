@@ -16,8 +16,8 @@ use super::head::clear;
 use super::head::low;
 use super::head::wide;
 use image::Mode;
-use taking::store_link;
-use taking::take_entries;
+use taking::batch::take_entries;
+use taking::fill::store_link;
 
 // The word v stored at `at`. The caller knows that there is room for it, so that no store is tested twice; the compiler makes
 // one store of it.
