@@ -25,7 +25,7 @@ use Rattle.view.proofs.CQDB.next.Code as code
 pub next-spec : {M : Type 1} → stated.statement M
 unfolding code.routine
 next-spec 𝓤 H 𝓜 𝓖 𝓡 =
-    keeps₁ 𝓤 H 𝓜 𝓖 𝓡 0 code.env #view·next callee.name callee.routine code.calls-reader·walk·next
+    keeps₁ 𝓤 H 𝓜 𝓖 𝓡 0 code.env #view·next callee.name callee.routine code.calls-reader·id-walk·next
     (plain (λ κs. S.the-row)) (record { ty = S′.mir; is-ty = λ κs. refl; lawful = λ κs. EL.lawful S.the-type S′.the-laws 𝓤 H (𝓖 .A) (givenOf 𝓤 H 𝓜 𝓖) tt })
     (plain (λ κs. I.the-row))
     (record {
