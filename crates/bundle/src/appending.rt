@@ -1,7 +1,6 @@
 // Appending an image to a bundle. The file is the buffer's first bytes, their number given.
 ghost use mathlib.Core.Path.{_≡_};
-ghost use mathlib.Core.Bool.{not};
-ghost use Rattle.bundle.specs.Append.{whole, unfit, appendRefusal, appending, afterAppend};
+ghost use Rattle.bundle.specs.Append.{wholeFile, unfit, appendRefusal, appending, afterAppend};
 ghost use Rattle.bundle.specs.Cases.{appendedOf};
 use super::Appended;
 use super::Counted;
@@ -12,7 +11,7 @@ use jhash::word::word;
 
 // Does a walk of the whole file come to its end?
 fn whole(file: &[u8]) -> bool
-    ensures { λ r. ⌜ r ≡ whole (now (file .entry)) ⌝ }
+    ensures { λ r. ⌜ r ≡ wholeFile (now (file .entry)) ⌝ }
 {
     let counted = count(file);
     match counted {
