@@ -40,19 +40,19 @@ pub enum ToId {
 }
 
 // A table: its offset and its bucket number.
-struct Table {
-    at: u32,
-    n: u32,
+pub struct Table {
+    pub at: u32,
+    pub n: u32,
 }
 
 // What an entry with the wanted name tells: its id, and the offset at which it stands.
-struct Hit {
-    id: u32,
-    offset: u32,
+pub struct Hit {
+    pub id: u32,
+    pub offset: u32,
 }
 
 // What a search sees in a bucket: it passes it, or ends with nothing, or with an entry that has the name.
-enum Seen {
+pub enum Seen {
     Pass,
     Ends,
     Hit(Hit),

@@ -21,7 +21,7 @@ use jhash::Hashed;
 use jhash::word::word;
 
 // What a search for a name sees in the entry at `at`.
-fn see_entry(image: &[u8], name: &[u8], at: u32) -> Seen
+pub fn see_entry(image: &[u8], name: &[u8], at: u32) -> Seen
     ensures { λ r. ⌜ seenOf r ≡ seeEntry (now (image .entry)) (now (name .entry)) at ⌝ }
 {
     if broken(image, at) {
@@ -142,8 +142,8 @@ fn search(image: &[u8], name: &[u8], h: u32, at: u32, n: u32) -> ToId
 }
 
 // The table that a hash is searched in, its offset and bucket number. The number is 0 where no bucket is read: offset 0, bucket
-// number 0 or an end past the image.
-pub(super) fn table_of(image: &[u8], h: u32) -> Table
+// number 0 or an end past the image. It is a leaf for searches of many names at once, too.
+pub fn table_of(image: &[u8], h: u32) -> Table
     requires { ⌜ 2072 ≤ length (now image) ⌝ }
     ensures unread { λ r. ⌜ (r .n ≡ 0 → unsearched (now (image .entry)) (tableOf h) ≡ true) ⌝ }
     ensures searched { λ r. ⌜ (0 < r .n → (unsearched (now (image .entry)) (tableOf h) ≡ false) × (r .at ≡ tableAt (now (image .entry)) (tableOf h)) × (r .n ≡ bucketNumber (now (image .entry)) (tableOf h)) × (r .at + 8 * r .n ≤ length (now (image .entry)))) ⌝ }

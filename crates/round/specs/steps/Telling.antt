@@ -13,6 +13,12 @@ use Rattle.round.specs.Names.{nth}
 abbrev pub Keys : List (List ℕ) → List ℕ → Type 0
 Keys xs keys = (i : ℕ) → i < length xs → getD keys i 0 ≡ key (nth xs i)
 
+-- a number stands among the first n of a list
+pub record Listed (l : List ℕ) (n i : ℕ) : Type 0 where
+  pub place : ℕ
+  pub inside : place < n
+  pub is : getD l place 0 ≡ i
+
 -- the slot of the i-th key
 abbrev pub slot : List ℕ → ℕ → ℕ
 slot keys i = getD keys i 0 % 2048
