@@ -20,7 +20,7 @@ use Rattle.answers.proofs.Named.{naming-oneway}
 use Rattle.answers.proofs.Walked.{part-given, step-given, home-given, hint-image}
 use Rattle.writer.specs.declared.Repeats.{Repeats}
 use Rattle.lists.specs.Calls.{Call, accepted, WordIds}
-use Rattle.lists.specs.Demand3.{imageOf, NamesAnswered, IdsAnswered}
+use Rattle.lists.specs.Demand3.{imageOf, NamesAnswered}
 use Rattle.lists.specs.AfterClose.{Answered}
 use Rattle.lists.specs.OneWay.{IdsUnanswered}
 use Rattle.lists.proofs.Read.{namedIn, Read}

@@ -2,20 +2,16 @@
 ghost use mathlib.Core.Path.{_≡_};
 ghost use Rattle.reader.specs.Walk.{step};
 ghost use Rattle.reader.specs.WalkSteps.{standsAfter};
-ghost use Rattle.reader_replay.specs.Walk.{isAt, stepsAs, walkAgrees, standsThen};
+ghost use Rattle.reader_replay.specs.WalkLines.{isAt, stepsAs, walkAgrees, standsThen};
 use super::ask::either;
 use super::ask::says;
 use reader::Iter;
 use reader::Stepped;
 use replay_lines::same;
-
-const WALK: u32 = 0x7761_6c6b;
-
-const LEFT: u32 = 0x6c65_6674;
-
-const ITEM: u32 = 0x6974_656d;
-
-const ENDS: u32 = 0x656e_6473;
+use replay_lines::tags::ENDS;
+use replay_lines::tags::ITEM;
+use replay_lines::tags::LEFT;
+use replay_lines::tags::WALK;
 
 // Is a name what stands at a place of an image?
 fn is_at(image: &[u8], start: usize, len: usize, name: &[u8]) -> bool

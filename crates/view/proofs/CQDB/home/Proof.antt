@@ -12,7 +12,7 @@ use Rattle.reader.specs.Walk.{home}
 use Rattle.reader.proofs.home as on-image
 use Rattle.reader.proofs.home.Symbol as callee
 use Rattle.reader.proofs.home.Met as kept
-use Rattle.view.proofs.Thin.{keeps₁, id-passed}
+use Rattle.view.proofs.OverView.{keeps₁, id-passed}
 use Rattle.view.proofs.CQDB.home as on-view
 use Rattle.view.proofs.CQDB.home.Key.{name as #view·home}
 use Rattle.view.proofs.CQDB.home.Statement as stated

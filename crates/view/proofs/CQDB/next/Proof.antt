@@ -16,7 +16,7 @@ use Rattle.reader.proofs.Iter.Laws as I′
 use Rattle.reader.proofs.walk.next as on-image
 use Rattle.reader.proofs.walk.next.Symbol as callee
 use Rattle.reader.proofs.walk.next.Met as kept
-use Rattle.view.proofs.Thin.{keeps₁}
+use Rattle.view.proofs.OverView.{keeps₁}
 use Rattle.view.proofs.CQDB.next as on-view
 use Rattle.view.proofs.CQDB.next.Key.{name as #view·next}
 use Rattle.view.proofs.CQDB.next.Statement as stated
