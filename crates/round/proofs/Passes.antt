@@ -18,32 +18,32 @@ use Rattle.round.proofs.Places.{has-after}
 
 -- ---- the turn of a pass, for the z-th of the searches that were open: `on` tells whether it goes on
 
-module _ (first open done : List ℕ) (p d z i on : ℕ) (whole : p + d ≡ z) (few : on ≤ 1) (own : i ≡ getD first z 0)
-    (room : p < length open) (room' : d < length done) where
-  pub unread-turn : ((y : ℕ) → z ≤ y → getD open y 0 ≡ getD first y 0) → (y : ℕ) → z + 1 ≤ y → getD (set open p i) y 0 ≡ getD first y 0
-  unread-turn old y h = getD-set-other open p y i 0 (λ e. omega arith) ∙ old y (omega arith)
+module _ (first live done : List ℕ) (p d z i on : ℕ) (whole : p + d ≡ z) (few : on ≤ 1) (own : i ≡ getD first z 0)
+    (room : p < length live) (room' : d < length done) where
+  pub unread-turn : ((y : ℕ) → z ≤ y → getD live y 0 ≡ getD first y 0) → (y : ℕ) → z + 1 ≤ y → getD (set live p i) y 0 ≡ getD first y 0
+  unread-turn old y h = getD-set-other live p y i 0 (λ e. omega arith) ∙ old y (omega arith)
 
-  pub parted-turn : ((y : ℕ) → y < z → Listed open p (getD first y 0) ⊎ Listed done d (getD first y 0))
-      → (y : ℕ) → y < z + 1 → Listed (set open p i) (p + on) (getD first y 0) ⊎ Listed (set done d i) (d + (1 - on)) (getD first y 0)
+  pub parted-turn : ((y : ℕ) → y < z → Listed live p (getD first y 0) ⊎ Listed done d (getD first y 0))
+      → (y : ℕ) → y < z + 1 → Listed (set live p i) (p + on) (getD first y 0) ⊎ Listed (set done d i) (d + (1 - on)) (getD first y 0)
   parted-turn old y h =
       elim (ℕ-discrete y z) [
         | yes e ↦
-            subst (λ (j : ℕ). Listed (set open p i) (p + on) j ⊎ Listed (set done d i) (d + (1 - on)) j) (own ∙ ap (λ (m : ℕ). getD first m 0) (sym e)) this
+            subst (λ (j : ℕ). Listed (set live p i) (p + on) j ⊎ Listed (set done d i) (d + (1 - on)) j) (own ∙ ap (λ (m : ℕ). getD first m 0) (sym e)) this
         | no e ↦ stays (getD first y 0) (old y (less e))
       ]
     where
       less : (y ≡ z → ⊥) → y < z
       less e = elim (ℕ-discrete y z) [ yes f ↦ absurd (e f) | no f ↦ omega arith ]
 
-      this : Listed (set open p i) (p + on) i ⊎ Listed (set done d i) (d + (1 - on)) i
+      this : Listed (set live p i) (p + on) i ⊎ Listed (set done d i) (d + (1 - on)) i
       this =
           elim (ℕ-discrete on 0) [
             | yes f ↦ inr (listed-new done d (d + (1 - on)) i room' (omega arith))
-            | no f ↦ inl (listed-new open p (p + on) i room (omega arith))
+            | no f ↦ inl (listed-new live p (p + on) i room (omega arith))
           ]
 
-      stays : (j : ℕ) → Listed open p j ⊎ Listed done d j → Listed (set open p i) (p + on) j ⊎ Listed (set done d i) (d + (1 - on)) j
-      stays j (inl a) = inl (listed-old open p (p + on) i j (omega arith) a)
+      stays : (j : ℕ) → Listed live p j ⊎ Listed done d j → Listed (set live p i) (p + on) j ⊎ Listed (set done d i) (d + (1 - on)) j
+      stays j (inl a) = inl (listed-old live p (p + on) i j (omega arith) a)
       stays j (inr a) = inr (listed-old done d (d + (1 - on)) i j (omega arith) a)
 
 -- those that go on, and those that are decided, of the first q that were open
@@ -53,9 +53,9 @@ Going image keys first q c i = Listed first q i × Goes image (getD keys i 0) c
 abbrev pub Deciding : List ℕ → List ℕ → List ℕ → ℕ → ℕ → ℕ → ℕ → Type 0
 Deciding image keys first q c i e = Listed first q i × Decided image (getD keys i 0) c e
 
-pub parted-end : (open done : List ℕ) (p d n j : ℕ) → d ≡ n → Listed open p j ⊎ Listed done d j → Listed open p j ⊎ Listed done n j
-parted-end open done p d n j e (inl a) = inl a
-parted-end open done p d n j e (inr a) = inr (record { place = a .place; inside = omega (arith, a .inside); is = a .is })
+pub parted-end : (live done : List ℕ) (p d n j : ℕ) → d ≡ n → Listed live p j ⊎ Listed done d j → Listed live p j ⊎ Listed done n j
+parted-end live done p d n j e (inl a) = inl a
+parted-end live done p d n j e (inr a) = inr (record { place = a .place; inside = omega (arith, a .inside); is = a .is })
 
 -- ---- answers in their places
 

@@ -193,6 +193,6 @@ module _ (image : List ℕ) (xs : List (List ℕ)) (equals list : List ℕ) (n m
   answered-new l₀ l all e fits stand kept =
       stored image xs l₀ l e (omega arith)
       (λ i h.
-          let k : i < n = omega arith in
-          ready l stand .stand i k (news-full equals n i k (omega (arith, length-take m list, ap length listed))))
+      let k : i < n = omega arith in
+      ready l stand .stand i k (news-full equals n i k (omega (arith, length-take m list, ap length listed))))
       (λ p q. let k : 4 * n ≤ p = omega arith in kept p k)

@@ -11,12 +11,12 @@ ghost use Rattle.round.specs.Names.{names, astray, nth};
 ghost use Rattle.round.specs.Round.{answerWords, bucketsOf};
 ghost use Rattle.round.specs.steps.Telling.{Keys, Has, Kept, Begun};
 ghost use Rattle.round.specs.steps.Searching.{Decided, Right};
+use super::searching::pass;
 use joined::name_of;
 use reader::Seen;
 use reader::ToId;
 use reader::lookup::see_entry;
 use reader::lookup::to_id_by;
-use super::searching::pass;
 
 // How many buckets the passes read for each name.
 const PASSES: u32 = 5;
@@ -124,7 +124,15 @@ fn find_done(
     let mut x: usize = 0;
     while x < m {
         let i = list[x] as usize;
-        put_decided(image, name_of(bytes, ends, i), keys[i], offsets[x], c, &mut *answers, 4 * i);
+        put_decided(
+            image,
+            name_of(bytes, ends, i),
+            keys[i],
+            offsets[x],
+            c,
+            &mut *answers,
+            4 * i,
+        );
         x += 1;
     }
 }
@@ -175,7 +183,17 @@ pub(crate) fn find_all(
     while c < PASSES {
         let on = pass(image, keys, c, q, &mut *live, &mut done, &mut offsets);
         c += 1;
-        find_done(image, bytes, ends, keys, &done, q - on, &offsets, c, &mut *answers);
+        find_done(
+            image,
+            bytes,
+            ends,
+            keys,
+            &done,
+            q - on,
+            &offsets,
+            c,
+            &mut *answers,
+        );
         q = on;
     }
     find_open(image, bytes, ends, keys, &*live, q, &mut *answers);

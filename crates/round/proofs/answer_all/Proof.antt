@@ -24,8 +24,7 @@ slice-aggregate-tell-2 c = search needs
 
 tell-requires : tie.Need-tell-requires
 tell-requires c κs =
-    let s = c .before .before .before .before .before .before .before .before .before in
-    (
+    let s = c .before .before .before .before .before .before .before .before .before in (
       s .pre .1,
       s .pre .0,
       omega (arith, c .before .before .before .hash-all .kept, length-replicate {A = ℕ} 512 0, s .pre .0),

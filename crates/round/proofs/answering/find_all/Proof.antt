@@ -29,8 +29,7 @@ abbrev μ-loop : tie.MeasureT-loop
 loop-holds : tie.Need-loop-holds Inv-loop μ-loop
 loop-holds c =
     let a = c .before .before .before .before .before .before .args in
-    let first = a .live .now in
-    (
+    let first = a .live .now in (
       omega arith,
       omega arith,
       refl,
@@ -52,8 +51,7 @@ slice-aggregate-pass-2 c = omega (arith, c .before .before .before .before .loop
 pass-requires : tie.Need-pass-requires Inv-loop μ-loop
 pass-requires c κs =
     let s = c .before .before .before .before .before .before .before .before .before .before .before in
-    let l = c .before .before .before .before .loop in
-    (
+    let l = c .before .before .before .before .loop in (
       omega (arith, c .before .before .before .loop-test .taken),
       omega (arith, l .inv .1, s .pre .3),
       omega (arith, l .inv .1, l .inv .2, s .pre .4),
@@ -83,8 +81,7 @@ find-done-requires c κs =
     let l = c .before .before .before .before .before .before .before .before .before .before .before .before .loop in
     let parted = c .before .before .before .before .before .before .before .pass in
     let first = s .args .live .now in
-    let done = parted .last .1 .1 .1 .1 .1 .0 in
-    (
+    let done = parted .last .1 .1 .1 .1 .1 .0 in (
       s .pre .0,
       s .pre .1,
       omega (arith, l .inv .5, s .pre .2),
@@ -111,8 +108,7 @@ loop-again c =
     let first = s .args .live .now in
     let live = parted .last .1 .1 .1 .1 .0 in
     let done = parted .last .1 .1 .1 .1 .1 .0 in
-    let after = found .last .1 .1 .1 .1 .1 .1 .1 .1 .0 in
-    (
+    let after = found .last .1 .1 .1 .1 .1 .1 .1 .1 .0 in (
       omega (arith, c .before .before .before .before .before .before .before .before .before .before .before .before .before .before .loop-test .taken),
       omega (arith, parted .ensures .0 .0, l .inv .1),
       omega (arith, parted .kept, l .inv .2),
@@ -131,8 +127,7 @@ loop-again c =
 find-open-requires : tie.Need-find-open-requires Inv-loop μ-loop
 find-open-requires c κs =
     let s = c .before .before .before .before .before .before .before .before .before .before in
-    let l = c .before .before .before .loop in
-    (
+    let l = c .before .before .before .loop in (
       s .pre .0,
       s .pre .1,
       omega (arith, l .inv .5, s .pre .2),
@@ -154,8 +149,7 @@ returns c =
     let found = c .before .before .find-open in
     let image = s .args .image .now in
     let xs = names (s .args .bytes .now) (s .args .ends .now) in
-    let after = found .last .1 .1 .1 .1 .1 .1 .0 in
-    (
+    let after = found .last .1 .1 .1 .1 .1 .1 .0 in (
       λ x h.
           let i = getD (s .args .live .now) x 0 in
           last-right image xs (l .answers) after (l .live) (l .q) i (found .ensures .1 .0 i) (found .ensures .0) (l .inv .9 x h),

@@ -56,8 +56,7 @@ shared-slice-read-sight c = omega (arith, c .before .before .before .loop .inv .
 sight-requires : tie.Need-sight-requires Inv-loop μ-loop
 sight-requires c κs =
     let a = c .before .before .before .before .before .before .before .before .before .args in
-    let l = c .before .before .before .loop in
-    (
+    let l = c .before .before .before .loop in (
       c .before .before .before .before .before .before .before .before .before .pre .0,
       subst (λ (k : ℕ). Goes (a .image .now) (getD (a .keys .now) k 0) (a .c)) (sym (l .inv .5 (l .z) (omega arith))) (c .before .before .before .before .before .before .before .before .before .pre .6 (l .z) (omega arith)),
     )

@@ -15,8 +15,7 @@ table-in-requires c κs = search needs
 returns : tie.Need-returns
 returns c =
     let a = c .before .before .before .before .args in
-    let t = c .before .before .table-in in
-    (
+    let t = c .before .before .table-in in (
       (omega arith, λ e. goes-past (a .image .now) (a .h) (a .c) (t .result .n) (t .ensures .0) (λ some. t .ensures .1 some .3) (c .if1 .taken)),
       λ z. absurd (omega arith),
     )
@@ -78,8 +77,7 @@ returns-2 c =
     let row = t .ensures .1 some in
     let image = a .image .now in
     let k = (a .h / 256 + a .c) % t .result .n in
-    let p = c .passed in
-    (
+    let p = c .passed in (
       (
         p .ensures .0,
         λ e.

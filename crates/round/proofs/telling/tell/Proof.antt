@@ -34,8 +34,7 @@ loop-holds : tie.Need-loop-holds Inv-loop μ-loop
 loop-holds c =
     let s = c .before .before .before .before .before .before .before .before .before in
     let bytes = s .args .bytes .now in
-    let ends = s .args .ends .now in
-    (
+    let ends = s .args .ends .now in (
       omega arith,
       refl,
       λ i h z.
@@ -58,8 +57,7 @@ slice-aggregate-equal-before c = search needs
 equal-before-requires : tie.Need-equal-before-requires Inv-loop μ-loop
 equal-before-requires c κs =
     let s = c .before .before .before .before .before .before .before .before .before .before .before .before in
-    let of-link = c .before .before .before .before .before .link in
-    (
+    let of-link = c .before .before .before .before .before .link in (
       s .pre .0,
       of-link .ensures .1 .1 (c .before .before .loop .x) (omega arith),
       s .pre .2,
