@@ -55,10 +55,16 @@ shared-slice-read-put-decided-2 : tie.Need-shared-slice-read-put-decided-2 Inv-l
 shared-slice-read-put-decided-2 c = omega (arith, c .before .before .before .before .before .before .before .before .before .before .before .before .before .pre .4)
 
 mul-put-decided-3 : tie.Need-mul-put-decided-3 Inv-loop μ-loop
-mul-put-decided-3 c = omega (arith, c .before .before .before .before .before .before .before .before .before .before .before .before .before .before .pre .5 (c .before .before .before .before .before .before .loop .x) (omega arith), c .before .before .before .before .before .before .before .before .before .before .before .before .before .before .pre .2, c .before .before .before .before .before .before .loop .inv .1)
+mul-put-decided-3 c =
+    let s = c .before .before .before .before .before .before .before .before .before .before .before .before .before .before in
+    let l = c .before .before .before .before .before .before .loop in
+    omega (arith, s .pre .5 (l .x) (omega arith), s .pre .2, l .inv .1)
 
 put-decided-requires : tie.Need-put-decided-requires Inv-loop μ-loop
-put-decided-requires c κs = (omega (arith, c .before .before .before .before .before .before .before .before .before .before .before .before .before .before .pre .5 (c .before .before .before .before .before .before .loop .x) (omega arith), c .before .before .before .before .before .before .before .before .before .before .before .before .before .before .pre .2, c .before .before .before .before .before .before .loop .inv .1), c .before .before .before .before .before .before .before .before .before .before .before .before .before .before .pre .6 (c .before .before .before .before .before .before .loop .x) (omega arith))
+put-decided-requires c κs =
+    let s = c .before .before .before .before .before .before .before .before .before .before .before .before .before .before in
+    let l = c .before .before .before .before .before .before .loop in
+    (omega (arith, s .pre .5 (l .x) (omega arith), s .pre .2, l .inv .1), s .pre .6 (l .x) (omega arith))
 
 add-x : tie.Need-add-x Inv-loop μ-loop
 add-x c = omega arith

@@ -53,10 +53,16 @@ to-id-by-requires : tie.Need-to-id-by-requires Inv-loop μ-loop
 to-id-by-requires c κs = tt
 
 mul-put-answer : tie.Need-mul-put-answer Inv-loop μ-loop
-mul-put-answer c = omega (arith, c .before .before .before .before .before .before .before .before .before .before .before .before .before .pre .4 (c .before .before .before .before .before .before .loop .x) (omega arith), c .before .before .before .before .before .before .before .before .before .before .before .before .before .pre .2, c .before .before .before .before .before .before .loop .inv .1)
+mul-put-answer c =
+    let s = c .before .before .before .before .before .before .before .before .before .before .before .before .before in
+    let l = c .before .before .before .before .before .before .loop in
+    omega (arith, s .pre .4 (l .x) (omega arith), s .pre .2, l .inv .1)
 
 put-answer-requires : tie.Need-put-answer-requires Inv-loop μ-loop
-put-answer-requires c κs = omega (arith, c .before .before .before .before .before .before .before .before .before .before .before .before .before .pre .4 (c .before .before .before .before .before .before .loop .x) (omega arith), c .before .before .before .before .before .before .before .before .before .before .before .before .before .pre .2, c .before .before .before .before .before .before .loop .inv .1)
+put-answer-requires c κs =
+    let s = c .before .before .before .before .before .before .before .before .before .before .before .before .before in
+    let l = c .before .before .before .before .before .before .loop in
+    omega (arith, s .pre .4 (l .x) (omega arith), s .pre .2, l .inv .1)
 
 add-x : tie.Need-add-x Inv-loop μ-loop
 add-x c = omega arith

@@ -85,7 +85,11 @@ returns-5 c =
     let a = c .before .before .before .before .before .before .before .before .before .before .before .before .before .args in
     let told = c .before .before .before .before .before .hit .given .0 .0 in
     let seen = sym (ap seenOf (c .before .before .before .before .before .hit .given .1)) ∙ c .before .before .before .before .before .before .before .see-entry .ensures in
-    let answer = entry-decides (a .image .now) (a .name .now) (a .h) (a .c) (a .offset) (c .before .before .before .before .before .before .before .before .before .before .before .before .before .pre .1) (c .before .before .before .before .before .before .before .before .before .if1 .left) (c .before .before .before .before .before .before .before .before .if2 .left) (hit (record { id = told .id; offset = told .offset })) seen in
+    let pre = c .before .before .before .before .before .before .before .before .before .before .before .before .before .pre in
+    let short = c .before .before .before .before .before .before .before .before .before .if1 .left in
+    let some = c .before .before .before .before .before .before .before .before .if2 .left in
+    let answer =
+    entry-decides (a .image .now) (a .name .now) (a .h) (a .c) (a .offset) (pre .1) short some (hit (record { id = told .id; offset = told .offset })) seen in
     c .before .before .put-words4 .ensures ∙ ap (λ (x : Lookup). sets (a .answers .now) (a .at) (answerWords x)) answer
 
 pub put-decided-spec : {M : Type 1} → statement M
