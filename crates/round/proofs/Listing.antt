@@ -7,7 +7,6 @@ use mathlib.Core.Logic.{_⊎_, inl, inr}
 use mathlib.Core.List.{List}
 use lib.ListN.{length, getD, set}
 use lib.Seq.{getD-set-same, getD-set-other}
-use Rattle.round.specs.Names.{nth}
 use Rattle.round.specs.steps.Telling.{Listed, Equal}
 
 -- what is listed stays so

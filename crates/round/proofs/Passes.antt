@@ -6,7 +6,7 @@ use mathlib.Core.Path.{_≡_, refl, sym, ap, subst, _∙_}
 use mathlib.Core.Logic.{_⊎_, inl, inr}
 use mathlib.Core.List.{List}
 use lib.ListN.{length, getD, set}
-use lib.Seq.{sets, getD-set-same, getD-set-other}
+use lib.Seq.{sets, getD-set-other}
 use Rattle.reader.specs.Lookup.{Lookup, lookup}
 use Rattle.round.specs.Names.{nth}
 use Rattle.round.specs.Round.{answerWords}

@@ -15,7 +15,7 @@ use Rattle.image.proofs.Lists.{length-cat}
 use Rattle.reader.specs.Lookup.{lookup}
 use Rattle.reader.specs.Naming.{naming}
 use Rattle.round.specs.Names.{namesFrom, names, astray, joined, endsFrom, nth}
-use Rattle.round.specs.Round.{answerWords, roundWords, roundBuckets, rounding, leftBy, afterRound}
+use Rattle.round.specs.Round.{answerWords, roundWords, roundBuckets, rounding, afterRound}
 use Rattle.round.specs.NameRound.{placeWords, nameWords, nameRefusal, afterNames}
 use Rattle.round.specs.Theorem.{placeAt, Accepted, RoundHolds}
 use Rattle.joined.proofs.NameEnds.{length-names}

@@ -1,7 +1,7 @@
 -- `round::answer_all` meets its contract. Assumes nothing.
-use Prim.Native.Nat.{ℕ, _*_, _≤_, _<_}
+use Prim.Native.Nat.{ℕ, _≤_}
 use native.Mathlib.Omega.{arith}
-use mathlib.Core.Path.{_≡_, refl, sym, ap, _∙_}
+use mathlib.Core.Path.{_≡_}
 use lib.ListN.{length, length-replicate, getD-replicate}
 use Rattle.round.specs.Names.{names}
 use Rattle.joined.proofs.NameEnds.{length-names}

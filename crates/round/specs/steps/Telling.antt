@@ -1,10 +1,10 @@
 -- What the steps of a round tell of its names, so that equal ones are searched for once.
 use Prim.Native.Nat.{ℕ, _+_, _*_, _-_, _%_, _≤_, _<_}
 use mathlib.Core.Path.{_≡_}
-use mathlib.Core.Bool.{Bool, cond}
+use mathlib.Core.Bool.{Bool}
 use mathlib.Core.List.{List}
 use lib.ListN.{length, getD}
-use lib.Dec.{eqb, ltb}
+use lib.Dec.{eqb}
 unfoldable pub use Rattle.joined.specs.Keys.{key}
 use Rattle.image.specs.Bytes.{keep, range}
 use Rattle.round.specs.Names.{nth}

@@ -1,17 +1,15 @@
 -- `round::answering::find_all` meets its contract. The loop's invariant: each of the names has its answer, or its search is open and goes on after c
 -- buckets. Assumes nothing.
-use Prim.Native.Nat.{ℕ, _+_, _*_, _-_, _≤_, _<_}
+use Prim.Native.Nat.{ℕ, _-_, _≤_, _<_}
 use native.Mathlib.Omega.{arith}
 use mathlib.Core.Path.{_≡_, refl, _∙_}
 use mathlib.Core.Logic.{_⊎_, inr}
-use mathlib.Core.List.{List}
 use lib.ListN.{length, getD, length-replicate}
 use Rattle.round.specs.Names.{names}
 use Rattle.round.specs.steps.Telling.{Listed, Kept}
 use Rattle.round.specs.steps.Searching.{Goes, Right}
 use Rattle.round.proofs.Sights.{goes-first}
 use Rattle.round.proofs.Passes.{listed-self, listed-via, listed-small, next-right, last-right}
-use borrow.Author.Needs.{needs}
 use Rattle.round.proofs.answering.find_all.Statement.{statement}
 use Rattle.round.proofs.answering.find_all.Tie as tie
 

@@ -4,7 +4,6 @@ use Prim.Native.Nat.{ℕ, _+_, _-_, _≤_, _<_}
 use native.Mathlib.Omega.{arith}
 use mathlib.Core.Path.{_≡_, refl, sym, subst}
 use mathlib.Core.Logic.{_⊎_}
-use mathlib.Core.List.{List}
 use lib.ListN.{length, getD, length-set}
 use Rattle.round.specs.steps.Telling.{Listed}
 use Rattle.round.specs.steps.Searching.{Goes}

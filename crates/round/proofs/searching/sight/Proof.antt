@@ -1,9 +1,8 @@
 -- `round::searching::sight` meets its contract. Assumes nothing.
-use Prim.Native.Nat.{_+_, _*_, _%_, _/_, _≤_, _<_}
+use Prim.Native.Nat.{_+_, _%_, _/_, _<_}
 use native.Mathlib.Omega.{arith}
 use native.Mathlib.Nat.{mod-lt}
-use mathlib.Core.Path.{_≡_, refl}
-use lib.ListN.{length}
+use mathlib.Core.Path.{refl}
 use Rattle.round.proofs.Sights.{goes-past, passed-on, decided-here}
 use borrow.Author.Needs.{needs}
 use Rattle.round.proofs.searching.sight.Statement.{statement}

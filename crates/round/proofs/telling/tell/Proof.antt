@@ -1,5 +1,5 @@
 -- `round::telling::tell` meets its contract. The loop's invariant: the listed names passed are told, and those with no link. Assumes nothing.
-use Prim.Native.Nat.{ℕ, _+_, _-_, _≤_, _<_}
+use Prim.Native.Nat.{ℕ, _-_, _≤_, _<_}
 use native.Mathlib.Omega.{arith}
 use mathlib.Core.Path.{_≡_, refl}
 use lib.ListN.{length, getD, length-set, length-replicate}
