@@ -17,7 +17,7 @@ use Rattle.image.proofs.Bools.{second}
 use Rattle.image.proofs.Every.{All}
 use Rattle.finish.specs.Finish.{finishedOf, noneAbove, standing, Standing, finished}
 use Rattle.image.specs.Stored.{whole, between}
-use Rattle.finish.specs.steps.Working.{linksAt, taken, takenFrom}
+use Rattle.finish.specs.steps.Working.{linksAt, takenEntry, takenFrom}
 use Rattle.finish.specs.steps.Parting.{byTables}
 use Rattle.finish.specs.steps.Written.{headed, zeroed, parts, filledIn, written}
 use Rattle.image.proofs.Area.{Bytes, bytes-drop, bytes-take, length-entriesIn, whole-bytes, ids-words}
@@ -46,9 +46,9 @@ module _ (mode : Mode) (es : List Entry) (tail : List ℕ) (small : imageSize mo
       let o = backOffset mode es in
       let end = entriesEnd es in
       let n = length (e .name) + 1 in
-      ap (λ (k : ℕ). cond (eqb k 0) B (takenFrom mode o end (length rest) (at + (8 + k)) (taken mode o B at k)))
+      ap (λ (k : ℕ). cond (eqb k 0) B (takenFrom mode o end (length rest) (at + (8 + k)) (takenEntry mode o B at k)))
       (length-found mode es qs rest e tail split small ids)
-      ∙ ap (λ (b : Bool). cond b B (takenFrom mode o end (length rest) (at + (8 + n)) (taken mode o B at n)))
+      ∙ ap (λ (b : Bool). cond b B (takenFrom mode o end (length rest) (at + (8 + n)) (takenEntry mode o B at n)))
       (ne-eqb n 0 (λ z. omega arith))
       ∙ ap (λ (l : List ℕ). takenFrom mode o end (length rest) (at + (8 + n)) l) (turn mode es qs rest e tail split small ids)
       ∙ ap (λ (k : ℕ). takenFrom mode o end (length rest) k (partial mode es (qs ++ e ∷ []) ++ tail)) (next-at qs e)

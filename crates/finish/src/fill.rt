@@ -4,7 +4,7 @@ ghost use Prim.Native.Nat.{ℕ, _+_, _*_, _<_, _≤_};
 ghost use lib.ListN.{length};
 ghost use Rattle.image.specs.Bytes.{word};
 ghost use Rattle.image.specs.Tables.{tableOf, order, firstEmpty};
-ghost use Rattle.finish.specs.steps.Working.{withBucket, withLink, taken, takenFrom};
+ghost use Rattle.finish.specs.steps.Working.{withBucket, withLink, hashAt, takenEntry, takenFrom};
 use image::Mode;
 
 // The first empty of the n buckets at o, from bucket k on; bucket 0 where none is empty.
@@ -63,16 +63,24 @@ pub(super) fn store_link(mode: Mode, buf: &mut [u8], links: usize, id: u32, at: 
     }
 }
 
+// The hash of the name of the entry at `at`, whose length word is n.
+pub(super) fn hash_at(buf: &[u8], at: usize, n: usize) -> u32
+    requires { ⌜ (at + (8 + n) ≤ length (now buf)) × (1 ≤ n) × (n < 4294967296) ⌝ }
+    ensures { λ r. ⌜ r ≡ hashAt (now (buf .entry)) at n ⌝ }
+{
+    let jhash::Hashed::Hash(h) = jhash::name_hash(&buf[at + 8..at + 7 + n]) else {
+        return 0;
+    };
+    h
+}
+
 // The entry at `at`, whose length word is n, taken into its table and the back array.
 fn take_entry(mode: Mode, links: usize, buf: &mut [u8], at: usize, n: usize)
     requires { ⌜ (at + (8 + n) ≤ length (now buf)) × (1 ≤ n) × (n < 4294967296) × (at < 4294967296) × (links < 4294967296) ⌝ }
-    ensures { λ _. ⌜ now (buf .exit) ≡ taken mode links (now (buf .entry)) at n ⌝ }
+    ensures { λ _. ⌜ now (buf .exit) ≡ takenEntry mode links (now (buf .entry)) at n ⌝ }
 {
     let id = image::get_u32(&*buf, at);
-    let hashed = jhash::name_hash(&buf[at + 8..at + 7 + n]);
-    let jhash::Hashed::Hash(h) = hashed else {
-        return;
-    };
+    let h = hash_at(&*buf, at, n);
     store_bucket(&mut *buf, h, at as u32);
     store_link(mode, &mut *buf, links, id, at as u32);
 }
