@@ -17,8 +17,8 @@ use Rattle.reader.specs.declared.Found.{Found}
 use Rattle.answers.specs.Answer.{foundId, foundOffset, nameGiven, ofName, ofId, tablePuts, firstId, lastName, firstAt}
 use Rattle.reader.specs.Cases.{reads}
 use Rattle.answers.proofs.Opened.{opening-image}
-use Rattle.reader.proofs.Homes.{lookup-first}
-use Rattle.reader.specs.Meets.{entriesMet, someMet}
+use Rattle.agreement.proofs.Homes.{lookup-first}
+use Rattle.agreement.specs.Meets.{entriesMet, someMet}
 use Rattle.answers.proofs.Scan.{firstOf, foundHit, first-hit}
 use Rattle.answers.proofs.Names.{tellings, idIn, offsetIn, first-id, first-at, someId, some-met, named-told}
 use Rattle.answers.proofs.Found.{lookup-long, met-searched}

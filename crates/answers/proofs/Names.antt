@@ -13,7 +13,7 @@ use Rattle.image.specs.Bytes.{keep, same}
 use Rattle.image.specs.Tables.{tableOf}
 use Rattle.image.specs.Image.{Entry, Placed, entrySize, entriesSize, placed, inTable, ofTable, hasId}
 use Rattle.reader.specs.Lookup.{Hit, Seen, pass, hit}
-use Rattle.reader.specs.Meets.{Met, met, over, someMet}
+use Rattle.agreement.specs.Meets.{Met, met, over, someMet}
 use Rattle.answers.specs.Answer.{hasName, ofName, ofId, firstId, lastName, firstAt}
 use Rattle.image.proofs.Every.{All}
 use Rattle.image.proofs.Equal.{same-self, same-true, same-false}

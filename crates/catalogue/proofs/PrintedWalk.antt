@@ -11,7 +11,7 @@ use Rattle.image.specs.declared.Mode.the-variants.{Twoway}
 use Rattle.image.specs.Zero.{hasZero}
 use Rattle.image.specs.Image.{Entry, headSize, backSize, holds, image}
 use Rattle.reader.specs.Naming.{Naming, place, unnamed, naming}
-use Rattle.reader.specs.Walk.{stepOf, step}
+use Rattle.reader.specs.IdWalk.{stepOf, step}
 use Rattle.answers.specs.Answer.{heldAt, nameGiven, ofId, lastName}
 use Rattle.writer.specs.declared.Repeats.the-variants.{Off}
 use Rattle.writer.specs.Put.{entryOf}

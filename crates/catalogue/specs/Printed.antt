@@ -6,7 +6,7 @@ use mathlib.Core.Option.{Option, none, some}
 use lib.ListN.{length, take, drop}
 use Rattle.image.specs.declared.Mode.the-variants.{Twoway}
 use Rattle.image.specs.Image.{Entry, headSize, image}
-use Rattle.reader.specs.Walk.{Step, item, done, step}
+use Rattle.reader.specs.IdWalk.{Step, item, done, step}
 use Rattle.answers.specs.Answer.{ofId, lastName}
 use Rattle.writer.specs.Put.{entryOf}
 use Rattle.lists.specs.Calls.{sizeOf}

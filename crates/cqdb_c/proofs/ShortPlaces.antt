@@ -6,7 +6,7 @@ use mathlib.Core.List.{List}
 use lib.ListN.{getD, take, drop, length-take}
 use Rattle.image.proofs.Zeros.{before-short}
 use Rattle.reader.specs.Naming.{Naming, place, unnamed, naming}
-use Rattle.reader.specs.Panel.{cutAtZero, panel}
+use Rattle.agreement.specs.Panel.{cutAtZero, panel}
 use Rattle.reader.proofs.Lengths.{named-small}
 use Rattle.cqdb_c.specs.ReadAnswers.{lengthIn}
 

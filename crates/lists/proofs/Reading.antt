@@ -11,8 +11,9 @@ use Rattle.image.specs.declared.Mode.the-variants.{Twoway, Oneway}
 use Rattle.image.specs.Image.{Entry, headSize, backSize, imageSize, image}
 use Rattle.reader.specs.Lookup.{Lookup, found, nothing, lookup}
 use Rattle.reader.specs.declared.Found.{Found}
-use Rattle.reader.specs.Meets.{entriesMet, someMet}
-use Rattle.reader.specs.Walk.{stepOf, step, homeBy, home}
+use Rattle.agreement.specs.Meets.{entriesMet, someMet}
+use Rattle.reader.specs.IdWalk.{stepOf, step}
+use Rattle.agreement.specs.Home.{homeBy, home}
 use Rattle.answers.specs.Answer.{foundId, heldAt, nameGiven, ofId, lastName, tablePuts}
 use Rattle.reader.specs.Cases.{reads}
 use Rattle.answers.proofs.Images.{image-opens, name-gives, name-nothing, name-reads, found-reads, long-reads, last-met, ids-fit, id-gives, id-nothing}

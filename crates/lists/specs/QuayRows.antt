@@ -14,7 +14,7 @@ pub use Rattle.image.specs.Bytes.{Each}
 use Rattle.image.specs.Head.{backSizeAt, backOffsetAt}
 use Rattle.reader.specs.Open.{opening}
 use Rattle.reader.specs.Lookup.{lookup}
-use Rattle.reader.specs.Walk.{home}
+use Rattle.agreement.specs.Home.{home}
 use Rattle.answers.specs.Answer.{foundId, nameGiven}
 use Rattle.writer.specs.declared.Repeats.{Repeats}
 use Rattle.writer.specs.declared.Repeats.the-variants.{Off, On}

@@ -17,7 +17,7 @@ use Rattle.image.specs.Bytes.{cat, range}
 use Rattle.image.proofs.Lists.{cat-run, length-range, getD-range}
 use Rattle.image.proofs.At.{At, at-whole, at-same, at-equal, at-part, at-take}
 use Rattle.reader.specs.Naming.{nameGiven}
-use Rattle.reader.specs.Walk.{upperHint}
+use Rattle.reader.specs.IdWalk.{upperHint}
 use Rattle.page.specs.Page.{idField, nameField, line, page}
 use Rattle.page.specs.Call.{pageOf, pageLength, printing, afterPage}
 use Rattle.page.specs.PrintedPage.{PrintedPage, Plain, readFrom}

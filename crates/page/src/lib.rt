@@ -8,7 +8,7 @@ ghost use Rattle.page.specs.Page.{page};
 ghost use Rattle.page.specs.Call.{pageLength, printing, afterPage, printedOf};
 use line::print_line;
 use reader::Iter;
-use reader::walk::size_hint;
+use reader::id_walk::size_hint;
 
 mod line; // line.rt: one line
 

@@ -11,7 +11,7 @@ use lib.Seq.{take-all, drop-length}
 use Rattle.image.specs.Bytes.{same}
 use Rattle.reader.specs.Slices.{Slice}
 use Rattle.reader.specs.Naming.{place, naming, namePart}
-use Rattle.reader.specs.Walk.{Step, item}
+use Rattle.reader.specs.IdWalk.{Step, item}
 use Rattle.replay_lines.specs.Hex.{countIn, afterDecode}
 use Rattle.replay_lines.specs.declared.Bytes.{Bytes}
 use Rattle.replay_lines.specs.declared.Bytes.the-variants as bytes

@@ -9,7 +9,7 @@ use Rattle.image.specs.Bytes.{same}
 use Rattle.reader.specs.Open.{opening}
 use Rattle.reader.specs.Lookup.{Lookup, found, nothing, lookup}
 use Rattle.reader.specs.Naming.{Naming, place, unnamed, naming}
-use Rattle.reader.specs.Walk.{home}
+use Rattle.agreement.specs.Home.{home}
 use Rattle.replay_lines.specs.Hex.{withNumber, withBytes}
 use Rattle.replay_lines.specs.Verdicts.{verdictIf}
 use Rattle.replay_lines.specs.declared.Verdict.{Verdict}

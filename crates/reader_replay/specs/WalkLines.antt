@@ -5,8 +5,7 @@ use mathlib.Core.List.{List}
 use lib.ListN.{length, take, drop}
 use lib.Dec.{eqb, leb}
 use Rattle.image.specs.Bytes.{same}
-use Rattle.reader.specs.Walk.{Step, item, done, step, upperHint}
-use Rattle.reader.specs.WalkSteps.{standsAfter}
+use Rattle.reader.specs.IdWalk.{Step, item, done, step, upperHint, standsAfter}
 use Rattle.replay_lines.specs.Tags.{either, says, WALK, LEFT, ITEM, ENDS}
 
 -- is a name what stands at a place of an image?

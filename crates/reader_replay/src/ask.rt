@@ -3,7 +3,7 @@ ghost use mathlib.Core.Path.{_≡_};
 ghost use Rattle.reader.specs.Open.{opening};
 ghost use Rattle.reader.specs.Lookup.{lookup};
 ghost use Rattle.reader.specs.Naming.{naming};
-ghost use Rattle.reader.specs.Walk.{home};
+ghost use Rattle.agreement.specs.Home.{home};
 ghost use Rattle.replay_lines.specs.Tags.{either, says};
 ghost use Rattle.reader_replay.specs.AskLines.{opensAs, findsAs, namesAs, homeAs, asks, agrees, nameCompared, askVerdict};
 use super::walk;
@@ -83,7 +83,7 @@ fn names_as(tag: u32, id: u32, name: &[u8], image: &[u8]) -> bool
 fn home_as(tag: u32, id: u32, image: &[u8]) -> bool
     ensures { λ r. ⌜ r ≡ homeAs tag (home (now (image .entry)) id) ⌝ }
 {
-    if reader::home(image, id) {
+    if agreement::home(image, id) {
         tag == HOME
     } else {
         tag == AWAY
