@@ -15,7 +15,7 @@ use Rattle.image.proofs.Between.{length-between}
 use Rattle.image.proofs.Parts.{placedIn}
 use Rattle.image.proofs.Bools.{second}
 use Rattle.image.proofs.Every.{All}
-use Rattle.finish.specs.Finish.{finishedOf, noneAbove, standing, Standing, finished}
+use Rattle.finish.specs.Finish.{finishedOf, noneAbove, standing, Standing, finishedBuffer}
 use Rattle.image.specs.Stored.{whole, between}
 use Rattle.finish.specs.steps.Working.{linksAt, takenEntry, takenFrom}
 use Rattle.finish.specs.steps.Parting.{byTables}
@@ -143,7 +143,7 @@ module _ (mode : Mode) (end entries back : ℕ) (counts buf : List ℕ) (bytes :
       same : (a n : ℕ) {m : ℕ} → n ≡ m → a + 16 * n - a ≡ 16 * m
       same a n e = omega arith
 
-  pub written-image : written mode end entries back counts buf ≡ finished mode end entries back buf
+  pub written-image : written mode end entries back counts buf ≡ finishedBuffer mode end entries back buf
   unfolding written filledIn es size
   written-image = go (parts counts entries) refl
     where
@@ -151,6 +151,6 @@ module _ (mode : Mode) (end entries back : ℕ) (counts buf : List ℕ) (bytes :
           → cond t
           (byTables mode (linksAt mode end entries back) end entries counts (zeroed (headed mode end entries back counts buf) (end + 16 * entries) size))
           (takenFrom mode (linksAt mode end entries back) end entries headSize (zeroed (headed mode end entries back counts buf) end size))
-          ≡ finished mode end entries back buf
+          ≡ finishedBuffer mode end entries back buf
       go true few = written-by-tables few
       go false many = written-singly

@@ -1,12 +1,11 @@
 -- What the steps of finishing by tables leave, as the code goes: the pairs of hash and offset parted by table, each table's in put order in the
 -- table's own room, and then each table filled from its pairs. No rule of 01 stands here: proofs/ shows that they leave the image.
-use Prim.Native.Nat.{ℕ, zero, suc, _+_, _*_, _-_, _%_}
+use Prim.Native.Nat.{ℕ, zero, suc, _+_, _*_, _%_}
 use mathlib.Core.Bool.{Bool, cond, _&&_}
 use mathlib.Core.List.{List, [], _∷_, _++_}
-use lib.ListN.{length, getD, take, drop, set, replicate}
+use lib.ListN.{length, getD, set, replicate}
 use lib.Seq.{sets}
 use lib.Dec.{eqb, leb}
-use Rattle.jhash.specs.NameHash.{hashOf}
 use Rattle.image.specs.Bytes.{word, le32, cat}
 use Rattle.image.specs.Tables.{Bucket, tableOf, start, order, firstEmpty, filled}
 use Rattle.image.specs.Image.{headSize, bucketBytes}
