@@ -372,8 +372,7 @@ cqdb_build_answer cqdb_build_parts(uint32_t mode, uint32_t repeats, uint8_t *buf
 
    The words at work are lent for speed with repeats off: how many there are, and what they hold, changes no answer, and what
    they hold afterwards is left open. With 3 words for each name the time grows with the list, also where names repeat or are
-   refused; with fewer than one for each name, each name is compared with those before it. No pointer is NULL, also where its
-   number is 0. */
+   refused; with fewer than one for each name, each name is compared with those before it. */
 static inline cqdb_build_answer cqdb_build(uint32_t mode, uint32_t repeats, uint8_t *buf, size_t len,
                                            const uint8_t *names, size_t names_len, const uint64_t *ends, const uint32_t *ids,
                                            size_t n, uint32_t *refusals, size_t places, uint32_t *work, size_t words) {

@@ -1,17 +1,11 @@
--- The image that puts make: 02 (ix), without the writer. The lists' own definitions are joined to it in proofs/.
-use Prim.Native.Nat.{ℕ, _^_, _≤_, _<_}
+-- The image that puts make, without the writer. The lists' own definitions are joined to it in proofs/.
+use Prim.Native.Nat.{ℕ, _≤_}
 use mathlib.Core.Path.{_≡_}
-use mathlib.Core.Bool.{false}
 use mathlib.Core.List.{List}
 use Rattle.image.specs.Bytes.{Each}
 use Rattle.image.specs.Image.{Entry, imageSize, image}
-use Rattle.image.specs.Zero.{hasZero}
 use Rattle.image.specs.declared.Mode.{Mode}
-
--- a put that a writer can accept: its name has no zero byte, its id is a word
-pub record Puttable (e : Entry) : Type 0 where
-  pub free : hasZero (e .name) ≡ false
-  pub id-word : e .id < 2 ^ 32
+use Rattle.ours.specs.Ours.{Puttable}
 
 -- the bytes are the image of these puts in this mode, and its size is a word
 pub record Made (img : List ℕ) : Type 0 where
