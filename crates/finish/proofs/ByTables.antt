@@ -23,9 +23,8 @@ use Rattle.image.proofs.Every.{All}
 use Rattle.image.proofs.At.{At, at-same, at-right}
 use Rattle.image.proofs.Parts.{placedIn, before-most}
 use Rattle.image.proofs.EntryAt.{id-word}
-use Rattle.finish.specs.steps.Working.{withLink}
-use Rattle.finish.specs.steps.Parting.{withPair, moved, parted, partedFrom, roomsFrom}
-use Rattle.finish.specs.steps.Working.{hashAt}
+use Rattle.taking.specs.steps.Working.{withLink}
+use Rattle.finish.specs.steps.Parting.{withPair, moved, hashAt, parted, partedFrom, roomsFrom}
 use Rattle.finish.proofs.HeadRows.{Counts}
 use Rattle.finish.proofs.Partial.{upToEntries, length-upToEntries, entries-after}
 use Rattle.finish.proofs.Turn.{nextOf, placed-more, store-in, linked, entry-there, length-there, name-there, own-below, id-small, id-below, one-there, name-short, ends-there}

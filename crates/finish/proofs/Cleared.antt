@@ -1,7 +1,7 @@
 -- Head and rows written, tables and back array cleared: the image before any entry is taken. Assumes nothing.
 use Prim.Native.Nat.{ℕ, _+_, _-_, _*_, _≤_}
 use native.Mathlib.Omega.{arith}
-use mathlib.Core.Path.{_≡_, sym, ap, _∙_}
+use mathlib.Core.Path.{_≡_, refl, sym, ap, _∙_}
 use mathlib.Core.Bool.{cond}
 use mathlib.Core.List.{List, [], _++_, append-assoc}
 use lib.ListN.{length, take, drop, replicate, length-append, length-drop, length-replicate}
@@ -10,13 +10,13 @@ use lib.Dec.{eqb}
 use Rattle.image.specs.Bytes.{cat}
 use Rattle.image.specs.Image.{Entry, headSize, entryBytes, placed, flagWord, backIn, backSize, backSizeOf, entriesEnd, imageSize, backOffset, headBytes, headWords, tableRows, links}
 use Rattle.image.specs.declared.Mode.{Mode}
-use Rattle.image.proofs.Sizes.{length-placed, length-headWords, length-tableRows, length-links, backIn-twice}
+use Rattle.image.specs.declared.Mode.the-variants.{Twoway, Oneway}
+use Rattle.image.proofs.Sizes.{length-placed, length-headWords, length-tableRows, length-links}
 use Rattle.image.proofs.Stores.{sets-then, sets-right-at}
 use Rattle.image.proofs.Parts.{placedIn}
 use Rattle.finish.specs.Finish.{finishedOf}
 use Rattle.image.specs.Stored.{between}
-use Rattle.finish.specs.steps.Working.{rowsFrom, linksAt}
-use Rattle.finish.specs.steps.Written.{headed, zeroed}
+use Rattle.finish.specs.steps.Written.{rowsFrom, linksAt, headed, zeroed}
 use Rattle.finish.proofs.HeadRows.{Counts, rows-image}
 use Rattle.finish.proofs.Partial.{tablesWith, upToEntries, partial, zeros-both, zeros-links}
 
@@ -64,6 +64,10 @@ pub record Tells (mode : Mode) (end entries back : ℕ) (counts buf : List ℕ) 
   pub tallies : Counts counts (placedIn es)
   pub area : between buf headSize end ≡ cat entryBytes es
   pub room : finishedOf mode end entries back ≤ length buf
+
+backIn-twice : (mode : Mode) (n : ℕ) → backIn mode (backIn mode n) ≡ backIn mode n
+backIn-twice Twoway n = refl
+backIn-twice Oneway n = refl
 
 module _ (mode : Mode) (end entries back : ℕ) (counts buf : List ℕ) (es : List Entry) (tells : Tells mode end entries back counts buf es) where
   abbrev size : ℕ

@@ -1,21 +1,22 @@
 -- The steps of close by tables up to the pairs: two words in a row, where the rooms begin, and the entries parted one after the other. Assumes
 -- nothing.
-use Prim.Native.Nat.{ℕ, suc, _+_, _-_, _*_, _%_, _<_}
+use Prim.Native.Nat.{ℕ, suc, _+_, _-_, _*_, _%_, _≤_, _<_}
 use native.Mathlib.Omega.{arith}
 use mathlib.Core.Path.{_≡_, refl, sym, ap, ap₂, _∙_}
 use mathlib.Core.Bool.{Bool, cond}
 use mathlib.Core.List.{List, _++_}
-use lib.ListN.{getD, set, replicate}
+use lib.ListN.{getD, take, drop, set, replicate}
 use lib.Seq.{sets}
 use lib.Dec.{eqb}
 use borrow.Author.Tests.{eq-eqb, ne-eqb}
+use Rattle.jhash.specs.NameHash.{hashOf}
 use Rattle.image.specs.Bytes.{word, le32}
 use Rattle.image.specs.declared.Mode.{Mode}
 use Rattle.image.specs.Stored.{between, wholeLength}
 use Rattle.image.proofs.Words.{length-le32}
 use Rattle.image.proofs.Stores.{sets-then}
-use Rattle.finish.specs.steps.Working.{withLink, hashAt}
-use Rattle.finish.specs.steps.Parting.{roomsFrom, withPair, moved, parted, partedFrom, withTable, tablesFrom, byTables}
+use Rattle.taking.specs.steps.Working.{withLink}
+use Rattle.finish.specs.steps.Parting.{roomsFrom, withPair, moved, hashAt, parted, partedFrom, withTable, tablesFrom, byTables}
 
 -- ---- a pair
 
@@ -53,14 +54,18 @@ rooms-end counts p x o t i e = e
 
 -- ---- entries
 
-pub parted-parts : (mode : Mode) (links : ℕ) (places buf : List ℕ) (at n id h : ℕ) (places′ b1 b2 : List ℕ) → h ≡ hashAt buf at n → id ≡ word buf at
+pub parted-parts : (mode : Mode) (links : ℕ) (places buf : List ℕ) (at n id h : ℕ) (name places′ b1 b2 : List ℕ) → 1 ≤ n
+    → name ≡ take (at + 7 + n - (at + 8)) (drop (at + 8) buf) → h ≡ hashOf name → id ≡ word buf at
     → (b1 ≡ withPair places buf h at) × (places′ ≡ moved places h) → b2 ≡ withLink mode b1 links id at
     → (b2 ≡ parted mode links places buf at n) × (places′ ≡ moved places (hashAt buf at n))
-unfolding parted
-parted-parts mode links places buf at n id h places′ b1 b2 eh ei p q = (
-  q ∙ ap₂ (λ (l : List ℕ) (i : ℕ). withLink mode l links i at) (p .0 ∙ ap (λ (k : ℕ). withPair places buf k at) eh) ei,
-  p .1 ∙ ap (moved places) eh,
-)
+unfolding parted hashAt
+parted-parts mode links places buf at n id h name places′ b1 b2 some en eh ei p q =
+    let m : at + 7 + n - (at + 8) ≡ n - 1 = omega arith in
+    let nh : h ≡ hashOf (take (n - 1) (drop (at + 8) buf)) =
+    eh ∙ ap hashOf (en ∙ ap (λ (k : ℕ). take k (drop (at + 8) buf)) m) in (
+      q ∙ ap₂ (λ (l : List ℕ) (i : ℕ). withLink mode l links i at) (p .0 ∙ ap (λ (k : ℕ). withPair places buf k at) nh) ei,
+      p .1 ∙ ap (moved places) nh,
+    )
 
 module _ (mode : Mode) (links end : ℕ) where
   parted-suc : (m at : ℕ) (places buf : List ℕ)

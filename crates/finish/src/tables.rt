@@ -10,17 +10,15 @@ ghost use Rattle.image.specs.Bytes.{word, le32, cat};
 ghost use Rattle.image.specs.Tables.{order, firstEmpty, filled};
 ghost use Rattle.image.specs.Image.{bucketBytes};
 ghost use Rattle.finish.specs.steps.Written.{parts, filledIn};
-ghost use Rattle.finish.specs.steps.Working.{hashAt};
-ghost use Rattle.finish.specs.steps.Parting.{roomsFrom, withPair, moved, parted, partedFrom, pairsAt, pairsListed, inserted, copied, withTable, tablesFrom, byTables};
-use super::batch::take_entries;
+ghost use Rattle.finish.specs.steps.Parting.{roomsFrom, withPair, moved, hashAt, parted, partedFrom, pairsAt, listed, inserted, copied, withTable, tablesFrom, byTables};
 use super::counts::none_above;
-use super::fill::hash_at;
-use super::fill::store_link;
 use super::head::clear;
 use super::head::low;
 use super::head::wide;
 use image::Mode;
 use image::store::store_word;
+use taking::batch::take_entries;
+use taking::fill::store_link;
 
 // A pair stored at `at`, where there is room for it.
 fn store_pair(buf: &mut [u8], at: usize, h: u32, offset: u32)
@@ -81,7 +79,10 @@ fn part_entry(
     ensures { λ _. ⌜ (now (buf .exit) ≡ parted mode links (now (places .entry)) (now (buf .entry)) at n) × (now (places .exit) ≡ moved (now (places .entry)) (hashAt (now (buf .entry)) at n)) ⌝ }
 {
     let id = image::get_u32(&*buf, at);
-    let h = hash_at(&*buf, at, n);
+    let hashed = jhash::name_hash(&buf[at + 8..at + 7 + n]);
+    let jhash::Hashed::Hash(h) = hashed else {
+        return;
+    };
     note_pair(&mut *buf, &mut *places, h, at as u32);
     store_link(mode, &mut *buf, links, id, at as u32);
 }
@@ -142,7 +143,7 @@ fn insert(buf: &mut [u8], o: usize, n: usize, h: u32, at: u32)
 // The c pairs at o, copied.
 fn copy_pairs(buf: &[u8], o: usize, c: usize, hashes: &mut [u32; 4608], offsets: &mut [u32; 4608])
     requires { ⌜ (c ≤ 4608) × (o + 8 * c ≤ length (now buf)) × (length (now hashes) ≡ 4608) × (length (now offsets) ≡ 4608) ⌝ }
-    ensures { λ _. ⌜ (length (now (hashes .exit)) ≡ 4608) × (length (now (offsets .exit)) ≡ 4608) × (pairsListed (now (hashes .exit)) (now (offsets .exit)) c ≡ pairsAt (now (buf .entry)) o c) ⌝ }
+    ensures { λ _. ⌜ (length (now (hashes .exit)) ≡ 4608) × (length (now (offsets .exit)) ≡ 4608) × (listed (now (hashes .exit)) (now (offsets .exit)) c ≡ pairsAt (now (buf .entry)) o c) ⌝ }
 {
     let mut i = 0;
     while i < c {
@@ -155,7 +156,7 @@ fn copy_pairs(buf: &[u8], o: usize, c: usize, hashes: &mut [u32; 4608], offsets:
 // The room of a table of c entries at o, cleared and filled with copied pairs in their order.
 fn fill_room(buf: &mut [u8], o: usize, c: usize, hashes: &[u32; 4608], offsets: &[u32; 4608])
     requires { ⌜ (c ≤ 4608) × (o + 16 * c ≤ length (now buf)) ⌝ }
-    ensures { λ _. ⌜ now (buf .exit) ≡ sets (now (buf .entry)) o (cat bucketBytes (filled (2 * c) (pairsListed (now (hashes .entry)) (now (offsets .entry)) c))) ⌝ }
+    ensures { λ _. ⌜ now (buf .exit) ≡ sets (now (buf .entry)) o (cat bucketBytes (filled (2 * c) (listed (now (hashes .entry)) (now (offsets .entry)) c))) ⌝ }
 {
     clear(&mut *buf, o, o + 16 * c);
     let mut i = 0;

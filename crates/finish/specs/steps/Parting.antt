@@ -1,17 +1,18 @@
 -- What the steps of finishing by tables leave, as the code goes: the pairs of hash and offset parted by table, each table's in put order in the
 -- table's own room, and then each table filled from its pairs. No rule of 01 stands here: proofs/ shows that they leave the image.
-use Prim.Native.Nat.{ℕ, zero, suc, _+_, _*_, _%_}
+use Prim.Native.Nat.{ℕ, zero, suc, _+_, _*_, _-_, _%_}
 use mathlib.Core.Bool.{Bool, cond, _&&_}
 use mathlib.Core.List.{List, [], _∷_, _++_}
-use lib.ListN.{length, getD, set, replicate}
+use lib.ListN.{length, getD, take, drop, set, replicate}
 use lib.Seq.{sets}
 use lib.Dec.{eqb, leb}
+use Rattle.jhash.specs.NameHash.{hashOf}
 use Rattle.image.specs.Bytes.{word, le32, cat}
 use Rattle.image.specs.Tables.{Bucket, tableOf, start, order, firstEmpty, filled}
 use Rattle.image.specs.Image.{headSize, bucketBytes}
 use Rattle.image.specs.Stored.{between, wholeLength}
 use Rattle.image.specs.declared.Mode.{Mode}
-use Rattle.finish.specs.steps.Working.{withLink, hashAt}
+use Rattle.taking.specs.steps.Working.{withLink}
 
 -- where the rooms of the m tables from t on begin, in 32 bits; the first begins at o, and a table of c entries has room for 2c buckets
 unfoldable pub roomsFrom : List ℕ → ℕ → ℕ → ℕ → List ℕ
@@ -24,6 +25,10 @@ withPair places buf h at = sets buf (getD places (tableOf h) 0) (le32 h ++ le32 
 
 unfoldable pub moved : List ℕ → ℕ → List ℕ
 moved places h = set places (tableOf h) ((getD places (tableOf h) 0 + 8) % 4294967296)
+
+-- the hash of the name of the entry at `at` with length word n
+unfoldable pub hashAt : List ℕ → ℕ → ℕ → ℕ
+hashAt buf at n = hashOf (take (n - 1) (drop (at + 8) buf))
 
 -- this entry's pair stored in its table's room, and its link under its id
 unfoldable pub parted : Mode → ℕ → List ℕ → List ℕ → ℕ → ℕ → List ℕ
@@ -42,9 +47,9 @@ pairsAt buf o zero = []
 pairsAt buf o (suc c) = pairsAt buf o c ++ (record { hash = word buf (o + 8 * c); at = word buf (o + 8 * c + 4) } ∷ [])
 
 -- the c pairs of a list of hashes and one of offsets
-unfoldable pub pairsListed : List ℕ → List ℕ → ℕ → List Bucket
-pairsListed hashes offsets zero = []
-pairsListed hashes offsets (suc c) = pairsListed hashes offsets c ++ (record { hash = getD hashes c 0; at = getD offsets c 0 } ∷ [])
+unfoldable pub listed : List ℕ → List ℕ → ℕ → List Bucket
+listed hashes offsets zero = []
+listed hashes offsets (suc c) = listed hashes offsets c ++ (record { hash = getD hashes c 0; at = getD offsets c 0 } ∷ [])
 
 -- a pair stored in the first empty bucket of its search among the n buckets at o
 unfoldable pub inserted : List ℕ → ℕ → ℕ → ℕ → ℕ → List ℕ

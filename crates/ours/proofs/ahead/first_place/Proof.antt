@@ -1,7 +1,7 @@
 -- `ours::ahead::first_place` meets its contract. Assumes nothing.
 use native.Mathlib.Omega.{arith}
 use Prim.Native.Nat.{_/_}
-use Rattle.finish.proofs.Taking.{start-below}
+use Rattle.taking.proofs.Taking.{start-below}
 use borrow.Author.Needs.{needs}
 use Rattle.ours.proofs.Noting.{place-zero, place-said}
 use Rattle.ours.proofs.ahead.first_place.Statement.{statement}
