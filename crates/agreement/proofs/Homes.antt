@@ -16,7 +16,7 @@ use Rattle.agreement.specs.Meets.{Met, met, over, meet, meetAlong, metIn
 use Rattle.reader.specs.Naming.{Naming, place, unnamed, naming}
 use Rattle.agreement.specs.Home.{homeBy, home}
 use Rattle.agreement.specs.Homes.{finds, homeByFirst, Homes}
-use Rattle.reader.proofs.Bounds.{length-order}
+use Rattle.image.proofs.Buckets.{length-order}
 
 -- ---- the first of them
 

@@ -12,7 +12,8 @@ use lib.ListN.{length, getD, set}
 use Rattle.image.specs.Tables.{Bucket, empty, atOf, start, order, firstEmpty, insert}
 use Rattle.reader.specs.Lookup.{Hit, Seen, pass, ends, hit}
 use Rattle.answers.proofs.Scan.{hits, used, Good, Clear, Taken, hitOf, idx, idx-empty}
-use Rattle.answers.proofs.Order.{order-length, order-at, place-of, view, view-length, view-at, view-set}
+use Rattle.image.proofs.Buckets.{length-order}
+use Rattle.answers.proofs.Order.{order-at, place-of, view, view-length, view-at, view-set}
 
 -- the hits of a list of entries
 abbrev pub hitsIn : List Seen → List Hit
@@ -75,7 +76,7 @@ module _ (f : Bucket → Seen) (sees : Sees f) where
     unfolding view
     own-place hs hi =
         let s = start (b .hash) n in
-        firstEmpty-place table (order n n s) (rw (order-length n n s) hi) ∙ order-at n n s (idx (view n f table s)) hs hi
+        firstEmpty-place table (order n n s) (rw (length-order n n s) hi) ∙ order-at n n s (idx (view n f table s)) hs hi
 
     pub own-step : start (b .hash) n < n → idx (view n f table (start (b .hash) n)) < n
         → view n f (insert n table b) (start (b .hash) n)

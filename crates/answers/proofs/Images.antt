@@ -21,7 +21,7 @@ use Rattle.agreement.proofs.Homes.{lookup-first}
 use Rattle.agreement.specs.Meets.{entriesMet, someMet}
 use Rattle.answers.proofs.Scan.{firstOf, foundHit, first-hit}
 use Rattle.answers.proofs.Names.{tellings, idIn, offsetIn, first-id, first-at, someId, some-met, named-told}
-use Rattle.answers.proofs.Found.{lookup-long, met-searched}
+use Rattle.answers.proofs.Found.{met-searched}
 use Rattle.answers.proofs.Named.{naming-image}
 
 -- ---- nothing is first or last of an empty list alone
@@ -93,10 +93,6 @@ module _ (mode : Mode) (es : List Entry) (fits : imageSize mode es ≤ 429496729
         some-met id (entriesMet (image mode es) name)
         ∙ ap (someId id) (met-searched mode es fits ids name .meets)
         ∙ named-told id name headSize es h
-
--- a name that is too long for a hash reads no bucket, whatever the bytes
-pub long-reads : (bytes name : List ℕ) → 4294967295 ≤ length name → lookup bytes name ≡ nothing 0
-long-reads = lookup-long
 
 -- ---- two-way images: the size bounds the ids
 

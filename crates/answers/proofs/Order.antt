@@ -8,16 +8,12 @@ use native.Mathlib.Decide.{decLt, decLe, ℕ-discrete}
 use native.Mathlib.Omega.{arith}
 use lib.ListN.{length, getD, set, length-set, length-map}
 use lib.Seq.{ext-getD, getD-set-same, getD-set-other}
+use Rattle.image.proofs.Buckets.{length-order}
 use Rattle.image.specs.Tables.{Bucket, empty, next, order}
 use Rattle.reader.specs.Lookup.{Seen, pass}
 use Rattle.agreement.specs.Meets.{meetAlong}
 
 -- ---- the buckets in search order
-
-pub order-length : (n m k : ℕ) → length (order n m k) ≡ m
-unfolding order
-order-length n zero k = refl
-order-length n (suc m) k = ap suc (order-length n m (next n k))
 
 pub order-at : (n m k j : ℕ) → k < n → j < m → getD (order n m k) j 0 ≡ (k + j) % n
 unfolding order
@@ -77,7 +73,7 @@ view n f table s = map (λ (k : ℕ). f (getD table k empty)) (order n n s)
 
 pub view-length : (n : ℕ) (f : Bucket → Seen) (table : List Bucket) (s : ℕ) → length (view n f table s) ≡ n
 unfolding view
-view-length n f table s = length-map (order n n s) (λ (k : ℕ). f (getD table k empty)) ∙ order-length n n s
+view-length n f table s = length-map (order n n s) (λ (k : ℕ). f (getD table k empty)) ∙ length-order n n s
 
 getD-map-in : (g : ℕ → Seen) (ks : List ℕ) (j : ℕ) → j < length ks → getD (map g ks) j pass ≡ g (getD ks j 0)
 getD-map-in g [] j h = absurd (omega arith)
@@ -88,7 +84,7 @@ pub view-at : (n : ℕ) (f : Bucket → Seen) (table : List Bucket) (s j : ℕ) 
     → getD (view n f table s) j pass ≡ f (getD table ((s + j) % n) empty)
 unfolding view
 view-at n f table s j hs hj =
-    getD-map-in (λ (k : ℕ). f (getD table k empty)) (order n n s) j (rw (order-length n n s) hj)
+    getD-map-in (λ (k : ℕ). f (getD table k empty)) (order n n s) j (rw (length-order n n s) hj)
     ∙ ap (λ (k : ℕ). f (getD table k empty)) (order-at n n s j hs hj)
 
 -- an entry that goes into bucket (s + j) % n stands at place j of the search from s

@@ -16,6 +16,7 @@ use Rattle.image.proofs.Every.{All, all-map}
 use Rattle.reader.specs.Cases.{reads}
 use Rattle.reader.specs.Lookup.{Lookup, found, nothing, Seen, pass, ends, hit, see, decide, probe, searchTable, unsearched, lookupHash, lookup}
 use Rattle.reader.specs.declared.Found.{Found}
+use Rattle.reader.proofs.FoundAt.{not-found}
 use Rattle.answers.specs.Answer.{foundId, tablePuts}
 use Rattle.answers.proofs.Images.{found-reads}
 use Rattle.ours.specs.steps.Made.{Made}
@@ -26,17 +27,14 @@ use Rattle.average.specs.SearchLengths.{searchLength}
 
 -- ---- what is found was read
 
-nothing-found : {P : Type 0} (n : ℕ) (f : Found) → nothing n ≡ found f → P
-nothing-found n f e = let z : _≡_ {A = ℕ} 0 1 = cc in absurd (omega arith)
-
 probe-some : (look : ℕ → Seen) (ks : List ℕ) (r : ℕ) (f : Found) → probe look ks r ≡ found f → r < f .buckets
 unfolding probe
-probe-some look [] r f e = nothing-found r f e
+probe-some look [] r f e = not-found r f e
 probe-some look (k ∷ ks) r f e = go (look k) (λ q. probe-some look ks (r + 1) f q) e
   where
     go : (s : Seen) → (probe look ks (r + 1) ≡ found f → r + 1 < f .buckets) → decide s (r + 1) (probe look ks (r + 1)) ≡ found f → r < f .buckets
     go pass later e = omega (arith, later e)
-    go ends later e = nothing-found (r + 1) f e
+    go ends later e = not-found (r + 1) f e
     go (hit h) later e = let z : r + 1 ≡ f .buckets = cc in omega arith
 
 lookup-some : (img name : List ℕ) (f : Found) → lookup img name ≡ found f → 0 < f .buckets
@@ -47,15 +45,15 @@ lookup-some img name f e = by-size (ltb (length img) headSize) e
     searched = probe (λ (k : ℕ). see img name (hashOf name) (tableAt img (tableOf (hashOf name)) + 8 * k)) (order (bucketNumber img (tableOf (hashOf name))) (bucketNumber img (tableOf (hashOf name))) (start (hashOf name) (bucketNumber img (tableOf (hashOf name))))) 0
 
     by-table : (t : Bool) → cond t (nothing 0) searched ≡ found f → 0 < f .buckets
-    by-table true q = nothing-found 0 f q
+    by-table true q = not-found 0 f q
     by-table false q = probe-some _ _ 0 f q
 
     by-name : (t : Bool) → cond t (nothing 0) (cond (unsearched img (tableOf (hashOf name))) (nothing 0) searched) ≡ found f → 0 < f .buckets
-    by-name true q = nothing-found 0 f q
+    by-name true q = not-found 0 f q
     by-name false q = by-table (unsearched img (tableOf (hashOf name))) q
 
     by-size : (t : Bool) → cond t (nothing 0) (cond (leb 4294967295 (length name)) (nothing 0) (cond (unsearched img (tableOf (hashOf name))) (nothing 0) searched)) ≡ found f → 0 < f .buckets
-    by-size true q = nothing-found 0 f q
+    by-size true q = not-found 0 f q
     by-size false q = by-name (leb 4294967295 (length name)) q
 
 -- ---- the entries of an image that is ours

@@ -22,11 +22,6 @@ abbrev pub placeAnswerOf : Naming → PlaceAnswer
 placeAnswerOf (place s n) = record { found = 1; len = n; start = s }
 placeAnswerOf unnamed = record { found = 0; len = 0; start = 0 }
 
--- the length of a place, 0 where there is none
-abbrev pub lengthIn : Naming → ℕ
-lengthIn (place s n) = n
-lengthIn unnamed = 0
-
 -- 1 for yes, 0 for no
 abbrev pub oneIf : Bool → ℕ
 oneIf b = cond b 1 0

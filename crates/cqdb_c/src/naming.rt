@@ -3,12 +3,12 @@ use reader::Iter;
 use reader::Named;
 ghost use mathlib.Core.Path.{_≡_};
 ghost use Prim.Native.Nat.{_<_};
-ghost use Rattle.reader.specs.Naming.{naming};
+ghost use Rattle.reader.specs.Naming.{lengthIn, naming};
 ghost use Rattle.agreement.specs.Panel.{panel, readingsAgree};
 ghost use Rattle.reader.specs.IdWalk.{upperHint};
 ghost use Rattle.agreement.specs.Home.{home};
 ghost use Rattle.reader.specs.Cases.{namingOf};
-ghost use Rattle.cqdb_c.specs.ReadAnswers.{lengthIn, placeAnswerOf, oneIf};
+ghost use Rattle.cqdb_c.specs.ReadAnswers.{placeAnswerOf, oneIf};
 
 // 1 and the place of the name in the image, its length and its first byte's offset; or three zeros. The length is below
 // 2^32, since it is an entry's length word minus 1; the offset may lie above. So the answer has 16 bytes, which C hands back

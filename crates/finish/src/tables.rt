@@ -16,20 +16,9 @@ use super::head::clear;
 use super::head::low;
 use super::head::wide;
 use image::Mode;
+use image::store::store_word;
 use taking::batch::take_entries;
 use taking::fill::store_link;
-
-// The word v stored at `at`. The caller knows that there is room for it, so that no store is tested twice; the compiler makes
-// one store of it.
-fn store_word(buf: &mut [u8], at: usize, v: u32)
-    requires { ⌜ at + 4 ≤ length (now buf) ⌝ }
-    ensures { λ _. ⌜ now (buf .exit) ≡ sets (now (buf .entry)) at (le32 v) ⌝ }
-{
-    buf[at] = (v % 256) as u8;
-    buf[at + 1] = (v / 256 % 256) as u8;
-    buf[at + 2] = (v / 65536 % 256) as u8;
-    buf[at + 3] = (v / 16777216 % 256) as u8;
-}
 
 // A pair stored at `at`, where there is room for it.
 fn store_pair(buf: &mut [u8], at: usize, h: u32, offset: u32)

@@ -16,7 +16,8 @@ use Rattle.reader.specs.IdWalk.{stepOf, step}
 use Rattle.agreement.specs.Home.{homeBy, home}
 use Rattle.answers.specs.Answer.{foundId, heldAt, nameGiven, ofId, lastName, tablePuts}
 use Rattle.reader.specs.Cases.{reads}
-use Rattle.answers.proofs.Images.{image-opens, name-gives, name-nothing, name-reads, found-reads, long-reads, last-met, ids-fit, id-gives, id-nothing}
+use Rattle.answers.proofs.Found.{lookup-long}
+use Rattle.answers.proofs.Images.{image-opens, name-gives, name-nothing, name-reads, found-reads, last-met, ids-fit, id-gives, id-nothing}
 use Rattle.answers.proofs.Named.{naming-oneway}
 use Rattle.answers.proofs.Walked.{part-given, step-given, home-given, hint-image}
 use Rattle.writer.specs.declared.Repeats.{Repeats}
@@ -45,7 +46,7 @@ module _ (es : List Entry) (ids : backSize es ≤ 2 ^ 32) where
         name-nothing = name-nothing mode es small ids;
         bounded = name-reads mode es small ids;
         found-bounded = λ name id h. found-most (lookup (image mode es) name) (tablePuts name es) id (found-reads mode es small ids name) h;
-        long-unread = λ name h. ap reads (long-reads (image mode es) name h);
+        long-unread = λ name h. ap reads (lookup-long (image mode es) name h);
       }
 
   image-ids : (mode : Mode) → imageSize mode es ≤ 4294967295 → (id : ℕ) → nameGiven (image mode es) id ≡ namedIn mode es id

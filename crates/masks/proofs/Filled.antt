@@ -14,7 +14,8 @@ use Rattle.image.specs.Tables.{Bucket, empty, atOf, start, order, firstEmpty, i
 use Rattle.image.proofs.Buckets.{getD-empties}
 use Rattle.image.proofs.Every.{All}
 use Rattle.image.proofs.Sizes.{length-insert}
-use Rattle.answers.proofs.Order.{order-length, order-at, place-of}
+use Rattle.image.proofs.Buckets.{length-order}
+use Rattle.answers.proofs.Order.{order-at, place-of}
 use Rattle.masks.specs.steps.Masks.{above, Rising, ats, hide, masked, place, Right}
 use Rattle.masks.proofs.Above.{above-none, above-set, above-room, rising-less}
 use Rattle.masks.proofs.Masked.{hide-shows, hide-hides, getD-masked, length-masked, getD-ats, length-ats, masked-is}
@@ -66,7 +67,7 @@ module _ (n : ℕ) (table : List Bucket) (m a : ℕ) (b : Bucket) (t : Taken n t
   unfolding slot
   slot-in =
       first-below (atOf table) (order n n (start (b .hash) n)) n (omega arith)
-      (λ i h. let k : i < n = rw (order-length n n (start (b .hash) n)) at h in
+      (λ i h. let k : i < n = rw (length-order n n (start (b .hash) n)) at h in
       rw (order-at n n (start (b .hash) n) i start-below k) (mod-lt (start (b .hash) n + i) (omega arith)))
 
   slot-empty : atOf table slot ≡ 0
@@ -75,7 +76,7 @@ module _ (n : ℕ) (table : List Bucket) (m a : ℕ) (b : Bucket) (t : Taken n t
       let (j, h, z) = above-room (ats table) (omega (arith, t .used, t .sized, length-ats table)) in
       let k : j < n = omega (arith, length-ats table, t .sized) in
       let (i, l, e) = place-of n (start (b .hash) n) j start-below k in
-      first-found (atOf table) (order n n (start (b .hash) n)) i (rw (order-length n n (start (b .hash) n)) l)
+      first-found (atOf table) (order n n (start (b .hash) n)) i (rw (length-order n n (start (b .hash) n)) l)
       (ap (atOf table) (order-at n n (start (b .hash) n) i start-below l ∙ e) ∙ sym (getD-ats table j) ∙ z)
 
   there : slot < length table

@@ -19,7 +19,7 @@ use Rattle.reader.specs.Open.{opening}
 use Rattle.image.specs.declared.Mode.the-variants.{Twoway, Oneway}
 use Rattle.ours.specs.steps.Made.{Made}
 use Rattle.ours.specs.Ours.{ours, modeIn}
-use Rattle.ours.specs.steps.Tests.{endIn, rowsRight, rowCounts, sayCounts, entriesRight, linked, linksRight, Checked, placedFrom, bodyRight}
+use Rattle.ours.specs.steps.Tests.{endIn, rowsRight, rowCounts, sayCounts, entriesRight, linksInPlace, linksRight, Checked, placedFrom, bodyRight}
 use Rattle.ours.proofs.ReadBack.{ours-yes, ours-only}
 use Rattle.ours.proofs.Tests.{said-rows, rows-said}
 use Rattle.ours.proofs.Told.{checked-ours}
@@ -110,7 +110,7 @@ module _ (img : List ℕ) (n end back : ℕ) where
             body-oneway z =
                 ap (λ (t : Bool). linksRight (cond t Twoway Oneway) img (end + 16 * n) back (placedFrom img end n 2072)) (sym z ∙ et) ∙ links-are
 
-            pub body-links : (l : Bool) → two ≡ true → l ≡ linked img (end + 16 * n) back (placedFrom img end n 2072) → l ≡ bodyRight img n end back
+            pub body-links : (l : Bool) → two ≡ true → l ≡ linksInPlace img (end + 16 * n) back (placedFrom img end n 2072) → l ≡ bodyRight img n end back
             body-links l z f =
                 f ∙ ap (λ (t : Bool). linksRight (cond t Twoway Oneway) img (end + 16 * n) back (placedFrom img end n 2072)) (sym z ∙ et) ∙ links-are
 

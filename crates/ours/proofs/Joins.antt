@@ -7,10 +7,10 @@ use lib.ListN.{length, getD, drop, length-append, length-drop, length-map}
 use lib.Seq.{drop-append-seam, drop-drop}
 use Rattle.image.specs.Bytes.{word, le32, cat, range}
 use Rattle.image.specs.Tables.{empty}
-use Rattle.image.proofs.Area.{Bytes, bytes-drop}
+use Rattle.image.proofs.Area.{Bytes, bytes-drop, front-word}
 use Rattle.image.proofs.At.{At, at-same}
 use Rattle.image.proofs.Lists.{length-range, getD-range}
-use Rattle.image.proofs.Words.{word-drop, le32-bytes, length-le32}
+use Rattle.image.proofs.Words.{word-drop, length-le32}
 use Rattle.ours.specs.steps.InPlace.{bucketAt, bucketsAt, wordsAt}
 
 pub at-nothing : (img : List ℕ) (o : ℕ) → At img o []
@@ -60,14 +60,6 @@ at-parts {A} {img} f size sized o (x ∷ xs) d each =
     shift l i e = omega arith
 
 -- ---- words
-
-front-word : (l : List ℕ) → Bytes l → 4 ≤ length l → l ≡ le32 (word l 0) ++ drop 4 l
-unfolding word
-front-word [] h k = absurd (omega arith)
-front-word (a ∷ []) h k = absurd (omega arith)
-front-word (a ∷ b ∷ []) h k = absurd (omega arith)
-front-word (a ∷ b ∷ c ∷ []) h k = absurd (omega arith)
-front-word (a ∷ b ∷ c ∷ d ∷ l) h k = ap (λ (r : List ℕ). r ++ l) (sym (le32-bytes a b c d (h 0) (h 1) (h 2) (h 3)))
 
 pub at-le32 : (img : List ℕ) (o w : ℕ) → Bytes img → o + 4 ≤ length img → word img o ≡ w → At img o (le32 w)
 at-le32 img o w bytes h e = record {

@@ -18,7 +18,7 @@ use Rattle.writer.proofs.Agree.{zeros}
 use Rattle.lists.specs.Calls.{acceptedFrom, accepted, putDue, putsSize, sizeOf, WordIds}
 use Rattle.lists.proofs.Along.{list-accepted}
 use Rattle.ours.specs.Ours.{ours}
-use Rattle.ours.specs.Theorem.{Bytes}
+use Rattle.jhash.specs.Word.{Bytes}
 use Rattle.ours.specs.Rows.{Row, Holds, rows, Bare, bares}
 use Rattle.ours.specs.steps.Tests.{endIn}
 use Rattle.ours.proofs.ReadBack.{ours-yes, ours-only}

@@ -9,6 +9,7 @@ use lib.ListN.{length, getD, drop, replicate, length-take, length-drop, length-m
 use lib.Dec.{eqb}
 use borrow.Author.Tests.{eq-eqb, ne-eqb, not-true}
 use Rattle.jhash.specs.NameHash.{hashOf}
+use Rattle.jhash.proofs.WordRead.{word-below}
 use Rattle.image.specs.Bytes.{word, cat, range}
 use Rattle.image.specs.Head.{tableAt, bucketNumber, backSizeAt, backOffsetAt}
 use Rattle.image.specs.Image.{Entry, Placed, headSize, entryBytes, entrySize, placed, ofTable, count, bucketOf, entriesBefore, tableOffset, flagWord, backSize, backIn, backSizeOf, backOffset, entriesEnd, imageSize}
@@ -34,11 +35,6 @@ use Rattle.ours.proofs.Joins.{length-bucketsAt}
 use Rattle.ours.proofs.Tests.{opens, table-told, Row, rows-told}
 use Rattle.ours.proofs.Walks.{stands-told, entries-told, to-table, links-told}
 use Rattle.ours.proofs.Sound.{in-place-image}
-
--- a word of bytes
-word-below : (l : List ℕ) (o : ℕ) → Bytes l → word l o < 2 ^ 32
-unfolding word
-word-below l o h = omega (arith, h o, h (o + 1), h (o + 2), h (o + 3))
 
 -- the tally of entries
 pub counts-are : (es : List Entry) (t : ℕ) → t < 256 → getD (tallied (replicate 256 0) es) t 0 ≡ count t (placed headSize es)

@@ -16,7 +16,8 @@ use Rattle.image.specs.Image.{Placed, inTable, ofTable}
 use Rattle.image.specs.Tables.{Bucket, empty, atOf, tableOf, start, order, firstEmpty}
 use Rattle.image.proofs.Bools.{not-both, first, second, both}
 use Rattle.image.proofs.Every.{All}
-use Rattle.answers.proofs.Order.{order-length, order-at}
+use Rattle.image.proofs.Buckets.{length-order}
+use Rattle.answers.proofs.Order.{order-at}
 use Rattle.masks.specs.steps.Masks.{above, hide, masked, place, selves, Linked}
 use Rattle.masks.proofs.Masked.{getD-masked, place-in}
 use Rattle.masks.proofs.Filled.{first-below}
@@ -56,7 +57,7 @@ module _ (img : List ℕ) (b : Bucket) where
 
     in-order : (i : ℕ) → i < length (order n n (start (b .hash) n)) → getD (order n n (start (b .hash) n)) i 0 < n
     in-order i h =
-        let k : i < n = rw (order-length n n (start (b .hash) n)) at h in
+        let k : i < n = rw (length-order n n (start (b .hash) n)) at h in
         rw (order-at n n (start (b .hash) n) i start-below k) (mod-lt (start (b .hash) n + i) some)
 
     place-below : place n T b < n

@@ -5,7 +5,8 @@ use mathlib.Core.Logic.{_↔_}
 use mathlib.Core.Bool.{true, false}
 use mathlib.Core.List.{List, [], _++_}
 use mathlib.Core.Option.{some}
-use lib.ListN.{length, getD, take}
+use lib.ListN.{length, take}
+use Rattle.jhash.specs.Word.{Bytes}
 use Rattle.jhash.specs.Outcome.{value}
 use Rattle.image.specs.Bytes.{Each}
 use Rattle.image.specs.Image.{Entry, headSize}
@@ -21,10 +22,6 @@ use Rattle.lists.specs.Calls.{Call, WordIds}
 use Rattle.lists.specs.Demand3.{acceptedPuts, imageOf}
 use Rattle.lists.specs.RepeatsOff.{putAll}
 use Rattle.ours.specs.Ours.{Ours, putsIn, modeIn, ours}
-
--- a slice of bytes: each is below 256
-abbrev pub Bytes : List ℕ → Type 0
-Bytes s = (i : ℕ) → getD s i 0 < 256
 
 -- ---- an image that is ours
 

@@ -8,7 +8,7 @@ ghost use lib.ListN.{length};
 ghost use Rattle.image.specs.Stored.{whole, between};
 ghost use Rattle.masks.specs.steps.Masks.{above};
 ghost use Rattle.ours.specs.steps.InPlace.{wordsAt};
-ghost use Rattle.ours.specs.steps.Tests.{aheadIn, selvesIn, linked, placedFrom};
+ghost use Rattle.ours.specs.steps.Tests.{aheadIn, selvesIn, linksInPlace, placedFrom};
 use super::tables::one;
 use super::tables::wide;
 use image::entries::whole_length;
@@ -79,7 +79,7 @@ fn links_used(image: &[u8], o: usize, n: usize) -> usize
 // Are the n links at o those of the entries?
 pub(super) fn links_right(image: &[u8], end: usize, entries: u32, o: usize, n: usize) -> bool
     requires { ⌜ (2072 ≤ end) × (end ≤ length (now image)) × (end < 4294967296) × (o < 2 ^ 48) × (n < 4294967296) × (whole entries (between (now image) 2072 end) ≡ true) ⌝ }
-    ensures { λ r. ⌜ r ≡ linked (now (image .entry)) o n (placedFrom (now (image .entry)) end entries 2072) ⌝ }
+    ensures { λ r. ⌜ r ≡ linksInPlace (now (image .entry)) o n (placedFrom (now (image .entry)) end entries 2072) ⌝ }
 {
     let found = links_walk(image, end, entries, o);
     if !found.ahead {

@@ -2,7 +2,7 @@
 use Prim.Native.Nat.{ℕ, zero, suc, _+_, _*_, _/_, _≤_, _<_, zero-le}
 use native.Mathlib.Omega.{arith}
 use native.Mathlib.Nat.{mod-lt}
-use mathlib.Core.Path.{_≡_, refl, ap}
+use mathlib.Core.Path.{_≡_, refl}
 use mathlib.Core.Bool.{Bool, true, false, cond, _||_}
 use mathlib.Core.List.{List, [], _∷_}
 use lib.Dec.{ltb, leb}
@@ -10,16 +10,12 @@ use lib.ListN.{length, getD}
 use Rattle.jhash.specs.NameHash.{hashOf}
 use Rattle.image.specs.Tables.{tableOf, start, next, order}
 use Rattle.image.proofs.Bools.{not-both}
+use Rattle.image.proofs.Buckets.{length-order}
 use Rattle.image.specs.Head.{tableAt, bucketNumber}
 use Rattle.reader.specs.Lookup.{Lookup, nothing, Seen, pass, ends, hit, see, decide, probe, searchTable, unsearched, lookupHash, lookup}
 use Rattle.reader.specs.Cases.{reads}
 
 -- ---- how many buckets are read
-
-pub length-order : (n m k : ℕ) → length (order n m k) ≡ m
-unfolding order
-length-order n zero k = refl
-length-order n (suc m) k = ap suc (length-order n m (next n k))
 
 pub probe-reads : (look : ℕ → Seen) (ks : List ℕ) (r : ℕ) → reads (probe look ks r) ≤ r + length ks
 unfolding probe

@@ -18,11 +18,12 @@ use Rattle.image.proofs.Equal.{same-true}
 use Rattle.reader.specs.Lookup.{found, nothing, Hit, hitAt, Seen, pass, ends, hit, seeEntry, see, decide, probe, searchTable, unsearched, lookupHash, lookup}
 use Rattle.reader.specs.declared.Found.{Found}
 use Rattle.reader.specs.FoundAt.{bucketRead, StandsIn, FoundAt, FoundStands}
-use Rattle.reader.proofs.Bounds.{length-order, order-below}
+use Rattle.image.proofs.Buckets.{length-order}
+use Rattle.reader.proofs.Bounds.{order-below}
 
 -- ---- no two of these are the same
 
-not-found : {P : Type 0} (n : ℕ) (f : Found) → nothing n ≡ found f → P
+pub not-found : {P : Type 0} (n : ℕ) (f : Found) → nothing n ≡ found f → P
 not-found n f e = let z : _≡_ {A = ℕ} 0 1 = cc in absurd (omega arith)
 
 ends-no-hit : {P : Type 0} (t : Hit) → ends ≡ hit t → P

@@ -16,6 +16,11 @@ pub data Naming : Type 0 where
   place : ℕ → ℕ → Naming
   unnamed : Naming
 
+-- the length in an answer, 0 where there is no name
+abbrev pub lengthIn : Naming → ℕ
+lengthIn (place s n) = n
+lengthIn unnamed = 0
+
 -- there is no back array that can be read: the image is under 2,072 bytes, back offset is 0, or the back array leaves the image
 abbrev pub noBack : List ℕ → Bool
 noBack image = ltb (length image) headSize || eqb (backOffsetAt image) 0 || backLeaves image

@@ -3,8 +3,8 @@ use Prim.Native.Nat.{ℕ, suc, _+_, _*_, _/_, _≤_, _<_}
 use native.Mathlib.Omega.{arith}
 use native.Mathlib.Nat.{zero-add}
 use mathlib.Core.Path.{_≡_, refl, sym, ap, _∙_}
-use mathlib.Core.Bool.{Bool, true, false, cond}
-use mathlib.Core.List.{List, [], _∷_, _++_}
+use mathlib.Core.Bool.{Bool, cond}
+use mathlib.Core.List.{List, _∷_, _++_}
 use borrow.Author.Tests.{lt-ltb, le-ltb}
 use lib.Dec.{ltb}
 use lib.ListN.{length, getD, drop, drop-of-length-le}
@@ -13,19 +13,11 @@ use Rattle.image.specs.Bytes.{cat}
 use Rattle.image.proofs.Lists.{length-cat}
 use Rattle.image.proofs.Stores.{sets-then}
 use Rattle.reader.specs.Naming.{Naming, place, unnamed, naming}
-use Rattle.reader.proofs.Lengths.{named-small}
-use Rattle.round.specs.NameRound.{lengthIn, placeWords, nameWords, nameRefusal, afterNames}
+use Rattle.round.specs.NameRound.{placeWords, nameWords, nameRefusal, afterNames}
 
 pub length-place : (x : Naming) → length (placeWords x) ≡ 4
 length-place (place s n) = refl
 length-place unnamed = refl
-
-pub naming-small : (image : List ℕ) (id : ℕ) → ((i : ℕ) → getD image i 0 < 256) → lengthIn (naming image id) < 4294967296
-naming-small image id bytes = go (naming image id) refl
-  where
-    go : (x : Naming) → naming image id ≡ x → lengthIn x < 4294967296
-    go (place s n) e = named-small image id s n bytes e
-    go unnamed e = omega arith
 
 words-cons : (image : List ℕ) (id : ℕ) (ids : List ℕ) → nameWords image (id ∷ ids) ≡ placeWords (naming image id) ++ nameWords image ids
 unfolding nameWords cat

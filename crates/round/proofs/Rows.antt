@@ -1,8 +1,8 @@
 -- The worked examples hold, computed by the checker; the lookup of A is 01's row. Assumes nothing.
-use Prim.Native.Nat.{ℕ, _+_}
+use Prim.Native.Nat.{_+_}
 use mathlib.Core.Path.{_≡_, refl, ap}
-use mathlib.Core.List.{List, [], _∷_, _++_}
-use Rattle.jhash.specs.Outcome.{Outcome, value}
+use mathlib.Core.List.{[], _∷_, _++_}
+use Rattle.jhash.specs.Outcome.{value}
 use Rattle.image.specs.Bytes.{same, cat}
 use Rattle.reader.specs.Lookup.{Lookup, found, lookup}
 use Rattle.reader.specs.Naming.{naming}

@@ -13,11 +13,6 @@ abbrev pub placeWords : Naming → List ℕ
 placeWords (place s n) = 1 ∷ n ∷ s % 4294967296 ∷ s / 4294967296 ∷ []
 placeWords unnamed = 0 ∷ 0 ∷ 0 ∷ 0 ∷ []
 
--- the length of a place, 0 where there is none
-abbrev pub lengthIn : Naming → ℕ
-lengthIn (place s n) = n
-lengthIn unnamed = 0
-
 unfoldable pub nameWords : List ℕ → List ℕ → List ℕ
 nameWords image ids = cat (λ (id : ℕ). placeWords (naming image id)) ids
 

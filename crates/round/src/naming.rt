@@ -4,7 +4,8 @@ ghost use Prim.Native.Nat.{_+_, _*_, _/_, _<_, _≤_};
 ghost use lib.ListN.{length};
 ghost use lib.Seq.{sets};
 ghost use Rattle.reader.specs.Cases.{namingOf};
-ghost use Rattle.round.specs.NameRound.{lengthIn, placeWords, nameWords, nameRefusal, afterNames};
+ghost use Rattle.reader.specs.Naming.{lengthIn};
+ghost use Rattle.round.specs.NameRound.{placeWords, nameWords, nameRefusal, afterNames};
 use super::answering::put_words;
 use reader::Named;
 

@@ -2,7 +2,7 @@
 use Prim.Native.Nat.{ℕ, _+_, _<_}
 use native.Mathlib.Omega.{arith}
 use native.Mathlib.Decide.{decLt, ℕ-discrete}
-use mathlib.Core.Path.{_≡_, refl, sym, ap, _∙_}
+use mathlib.Core.Path.{_≡_, sym, ap, _∙_}
 use mathlib.Core.Bool.{Bool, cond}
 use mathlib.Core.List.{List, [], _∷_}
 use lib.ListN.{length, getD, set, replicate, length-set, length-replicate, getD-replicate, List·getD-eq-default}
@@ -12,10 +12,11 @@ use borrow.Author.Tests.{eq-eqb, ne-eqb}
 use Rattle.jhash.specs.NameHash.{hashOf}
 use Rattle.image.specs.Tables.{tableOf}
 use Rattle.image.specs.Image.{Entry, Placed, headSize, entrySize, placed, count}
+use Rattle.image.proofs.EntryWalk.{tallied-cons}
 use Rattle.image.proofs.Sizes.{count-nil, count-cons}
 use Rattle.image.proofs.All.{all-ext}
 use Rattle.writer.specs.Close.{countsAgree}
-use Rattle.image.specs.Tally.{tallied, sameCounts, raisedCounts, countsAfter}
+use Rattle.image.specs.Tally.{tallied, sameCounts, raisedCounts}
 
 -- no entries, no counts
 pub zeros : (n t : ℕ) → getD {A = ℕ} (replicate n 0) t 0 ≡ 0
@@ -45,10 +46,6 @@ getD-raised counts h t l =
   where
     plus-none : (x : ℕ) → x ≡ x + 0
     plus-none x = omega arith
-
-tallied-cons : (counts : List ℕ) (e : Entry) (es : List Entry) → tallied counts (e ∷ es) ≡ tallied (raisedCounts counts (hashOf (e .name))) es
-unfolding tallied countsAfter
-tallied-cons counts e es = refl
 
 pub tallied-count : (es : List Entry) (counts : List ℕ) (o t : ℕ) → t < length counts
     → getD (tallied counts es) t 0 ≡ getD counts t 0 + count t (placed o es)

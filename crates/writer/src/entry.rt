@@ -5,18 +5,7 @@ ghost use lib.ListN.{length};
 ghost use lib.Seq.{sets};
 ghost use Rattle.image.specs.Image.{entryBytes};
 ghost use Rattle.writer.specs.Put.{entryOf};
-
-// The bytes of src stored from `at` on.
-fn copy(buf: &mut [u8], at: usize, src: &[u8])
-    requires { ⌜ at + length (now src) ≤ length (now buf) ⌝ }
-    ensures { λ _. ⌜ now (buf .exit) ≡ sets (now (buf .entry)) at (now (src .entry)) ⌝ }
-{
-    let mut j = 0;
-    while j < src.len() {
-        buf[at + j] = src[j];
-        j += 1;
-    }
-}
+use image::store::store_bytes;
 
 // An entry stored from `at` on: id, name length plus 1, the name, one zero byte.
 pub(super) fn store(buf: &mut [u8], at: usize, name: &[u8], id: u32)
@@ -25,6 +14,6 @@ pub(super) fn store(buf: &mut [u8], at: usize, name: &[u8], id: u32)
 {
     image::put_u32(&mut *buf, at, id);
     image::put_u32(&mut *buf, at + 4, name.len() as u32 + 1);
-    copy(&mut *buf, at + 8, name);
+    store_bytes(&mut *buf, at + 8, name);
     buf[at + 8 + name.len()] = 0;
 }

@@ -1,7 +1,6 @@
 // The writer record: whether it fits a buffer, and its numbers after a put.
 ghost use mathlib.Core.Path.{_≡_};
-ghost use Prim.Native.Nat.{_+_, _<_, _≤_, _^_};
-ghost use lib.ListN.{length};
+ghost use Prim.Native.Nat.{_<_, _≤_, _^_};
 ghost use Rattle.writer.specs.State.{stateWith, fits, tooLarge, finishedSize};
 ghost use Rattle.writer.specs.Put.{raised, writerWith};
 use super::CQDBWriter;

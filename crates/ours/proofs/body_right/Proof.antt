@@ -8,7 +8,7 @@ use lib.Dec.{eqb}
 use Rattle.image.specs.Stored.{whole, between}
 use Rattle.image.proofs.Bools.{first}
 use Rattle.writer.proofs.Agree.{zeros}
-use Rattle.ours.specs.steps.Tests.{sayCounts, entriesRight, placedFrom, linked}
+use Rattle.ours.specs.steps.Tests.{sayCounts, entriesRight, placedFrom, linksInPlace}
 use Rattle.ours.proofs.Bodies.{body-rows, body-entries, body-said, body-back, body-oneway, body-links}
 use borrow.Author.Needs.{needs}
 use Rattle.ours.proofs.body_right.Statement.{statement}
@@ -118,7 +118,7 @@ returns-6 c =
     let et = ap (λ (k : ℕ). eqb k 0) (flag .ensures) in
     let back = c .before .before .before .before .back-for in
     let n = c .before .wide .ensures .0 in
-    let l = c .links-right .ensures ∙ ap (λ (k : ℕ). linked (a .image .now) (a .end + 16 * k) (a .back) (placedFrom (a .image .now) (a .end) (a .n) 2072)) n in
+    let l = c .links-right .ensures ∙ ap (λ (k : ℕ). linksInPlace (a .image .now) (a .end + 16 * k) (a .back) (placedFrom (a .image .now) (a .end) (a .n) 2072)) n in
     body-links (a .image .now) (a .n) (a .end) (a .back) (rows .result) (rows .ensures) yr (found .result .right) (found .ensures .0) yw (said .result) es ys (eqb (flag .result) 0) et (found .result .back) (back .result) (found .ensures .1 .0 yw) (back .ensures) (c .before .before .before .if4 .left) (c .links-right .result) (not-false _ (c .before .before .if5 .left)) l
 
 pub body-right-spec : {M : Type 1} → statement M

@@ -112,11 +112,11 @@ unfoldable pub selvesIn : List ℕ → ℕ → List Placed → ℕ
 selvesIn img o [] = 0
 selvesIn img o (p ∷ ps) = cond (eqb (word img (o + 4 * p .entry .id)) (p .at)) 1 0 + selvesIn img o ps
 
-abbrev pub linked : List ℕ → ℕ → ℕ → List Placed → Bool
-linked img o n ps = aheadIn img o ps && eqb (above 1 (wordsAt img o n)) (selvesIn img o ps)
+abbrev pub linksInPlace : List ℕ → ℕ → ℕ → List Placed → Bool
+linksInPlace img o n ps = aheadIn img o ps && eqb (above 1 (wordsAt img o n)) (selvesIn img o ps)
 
 abbrev pub linksRight : Mode → List ℕ → ℕ → ℕ → List Placed → Bool
-linksRight Twoway img o n ps = linked img o n ps
+linksRight Twoway img o n ps = linksInPlace img o n ps
 linksRight Oneway img o n ps = true
 
 -- ---- all of them

@@ -1,12 +1,9 @@
 -- `round::round` meets its contract. Assumes nothing.
-use Prim.Native.Nat.{ℕ, _*_, _/_, _≤_}
+use Prim.Native.Nat.{ℕ, _/_}
 use native.Mathlib.Omega.{arith}
 use mathlib.Core.Path.{_≡_, refl, sym, ap, _∙_}
-use mathlib.Core.Bool.{Bool, true, false, cond, _||_}
-use mathlib.Core.List.{List}
+use mathlib.Core.Bool.{true, false}
 use borrow.Author.Tests.{lt-ltb, le-ltb}
-use native.Mathlib.Nat.{div-add-mod'}
-use lib.Dec.{ltb}
 use lib.ListN.{length}
 use Rattle.jhash.specs.Outcome.{Outcome, value, refusal}
 use Rattle.round.specs.Names.{names, astray}

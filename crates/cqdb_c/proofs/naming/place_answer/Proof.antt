@@ -3,7 +3,8 @@ use native.Mathlib.Omega.{arith}
 use mathlib.Core.Path.{sym, ap}
 use Rattle.reader.specs.declared.Named.{Named}
 use Rattle.reader.specs.Cases.{namingOf}
-use Rattle.cqdb_c.specs.ReadAnswers.{lengthIn, placeAnswerOf}
+use Rattle.reader.specs.Naming.{lengthIn}
+use Rattle.cqdb_c.specs.ReadAnswers.{placeAnswerOf}
 use borrow.Author.Needs.{needs}
 use Rattle.cqdb_c.proofs.naming.place_answer.Statement.{statement}
 use Rattle.cqdb_c.proofs.naming.place_answer.Tie as tie

@@ -5,7 +5,6 @@ use Rattle.finish.proofs.tables.store_pair.Statement.{statement}
 use Rattle.finish.proofs.tables.store_pair.Tie as tie
 use Rattle.finish.proofs.tables.store_pair.Reads as reads
 use Rattle.finish.proofs.tables.store_pair.Lts as lts
-use Rattle.finish.proofs.tables.store_word.Reads as store-word-reads
 
 store-word-requires : tie.Need-store-word-requires
 store-word-requires c κs = search needs

@@ -1,7 +1,5 @@
 -- `round::answering::copy_answer` meets its contract. Assumes nothing.
 use mathlib.Core.Path.{ap, _∙_}
-use mathlib.Core.List.{List}
-use Prim.Native.Nat.{ℕ}
 use lib.Seq.{sets}
 use Rattle.round.proofs.Places.{four-read}
 use borrow.Author.Needs.{needs}

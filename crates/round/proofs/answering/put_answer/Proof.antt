@@ -1,7 +1,5 @@
 -- `round::answering::put_answer` meets its contract. Assumes nothing.
 use mathlib.Core.Path.{sym, ap, _∙_}
-use mathlib.Core.List.{List}
-use Prim.Native.Nat.{ℕ}
 use lib.Seq.{sets}
 use Rattle.reader.specs.Cases.{reads, lookupOf}
 use Rattle.reader.specs.declared.ToId.{ToId}

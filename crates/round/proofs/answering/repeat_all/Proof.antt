@@ -1,11 +1,10 @@
 -- `round::answering::repeat_all` meets its contract. The loop's invariant: the places passed hold their words, and so do those of new names. Assumes nothing.
 use Prim.Native.Nat.{ℕ, _+_, _*_, _-_, _≤_, _<_}
 use native.Mathlib.Omega.{arith}
-use mathlib.Core.Path.{_≡_, refl, sym, ap, subst, _∙_}
+use mathlib.Core.Path.{_≡_, refl, sym, subst, _∙_}
 use mathlib.Core.List.{List}
-use lib.ListN.{length, getD, take, drop}
-use lib.Seq.{sets}
-use Rattle.round.specs.steps.Telling.{Has, Kept, Begun}
+use lib.ListN.{length}
+use Rattle.round.specs.steps.Telling.{Kept, Begun}
 use Rattle.round.proofs.Places.{Copied, copied-turn, copied-kept}
 use borrow.Author.Needs.{needs}
 use Rattle.round.proofs.answering.repeat_all.Statement.{statement}

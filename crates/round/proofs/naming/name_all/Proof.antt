@@ -1,5 +1,5 @@
 -- `round::naming::name_all` meets its contract. The loop's invariant: what is stored, and then the places of the ids from i on, are all. Assumes nothing.
-use Prim.Native.Nat.{ℕ, _+_, _*_, _-_, _≤_, _<_}
+use Prim.Native.Nat.{ℕ, _+_, _*_, _-_, _≤_}
 use native.Mathlib.Omega.{arith}
 use native.Mathlib.Nat.{mul-zero}
 use mathlib.Core.Path.{_≡_, refl, sym, ap, _∙_}
@@ -7,8 +7,9 @@ use mathlib.Core.List.{List}
 use lib.ListN.{length, getD, drop}
 use lib.Seq.{sets}
 use Rattle.reader.specs.Naming.{Naming, naming}
-use Rattle.round.specs.NameRound.{lengthIn, placeWords, nameWords}
-use Rattle.round.proofs.NameWords.{naming-small, name-turn, name-end}
+use Rattle.round.specs.NameRound.{placeWords, nameWords}
+use Rattle.reader.proofs.Lengths.{naming-small}
+use Rattle.round.proofs.NameWords.{name-turn, name-end}
 use borrow.Author.Needs.{needs}
 use Rattle.round.proofs.naming.name_all.Statement.{statement}
 use Rattle.round.proofs.naming.name_all.Tie as tie

@@ -1,11 +1,12 @@
 -- `round::naming::put_place` meets its contract. Assumes nothing.
-use Prim.Native.Nat.{ℕ, _<_}
+use Prim.Native.Nat.{_<_}
 use native.Mathlib.Omega.{arith}
-use mathlib.Core.Path.{_≡_, sym, ap, subst, _∙_}
+use mathlib.Core.Path.{sym, ap, subst, _∙_}
 use lib.Seq.{sets}
 use Rattle.reader.specs.Cases.{namingOf}
 use Rattle.reader.specs.declared.Named.{Named}
-use Rattle.round.specs.NameRound.{lengthIn, placeWords}
+use Rattle.reader.specs.Naming.{lengthIn}
+use Rattle.round.specs.NameRound.{placeWords}
 use borrow.Author.Needs.{needs}
 use Rattle.round.proofs.naming.put_place.Statement.{statement}
 use Rattle.round.proofs.naming.put_place.Tie as tie

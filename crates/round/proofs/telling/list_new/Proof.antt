@@ -1,5 +1,5 @@
 -- `round::telling::list_new` meets its contract. The loop's invariant: what is listed, and then the new ones from i on, are all. Assumes nothing.
-use Prim.Native.Nat.{ℕ, _-_, _≤_, _<_}
+use Prim.Native.Nat.{_-_, _≤_, _<_}
 use native.Mathlib.Omega.{arith}
 use mathlib.Core.Path.{_≡_, refl, sym, _∙_}
 use mathlib.Core.List.{_++_}

@@ -21,11 +21,11 @@ add-put-u32-2 c = search needs
 put-u32-requires-2 : tie.Need-put-u32-requires-2
 put-u32-requires-2 c κs = search needs
 
-add-copy : tie.Need-add-copy
-add-copy c = search needs
+add-store-bytes : tie.Need-add-store-bytes
+add-store-bytes c = search needs
 
-copy-requires : tie.Need-copy-requires
-copy-requires c κs = search needs
+store-bytes-requires : tie.Need-store-bytes-requires
+store-bytes-requires c κs = search needs
 
 add-buf : tie.Need-add-buf
 add-buf c = search needs
@@ -40,15 +40,15 @@ same-length : tie.Need-same-length
 same-length c =
     let of-put-u32 = c .before .before .before .before .before .before .before .before .before .before .put-u32 in
     let of-put-u322 = c .before .before .before .before .before .before .put-u322 in
-    simp length-set (omega (arith, c .before .before .copy .kept, of-put-u322 .kept, of-put-u32 .kept))
+    simp length-set (omega (arith, c .before .before .store-bytes .kept, of-put-u322 .kept, of-put-u32 .kept))
 
 returns : tie.Need-returns
 returns c =
     let a = c .before .before .before .before .before .before .before .before .before .before .before .before .before .before .args in
     let of-put-u32 = c .before .before .before .before .before .before .before .before .before .before .put-u32 in
     let of-put-u322 = c .before .before .before .before .before .before .put-u322 in
-    stored-parts (a .name .now) (a .buf .now) (of-put-u32 .last .0) (of-put-u322 .last .0) (c .before .before .copy .last .0) (a .at) (a .id)
-    (of-put-u32 .ensures) (of-put-u322 .ensures) (c .before .before .copy .ensures)
+    stored-parts (a .name .now) (a .buf .now) (of-put-u32 .last .0) (of-put-u322 .last .0) (c .before .before .store-bytes .last .0) (a .at) (a .id)
+    (of-put-u32 .ensures) (of-put-u322 .ensures) (c .before .before .store-bytes .ensures)
 
 pub store-spec : {M : Type 1} → statement M
 store-spec =
@@ -59,8 +59,8 @@ store-spec =
     cast-put-u32
     add-put-u32-2
     put-u32-requires-2
-    add-copy
-    copy-requires
+    add-store-bytes
+    store-bytes-requires
     add-buf
     add-buf-2
     slice-write-buf
