@@ -1,5 +1,6 @@
 -- Laws of a whole list in one call.
 pub mod Chained
+pub mod Linked
 pub mod Turns
 pub mod Going
 pub mod Whole

@@ -7,7 +7,7 @@ ghost use lib.Dec.{eqb};
 ghost use Rattle.image.specs.Bytes.{same};
 ghost use Rattle.joined.specs.Names.{names, astray, nth};
 ghost use Rattle.writer.specs.State.{refusesRepeats};
-ghost use Rattle.build.specs.Held.{heldBefore, slotOf, Chains, linked};
+ghost use Rattle.build.specs.steps.Held.{at, heldBefore, slotOf, Chains, linkIn, linked};
 use image::equality::same;
 use joined::key;
 use joined::name_of;
@@ -76,8 +76,8 @@ fn chained(
     s: u32,
     i: usize,
 ) -> bool
-    requires { ⌜ (astray (length (now bytes)) 0 (now ends) ≡ false) × (i < length (now ends)) × (slots + length (now ends) ≤ length (now work)) × (s ≡ slotOf slots (nth (names (now bytes) (now ends)) i)) × (s < slots) × Chains (names (now bytes) (now ends)) (now rs) slots i (now work) ⌝ }
-    ensures { λ r. ⌜ r ≡ heldBefore (names (now (bytes .entry)) (now (ends .entry))) (now (rs .entry)) i (nth (names (now (bytes .entry)) (now (ends .entry))) i) ⌝ }
+    requires { ⌜ (astray (length (now bytes)) 0 (now ends) ≡ false) × (i < length (now ends)) × (slots + length (now ends) ≤ length (now work)) × (s ≡ slotOf slots (nth (names (now bytes) (now ends)) i)) × (s < slots) × Chains (nth (names (now bytes) (now ends))) (at (now rs)) (slotOf slots) slots i (at (now work)) (linkIn slots (now work)) ⌝ }
+    ensures { λ r. ⌜ r ≡ heldBefore (nth (names (now (bytes .entry)) (now (ends .entry)))) (at (now (rs .entry))) i (nth (names (now (bytes .entry)) (now (ends .entry))) i) ⌝ }
 {
     let name = name_of(bytes, ends, i);
     let mut q = work[s as usize];
@@ -105,7 +105,7 @@ fn equals(bytes: &[u8], ends: &[u64], rs: &[u32], j: usize, name: &[u8]) -> bool
 // By a walk along the names before the i-th.
 fn walked(bytes: &[u8], ends: &[u64], rs: &[u32], i: usize) -> bool
     requires { ⌜ (astray (length (now bytes)) 0 (now ends) ≡ false) × (i < length (now ends)) × (length (now ends) ≤ length (now rs)) ⌝ }
-    ensures { λ r. ⌜ r ≡ heldBefore (names (now (bytes .entry)) (now (ends .entry))) (now (rs .entry)) i (nth (names (now (bytes .entry)) (now (ends .entry))) i) ⌝ }
+    ensures { λ r. ⌜ r ≡ heldBefore (nth (names (now (bytes .entry)) (now (ends .entry)))) (at (now (rs .entry))) i (nth (names (now (bytes .entry)) (now (ends .entry))) i) ⌝ }
 {
     let name = name_of(bytes, ends, i);
     let mut j = 0;
@@ -129,8 +129,8 @@ pub(crate) fn held(
     s: u32,
     i: usize,
 ) -> bool
-    requires { ⌜ (astray (length (now bytes)) 0 (now ends) ≡ false) × (i < length (now ends)) × (length (now ends) ≤ length (now rs)) × (0 < slots → (slots + length (now ends) ≤ length (now work)) × (s ≡ slotOf slots (nth (names (now bytes) (now ends)) i)) × (s < slots) × Chains (names (now bytes) (now ends)) (now rs) slots i (now work)) ⌝ }
-    ensures { λ r. ⌜ r ≡ (heldBefore (names (now (bytes .entry)) (now (ends .entry))) (now (rs .entry)) i (nth (names (now (bytes .entry)) (now (ends .entry))) i) && refusesRepeats repeats) ⌝ }
+    requires { ⌜ (astray (length (now bytes)) 0 (now ends) ≡ false) × (i < length (now ends)) × (length (now ends) ≤ length (now rs)) × (0 < slots → (slots + length (now ends) ≤ length (now work)) × (s ≡ slotOf slots (nth (names (now bytes) (now ends)) i)) × (s < slots) × Chains (nth (names (now bytes) (now ends))) (at (now rs)) (slotOf slots) slots i (at (now work)) (linkIn slots (now work))) ⌝ }
+    ensures { λ r. ⌜ r ≡ (heldBefore (nth (names (now (bytes .entry)) (now (ends .entry)))) (at (now (rs .entry))) i (nth (names (now (bytes .entry)) (now (ends .entry))) i) && refusesRepeats repeats) ⌝ }
 {
     match repeats {
         Repeats::On => false,

@@ -4,7 +4,7 @@ use native.Mathlib.Omega.{arith}
 use mathlib.Core.Path.{_≡_, refl}
 use lib.ListN.{length, getD, length-set}
 use borrow.Author.Needs.{needs}
-use Rattle.build.proofs.Chained.{zeros-turn}
+use Rattle.build.proofs.Linked.{zeros-turn}
 use Rattle.build.proofs.held.clear.Statement.{statement}
 use Rattle.build.proofs.held.clear.Tie as tie
 
