@@ -37,13 +37,12 @@ pub(crate) fn slots_for(repeats: Repeats, words: usize, n: usize) -> u32
 }
 
 // Clears the heads: what the lent memory held is not trusted.
-pub(crate) fn clear(work: &mut [u32], slots: u32)
+pub(crate) fn clear(work: &mut [u32], slots: usize)
     requires { ⌜ slots ≤ length (now work) ⌝ }
-    ensures { λ _. ⌜ ((s : ℕ) → s < slots → getD (now (work .exit)) s 0 ≡ 0) ⌝ }
+    ensures { λ _. ⌜ ((s : ℕ) → s < slots → at (now (work .exit)) s ≡ 0) × ((k : ℕ) → slots ≤ k → at (now (work .exit)) k ≡ at (now (work .entry)) k) ⌝ }
 {
-    let end = slots as usize;
     let mut i = 0;
-    while i < end {
+    while i < slots {
         work[i] = 0;
         i += 1;
     }

@@ -28,6 +28,8 @@ use writer::PutAnswer;
 use writer::Repeats;
 
 mod held; // held.rt: is a name held by an accepted put before?
+mod marked; // marked.rt: what is due to each name, told before the puts
+mod parted; // parted.rt: the names parted by table
 
 // The size of the image, and the number of accepted puts.
 pub struct Made {
@@ -111,7 +113,7 @@ fn build_list(
     ensures answers { λ _. ⌜ now (rs .exit) ≡ answersAfter mode repeats (now (buf .entry)) (now (bytes .entry)) (now (ends .entry)) (now (ids .entry)) (now (rs .entry)) ⌝ }
 {
     let slots = slots_for(repeats, work.len(), ends.len());
-    clear(&mut *work, slots);
+    clear(&mut *work, slots as usize);
     let mut counts = [0; 256];
     let w = CQDBWriter {
         mode,

@@ -27,7 +27,7 @@ put-all-requires c κs =
       s .pre .2,
       s .pre .3,
       refl,
-      λ h. (omega (arith, slots h .0, cleared .kept), slots h .1, cleared .ensures),
+      λ h. (omega (arith, slots h .0, cleared .kept), slots h .1, cleared .ensures .0),
     )
 
 close-requires : tie.Need-close-requires
