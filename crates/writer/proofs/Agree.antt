@@ -1,9 +1,9 @@
 -- The counts that a walk tallies are those of the entries. Assumes nothing.
-use Prim.Native.Nat.{ℕ, zero, suc, _+_, _≤_, _<_}
+use Prim.Native.Nat.{ℕ, _+_, _<_}
 use native.Mathlib.Omega.{arith}
 use native.Mathlib.Decide.{decLt, ℕ-discrete}
 use mathlib.Core.Path.{_≡_, refl, sym, ap, _∙_}
-use mathlib.Core.Bool.{Bool, true, false, cond, _&&_}
+use mathlib.Core.Bool.{Bool, cond}
 use mathlib.Core.List.{List, [], _∷_}
 use lib.ListN.{length, getD, set, replicate, length-set, length-replicate, getD-replicate, List·getD-eq-default}
 use lib.Seq.{getD-set-same, getD-set-other}
@@ -11,7 +11,7 @@ use lib.Dec.{eqb}
 use borrow.Author.Tests.{eq-eqb, ne-eqb}
 use Rattle.jhash.specs.NameHash.{hashOf}
 use Rattle.image.specs.Tables.{tableOf}
-use Rattle.image.specs.Image.{Entry, Placed, headSize, entrySize, placed, count, inTable}
+use Rattle.image.specs.Image.{Entry, Placed, headSize, entrySize, placed, count}
 use Rattle.image.proofs.Sizes.{count-nil, count-cons}
 use Rattle.image.proofs.All.{all-ext}
 use Rattle.writer.specs.Close.{countsAgree}
@@ -45,10 +45,6 @@ getD-raised counts h t l =
   where
     plus-none : (x : ℕ) → x ≡ x + 0
     plus-none x = omega arith
-
-placed-cons : (o : ℕ) (e : Entry) (es : List Entry) → placed o (e ∷ es) ≡ record { entry = e; at = o } ∷ placed (o + entrySize e) es
-unfolding placed
-placed-cons o e es = refl
 
 tallied-cons : (counts : List ℕ) (e : Entry) (es : List Entry) → tallied counts (e ∷ es) ≡ tallied (raisedCounts counts (hashOf (e .name))) es
 unfolding tallied countsAfter

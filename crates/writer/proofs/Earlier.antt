@@ -11,7 +11,6 @@ use Rattle.image.specs.Stored.{whole}
 use Rattle.image.specs.Tally.{tallied, sameCounts}
 use Rattle.image.proofs.Bools.{first-fails, second-fails, third-decides}
 use Rattle.writer.specs.declared.CQDBWriter.{CQDBWriter}
-use Rattle.writer.specs.declared.Repeats.{Repeats}
 use Rattle.writer.specs.State.{State, stateWith, refusesRepeats}
 use Rattle.writer.specs.Close.{entryArea, recorded, countsAgree, consistent}
 use Rattle.writer.specs.steps.Earlier.{walkRefusal, earlierRefusal}

@@ -1,17 +1,17 @@
 -- When a record fits, and the bounds of sizes. Assumes nothing.
-use Prim.Native.Nat.{ℕ, zero, suc, _+_, _*_, _^_, _≤_, _<_, max}
+use Prim.Native.Nat.{ℕ, _+_, _*_, _^_, _≤_, _<_, max}
 use native.Mathlib.Omega.{arith}
-use mathlib.Core.Path.{_≡_, refl, sym, ap, _∙_}
-use mathlib.Core.Bool.{Bool, true, false, _&&_, _||_}
+use mathlib.Core.Path.{_≡_}
+use mathlib.Core.Bool.{Bool, true, false, _&&_}
 use mathlib.Core.List.{List}
 use lib.ListN.{length}
 use lib.Dec.{eqb, leb, ltb}
-use borrow.Author.Tests.{eq-eqb, ne-eqb, le-leb, lt-leb, lt-ltb, le-ltb, eqb-true, leb-true, ltb-false}
+use borrow.Author.Tests.{eq-eqb, ne-eqb, le-leb, lt-leb, eqb-true, leb-true, ltb-false}
 use Rattle.image.specs.Image.{headSize, backIn}
 use Rattle.image.specs.declared.Mode.{Mode}
 use Rattle.image.specs.declared.Mode.the-variants.{Twoway, Oneway}
 use Rattle.image.proofs.Bools.{first, second, neither-first, neither-second}
-use Rattle.writer.specs.State.{State, stateWith, noneAbove, fits, tooLarge}
+use Rattle.writer.specs.State.{stateWith, noneAbove, fits, tooLarge}
 use Rattle.writer.specs.Put.{raised}
 use Rattle.writer.specs.declared.CQDBWriter.{CQDBWriter}
 
@@ -65,10 +65,6 @@ not-too-large room size h = (
   ltb-false room size (neither-first (ltb room size) (ltb 4294967295 size) h),
   ltb-false 4294967295 size (neither-second (ltb room size) (ltb 4294967295 size) h),
 )
-
-pub backIn-le : (mode : Mode) (n : ℕ) → backIn mode n ≤ n
-backIn-le Twoway n = omega arith
-backIn-le Oneway n = omega arith
 
 pub raised-le : (mode : Mode) (back id : ℕ) → raised mode back id ≤ max back (id + 1)
 raised-le Twoway back id = omega arith

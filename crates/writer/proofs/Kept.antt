@@ -1,6 +1,6 @@
 -- What calls leave as it was: a put changes its own entry's bytes alone, and an accepted close leaves the entries and the bytes from the
 -- image's size on. Assumes nothing.
-use Prim.Native.Nat.{ℕ, zero, suc, _+_, _-_, _≤_, _<_}
+use Prim.Native.Nat.{ℕ, suc, _+_, _-_, _≤_, _<_}
 use native.Mathlib.Omega.{arith}
 use mathlib.Core.Path.{_≡_, refl, sym, ap, _∙_}
 use mathlib.Core.Bool.{Bool, true, false, cond, not, _&&_}
@@ -9,17 +9,18 @@ use lib.ListN.{length, getD, take, drop, set, length-drop}
 use lib.Seq.{sets, drop-set-lt, take-append-le, drop-append-le}
 use lib.Dec.{eqb}
 use Rattle.image.specs.Bytes.{cat}
-use Rattle.image.specs.Image.{Entry, headSize, entryBytes, entrySize, entriesSize, entriesEnd, backIn, backSize, imageSize, image}
+use Rattle.image.specs.Image.{Entry, headSize, entryBytes, entrySize, entriesEnd, backIn, backSize, image}
 use Rattle.image.specs.declared.Mode.{Mode}
 use Rattle.image.proofs.Sizes.{length-entryBytes, length-entries, length-image}
-use Rattle.image.proofs.At.{At, at-take}
+use Rattle.image.proofs.At.{at-take}
 use Rattle.image.proofs.Parts.{entries-at}
-use Rattle.writer.specs.State.{State, stateWith, fits, finishedSize, tooLarge}
+use Rattle.writer.specs.State.{State, fits, finishedSize, tooLarge}
 use Rattle.writer.specs.Put.{putRefusal, appended, afterPut}
 use Rattle.image.specs.Stored.{whole}
 use Rattle.writer.specs.Close.{entryArea, recorded, countsAgree, closeRefusal, closedSize, closed, afterClose}
 use Rattle.image.proofs.Between.{take-sets}
-use Rattle.writer.proofs.WrittenImage.{area-kept, recorded-end}
+use Rattle.finish.proofs.WrittenImage.{area-kept, standing-end}
+use Rattle.writer.proofs.Fits.{fitting}
 
 -- ---- runs of stores
 
@@ -100,6 +101,9 @@ module _ (s : State) (bytes : (i : ℕ) → getD (s .buffer) i 0 < 256) (accepte
   unfolding closed
   close-keeps =
       let a = accepted-whole s accepted in
+      let w = s .writer in
+      let f = fitting w (s .counts) (s .buffer) (a .0) in
+      let ends = standing-end (w .end) (w .entries) (s .buffer) bytes (a .1) (f .low) (omega (arith, f .high, f .same-length)) in
       ap entryArea is-closed
-      ∙ area-in-image s (recorded s) (s .writer .end) (drop (closedSize s) (s .buffer)) (recorded-end (s .writer) (s .counts) (s .buffer) bytes (a .0) (a .1))
-      ∙ sym (area-kept (s .writer) (s .counts) (s .buffer) bytes (a .0) (a .1))
+      ∙ area-in-image s (recorded s) (w .end) (drop (closedSize s) (s .buffer)) ends
+      ∙ sym (area-kept (w .end) (w .entries) (s .buffer) bytes (a .1))

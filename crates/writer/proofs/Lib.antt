@@ -1,25 +1,9 @@
 -- Laws about the writer's rules.
-pub mod Joined
 pub mod Fits
 pub mod EntryStored
 pub mod Agree
 pub mod Earlier
 pub mod Puts
-pub mod Heads
-pub mod Empties
-pub mod Taking
-pub mod Noting
 pub mod Closes
-pub mod HeadRows
-pub mod Partial
-pub mod Cleared
-pub mod OneMore
-pub mod Turn
-pub mod Parting
-pub mod Filling
-pub mod Rooms
-pub mod ByTables
-pub mod TableByTable
-pub mod WrittenImage
 pub mod Accepted
 pub mod Kept

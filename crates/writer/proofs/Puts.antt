@@ -1,5 +1,5 @@
 -- What put answers in each case, as its checks go. Assumes nothing.
-use Prim.Native.Nat.{ℕ, suc, _+_, _*_, _≤_, _<_}
+use Prim.Native.Nat.{ℕ, suc, _+_, _≤_, _<_}
 use native.Mathlib.Omega.{arith}
 use mathlib.Core.Path.{_≡_, refl, sym, ap, _∙_}
 use mathlib.Core.Bool.{Bool, true, false, cond, not, _||_, or-true}
@@ -19,7 +19,7 @@ use Rattle.writer.specs.Put.{entryOf, writerWith, writerAfter, putRefusa
 use Rattle.writer.specs.declared.CQDBWriter.{CQDBWriter}
 use Rattle.image.proofs.All.{all-each}
 use Rattle.writer.specs.steps.Earlier.{earlierRefusal}
-use Rattle.writer.proofs.Fits.{Fitting, fitting, not-too-large}
+use Rattle.writer.proofs.Fits.{fitting, not-too-large}
 use Rattle.writer.proofs.Earlier.{in-order}
 
 -- a refusal's number is not 0

@@ -2,15 +2,16 @@
 use Prim.Native.Nat.{ℕ}
 use mathlib.Core.Bool.{Bool, cond, not, _&&_}
 use mathlib.Core.List.{List, _++_}
-use lib.ListN.{getD, take, drop}
+use lib.ListN.{take, drop}
 use lib.Dec.{eqb}
 use Rattle.jhash.specs.Outcome.{Outcome, value, refusal}
-use Rattle.image.specs.Bytes.{all}
-use Rattle.image.specs.Image.{Entry, headSize, backSize, backIn, placed, count, image}
+use Rattle.image.specs.Image.{Entry, headSize, backSize, backIn, image}
 use Rattle.image.specs.Stored.{whole, entriesIn, between}
 use Rattle.writer.specs.declared.Closed.{Closed}
 use Rattle.writer.specs.declared.Closed.the-variants.{Size, Refused}
 use Rattle.writer.specs.State.{State, fits, finishedSize, tooLarge}
+-- do the table counts agree with the entries?
+pub use Rattle.finish.specs.Finish.{countsAgree}
 
 -- the bytes from 2,072 to end, and the entries there
 abbrev pub entryArea : State → List ℕ
@@ -18,10 +19,6 @@ entryArea s = between (s .buffer) headSize (s .writer .end)
 
 abbrev pub recorded : State → List Entry
 recorded s = entriesIn (s .writer .entries) (entryArea s)
-
--- do the table counts agree with the entries?
-abbrev pub countsAgree : List ℕ → List Entry → Bool
-countsAgree counts es = all (λ (t : ℕ). eqb (getD counts t 0) (count t (placed headSize es))) 0 256
 
 -- the bytes from 2,072 to end are the recorded number of whole entries, with the table counts and the back size of the record (back size 0 if one-way)
 abbrev pub consistent : State → Bool

@@ -1,5 +1,5 @@
 -- Put: 01, "Writing" and "When a call is refused". The decision is apart from the effect.
-use Prim.Native.Nat.{ℕ, _+_, _*_, _%_, max}
+use Prim.Native.Nat.{ℕ, _+_, max}
 use mathlib.Core.Bool.{Bool, cond, not, _&&_}
 use mathlib.Core.List.{List}
 use lib.ListN.{length}

@@ -1,18 +1,20 @@
 -- The writer record, what it means that it fits, and begin: 01, "The writer record" and "When a call is refused".
-use Prim.Native.Nat.{ℕ, zero, suc, _+_, _*_}
-use mathlib.Core.Bool.{Bool, true, false, cond, not, _&&_, _||_}
+use Prim.Native.Nat.{ℕ}
+use mathlib.Core.Bool.{Bool, true, false, cond, _&&_, _||_}
 use mathlib.Core.List.{List}
-use lib.ListN.{length, getD, replicate}
+use lib.ListN.{length, replicate}
 use lib.Dec.{eqb, ltb, leb}
 use Rattle.jhash.specs.Outcome.{Outcome, value, refusal}
-use Rattle.image.specs.Bytes.{all}
-use Rattle.image.specs.Image.{headSize, backIn}
+use Rattle.image.specs.Image.{headSize}
 use Rattle.image.specs.declared.Mode.{Mode}
+use Rattle.finish.specs.Finish.{finishedOf}
 use Rattle.writer.specs.declared.Repeats.{Repeats}
 use Rattle.writer.specs.declared.Repeats.the-variants.{Off, On}
 use Rattle.writer.specs.declared.CQDBWriter.{CQDBWriter}
 use Rattle.writer.specs.declared.Begun.{Begun}
 use Rattle.writer.specs.declared.Begun.the-variants.{Fresh, Refused}
+-- no table count exceeds the number of entries
+pub use Rattle.finish.specs.Finish.{noneAbove}
 
 -- what a call is lent: the writer record, whose 256 table counts are lent apart, and the buffer
 pub record State : Type 0 where
@@ -28,10 +30,6 @@ abbrev pub refusesRepeats : Repeats → Bool
 refusesRepeats Off = true
 refusesRepeats On = false
 
--- no table count exceeds the number of entries
-abbrev pub noneAbove : List ℕ → ℕ → Bool
-noneAbove counts entries = all (λ (t : ℕ). leb (getD counts t 0) entries) 0 256
-
 -- the record fits (01's term) a buffer when the lengths agree, 2,072 ≤ end ≤ length, and no table count exceeds the number of entries
 unfoldable pub fits : State → Bool
 fits s =
@@ -42,7 +40,7 @@ fits s =
 
 -- the finished size (01's term): end + 16 × entries + 4 × back size, the back term 0 in one-way mode
 abbrev pub finishedSize : CQDBWriter → ℕ
-finishedSize w = w .end + 16 * w .entries + 4 * backIn (w .mode) (w .back)
+finishedSize w = finishedOf (w .mode) (w .end) (w .entries) (w .back)
 
 -- a size that exceeds the buffer or 4,294,967,295
 abbrev pub tooLarge : ℕ → ℕ → Bool

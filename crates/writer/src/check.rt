@@ -9,7 +9,6 @@ ghost use Rattle.writer.specs.steps.Earlier.{walkRefusal, earlierRefusal
 ghost use Rattle.image.specs.Tally.{sameCounts};
 use super::CQDBWriter;
 use super::Repeats;
-use super::record;
 
 // Whether two lists of counts are the same.
 fn same_counts(a: &[u32; 256], b: &[u32; 256]) -> bool
@@ -39,7 +38,7 @@ pub(super) fn walk_refusal(w: CQDBWriter, counts: &[u32; 256], buf: &[u8], name:
         return 4;
     }
     let mode = w.mode;
-    if w.back as u64 != record::back_in(mode, walked.back) {
+    if w.back as u64 != finish::size::back_in(mode, walked.back) {
         return 4;
     }
     if walked.met { 16 } else { 0 }

@@ -1,20 +1,14 @@
 // Writing: begin, put and close over one lent buffer, for every writer record and every buffer.
 ghost use mathlib.Core.Path.{_≡_};
-ghost use Prim.Native.Nat.{_≤_};
 ghost use lib.ListN.{length};
-ghost use Rattle.writer.specs.State.{stateWith, beginning, begunOf, countsBegun, finishedSize};
+ghost use Rattle.writer.specs.State.{stateWith, beginning, begunOf, countsBegun};
 ghost use Rattle.writer.specs.Put.{putRefusal, appended, afterPut, entryOf};
 ghost use Rattle.writer.specs.Close.{closing, closedOf, afterClose};
-ghost use Rattle.writer.specs.steps.Written.{written};
 use image::Mode;
 
-mod batch;
 mod check;
 mod entry;
-mod fill;
-mod head;
 mod record;
-mod tables;
 
 // 02 (viii)'s repeats mode: with repeats off a writer refuses a name that it already holds.
 pub enum Repeats {
@@ -137,34 +131,6 @@ pub fn put(
     PutAnswer { refusal: 0, writer }
 }
 
-// Writes the image that the record's entries close to: head and rows, tables and back array.
-fn write_image(w: CQDBWriter, counts: &[u32; 256], buf: &mut [u8])
-    requires { ⌜ (2072 ≤ w .end) × (finishedSize w ≤ length (now buf)) × (finishedSize w ≤ 4294967295) ⌝ }
-    ensures { λ _. ⌜ now (buf .exit) ≡ written w (now (counts .entry)) (now (buf .entry)) ⌝ }
-{
-    let mode = w.mode;
-    let size = record::finished_size(w);
-    let back = record::back_in(mode, w.back as u64);
-    let links = record::back_at(w);
-    head::write_head(
-        &mut *buf,
-        size as u32,
-        image::flag_word(mode),
-        back as u32,
-        links as u32,
-    );
-    head::write_rows(&mut *buf, counts, w.end as u32);
-    tables::fill_in(
-        mode,
-        links as usize,
-        &mut *buf,
-        counts,
-        w.end as usize,
-        w.entries,
-        size as usize,
-    );
-}
-
 // Writes head, tables and back array into the lent buffer, and gives the image's size. May be called often.
 pub fn close(w: CQDBWriter, counts: &[u32; 256], buf: &mut [u8]) -> CloseAnswer
     ensures answer { λ r. ⌜ closedOf (r .answer) ≡ closing (stateWith w (now (counts .entry)) (now (buf .entry))) ⌝ }
@@ -176,7 +142,8 @@ pub fn close(w: CQDBWriter, counts: &[u32; 256], buf: &mut [u8]) -> CloseAnswer
             writer: w,
         };
     }
-    let size = record::finished_size(w);
+    let mode = w.mode;
+    let size = finish::size::finished_size(mode, w.end, w.entries, w.back);
     if record::too_large(w.length, size) {
         return CloseAnswer {
             answer: Closed::Refused(4),
@@ -189,7 +156,7 @@ pub fn close(w: CQDBWriter, counts: &[u32; 256], buf: &mut [u8]) -> CloseAnswer
             writer: w,
         };
     }
-    write_image(w, counts, &mut *buf);
+    finish::write_image(mode, w.end, w.entries, w.back, counts, &mut *buf);
     CloseAnswer {
         answer: Closed::Size(size as u32),
         writer: w,

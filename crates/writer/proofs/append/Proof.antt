@@ -1,11 +1,11 @@
 -- `writer::append` meets its contract. Assumes nothing.
-use mathlib.Core.Path.{_≡_, sym, _∙_}
+use mathlib.Core.Path.{sym, _∙_}
 use lib.ListN.{length}
 use Rattle.image.proofs.Bools.{not-both}
 use Rattle.jhash.proofs.Outcomes.{told-refused, told-image-hash}
 use Rattle.writer.specs.State.{stateWith}
 use Rattle.writer.specs.Put.{entryOf, writerAfter}
-use Rattle.writer.proofs.Puts.{Passed, passed, long-name, count-small, entry-fits, size-small, appended-parts}
+use Rattle.writer.proofs.Puts.{passed, long-name, count-small, entry-fits, size-small, appended-parts}
 use borrow.Author.Needs.{needs}
 use Rattle.writer.proofs.append.Statement.{statement}
 use Rattle.writer.proofs.append.Tie as tie

@@ -1,15 +1,13 @@
 -- `writer::close` meets its contract. Assumes nothing.
 use native.Mathlib.Omega.{arith}
-use Prim.Native.Nat.{ℕ, _≤_, _<_}
-use mathlib.Core.List.{List}
-use lib.ListN.{length, getD}
+use Prim.Native.Nat.{ℕ}
 use mathlib.Core.Path.{_≡_, sym, ap, _∙_}
 use mathlib.Core.Bool.{true, false}
 use borrow.Author.Tests.{not-true, not-false}
 use Rattle.jhash.specs.Outcome.{value}
 use Rattle.writer.specs.State.{stateWith, fits, tooLarge, finishedSize}
-use Rattle.writer.proofs.Fits.{Fitting, fitting, not-too-large}
-use Rattle.writer.proofs.Accepted.{closes-image}
+use Rattle.writer.proofs.Fits.{fitting, not-too-large}
+use Rattle.writer.proofs.Accepted.{stands, closes-image}
 use Rattle.writer.specs.Close.{consistent}
 use Rattle.writer.proofs.Closes.{unfit, too-big, differs, closes}
 use borrow.Author.Needs.{needs}
@@ -18,10 +16,10 @@ use Rattle.writer.proofs.close.Tie as tie
 use Rattle.writer.proofs.close.Reads as reads
 use Rattle.writer.proofs.close.Lts as lts
 use Rattle.writer.proofs.check.agrees.Reads as agrees-reads
-use Rattle.writer.proofs.record.finished_size.Reads as finished-size-reads
 use Rattle.writer.proofs.record.fits.Reads as fits-reads
 use Rattle.writer.proofs.record.too_large.Reads as too-large-reads
-use Rattle.writer.proofs.write_image.Reads as write-image-reads
+use Rattle.finish.proofs.size.finished_size.Reads as finished-size-reads
+use Rattle.finish.proofs.write_image.Reads as write-image-reads
 
 fits-requires : tie.Need-fits-requires
 fits-requires c κs = search needs
@@ -80,21 +78,16 @@ returns-3 c =
 
 write-image-requires : tie.Need-write-image-requires
 write-image-requires c κs =
-    let a = c .before .before .before .before .before .before .before .before .before .before .before .args in
-    let of-fits2 = c .before .before .before .before .before .before .before .before .fits2 in
-    let of-if1 = c .before .before .before .before .before .before .before .if1 in
-    let of-finished-size = c .before .before .before .before .before .before .finished-size in
-    let of-too-large = c .before .before .before .before .before .too-large in
-    let of-if2 = c .before .before .before .before .if2 in
-    let yes : fits (stateWith (a .w) (a .counts .now) (a .buf .now)) ≡ true = sym (of-fits2 .ensures) ∙ not-false _ (of-if1 .left) in
+    let at-sizes = c .before .before .before .before in
+    let a = at-sizes .before .before .before .before .before .before .before .args in
+    let yes : fits (stateWith (a .w) (a .counts .now) (a .buf .now)) ≡ true = sym (at-sizes .before .before .before .before .fits2 .ensures) ∙ not-false _ (at-sizes .before .before .before .if1 .left) in
     let fine : tooLarge (a .w .length) (finishedSize (a .w)) ≡ false =
-    ap (λ (m : ℕ). tooLarge (a .w .length) m) (sym (of-finished-size .ensures)) ∙ sym (of-too-large .ensures) ∙ of-if2 .left in
-    let f = fitting (a .w) (a .counts .now) (a .buf .now) yes in
-    let l = not-too-large (a .w .length) (finishedSize (a .w)) fine in
-    (f .low, omega (arith, l .0, f .same-length), l .1)
+    ap (λ (m : ℕ). tooLarge (a .w .length) m) (sym (at-sizes .before .before .finished-size .ensures)) ∙ sym (at-sizes .before .too-large .ensures) ∙ at-sizes .if2 .left in
+    let all : consistent (stateWith (a .w) (a .counts .now) (a .buf .now)) ≡ true = sym (c .before .before .agrees .ensures) ∙ not-false _ (c .before .if3 .left) in
+    stands (a .w) (a .counts .now) (a .buf .now) yes fine all
 
-cast-t18 : tie.Need-cast-t18
-cast-t18 c =
+cast-t19 : tie.Need-cast-t19
+cast-t19 c =
     let a = c .before .before .before .before .before .before .before .before .before .before .before .before .before .before .args in
     let of-finished-size = c .before .before .before .before .before .before .before .before .before .finished-size in
     let of-too-large = c .before .before .before .before .before .before .before .before .too-large in
@@ -109,25 +102,15 @@ same-length-4 c = search needs
 
 returns-4 : tie.Need-returns-4
 returns-4 c =
-    let a = c .before .before .before .before .before .before .before .before .before .before .before .before .before .before .args in
-    let of-slice-known = c .before .before .before .before .before .before .before .before .before .before .before .before .before .slice-known in
-    let of-fits2 = c .before .before .before .before .before .before .before .before .before .before .before .fits2 in
-    let of-if1 = c .before .before .before .before .before .before .before .before .before .before .if1 in
-    let of-finished-size = c .before .before .before .before .before .before .before .before .before .finished-size in
-    let of-too-large = c .before .before .before .before .before .before .before .before .too-large in
-    let of-if2 = c .before .before .before .before .before .before .before .if2 in
-    let of-agrees = c .before .before .before .before .before .agrees in
-    let of-if3 = c .before .before .before .before .if3 in
-    let yes : fits (stateWith (a .w) (a .counts .now) (a .buf .now)) ≡ true = sym (of-fits2 .ensures) ∙ not-false _ (of-if1 .left) in
+    let at-sizes = c .before .before .before .before .before .before .before in
+    let a = at-sizes .before .before .before .before .before .before .before .args in
+    let of-finished-size = at-sizes .before .before .finished-size in
+    let yes : fits (stateWith (a .w) (a .counts .now) (a .buf .now)) ≡ true = sym (at-sizes .before .before .before .before .fits2 .ensures) ∙ not-false _ (at-sizes .before .before .before .if1 .left) in
     let fine : tooLarge (a .w .length) (finishedSize (a .w)) ≡ false =
-    ap (λ (m : ℕ). tooLarge (a .w .length) m) (sym (of-finished-size .ensures)) ∙ sym (of-too-large .ensures) ∙ of-if2 .left in
-    let all : consistent (stateWith (a .w) (a .counts .now) (a .buf .now)) ≡ true = sym (of-agrees .ensures) ∙ not-false _ (of-if3 .left) in
-    let l = not-too-large (a .w .length) (finishedSize (a .w)) fine in
-    let bytes : (i : ℕ) → getD (a .buf .now) i 0 < 256 = λ i. omega (arith, of-slice-known .given i) in
-    let done = closes (stateWith (a .w) (a .counts .now) (a .buf .now)) yes fine all in (
-      ap value (of-finished-size .ensures) ∙ done .0,
-      ap (λ (l : List ℕ). stateWith (a .w) (a .counts .now) l) (c .before .before .write-image .ensures)
-          ∙ closes-image (a .w) (a .counts .now) (a .buf .now) bytes yes fine all,
+    ap (λ (m : ℕ). tooLarge (a .w .length) m) (sym (of-finished-size .ensures)) ∙ sym (at-sizes .before .too-large .ensures) ∙ at-sizes .if2 .left in
+    let all : consistent (stateWith (a .w) (a .counts .now) (a .buf .now)) ≡ true = sym (c .before .before .before .before .before .agrees .ensures) ∙ not-false _ (c .before .before .before .before .if3 .left) in (
+      ap value (of-finished-size .ensures) ∙ closes (stateWith (a .w) (a .counts .now) (a .buf .now)) yes fine all .0,
+      closes-image (a .w) (a .counts .now) (a .buf .now) yes fine all (c .before .before .write-image .last .1 .1 .1 .1 .1 .0) (c .before .before .write-image .ensures),
     )
 
 pub close-spec : {M : Type 1} → statement M
@@ -145,6 +128,6 @@ close-spec =
     same-length-3
     returns-3
     write-image-requires
-    cast-t18
+    cast-t19
     same-length-4
     returns-4)

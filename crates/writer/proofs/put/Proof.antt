@@ -1,5 +1,5 @@
 -- `writer::put` meets its contract: the decision, then the effect. Assumes nothing.
-use mathlib.Core.Path.{_≡_, sym, _∙_}
+use mathlib.Core.Path.{sym, _∙_}
 use Rattle.writer.specs.State.{stateWith}
 use Rattle.writer.specs.Put.{entryOf}
 use Rattle.writer.proofs.Puts.{refused-leaves, accepted-leaves}

@@ -8,7 +8,7 @@ use Rattle.image.specs.Zero.{hasZero}
 use Rattle.writer.specs.State.{stateWith, fits, finishedSize, tooLarge}
 use Rattle.writer.specs.Put.{entryOf, writerWith, writerAfter}
 use Rattle.writer.specs.steps.Earlier.{earlierRefusal}
-use Rattle.writer.proofs.Fits.{Fitting, fitting}
+use Rattle.writer.proofs.Fits.{fitting}
 use Rattle.writer.proofs.Puts.{refuses-unfit, refuses-zero, refuses-earlier, refuses-full, accepts, long-name}
 use borrow.Author.Needs.{needs}
 use Rattle.writer.proofs.put_refusal.Statement.{statement}

@@ -1,7 +1,7 @@
 -- `ours::ahead::first_place` meets its contract. Assumes nothing.
 use native.Mathlib.Omega.{arith}
 use Prim.Native.Nat.{_/_}
-use Rattle.writer.proofs.Taking.{start-below}
+use Rattle.finish.proofs.Taking.{start-below}
 use borrow.Author.Needs.{needs}
 use Rattle.ours.proofs.ahead.first_place.Statement.{statement}
 use Rattle.ours.proofs.ahead.first_place.Tie as tie

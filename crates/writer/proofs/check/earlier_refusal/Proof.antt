@@ -1,7 +1,6 @@
 -- `writer::check::earlier_refusal` meets its contract. Assumes nothing.
 use mathlib.Core.Bool.{true, false}
-use mathlib.Core.Path.{sym, ap, _∙_}
-use Rattle.writer.specs.declared.Repeats.{Repeats}
+use mathlib.Core.Path.{ap, _∙_}
 use Rattle.writer.specs.State.{stateWith, refusesRepeats}
 use Rattle.writer.proofs.Earlier.{earlier-by}
 use borrow.Author.Needs.{needs}

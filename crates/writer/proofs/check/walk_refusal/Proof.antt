@@ -1,8 +1,7 @@
 -- `writer::check::walk_refusal` meets its contract. Assumes nothing.
 use borrow.Author.Tests.{not-true, not-false}
-use mathlib.Core.Bool.{Bool, true, false, cond}
-use mathlib.Core.Path.{sym, ap, _∙_}
-use Prim.Native.Nat.{ℕ}
+use mathlib.Core.Bool.{true, false}
+use mathlib.Core.Path.{sym, _∙_}
 use Rattle.writer.proofs.Agree.{zeros}
 use Rattle.writer.proofs.Earlier.{not-whole, other-counts, other-back, by-name}
 use borrow.Author.Needs.{needs}

@@ -4,7 +4,6 @@ use Rattle.image.specs.Image.{backIn}
 use Rattle.writer.specs.Put.{raised}
 use Rattle.writer.proofs.Fits.{raised-fits}
 use native.Mathlib.Omega.{arith}
-use mathlib.Core.Path.{refl}
 use Rattle.writer.specs.Put.{writerWith}
 use borrow.Author.Needs.{needs}
 use Rattle.writer.proofs.record.after.Statement.{statement}

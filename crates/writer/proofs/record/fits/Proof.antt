@@ -1,5 +1,4 @@
 -- `writer::record::fits` meets its contract. Assumes nothing.
-use native.Mathlib.Omega.{arith}
 use Rattle.writer.proofs.Fits.{other-length, end-low, end-high, by-counts}
 use borrow.Author.Needs.{needs}
 use Rattle.writer.proofs.record.fits.Statement.{statement}

@@ -1,0 +1,18 @@
+-- Laws about finishing: that its steps leave the image.
+pub mod Joined
+pub mod Heads
+pub mod Empties
+pub mod Taking
+pub mod Noting
+pub mod HeadRows
+pub mod Partial
+pub mod Cleared
+pub mod OneMore
+pub mod Turn
+pub mod Parting
+pub mod Filling
+pub mod Rooms
+pub mod ByTables
+pub mod TableByTable
+pub mod Writing
+pub mod WrittenImage

@@ -1,0 +1,3 @@
+-- What finishing gives: the image of entries that stand in a buffer.
+pub mod Finish
+pub mod steps
