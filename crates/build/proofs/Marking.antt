@@ -49,11 +49,11 @@ record Met (x : ℕ → List ℕ) (i : ℕ) (name : List ℕ) : Type 0 where
 find-met : (x : ℕ → List ℕ) (i : ℕ) (name : List ℕ) → metBefore x i name ≡ true → Met x i name
 unfolding heldBefore
 find-met x zero name e = absurd (not-both e)
-find-met x (suc i) name e = go (metBefore x i name) refl e
+find-met x (suc i) name e = go (find-met x i name) (metBefore x i name) refl e
   where
-    go : (m : Bool) → metBefore x i name ≡ m → (m || (eqb 0 0 && same (x i) name)) ≡ true → Met x (suc i) name
-    go true p q = let f = find-met x i name p in record { place = f .place; before = omega (arith, f .before); equal = f .equal }
-    go false p q = record { place = i; before = omega arith; equal = second (eqb 0 0) (same (x i) name) q }
+    go : (metBefore x i name ≡ true → Met x i name) → (m : Bool) → metBefore x i name ≡ m → (m || (eqb 0 0 && same (x i) name)) ≡ true → Met x (suc i) name
+    go known true p q = let f = known p in record { place = f .place; before = omega (arith, f .before); equal = f .equal }
+    go known false p q = record { place = i; before = omega arith; equal = second (eqb 0 0) (same (x i) name) q }
 
 both : (a b : Bool) → (a ≡ true → b ≡ true) → (b ≡ true → a ≡ true) → a ≡ b
 both true b f g = sym (f refl)

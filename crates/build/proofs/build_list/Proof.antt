@@ -12,6 +12,9 @@ use Rattle.build.proofs.build_list.Tie as tie
 slots-for-requires : tie.Need-slots-for-requires
 slots-for-requires c κs = search needs
 
+cast-clear : tie.Need-cast-clear
+cast-clear c = search needs
+
 clear-requires : tie.Need-clear-requires
 clear-requires c κs =
     slots-within (c .before .slots-for .result) (length (c .before .before .before .before .before .before .before .before .args .ends .now)) (length (c .before .before .before .before .before .before .before .before .args .work .now)) 4294967295 (c .before .slots-for .ensures)
@@ -85,6 +88,7 @@ build-list-spec =
     tie.close
     (tie.spec
     slots-for-requires
+    cast-clear
     clear-requires
     put-all-requires
     close-requires
