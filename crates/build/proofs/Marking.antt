@@ -8,8 +8,8 @@ use mathlib.Core.Bool.{Bool, true, false, cond, _||_, _&&_}
 use mathlib.Core.List.{List}
 use borrow.Author.Tests.{eq-eqb, ne-eqb, lt-ltb, le-ltb}
 use lib.Dec.{eqb, ltb}
-use lib.ListN.{length, getD, set, length-set}
-use lib.Seq.{getD-set-same, getD-set-other}
+use lib.ListN.{length, getD, set, drop, length-set}
+use lib.Seq.{getD-set-same, getD-set-other, drop-set-lt}
 use Rattle.image.specs.Bytes.{same}
 use Rattle.image.specs.Tables.{tableOf}
 use Rattle.image.specs.Zero.{hasZero}
@@ -156,6 +156,11 @@ module _ (xs : List (List ℕ)) (n : ℕ) (slot : List ℕ → ℕ) where
     pub ready-told : heldBefore x (firstMark x) p (x p) ≡ metBefore (nth xs) i (nth xs i)
     ready-told = first-held x p (x p) ∙ ready-met
 
+    -- what a comparison of two names tells, in either order
+    pub alike-turned : (q : ℕ) → q < n → (j : ℕ) → j ≡ i → (b : Bool) → b ≡ same (nth xs (numberIn n work q)) (nth xs j) → b ≡ same (x q) (x p)
+    alike-turned q h j e b is =
+        is ∙ ap₂ same (sym (r .are q h)) (ap (nth xs) e ∙ sym (r .are p inside))
+
     pub ready-repeat : metBefore (nth xs) i (nth xs i) ≡ true → Ready xs n slot work (p + 1)
     ready-repeat e =
         record {
@@ -278,6 +283,33 @@ module _ (xs : List (List ℕ)) (n : ℕ) where
               ∙ ap (λ (b : Bool). cond (hasZero (nth xs i)) 13 (cond (b && true) 16 0)) (sym (ap (λ (k : ℕ). metBefore (nth xs) k (nth xs k)) d ∙ e))
               ∙ sym (then-told i (d ∙ en))
 
+      -- either
+      pub marks-turn : (rs rs′ : List ℕ) (j : ℕ) → j ≡ number p → (repeat : Bool) → repeat ≡ metBefore (nth xs) (number p) (nth xs (number p))
+          → rs′ ≡ cond repeat (set rs j (repeatMark (at rs j))) rs → n ≤ length rs → ((i : ℕ) → i < n → at rs i ≡ markAt xs n p i)
+          → ((i : ℕ) → i < n → at rs′ i ≡ markAt xs n (p + 1) i) × (length rs′ ≡ length rs) × (drop n rs′ ≡ drop n rs)
+      marks-turn rs rs′ j en repeat er e room z = go repeat refl
+        where
+          inside-rs : j < n
+          inside-rs = omega (arith, en, o .below p inside)
+
+          met-own : metBefore (nth xs) j (nth xs j) ≡ metBefore (nth xs) (number p) (nth xs (number p))
+          met-own = ap (λ (m : ℕ). metBefore (nth xs) m (nth xs m)) en
+
+          go : (b : Bool) → repeat ≡ b → ((i : ℕ) → i < n → at rs′ i ≡ markAt xs n (p + 1) i) × (length rs′ ≡ length rs) × (drop n rs′ ≡ drop n rs)
+          go true q =
+              let is : rs′ ≡ set rs j (repeatMark (at rs j)) = e ∙ ap (λ (b : Bool). cond b (set rs j (repeatMark (at rs j))) rs) q in (
+                λ i h. ap (λ (l : List ℕ). at l i) is
+                    ∙ marks-repeat rs j (repeatMark (at rs j)) en (met-own ∙ sym er ∙ q) refl (omega (arith, inside-rs)) z i h,
+                ap length is ∙ length-set rs j (repeatMark (at rs j)),
+                ap (drop n) is ∙ drop-set-lt n rs j (repeatMark (at rs j)) inside-rs,
+              )
+          go false q =
+              let is : rs′ ≡ rs = e ∙ ap (λ (b : Bool). cond b (set rs j (repeatMark (at rs j))) rs) q in (
+                λ i h. ap (λ (l : List ℕ). at l i) is ∙ marks-first rs (sym er ∙ q) z i h,
+                ap length is,
+                ap (drop n) is,
+              )
+
 -- ---- small laws
 
 -- different hashes, different names
@@ -294,6 +326,10 @@ slot-fits-sum f a b g h k = let l : 2 * a * b < 18446744073709551616 = slot-fits
 pub slot-inside : (n h : ℕ) (ends : List ℕ) → slotBy ends h < 2 * n → (slotBy ends h ≡ slotIn n ends h) × (slotBy ends h < 2 * n)
 unfolding slotIn
 slot-inside n h ends l = (sym (ap (λ (b : Bool). cond b (slotBy ends h) 0) (lt-ltb (slotBy ends h) (2 * n) l)), l)
+
+pub slot-turned : (n h : ℕ) (ends : List ℕ) (s : ℕ) → slotBy ends h ≡ s → (slotBy ends h ≡ s → (slotBy ends h ≡ slotIn n ends h) × (slotBy ends h < 2 * n))
+    → (s ≡ slotIn n ends h) × (s < 2 * n)
+slot-turned n h ends s e f = (sym e ∙ f e .0, omega (arith, e, f e .1))
 
 pub slot-outside : (n h : ℕ) (ends : List ℕ) → 0 < n → 2 * n ≤ slotBy ends h → (0 ≡ slotIn n ends h) × (0 < 2 * n)
 unfolding slotIn

@@ -1,7 +1,7 @@
 // The repeats of a list, told before the first name is put: by chains of the names of each table, which lie side by side in the
 // lent memory.
 ghost use mathlib.Core.Path.{_≡_};
-ghost use mathlib.Core.Bool.{true, false};
+ghost use mathlib.Core.Bool.{true, false, cond};
 ghost use Prim.Native.Nat.{ℕ, _+_, _*_, _-_, _≤_, _<_};
 ghost use lib.ListN.{length, drop, set};
 ghost use Rattle.image.specs.Bytes.{same};
@@ -116,6 +116,17 @@ fn repeat_mark(r: u32) -> u32
     if r == 0 { 16 } else { r }
 }
 
+// The mark of the i-th name, if it is a repeat.
+fn mark(rs: &mut [u32], i: usize, repeat: bool)
+    requires { ⌜ i < length (now rs) ⌝ }
+    ensures { λ _. ⌜ now (rs .exit) ≡ cond repeat (set (now (rs .entry)) i (repeatMark (at (now (rs .entry)) i))) (now (rs .entry)) ⌝ }
+{
+    if !repeat {
+        return;
+    }
+    rs[i] = repeat_mark(rs[i]);
+}
+
 // 16 for each name that stands before in the list and has no zero byte, table by table.
 fn mark_all(
     bytes: &[u8],
@@ -131,10 +142,9 @@ fn mark_all(
     let n = ends.len();
     let mut p = 0;
     while p < n {
-        if tell(bytes, ends, &mut *work, tables, p) {
-            let i = work[2 * n + 3 * p + 1] as usize;
-            rs[i] = repeat_mark(rs[i]);
-        }
+        let repeat = tell(bytes, ends, &mut *work, tables, p);
+        let i = work[2 * n + 3 * p + 1] as usize;
+        mark(&mut *rs, i, repeat);
         p += 1;
     }
 }
