@@ -18,8 +18,9 @@ use Rattle.image.proofs.Equal.{same-true, same-false}
 use Rattle.joined.specs.Names.{nth}
 use Rattle.joined.specs.Keys.{key}
 use Rattle.build.specs.steps.Held.{at, heldBefore, Chains}
-use Rattle.build.specs.steps.Parted.{hashIn, numberIn, keptIn, linkOf, tableAt, placeOf, Ordered, slotBy, slotIn}
+use Rattle.build.specs.steps.Parted.{hashIn, numberIn, keptIn, linkOf, tableAt, tableIn, placeOf, Ordered, slotBy, slotIn}
 use Rattle.build.specs.steps.Marked.{allTaken, metBefore, zeroMark, markOf, repeatMark, firstMark, Ready, linkedIn}
+use Rattle.build.proofs.Tallies.{order-told}
 use Rattle.build.proofs.Chained.{and-false, held-at, chains-none, chains-refused, chains-accepted}
 
 -- ---- first names
@@ -141,6 +142,28 @@ module _ (xs : List (List ℕ)) (n : ℕ) (slot : List ℕ → ℕ) where
   ready-start work o hashed z =
       let x : ℕ → List ℕ = λ (q : ℕ). nth xs (numberIn n work q) in
       record { x = x; are = λ q h. refl; hashed = hashed; order = o; chains = chains-none x slot (2 * n) (firstMark x) (at work) (linkOf n work) z }
+
+  -- after the names are parted and the heads cleared
+  pub ready-parted : (hashes parted work : List ℕ) → ((i : ℕ) → i < n → keptIn n hashes i ≡ key (nth xs i)) → Ordered (tableIn n hashes) n (numberIn n parted)
+      → ((p : ℕ) → p < n → hashIn n parted p ≡ keptIn n hashes (numberIn n parted p)) → ((s : ℕ) → s < 2 * n → at work s ≡ 0)
+      → ((k : ℕ) → 2 * n ≤ k → at work k ≡ at parted k) → Ready xs n slot work 0
+  ready-parted hashes parted work kept o hashed z same-words = ready-start work order own z
+    where
+      numbers : (p : ℕ) → p < n → numberIn n work p ≡ numberIn n parted p
+      numbers p h = same-words (2 * n + 3 * p + 1) (omega arith)
+
+      told : Ordered (tableAt xs) n (numberIn n parted)
+      told = order-told (tableIn n hashes) (tableAt xs) n (λ i h. ap tableOf (kept i h)) (numberIn n parted) o
+
+      order : Ordered (tableAt xs) n (numberIn n work)
+      order = order-ext (numberIn n parted) (numberIn n work) numbers told
+
+      own : (p : ℕ) → p < n → hashIn n work p ≡ key (nth xs (numberIn n work p))
+      own p h =
+          same-words (2 * n + 3 * p) (omega arith)
+          ∙ hashed p h
+          ∙ kept (numberIn n parted p) (told .below p h)
+          ∙ ap (λ (m : ℕ). key (nth xs m)) (sym (numbers p h))
 
   module _ (work : List ℕ) (p : ℕ) (r : Ready xs n slot work p) (inside : p < n) where
     abbrev x : ℕ → List ℕ
@@ -311,6 +334,10 @@ module _ (xs : List (List ℕ)) (n : ℕ) where
               )
 
 -- ---- small laws
+
+-- with repeats on, 13 for a zero byte is all
+pub mark-on : (x : ℕ → List ℕ) (i : ℕ) → zeroMark (x i) ≡ markOf false x i
+mark-on x i = ap (λ (b : Bool). cond (hasZero (x i)) 13 (cond b 16 0)) (sym (and-false (metBefore x i (x i))))
 
 -- different hashes, different names
 pub unlike : (a b : List ℕ) (g h : ℕ) → g ≡ key a → h ≡ key b → (g ≡ h → ⊥) → false ≡ same a b

@@ -235,3 +235,36 @@ module _ (T : ℕ → ℕ) where
                     | no m ↦ absurd (omega (arith, f .is, g .is, within j i (omega arith) (sym et)))
                   ]
               ]
+
+-- ---- the same tables told in another way
+
+module _ (T S : ℕ → ℕ) (n : ℕ) (same-tables : (i : ℕ) → i < n → T i ≡ S i) where
+  tally-ext : (t i : ℕ) → i ≤ n → tally T t i ≡ tally S t i
+  unfolding tally
+  tally-ext t zero k = refl
+  tally-ext t (suc i) k = ap₂ (λ (a b : ℕ). a + one (eqb b t)) (tally-ext t i (omega arith)) (same-tables i (omega arith))
+
+  pub first-ext : (t : ℕ) → firstOf T n t ≡ firstOf S n t
+  unfolding firstOf
+  first-ext t = sum-ext (λ (s : ℕ). tally T s n) (λ (s : ℕ). tally S s n) t (λ s k. tally-ext s n (omega arith)) t (omega arith)
+
+  place-ext : (i : ℕ) → i < n → placeOf T n i ≡ placeOf S n i
+  unfolding placeOf
+  place-ext i h =
+      ap (λ (t : ℕ). firstOf T n t + tally T t i) (same-tables i h)
+      ∙ ap₂ (λ (a b : ℕ). a + b) (first-ext (S i)) (tally-ext (S i) i (omega arith))
+
+  pub order-told : (number : ℕ → ℕ) → Ordered T n number → Ordered S n number
+  order-told number o =
+      record {
+        below = o .below;
+        there = λ i h. (omega (arith, o .there i h .0, place-ext i h), ap number (sym (place-ext i h)) ∙ o .there i h .1);
+        rises = λ p q h k e. o .rises p q h k (same-tables (number p) (o .below p (omega arith)) ∙ e ∙ sym (same-tables (number q) (o .below q k)));
+      }
+
+-- the sums of the counts of n numbers are at most n
+pub sums-fit : (T : ℕ → ℕ) (n : ℕ) (tables : ℕ → ℕ) → ((t : ℕ) → t < 256 → tables t ≡ tally T t n) → (t : ℕ) → t ≤ 256 → (sumTo tables t ≡ firstOf T n t) × (sumTo tables t ≤ n)
+unfolding firstOf
+sums-fit T n tables known t h =
+    let e : sumTo tables t ≡ firstOf T n t = sum-ext tables (λ (s : ℕ). tally T s n) 256 known t h in
+    (e, omega (arith, e, first-le T n t))

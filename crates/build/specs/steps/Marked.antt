@@ -6,10 +6,12 @@ use mathlib.Core.List.{List}
 use lib.ListN.{length, set}
 use lib.Dec.{eqb}
 use Rattle.image.specs.Zero.{hasZero}
-use Rattle.image.specs.Image.{headSize, backIn}
+use Rattle.image.specs.Image.{Entry, headSize, backIn}
 use Rattle.image.specs.declared.Mode.{Mode}
 use Rattle.joined.specs.Names.{nth, beginOf}
 use Rattle.joined.specs.Keys.{key}
+use Rattle.writer.specs.State.{State}
+use Rattle.writer.specs.Put.{appended}
 use Rattle.build.specs.steps.Held.{at, heldBefore, Chains}
 use Rattle.build.specs.steps.Parted.{hashIn, numberIn, linkOf, tableAt, Ordered}
 
@@ -56,8 +58,13 @@ pub record Slotted (xs : List (List ℕ)) (n : ℕ) (work : List ℕ) (p s : ℕ
 abbrev pub linkedIn : ℕ → List ℕ → ℕ → ℕ → List ℕ
 linkedIn n work s p = set (set work (2 * n + 3 * p + 2) (at work s)) s (p + 1)
 
+-- a put to which r is due
+unfoldable pub putBy : ℕ → State → Entry → State
+putBy r s e = cond (eqb r 0) (appended s e) s
+
 -- all names have room: `top` is above every id
-pub record Roomy (mode : Mode) (ends ids : List ℕ) (room top : ℕ) : Type 0 where
+pub record Roomy (mode : Mode) (ends ids : List ℕ) (room : ℕ) : Type 0 where
+  pub top : ℕ
   pub ids-below : (i : ℕ) → i < length ends → at ids i < top
   pub within : headSize + beginOf ends (length ends) + 25 * length ends + 4 * backIn mode top ≤ room
   pub small : headSize + beginOf ends (length ends) + 25 * length ends + 4 * backIn mode top ≤ 4294967295
