@@ -6,6 +6,6 @@ pub mod Parting
 pub mod Marking
 pub mod Turns
 pub mod Going
-pub mod Puts
+pub mod Dues
 pub mod Whole
 pub mod Theorem
