@@ -24,7 +24,7 @@ use Rattle.joined.specs.Keys.{key}
 use Rattle.joined.proofs.NameEnds.{length-names, nth-name, placed}
 use Rattle.writer.specs.declared.Repeats.{Repeats}
 use Rattle.writer.specs.declared.Repeats.the-variants.{On}
-use Rattle.writer.specs.State.{State, refusesRepeats, tooLarge}
+use Rattle.writer.specs.State.{State, refusesRepeats, tooLarge, fresh}
 use Rattle.writer.specs.Put.{putRefusal, appended, afterPut, writerAfter, entryOf, raised}
 use Rattle.writer.proofs.Puts.{Passed, passed, long-name}
 use Rattle.lists.specs.Calls.{sizeOf, putDue}
@@ -96,6 +96,23 @@ set-back l i h = ext-getD 0 (set l i (at l i)) l (length-set l i (at l i)) there
       | no e ↦ getD-set-other l i j (at l i) 0 e
     ]
 
+-- a put by what is due to it
+pub due-kept : (r : ℕ) (s : State) (e : Entry) → (r ≡ 0 → ⊥) → s ≡ putBy r s e
+unfolding putBy
+due-kept r s e h = sym (ap (λ (b : Bool). cond b (appended s e) s) (ne-eqb r 0 h))
+
+pub due-put : (r : ℕ) (s : State) (e : Entry) → r ≡ 0 → appended s e ≡ putBy r s e
+unfolding putBy
+due-put r s e h = sym (ap (λ (b : Bool). cond b (appended s e) s) (eq-eqb r 0 h))
+
+-- one id more
+pub ids-turn : (ids : List ℕ) (i top v : ℕ) → top ≤ v → at ids i ≤ v → ((j : ℕ) → j < i → at ids j ≤ top) → (j : ℕ) → j < i + 1 → at ids j ≤ v
+ids-turn ids i top v h k known j l =
+    elim (ℕ-discrete j i) [
+      | yes e ↦ omega (arith, ap (at ids) e)
+      | no e ↦ omega (arith, known j (omega arith))
+    ]
+
 -- ---- a turn
 
 -- what is written so far is no more than the names so far need
@@ -103,6 +120,10 @@ pub record Bounded (ends : List ℕ) (top i : ℕ) (s : State) : Type 0 where
   pub ended : s .writer .end ≤ headSize + beginOf ends i + 9 * i
   pub number : s .writer .entries ≤ i
   pub backs : s .writer .back ≤ top
+
+pub bounded-start : (mode : Mode) (buffer ends : List ℕ) (top : ℕ) → Bounded ends top 0 (fresh mode On buffer)
+unfolding fresh
+bounded-start mode buffer ends top = record { ended = omega arith; number = omega arith; backs = omega arith }
 
 back-below : (mode : Mode) (b top id : ℕ) (es : List Entry) (e : Entry) → e .id ≡ id → b ≡ backIn mode (backSize es) → b ≤ top → id < top
     → backIn mode (backSize (es ++ (e ∷ []))) ≤ backIn mode top

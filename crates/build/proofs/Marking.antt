@@ -4,7 +4,7 @@ use native.Mathlib.Omega.{arith}
 use native.Mathlib.Decide.{ℕ-discrete, decLt}
 use native.Mathlib.Nat.{mul-le-mul}
 use mathlib.Core.Path.{_≡_, refl, sym, ap, ap₂, subst, _∙_}
-use mathlib.Core.Bool.{Bool, true, false, cond, _||_, _&&_}
+use mathlib.Core.Bool.{Bool, true, false, cond, not, _||_, _&&_}
 use mathlib.Core.List.{List}
 use borrow.Author.Tests.{eq-eqb, ne-eqb, lt-ltb, le-ltb}
 use lib.Dec.{eqb, ltb}
@@ -338,6 +338,15 @@ module _ (xs : List (List ℕ)) (n : ℕ) where
 -- with repeats on, 13 for a zero byte is all
 pub mark-on : (x : ℕ → List ℕ) (i : ℕ) → zeroMark (x i) ≡ markOf false x i
 mark-on x i = ap (λ (b : Bool). cond (hasZero (x i)) 13 (cond b 16 0)) (sym (and-false (metBefore x i (x i))))
+
+-- a store that waits for a choice
+pub not-chosen : (b : Bool) (l m : List ℕ) → not b ≡ true → m ≡ cond b l m
+not-chosen true l m e = absurd (not-both e)
+not-chosen false l m e = refl
+
+pub chosen-one : (b : Bool) (l m : List ℕ) → not b ≡ false → l ≡ cond b l m
+chosen-one true l m e = refl
+chosen-one false l m e = absurd (not-both (sym e))
 
 -- different hashes, different names
 pub unlike : (a b : List ℕ) (g h : ℕ) → g ≡ key a → h ≡ key b → (g ≡ h → ⊥) → false ≡ same a b

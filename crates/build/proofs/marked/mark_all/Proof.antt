@@ -56,7 +56,7 @@ slice-read-i : tie.Need-slice-read-i Inv-loop μ-loop
 slice-read-i c = omega (arith, c .before .before .before .before .before .before .before .before .before .before .before .pre .2, c .before .before .before .before .before .before .loop .inv .2, c .before .before .before .before .before .loop-test .taken, c .before .before .before .tell .kept)
 
 cast-i : tie.Need-cast-i Inv-loop μ-loop
-cast-i c = search needs
+cast-i c = omega (arith, c .slice-known4 .given (2 * length (c .before .before .before .before .before .before .before .before .before .before .before .args .ends .now) + 3 * c .before .before .before .before .before .before .loop .p + 1))
 
 mark-requires : tie.Need-mark-requires Inv-loop μ-loop
 mark-requires c κs =

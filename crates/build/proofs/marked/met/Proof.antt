@@ -59,7 +59,7 @@ shared-slice-read-i : tie.Need-shared-slice-read-i Inv-loop μ-loop
 shared-slice-read-i c = let s = c .before .before .before .before .before in omega (arith, s .pre .1, s .pre .2, s .pre .3)
 
 cast-i : tie.Need-cast-i Inv-loop μ-loop
-cast-i c = search needs
+cast-i c = let s = c .before .before .before .before .before in omega (arith, c .shared-slice-known5 .given (2 * length (s .args .ends .now) + 3 * s .args .p + 1))
 
 mul-q : tie.Need-mul-q Inv-loop μ-loop
 mul-q c = let s = c .before .before .before .before .before in omega (arith, s .pre .1, s .pre .2, s .pre .3)
@@ -68,7 +68,7 @@ shared-slice-read-q : tie.Need-shared-slice-read-q Inv-loop μ-loop
 shared-slice-read-q c = let s = c .before .before .before .before .before .before in omega (arith, s .pre .1, s .pre .2, s .pre .4 .inside)
 
 cast-q : tie.Need-cast-q Inv-loop μ-loop
-cast-q c = search needs
+cast-q c = omega (arith, c .shared-slice-known6 .given (c .before .before .before .before .before .before .args .s))
 
 loop-holds : tie.Need-loop-holds Inv-loop μ-loop
 loop-holds c =
@@ -160,7 +160,7 @@ shared-slice-read-q-2 c =
     omega (arith, s .pre .1, s .pre .2, s .pre .3, w .below, c .before .before .before .loop-test .taken)
 
 cast-q-2 : tie.Need-cast-q-2 Inv-loop μ-loop
-cast-q-2 c = search needs
+cast-q-2 c = omega (arith, c .shared-slice-known7 .given (2 * length (c .before .before .before .before .before .before .before .before .before .before .before .args .ends .now) + 3 * (c .before .before .before .before .loop .q - 1) + 2))
 
 loop-less : tie.Need-loop-less Inv-loop μ-loop
 loop-less c =
