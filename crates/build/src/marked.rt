@@ -138,6 +138,7 @@ fn mark_all(
     requires { ⌜ (astray (length (now bytes)) 0 (now ends) ≡ false) × (length (now ends) ≤ length (now rs)) × (6 * length (now ends) ≤ length (now work)) × (length (now ends) ≤ 4294967295) × Ready (names (now bytes) (now ends)) (length (now ends)) (tableSlot (length (now ends)) (now tables)) (now work) 0 × ((i : ℕ) → i < length (now ends) → at (now rs) i ≡ zeroMark (nth (names (now bytes) (now ends)) i)) ⌝ }
     ensures marks { λ _. ⌜ ((i : ℕ) → i < length (now (ends .entry)) → at (now (rs .exit)) i ≡ markOf true (nth (names (now (bytes .entry)) (now (ends .entry)))) i) × (drop (length (now (ends .entry))) (now (rs .exit)) ≡ drop (length (now (ends .entry))) (now (rs .entry))) ⌝ }
     ensures kept { λ _. ⌜ ((i : ℕ) → i < length (now (ends .entry)) → keptIn (length (now (ends .entry))) (now (work .exit)) i ≡ keptIn (length (now (ends .entry))) (now (work .entry)) i) ⌝ }
+    ensures lengths { λ _. ⌜ (length (now (rs .exit)) ≡ length (now (rs .entry))) × (length (now (work .exit)) ≡ length (now (work .entry))) ⌝ }
 {
     let n = ends.len();
     let mut p = 0;
@@ -160,6 +161,7 @@ fn mark_repeats(
     requires { ⌜ (astray (length (now bytes)) 0 (now ends) ≡ false) × (length (now ends) ≤ length (now rs)) × (6 * length (now ends) ≤ length (now work)) × (length (now ends) ≤ 4294967295) × ((i : ℕ) → i < length (now ends) → keptIn (length (now ends)) (now work) i ≡ key (nth (names (now bytes) (now ends)) i)) × (length (now tables) ≡ 256) × ((t : ℕ) → t < 256 → at (now tables) t ≡ tally (tableAt (names (now bytes) (now ends))) t (length (now ends))) × ((i : ℕ) → i < length (now ends) → at (now rs) i ≡ zeroMark (nth (names (now bytes) (now ends)) i)) ⌝ }
     ensures marks { λ _. ⌜ ((i : ℕ) → i < length (now (ends .entry)) → at (now (rs .exit)) i ≡ markOf true (nth (names (now (bytes .entry)) (now (ends .entry)))) i) × (drop (length (now (ends .entry))) (now (rs .exit)) ≡ drop (length (now (ends .entry))) (now (rs .entry))) ⌝ }
     ensures kept { λ _. ⌜ ((i : ℕ) → i < length (now (ends .entry)) → keptIn (length (now (ends .entry))) (now (work .exit)) i ≡ keptIn (length (now (ends .entry))) (now (work .entry)) i) ⌝ }
+    ensures lengths { λ _. ⌜ (length (now (rs .exit)) ≡ length (now (rs .entry))) × (length (now (work .exit)) ≡ length (now (work .entry))) ⌝ }
 {
     let n = ends.len();
     starts(&mut *tables);
@@ -180,6 +182,7 @@ pub(crate) fn mark_list(
     requires { ⌜ (astray (length (now bytes)) 0 (now ends) ≡ false) × (length (now ends) ≤ length (now rs)) × (6 * length (now ends) ≤ length (now work)) × (length (now ends) ≤ 4294967295) ⌝ }
     ensures marks { λ _. ⌜ ((i : ℕ) → i < length (now (ends .entry)) → at (now (rs .exit)) i ≡ markOf (refusesRepeats repeats) (nth (names (now (bytes .entry)) (now (ends .entry)))) i) × (drop (length (now (ends .entry))) (now (rs .exit)) ≡ drop (length (now (ends .entry))) (now (rs .entry))) ⌝ }
     ensures hashes { λ _. ⌜ ((i : ℕ) → i < length (now (ends .entry)) → keptIn (length (now (ends .entry))) (now (work .exit)) i ≡ key (nth (names (now (bytes .entry)) (now (ends .entry))) i)) ⌝ }
+    ensures lengths { λ _. ⌜ (length (now (rs .exit)) ≡ length (now (rs .entry))) × (length (now (work .exit)) ≡ length (now (work .entry))) ⌝ }
 {
     let mut tables = [0; 256];
     hash_all(bytes, ends, &mut *rs, &mut *work, &mut tables);

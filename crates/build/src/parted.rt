@@ -41,6 +41,7 @@ pub(crate) fn hash_all(
     ensures hashes { λ _. ⌜ ((i : ℕ) → i < length (now (ends .entry)) → keptIn (length (now (ends .entry))) (now (work .exit)) i ≡ key (nth (names (now (bytes .entry)) (now (ends .entry))) i)) ⌝ }
     ensures counts { λ _. ⌜ (length (now (tables .exit)) ≡ 256) × ((t : ℕ) → t < 256 → at (now (tables .exit)) t ≡ tally (tableAt (names (now (bytes .entry)) (now (ends .entry)))) t (length (now (ends .entry)))) ⌝ }
     ensures marks { λ _. ⌜ ((i : ℕ) → i < length (now (ends .entry)) → at (now (rs .exit)) i ≡ zeroMark (nth (names (now (bytes .entry)) (now (ends .entry))) i)) × (drop (length (now (ends .entry))) (now (rs .exit)) ≡ drop (length (now (ends .entry))) (now (rs .entry))) ⌝ }
+    ensures lengths { λ _. ⌜ (length (now (rs .exit)) ≡ length (now (rs .entry))) × (length (now (work .exit)) ≡ length (now (work .entry))) ⌝ }
 {
     let n = ends.len();
     let mut i = 0;

@@ -101,7 +101,7 @@ returns c =
     let l = c .before .loop in
     let n = length (s .args .ends .now) in
     let xs = names (s .args .bytes .now) (s .args .ends .now) in
-    ((marks-end xs n (numberIn n (l .work)) (l .inv .3 .order) (l .rs) (l .p) (omega (arith, c .loop-test .left)) (l .inv .4), l .inv .5), l .inv .6)
+    ((marks-end xs n (numberIn n (l .work)) (l .inv .3 .order) (l .rs) (l .p) (omega (arith, c .loop-test .left)) (l .inv .4), l .inv .5), (l .inv .6, (l .inv .1, l .inv .2)))
 
 pub mark-all-spec : {M : Type 1} → statement M
 mark-all-spec =

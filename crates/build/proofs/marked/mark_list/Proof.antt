@@ -29,13 +29,13 @@ mark-repeats-requires c κs =
     let hashed = c .before .before .before .before .before .before .before .before .before .hash-all in
     let h = hashed .ensures in (
       s .pre .0,
-      omega (arith, s .pre .1, hashed .kept .0, hashed .kept .1),
-      omega (arith, s .pre .2, hashed .kept .0, hashed .kept .1),
+      omega (arith, s .pre .1, h .1 .1 .1 .0, h .1 .1 .1 .1),
+      omega (arith, s .pre .2, h .1 .1 .1 .0, h .1 .1 .1 .1),
       s .pre .3,
       h .0,
       h .1 .0 .0,
       h .1 .0 .1,
-      h .1 .1 .0,
+      h .1 .1 .0 .0,
     )
 
 same-length : tie.Need-same-length
@@ -49,7 +49,7 @@ returns c =
     let a = c .before .before .before .before .before .before .before .before .before .before .before .before .before .before .args in
     let x = nth (names (a .bytes .now) (a .ends .now)) in
     let h = c .before .before .before .before .before .before .hash-all .ensures in
-    ((λ i k. h .1 .1 .0 i k ∙ mark-on x i ∙ ap (λ (r : Repeats). markOf (refusesRepeats r) x i) (sym (c .enum-told .given .1)), h .1 .1 .1), h .0)
+    ((λ i k. h .1 .1 .0 .0 i k ∙ mark-on x i ∙ ap (λ (r : Repeats). markOf (refusesRepeats r) x i) (sym (c .enum-told .given .1)), h .1 .1 .0 .1), (h .0, h .1 .1 .1))
 
 same-length-3 : tie.Need-same-length-3
 same-length-3 c = search needs
@@ -63,8 +63,8 @@ returns-2 c =
     let x = nth (names (a .bytes .now) (a .ends .now)) in
     let h = c .before .before .before .before .before .before .before .before .before .before .before .before .before .before .hash-all .ensures in
     let m = c .before .before .before .before .mark-repeats .ensures in (
-      (λ i k. m .0 .0 i k ∙ ap (λ (r : Repeats). markOf (refusesRepeats r) x i) (sym (c .before .before .before .before .before .before .before .before .enum-told2 .given .1)), m .0 .1 ∙ h .1 .1 .1),
-      λ i k. m .1 i k ∙ h .0 i k,
+      (λ i k. m .0 .0 i k ∙ ap (λ (r : Repeats). markOf (refusesRepeats r) x i) (sym (c .before .before .before .before .before .before .before .before .enum-told2 .given .1)), m .0 .1 ∙ h .1 .1 .0 .1),
+      (λ i k. m .1 .0 i k ∙ h .0 i k, (m .1 .1 .0 ∙ h .1 .1 .1 .0, m .1 .1 .1 ∙ h .1 .1 .1 .1)),
     )
 
 pub mark-list-spec : {M : Type 1} → statement M

@@ -8,7 +8,7 @@ use borrow.Author.Needs.{needs}
 use Rattle.image.specs.Tables.{tableOf}
 use Rattle.joined.specs.Names.{names}
 use Rattle.build.specs.steps.Held.{at}
-use Rattle.build.specs.steps.Parted.{tableAt, tableIn, tableSlot}
+use Rattle.build.specs.steps.Parted.{tableAt, tableIn}
 use Rattle.build.proofs.Tallies.{first-ext, sums-fit}
 use Rattle.build.proofs.Marking.{ready-parted}
 use Rattle.build.proofs.marked.mark_repeats.Statement.{statement}
@@ -52,7 +52,7 @@ mark-all-requires c κs =
       s .pre .1,
       omega (arith, s .pre .2, put .kept, cleared .kept),
       s .pre .3,
-      ready-parted xs n (tableSlot n _) (a .work .now) _ _ (s .pre .4) (put .ensures .0) (put .ensures .1 .0) (cleared .ensures .0) (cleared .ensures .1),
+      ready-parted xs n _ (a .work .now) _ _ (s .pre .4) (put .ensures .0) (put .ensures .1 .0) (cleared .ensures .0) (cleared .ensures .1),
       s .pre .7,
     )
 
@@ -66,7 +66,10 @@ returns : tie.Need-returns
 returns c =
     let n = length (c .before .before .before .before .before .before .before .before .before .before .before .before .before .before .before .before .before .before .before .before .before .before .before .args .ends .now) in
     let done = c .before .before .before .before .mark-all .ensures in
-    (done .0, λ i h. done .1 i h ∙ c .before .before .before .before .before .before .before .before .before .before .clear .ensures .1 (5 * n + i) (omega arith) ∙ c .before .before .before .before .before .before .before .before .before .before .before .before .before .before .part .ensures .1 .1 i h)
+    (
+      done .0,
+      (λ i h. done .1 .0 i h ∙ c .before .before .before .before .before .before .before .before .before .before .clear .ensures .1 (5 * n + i) (omega arith) ∙ c .before .before .before .before .before .before .before .before .before .before .before .before .before .before .part .ensures .1 .1 i h, (done .1 .1 .0, done .1 .1 .1 ∙ c .before .before .before .before .before .before .before .before .before .before .clear .kept ∙ c .before .before .before .before .before .before .before .before .before .before .before .before .before .before .part .kept)),
+    )
 
 pub mark-repeats-spec : {M : Type 1} → statement M
 mark-repeats-spec = tie.close (tie.spec starts-requires part-requires mul-clear clear-requires mark-all-requires same-length same-length-2 returns)

@@ -125,7 +125,7 @@ returns c =
       λ i h. l .inv .4 i (omega arith),
       (
         (l .inv .3, λ t h. l .inv .5 t h ∙ ap (tally (tableAt xs) t) last),
-        (λ i h. l .inv .6 i (omega arith), l .inv .7),
+        ((λ i h. l .inv .6 i (omega arith), l .inv .7), (l .inv .1, l .inv .2)),
       ),
     )
 
