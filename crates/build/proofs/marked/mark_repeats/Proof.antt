@@ -52,7 +52,7 @@ mark-all-requires c κs =
       s .pre .1,
       omega (arith, s .pre .2, put .kept, cleared .kept),
       s .pre .3,
-      ready-parted xs n _ (a .work .now) _ _ (s .pre .4) (put .ensures .0) (put .ensures .1 .0) (cleared .ensures .0) (cleared .ensures .1),
+      ready-parted xs n _ (a .work .now) (put .last .0) _ (s .pre .4) (put .ensures .0) (put .ensures .1 .0) (cleared .ensures .0) (cleared .ensures .1),
       s .pre .7,
     )
 
@@ -66,9 +66,13 @@ returns : tie.Need-returns
 returns c =
     let n = length (c .before .before .before .before .before .before .before .before .before .before .before .before .before .before .before .before .before .before .before .before .before .before .before .args .ends .now) in
     let done = c .before .before .before .before .mark-all .ensures in
-    (
+    let cleared = c .before .before .before .before .before .before .before .before .before .before .clear in
+    let put = c .before .before .before .before .before .before .before .before .before .before .before .before .before .before .part in (
       done .0,
-      (λ i h. done .1 .0 i h ∙ c .before .before .before .before .before .before .before .before .before .before .clear .ensures .1 (5 * n + i) (omega arith) ∙ c .before .before .before .before .before .before .before .before .before .before .before .before .before .before .part .ensures .1 .1 i h, (done .1 .1 .0, done .1 .1 .1 ∙ c .before .before .before .before .before .before .before .before .before .before .clear .kept ∙ c .before .before .before .before .before .before .before .before .before .before .before .before .before .before .part .kept)),
+      (
+        λ i h. done .1 .0 i h ∙ cleared .ensures .1 (5 * n + i) (omega arith) ∙ put .ensures .1 .1 i h,
+        (done .1 .1 .0, omega (arith, done .1 .1 .1, cleared .kept, put .kept)),
+      ),
     )
 
 pub mark-repeats-spec : {M : Type 1} → statement M
