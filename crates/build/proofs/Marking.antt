@@ -77,9 +77,9 @@ module _ (xs : List (List ℕ)) (n : ℕ) (number : ℕ → ℕ) (o : Ordered (t
       elim (ℕ-discrete q p) [
         | yes e ↦ e
         | no e ↦ elim (decLt q p) [
-            | yes l ↦ absurd (omega (arith, o .rises q p l h (ap T back), back))
-            | no l ↦ absurd (omega (arith, o .rises p q (omega arith) here (sym (ap T back)), back))
-          ]
+          | yes l ↦ absurd (omega (arith, o .rises q p l h (ap T back), back))
+          | no l ↦ absurd (omega (arith, o .rises p q (omega arith) here (sym (ap T back)), back))
+        ]
       ]
 
   pub place-other : (p i : ℕ) → p < n → i < n → (i ≡ number p → ⊥) → placeOf T n i ≡ p → ⊥
@@ -118,9 +118,9 @@ module _ (xs : List (List ℕ)) (n : ℕ) (number : ℕ → ℕ) (o : Ordered (t
             elim (decLt q p) [
               | yes m ↦ held-at x allTaken (x p) q refl s p m
               | no m ↦ elim (ℕ-discrete q p) [
-                  | yes d ↦ absurd (omega (arith, w .1, ap number d))
-                  | no d ↦ absurd (omega (arith, w .1, o .rises p q (omega arith) (w .0) (sym t ∙ sym (ap T (w .1)))))
-                ]
+                | yes d ↦ absurd (omega (arith, w .1, ap number d))
+                | no d ↦ absurd (omega (arith, w .1, o .rises p q (omega arith) (w .0) (sym t ∙ sym (ap T (w .1)))))
+              ]
             ]
 
 -- ---- the lent memory, a place at a time

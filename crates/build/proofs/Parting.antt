@@ -156,13 +156,13 @@ module _ (n : ℕ) (first : List ℕ) where
               ap (λ (l : List ℕ). at l t) f
               ∙ count-turn T tables (firstOf T n) i (tableOf h) in-table (mod-lt h (omega arith)) (s .rows) (s .next) t k;
           hash = λ j k. elim (ℕ-discrete j i) [
-              | yes q ↦ ap (λ (m : ℕ). hashIn n then (placeOf T n m)) q ∙ own-hash ∙ is ∙ s .kept i inside ∙ ap (keptIn n first) (sym q)
-              | no q ↦ other (2 * n + 3 * placeOf T n j) (λ z. earlier j (omega arith) (omega arith)) (λ z. omega arith) ∙ s .hash j (omega arith)
-            ];
+            | yes q ↦ ap (λ (m : ℕ). hashIn n then (placeOf T n m)) q ∙ own-hash ∙ is ∙ s .kept i inside ∙ ap (keptIn n first) (sym q)
+            | no q ↦ other (2 * n + 3 * placeOf T n j) (λ z. earlier j (omega arith) (omega arith)) (λ z. omega arith) ∙ s .hash j (omega arith)
+          ];
           number = λ j k. elim (ℕ-discrete j i) [
-              | yes q ↦ ap (λ (m : ℕ). numberIn n then (placeOf T n m)) q ∙ own-number ∙ sym q
-              | no q ↦ other (2 * n + 3 * placeOf T n j + 1) (λ z. omega arith) (λ z. earlier j (omega arith) (omega arith)) ∙ s .number j (omega arith)
-            ];
+            | yes q ↦ ap (λ (m : ℕ). numberIn n then (placeOf T n m)) q ∙ own-number ∙ sym q
+            | no q ↦ other (2 * n + 3 * placeOf T n j + 1) (λ z. omega arith) (λ z. earlier j (omega arith) (omega arith)) ∙ s .number j (omega arith)
+          ];
         })
 
   -- all are settled

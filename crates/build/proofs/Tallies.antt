@@ -108,9 +108,9 @@ module _ (T : ℕ → ℕ) where
       elim (decLt k (tally T t n)) [
         | yes p ↦ kth-more t n k (find-kth t n k p)
         | no p ↦ elim (ℕ-discrete (T n) t) [
-            | yes e ↦ record { number = n; inside = omega arith; table = e; kth = omega (arith, ap one (eq-eqb (T n) t e)) }
-            | no e ↦ absurd (omega (arith, ap one (ne-eqb (T n) t e)))
-          ]
+          | yes e ↦ record { number = n; inside = omega arith; table = e; kth = omega (arith, ap one (eq-eqb (T n) t e)) }
+          | no e ↦ absurd (omega (arith, ap one (ne-eqb (T n) t e)))
+        ]
       ]
 
   -- ---- all tables together
@@ -125,9 +125,9 @@ module _ (T : ℕ → ℕ) where
       elim (decLt a m) [
         | yes p ↦ ap₂ (λ (x y : Bool). one x + one y) (lt-ltb a m p) (ne-eqb a m (λ e. omega arith)) ∙ sym (ap one (lt-ltb a (suc m) (omega arith)))
         | no p ↦ elim (ℕ-discrete a m) [
-            | yes e ↦ ap₂ (λ (x y : Bool). one x + one y) (le-ltb a m (omega arith)) (eq-eqb a m e) ∙ sym (ap one (lt-ltb a (suc m) (omega arith)))
-            | no e ↦ ap₂ (λ (x y : Bool). one x + one y) (le-ltb a m (omega arith)) (ne-eqb a m e) ∙ sym (ap one (le-ltb a (suc m) (omega arith)))
-          ]
+          | yes e ↦ ap₂ (λ (x y : Bool). one x + one y) (le-ltb a m (omega arith)) (eq-eqb a m e) ∙ sym (ap one (lt-ltb a (suc m) (omega arith)))
+          | no e ↦ ap₂ (λ (x y : Bool). one x + one y) (le-ltb a m (omega arith)) (ne-eqb a m e) ∙ sym (ap one (le-ltb a (suc m) (omega arith)))
+        ]
       ]
 
   sum-suc : (n m : ℕ) → sumTo (λ (s : ℕ). tally T s (suc n)) m ≡ sumTo (λ (s : ℕ). tally T s n) m + one (ltb (T n) m)
@@ -181,9 +181,9 @@ module _ (T : ℕ → ℕ) where
           elim (ℕ-discrete (T i) (T j)) [
             | yes p ↦ omega (arith, within i j h p)
             | no p ↦ elim (decLt (T i) (T j)) [
-                | yes q ↦ omega (arith, apart i j (omega arith) q)
-                | no q ↦ omega (arith, apart j i k (omega arith))
-              ]
+              | yes q ↦ omega (arith, apart i j (omega arith) q)
+              | no q ↦ omega (arith, apart j i k (omega arith))
+            ]
           ]
 
       pub record Holder (p : ℕ) : Type 0 where
@@ -231,9 +231,9 @@ module _ (T : ℕ → ℕ) where
               elim (decLt i j) [
                 | yes l ↦ omega arith
                 | no l ↦ elim (ℕ-discrete i j) [
-                    | yes m ↦ absurd (omega (arith, f .is, g .is, ap (placeOf T n) m))
-                    | no m ↦ absurd (omega (arith, f .is, g .is, within j i (omega arith) (sym et)))
-                  ]
+                  | yes m ↦ absurd (omega (arith, f .is, g .is, ap (placeOf T n) m))
+                  | no m ↦ absurd (omega (arith, f .is, g .is, within j i (omega arith) (sym et)))
+                ]
               ]
 
 -- ---- the same tables told in another way

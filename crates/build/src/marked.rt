@@ -12,11 +12,11 @@ ghost use Rattle.build.specs.steps.Held.{at};
 ghost use Rattle.build.specs.steps.Marked.{metBefore, zeroMark, markOf, repeatMark, Ready, Slotted, linkedIn};
 ghost use Rattle.build.specs.steps.Parted.{hashIn, numberIn, keptIn, tableAt, tally, firstIn, slotIn, tableSlot};
 use super::held::clear;
-use image::equality::same;
-use joined::name_of;
 use super::parted::hash_all;
 use super::parted::part;
 use super::parted::starts;
+use image::equality::same;
+use joined::name_of;
 use writer::Repeats;
 
 // Where the places of a table begin.
@@ -128,13 +128,7 @@ fn mark(rs: &mut [u32], i: usize, repeat: bool)
 }
 
 // 16 for each name that stands before in the list and has no zero byte, table by table.
-fn mark_all(
-    bytes: &[u8],
-    ends: &[u64],
-    rs: &mut [u32],
-    work: &mut [u32],
-    tables: &[u32; 256],
-)
+fn mark_all(bytes: &[u8], ends: &[u64], rs: &mut [u32], work: &mut [u32], tables: &[u32; 256])
     requires { ⌜ (astray (length (now bytes)) 0 (now ends) ≡ false) × (length (now ends) ≤ length (now rs)) × (6 * length (now ends) ≤ length (now work)) × (length (now ends) ≤ 4294967295) × Ready (names (now bytes) (now ends)) (length (now ends)) (tableSlot (length (now ends)) (now tables)) (now work) 0 × ((i : ℕ) → i < length (now ends) → at (now rs) i ≡ zeroMark (nth (names (now bytes) (now ends)) i)) ⌝ }
     ensures marks { λ _. ⌜ ((i : ℕ) → i < length (now (ends .entry)) → at (now (rs .exit)) i ≡ markOf true (nth (names (now (bytes .entry)) (now (ends .entry)))) i) × (drop (length (now (ends .entry))) (now (rs .exit)) ≡ drop (length (now (ends .entry))) (now (rs .entry))) ⌝ }
     ensures kept { λ _. ⌜ ((i : ℕ) → i < length (now (ends .entry)) → keptIn (length (now (ends .entry))) (now (work .exit)) i ≡ keptIn (length (now (ends .entry))) (now (work .entry)) i) ⌝ }

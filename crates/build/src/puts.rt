@@ -117,7 +117,15 @@ pub(crate) fn put_marked(
     let mut i = 0;
     while i < n {
         let name = name_of(bytes, ends, i);
-        after = put_due(after, &mut *counts, &mut *buf, name, ids[i], work[5 * n + i], rs[i]);
+        after = put_due(
+            after,
+            &mut *counts,
+            &mut *buf,
+            name,
+            ids[i],
+            work[5 * n + i],
+            rs[i],
+        );
         i += 1;
     }
     after

@@ -37,8 +37,7 @@ loop-less c = omega arith
 
 loop-again : tie.Need-loop-again Inv-loop μ-loop
 loop-again c =
-    let l = c .before .loop in
-    (
+    let l = c .before .loop in (
       omega arith,
       simp length-set (l .inv .1),
       zeros-turn (l .work) (l .i) (omega (arith, l .inv .1)) (l .inv .2),

@@ -185,10 +185,10 @@ loop-again c =
       l .inv .0,
       l .inv .1,
       λ k. (let w = l .inv .2 k in
-      let below : q < p = omega (arith, w .below, some) in
-      let inside : q < n = omega (arith, below, s .pre .1) in
-      let told = alike-turned xs n (k .slot) work p (k .ready) (s .pre .1) q inside _ (l .inv .1) (c .before .before .alike-at .result) (c .before .before .alike-at .ensures) in
-      walk-step (k .ready .x) (k .slot) (firstMark (k .ready .x)) p (l .q) _ some w (sym told ∙ c .before .if1 .left) (k .ready .chains .links q below (w .taken some))),
+          let below : q < p = omega (arith, w .below, some) in
+          let inside : q < n = omega (arith, below, s .pre .1) in
+          let told = alike-turned xs n (k .slot) work p (k .ready) (s .pre .1) q inside _ (l .inv .1) (c .before .before .alike-at .result) (c .before .before .alike-at .ensures) in
+          walk-step (k .ready .x) (k .slot) (firstMark (k .ready .x)) p (l .q) _ some w (sym told ∙ c .before .if1 .left) (k .ready .chains .links q below (w .taken some))),
     )
 
 returns-2 : tie.Need-returns-2 Inv-loop μ-loop

@@ -23,7 +23,7 @@ Inv-loop counts₀ buf₀ bytes ends ids rs work n after₀ i₀ counts buf afte
     (i ≤ n)
     × (length buf ≡ length buf₀)
     × ((r : Repeats) → ((j : ℕ) → j < n → at rs j ≡ markOf (refusesRepeats r) (nth (names bytes ends)) j)
-        → Going (after₀ .mode) r buf₀ (names bytes ends) ids rs i (stateWith after counts buf) rs)
+    → Going (after₀ .mode) r buf₀ (names bytes ends) ids rs i (stateWith after counts buf) rs)
     × ((k : Roomy (after₀ .mode) ends ids (length buf₀)) → Bounded ends (k .top) i (stateWith after counts buf))
 
 abbrev μ-loop : tie.MeasureT-loop
