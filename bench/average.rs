@@ -1,6 +1,7 @@
 // Averages (02 (x)): the average search length of 1,000 loads beside the Rust's opening and its lookups of the same names. Ours also
 // checks that each load is an image of ours, byte by byte. Each side's time of a load is the best of five; a row has the mean of
 // these 1,000 times.
+use crate::names::drawn;
 use crate::ours;
 use crate::table::{self, best, time};
 use cqdb::CQDB;
@@ -8,11 +9,6 @@ use std::hint::black_box;
 
 const LOADS: u32 = 1_000;
 const ENTRIES: usize = 4_096;
-
-fn names(seed: u32) -> Vec<String> {
-    let step = |s: &u32| Some(s.wrapping_mul(1_664_525).wrapping_add(1_013_904_223));
-    std::iter::successors(Some(seed), step).skip(1).take(ENTRIES).map(|s| format!("P{s:08X}")).collect()
-}
 
 fn lookups(image: &[u8], names: &[String]) -> u64 {
     let db = CQDB::new(image).expect("a load opens");
@@ -24,7 +20,7 @@ pub fn run() {
     let (mut own, mut check, mut rust, mut total) = (0.0, 0.0, 0.0, 0);
     for seed in 0..LOADS {
         assert_eq!(ours::load(seed, &mut image).accepted as usize, ENTRIES);
-        let names = names(seed);
+        let names: Vec<String> = drawn(seed).take(ENTRIES).collect();
         let average = ours::average(&image);
         total += average.quotient * ENTRIES as u64 + average.remainder;
         let ours = || assert_eq!(ours::average(black_box(&image)), average);

@@ -1,5 +1,5 @@
 // The benchmarks: ours and the Rust's release build, or a copy for bundles, in one run and one table. The two take turns, and each
-// time is the best of several repetitions.   main [hash | reading | building | repeats | page | bundle | load | origin | round | average]
+// time is the best of several repetitions.   main [PART]
 mod average;
 mod building;
 mod bundle;
@@ -15,38 +15,27 @@ mod repeats;
 mod round;
 mod table;
 
+const PARTS: [(&str, fn()); 10] = [
+    ("hash", hash::run),
+    ("reading", reading::run),
+    ("building", building::run),
+    ("repeats", repeats::run),
+    ("page", page::run),
+    ("bundle", bundle::run),
+    ("load", load::run),
+    ("origin", origin::run),
+    ("round", round::run),
+    ("average", average::run),
+];
+
 fn main() {
     let part = std::env::args().nth(1);
-    let wanted = |name: &str| part.as_deref().is_none_or(|part| part == name);
+    let wanted: Vec<_> = PARTS.iter().filter(|(name, _)| part.as_deref().is_none_or(|part| part == *name)).collect();
+    if wanted.is_empty() {
+        let names: Vec<&str> = PARTS.iter().map(|(name, _)| *name).collect();
+        eprintln!("bench: the parts are {} and peers", names.join(", "));
+        std::process::exit(2);
+    }
     table::head();
-    if wanted("hash") {
-        hash::run();
-    }
-    if wanted("reading") {
-        reading::run();
-    }
-    if wanted("building") {
-        building::run();
-    }
-    if wanted("repeats") {
-        repeats::run();
-    }
-    if wanted("page") {
-        page::run();
-    }
-    if wanted("bundle") {
-        bundle::run();
-    }
-    if wanted("load") {
-        load::run();
-    }
-    if wanted("origin") {
-        origin::run();
-    }
-    if wanted("round") {
-        round::run();
-    }
-    if wanted("average") {
-        average::run();
-    }
+    wanted.iter().for_each(|(_, run)| run());
 }

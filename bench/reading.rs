@@ -1,15 +1,10 @@
 // Reading: open, hits, misses and namings on an image that the Rust wrote, in an order that jumps about.
-use crate::names::Names;
+use crate::names::{mixed, Names};
 use crate::ours;
 use crate::table::{self, best};
 use cqdb::{CQDBWriter, CQDB};
 use std::hint::black_box;
 use std::io::Cursor;
-
-// The numbers below n, each once.
-fn mixed(n: usize) -> impl Iterator<Item = usize> {
-    (0..n).map(move |i| (i * 611_953 + 7) % n)
-}
 
 /// The image that the Rust writes of these names.
 pub fn image(names: &[&str]) -> Vec<u8> {

@@ -26,8 +26,9 @@ build_driver() {
             -L native=target/staticlib -l static=cqdb_c -l static=lookup3 "$1" -o "$2"
 }
 
-# build_alone SOURCE PROGRAM: builds a Rust program over our archive that does not ask the original.
+# build_alone SOURCE PROGRAM [ARGUMENT..]: builds a Rust program over our archive that does not ask the original; what it is
+# linked with besides stands in the arguments.
 build_alone() {
     mkdir -p "$(dirname "$2")" &&
-        rustc -C opt-level=3 --edition 2021 -L native=target/staticlib -l static=cqdb_c "$1" -o "$2"
+        rustc -C opt-level=3 --edition 2021 "${@:3}" -L native=target/staticlib -l static=cqdb_c "$1" -o "$2"
 }

@@ -17,8 +17,8 @@ use Rattle.image.specs.Image.{Entry, Placed, headSize, ofTable, inTable, count,
 use Rattle.image.specs.declared.Mode.{Mode}
 use Rattle.image.proofs.Sizes.{length-image}
 use Rattle.reader.specs.Lookup.{nothing, Hit, Seen, pass, hit, seeEntry, see, lookup}
-use Rattle.reader.specs.Meets.{over, meetAlong, metIn, metHash, entriesMet, firstMet}
-use Rattle.reader.proofs.Homes.{lookup-first}
+use Rattle.agreement.specs.Meets.{over, meetAlong, metIn, metHash, entriesMet, firstMet}
+use Rattle.agreement.proofs.Homes.{lookup-first}
 use Rattle.answers.specs.Answer.{tablePuts}
 use Rattle.image.proofs.Every.{All, all-map, all-both, all-keep, all-image, map-alike}
 use Rattle.image.proofs.Buckets.{filled-all}

@@ -2,7 +2,7 @@
 use mathlib.Core.Path.{_≡_, refl, sym, ap, _∙_}
 use mathlib.Core.List.{List, [], _∷_}
 use mathlib.Core.Bool.{true}
-use mathlib.Core.Option.{Option, Option·map, none, some}
+use mathlib.Core.Option.{Option·map, none, some}
 use mathlib.Core.Logic.{_↔_}
 use Prim.Native.Nat.{ℕ, _+_, _^_, _≤_}
 use native.Mathlib.Omega.{arith}
@@ -12,13 +12,13 @@ use Rattle.image.specs.Image.{Entry, headSize, backSize, imageSize, image}
 use Rattle.image.specs.declared.Mode.{Mode}
 use Rattle.image.specs.declared.Mode.the-variants.{Twoway}
 use Rattle.reader.specs.Open.{opening}
-use Rattle.reader.specs.Lookup.{Lookup, found, nothing, Hit, lookup}
+use Rattle.reader.specs.Lookup.{Lookup, found, nothing, lookup}
 use Rattle.reader.specs.declared.Found.{Found}
 use Rattle.answers.specs.Answer.{foundId, foundOffset, nameGiven, ofName, ofId, tablePuts, firstId, lastName, firstAt}
 use Rattle.reader.specs.Cases.{reads}
 use Rattle.answers.proofs.Opened.{opening-image}
-use Rattle.reader.proofs.Homes.{lookup-first}
-use Rattle.reader.specs.Meets.{entriesMet, someMet}
+use Rattle.agreement.proofs.Homes.{lookup-first}
+use Rattle.agreement.specs.Meets.{entriesMet, someMet}
 use Rattle.answers.proofs.Scan.{firstOf, foundHit, first-hit}
 use Rattle.answers.proofs.Names.{tellings, idIn, offsetIn, first-id, first-at, someId, some-met, named-told}
 use Rattle.answers.proofs.Found.{lookup-long, met-searched}

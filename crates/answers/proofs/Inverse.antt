@@ -51,25 +51,6 @@ swapped : (name : List ℕ) (id : ℕ) (es : List Entry) → keep (hasId id) (of
 unfolding ofName ofId
 swapped name id es = keep-swap (hasId id) (hasName name) es
 
--- the name of a last entry is one of theirs
-last-kept : (name : List ℕ) (es : List Entry) → lastName es ≡ some name → keep (hasName name) es ≡ [] → ⊥
-unfolding keep
-last-kept name [] q k = let z : _≡_ {A = ℕ} 0 1 = cc in omega arith
-last-kept name (e ∷ []) q k =
-    let s : e .name ≡ name = cc in
-    let t : same (e .name) name ≡ true = ap (λ (l : List ℕ). same l name) s ∙ same-self name in
-    let y = sym (keep-yes (hasName name) e [] t) ∙ k in
-    let z : _≡_ {A = ℕ} 0 1 = cc in
-    omega arith
-last-kept name (e ∷ f ∷ es) q k = go (same (e .name) name) refl (last-kept name (f ∷ es) q)
-  where
-    go : (t : Bool) → same (e .name) name ≡ t → (keep (hasName name) (f ∷ es) ≡ [] → ⊥) → ⊥
-    go true t ih =
-        let y = sym (keep-yes (hasName name) e (f ∷ es) t) ∙ k in
-        let z : _≡_ {A = ℕ} 0 1 = cc in
-        omega arith
-    go false t ih = ih (sym (keep-no (hasName name) e (f ∷ es) t) ∙ k)
-
 module _ (es : List Entry) (names : (name : List ℕ) → length (ofName name es) ≤ 1) (ids : (id : ℕ) → length (ofId id es) ≤ 1) (name : List ℕ) (id : ℕ) where
   first-last : (xs : List Entry) → ofName name es ≡ xs → length xs ≤ 1 → firstId xs ≡ some id → lastName (ofId id es) ≡ some name
   first-last [] e h q = let z : _≡_ {A = ℕ} 0 1 = cc in absurd (omega arith)

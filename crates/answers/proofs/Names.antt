@@ -2,7 +2,7 @@
 use mathlib.Core.Path.{_≡_, refl, ap, _∙_}
 use mathlib.Core.Bool.{Bool, true, false, cond, _||_}
 use mathlib.Core.List.{List, [], _∷_, map}
-use mathlib.Core.Option.{Option, Option·map, none, some}
+use mathlib.Core.Option.{Option·map, some}
 use Prim.Native.Nat.{ℕ, _+_, _≤_, _<_}
 use native.Mathlib.Omega.{arith}
 use borrow.Author.Tests.{eq-eqb}
@@ -13,7 +13,7 @@ use Rattle.image.specs.Bytes.{keep, same}
 use Rattle.image.specs.Tables.{tableOf}
 use Rattle.image.specs.Image.{Entry, Placed, entrySize, entriesSize, placed, inTable, ofTable, hasId}
 use Rattle.reader.specs.Lookup.{Hit, Seen, pass, hit}
-use Rattle.reader.specs.Meets.{Met, met, over, someMet}
+use Rattle.agreement.specs.Meets.{Met, met, over, someMet}
 use Rattle.answers.specs.Answer.{hasName, ofName, ofId, firstId, lastName, firstAt}
 use Rattle.image.proofs.Every.{All}
 use Rattle.image.proofs.Equal.{same-self, same-true, same-false}

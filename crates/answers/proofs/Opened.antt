@@ -12,7 +12,6 @@ use Rattle.jhash.specs.Outcome.{value}
 use Rattle.image.specs.Bytes.{word, le32}
 use Rattle.image.specs.Image.{Entry, headSize, count, entriesBefore, tableOffset, flagWord, backSizeOf, entriesEnd, imageSize, backOffset, headWords, image}
 use Rattle.image.specs.declared.Mode.{Mode}
-use Rattle.image.specs.declared.Mode.the-variants.{Twoway, Oneway}
 use Rattle.image.proofs.Words.{length-le32}
 use Rattle.image.proofs.Sizes.{length-placed, before-suc, before-all, length-image}
 use Rattle.image.specs.Head.{tableAt, bucketNumber, backSizeAt, backOffsetAt, tableLeaves, backLeaves}

@@ -10,7 +10,7 @@ use lib.ListN.{length, getD, set, length-set, length-map}
 use lib.Seq.{ext-getD, getD-set-same, getD-set-other}
 use Rattle.image.specs.Tables.{Bucket, empty, next, order}
 use Rattle.reader.specs.Lookup.{Seen, pass}
-use Rattle.reader.specs.Meets.{meetAlong}
+use Rattle.agreement.specs.Meets.{meetAlong}
 
 -- ---- the buckets in search order
 

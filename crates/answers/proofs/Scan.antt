@@ -7,7 +7,7 @@ use Prim.Native.Nat.{ℕ, zero, suc, _+_, _≤_, _<_}
 use native.Mathlib.Omega.{arith}
 use lib.ListN.{length, getD, set}
 use Rattle.reader.specs.Lookup.{Lookup, found, nothing, Hit, Seen, pass, ends, hit}
-use Rattle.reader.specs.Meets.{Met, met, over, meet, meetAlong, firstMet}
+use Rattle.agreement.specs.Meets.{Met, met, over, meet, meetAlong, firstMet}
 use Rattle.reader.specs.declared.Found.{Found}
 use Rattle.reader.specs.Cases.{reads}
 

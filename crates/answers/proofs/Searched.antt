@@ -13,7 +13,7 @@ use lib.Dec.{eqb}
 use lib.ListN.{length, getD}
 use Rattle.image.specs.Tables.{Bucket, empty, start, order, filled}
 use Rattle.reader.specs.Lookup.{found, Hit, Seen, pass, ends, hit}
-use Rattle.reader.specs.Meets.{Met, meetAlong, firstMet}
+use Rattle.agreement.specs.Meets.{Met, meetAlong, firstMet}
 use Rattle.reader.specs.declared.Found.{Found}
 use Rattle.reader.specs.Cases.{reads}
 use Rattle.image.proofs.Every.{All, all-map, map-alike}

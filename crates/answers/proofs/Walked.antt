@@ -5,15 +5,16 @@ use mathlib.Core.List.{List}
 use mathlib.Core.Option.{Option, some, Option·map, Option·getD}
 use Prim.Native.Nat.{ℕ, _+_, _*_, _-_, _≤_}
 use native.Mathlib.Omega.{arith}
-use borrow.Author.Tests.{eqb-true, eqb-false, ne-eqb}
+use borrow.Author.Tests.{eqb-true, ne-eqb}
 use lib.Dec.{eqb}
 use lib.ListN.{length, take, drop}
 use Rattle.image.specs.Image.{Entry, backSizeOf, backOffset, entriesEnd, imageSize, image}
 use Rattle.image.specs.declared.Mode.{Mode}
-use Rattle.reader.specs.Meets.{entriesMet, someMet}
+use Rattle.agreement.specs.Meets.{entriesMet, someMet}
 use Rattle.reader.specs.Slices.{Slice}
 use Rattle.reader.specs.Naming.{Naming, place, unnamed, partOr, nameOr, naming}
-use Rattle.reader.specs.Walk.{stepOf, step, upperHint, homeBy, home}
+use Rattle.reader.specs.IdWalk.{stepOf, step, upperHint}
+use Rattle.agreement.specs.Home.{homeBy, home}
 use Rattle.answers.specs.Answer.{heldAt, nameGiven, stepGiven, isNamed}
 use Rattle.answers.proofs.Opened.{backSizeAt-image, backOffsetAt-image, long-enough, back-inside}
 

@@ -9,7 +9,7 @@ use Rattle.image.specs.Bytes.{keep}
 use Rattle.image.specs.Tables.{tableOf}
 use Rattle.image.specs.Image.{Entry, headSize, entrySize, placed, count, hasId}
 use Rattle.reader.specs.Lookup.{Lookup, found, nothing}
-use Rattle.reader.specs.Walk.{Step, item, done}
+use Rattle.reader.specs.IdWalk.{Step, item, done}
 -- an id gives a name when naming it answers a place that holds exactly that name's bytes
 pub use Rattle.reader.specs.Naming.{heldAt, nameGiven}
 pub use Rattle.image.specs.Image.{hasName}

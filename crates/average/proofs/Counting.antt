@@ -11,17 +11,16 @@ use lib.Dec.{eqb}
 use borrow.Author.Tests.{eq-eqb, ne-eqb}
 use Rattle.image.specs.Image.{Entry, headSize}
 use Rattle.image.specs.Stored.{entriesIn, firstEntry, afterFirst}
-use Rattle.average.specs.Lengths.{searchLength, placeOf, oneMore, lengthsFrom, withPlace}
+use Rattle.average.specs.SearchLengths.{searchLength, binOf, lengthsFrom, inBin}
+use Rattle.image.specs.Tally.{oneMore}
 use Rattle.average.specs.Theorem.{sum}
 
 -- ---- one more at a place
 
 more-same : (l : List ℕ) (k : ℕ) → k < length l → getD (oneMore l k) k 0 ≡ getD l k 0 + 1
-unfolding oneMore
 more-same l k h = getD-set-same l k (getD l k 0 + 1) 0 h
 
 more-other : (l : List ℕ) (k t : ℕ) → (t ≡ k → ⊥) → getD (oneMore l k) t 0 ≡ getD l t 0
-unfolding oneMore
 more-other l k t d = getD-set-other l k t (getD l k 0 + 1) 0 d
 
 more-most : (l : List ℕ) (k t : ℕ) → k < length l → getD (oneMore l k) t 0 ≤ getD l t 0 + 1
@@ -32,16 +31,15 @@ more-most l k t h =
     ]
 
 more-length : (l : List ℕ) (k : ℕ) → length (oneMore l k) ≡ length l
-unfolding oneMore
 more-length l k = length-set l k (getD l k 0 + 1)
 
 more-sum : (l : List ℕ) (k : ℕ) → k < length l → sum (oneMore l k) ≡ sum l + 1
-unfolding oneMore sum
+unfolding sum
 more-sum [] k h = absurd (omega arith)
 more-sum (x ∷ l) zero h = omega arith
 more-sum (x ∷ l) (suc k) h = omega (arith, more-sum l k (omega arith))
 
-place-small : (n : ℕ) → placeOf n < 16
+place-small : (n : ℕ) → binOf n < 16
 place-small n = omega arith
 
 -- ---- the walk that counts
@@ -67,13 +65,13 @@ counting-begins img counts rest n e z = record {
 }
 
 pub counting-more : (img : List ℕ) (n : ℕ) (counts rest counted behind : List ℕ) (left r k : ℕ) → Counting img n counts rest left → 0 < left
-    → r ≡ searchLength img (firstEntry rest) → k ≡ placeOf r → counted ≡ oneMore counts k → behind ≡ afterFirst rest → Counting img n counted behind (left - 1)
+    → r ≡ searchLength img (firstEntry rest) → k ≡ binOf r → counted ≡ oneMore counts k → behind ≡ afterFirst rest → Counting img n counted behind (left - 1)
 unfolding lengthsFrom entriesIn
 counting-more img n counts rest counted behind zero r k c h a p m b = absurd (omega arith)
 counting-more img n counts rest counted behind (suc left) r k c h a p m b =
     let l : suc left - 1 ≡ left = omega arith in
-    let q : k ≡ placeOf (searchLength img (firstEntry rest)) = p ∙ ap placeOf a in
-    let d : counted ≡ oneMore counts (placeOf (searchLength img (firstEntry rest))) = m ∙ ap (oneMore counts) q in
+    let q : k ≡ binOf (searchLength img (firstEntry rest)) = p ∙ ap binOf a in
+    let d : counted ≡ oneMore counts (binOf (searchLength img (firstEntry rest))) = m ∙ ap (oneMore counts) q in
     let s : k < 16 = rw p (place-small r) in
     record {
       same =
@@ -96,23 +94,23 @@ module _ (img : List ℕ) where
   unfolding lengthsFrom
   lengths-sixteen [] counts s = s
   lengths-sixteen (e ∷ es) counts s =
-      let k = placeOf (searchLength img e) in
+      let k = binOf (searchLength img e) in
       lengths-sixteen es (oneMore counts k) (more-length counts k ∙ s)
 
   pub lengths-sum : (es : List Entry) (counts : List ℕ) → length counts ≡ 16 → sum (lengthsFrom img counts es) ≡ sum counts + length es
   unfolding lengthsFrom
   lengths-sum [] counts s = omega arith
   lengths-sum (e ∷ es) counts s =
-      let k = placeOf (searchLength img e) in
+      let k = binOf (searchLength img e) in
       let small : k < length counts = omega (arith, place-small (searchLength img e)) in
       omega (arith, lengths-sum es (oneMore counts k) (more-length counts k ∙ s), more-sum counts k small)
 
   pub lengths-are : (es : List Entry) (counts : List ℕ) (k : ℕ) → length counts ≡ 16 → k < 16
-      → getD (lengthsFrom img counts es) k 0 ≡ getD counts k 0 + withPlace img k es
-  unfolding lengthsFrom withPlace
+      → getD (lengthsFrom img counts es) k 0 ≡ getD counts k 0 + inBin img k es
+  unfolding lengthsFrom inBin
   lengths-are [] counts k s h = omega arith
   lengths-are (e ∷ es) counts k s h =
-      let p = placeOf (searchLength img e) in
+      let p = binOf (searchLength img e) in
       let rest = lengths-are es (oneMore counts p) k (more-length counts p ∙ s) h in
       elim (ℕ-discrete k p) [
         | yes q ↦

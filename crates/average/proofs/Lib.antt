@@ -1,7 +1,7 @@
 -- Laws of the search lengths, and the theorem.
 pub mod Walking
 pub mod Counting
-pub mod Answers
-pub mod Found
+pub mod Divided
+pub mod EntriesFound
 pub mod Theorem
 pub mod Rows

@@ -21,9 +21,9 @@ use Rattle.reader.specs.Open.{opening}
 use Rattle.ours.specs.Made.{Puttable, Made}
 use Rattle.ours.specs.Ours.{putsIn, allFree, ours}
 use Rattle.ours.proofs.ReadBack.{made-puts, ours-yes}
-use Rattle.average.specs.Lengths.{totalOf}
-use Rattle.average.specs.Average.{entriesOf, total, averaging}
-use Rattle.average.specs.Rows.{RowHolds, letter, rows}
+use Rattle.average.specs.SearchLengths.{totalOf}
+use Rattle.average.specs.Average.{entryCount, total, averaging}
+use Rattle.average.specs.Rows.{Averages, letter, averageRows}
 use Rattle.average.specs.declared.Mean.{Mean}
 use Rattle.average.proofs.Theorem.{average-search}
 
@@ -41,7 +41,7 @@ module _ (mode : Mode) (es : List Entry) (each : All Puttable es) (fits : imageS
       → averaging (image mode es) ≡ value (record { entries = n; quotient = s / n; remainder = s % n })
   unfolding averaging total
   averaged n s long some sum =
-      let number : entriesOf (image mode es) ≡ n = ap length entries-are ∙ long in
+      let number : entryCount (image mode es) ≡ n = ap length entries-are ∙ long in
       let all : total (image mode es) ≡ s = ap (totalOf (image mode es)) entries-are ∙ sum in
       let none = average-search .accepted (image mode es) (ours-yes (image mode es) made) (omega (arith, number)) in
       rw none (ap₂ mean all number)
@@ -65,7 +65,7 @@ nothing : ours [] ≡ false
 unfolding word le32 cat keep range same entryBytes entriesSize placed ofTable bucketBytes table tableBytes entriesBefore tableOffset tableRow backSize placedOfId lastFrom link backOffset headBytes headWords tableRows tables links image order firstEmpty insert insertAll filled entriesIn hasZero opening putsIn allFree ours
 nothing = refl
 
-pub rows-hold : All RowHolds rows
+pub rows-hold : All Averages averageRows
 unfolding entriesSize backSize hasZero
 rows-hold = (
   averaged Twoway (letter 73 0 ∷ letter 81 1 ∷ []) (puttable 73 0 refl (lit< tt), (puttable 81 1 refl (lit< tt), tt)) (lit≤ tt) 2 3 refl (lit< tt) crowded,

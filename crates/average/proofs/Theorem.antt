@@ -14,17 +14,17 @@ use Rattle.image.specs.Bytes.{keep}
 use Rattle.image.specs.Image.{Entry, headSize, entrySize, placed}
 use Rattle.image.specs.Image as image
 use Rattle.image.specs.Tables.{tableOf}
-use Rattle.image.proofs.Area.{Bytes}
+use Rattle.jhash.specs.Word.{Bytes}
 use Rattle.image.proofs.Every.{All}
 use Rattle.answers.specs.Answer.{tablePuts}
 use Rattle.ours.specs.Ours.{ours, putsIn}
-use Rattle.average.specs.Lengths.{searchLength, totalOf}
-use Rattle.average.specs.Average.{entriesOf, total, averageRefusal, averageOf, averaging, lengthsOf, afterLengths}
-use Rattle.average.specs.Theorem.{inTable, ofTable, boundOf, sum, Searched, AverageSearch}
+use Rattle.average.specs.SearchLengths.{searchLength, totalOf}
+use Rattle.average.specs.Average.{entryCount, total, averageRefusal, averageOf, averaging, lengthsOf, afterLengths}
+use Rattle.average.specs.Theorem.{nameInTable, entriesOfTable, boundOf, sum, Searched, AverageSearch}
 use Rattle.average.specs.declared.Mean.{Mean}
 use Rattle.average.proofs.Counting.{lengths-sixteen, lengths-sum, lengths-are, zeros, long}
-use Rattle.average.proofs.Answers.{first-zero}
-use Rattle.average.proofs.Found.{Bounded, all-bounded}
+use Rattle.average.proofs.Divided.{first-zero}
+use Rattle.average.proofs.EntriesFound.{Bounded, all-bounded}
 
 -- ---- sums over entries
 
@@ -46,35 +46,35 @@ total-each img (f ∷ before) e behind = omega (arith, total-each img before e b
 -- ---- table by table
 
 -- a table's number of puts, with or without their places
-places-kept : (t o : ℕ) (es : List Entry) → length (keep (image.inTable t) (placed o es)) ≡ length (keep (inTable t) es)
+places-kept : (t o : ℕ) (es : List Entry) → length (keep (image.inTable t) (placed o es)) ≡ length (keep (nameInTable t) es)
 unfolding keep placed
 places-kept t o [] = refl
 places-kept t o (e ∷ es) = go (eqb (tableOf (hashOf (e .name))) t) (places-kept t (o + entrySize e) es)
   where
-    go : (b : Bool) → length (keep (image.inTable t) (placed (o + entrySize e) es)) ≡ length (keep (inTable t) es)
+    go : (b : Bool) → length (keep (image.inTable t) (placed (o + entrySize e) es)) ≡ length (keep (nameInTable t) es)
         → length (cond b (record { entry = e; at = o } ∷ keep (image.inTable t) (placed (o + entrySize e) es)) (keep (image.inTable t) (placed (o + entrySize e) es)))
-        ≡ length (cond b (e ∷ keep (inTable t) es) (keep (inTable t) es))
+        ≡ length (cond b (e ∷ keep (nameInTable t) es) (keep (nameInTable t) es))
     go true h = omega arith
     go false h = h
 
-puts-kept : (name : List ℕ) (es : List Entry) → tablePuts name es ≡ length (ofTable (tableOf (hashOf name)) es)
-unfolding tablePuts image.ofTable ofTable
+puts-kept : (name : List ℕ) (es : List Entry) → tablePuts name es ≡ length (entriesOfTable (tableOf (hashOf name)) es)
+unfolding tablePuts image.ofTable entriesOfTable
 puts-kept name es = places-kept (tableOf (hashOf name)) headSize es
 
-table-most : (img : List ℕ) (t : ℕ) (all es : List Entry) → All (Bounded img all) es → totalOf img (keep (inTable t) es) ≤ length (keep (inTable t) es) * length (ofTable t all)
+table-most : (img : List ℕ) (t : ℕ) (all es : List Entry) → All (Bounded img all) es → totalOf img (keep (nameInTable t) es) ≤ length (keep (nameInTable t) es) * length (entriesOfTable t all)
 unfolding totalOf keep
 table-most img t all [] b = omega arith
 table-most img t all (e ∷ es) b = go (eqb (tableOf (hashOf (e .name))) t) refl (table-most img t all es (b .1))
   where
     rest : List Entry
-    rest = keep (inTable t) es
+    rest = keep (nameInTable t) es
 
-    go : (q : Bool) → eqb (tableOf (hashOf (e .name))) t ≡ q → totalOf img (keep (inTable t) es) ≤ length (keep (inTable t) es) * length (ofTable t all)
-        → totalOf img (cond q (e ∷ keep (inTable t) es) (keep (inTable t) es)) ≤ length (cond q (e ∷ keep (inTable t) es) (keep (inTable t) es)) * length (ofTable t all)
+    go : (q : Bool) → eqb (tableOf (hashOf (e .name))) t ≡ q → totalOf img (keep (nameInTable t) es) ≤ length (keep (nameInTable t) es) * length (entriesOfTable t all)
+        → totalOf img (cond q (e ∷ keep (nameInTable t) es) (keep (nameInTable t) es)) ≤ length (cond q (e ∷ keep (nameInTable t) es) (keep (nameInTable t) es)) * length (entriesOfTable t all)
     go true q h =
         let same : tableOf (hashOf (e .name)) ≡ t = eqb-true _ _ q in
-        let puts : tablePuts (e .name) all ≡ length (ofTable t all) = puts-kept (e .name) all ∙ ap (λ (k : ℕ). length (ofTable k all)) same in
-        one (searchLength img e) (totalOf img (keep (inTable t) es)) (length (keep (inTable t) es)) (length (ofTable t all)) (omega (arith, b .0 .1, puts)) h
+        let puts : tablePuts (e .name) all ≡ length (entriesOfTable t all) = puts-kept (e .name) all ∙ ap (λ (k : ℕ). length (entriesOfTable k all)) same in
+        one (searchLength img e) (totalOf img (keep (nameInTable t) es)) (length (keep (nameInTable t) es)) (length (entriesOfTable t all)) (omega (arith, b .0 .1, puts)) h
       where
         one : (a s l n : ℕ) → a ≤ n → s ≤ l * n → a + s ≤ suc l * n
         one a s l n p q = omega (arith, suc-mul l n)
@@ -87,7 +87,7 @@ unfolding sum
 none = refl
 
 searched : (img : List ℕ) → Bytes img → ours img ≡ true → Searched img
-unfolding total lengthsOf ofTable
+unfolding total lengthsOf entriesOfTable
 searched img bytes own =
     let es = putsIn img in
     let b = all-bounded img bytes own in
@@ -120,9 +120,9 @@ given img m e = go (eqb (averageRefusal img) 0) refl e
     go false t e = let z : _≡_ {A = ℕ} 0 1 = ap isValue e in absurd (omega arith)
 
 -- no refusal: there are entries
-some-entries : (img : List ℕ) → averageRefusal img ≡ 0 → 0 < entriesOf img
+some-entries : (img : List ℕ) → averageRefusal img ≡ 0 → 0 < entryCount img
 unfolding averageRefusal
-some-entries img e = first-zero (ours img) (entriesOf img) e
+some-entries img e = first-zero (ours img) (entryCount img) e
 
 divides : (s n : ℕ) → 0 < n → (s / n * n + s % n ≡ s) × (s % n < n)
 divides s n h = (div-add-mod' s n, mod-lt s {m = n} h)
@@ -133,11 +133,11 @@ average-search =
     record {
       not-ours = λ img h. rw h;
       no-entries = λ img h z. rw (h, z);
-      accepted = λ img h more. rw (h, ne-eqb (entriesOf img) 0 (λ z. omega arith));
+      accepted = λ img h more. rw (h, ne-eqb (entryCount img) 0 (λ z. omega arith));
       divided = λ img m e.
           let g = given img m e in
           subst (λ (x : Mean). (x .quotient * x .entries + x .remainder ≡ total img) × (x .remainder < x .entries)) (g .0)
-          (divides (total img) (entriesOf img) (some-entries img (g .1)));
+          (divides (total img) (entryCount img) (some-entries img (g .1)));
       number = λ img m e. ap (λ (x : Mean). x .entries) (sym (given img m e .0));
       each-time = total-each;
       searched = searched;

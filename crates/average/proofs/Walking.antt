@@ -1,29 +1,18 @@
 -- Laws of a walk over the entries that some bytes hold, one after the other: the name of the first, what follows it, and one more of a total. Assumes nothing.
-use Prim.Native.Nat.{ℕ, zero, suc, _+_, _-_, _≤_, _<_, min}
+use Prim.Native.Nat.{ℕ, zero, suc, _+_, _-_, _<_, min}
 use native.Mathlib.Omega.{arith}
 use native.Mathlib.Decide.{decLt}
-use mathlib.Core.Path.{_≡_, refl, sym, ap, ap₂, _∙_}
-use mathlib.Core.List.{List, [], _∷_}
-use lib.ListN.{length, take, drop, length-drop}
+use mathlib.Core.Path.{_≡_, sym, ap, ap₂, _∙_}
+use mathlib.Core.List.{List}
+use lib.ListN.{length, take, drop, length-drop, drop-of-length-le}
+use lib.Seq.{take-all}
 use Rattle.image.specs.Bytes.{word}
 use Rattle.image.specs.Stored.{entriesIn, firstEntry, afterFirst}
 use Rattle.reader.specs.Cases.{reads}
 use Rattle.reader.specs.Lookup.{Lookup, lookup}
-use Rattle.average.specs.Lengths.{searchLength, totalOf}
+use Rattle.average.specs.SearchLengths.{searchLength, totalOf}
 
 -- ---- parts that are cut at the end
-
-drop-past : (n : ℕ) (l : List ℕ) → length l ≤ n → drop n l ≡ []
-drop-past zero [] h = refl
-drop-past zero (x ∷ l) h = absurd (omega arith)
-drop-past (suc n) [] h = refl
-drop-past (suc n) (x ∷ l) h = drop-past n l (omega arith)
-
-take-past : (n : ℕ) (l : List ℕ) → length l ≤ n → take n l ≡ l
-take-past zero [] h = refl
-take-past zero (x ∷ l) h = absurd (omega arith)
-take-past (suc n) [] h = refl
-take-past (suc n) (x ∷ l) h = ap (λ (r : List ℕ). x ∷ r) (take-past n l (omega arith))
 
 take-cut : (n : ℕ) (l : List ℕ) → take (min n (length l)) l ≡ take n l
 take-cut n l =
@@ -31,7 +20,7 @@ take-cut n l =
       | yes p ↦ let e : min n (length l) ≡ n = omega arith in ap (λ (k : ℕ). take k l) e
       | no p ↦
           let e : min n (length l) ≡ length l = omega arith in
-          ap (λ (k : ℕ). take k l) e ∙ take-past (length l) l (omega arith) ∙ sym (take-past n l (omega arith))
+          ap (λ (k : ℕ). take k l) e ∙ take-all (length l) l (omega arith) ∙ sym (take-all n l (omega arith))
     ]
 
 drop-cut : (n : ℕ) (l : List ℕ) → drop (min n (length l)) l ≡ drop n l
@@ -40,7 +29,7 @@ drop-cut n l =
       | yes p ↦ let e : min n (length l) ≡ n = omega arith in ap (λ (k : ℕ). drop k l) e
       | no p ↦
           let e : min n (length l) ≡ length l = omega arith in
-          ap (λ (k : ℕ). drop k l) e ∙ drop-past (length l) l (omega arith) ∙ sym (drop-past n l (omega arith))
+          ap (λ (k : ℕ). drop k l) e ∙ drop-of-length-le l {i = length l} (omega arith) ∙ sym (drop-of-length-le l {i = n} (omega arith))
     ]
 
 -- the part from s on of n elements, both cut at the end
@@ -51,7 +40,7 @@ part-cut l s n from to a b =
 
 -- all from s on
 pub rest-cut : (l : List ℕ) (s from : ℕ) → from ≡ min s (length l) → take (length l - from) (drop from l) ≡ drop s l
-rest-cut l s from a = take-past (length l - from) (drop from l) (omega (arith, length-drop from l)) ∙ ap (λ (k : ℕ). drop k l) a ∙ drop-cut s l
+rest-cut l s from a = take-all (length l - from) (drop from l) (omega (arith, length-drop from l)) ∙ ap (λ (k : ℕ). drop k l) a ∙ drop-cut s l
 
 -- ---- the search length of the first entry
 

@@ -6,14 +6,14 @@ use lib.ListN.{length, replicate}
 use lib.Dec.{eqb}
 use Rattle.jhash.specs.Outcome.{Outcome, value, refusal}
 use Rattle.ours.specs.Ours.{ours, putsIn}
-use Rattle.average.specs.Lengths.{totalOf, lengthsFrom}
+use Rattle.average.specs.SearchLengths.{totalOf, lengthsFrom}
 use Rattle.average.specs.declared.Mean.{Mean}
 use Rattle.average.specs.declared.Averaged.{Averaged}
 use Rattle.average.specs.declared.Averaged.the-variants as averaged
 
 -- the number of entries of an image, and the total of buckets read when the name of each is looked up
-abbrev pub entriesOf : List ℕ → ℕ
-entriesOf img = length (putsIn img)
+abbrev pub entryCount : List ℕ → ℕ
+entryCount img = length (putsIn img)
 
 unfoldable pub total : List ℕ → ℕ
 total img = totalOf img (putsIn img)
@@ -23,11 +23,11 @@ abbrev pub firstRefusal : Bool → ℕ → ℕ
 firstRefusal own n = cond (not own) 17 (cond (eqb n 0) 18 0)
 
 unfoldable pub averageRefusal : List ℕ → ℕ
-averageRefusal img = firstRefusal (ours img) (entriesOf img)
+averageRefusal img = firstRefusal (ours img) (entryCount img)
 
 -- "the total .. divided by the number of entries, as whole quotient and remainder"
 abbrev pub averageOf : List ℕ → Mean
-averageOf img = record { entries = entriesOf img; quotient = total img / entriesOf img; remainder = total img % entriesOf img }
+averageOf img = record { entries = entryCount img; quotient = total img / entryCount img; remainder = total img % entryCount img }
 
 unfoldable pub averaging : List ℕ → Outcome Mean
 averaging img = cond (eqb (averageRefusal img) 0) (value (averageOf img)) (refusal (averageRefusal img))

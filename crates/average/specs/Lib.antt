@@ -1,5 +1,5 @@
 -- Average search length: 02 (x).
-pub mod Lengths
+pub mod SearchLengths
 pub mod Average
 pub mod Theorem
 pub mod Rows

@@ -12,8 +12,8 @@ pub record Row : Type 0 where
   pub bytes : List ℕ
   pub answer : Outcome Mean
 
-abbrev pub RowHolds : Row → Type 0
-RowHolds r = averaging (r .bytes) ≡ r .answer
+abbrev pub Averages : Row → Type 0
+Averages r = averaging (r .bytes) ≡ r .answer
 
 abbrev row : List ℕ → Outcome Mean → Row
 row bytes answer = record { bytes = bytes; answer = answer }
@@ -25,8 +25,8 @@ letter c id = record { name = c ∷ []; id = id }
 abbrev mean : ℕ → ℕ → ℕ → Outcome Mean
 mean n q r = value (record { entries = n; quotient = q; remainder = r })
 
-abbrev pub rows : List Row
-rows =
+abbrev pub averageRows : List Row
+averageRows =
     -- I and Q share a table and the first bucket of their searches: 1 and 2 buckets
     row (image Twoway (letter 73 0 ∷ letter 81 1 ∷ [])) (mean 2 1 1)
     -- A put twice: both lookups find the first

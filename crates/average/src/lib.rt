@@ -1,9 +1,8 @@
 // Average search length: 02 (x). How many buckets are read when the name of each entry of an image is looked up, over the number
 // of entries; and how many entries have each length.
 ghost use mathlib.Core.Path.{_≡_};
-ghost use lib.ListN.{length};
 ghost use Rattle.reader.specs.Open.{opening};
-ghost use Rattle.ours.specs.Ours.{ours, counted};
+ghost use Rattle.ours.specs.Ours.{counted};
 ghost use Rattle.average.specs.Average.{firstRefusal, averageRefusal, averaging, averagedOf, afterLengths};
 use reader::Opened;
 use walks::count_lengths;

@@ -6,7 +6,8 @@ ghost use lib.ListN.{length, getD, drop, replicate};
 ghost use Rattle.image.specs.Bytes.{word};
 ghost use Rattle.image.specs.Image.{headSize};
 ghost use Rattle.image.specs.Stored.{entriesIn, firstEntry};
-ghost use Rattle.average.specs.Lengths.{searchLength, totalOf, placeOf, oneMore, lengthsFrom};
+ghost use Rattle.image.specs.Tally.{oneMore};
+ghost use Rattle.average.specs.SearchLengths.{searchLength, totalOf, binOf, lengthsFrom};
 ghost use Rattle.reader.specs.Cases.{reads, lookupOf};
 use image::get_u32;
 use reader::ToId;
@@ -52,6 +53,13 @@ fn front_length(image: &[u8], rest: &[u8]) -> u32
     buckets(reader::to_id(image, &rest[from..to]))
 }
 
+// Where the entry at the front of `rest` ends, or `rest` does.
+fn first_end(rest: &[u8]) -> usize
+    ensures { λ r. ⌜ r ≡ min (8 + word (now (rest .entry)) 4) (length (now (rest .entry))) ⌝ }
+{
+    lesser(8 + length_word(rest), rest.len())
+}
+
 // The total of n entries.
 pub(super) fn total(image: &[u8], n: u32) -> u64
     ensures { λ r. ⌜ r ≡ totalOf (now (image .entry)) (entriesIn n (drop headSize (now (image .entry)))) ⌝ }
@@ -62,7 +70,7 @@ pub(super) fn total(image: &[u8], n: u32) -> u64
     let mut sum: u64 = 0;
     while left > 0 {
         sum += front_length(image, rest) as u64;
-        let behind = lesser(8 + length_word(rest), rest.len());
+        let behind = first_end(rest);
         rest = &rest[behind..];
         left -= 1;
     }
@@ -70,8 +78,8 @@ pub(super) fn total(image: &[u8], n: u32) -> u64
 }
 
 // The place of a length among the 16 counts.
-fn place_of(n: u32) -> usize
-    ensures { λ r. ⌜ (r ≡ placeOf n) × (r < 16) ⌝ }
+fn bin_of(n: u32) -> usize
+    ensures { λ r. ⌜ (r ≡ binOf n) × (r < 16) ⌝ }
 {
     if n == 0 {
         return 0;
@@ -100,9 +108,9 @@ pub(super) fn count_lengths(image: &[u8], n: u32, counts: &mut [u32; 16])
     let mut rest = &image[head..];
     let mut left = n;
     while left > 0 {
-        let k = place_of(front_length(image, rest));
+        let k = bin_of(front_length(image, rest));
         raise_at(&mut *counts, k);
-        let behind = lesser(8 + length_word(rest), rest.len());
+        let behind = first_end(rest);
         rest = &rest[behind..];
         left -= 1;
     }

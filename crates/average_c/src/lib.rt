@@ -2,7 +2,7 @@
 use average::Averaged;
 ghost use mathlib.Core.Path.{_≡_};
 ghost use Rattle.average.specs.Average.{averageRefusal, afterLengths};
-ghost use Rattle.average_c.specs.Answer.{averageAnswer};
+ghost use Rattle.average_c.specs.AverageAnswer.{averageAnswer};
 
 // The refusal's number, 0 when accepted; the number of entries, quotient and remainder, 0 when refused.
 #[repr(C)]

@@ -7,13 +7,14 @@ use mathlib.Core.List.{List}
 use lib.ListN.{length, take, drop, length-drop}
 use lib.Seq.{length-take-le, take-take}
 use Rattle.jhash.specs.Outcome.{value}
+use Rattle.jhash.proofs.ValueOrRefusal.{no-value, same-value}
 use Rattle.image.proofs.Between.{word-same, between-same}
-use Rattle.bundle.specs.Walk.{Place, sizeAt, placeFrom, placeAt}
-use Rattle.bundle.specs.Opening.{part}
-use Rattle.bundle.specs.Bundles.{Exact, endOf, Holds}
-use Rattle.bundle.proofs.Steps.{Begins, Met, ended, broke, began, met}
-use Rattle.bundle.proofs.Walks.{place-ended, place-broke, place-here, place-next}
-use Rattle.bundle.proofs.Places.{no-value, same-value, stands}
+use Rattle.bundle.specs.FileWalk.{Place, sizeAt, placeFrom, placeOfImage}
+use Rattle.bundle.specs.Opening.{imagePart}
+use Rattle.bundle.specs.Bundles.{Exact, imageEnd, HoldsImages}
+use Rattle.bundle.proofs.FileSteps.{Begins, Met, ended, broke, began, met}
+use Rattle.bundle.proofs.FileWalks.{place-ended, place-broke, place-here, place-next}
+use Rattle.bundle.proofs.ImagePlaces.{stands}
 use Rattle.bundle.proofs.Holding.{none-ends, some-begins, holds-next}
 
 module _ (a b : List ℕ) (e : ℕ) (same : take e a ≡ take e b) (in-b : e ≤ length b) where
@@ -27,7 +28,7 @@ module _ (a b : List ℕ) (e : ℕ) (same : take e a ≡ take e b) (in-b : e ≤
       record { head = omega (arith, h .large); large = omega (arith, h .large); inside = omega arith }
 
   -- the walk to a position whose image ends before e
-  pub place-same : (k at : ℕ) (p : Place) → placeFrom a at k ≡ value p → endOf p ≤ e → placeFrom b at k ≡ value p
+  pub place-same : (k at : ℕ) (p : Place) → placeFrom a at k ≡ value p → imageEnd p ≤ e → placeFrom b at k ≡ value p
   place-same zero at p q l = go (met a at)
     where
       go : Met a at → placeFrom b at 0 ≡ value p
@@ -51,17 +52,17 @@ module _ (a b : List ℕ) (e : ℕ) (same : take e a ≡ take e b) (in-b : e ≤
           place-next b at k (begins-same at h l') ∙ ap (λ (w : ℕ). placeFrom b (at + w) k) (sym s) ∙ more d
 
   -- and its part
-  pub part-same : (p : Place) → endOf p ≤ e → part a p ≡ part b p
+  pub part-same : (p : Place) → imageEnd p ≤ e → imagePart a p ≡ imagePart b p
   part-same p l =
-      let up-to : take (endOf p) a ≡ take (endOf p) b = sym (take-take (endOf p) e a l) ∙ ap (take (endOf p)) same ∙ take-take (endOf p) e b l in
-      let d : endOf p - p .start ≡ p .size = omega arith in
+      let up-to : take (imageEnd p) a ≡ take (imageEnd p) b = sym (take-take (imageEnd p) e a l) ∙ ap (take (imageEnd p)) same ∙ take-take (imageEnd p) e b l in
+      let d : imageEnd p - p .start ≡ p .size = omega arith in
       ap (λ (n : ℕ). take n (drop (p .start) a)) (sym d)
-      ∙ between-same a b (endOf p) up-to (p .start)
+      ∙ between-same a b (imageEnd p) up-to (p .start)
       ∙ ap (λ (n : ℕ). take n (drop (p .start) b)) d
 
 -- a file that goes on behind a: past the images of a, its walk goes on at a's end
 pub past : (a b : List ℕ) → take (length a) a ≡ take (length a) b → length a ≤ length b
-    → (n at i : ℕ) → Holds a at n → placeFrom b at (n + i) ≡ placeFrom b (length a) i
+    → (n at i : ℕ) → HoldsImages a at n → placeFrom b at (n + i) ≡ placeFrom b (length a) i
 past a b same in-b zero at i h =
     let z : 0 + i ≡ i = omega arith in
     ap (placeFrom b at) z ∙ ap (λ (o : ℕ). placeFrom b o i) (none-ends a at h)
@@ -74,10 +75,10 @@ past a b same in-b (suc n) at i h =
     ∙ past a b same in-b n (at + sizeAt a at) i (holds-next a at n g h)
 
 -- the part that is opened
-pub exact : (file : List ℕ) (k : ℕ) (p : Place) → placeAt file k ≡ value p → Exact file p
+pub exact : (file : List ℕ) (k : ℕ) (p : Place) → placeOfImage file k ≡ value p → Exact file p
 exact file k p e =
     let s = stands file k 0 p e in
-    let inside : endOf p ≤ length file = omega (arith, s .begins .inside, s .sized) in
+    let inside : imageEnd p ≤ length file = omega (arith, s .begins .inside, s .sized) in
     record {
       inside = inside;
       large = omega (arith, s .begins .large, s .sized);

@@ -9,10 +9,10 @@ use lib.Dec.{eqb, ltb}
 use lib.ListN.{length, take, drop, length-append}
 use lib.Seq.{sets, sets-eq, length-take-le, take-at}
 use Rattle.jhash.specs.Outcome.{Outcome, value, refusal}
+use Rattle.jhash.proofs.ValueOrRefusal.{no-value, same-value}
 use Rattle.image.proofs.Bools.{not-both}
-use Rattle.bundle.specs.Walk.{counting}
-use Rattle.bundle.specs.Append.{isValue, whole, unfit, appendRefusal, appending, afterAppend}
-use Rattle.bundle.proofs.Places.{no-value, same-value}
+use Rattle.bundle.specs.FileWalk.{counting}
+use Rattle.bundle.specs.Append.{isValue, wholeFile, unfit, appendRefusal, appending, afterAppend}
 
 ten-none : _≡_ {A = ℕ} 10 0 → ⊥
 ten-none z = omega arith
@@ -26,34 +26,34 @@ module _ (buf : List ℕ) (n : ℕ) (image : List ℕ) where
   unfolding appendRefusal
   refuses-long h = rw (lt-ltb (length buf) n h)
 
-  pub refuses-broken : n ≤ length buf → whole (take n buf) ≡ false → 10 ≡ appendRefusal buf n image
+  pub refuses-broken : n ≤ length buf → wholeFile (take n buf) ≡ false → 10 ≡ appendRefusal buf n image
   unfolding appendRefusal
   refuses-broken h w = rw (le-ltb (length buf) n h, w)
 
-  pub refuses-unfit : n ≤ length buf → whole (take n buf) ≡ true → unfit image ≡ true → 10 ≡ appendRefusal buf n image
+  pub refuses-unfit : n ≤ length buf → wholeFile (take n buf) ≡ true → unfit image ≡ true → 10 ≡ appendRefusal buf n image
   unfolding appendRefusal
   refuses-unfit h w u = rw (le-ltb (length buf) n h, w, u)
 
-  pub refuses-full : n ≤ length buf → whole (take n buf) ≡ true → unfit image ≡ false → length buf - n < length image → 3 ≡ appendRefusal buf n image
+  pub refuses-full : n ≤ length buf → wholeFile (take n buf) ≡ true → unfit image ≡ false → length buf - n < length image → 3 ≡ appendRefusal buf n image
   unfolding appendRefusal
   refuses-full h w u r = rw (le-ltb (length buf) n h, w, u, lt-ltb (length buf) (n + length image) (omega arith))
 
-  pub accepts : n ≤ length buf → whole (take n buf) ≡ true → unfit image ≡ false → length image ≤ length buf - n → 0 ≡ appendRefusal buf n image
+  pub accepts : n ≤ length buf → wholeFile (take n buf) ≡ true → unfit image ≡ false → length image ≤ length buf - n → 0 ≡ appendRefusal buf n image
   unfolding appendRefusal
   accepts h w u r = rw (le-ltb (length buf) n h, w, u, le-ltb (length buf) (n + length image) (omega arith))
 
   -- what an accepted append has passed
   pub record Passed : Type 0 where
     pub inside : n ≤ length buf
-    pub walked : whole (take n buf) ≡ true
+    pub walked : wholeFile (take n buf) ≡ true
     pub fit : unfit image ≡ false
     pub room : n + length image ≤ length buf
 
   pub passed : appendRefusal buf n image ≡ 0 → Passed
   unfolding appendRefusal
-  passed h = go (ltb (length buf) n) (whole (take n buf)) (unfit image) (ltb (length buf) (n + length image)) refl refl refl refl h
+  passed h = go (ltb (length buf) n) (wholeFile (take n buf)) (unfit image) (ltb (length buf) (n + length image)) refl refl refl refl h
     where
-      go : (a w u r : Bool) → ltb (length buf) n ≡ a → whole (take n buf) ≡ w → unfit image ≡ u → ltb (length buf) (n + length image) ≡ r
+      go : (a w u r : Bool) → ltb (length buf) n ≡ a → wholeFile (take n buf) ≡ w → unfit image ≡ u → ltb (length buf) (n + length image) ≡ r
           → _≡_ {A = ℕ} (cond (a || not w || u) 10 (cond r 3 0)) 0 → Passed
       go true w u r ea ew eu er e = absurd (ten-none e)
       go false false u r ea ew eu er e = absurd (ten-none e)
@@ -107,7 +107,7 @@ module _ (buf : List ℕ) (n : ℕ) (image : List ℕ) where
       ap (take (n + length image)) (writes e) ∙ take-at (take n buf ++ image) (drop (n + length image) buf) (n + length image) front
 
 -- a walk of the whole file came to its end: so many images
-pub whole-counts : (file : List ℕ) → whole file ≡ true → (n : ℕ) × (counting file ≡ value n)
+pub whole-counts : (file : List ℕ) → wholeFile file ≡ true → (n : ℕ) × (counting file ≡ value n)
 whole-counts file e = go (counting file) refl e
   where
     go : (o : Outcome ℕ) → counting file ≡ o → isValue o ≡ true → (n : ℕ) × (counting file ≡ value n)

@@ -14,12 +14,12 @@ use Rattle.image.specs.Bytes.{word}
 use Rattle.image.proofs.Bools.{neither-first, neither-second}
 use Rattle.image.proofs.Words.{word-drop}
 use Rattle.reader.specs.Open.{opening}
-use Rattle.bundle.specs.Walk.{Place, sizeAt, placeFrom, placeAt}
-use Rattle.bundle.specs.Opening.{part, partIn, withNum, openIn, openingAt}
+use Rattle.bundle.specs.FileWalk.{Place, sizeAt, placeFrom, placeOfImage}
+use Rattle.bundle.specs.Opening.{imagePart, imageOr, withNum, openIn, openingAt}
 use Rattle.bundle.specs.Append.{unfit}
-use Rattle.bundle.specs.Bundles.{Holds, Grown}
-use Rattle.bundle.proofs.Steps.{Begins}
-use Rattle.bundle.proofs.Walks.{place-ended, place-here, place-next}
+use Rattle.bundle.specs.Bundles.{HoldsImages, Grown}
+use Rattle.bundle.proofs.FileSteps.{Begins}
+use Rattle.bundle.proofs.FileWalks.{place-ended, place-here, place-next}
 use Rattle.bundle.proofs.Agreeing.{place-same, part-same, past, exact}
 
 -- what is asked of a new image
@@ -31,7 +31,7 @@ fit image e =
       eqb-true (word image 4) (length image) (not-false (eqb (word image 4) (length image)) (neither-second short other e)),
     )
 
-module _ (old image : List ℕ) (n : ℕ) (holds : Holds old 0 n) (fine : unfit image ≡ false) where
+module _ (old image : List ℕ) (n : ℕ) (holds : HoldsImages old 0 n) (fine : unfit image ≡ false) where
   new : List ℕ
   new = old ++ image
 
@@ -61,37 +61,37 @@ module _ (old image : List ℕ) (n : ℕ) (holds : Holds old 0 n) (fine : unfit 
   there : Place
   there = record { start = length old; size = length image }
 
-  last : placeAt new n ≡ value there
+  last : placeOfImage new n ≡ value there
   unfolding there
   last =
       let z : n + 0 ≡ n = omega arith in
       ap (placeFrom new 0) (sym z) ∙ past old new same inside n 0 0 holds ∙ place-here new (length old) begins
       ∙ ap (λ (w : ℕ). value (record { start = length old; size = w })) sized
 
-  its-part : part new there ≡ image
+  its-part : imagePart new there ≡ image
   unfolding new there
   its-part = ap (take (length image)) (drop-append-seam old image) ∙ take-length image
 
-  ends : placeAt new (suc n) ≡ refusal 11
+  ends : placeOfImage new (suc n) ≡ refusal 11
   ends =
       let z : n + 1 ≡ suc n = omega arith in
       ap (placeFrom new 0) (sym z) ∙ past old new same inside n 0 1 holds ∙ place-next new (length old) 0 begins
       ∙ place-ended new (length old + sizeAt new (length old)) 0 (omega (arith, sized, lengths))
 
-  earlier : (k : ℕ) (p : Place) → placeAt old k ≡ value p → (placeAt new k ≡ value p) × (part new p ≡ part old p)
+  earlier : (k : ℕ) (p : Place) → placeOfImage old k ≡ value p → (placeOfImage new k ≡ value p) × (imagePart new p ≡ imagePart old p)
   earlier k p e =
       let in-old = exact old k p e .inside in
       (place-same old new (length old) same inside k 0 p e in-old, sym (part-same old new (length old) same inside p in-old))
 
-  opens : (k : ℕ) (p : Place) → placeAt old k ≡ value p → openingAt new k ≡ openingAt old k
+  opens : (k : ℕ) (p : Place) → placeOfImage old k ≡ value p → openingAt new k ≡ openingAt old k
   opens k p e =
       ap (openIn new) (earlier k p e .0) ∙ ap (λ (l : List ℕ). withNum p (opening l)) (earlier k p e .1) ∙ sym (ap (openIn old) e)
 
-  each : (k : ℕ) → k < suc n → (p : Place) × (placeAt new k ≡ value p)
+  each : (k : ℕ) → k < suc n → (p : Place) × (placeOfImage new k ≡ value p)
   each k h =
       elim (decLt k n) [
         | yes l ↦ let r = holds .each k l in (r .0, earlier k (r .0) (r .1) .0)
-        | no l ↦ let e : k ≡ n = omega (arith, h, l) in (there, ap (placeAt new) e ∙ last)
+        | no l ↦ let e : k ≡ n = omega (arith, h, l) in (there, ap (placeOfImage new) e ∙ last)
       ]
 
   pub grown : Grown old (old ++ image) image
@@ -103,7 +103,7 @@ module _ (old image : List ℕ) (n : ℕ) (holds : Holds old 0 n) (fine : unfit 
     images = n;
     held = holds;
     last = last;
-    last-part = ap (partIn new) last ∙ ap value its-part;
+    last-part = ap (imageOr new) last ∙ ap value its-part;
     last-opens = ap (openIn new) last ∙ ap (λ (l : List ℕ). withNum there (opening l)) its-part;
     one-more = record { each = each; ends = ends };
   }

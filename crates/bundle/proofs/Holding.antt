@@ -6,18 +6,18 @@ use mathlib.Core.Logic.{_⊎_, inl, inr}
 use mathlib.Core.List.{List}
 use lib.ListN.{length}
 use Rattle.jhash.specs.Outcome.{value, refusal}
-use Rattle.bundle.specs.Walk.{Place, sizeAt, placeFrom, placeAt, countFrom, counting}
-use Rattle.bundle.specs.Bundles.{Holds}
-use Rattle.bundle.proofs.Steps.{Begins, Met, ended, broke, began, met}
-use Rattle.bundle.proofs.Walks.{place-ended, place-broke, place-here, place-next, count-ended, count-broke, count-next, count-over}
-use Rattle.bundle.proofs.Places.{no-value, same-value, same-refusal}
+use Rattle.jhash.proofs.ValueOrRefusal.{no-value, same-value, same-refusal}
+use Rattle.bundle.specs.FileWalk.{Place, sizeAt, placeFrom, placeOfImage, countFrom, counting}
+use Rattle.bundle.specs.Bundles.{HoldsImages}
+use Rattle.bundle.proofs.FileSteps.{Begins, Met, ended, broke, began, met}
+use Rattle.bundle.proofs.FileWalks.{place-ended, place-broke, place-here, place-next, count-ended, count-broke, count-next, count-over}
 
 ten-eleven : _≡_ {A = ℕ} 10 11 → ⊥
 ten-eleven z = omega arith
 
 module _ (file : List ℕ) where
   -- no image from here on: the file's end is here
-  pub none-ends : (at : ℕ) → Holds file at 0 → at ≡ length file
+  pub none-ends : (at : ℕ) → HoldsImages file at 0 → at ≡ length file
   none-ends at f = go (met file at)
     where
       go : Met file at → at ≡ length file
@@ -26,7 +26,7 @@ module _ (file : List ℕ) where
       go (began b) = absurd (no-value 11 (record { start = at; size = sizeAt file at }) (sym (f .ends) ∙ place-here file at b))
 
   -- one more: an image begins here, and the others follow it
-  pub some-begins : (at n : ℕ) → Holds file at (suc n) → Begins file at
+  pub some-begins : (at n : ℕ) → HoldsImages file at (suc n) → Begins file at
   some-begins at n f = go (met file at) (f .each 0 (omega arith))
     where
       go : Met file at → (p : Place) × (placeFrom file at 0 ≡ value p) → Begins file at
@@ -34,13 +34,13 @@ module _ (file : List ℕ) where
       go (broke n b) (p, q) = absurd (no-value 10 p (sym (place-broke file at 0 n b) ∙ q))
       go (began b) q = b
 
-  pub holds-next : (at n : ℕ) → Begins file at → Holds file at (suc n) → Holds file (at + sizeAt file at) n
+  pub holds-next : (at n : ℕ) → Begins file at → HoldsImages file at (suc n) → HoldsImages file (at + sizeAt file at) n
   holds-next at n b f = record {
     each = λ k l. (f .each (suc k) (omega (arith, l)) .0, sym (place-next file at k b) ∙ f .each (suc k) (omega (arith, l)) .1);
     ends = sym (place-next file at n b) ∙ f .ends;
   }
 
-  pub holds-before : (at n : ℕ) → Begins file at → Holds file (at + sizeAt file at) n → Holds file at (suc n)
+  pub holds-before : (at n : ℕ) → Begins file at → HoldsImages file (at + sizeAt file at) n → HoldsImages file at (suc n)
   holds-before at n b f = record { each = each; ends = place-next file at n b ∙ f .ends }
     where
       each : (k : ℕ) → k < suc n → (p : Place) × (placeFrom file at k ≡ value p)
@@ -49,7 +49,7 @@ module _ (file : List ℕ) where
 
   -- every walk comes to the file's end or breaks off, within as many steps as heads have room
   abbrev pub Comes : ℕ → Type 0
-  Comes at = ((n : ℕ) × Holds file at n) ⊎ ((k : ℕ) × (placeFrom file at k ≡ refusal 10))
+  Comes at = ((n : ℕ) × HoldsImages file at n) ⊎ ((k : ℕ) × (placeFrom file at k ≡ refusal 10))
 
   comes-here : (at : ℕ) → Met file at → (Begins file at → Comes at) → Comes at
   comes-here at (ended e) more = inl (0, record { each = λ k l. absurd (omega (arith, l)); ends = place-ended file at 0 e })
@@ -66,7 +66,7 @@ module _ (file : List ℕ) where
       comes-here at (met file at) (λ b. comes-next at b (comes m (at + sizeAt file at) (omega (arith, h, b .inside, b .large))))
 
   -- what is counted in each case
-  counts : (n m at c : ℕ) → Holds file at n → length file - at < 2072 * suc m → countFrom m file at c ≡ value (c + n)
+  counts : (n m at c : ℕ) → HoldsImages file at n → length file - at < 2072 * suc m → countFrom m file at c ≡ value (c + n)
   counts zero m at c f h =
       let z : c ≡ c + 0 = omega arith in
       count-ended file at m c (none-ends at f) ∙ ap value z
@@ -94,22 +94,22 @@ module _ (file : List ℕ) where
   enough = omega arith
 
   -- the count, both ways
-  pub count-holds : (n : ℕ) → Holds file 0 n → counting file ≡ value n
+  pub count-holds : (n : ℕ) → HoldsImages file 0 n → counting file ≡ value n
   count-holds n f = let z : 0 + n ≡ n = omega arith in counts n (length file / 2072) 0 0 f enough ∙ ap value z
 
-  pub count-broken : (k : ℕ) → placeAt file k ≡ refusal 10 → counting file ≡ refusal 10
+  pub count-broken : (k : ℕ) → placeOfImage file k ≡ refusal 10 → counting file ≡ refusal 10
   count-broken k e = breaks-off k (length file / 2072) 0 0 e
 
-  pub holds-count : (n : ℕ) → counting file ≡ value n → Holds file 0 n
+  pub holds-count : (n : ℕ) → counting file ≡ value n → HoldsImages file 0 n
   holds-count n e = go (comes (length file / 2072) 0 enough)
     where
-      go : Comes 0 → Holds file 0 n
+      go : Comes 0 → HoldsImages file 0 n
       go (inl f) = let s = same-value (f .0) n (sym (count-holds (f .0) (f .1)) ∙ e) in rw s at (f .1)
       go (inr b) = absurd (no-value 10 n (sym (count-broken (b .0) (b .1)) ∙ e))
 
-  pub broken-count : counting file ≡ refusal 10 → (k : ℕ) × (placeAt file k ≡ refusal 10)
+  pub broken-count : counting file ≡ refusal 10 → (k : ℕ) × (placeOfImage file k ≡ refusal 10)
   broken-count e = go (comes (length file / 2072) 0 enough)
     where
-      go : Comes 0 → (k : ℕ) × (placeAt file k ≡ refusal 10)
+      go : Comes 0 → (k : ℕ) × (placeOfImage file k ≡ refusal 10)
       go (inl f) = absurd (no-value 10 (f .0) (sym e ∙ count-holds (f .0) (f .1)))
       go (inr b) = b

@@ -1,7 +1,7 @@
 -- Laws of the bundle's definitions.
-pub mod Steps
-pub mod Walks
-pub mod Places
+pub mod FileSteps
+pub mod FileWalks
+pub mod ImagePlaces
 pub mod Appends
 pub mod Holding
 pub mod Agreeing

@@ -8,15 +8,15 @@ use lib.Dec.{eqb, ltb}
 use Rattle.jhash.specs.Outcome.{Outcome, value, refusal}
 use Rattle.image.specs.Bytes.{word}
 use Rattle.image.specs.Image.{headSize}
-use Rattle.bundle.specs.Walk.{counting}
+use Rattle.bundle.specs.FileWalk.{counting}
 
 -- does a walk of the whole file come to its end?
 abbrev pub isValue : {A : Type 0} → Outcome A → Bool
 isValue (value x) = true
 isValue (refusal k) = false
 
-abbrev pub whole : List ℕ → Bool
-whole file = isValue (counting file)
+abbrev pub wholeFile : List ℕ → Bool
+wholeFile file = isValue (counting file)
 
 -- "a new image under 2,072 bytes or whose size word isn't its length"
 abbrev pub unfit : List ℕ → Bool
@@ -26,7 +26,7 @@ unfit image = ltb (length image) headSize || not (eqb (word image 4) (length ima
 -- length, then 3 when the joined length exceeds the buffer." The file is the first n bytes of the buffer. 0: no refusal
 unfoldable pub appendRefusal : List ℕ → ℕ → List ℕ → ℕ
 appendRefusal buf n image =
-    cond (ltb (length buf) n || not (whole (take n buf)) || unfit image) 10 (cond (ltb (length buf) (n + length image)) 3 0)
+    cond (ltb (length buf) n || not (wholeFile (take n buf)) || unfit image) 10 (cond (ltb (length buf) (n + length image)) 3 0)
 
 -- "gives the joined length"
 unfoldable pub appending : List ℕ → ℕ → List ℕ → Outcome ℕ

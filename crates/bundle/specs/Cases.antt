@@ -1,7 +1,7 @@
 -- The answers' cases: for each enum that a call answers, 02's number and values of its cases.
 use Prim.Native.Nat.{ℕ}
 use Rattle.jhash.specs.Outcome.{Outcome, value, refusal}
-use Rattle.bundle.specs.Walk.{Place}
+use Rattle.bundle.specs.FileWalk.{Place}
 use Rattle.bundle.specs.Opening.{Wall}
 use Rattle.bundle.specs.declared.Placed.{Placed}
 use Rattle.bundle.specs.declared.Placed.the-variants as placed

@@ -5,27 +5,27 @@ use lib.ListN.{take, drop}
 use Rattle.jhash.specs.Outcome.{Outcome, value, refusal}
 use Rattle.reader.specs.Open.{opening}
 use Rattle.reader.specs.Slices as slices
-use Rattle.bundle.specs.Walk.{Place, placeAt}
+use Rattle.bundle.specs.FileWalk.{Place, placeOfImage}
 
 -- the part of the file that is the image at a place
-abbrev pub part : List ℕ → Place → List ℕ
-part file p = take (p .size) (drop (p .start) file)
+abbrev pub imagePart : List ℕ → Place → List ℕ
+imagePart file p = take (p .size) (drop (p .start) file)
 
 -- the part, or the walk's refusal
-abbrev pub partIn : List ℕ → Outcome Place → Outcome (List ℕ)
-partIn file (value p) = value (part file p)
-partIn file (refusal k) = refusal k
+abbrev pub imageOr : List ℕ → Outcome Place → Outcome (List ℕ)
+imageOr file (value p) = value (imagePart file p)
+imageOr file (refusal k) = refusal k
 
 abbrev pub imageAt : List ℕ → ℕ → Outcome (List ℕ)
-imageAt file position = partIn file (placeAt file position)
+imageAt file position = imageOr file (placeOfImage file position)
 
 -- as a returned part: of the lent file's own bytes those from where the image begins; empty where there is no image at the position
-abbrev pub partOr : slices.Slice → Outcome Place → slices.Slice
-partOr file (value p) = slices.part file (p .start) (p .size)
-partOr file (refusal k) = slices.part file 0 0
+abbrev pub partOrNone : slices.Slice → Outcome Place → slices.Slice
+partOrNone file (value p) = slices.part file (p .start) (p .size)
+partOrNone file (refusal k) = slices.part file 0 0
 
 abbrev pub returnedPart : slices.Slice → ℕ → slices.Slice
-returnedPart file position = partOr file (placeAt (file .bytes) position)
+returnedPart file position = partOrNone file (placeOfImage (file .bytes) position)
 
 -- what opening gives: num, and where the image stands
 pub record Wall : Type 0 where
@@ -38,8 +38,8 @@ withNum p (refusal k) = refusal k
 
 -- 10 and 11 "come before 01's opening checks", which are those of the part alone
 abbrev pub openIn : List ℕ → Outcome Place → Outcome Wall
-openIn file (value p) = withNum p (opening (part file p))
+openIn file (value p) = withNum p (opening (imagePart file p))
 openIn file (refusal k) = refusal k
 
 abbrev pub openingAt : List ℕ → ℕ → Outcome Wall
-openingAt file position = openIn file (placeAt file position)
+openingAt file position = openIn file (placeOfImage file position)

@@ -5,7 +5,7 @@ use mathlib.Core.List.{List, [], _∷_, _++_}
 use lib.ListN.{replicate}
 use Rattle.jhash.specs.Outcome.{Outcome, value, refusal}
 use Rattle.image.specs.Bytes.{le32}
-use Rattle.bundle.specs.Walk.{Place}
+use Rattle.bundle.specs.FileWalk.{Place}
 
 -- n bytes with the size word w
 unfoldable pub sized : ℕ → ℕ → List ℕ

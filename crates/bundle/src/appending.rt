@@ -1,20 +1,17 @@
 // Appending an image to a bundle. The file is the buffer's first bytes, their number given.
 ghost use mathlib.Core.Path.{_≡_};
-ghost use mathlib.Core.Bool.{not};
-ghost use Prim.Native.Nat.{_+_, _≤_};
-ghost use lib.ListN.{length};
-ghost use lib.Seq.{sets};
-ghost use Rattle.bundle.specs.Append.{whole, unfit, appendRefusal, appending, afterAppend};
+ghost use Rattle.bundle.specs.Append.{wholeFile, unfit, appendRefusal, appending, afterAppend};
 ghost use Rattle.bundle.specs.Cases.{appendedOf};
 use super::Appended;
 use super::Counted;
 use super::HEAD_SIZE;
 use super::walking::count;
+use image::store::store_bytes;
 use jhash::word::word;
 
 // Does a walk of the whole file come to its end?
 fn whole(file: &[u8]) -> bool
-    ensures { λ r. ⌜ r ≡ whole (now (file .entry)) ⌝ }
+    ensures { λ r. ⌜ r ≡ wholeFile (now (file .entry)) ⌝ }
 {
     let counted = count(file);
     match counted {
@@ -52,18 +49,6 @@ fn append_refusal(buf: &[u8], end: usize, image: &[u8]) -> u32
     0
 }
 
-// The bytes of src stored from `at` on.
-fn copy(buf: &mut [u8], at: usize, src: &[u8])
-    requires { ⌜ at + length (now src) ≤ length (now buf) ⌝ }
-    ensures { λ _. ⌜ now (buf .exit) ≡ sets (now (buf .entry)) at (now (src .entry)) ⌝ }
-{
-    let mut j = 0;
-    while j < src.len() {
-        buf[at + j] = src[j];
-        j += 1;
-    }
-}
-
 // Writes the image's bytes right after the file's and gives the joined length, or is refused and changes nothing: 10 where the
 // file is longer than the buffer or its walk breaks off, or the image is unfit; then 3 where the buffer has no room.
 pub fn append(buf: &mut [u8], end: usize, image: &[u8]) -> Appended
@@ -75,6 +60,6 @@ pub fn append(buf: &mut [u8], end: usize, image: &[u8]) -> Appended
         return Appended::Refused(refusal);
     }
     let joined = end + image.len();
-    copy(&mut *buf, end, image);
+    store_bytes(&mut *buf, end, image);
     Appended::Length(joined)
 }

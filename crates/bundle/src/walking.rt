@@ -3,7 +3,7 @@ ghost use mathlib.Core.Path.{_≡_};
 ghost use mathlib.Core.Bool.{cond};
 ghost use Prim.Native.Nat.{_+_, _≤_};
 ghost use lib.ListN.{length};
-ghost use Rattle.bundle.specs.Walk.{sizeAt, breaks, placeAt, counting};
+ghost use Rattle.bundle.specs.FileWalk.{sizeAt, breaks, placeOfImage, counting};
 ghost use Rattle.reader.specs.Slices.{slice};
 ghost use Rattle.bundle.specs.Opening.{returnedPart, openingAt};
 ghost use Rattle.bundle.specs.Cases.{placedOf, openedAtOf, countedOf};
@@ -34,7 +34,7 @@ fn size_at(file: &[u8], at: usize) -> usize
 
 // Where the image at a position stands; 10 where the walk breaks off, 11 where the file ends at or before the position.
 pub fn place(file: &[u8], position: usize) -> Placed
-    ensures { λ r. ⌜ placedOf r ≡ placeAt (now (file .entry)) position ⌝ }
+    ensures { λ r. ⌜ placedOf r ≡ placeOfImage (now (file .entry)) position ⌝ }
 {
     let mut at = 0;
     let mut left = position;

@@ -7,9 +7,9 @@ use Rattle.bundle_c.specs.declared.BundleAppendAnswer.{BundleAppendAnswe
 use Rattle.bundle_c.specs.declared.BundleCountAnswer.{BundleCountAnswer}
 
 -- an opened image: num, and where it stands in the file
-abbrev pub openAnswer : Outcome Wall → BundleOpenAnswer
-openAnswer (value w) = record { refusal = 0; num = w .num; start = w .place .start; size = w .place .size }
-openAnswer (refusal k) = record { refusal = k; num = 0; start = 0; size = 0 }
+abbrev pub openAtAnswer : Outcome Wall → BundleOpenAnswer
+openAtAnswer (value w) = record { refusal = 0; num = w .num; start = w .place .start; size = w .place .size }
+openAtAnswer (refusal k) = record { refusal = k; num = 0; start = 0; size = 0 }
 
 -- the joined length
 abbrev pub appendAnswer : Outcome ℕ → BundleAppendAnswer

@@ -3,10 +3,10 @@ use bundle::Appended;
 use bundle::Counted;
 use bundle::OpenedAt;
 ghost use mathlib.Core.Path.{_≡_};
-ghost use Rattle.bundle.specs.Walk.{counting};
+ghost use Rattle.bundle.specs.FileWalk.{counting};
 ghost use Rattle.bundle.specs.Opening.{openingAt};
 ghost use Rattle.bundle.specs.Append.{appending, afterAppend};
-ghost use Rattle.bundle_c.specs.Bundle.{openAnswer, appendAnswer, countAnswer};
+ghost use Rattle.bundle_c.specs.Bundle.{openAtAnswer, appendAnswer, countAnswer};
 
 // The refusal's number, 0 when accepted; the number of associations, and the place of the image's first byte in the file and
 // how many bytes it has. Zeros when refused.
@@ -35,7 +35,7 @@ pub struct BundleCountAnswer {
 // The image at a position, counted from 0; or refusal 10 or 11, then 5, 6, 7 or 8.
 #[no_mangle]
 pub extern "C" fn cqdb_bundle_open(file: &[u8], position: u64) -> BundleOpenAnswer
-    ensures { λ r. ⌜ r ≡ openAnswer (openingAt (now (file .entry)) position) ⌝ }
+    ensures { λ r. ⌜ r ≡ openAtAnswer (openingAt (now (file .entry)) position) ⌝ }
 {
     let opened = bundle::open(file, position as usize);
     match opened {

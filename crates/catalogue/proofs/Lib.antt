@@ -1,4 +1,4 @@
 -- Laws about what the program reads and prints.
 pub mod InputRead
-pub mod Building
-pub mod Walked
+pub mod BuiltImage
+pub mod PrintedWalk

@@ -6,7 +6,7 @@ use mathlib.Core.Option.{Option, none, some}
 use lib.ListN.{length, take, drop}
 use Rattle.image.specs.declared.Mode.the-variants.{Twoway}
 use Rattle.image.specs.Image.{Entry, headSize, image}
-use Rattle.reader.specs.Walk.{Step, item, done, step}
+use Rattle.reader.specs.IdWalk.{Step, item, done, step}
 use Rattle.answers.specs.Answer.{ofId, lastName}
 use Rattle.writer.specs.Put.{entryOf}
 use Rattle.lists.specs.Calls.{sizeOf}
@@ -35,14 +35,14 @@ abbrev pub example : List ℕ
 example = 48 ∷ 32 ∷ 65 ∷ 10 ∷ 51 ∷ 32 ∷ 66 ∷ 10 ∷ 48 ∷ 32 ∷ 67 ∷ 10 ∷ []
 
 -- the lines `0 A`, `1 A`, `2 B`
-abbrev pub repeated : List ℕ
-repeated = 48 ∷ 32 ∷ 65 ∷ 10 ∷ 49 ∷ 32 ∷ 65 ∷ 10 ∷ 50 ∷ 32 ∷ 66 ∷ 10 ∷ []
+abbrev pub repeatedLines : List ℕ
+repeatedLines = 48 ∷ 32 ∷ 65 ∷ 10 ∷ 49 ∷ 32 ∷ 65 ∷ 10 ∷ 50 ∷ 32 ∷ 66 ∷ 10 ∷ []
 
 pub record Demonstration : Type 0 where
   -- the walk of an input's image, however many steps are taken
   pub walk : (n : ℕ) (input : List ℕ) (m : ℕ) → headSize ≤ n → items (image Twoway (putsOf n input)) 0 m ≡ itemsOf (putsOf n input) 0 m
   -- 02 (viii): it begins without the repeats mode, so the second line of `0 A`, `1 A`, `2 B` is skipped
-  pub repeated-puts : putsOf 65536 repeated ≡ entryOf (65 ∷ []) 0 ∷ entryOf (66 ∷ []) 2 ∷ []
+  pub repeated-puts : putsOf 65536 repeatedLines ≡ entryOf (65 ∷ []) 0 ∷ entryOf (66 ∷ []) 2 ∷ []
   -- from the example it prints the lines `3 2166` and `0 C`: its entries, its size, and the walk, which ends at the second step
   pub example-entries : length (putsOf 65536 example) ≡ 3
   pub example-size : sizeOf Twoway (putsOf 65536 example) ≡ 2166

@@ -80,14 +80,14 @@ fn print_line(n: u64, rest: &[u8]) {
 
 // The walk, as id and name.
 fn print_walk(image: &[u8]) {
-    let mut walk = reader::walk::iter();
+    let mut walk = reader::id_walk::iter();
     loop {
         let Stepped::Item {
             id,
             start,
             len,
             iter,
-        } = reader::walk::next(image, walk)
+        } = reader::id_walk::next(image, walk)
         else {
             return;
         };

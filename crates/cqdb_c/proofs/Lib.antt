@@ -1,3 +1,3 @@
 -- Laws of the exported calls.
-pub mod Calls
-pub mod Places
+pub mod CCalls
+pub mod ShortPlaces

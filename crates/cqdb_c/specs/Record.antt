@@ -1,13 +1,7 @@
 -- The writer record as C has it: 01, "The writer record". Assumes nothing.
 use Prim.Native.Nat.{ℕ}
-use mathlib.Core.Bool.{Bool, cond, _&&_}
 use mathlib.Core.List.{List}
-use lib.Dec.{eqb, leb}
 use Rattle.image.specs.Image.{flagWord}
-use Rattle.image.specs.declared.Mode.{Mode}
-use Rattle.image.specs.declared.Mode.the-variants.{Twoway, Oneway}
-use Rattle.writer.specs.declared.Repeats.{Repeats}
-use Rattle.writer.specs.declared.Repeats.the-variants.{Off, On}
 use Rattle.writer.specs.declared.CQDBWriter.{CQDBWriter}
 use Rattle.writer.specs.State.{State, stateWith}
 pub use Rattle.modes.specs.Modes.{known, modeOf, repeatsOf, repeatsWord}

@@ -1,2 +1,2 @@
 -- What a line of the replay means.
-pub mod Lines
+pub mod HashLines

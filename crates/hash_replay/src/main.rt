@@ -3,8 +3,8 @@
 // with #, and an empty one, is skipped.
 ghost use mathlib.Core.Path.{_≡_};
 ghost use lib.ListN.{length};
-ghost use Rattle.replay_lines.specs.Lines.{replayed};
-ghost use Rattle.hash_replay.specs.Lines.{compared, verdict, judge};
+ghost use Rattle.replay_lines.specs.Replay.{replayed};
+ghost use Rattle.hash_replay.specs.HashLines.{hashCompared, hashVerdict, judgeHash};
 use libc::STDIN_FILENO;
 use replay_lines::Bytes;
 use replay_lines::Counts;
@@ -18,7 +18,7 @@ use replay_lines::words;
 
 // The verdict on a start value, a hash and a name; `room` takes the name.
 fn compare(start: &[u8], want: &[u8], name: &[u8], room: &mut [u8]) -> Verdict
-    ensures { λ r. ⌜ r ≡ compared (length (now (room .entry))) (now (start .entry)) (now (want .entry)) (now (name .entry)) ⌝ }
+    ensures { λ r. ⌜ r ≡ hashCompared (length (now (room .entry))) (now (start .entry)) (now (want .entry)) (now (name .entry)) ⌝ }
 {
     let Numbers::Values(start, want) = hex::two_words(start, want) else {
         return Verdict::Malformed;
@@ -31,7 +31,7 @@ fn compare(start: &[u8], want: &[u8], name: &[u8], room: &mut [u8]) -> Verdict
 
 // The verdict on a line.
 fn verdict_of(line: &[u8], room: &mut [u8]) -> Verdict
-    ensures { λ r. ⌜ r ≡ verdict (length (now (room .entry))) (now (line .entry)) ⌝ }
+    ensures { λ r. ⌜ r ≡ hashVerdict (length (now (room .entry))) (now (line .entry)) ⌝ }
 {
     if words::skipped(line) {
         return Verdict::Silent;
@@ -46,7 +46,7 @@ fn verdict_of(line: &[u8], room: &mut [u8]) -> Verdict
 
 // Every line of a text, compared.
 fn replay(text: &[u8], room: &mut [u8]) -> Counts
-    ensures { λ r. ⌜ r ≡ replayed judge (length (now (room .entry))) (now (text .entry)) ⌝ }
+    ensures { λ r. ⌜ r ≡ replayed judgeHash (length (now (room .entry))) (now (text .entry)) ⌝ }
 {
     let mut p = lines::begin();
     while p.at < text.len() {

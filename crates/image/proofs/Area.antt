@@ -10,7 +10,7 @@ use lib.Seq.{drop-cons, drop-drop, getD-take, getD-drop}
 use lib.Dec.{eqb, leb}
 use borrow.Author.Tests.{leb-true, eqb-true}
 use Rattle.jhash.proofs.WordRead.{word-below}
-pub use Rattle.jhash.proofs.WordRead.{Bytes}
+pub use Rattle.jhash.specs.Word.{Bytes}
 use Rattle.image.specs.Bytes.{word, le32, cat}
 use Rattle.image.specs.Image.{Entry, entryBytes}
 use Rattle.image.proofs.Words.{word-drop, le32-bytes}
@@ -31,7 +31,7 @@ bytes-take n l h i = go (decLt i n)
     go (no k) = rw (List·getD-eq-default (take n l) 0 {n = i} (omega (arith, length-take n l))) (omega arith)
 
 -- the word at the front, and what follows it
-front-word : (l : List ℕ) → Bytes l → 4 ≤ length l → l ≡ le32 (word l 0) ++ drop 4 l
+pub front-word : (l : List ℕ) → Bytes l → 4 ≤ length l → l ≡ le32 (word l 0) ++ drop 4 l
 unfolding word
 front-word [] h k = absurd (omega arith)
 front-word (a ∷ []) h k = absurd (omega arith)

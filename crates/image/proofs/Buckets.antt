@@ -1,13 +1,19 @@
--- The buckets of a filled table, one by one. Assumes nothing.
-use mathlib.Core.Path.{_≡_, refl}
+-- The buckets that a search meets, and those of a filled table, one by one. Assumes nothing.
+use mathlib.Core.Path.{_≡_, refl, ap}
 use mathlib.Core.List.{List, [], _∷_}
 use Prim.Native.Nat.{ℕ, zero, suc, _≤_, _<_}
 use native.Mathlib.Decide.{ℕ-discrete, decLt}
 use native.Mathlib.Omega.{arith}
 use lib.ListN.{length, getD, set, replicate}
 use lib.Seq.{getD-set-same, getD-set-other, set-out}
-use Rattle.image.specs.Tables.{Bucket, empty, atOf, start, order, firstEmpty, insert, insertAll, filled}
+use Rattle.image.specs.Tables.{Bucket, empty, atOf, start, next, order, firstEmpty, insert, insertAll, filled}
 use Rattle.image.proofs.Every.{All}
+
+-- a search of m steps meets m buckets
+pub length-order : (n m k : ℕ) → length (order n m k) ≡ m
+unfolding order
+length-order n zero k = refl
+length-order n (suc m) k = ap suc (length-order n m (next n k))
 
 pub getD-empties : (n k : ℕ) → getD (replicate n empty) k empty ≡ empty
 getD-empties zero k = refl

@@ -1,10 +1,10 @@
 -- One entry of a walk over entries. Assumes nothing.
-use Prim.Native.Nat.{ℕ, zero, suc, _+_, _-_, _*_, _≤_, _<_, max}
+use Prim.Native.Nat.{ℕ, suc, _+_, _-_, _≤_, _<_, max}
 use native.Mathlib.Omega.{arith}
 use native.Mathlib.Decide.{decLt, ℕ-discrete}
-use mathlib.Core.Path.{_≡_, refl, sym, ap, ap₂, _∙_}
-use mathlib.Core.Bool.{Bool, true, false, cond, _&&_, _||_, or-assoc, or-false}
-use mathlib.Core.List.{List, [], _∷_}
+use mathlib.Core.Path.{_≡_, refl, sym, ap, _∙_}
+use mathlib.Core.Bool.{Bool, false, _&&_, _||_, or-assoc, or-false}
+use mathlib.Core.List.{List, _∷_}
 use lib.ListN.{length, getD, take, drop, set}
 use lib.Seq.{getD-set-same, getD-set-other, set-out}
 use lib.Dec.{eqb}
@@ -16,7 +16,7 @@ use Rattle.image.specs.Image.{Entry, backSize, hasName, holds}
 use Rattle.image.specs.Stored.{firstWhole, firstEntry, afterFirst, whole, entriesIn, between, wholeLength}
 use Rattle.image.specs.Tally.{tallied, raisedCounts, countsAfter}
 use Rattle.image.proofs.Equal.{same-false}
-use Rattle.image.proofs.Between.{Front, front, not-whole, length-between, drop-between, word-between, name-between}
+use Rattle.image.proofs.Between.{Front, not-whole, length-between, drop-between, word-between, name-between}
 
 -- one more in one table raises no count by more than one
 set-one : (l : List ℕ) (u : ℕ) → getD (set l u (getD l u 0 + 1)) u 0 ≤ getD l u 0 + 1
@@ -37,24 +37,20 @@ raised-one counts h t =
 -- what is to be found of the entries from `at` on
 pub record Rest (buf : List ℕ) (end entries : ℕ) (counts₀ : List ℕ) (at left back : ℕ) (counts : List ℕ) : Type 0 where
   pub inside : at ≤ end
-  pub fewer : left ≤ entries
   pub whole-same : whole left (between buf at end) ≡ whole entries (between buf 2072 end)
   pub back-same : max back (backSize (entriesIn left (between buf at end))) ≡ backSize (entriesIn entries (between buf 2072 end))
   pub counts-same : tallied counts (entriesIn left (between buf at end)) ≡ tallied counts₀ (entriesIn entries (between buf 2072 end))
   pub counts-small : (t : ℕ) → getD counts t 0 + left ≤ entries
-  pub back-small : back ≤ 4294967296
 
 pub walk-start : (buf : List ℕ) (end entries : ℕ) (counts : List ℕ) → 2072 ≤ end → ((t : ℕ) → getD counts t 0 ≡ 0)
     → Rest buf end entries counts 2072 entries 0 counts
 walk-start buf end entries counts h z =
     record {
       inside = h;
-      fewer = omega arith;
       whole-same = refl;
       back-same = omega arith;
       counts-same = refl;
       counts-small = λ t. omega (arith, z t);
-      back-small = omega arith;
     }
 
 whole-suc : (m : ℕ) (bytes : List ℕ) → whole (suc m) bytes ≡ (firstWhole bytes && whole m (afterFirst bytes))
@@ -69,15 +65,12 @@ backSize-cons : (e : Entry) (es : List Entry) → backSize (e ∷ es) ≡ max (e
 unfolding backSize
 backSize-cons e es = refl
 
-tallied-cons : (counts : List ℕ) (e : Entry) (es : List Entry) → tallied counts (e ∷ es) ≡ tallied (raisedCounts counts (hashOf (e .name))) es
+pub tallied-cons : (counts : List ℕ) (e : Entry) (es : List Entry) → tallied counts (e ∷ es) ≡ tallied (raisedCounts counts (hashOf (e .name))) es
 unfolding tallied countsAfter
 tallied-cons counts e es = refl
 
 -- the bytes and the entries after the first
 module _ (buf : List ℕ) (at end n m : ℕ) (h : at ≤ end) (k : end ≤ length buf) (f : Front (between buf at end) n) where
-  rest-of : List ℕ
-  rest-of = between buf at end
-
   inner : 8 + n ≤ end - at
   inner = let i = f .inside in let e = length-between buf at end h k in omega arith
 
@@ -131,12 +124,10 @@ walk-turn buf end entries counts₀ at left back counts k r some n h id name cou
     ∙ ap (λ (q : ℕ). tallied (raisedCounts counts q) later) fh ∙ ap (λ (q : List ℕ). tallied q later) (sym ec) in
     record {
       inside = omega arith;
-      fewer = omega (arith, r .fewer);
       whole-same = sym (whole-rest buf at end n m a k f) ∙ ap (λ (q : ℕ). whole q (between buf at end)) (sym l) ∙ r .whole-same;
       back-same = omega (arith, r .back-same);
       counts-same = sym ts ∙ r .counts-same;
       counts-small = λ t. small-count t (raised-one counts h t) (r .counts-small t);
-      back-small = omega (arith, r .back-small);
     }
   where
     small-count : (t : ℕ) → getD (raisedCounts counts h) t 0 ≤ getD counts t 0 + 1 → getD counts t 0 + left ≤ entries

@@ -10,7 +10,8 @@ use borrow.Author.Tests.{eq-eqb, ne-eqb, eqb-true}
 use lib.Dec.{eqb}
 use lib.ListN.{length, getD, drop, drop-of-length-le}
 use lib.Seq.{drop-cons}
-use Rattle.jhash.proofs.WordRead.{word-of, Bytes, word-below}
+use Rattle.jhash.specs.Word.{Bytes}
+use Rattle.jhash.proofs.WordRead.{word-of, word-below}
 use Rattle.image.specs.Bytes.{word, le32, same}
 use Rattle.image.proofs.Words.{le32-bytes}
 

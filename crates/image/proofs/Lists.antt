@@ -1,12 +1,12 @@
 -- Laws of the list functions of specs/Bytes: parts one after the other, the elements that pass a test, runs of numbers. Assumes nothing.
-use Prim.Native.Nat.{ℕ, zero, suc, _+_, _*_, _-_, _≤_, _<_}
+use Prim.Native.Nat.{ℕ, zero, suc, _+_, _*_, _-_, _<_}
 use native.Mathlib.Omega.{arith}
-use native.Mathlib.Nat.{add-suc, suc-add}
+use native.Mathlib.Nat.{suc-add}
 use mathlib.Core.Path.{_≡_, refl, sym, ap, _∙_}
 use mathlib.Core.Bool.{Bool, true, false, cond}
-use mathlib.Core.List.{List, [], _∷_, _++_, map, append-assoc}
+use mathlib.Core.List.{List, [], _∷_, _++_, append-assoc}
 use lib.ListN.{length, getD, length-append}
-use Rattle.image.specs.Bytes.{cat, keep, range, same}
+use Rattle.image.specs.Bytes.{cat, keep, range}
 
 module _ {A : Type 0} (f : A → List ℕ) where
   pub cat-cons : (x : A) (xs : List A) → cat f (x ∷ xs) ≡ f x ++ cat f xs
@@ -70,13 +70,6 @@ module _ {A : Type 0} (test : A → Bool) where
       go : keep test (xs ++ ys) ≡ keep test xs ++ keep test ys → (b : Bool) → cond b (x ∷ keep test (xs ++ ys)) (keep test (xs ++ ys)) ≡ cond b (x ∷ keep test xs) (keep test xs) ++ keep test ys
       go ih true = ap (λ (l : List A). x ∷ l) ih
       go ih false = ih
-
--- the same elements pass tests that agree
-pub keep-ext : {A : Type 0} (f g : A → Bool) → ((x : A) → f x ≡ g x) → (xs : List A) → keep f xs ≡ keep g xs
-unfolding keep
-keep-ext f g h [] = refl
-keep-ext {A} f g h (x ∷ xs) =
-    ap (λ (b : Bool). cond b (x ∷ keep f xs) (keep f xs)) (h x) ∙ ap (λ (l : List A). cond (g x) (x ∷ l) l) (keep-ext f g h xs)
 
 pub length-range : (s n : ℕ) → length (range s n) ≡ n
 unfolding range

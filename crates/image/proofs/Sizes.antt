@@ -1,21 +1,22 @@
 -- The sizes of an image's parts, and where each begins. Assumes nothing.
-use Prim.Native.Nat.{ℕ, zero, suc, _+_, _*_, _%_, _≤_, _<_}
+use Prim.Native.Nat.{ℕ, zero, suc, _+_, _*_, _<_}
 use native.Mathlib.Omega.{arith}
 use native.Mathlib.Nat.{mod-lt}
-use mathlib.Core.Path.{_≡_, refl, sym, ap, _∙_}
+use mathlib.Core.Path.{_≡_, refl, ap, _∙_}
 use mathlib.Core.Bool.{Bool, true, false, cond}
 use mathlib.Core.List.{List, [], _∷_, _++_, map}
-use lib.ListN.{length, set, replicate, length-append, length-set, length-replicate, length-map}
+use lib.ListN.{length, replicate, length-append, length-set, length-replicate}
 use lib.Dec.{eqb, ltb, lit<}
-use borrow.Author.Tests.{lt-ltb, le-ltb, eq-eqb, ne-eqb, ltb-true, ltb-false, eqb-true, eqb-false}
+use borrow.Author.Tests.{lt-ltb, le-ltb, ltb-true, ltb-false, eqb-true, eqb-false}
 use Rattle.jhash.specs.NameHash.{hashOf}
 use Rattle.image.specs.Bytes.{le32, cat, keep, range}
-use Rattle.image.specs.Tables.{Bucket, empty, tableOf, start, order, firstEmpty, atOf, insert, insertAll, filled}
+use Rattle.image.specs.Tables.{Bucket, empty, tableOf, insert, insertAll, filled}
 use Rattle.image.specs.Image.{Entry, Placed, headSize, entryBytes, entrySize, entriesSize, placed, inTable, ofTable, count, bucketOf, bucketBytes}
-use Rattle.image.specs.Image.{table, tableBytes, entriesBefore, tableRow, tableRows, tables, link, links, backSizeOf, imageSize, headBytes, headWords, flagWord, backOffset, image}
+use Rattle.image.specs.Image.{table, tableBytes, entriesBefore, tableRow, tableRows, tables, link, links, backIn, backSizeOf, imageSize, headBytes, headWords, flagWord, backOffset, image}
 use Rattle.image.specs.declared.Mode.{Mode}
+use Rattle.image.specs.declared.Mode.the-variants.{Twoway, Oneway}
 use Rattle.image.proofs.Words.{length-le32}
-use Rattle.image.proofs.Lists.{cat-append, length-cat, keep-nil, keep-cons, keep-append, length-range, range-more}
+use Rattle.image.proofs.Lists.{cat-append, length-cat, keep-append, length-range, range-more}
 
 -- ---- entries
 
@@ -214,3 +215,8 @@ length-image mode es =
     simp length-append
     (omega
     (arith, length-headWords mode es, length-tableRows (headSize + entriesSize es) ps, length-entries es, length-tables ps, length-placed headSize es, length-links ps (backSizeOf mode es)))
+
+-- the back size in an image is that of its mode
+pub backIn-twice : (mode : Mode) (n : ℕ) → backIn mode (backIn mode n) ≡ backIn mode n
+backIn-twice Twoway n = refl
+backIn-twice Oneway n = refl

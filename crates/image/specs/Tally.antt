@@ -9,9 +9,13 @@ use Rattle.image.specs.Bytes.{all}
 use Rattle.image.specs.Tables.{tableOf}
 use Rattle.image.specs.Image.{Entry}
 
+-- one more at a place of some counts
+abbrev pub oneMore : List ℕ → ℕ → List ℕ
+oneMore counts k = set counts k (getD counts k 0 + 1)
+
 -- one more in the table of a hash
 unfoldable pub raisedCounts : List ℕ → ℕ → List ℕ
-raisedCounts counts h = set counts (tableOf h) (getD counts (tableOf h) 0 + 1)
+raisedCounts counts h = oneMore counts (tableOf h)
 
 -- the counts after this put
 unfoldable pub countsAfter : List ℕ → Entry → List ℕ

@@ -8,9 +8,11 @@ ghost use Rattle.image.specs.Bytes.{word, le32};
 ghost use Rattle.image.specs.Image.{flagWord};
 use jhash::word::word;
 use jhash::word::word_near_end;
+use store::store_word;
 
 pub mod entries; // entries.rt: broken entries, whole ones, and a walk over them
 pub mod equality; // equality.rt: same
+pub mod store; // store.rt: words and bytes stored where there is room
 pub mod zero; // zero.rt: zero bytes in a name
 
 // The writer's mode (`Flag` of cqdb-rs, NONE and ONEWAY): one-way leaves the back array out.
@@ -73,8 +75,5 @@ pub fn put_u32(buf: &mut [u8], at: usize, v: u32)
         put_near_end(&mut *buf, at, v);
         return;
     }
-    buf[at] = (v % 256) as u8;
-    buf[at + 1] = (v / 256 % 256) as u8;
-    buf[at + 2] = (v / 65536 % 256) as u8;
-    buf[at + 3] = (v / 16777216 % 256) as u8;
+    store_word(&mut *buf, at, v);
 }

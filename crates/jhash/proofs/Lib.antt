@@ -1,4 +1,5 @@
--- The laws of words and of the name hash. Published for the crates above: `WordRead`, `Outcomes`, `Rotation` and `Vectors`.
+-- The laws of words and of the name hash. Published for the crates above: `WordRead`, `Outcomes`, `Rotation`, `Vectors` and
+-- `ValueOrRefusal`.
 pub mod WordRead
 mod Mixing
 mod Blocks
@@ -7,3 +8,4 @@ mod Powers
 pub mod Outcomes
 pub mod Rotation
 pub mod Vectors
+pub mod ValueOrRefusal

@@ -8,7 +8,7 @@ use borrow.Author.Tests.{leb-true, leb-false}
 use lib.Dec.{leb}
 use lib.ListN.{length}
 use Rattle.jhash.specs.Lookup3.{alike, initialWord, initial, hashRest}
-use Rattle.jhash.specs.Outcome.{Outcome, value, refusal}
+use Rattle.jhash.specs.Outcome.{value, refusal}
 use Rattle.jhash.specs.NameHash.{hashOutcome}
 use Rattle.jhash.proofs.Blocks.{name-begin}
 use Rattle.jhash.proofs.Outcomes.{short-answer, long-answer}

@@ -10,7 +10,7 @@ use borrow.Author.Tests.{lt-ltb, le-ltb}
 use lib.Dec.{ltb}
 use lib.ListN.{length, drop}
 use Rattle.jhash.specs.Lookup3.{added, mix, final, rest, hashRest, initial}
-use Rattle.jhash.specs.Outcome.{Outcome, value, refusal}
+use Rattle.jhash.specs.Outcome.{value, refusal}
 use Rattle.jhash.specs.NameHash.{nameHash, hashOf, outcome, hashOutcome}
 use Rattle.jhash.specs.declared.Words.{Words}
 use Rattle.jhash.specs.declared.Hashed.{Hashed}
@@ -86,9 +86,3 @@ told-refused name start r promise is =
           absurd (zero-one z)
       | no long ↦ omega arith
     ]
-
--- the number or value of an answer tells the answer
-pub outcome-value : (r : Hashed) (x h : ℕ) → r ≡ Hash x → outcome r ≡ value h → x ≡ h
-outcome-value r x h is told =
-    let e : value x ≡ value h = ap outcome (sym is) ∙ told in
-    cc

@@ -1,7 +1,11 @@
--- Little-endian words of 32 bits: 01, "Name hash" and "The image record". Assumes nothing.
-use Prim.Native.Nat.{ℕ, _+_, _*_}
+-- Bytes, and little-endian words of 32 bits: 01, "Name hash" and "The image record". Assumes nothing.
+use Prim.Native.Nat.{ℕ, _+_, _*_, _<_}
 use mathlib.Core.List.{List}
 use lib.ListN.{getD}
+
+-- the elements of a lent slice are bytes: each is below 256
+abbrev pub Bytes : List ℕ → Type 0
+Bytes s = (k : ℕ) → getD s k 0 < 256
 
 -- all words are 32-bit unsigned, little-endian: the word that stands at offset o of a byte string. Past its end stand zeros
 unfoldable pub word : List ℕ → ℕ → ℕ

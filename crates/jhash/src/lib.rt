@@ -5,7 +5,7 @@ ghost use lib.Dec.{leb};
 ghost use mathlib.Core.List.{[], _∷_, _++_};
 ghost use lib.ListN.{length};
 ghost use Rattle.jhash.specs.Lookup3.{sub32, rotl32, plus, added, mix, finished, final, alike, initialWord, hashRest};
-ghost use Rattle.jhash.specs.steps.Rounds.{round, step};
+ghost use Rattle.jhash.specs.steps.Rounds.{mixRound, finalStep};
 ghost use Rattle.jhash.specs.NameHash.{outcome, hashOutcome};
 use word::word;
 use word::word_near_end;
@@ -97,7 +97,7 @@ fn minus(x: u32, y: u32) -> u32
 // compiler keeps that order: the next round waits for the rotated word and the difference, not for the sum.
 fn mix_round(w: Words, k: u32) -> Words
     requires { ⌜ (0 < k) × (k < 32) ⌝ }
-    ensures { λ r. ⌜ r ≡ round w k ⌝ }
+    ensures { λ r. ⌜ r ≡ mixRound w k ⌝ }
 {
     let rotated = rotate_left(w.c, k);
     let c = minus(w.a, w.c) ^ rotated;
@@ -127,7 +127,7 @@ fn final_word(w: Words, k: u32) -> u32
 // One finishing step; the words change their names for the next step.
 fn final_step(w: Words, k: u32) -> Words
     requires { ⌜ (0 < k) × (k < 32) ⌝ }
-    ensures { λ r. ⌜ r ≡ step w k ⌝ }
+    ensures { λ r. ⌜ r ≡ finalStep w k ⌝ }
 {
     Words {
         a: w.b,

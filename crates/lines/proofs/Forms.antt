@@ -9,14 +9,14 @@ use lib.ListN.{length, getD, take, List·getD-eq-default}
 use lib.Dec.{eqb, leb}
 use borrow.Author.Tests.{leb-true, eqb-true}
 use Rattle.image.proofs.Bools.{first, second}
-use Rattle.lines.specs.Lines.{leadingDigits, number, entry, other, formWith, parseLine}
+use Rattle.lines.specs.Lines.{leadingDigits, decimal, entry, other, formWith, parseLine}
 
 -- a line's form by its four tests, n being the digits in front
 pub form-by : (line : List ℕ) (n : ℕ) (a b c d : Bool) → n ≡ leadingDigits line → leb 1 n ≡ a → leb n 10 ≡ b → eqb (getD line n 0) 32 ≡ c
-    → leb (number (take n line)) 4294967295 ≡ d → cond (a && b && c && d) (entry (number (take n line)) (n + 1)) other ≡ parseLine line
+    → leb (decimal (take n line)) 4294967295 ≡ d → cond (a && b && c && d) (entry (decimal (take n line)) (n + 1)) other ≡ parseLine line
 unfolding parseLine
 form-by line n a b c d e ea eb ec ed =
-    sym (λ i. cond (ea i && eb i && ec i && ed i) (entry (number (take n line)) (n + 1)) other) ∙ ap (formWith line) e
+    sym (λ i. cond (ea i && eb i && ec i && ed i) (entry (decimal (take n line)) (n + 1)) other) ∙ ap (formWith line) e
 
 -- where a name begins
 pub record Named (line : List ℕ) (at : ℕ) : Type 0 where
@@ -50,9 +50,9 @@ named line id at e = go (a && b && c && d) refl e
     c = eqb (getD line n 0) 32
 
     d : Bool
-    d = leb (number (take n line)) 4294967295
+    d = leb (decimal (take n line)) 4294967295
 
-    go : (t : Bool) → (a && b && c && d) ≡ t → cond t (entry (number (take n line)) (n + 1)) other ≡ entry id at → Named line at
+    go : (t : Bool) → (a && b && c && d) ≡ t → cond t (entry (decimal (take n line)) (n + 1)) other ≡ entry id at → Named line at
     go false p e = never id at e
     go true p e =
         let abc = first (a && b && c) d p in

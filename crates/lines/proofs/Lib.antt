@@ -1,7 +1,7 @@
 -- Laws about the lines of an input.
-pub mod Numbers
+pub mod Decimals
 pub mod Forms
 pub mod Skipped
-pub mod Split
-pub mod Taking
-pub mod Whole
+pub mod InputLines
+pub mod PieceBytes
+pub mod WholeInput

@@ -9,10 +9,10 @@ use lib.Dec.{eqb}
 use Rattle.image.specs.Image.{Entry}
 use Rattle.writer.specs.State.{State, finishedSize}
 use Rattle.writer.specs.Put.{entryOf, writerAfter, putRefusal, appended, afterPut}
-use Rattle.writer.proofs.Fits.{Fitting, fitting, not-too-large}
-use Rattle.writer.proofs.Puts.{Passed, passed, refused-leaves}
+use Rattle.writer.proofs.Fits.{fitting, not-too-large}
+use Rattle.writer.proofs.Puts.{passed, refused-leaves}
 use Rattle.lists.specs.Calls.{after}
-use Rattle.lines.specs.Lines.{Form, entry, other, parseLine, callsBy, afterLine}
+use Rattle.lines.specs.Lines.{Form, entry, other, parseLine, callsBy, afterPutLine}
 use Rattle.lines.proofs.Forms.{named}
 
 -- what a line leaves, by its form
@@ -25,14 +25,14 @@ unfolding after
 leaves-calls s line (entry id at) = refl
 leaves-calls s line other = refl
 
-after-form : (s : State) (line : List ℕ) → afterLine s line ≡ leaves s line (parseLine line)
-unfolding afterLine
+after-form : (s : State) (line : List ℕ) → afterPutLine s line ≡ leaves s line (parseLine line)
+unfolding afterPutLine
 after-form s line = leaves-calls s line (parseLine line)
 
-pub after-entry : (s : State) (line : List ℕ) (id at : ℕ) → parseLine line ≡ entry id at → afterLine s line ≡ afterPut s (entryOf (drop at line) id)
+pub after-entry : (s : State) (line : List ℕ) (id at : ℕ) → parseLine line ≡ entry id at → afterPutLine s line ≡ afterPut s (entryOf (drop at line) id)
 after-entry s line id at e = after-form s line ∙ ap (leaves s line) e
 
-pub after-other : (s : State) (line : List ℕ) → parseLine line ≡ other → afterLine s line ≡ s
+pub after-other : (s : State) (line : List ℕ) → parseLine line ≡ other → afterPutLine s line ≡ s
 after-other s line e = after-form s line ∙ ap (leaves s line) e
 
 -- ---- a put whose name is too long
@@ -51,10 +51,10 @@ too-long s e h =
 
 -- ---- a long line
 
-pub long-line : (s : State) (line : List ℕ) → s .writer .length ≤ length line → afterLine s line ≡ s
+pub long-line : (s : State) (line : List ℕ) → s .writer .length ≤ length line → afterPutLine s line ≡ s
 long-line s line h = go (parseLine line) refl
   where
-    go : (f : Form) → parseLine line ≡ f → afterLine s line ≡ s
+    go : (f : Form) → parseLine line ≡ f → afterPutLine s line ≡ s
     go (entry id at) e =
         let n = named line id at e in
         let in-line = n .inside in
@@ -73,7 +73,7 @@ put-length s e = go (eqb (putRefusal s e) 0)
     go true = refl
     go false = refl
 
-pub line-length : (s : State) (line : List ℕ) → afterLine s line .writer .length ≡ s .writer .length
+pub line-length : (s : State) (line : List ℕ) → afterPutLine s line .writer .length ≡ s .writer .length
 line-length s line = ap (λ (x : State). x .writer .length) (after-form s line) ∙ go (parseLine line)
   where
     go : (f : Form) → leaves s line f .writer .length ≡ s .writer .length

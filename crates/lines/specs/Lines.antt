@@ -34,8 +34,8 @@ unfoldable pub numberFrom : ℕ → List ℕ → ℕ
 numberFrom v [] = v
 numberFrom v (b ∷ bs) = numberFrom (v * 10 + (b - 48)) bs
 
-abbrev pub number : List ℕ → ℕ
-number digits = numberFrom 0 digits
+abbrev pub decimal : List ℕ → ℕ
+decimal digits = numberFrom 0 digits
 
 -- a line has an id and a name, which begins at an offset of the line; or it is of another form
 pub data Form : Type 0 where
@@ -45,7 +45,7 @@ pub data Form : Type 0 where
 -- decimal id, space (32), name. The id has 1 to 10 digits and is at most 4294967295; the name is the rest, spaces included, and may be empty
 abbrev pub formWith : List ℕ → ℕ → Form
 formWith line n =
-    cond (leb 1 n && leb n 10 && eqb (getD line n 0) 32 && leb (number (take n line)) 4294967295) (entry (number (take n line)) (n + 1)) other
+    cond (leb 1 n && leb n 10 && eqb (getD line n 0) 32 && leb (decimal (take n line)) 4294967295) (entry (decimal (take n line)) (n + 1)) other
 
 unfoldable pub parseLine : List ℕ → Form
 parseLine line = formWith line (leadingDigits line)
@@ -74,9 +74,9 @@ unfolding linesOf linesCalls
 inputCalls input = linesCalls (linesOf input)
 
 -- what a line leaves of a writer record and its buffer: a line whose put is refused is skipped, since a refused put leaves all as it was
-unfoldable pub afterLine : State → List ℕ → State
+unfoldable pub afterPutLine : State → List ℕ → State
 unfolding lineCalls
-afterLine s line = after s (lineCalls line)
+afterPutLine s line = after s (lineCalls line)
 
 -- what an input leaves
 unfoldable pub afterInput : State → List ℕ → State

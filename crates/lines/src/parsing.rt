@@ -2,7 +2,7 @@
 ghost use mathlib.Core.Path.{_≡_};
 ghost use Prim.Native.Nat.{_-_, _<_, _≤_};
 ghost use lib.ListN.{length};
-ghost use Rattle.lines.specs.Lines.{isDigit, leadingDigits, number, parseLine, formOf};
+ghost use Rattle.lines.specs.Lines.{isDigit, leadingDigits, decimal, parseLine, formOf};
 use super::Line;
 
 // Is this one of the digits 0 to 9?
@@ -36,7 +36,7 @@ fn digit(b: u8) -> u64
 // The number that at most ten digits write.
 fn number(digits: &[u8]) -> u64
     requires { ⌜ length (now digits) ≤ 10 ⌝ }
-    ensures { λ r. ⌜ r ≡ number (now (digits .entry)) ⌝ }
+    ensures { λ r. ⌜ r ≡ decimal (now (digits .entry)) ⌝ }
 {
     let mut v: u64 = 0;
     let mut i = 0;

@@ -3,8 +3,8 @@
 ghost use mathlib.Core.Path.{_≡_};
 ghost use lib.ListN.{set};
 ghost use Rattle.writer.specs.State.{stateWith};
-ghost use Rattle.lines.specs.Lines.{afterLine};
-ghost use Rattle.lines.specs.steps.Pieces.{gathering, counted, lineEnded, takeByte, takePiece, inputEnded};
+ghost use Rattle.lines.specs.Lines.{afterPutLine};
+ghost use Rattle.lines.specs.steps.Pieces.{gathering, haveAfter, lineEnded, takeByte, takePiece, inputEnded};
 use super::Intake;
 use super::Line;
 use super::parsing::parse_line;
@@ -12,7 +12,7 @@ use writer::CQDBWriter;
 
 // Puts what a line says; a line of another form, or whose put is refused, is skipped.
 pub fn put_line(w: CQDBWriter, counts: &mut [u32; 256], buf: &mut [u8], line: &[u8]) -> CQDBWriter
-    ensures { λ r. ⌜ stateWith r (now (counts .exit)) (now (buf .exit)) ≡ afterLine (stateWith w (now (counts .entry)) (now (buf .entry))) (now (line .entry)) ⌝ }
+    ensures { λ r. ⌜ stateWith r (now (counts .exit)) (now (buf .exit)) ≡ afterPutLine (stateWith w (now (counts .entry)) (now (buf .entry))) (now (line .entry)) ⌝ }
 {
     match parse_line(line) {
         Line::Entry { id, name } => {
@@ -25,7 +25,7 @@ pub fn put_line(w: CQDBWriter, counts: &mut [u32; 256], buf: &mut [u8], line: &[
 
 // One byte more of the line at hand is stored, while there is room; gives how many have come.
 fn gather(have: usize, room: &mut [u8], b: u8) -> usize
-    ensures counted { λ r. ⌜ r ≡ counted (now (room .entry)) have ⌝ }
+    ensures counted { λ r. ⌜ r ≡ haveAfter (now (room .entry)) have ⌝ }
     ensures stored { λ r. ⌜ now (room .exit) ≡ set (now (room .entry)) have b ⌝ }
 {
     if have < room.len() {

@@ -6,17 +6,18 @@ use mathlib.Core.Bool.{Bool, true, false, cond}
 use mathlib.Core.List.{List, [], _∷_, _++_, append-nil}
 use lib.ListN.{length, take, length-append}
 use lib.Dec.{eqb}
-use Rattle.jhash.specs.Outcome.{Outcome, value}
+use Rattle.jhash.specs.Outcome.{value}
+use Rattle.jhash.proofs.ValueOrRefusal.{same-value}
 use Rattle.image.specs.declared.Mode.{Mode}
 use Rattle.image.specs.declared.Mode.the-variants.{Twoway}
-use Rattle.image.specs.Image.{Entry, headSize, image}
+use Rattle.image.specs.Image.{Entry, headSize}
 use Rattle.writer.specs.declared.Repeats.{Repeats}
 use Rattle.writer.specs.State.{State, fresh}
 use Rattle.writer.specs.Put.{afterPut}
 use Rattle.writer.specs.Close.{closing, closedSize, afterClose}
 use Rattle.lists.specs.Calls.{Call, put, close, after, acceptedOne, putDue, dueTo, acceptedFrom, accepted}
 use Rattle.lists.specs.Demand3.{afterList, acceptedPuts, imageOf}
-use Rattle.lists.specs.AfterClose.{Answered, AfterClose, CloseReadable}
+use Rattle.lists.specs.AfterClose.{AfterClose, CloseReadable}
 use Rattle.lists.proofs.Written.{Written}
 use Rattle.lists.proofs.Puts.{put-due}
 use Rattle.lists.proofs.Closes.{close-written}
@@ -24,13 +25,10 @@ use Rattle.lists.proofs.Along.{two-way, after-append, accepted-after-cl
 use Rattle.lists.proofs.OneMore.{list-gives, list-twice}
 use Rattle.lists.proofs.Theorem.{calls-imaged, list-answered}
 
-value-same : {A : Type 0} {x y : A} → value x ≡ value y → x ≡ y
-value-same {A} {x} {y} h = cc
-
 module _ (repeats : Repeats) (buffer : List ℕ) (cs : List Call) (size : ℕ) (room : headSize ≤ length buffer) (gave : closing (afterList Twoway repeats buffer cs) ≡ value size) where
   -- the size that the close gave is that of the image
   size-is : size ≡ closedSize (afterList Twoway repeats buffer cs)
-  size-is = value-same (sym gave ∙ list-gives Twoway repeats buffer room cs (two-way cs))
+  size-is = same-value _ _ (sym gave ∙ list-gives Twoway repeats buffer room cs (two-way cs))
 
   -- so the bytes that stand are the image of the one more close after cs
   bytes-are : take size (afterList Twoway repeats buffer (cs ++ (close ∷ [])) .buffer) ≡ imageOf Twoway repeats buffer cs

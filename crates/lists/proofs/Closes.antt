@@ -1,21 +1,18 @@
 -- One close in a list: it is accepted, its image is that of the accepted puts, and what it leaves is written. Assumes nothing.
-use Prim.Native.Nat.{ℕ, zero, suc, _+_, _-_, _^_, _≤_, _<_}
+use Prim.Native.Nat.{ℕ, _+_, _-_, _≤_}
 use native.Mathlib.Omega.{arith}
 use mathlib.Core.Path.{_≡_, refl, sym, ap, ap₂, _∙_}
 use mathlib.Core.Bool.{Bool, true, false, cond, not, _&&_, _||_}
-use mathlib.Core.List.{List, [], _∷_, _++_, append-assoc}
-use lib.ListN.{length, getD, take, drop, length-append, length-drop}
+use mathlib.Core.List.{List, _++_, append-assoc}
+use lib.ListN.{length, take, drop, length-append, length-drop}
 use lib.Seq.{drop-at, take-at}
-use lib.Dec.{eqb}
-use borrow.Author.Tests.{eq-eqb, le-ltb}
+use borrow.Author.Tests.{le-ltb}
 use Rattle.image.specs.declared.Mode.{Mode}
 use Rattle.image.specs.Bytes.{cat}
-use Rattle.image.specs.Image.{Entry, headSize, entryBytes, entriesSize, entriesEnd, placed, count, backSize, backIn, backSizeOf, imageSize, headWords, tableRows, tables, links, image}
-use Rattle.image.proofs.All.{all-true}
+use Rattle.image.specs.Image.{Entry, headSize, entryBytes, entriesSize, entriesEnd, placed, backSizeOf, imageSize, headWords, tableRows, tables, links, image}
 use Rattle.image.proofs.Sizes.{length-entries, length-headWords, length-tableRows, length-image}
 use Rattle.writer.specs.declared.Repeats.{Repeats}
 use Rattle.writer.specs.State.{State, fits, finishedSize, tooLarge}
-use Rattle.image.specs.Stored.{whole, entriesIn}
 use Rattle.writer.specs.Close.{consistent, closeRefusal, closedSize, closed, afterClose}
 use Rattle.lists.proofs.Written.{Written}
 use Rattle.lists.proofs.Recorded.{written-fits, written-recorded, written-size, written-consistent}

@@ -8,8 +8,8 @@ use Rattle.image.specs.Image.{headSize}
 use Rattle.answers.specs.Answer.{firstId}
 use Rattle.writer.specs.declared.Repeats.{Repeats}
 use Rattle.lists.specs.Calls.{Call, WordIds}
-use Rattle.lists.specs.Demand3.{acceptedPuts, imageOf}
-use Rattle.lists.specs.OneWay.{IdsUnanswered, OneWayList, OneWay}
+use Rattle.lists.specs.Demand3.{acceptedPuts}
+use Rattle.lists.specs.OneWay.{OneWayList, OneWay}
 use Rattle.lists.proofs.Along.{list-accepted}
 use Rattle.lists.proofs.Reading.{one-way-unanswered, list-read}
 use Rattle.lists.proofs.Theorem.{calls-imaged, calls-below, calls-answered}

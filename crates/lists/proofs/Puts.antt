@@ -1,5 +1,5 @@
 -- One put in a list: it is refused exactly when the size by 01's formula exceeds a limit, and what it leaves is written. Assumes nothing.
-use Prim.Native.Nat.{ℕ, zero, suc, _+_, _^_, _≤_, _<_, max}
+use Prim.Native.Nat.{ℕ, zero, _+_, _^_, _≤_, _<_, max}
 use native.Mathlib.Omega.{arith}
 use native.Mathlib.Decide.{ℕ-discrete}
 use mathlib.Core.Path.{_≡_, refl, sym, ap, ap₂, _∙_}
@@ -8,8 +8,8 @@ use mathlib.Core.Bool.{Bool, true, false, cond, not, _&&_, _||_}
 use mathlib.Core.List.{List, [], _∷_, _++_, append-assoc, append-nil}
 use lib.ListN.{length, getD, take, drop, set, length-append, length-set, length-replicate, getD-replicate}
 use lib.Seq.{sets, length-sets, sets-eq, take-add, drop-at, take-at, length-take-le, getD-set-same, getD-set-other}
-use lib.Dec.{eqb, ltb, leb}
-use borrow.Author.Tests.{eq-eqb, eqb-true, le-leb, ltb-false}
+use lib.Dec.{eqb, ltb}
+use borrow.Author.Tests.{eqb-true, ltb-false}
 use Rattle.jhash.specs.NameHash.{hashOf}
 use Rattle.image.specs.declared.Mode.{Mode}
 use Rattle.image.specs.declared.Mode.the-variants.{Twoway, Oneway}
@@ -25,11 +25,10 @@ use Rattle.writer.specs.Put.{raised, writerAfter, putRefusal, appended, afterPu
 use Rattle.writer.specs.Close.{recorded, consistent}
 use Rattle.lists.specs.Calls.{put, sizeOf, putDue, acceptedAfter, WordId}
 use Rattle.lists.proofs.Written.{Written}
-use Rattle.image.proofs.All.{all-true}
 use Rattle.image.proofs.Lists.{cat-append}
-use Rattle.image.proofs.Sizes.{length-entryBytes, length-entries, length-placed}
+use Rattle.image.proofs.Sizes.{length-entryBytes, length-entries, backIn-twice}
 use Rattle.lists.proofs.Appended.{entriesSize-snoc, backSize-snoc, sizeOf-is, count-same, count-other}
-use Rattle.lists.proofs.Recorded.{backIn-twice, written-fits, written-recorded, written-consistent}
+use Rattle.lists.proofs.Recorded.{written-fits, written-recorded, written-consistent}
 
 -- ---- what the mode changes
 

@@ -3,11 +3,11 @@
 use Rattle.reader.specs.QuayReads.{ReadsHold}
 use Rattle.reader.proofs.QuayReads.{reads-right}
 use Rattle.writer.specs.declared.Repeats.{Repeats}
-use Rattle.lists.specs.QuayRows.{Each, HoldsInAny, rows, namedRows}
+use Rattle.lists.specs.QuayRows.{Each, HoldsInAny, quayRows, namedRows}
 use Rattle.lists.proofs.QuayRows.{rows-right, named-right}
 
 pub record AllExamples : Type 0 where
-  pub calls : (repeats : Repeats) → Each HoldsInAny (rows repeats)
+  pub calls : (repeats : Repeats) → Each HoldsInAny (quayRows repeats)
   pub named : Each HoldsInAny namedRows
   pub reading : ReadsHold
 

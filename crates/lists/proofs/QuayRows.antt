@@ -22,7 +22,7 @@ use Rattle.writer.specs.declared.Repeats.{Repeats}
 use Rattle.lists.specs.Calls.{acceptedFrom, dueFrom, accepted, due, putDue, putsSize, sizeOf, WordIds}
 use Rattle.lists.proofs.Read.{namedIn, Read}
 use Rattle.lists.specs.Demand3.{imageOf}
-use Rattle.lists.specs.QuayRows.{NameRow, IdRow, Row, Each, backArray, ImageHolds, RowHolds, HoldsInAny, rows, namedRows}
+use Rattle.lists.specs.QuayRows.{NameRow, IdRow, Row, Each, backArray, ImageHolds, RowHolds, HoldsInAny, quayRows, namedRows}
 use Rattle.lists.proofs.Along.{list-answers}
 use Rattle.lists.proofs.OneMore.{list-gives, list-formula, list-image, list-below}
 use Rattle.lists.proofs.Reading.{list-read}
@@ -120,7 +120,7 @@ module _ (r : Row) (c : Computed r) where
 
 -- ---- the rows
 
-computed : (repeats : Repeats) → Each Computed (rows repeats)
+computed : (repeats : Repeats) → Each Computed (quayRows repeats)
 unfolding accepted acceptedFrom due dueFrom putDue hasZero holds sizeOf putsSize backSize entriesSize backOffset placed placedOfId ofId keep link lastFrom range ofName same
 computed repeats = (
   (lit≤ tt, tt, refl, refl, refl, refl, refl, (refl, tt), ((refl, refl), tt)),
@@ -159,8 +159,8 @@ computed-named = (
   ),
 )
 
-pub rows-right : (repeats : Repeats) → Each HoldsInAny (rows repeats)
-rows-right repeats = each-map holds-in (rows repeats) (computed repeats)
+pub rows-right : (repeats : Repeats) → Each HoldsInAny (quayRows repeats)
+rows-right repeats = each-map holds-in (quayRows repeats) (computed repeats)
 
 pub named-right : Each HoldsInAny namedRows
 named-right = each-map holds-in namedRows computed-named

@@ -6,7 +6,7 @@ use mathlib.Core.Option.{Option, none}
 use Rattle.image.specs.declared.Mode.{Mode}
 use Rattle.image.specs.declared.Mode.the-variants.{Twoway, Oneway}
 use Rattle.image.specs.Image.{Entry}
-use Rattle.reader.specs.Walk.{home}
+use Rattle.agreement.specs.Home.{home}
 use Rattle.answers.specs.Answer.{nameGiven, ofId, lastName, isNamed}
 use Rattle.lists.specs.Demand3.{NamesAnswered}
 

@@ -3,8 +3,8 @@ use Prim.Native.Nat.{ℕ, _≤_}
 use native.Mathlib.Omega.{arith}
 use mathlib.Core.Path.{_≡_, refl, sym, ap, _∙_}
 use mathlib.Core.Bool.{Bool, true, false, cond, not}
-use mathlib.Core.List.{List, [], _∷_, _++_}
-use mathlib.Core.Option.{Option, none, some}
+use mathlib.Core.List.{List, [], _∷_}
+use mathlib.Core.Option.{Option, some}
 use borrow.Author.Tests.{eqb-true}
 use lib.Dec.{eqb}
 use lib.ListN.{length, take, drop}
@@ -16,8 +16,8 @@ use Rattle.image.specs.Zero.{hasZero}
 use Rattle.image.proofs.All.{all-true}
 use Rattle.image.proofs.Every.{All, all-keep, all-append}
 use Rattle.reader.specs.Naming.{Naming, place, unnamed, naming}
-use Rattle.reader.specs.Panel.{agreeOn, readingsAgree}
-use Rattle.reader.proofs.Panels.{agree-held, agree-unnamed}
+use Rattle.agreement.specs.Panel.{agreeOn, readingsAgree}
+use Rattle.agreement.proofs.Panels.{agree-held, agree-unnamed}
 use Rattle.answers.specs.Answer.{heldAt, nameGiven, ofId, lastName}
 use Rattle.writer.specs.declared.Repeats.{Repeats}
 use Rattle.lists.specs.Calls.{Call, put, close, acceptedOne, putDue, acceptedFrom, accepted, WordIds}

@@ -1,19 +1,18 @@
 -- What a written record holds: it fits its buffer, its entries are the accepted puts, and it passes close's checks. Assumes nothing.
-use Prim.Native.Nat.{ℕ, zero, suc, _+_, _-_, _^_, _≤_, _<_}
+use Prim.Native.Nat.{ℕ, _+_, _-_, _^_, _≤_, _<_}
 use native.Mathlib.Omega.{arith}
-use mathlib.Core.Path.{_≡_, refl, sym, ap, ap₂, _∙_}
-use mathlib.Core.Bool.{Bool, true, _&&_}
+use mathlib.Core.Path.{_≡_, sym, ap, ap₂, _∙_}
+use mathlib.Core.Bool.{true}
 use mathlib.Core.List.{List, [], _∷_}
 use lib.ListN.{length, getD, take, drop}
 use lib.Dec.{eqb, leb}
 use borrow.Author.Tests.{eq-eqb, le-leb}
 use Rattle.image.specs.declared.Mode.{Mode}
-use Rattle.image.specs.declared.Mode.the-variants.{Twoway, Oneway}
 use Rattle.image.specs.Bytes.{cat}
 use Rattle.image.specs.Image.{Entry, headSize, entryBytes, entriesSize, placed, count, backSize, backIn, backSizeOf, imageSize}
 use Rattle.image.specs.Stored.{whole, entriesIn}
 use Rattle.image.proofs.All.{all-true}
-use Rattle.image.proofs.Sizes.{length-placed}
+use Rattle.image.proofs.Sizes.{length-placed, backIn-twice}
 use Rattle.writer.specs.declared.Repeats.{Repeats}
 use Rattle.writer.specs.State.{State, noneAbove, fits}
 use Rattle.writer.specs.Close.{entryArea, recorded, countsAgree, consistent, closedSize}
@@ -27,12 +26,6 @@ all-wordly : (es : List Entry) → backSize es ≤ 2 ^ 32 → entriesSize es < 2
 unfolding backSize entriesSize
 all-wordly [] b s = tt
 all-wordly (e ∷ es) b s = (record { id-word = omega arith; length-word = omega arith }, all-wordly es (omega arith) (omega arith))
-
--- ---- what the mode changes
-
-pub backIn-twice : (mode : Mode) (b : ℕ) → backIn mode (backIn mode b) ≡ backIn mode b
-backIn-twice Twoway b = refl
-backIn-twice Oneway b = refl
 
 -- ---- a written record fits
 

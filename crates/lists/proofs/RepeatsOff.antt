@@ -2,14 +2,14 @@
 use Prim.Native.Nat.{ℕ, _+_, _^_, _≤_}
 use native.Mathlib.Omega.{arith}
 use mathlib.Core.Path.{_≡_, refl, sym, ap, _∙_}
-use mathlib.Core.Bool.{Bool, true, false, cond, _||_, _&&_, and-true}
+use mathlib.Core.Bool.{Bool, true, false, cond, and-true}
 use mathlib.Core.List.{List, [], _∷_, _++_, append-assoc, append-nil}
 use lib.ListN.{length, length-append}
 use lib.Dec.{eqb}
 use borrow.Author.Tests.{eqb-true, eq-eqb}
 use Rattle.image.specs.declared.Mode.{Mode}
 use Rattle.image.specs.declared.Mode.the-variants.{Twoway, Oneway}
-use Rattle.image.specs.Bytes.{keep, same}
+use Rattle.image.specs.Bytes.{keep}
 use Rattle.image.specs.Image.{Entry, headSize, backSize, hasName, holds, image}
 use Rattle.image.proofs.Lists.{keep-nil, keep-yes, keep-no, keep-append}
 use Rattle.image.proofs.Equal.{same-true}
@@ -103,6 +103,12 @@ module _ (mode : Mode) (n : ℕ) where
   accepted-again repeats cs =
       let by = accepted-by-due mode Off n cs in
       ap (λ (es : List Entry). acceptedFrom mode repeats n [] (putAll es)) (sym by) ∙ all-accepted repeats [] (acceptedBy cs (due mode Off n cs)) (again-from [] cs) ∙ by
+
+-- the puts of one list of entries and then of another
+pub putAll-append : (es fs : List Entry) → putAll (es ++ fs) ≡ putAll es ++ putAll fs
+unfolding putAll
+putAll-append [] fs = refl
+putAll-append (e ∷ es) fs = ap (λ (cs : List Call). put e ∷ cs) (putAll-append es fs)
 
 -- their ids are words
 words-again : (mode : Mode) (es : List Entry) → backSize es ≤ 2 ^ 32 → WordIds mode (putAll es)

@@ -9,7 +9,7 @@ use lib.ListN.{length}
 use Rattle.image.specs.declared.Mode.the-variants.{Twoway}
 use Rattle.image.specs.Image.{Entry, headSize, image}
 use Rattle.reader.specs.Lookup.{lookup}
-use Rattle.reader.specs.Walk.{home}
+use Rattle.agreement.specs.Home.{home}
 use Rattle.answers.specs.Answer.{foundId, foundOffset, nameGiven, ofName, ofId, firstId, firstAt}
 use Rattle.writer.specs.declared.Repeats.{Repeats}
 use Rattle.writer.specs.Close.{afterClose}

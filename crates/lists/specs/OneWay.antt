@@ -9,7 +9,8 @@ use Rattle.image.specs.declared.Mode.the-variants.{Oneway}
 use Rattle.image.specs.Image.{headSize}
 use Rattle.reader.specs.Lookup.{lookup}
 use Rattle.reader.specs.Naming.{unnamed, naming}
-use Rattle.reader.specs.Walk.{done, step, upperHint, home}
+use Rattle.reader.specs.IdWalk.{done, step, upperHint}
+use Rattle.agreement.specs.Home.{home}
 use Rattle.answers.specs.Answer.{foundId, ofName}
 use Rattle.writer.specs.declared.Repeats.{Repeats}
 use Rattle.lists.specs.Calls.{Call, WordIds}

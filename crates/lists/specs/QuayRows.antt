@@ -14,7 +14,7 @@ pub use Rattle.image.specs.Bytes.{Each}
 use Rattle.image.specs.Head.{backSizeAt, backOffsetAt}
 use Rattle.reader.specs.Open.{opening}
 use Rattle.reader.specs.Lookup.{lookup}
-use Rattle.reader.specs.Walk.{home}
+use Rattle.agreement.specs.Home.{home}
 use Rattle.answers.specs.Answer.{foundId, nameGiven}
 use Rattle.writer.specs.declared.Repeats.{Repeats}
 use Rattle.writer.specs.declared.Repeats.the-variants.{Off, On}
@@ -242,8 +242,8 @@ c11-one-way repeats =
     }
 
 -- those that hold with either choice, and those that name it
-abbrev pub rows : Repeats → List Row
-rows repeats = c1 repeats ∷ c2 repeats ∷ c3 repeats ∷ c4 repeats ∷ c5 repeats ∷ c7 repeats ∷ c11 repeats ∷ c11-one-way repeats ∷ []
+abbrev pub quayRows : Repeats → List Row
+quayRows repeats = c1 repeats ∷ c2 repeats ∷ c3 repeats ∷ c4 repeats ∷ c5 repeats ∷ c7 repeats ∷ c11 repeats ∷ c11-one-way repeats ∷ []
 
 abbrev pub namedRows : List Row
 namedRows = c6 ∷ c6-off ∷ []

@@ -3,7 +3,7 @@ use Prim.Native.Nat.{ℕ, zero, suc, _+_, _*_, _-_, _<_, _≤_}
 use native.Mathlib.Omega.{arith}
 use native.Mathlib.Decide.{decLt}
 use mathlib.Core.Path.{_≡_, refl, sym, ap, _∙_}
-use mathlib.Core.Bool.{Bool, true, false, cond, _&&_}
+use mathlib.Core.Bool.{cond, and-false}
 use mathlib.Core.List.{List, [], _∷_, _++_}
 use lib.ListN.{length, length-append}
 use borrow.Author.Tests.{lt-ltb, le-ltb}
@@ -17,11 +17,12 @@ use Rattle.lists.specs.Demand3.{afterList}
 use Rattle.lists.proofs.Appended.{entriesSize-snoc, backSize-snoc, sizeOf-is}
 use Rattle.lists.proofs.Puts.{put-due}
 use Rattle.lists.proofs.Along.{two-way, after-append, accepted-append, list-written}
+use Rattle.lists.proofs.RepeatsOff.{putAll-append}
 use Rattle.load.specs.States.{stateAfter, loadEntry}
 use Rattle.load.specs.Load.{putFrom}
 use Rattle.load.specs.Rebuilt.{firstEntries, firstPuts, roomFor}
-use Rattle.load.proofs.Names.{name-free, nine-bytes}
-use Rattle.load.proofs.Turns.{put-accepted, put-refused}
+use Rattle.load.proofs.StateNames.{name-free, nine-bytes}
+use Rattle.load.proofs.PutTurns.{put-accepted, put-refused}
 
 -- ---- sizes
 
@@ -51,10 +52,6 @@ module _ (seed : ℕ) where
 
 -- ---- what is due to the next entry
 
-and-false : (b : Bool) → (b && false) ≡ false
-and-false true = refl
-and-false false = refl
-
 next-due : (n seed k : ℕ) → putDue Twoway On n (firstEntries seed k) (loadEntry seed k) ≡ cond (tooLarge n (headSize + 38 * suc k)) 3 0
 unfolding putDue firstEntries loadEntry
 next-due n seed k =
@@ -75,12 +72,17 @@ module _ (seed : ℕ) (buffer : List ℕ) (room : headSize ≤ length buffer) wh
   abbrev most : ℕ
   most = roomFor (length buffer)
 
+  puts-next : (k : ℕ) → firstPuts seed (suc k) ≡ firstPuts seed k ++ (put (loadEntry seed k) ∷ [])
+  unfolding firstPuts
+  puts-next k = putAll-append (firstEntries seed k) (loadEntry seed k ∷ [])
+
   accepted-next : (k : ℕ) → putDue Twoway On (length buffer) (firstEntries seed k) (loadEntry seed k) ≡ 0
       → accepted Twoway On (length buffer) (firstPuts seed k) ≡ firstEntries seed k
       → accepted Twoway On (length buffer) (firstPuts seed (suc k)) ≡ firstEntries seed (suc k)
   unfolding accepted firstPuts firstEntries acceptedFrom
   accepted-next k due before =
-      accepted-append Twoway On (length buffer) [] (firstPuts seed k) (put (loadEntry seed k) ∷ [])
+      ap (acceptedFrom Twoway On (length buffer) []) (puts-next k)
+      ∙ accepted-append Twoway On (length buffer) [] (firstPuts seed k) (put (loadEntry seed k) ∷ [])
       ∙ ap (λ (es : List Entry). acceptedAfter Twoway On (length buffer) es (put (loadEntry seed k))) before
       ∙ ap (λ (r : ℕ). firstEntries seed k ++ acceptedOne (put (loadEntry seed k)) r) due
 
@@ -99,8 +101,8 @@ module _ (seed : ℕ) (buffer : List ℕ) (room : headSize ≤ length buffer) wh
       ∙ ap (λ (es : List Entry). putDue Twoway On (length buffer) es (loadEntry seed k)) (accepted-first k h)
 
   pub after-next : (k : ℕ) → afterList Twoway On buffer (firstPuts seed (suc k)) ≡ afterPut (afterList Twoway On buffer (firstPuts seed k)) (loadEntry seed k)
-  unfolding firstPuts after
-  after-next k = after-append (fresh Twoway On buffer) (firstPuts seed k) (put (loadEntry seed k) ∷ [])
+  unfolding after
+  after-next k = ap (afterList Twoway On buffer) (puts-next k) ∙ after-append (fresh Twoway On buffer) (firstPuts seed k) (put (loadEntry seed k) ∷ [])
 
   -- fewer than 4,096 are accepted only where the next has no room
   pub stops-at : roomFor (length buffer) < 4096

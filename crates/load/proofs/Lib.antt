@@ -1,6 +1,6 @@
 -- Laws of the load, and its theorem.
-pub mod Names
-pub mod Turns
+pub mod StateNames
+pub mod PutTurns
 pub mod Begun
 pub mod Entered
 pub mod Behind

@@ -11,8 +11,9 @@ use Rattle.image.specs.Image.{Entry, headSize}
 use Rattle.writer.specs.declared.Repeats.the-variants.{On}
 use Rattle.writer.specs.Close.{closing}
 use Rattle.writer.specs.Put.{putRefusal}
-use Rattle.lists.specs.Calls.{Call, put}
+use Rattle.lists.specs.Calls.{Call}
 use Rattle.lists.specs.Demand3.{afterList, acceptedPuts, imageOf, OneList}
+use Rattle.lists.specs.RepeatsOff.{putAll}
 use Rattle.load.specs.States.{stateAfter, stateName, loadEntry}
 use Rattle.load.specs.Load.{loadPut, loading, afterLoad}
 
@@ -22,8 +23,8 @@ firstEntries seed zero = []
 firstEntries seed (suc n) = firstEntries seed n ++ (loadEntry seed n ∷ [])
 
 unfoldable pub firstPuts : ℕ → ℕ → List Call
-firstPuts seed zero = []
-firstPuts seed (suc n) = firstPuts seed n ++ (put (loadEntry seed n) ∷ [])
+unfolding firstEntries putAll
+firstPuts seed n = putAll (firstEntries seed n)
 
 -- how many entries a buffer of n bytes has room for: each takes 38 bytes of the image, 34 by 01's formula with a name of 9 bytes and 4 in the back array
 abbrev pub roomFor : ℕ → ℕ

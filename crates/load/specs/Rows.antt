@@ -14,8 +14,8 @@ pub record Row : Type 0 where
   pub entries : ℕ
   pub size : ℕ
 
-abbrev pub RowHolds : Row → Type 0
-RowHolds r =
+abbrev pub Takes : Row → Type 0
+Takes r =
     (seed : ℕ) (buffer : List ℕ) → length buffer ≡ r .bytes
     → (loading seed buffer ≡ value (r .entries)) × (closing (loadPut seed buffer) ≡ value (r .size))
 
@@ -25,7 +25,7 @@ firstName = 80 ∷ 51 ∷ 67 ∷ 54 ∷ 69 ∷ 70 ∷ 51 ∷ 53 ∷ 70 ∷ []
 
 pub record Rows : Type 0 where
   pub first-name : stateName (stateAfter 0 1) ≡ firstName
-  pub full : RowHolds (record { bytes = 157720; entries = 4096; size = 157720 })
-  pub one-short : RowHolds (record { bytes = 157719; entries = 4095; size = 157682 })
-  pub empty : RowHolds (record { bytes = 2072; entries = 0; size = 2072 })
+  pub full : Takes (record { bytes = 157720; entries = 4096; size = 157720 })
+  pub one-short : Takes (record { bytes = 157719; entries = 4095; size = 157682 })
+  pub empty : Takes (record { bytes = 2072; entries = 0; size = 2072 })
   pub too-short : (seed : ℕ) (buffer : List ℕ) → length buffer ≡ 2071 → loading seed buffer ≡ refusal 1

@@ -6,13 +6,13 @@ use lib.Dec.{ltb}
 use Rattle.image.specs.Image.{Entry}
 
 -- "each step takes s to 1664525 × s + 1013904223 modulo 2^32"
-abbrev pub stepped : ℕ → ℕ
-stepped s = (1664525 * s + 1013904223) % 2 ^ 32
+abbrev pub nextState : ℕ → ℕ
+nextState s = (1664525 * s + 1013904223) % 2 ^ 32
 
 -- the state of a seed after n steps
 unfoldable pub stateAfter : ℕ → ℕ → ℕ
 stateAfter seed zero = seed
-stateAfter seed (suc n) = stepped (stateAfter seed n)
+stateAfter seed (suc n) = nextState (stateAfter seed n)
 
 -- an uppercase hexadecimal digit: 0 to 9, then A to F
 abbrev pub hexDigit : ℕ → ℕ

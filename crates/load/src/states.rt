@@ -1,11 +1,11 @@
 // The states of a seed, and the names that they give.
 ghost use mathlib.Core.Path.{_≡_};
 ghost use Prim.Native.Nat.{_<_};
-ghost use Rattle.load.specs.States.{stepped, hexDigit, stateName};
+ghost use Rattle.load.specs.States.{nextState, hexDigit, stateName};
 
 // The state after one step more.
 pub(super) fn stepped(s: u32) -> u32
-    ensures { λ r. ⌜ r ≡ stepped s ⌝ }
+    ensures { λ r. ⌜ r ≡ nextState s ⌝ }
 {
     ((1664525 * (s as u64) + 1013904223) % 4294967296) as u32
 }

@@ -2,7 +2,7 @@
 use load::Loaded;
 ghost use mathlib.Core.Path.{_≡_};
 ghost use Rattle.load.specs.Load.{afterLoad};
-ghost use Rattle.load_c.specs.Answer.{loadAnswer};
+ghost use Rattle.load_c.specs.LoadAnswer.{loadAnswer};
 
 // The refusal's number, 0 when accepted; the number of accepted entries, 0 when refused.
 #[repr(C)]

@@ -1,5 +1,5 @@
 -- The laws of the rule, and the theorem.
-pub mod Laws
+pub mod PairLaws
 pub mod Places
 pub mod Theorem
 pub mod Rows

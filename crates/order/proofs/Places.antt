@@ -8,9 +8,9 @@ use mathlib.Core.Bool.{Bool, true, false, true≢false}
 use mathlib.Core.List.{List, [], _∷_}
 use mathlib.Core.Option.{none, some}
 use Rattle.order.specs.Rule.{occurs, kept, allKept, failsAt, orderedFrom}
-use Rattle.order.specs.Places.{At, FirstAt, Kept, AllKept, FailsFirst}
+use Rattle.order.specs.Places.{At, FirstAt, PairKept, AllKept, FailsFirst}
 use Rattle.order.specs.declared.Pair.{Pair}
-use Rattle.order.proofs.Laws.{at-wall, at-reference, at-other, ordered-kept, ordered-fails}
+use Rattle.order.proofs.PairLaws.{at-wall, at-reference, at-other, ordered-kept, ordered-fails}
 
 -- nothing stands past the end, and one thing at a place
 pub nothing-there : {A : Type 0} {x : A} → ¬ (none ≡ some x)
@@ -35,10 +35,10 @@ below-none h = omega arith
 
 -- ---- the round's first id is the wall prism, the reference, or neither
 module _ (p : Pair) (x : ℕ) (xs : List ℕ) where
-  wall-first : x ≡ p .wall → ¬ Kept p (x ∷ xs)
+  wall-first : x ≡ p .wall → ¬ PairKept p (x ∷ xs)
   wall-first e k = let found = k 0 (ap some e, λ i h a. omega arith) in omega (arith, found .1)
 
-  reference-first : ¬ (x ≡ p .wall) → x ≡ p .reference → Kept p (x ∷ xs)
+  reference-first : ¬ (x ≡ p .wall) → x ≡ p .reference → PairKept p (x ∷ xs)
   reference-first n e zero f = absurd (n (stands (f .0)))
   reference-first n e (suc j) f = (0, omega arith, ap some e)
 
@@ -50,16 +50,16 @@ module _ (p : Pair) (x : ℕ) (xs : List ℕ) where
     sooner j (zero, h, a) = absurd (m (stands a))
     sooner j (suc i, h, a) = (i, omega arith, a)
 
-    other-down : Kept p (x ∷ xs) → Kept p xs
+    other-down : PairKept p (x ∷ xs) → PairKept p xs
     other-down k j f = sooner j (k (suc j) (later j f))
 
-    other-up : Kept p xs → Kept p (x ∷ xs)
+    other-up : PairKept p xs → PairKept p (x ∷ xs)
     other-up k zero f = absurd (n (stands (f .0)))
     other-up k (suc j) f =
         let found = k j (f .0, λ i h a. f .1 (suc i) (omega arith) a) in (suc (found .0), omega (arith, found .1), found .2)
 
 -- the two rules are one
-pub same : (p : Pair) (round : List ℕ) → (kept p round ≡ true) ↔ Kept p round
+pub same : (p : Pair) (round : List ℕ) → (kept p round ≡ true) ↔ PairKept p round
 unfolding kept occurs
 same p [] = (λ k j f. absurd (nothing-there (f .0)), λ k. refl)
 same p (x ∷ xs) =
@@ -76,28 +76,28 @@ same p (x ∷ xs) =
 
 -- ---- the list's first pair is kept, or fails
 module _ (p : Pair) (ps : List Pair) (round : List ℕ) where
-  all-cons : Kept p round → AllKept ps round → AllKept (p ∷ ps) round
-  all-cons k ks zero q a = subst (λ (r : Pair). Kept r round) (stands a) k
+  all-cons : PairKept p round → AllKept ps round → AllKept (p ∷ ps) round
+  all-cons k ks zero q a = subst (λ (r : Pair). PairKept r round) (stands a) k
   all-cons k ks (suc i) q a = ks i q a
 
-  first-fails : ¬ Kept p round → FailsFirst (p ∷ ps) round 0
+  first-fails : ¬ PairKept p round → FailsFirst (p ∷ ps) round 0
   first-fails f = record { pair = p; here = refl; fails = f; least = λ i q h a. absurd (below-none h) }
 
-  fails-later : Kept p round → (k : ℕ) → FailsFirst ps round k → FailsFirst (p ∷ ps) round (suc k)
+  fails-later : PairKept p round → (k : ℕ) → FailsFirst ps round k → FailsFirst (p ∷ ps) round (suc k)
   fails-later kp k f = record { pair = f .pair; here = f .here; fails = f .fails; least = least }
     where
-      least : (i : ℕ) (q : Pair) → i < suc k → At (p ∷ ps) q i → Kept q round
-      least zero q h a = subst (λ (r : Pair). Kept r round) (stands a) kp
+      least : (i : ℕ) (q : Pair) → i < suc k → At (p ∷ ps) q i → PairKept q round
+      least zero q h a = subst (λ (r : Pair). PairKept r round) (stands a) kp
       least (suc i) q h a = f .least i q (omega arith) a
 
   fails-tail : (k : ℕ) → FailsFirst (p ∷ ps) round (suc k) → FailsFirst ps round k
   fails-tail k f = record { pair = f .pair; here = f .here; fails = f .fails; least = λ i q h a. f .least (suc i) q (omega arith) a }
 
-  not-first : Kept p round → ¬ FailsFirst (p ∷ ps) round 0
-  not-first kp f = f .fails (subst (λ (r : Pair). Kept r round) (stands (f .here)) kp)
+  not-first : PairKept p round → ¬ FailsFirst (p ∷ ps) round 0
+  not-first kp f = f .fails (subst (λ (r : Pair). PairKept r round) (stands (f .here)) kp)
 
 -- a computed no is a no by places
-fails-so : (p : Pair) (round : List ℕ) → kept p round ≡ false → ¬ Kept p round
+fails-so : (p : Pair) (round : List ℕ) → kept p round ≡ false → ¬ PairKept p round
 fails-so p round f k = true≢false (sym (same p round .1 k) ∙ f)
 
 module _ (round : List ℕ) where

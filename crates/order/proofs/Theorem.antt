@@ -8,10 +8,10 @@ use mathlib.Core.Bool.{false, true≢false}
 use mathlib.Core.List.{List, [], _∷_, _++_}
 use mathlib.Core.Option.{some}
 use Rattle.order.specs.Rule.{occurs, kept, allKept, failsAt, ordered}
-use Rattle.order.specs.Places.{At, Occurs, Kept, AllKept, FailsFirst}
+use Rattle.order.specs.Places.{At, Occurs, PairKept, AllKept, FailsFirst}
 use Rattle.order.specs.ReferencesFirst.{ReferencesFirst, twice}
 use Rattle.order.specs.declared.Pair.{Pair}
-use Rattle.order.proofs.Laws.{at-wall, at-reference, at-other}
+use Rattle.order.proofs.PairLaws.{at-wall, at-reference, at-other}
 use Rattle.order.proofs.Places.{nothing-there, stands, same, yes-from, place-is, place-from}
 
 -- what is not the first occurs behind it
@@ -44,11 +44,11 @@ longer p (x ∷ xs) more o =
     ]
 
 -- a pair alone
-one : (p : Pair) (round : List ℕ) → (ordered (p ∷ []) round ≡ allKept) ↔ Kept p round
+one : (p : Pair) (round : List ℕ) → (ordered (p ∷ []) round ≡ allKept) ↔ PairKept p round
 one p round = (λ e. yes-from round 0 (p ∷ []) .0 e 0 p refl, λ k. yes-from round 0 (p ∷ []) .1 (only k))
   where
-    only : Kept p round → AllKept (p ∷ []) round
-    only k zero q a = subst (λ (r : Pair). Kept r round) (stands a) k
+    only : PairKept p round → AllKept (p ∷ []) round
+    only k zero q a = subst (λ (r : Pair). PairKept r round) (stands a) k
     only k (suc i) q a = absurd (nothing-there a)
 
 alone : (pairs : List Pair) (round : List ℕ)

@@ -18,16 +18,16 @@ abbrev pub FirstAt : List ℕ → ℕ → ℕ → Type 0
 FirstAt round id j = At round id j × ((i : ℕ) → i < j → ¬ At round id i)
 
 -- wherever the wall prism's first occurrence is, at j, the reference occurs at a place i < j
-abbrev pub Kept : Pair → List ℕ → Type 0
-Kept p round = (j : ℕ) → FirstAt round (p .wall) j → (i : ℕ) × (i < j) × At round (p .reference) i
+abbrev pub PairKept : Pair → List ℕ → Type 0
+PairKept p round = (j : ℕ) → FirstAt round (p .wall) j → (i : ℕ) × (i < j) × At round (p .reference) i
 
 -- every pair of the list is kept
 abbrev pub AllKept : List Pair → List ℕ → Type 0
-AllKept pairs round = (k : ℕ) (p : Pair) → At pairs p k → Kept p round
+AllKept pairs round = (k : ℕ) (p : Pair) → At pairs p k → PairKept p round
 
 -- the pair at the place k fails, and none before it does
 pub record FailsFirst (pairs : List Pair) (round : List ℕ) (k : ℕ) : Type 0 where
   pub pair : Pair
   pub here : At pairs pair k
-  pub fails : ¬ Kept pair round
-  pub least : (i : ℕ) (p : Pair) → i < k → At pairs p i → Kept p round
+  pub fails : ¬ PairKept pair round
+  pub least : (i : ℕ) (p : Pair) → i < k → At pairs p i → PairKept p round

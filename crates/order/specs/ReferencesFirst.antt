@@ -5,7 +5,7 @@ use mathlib.Core.Logic.{_↔_}
 use mathlib.Core.Bool.{true, false}
 use mathlib.Core.List.{List, [], _∷_, _++_}
 use Rattle.order.specs.Rule.{kept, allKept, failsAt, ordered}
-use Rattle.order.specs.Places.{At, Occurs, Kept, AllKept, FailsFirst}
+use Rattle.order.specs.Places.{At, Occurs, PairKept, AllKept, FailsFirst}
 use Rattle.order.specs.declared.Pair.{Pair}
 
 -- a pair of an id with itself
@@ -14,7 +14,7 @@ twice id = record { reference = id; wall = id }
 
 pub record ReferencesFirst : Type 0 where
   -- the rule as it is computed is the rule by places
-  pub same : (p : Pair) (round : List ℕ) → (kept p round ≡ true) ↔ Kept p round
+  pub same : (p : Pair) (round : List ℕ) → (kept p round ≡ true) ↔ PairKept p round
   -- "say yes exactly when for every pair whose wall prism occurs, the reference occurs before its first occurrence"
   pub yes-exactly : (pairs : List Pair) (round : List ℕ) → (ordered pairs round ≡ allKept) ↔ AllKept pairs round
   -- "otherwise give the place, counted from 0, of the first pair in the list for which this fails": the least place

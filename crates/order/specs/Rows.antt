@@ -16,8 +16,8 @@ row pairs round answer = record { pairs = pairs; round = round; answer = answer 
 abbrev pair : ℕ → ℕ → Pair
 pair r w = record { reference = r; wall = w }
 
-abbrev pub rows : List Row
-rows =
+abbrev pub orderRows : List Row
+orderRows =
     -- no pairs; an empty round; a wall prism that does not occur
     row [] (7 ∷ 8 ∷ []) allKept
     ∷ row (pair 1 2 ∷ []) [] allKept

@@ -1,7 +1,7 @@
 // References before walls: a lent list of pair records, and a round as a list of ids.
 ghost use mathlib.Core.Path.{_≡_};
 ghost use Rattle.order.specs.Rule.{kept, ordered};
-ghost use Rattle.order.specs.Answers.{verdictOf};
+ghost use Rattle.order.specs.Cases.{verdictOf};
 
 // The reference must be sighted before the wall prism.
 #[repr(C)]

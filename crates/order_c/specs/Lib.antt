@@ -1,2 +1,2 @@
 -- What the exported call answers.
-pub mod Order
+pub mod OrderAnswer

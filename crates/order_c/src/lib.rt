@@ -3,8 +3,8 @@ use order::Order;
 use order::Pair;
 ghost use mathlib.Core.Path.{_≡_};
 ghost use Rattle.order.specs.Rule.{ordered};
-ghost use Rattle.order.specs.Answers.{verdictOf};
-ghost use Rattle.order_c.specs.Order.{orderAnswer};
+ghost use Rattle.order.specs.Cases.{verdictOf};
+ghost use Rattle.order_c.specs.OrderAnswer.{orderAnswer};
 
 // 1 and 0 where every pair is kept; otherwise 0 and the place of the first that is not.
 #[repr(C)]

@@ -15,8 +15,8 @@ use Rattle.image.proofs.Equal.{same-self}
 use Rattle.image.proofs.Every.{All, all-map}
 use Rattle.image.proofs.Lists.{keep-append, keep-yes}
 use Rattle.reader.specs.Lookup.{lookup}
-use Rattle.reader.specs.Panel.{readingsAgree}
-use Rattle.reader.specs.Walk.{home}
+use Rattle.agreement.specs.Panel.{readingsAgree}
+use Rattle.agreement.specs.Home.{home}
 use Rattle.answers.specs.Answer.{foundId, nameGiven, hasName, ofName, firstId, isNamed}
 use Rattle.writer.specs.declared.Repeats.the-variants.{On}
 use Rattle.lists.specs.Calls.{WordIds}

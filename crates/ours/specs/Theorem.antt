@@ -12,8 +12,8 @@ use Rattle.image.specs.Image.{Entry, headSize}
 use Rattle.image.specs.declared.Mode.{Mode}
 use Rattle.reader.specs.Open.{opening}
 use Rattle.reader.specs.Lookup.{lookup}
-use Rattle.reader.specs.Panel.{readingsAgree}
-use Rattle.reader.specs.Walk.{home}
+use Rattle.agreement.specs.Panel.{readingsAgree}
+use Rattle.agreement.specs.Home.{home}
 use Rattle.answers.specs.Answer.{foundId, nameGiven}
 use Rattle.writer.specs.declared.Repeats.{Repeats}
 use Rattle.writer.specs.declared.Repeats.the-variants.{On}

@@ -11,8 +11,8 @@ use lib.Seq.{sets, take-all}
 use lib.Dec.{eqb, ltb}
 use Rattle.image.proofs.Stores.{sets-then}
 use Rattle.reader.specs.Naming.{Naming, place, unnamed, naming, heldAt, nameGiven}
-use Rattle.page.specs.Page.{places, number, shown, nameField, line}
-use Rattle.page.proofs.Stores.{last-first, sets-over, drop-replicate}
+use Rattle.page.specs.Page.{places, idField, shown, nameField, line}
+use Rattle.page.proofs.PageStores.{last-first, sets-over, drop-replicate}
 
 -- ---- the number
 
@@ -42,8 +42,8 @@ unfolding places
 places-end out at k n h = let z : k ≡ 0 = omega arith in ap (λ (m : ℕ). sets out at (places m n)) z
 
 pub number-start : (out : List ℕ) (at id d : ℕ) → d ≡ 48 + id % 10
-    → sets (set out (at + 9) d) at (places 9 (id / 10)) ≡ sets out at (number id)
-unfolding number
+    → sets (set out (at + 9) d) at (places 9 (id / 10)) ≡ sets out at (idField id)
+unfolding idField
 number-start out at id d e =
     ap (λ (x : ℕ). sets (set out (at + 9) x) at (places 9 (id / 10))) e
     ∙ last-first (places 9 (id / 10)) out at (at + 9) (48 + id % 10) (omega (arith, length-places 9 (id / 10)))
@@ -113,8 +113,8 @@ field-unnamed image out out₁ id at e e₁ =
 
 -- ---- the line
 
-pub length-number : (id : ℕ) → length (number id) ≡ 10
-unfolding number
+pub length-number : (id : ℕ) → length (idField id) ≡ 10
+unfolding idField
 length-number id = omega (arith, length-append (places 9 (id / 10)) ((48 + id % 10) ∷ []), length-places 9 (id / 10))
 
 pub length-field : (o : Option (List ℕ)) → length (nameField o) ≡ 33
@@ -131,19 +131,19 @@ length-line name id =
     simp length-append (omega (arith, length-number id, length-field (name id)))
 
 -- number, space, field and line feed, one after the other
-pub line-printed : (image out out₁ out₃ : List ℕ) (id at : ℕ) → out₁ ≡ sets out at (number id)
+pub line-printed : (image out out₁ out₃ : List ℕ) (id at : ℕ) → out₁ ≡ sets out at (idField id)
     → out₃ ≡ sets (set out₁ (at + 10) 32) (at + 11) (nameField (nameGiven image id))
     → set out₃ (at + 44) 10 ≡ sets out at (line (nameGiven image) id)
 unfolding line
 line-printed image out out₁ out₃ id at e₁ e₃ =
     let field = nameField (nameGiven image id) in
-    let front = number id ++ (32 ∷ []) in
+    let front = idField id ++ (32 ∷ []) in
     let w₁ = length-number id in
-    let w₂ = length-append (number id) (32 ∷ []) in
+    let w₂ = length-append (idField id) (32 ∷ []) in
     let w₃ = length-append front field in
     let w₄ = length-field (nameGiven image id) in
     let spaced : set out₁ (at + 10) 32 ≡ sets out at front =
-    ap (λ (l : List ℕ). set l (at + 10) 32) e₁ ∙ sets-then (number id) (32 ∷ []) out at (at + 10) (omega arith) in
+    ap (λ (l : List ℕ). set l (at + 10) 32) e₁ ∙ sets-then (idField id) (32 ∷ []) out at (at + 10) (omega arith) in
     let named : out₃ ≡ sets out at (front ++ field) =
     e₃ ∙ ap (λ (l : List ℕ). sets l (at + 11) field) spaced ∙ sets-then front field out at (at + 11) (omega arith) in
     ap (λ (l : List ℕ). set l (at + 44) 10) named ∙ sets-then (front ++ field) (10 ∷ []) out at (at + 44) (omega arith)

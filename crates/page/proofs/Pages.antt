@@ -14,7 +14,7 @@ use Rattle.image.specs.Bytes.{cat, range}
 use Rattle.image.proofs.Lists.{length-cat, length-range}
 use Rattle.image.proofs.Stores.{sets-then}
 use Rattle.reader.specs.Naming.{nameGiven}
-use Rattle.reader.specs.Walk.{upperHint}
+use Rattle.reader.specs.IdWalk.{upperHint}
 use Rattle.page.specs.Page.{line, page}
 use Rattle.page.specs.Call.{pageOf, pageLength, printing, afterPage}
 use Rattle.page.proofs.Fields.{length-line}

@@ -9,16 +9,12 @@ use mathlib.Core.Option.{Option, none, some}
 use lib.ListN.{length, getD, take, replicate}
 use lib.Dec.{eqb, ltb, leb}
 use borrow.Author.Tests.{leb-true}
-use Rattle.image.proofs.Every.{All, all-map}
+use Rattle.image.proofs.Every.{All, all-map, all-append}
 use Rattle.image.specs.Bytes.{cat, range}
-use Rattle.page.specs.Page.{places, number, shown, nameField, line}
+use Rattle.page.specs.Page.{places, idField, shown, nameField, line}
 use Rattle.page.specs.PrintedPage.{Plain}
 
--- of the elements of two lists, and of one element
-all-append : {A : Type 0} (P : A → Type 0) (xs ys : List A) → All P xs → All P ys → All P (xs ++ ys)
-all-append P [] ys p q = q
-all-append P (x ∷ xs) ys p q = (p .0, all-append P xs ys (p .1) q)
-
+-- of one element, and of equal elements
 pub all-at : (P : ℕ → Type 0) (xs : List ℕ) (i : ℕ) → All P xs → i < length xs → P (getD xs i 0)
 all-at P [] i p h = absurd (omega arith)
 all-at P (x ∷ xs) zero p h = p .0
@@ -66,15 +62,15 @@ plain-field none = all-append Plain (replicate 32 45) (32 ∷ []) (all-replicate
 module _ (name : ℕ → Option (List ℕ)) where
   -- a line but for its line feed
   abbrev pub front : ℕ → List ℕ
-  front id = number id ++ (32 ∷ []) ++ nameField (name id)
+  front id = idField id ++ (32 ∷ []) ++ nameField (name id)
 
   pub plain-front : (id : ℕ) → All Plain (front id)
-  unfolding number
+  unfolding idField
   plain-front id =
       let digits = places 9 (id / 10) in
       let last : ℕ = 48 + id % 10 in
       let n = all-append Plain digits (last ∷ []) (plain-places 9 (id / 10)) (omega arith, tt) in
-      all-append Plain (number id ++ (32 ∷ [])) (nameField (name id)) (all-append Plain (number id) (32 ∷ []) n (omega arith, tt)) (plain-field (name id))
+      all-append Plain (idField id ++ (32 ∷ [])) (nameField (name id)) (all-append Plain (idField id) (32 ∷ []) n (omega arith, tt)) (plain-field (name id))
 
   abbrev pub Printable : ℕ → Type 0
   Printable b = Plain b ⊎ (b ≡ 10)

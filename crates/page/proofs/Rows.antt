@@ -6,16 +6,16 @@ use mathlib.Core.List.{List, [], _∷_, _++_, map}
 use mathlib.Core.Option.{none}
 use lib.ListN.{length, getD}
 use Rattle.image.specs.Bytes.{cat, range}
-use Rattle.page.specs.Page.{places, number, nameField, line, page}
+use Rattle.page.specs.Page.{places, idField, nameField, line, page}
 use Rattle.page.specs.Ascii.{bytesOf}
-use Rattle.page.specs.Rows.{Row, rows, Leaf, leaves}
+use Rattle.page.specs.Rows.{Row, pageRows, Leaf, leaves}
 
 -- a text and a line feed
 abbrev ended : String → List ℕ
 ended s = bytesOf s ++ (10 ∷ [])
 
 -- every row holds: the lines, and the pages
-pub rows-hold : (map (λ (r : Row). line (λ (id : ℕ). r .name) (r .id)) rows ≡ map (λ (r : Row). ended (r .shows)) rows)
+pub rows-hold : (map (λ (r : Row). line (λ (id : ℕ). r .name) (r .id)) pageRows ≡ map (λ (r : Row). ended (r .shows)) pageRows)
     × (map (λ (l : Leaf). page (λ (id : ℕ). getD (l .names) id none) (length (l .names))) leaves ≡ map (λ (l : Leaf). cat ended (l .shows)) leaves)
-unfolding bytesOf page line number places nameField cat range
+unfolding bytesOf page line idField places nameField cat range
 rows-hold = (refl, refl)

@@ -17,14 +17,14 @@ use Rattle.image.specs.Bytes.{cat, range}
 use Rattle.image.proofs.Lists.{cat-run, length-range, getD-range}
 use Rattle.image.proofs.At.{At, at-whole, at-same, at-equal, at-part, at-take}
 use Rattle.reader.specs.Naming.{nameGiven}
-use Rattle.reader.specs.Walk.{upperHint}
-use Rattle.page.specs.Page.{number, nameField, line, page}
+use Rattle.reader.specs.IdWalk.{upperHint}
+use Rattle.page.specs.Page.{idField, nameField, line, page}
 use Rattle.page.specs.Call.{pageOf, pageLength, printing, afterPage}
 use Rattle.page.specs.PrintedPage.{PrintedPage, Plain, readFrom}
 use Rattle.page.proofs.Fields.{length-number, length-field, length-line}
 use Rattle.page.proofs.Pages.{length-page}
 use Rattle.page.proofs.Printable.{all-at, front, plain-front, printable-lines}
-use Rattle.page.proofs.Numbers.{read-number}
+use Rattle.page.proofs.IdFields.{read-number}
 
 -- ---- a line
 
@@ -32,7 +32,7 @@ module _ (name : ℕ → Option (List ℕ)) (id : ℕ) where
   length-front : length (front name id) ≡ 44
   length-front =
       omega
-      (arith, length-append (number id ++ (32 ∷ [])) (nameField (name id)), length-append (number id) (32 ∷ []), length-number id, length-field (name id))
+      (arith, length-append (idField id ++ (32 ∷ [])) (nameField (name id)), length-append (idField id) (32 ∷ []), length-number id, length-field (name id))
 
   line-ends : getD (line name id) 44 0 ≡ 10
   unfolding line
@@ -48,15 +48,15 @@ module _ (name : ℕ → Option (List ℕ)) (id : ℕ) where
   unfolding line
   number-reads h =
       let rest = nameField (name id) ++ (10 ∷ []) in
-      let split : line name id ≡ number id ++ (32 ∷ [] ++ rest) = simp append-assoc in
+      let split : line name id ≡ idField id ++ (32 ∷ [] ++ rest) = simp append-assoc in
       ap (λ (l : List ℕ). readFrom 0 (take 10 l)) split
-      ∙ ap (readFrom 0) (take-at (number id) (32 ∷ [] ++ rest) 10 (length-number id))
+      ∙ ap (readFrom 0) (take-at (idField id) (32 ∷ [] ++ rest) 10 (length-number id))
       ∙ read-number id h
 
 -- a line is fixed by the id and its name
 same-line : (f g : ℕ → Option (List ℕ)) (id : ℕ) → f id ≡ g id → line f id ≡ line g id
 unfolding line
-same-line f g id e = ap (λ (o : Option (List ℕ)). number id ++ (32 ∷ []) ++ nameField o ++ (10 ∷ [])) e
+same-line f g id e = ap (λ (o : Option (List ℕ)). idField id ++ (32 ∷ []) ++ nameField o ++ (10 ∷ [])) e
 
 -- ---- the page
 

@@ -6,7 +6,7 @@ use lib.ListN.{length, drop}
 use lib.Dec.{ltb}
 use Rattle.jhash.specs.Outcome.{Outcome, value, refusal}
 use Rattle.reader.specs.Naming.{nameGiven}
-use Rattle.reader.specs.Walk.{upperHint}
+use Rattle.reader.specs.IdWalk.{upperHint}
 use Rattle.page.specs.Page.{page}
 use Rattle.page.specs.declared.Printed.{Printed}
 use Rattle.page.specs.declared.Printed.the-variants.{Length, Refused}

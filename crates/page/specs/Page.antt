@@ -14,8 +14,8 @@ places zero n = []
 places (suc k) n = places k (n / 10) ++ (cond (eqb n 0) 32 (48 + n % 10) ∷ [])
 
 -- "id right-aligned in 10": the last place shows a digit also of 0
-unfoldable pub number : ℕ → List ℕ
-number id = places 9 (id / 10) ++ ((48 + id % 10) ∷ [])
+unfoldable pub idField : ℕ → List ℕ
+idField id = places 9 (id / 10) ++ ((48 + id % 10) ∷ [])
 
 -- "bytes outside 32 to 126 are printed as full stops"
 abbrev pub shown : ℕ → ℕ
@@ -29,7 +29,7 @@ nameField none = replicate 32 45 ++ (32 ∷ [])
 
 -- a "line of 45 bytes: id right-aligned in 10, a space, 32 bytes of name, a plus sign .. else a space, and a line feed"
 unfoldable pub line : (ℕ → Option (List ℕ)) → ℕ → List ℕ
-line name id = number id ++ (32 ∷ []) ++ nameField (name id) ++ (10 ∷ [])
+line name id = idField id ++ (32 ∷ []) ++ nameField (name id) ++ (10 ∷ [])
 
 -- "every id below back size, in rising order", "gaps included"
 unfoldable pub page : (ℕ → Option (List ℕ)) → ℕ → List ℕ

@@ -10,7 +10,7 @@ use lib.ListN.{length, getD, take, drop}
 use lib.Dec.{eqb}
 use Rattle.jhash.specs.Outcome.{refusal}
 use Rattle.reader.specs.Naming.{nameGiven}
-use Rattle.reader.specs.Walk.{upperHint}
+use Rattle.reader.specs.IdWalk.{upperHint}
 use Rattle.page.specs.Page.{line}
 use Rattle.page.specs.Call.{pageOf, pageLength, printing, afterPage}
 

@@ -17,8 +17,8 @@ row id name shows = record { id = id; name = name; shows = shows }
 abbrev text : String → Option (List ℕ)
 text s = some (bytesOf s)
 
-abbrev pub rows : List Row
-rows =
+abbrev pub pageRows : List Row
+pageRows =
     -- the smallest id, more digits, the largest id
     row 0 (text "A") "         0 A                                "
     ∷ row 9 (text "crane") "         9 crane                            "

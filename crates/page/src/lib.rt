@@ -1,6 +1,6 @@
 // A printed catalogue: a line of 45 bytes for every id below back size.
 ghost use mathlib.Core.Path.{_≡_};
-ghost use Prim.Native.Nat.{_+_, _*_, _≤_};
+ghost use Prim.Native.Nat.{_*_, _≤_};
 ghost use lib.ListN.{length};
 ghost use lib.Seq.{sets};
 ghost use Rattle.reader.specs.Naming.{nameGiven};
@@ -8,7 +8,7 @@ ghost use Rattle.page.specs.Page.{page};
 ghost use Rattle.page.specs.Call.{pageLength, printing, afterPage, printedOf};
 use line::print_line;
 use reader::Iter;
-use reader::walk::size_hint;
+use reader::id_walk::size_hint;
 
 mod line; // line.rt: one line
 

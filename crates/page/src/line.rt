@@ -8,7 +8,7 @@ ghost use lib.ListN.{length, replicate};
 ghost use lib.Seq.{sets};
 ghost use lib.Dec.{eqb, ltb};
 ghost use Rattle.reader.specs.Naming.{nameGiven};
-ghost use Rattle.page.specs.Page.{number, shown, nameField, line};
+ghost use Rattle.page.specs.Page.{idField, shown, nameField, line};
 use reader::Named;
 use reader::to_str;
 
@@ -29,7 +29,7 @@ fn digit_or_space(n: u32) -> u8
 // An id, right-aligned in 10 bytes from `at` on.
 fn print_number(out: &mut [u8], at: usize, id: u32)
     requires { ⌜ at + 10 ≤ length (now out) ⌝ }
-    ensures { λ _. ⌜ now (out .exit) ≡ sets (now (out .entry)) at (number id) ⌝ }
+    ensures { λ _. ⌜ now (out .exit) ≡ sets (now (out .entry)) at (idField id) ⌝ }
 {
     out[at + 9] = digit(id);
     let mut n = id / 10;

@@ -3,7 +3,7 @@ use page::Printed;
 ghost use mathlib.Core.Path.{_≡_};
 ghost use lib.ListN.{length};
 ghost use Rattle.page.specs.Call.{pageLength, afterPage};
-ghost use Rattle.page_c.specs.Answer.{pageAnswer};
+ghost use Rattle.page_c.specs.PageAnswer.{pageAnswer};
 
 // The refusal's number, 0 when accepted; the page's length, 0 when refused.
 #[repr(C)]

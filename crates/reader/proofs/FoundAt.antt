@@ -1,5 +1,5 @@
 -- A found answer's offset is that of an entry with this name and this id, in a bucket of the name's table with the name's hash. Assumes nothing.
-use Prim.Native.Nat.{ℕ, zero, suc, _+_, _*_, _-_, _/_, _≤_, _<_}
+use Prim.Native.Nat.{ℕ, suc, _+_, _*_, _-_, _/_, _≤_, _<_}
 use native.Mathlib.Omega.{arith}
 use native.Mathlib.Nat.{mod-lt}
 use mathlib.Core.Path.{_≡_, refl, sym, ap, _∙_}
@@ -15,7 +15,7 @@ use Rattle.image.specs.Head.{tableAt, bucketNumber, tableLeaves}
 use Rattle.image.specs.Stored.{nameOf, broken}
 use Rattle.image.proofs.Bools.{neither-first, neither-second}
 use Rattle.image.proofs.Equal.{same-true}
-use Rattle.reader.specs.Lookup.{Lookup, found, nothing, Hit, hitAt, Seen, pass, ends, hit, seeEntry, see, decide, probe, searchTable, unsearched, lookupHash, lookup}
+use Rattle.reader.specs.Lookup.{found, nothing, Hit, hitAt, Seen, pass, ends, hit, seeEntry, see, decide, probe, searchTable, unsearched, lookupHash, lookup}
 use Rattle.reader.specs.declared.Found.{Found}
 use Rattle.reader.specs.FoundAt.{bucketRead, StandsIn, FoundAt, FoundStands}
 use Rattle.reader.proofs.Bounds.{length-order, order-below}

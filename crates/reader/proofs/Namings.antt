@@ -6,15 +6,14 @@ use mathlib.Core.Bool.{Bool, true, false, cond, _||_}
 use mathlib.Core.List.{List}
 use borrow.Author.Tests.{ltb-false, leb-false}
 use lib.Dec.{eqb, ltb, leb}
-use lib.ListN.{length, take, drop}
+use lib.ListN.{length}
 use Rattle.image.specs.Bytes.{word}
 use Rattle.image.proofs.Bools.{neither-first, neither-second}
 use Rattle.image.specs.Head.{backSizeAt, backOffsetAt, backLeaves}
 use Rattle.image.specs.Stored.{broken}
-use Rattle.reader.specs.Meets.{someMet, entriesMet}
 use Rattle.reader.specs.Slices.{Slice, part}
 use Rattle.reader.specs.Naming.{Naming, place, unnamed, noBack, namingAt, naming, partOr}
-use Rattle.reader.specs.Walk.{upperHint, homeBy, home}
+use Rattle.reader.specs.IdWalk.{upperHint}
 use Rattle.image.proofs.Unbroken.{unbroken}
 
 -- a back array that can be read lies in the image
@@ -99,14 +98,3 @@ hint-none image n e = sym (ap (λ (t : Bool). cond t 0 (backSizeAt image - n)) e
 pub hint-back : (image : List ℕ) (n w r : ℕ) → noBack image ≡ false → w ≡ backSizeAt image → r ≡ w - n → r ≡ upperHint image n
 unfolding upperHint
 hint-back image n w r e f g = g ∙ ap (λ (k : ℕ). k - n) f ∙ sym (ap (λ (t : Bool). cond t 0 (backSizeAt image - n)) e)
-
--- the home check, by the part of the image that is searched for
-pub home-by : (image : List ℕ) (id s n : ℕ) → place s n ≡ naming image id → someMet id (entriesMet image (take (s + n - s) (drop s image))) ≡ home image id
-unfolding home
-home-by image id s n e =
-    let k : s + n - s ≡ n = omega arith in
-    ap (λ (m : ℕ). someMet id (entriesMet image (take m (drop s image)))) k ∙ ap (homeBy image id) e
-
-pub not-home : (image : List ℕ) (id : ℕ) → unnamed ≡ naming image id → false ≡ home image id
-unfolding home
-not-home image id e = ap (homeBy image id) e

@@ -4,7 +4,7 @@ use Rattle.jhash.specs.Outcome.{Outcome, value, refusal}
 use Rattle.reader.specs.Lookup.{Lookup, found, nothing}
 use Rattle.reader.specs.Lookup as spec
 use Rattle.reader.specs.Naming.{Naming, place, unnamed}
-use Rattle.reader.specs.Walk.{Step, item, done}
+use Rattle.reader.specs.IdWalk.{Step, item, done}
 use Rattle.reader.specs.declared.Opened.{Opened}
 use Rattle.reader.specs.declared.Opened.the-variants.{Num, Refused}
 use Rattle.reader.specs.declared.ToId.{ToId}

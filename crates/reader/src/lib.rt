@@ -1,20 +1,17 @@
-// Reading: open, look up, name, walk, home, on every slice of bytes. No call has a `requires`, and each answers what 01
-// fixes for the bytes that it is lent, whether an open accepted them or not.
-mod start; // start.rt: the bucket that a search begins with
+// Reading: open, look up, name, walk, on every slice of bytes. No call of a user has a `requires`, and each answers what 01
+// fixes for the bytes that it is lent, whether an open accepted them or not. The steps of a search (`start`, `see`,
+// `next_bucket`, `table_of`) are leaves for the crate `agreement`, whose search goes on past an equal name.
+pub mod start; // start.rt: the bucket that a search begins with
 pub mod opening; // opening.rt: open
 pub mod lookup; // lookup.rt: to_id
-mod meeting; // meeting.rt: the search of the home check, past an equal name
 pub mod naming; // naming.rt: to_str, name, name_or
-pub mod panel; // panel.rt: panel, panel_place, readings_agree
-pub mod walk; // walk.rt: iter, next, size_hint, home
+pub mod id_walk; // id_walk.rt: iter, next, size_hint
 
 pub use lookup::to_id;
 pub use naming::name;
 pub use naming::name_or;
 pub use naming::to_str;
 pub use opening::open;
-pub use panel::readings_agree;
-pub use walk::home;
 
 // The head is 2,072 bytes.
 const HEAD_SIZE: usize = 2072;
@@ -40,19 +37,19 @@ pub enum ToId {
 }
 
 // A table: its offset and its bucket number.
-struct Table {
-    at: u32,
-    n: u32,
+pub struct Table {
+    pub at: u32,
+    pub n: u32,
 }
 
 // What an entry with the wanted name tells: its id, and the offset at which it stands.
-struct Hit {
-    id: u32,
-    offset: u32,
+pub struct Hit {
+    pub id: u32,
+    pub offset: u32,
 }
 
 // What a search sees in a bucket: it passes it, or ends with nothing, or with an entry that has the name.
-enum Seen {
+pub enum Seen {
     Pass,
     Ends,
     Hit(Hit),

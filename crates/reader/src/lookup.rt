@@ -40,7 +40,7 @@ fn see_entry(image: &[u8], name: &[u8], at: u32) -> Seen
 }
 
 // What a search for a name with the hash h sees in the bucket at `at`.
-pub(super) fn see(image: &[u8], name: &[u8], h: u32, at: usize) -> Seen
+pub fn see(image: &[u8], name: &[u8], h: u32, at: usize) -> Seen
     requires { ⌜ at + 8 ≤ length (now image) ⌝ }
     ensures { λ r. ⌜ seenOf r ≡ see (now (image .entry)) (now (name .entry)) h at ⌝ }
 {
@@ -55,7 +55,7 @@ pub(super) fn see(image: &[u8], name: &[u8], h: u32, at: usize) -> Seen
 }
 
 // The bucket after k: by one, from the last to the first.
-pub(super) fn next_bucket(k: u32, n: u32) -> u32
+pub fn next_bucket(k: u32, n: u32) -> u32
     requires { ⌜ k < n ⌝ }
     ensures { λ r. ⌜ (r ≡ next n k) × (r < n) ⌝ }
 {
@@ -143,7 +143,7 @@ fn search(image: &[u8], name: &[u8], h: u32, at: u32, n: u32) -> ToId
 
 // The table that a hash is searched in, its offset and bucket number. The number is 0 where no bucket is read: offset 0, bucket
 // number 0 or an end past the image.
-pub(super) fn table_of(image: &[u8], h: u32) -> Table
+pub fn table_of(image: &[u8], h: u32) -> Table
     requires { ⌜ 2072 ≤ length (now image) ⌝ }
     ensures unread { λ r. ⌜ (r .n ≡ 0 → unsearched (now (image .entry)) (tableOf h) ≡ true) ⌝ }
     ensures searched { λ r. ⌜ (0 < r .n → (unsearched (now (image .entry)) (tableOf h) ≡ false) × (r .at ≡ tableAt (now (image .entry)) (tableOf h)) × (r .n ≡ bucketNumber (now (image .entry)) (tableOf h)) × (r .at + 8 * r .n ≤ length (now (image .entry)))) ⌝ }

@@ -87,7 +87,7 @@ fn reciprocal(n: u32) -> u32
 // The bucket that a search in a table of n buckets begins with: x modulo n, with x = hash / 256. Where m * n is at least 2^32
 // and less than 2^8 above it, m * x divided by 2^32 is x / n for each x below 2^24, and what that division leaves, times n and
 // divided by 2^32 again, is x modulo n.
-pub(crate) fn start(h: u32, n: u32) -> u32
+pub fn start(h: u32, n: u32) -> u32
     requires { ⌜ 0 < n ⌝ }
     ensures { λ r. ⌜ (r ≡ start h n) × (r < n) ⌝ }
 {

@@ -3,26 +3,26 @@ use Prim.Native.Nat.{ℕ, _-_, _≤_, _<_}
 use native.Mathlib.Omega.{arith}
 use mathlib.Core.Path.{_≡_, refl, sym, ap, _∙_}
 use mathlib.Core.Bool.{Bool, true, false, _&&_}
-use mathlib.Core.List.{List, [], _++_, append-nil}
+use mathlib.Core.List.{List, append-nil}
 use borrow.Author.Tests.{eq-eqb, ne-eqb, le-ltb, lt-ltb, le-leb}
 use borrow.Rule.Slice.PartMut.{putMid, post-is}
-use lib.ListN.{length, take, drop, length-drop, length-take}
+use lib.ListN.{length, take, drop, length-drop}
 use lib.Seq.{take-all, drop-length}
 use Rattle.image.specs.Bytes.{same}
 use Rattle.reader.specs.Slices.{Slice}
 use Rattle.reader.specs.Naming.{place, naming, namePart}
-use Rattle.reader.specs.Walk.{Step, item}
-use Rattle.replay_lines.specs.Hex.{isBytes, countIn, afterDecode}
+use Rattle.reader.specs.IdWalk.{Step, item}
+use Rattle.replay_lines.specs.Hex.{countIn, afterDecode}
 use Rattle.replay_lines.specs.declared.Bytes.{Bytes}
 use Rattle.replay_lines.specs.declared.Bytes.the-variants as bytes
-use Rattle.replay_lines.proofs.Read.{readable, unreadable}
+use Rattle.replay_lines.proofs.ReadWords.{readable, unreadable}
 use Rattle.replay_lines.specs.declared.Verdict.{Verdict}
 use Rattle.replay_lines.specs.declared.Verdict.the-variants.{Malformed, Silent}
-use Rattle.reader_replay.specs.Tags.{says, NAME, ZERO, EDIT, ITEM}
-use Rattle.reader_replay.specs.Walk.{isAt, stepsAs, standsThen}
-use Rattle.reader_replay.specs.Ask.{namesAs, verdict}
-use Rattle.reader_replay.specs.Change.{given, done, zeroVerdict, zeroed, editVerdict, edited, changed}
-use Rattle.reader_replay.specs.Replay.{asked}
+use Rattle.replay_lines.specs.Tags.{says, NAME, ZERO, EDIT, ITEM}
+use Rattle.reader_replay.specs.WalkLines.{isAt, stepsAs, standsThen}
+use Rattle.reader_replay.specs.AskLines.{namesAs, askVerdict}
+use Rattle.reader_replay.specs.ChangeLines.{readingOf, done, zeroVerdict, zeroedFront, editVerdict, edited, changed}
+use Rattle.reader_replay.specs.ReadingLines.{asked}
 use Rattle.reader_replay.specs.declared.State.{State}
 use Rattle.reader_replay.specs.declared.Step as declared
 
@@ -45,14 +45,14 @@ module _ (tag n id start len next : ℕ) (name image : List ℕ) (s : Step) (e :
 -- a line that asks: in the buffer's first bytes, or in more than there are
 module _ (s : State) (buffer : List ℕ) (tag : ℕ) (first second : List ℕ) (r : declared.Step) where
   pub asks : (next : ℕ) (v : Verdict) → s .len ≤ length buffer → next ≡ standsThen (take (s .len - 0) buffer) tag (s .next)
-      → v ≡ verdict (take (s .len - 0) buffer) (s .next) tag first second → r ≡ record { state = record { len = s .len; next = next }; verdict = v }
-      → done r buffer ≡ asked (given s buffer) tag first second
+      → v ≡ askVerdict (take (s .len - 0) buffer) (s .next) tag first second → r ≡ record { state = record { len = s .len; next = next }; verdict = v }
+      → done r buffer ≡ asked (readingOf s buffer) tag first second
   unfolding asked
   asks next v h en ev er =
       let e : s .len - 0 ≡ s .len = omega arith in
       rw (er, en, ev, e, le-ltb (length buffer) (s .len) h)
 
-  pub asks-more : length buffer < s .len → r ≡ record { state = s; verdict = Malformed } → done r buffer ≡ asked (given s buffer) tag first second
+  pub asks-more : length buffer < s .len → r ≡ record { state = s; verdict = Malformed } → done r buffer ≡ asked (readingOf s buffer) tag first second
   unfolding asked
   asks-more h er = rw (er, lt-ltb (length buffer) (s .len) h)
 
@@ -80,12 +80,12 @@ module _ (at : ℕ) (text buffer left : List ℕ) (r : Bytes) (h : at ≤ length
 
 -- a line that changes the image
 module _ (s : State) (buffer left : List ℕ) (tag n : ℕ) (text : List ℕ) (r : declared.Step) (v : Verdict) where
-  pub zeros : tag ≡ ZERO → v ≡ zeroVerdict n buffer → left ≡ zeroed n buffer → r ≡ record { state = record { len = n; next = s .next }; verdict = v }
-      → done r left ≡ changed (given s buffer) tag n text
+  pub zeros : tag ≡ ZERO → v ≡ zeroVerdict n buffer → left ≡ zeroedFront n buffer → r ≡ record { state = record { len = n; next = s .next }; verdict = v }
+      → done r left ≡ changed (readingOf s buffer) tag n text
   unfolding changed
   zeros et ev el er = rw (er, ev, el, et)
 
   pub edits-line : tag ≡ EDIT → v ≡ editVerdict n text buffer → left ≡ edited n text buffer
-      → r ≡ record { state = record { len = s .len; next = s .next }; verdict = v } → done r left ≡ changed (given s buffer) tag n text
+      → r ≡ record { state = record { len = s .len; next = s .next }; verdict = v } → done r left ≡ changed (readingOf s buffer) tag n text
   unfolding changed
   edits-line et ev el er = rw (er, ev, el, et)

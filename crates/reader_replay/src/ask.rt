@@ -3,9 +3,9 @@ ghost use mathlib.Core.Path.{_≡_};
 ghost use Rattle.reader.specs.Open.{opening};
 ghost use Rattle.reader.specs.Lookup.{lookup};
 ghost use Rattle.reader.specs.Naming.{naming};
-ghost use Rattle.reader.specs.Walk.{home};
-ghost use Rattle.reader_replay.specs.Tags.{either, says};
-ghost use Rattle.reader_replay.specs.Ask.{opensAs, findsAs, namesAs, homeAs, asks, agrees, compared, verdict};
+ghost use Rattle.agreement.specs.Home.{home};
+ghost use Rattle.replay_lines.specs.Tags.{either, says};
+ghost use Rattle.reader_replay.specs.AskLines.{opensAs, findsAs, namesAs, homeAs, asks, agrees, nameCompared, askVerdict};
 use super::walk;
 use reader::Named;
 use reader::Opened;
@@ -16,30 +16,18 @@ use replay_lines::Verdict;
 use replay_lines::equal_if;
 use replay_lines::hex;
 use replay_lines::same;
-
-const OPEN: u32 = 0x6f70_656e;
-
-const FAIL: u32 = 0x6661_696c;
-
-const FIND: u32 = 0x6669_6e64;
-
-const MISS: u32 = 0x6d69_7373;
-
-const NAME: u32 = 0x6e61_6d65;
-
-const VOID: u32 = 0x766f_6964;
-
-const HOME: u32 = 0x686f_6d65;
-
-const AWAY: u32 = 0x6177_6179;
-
-const WALK: u32 = 0x7761_6c6b;
-
-const LEFT: u32 = 0x6c65_6674;
-
-const ITEM: u32 = 0x6974_656d;
-
-const ENDS: u32 = 0x656e_6473;
+use replay_lines::tags::AWAY;
+use replay_lines::tags::ENDS;
+use replay_lines::tags::FAIL;
+use replay_lines::tags::FIND;
+use replay_lines::tags::HOME;
+use replay_lines::tags::ITEM;
+use replay_lines::tags::LEFT;
+use replay_lines::tags::MISS;
+use replay_lines::tags::NAME;
+use replay_lines::tags::OPEN;
+use replay_lines::tags::VOID;
+use replay_lines::tags::WALK;
 
 // Is a tag one of two?
 pub(super) fn either(tag: u32, a: u32, b: u32) -> bool
@@ -95,7 +83,7 @@ fn names_as(tag: u32, id: u32, name: &[u8], image: &[u8]) -> bool
 fn home_as(tag: u32, id: u32, image: &[u8]) -> bool
     ensures { λ r. ⌜ r ≡ homeAs tag (home (now (image .entry)) id) ⌝ }
 {
-    if reader::home(image, id) {
+    if agreement::home(image, id) {
         tag == HOME
     } else {
         tag == AWAY
@@ -140,7 +128,7 @@ fn agrees(tag: u32, n: u32, name: &[u8], next: u32, image: &[u8]) -> bool
 
 // The verdict on a tag, a number and a name in hexadecimal digits.
 fn compare(tag: u32, n: u32, name: &[u8], next: u32, image: &[u8]) -> Verdict
-    ensures { λ r. ⌜ r ≡ compared (now (image .entry)) next tag n (now (name .entry)) ⌝ }
+    ensures { λ r. ⌜ r ≡ nameCompared (now (image .entry)) next tag n (now (name .entry)) ⌝ }
 {
     let mut room = io::buffer();
     match hex::decode(name, &mut room) {
@@ -151,7 +139,7 @@ fn compare(tag: u32, n: u32, name: &[u8], next: u32, image: &[u8]) -> Verdict
 
 // The verdict on a tag and two words.
 pub(super) fn line(tag: u32, first: &[u8], second: &[u8], next: u32, image: &[u8]) -> Verdict
-    ensures { λ r. ⌜ r ≡ verdict (now (image .entry)) next tag (now (first .entry)) (now (second .entry)) ⌝ }
+    ensures { λ r. ⌜ r ≡ askVerdict (now (image .entry)) next tag (now (first .entry)) (now (second .entry)) ⌝ }
 {
     if tag == WALK {
         return Verdict::Silent;

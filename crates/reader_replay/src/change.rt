@@ -1,18 +1,15 @@
 // Lines that change the image.
 ghost use mathlib.Core.Path.{_≡_};
-ghost use Rattle.reader_replay.specs.Change.{changes, given, done, zeroVerdict, zeroed, editVerdict, edited, changed};
+ghost use Rattle.reader_replay.specs.ChangeLines.{changes, readingOf, done, zeroVerdict, zeroedFront, editVerdict, edited, changed};
 use super::State;
 use super::Step;
 use super::judged;
 use replay_lines::Bytes;
 use replay_lines::Verdict;
 use replay_lines::hex;
-
-const ZERO: u32 = 0x7a65_726f;
-
-const EDIT: u32 = 0x6564_6974;
-
-const SIZE: u32 = 0x7369_7a65;
+use replay_lines::tags::EDIT;
+use replay_lines::tags::SIZE;
+use replay_lines::tags::ZERO;
 
 // Does a line with this tag change the image?
 pub(super) fn changes(tag: u32) -> bool
@@ -24,7 +21,7 @@ pub(super) fn changes(tag: u32) -> bool
 // So many zero bytes from the start on.
 fn zero(n: usize, buf: &mut [u8]) -> Verdict
     ensures answer { λ r. ⌜ r ≡ zeroVerdict n (now (buf .entry)) ⌝ }
-    ensures leaves { λ _. ⌜ now (buf .exit) ≡ zeroed n (now (buf .entry)) ⌝ }
+    ensures leaves { λ _. ⌜ now (buf .exit) ≡ zeroedFront n (now (buf .entry)) ⌝ }
 {
     if buf.len() < n {
         return Verdict::Malformed;
@@ -53,7 +50,7 @@ fn edit(at: usize, text: &[u8], buf: &mut [u8]) -> Verdict
 
 // A line with the number n.
 pub(super) fn changed(s: State, tag: u32, n: u32, text: &[u8], buf: &mut [u8]) -> Step
-    ensures { λ r. ⌜ done r (now (buf .exit)) ≡ changed (given s (now (buf .entry))) tag n (now (text .entry)) ⌝ }
+    ensures { λ r. ⌜ done r (now (buf .exit)) ≡ changed (readingOf s (now (buf .entry))) tag n (now (text .entry)) ⌝ }
 {
     let next = s.next;
     if tag == ZERO {

@@ -25,9 +25,9 @@ mod change; // change.rt: changes, changed
 mod walk; // walk.rt: agrees, stands
 
 ghost use mathlib.Core.Path.{_≡_};
-ghost use Rattle.replay_lines.specs.Lines.{replayed};
-ghost use Rattle.reader_replay.specs.Change.{given, done};
-ghost use Rattle.reader_replay.specs.Replay.{asked, tagged, judge};
+ghost use Rattle.replay_lines.specs.Replay.{replayed};
+ghost use Rattle.reader_replay.specs.ChangeLines.{readingOf, done};
+ghost use Rattle.reader_replay.specs.ReadingLines.{asked, taggedReading, judgeReading};
 use libc::STDIN_FILENO;
 use replay_lines::Counts;
 use replay_lines::Number;
@@ -59,7 +59,7 @@ fn judged(len: usize, next: u32, verdict: Verdict) -> Step
 
 // A line that asks: of the image, or of the walk.
 fn asked(s: State, tag: u32, first: &[u8], second: &[u8], buf: &[u8]) -> Step
-    ensures { λ r. ⌜ done r (now (buf .entry)) ≡ asked (given s (now (buf .entry))) tag (now (first .entry)) (now (second .entry)) ⌝ }
+    ensures { λ r. ⌜ done r (now (buf .entry)) ≡ asked (readingOf s (now (buf .entry))) tag (now (first .entry)) (now (second .entry)) ⌝ }
 {
     let len = s.len;
     let next = s.next;
@@ -72,7 +72,7 @@ fn asked(s: State, tag: u32, first: &[u8], second: &[u8], buf: &[u8]) -> Step
 
 // A line that has a tag: a change of the image, or a question.
 fn tagged(s: State, tag: u32, first: &[u8], second: &[u8], buf: &mut [u8]) -> Step
-    ensures { λ r. ⌜ done r (now (buf .exit)) ≡ tagged (given s (now (buf .entry))) tag (now (first .entry)) (now (second .entry)) ⌝ }
+    ensures { λ r. ⌜ done r (now (buf .exit)) ≡ taggedReading (readingOf s (now (buf .entry))) tag (now (first .entry)) (now (second .entry)) ⌝ }
 {
     if !change::changes(tag) {
         return asked(s, tag, first, second, &*buf);
@@ -85,7 +85,7 @@ fn tagged(s: State, tag: u32, first: &[u8], second: &[u8], buf: &mut [u8]) -> St
 
 // Any line.
 fn any_line(s: State, line: &[u8], buf: &mut [u8]) -> Step
-    ensures { λ r. ⌜ done r (now (buf .exit)) ≡ judge (given s (now (buf .entry))) (now (line .entry)) ⌝ }
+    ensures { λ r. ⌜ done r (now (buf .exit)) ≡ judgeReading (readingOf s (now (buf .entry))) (now (line .entry)) ⌝ }
 {
     if words::skipped(line) {
         return judged(s.len, s.next, Verdict::Silent);
@@ -101,7 +101,7 @@ fn any_line(s: State, line: &[u8], buf: &mut [u8]) -> Step
 
 // Every line of a text.
 fn replay(text: &[u8], buf: &mut [u8]) -> Counts
-    ensures { λ r. ⌜ r ≡ replayed judge (given (record { len = 0; next = 0 }) (now (buf .entry))) (now (text .entry)) ⌝ }
+    ensures { λ r. ⌜ r ≡ replayed judgeReading (readingOf (record { len = 0; next = 0 }) (now (buf .entry))) (now (text .entry)) ⌝ }
 {
     let mut p = lines::begin();
     let mut state = State { len: 0, next: 0 };

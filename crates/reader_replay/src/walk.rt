@@ -1,21 +1,16 @@
 // A walk over the image, step by step.
 ghost use mathlib.Core.Path.{_≡_};
-ghost use Rattle.reader.specs.Walk.{step};
-ghost use Rattle.reader.specs.WalkSteps.{standsAfter};
-ghost use Rattle.reader_replay.specs.Walk.{isAt, stepsAs, walkAgrees, standsThen};
+ghost use Rattle.reader.specs.IdWalk.{step, standsAfter};
+ghost use Rattle.reader_replay.specs.WalkLines.{isAt, stepsAs, walkAgrees, standsThen};
 use super::ask::either;
 use super::ask::says;
 use reader::Iter;
 use reader::Stepped;
 use replay_lines::same;
-
-const WALK: u32 = 0x7761_6c6b;
-
-const LEFT: u32 = 0x6c65_6674;
-
-const ITEM: u32 = 0x6974_656d;
-
-const ENDS: u32 = 0x656e_6473;
+use replay_lines::tags::ENDS;
+use replay_lines::tags::ITEM;
+use replay_lines::tags::LEFT;
+use replay_lines::tags::WALK;
 
 // Is a name what stands at a place of an image?
 fn is_at(image: &[u8], start: usize, len: usize, name: &[u8]) -> bool
@@ -35,7 +30,7 @@ fn is_at(image: &[u8], start: usize, len: usize, name: &[u8]) -> bool
 fn steps_as(tag: u32, n: u32, name: &[u8], next: u32, image: &[u8]) -> bool
     ensures { λ r. ⌜ r ≡ stepsAs tag n (now (name .entry)) (now (image .entry)) (step (now (image .entry)) next) ⌝ }
 {
-    match reader::walk::next(image, Iter { next }) {
+    match reader::id_walk::next(image, Iter { next }) {
         Stepped::Item {
             id,
             start,
@@ -57,7 +52,7 @@ pub(super) fn agrees(tag: u32, n: u32, name: &[u8], next: u32, image: &[u8]) -> 
     ensures { λ r. ⌜ r ≡ walkAgrees (now (image .entry)) next tag n (now (name .entry)) ⌝ }
 {
     if tag == LEFT {
-        return reader::walk::size_hint(image, Iter { next }) == n;
+        return reader::id_walk::size_hint(image, Iter { next }) == n;
     }
     steps_as(tag, n, name, next, image)
 }
@@ -66,7 +61,7 @@ pub(super) fn agrees(tag: u32, n: u32, name: &[u8], next: u32, image: &[u8]) -> 
 fn after_step(next: u32, image: &[u8]) -> u32
     ensures { λ r. ⌜ r ≡ standsAfter next (step (now (image .entry)) next) ⌝ }
 {
-    match reader::walk::next(image, Iter { next }) {
+    match reader::id_walk::next(image, Iter { next }) {
         Stepped::Item {
             id: _,
             start: _,
@@ -82,7 +77,7 @@ pub(super) fn stands(tag: u32, next: u32, image: &[u8]) -> u32
     ensures { λ r. ⌜ r ≡ standsThen (now (image .entry)) tag next ⌝ }
 {
     if tag == WALK {
-        return reader::walk::iter().next;
+        return reader::id_walk::iter().next;
     }
     if either(tag, ITEM, ENDS) {
         return after_step(next, image);

@@ -1,5 +1,5 @@
 -- Laws of the definitions, step by step as the loops go.
-pub mod Read
-pub mod Split
-pub mod Steps
-pub mod Turns
+pub mod ReadWords
+pub mod BeforeByte
+pub mod LoopSteps
+pub mod LineTurns

@@ -1,5 +1,6 @@
--- What the lines of a replay mean: words, numbers and bytes in hexadecimal digits, and the counts of verdicts.
+-- What the lines of a replay mean: words, tags, numbers and bytes in hexadecimal digits, and the counts of verdicts.
 pub mod Hex
-pub mod Lines
+pub mod Replay
+pub mod Tags
 pub mod Verdicts
-pub mod Words
+pub mod LineWords

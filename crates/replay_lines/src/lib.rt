@@ -2,6 +2,7 @@
 // line, and how many lines had each.
 pub mod hex; // hex.rt: word, two_words, decode
 pub mod lines; // lines.rt: begin, line, noted
+pub mod tags; // tags.rt: the four letters that lines begin with
 pub mod words; // words.rt: until, past, first, second, third, skipped, tag
 
 ghost use mathlib.Core.Path.{_≡_};

@@ -1,6 +1,6 @@
 // The lines of a text, one after the other, and the counts of their verdicts.
 ghost use mathlib.Core.Path.{_≡_};
-ghost use Rattle.replay_lines.specs.Lines.{begun, lineAt, afterLine};
+ghost use Rattle.replay_lines.specs.Replay.{begun, lineAt, progressAfter};
 use super::Counts;
 use super::Progress;
 use super::Verdict;
@@ -33,7 +33,7 @@ pub fn line<'a>(text: &'a [u8], p: Progress) -> &'a [u8]
 
 // The next line, whose verdict this is, reported and counted. Past the end nothing changes.
 pub fn noted(p: Progress, text: &[u8], v: Verdict) -> Progress
-    ensures { λ r. ⌜ r ≡ afterLine (now (text .entry)) p v ⌝ }
+    ensures { λ r. ⌜ r ≡ progressAfter (now (text .entry)) p v ⌝ }
 {
     if text.len() <= p.at {
         return p;

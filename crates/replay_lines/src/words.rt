@@ -1,13 +1,7 @@
 // A text's lines and a line's words: what stands before a byte, and what follows it.
 ghost use mathlib.Core.Path.{_≡_};
-ghost use Prim.Native.Nat.{_<_};
-ghost use Rattle.replay_lines.specs.Words.{until, past, first, second, third, skipped, tagOf};
-
-fn wide(x: u8) -> u32
-    ensures { λ r. ⌜ (r ≡ x) × (r < 256) ⌝ }
-{
-    x as u32
-}
+ghost use Rattle.replay_lines.specs.LineWords.{until, past, first, second, third, skipped, tagOf};
+use jhash::word::wide;
 
 // What stands before the first byte b: all where there is none.
 pub fn until<'a>(s: &'a [u8], b: u8) -> &'a [u8]

@@ -2,16 +2,16 @@
 use mathlib.Core.Path.{_≡_, refl}
 use mathlib.Core.List.{map}
 use Rattle.season.specs.Calendar.{leap, oneOf, monthLength, isDate, isEnd, earlier}
-use Rattle.season.specs.Rule.{some, undated, turned, holds, inSeason}
-use Rattle.season.specs.Rows.{Month, months, Day, days, Row, rows}
+use Rattle.season.specs.Rule.{some, undated, turned, holdsDate, inSeason}
+use Rattle.season.specs.Rows.{Month, months, Day, days, Row, seasonRows}
 
 -- every row holds
 pub record Computed : Type 0 where
   pub the-months : map (λ (m : Month). monthLength (m .year) (m .month)) months ≡ map (λ (m : Month). m .length) months
   pub the-days : map (λ (d : Day). isDate (d .day)) days ≡ map (λ (d : Day). d .exists) days
   pub the-ends : map (λ (d : Day). isEnd (d .day)) days ≡ map (λ (d : Day). d .ends) days
-  pub the-names : map (λ (r : Row). inSeason (r .naming) 5 (r .day) (r .windows)) rows ≡ map (λ (r : Row). r .answer) rows
+  pub the-names : map (λ (r : Row). inSeason (r .naming) 5 (r .day) (r .windows)) seasonRows ≡ map (λ (r : Row). r .answer) seasonRows
 
 pub rows-hold : Computed
-unfolding inSeason some undated turned holds isEnd isDate earlier monthLength oneOf leap
+unfolding inSeason some undated turned holdsDate isEnd isDate earlier monthLength oneOf leap
 rows-hold = record { the-months = refl; the-days = refl; the-ends = refl; the-names = refl }

@@ -12,7 +12,7 @@ use Rattle.jhash.specs.Outcome.{Outcome, value, refusal}
 use Rattle.reader.specs.Naming.{Naming, place, unnamed, naming}
 use Rattle.reader.proofs.Namings.{never}
 use Rattle.season.specs.Calendar.{isDate, isEnd, earlier}
-use Rattle.season.specs.Rule.{some, undated, turned, holds, inSeason, namingOn}
+use Rattle.season.specs.Rule.{some, undated, turned, holdsDate, inSeason, namingOn}
 use Rattle.season.specs.Seasons.{SomeAt, Accepted, Seasons}
 use Rattle.season.specs.declared.Date.{Date}
 use Rattle.season.specs.declared.Window.{Window}
@@ -79,8 +79,8 @@ module _ (test : Window → Bool) where
 
 -- ---- a window holds a date
 holds-exactly : (id : ℕ) (date : Date) (w : Window)
-    → (holds id date w ≡ true) ↔ ((w .id ≡ id) × (earlier date (w .first) ≡ false) × (earlier date (w .end) ≡ true))
-unfolding holds
+    → (holdsDate id date w ≡ true) ↔ ((w .id ≡ id) × (earlier date (w .first) ≡ false) × (earlier date (w .end) ≡ true))
+unfolding holdsDate
 holds-exactly id date w = (to, from)
   where
     by-tests : (i p q : Bool) → (i && not p && q) ≡ true → (i ≡ true) × (p ≡ false) × (q ≡ true)
@@ -150,7 +150,7 @@ module _ (image : List ℕ) (id : ℕ) (date : Date) (ws : List Window) where
   b = some turned ws
 
   abbrev c : Bool
-  c = some (holds id date) ws
+  c = some (holdsDate id date) ws
 
   named-exactly : (s l : ℕ) → (namingOn image id date ws ≡ value (place s l)) ↔ (Accepted date ws × (naming image id ≡ place s l) × (c ≡ true))
   unfolding inSeason
@@ -179,7 +179,7 @@ adding image id date before after w s l first end starts e =
     named-exactly image id date (before ++ w ∷ after) s l .1 (
       (so .0 .0, none-added undated w after before dated (so .0 .1), none-added turned w after before straight (so .0 .2)),
       so .1,
-      some-added (holds id date) w after before (so .2),
+      some-added (holdsDate id date) w after before (so .2),
     )
 
 pub seasons : Seasons

@@ -2,6 +2,6 @@
 pub mod Calendar
 pub mod Rule
 pub mod steps
-pub mod Answers
+pub mod Cases
 pub mod Seasons
 pub mod Rows

@@ -89,8 +89,8 @@ empty = window 5 (date 2024 3 1) (date 2024 3 1)
 abbrev no-day : Window
 no-day = window 6 (date 2023 2 29) (date 2024 3 1)
 
-abbrev pub rows : List Row
-rows =
+abbrev pub seasonRows : List Row
+seasonRows =
     -- the first date is included, the end date is not
     row quay (date 2024 2 29) (spring ∷ []) (value unnamed)
     ∷ row quay (date 2024 3 1) (spring ∷ []) (value quay)

@@ -9,8 +9,6 @@ use Rattle.reader.specs.Naming.{Naming, unnamed, naming, partOr}
 use Rattle.season.specs.Calendar.{isDate, isEnd, earlier}
 use Rattle.season.specs.declared.Date.{Date}
 use Rattle.season.specs.declared.Window.{Window}
-use Rattle.season.specs.declared.Standing.{Standing}
-use Rattle.season.specs.declared.Standing.the-variants.{Away, Holds, Turned, Undated}
 
 -- does the test hold of some window?
 unfoldable pub some : (Window → Bool) → List Window → Bool
@@ -26,8 +24,8 @@ unfoldable pub turned : Window → Bool
 turned w = not (earlier (w .first) (w .end))
 
 -- a "window of that id holds the date": the first date included, "the end date not included"
-unfoldable pub holds : ℕ → Date → Window → Bool
-holds id date w = eqb (w .id) id && not (earlier date (w .first)) && earlier date (w .end)
+unfoldable pub holdsDate : ℕ → Date → Window → Bool
+holdsDate id date w = eqb (w .id) id && not (earlier date (w .first)) && earlier date (w .end)
 
 -- of an id that the naming rule gives n: "gives its name exactly when it has one and some window of that id holds the date, else nothing"; 22 "first [for]
 -- the one asked about and then those of the windows in list order; after these a window that doesn't start before its end gives 23"
@@ -36,7 +34,7 @@ inSeason n id date windows =
     cond (not (isDate date)) (refusal 22)
     (cond (some undated windows) (refusal 22)
     (cond (some turned windows) (refusal 23)
-    (value (cond (some (holds id date) windows) n unnamed))))
+    (value (cond (some (holdsDate id date) windows) n unnamed))))
 
 -- "naming an id on a date", in an image
 abbrev pub namingOn : List ℕ → ℕ → Date → List Window → Outcome Naming
@@ -50,10 +48,3 @@ namedIn (refusal k) = unnamed
 -- the same as a returned part, empty if nothing or refused
 abbrev pub namePartOn : Slice → ℕ → Date → List Window → Slice
 namePartOn image id date windows = partOr image (part image 0 0) (namedIn (namingOn (image .bytes) id date windows))
-
--- what the windows alone say, in the same order
-unfoldable pub said : ℕ → Date → List Window → Standing
-said id date windows =
-    cond (some undated windows) Undated
-    (cond (some turned windows) Turned
-    (cond (some (holds id date) windows) Holds Away))

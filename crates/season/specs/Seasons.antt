@@ -9,7 +9,7 @@ use lib.ListN.{getElem?}
 use Rattle.jhash.specs.Outcome.{value, refusal}
 use Rattle.reader.specs.Naming.{place, naming}
 use Rattle.season.specs.Calendar.{monthLength, isDate, isEnd, earlier}
-use Rattle.season.specs.Rule.{some, undated, turned, holds, namingOn}
+use Rattle.season.specs.Rule.{some, undated, turned, holdsDate, namingOn}
 use Rattle.season.specs.declared.Date.{Date}
 use Rattle.season.specs.declared.Window.{Window}
 
@@ -33,11 +33,11 @@ pub record Seasons : Type 0 where
   pub some-window : (test : Window → Bool) (windows : List Window) → (some test windows ≡ true) ↔ SomeAt test windows
   -- a "window of that id holds the date": the first date included, "the end date not included"
   pub holds-exactly : (id : ℕ) (date : Date) (w : Window)
-      → (holds id date w ≡ true) ↔ ((w .id ≡ id) × (earlier date (w .first) ≡ false) × (earlier date (w .end) ≡ true))
+      → (holdsDate id date w ≡ true) ↔ ((w .id ≡ id) × (earlier date (w .first) ≡ false) × (earlier date (w .end) ≡ true))
   -- "gives its name exactly when it has one and some window of that id holds the date": a name on a date is the name of the naming rule
   pub named-exactly : (image : List ℕ) (id : ℕ) (date : Date) (windows : List Window) (start length : ℕ)
       → (namingOn image id date windows ≡ value (place start length))
-      ↔ (Accepted date windows × (naming image id ≡ place start length) × (some (holds id date) windows ≡ true))
+      ↔ (Accepted date windows × (naming image id ≡ place start length) × (some (holdsDate id date) windows ≡ true))
   -- 22 for "a date that doesn't exist or lies outside these bounds", the one asked about or a window's; "after these" 23
   pub gives-22 : (image : List ℕ) (id : ℕ) (date : Date) (windows : List Window)
       → (namingOn image id date windows ≡ refusal 22) ↔ ((isDate date ≡ false) ⊎ (some undated windows ≡ true))

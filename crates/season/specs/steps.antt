@@ -1,2 +1,3 @@
--- What describes the steps of code. No rule stands here: proofs/Laws joins it to the rule.
+-- What describes the steps of code. No rule stands here: proofs/WindowLaws joins it to the rule.
 pub mod Fold
+pub mod Saying

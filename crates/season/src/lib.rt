@@ -2,7 +2,8 @@
 ghost use mathlib.Core.Path.{_≡_};
 ghost use Rattle.reader.specs.Slices.{slice};
 ghost use Rattle.season.specs.Rule.{namingOn, namePartOn};
-ghost use Rattle.season.specs.Answers.{namedOnOf, placeBy, partBy};
+ghost use Rattle.season.specs.Cases.{namedOnOf};
+ghost use Rattle.season.specs.steps.Saying.{placeBy, partBy};
 use calendar::is_date;
 use reader::Named;
 use windows::standing;

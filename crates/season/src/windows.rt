@@ -1,6 +1,6 @@
 // What windows say of an id on a date.
 ghost use mathlib.Core.Path.{_≡_};
-ghost use Rattle.season.specs.Rule.{said};
+ghost use Rattle.season.specs.steps.Saying.{said};
 ghost use Rattle.season.specs.steps.Fold.{told, rank, stepped};
 use super::Date;
 use super::Standing;

@@ -5,8 +5,8 @@ use season::Standing;
 use season::Window;
 ghost use mathlib.Core.Path.{_≡_};
 ghost use Rattle.season.specs.Rule.{namingOn};
-ghost use Rattle.season.specs.Answers.{placeBy};
-ghost use Rattle.season_c.specs.Answer.{onAnswer};
+ghost use Rattle.season.specs.steps.Saying.{placeBy};
+ghost use Rattle.season_c.specs.NameOnAnswer.{onAnswer};
 
 // The refusal's number, 0 when accepted; 1 and the place of the name in the image, its length and its first byte's offset; or
 // zeros. The length is below 2^32, since it is an entry's length word minus 1.

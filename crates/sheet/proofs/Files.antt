@@ -11,65 +11,65 @@ use lib.ListN.{length, length-append}
 use lib.Seq.{take-all}
 use Rattle.jhash.specs.Outcome.{Outcome, value, refusal}
 use Rattle.sheet.specs.Format.{Lists, sheetBytes}
-use Rattle.sheet.specs.Reading.{endOf, next, sections, nothingLeft, reading, listsOf, readLists}
+use Rattle.sheet.specs.SheetReading.{partEnd, andThen, sections, nothingLeft, readSheet, listsOf, readLists}
 use Rattle.sheet.specs.RoundSheet.{Below, Fits}
 use Rattle.sheet.specs.declared.Sheet.{Sheet}
 use Rattle.sheet.proofs.Sheets.{Lie, Three, three-or-short, sheet-reads, lists-read, sheet-ends, front-again}
 
 module _ (file : List ℕ) where
-  pub reading-short : sections file ≡ refusal 19 → reading file ≡ refusal 19
-  unfolding reading
-  reading-short e = ap (λ (r : Outcome Sheet). next r (nothingLeft file)) e
+  pub reading-short : sections file ≡ refusal 19 → readSheet file ≡ refusal 19
+  unfolding readSheet
+  reading-short e = ap (λ (r : Outcome Sheet). andThen r (nothingLeft file)) e
 
   module _ (s : Sheet) (e : sections file ≡ value s) where
-    checked : reading file ≡ nothingLeft file s
-    unfolding reading
-    checked = ap (λ (r : Outcome Sheet). next r (nothingLeft file)) e
+    checked : readSheet file ≡ nothingLeft file s
+    unfolding readSheet
+    checked = ap (λ (r : Outcome Sheet). andThen r (nothingLeft file)) e
 
-    pub reading-left : endOf (s .retired) < length file → reading file ≡ refusal 20
-    reading-left h = checked ∙ simp (lt-ltb (endOf (s .retired)) (length file) h)
+    pub reading-left : partEnd (s .retired) < length file → readSheet file ≡ refusal 20
+    reading-left h = checked ∙ simp (lt-ltb (partEnd (s .retired)) (length file) h)
 
-    pub reading-whole : length file ≤ endOf (s .retired) → reading file ≡ value s
-    reading-whole h = checked ∙ simp (le-ltb (endOf (s .retired)) (length file) h)
+    pub reading-whole : length file ≤ partEnd (s .retired) → readSheet file ≡ value s
+    reading-whole h = checked ∙ simp (le-ltb (partEnd (s .retired)) (length file) h)
 
-  pub lists-of : (s : Sheet) → reading file ≡ value s → readLists file ≡ value (listsOf file s)
+  pub lists-of : (s : Sheet) → readSheet file ≡ value s → readLists file ≡ value (listsOf file s)
   unfolding readLists
-  lists-of s e = ap (λ (r : Outcome Sheet). next r (λ t. value (listsOf file t))) e
+  lists-of s e = ap (λ (r : Outcome Sheet). andThen r (λ t. value (listsOf file t))) e
 
-  pub no-lists : (n : ℕ) → reading file ≡ refusal n → readLists file ≡ refusal n
+  pub no-lists : (n : ℕ) → readSheet file ≡ refusal n → readLists file ≡ refusal n
   unfolding readLists
-  no-lists n e = ap (λ (r : Outcome Sheet). next r (λ t. value (listsOf file t))) e
+  no-lists n e = ap (λ (r : Outcome Sheet). andThen r (λ t. value (listsOf file t))) e
 
 -- every file is a sheet, or goes on behind one, or breaks off
 pub record Whole (file : List ℕ) : Type 0 where
   pub places : Sheet
   pub lie : Lie file places
-  pub read : reading file ≡ value places
-  pub end : endOf (places .retired) ≡ length file
+  pub read : readSheet file ≡ value places
+  pub end : partEnd (places .retired) ≡ length file
 
 pub record Longer (file : List ℕ) : Type 0 where
   pub places : Sheet
   pub lie : Lie file places
-  pub read : reading file ≡ refusal 20
-  pub end : endOf (places .retired) < length file
+  pub read : readSheet file ≡ refusal 20
+  pub end : partEnd (places .retired) < length file
 
 abbrev pub Cases : List ℕ → Type 0
-Cases file = Whole file ⊎ (Longer file ⊎ (reading file ≡ refusal 19))
+Cases file = Whole file ⊎ (Longer file ⊎ (readSheet file ≡ refusal 19))
 
 pub cases : (file : List ℕ) → Cases file
 cases file = found (three-or-short file)
   where
-    ended : (t : Three file) (left : Bool) → ltb (endOf (t .places .retired)) (length file) ≡ left → Cases file
+    ended : (t : Three file) (left : Bool) → ltb (partEnd (t .places .retired)) (length file) ≡ left → Cases file
     ended t true k =
-        let h = ltb-true (endOf (t .places .retired)) (length file) k in
+        let h = ltb-true (partEnd (t .places .retired)) (length file) k in
         inr (inl (record { places = t .places; lie = t .lie; read = reading-left file (t .places) (t .found) h; end = h }))
     ended t false k =
-        let h = ltb-false (endOf (t .places .retired)) (length file) k in
+        let h = ltb-false (partEnd (t .places .retired)) (length file) k in
         let inside = t .lie .retired .inside in
         inl (record { places = t .places; lie = t .lie; read = reading-whole file (t .places) (t .found) h; end = omega arith })
 
     found : Three file ⊎ (sections file ≡ refusal 19) → Cases file
-    found (inl t) = ended t (ltb (endOf (t .places .retired)) (length file)) refl
+    found (inl t) = ended t (ltb (partEnd (t .places .retired)) (length file)) refl
     found (inr short) = inr (inr (reading-short file short))
 
 -- ---- the file of three lists
@@ -81,7 +81,7 @@ sheet-back l fits =
     let read = reading-whole file _ (sheet-reads l [] fits) (omega (arith, sheet-ends l [], length-append (sheetBytes l) [])) in
     ap readLists (sym same) ∙ lists-of file _ read ∙ ap value (lists-read l [] fits)
 
-pub longer-read : (l : Lists) (rest : List ℕ) → Fits l → ¬ (rest ≡ []) → reading (sheetBytes l ++ rest) ≡ refusal 20
+pub longer-read : (l : Lists) (rest : List ℕ) → Fits l → ¬ (rest ≡ []) → readSheet (sheetBytes l ++ rest) ≡ refusal 20
 longer-read l [] fits n = absurd (n refl)
 longer-read l (x ∷ rest) fits n =
     reading-left (sheetBytes l ++ x ∷ rest) _ (sheet-reads l (x ∷ rest) fits)
@@ -90,4 +90,4 @@ longer-read l (x ∷ rest) fits n =
 -- a whole file is what the writer makes of its lists
 pub whole-again : (file : List ℕ) → Below 256 file → (w : Whole file) → sheetBytes (listsOf file (w .places)) ≡ file
 whole-again file below w =
-    front-again file (w .places) (w .lie) below ∙ take-all (endOf (w .places .retired)) file (omega (arith, w .end))
+    front-again file (w .places) (w .lie) below ∙ take-all (partEnd (w .places .retired)) file (omega (arith, w .end))

@@ -1,8 +1,8 @@
 -- The laws of the format, of the reader and of the writer, and the theorem.
-pub mod Words
+pub mod CountsAndIds
 pub mod Sections
 pub mod Sheets
 pub mod Files
-pub mod Stored
+pub mod SheetStored
 pub mod Theorem
 pub mod Rows

@@ -10,22 +10,19 @@ use lib.Dec.{ltb}
 use lib.ListN.{length, take, drop, length-append, length-take, length-drop, drop-of-length-le}
 use lib.Seq.{take-nil, take-all, take-at, drop-at, take-add, drop-drop, drop-append-seam, drop-append-add}
 use Rattle.jhash.specs.Outcome.{value, refusal}
+use Rattle.jhash.proofs.ValueOrRefusal.{no-value}
 use Rattle.sheet.specs.Format.{countAt, countBytes, ids, idBytes, sectionBytes}
-use Rattle.sheet.specs.Reading.{endOf, partOf, idsIn, sectionAt}
-use Rattle.sheet.specs.RoundSheet.{Below, Holdable, Holds}
+use Rattle.sheet.specs.SheetReading.{partEnd, partOf, idsIn, sectionAt}
+use Rattle.sheet.specs.RoundSheet.{Below, Holdable, HoldsIds}
 use Rattle.sheet.specs.declared.Place.{Place}
-use Rattle.sheet.proofs.Words.{below-drop, below-take, length-countBytes, count-back, count-below, count-drop, count-bytes}
-use Rattle.sheet.proofs.Words.{length-ids, length-idBytes, ids-below, ids-back, bytes-back}
-
--- a value is no refusal
-pub no-value : {A : Type 0} (x : A) (n : ℕ) → refusal n ≡ value x → ⊥
-no-value x n e = let z : _≡_ {A = ℕ} 0 1 = cc in omega arith
+use Rattle.sheet.proofs.CountsAndIds.{below-drop, below-take, length-countBytes, count-back, count-below, count-drop, count-bytes}
+use Rattle.sheet.proofs.CountsAndIds.{length-ids, length-idBytes, ids-below, ids-back, bytes-back}
 
 -- where the section at o was found
 pub record Lies (file : List ℕ) (o : ℕ) (p : Place) : Type 0 where
   pub start : p .start ≡ o + 2
   pub count : p .count ≡ countAt file o
-  pub inside : endOf p ≤ length file
+  pub inside : partEnd p ≤ length file
 
 pub record FoundAt (file : List ℕ) (o : ℕ) : Type 0 where
   pub place : Place
@@ -42,34 +39,34 @@ module _ (file : List ℕ) (o : ℕ) where
   unfolding sectionAt
   no-count h = simp (lt-ltb (length file) (o + 2) h)
 
-  pub no-ids : o + 2 ≤ length file → length file < endOf here → sectionAt file o ≡ refusal 19
+  pub no-ids : o + 2 ≤ length file → length file < partEnd here → sectionAt file o ≡ refusal 19
   unfolding sectionAt
-  no-ids h k = simp (le-ltb (length file) (o + 2) h, lt-ltb (length file) (endOf here) k)
+  no-ids h k = simp (le-ltb (length file) (o + 2) h, lt-ltb (length file) (partEnd here) k)
 
-  pub lies : endOf here ≤ length file → sectionAt file o ≡ value here
+  pub lies : partEnd here ≤ length file → sectionAt file o ≡ value here
   unfolding sectionAt
-  lies h = simp (le-ltb (length file) (o + 2) (omega arith), le-ltb (length file) (endOf here) h)
+  lies h = simp (le-ltb (length file) (o + 2) (omega arith), le-ltb (length file) (partEnd here) h)
 
   -- a section is found where it lies, or refused with 19
   pub found-or-short : FoundAt file o ⊎ (sectionAt file o ≡ refusal 19)
   found-or-short = counted (ltb (length file) (o + 2)) refl
     where
-      held : (t : Bool) → ltb (length file) (endOf here) ≡ t → o + 2 ≤ length file → FoundAt file o ⊎ (sectionAt file o ≡ refusal 19)
-      held true k c = inr (no-ids c (ltb-true (length file) (endOf here) k))
+      held : (t : Bool) → ltb (length file) (partEnd here) ≡ t → o + 2 ≤ length file → FoundAt file o ⊎ (sectionAt file o ≡ refusal 19)
+      held true k c = inr (no-ids c (ltb-true (length file) (partEnd here) k))
       held false k c =
-          let l = ltb-false (length file) (endOf here) k in
+          let l = ltb-false (length file) (partEnd here) k in
           inl (record { place = here; found = lies l; lies = record { start = refl; count = refl; inside = l } })
 
       counted : (t : Bool) → ltb (length file) (o + 2) ≡ t → FoundAt file o ⊎ (sectionAt file o ≡ refusal 19)
       counted true k = inr (no-count (ltb-true (length file) (o + 2) k))
-      counted false k = held (ltb (length file) (endOf here)) refl (ltb-false (length file) (o + 2) k)
+      counted false k = held (ltb (length file) (partEnd here)) refl (ltb-false (length file) (o + 2) k)
 
-  pub found-inside : (p : Place) → sectionAt file o ≡ value p → endOf p ≤ length file
+  pub found-inside : (p : Place) → sectionAt file o ≡ value p → partEnd p ≤ length file
   found-inside p e = by found-or-short
     where
-      by : FoundAt file o ⊎ (sectionAt file o ≡ refusal 19) → endOf p ≤ length file
-      by (inl f) = let same : f .place ≡ p = cc in omega (arith, ap endOf same, f .lies .inside)
-      by (inr short) = absurd (no-value p 19 (sym short ∙ e))
+      by : FoundAt file o ⊎ (sectionAt file o ≡ refusal 19) → partEnd p ≤ length file
+      by (inl f) = let same : f .place ≡ p = cc in omega (arith, ap partEnd same, f .lies .inside)
+      by (inr short) = absurd (no-value 19 p (sym short ∙ e))
 
 -- ---- a part by its start and end, also of a place that leaves the file
 
@@ -145,7 +142,7 @@ module _ (file : List ℕ) (o : ℕ) (p : Place) (l : Lies file o p) where
   ids-count : idsIn held ≡ ids (p .count) held
   ids-count = let n : length held / 4 ≡ p .count = omega (arith, part-length) in ap (λ (k : ℕ). ids k held) n
 
-  pub part-holds : Holds file p
+  pub part-holds : HoldsIds file p
   part-holds = record { bytes = part-length; number = ap length ids-count ∙ length-ids (p .count) held }
 
   module _ (below : Below 256 file) where

@@ -8,7 +8,7 @@ use lib.ListN.{length, take, drop, length-append, take-append-drop}
 use lib.Seq.{take-add}
 use Rattle.jhash.specs.Outcome.{Outcome, value, refusal}
 use Rattle.sheet.specs.Format.{sectionBytes, Lists, sheetBytes}
-use Rattle.sheet.specs.Reading.{endOf, partOf, idsIn, sectionAt, next, sections, listsOf}
+use Rattle.sheet.specs.SheetReading.{partEnd, partOf, idsIn, sectionAt, andThen, sections, listsOf}
 use Rattle.sheet.specs.RoundSheet.{Below, Fits}
 use Rattle.sheet.specs.declared.Place.{Place}
 use Rattle.sheet.specs.declared.Sheet.{Sheet}
@@ -30,38 +30,38 @@ sheet a b c = record { references = a; walls = b; retired = c }
 
 module _ (file : List ℕ) where
   abbrev from-walls : Place → Place → Outcome Sheet
-  from-walls a b = next (sectionAt file (endOf b)) (λ c. value (sheet a b c))
+  from-walls a b = andThen (sectionAt file (partEnd b)) (λ c. value (sheet a b c))
 
   abbrev from-references : Place → Outcome Sheet
-  from-references a = next (sectionAt file (endOf a)) (λ b. from-walls a b)
+  from-references a = andThen (sectionAt file (partEnd a)) (λ b. from-walls a b)
 
   module _ (a : Place) (ea : sectionAt file 0 ≡ value a) where
     behind-first : sections file ≡ from-references a
     unfolding sections
-    behind-first = ap (λ (r : Outcome Place). next r from-references) ea
+    behind-first = ap (λ (r : Outcome Place). andThen r from-references) ea
 
-    pub short-walls : sectionAt file (endOf a) ≡ refusal 19 → sections file ≡ refusal 19
-    short-walls e = behind-first ∙ ap (λ (r : Outcome Place). next r (from-walls a)) e
+    pub short-walls : sectionAt file (partEnd a) ≡ refusal 19 → sections file ≡ refusal 19
+    short-walls e = behind-first ∙ ap (λ (r : Outcome Place). andThen r (from-walls a)) e
 
-    module _ (b : Place) (eb : sectionAt file (endOf a) ≡ value b) where
+    module _ (b : Place) (eb : sectionAt file (partEnd a) ≡ value b) where
       behind-second : sections file ≡ from-walls a b
-      behind-second = behind-first ∙ ap (λ (r : Outcome Place). next r (from-walls a)) eb
+      behind-second = behind-first ∙ ap (λ (r : Outcome Place). andThen r (from-walls a)) eb
 
-      pub short-retired : sectionAt file (endOf b) ≡ refusal 19 → sections file ≡ refusal 19
-      short-retired e = behind-second ∙ ap (λ (r : Outcome Place). next r (λ c. value (sheet a b c))) e
+      pub short-retired : sectionAt file (partEnd b) ≡ refusal 19 → sections file ≡ refusal 19
+      short-retired e = behind-second ∙ ap (λ (r : Outcome Place). andThen r (λ c. value (sheet a b c))) e
 
-      pub all-three : (c : Place) → sectionAt file (endOf b) ≡ value c → sections file ≡ value (sheet a b c)
-      all-three c ec = behind-second ∙ ap (λ (r : Outcome Place). next r (λ c. value (sheet a b c))) ec
+      pub all-three : (c : Place) → sectionAt file (partEnd b) ≡ value c → sections file ≡ value (sheet a b c)
+      all-three c ec = behind-second ∙ ap (λ (r : Outcome Place). andThen r (λ c. value (sheet a b c))) ec
 
   pub short-references : sectionAt file 0 ≡ refusal 19 → sections file ≡ refusal 19
   unfolding sections
-  short-references e = ap (λ (r : Outcome Place). next r from-references) e
+  short-references e = ap (λ (r : Outcome Place). andThen r from-references) e
 
 -- the three lie one behind the other
 pub record Lie (file : List ℕ) (s : Sheet) : Type 0 where
   pub references : Lies file 0 (s .references)
-  pub walls : Lies file (endOf (s .references)) (s .walls)
-  pub retired : Lies file (endOf (s .walls)) (s .retired)
+  pub walls : Lies file (partEnd (s .references)) (s .walls)
+  pub retired : Lies file (partEnd (s .walls)) (s .retired)
 
 pub record Three (file : List ℕ) : Type 0 where
   pub places : Sheet
@@ -72,8 +72,8 @@ pub record Three (file : List ℕ) : Type 0 where
 pub three-or-short : (file : List ℕ) → Three file ⊎ (sections file ≡ refusal 19)
 three-or-short file = first (found-or-short file 0)
   where
-    third : (a : FoundAt file 0) (b : FoundAt file (endOf (a .place)))
-        → FoundAt file (endOf (b .place)) ⊎ (sectionAt file (endOf (b .place)) ≡ refusal 19)
+    third : (a : FoundAt file 0) (b : FoundAt file (partEnd (a .place)))
+        → FoundAt file (partEnd (b .place)) ⊎ (sectionAt file (partEnd (b .place)) ≡ refusal 19)
         → Three file ⊎ (sections file ≡ refusal 19)
     third a b (inl c) = inl (record {
       places = sheet (a .place) (b .place) (c .place);
@@ -82,13 +82,13 @@ three-or-short file = first (found-or-short file 0)
     })
     third a b (inr short) = inr (short-retired file (a .place) (a .found) (b .place) (b .found) short)
 
-    second : (a : FoundAt file 0) → FoundAt file (endOf (a .place)) ⊎ (sectionAt file (endOf (a .place)) ≡ refusal 19)
+    second : (a : FoundAt file 0) → FoundAt file (partEnd (a .place)) ⊎ (sectionAt file (partEnd (a .place)) ≡ refusal 19)
         → Three file ⊎ (sections file ≡ refusal 19)
-    second a (inl b) = third a b (found-or-short file (endOf (b .place)))
+    second a (inl b) = third a b (found-or-short file (partEnd (b .place)))
     second a (inr short) = inr (short-walls file (a .place) (a .found) short)
 
     first : FoundAt file 0 ⊎ (sectionAt file 0 ≡ refusal 19) → Three file ⊎ (sections file ≡ refusal 19)
-    first (inl a) = second a (found-or-short file (endOf (a .place)))
+    first (inl a) = second a (found-or-short file (partEnd (a .place)))
     first (inr short) = inr (short-references file short)
 
 -- ---- the file of three lists, and bytes behind it
@@ -110,10 +110,10 @@ module _ (l : Lists) (rest : List ℕ) where
   pa = record { start = 2; count = length (l .references) }
 
   abbrev pb : Place
-  pb = record { start = endOf pa + 2; count = length (l .walls) }
+  pb = record { start = partEnd pa + 2; count = length (l .walls) }
 
   abbrev pc : Place
-  pc = record { start = endOf pb + 2; count = length (l .retired) }
+  pc = record { start = partEnd pb + 2; count = length (l .retired) }
 
   at-front : file ≡ [] ++ (a ++ (b ++ (c ++ rest)))
   unfolding sheetBytes
@@ -127,23 +127,23 @@ module _ (l : Lists) (rest : List ℕ) where
   unfolding sheetBytes
   at-retired = append-assoc (a ++ b) c rest
 
-  end-a : length a ≡ endOf pa
+  end-a : length a ≡ partEnd pa
   end-a = length-section (l .references)
 
-  end-b : length (a ++ b) ≡ endOf pb
+  end-b : length (a ++ b) ≡ partEnd pb
   end-b = omega (arith, length-append a b, length-section (l .walls), end-a)
 
   module _ (fits : Fits l) where
     first-reads : sectionAt file 0 ≡ value pa
     first-reads = ap (λ (f : List ℕ). sectionAt f 0) at-front ∙ section-reads [] (l .references) (b ++ (c ++ rest)) (fits .references .count)
 
-    second-reads : sectionAt file (endOf pa) ≡ value pb
+    second-reads : sectionAt file (partEnd pa) ≡ value pb
     second-reads =
         ap₂ sectionAt at-walls (sym end-a)
         ∙ section-reads a (l .walls) (c ++ rest) (fits .walls .count)
         ∙ ap (λ (n : ℕ). value (record { start = n + 2; count = length (l .walls) })) end-a
 
-    third-reads : sectionAt file (endOf pb) ≡ value pc
+    third-reads : sectionAt file (partEnd pb) ≡ value pc
     third-reads =
         ap₂ sectionAt at-retired (sym end-b)
         ∙ section-reads (a ++ b) (l .retired) rest (fits .retired .count)
@@ -176,7 +176,7 @@ module _ (l : Lists) (rest : List ℕ) where
             ∙ ids-of (l .retired) (fits .retired .words)
 
   -- where the last part ends
-  pub sheet-ends : endOf pc ≡ length (sheetBytes l)
+  pub sheet-ends : partEnd pc ≡ length (sheetBytes l)
   sheet-ends = omega (arith, sized l)
 
 -- ---- the lists of a file in which three sections lie
@@ -185,25 +185,25 @@ module _ (file : List ℕ) (s : Sheet) (l : Lie file s) (below : Below 256 file)
   pub lists-fit : Fits (listsOf file s)
   lists-fit = record {
     references = holdable file 0 (s .references) (l .references) below;
-    walls = holdable file (endOf (s .references)) (s .walls) (l .walls) below;
-    retired = holdable file (endOf (s .walls)) (s .retired) (l .retired) below;
+    walls = holdable file (partEnd (s .references)) (s .walls) (l .walls) below;
+    retired = holdable file (partEnd (s .walls)) (s .retired) (l .retired) below;
   }
 
   -- their bytes are the front of the file
-  pub front-again : sheetBytes (listsOf file s) ≡ take (endOf (s .retired)) file
+  pub front-again : sheetBytes (listsOf file s) ≡ take (partEnd (s .retired)) file
   unfolding sheetBytes
   front-again =
       ap₂ _++_ (ap₂ _++_ (bytes-again file 0 (s .references) (l .references) below) (bytes-again file ea (s .walls) (l .walls) below))
       (bytes-again file eb (s .retired) (l .retired) below)
       ∙ ap (λ (n : ℕ). take n file ++ take (2 + 4 * s .walls .count) (drop ea file) ++ take (2 + 4 * s .retired .count) (drop eb file)) na
       ∙ ap (λ (xs : List ℕ). xs ++ take (2 + 4 * s .retired .count) (drop eb file)) (upto (2 + 4 * s .walls .count) ea eb nb)
-      ∙ upto (2 + 4 * s .retired .count) eb (endOf (s .retired)) nc
+      ∙ upto (2 + 4 * s .retired .count) eb (partEnd (s .retired)) nc
     where
       ea : ℕ
-      ea = endOf (s .references)
+      ea = partEnd (s .references)
 
       eb : ℕ
-      eb = endOf (s .walls)
+      eb = partEnd (s .walls)
 
       na : 2 + 4 * s .references .count ≡ ea
       na = omega (arith, l .references .start)
@@ -211,11 +211,11 @@ module _ (file : List ℕ) (s : Sheet) (l : Lie file s) (below : Below 256 file)
       nb : eb ≡ ea + (2 + 4 * s .walls .count)
       nb = omega (arith, l .walls .start)
 
-      nc : endOf (s .retired) ≡ eb + (2 + 4 * s .retired .count)
+      nc : partEnd (s .retired) ≡ eb + (2 + 4 * s .retired .count)
       nc = omega (arith, l .retired .start)
 
       upto : (n o e : ℕ) → e ≡ o + n → take o file ++ take n (drop o file) ≡ take e file
       upto n o e h = sym (ap (λ (k : ℕ). take k file) h ∙ take-add o n file)
 
-  pub file-again : sheetBytes (listsOf file s) ++ drop (endOf (s .retired)) file ≡ file
-  file-again = ap (λ (xs : List ℕ). xs ++ drop (endOf (s .retired)) file) front-again ∙ take-append-drop (endOf (s .retired)) file
+  pub file-again : sheetBytes (listsOf file s) ++ drop (partEnd (s .retired)) file ≡ file
+  file-again = ap (λ (xs : List ℕ). xs ++ drop (partEnd (s .retired)) file) front-again ∙ take-append-drop (partEnd (s .retired)) file

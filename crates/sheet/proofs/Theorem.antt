@@ -7,21 +7,22 @@ use mathlib.Core.List.{List, [], _∷_, _++_, append-nil}
 use lib.ListN.{length, take, drop, length-drop}
 use Rattle.jhash.specs.Outcome.{Outcome, value, refusal}
 use Rattle.sheet.specs.Format.{Lists, sheetBytes}
-use Rattle.sheet.specs.Reading.{endOf, reading, listsOf, readLists}
-use Rattle.sheet.specs.Writing.{writing, afterWriting}
-use Rattle.sheet.specs.RoundSheet.{Below, Fits, Placed, Holds, GoesOn, BreaksOff, OneOfThree, RoundSheet}
+use Rattle.sheet.specs.SheetReading.{partEnd, readSheet, listsOf, readLists}
+use Rattle.sheet.specs.SheetWriting.{writing, afterWriting}
+use Rattle.sheet.specs.RoundSheet.{Below, Fits, PartsPlaced, HoldsIds, GoesOn, BreaksOff, OneOfThree, RoundSheet}
 use Rattle.sheet.specs.declared.Sheet.{Sheet}
-use Rattle.sheet.proofs.Sections.{no-value, part-holds}
+use Rattle.jhash.proofs.ValueOrRefusal.{no-value}
+use Rattle.sheet.proofs.Sections.{part-holds}
 use Rattle.sheet.proofs.Sheets.{sized, lists-fit, file-again}
 use Rattle.sheet.proofs.Files.{Whole, Cases, cases, lists-of, no-lists, sheet-back, longer-read, whole-again}
-use Rattle.sheet.proofs.Stored.{accepted, file-in}
+use Rattle.sheet.proofs.SheetStored.{accepted, file-in}
 
 -- two answers of one file are one
-same-value : {A : Type 0} {r : Outcome A} (x y : A) → r ≡ value x → r ≡ value y → x ≡ y
-same-value x y p q = cc
+one-value : {A : Type 0} {r : Outcome A} (x y : A) → r ≡ value x → r ≡ value y → x ≡ y
+one-value x y p q = cc
 
 not-refused : {A : Type 0} {r : Outcome A} (x : A) (n : ℕ) → r ≡ value x → ¬ (r ≡ refusal n)
-not-refused x n p q = no-value x n (sym q ∙ p)
+not-refused x n p q = no-value n x (sym q ∙ p)
 
 two-refusals : {A : Type 0} {r : Outcome A} → r ≡ refusal 19 → ¬ (r ≡ refusal 20)
 two-refusals p q = let z : _≡_ {A = ℕ} 19 20 = cc in omega arith
@@ -33,7 +34,7 @@ is-sheet file l below e = by (cases file)
   where
     by : Cases file → Fits l × (sheetBytes l ≡ file)
     by (inl w) =
-        let same : listsOf file (w .places) ≡ l = same-value _ _ (lists-of file (w .places) (w .read)) e in
+        let same : listsOf file (w .places) ≡ l = one-value _ _ (lists-of file (w .places) (w .read)) e in
         (subst Fits same (lists-fit file (w .places) (w .lie) below), ap sheetBytes (sym same) ∙ whole-again file below w)
     by (inr (inl g)) = absurd (not-refused l 20 e (no-lists file 20 (g .read)))
     by (inr (inr short)) = absurd (not-refused l 19 e (no-lists file 19 short))
@@ -43,28 +44,28 @@ reads-as file l (fits, e) = ap readLists (sym e) ∙ sheet-back l fits
 
 -- ---- a file that breaks off, and one that goes on
 
-begins : (l : Lists) (rest : List ℕ) → Fits l → ¬ (reading (sheetBytes l ++ rest) ≡ refusal 19)
+begins : (l : Lists) (rest : List ℕ) → Fits l → ¬ (readSheet (sheetBytes l ++ rest) ≡ refusal 19)
 begins l [] fits e =
     not-refused l 19 (ap readLists (append-nil (sheetBytes l)) ∙ sheet-back l fits) (no-lists (sheetBytes l ++ []) 19 e)
 begins l (x ∷ rest) fits e = two-refusals e (longer-read l (x ∷ rest) fits (λ n. let z : _≡_ {A = ℕ} 0 1 = cc in omega arith))
 
-too-few : (file : List ℕ) → Below 256 file → (reading file ≡ refusal 19) ↔ BreaksOff file
-too-few file below = (λ e l rest fits f. begins l rest fits (ap reading f ∙ e), λ b. by b (cases file))
+too-few : (file : List ℕ) → Below 256 file → (readSheet file ≡ refusal 19) ↔ BreaksOff file
+too-few file below = (λ e l rest fits f. begins l rest fits (ap readSheet f ∙ e), λ b. by b (cases file))
   where
-    by : BreaksOff file → Cases file → reading file ≡ refusal 19
+    by : BreaksOff file → Cases file → readSheet file ≡ refusal 19
     by b (inl w) = absurd (b _ _ (lists-fit file (w .places) (w .lie) below) (file-again file (w .places) (w .lie) below))
     by b (inr (inl g)) = absurd (b _ _ (lists-fit file (g .places) (g .lie) below) (file-again file (g .places) (g .lie) below))
     by b (inr (inr short)) = short
 
-left-over : (file : List ℕ) → Below 256 file → (reading file ≡ refusal 20) ↔ GoesOn file
-left-over file below = (λ e. by e (cases file), λ (l, rest, fits, more, f). ap reading (sym f) ∙ longer-read l rest fits more)
+left-over : (file : List ℕ) → Below 256 file → (readSheet file ≡ refusal 20) ↔ GoesOn file
+left-over file below = (λ e. by e (cases file), λ (l, rest, fits, more, f). ap readSheet (sym f) ∙ longer-read l rest fits more)
   where
-    by : reading file ≡ refusal 20 → Cases file → GoesOn file
+    by : readSheet file ≡ refusal 20 → Cases file → GoesOn file
     by e (inl w) = absurd (not-refused (w .places) 20 (w .read) e)
     by e (inr (inl g)) =
         let s = g .places in
-        let rest = drop (endOf (s .retired)) file in
-        let more : ¬ (rest ≡ []) = λ n. omega (arith, length-drop (endOf (s .retired)) file, ap length n, g .end) in
+        let rest = drop (partEnd (s .retired)) file in
+        let more : ¬ (rest ≡ []) = λ n. omega (arith, length-drop (partEnd (s .retired)) file, ap length n, g .end) in
         (listsOf file s, rest, lists-fit file s (g .lie) below, more, file-again file s (g .lie) below)
     by e (inr (inr short)) = absurd (two-refusals short e)
 
@@ -78,31 +79,31 @@ one-of-three file = by (cases file)
 
 -- ---- where the parts stand
 
-of-whole : (P : Sheet → Type 0) (file : List ℕ) → ((w : Whole file) → P (w .places)) → (s : Sheet) → reading file ≡ value s → P s
+of-whole : (P : Sheet → Type 0) (file : List ℕ) → ((w : Whole file) → P (w .places)) → (s : Sheet) → readSheet file ≡ value s → P s
 of-whole P file f s e = by (cases file)
   where
     by : Cases file → P s
-    by (inl w) = subst P (same-value _ _ (w .read) e) (f w)
+    by (inl w) = subst P (one-value _ _ (w .read) e) (f w)
     by (inr (inl g)) = absurd (not-refused s 20 e (g .read))
     by (inr (inr short)) = absurd (not-refused s 19 e short)
 
-placed : (file : List ℕ) (s : Sheet) → reading file ≡ value s → Placed file s
-placed file = of-whole (Placed file) file (λ w. record {
+placed : (file : List ℕ) (s : Sheet) → readSheet file ≡ value s → PartsPlaced file s
+placed file = of-whole (PartsPlaced file) file (λ w. record {
   references = w .lie .references .start;
   walls = w .lie .walls .start;
   retired = w .lie .retired .start;
   end = w .end;
 })
 
-holds : (file : List ℕ) (s : Sheet) → reading file ≡ value s → Holds file (s .references) × Holds file (s .walls) × Holds file (s .retired)
+holds : (file : List ℕ) (s : Sheet) → readSheet file ≡ value s → HoldsIds file (s .references) × HoldsIds file (s .walls) × HoldsIds file (s .retired)
 holds file =
-    of-whole (λ (s : Sheet). Holds file (s .references) × Holds file (s .walls) × Holds file (s .retired)) file
+    of-whole (λ (s : Sheet). HoldsIds file (s .references) × HoldsIds file (s .walls) × HoldsIds file (s .retired)) file
     (λ w.
     let s = w .places in
     let l = w .lie in (
       part-holds file 0 (s .references) (l .references),
-      part-holds file (endOf (s .references)) (s .walls) (l .walls),
-      part-holds file (endOf (s .walls)) (s .retired) (l .retired),
+      part-holds file (partEnd (s .references)) (s .walls) (l .walls),
+      part-holds file (partEnd (s .walls)) (s .retired) (l .retired),
     ))
 
 -- ---- the writer

@@ -1,7 +1,7 @@
 -- What the functions answer, and what is proved of it.
 pub mod Format
-pub mod Reading
-pub mod Writing
-pub mod Answers
+pub mod SheetReading
+pub mod SheetWriting
+pub mod Cases
 pub mod RoundSheet
 pub mod Rows

@@ -7,8 +7,8 @@ use mathlib.Core.List.{List, [], _++_}
 use lib.ListN.{length, getD, take}
 use Rattle.jhash.specs.Outcome.{value, refusal}
 use Rattle.sheet.specs.Format.{Lists, sheetBytes}
-use Rattle.sheet.specs.Reading.{endOf, partOf, idsIn, reading, readLists}
-use Rattle.sheet.specs.Writing.{writing, afterWriting}
+use Rattle.sheet.specs.SheetReading.{partEnd, partOf, idsIn, readSheet, readLists}
+use Rattle.sheet.specs.SheetWriting.{writing, afterWriting}
 use Rattle.sheet.specs.declared.Place.{Place}
 use Rattle.sheet.specs.declared.Sheet.{Sheet}
 
@@ -28,14 +28,14 @@ pub record Fits (l : Lists) : Type 0 where
   pub retired : Holdable (l .retired)
 
 -- where the parts of a sheet stand: each right behind its count of two bytes, also where it is empty; the last one ends the file
-pub record Placed (file : List ℕ) (s : Sheet) : Type 0 where
+pub record PartsPlaced (file : List ℕ) (s : Sheet) : Type 0 where
   pub references : s .references .start ≡ 2
-  pub walls : s .walls .start ≡ endOf (s .references) + 2
-  pub retired : s .retired .start ≡ endOf (s .walls) + 2
-  pub end : endOf (s .retired) ≡ length file
+  pub walls : s .walls .start ≡ partEnd (s .references) + 2
+  pub retired : s .retired .start ≡ partEnd (s .walls) + 2
+  pub end : partEnd (s .retired) ≡ length file
 
 -- a part has four bytes for each of its ids, and as many ids as its section's count
-pub record Holds (file : List ℕ) (p : Place) : Type 0 where
+pub record HoldsIds (file : List ℕ) (p : Place) : Type 0 where
   pub bytes : length (partOf file p) ≡ 4 * p .count
   pub number : length (idsIn (partOf file p)) ≡ p .count
 
@@ -49,7 +49,7 @@ BreaksOff file = (l : Lists) (rest : List ℕ) → Fits l → ¬ (sheetBytes l +
 
 -- a sheet, 19 or 20
 abbrev pub OneOfThree : List ℕ → Type 0
-OneOfThree file = ((s : Sheet) × (reading file ≡ value s)) ⊎ ((reading file ≡ refusal 19) ⊎ (reading file ≡ refusal 20))
+OneOfThree file = ((s : Sheet) × (readSheet file ≡ value s)) ⊎ ((readSheet file ≡ refusal 19) ⊎ (readSheet file ≡ refusal 20))
 
 pub record RoundSheet : Type 0 where
   -- "What was written reads back as the same three lists": the file alone, and the buffer's first bytes, whatever stands behind them
@@ -63,15 +63,15 @@ pub record RoundSheet : Type 0 where
   pub injective : (f g : List ℕ) (l : Lists) → Below 256 f → Below 256 g → readLists f ≡ value l → readLists g ≡ value l → f ≡ g
   -- a file reads as these lists exactly when it is their sheet; "too few bytes give 19, left-over bytes 20", each exactly then
   pub sheet-exactly : (file : List ℕ) (l : Lists) → Below 256 file → (readLists file ≡ value l) ↔ (Fits l × (sheetBytes l ≡ file))
-  pub too-few-exactly : (file : List ℕ) → Below 256 file → (reading file ≡ refusal 19) ↔ BreaksOff file
-  pub left-over-exactly : (file : List ℕ) → Below 256 file → (reading file ≡ refusal 20) ↔ GoesOn file
+  pub too-few-exactly : (file : List ℕ) → Below 256 file → (readSheet file ≡ refusal 19) ↔ BreaksOff file
+  pub left-over-exactly : (file : List ℕ) → Below 256 file → (readSheet file ≡ refusal 20) ↔ GoesOn file
   -- every file gets one of the three, and no two of them
   pub one-of-three : (file : List ℕ) → OneOfThree file
-  pub not-both : (file : List ℕ) → reading file ≡ refusal 19 → ¬ (reading file ≡ refusal 20)
-  pub not-refused : (file : List ℕ) (s : Sheet) (n : ℕ) → reading file ≡ value s → ¬ (reading file ≡ refusal n)
+  pub not-both : (file : List ℕ) → readSheet file ≡ refusal 19 → ¬ (readSheet file ≡ refusal 20)
+  pub not-refused : (file : List ℕ) (s : Sheet) (n : ℕ) → readSheet file ≡ value s → ¬ (readSheet file ≡ refusal n)
   -- where the parts stand, and what they hold
-  pub placed : (file : List ℕ) (s : Sheet) → reading file ≡ value s → Placed file s
-  pub holds : (file : List ℕ) (s : Sheet) → reading file ≡ value s → Holds file (s .references) × Holds file (s .walls) × Holds file (s .retired)
+  pub placed : (file : List ℕ) (s : Sheet) → readSheet file ≡ value s → PartsPlaced file s
+  pub holds : (file : List ℕ) (s : Sheet) → readSheet file ≡ value s → HoldsIds file (s .references) × HoldsIds file (s .walls) × HoldsIds file (s .retired)
   -- 6 bytes and 4 for each id; so the longest file has 786,426
   pub sized : (l : Lists) → length (sheetBytes l) ≡ 6 + 4 * (length (l .references) + length (l .walls) + length (l .retired))
   pub longest : (l : Lists) → Fits l → length (sheetBytes l) ≤ 786426

@@ -5,8 +5,8 @@ use mathlib.Core.List.{List, [], _∷_, map}
 use lib.ListN.{length}
 use Rattle.jhash.specs.Outcome.{Outcome, value, refusal}
 use Rattle.sheet.specs.Format.{Lists}
-use Rattle.sheet.specs.Reading.{readLists}
-use Rattle.sheet.specs.Writing.{lent, writing, afterWriting}
+use Rattle.sheet.specs.SheetReading.{readLists}
+use Rattle.sheet.specs.SheetWriting.{lent, writing, afterWriting}
 
 -- a file, and the lists that it reads as
 pub record ReadRow : Type 0 where

@@ -1,22 +1,16 @@
 // The reader. It copies nothing: a part is lent from the file, and an id is put together from its bytes.
 ghost use mathlib.Core.Path.{_≡_};
-ghost use Prim.Native.Nat.{_+_, _*_, _<_, _≤_};
+ghost use Prim.Native.Nat.{_+_, _<_, _≤_};
 ghost use lib.ListN.{length, getD};
 ghost use Rattle.sheet.specs.Format.{countAt};
-ghost use Rattle.sheet.specs.Reading.{endOf, partOf, idsIn, sectionAt, reading, placeOf, partIn};
-ghost use Rattle.sheet.specs.Answers.{foundOf, readOf};
+ghost use Rattle.sheet.specs.SheetReading.{partEnd, partOf, idsIn, sectionAt, readSheet, sectionOf, partOrEmpty};
+ghost use Rattle.sheet.specs.Cases.{foundOf, readOf};
 use super::Found;
 use super::Place;
 use super::ReadAnswer;
 use super::Sheet;
 use super::Which;
-
-// A byte as a number of 32 bits.
-fn wide(x: u8) -> u32
-    ensures { λ r. ⌜ (r ≡ x) × (r < 256) ⌝ }
-{
-    x as u32
-}
+use jhash::word::wide;
 
 // The 16-bit count at `at`.
 fn count_at(file: &[u8], at: usize) -> u32
@@ -49,15 +43,15 @@ fn section_at(file: &[u8], at: usize) -> Found
 
 // Where a part ends.
 fn end_of(p: Place) -> usize
-    requires { ⌜ endOf p < 18446744073709551616 ⌝ }
-    ensures { λ r. ⌜ r ≡ endOf p ⌝ }
+    requires { ⌜ partEnd p < 18446744073709551616 ⌝ }
+    ensures { λ r. ⌜ r ≡ partEnd p ⌝ }
 {
     p.start + 4 * (p.count as usize)
 }
 
 // The parts of the three sections, or the refusal.
 pub fn read(file: &[u8]) -> ReadAnswer
-    ensures { λ r. ⌜ readOf r ≡ reading (now (file .entry)) ⌝ }
+    ensures { λ r. ⌜ readOf r ≡ readSheet (now (file .entry)) ⌝ }
 {
     let Found::At(references) = section_at(file, 0) else {
         return ReadAnswer::TooFew;
@@ -96,7 +90,7 @@ pub fn part<'a>(file: &'a [u8], p: Place) -> &'a [u8]
 
 // The place of one of the three.
 fn place_of(s: Sheet, which: Which) -> Place
-    ensures { λ r. ⌜ r ≡ placeOf s which ⌝ }
+    ensures { λ r. ⌜ r ≡ sectionOf s which ⌝ }
 {
     match which {
         Which::References => {
@@ -116,7 +110,7 @@ fn place_of(s: Sheet, which: Which) -> Place
 
 // The part of the file that holds a section's ids, empty where the file is refused.
 pub fn section<'a>(file: &'a [u8], which: Which) -> &'a [u8]
-    ensures { λ r. ⌜ now r ≡ partIn (now (file .entry)) which (reading (now (file .entry))) ⌝ }
+    ensures { λ r. ⌜ now r ≡ partOrEmpty (now (file .entry)) which (readSheet (now (file .entry))) ⌝ }
 {
     match read(file) {
         ReadAnswer::Whole(s) => part(file, place_of(s, which)),

@@ -4,8 +4,8 @@ ghost use Prim.Native.Nat.{_+_, _*_, _<_, _≤_};
 ghost use lib.ListN.{length};
 ghost use lib.Seq.{sets};
 ghost use Rattle.sheet.specs.Format.{idBytes, sectionBytes};
-ghost use Rattle.sheet.specs.Writing.{lent, writing, afterWriting};
-ghost use Rattle.sheet.specs.Answers.{writtenOf};
+ghost use Rattle.sheet.specs.SheetWriting.{lent, writing, afterWriting};
+ghost use Rattle.sheet.specs.Cases.{writtenOf};
 use super::Written;
 
 // The bytes of ids stored from `at` on.

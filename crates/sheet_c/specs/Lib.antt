@@ -1,2 +1,2 @@
 -- What the exported calls answer.
-pub mod Sheets
+pub mod SheetAnswers

@@ -4,9 +4,9 @@ use sheet::Sheet;
 use sheet::Written;
 ghost use mathlib.Core.Path.{_≡_};
 ghost use lib.ListN.{length};
-ghost use Rattle.sheet.specs.Reading.{reading};
-ghost use Rattle.sheet.specs.Writing.{lent, writing, afterWriting};
-ghost use Rattle.sheet_c.specs.Sheets.{sheetAnswer, lengthAnswer, partsAnswer, noSheet};
+ghost use Rattle.sheet.specs.SheetReading.{readSheet};
+ghost use Rattle.sheet.specs.SheetWriting.{lent, writing, afterWriting};
+ghost use Rattle.sheet_c.specs.SheetAnswers.{sheetAnswer, lengthAnswer, partsAnswer, noSheet};
 
 // The refusal's number, 0 when the file was accepted; then, for references, wall prisms and retired prisms, the number of ids
 // and the offset of the first one's bytes, all 0 when refused.
@@ -52,7 +52,7 @@ fn no_sheet(refusal: u32) -> SheetAnswer
 // The parts of a file's three sections, or refusal 19 or 20.
 #[no_mangle]
 pub extern "C" fn cqdb_sheet_read(file: &[u8]) -> SheetAnswer
-    ensures { λ r. ⌜ r ≡ sheetAnswer (reading (now (file .entry))) ⌝ }
+    ensures { λ r. ⌜ r ≡ sheetAnswer (readSheet (now (file .entry))) ⌝ }
 {
     match sheet::read(file) {
         ReadAnswer::Whole(s) => parts(s),

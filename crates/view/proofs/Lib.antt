@@ -1,2 +1,2 @@
 -- Laws that the proofs of the view share.
-pub mod Thin
+pub mod OverView

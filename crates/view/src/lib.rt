@@ -5,7 +5,8 @@ ghost use Rattle.reader.specs.Open.{opening};
 ghost use Rattle.reader.specs.Lookup.{lookup};
 ghost use Rattle.reader.specs.Slices.{slice};
 ghost use Rattle.reader.specs.Naming.{naming, namePart};
-ghost use Rattle.reader.specs.Walk.{step, home};
+ghost use Rattle.reader.specs.IdWalk.{step};
+ghost use Rattle.agreement.specs.Home.{home};
 ghost use Rattle.reader.specs.Cases.{openedOf, lookupOf, namingOf, steppedOf};
 ghost use Rattle.view.specs.Num.{numOf};
 use reader::Iter;
@@ -71,18 +72,18 @@ impl<'a> CQDB<'a> {
         reader::name(self.image, id)
     }
 
-    // The next step of a walk, which begins with `reader::walk::iter`.
+    // The next step of a walk, which begins with `reader::id_walk::iter`.
     pub fn next(self, walk: Iter) -> Stepped
         ensures { λ r. ⌜ steppedOf r ≡ step (now (self .entry .image)) (walk .next) ⌝ }
     {
-        reader::walk::next(self.image, walk)
+        reader::id_walk::next(self.image, walk)
     }
 
     // Has the id a name, and has some entry that the search for that name meets this name and this id?
     pub fn home(self, id: u32) -> bool
         ensures { λ r. ⌜ r ≡ home (now (self .entry .image)) id ⌝ }
     {
-        reader::home(self.image, id)
+        agreement::home(self.image, id)
     }
 }
 

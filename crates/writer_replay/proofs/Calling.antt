@@ -1,7 +1,7 @@
 -- Lines that call the writer, over plain values. Assumes nothing.
-use Prim.Native.Nat.{ℕ, zero, suc, _+_, _-_, _≤_, _<_}
+use Prim.Native.Nat.{ℕ, _+_, _-_, _≤_, _<_}
 use native.Mathlib.Omega.{arith}
-use mathlib.Core.Path.{_≡_, refl, sym, ap, _∙_}
+use mathlib.Core.Path.{_≡_, sym, ap, _∙_}
 use mathlib.Core.List.{List, _++_}
 use borrow.Author.Tests.{le-ltb, lt-ltb}
 use borrow.Rule.Slice.PartMut.{postOf, post-is}
@@ -25,11 +25,11 @@ use Rattle.replay_lines.specs.declared.Verdict.{Verdict}
 use Rattle.replay_lines.specs.declared.Verdict.the-variants.{Different, Malformed, Silent}
 use Rattle.writer_replay.specs.declared.State.{State}
 use Rattle.writer_replay.specs.declared.Built.{Built}
-use Rattle.writer_replay.specs.Build.{given, built, silentIf, begunWith, begins, part, with, puts, closedWith, closes}
+use Rattle.writer_replay.specs.CallLines.{writingOf, built, silentIf, begunWith, begins, lentPart, putJudged, closedWith, closes}
 
 -- a fresh record for the first n bytes of the buffer, by what `begin` promises of the answer b and of the counts that it leaves
 module _ (s : State) (counts left buffer : List ℕ) (mode : Mode) (n : ℕ) (r : Built) where
-  pub begins-more : length buffer < n → r ≡ record { state = s; verdict = Malformed } → built r counts buffer ≡ begins (given s counts buffer) mode n
+  pub begins-more : length buffer < n → r ≡ record { state = s; verdict = Malformed } → built r counts buffer ≡ begins (writingOf s counts buffer) mode n
   unfolding begins
   begins-more h er = rw (er, lt-ltb (length buffer) n h)
 
@@ -40,27 +40,27 @@ module _ (s : State) (counts left buffer : List ℕ) (mode : Mode) (n : ℕ) (r 
         let e : n - 0 ≡ n = omega arith in
         rw e (length-take-le n buffer h)
 
-    begins-as : (x : Outcome CQDBWriter) → begunOf b ≡ x → built r left buffer ≡ begunWith (given s counts buffer) left x
-        → built r left buffer ≡ begins (given s counts buffer) mode n
+    begins-as : (x : Outcome CQDBWriter) → begunOf b ≡ x → built r left buffer ≡ begunWith (writingOf s counts buffer) left x
+        → built r left buffer ≡ begins (writingOf s counts buffer) mode n
     unfolding begins
     begins-as x told e =
         rw (le-ltb (length buffer) n h, ← sized, ← promise, told, ← leaves) e
 
     pub begins-fresh : (w : CQDBWriter) → b ≡ Fresh w → r ≡ record { state = record { writer = w; size = 0; done = 0 }; verdict = Silent }
-        → built r left buffer ≡ begins (given s counts buffer) mode n
+        → built r left buffer ≡ begins (writingOf s counts buffer) mode n
     begins-fresh w told er = begins-as (value w) (ap begunOf told) (rw er)
 
     pub begins-refused : (k : ℕ) → begunOf b ≡ refusal k → r ≡ record { state = s; verdict = Different }
-        → built r left buffer ≡ begins (given s counts buffer) mode n
+        → built r left buffer ≡ begins (writingOf s counts buffer) mode n
     begins-refused k told er = begins-as (refusal k) told (rw er)
 
 -- a buffer that is shorter than the record's
 module _ (s : State) (counts buffer : List ℕ) (r : Built) (h : length buffer < s .writer .length) (er : r ≡ record { state = s; verdict = Malformed }) where
-  pub puts-more : (due id : ℕ) (name : List ℕ) → built r counts buffer ≡ puts (given s counts buffer) due id name
-  unfolding puts
+  pub puts-more : (due id : ℕ) (name : List ℕ) → built r counts buffer ≡ putJudged (writingOf s counts buffer) due id name
+  unfolding putJudged
   puts-more due id name = rw (er, lt-ltb (length buffer) (s .writer .length) h)
 
-  pub closes-more : (size : ℕ) → built r counts buffer ≡ closes (given s counts buffer) size
+  pub closes-more : (size : ℕ) → built r counts buffer ≡ closes (writingOf s counts buffer) size
   unfolding closes
   closes-more size = rw (er, lt-ltb (length buffer) (s .writer .length) h)
 
@@ -69,7 +69,7 @@ module _ (s : State) (counts left buffer bytes : List ℕ) (w : CQDBWriter) (r :
   abbrev lends : writer.State
   lends = stateWith (s .writer) counts (take (s .writer .length - 0) buffer)
 
-  lends-part : lends ≡ part (given s counts buffer)
+  lends-part : lends ≡ lentPart (writingOf s counts buffer)
   lends-part =
       let e : s .writer .length - 0 ≡ s .writer .length = omega arith in
       ap (λ (n : ℕ). stateWith (s .writer) counts (take n buffer)) e
@@ -83,27 +83,27 @@ module _ (s : State) (counts left buffer bytes : List ℕ) (w : CQDBWriter) (r :
   -- put, whose answer has the number k
   pub puts-as : (due id k : ℕ) (name : List ℕ) (v : Verdict) → k ≡ putRefusal lends (entryOf name id) → stateWith w left bytes ≡ afterPut lends (entryOf name id)
       → v ≡ silentIf (eqb k due) → r ≡ record { state = record { writer = w; size = s .size; done = s .done }; verdict = v }
-      → built r left whole ≡ puts (given s counts buffer) due id name
-  unfolding puts
+      → built r left whole ≡ putJudged (writingOf s counts buffer) due id name
+  unfolding putJudged
   puts-as due id k name v promise leaves ev er =
-      let number : k ≡ putRefusal (part (given s counts buffer)) (entryOf name id) = promise ∙ ap (λ (l : writer.State). putRefusal l (entryOf name id)) lends-part in
-      let after : stateWith w left bytes ≡ afterPut (part (given s counts buffer)) (entryOf name id) = leaves ∙ ap (λ (l : writer.State). afterPut l (entryOf name id)) lends-part in
+      let number : k ≡ putRefusal (lentPart (writingOf s counts buffer)) (entryOf name id) = promise ∙ ap (λ (l : writer.State). putRefusal l (entryOf name id)) lends-part in
+      let after : stateWith w left bytes ≡ afterPut (lentPart (writingOf s counts buffer)) (entryOf name id) = leaves ∙ ap (λ (l : writer.State). afterPut l (entryOf name id)) lends-part in
       ap (built r left) put-back ∙ rw (le-ltb (length buffer) (s .writer .length) h, er, ev, ← number, ← after)
 
   -- close, by what it promises of the answer a
   module _ (a : Closed) (size : ℕ) (promise : closedOf a ≡ closing lends) (leaves : stateWith w counts bytes ≡ afterClose lends) where
-    closes-as : (x : Outcome ℕ) → closedOf a ≡ x → built r counts whole ≡ closedWith (given s counts buffer) (stateWith w counts bytes) size x
-        → built r counts whole ≡ closes (given s counts buffer) size
+    closes-as : (x : Outcome ℕ) → closedOf a ≡ x → built r counts whole ≡ closedWith (writingOf s counts buffer) (stateWith w counts bytes) size x
+        → built r counts whole ≡ closes (writingOf s counts buffer) size
     unfolding closes
     closes-as x told e =
-        let answer : x ≡ closing (part (given s counts buffer)) = sym told ∙ promise ∙ ap closing lends-part in
-        let after : stateWith w counts bytes ≡ afterClose (part (given s counts buffer)) = leaves ∙ ap afterClose lends-part in
+        let answer : x ≡ closing (lentPart (writingOf s counts buffer)) = sym told ∙ promise ∙ ap closing lends-part in
+        let after : stateWith w counts bytes ≡ afterClose (lentPart (writingOf s counts buffer)) = leaves ∙ ap afterClose lends-part in
         rw (le-ltb (length buffer) (s .writer .length) h, ← answer, ← after) e
 
     pub closes-size : (k : ℕ) (v : Verdict) → a ≡ Size k → v ≡ verdictIf (eqb k size)
-        → r ≡ record { state = record { writer = w; size = k; done = 0 }; verdict = v } → built r counts whole ≡ closes (given s counts buffer) size
+        → r ≡ record { state = record { writer = w; size = k; done = 0 }; verdict = v } → built r counts whole ≡ closes (writingOf s counts buffer) size
     closes-size k v told ev er = closes-as (value k) (ap closedOf told) (ap (built r counts) put-back ∙ rw (er, ev))
 
     pub closes-refused : (k : ℕ) → closedOf a ≡ refusal k
-        → r ≡ record { state = record { writer = w; size = s .size; done = s .done }; verdict = Different } → built r counts whole ≡ closes (given s counts buffer) size
+        → r ≡ record { state = record { writer = w; size = s .size; done = s .done }; verdict = Different } → built r counts whole ≡ closes (writingOf s counts buffer) size
     closes-refused k told er = closes-as (refusal k) told (ap (built r counts) put-back ∙ rw er)

@@ -2,23 +2,23 @@
 use Prim.Native.Nat.{ℕ, _+_, _-_, _≤_, _<_}
 use native.Mathlib.Omega.{arith}
 use native.Mathlib.Numerals.{add-one}
-use mathlib.Core.Path.{_≡_, refl, sym, ap, _∙_}
-use mathlib.Core.Bool.{Bool, true, false, cond, _&&_}
-use mathlib.Core.List.{List, []}
+use mathlib.Core.Path.{_≡_, sym, ap, _∙_}
+use mathlib.Core.Bool.{Bool, true, false, _&&_}
+use mathlib.Core.List.{List}
 use borrow.Author.Tests.{eq-eqb, ne-eqb, le-ltb, lt-ltb}
 use lib.Dec.{eqb}
 use lib.ListN.{length, getD, take, drop, drop-of-length-le, length-drop, length-take}
-use lib.Seq.{take-all, take-nil, drop-cons, drop-length}
+use lib.Seq.{take-all, take-nil, drop-cons}
 use Rattle.image.specs.Bytes.{same}
-use Rattle.replay_lines.specs.Lines.{Judged, judged}
+use Rattle.replay_lines.specs.Replay.{judged}
 use Rattle.replay_lines.specs.Verdicts.{verdictIf}
 use Rattle.replay_lines.specs.declared.Verdict.{Verdict}
 use Rattle.replay_lines.specs.declared.Verdict.the-variants.{Malformed}
 use Rattle.writer_replay.specs.declared.State.{State}
 use Rattle.writer_replay.specs.declared.Built.{Built}
 use Rattle.writer_replay.specs.declared.Compared.{Compared}
-use Rattle.writer_replay.specs.Look.{compared, areNext, allZero, zerosNext, looking}
-use Rattle.writer_replay.specs.Replay.{lookedWith, looked}
+use Rattle.writer_replay.specs.ImageLines.{comparedOf, areNext, allZero, zerosNext, looking}
+use Rattle.writer_replay.specs.WritingLines.{lookedWith, looked}
 
 -- the bytes that follow the compared ones: none, fewer than n, or n
 module _ (image : List ℕ) (done n : ℕ) where
@@ -69,8 +69,8 @@ module _ (image : List ℕ) (done n : ℕ) (bytes : List ℕ) (v : Verdict) (is 
 
 -- a line about the image: the buffer's first bytes, or more than there are
 module _ (s : State) (buffer : List ℕ) (tag : ℕ) (first second : List ℕ) (r : Built) where
-  pub looks : (l : Compared) → s .size ≤ length buffer → compared l ≡ looking (take (s .size - 0) buffer) (s .done) tag first second
-      → r ≡ lookedWith s (compared l) → r ≡ looked s buffer tag first second
+  pub looks : (l : Compared) → s .size ≤ length buffer → comparedOf l ≡ looking (take (s .size - 0) buffer) (s .done) tag first second
+      → r ≡ lookedWith s (comparedOf l) → r ≡ looked s buffer tag first second
   unfolding looked
   looks l h el er =
       let e : s .size - 0 ≡ s .size = omega arith in

@@ -1,4 +1,4 @@
 -- What a line of the replay means: its verdict, and what it leaves.
-pub mod Build
-pub mod Look
-pub mod Replay
+pub mod CallLines
+pub mod ImageLines
+pub mod WritingLines

@@ -1,6 +1,6 @@
 // The writer's calls.
 ghost use mathlib.Core.Path.{_≡_};
-ghost use Rattle.writer_replay.specs.Build.{given, built, silentIf, calls, begins, puts, putsNamed, closes, called};
+ghost use Rattle.writer_replay.specs.CallLines.{writingOf, built, silentIf, calls, begins, putJudged, putsNamed, closes, called};
 use super::Built;
 use super::State;
 use super::judged;
@@ -9,19 +9,14 @@ use replay_lines::Bytes;
 use replay_lines::Verdict;
 use replay_lines::equal_if;
 use replay_lines::hex;
+use replay_lines::tags::FULL;
+use replay_lines::tags::NEW1;
+use replay_lines::tags::NEW2;
+use replay_lines::tags::PUTS;
+use replay_lines::tags::SIZE;
 use writer::Begun;
 use writer::Closed;
 use writer::Repeats;
-
-const NEW2: u32 = 0x6e65_7732;
-
-const NEW1: u32 = 0x6e65_7731;
-
-const PUTS: u32 = 0x7075_7473;
-
-const FULL: u32 = 0x6675_6c6c;
-
-const SIZE: u32 = 0x7369_7a65;
 
 // Is a line with this tag a call?
 pub(super) fn calls(tag: u32) -> bool
@@ -43,7 +38,7 @@ fn silent_if(same: bool) -> Verdict
 
 // A fresh record for the first n bytes of the buffer, in the repeats mode: the Rust takes every repeat.
 fn begin(s: State, mode: Mode, n: usize, counts: &mut [u32; 256], buf: &[u8]) -> Built
-    ensures { λ r. ⌜ built r (now (counts .exit)) (now (buf .entry)) ≡ begins (given s (now (counts .entry)) (now (buf .entry))) mode n ⌝ }
+    ensures { λ r. ⌜ built r (now (counts .exit)) (now (buf .entry)) ≡ begins (writingOf s (now (counts .entry)) (now (buf .entry))) mode n ⌝ }
 {
     let w = s.writer;
     if buf.len() < n {
@@ -64,7 +59,7 @@ fn put_name(
     counts: &mut [u32; 256],
     buf: &mut [u8],
 ) -> Built
-    ensures { λ r. ⌜ built r (now (counts .exit)) (now (buf .exit)) ≡ puts (given s (now (counts .entry)) (now (buf .entry))) due id (now (name .entry)) ⌝ }
+    ensures { λ r. ⌜ built r (now (counts .exit)) (now (buf .exit)) ≡ putJudged (writingOf s (now (counts .entry)) (now (buf .entry))) due id (now (name .entry)) ⌝ }
 {
     let w = s.writer;
     let n = w.length as usize;
@@ -79,7 +74,7 @@ fn put_name(
 
 // The same, where the name is in hexadecimal digits.
 fn put(s: State, due: u32, id: u32, name: &[u8], counts: &mut [u32; 256], buf: &mut [u8]) -> Built
-    ensures { λ r. ⌜ built r (now (counts .exit)) (now (buf .exit)) ≡ putsNamed (given s (now (counts .entry)) (now (buf .entry))) due id (now (name .entry)) ⌝ }
+    ensures { λ r. ⌜ built r (now (counts .exit)) (now (buf .exit)) ≡ putsNamed (writingOf s (now (counts .entry)) (now (buf .entry))) due id (now (name .entry)) ⌝ }
 {
     let w = s.writer;
     let mut room = io::buffer();
@@ -91,7 +86,7 @@ fn put(s: State, due: u32, id: u32, name: &[u8], counts: &mut [u32; 256], buf: &
 
 // The size that close gives.
 fn close(s: State, size: u32, counts: &[u32; 256], buf: &mut [u8]) -> Built
-    ensures { λ r. ⌜ built r (now (counts .entry)) (now (buf .exit)) ≡ closes (given s (now (counts .entry)) (now (buf .entry))) size ⌝ }
+    ensures { λ r. ⌜ built r (now (counts .entry)) (now (buf .exit)) ≡ closes (writingOf s (now (counts .entry)) (now (buf .entry))) size ⌝ }
 {
     let w = s.writer;
     let n = w.length as usize;
@@ -116,7 +111,7 @@ pub(super) fn called(
     counts: &mut [u32; 256],
     buf: &mut [u8],
 ) -> Built
-    ensures { λ r. ⌜ built r (now (counts .exit)) (now (buf .exit)) ≡ called (given s (now (counts .entry)) (now (buf .entry))) tag n (now (name .entry)) ⌝ }
+    ensures { λ r. ⌜ built r (now (counts .exit)) (now (buf .exit)) ≡ called (writingOf s (now (counts .entry)) (now (buf .entry))) tag n (now (name .entry)) ⌝ }
 {
     if tag == NEW2 {
         return begin(s, Mode::Twoway, n as usize, &mut *counts, &*buf);

@@ -1,7 +1,7 @@
 // What an image is: its hashes, or its bytes one part after the other.
 ghost use mathlib.Core.Path.{_≡_};
 ghost use lib.ListN.{take, drop};
-ghost use Rattle.writer_replay.specs.Look.{compared, allZero, hashes, part, zeros, looking};
+ghost use Rattle.writer_replay.specs.ImageLines.{comparedOf, allZero, hashes, partCompared, zeros, looking};
 use super::Compared;
 use replay_lines::Bytes;
 use replay_lines::Number;
@@ -11,14 +11,10 @@ use replay_lines::equal_if;
 use replay_lines::has_hash;
 use replay_lines::hex;
 use replay_lines::same;
-
-const HASH: u32 = 0x6861_7368;
-
-const PART: u32 = 0x7061_7274;
-
-const ZERO: u32 = 0x7a65_726f;
-
-const ENDS: u32 = 0x656e_6473;
+use replay_lines::tags::ENDS;
+use replay_lines::tags::HASH;
+use replay_lines::tags::PART;
+use replay_lines::tags::ZERO;
 
 // The hashes with two start values.
 fn hashes(image: &[u8], first: &[u8], second: &[u8]) -> Verdict
@@ -62,7 +58,7 @@ fn all_zero(bytes: &[u8]) -> bool
 
 // The next bytes are these.
 fn part(image: &[u8], done: usize, text: &[u8]) -> Compared
-    ensures { λ r. ⌜ compared r ≡ part (now (image .entry)) done (now (text .entry)) ⌝ }
+    ensures { λ r. ⌜ comparedOf r ≡ partCompared (now (image .entry)) done (now (text .entry)) ⌝ }
 {
     let mut room = io::buffer();
     match hex::decode(text, &mut room) {
@@ -82,7 +78,7 @@ fn part(image: &[u8], done: usize, text: &[u8]) -> Compared
 
 // The next bytes, so many, are zeros.
 fn zeros(image: &[u8], done: usize, n: &[u8]) -> Compared
-    ensures { λ r. ⌜ compared r ≡ zeros (now (image .entry)) done (now (n .entry)) ⌝ }
+    ensures { λ r. ⌜ comparedOf r ≡ zeros (now (image .entry)) done (now (n .entry)) ⌝ }
 {
     match hex::word(n) {
         Number::Value(n) => {
@@ -101,7 +97,7 @@ fn zeros(image: &[u8], done: usize, n: &[u8]) -> Compared
 
 // A line about the image.
 pub(super) fn line(done: usize, tag: u32, first: &[u8], second: &[u8], image: &[u8]) -> Compared
-    ensures { λ r. ⌜ compared r ≡ looking (now (image .entry)) done tag (now (first .entry)) (now (second .entry)) ⌝ }
+    ensures { λ r. ⌜ comparedOf r ≡ looking (now (image .entry)) done tag (now (first .entry)) (now (second .entry)) ⌝ }
 {
     if tag == HASH {
         return Compared {

@@ -17,9 +17,9 @@ mod build; // build.rt: calls, called
 mod look; // look.rt: line
 
 ghost use mathlib.Core.Path.{_≡_};
-ghost use Rattle.replay_lines.specs.Lines.{replayed};
-ghost use Rattle.writer_replay.specs.Build.{noRecord, given, built};
-ghost use Rattle.writer_replay.specs.Replay.{looked, tagged, judge};
+ghost use Rattle.replay_lines.specs.Replay.{replayed};
+ghost use Rattle.writer_replay.specs.CallLines.{noRecord, writingOf, built};
+ghost use Rattle.writer_replay.specs.WritingLines.{looked, taggedWriting, judgeWriting};
 use image::Mode;
 use libc::STDIN_FILENO;
 use replay_lines::Counts;
@@ -83,7 +83,7 @@ fn tagged(
     counts: &mut [u32; 256],
     buf: &mut [u8],
 ) -> Built
-    ensures { λ r. ⌜ built r (now (counts .exit)) (now (buf .exit)) ≡ tagged (given s (now (counts .entry)) (now (buf .entry))) tag (now (first .entry)) (now (second .entry)) ⌝ }
+    ensures { λ r. ⌜ built r (now (counts .exit)) (now (buf .exit)) ≡ taggedWriting (writingOf s (now (counts .entry)) (now (buf .entry))) tag (now (first .entry)) (now (second .entry)) ⌝ }
 {
     if !build::calls(tag) {
         return looked(s, tag, first, second, &*buf);
@@ -97,7 +97,7 @@ fn tagged(
 
 // Any line.
 fn any_line(s: State, line: &[u8], counts: &mut [u32; 256], buf: &mut [u8]) -> Built
-    ensures { λ r. ⌜ built r (now (counts .exit)) (now (buf .exit)) ≡ judge (given s (now (counts .entry)) (now (buf .entry))) (now (line .entry)) ⌝ }
+    ensures { λ r. ⌜ built r (now (counts .exit)) (now (buf .exit)) ≡ judgeWriting (writingOf s (now (counts .entry)) (now (buf .entry))) (now (line .entry)) ⌝ }
 {
     let w = s.writer;
     if words::skipped(line) {
@@ -133,7 +133,7 @@ fn nothing_yet() -> State
 
 // Every line of a text.
 fn replay(text: &[u8], counts: &mut [u32; 256], buf: &mut [u8]) -> Counts
-    ensures { λ r. ⌜ r ≡ replayed judge (given (record { writer = noRecord; size = 0; done = 0 }) (now (counts .entry)) (now (buf .entry))) (now (text .entry)) ⌝ }
+    ensures { λ r. ⌜ r ≡ replayed judgeWriting (writingOf (record { writer = noRecord; size = 0; done = 0 }) (now (counts .entry)) (now (buf .entry))) (now (text .entry)) ⌝ }
 {
     let mut p = lines::begin();
     let mut state = nothing_yet();

@@ -1,5 +1,5 @@
 -- `average::average` meets its contract. Assumes nothing.
-use Rattle.average.proofs.Answers as answers
+use Rattle.average.proofs.Divided as answers
 use native.Mathlib.Omega.{arith}
 use borrow.Author.Needs.{needs}
 use Rattle.average.proofs.average.Statement.{statement}

@@ -1,5 +1,5 @@
 -- `average::lengths` meets its contract. Assumes nothing.
-use Rattle.average.proofs.Answers as answers
+use Rattle.average.proofs.Divided as answers
 use borrow.Author.Needs.{needs}
 use Rattle.average.proofs.lengths.Statement.{statement}
 use Rattle.average.proofs.lengths.Tie as tie

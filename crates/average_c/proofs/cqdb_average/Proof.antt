@@ -2,7 +2,7 @@
 use mathlib.Core.Path.{sym, ap, _∙_}
 use borrow.Author.Needs.{needs}
 use Rattle.average.specs.Average.{averagedOf}
-use Rattle.average_c.specs.Answer.{averageAnswerOf}
+use Rattle.average_c.specs.AverageAnswer.{averageAnswerOf}
 use Rattle.average_c.proofs.cqdb_average.Statement.{statement}
 use Rattle.average_c.proofs.cqdb_average.Tie as tie
 

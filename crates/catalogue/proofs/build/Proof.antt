@@ -2,7 +2,7 @@
 use mathlib.Core.Path.{sym, ap, _∙_}
 use Rattle.writer.specs.State.{begunOf}
 use Rattle.writer.specs.Close.{closedOf}
-use Rattle.catalogue.proofs.Building.{begin-accepted, built, never-refused}
+use Rattle.catalogue.proofs.BuiltImage.{begin-accepted, built, never-refused}
 use borrow.Author.Needs.{needs}
 use Rattle.catalogue.proofs.build.Statement.{statement}
 use Rattle.catalogue.proofs.build.Tie as tie

@@ -1,6 +1,6 @@
 -- `catalogue::main` is safe and ends, and what it prints is taken from the image of some input in 65,536 bytes. Assumes nothing.
 use lib.Dec.{lit≤}
-use Rattle.catalogue.proofs.Building.{built-in}
+use Rattle.catalogue.proofs.BuiltImage.{built-in}
 use borrow.Author.Needs.{needs}
 use Rattle.catalogue.proofs.main.Statement.{statement}
 use Rattle.catalogue.proofs.main.Tie as tie

@@ -1,7 +1,7 @@
 -- `catalogue::print_image` is safe and ends: the image lies in the buffer. Assumes nothing.
 use mathlib.Core.Path.{sym}
 use lib.Seq.{length-take-le}
-use Rattle.catalogue.proofs.Building.{built-inside}
+use Rattle.catalogue.proofs.BuiltImage.{built-inside}
 use borrow.Author.Needs.{needs}
 use Rattle.catalogue.proofs.print_image.Statement.{statement}
 use Rattle.catalogue.proofs.print_image.Tie as tie

@@ -2,8 +2,8 @@
 use mathlib.Core.Path.{refl, sym, ap, _∙_}
 use native.Mathlib.Omega.{arith}
 use Rattle.replay_lines.specs.Verdicts.{verdictIf}
-use Rattle.replay_lines.proofs.Read.{are-numbers, no-numbers, is-bytes, no-bytes, room-for}
-use Rattle.hash_replay.specs.Lines.{compared}
+use Rattle.replay_lines.proofs.ReadWords.{are-numbers, no-numbers, is-bytes, no-bytes, room-for}
+use Rattle.hash_replay.specs.HashLines.{hashCompared}
 use borrow.Author.Needs.{needs}
 use Rattle.hash_replay.proofs.compare.Statement.{statement}
 use Rattle.hash_replay.proofs.compare.Tie as tie
@@ -18,7 +18,7 @@ enum-told : tie.Need-enum-told
 enum-told c = search needs
 
 returns : tie.Need-returns
-unfolding compared
+unfolding hashCompared
 returns c = sym (no-numbers _ _ _ _ _ (c .before .before .two-words .ensures) (c .enum-told .given .1))
 
 decode-requires : tie.Need-decode-requires
@@ -34,7 +34,7 @@ same-length : tie.Need-same-length
 same-length c = search needs
 
 returns-2 : tie.Need-returns-2
-unfolding compared
+unfolding hashCompared
 returns-2 c =
     let read = c .before .before .before .before in
     let at = read .before .before .before in
@@ -64,7 +64,7 @@ same-length-2 : tie.Need-same-length-2
 same-length-2 c = search needs
 
 returns-3 : tie.Need-returns-3
-unfolding compared
+unfolding hashCompared
 returns-3 c =
     let name = c .before .before .before .before .before in
     let read = name .before .before .before .before in

@@ -4,19 +4,19 @@ use mathlib.Core.Path.{_≡_, refl, ap, _∙_}
 use Prim.Native.Nat.{ℕ, _-_}
 use lib.ListN.{length}
 use borrow.Author.Needs.{needs}
-use Rattle.replay_lines.specs.Lines.{judged, replayed}
-use Rattle.replay_lines.proofs.Turns.{left, at-end, turn, nearer}
-use Rattle.hash_replay.specs.Lines.{verdict, judge}
+use Rattle.replay_lines.specs.Replay.{judged, replayed}
+use Rattle.replay_lines.proofs.LineTurns.{left, at-end, turn, nearer}
+use Rattle.hash_replay.specs.HashLines.{hashVerdict, judgeHash}
 use borrow.Author.Needs.{needs}
-use Rattle.replay_lines.specs.Lines.{replayed}
-use Rattle.replay_lines.proofs.Turns.{left, at-end, turn, nearer}
-use Rattle.hash_replay.specs.Lines.{verdict, judge}
+use Rattle.replay_lines.specs.Replay.{replayed}
+use Rattle.replay_lines.proofs.LineTurns.{left, at-end, turn, nearer}
+use Rattle.hash_replay.specs.HashLines.{hashVerdict, judgeHash}
 use Rattle.hash_replay.proofs.replay.Statement.{statement}
 use Rattle.hash_replay.proofs.replay.Tie as tie
 
 abbrev Inv-loop : tie.InvT-loop
 Inv-loop text room₀ p₀ room p =
-    (length room ≡ length room₀) × (left judge (length room₀) text p ≡ replayed judge (length room₀) text)
+    (length room ≡ length room₀) × (left judgeHash (length room₀) text p ≡ replayed judgeHash (length room₀) text)
 
 abbrev μ-loop : tie.MeasureT-loop
 μ-loop text room₀ p₀ room p = length text - p .at
@@ -25,7 +25,7 @@ begin-requires : tie.Need-begin-requires Inv-loop μ-loop
 begin-requires c κs = search needs
 
 loop-holds : tie.Need-loop-holds Inv-loop μ-loop
-loop-holds c = (refl, ap (left judge _ _) (c .begin .ensures))
+loop-holds c = (refl, ap (left judgeHash _ _) (c .begin .ensures))
 
 line-requires : tie.Need-line-requires Inv-loop μ-loop
 line-requires c κs = search needs
@@ -46,9 +46,9 @@ loop-again c =
     let call = c .before .before .before in
     let test = call .before .before .before in
     let loop = test .before .before .loop in
-    let same-room = ap (λ (room : ℕ). verdict room (call .before .before .line .result .now)) (loop .inv .0) in (
+    let same-room = ap (λ (room : ℕ). hashVerdict room (call .before .before .line .result .now)) (loop .inv .0) in (
       search needs,
-      turn judge _ _ (loop .p) (test .if1 .taken) _ _ _ (call .before .before .line .ensures) (ap (judged _) (call .verdict-of .ensures ∙ same-room)) (c .noted .ensures)
+      turn judgeHash _ _ (loop .p) (test .if1 .taken) _ _ _ (call .before .before .line .ensures) (ap (judged _) (call .verdict-of .ensures ∙ same-room)) (c .noted .ensures)
           ∙ loop .inv .1,
     )
 
@@ -58,7 +58,7 @@ same-length c = search needs
 returns : tie.Need-returns Inv-loop μ-loop
 returns c =
     let loop = c .before .before .before .loop in
-    at-end judge _ _ (loop .p) (c .before .if1 .left) ∙ loop .inv .1
+    at-end judgeHash _ _ (loop .p) (c .before .if1 .left) ∙ loop .inv .1
 
 pub replay-spec : {M : Type 1} → statement M
 replay-spec =

@@ -1,6 +1,6 @@
 -- `hash_replay::verdict_of` meets its contract. Assumes nothing.
 use mathlib.Core.Path.{sym, _∙_}
-use Rattle.hash_replay.specs.Lines.{verdict}
+use Rattle.hash_replay.specs.HashLines.{hashVerdict}
 use borrow.Author.Needs.{needs}
 use Rattle.hash_replay.proofs.verdict_of.Statement.{statement}
 use Rattle.hash_replay.proofs.verdict_of.Tie as tie
@@ -9,7 +9,7 @@ skipped-requires : tie.Need-skipped-requires
 skipped-requires c κs = search needs
 
 returns : tie.Need-returns
-unfolding verdict
+unfolding hashVerdict
 returns c = rw (sym (c .before .skipped .ensures) ∙ c .if1 .taken)
 
 first-requires : tie.Need-first-requires
@@ -28,7 +28,7 @@ same-length : tie.Need-same-length
 same-length c = search needs
 
 returns-2 : tie.Need-returns-2
-unfolding verdict
+unfolding hashVerdict
 returns-2 c =
     let at = c .before .before in
     let read = at .before .before in

@@ -1,5 +1,5 @@
 -- `jhash::final_step` meets its contract, field by field. Assumes nothing.
-use Rattle.jhash.specs.steps.Rounds.{step}
+use Rattle.jhash.specs.steps.Rounds.{finalStep}
 use borrow.Author.Needs.{needs}
 use Rattle.jhash.proofs.final_step.Statement.{statement}
 use Rattle.jhash.proofs.final_step.Tie as tie
@@ -8,7 +8,7 @@ final-word-requires : tie.Need-final-word-requires
 final-word-requires c κs = search needs
 
 returns : tie.Need-returns
-unfolding step
+unfolding finalStep
 returns c =
     λ i. record { a = c .before .args .w .b; b = c .final-word .ensures i; c = c .before .args .w .a }
 

@@ -1,7 +1,6 @@
 -- `jhash::final_word` meets its contract. Assumes nothing.
 use mathlib.Core.Path.{ap, _∙_}
 use lib.Bits.{bitXor}
-use Prim.Native.Nat.{ℕ}
 use Rattle.jhash.specs.Lookup3.{sub32}
 use Rattle.jhash.proofs.Rotation.{by-amount}
 use borrow.Author.Needs.{needs}

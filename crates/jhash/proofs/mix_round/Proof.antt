@@ -1,6 +1,6 @@
 -- `jhash::mix_round` meets its contract, field by field. Assumes nothing.
 use lib.Bits.{bitXor}
-use Rattle.jhash.specs.steps.Rounds.{round}
+use Rattle.jhash.specs.steps.Rounds.{mixRound}
 use Rattle.jhash.proofs.Rotation.{by-amount}
 use borrow.Author.Needs.{needs}
 use Rattle.jhash.proofs.mix_round.Statement.{statement}
@@ -16,7 +16,7 @@ wrapping-add-u32-requires : tie.Need-wrapping-add-u32-requires
 wrapping-add-u32-requires c κs = search needs
 
 returns : tie.Need-returns
-unfolding round
+unfolding mixRound
 returns c =
     let start = c .before .before .before in
     let w = start .args .w in

@@ -6,9 +6,9 @@ use Rattle.jhash.specs.declared.Words.{Words}
 
 -- A round on (a, c, b). What is b, c, a here is a, b, c in the next round: so rounds in a row are those on (a, c, b),
 -- (b, a, c) and (c, b, a), and after three of them each word has its name again.
-unfoldable pub round : Words → ℕ → Words
-round w k = record { a = w .b; b = add32 (w .c) (w .b); c = mixed (w .a) (w .c) k }
+unfoldable pub mixRound : Words → ℕ → Words
+mixRound w k = record { a = w .b; b = add32 (w .c) (w .b); c = mixed (w .a) (w .c) k }
 
 -- A step on (c, b), with the same change of names: steps in a row are those on (c, b), (a, c) and (b, a).
-unfoldable pub step : Words → ℕ → Words
-step w k = record { a = w .b; b = finished (w .c) (w .b) k; c = w .a }
+unfoldable pub finalStep : Words → ℕ → Words
+finalStep w k = record { a = w .b; b = finished (w .c) (w .b) k; c = w .a }

@@ -6,9 +6,9 @@ use lib.ListN.{length}
 use borrow.Author.Needs.{needs}
 use Rattle.writer.specs.State.{stateWith}
 use native.Mathlib.Numerals.{add-one}
-use Rattle.load.specs.States.{stepped, stateAfter}
+use Rattle.load.specs.States.{nextState, stateAfter}
 use Rattle.load.specs.Load.{putFrom}
-use Rattle.load.proofs.Turns.{entry-is, turn-goes-on, turn-ends, all-put}
+use Rattle.load.proofs.PutTurns.{entry-is, turn-goes-on, turn-ends, all-put}
 use Rattle.load.proofs.put_entries.Statement.{statement}
 use Rattle.load.proofs.put_entries.Tie as tie
 
@@ -67,7 +67,7 @@ loop-again c =
     let is = entry-is seed (at .i) (at .state) (named .before .stepped .result) (named .state-name .result) (at .inv .1) (named .before .stepped .ensures) (named .state-name .ensures) in
     let more = named .before .before .loop-test .taken in (
       omega arith,
-      named .before .stepped .ensures ∙ ap (λ (s : ℕ). stepped s) (at .inv .1) ∙ ap (stateAfter seed) (sym (add-one (at .i))),
+      named .before .stepped .ensures ∙ ap (λ (s : ℕ). nextState s) (at .inv .1) ∙ ap (stateAfter seed) (sym (add-one (at .i))),
       turn-goes-on seed (at .i) (put .put .result .refusal) (stateWith (at .after) (at .counts) (at .buf)) _ _ is (put .put .ensures .0) (put .put .ensures .1) more (c .if1 .left)
           ∙ at .inv .2,
       search needs,

@@ -2,7 +2,7 @@
 use mathlib.Core.Path.{sym, ap, _∙_}
 use borrow.Author.Needs.{needs}
 use Rattle.load.specs.Load.{loadedOf}
-use Rattle.load_c.specs.Answer.{loadAnswerOf}
+use Rattle.load_c.specs.LoadAnswer.{loadAnswerOf}
 use Rattle.load_c.proofs.cqdb_load.Statement.{statement}
 use Rattle.load_c.proofs.cqdb_load.Tie as tie
 

@@ -8,7 +8,7 @@ use lib.ListN.{length, drop}
 use borrow.Author.Needs.{needs}
 use Rattle.order.specs.Rule.{kept}
 use Rattle.order.specs.declared.Pair.{Pair}
-use Rattle.order.proofs.Laws.{kept-end, kept-wall, kept-reference, kept-on}
+use Rattle.order.proofs.PairLaws.{kept-end, kept-wall, kept-reference, kept-on}
 use Rattle.order.proofs.keeps.Statement.{statement}
 use Rattle.order.proofs.keeps.Tie as tie
 use Rattle.order.proofs.keeps.Reads as reads

@@ -1,5 +1,5 @@
 -- `order::references_first` meets its contract. No function over a `&[Pair]` is covered, so its MIR is walked by hand. A turn of the loop reads a pair
--- out of the slice and calls `keeps` on it and the round; all else that is reasoned is in `proofs/Laws`. The loop's invariant is `Upto`: the pairs from
+-- out of the slice and calls `keeps` on it and the round; all else that is reasoned is in `proofs/PairLaws`. The loop's invariant is `Upto`: the pairs from
 -- k on are answered as all of them are. The pairs are looked into and shut again; of what the round owns a copy is passed.
 use mathlib.Core.Path.{_≡_, refl, sym, ap, _∙_}
 use Prim.Native.Nat.{ℕ, _+_, _*_, _-_, _≤_, _<_, _^_, zero-le}
@@ -53,11 +53,11 @@ use denote.Triple.Walked.{says, Stays, stay-none-slice, walkOf, goes-none-slice,
 use denote.Exit.{yes as stays-kept}
 use denote.Triple.Clauses.{ensured, lasts}
 use Rattle.order.specs.Rule.{kept, orderedFrom, ordered}
-use Rattle.order.specs.Answers.{verdictOf}
+use Rattle.order.specs.Cases.{verdictOf}
 use Rattle.order.specs.declared.Pair.{Pair}
 use Rattle.order.specs.declared.Order.{Order}
 use Rattle.order.specs.declared.Order.the-variants.{Yes, Fails}
-use Rattle.order.proofs.Laws.{pairs-end, pairs-on, pairs-fail}
+use Rattle.order.proofs.PairLaws.{pairs-end, pairs-on, pairs-fail}
 use Rattle.order.proofs.Pair as P
 use Rattle.order.proofs.Pair.Laws as P′
 use Rattle.order.proofs.Order as O

@@ -1,7 +1,7 @@
 -- `order_c::answer` meets its contract, by cases.
 use mathlib.Core.Path.{sym, ap}
-use Rattle.order_c.specs.Order.{orderAnswer}
-use Rattle.order.specs.Answers.{verdictOf}
+use Rattle.order_c.specs.OrderAnswer.{orderAnswer}
+use Rattle.order.specs.Cases.{verdictOf}
 use Rattle.order.specs.declared.Order.{Order}
 use borrow.Author.Needs.{needs}
 use Rattle.order_c.proofs.answer.Statement.{statement}

@@ -36,7 +36,7 @@ use denote.Triple.Walked.{says, Stays, stay-dropped, walkOf, goes-dropped, Walks
 use denote.Exit.{yes}
 use denote.Triple.Clauses.{ensured, lasts}
 use Rattle.order.specs.Rule.{Verdict, ordered}
-use Rattle.order.specs.Answers.{verdictOf}
+use Rattle.order.specs.Cases.{verdictOf}
 use Rattle.order.specs.declared.Pair.{Pair}
 use Rattle.order.specs.declared.Order.{Order}
 use Rattle.order.proofs.Pair as P
@@ -46,7 +46,7 @@ use Rattle.order.proofs.references_first as scan
 use Rattle.order.proofs.references_first.Symbol as scan-def
 use Rattle.order.proofs.references_first.Symbol.{name as #order·references-first}
 use Rattle.order.proofs.references_first.Met as scan-thm
-use Rattle.order_c.specs.Order.{orderAnswer}
+use Rattle.order_c.specs.OrderAnswer.{orderAnswer}
 use Rattle.order_c.specs.declared.OrderAnswer.{OrderAnswer}
 use Rattle.order_c.proofs.OrderAnswer as S
 use Rattle.order_c.proofs.OrderAnswer.Laws as S′

@@ -2,7 +2,7 @@
 use mathlib.Core.Path.{sym, ap, _∙_}
 use borrow.Author.Needs.{needs}
 use Rattle.page.specs.Call.{printedOf}
-use Rattle.page_c.specs.Answer.{pageAnswerOf}
+use Rattle.page_c.specs.PageAnswer.{pageAnswerOf}
 use Rattle.page_c.proofs.cqdb_page.Statement.{statement}
 use Rattle.page_c.proofs.cqdb_page.Tie as tie
 

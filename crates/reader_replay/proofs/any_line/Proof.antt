@@ -1,8 +1,8 @@
 -- `reader_replay::any_line` meets its contract. Assumes nothing.
 use mathlib.Core.Path.{ap}
 use Rattle.reader_replay.specs.declared.Step.{Step}
-use Rattle.reader_replay.specs.Change.{done}
-use Rattle.reader_replay.specs.Replay.{judge}
+use Rattle.reader_replay.specs.ChangeLines.{done}
+use Rattle.reader_replay.specs.ReadingLines.{judgeReading}
 use borrow.Author.Needs.{needs}
 use Rattle.reader_replay.proofs.any_line.Statement.{statement}
 use Rattle.reader_replay.proofs.any_line.Tie as tie
@@ -14,7 +14,7 @@ judged-requires : tie.Need-judged-requires
 judged-requires c κs = search needs
 
 returns : tie.Need-returns
-unfolding judge
+unfolding judgeReading
 returns c =
     rw (← c .before .before .skipped .ensures, c .before .if1 .taken)
     (ap (λ (r : Step). done r (c .before .before .before .before .before .args .buf .now)) (c .judged .ensures))
@@ -35,7 +35,7 @@ same-length : tie.Need-same-length
 same-length c = search needs
 
 returns-2 : tie.Need-returns-2
-unfolding judge
+unfolding judgeReading
 returns-2 c =
     let read = c .before .before .before .before in
     let test = read .before .before .before in

@@ -4,16 +4,16 @@ use mathlib.Core.Path.{_≡_, refl, ap, _∙_}
 use Prim.Native.Nat.{_-_}
 use lib.ListN.{length}
 use borrow.Author.Needs.{needs}
-use Rattle.replay_lines.specs.Lines.{replayed}
-use Rattle.replay_lines.proofs.Turns.{left, at-end, turn, nearer}
-use Rattle.reader_replay.specs.Change.{given, done}
-use Rattle.reader_replay.specs.Replay.{judge}
+use Rattle.replay_lines.specs.Replay.{replayed}
+use Rattle.replay_lines.proofs.LineTurns.{left, at-end, turn, nearer}
+use Rattle.reader_replay.specs.ChangeLines.{readingOf, done}
+use Rattle.reader_replay.specs.ReadingLines.{judgeReading}
 use Rattle.reader_replay.proofs.replay.Statement.{statement}
 use Rattle.reader_replay.proofs.replay.Tie as tie
 
 abbrev Inv-loop : tie.InvT-loop
 Inv-loop text buf₀ p₀ state₀ buf p state =
-    (length buf ≡ length buf₀) × (left judge (given state buf) text p ≡ replayed judge (given (record { len = 0; next = 0 }) buf₀) text)
+    (length buf ≡ length buf₀) × (left judgeReading (readingOf state buf) text p ≡ replayed judgeReading (readingOf (record { len = 0; next = 0 }) buf₀) text)
 
 abbrev μ-loop : tie.MeasureT-loop
 μ-loop text buf₀ p₀ state₀ buf p state = length text - p .at
@@ -22,7 +22,7 @@ begin-requires : tie.Need-begin-requires Inv-loop μ-loop
 begin-requires c κs = search needs
 
 loop-holds : tie.Need-loop-holds Inv-loop μ-loop
-loop-holds c = (refl, ap (left judge _ _) (c .begin .ensures))
+loop-holds c = (refl, ap (left judgeReading _ _) (c .begin .ensures))
 
 line-requires : tie.Need-line-requires Inv-loop μ-loop
 line-requires c κs = search needs
@@ -44,7 +44,7 @@ loop-again c =
     let test = call .before .before .before in
     let loop = test .before .before .loop in (
       search needs,
-      turn judge _ _ (loop .p) (test .if1 .taken) _ (done (call .any-line .result) _) _ (call .before .before .line .ensures) (call .any-line .ensures) (c .noted .ensures)
+      turn judgeReading _ _ (loop .p) (test .if1 .taken) _ (done (call .any-line .result) _) _ (call .before .before .line .ensures) (call .any-line .ensures) (c .noted .ensures)
           ∙ loop .inv .1,
     )
 
@@ -54,7 +54,7 @@ same-length c = search needs
 returns : tie.Need-returns Inv-loop μ-loop
 returns c =
     let loop = c .before .before .before .loop in
-    at-end judge _ _ (loop .p) (c .before .if1 .left) ∙ loop .inv .1
+    at-end judgeReading _ _ (loop .p) (c .before .if1 .left) ∙ loop .inv .1
 
 pub replay-spec : {M : Type 1} → statement M
 replay-spec =

@@ -1,10 +1,10 @@
 -- `reader_replay::tagged` meets its contract. Assumes nothing.
 use mathlib.Core.Path.{sym, ap, _∙_}
 use borrow.Author.Tests.{not-true, not-false}
-use Rattle.replay_lines.proofs.Read.{is-number, no-number}
+use Rattle.replay_lines.proofs.ReadWords.{is-number, no-number}
 use Rattle.reader_replay.specs.declared.Step.{Step}
-use Rattle.reader_replay.specs.Change.{done}
-use Rattle.reader_replay.specs.Replay.{tagged}
+use Rattle.reader_replay.specs.ChangeLines.{done}
+use Rattle.reader_replay.specs.ReadingLines.{taggedReading}
 use borrow.Author.Needs.{needs}
 use Rattle.reader_replay.proofs.tagged.Statement.{statement}
 use Rattle.reader_replay.proofs.tagged.Tie as tie
@@ -19,7 +19,7 @@ same-length : tie.Need-same-length
 same-length c = search needs
 
 returns : tie.Need-returns
-unfolding tagged
+unfolding taggedReading
 returns c = rw (sym (c .before .before .before .changes .ensures) ∙ not-true _ (c .before .before .if1 .taken)) (c .asked .ensures)
 
 word-requires : tie.Need-word-requires
@@ -41,7 +41,7 @@ same-length-2 : tie.Need-same-length-2
 same-length-2 c = search needs
 
 returns-2 : tie.Need-returns-2
-unfolding tagged
+unfolding taggedReading
 returns-2 c =
     let at = c .before .before .before .before .before in
     let test = at .before .before .before in
@@ -49,7 +49,7 @@ returns-2 c =
     (c .before .before .changed .ensures ∙ sym (is-number _ _ _ _ (at .before .before .word .ensures) _ (at .n .given .1)))
 
 returns-3 : tie.Need-returns-3
-unfolding tagged
+unfolding taggedReading
 returns-3 c =
     let test = c .before .before .before .before in
     rw (sym (test .before .changes .ensures) ∙ not-false _ (test .if1 .left))

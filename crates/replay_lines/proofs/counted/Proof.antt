@@ -1,5 +1,5 @@
 -- `replay_lines::counted` meets its contract. Assumes nothing.
-use Rattle.replay_lines.proofs.Steps.{one-equal, one-different, one-malformed}
+use Rattle.replay_lines.proofs.LoopSteps.{one-equal, one-different, one-malformed}
 use borrow.Author.Needs.{needs}
 use Rattle.replay_lines.proofs.counted.Statement.{statement}
 use Rattle.replay_lines.proofs.counted.Tie as tie

@@ -1,5 +1,5 @@
 -- `replay_lines::same` meets its contract. Assumes nothing.
-use Rattle.replay_lines.proofs.Read.{compared}
+use Rattle.replay_lines.proofs.ReadWords.{compared}
 use borrow.Author.Needs.{needs}
 use Rattle.replay_lines.proofs.same.Statement.{statement}
 use Rattle.replay_lines.proofs.same.Tie as tie

@@ -2,7 +2,7 @@
 use mathlib.Core.Path.{sym, _∙_}
 use borrow.Author.Tests.{not-true, not-false}
 use Rattle.reader.specs.Slices.{slice}
-use Rattle.season.proofs.Tells.{no-date-part, by-saying-part}
+use Rattle.season.proofs.WindowTests.{no-date-part, by-saying-part}
 use borrow.Author.Needs.{needs}
 use Rattle.season.proofs.part_by.Statement.{statement}
 use Rattle.season.proofs.part_by.Tie as tie

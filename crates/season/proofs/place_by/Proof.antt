@@ -3,7 +3,7 @@ use mathlib.Core.Path.{sym, ap, _∙_}
 use borrow.Author.Tests.{not-true, not-false}
 use Rattle.jhash.specs.Outcome.{value}
 use Rattle.reader.specs.Cases.{namingOf}
-use Rattle.season.proofs.Tells.{no-date, by-saying}
+use Rattle.season.proofs.WindowTests.{no-date, by-saying}
 use borrow.Author.Needs.{needs}
 use Rattle.season.proofs.place_by.Statement.{statement}
 use Rattle.season.proofs.place_by.Tie as tie

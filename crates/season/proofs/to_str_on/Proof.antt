@@ -3,9 +3,10 @@ use mathlib.Core.Path.{_≡_, _∙_}
 use contract.Running.{givenOf}
 use denote.Enum.Laws as EL
 use Rattle.season.specs.Rule.{namingOn}
-use Rattle.season.specs.Answers.{namedOnOf, placeBy}
-use Rattle.season.proofs.Laws.{placed}
-use Rattle.season.proofs.Thin.{keeps}
+use Rattle.season.specs.Cases.{namedOnOf}
+use Rattle.season.specs.steps.Saying.{placeBy}
+use Rattle.season.proofs.WindowLaws.{placed}
+use Rattle.season.proofs.OverWindows.{keeps}
 use Rattle.season.proofs.NamedOn as N
 use Rattle.season.proofs.NamedOn.Laws as N′
 use Rattle.season.proofs.place_by.Symbol as callee

@@ -1,9 +1,9 @@
--- How one pass finds what the windows say: what each says, and the stronger of two. `folded-is-said` (proofs/Laws) joins it to the rule.
+-- How one pass finds what the windows say: what each says, and the stronger of two. `folded-is-said` (proofs/WindowLaws) joins it to the rule.
 use Prim.Native.Nat.{ℕ}
 use mathlib.Core.Bool.{cond}
 use mathlib.Core.List.{List, [], _∷_}
 use lib.Dec.{ltb}
-use Rattle.season.specs.Rule.{undated, turned, holds}
+use Rattle.season.specs.Rule.{undated, turned, holdsDate}
 use Rattle.season.specs.declared.Date.{Date}
 use Rattle.season.specs.declared.Window.{Window}
 use Rattle.season.specs.declared.Standing.{Standing}
@@ -11,7 +11,7 @@ use Rattle.season.specs.declared.Standing.the-variants.{Away, Holds, Tur
 
 -- what one window says
 unfoldable pub told : ℕ → Date → Window → Standing
-told id date w = cond (undated w) Undated (cond (turned w) Turned (cond (holds id date w) Holds Away))
+told id date w = cond (undated w) Undated (cond (turned w) Turned (cond (holdsDate id date w) Holds Away))
 
 -- nothing, holds, 23, 22
 abbrev pub rank : Standing → ℕ

@@ -3,9 +3,9 @@ use Prim.Native.Nat.{ℕ}
 use native.Mathlib.Omega.{arith}
 use mathlib.Core.Path.{sym, ap, _∙_}
 use Rattle.reader.proofs.Lengths.{named-small}
-use Rattle.season.specs.Answers.{namedOnOf}
-use Rattle.season.proofs.Tells.{named-so}
-use Rattle.season_c.specs.Answer.{onAnswer}
+use Rattle.season.specs.Cases.{namedOnOf}
+use Rattle.season.proofs.WindowTests.{named-so}
+use Rattle.season_c.specs.NameOnAnswer.{onAnswer}
 use borrow.Author.Needs.{needs}
 use Rattle.season_c.proofs.answer_by.Statement.{statement}
 use Rattle.season_c.proofs.answer_by.Tie as tie

@@ -3,10 +3,10 @@ use mathlib.Core.Path.{_≡_, ap, _∙_}
 use contract.Running.{givenOf}
 use denote.Struct.Laws as LL
 use Rattle.season.specs.Rule.{namingOn}
-use Rattle.season.specs.Answers.{placeBy}
-use Rattle.season.proofs.Laws.{placed}
-use Rattle.season.proofs.Thin.{keeps}
-use Rattle.season_c.specs.Answer.{onAnswer}
+use Rattle.season.specs.steps.Saying.{placeBy}
+use Rattle.season.proofs.WindowLaws.{placed}
+use Rattle.season.proofs.OverWindows.{keeps}
+use Rattle.season_c.specs.NameOnAnswer.{onAnswer}
 use Rattle.season_c.proofs.OnAnswer as S
 use Rattle.season_c.proofs.OnAnswer.Laws as S′
 use Rattle.season_c.proofs.answer_by.Symbol as callee

@@ -1,8 +1,8 @@
 -- `cqdb_sheet_read` meets its contract, by cases of what `sheet::read` answers. Assumes nothing.
 use mathlib.Core.Path.{sym, ap, _∙_}
-use Rattle.sheet.specs.Answers.{readOf}
+use Rattle.sheet.specs.Cases.{readOf}
 use Rattle.sheet.specs.declared.ReadAnswer.{ReadAnswer}
-use Rattle.sheet_c.specs.Sheets.{sheetAnswer}
+use Rattle.sheet_c.specs.SheetAnswers.{sheetAnswer}
 use borrow.Author.Needs.{needs}
 use Rattle.sheet_c.proofs.cqdb_sheet_read.Statement.{statement}
 use Rattle.sheet_c.proofs.cqdb_sheet_read.Tie as tie

@@ -1,8 +1,8 @@
 -- `cqdb_sheet_write` meets its contract, by cases of what `sheet::write` answers. Assumes nothing.
 use mathlib.Core.Path.{sym, ap, _∙_}
-use Rattle.sheet.specs.Answers.{writtenOf}
+use Rattle.sheet.specs.Cases.{writtenOf}
 use Rattle.sheet.specs.declared.Written.{Written}
-use Rattle.sheet_c.specs.Sheets.{lengthAnswer}
+use Rattle.sheet_c.specs.SheetAnswers.{lengthAnswer}
 use borrow.Author.Needs.{needs}
 use Rattle.sheet_c.proofs.cqdb_sheet_write.Statement.{statement}
 use Rattle.sheet_c.proofs.cqdb_sheet_write.Tie as tie

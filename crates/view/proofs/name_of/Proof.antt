@@ -36,7 +36,7 @@ use denote.Triple.Walked.{says, needs}
 use Rattle.reader.specs.Slices.{slice}
 use Rattle.reader.specs.Naming.{namePart}
 use Rattle.view.specs.declared.CQDB.{CQDB}
-use Rattle.view.proofs.Thin.{OfTy, passes}
+use Rattle.view.proofs.OverView.{OfTy, passes}
 use Rattle.view.proofs.CQDB as T
 use Rattle.view.proofs.CQDB.Laws as T′
 use Rattle.view.proofs.CQDB.new as new

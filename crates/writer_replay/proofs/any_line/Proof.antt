@@ -1,8 +1,8 @@
 -- `writer_replay::any_line` meets its contract. Assumes nothing.
 use mathlib.Core.Path.{ap}
 use Rattle.writer_replay.specs.declared.Built.{Built}
-use Rattle.writer_replay.specs.Build.{built}
-use Rattle.writer_replay.specs.Replay.{judge}
+use Rattle.writer_replay.specs.CallLines.{built}
+use Rattle.writer_replay.specs.WritingLines.{judgeWriting}
 use borrow.Author.Needs.{needs}
 use Rattle.writer_replay.proofs.any_line.Statement.{statement}
 use Rattle.writer_replay.proofs.any_line.Tie as tie
@@ -14,7 +14,7 @@ judged-requires : tie.Need-judged-requires
 judged-requires c κs = search needs
 
 returns : tie.Need-returns
-unfolding judge
+unfolding judgeWriting
 returns c =
     let a = c .before .before .before .before .before .before .args in
     rw (← c .before .before .skipped .ensures, c .before .if1 .taken)
@@ -36,7 +36,7 @@ same-length : tie.Need-same-length
 same-length c = search needs
 
 returns-2 : tie.Need-returns-2
-unfolding judge
+unfolding judgeWriting
 returns-2 c =
     let read = c .before .before .before .before .before in
     let test = read .before .before .before in

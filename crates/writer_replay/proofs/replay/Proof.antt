@@ -3,26 +3,26 @@
 use mathlib.Core.Path.{_≡_, refl, ap₂, _∙_}
 use Prim.Native.Nat.{_-_}
 use lib.ListN.{length}
-use Rattle.replay_lines.specs.Lines.{replayed}
+use Rattle.replay_lines.specs.Replay.{replayed}
 use Rattle.replay_lines.specs.declared.Progress.{Progress}
-use Rattle.replay_lines.proofs.Turns.{left, at-end, turn, nearer}
+use Rattle.replay_lines.proofs.LineTurns.{left, at-end, turn, nearer}
 use Rattle.writer_replay.specs.declared.State.{State}
-use Rattle.writer_replay.specs.Build.{noRecord, given, built}
-use Rattle.writer_replay.specs.Replay.{judge}
+use Rattle.writer_replay.specs.CallLines.{noRecord, writingOf, built}
+use Rattle.writer_replay.specs.WritingLines.{judgeWriting}
 use borrow.Author.Needs.{needs}
-use Rattle.replay_lines.specs.Lines.{replayed}
+use Rattle.replay_lines.specs.Replay.{replayed}
 use Rattle.replay_lines.specs.declared.Progress.{Progress}
-use Rattle.replay_lines.proofs.Turns.{left, at-end, turn, nearer}
+use Rattle.replay_lines.proofs.LineTurns.{left, at-end, turn, nearer}
 use Rattle.writer_replay.specs.declared.State.{State}
-use Rattle.writer_replay.specs.Build.{noRecord, given, built}
-use Rattle.writer_replay.specs.Replay.{judge}
+use Rattle.writer_replay.specs.CallLines.{noRecord, writingOf, built}
+use Rattle.writer_replay.specs.WritingLines.{judgeWriting}
 use Rattle.writer_replay.proofs.replay.Statement.{statement}
 use Rattle.writer_replay.proofs.replay.Tie as tie
 
 abbrev Inv-loop : tie.InvT-loop
 Inv-loop text counts₀ buf₀ p₀ state₀ counts buf p state =
     (length buf ≡ length buf₀)
-    × (left judge (given state counts buf) text p ≡ replayed judge (given (record { writer = noRecord; size = 0; done = 0 }) counts₀ buf₀) text)
+    × (left judgeWriting (writingOf state counts buf) text p ≡ replayed judgeWriting (writingOf (record { writer = noRecord; size = 0; done = 0 }) counts₀ buf₀) text)
 
 abbrev μ-loop : tie.MeasureT-loop
 μ-loop text counts₀ buf₀ p₀ state₀ counts buf p state = length text - p .at
@@ -37,7 +37,7 @@ loop-holds : tie.Need-loop-holds Inv-loop μ-loop
 loop-holds c =
     let a = c .before .before .before .before .args in (
       refl,
-      ap₂ (λ (s : State) (p : Progress). left judge (given s (a .counts .now) (a .buf .now)) (a .text .now) p) (c .nothing-yet .ensures) (c .before .begin .ensures),
+      ap₂ (λ (s : State) (p : Progress). left judgeWriting (writingOf s (a .counts .now) (a .buf .now)) (a .text .now) p) (c .nothing-yet .ensures) (c .before .begin .ensures),
     )
 
 line-requires : tie.Need-line-requires Inv-loop μ-loop
@@ -60,7 +60,7 @@ loop-again c =
     let test = call .before .before .before .before in
     let loop = test .before .before .loop in (
       search needs,
-      turn judge _ _ (loop .p) (test .if1 .taken) _ (built (call .any-line .result) _ _) _ (call .before .before .before .line .ensures) (call .any-line .ensures) (c .noted .ensures)
+      turn judgeWriting _ _ (loop .p) (test .if1 .taken) _ (built (call .any-line .result) _ _) _ (call .before .before .before .line .ensures) (call .any-line .ensures) (c .noted .ensures)
           ∙ loop .inv .1,
     )
 
@@ -70,7 +70,7 @@ same-length c = search needs
 returns : tie.Need-returns Inv-loop μ-loop
 returns c =
     let loop = c .before .before .before .loop in
-    at-end judge _ _ (loop .p) (c .before .if1 .left) ∙ loop .inv .1
+    at-end judgeWriting _ _ (loop .p) (c .before .if1 .left) ∙ loop .inv .1
 
 pub replay-spec : {M : Type 1} → statement M
 replay-spec =

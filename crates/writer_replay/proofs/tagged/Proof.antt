@@ -1,10 +1,10 @@
 -- `writer_replay::tagged` meets its contract. Assumes nothing.
 use mathlib.Core.Path.{sym, ap, _∙_}
 use borrow.Author.Tests.{not-true, not-false}
-use Rattle.replay_lines.proofs.Read.{is-number, no-number}
+use Rattle.replay_lines.proofs.ReadWords.{is-number, no-number}
 use Rattle.writer_replay.specs.declared.Built.{Built}
-use Rattle.writer_replay.specs.Build.{built}
-use Rattle.writer_replay.specs.Replay.{tagged}
+use Rattle.writer_replay.specs.CallLines.{built}
+use Rattle.writer_replay.specs.WritingLines.{taggedWriting}
 use borrow.Author.Needs.{needs}
 use Rattle.writer_replay.proofs.tagged.Statement.{statement}
 use Rattle.writer_replay.proofs.tagged.Tie as tie
@@ -19,7 +19,7 @@ same-length : tie.Need-same-length
 same-length c = search needs
 
 returns : tie.Need-returns
-unfolding tagged
+unfolding taggedWriting
 returns c =
     let a = c .before .before .before .before .before .before .before .args in
     rw (sym (c .before .before .before .calls .ensures) ∙ not-true _ (c .before .before .if1 .taken))
@@ -44,7 +44,7 @@ same-length-2 : tie.Need-same-length-2
 same-length-2 c = search needs
 
 returns-2 : tie.Need-returns-2
-unfolding tagged
+unfolding taggedWriting
 returns-2 c =
     let at = c .before .before .before .before .before .before in
     let test = at .before .before .before .before in
@@ -52,7 +52,7 @@ returns-2 c =
     (c .before .before .called .ensures ∙ sym (is-number _ _ _ _ (at .before .before .word .ensures) _ (at .n .given .1)))
 
 returns-3 : tie.Need-returns-3
-unfolding tagged
+unfolding taggedWriting
 returns-3 c =
     let test = c .before .before .before .before .before in
     let a = c .before .before .before .before .before .before .before .before .before .before .args in

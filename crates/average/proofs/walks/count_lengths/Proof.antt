@@ -1,8 +1,6 @@
 -- `average::walks::count_lengths` meets its contract: what is counted and what the entries that are left add are the whole. Assumes nothing.
-use Prim.Native.Nat.{ℕ, _+_, min}
+use Prim.Native.Nat.{_+_}
 use native.Mathlib.Omega.{arith}
-use mathlib.Core.Path.{ap, _∙_}
-use lib.ListN.{length}
 use borrow.Author.Needs.{needs}
 use Rattle.image.specs.Bytes.{word}
 use Rattle.image.specs.Image.{headSize}
@@ -39,23 +37,17 @@ loop-holds c =
 front-length-requires : tie.Need-front-length-requires Inv-loop μ-loop
 front-length-requires c κs = search needs
 
-place-of-requires : tie.Need-place-of-requires Inv-loop μ-loop
-place-of-requires c κs = search needs
+bin-of-requires : tie.Need-bin-of-requires Inv-loop μ-loop
+bin-of-requires c κs = search needs
 
 raise-at-requires : tie.Need-raise-at-requires Inv-loop μ-loop
 raise-at-requires c κs =
-    let k = c .before .place-of in
+    let k = c .before .bin-of in
     let at = c .before .before .before .before .loop in
     (k .ensures .1, omega (arith, at .inv .small (k .result), c .before .before .before .loop-test .taken, c .before .before .before .before .before .before .before .before .fits .n))
 
-length-word-requires : tie.Need-length-word-requires Inv-loop μ-loop
-length-word-requires c κs = search needs
-
-add-lesser : tie.Need-add-lesser Inv-loop μ-loop
-add-lesser c = search needs
-
-lesser-requires-2 : tie.Need-lesser-requires-2 Inv-loop μ-loop
-lesser-requires-2 c κs = search needs
+first-end-requires : tie.Need-first-end-requires Inv-loop μ-loop
+first-end-requires c κs = search needs
 
 sub-rest-2 : tie.Need-sub-rest-2 Inv-loop μ-loop
 sub-rest-2 c = search needs
@@ -74,16 +66,15 @@ loop-less c = omega arith
 
 loop-again : tie.Need-loop-again Inv-loop μ-loop
 loop-again c =
-    let cut = c .before .lesser2 in
-    let w = c .before .before .length-word in
-    let raised = c .before .before .before .raise-at in
-    let k = c .before .before .before .before .before .place-of in
-    let front = c .before .before .before .before .before .before .front-length in
-    let more = c .before .before .before .before .before .before .before .loop-test .taken in
-    let at = c .before .before .before .before .before .before .before .before .loop in
-    let a = c .before .before .before .before .before .before .before .before .before .before .before .before .args in
+    let cut = c .before .first-end in
+    let raised = c .before .before .raise-at in
+    let k = c .before .before .before .before .bin-of in
+    let front = c .before .before .before .before .before .front-length in
+    let more = c .before .before .before .before .before .before .loop-test .taken in
+    let at = c .before .before .before .before .before .before .before .loop in
+    let a = c .before .before .before .before .before .before .before .before .before .before .before .args in
     let rest = at .rest .now in
-    let behind = walking.rest-cut rest (8 + word rest 4) (cut .result) (cut .ensures ∙ ap (λ (k : ℕ). min (8 + k) (length rest)) (w .ensures .0)) in
+    let behind = walking.rest-cut rest (8 + word rest 4) (cut .result) (cut .ensures) in
     counting-more (a .image .now) (a .n) (at .counts) rest _ _ (at .left) (front .result) (k .result) (at .inv) more (front .ensures) (k .ensures .0) (raised .ensures) behind
 
 returns : tie.Need-returns Inv-loop μ-loop
@@ -104,11 +95,9 @@ count-lengths-spec =
     part-rest-end
     loop-holds
     front-length-requires
-    place-of-requires
+    bin-of-requires
     raise-at-requires
-    length-word-requires
-    add-lesser
-    lesser-requires-2
+    first-end-requires
     sub-rest-2
     part-rest-start-2
     part-rest-end-2

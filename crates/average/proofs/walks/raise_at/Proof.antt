@@ -1,6 +1,5 @@
 -- `average::walks::raise_at` meets its contract. Assumes nothing.
 use mathlib.Core.Path.{refl}
-use Rattle.average.specs.Lengths.{oneMore}
 use borrow.Author.Needs.{needs}
 use Rattle.average.proofs.walks.raise_at.Statement.{statement}
 use Rattle.average.proofs.walks.raise_at.Tie as tie
@@ -21,7 +20,6 @@ element-write-counts : tie.Need-element-write-counts
 element-write-counts c = search needs
 
 returns : tie.Need-returns
-unfolding oneMore
 returns c = refl
 
 pub raise-at-spec : {M : Type 1} → statement M

@@ -1,14 +1,14 @@
 -- `average::walks::total` meets its contract: what was summed and the total of the entries that are left are the whole. Assumes nothing.
-use Prim.Native.Nat.{ℕ, _+_, _*_, _≤_, min}
+use Prim.Native.Nat.{ℕ, _+_, _*_, _≤_}
 use native.Mathlib.Omega.{arith}
-use mathlib.Core.Path.{_≡_, ap, _∙_}
+use mathlib.Core.Path.{_≡_, ap}
 use mathlib.Core.List.{List}
-use lib.ListN.{length, drop}
+use lib.ListN.{drop}
 use borrow.Author.Needs.{needs}
 use Rattle.image.specs.Bytes.{word}
 use Rattle.image.specs.Image.{headSize}
 use Rattle.image.specs.Stored.{entriesIn}
-use Rattle.average.specs.Lengths.{totalOf}
+use Rattle.average.specs.SearchLengths.{totalOf}
 use Rattle.average.proofs.Walking as walking
 use Rattle.average.proofs.walks.total.Statement.{statement}
 use Rattle.average.proofs.walks.total.Tie as tie
@@ -48,14 +48,8 @@ cast-sum c = search needs
 add-sum : tie.Need-add-sum Inv-loop μ-loop
 add-sum c = omega arith
 
-length-word-requires : tie.Need-length-word-requires Inv-loop μ-loop
-length-word-requires c κs = search needs
-
-add-lesser : tie.Need-add-lesser Inv-loop μ-loop
-add-lesser c = search needs
-
-lesser-requires-2 : tie.Need-lesser-requires-2 Inv-loop μ-loop
-lesser-requires-2 c κs = search needs
+first-end-requires : tie.Need-first-end-requires Inv-loop μ-loop
+first-end-requires c κs = search needs
 
 sub-rest-2 : tie.Need-sub-rest-2 Inv-loop μ-loop
 sub-rest-2 c = search needs
@@ -74,14 +68,13 @@ loop-less c = omega arith
 
 loop-again : tie.Need-loop-again Inv-loop μ-loop
 loop-again c =
-    let cut = c .before .lesser2 in
-    let w = c .before .before .length-word in
-    let front = c .before .before .before .front-length in
-    let more = c .before .before .before .before .loop-test .taken in
-    let at = c .before .before .before .before .before .loop in
-    let a = c .before .before .before .before .before .before .before .before .before .args in
+    let cut = c .before .first-end in
+    let front = c .before .before .front-length in
+    let more = c .before .before .before .loop-test .taken in
+    let at = c .before .before .before .before .loop in
+    let a = c .before .before .before .before .before .before .before .before .args in
     let rest = at .rest .now in
-    let behind = walking.rest-cut rest (8 + word rest 4) (cut .result) (cut .ensures ∙ ap (λ (k : ℕ). min (8 + k) (length rest)) (w .ensures .0)) in
+    let behind = walking.rest-cut rest (8 + word rest 4) (cut .result) (cut .ensures) in
     (walking.total-more (a .image .now) rest _ (at .left) (at .sum) (front .result) _ more (at .inv .0) (front .ensures) behind, omega (arith, at .inv .1))
 
 returns : tie.Need-returns Inv-loop μ-loop
@@ -104,9 +97,7 @@ total-spec =
     front-length-requires
     cast-sum
     add-sum
-    length-word-requires
-    add-lesser
-    lesser-requires-2
+    first-end-requires
     sub-rest-2
     part-rest-start-2
     part-rest-end-2

@@ -27,8 +27,8 @@ add-joined c =
     let none = sym (c .before .append-refusal .ensures) ∙ c .if1 .left in
     omega (arith, passed buf (a .end) image none .room)
 
-copy-requires : tie.Need-copy-requires
-copy-requires c κs =
+store-bytes-requires : tie.Need-store-bytes-requires
+store-bytes-requires c κs =
     let a = c .before .before .before .before .before .before .args in
     let buf = a .buf .now in
     let image = a .image .now in
@@ -45,7 +45,7 @@ returns-2 c =
     let image = a .image .now in
     let none = sym (c .before .before .before .before .before .append-refusal .ensures) ∙ c .before .before .before .before .if1 .left in
     let done = accepted buf (a .end) image none in
-    (done .0, c .before .before .copy .ensures ∙ done .1)
+    (done .0, c .before .before .store-bytes .ensures ∙ done .1)
 
 pub append-spec : {M : Type 1} → statement M
 append-spec =
@@ -55,6 +55,6 @@ append-spec =
     same-length
     returns
     add-joined
-    copy-requires
+    store-bytes-requires
     same-length-2
     returns-2)

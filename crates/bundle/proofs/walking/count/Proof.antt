@@ -3,9 +3,9 @@ use Prim.Native.Nat.{_-_}
 use native.Mathlib.Omega.{arith}
 use mathlib.Core.Path.{_≡_, sym, _∙_}
 use lib.ListN.{length}
-use Rattle.bundle.specs.Walk.{counting}
-use Rattle.bundle.proofs.Steps.{none-there, some-there}
-use Rattle.bundle.proofs.Walks.{Counting, counting-starts, counting-turn, count-broke, count-ended}
+use Rattle.bundle.specs.FileWalk.{counting}
+use Rattle.bundle.proofs.FileSteps.{none-there, some-there}
+use Rattle.bundle.proofs.FileWalks.{Counting, counting-starts, counting-turn, count-broke, count-ended}
 use Rattle.bundle.proofs.walking.count.Statement.{statement}
 use Rattle.bundle.proofs.walking.count.Tie as tie
 

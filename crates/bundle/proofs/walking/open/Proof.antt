@@ -4,7 +4,7 @@ use mathlib.Core.Path.{sym, ap, _∙_}
 use Rattle.jhash.specs.Outcome.{value, refusal}
 use Rattle.reader.specs.Cases.{openedOf}
 use Rattle.bundle.specs.Cases.{placedOf}
-use Rattle.bundle.proofs.Places.{place-inside, opened-there, not-opened}
+use Rattle.bundle.proofs.ImagePlaces.{place-inside, opened-there, not-opened}
 use borrow.Author.Needs.{needs}
 use Rattle.bundle.proofs.walking.open.Statement.{statement}
 use Rattle.bundle.proofs.walking.open.Tie as tie

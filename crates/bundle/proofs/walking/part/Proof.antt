@@ -3,7 +3,7 @@ use native.Mathlib.Omega.{arith}
 use mathlib.Core.Path.{sym, ap, _∙_}
 use Rattle.reader.specs.Slices.{slice}
 use Rattle.bundle.specs.Cases.{placedOf}
-use Rattle.bundle.proofs.Places.{place-inside, part-there, no-part}
+use Rattle.bundle.proofs.ImagePlaces.{place-inside, part-there, no-part}
 use borrow.Author.Needs.{needs}
 use Rattle.bundle.proofs.walking.part.Statement.{statement}
 use Rattle.bundle.proofs.walking.part.Tie as tie

@@ -4,14 +4,14 @@ use native.Mathlib.Omega.{arith}
 use mathlib.Core.Path.{_≡_, refl, sym, ap, _∙_}
 use lib.ListN.{length}
 use Rattle.jhash.specs.Outcome.{value}
-use Rattle.bundle.specs.Walk.{placeFrom, placeAt}
-use Rattle.bundle.proofs.Steps.{none-there, some-there}
-use Rattle.bundle.proofs.Walks.{place-broke, place-ended, place-here, place-turn}
+use Rattle.bundle.specs.FileWalk.{placeFrom, placeOfImage}
+use Rattle.bundle.proofs.FileSteps.{none-there, some-there}
+use Rattle.bundle.proofs.FileWalks.{place-broke, place-ended, place-here, place-turn}
 use Rattle.bundle.proofs.walking.place.Statement.{statement}
 use Rattle.bundle.proofs.walking.place.Tie as tie
 
 abbrev Inv-loop : tie.InvT-loop
-Inv-loop file position at₀ left₀ at left = (at ≤ length file) × (placeFrom file at left ≡ placeAt file position)
+Inv-loop file position at₀ left₀ at left = (at ≤ length file) × (placeFrom file at left ≡ placeOfImage file position)
 
 abbrev μ-loop : tie.MeasureT-loop
 μ-loop file position at₀ left₀ at left = length file - at
@@ -54,7 +54,7 @@ loop-again c =
     let i = c .before .before .before .before .loop in
     let size = c .before .before .size-at .result in
     let b = some-there file (i .at) size (c .before .before .size-at .ensures .0) (c .before .if1 .left) in
-    (c .before .before .size-at .ensures .1, place-turn file (i .at) size (i .left) (placeAt file (start .args .position)) (b .0) (b .1) (c .if2 .left) (i .inv .1))
+    (c .before .before .size-at .ensures .1, place-turn file (i .at) size (i .left) (placeOfImage file (start .args .position)) (b .0) (b .1) (c .if2 .left) (i .inv .1))
 
 returns-3 : tie.Need-returns-3 Inv-loop μ-loop
 returns-3 c =

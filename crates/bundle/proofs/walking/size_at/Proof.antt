@@ -1,6 +1,6 @@
 -- `bundle::walking::size_at` meets its contract. Assumes nothing.
 use native.Mathlib.Omega.{arith}
-use Rattle.bundle.proofs.Steps.{size-short, size-small, size-past, size-fine}
+use Rattle.bundle.proofs.FileSteps.{size-short, size-small, size-past, size-fine}
 use borrow.Author.Needs.{needs}
 use Rattle.bundle.proofs.walking.size_at.Statement.{statement}
 use Rattle.bundle.proofs.walking.size_at.Tie as tie

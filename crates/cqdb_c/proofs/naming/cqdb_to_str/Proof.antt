@@ -3,7 +3,7 @@ use Prim.Native.Nat.{ℕ}
 use native.Mathlib.Omega.{arith}
 use mathlib.Core.Path.{ap, _∙_}
 use Rattle.cqdb_c.specs.ReadAnswers.{placeAnswerOf}
-use Rattle.cqdb_c.proofs.Places.{naming-small}
+use Rattle.cqdb_c.proofs.ShortPlaces.{naming-small}
 use borrow.Author.Needs.{needs}
 use Rattle.cqdb_c.proofs.naming.cqdb_to_str.Statement.{statement}
 use Rattle.cqdb_c.proofs.naming.cqdb_to_str.Tie as tie

@@ -7,7 +7,7 @@ use Rattle.writer.specs.State.{begunOf}
 use Rattle.cqdb_c.specs.declared.record.Record.{Record}
 use Rattle.cqdb_c.specs.declared.writing.BeginAnswer.{BeginAnswer}
 use Rattle.cqdb_c.specs.Writing.{begunAnswer}
-use Rattle.cqdb_c.proofs.Calls.{begin-unknown, begin-known}
+use Rattle.cqdb_c.proofs.CCalls.{begin-unknown, begin-known}
 use borrow.Author.Needs.{needs}
 use Rattle.cqdb_c.proofs.writing.cqdb_begin_parts.Statement.{statement}
 use Rattle.cqdb_c.proofs.writing.cqdb_begin_parts.Tie as tie

@@ -1,5 +1,4 @@
 -- `image::entries::broken` meets its contract. Assumes nothing.
-use native.Mathlib.Omega.{arith}
 use Rattle.image.proofs.Unbroken.{broken-short, broken-rest}
 use borrow.Author.Needs.{needs}
 use Rattle.image.proofs.entries.broken.Statement.{statement}

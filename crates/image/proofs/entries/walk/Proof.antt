@@ -9,7 +9,7 @@ use Rattle.image.proofs.Bools.{not-both}
 use Rattle.image.specs.Stored.{between}
 use Rattle.image.proofs.Between.{Front, front, length-between}
 use native.Mathlib.Omega.{arith}
-use Prim.Native.Nat.{ℕ, _<_, _≤_, _-_}
+use Prim.Native.Nat.{_<_, _≤_, _-_}
 use mathlib.Core.Path.{_≡_, refl}
 use Rattle.image.proofs.EntryWalk.{Rest, MetRest, walk-start, walk-turn, walk-broken, walk-end, met-turn, met-end}
 use Rattle.image.proofs.entries.walk.Statement.{statement}

@@ -1,6 +1,6 @@
 -- `image::equality::same_last` meets its contract. Assumes nothing.
 use native.Mathlib.Omega.{arith}
-use mathlib.Core.Path.{_≡_, sym, _∙_}
+use mathlib.Core.Path.{sym, _∙_}
 use Rattle.image.proofs.Equal.{other-word, same-word}
 use borrow.Author.Needs.{needs}
 use Rattle.image.proofs.equality.same_last.Statement.{statement}

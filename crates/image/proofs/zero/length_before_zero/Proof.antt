@@ -3,7 +3,6 @@
 use Prim.Native.Nat.{_+_, _-_, _≤_}
 use native.Mathlib.Omega.{arith}
 use mathlib.Core.Path.{_≡_, refl, ap}
-use mathlib.Core.List.{List}
 use lib.ListN.{length, drop}
 use Rattle.image.specs.Zero.{beforeZero}
 use Rattle.image.proofs.Zeros.{before-none, before-there, before-further}

@@ -6,7 +6,7 @@ use lib.ListN.{length, drop}
 use borrow.Author.Needs.{needs}
 use borrow.Author.Tests.{not-true, not-false}
 use Rattle.lines.specs.Lines.{leadingDigits}
-use Rattle.lines.proofs.Numbers.{digit-passed, digits-stop, digits-end}
+use Rattle.lines.proofs.Decimals.{digit-passed, digits-stop, digits-end}
 use Rattle.lines.proofs.parsing.leading_digits.Statement.{statement}
 use Rattle.lines.proofs.parsing.leading_digits.Tie as tie
 

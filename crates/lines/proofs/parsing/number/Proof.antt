@@ -4,13 +4,13 @@ use native.Mathlib.Omega.{arith}
 use mathlib.Core.Path.{_≡_, refl, sym, _∙_}
 use lib.ListN.{length, drop}
 use borrow.Author.Needs.{needs}
-use Rattle.lines.specs.Lines.{numberFrom, number}
-use Rattle.lines.proofs.Numbers.{digit-read, number-end, bound-more, bound-fits}
+use Rattle.lines.specs.Lines.{numberFrom, decimal}
+use Rattle.lines.proofs.Decimals.{digit-read, number-end, bound-more, bound-fits}
 use Rattle.lines.proofs.parsing.number.Statement.{statement}
 use Rattle.lines.proofs.parsing.number.Tie as tie
 
 abbrev Inv-loop : tie.InvT-loop
-Inv-loop digits v₀ i₀ v i = (i ≤ length digits) × (numberFrom v (drop i digits) ≡ number digits) × (v + 26 ≤ 26 * 10 ^ i)
+Inv-loop digits v₀ i₀ v i = (i ≤ length digits) × (numberFrom v (drop i digits) ≡ decimal digits) × (v + 26 ≤ 26 * 10 ^ i)
 
 abbrev μ-loop : tie.MeasureT-loop
 μ-loop digits v₀ i₀ v i = length digits - i

@@ -8,7 +8,7 @@ use lib.Seq.{length-take-le}
 use lib.Dec.{leb}
 use borrow.Author.Needs.{needs}
 use borrow.Author.Tests.{le-leb, lt-leb, eq-eqb, ne-eqb}
-use Rattle.lines.specs.Lines.{number, entry}
+use Rattle.lines.specs.Lines.{entry}
 use Rattle.lines.proofs.Forms.{form-by}
 use Rattle.lines.proofs.parsing.parse_line.Statement.{statement}
 use Rattle.lines.proofs.parsing.parse_line.Tie as tie

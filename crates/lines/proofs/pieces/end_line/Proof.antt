@@ -6,7 +6,7 @@ use lib.ListN.{length}
 use lib.Seq.{length-take-le}
 use borrow.Author.Needs.{needs}
 use Rattle.writer.specs.State.{stateWith}
-use Rattle.lines.proofs.Taking.{ended-put, ended-dropped}
+use Rattle.lines.proofs.PieceBytes.{ended-put, ended-dropped}
 use Rattle.lines.proofs.pieces.end_line.Statement.{statement}
 use Rattle.lines.proofs.pieces.end_line.Tie as tie
 

@@ -6,7 +6,7 @@ use Rattle.writer.specs.State.{stateWith}
 use Rattle.lines.specs.Lines.{formOf}
 use Rattle.lines.proofs.Forms.{named}
 use Rattle.lines.proofs.Skipped.{after-other}
-use Rattle.lines.proofs.Taking.{put-part}
+use Rattle.lines.proofs.PieceBytes.{put-part}
 use Rattle.lines.proofs.pieces.put_line.Statement.{statement}
 use Rattle.lines.proofs.pieces.put_line.Tie as tie
 

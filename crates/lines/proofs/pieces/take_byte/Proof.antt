@@ -1,7 +1,7 @@
 -- `lines::pieces::take_byte` meets its contract. Assumes nothing.
 use borrow.Author.Needs.{needs}
 use Rattle.writer.specs.State.{stateWith}
-use Rattle.lines.proofs.Taking.{byte-feed, byte-more}
+use Rattle.lines.proofs.PieceBytes.{byte-feed, byte-more}
 use Rattle.lines.proofs.pieces.take_byte.Statement.{statement}
 use Rattle.lines.proofs.pieces.take_byte.Tie as tie
 

@@ -5,7 +5,7 @@ use mathlib.Core.Path.{_≡_, refl, sym, ap, _∙_}
 use lib.ListN.{length, drop}
 use borrow.Author.Needs.{needs}
 use Rattle.lines.specs.steps.Pieces.{Gathering, gathering, takePiece}
-use Rattle.lines.proofs.Taking.{piece-turn, piece-end}
+use Rattle.lines.proofs.PieceBytes.{piece-turn, piece-end}
 use Rattle.lines.proofs.pieces.take_piece.Statement.{statement}
 use Rattle.lines.proofs.pieces.take_piece.Tie as tie
 

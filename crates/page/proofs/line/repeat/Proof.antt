@@ -6,7 +6,7 @@ use mathlib.Core.Path.{_≡_, refl, sym, _∙_}
 use lib.ListN.{length, replicate, length-set}
 use lib.Seq.{sets}
 use borrow.Author.Needs.{needs}
-use Rattle.page.proofs.Stores.{repeat-turn, repeat-end}
+use Rattle.page.proofs.PageStores.{repeat-turn, repeat-end}
 use Rattle.page.proofs.line.repeat.Statement.{statement}
 use Rattle.page.proofs.line.repeat.Tie as tie
 

@@ -8,7 +8,7 @@ use lib.ListN.{length, drop, length-set}
 use lib.Seq.{sets}
 use borrow.Author.Needs.{needs}
 use Rattle.page.specs.Page.{shown}
-use Rattle.page.proofs.Stores.{map-turn, map-end}
+use Rattle.page.proofs.PageStores.{map-turn, map-end}
 use Rattle.page.proofs.line.show_all.Statement.{statement}
 use Rattle.page.proofs.line.show_all.Tie as tie
 

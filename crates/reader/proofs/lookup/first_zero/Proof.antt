@@ -1,7 +1,6 @@
 -- `reader::lookup::first_zero` meets its contract. Assumes nothing.
 use Prim.Native.Nat.{_<_}
 use native.Mathlib.Omega.{arith}
-use mathlib.Core.Path.{_≡_, sym, _∙_}
 use borrow.Author.Needs.{needs}
 use Rattle.reader.proofs.lookup.first_zero.Statement.{statement}
 use Rattle.reader.proofs.lookup.first_zero.Tie as tie

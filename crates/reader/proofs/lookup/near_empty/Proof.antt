@@ -1,6 +1,6 @@
 -- `reader::lookup::near_empty` meets its contract: by the law `near`. Assumes nothing.
 use native.Mathlib.Omega.{arith}
-use mathlib.Core.Path.{_≡_, sym, _∙_}
+use mathlib.Core.Path.{_∙_}
 use Rattle.reader.proofs.Near.{near}
 use borrow.Author.Needs.{needs}
 use Rattle.reader.proofs.lookup.near_empty.Statement.{statement}

@@ -1,7 +1,6 @@
 -- `reader::lookup::next_bucket` meets its contract. Assumes nothing.
 use Prim.Native.Nat.{_+_, _<_}
 use native.Mathlib.Omega.{arith}
-use mathlib.Core.Path.{_≡_}
 use Rattle.image.proofs.Turns.{next-more, next-first}
 use borrow.Author.Needs.{needs}
 use Rattle.reader.proofs.lookup.next_bucket.Statement.{statement}

@@ -1,8 +1,5 @@
 -- `reader::lookup::table_of` meets its contract. Assumes nothing.
-use Prim.Native.Nat.{_+_, _*_, _≤_, _<_}
 use native.Mathlib.Omega.{arith}
-use lib.ListN.{length}
-use mathlib.Core.Path.{_≡_}
 use Rattle.reader.proofs.Searches.{unread-offset, unread-number, unread-leaves, read-table}
 use borrow.Author.Needs.{needs}
 use Rattle.reader.proofs.lookup.table_of.Statement.{statement}

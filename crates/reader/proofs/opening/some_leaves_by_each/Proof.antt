@@ -1,6 +1,6 @@
 -- `reader::opening::some_leaves_by_each` meets its contract. The loop's invariant: a table that leaves the image was met or is still to come exactly where there
 -- is one. Assumes nothing.
-use Prim.Native.Nat.{ℕ, _+_, _-_, _≤_}
+use Prim.Native.Nat.{ℕ, _-_, _≤_}
 use native.Mathlib.Omega.{arith}
 use mathlib.Core.Path.{_≡_, refl, sym, ap, _∙_}
 use mathlib.Core.Bool.{Bool, _||_, or-false}

@@ -1,5 +1,5 @@
 -- `reader_replay::ask::agrees` meets its contract. Assumes nothing.
-use Rattle.reader_replay.specs.Ask.{agrees}
+use Rattle.reader_replay.specs.AskLines.{agrees}
 use borrow.Author.Needs.{needs}
 use Rattle.reader_replay.proofs.ask.agrees.Statement.{statement}
 use Rattle.reader_replay.proofs.ask.agrees.Tie as tie

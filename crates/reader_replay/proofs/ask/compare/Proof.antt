@@ -2,8 +2,8 @@
 use native.Mathlib.Omega.{arith}
 use mathlib.Core.Path.{sym, ap, _∙_}
 use Rattle.replay_lines.specs.Verdicts.{verdictIf}
-use Rattle.replay_lines.proofs.Read.{is-bytes, no-bytes, room-for}
-use Rattle.reader_replay.specs.Ask.{compared}
+use Rattle.replay_lines.proofs.ReadWords.{is-bytes, no-bytes, room-for}
+use Rattle.reader_replay.specs.AskLines.{nameCompared}
 use borrow.Author.Needs.{needs}
 use Rattle.reader_replay.proofs.ask.compare.Statement.{statement}
 use Rattle.reader_replay.proofs.ask.compare.Tie as tie
@@ -42,7 +42,7 @@ enum-told : tie.Need-enum-told
 enum-told c = search needs
 
 returns : tie.Need-returns
-unfolding compared
+unfolding nameCompared
 returns c =
     let at = c .before .before .before .before .before in
     let read = at .before .before .before in
@@ -50,7 +50,7 @@ returns c =
     ∙ sym (is-bytes _ _ _ _ (read .before .before .buffer .ensures) _ _ (read .decode .ensures .0) (read .decode .ensures .1) (at .k .given .1) _ _)
 
 returns-2 : tie.Need-returns-2
-unfolding compared
+unfolding nameCompared
 returns-2 c =
     let read = c .before .before .before in
     sym (no-bytes _ _ _ (read .before .before .buffer .ensures) _ (read .decode .ensures .0) _ _ (c .enum-told .given .1))

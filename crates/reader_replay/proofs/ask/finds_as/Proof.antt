@@ -1,7 +1,7 @@
 -- `reader_replay::ask::finds_as` meets its contract. Assumes nothing.
 use mathlib.Core.Path.{sym, ap, _∙_}
 use Rattle.reader.specs.Cases.{lookupOf}
-use Rattle.reader_replay.specs.Ask.{findsAs}
+use Rattle.reader_replay.specs.AskLines.{findsAs}
 use borrow.Author.Needs.{needs}
 use Rattle.reader_replay.proofs.ask.finds_as.Statement.{statement}
 use Rattle.reader_replay.proofs.ask.finds_as.Tie as tie

@@ -1,6 +1,6 @@
 -- `reader_replay::ask::home_as` meets its contract. Assumes nothing.
 use mathlib.Core.Path.{sym, ap, _∙_}
-use Rattle.reader_replay.specs.Ask.{homeAs}
+use Rattle.reader_replay.specs.AskLines.{homeAs}
 use borrow.Author.Needs.{needs}
 use Rattle.reader_replay.proofs.ask.home_as.Statement.{statement}
 use Rattle.reader_replay.proofs.ask.home_as.Tie as tie

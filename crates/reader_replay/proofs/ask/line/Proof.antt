@@ -1,21 +1,21 @@
 -- `reader_replay::ask::line` meets its contract. Assumes nothing.
 use mathlib.Core.Path.{sym, _∙_}
 use borrow.Author.Tests.{eq-eqb, ne-eqb, not-true, not-false}
-use Rattle.replay_lines.proofs.Read.{is-number, no-number}
-use Rattle.reader_replay.specs.Ask.{verdict}
+use Rattle.replay_lines.proofs.ReadWords.{is-number, no-number}
+use Rattle.reader_replay.specs.AskLines.{askVerdict}
 use borrow.Author.Needs.{needs}
 use Rattle.reader_replay.proofs.ask.line.Statement.{statement}
 use Rattle.reader_replay.proofs.ask.line.Tie as tie
 
 returns : tie.Need-returns
-unfolding verdict
+unfolding askVerdict
 returns c = rw (eq-eqb _ _ (c .if1 .taken))
 
 asks-requires : tie.Need-asks-requires
 asks-requires c κs = search needs
 
 returns-2 : tie.Need-returns-2
-unfolding verdict
+unfolding askVerdict
 returns-2 c = rw (ne-eqb _ _ (c .before .before .if1 .left), sym (c .before .asks .ensures) ∙ not-true _ (c .if2 .taken))
 
 either-requires : tie.Need-either-requires
@@ -25,7 +25,7 @@ compare-requires : tie.Need-compare-requires
 compare-requires c κs = search needs
 
 returns-3 : tie.Need-returns-3
-unfolding verdict
+unfolding askVerdict
 returns-3 c =
     let test = c .before .before .before in
     rw (ne-eqb _ _ (c .before .before .before .before .before .if1 .left), sym (c .before .before .before .before .asks .ensures) ∙ not-false _ (test .if2 .left), ← c .before .before .either .ensures, c .before .if3 .taken)
@@ -44,7 +44,7 @@ enum-told : tie.Need-enum-told
 enum-told c = search needs
 
 returns-4 : tie.Need-returns-4
-unfolding verdict
+unfolding askVerdict
 returns-4 c =
     let at = c .before .before in
     let third = at .before .before .before in
@@ -54,7 +54,7 @@ returns-4 c =
     (c .compare2 .ensures ∙ sym (is-number _ _ _ _ (at .before .before .word .ensures) _ (at .n .given .1)))
 
 returns-5 : tie.Need-returns-5
-unfolding verdict
+unfolding askVerdict
 returns-5 c =
     let third = c .before .before .before in
     let second = third .before .before in

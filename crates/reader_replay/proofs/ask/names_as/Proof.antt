@@ -3,7 +3,7 @@ use mathlib.Core.Path.{sym, ap, _∙_}
 use Rattle.image.specs.Bytes.{same}
 use Rattle.reader.specs.Slices.{Slice, slice}
 use Rattle.reader.specs.Cases.{namingOf}
-use Rattle.reader_replay.specs.Ask.{namesAs}
+use Rattle.reader_replay.specs.AskLines.{namesAs}
 use Rattle.reader_replay.proofs.Judging.{names, names-not}
 use borrow.Author.Needs.{needs}
 use Rattle.reader_replay.proofs.ask.names_as.Statement.{statement}

@@ -1,7 +1,7 @@
 -- `reader_replay::ask::opens_as` meets its contract. Assumes nothing.
 use mathlib.Core.Path.{sym, ap, _∙_}
 use Rattle.reader.specs.Cases.{openedOf}
-use Rattle.reader_replay.specs.Ask.{opensAs}
+use Rattle.reader_replay.specs.AskLines.{opensAs}
 use borrow.Author.Needs.{needs}
 use Rattle.reader_replay.proofs.ask.opens_as.Statement.{statement}
 use Rattle.reader_replay.proofs.ask.opens_as.Tie as tie

@@ -1,6 +1,6 @@
 -- `reader_replay::change::changed` meets its contract. Assumes nothing.
 use borrow.Author.Tests.{ne-eqb}
-use Rattle.reader_replay.specs.Change.{changed}
+use Rattle.reader_replay.specs.ChangeLines.{changed}
 use Rattle.reader_replay.proofs.Judging.{zeros, edits-line}
 use borrow.Author.Needs.{needs}
 use Rattle.reader_replay.proofs.change.changed.Statement.{statement}

@@ -1,6 +1,6 @@
 -- `reader_replay::change::edit` meets its contract. Assumes nothing.
 use borrow.Author.Tests.{lt-leb}
-use Rattle.reader_replay.specs.Change.{editVerdict, edited}
+use Rattle.reader_replay.specs.ChangeLines.{editVerdict, edited}
 use Rattle.reader_replay.proofs.Judging.{edits, edit-silent, edit-malformed}
 use borrow.Author.Needs.{needs}
 use Rattle.reader_replay.proofs.change.edit.Statement.{statement}

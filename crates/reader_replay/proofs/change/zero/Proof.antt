@@ -6,7 +6,7 @@ use mathlib.Core.Path.{_≡_, refl, ap, _∙_}
 use borrow.Author.Fill.{fill-more}
 use borrow.Author.Tests.{le-leb, lt-leb}
 use lib.ListN.{length, set, drop, replicate, length-set}
-use Rattle.reader_replay.specs.Change.{zeroVerdict, zeroed}
+use Rattle.reader_replay.specs.ChangeLines.{zeroVerdict, zeroedFront}
 use Rattle.reader_replay.proofs.change.zero.Statement.{statement}
 use Rattle.reader_replay.proofs.change.zero.Tie as tie
 
@@ -18,7 +18,7 @@ abbrev μ-loop : tie.MeasureT-loop
 μ-loop n buf₀ i₀ buf i = n - i
 
 returns : tie.Need-returns Inv-loop μ-loop
-unfolding zeroVerdict zeroed
+unfolding zeroVerdict zeroedFront
 returns c =
     let e = lt-leb _ _ (c .if1 .taken) in
     (rw e, rw e)
@@ -48,7 +48,7 @@ same-length : tie.Need-same-length Inv-loop μ-loop
 same-length c = omega arith
 
 returns-2 : tie.Need-returns-2 Inv-loop μ-loop
-unfolding zeroVerdict zeroed
+unfolding zeroVerdict zeroedFront
 returns-2 c =
     let l = c .before .loop in
     let n = c .before .before .before .args .n in

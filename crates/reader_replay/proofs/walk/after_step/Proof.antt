@@ -1,7 +1,7 @@
 -- `reader_replay::walk::after_step` meets its contract. Assumes nothing.
 use mathlib.Core.Path.{sym, ap, _∙_}
 use Rattle.reader.specs.Cases.{steppedOf}
-use Rattle.reader.specs.WalkSteps.{standsAfter}
+use Rattle.reader.specs.IdWalk.{standsAfter}
 use borrow.Author.Needs.{needs}
 use Rattle.reader_replay.proofs.walk.after_step.Statement.{statement}
 use Rattle.reader_replay.proofs.walk.after_step.Tie as tie

@@ -3,7 +3,7 @@ use Prim.Native.Nat.{ℕ}
 use mathlib.Core.Path.{ap}
 use borrow.Author.Tests.{eq-eqb, ne-eqb}
 use lib.Dec.{eqb}
-use Rattle.reader_replay.specs.Walk.{walkAgrees}
+use Rattle.reader_replay.specs.WalkLines.{walkAgrees}
 use borrow.Author.Needs.{needs}
 use Rattle.reader_replay.proofs.walk.agrees.Statement.{statement}
 use Rattle.reader_replay.proofs.walk.agrees.Tie as tie

@@ -5,7 +5,7 @@ use mathlib.Core.Path.{_≡_, ap, _∙_}
 use borrow.Author.Tests.{le-leb, lt-leb}
 use lib.ListN.{length, take, drop}
 use Rattle.image.specs.Bytes.{same}
-use Rattle.reader_replay.specs.Walk.{isAt}
+use Rattle.reader_replay.specs.WalkLines.{isAt}
 use borrow.Author.Needs.{needs}
 use Rattle.reader_replay.proofs.walk.is_at.Statement.{statement}
 use Rattle.reader_replay.proofs.walk.is_at.Tie as tie

@@ -1,6 +1,6 @@
 -- `reader_replay::walk::stands` meets its contract. Assumes nothing.
 use borrow.Author.Tests.{eq-eqb, ne-eqb}
-use Rattle.reader_replay.specs.Walk.{standsThen}
+use Rattle.reader_replay.specs.WalkLines.{standsThen}
 use borrow.Author.Needs.{needs}
 use Rattle.reader_replay.proofs.walk.stands.Statement.{statement}
 use Rattle.reader_replay.proofs.walk.stands.Tie as tie

@@ -1,7 +1,7 @@
 -- `reader_replay::walk::steps_as` meets its contract. Assumes nothing.
 use mathlib.Core.Path.{sym, ap, _∙_}
 use Rattle.reader.specs.Cases.{steppedOf}
-use Rattle.reader_replay.specs.Walk.{stepsAs}
+use Rattle.reader_replay.specs.WalkLines.{stepsAs}
 use Rattle.reader_replay.proofs.Judging.{steps, steps-not}
 use borrow.Author.Needs.{needs}
 use Rattle.reader_replay.proofs.walk.steps_as.Statement.{statement}

@@ -1,10 +1,10 @@
 -- `replay_lines::hex::are_digits` meets its contract. The loop's invariant: the text is all digits exactly where what is left of it is. Assumes nothing.
 use native.Mathlib.Omega.{arith}
-use Prim.Native.Nat.{_+_, _-_, _≤_}
+use Prim.Native.Nat.{_-_, _≤_}
 use mathlib.Core.Path.{_≡_, refl, sym, _∙_}
 use lib.ListN.{length, drop}
 use Rattle.replay_lines.specs.Hex.{areDigits}
-use Rattle.replay_lines.proofs.Steps.{digits-end, digits-on, digits-none}
+use Rattle.replay_lines.proofs.LoopSteps.{digits-end, digits-on, digits-none}
 use Rattle.replay_lines.proofs.hex.are_digits.Statement.{statement}
 use Rattle.replay_lines.proofs.hex.are_digits.Tie as tie
 

@@ -1,7 +1,7 @@
 -- `replay_lines::hex::decode` meets its contract. Assumes nothing.
 use mathlib.Core.Path.{sym, _∙_}
 use borrow.Author.Tests.{not-true, not-false}
-use Rattle.replay_lines.proofs.Steps.{whole-bytes, bad, good}
+use Rattle.replay_lines.proofs.LoopSteps.{whole-bytes, bad, good}
 use borrow.Author.Needs.{needs}
 use Rattle.replay_lines.proofs.hex.decode.Statement.{statement}
 use Rattle.replay_lines.proofs.hex.decode.Tie as tie

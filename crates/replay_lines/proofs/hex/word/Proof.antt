@@ -1,10 +1,10 @@
 -- `replay_lines::hex::word` meets its contract. The loop's invariant: the number of the whole text is v, followed by what is left. Assumes nothing.
 use native.Mathlib.Omega.{arith}
-use Prim.Native.Nat.{_+_, _-_, _≤_}
-use mathlib.Core.Path.{_≡_, refl, sym, _∙_}
+use Prim.Native.Nat.{_-_, _≤_}
+use mathlib.Core.Path.{_≡_, sym, _∙_}
 use lib.ListN.{length, drop}
 use Rattle.replay_lines.specs.Hex.{valueFrom, wordIn}
-use Rattle.replay_lines.proofs.Steps.{value-end, value-on, value-none, eight, not-eight}
+use Rattle.replay_lines.proofs.LoopSteps.{value-end, value-on, value-none, eight, not-eight}
 use Rattle.replay_lines.proofs.hex.word.Statement.{statement}
 use Rattle.replay_lines.proofs.hex.word.Tie as tie
 

@@ -1,11 +1,11 @@
 -- `replay_lines::hex::write_bytes` meets its contract. The loop's invariant: what is still to be written makes of `out` what all bytes make of it. Assumes nothing.
 use native.Mathlib.Omega.{arith}
-use Prim.Native.Nat.{_+_, _*_, _-_, _≤_}
+use Prim.Native.Nat.{_*_, _-_, _≤_}
 use mathlib.Core.Path.{_≡_, refl, sym, _∙_}
 use lib.ListN.{length, drop, length-set}
 use lib.Seq.{sets}
 use Rattle.replay_lines.specs.Hex.{bytesIn}
-use Rattle.replay_lines.proofs.Steps.{written, written-none}
+use Rattle.replay_lines.proofs.LoopSteps.{written, written-none}
 use Rattle.replay_lines.proofs.hex.write_bytes.Statement.{statement}
 use Rattle.replay_lines.proofs.hex.write_bytes.Tie as tie
 

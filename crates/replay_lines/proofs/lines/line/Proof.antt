@@ -1,5 +1,5 @@
 -- `replay_lines::lines::line` meets its contract. Assumes nothing.
-use Rattle.replay_lines.proofs.Turns.{no-line, line-of}
+use Rattle.replay_lines.proofs.LineTurns.{no-line, line-of}
 use borrow.Author.Needs.{needs}
 use Rattle.replay_lines.proofs.lines.line.Statement.{statement}
 use Rattle.replay_lines.proofs.lines.line.Tie as tie

@@ -1,7 +1,7 @@
 -- `replay_lines::lines::noted` meets its contract. Assumes nothing.
 use mathlib.Core.Path.{ap}
 use lib.ListN.{length}
-use Rattle.replay_lines.proofs.Turns.{past-end, behind-line}
+use Rattle.replay_lines.proofs.LineTurns.{past-end, behind-line}
 use borrow.Author.Needs.{needs}
 use Rattle.replay_lines.proofs.lines.noted.Statement.{statement}
 use Rattle.replay_lines.proofs.lines.noted.Tie as tie

@@ -1,5 +1,5 @@
 -- `replay_lines::words::past` meets its contract. Assumes nothing.
-use Rattle.replay_lines.proofs.Split.{past-is, past-none}
+use Rattle.replay_lines.proofs.BeforeByte.{past-is, past-none}
 use borrow.Author.Needs.{needs}
 use Rattle.replay_lines.proofs.words.past.Statement.{statement}
 use Rattle.replay_lines.proofs.words.past.Tie as tie

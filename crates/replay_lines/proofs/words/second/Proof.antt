@@ -1,6 +1,6 @@
 -- `replay_lines::words::second` meets its contract. Assumes nothing.
 use mathlib.Core.Path.{ap, _∙_}
-use Rattle.replay_lines.specs.Words.{until}
+use Rattle.replay_lines.specs.LineWords.{until}
 use borrow.Author.Needs.{needs}
 use Rattle.replay_lines.proofs.words.second.Statement.{statement}
 use Rattle.replay_lines.proofs.words.second.Tie as tie

@@ -1,6 +1,6 @@
 -- `replay_lines::words::skipped` meets its contract. Assumes nothing.
 use borrow.Author.Tests.{eq-eqb, ne-eqb}
-use Rattle.replay_lines.specs.Words.{skipped}
+use Rattle.replay_lines.specs.LineWords.{skipped}
 use borrow.Author.Needs.{needs}
 use Rattle.replay_lines.proofs.words.skipped.Statement.{statement}
 use Rattle.replay_lines.proofs.words.skipped.Tie as tie

@@ -1,7 +1,7 @@
 -- `replay_lines::words::tag` meets its contract. Assumes nothing.
 use mathlib.Core.Path.{ap, _∙_}
-use Rattle.replay_lines.specs.Words.{tagIn}
-use Rattle.replay_lines.proofs.Steps.{four, not-four}
+use Rattle.replay_lines.specs.LineWords.{tagIn}
+use Rattle.replay_lines.proofs.LoopSteps.{four, not-four}
 use borrow.Author.Needs.{needs}
 use Rattle.replay_lines.proofs.words.tag.Statement.{statement}
 use Rattle.replay_lines.proofs.words.tag.Tie as tie

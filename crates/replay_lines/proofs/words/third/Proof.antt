@@ -1,6 +1,6 @@
 -- `replay_lines::words::third` meets its contract. Assumes nothing.
 use mathlib.Core.Path.{ap, _∙_}
-use Rattle.replay_lines.specs.Words.{past}
+use Rattle.replay_lines.specs.LineWords.{past}
 use borrow.Author.Needs.{needs}
 use Rattle.replay_lines.proofs.words.third.Statement.{statement}
 use Rattle.replay_lines.proofs.words.third.Tie as tie

@@ -1,5 +1,5 @@
 -- `replay_lines::words::until` meets its contract. Assumes nothing.
-use Rattle.replay_lines.proofs.Split.{until-is}
+use Rattle.replay_lines.proofs.BeforeByte.{until-is}
 use borrow.Author.Needs.{needs}
 use Rattle.replay_lines.proofs.words.until.Statement.{statement}
 use Rattle.replay_lines.proofs.words.until.Tie as tie

@@ -1,5 +1,5 @@
 -- `season::windows::standing` meets its contract. No function over a `&[Window]` is covered, so its MIR is walked by hand. A turn of the loop reads a
--- window out of the slice and calls `step` on it and what the windows before it say; all else that is reasoned is in `proofs/Laws`. The loop's
+-- window out of the slice and calls `step` on it and what the windows before it say; all else that is reasoned is in `proofs/WindowLaws`. The loop's
 -- invariant is `Upto`: the fold from what is known, over the windows from i on, is what all windows say. What the plain parameters own is made
 -- anew for each call, so nothing is kept of them.
 use mathlib.Core.Path.{_≡_, refl, sym, ap, _∙_}
@@ -52,13 +52,13 @@ use denote.Triple.Table.{entered, cited}
 use denote.Triple.Walked.{says, Stays, stay-dropped, walkOf, goes-dropped, Walks, ends-at, walked, walk-meets}
 use denote.Exit.{yes as stays-kept}
 use denote.Triple.Clauses.{ensured, lasts}
-use Rattle.season.specs.Rule.{said}
+use Rattle.season.specs.steps.Saying.{said}
 use Rattle.season.specs.steps.Fold.{stepped, folded}
 use Rattle.season.specs.declared.Date.{Date}
 use Rattle.season.specs.declared.Window.{Window}
 use Rattle.season.specs.declared.Standing.{Standing}
 use Rattle.season.specs.declared.Standing.the-variants.{Away}
-use Rattle.season.proofs.Laws.{folded-is-said, folded-end, folded-on}
+use Rattle.season.proofs.WindowLaws.{folded-is-said, folded-end, folded-on}
 use Rattle.season.proofs.Date as D
 use Rattle.season.proofs.Date.Laws as D′
 use Rattle.season.proofs.Window as P

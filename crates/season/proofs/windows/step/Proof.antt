@@ -1,8 +1,5 @@
 -- `season::windows::step` meets its contract: the stronger of the two, by their ranks.
-use mathlib.Core.Path.{sym, ap, _∙_}
-use mathlib.Core.Bool.{true, false}
-use borrow.Author.Tests.{lt-ltb, le-ltb}
-use Rattle.season.proofs.Tells.{stronger-new, stronger-old}
+use Rattle.season.proofs.WindowTests.{stronger-new, stronger-old}
 use borrow.Author.Needs.{needs}
 use Rattle.season.proofs.windows.step.Statement.{statement}
 use Rattle.season.proofs.windows.step.Tie as tie

@@ -2,7 +2,7 @@
 use mathlib.Core.Path.{refl, sym, _∙_}
 use mathlib.Core.Bool.{true, false}
 use borrow.Author.Tests.{eq-eqb, ne-eqb, not-true, not-false}
-use Rattle.season.proofs.Tells.{told-by}
+use Rattle.season.proofs.WindowTests.{told-by}
 use borrow.Author.Needs.{needs}
 use Rattle.season.proofs.windows.tell.Statement.{statement}
 use Rattle.season.proofs.windows.tell.Tie as tie

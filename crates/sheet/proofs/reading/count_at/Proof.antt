@@ -1,5 +1,5 @@
 -- `sheet::reading::count_at` meets its contract. Assumes nothing.
-use Rattle.sheet.proofs.Words.{count-of}
+use Rattle.sheet.proofs.CountsAndIds.{count-of}
 use borrow.Author.Needs.{needs}
 use Rattle.sheet.proofs.reading.count_at.Statement.{statement}
 use Rattle.sheet.proofs.reading.count_at.Tie as tie

@@ -3,7 +3,7 @@ use Prim.Native.Nat.{_/_}
 use native.Mathlib.Omega.{arith}
 use mathlib.Core.Path.{sym, _∙_}
 use lib.ListN.{length}
-use Rattle.sheet.proofs.Words.{ids-at, no-id}
+use Rattle.sheet.proofs.CountsAndIds.{ids-at, no-id}
 use borrow.Author.Needs.{needs}
 use Rattle.sheet.proofs.reading.id_at.Statement.{statement}
 use Rattle.sheet.proofs.reading.id_at.Tie as tie

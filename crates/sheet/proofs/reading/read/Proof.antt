@@ -5,8 +5,8 @@ use mathlib.Core.Path.{_≡_, sym, ap, _∙_}
 use mathlib.Core.List.{List}
 use lib.ListN.{length}
 use Rattle.jhash.specs.Outcome.{value}
-use Rattle.sheet.specs.Reading.{endOf, sectionAt, sections}
-use Rattle.sheet.specs.Answers.{foundOf}
+use Rattle.sheet.specs.SheetReading.{partEnd, sectionAt, sections}
+use Rattle.sheet.specs.Cases.{foundOf}
 use Rattle.sheet.specs.declared.Place.{Place}
 use Rattle.sheet.specs.declared.Sheet.{Sheet}
 use Rattle.sheet.proofs.Sections.{found-inside}
@@ -41,12 +41,12 @@ parts c = record { references = references (one (two c)); walls = walls (two c);
 found-1 : (c : tie.After-known-told) → sectionAt (file c) 0 ≡ value (references c)
 found-1 c = sym (c .before .before .before .section-at .ensures) ∙ ap foundOf (c .before .references .given .1)
 
-found-2 : (c : tie.After-known-told2) → sectionAt (file (one c)) (endOf (references (one c))) ≡ value (walls c)
+found-2 : (c : tie.After-known-told2) → sectionAt (file (one c)) (partEnd (references (one c))) ≡ value (walls c)
 found-2 c =
     ap (sectionAt (file (one c))) (sym (c .before .before .before .before .end-of .ensures))
     ∙ sym (c .before .before .before .section-at2 .ensures) ∙ ap foundOf (c .before .walls .given .1)
 
-found-3 : (c : tie.After-known-told3) → sectionAt (file (one (two c))) (endOf (walls (two c))) ≡ value (retired c)
+found-3 : (c : tie.After-known-told3) → sectionAt (file (one (two c))) (partEnd (walls (two c))) ≡ value (retired c)
 found-3 c =
     ap (sectionAt (file (one (two c)))) (sym (c .before .before .before .before .end-of2 .ensures))
     ∙ sym (c .before .before .before .section-at3 .ensures) ∙ ap foundOf (c .before .retired .given .1)
@@ -56,14 +56,14 @@ three c =
     all-three (file (one (two c))) (references (one (two c))) (found-1 (one (two c))) (walls (two c)) (found-2 (two c)) (retired c) (found-3 c)
 
 -- and each ends in the file
-inside-1 : (c : tie.After-known-told) → endOf (references c) ≤ length (file c)
+inside-1 : (c : tie.After-known-told) → partEnd (references c) ≤ length (file c)
 inside-1 c = found-inside (file c) 0 (references c) (found-1 c)
 
-inside-2 : (c : tie.After-known-told2) → endOf (walls c) ≤ length (file (one c))
-inside-2 c = found-inside (file (one c)) (endOf (references (one c))) (walls c) (found-2 c)
+inside-2 : (c : tie.After-known-told2) → partEnd (walls c) ≤ length (file (one c))
+inside-2 c = found-inside (file (one c)) (partEnd (references (one c))) (walls c) (found-2 c)
 
-inside-3 : (c : tie.After-known-told3) → endOf (retired c) ≤ length (file (one (two c)))
-inside-3 c = found-inside (file (one (two c))) (endOf (walls (two c))) (retired c) (found-3 c)
+inside-3 : (c : tie.After-known-told3) → partEnd (retired c) ≤ length (file (one (two c)))
+inside-3 c = found-inside (file (one (two c))) (partEnd (walls (two c))) (retired c) (found-3 c)
 
 section-at-requires : tie.Need-section-at-requires
 section-at-requires c κs = search needs

@@ -1,7 +1,7 @@
 -- `sheet::reading::section` meets its contract. Assumes nothing.
 use mathlib.Core.Path.{sym, ap, _∙_}
-use Rattle.sheet.specs.Reading.{partOf, partIn}
-use Rattle.sheet.specs.Answers.{readOf}
+use Rattle.sheet.specs.SheetReading.{partOf, partOrEmpty}
+use Rattle.sheet.specs.Cases.{readOf}
 use borrow.Author.Needs.{needs}
 use Rattle.sheet.proofs.reading.section.Statement.{statement}
 use Rattle.sheet.proofs.reading.section.Tie as tie
@@ -48,17 +48,17 @@ returns c =
     let file = a .file .now in
     c .part .ensures
     ∙ ap (partOf file) (c .before .place-of .ensures)
-    ∙ ap (partIn file (a .which)) (ap readOf (sym (c .before .before .before .s .given .1)) ∙ c .before .before .before .before .before .read .ensures)
+    ∙ ap (partOrEmpty file (a .which)) (ap readOf (sym (c .before .before .before .s .given .1)) ∙ c .before .before .before .before .before .read .ensures)
 
 returns-2 : tie.Need-returns-2
 returns-2 c =
     let a = c .before .before .before .before .before .args in
-    ap (partIn (a .file .now) (a .which)) (ap readOf (sym (c .before .enum-told .given .1)) ∙ c .before .before .before .read .ensures)
+    ap (partOrEmpty (a .file .now) (a .which)) (ap readOf (sym (c .before .enum-told .given .1)) ∙ c .before .before .before .read .ensures)
 
 returns-3 : tie.Need-returns-3
 returns-3 c =
     let a = c .before .before .before .before .before .args in
-    ap (partIn (a .file .now) (a .which)) (ap readOf (sym (c .before .enum-told2 .given .1)) ∙ c .before .before .before .read .ensures)
+    ap (partOrEmpty (a .file .now) (a .which)) (ap readOf (sym (c .before .enum-told2 .given .1)) ∙ c .before .before .before .read .ensures)
 
 pub section-spec : {M : Type 1} → statement M
 section-spec =

@@ -8,7 +8,7 @@ use lib.ListN.{length, drop}
 use lib.Seq.{sets}
 use borrow.Author.Needs.{needs}
 use Rattle.sheet.specs.Format.{idBytes}
-use Rattle.sheet.proofs.Stored.{put-turn, put-end}
+use Rattle.sheet.proofs.SheetStored.{put-turn, put-end}
 use Rattle.sheet.proofs.writing.put_ids.Statement.{statement}
 use Rattle.sheet.proofs.writing.put_ids.Tie as tie
 

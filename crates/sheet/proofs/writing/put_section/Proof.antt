@@ -6,7 +6,7 @@ use mathlib.Core.List.{List}
 use lib.ListN.{length, length-set}
 use lib.Seq.{sets}
 use Rattle.sheet.specs.Format.{idBytes}
-use Rattle.sheet.proofs.Stored.{put-count, put-whole}
+use Rattle.sheet.proofs.SheetStored.{put-count, put-whole}
 use borrow.Author.Needs.{needs}
 use Rattle.sheet.proofs.writing.put_section.Statement.{statement}
 use Rattle.sheet.proofs.writing.put_section.Tie as tie

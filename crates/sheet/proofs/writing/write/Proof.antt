@@ -10,9 +10,9 @@ use lib.ListN.{length}
 use lib.Seq.{sets}
 use Rattle.jhash.specs.Outcome.{value, refusal}
 use Rattle.sheet.specs.Format.{Lists, sectionBytes, sheetBytes}
-use Rattle.sheet.specs.Writing.{lent, writing, afterWriting}
+use Rattle.sheet.specs.SheetWriting.{lent, writing, afterWriting}
 use Rattle.sheet.proofs.Sheets.{sized}
-use Rattle.sheet.proofs.Stored.{writing-by, left, put-three}
+use Rattle.sheet.proofs.SheetStored.{writing-by, left, put-three}
 use borrow.Author.Needs.{needs}
 use Rattle.sheet.proofs.writing.write.Statement.{statement}
 use Rattle.sheet.proofs.writing.write.Tie as tie

@@ -13,7 +13,7 @@ use Rattle.reader.specs.Naming.{namePart}
 use Rattle.reader.proofs.name as on-image
 use Rattle.reader.proofs.name.Symbol as callee
 use Rattle.reader.proofs.name.Met as kept
-use Rattle.view.proofs.Thin.{keeps₁, id-passed}
+use Rattle.view.proofs.OverView.{keeps₁, id-passed}
 use Rattle.view.proofs.CQDB.name as on-view
 use Rattle.view.proofs.CQDB.name.Key.{name as #view·name}
 use Rattle.view.proofs.CQDB.name.Statement as stated

@@ -1,4 +1,4 @@
--- `CQDB::next` promises of its image what `reader::walk::next` does: it is a thin call of it.
+-- `CQDB::next` promises of its image what `reader::id_walk::next` does: it is a thin call of it.
 use mathlib.Core.Path.{_≡_, refl}
 use base.Logic.{id⊢}
 use contract.Monad.{fact}
@@ -7,16 +7,16 @@ use denote.Enum.Laws as EL
 use denote.Struct.Laws as LL
 use denote.Ref.{now}
 use denote.Signature.{plain}
-use Rattle.reader.specs.Walk.{step}
+use Rattle.reader.specs.IdWalk.{step}
 use Rattle.reader.specs.Cases.{steppedOf}
 use Rattle.reader.proofs.Stepped as S
 use Rattle.reader.proofs.Stepped.Laws as S′
 use Rattle.reader.proofs.Iter as I
 use Rattle.reader.proofs.Iter.Laws as I′
-use Rattle.reader.proofs.walk.next as on-image
-use Rattle.reader.proofs.walk.next.Symbol as callee
-use Rattle.reader.proofs.walk.next.Met as kept
-use Rattle.view.proofs.Thin.{keeps₁}
+use Rattle.reader.proofs.id_walk.next as on-image
+use Rattle.reader.proofs.id_walk.next.Symbol as callee
+use Rattle.reader.proofs.id_walk.next.Met as kept
+use Rattle.view.proofs.OverView.{keeps₁}
 use Rattle.view.proofs.CQDB.next as on-view
 use Rattle.view.proofs.CQDB.next.Key.{name as #view·next}
 use Rattle.view.proofs.CQDB.next.Statement as stated
@@ -25,7 +25,7 @@ use Rattle.view.proofs.CQDB.next.Code as code
 pub next-spec : {M : Type 1} → stated.statement M
 unfolding code.routine
 next-spec 𝓤 H 𝓜 𝓖 𝓡 =
-    keeps₁ 𝓤 H 𝓜 𝓖 𝓡 0 code.env #view·next callee.name callee.routine code.calls-reader·walk·next
+    keeps₁ 𝓤 H 𝓜 𝓖 𝓡 0 code.env #view·next callee.name callee.routine code.calls-reader·id-walk·next
     (plain (λ κs. S.the-row)) (record { ty = S′.mir; is-ty = λ κs. refl; lawful = λ κs. EL.lawful S.the-type S′.the-laws 𝓤 H (𝓖 .A) (givenOf 𝓤 H 𝓜 𝓖) tt })
     (plain (λ κs. I.the-row))
     (record {

@@ -10,7 +10,7 @@ use Rattle.view.specs.Num.{numOf}
 use Rattle.view.proofs.num_of as on-image
 use Rattle.view.proofs.num_of.Symbol as callee
 use Rattle.view.proofs.num_of.Met as kept
-use Rattle.view.proofs.Thin.{keeps₀, id-returned}
+use Rattle.view.proofs.OverView.{keeps₀, id-returned}
 use Rattle.view.proofs.CQDB.num as on-view
 use Rattle.view.proofs.CQDB.num.Key.{name as #view·num}
 use Rattle.view.proofs.CQDB.num.Statement as stated

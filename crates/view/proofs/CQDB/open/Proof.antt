@@ -13,7 +13,7 @@ use Rattle.reader.proofs.Opened.Laws as S′
 use Rattle.reader.proofs.«open» as on-image
 use Rattle.reader.proofs.«open».Symbol as callee
 use Rattle.reader.proofs.«open».Met as kept
-use Rattle.view.proofs.Thin.{keeps₀}
+use Rattle.view.proofs.OverView.{keeps₀}
 use Rattle.view.proofs.CQDB.«open» as on-view
 use Rattle.view.proofs.CQDB.«open».Key.{name as #view·open}
 use Rattle.view.proofs.CQDB.«open».Statement as stated

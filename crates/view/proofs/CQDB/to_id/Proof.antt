@@ -18,7 +18,7 @@ use Rattle.reader.proofs.ToId.Laws as S′
 use Rattle.reader.proofs.to_id as on-image
 use Rattle.reader.proofs.to_id.Symbol as callee
 use Rattle.reader.proofs.to_id.Met as kept
-use Rattle.view.proofs.Thin.{keeps₁}
+use Rattle.view.proofs.OverView.{keeps₁}
 use Rattle.view.proofs.CQDB.to_id as on-view
 use Rattle.view.proofs.CQDB.to_id.Key.{name as #view·to-id}
 use Rattle.view.proofs.CQDB.to_id.Statement as stated

@@ -14,7 +14,7 @@ use Rattle.reader.proofs.Named.Laws as S′
 use Rattle.reader.proofs.to_str as on-image
 use Rattle.reader.proofs.to_str.Symbol as callee
 use Rattle.reader.proofs.to_str.Met as kept
-use Rattle.view.proofs.Thin.{keeps₁, id-passed}
+use Rattle.view.proofs.OverView.{keeps₁, id-passed}
 use Rattle.view.proofs.CQDB.to_str as on-view
 use Rattle.view.proofs.CQDB.to_str.Key.{name as #view·to-str}
 use Rattle.view.proofs.CQDB.to_str.Statement as stated

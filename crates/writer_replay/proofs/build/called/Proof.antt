@@ -1,6 +1,6 @@
 -- `writer_replay::build::called` meets its contract. Assumes nothing.
 use borrow.Author.Tests.{ne-eqb}
-use Rattle.writer_replay.specs.Build.{called}
+use Rattle.writer_replay.specs.CallLines.{called}
 use borrow.Author.Needs.{needs}
 use Rattle.writer_replay.proofs.build.called.Statement.{statement}
 use Rattle.writer_replay.proofs.build.called.Tie as tie

@@ -1,9 +1,9 @@
 -- `writer_replay::build::put` meets its contract. Assumes nothing.
 use native.Mathlib.Omega.{arith}
 use mathlib.Core.Path.{sym, ap, _∙_}
-use Rattle.replay_lines.proofs.Read.{is-bytes, no-bytes, room-for}
+use Rattle.replay_lines.proofs.ReadWords.{is-bytes, no-bytes, room-for}
 use Rattle.writer_replay.specs.declared.Built.{Built}
-use Rattle.writer_replay.specs.Build.{built, putsNamed}
+use Rattle.writer_replay.specs.CallLines.{built, putsNamed}
 use borrow.Author.Needs.{needs}
 use Rattle.writer_replay.proofs.build.put.Statement.{statement}
 use Rattle.writer_replay.proofs.build.put.Tie as tie

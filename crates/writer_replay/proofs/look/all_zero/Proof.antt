@@ -3,7 +3,7 @@ use Prim.Native.Nat.{_-_, _≤_}
 use native.Mathlib.Omega.{arith}
 use mathlib.Core.Path.{_≡_, refl, sym, _∙_}
 use lib.ListN.{length, drop}
-use Rattle.writer_replay.specs.Look.{allZero}
+use Rattle.writer_replay.specs.ImageLines.{allZero}
 use Rattle.writer_replay.proofs.Looking.{zeros-on, zeros-end, zeros-none}
 use Rattle.writer_replay.proofs.look.all_zero.Statement.{statement}
 use Rattle.writer_replay.proofs.look.all_zero.Tie as tie

@@ -2,8 +2,8 @@
 use mathlib.Core.Bool.{Bool, _&&_}
 use mathlib.Core.Path.{sym, ap₂, _∙_}
 use Rattle.replay_lines.specs.Verdicts.{verdictIf}
-use Rattle.replay_lines.proofs.Read.{are-numbers, no-numbers}
-use Rattle.writer_replay.specs.Look.{hashes}
+use Rattle.replay_lines.proofs.ReadWords.{are-numbers, no-numbers}
+use Rattle.writer_replay.specs.ImageLines.{hashes}
 use borrow.Author.Needs.{needs}
 use Rattle.writer_replay.proofs.look.hashes.Statement.{statement}
 use Rattle.writer_replay.proofs.look.hashes.Tie as tie

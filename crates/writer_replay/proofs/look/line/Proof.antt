@@ -1,8 +1,8 @@
 -- `writer_replay::look::line` meets its contract. Assumes nothing.
-use mathlib.Core.Path.{ap, _∙_}
+use mathlib.Core.Path.{ap}
 use borrow.Author.Tests.{eq-eqb, ne-eqb}
-use Rattle.replay_lines.specs.Lines.{judged}
-use Rattle.writer_replay.specs.Look.{looking}
+use Rattle.replay_lines.specs.Replay.{judged}
+use Rattle.writer_replay.specs.ImageLines.{looking}
 use borrow.Author.Needs.{needs}
 use Rattle.writer_replay.proofs.look.line.Statement.{statement}
 use Rattle.writer_replay.proofs.look.line.Tie as tie

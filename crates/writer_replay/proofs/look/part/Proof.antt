@@ -2,8 +2,8 @@
 use native.Mathlib.Omega.{arith}
 use mathlib.Core.Path.{sym, ap, _∙_}
 use Rattle.replay_lines.specs.Verdicts.{verdictIf}
-use Rattle.replay_lines.proofs.Read.{bytes-number, is-bytes, no-bytes, room-for}
-use Rattle.writer_replay.specs.Look.{part}
+use Rattle.replay_lines.proofs.ReadWords.{bytes-number, is-bytes, no-bytes, room-for}
+use Rattle.writer_replay.specs.ImageLines.{partCompared}
 use Rattle.writer_replay.proofs.Looking.{next-within, next-compared}
 use borrow.Author.Needs.{needs}
 use Rattle.writer_replay.proofs.look.part.Statement.{statement}
@@ -51,7 +51,7 @@ enum-told : tie.Need-enum-told
 enum-told c = search needs
 
 returns : tie.Need-returns
-unfolding part
+unfolding partCompared
 returns c =
     let of-next = c .before .before .before .before in
     let at = of-next .before .before in
@@ -64,7 +64,7 @@ returns c =
     ∙ sym (is-bytes _ _ _ _ size _ _ (read .decode .ensures .0) (read .decode .ensures .1) (at .n .given .1) _ _)
 
 returns-2 : tie.Need-returns-2
-unfolding part
+unfolding partCompared
 returns-2 c =
     let read = c .before .before .before in
     sym (no-bytes _ _ _ (read .before .before .buffer .ensures) _ (read .decode .ensures .0) _ _ (c .enum-told .given .1))

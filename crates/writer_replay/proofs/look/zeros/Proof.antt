@@ -1,13 +1,12 @@
 -- `writer_replay::look::zeros` meets its contract. Assumes nothing.
-use Prim.Native.Nat.{ℕ}
 use native.Mathlib.Omega.{arith}
 use mathlib.Core.Bool.{Bool, _&&_}
 use mathlib.Core.Path.{sym, ap, _∙_}
 use lib.Dec.{eqb}
 use lib.ListN.{length}
 use Rattle.replay_lines.specs.Verdicts.{verdictIf}
-use Rattle.replay_lines.proofs.Read.{is-number, no-number}
-use Rattle.writer_replay.specs.Look.{zeros}
+use Rattle.replay_lines.proofs.ReadWords.{is-number, no-number}
+use Rattle.writer_replay.specs.ImageLines.{zeros}
 use Rattle.writer_replay.proofs.Looking.{next-within, zeros-compared}
 use borrow.Author.Needs.{needs}
 use Rattle.writer_replay.proofs.look.zeros.Statement.{statement}

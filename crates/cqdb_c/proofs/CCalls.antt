@@ -1,0 +1,159 @@
+-- The writing calls as C has them: a mode or a repeats mode above 1 changes nothing; with modes of 01's and 02's, what the writer's calls promise. Assumes
+-- nothing.
+use Prim.Native.Nat.{ℕ, _≤_}
+use mathlib.Core.Path.{_≡_, refl, sym, ap, ap₂, _∙_}
+use mathlib.Core.Bool.{Bool, true, false, cond}
+use mathlib.Core.List.{List}
+use lib.ListN.{replicate}
+use lib.Dec.{eqb, leb}
+use native.Mathlib.Omega.{arith}
+use borrow.Author.Tests.{leb-true, eqb-true, eqb-false, ne-eqb}
+use Rattle.jhash.specs.Outcome.{Outcome, value, refusal}
+use Rattle.image.specs.Image.{Entry, flagWord}
+use Rattle.image.specs.declared.Mode.{Mode}
+use Rattle.image.specs.declared.Mode.the-variants.{Twoway, Oneway}
+use Rattle.image.proofs.Bools.{first, second}
+use Rattle.writer.specs.declared.Repeats.{Repeats}
+use Rattle.writer.specs.declared.Repeats.the-variants.{Off, On}
+use Rattle.writer.specs.declared.CQDBWriter.{CQDBWriter}
+use Rattle.writer.specs.State.{State, stateWith, beginning, beginRefusal, freshWriter, countsBegun}
+use Rattle.writer.specs.Put.{putRefusal, appended, afterPut}
+use Rattle.writer.specs.Close.{closing, closeRefusal, closedSize, closed, afterClose}
+use Rattle.cqdb_c.specs.declared.record.Record.{Record}
+use Rattle.cqdb_c.specs.Record.{known, modeOf, repeatsOf, repeatsWord, writerOf, recordOf, Held, held, stateOf, heldOf}
+use Rattle.cqdb_c.specs.Writing.{notBegun, begunAnswer, beginAnswer, countsLeft, knownIn, putNumber, leftByPut, closingHeld, refusalIn, sizeIn, leftByClose}
+
+-- begin with a mode or a repeats mode above 1
+pub begin-unknown : (mode repeats n : ℕ) (counts : List ℕ) → known mode repeats ≡ false
+    → (notBegun 2 ≡ beginAnswer mode repeats n) × (counts ≡ countsLeft mode repeats n counts)
+unfolding beginAnswer countsLeft
+begin-unknown mode repeats n counts over = rw over (refl, refl)
+
+-- begin with known ones: b is what the writer's begin answers, and after the counts that it leaves
+pub begin-known : (mode repeats n : ℕ) (counts after : List ℕ) (m : Mode) (r : Repeats) (b : Outcome CQDBWriter) →
+    known mode repeats ≡ true → m ≡ modeOf mode → r ≡ repeatsOf repeats → b ≡ beginning m r n → after ≡ countsBegun n counts →
+    (begunAnswer b ≡ beginAnswer mode repeats n) × (after ≡ countsLeft mode repeats n counts)
+unfolding beginAnswer countsLeft
+begin-known mode repeats n counts after m r b fine f g e left =
+    rw fine (ap begunAnswer (e ∙ ap₂ (λ (x : Mode) (y : Repeats). beginning x y n) f g), left)
+
+-- put with a record that is none of 01's
+pub put-unknown : (h : Held) (e : Entry) → knownIn h ≡ false → (2 ≡ putNumber h e) × (h ≡ leftByPut h e)
+unfolding putNumber leftByPut
+put-unknown h e over = rw over (refl, refl)
+
+-- put with one of 01's: the writer's record v goes in, w' comes back
+pub put-known : (h : Held) (e : Entry) (v w' : CQDBWriter) (r : Record) (counts buffer : List ℕ) (k : ℕ) →
+    knownIn h ≡ true → v ≡ writerOf (h .writer) →
+    k ≡ putRefusal (stateWith v (h .counts) (h .buffer)) e →
+    stateWith w' counts buffer ≡ afterPut (stateWith v (h .counts) (h .buffer)) e →
+    r ≡ recordOf w' →
+    (k ≡ putNumber h e) × (held r counts buffer ≡ leftByPut h e)
+unfolding putNumber leftByPut
+put-known h e v w' r counts buffer k fine is answer leaves back =
+    let same : stateWith v (h .counts) (h .buffer) ≡ stateOf h = ap (λ (w : CQDBWriter). stateWith w (h .counts) (h .buffer)) is in
+    rw fine (
+      answer ∙ ap (λ (s : State). putRefusal s e) same,
+      ap (λ (x : Record). held x counts buffer) back ∙ ap heldOf (leaves ∙ ap (λ (s : State). afterPut s e) same),
+    )
+
+-- close with a record that is none of 01's
+pub close-unknown : (h : Held) → knownIn h ≡ false →
+    ((2 ≡ refusalIn (closingHeld h)) × (0 ≡ sizeIn (closingHeld h))) × (h ≡ leftByClose h)
+unfolding closingHeld leftByClose
+close-unknown h over = rw over ((refl, refl), refl)
+
+-- close with one of 01's: the writer's record v goes in, w' comes back, and d is what the writer's close answers
+pub close-known : (h : Held) (v w' : CQDBWriter) (r : Record) (buffer : List ℕ) (d : Outcome ℕ) (k n : ℕ) →
+    knownIn h ≡ true → v ≡ writerOf (h .writer) →
+    d ≡ closing (stateWith v (h .counts) (h .buffer)) →
+    stateWith w' (h .counts) buffer ≡ afterClose (stateWith v (h .counts) (h .buffer)) →
+    k ≡ refusalIn d → n ≡ sizeIn d → r ≡ recordOf w' →
+    ((k ≡ refusalIn (closingHeld h)) × (n ≡ sizeIn (closingHeld h))) × (held r (h .counts) buffer ≡ leftByClose h)
+unfolding closingHeld leftByClose
+close-known h v w' r buffer d k n fine is answer leaves number told back =
+    let same : stateWith v (h .counts) (h .buffer) ≡ stateOf h = ap (λ (w : CQDBWriter). stateWith w (h .counts) (h .buffer)) is in
+    let d-is : d ≡ closing (stateOf h) = answer ∙ ap closing same in
+    rw fine (
+      (number ∙ ap refusalIn d-is, told ∙ ap sizeIn d-is),
+      ap (λ (x : Record). held x (h .counts) buffer) back ∙ ap heldOf (leaves ∙ ap afterClose same),
+    )
+
+-- a number that stands for a mode is that mode's flag word
+mode-word : (mode : ℕ) → mode ≤ 1 → flagWord (modeOf mode) ≡ mode
+mode-word mode fine = go (eqb mode 0) refl
+  where
+    go : (t : Bool) → eqb mode 0 ≡ t → flagWord (cond t Twoway Oneway) ≡ mode
+    go true e = sym (eqb-true mode 0 e)
+    go false e = omega (arith, eqb-false mode 0 e)
+
+-- and one that stands for a repeats mode is that one's
+repeats-word : (repeats : ℕ) → repeats ≤ 1 → repeatsWord (repeatsOf repeats) ≡ repeats
+repeats-word repeats fine = go (eqb repeats 0) refl
+  where
+    go : (t : Bool) → eqb repeats 0 ≡ t → repeatsWord (cond t Off On) ≡ repeats
+    go true e = sym (eqb-true repeats 0 e)
+    go false e = omega (arith, eqb-false repeats 0 e)
+
+-- C's record and 01's stand for each other, so that a refused call hands back the very record
+pub back-and-forth : (h : Held) → knownIn h ≡ true → heldOf (stateOf h) ≡ h
+back-and-forth h fine =
+    let w = h .writer in
+    ap₂
+    (λ (m r : ℕ).
+    held
+    (record { mode = m; repeats = r; entries = w .entries; back = w .back; length = w .length; end = w .end })
+    (h .counts)
+    (h .buffer))
+    (mode-word (w .mode) (leb-true (w .mode) 1 (first (leb (w .mode) 1) (leb (w .repeats) 1) fine)))
+    (repeats-word (w .repeats) (leb-true (w .repeats) 1 (second (leb (w .mode) 1) (leb (w .repeats) 1) fine)))
+
+-- no refusal changes the record, the counts or a byte: begin
+pub begin-refused : (mode repeats n : ℕ) (counts : List ℕ) → (beginAnswer mode repeats n .refusal ≡ 0 → ⊥) → countsLeft mode repeats n counts ≡ counts
+unfolding beginAnswer beginning countsLeft countsBegun
+begin-refused mode repeats n counts = go (known mode repeats) (eqb (beginRefusal n) 0)
+  where
+    go : (t b : Bool) → (cond t (begunAnswer (cond b (value (freshWriter (modeOf mode) (repeatsOf repeats) n)) (refusal (beginRefusal n)))) (notBegun 2) .refusal ≡ 0 → ⊥) → cond t (cond b (replicate 256 0) counts) counts ≡ counts
+    go true true refused = absurd (refused refl)
+    go true false refused = refl
+    go false b refused = refl
+
+-- put
+pub put-refused : (h : Held) (e : Entry) → (putNumber h e ≡ 0 → ⊥) → leftByPut h e ≡ h
+unfolding putNumber leftByPut afterPut
+put-refused h e = go (knownIn h) refl
+  where
+    go : (t : Bool) → knownIn h ≡ t → (cond t (putRefusal (stateOf h) e) 2 ≡ 0 → ⊥) → cond t (heldOf (afterPut (stateOf h) e)) h ≡ h
+    go true fine refused =
+        ap (λ (b : Bool). heldOf (cond b (appended (stateOf h) e) (stateOf h))) (ne-eqb (putRefusal (stateOf h) e) 0 refused)
+        ∙ back-and-forth h fine
+    go false over refused = refl
+
+-- and close
+pub close-refused : (h : Held) → (refusalIn (closingHeld h) ≡ 0 → ⊥) → leftByClose h ≡ h
+unfolding closingHeld leftByClose closing afterClose
+close-refused h = go (knownIn h) refl
+  where
+    go : (t : Bool) → knownIn h ≡ t → (refusalIn (cond t (closing (stateOf h)) (refusal 2)) ≡ 0 → ⊥) → cond t (heldOf (afterClose (stateOf h))) h ≡ h
+    go true fine refused = by (eqb (closeRefusal (stateOf h)) 0) refused ∙ back-and-forth h fine
+      where
+        by : (b : Bool) → (refusalIn (cond b (value (closedSize (stateOf h))) (refusal (closeRefusal (stateOf h)))) ≡ 0 → ⊥) →
+            heldOf (cond b (closed (stateOf h)) (stateOf h)) ≡ heldOf (stateOf h)
+        by true never = absurd (never refl)
+        by false never = refl
+    go false over refused = refl
+
+-- close hands back the record that it was lent, and the counts
+pub close-keeps : (h : Held) → (leftByClose h .writer ≡ h .writer) × (leftByClose h .counts ≡ h .counts)
+unfolding leftByClose afterClose closed
+close-keeps h = go (knownIn h) refl
+  where
+    kept : knownIn h ≡ true → (b : Bool) →
+        (heldOf (cond b (closed (stateOf h)) (stateOf h)) .writer ≡ h .writer) × (heldOf (cond b (closed (stateOf h)) (stateOf h)) .counts ≡ h .counts)
+    kept fine true = (ap (λ (x : Held). x .writer) (back-and-forth h fine), refl)
+    kept fine false = (ap (λ (x : Held). x .writer) (back-and-forth h fine), refl)
+
+    go : (t : Bool) → knownIn h ≡ t →
+        (cond t (heldOf (afterClose (stateOf h))) h .writer ≡ h .writer) × (cond t (heldOf (afterClose (stateOf h))) h .counts ≡ h .counts)
+    go true fine = kept fine (eqb (closeRefusal (stateOf h)) 0)
+    go false over = (refl, refl)

@@ -1,0 +1,71 @@
+-- The reader: 02 (xi). "The reader gives, for each section, the part of the file that holds its ids"; "a section may be empty".
+use Prim.Native.Nat.{ℕ, _+_, _*_, _/_}
+use mathlib.Core.Bool.{cond}
+use mathlib.Core.List.{List, []}
+use lib.ListN.{length, take, drop}
+use lib.Dec.{ltb}
+use Rattle.jhash.specs.Outcome.{Outcome, value, refusal}
+use Rattle.sheet.specs.Format.{countAt, ids, Lists}
+use Rattle.sheet.specs.declared.Place.{Place}
+use Rattle.sheet.specs.declared.Sheet.{Sheet}
+use Rattle.sheet.specs.declared.Which.{Which}
+use Rattle.sheet.specs.declared.Which.the-variants.{References, Walls, Retired}
+
+-- a part as a place: the offset of its first byte, and the number of its ids, four bytes each. Where it ends
+abbrev pub partEnd : Place → ℕ
+partEnd p = p .start + 4 * p .count
+
+-- the part itself, and the ids in a part
+abbrev pub partOf : List ℕ → Place → List ℕ
+partOf file p = take (4 * p .count) (drop (p .start) file)
+
+abbrev pub idsIn : List ℕ → List ℕ
+idsIn part = ids (length part / 4) part
+
+-- the section whose count stands at an offset. "Too few bytes give 19": for the count, then for the ids
+unfoldable pub sectionAt : List ℕ → ℕ → Outcome Place
+sectionAt file o =
+    cond (ltb (length file) (o + 2)) (refusal 19)
+    (cond (ltb (length file) (o + 2 + 4 * countAt file o)) (refusal 19) (value (record { start = o + 2; count = countAt file o })))
+
+-- what is done with a value; a refusal stays
+abbrev pub andThen : {A B : Type 0} → Outcome A → (A → Outcome B) → Outcome B
+andThen (value x) f = f x
+andThen (refusal n) f = refusal n
+
+-- the three sections from the front, each where the one before ends
+unfoldable pub sections : List ℕ → Outcome Sheet
+sections file =
+    andThen (sectionAt file 0)
+    (λ references. andThen (sectionAt file (partEnd references))
+    (λ walls. andThen (sectionAt file (partEnd walls))
+    (λ retired. value (record { references = references; walls = walls; retired = retired }))))
+
+-- "left-over bytes 20"
+abbrev pub nothingLeft : List ℕ → Sheet → Outcome Sheet
+nothingLeft file s = cond (ltb (partEnd (s .retired)) (length file)) (refusal 20) (value s)
+
+unfoldable pub readSheet : List ℕ → Outcome Sheet
+readSheet file = andThen (sections file) (nothingLeft file)
+
+-- the part of one of the three sections, empty where the file is refused
+abbrev pub sectionOf : Sheet → Which → Place
+sectionOf s References = s .references
+sectionOf s Walls = s .walls
+sectionOf s Retired = s .retired
+
+abbrev pub partOrEmpty : List ℕ → Which → Outcome Sheet → List ℕ
+partOrEmpty file which (value s) = partOf file (sectionOf s which)
+partOrEmpty file which (refusal n) = []
+
+-- the three lists that a file reads as
+abbrev pub listsOf : List ℕ → Sheet → Lists
+listsOf file s =
+    record {
+      references = idsIn (partOf file (s .references));
+      walls = idsIn (partOf file (s .walls));
+      retired = idsIn (partOf file (s .retired));
+    }
+
+unfoldable pub readLists : List ℕ → Outcome Lists
+readLists file = andThen (readSheet file) (λ s. value (listsOf file s))
