@@ -9,3 +9,4 @@ pub mod Going
 pub mod Dues
 pub mod Whole
 pub mod Theorem
+pub mod Rows
