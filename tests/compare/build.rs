@@ -201,13 +201,16 @@ fn large(random: &mut Random, tally: &mut Tally) {
         }
     }
     let list = List::new(&puts);
-    let buf = vec![9; whole(0, &fresh)];
     let mut work = vec![u32::MAX; 6 * puts.len()];
-    let ours = built(0, 0, buf.clone(), list.joined(), vec![1; puts.len()], &mut work);
-    let wanted = single(0, 1, buf, &fresh, vec![0; fresh.len()]);
-    tally.rule(ours.answer, wanted.answer, || "a million names".into());
-    tally.rule(ours.answers == due, true, || "the answers of a million names".into());
-    tally.rule(ours.buf == wanted.buf, true, || "the image of a million names".into());
+    // room for the accepted names alone, and for all
+    for room in [whole(0, &fresh), whole(0, &puts)] {
+        let buf = vec![9; room];
+        let ours = built(0, 0, buf.clone(), list.joined(), vec![1; puts.len()], &mut work);
+        let wanted = single(0, 1, buf, &fresh, vec![0; fresh.len()]);
+        tally.rule(ours.answer, wanted.answer, || "a million names".into());
+        tally.rule(ours.answers == due, true, || "the answers of a million names".into());
+        tally.rule(ours.buf == wanted.buf, true, || "the image of a million names".into());
+    }
 }
 
 fn main() {
