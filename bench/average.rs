@@ -3,7 +3,7 @@
 // these 1,000 times.
 use crate::names::drawn;
 use crate::ours;
-use crate::table::{self, best, time};
+use crate::table::{self, best, least};
 use cqdb::CQDB;
 use std::hint::black_box;
 
@@ -28,8 +28,7 @@ pub fn run() {
         let (a, b) = best(5, ENTRIES, ours, theirs);
         own += a;
         rust += b;
-        check +=
-            (0..5).map(|_| time(ENTRIES, || assert_eq!(ours::ours(black_box(&image)), 1))).fold(f64::MAX, f64::min);
+        check += least(5, ENTRIES, || assert_eq!(ours::ours(black_box(&image)), 1));
     }
     let each = f64::from(LOADS);
     table::row(&format!("average of {LOADS} loads, an entry"), (own / each, rust / each), None);

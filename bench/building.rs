@@ -2,12 +2,18 @@
 // between the repetitions. Then what the check of the 256 counts costs by itself.
 use crate::names::Names;
 use crate::ours::{self, Joined, Record};
-use crate::table::{self, best, time};
+use crate::table::{self, best, least};
 use cqdb::CQDBWriter;
 use std::hint::black_box;
 use std::io::Cursor;
 
-fn build(names: &[&str], buf: &mut [u8]) {
+/// The size of the image of n entries with names of this length and the ids below n.
+pub fn image_size(n: usize, length: usize) -> usize {
+    2072 + n * (25 + length) + 4 * n
+}
+
+/// Our image of these names, by single puts with repeats on, in a buffer of its size.
+pub fn build(names: &[&str], buf: &mut [u8]) {
     let mut counts = [0; 256];
     let mut record = ours::begin(0, 1, &mut counts, buf).record;
     for (id, name) in names.iter().enumerate() {
@@ -17,7 +23,8 @@ fn build(names: &[&str], buf: &mut [u8]) {
     assert_eq!((closed.refusal, closed.size as usize), (0, buf.len()));
 }
 
-fn build_rust(names: &[&str], buf: &mut [u8]) {
+/// The Rust's image of these names.
+pub fn build_rust(names: &[&str], buf: &mut [u8]) {
     let mut writer = CQDBWriter::new(Cursor::new(buf)).expect("a stream in memory");
     for (id, name) in names.iter().enumerate() {
         writer.put(name, id as u32).expect("room");
@@ -28,7 +35,7 @@ fn build_rust(names: &[&str], buf: &mut [u8]) {
 fn building(n: usize, repetitions: usize) -> (f64, f64) {
     let names = Names::new('p', 9, 0..n);
     let names = names.all();
-    let size = 2072 + n * (25 + 9) + 4 * n;
+    let size = image_size(n, 9);
     let (mut a, mut b) = (vec![0u8; size], vec![0u8; size]);
     let times = best(repetitions, n, || build(&names, black_box(&mut a)), || build_rust(&names, black_box(&mut b)));
     assert!(a == b, "both wrote one image");
@@ -45,7 +52,7 @@ fn whole_list(n: usize, repetitions: usize) {
     let ids: Vec<u32> = (0..n as u32).collect();
     let list = Joined { names: &joined, ends: &ends, ids: &ids };
     let (mut refusals, mut work) = (vec![0; n], vec![0; 6 * n]);
-    let size = 2072 + n * (25 + 9) + 4 * n;
+    let size = image_size(n, 9);
     let (mut a, mut b) = (vec![0u8; size], vec![0u8; size]);
     let mut one_call = || {
         let answer = ours::build(0, 0, black_box(&mut a), list, &mut refusals, &mut work);
@@ -63,13 +70,12 @@ fn count_check() {
     let fresh = ours::begin(0, 1, &mut counts, &buf).record;
     let mut refused = |record: Record, refusal: u32| {
         let calls = 10_000;
-        let mut run = || {
+        least(500, calls, || {
             for _ in 0..calls {
                 let answer = ours::close(black_box(record), &counts, &mut buf);
                 assert_eq!(answer.refusal, refusal);
             }
-        };
-        (0..500).map(|_| time(calls, &mut run)).fold(f64::MAX, f64::min)
+        })
     };
     let before = refused(Record { length: 1, ..fresh }, 2);
     let after = refused(Record { entries: u32::MAX, ..fresh }, 4);

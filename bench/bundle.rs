@@ -1,5 +1,7 @@
 // Bundles: opening the last of 256 images, and an append to a file of 255, each beside a copy of as many bytes. Opening reads a size
 // word of each image; the copy is what a caller would do who keeps each image apart.
+use crate::building::{build, image_size};
+use crate::names::Names;
 use crate::ours;
 use crate::table::{self, best};
 use std::hint::black_box;
@@ -8,14 +10,8 @@ const IMAGES: usize = 256;
 
 // An image of n entries, names of 9 bytes.
 fn image(n: usize) -> Vec<u8> {
-    let mut buf = vec![0; 2072 + n * (25 + 9) + 4 * n];
-    let mut counts = [0; 256];
-    let mut record = ours::begin(0, 1, &mut counts, &buf).record;
-    for id in 0..n {
-        record = ours::put(record, &mut counts, &mut buf, format!("p{id:08}").as_bytes(), id as u32).record;
-    }
-    let closed = ours::close(record, &counts, &mut buf);
-    assert_eq!((closed.refusal, closed.size as usize), (0, buf.len()));
+    let mut buf = vec![0; image_size(n, 9)];
+    build(&Names::new('p', 9, 0..n).all(), &mut buf);
     buf
 }
 

@@ -5,7 +5,7 @@ mod rust;
 mod rust_again;
 
 use crate::ours;
-use crate::table::{self, best, time};
+use crate::table::{self, best, least};
 use std::hint::black_box;
 
 extern "C" {
@@ -37,8 +37,8 @@ pub fn run() {
         let jhash: fn(&[u8], u32, u32) -> u32 = black_box(rust::jhash);
         let called = || all(calls, &names, |n| jhash(n, n.len() as u32 + 1, 0));
         let times = best(REPETITIONS, calls, ours, called);
-        let mut c = || all(calls, &closed, |n| unsafe { jenkins_hashlittle(n.as_ptr(), n.len(), 0) });
-        let c = (0..REPETITIONS).map(|_| time(calls, &mut c)).fold(f64::MAX, f64::min);
+        let c = || all(calls, &closed, |n| unsafe { jenkins_hashlittle(n.as_ptr(), n.len(), 0) });
+        let c = least(REPETITIONS, calls, c);
         table::row(&format!("hash of {size} bytes"), times, Some(c));
         // A second copy of the Rust's source, which the compiler inlines into this loop.
         let inlined = || all(calls, &names, |n| rust_again::jhash(n, n.len() as u32 + 1, 0));

@@ -1,28 +1,20 @@
 // Is this image one of ours? Ours in one call, lent the image alone; beside it a rebuild by the Rust: all puts, the close and the
 // comparison of the bytes. The rebuild needs memory of the image's size: taken for it each time, or at hand and used again. Names
 // of 9 bytes, ids in put order.
+use crate::building::{build_rust, image_size};
 use crate::names::Names;
 use crate::ours;
 use crate::table::{self, best};
-use cqdb::CQDBWriter;
 use std::hint::black_box;
-use std::io::Cursor;
-
-fn build(names: &[&str], buf: &mut [u8]) {
-    let mut writer = CQDBWriter::new(Cursor::new(buf)).expect("a stream in memory");
-    for (id, name) in names.iter().enumerate() {
-        writer.put(name, id as u32).expect("room");
-    }
-}
 
 fn deciding(n: usize, repetitions: usize) {
     let names = Names::new('p', 9, 0..n);
     let names = names.all();
-    let mut image = vec![0u8; 2072 + n * (25 + 9) + 4 * n];
-    build(&names, &mut image);
+    let mut image = vec![0u8; image_size(n, 9)];
+    build_rust(&names, &mut image);
     let ours = || assert_eq!(ours::ours(black_box(&image)), 1);
     let rebuild = |room: &mut [u8]| {
-        build(black_box(&names), black_box(&mut *room));
+        build_rust(black_box(&names), black_box(&mut *room));
         assert!(black_box(&*room) == black_box(&image[..]), "the same image");
     };
     let taken = best(repetitions, n, ours, || rebuild(&mut vec![0u8; image.len()]));

@@ -1,9 +1,10 @@
 // Single puts with repeats off, which walk all earlier entries: the time of a whole list of different names of 9 bytes; and what
 // an entry that is visited costs beside the hash of its name. For the latter one more name is put into the full buffer: the put
 // walks all entries and is refused with 3.
+use crate::building::image_size;
 use crate::names::Names;
 use crate::ours::{self, Counts, Record};
-use crate::table::time;
+use crate::table::least;
 use std::hint::black_box;
 
 const LENGTH: usize = 9;
@@ -41,15 +42,10 @@ fn hashes(names: &[&str]) {
     black_box(sum);
 }
 
-// The best time of several, for each of n.
-fn best(repetitions: usize, n: usize, mut run: impl FnMut()) -> f64 {
-    (0..repetitions).map(|_| time(n, &mut run)).fold(f64::MAX, f64::min)
-}
-
 fn list(n: usize, repetitions: usize) {
     let names = Names::new('p', LENGTH, 0..n);
     let names = names.all();
-    let mut buf = vec![0u8; 2072 + n * (25 + LENGTH) + 4 * n];
+    let mut buf = vec![0u8; image_size(n, LENGTH)];
     let mut counts = [0; 256];
     let mut lists = |repeats: u32| {
         let begin = thread_time();
@@ -59,11 +55,11 @@ fn list(n: usize, repetitions: usize) {
     let [off, on] = [0, 1].map(|repeats| (0..repetitions).map(|_| lists(repeats)).fold(f64::MAX, f64::min));
     let record = puts(&names, 0, &mut counts, &mut buf);
     let absent = "q".repeat(LENGTH);
-    let visited = best(3_000, n, || {
+    let visited = least(3_000, n, || {
         let answer = ours::put(record, &mut counts, &mut buf, black_box(absent.as_bytes()), 0);
         assert_eq!(answer.refusal, 3);
     });
-    let hash = best(3_000, n, || hashes(black_box(&names)));
+    let hash = least(3_000, n, || hashes(black_box(&names)));
     println!("| {n} single puts, repeats off | {:.2} ms | | | |", off / 1e6);
     println!("| {n} single puts, repeats on | {:.2} ms | | | |", on / 1e6);
     println!("| a visited entry of {n} | {visited:.2} ns | | | |");

@@ -3,7 +3,7 @@
 use crate::names::Names;
 use crate::ours::{self, IdAnswer, StrAnswer};
 use crate::reading::image;
-use crate::table::{self, best, time};
+use crate::table::{self, best, least};
 use cqdb::CQDB;
 use std::hint::black_box;
 
@@ -45,18 +45,14 @@ fn names_in(image: &[u8], n: usize, count: usize, repetitions: usize, half: bool
     };
     let times = best(repetitions, count * NAMES, round, rust);
     let mut places = answers.clone();
-    let single = (0..repetitions)
-        .map(|_| {
-            time(count * NAMES, || {
-                for list in &lists {
-                    for (place, name) in places.iter_mut().zip(list) {
-                        *place = ours::to_id(image, name.as_bytes());
-                    }
-                    black_box(&places);
-                }
-            })
-        })
-        .fold(f64::MAX, f64::min);
+    let single = least(repetitions, count * NAMES, || {
+        for list in &lists {
+            for (place, name) in places.iter_mut().zip(list) {
+                *place = ours::to_id(image, name.as_bytes());
+            }
+            black_box(&places);
+        }
+    });
     assert!(answers == places && answers.iter().all(|a| a.found == 1), "all names are found, as by single calls");
     let what = if half { "half repeated" } else { "all different" };
     table::row(&format!("round, a name of 512, {what}, {n} entries"), times, None);

@@ -8,6 +8,11 @@ pub fn time(n: usize, mut calls: impl FnMut()) -> f64 {
     begin.elapsed().as_nanos() as f64 / n as f64
 }
 
+/// The best time of several.
+pub fn least(repetitions: usize, n: usize, mut calls: impl FnMut()) -> f64 {
+    (0..repetitions).map(|_| time(n, &mut calls)).fold(f64::MAX, f64::min)
+}
+
 /// The best times of ours and theirs, which take turns.
 pub fn best(repetitions: usize, n: usize, mut ours: impl FnMut(), mut theirs: impl FnMut()) -> (f64, f64) {
     let (mut own, mut rust) = (f64::MAX, f64::MAX);

@@ -373,8 +373,7 @@ cqdb_build_answer cqdb_build_parts(uint32_t mode, uint32_t repeats, uint8_t *buf
    The words at work are lent for speed: how many there are, and what they hold, changes no answer, and what they hold
    afterwards is left open. With 6 words for each name, and room in the buffer for all names, the list goes by tables and no put
    is checked by itself. With 3 words for each name the time grows with the list, also where names repeat or are refused; with
-   fewer than one for each name and repeats off, each name is compared with those before it. No pointer is NULL, also where its
-   number is 0. */
+   fewer than one for each name and repeats off, each name is compared with those before it. */
 static inline cqdb_build_answer cqdb_build(uint32_t mode, uint32_t repeats, uint8_t *buf, size_t len,
                                            const uint8_t *names, size_t names_len, const uint64_t *ends, const uint32_t *ids,
                                            size_t n, uint32_t *refusals, size_t places, uint32_t *work, size_t words) {

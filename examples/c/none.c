@@ -56,6 +56,20 @@ static void check_images(void) {
     expect(cqdb_load(7, NULL, 0).refusal == CQDB_TOO_SHORT, "load");
 }
 
+/* A list of no names, and one whose two names are empty, without lent memory. */
+static void check_lists(void) {
+    static uint8_t buf[4096];
+    uint64_t ends[2] = {0, 0};
+    uint32_t ids[2] = {3, 4}, refusals[2] = {9, 9};
+    cqdb_build_answer none = cqdb_build(CQDB_TWOWAY, CQDB_REPEATS_OFF, buf, sizeof buf, NULL, 0, NULL, NULL, 0, NULL, 0, NULL, 0);
+    expect(none.refusal == 0 && none.size == 2072 && none.accepted == 0, "a list of no names");
+    cqdb_build_answer two = cqdb_build(CQDB_TWOWAY, CQDB_REPEATS_OFF, buf, sizeof buf, NULL, 0, ends, ids, 2, refusals, 2, NULL, 0);
+    expect(two.refusal == 0 && two.accepted == 1 && refusals[0] == 0 && refusals[1] == CQDB_REPEATED, "a list of empty names");
+    expect(cqdb_to_id(buf, two.size, NULL, 0).id == 3, "the empty name of a list");
+    expect(cqdb_build(CQDB_TWOWAY, CQDB_REPEATS_OFF, NULL, 0, NULL, 0, ends, ids, 2, refusals, 2, NULL, 0).refusal == CQDB_TOO_SHORT,
+           "a list in no bytes");
+}
+
 static void check_rounds(void) {
     uint8_t file[6] = {9, 9, 9, 9, 9, 9};
     uint32_t round[1] = {7};
@@ -78,6 +92,7 @@ static void check_bundles(void) {
 int main(void) {
     check_names();
     check_images();
+    check_lists();
     check_rounds();
     check_bundles();
     printf("none: checked %u, %u wrong\n", checked, different);

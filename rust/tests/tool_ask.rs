@@ -231,7 +231,8 @@ fn helps_and_versions() {
 fn words_that_do_not_fit() {
     let folder = folder();
     assert_eq!(folder.cqdb(&[]).status, Some(2));
-    folder.cqdb(&["lst", "walls"]).gives(2).tells("cqdb: lst: there is no such command: 'cqdb --help' lists them\n");
+    folder.cqdb(&["lst", "walls"]).gives(2).tells("cqdb: lst: there is no command \"lst\": 'cqdb --help' lists them\n");
+    folder.cqdb(&["help", "lst"]).gives(2).tells("cqdb: help: there is no command \"lst\": 'cqdb --help' lists them\n");
     folder.cqdb(&["list"]).gives(2).tells("cqdb: list: a word is missing: cqdb list [OPTION].. IMAGE\n");
     folder
         .cqdb(&["list", "walls", "more"])

@@ -180,6 +180,22 @@ fn where_an_image_cannot_be_written() {
 }
 
 #[test]
+fn a_file_that_is_no_image_is_not_replaced() {
+    let folder = Folder::new();
+    folder.write("list", "0 crane\n");
+    let told = "cannot write list: a file is there that is no image; remove it, or name another place\n";
+    folder.with("1 mole\n", &["make", "list"]).gives(2).prints("").tells(&format!("cqdb: make: {told}"));
+    folder.cqdb(&["load", "0", "list"]).gives(2).tells(&format!("cqdb: load: {told}"));
+    folder.image("image", "1 mole\n");
+    folder.cqdb(&["bundle", "append", "walls", "image"]).gives(0);
+    folder.cqdb(&["bundle", "extract", "walls", "0", "list"]).gives(2).tells(&format!("cqdb: bundle: {told}"));
+    assert!(folder.read("list") == b"0 crane\n" && folder.files() == ["image", "list", "walls"]);
+    folder.write("empty", "");
+    folder.image("empty", "1 mole\n");
+    assert!(folder.read("empty") == folder.read("image"));
+}
+
+#[test]
 fn a_link_and_the_rights_of_the_old_image_are_kept() {
     let folder = Folder::new();
     folder.image("image", "1 old\n");

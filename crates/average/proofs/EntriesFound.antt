@@ -18,7 +18,7 @@ use Rattle.reader.specs.Lookup.{Lookup, found, nothing, Seen, pass, ends, hit, 
 use Rattle.reader.specs.declared.Found.{Found}
 use Rattle.answers.specs.Answer.{foundId, tablePuts}
 use Rattle.answers.proofs.Images.{found-reads}
-use Rattle.ours.specs.Made.{Made}
+use Rattle.ours.specs.steps.Made.{Made}
 use Rattle.ours.specs.Ours.{ours, putsIn}
 use Rattle.ours.proofs.ReadBack.{ids-of, made-puts, ours-only}
 use Rattle.ours.proofs.Theorem.{theorem}

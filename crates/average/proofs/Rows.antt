@@ -18,8 +18,8 @@ use Rattle.image.specs.declared.Mode.the-variants.{Twoway, Oneway}
 use Rattle.image.proofs.Every.{All}
 use Rattle.reader.specs.Lookup.{seeEntry, see, probe, searchTable, lookupHash, lookup}
 use Rattle.reader.specs.Open.{opening}
-use Rattle.ours.specs.Made.{Puttable, Made}
-use Rattle.ours.specs.Ours.{putsIn, allFree, ours}
+use Rattle.ours.specs.steps.Made.{Made}
+use Rattle.ours.specs.Ours.{Puttable, putsIn, allFree, ours}
 use Rattle.ours.proofs.ReadBack.{made-puts, ours-yes}
 use Rattle.average.specs.SearchLengths.{totalOf}
 use Rattle.average.specs.Average.{entryCount, total, averaging}

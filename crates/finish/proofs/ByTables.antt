@@ -23,7 +23,7 @@ use Rattle.image.proofs.Every.{All}
 use Rattle.image.proofs.At.{At, at-same, at-right}
 use Rattle.image.proofs.Parts.{placedIn, before-most}
 use Rattle.image.proofs.EntryAt.{id-word}
-use Rattle.finish.specs.steps.Working.{withLink}
+use Rattle.taking.specs.steps.Working.{withLink}
 use Rattle.finish.specs.steps.Parting.{withPair, moved, hashAt, parted, partedFrom, roomsFrom}
 use Rattle.finish.proofs.HeadRows.{Counts}
 use Rattle.finish.proofs.Partial.{upToEntries, length-upToEntries, entries-after}

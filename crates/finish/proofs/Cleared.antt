@@ -16,8 +16,7 @@ use Rattle.image.proofs.Stores.{sets-then, sets-right-at}
 use Rattle.image.proofs.Parts.{placedIn}
 use Rattle.finish.specs.Finish.{finishedOf}
 use Rattle.image.specs.Stored.{between}
-use Rattle.finish.specs.steps.Working.{rowsFrom, linksAt}
-use Rattle.finish.specs.steps.Written.{headed, zeroed}
+use Rattle.finish.specs.steps.Written.{rowsFrom, linksAt, headed, zeroed}
 use Rattle.finish.proofs.HeadRows.{Counts, rows-image}
 use Rattle.finish.proofs.Partial.{tablesWith, upToEntries, partial, zeros-both, zeros-links}
 

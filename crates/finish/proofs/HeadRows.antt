@@ -12,7 +12,7 @@ use Rattle.image.specs.Image.{Entry, Placed, headSize, placed, count, entriesBe
 use Rattle.image.proofs.All.{all-each}
 use Rattle.image.proofs.Sizes.{before-suc}
 use Rattle.finish.specs.Finish.{countsAgree}
-use Rattle.finish.specs.steps.Working.{rowsFrom}
+use Rattle.finish.specs.steps.Written.{rowsFrom}
 
 -- the counts of entries, table by table
 abbrev pub Counts : List ℕ → List Placed → Type 0

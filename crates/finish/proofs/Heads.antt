@@ -11,7 +11,7 @@ use Rattle.image.specs.Bytes.{le32}
 use Rattle.image.specs.Image.{headBytes}
 use Rattle.image.proofs.Words.{length-le32}
 use Rattle.image.proofs.Stores.{sets-then}
-use Rattle.finish.specs.steps.Working.{rowsFrom}
+use Rattle.finish.specs.steps.Written.{rowsFrom}
 
 -- a digit of a word is that of its low 32 bits
 digit-one : (v q : ℕ) → (v + q * 4294967296) / 256 % 256 ≡ v / 256 % 256

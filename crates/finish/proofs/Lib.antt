@@ -1,9 +1,6 @@
 -- Laws about finishing: that its steps leave the image.
 pub mod Joined
 pub mod Heads
-pub mod Empties
-pub mod Taking
-pub mod Noting
 pub mod HeadRows
 pub mod Partial
 pub mod Cleared

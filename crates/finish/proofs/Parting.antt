@@ -15,7 +15,7 @@ use Rattle.image.specs.declared.Mode.{Mode}
 use Rattle.image.specs.Stored.{between, wholeLength}
 use Rattle.image.proofs.Words.{length-le32}
 use Rattle.image.proofs.Stores.{sets-then}
-use Rattle.finish.specs.steps.Working.{withLink}
+use Rattle.taking.specs.steps.Working.{withLink}
 use Rattle.finish.specs.steps.Parting.{roomsFrom, withPair, moved, hashAt, parted, partedFrom, withTable, tablesFrom, byTables}
 
 -- ---- a pair

@@ -26,7 +26,7 @@ use Rattle.image.proofs.At.{At, at-equal, at-left, at-take, at-word, at-second}
 use Rattle.image.proofs.Parts.{placedIn, before-most, offset-word, number-word, bucket-of}
 use Rattle.image.proofs.EntryAt.{id-word, length-word, name-bytes, ids-below}
 use Rattle.image.specs.Stored.{between, wholeLength}
-use Rattle.finish.specs.steps.Working.{slot, withBucket, withLink, taken}
+use Rattle.taking.specs.steps.Working.{slot, withBucket, withLink, taken}
 use Rattle.image.proofs.Between.{is-whole}
 use Rattle.finish.proofs.Partial.{tableWith, tablesWith, length-tableWith, length-tablesWith, upToEntries, length-upToEntries, partial}
 use Rattle.finish.proofs.Partial.{rows-there, tables-there, entries-from}

@@ -12,9 +12,9 @@ use Rattle.image.specs.Image.{backIn, flagWord, headBytes}
 use Rattle.image.specs.declared.Mode.{Mode}
 use Rattle.image.specs.declared.Mode.the-variants.{Twoway, Oneway}
 use Rattle.finish.specs.Finish.{finishedOf, noneAbove}
-use Rattle.finish.specs.steps.Working.{linksAt, rowsFrom, takenFrom}
+use Rattle.taking.specs.steps.Working.{takenFrom}
 use Rattle.finish.specs.steps.Parting.{byTables}
-use Rattle.finish.specs.steps.Written.{headed, zeroed, parts, filledIn, written}
+use Rattle.finish.specs.steps.Written.{rowsFrom, linksAt, headed, zeroed, parts, filledIn, written}
 
 pub backIn-le : (mode : Mode) (n : ℕ) → backIn mode n ≤ n
 backIn-le Twoway n = omega arith

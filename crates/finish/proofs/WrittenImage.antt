@@ -17,9 +17,9 @@ use Rattle.image.proofs.Bools.{second}
 use Rattle.image.proofs.Every.{All}
 use Rattle.finish.specs.Finish.{finishedOf, noneAbove, standing, Standing, finished}
 use Rattle.image.specs.Stored.{whole, between}
-use Rattle.finish.specs.steps.Working.{linksAt, taken, takenFrom}
+use Rattle.taking.specs.steps.Working.{taken, takenFrom}
 use Rattle.finish.specs.steps.Parting.{byTables}
-use Rattle.finish.specs.steps.Written.{headed, zeroed, parts, filledIn, written}
+use Rattle.finish.specs.steps.Written.{linksAt, headed, zeroed, parts, filledIn, written}
 use Rattle.image.proofs.Area.{Bytes, bytes-drop, bytes-take, length-entriesIn, whole-bytes, ids-words}
 use Rattle.finish.proofs.HeadRows.{counts-agree}
 use Rattle.finish.proofs.Partial.{upToEntries, partial, partial-all}

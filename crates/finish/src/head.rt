@@ -6,7 +6,7 @@ ghost use lib.ListN.{length, replicate};
 ghost use lib.Seq.{sets};
 ghost use lib.Dec.{eqb};
 ghost use Rattle.image.specs.Image.{headBytes};
-ghost use Rattle.finish.specs.steps.Working.{rowsFrom};
+ghost use Rattle.finish.specs.steps.Written.{rowsFrom};
 
 // The letters CQDB as a word.
 const CHUNK_ID: u32 = 0x42445143;

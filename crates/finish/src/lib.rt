@@ -3,9 +3,7 @@ ghost use mathlib.Core.Path.{_≡_};
 ghost use Rattle.finish.specs.Finish.{Standing, finished};
 use image::Mode;
 
-mod batch;
 pub mod counts; // counts.rt: none_above
-mod fill;
 mod head;
 pub mod size; // size.rt: the finished size and its parts
 mod tables;

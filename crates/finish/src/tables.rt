@@ -11,13 +11,13 @@ ghost use Rattle.image.specs.Tables.{order, firstEmpty, filled};
 ghost use Rattle.image.specs.Image.{bucketBytes};
 ghost use Rattle.finish.specs.steps.Written.{parts, filledIn};
 ghost use Rattle.finish.specs.steps.Parting.{roomsFrom, withPair, moved, hashAt, parted, partedFrom, pairsAt, listed, inserted, copied, withTable, tablesFrom, byTables};
-use super::batch::take_entries;
 use super::counts::none_above;
-use super::fill::store_link;
 use super::head::clear;
 use super::head::low;
 use super::head::wide;
 use image::Mode;
+use taking::batch::take_entries;
+use taking::fill::store_link;
 
 // The word v stored at `at`. The caller knows that there is room for it, so that no store is tested twice; the compiler makes
 // one store of it.

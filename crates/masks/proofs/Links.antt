@@ -12,7 +12,7 @@ use borrow.Author.Tests.{eq-eqb, ne-eqb, le-leb, lt-leb}
 use Rattle.image.specs.Bytes.{keep}
 use Rattle.image.specs.Image.{Placed, placedOfId, lastFrom, link}
 use Rattle.image.proofs.Every.{All}
-use Rattle.masks.specs.Masks.{above, Rising, selves, Linked}
+use Rattle.masks.specs.steps.Masks.{above, Rising, selves, Linked}
 use Rattle.masks.proofs.Above.{above-in, above-only, above-mono, above-same, above-one, above-none}
 
 -- the offsets of entries

@@ -12,7 +12,7 @@ use borrow.Author.Tests.{lt-ltb, le-ltb}
 use Rattle.image.specs.Tables.{Bucket, empty, atOf, start, order, firstEmpty, insert, insertAll, filled}
 use Rattle.image.proofs.Buckets.{getD-empties}
 use Rattle.image.proofs.Every.{All}
-use Rattle.masks.specs.Masks.{above, Rising, ats, hide, masked, place, Right}
+use Rattle.masks.specs.steps.Masks.{above, Rising, ats, hide, masked, place, Right}
 use Rattle.masks.proofs.Above.{above-in, above-only}
 
 -- ---- hiding

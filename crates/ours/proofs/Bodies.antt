@@ -17,7 +17,7 @@ use Rattle.image.proofs.Area.{Bytes}
 use Rattle.image.proofs.Bools.{not-both, first, second, both}
 use Rattle.reader.specs.Open.{opening}
 use Rattle.image.specs.declared.Mode.the-variants.{Twoway, Oneway}
-use Rattle.ours.specs.Made.{Made}
+use Rattle.ours.specs.steps.Made.{Made}
 use Rattle.ours.specs.Ours.{ours, modeIn}
 use Rattle.ours.specs.steps.Tests.{endIn, rowsRight, rowCounts, sayCounts, entriesRight, linked, linksRight, Checked, placedFrom, bodyRight}
 use Rattle.ours.proofs.ReadBack.{ours-yes, ours-only}

@@ -21,8 +21,8 @@ use Rattle.lists.proofs.Appended.{sizeOf-is}
 use Rattle.lists.proofs.Along.{list-written, list-accepted}
 use Rattle.lists.proofs.OneMore.{list-image, list-below}
 use Rattle.lists.proofs.Readings.{accepted-free}
-use Rattle.ours.specs.Made.{Puttable, Made}
-use Rattle.ours.specs.Ours.{putsIn, modeIn}
+use Rattle.ours.specs.steps.Made.{Made}
+use Rattle.ours.specs.Ours.{Puttable, putsIn, modeIn}
 use Rattle.ours.proofs.ReadBack.{word-ids, puts-image, flag-of-image}
 
 -- ---- the image of every list is ours, and its puts are the accepted ones

@@ -19,11 +19,12 @@ use Rattle.answers.proofs.Opened.{letters-image, magic-image, size-image, backS
 use Rattle.ours.proofs.ReadBack.{flag-image}
 use Rattle.image.specs.declared.Mode.{Mode}
 use Rattle.image.specs.declared.Mode.the-variants.{Twoway, Oneway}
-use Rattle.masks.specs.Masks.{ats, Right}
+use Rattle.masks.specs.steps.Masks.{ats, Right}
 use Rattle.masks.proofs.Above.{rising-less}
 use Rattle.masks.proofs.Filled.{filled-right}
 use Rattle.masks.proofs.Links.{offsets, right-linked}
-use Rattle.ours.specs.steps.InPlace.{bucketsAt, wordsAt, LinksIn, InPlace}
+use Rattle.ours.specs.steps.InPlace.{bucketsAt, wordsAt}
+use Rattle.ours.proofs.InPlace.{LinksIn, InPlace}
 use Rattle.ours.proofs.Joins.{getD-bucketsAt, length-bucketsAt, getD-wordsAt, length-wordsAt}
 use Rattle.ours.proofs.Rises.{rises, rises-table}
 

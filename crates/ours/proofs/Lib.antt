@@ -1,5 +1,6 @@
 -- Laws about images that are ours.
 pub mod ReadBack
+pub mod InPlace
 pub mod Joins
 pub mod Rises
 pub mod Sound
@@ -13,5 +14,6 @@ pub mod Theorem
 pub mod Rows
 pub mod Loops
 pub mod Steps
+pub mod Noting
 pub mod Enters
 pub mod Bodies

@@ -1,17 +1,19 @@
 -- A turn, a way out and the end of each loop. Assumes nothing.
 use Prim.Native.Nat.{ℕ, suc, _+_, _*_, _-_, _/_, _≤_, _<_}
 use native.Mathlib.Omega.{arith}
+use native.Mathlib.Decide.{ℕ-discrete}
 use mathlib.Core.Path.{_≡_, sym, ap, ap₂, _∙_}
 use mathlib.Core.Bool.{Bool, true, false, cond, _&&_}
 use mathlib.Core.List.{List, map}
-use lib.ListN.{getD}
+use lib.ListN.{length, getD}
 use lib.Dec.{eqb, leb}
 use borrow.Author.Tests.{eq-eqb, ne-eqb}
 use Rattle.image.specs.Bytes.{word, range, all}
 use Rattle.image.specs.Head.{tableAt, bucketNumber}
-use Rattle.masks.specs.Masks.{bit, above}
+use Rattle.image.proofs.All.{all-turn, all-more, all-end}
+use Rattle.masks.specs.steps.Masks.{bit, above}
 use Rattle.ours.specs.steps.InPlace.{wordsAt}
-use Rattle.ours.specs.steps.Tests.{clean, usedIn, tableRight, rowsRight, rowCounts}
+use Rattle.ours.specs.steps.Tests.{clean, usedIn, tableRight, rowsRight, rowCounts, TablesInside}
 use Rattle.ours.proofs.Joins.{getD-run}
 
 -- ---- how many of a run of words are not zero
@@ -49,31 +51,20 @@ module _ (f : ℕ → ℕ) where
 -- ---- the buckets of a table
 
 module _ (f : ℕ → Bool) where
-  all-turn : (t n : ℕ) → t < n → all f t (n - t) ≡ (f t && all f (t + 1) (n - (t + 1)))
-  unfolding all
-  all-turn t n h =
-      let p : n - t ≡ suc (n - (t + 1)) = omega arith in
-      let q : suc t ≡ t + 1 = omega arith in
-      ap (λ (m : ℕ). all f t m) p ∙ ap (λ (k : ℕ). f t && all f k (n - (t + 1))) q
-
   all-next : (t n : ℕ) (x : Bool) → t < n → f t ≡ true → all f t (n - t) ≡ x → all f (t + 1) (n - (t + 1)) ≡ x
-  all-next t n x h y e = sym (all-turn t n h ∙ ap (λ (b : Bool). b && all f (t + 1) (n - (t + 1))) y) ∙ e
+  all-next t n x h y e = sym (all-turn f t n h ∙ ap (λ (b : Bool). b && all f (t + 1) (n - (t + 1))) y) ∙ e
 
   all-stop : (t n : ℕ) (x : Bool) → t < n → f t ≡ false → all f t (n - t) ≡ x → false ≡ x
-  all-stop t n x h y e = sym (all-turn t n h ∙ ap (λ (b : Bool). b && all f (t + 1) (n - (t + 1))) y) ∙ e
+  all-stop t n x h y e = sym (all-turn f t n h ∙ ap (λ (b : Bool). b && all f (t + 1) (n - (t + 1))) y) ∙ e
 
-  all-done : (t n : ℕ) (x : Bool) → t ≡ n → all f t (n - t) ≡ x → true ≡ x
-  unfolding all
-  all-done t n x h e = let z : n - t ≡ 0 = omega arith in sym (ap (λ (m : ℕ). all f t m) z) ∙ e
-
-pub record Buckets (img : List ℕ) (o n k used : ℕ) : Type 0 where
+pub record Buckets (img : List ℕ) (o n k : ℕ) (tidy : Bool) (used : ℕ) : Type 0 where
   pub inside : k ≤ n
-  pub cleans : all (clean img o) k (n - k) ≡ all (clean img o) 0 n
+  pub cleans : (tidy && all (clean img o) k (n - k)) ≡ all (clean img o) 0 n
   pub counts : used + usedIn img o k (n - k) ≡ usedIn img o 0 n
   pub few : used ≤ k
 
 module _ (img : List ℕ) (o n : ℕ) where
-  pub buckets-start : Buckets img o n 0 0
+  pub buckets-start : Buckets img o n 0 true 0
   buckets-start =
       let z : n - 0 ≡ n = omega arith in
       record {
@@ -83,32 +74,41 @@ module _ (img : List ℕ) (o n : ℕ) where
         few = omega arith;
       }
 
-  module _ (k used : ℕ) (b : Buckets img o n k used) (more : k < n) where
-    pub buckets-next : (r : Bool) (u : ℕ) → r ≡ clean img o k → r ≡ true → u ≡ bit 1 (word img (o + 8 * k + 4)) → Buckets img o n (k + 1) (used + u)
-    unfolding usedIn
-    buckets-next r u e y v = record {
-      inside = omega arith;
-      cleans = all-next (clean img o) k n (all (clean img o) 0 n) more (sym e ∙ y) (b .cleans);
-      counts = run-next (λ (k : ℕ). word img (o + 8 * k + 4)) k n used u (usedIn img o 0 n) more v (b .counts);
-      few = let f = b .few in let m = bit-most (λ (k : ℕ). word img (o + 8 * k + 4)) k u v in omega arith;
-    }
+  pub buckets-next : (k : ℕ) (tidy : Bool) (used : ℕ) → Buckets img o n k tidy used → k < n → (r : Bool) (u : ℕ) → r ≡ clean img o k
+      → u ≡ bit 1 (word img (o + 8 * k + 4)) → Buckets img o n (k + 1) (tidy && r) (used + u)
+  unfolding usedIn
+  buckets-next k tidy used b more r u e v = record {
+    inside = omega arith;
+    cleans =
+        ap (λ (x : Bool). tidy && x && all (clean img o) (k + 1) (n - (k + 1))) e
+        ∙ all-more (clean img o) k n tidy (all (clean img o) 0 n) more (b .cleans);
+    counts = run-next (λ (k : ℕ). word img (o + 8 * k + 4)) k n used u (usedIn img o 0 n) more v (b .counts);
+    few = let f = b .few in let m = bit-most (λ (k : ℕ). word img (o + 8 * k + 4)) k u v in omega arith;
+  }
 
-    pub buckets-dirty : (r : Bool) (c : ℕ) → n ≡ 2 * c → r ≡ clean img o k → r ≡ false → false ≡ tableRight img o c
-    unfolding tableRight
-    buckets-dirty r c s e y =
-        let d : false ≡ all (clean img o) 0 n = all-stop (clean img o) k n (all (clean img o) 0 n) more (sym e ∙ y) (b .cleans) in
-        ap (λ (t : Bool). t && eqb (usedIn img o 0 (2 * c)) c) (d ∙ ap (λ (m : ℕ). all (clean img o) 0 m) s)
-
-  pub buckets-end : (k used c : ℕ) → Buckets img o n k used → n ≤ k → n ≡ 2 * c → eqb used c ≡ tableRight img o c
+  pub buckets-end : (k : ℕ) (tidy : Bool) (used c : ℕ) → Buckets img o n k tidy used → n ≤ k → n ≡ 2 * c → (tidy && eqb used c) ≡ tableRight img o c
   unfolding tableRight usedIn
-  buckets-end k used c b m s =
+  buckets-end k tidy used c b m s =
       let i = b .inside in
       let e : k ≡ n = omega arith in
-      let d : true ≡ all (clean img o) 0 n = all-done (clean img o) k n (all (clean img o) 0 n) e (b .cleans) in
+      let z : n - k ≡ 0 = omega arith in
+      let d : tidy ≡ all (clean img o) 0 n =
+      all-end (clean img o) k tidy (all (clean img o) 0 n) (sym (ap (λ (m : ℕ). tidy && all (clean img o) k m) z) ∙ b .cleans) in
       let u : used ≡ usedIn img o 0 n = run-end (λ (k : ℕ). word img (o + 8 * k + 4)) k n used (usedIn img o 0 n) e (b .counts) in
       ap₂ (λ (t : Bool) (x : ℕ). t && eqb x c) (d ∙ ap (λ (m : ℕ). all (clean img o) 0 m) s) (u ∙ ap (usedIn img o 0) s)
 
 -- ---- the rows
+
+-- a table whose row says the place that it must have lies in the image
+pub row-room : (img : List ℕ) (o t c w v : ℕ) → TablesInside img → t < 256 → 1 ≤ o → o ≤ length img → w ≡ bucketNumber img t → w ≡ 2 * c
+    → v ≡ tableAt img t → v ≡ cond (eqb c 0) 0 o → o + 16 * c ≤ length img
+row-room img o t c w v inside h some l ew yw ev yv = elim (ℕ-discrete c 0) [
+  | yes z ↦ omega arith
+  | no d ↦ there (yv ∙ ap (λ (b : Bool). cond b 0 o) (ne-eqb c 0 d))
+]
+  where
+    there : v ≡ o → o + 16 * c ≤ length img
+    there e = let i = inside t h (omega arith) in omega arith
 
 module _ (img counts : List ℕ) (o t c : ℕ) (x : Bool) (more : t < 256) (is : c ≡ getD counts t 0) (e : rowsRight img counts o t (256 - t) ≡ x) where
   rest : Bool

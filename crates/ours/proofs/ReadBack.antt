@@ -24,8 +24,8 @@ use Rattle.lists.proofs.Parse.{AllWordly, first-entry, after-first}
 use Rattle.image.specs.declared.Mode.{Mode}
 use Rattle.image.specs.declared.Mode.the-variants.{Twoway, Oneway}
 use Rattle.image.specs.Zero.{hasZero}
-use Rattle.ours.specs.Made.{Puttable, Made}
-use Rattle.ours.specs.Ours.{counted, putsIn, modeIn, allFree, ours}
+use Rattle.ours.specs.steps.Made.{Made}
+use Rattle.ours.specs.Ours.{Puttable, counted, putsIn, modeIn, allFree, ours}
 
 -- entries are read back, whatever follows them
 parsed-front : (es : List Entry) (rest : List ℕ) → AllWordly es → entriesIn (length es) (cat entryBytes es ++ rest) ≡ es

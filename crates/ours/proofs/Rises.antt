@@ -5,7 +5,7 @@ use Prim.Native.Nat.{ℕ, suc, _+_}
 use native.Mathlib.Omega.{arith}
 use Rattle.image.specs.Bytes.{keep}
 use Rattle.image.specs.Image.{Entry, Placed, entrySize, placed, inTable, ofTable, bucketOf}
-use Rattle.masks.specs.Masks.{Rising, ats}
+use Rattle.masks.specs.steps.Masks.{Rising, ats}
 use Rattle.masks.proofs.Above.{rising-less}
 use Rattle.masks.proofs.Links.{offsets}
 

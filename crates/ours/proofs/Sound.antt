@@ -20,11 +20,12 @@ use Rattle.image.proofs.Words.{length-le32}
 use Rattle.reader.specs.Open.{hasLetters}
 use Rattle.image.specs.declared.Mode.{Mode}
 use Rattle.image.specs.declared.Mode.the-variants.{Twoway, Oneway}
-use Rattle.masks.specs.Masks.{ats}
+use Rattle.masks.specs.steps.Masks.{ats}
 use Rattle.masks.proofs.Above.{rising-less}
 use Rattle.masks.proofs.Masked.{right-filled}
 use Rattle.masks.proofs.Links.{offsets, linked-right}
-use Rattle.ours.specs.steps.InPlace.{bucketsAt, wordsAt, LinksIn, InPlace}
+use Rattle.ours.specs.steps.InPlace.{bucketsAt, wordsAt}
+use Rattle.ours.proofs.InPlace.{LinksIn, InPlace}
 use Rattle.ours.proofs.Joins.{at-nothing, at-join, at-all, at-cat, at-parts, at-le32, at-two, getD-bucketsAt, getD-wordsAt, length-wordsAt}
 use Rattle.ours.proofs.Rises.{rises, rises-table}
 

@@ -71,9 +71,9 @@ module _ (img : List ℕ) (at n : ℕ) (name : List ℕ) (z : Bool) (is : name �
   pub name-zero : z ≡ true → false ≡ nameRight img at (nameAt img at n)
   name-zero y = ap (λ (b : Bool). not b && standsIn img (hashOf (nameAt img at n)) at) (sym y ∙ zero-is)
 
-  pub name-stands : (h : ℕ) (s : Bool) → z ≡ false → h ≡ hashOf name → s ≡ standsIn img h at → s ≡ nameRight img at (nameAt img at n)
+  pub name-stands : (h : ℕ) (s : Bool) → z ≡ false → h ≡ hashOf (nameAt img at n) → s ≡ standsIn img h at → s ≡ nameRight img at (nameAt img at n)
   name-stands h s y e f =
-      f ∙ ap (λ (k : ℕ). standsIn img k at) (e ∙ ap hashOf name-is)
+      f ∙ ap (λ (k : ℕ). standsIn img k at) e
       ∙ ap (λ (b : Bool). not b && standsIn img (hashOf (nameAt img at n)) at) (sym y ∙ zero-is)
 
 -- ---- a walk

@@ -25,7 +25,7 @@ use Rattle.lists.specs.RepeatsOff.{putAll}
 use Rattle.lists.proofs.Read.{Read}
 use Rattle.lists.proofs.Reading.{list-read}
 use Rattle.lists.proofs.Readings.{readings}
-use Rattle.ours.specs.Made.{Made}
+use Rattle.ours.specs.steps.Made.{Made}
 use Rattle.ours.specs.Ours.{Ours, putsIn, modeIn, ours}
 use Rattle.ours.specs.Theorem.{IsOurs, Theorem}
 use Rattle.ours.proofs.ReadBack.{made-puts, made-mode, ours-yes, ours-only}

@@ -23,11 +23,12 @@ use Rattle.image.proofs.Sizes.{length-entries, before-suc}
 use Rattle.writer.proofs.Agree.{zeros, tallied-count}
 use Rattle.image.specs.declared.Mode.{Mode}
 use Rattle.image.specs.declared.Mode.the-variants.{Twoway, Oneway}
-use Rattle.masks.specs.Masks.{place, Right}
+use Rattle.masks.specs.steps.Masks.{place, Right}
 use Rattle.image.specs.Zero.{hasZero}
-use Rattle.ours.specs.Made.{Puttable, Made}
-use Rattle.ours.specs.Ours.{modeIn}
-use Rattle.ours.specs.steps.InPlace.{bucketsAt, LinksIn, InPlace}
+use Rattle.ours.specs.steps.Made.{Made}
+use Rattle.ours.specs.Ours.{Puttable, modeIn}
+use Rattle.ours.specs.steps.InPlace.{bucketsAt}
+use Rattle.ours.proofs.InPlace.{LinksIn, InPlace}
 use Rattle.ours.specs.steps.Tests.{endIn, areaIn, entriesOf, tableRight, rowsRight, standsIn, entryRight, linksRight, Checked}
 use Rattle.ours.proofs.Joins.{length-bucketsAt}
 use Rattle.ours.proofs.Tests.{opens, table-told, Row, rows-told}

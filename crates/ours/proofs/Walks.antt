@@ -17,7 +17,7 @@ use Rattle.image.specs.Tables.{Bucket, empty, atOf, tableOf, start, order, firs
 use Rattle.image.proofs.Bools.{not-both, first, second, both}
 use Rattle.image.proofs.Every.{All}
 use Rattle.answers.proofs.Order.{order-length, order-at}
-use Rattle.masks.specs.Masks.{above, hide, masked, place, selves, Linked}
+use Rattle.masks.specs.steps.Masks.{above, hide, masked, place, selves, Linked}
 use Rattle.masks.proofs.Masked.{getD-masked, place-in}
 use Rattle.masks.proofs.Filled.{first-below}
 use Rattle.ours.specs.steps.InPlace.{bucketAt, bucketsAt, wordsAt}

@@ -1,5 +1,4 @@
 -- Is this image one of ours? 02 (ix): the decision, and the steps by which the code takes it.
-pub mod Made
 pub mod Ours
 pub mod Theorem
 pub mod Rows

@@ -1,7 +1,7 @@
 -- Is this image one of ours? 02 (ix): what it means, by the lists' own definitions, and the decision.
-use Prim.Native.Nat.{ℕ, _≤_}
+use Prim.Native.Nat.{ℕ, _^_, _≤_, _<_}
 use mathlib.Core.Path.{_≡_}
-use mathlib.Core.Bool.{Bool, true, cond, not, _&&_}
+use mathlib.Core.Bool.{Bool, true, false, cond, not, _&&_}
 use mathlib.Core.List.{List, [], _∷_}
 use lib.ListN.{length, drop}
 use lib.Dec.{eqb, leb}
@@ -16,7 +16,11 @@ use Rattle.reader.specs.Open.{opening}
 use Rattle.writer.specs.declared.Repeats.the-variants.{On}
 use Rattle.lists.specs.Demand3.{imageOf}
 use Rattle.lists.specs.RepeatsOff.{putAll}
-use Rattle.ours.specs.Made.{Puttable}
+
+-- a put that a writer can accept: its name has no zero byte, its id is a word
+pub record Puttable (e : Entry) : Type 0 where
+  pub free : hasZero (e .name) ≡ false
+  pub id-word : e .id < 2 ^ 32
 
 -- "the bytes are the image that some list of puts, one-way or two-way, repeats allowed, names free of zero bytes, closes to, with no byte after it": there
 -- are a direction and puts that are made from a fresh record in some buffer, in the repeats mode of 02 (viii), whose close gives exactly these bytes

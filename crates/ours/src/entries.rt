@@ -10,9 +10,9 @@ ghost use Rattle.image.specs.Stored.{whole, entriesIn, between};
 ghost use Rattle.image.specs.Tables.{order, firstEmpty};
 ghost use Rattle.image.specs.Tally.{tallied};
 ghost use Rattle.jhash.specs.NameHash.{hashOf};
+ghost use Rattle.ours.specs.steps.Noting.{firstPlace};
 ghost use Rattle.ours.specs.steps.Tests.{hidden, standsIn, nameAt, nameRight, entriesRight, placedFrom};
 use super::ahead::ahead;
-use super::ahead::first_look;
 use image::entries::larger;
 use image::entries::raise;
 use image::entries::whole_length;
@@ -60,35 +60,30 @@ fn stands(image: &[u8], h: u32, at: u32) -> bool
     get_u32(image, o + 8 * k + 4) == at
 }
 
-// What an entry's name tells: whether it has no zero byte and the entry stands in its bucket, and its hash.
-struct Standing {
-    right: bool,
-    hash: u32,
+// The same, where the place of the first bucket of its search and the word at it are known: most entries stand there.
+fn stands_noted(image: &[u8], h: u32, at: u32, place: usize, first: u32) -> bool
+    requires { ⌜ (place ≡ firstPlace (now image) h) × (first ≡ word (now image) place) ⌝ }
+    ensures { λ r. ⌜ r ≡ standsIn (now (image .entry)) h at ⌝ }
+{
+    if place == 0 {
+        return false;
+    }
+    if first == at {
+        return get_u32(image, place - 4) == h;
+    }
+    stands(image, h, at)
 }
 
-// The entry at `at`, whose length word is n.
-fn entry_right(image: &[u8], at: usize, n: usize) -> Standing
-    requires { ⌜ (at + (8 + n) ≤ length (now image)) × (1 ≤ n) × (n < 4294967296) × (at < 4294967296) ⌝ }
-    ensures right { λ r. ⌜ r .right ≡ nameRight (now (image .entry)) at (nameAt (now (image .entry)) at n) ⌝ }
-    ensures hash { λ r. ⌜ (r .right ≡ true → r .hash ≡ hashOf (nameAt (now (image .entry)) at n)) ⌝ }
+// Has the name of the entry at `at`, whose length word is n, no zero byte, and does the entry stand in its bucket? Its hash, first
+// place and the word there are noted.
+fn entry_right(image: &[u8], at: usize, n: usize, h: u32, place: usize, first: u32) -> bool
+    requires { ⌜ (at + (8 + n) ≤ length (now image)) × (1 ≤ n) × (at < 4294967296) × (h ≡ hashOf (nameAt (now image) at n)) × (place ≡ firstPlace (now image) h) × (first ≡ word (now image) place) ⌝ }
+    ensures { λ r. ⌜ r ≡ nameRight (now (image .entry)) at (nameAt (now (image .entry)) at n) ⌝ }
 {
-    let name = &image[at + 8..at + 7 + n];
-    if has_zero(name) {
-        return Standing {
-            right: false,
-            hash: 0,
-        };
+    if has_zero(&image[at + 8..at + 7 + n]) {
+        return false;
     }
-    let jhash::Hashed::Hash(h) = jhash::name_hash(name) else {
-        return Standing {
-            right: false,
-            hash: 0,
-        };
-    };
-    Standing {
-        right: stands(image, h, at as u32),
-        hash: h,
-    }
+    stands_noted(image, h, at as u32, place, first)
 }
 
 // What the walk found: whether the entries are right, and the back size that they have.
@@ -112,9 +107,12 @@ pub(super) fn entries_right(
     let mut at: usize = 2072;
     let mut left = entries;
     let mut back: u64 = 0;
-    let mut seen = first_look(image, end);
+    let mut hashes = [0; 256];
+    let mut places = [0; 256];
+    let mut firsts = [0; 256];
+    let mut seen: usize = 0;
     while left > 0 {
-        seen = ahead(image, at, end, seen);
+        seen = ahead(image, at, end, seen, &mut hashes, &mut places, &mut firsts);
         let n = whole_length(image, at, end);
         if n == 0 {
             return Entered {
@@ -122,17 +120,19 @@ pub(super) fn entries_right(
                 back: 0,
             };
         }
-        let entry = entry_right(image, at, n);
-        if !entry.right {
+        let i = 256 - seen;
+        let h = hashes[i];
+        if !entry_right(image, at, n, h, places[i], firsts[i]) {
             return Entered {
                 right: false,
                 back: 0,
             };
         }
-        raise(&mut *counts, entry.hash);
+        raise(&mut *counts, h);
         back = larger(back, get_u32(image, at) as u64 + 1);
         at += 8 + n;
         left -= 1;
+        seen -= 1;
     }
     Entered {
         right: at == end,

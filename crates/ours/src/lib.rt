@@ -9,7 +9,7 @@ ghost use Rattle.image.specs.Image.{backIn};
 ghost use Rattle.image.specs.declared.Mode.the-variants.{Twoway, Oneway};
 ghost use Rattle.reader.specs.Open.{opening};
 ghost use Rattle.ours.specs.Ours.{ours};
-ghost use Rattle.ours.specs.steps.Tests.{bodyRight};
+ghost use Rattle.ours.specs.steps.Tests.{bodyRight, TablesInside};
 use entries::entries_right;
 use image::get_u32;
 use links::links_right;
@@ -19,7 +19,7 @@ use tables::rows_right;
 use tables::say_counts;
 use tables::wide;
 
-mod ahead; // ahead.rt: buckets read before they are needed
+mod ahead; // ahead.rt: the next entries noted before they are walked
 mod entries; // entries.rt: one walk over the entries, each compared with its bucket
 mod links; // links.rt: the back array
 mod tables; // tables.rt: the rows of the head, and the buckets that no entry has
@@ -34,7 +34,7 @@ fn back_for(two: bool, back: u64) -> u64
 // Is everything behind the head right, the entries ending at `end`? The rows come first: a table is read only where its row says
 // the place that it must have, so that no byte is read as part of two tables.
 fn body_right(image: &[u8], n: u32, end: usize, back: usize) -> bool
-    requires { ⌜ (2072 ≤ end) × (end ≤ length (now image)) × (end < 4294967296) × (back < 4294967296) ⌝ }
+    requires { ⌜ (2072 ≤ end) × (end ≤ length (now image)) × (end < 4294967296) × (back < 4294967296) × TablesInside (now image) ⌝ }
     ensures { λ r. ⌜ r ≡ bodyRight (now (image .entry)) n end back ⌝ }
 {
     if !rows_right(image, end) {

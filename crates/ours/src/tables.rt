@@ -1,11 +1,12 @@
 // The rows of the head, and the tables: where each table stands, and that no bucket is used but by an entry.
 ghost use mathlib.Core.Path.{_≡_};
 ghost use mathlib.Core.Bool.{cond, not, _||_};
-ghost use Prim.Native.Nat.{_+_, _*_, _^_, _<_};
+ghost use Prim.Native.Nat.{_+_, _*_, _<_, _≤_};
 ghost use lib.Dec.{eqb};
+ghost use lib.ListN.{length};
 ghost use Rattle.image.specs.Bytes.{word};
-ghost use Rattle.masks.specs.Masks.{bit};
-ghost use Rattle.ours.specs.steps.Tests.{tableRight, rowsRight, rowCounts, sayCounts};
+ghost use Rattle.masks.specs.steps.Masks.{bit};
+ghost use Rattle.ours.specs.steps.Tests.{tableRight, rowsRight, rowCounts, sayCounts, TablesInside};
 use image::get_u32;
 
 // A word as a size.
@@ -29,38 +30,35 @@ pub(super) fn one(w: u32) -> usize
     if w == 0 { 0 } else { 1 }
 }
 
-// Is the bucket at b all zero, if it is empty?
+// Is the bucket at b all zero, if it is empty? Both words are there, and both are read: which buckets are empty cannot be foretold.
 fn clean_bucket(image: &[u8], b: usize) -> bool
-    requires { ⌜ b < 2 ^ 60 ⌝ }
+    requires { ⌜ b + 8 ≤ length (now image) ⌝ }
     ensures { λ r. ⌜ r ≡ (not (eqb (word (now (image .entry)) (b + 4)) 0) || eqb (word (now (image .entry)) b) 0) ⌝ }
 {
-    if get_u32(image, b + 4) != 0 {
-        return true;
-    }
-    get_u32(image, b) == 0
+    (jhash::word::word(image, b + 4) != 0) | (jhash::word::word(image, b) == 0)
 }
 
-// Of the 2c buckets at o, are the empty ones all zero, and c used?
+// Of the 2c buckets at o, all of which are there, are the empty ones all zero, and c used? No turn branches on what it reads, so
+// that the compiler takes several buckets at once.
 fn table_right(image: &[u8], o: usize, c: usize) -> bool
-    requires { ⌜ (o < 2 ^ 48) × (c < 4294967296) ⌝ }
+    requires { ⌜ (o + 16 * c ≤ length (now image)) × (c < 4294967296) ⌝ }
     ensures { λ r. ⌜ r ≡ tableRight (now (image .entry)) o c ⌝ }
 {
     let n = 2 * c;
+    let mut tidy = true;
     let mut used: usize = 0;
     let mut k: usize = 0;
     while k < n {
-        if !clean_bucket(image, o + 8 * k) {
-            return false;
-        }
-        used += one(get_u32(image, o + 8 * k + 4));
+        tidy = tidy & clean_bucket(image, o + 8 * k);
+        used += one(jhash::word::word(image, o + 8 * k + 4));
         k += 1;
     }
-    used == c
+    tidy & (used == c)
 }
 
-// Do the tables stand one after the other from `end` on, each with twice as many buckets as are used?
+// Do the tables stand one after the other from `end` on, each with twice as many buckets as are used? None leaves the image.
 pub(super) fn rows_right(image: &[u8], end: usize) -> bool
-    requires { ⌜ end < 4294967296 ⌝ }
+    requires { ⌜ (1 ≤ end) × (end ≤ length (now image)) × TablesInside (now image) ⌝ }
     ensures { λ r. ⌜ r ≡ rowsRight (now (image .entry)) (rowCounts (now (image .entry))) end 0 256 ⌝ }
 {
     let mut o = end;

@@ -12,7 +12,7 @@ use Rattle.image.specs.Tables.{Bucket, tableOf, start, order, firstEmpty, fille
 use Rattle.image.specs.Image.{headSize, bucketBytes}
 use Rattle.image.specs.Stored.{between, wholeLength}
 use Rattle.image.specs.declared.Mode.{Mode}
-use Rattle.finish.specs.steps.Working.{withLink}
+use Rattle.taking.specs.steps.Working.{withLink}
 
 -- where the rooms of the m tables from t on begin, in 32 bits; the first begins at o, and a table of c entries has room for 2c buckets
 unfoldable pub roomsFrom : List ℕ → ℕ → ℕ → ℕ → List ℕ

@@ -1,15 +1,28 @@
 -- All that finishing writes. No rule of 01 stands here: proofs/ shows that it is the image that specs/Finish says.
-use Prim.Native.Nat.{ℕ, _+_, _*_, _-_}
+use Prim.Native.Nat.{ℕ, zero, suc, _+_, _*_, _-_}
 use mathlib.Core.Bool.{Bool, cond, _&&_}
-use mathlib.Core.List.{List}
-use lib.ListN.{replicate}
+use mathlib.Core.List.{List, [], _++_}
+use lib.ListN.{getD, replicate}
 use lib.Seq.{sets}
-use lib.Dec.{leb}
+use lib.Dec.{eqb, leb}
+use Rattle.image.specs.Bytes.{le32}
 use Rattle.image.specs.Image.{headSize, headBytes, flagWord, backIn}
 use Rattle.image.specs.declared.Mode.{Mode}
 use Rattle.finish.specs.Finish.{finishedOf, noneAbove}
-use Rattle.finish.specs.steps.Working.{rowsFrom, linksAt, takenFrom}
+use Rattle.taking.specs.steps.Working.{takenFrom}
 use Rattle.finish.specs.steps.Parting.{byTables}
+
+-- the rows of the m tables from t on, the first with entries standing at o
+unfoldable pub rowsFrom : List ℕ → ℕ → ℕ → ℕ → List ℕ
+rowsFrom counts o t zero = []
+rowsFrom counts o t (suc m) =
+    le32 (cond (eqb (getD counts t 0) 0) 0 o)
+    ++ le32 (2 * getD counts t 0)
+    ++ rowsFrom counts (o + 16 * getD counts t 0) (suc t) m
+
+-- where the back array stands, 0 where there is none
+unfoldable pub linksAt : Mode → ℕ → ℕ → ℕ → ℕ
+linksAt mode end entries back = cond (eqb (backIn mode back) 0) 0 (end + 16 * entries)
 
 -- head and rows
 unfoldable pub headed : Mode → ℕ → ℕ → ℕ → List ℕ → List ℕ → List ℕ

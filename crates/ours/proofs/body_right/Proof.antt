@@ -15,7 +15,7 @@ use Rattle.ours.proofs.body_right.Statement.{statement}
 use Rattle.ours.proofs.body_right.Tie as tie
 
 rows-right-requires : tie.Need-rows-right-requires
-rows-right-requires c κs = search needs
+rows-right-requires c κs = let p = c .before .pre in (omega (arith, p .0), p .1, p .4)
 
 returns : tie.Need-returns
 returns c =

@@ -4,6 +4,7 @@ use native.Mathlib.Omega.{arith}
 use mathlib.Core.Path.{refl, _∙_}
 use Rattle.reader.specs.Open.{opening}
 use Rattle.ours.proofs.Bodies.{wrong-size, wrong-flag, wrong-room, wrong-back, decided}
+use Rattle.ours.proofs.Tests.{opened-inside}
 use Rattle.ours.proofs.opened_right.Statement.{statement}
 use Rattle.ours.proofs.opened_right.Tie as tie
 
@@ -105,7 +106,12 @@ returns-4 c =
     (wide .ensures .0 ∙ get-u32 .ensures) (if1 .left) (get-u322 .ensures) (omega (arith, if2 .left)) (wide2 .ensures .0) (wide3 .ensures .0 ∙ get-u323 .ensures) (omega (arith, if3 .left)) refl (place-of .ensures) (wide4 .ensures .0 ∙ get-u324 .ensures) (c .if4 .taken)
 
 body-right-requires : tie.Need-body-right-requires
-body-right-requires c κs = search needs
+body-right-requires c κs =
+    let start = c .before .before .before .before .before .before .before .before .before .before .before .before .before .before in
+    let size = c .before .before .before .before .before .before .before .before .before .before .before .wide .ensures .1 in
+    let same = c .before .before .before .before .before .before .before .before .before .before .if1 .left in
+    let room = c .before .before .before .before .if3 .left in
+    (omega arith, omega arith, omega arith, c .before .before .before .before .before .wide3 .ensures .1, opened-inside (start .args .image .now) (start .args .n) (start .pre))
 
 returns-5 : tie.Need-returns-5
 returns-5 c =

@@ -1,5 +1,5 @@
 -- The tests by which the code tells whether an image is ours, in place and without a second buffer. All of them hold exactly when it is.
-use Prim.Native.Nat.{ℕ, zero, suc, _+_, _*_, _-_, _/_, _≤_}
+use Prim.Native.Nat.{ℕ, zero, suc, _+_, _*_, _-_, _/_, _≤_, _<_}
 use mathlib.Core.Path.{_≡_}
 use mathlib.Core.Bool.{Bool, true, false, cond, not, _&&_, _||_}
 use mathlib.Core.List.{List, [], _∷_, map}
@@ -17,7 +17,7 @@ use Rattle.image.specs.Zero.{hasZero}
 use Rattle.image.specs.declared.Mode.{Mode}
 use Rattle.image.specs.declared.Mode.the-variants.{Twoway, Oneway}
 use Rattle.reader.specs.Open.{opening}
-use Rattle.masks.specs.Masks.{above}
+use Rattle.masks.specs.steps.Masks.{above}
 use Rattle.ours.specs.Ours.{modeIn}
 use Rattle.ours.specs.steps.InPlace.{wordsAt}
 
@@ -42,6 +42,10 @@ abbrev pub nameAt : List ℕ → ℕ → ℕ → List ℕ
 nameAt img at n = take (n - 1) (drop (at + 8) img)
 
 -- ---- the rows and the tables
+
+-- no table with an offset above 0 leaves the image, as opening has seen
+abbrev pub TablesInside : List ℕ → Type 0
+TablesInside img = (t : ℕ) → t < 256 → 0 < tableAt img t → tableAt img t + 8 * bucketNumber img t ≤ length img
 
 -- of the 2c buckets at o the empty ones are all zero, and c are used
 abbrev pub clean : List ℕ → ℕ → ℕ → Bool

@@ -72,6 +72,7 @@ fn extract(path: &Path, position: &[u8], image: &Path) -> Outcome {
     let position = lines::id_of(position).ok_or_else(|| Failure::new("the position is no decimal number"))?;
     match Bundle::new(&file).open(position.into()) {
         Ok(db) => {
+            files::no_other_file(image)?;
             files::replace(image, db.bytes())?;
             Ok(Answer::Yes)
         }

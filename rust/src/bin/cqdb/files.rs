@@ -1,12 +1,12 @@
 //! Files: read whole, and written beside and moved into place.
 use std::fs::{self, File, OpenOptions};
-use std::io::{self, Write};
+use std::io::{self, Read, Write};
 use std::path::{Path, PathBuf};
 use std::process;
 
 use cqdb::{Refusal, CQDB};
 
-use crate::outcome::Failure;
+use crate::outcome::{Failure, Outcome, Output};
 
 extern "C" {
     fn signal(number: i32, handler: usize) -> usize;
@@ -29,6 +29,15 @@ pub fn open<'a>(path: &Path, bytes: &'a [u8]) -> Result<CQDB<'a>, Failure> {
     CQDB::new(bytes).map_err(|error| Failure::new(format!("{}: {}", path.display(), in_words(&error))))
 }
 
+/// Opens the image of a file and prints what is asked of it.
+pub fn asked(path: &Path, ask: impl FnOnce(&CQDB, &mut Output) -> Outcome) -> Outcome {
+    let bytes = read(path)?;
+    let db = open(path, &bytes)?;
+    let mut out = Output::new();
+    let answer = ask(&db, &mut out)?;
+    out.finish(answer)
+}
+
 /// An error of the crate, with its refusal's number.
 pub fn in_words(error: &io::Error) -> String {
     Refusal::of(error).map_or_else(|| error.to_string(), refusal_in_words)
@@ -36,6 +45,21 @@ pub fn in_words(error: &io::Error) -> String {
 
 pub fn refusal_in_words(refusal: Refusal) -> String {
     format!("{refusal} (refusal {})", refusal.number())
+}
+
+/// Fails where another file than an image stands at an image's place, such as the list that it is made from: where the IMAGE of a
+/// command is left out, that list would be lost. An empty file may stand there.
+pub fn no_other_file(path: &Path) -> Result<(), Failure> {
+    let mut start = Vec::new();
+    if fs::metadata(path).is_ok_and(|about| about.is_file()) {
+        let file = File::open(path).and_then(|file| file.take(4).read_to_end(&mut start));
+        file.map_err(|error| Failure::new(format!("cannot read {}: {error}", path.display())))?;
+    }
+    if start.is_empty() || start == b"CQDB" {
+        return Ok(());
+    }
+    let what = "a file is there that is no image; remove it, or name another place";
+    Err(Failure::new(format!("cannot write {}: {what}", path.display())))
 }
 
 /// Writes a file beside its place and moves it there, so that a reader sees the old file or the new one, never a part.

@@ -1,8 +1,10 @@
 //! `cqdb id`: the ids of names.
+use cqdb::{Found, CQDB};
+
 use crate::args::{Args, Command, TAB, ZERO};
-use crate::lines;
-use crate::outcome::{Failure, Outcome, Output};
-use crate::{files, list, questions};
+use crate::outcome::{Failure, Outcome};
+use crate::questions::{self, Answers};
+use crate::{files, lines};
 
 pub const COMMAND: Command = Command {
     name: "id",
@@ -20,22 +22,14 @@ the image lacks are told on standard error, and the exit status is then 1. Up to
 };
 
 fn run(args: Args) -> Outcome {
-    let bytes = files::read(args.path(0))?;
-    let db = files::open(args.path(0), &bytes)?;
-    let mut out = Output::new();
-    let mut all = true;
-    questions::rounds(&args, 1, |names| {
-        let round = db.round(names).map_err(|refusal| Failure::new(files::refusal_in_words(refusal)))?;
-        for (name, (found, _)) in names.iter().zip(round.answers) {
-            match found {
-                Some(found) => list::entry(&mut out, &args, found.id, name)?,
-                None => {
-                    all = false;
-                    out.tell(&format!("id: {} has no name {}", args.path(0).display(), lines::shown(name)))?;
-                }
-            }
-        }
-        out.flush()
-    })?;
-    out.finish(all)
+    questions::put_to_image(&args, COMMAND.name, ids_of)
+}
+
+fn ids_of<'a>(db: &'a CQDB<'a>, names: &'a [&'a [u8]]) -> Result<Answers<'a>, Failure> {
+    let round = db.round(names).map_err(|refusal| Failure::new(files::refusal_in_words(refusal)))?;
+    let answer = |(name, (found, _)): (&&'a [u8], (Option<Found>, u32))| match found {
+        Some(found) => Ok((found.id, *name)),
+        None => Err(format!("no name {}", lines::shown(name))),
+    };
+    Ok(names.iter().zip(round.answers).map(answer).collect())
 }

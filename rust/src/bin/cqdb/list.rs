@@ -1,4 +1,6 @@
 //! `cqdb list`: all ids with their names.
+use cqdb::CQDB;
+
 use crate::args::{Args, Command, Opt, TAB, ZERO};
 use crate::files;
 use crate::outcome::{Answer, Failure, Outcome, Output};
@@ -22,27 +24,29 @@ status is then 1.
 };
 
 fn run(args: Args) -> Outcome {
-    let bytes = files::read(args.path(0))?;
-    let db = files::open(args.path(0), &bytes)?;
-    let mut out = Output::new();
-    if args.has(&PUTS) {
-        let Some(puts) = db.puts() else {
-            out.tell(&format!("list: {} is not one of ours: it has no list of puts", args.path(0).display()))?;
-            return out.finish(Answer::No);
-        };
-        puts.into_iter().try_for_each(|(name, id)| entry(&mut out, &args, id, name))?;
-        return out.finish(Answer::Yes);
-    }
+    files::asked(args.path(0), |db, out| if args.has(&PUTS) { puts(&args, db, out) } else { names(&args, db, out) })
+}
+
+fn puts(args: &Args, db: &CQDB, out: &mut Output) -> Outcome {
+    let Some(puts) = db.puts() else {
+        out.tell(&format!("list: {} is not one of ours: it has no list of puts", args.path(0).display()))?;
+        return Ok(Answer::No);
+    };
+    puts.into_iter().try_for_each(|(name, id)| entry(out, args, id, name))?;
+    Ok(Answer::Yes)
+}
+
+fn names(args: &Args, db: &CQDB, out: &mut Output) -> Outcome {
     for id in 0..db.back_size() {
         if let Some(name) = db.to_str(id) {
-            entry(&mut out, &args, id, name)?;
+            entry(out, args, id, name)?;
         }
     }
     if db.back_size() == 0 && db.num() > 0 {
         out.tell(&format!("list: {} is one-way: it names no ids; --puts lists its entries", args.path(0).display()))?;
-        return out.finish(Answer::No);
+        return Ok(Answer::No);
     }
-    out.finish(Answer::Yes)
+    Ok(Answer::Yes)
 }
 
 /// A line of an id and its name. A name that holds the byte that ends a line would be read as two.

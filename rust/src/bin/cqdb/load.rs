@@ -22,6 +22,7 @@ fn run(args: Args) -> Outcome {
     let seed = lines::id_of(args.bytes(0)).ok_or_else(|| {
         Failure::new(format!("the seed {} is no decimal number up to 4294967295", lines::shown(args.bytes(0))))
     })?;
+    files::no_other_file(args.path(1))?;
     let image = cqdb::load(seed);
     files::replace(args.path(1), &image)?;
     outcome::say(&format!("{}: 4096 entries, {} bytes\n", args.path(1).display(), image.len()))

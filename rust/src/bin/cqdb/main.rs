@@ -67,11 +67,10 @@ fn run(first: &OsString, words: Vec<OsString>) -> Outcome {
 }
 
 fn command_of(word: &OsString) -> Result<&'static Command, Failure> {
-    COMMANDS
-        .iter()
-        .copied()
-        .find(|command| word == command.name)
-        .ok_or_else(|| Failure::new("there is no such command: 'cqdb --help' lists them"))
+    COMMANDS.iter().copied().find(|command| word == command.name).ok_or_else(|| {
+        let word = word.to_string_lossy();
+        Failure::new(format!("there is no command {word:?}: 'cqdb --help' lists them"))
+    })
 }
 
 fn overview() -> String {

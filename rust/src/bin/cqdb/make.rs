@@ -32,7 +32,7 @@ it is put, and gives the id of its first line.
 A line of another form, or one whose put is refused, stops it: the message has
 the line's number, the reason and the refusal's number. The image is written
 beside its place and moved there: a reader never sees half of one, and where
-something fails the old image stays.
+something fails the old image stays. A file that is no image is not replaced.
 ",
     options: &[ONE_WAY, REPEATS, SKIP, TAB, WINDOWS, ZERO],
     operands: (1, 2),
@@ -43,6 +43,7 @@ something fails the old image stays.
 const SHOWN: u64 = 10;
 
 fn run(args: Args) -> Outcome {
+    files::no_other_file(args.path(0))?;
     let flag = if args.has(&ONE_WAY) { Flag::ONEWAY } else { Flag::NONE };
     let mut list = Lines::open(args.operand(1), args.end())?;
     let writer = if args.has(&REPEATS) { MemoryWriter::with_repeats(flag) } else { MemoryWriter::with_flag(flag) };

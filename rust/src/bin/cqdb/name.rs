@@ -1,8 +1,10 @@
 //! `cqdb name`: the names of ids.
+use cqdb::{BStr, CQDB};
+
 use crate::args::{Args, Command, TAB, ZERO};
-use crate::lines;
-use crate::outcome::{Failure, Outcome, Output};
-use crate::{files, list, questions};
+use crate::outcome::{Failure, Outcome};
+use crate::questions::{self, Answers};
+use crate::{files, lines};
 
 pub const COMMAND: Command = Command {
     name: "name",
@@ -19,25 +21,17 @@ have no name are told on standard error, and the exit status is then 1.
 };
 
 fn run(args: Args) -> Outcome {
-    let bytes = files::read(args.path(0))?;
-    let db = files::open(args.path(0), &bytes)?;
-    let mut out = Output::new();
-    let mut all = true;
-    questions::rounds(&args, 1, |words| {
-        let ids = words.iter().map(|word| id_of(word)).collect::<Result<Vec<u32>, Failure>>()?;
-        let names = db.name_round(&ids).map_err(|refusal| Failure::new(files::refusal_in_words(refusal)))?;
-        for (id, name) in ids.into_iter().zip(names) {
-            match name {
-                Some(name) => list::entry(&mut out, &args, id, name)?,
-                None => {
-                    all = false;
-                    out.tell(&format!("name: {} has no name for id {id}", args.path(0).display()))?;
-                }
-            }
-        }
-        out.flush()
-    })?;
-    out.finish(all)
+    questions::put_to_image(&args, COMMAND.name, names_of)
+}
+
+fn names_of<'a>(db: &'a CQDB<'a>, words: &'a [&'a [u8]]) -> Result<Answers<'a>, Failure> {
+    let ids = words.iter().map(|word| id_of(word)).collect::<Result<Vec<u32>, Failure>>()?;
+    let names = db.name_round(&ids).map_err(|refusal| Failure::new(files::refusal_in_words(refusal)))?;
+    let answer = |(id, name): (u32, Option<&'a BStr>)| match name {
+        Some(name) => Ok((id, &name[..])),
+        None => Err(format!("no name for id {id}")),
+    };
+    Ok(ids.into_iter().zip(names).map(answer).collect())
 }
 
 fn id_of(word: &[u8]) -> Result<u32, Failure> {

@@ -1,7 +1,7 @@
 //! `cqdb page`: the printed catalogue.
 use crate::args::{Args, Command};
 use crate::files;
-use crate::outcome::{Answer, Outcome, Output};
+use crate::outcome::{Answer, Outcome};
 
 pub const COMMAND: Command = Command {
     name: "page",
@@ -19,9 +19,8 @@ a name has 32 hyphens.
 };
 
 fn run(args: Args) -> Outcome {
-    let bytes = files::read(args.path(0))?;
-    let db = files::open(args.path(0), &bytes)?;
-    let mut out = Output::new();
-    out.bytes(&db.page().to_vec())?;
-    out.finish(Answer::Yes)
+    files::asked(args.path(0), |db, out| {
+        out.bytes(&db.page().to_vec())?;
+        Ok(Answer::Yes)
+    })
 }

@@ -1,9 +1,39 @@
 //! What is asked: the operands, or else the lines of standard input, in rounds.
 use std::io::{self, IsTerminal};
 
+use cqdb::CQDB;
+
 use crate::args::Args;
 use crate::lines::Lines;
-use crate::outcome::Failure;
+use crate::outcome::{Failure, Outcome};
+use crate::{files, list};
+
+/// What an image gives for each question: an id and its name, or what it lacks.
+pub type Answers<'a> = Vec<Result<(u32, &'a [u8]), String>>;
+
+/// Puts the questions to the image that the first operand names, and prints the answers. What the image lacks is told.
+pub fn put_to_image(
+    args: &Args,
+    command: &str,
+    ask: for<'a> fn(&'a CQDB<'a>, &'a [&'a [u8]]) -> Result<Answers<'a>, Failure>,
+) -> Outcome {
+    files::asked(args.path(0), |db, out| {
+        let mut all = true;
+        rounds(args, 1, |questions| {
+            for answer in ask(db, questions)? {
+                match answer {
+                    Ok((id, name)) => list::entry(out, args, id, name)?,
+                    Err(lacking) => {
+                        all = false;
+                        out.tell(&format!("{command}: {} has {lacking}", args.path(0).display()))?;
+                    }
+                }
+            }
+            out.flush()
+        })?;
+        Ok(all.into())
+    })
+}
 
 /// The most questions that one call of the library takes.
 const ROUND: usize = 512;

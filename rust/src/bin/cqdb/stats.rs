@@ -29,8 +29,11 @@ Prints a line for each number, its name first:
 };
 
 fn run(args: Args) -> Outcome {
-    let bytes = files::read(args.path(0))?;
-    let db = files::open(args.path(0), &bytes)?;
+    files::asked(args.path(0), numbers)
+}
+
+fn numbers(db: &CQDB, out: &mut Output) -> Outcome {
+    let bytes = db.bytes();
     let word = |at: usize| u32::from_le_bytes(bytes[at..at + 4].try_into().expect("an opened image has a head"));
     let mode = match word(8) {
         0 => "two-way".to_string(),
@@ -48,10 +51,9 @@ fn run(args: Args) -> Outcome {
         ("named", named.to_string()),
         ("gaps", (back - named).to_string()),
     ];
-    let mut out = Output::new();
     lines.iter().try_for_each(|(name, value)| out.text(&format!("{name:<9} {value}")))?;
-    search_lengths(&mut out, &db)?;
-    out.finish(Answer::Yes)
+    search_lengths(out, db)?;
+    Ok(Answer::Yes)
 }
 
 /// The widest bar.

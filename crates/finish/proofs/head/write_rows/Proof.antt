@@ -5,7 +5,7 @@ use Prim.Native.Nat.{_+_, _*_, _≤_, _-_}
 use mathlib.Core.Path.{_≡_, refl, _∙_}
 use lib.ListN.{length}
 use lib.Seq.{sets}
-use Rattle.finish.specs.steps.Working.{rowsFrom}
+use Rattle.finish.specs.steps.Written.{rowsFrom}
 use Rattle.finish.proofs.Heads.{rows-turn, rows-end}
 use Rattle.finish.proofs.head.write_rows.Statement.{statement}
 use Rattle.finish.proofs.head.write_rows.Tie as tie

@@ -6,7 +6,7 @@ use mathlib.Core.Logic.{⊎-elim}
 use Rattle.image.specs.Bytes.{word}
 use Rattle.image.specs.Tables.{next, order, firstEmpty}
 use Rattle.image.proofs.Turns.{next-more, next-first}
-use Rattle.finish.proofs.Empties.{empty-here, empty-later, empty-none}
+use Rattle.taking.proofs.Empties.{empty-here, empty-later, empty-none}
 use Rattle.finish.proofs.tables.empty_bucket.Statement.{statement}
 use Rattle.finish.proofs.tables.empty_bucket.Tie as tie
 use Rattle.finish.proofs.tables.empty_bucket.Reads as reads

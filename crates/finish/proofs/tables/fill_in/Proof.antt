@@ -6,7 +6,7 @@ use Rattle.finish.proofs.tables.fill_in.Statement.{statement}
 use Rattle.finish.proofs.tables.fill_in.Tie as tie
 use Rattle.finish.proofs.tables.fill_in.Reads as reads
 use Rattle.finish.proofs.tables.fill_in.Lts as lts
-use Rattle.finish.proofs.batch.take_entries.Reads as take-entries-reads
+use Rattle.taking.proofs.batch.take_entries.Reads as take-entries-reads
 use Rattle.finish.proofs.head.clear.Reads as clear-reads
 use Rattle.finish.proofs.tables.parts.Reads as parts-reads
 use Rattle.finish.proofs.tables.take_by_tables.Reads as take-by-tables-reads

@@ -12,7 +12,7 @@ use Rattle.finish.proofs.tables.part_entry.Reads as reads
 use Rattle.finish.proofs.tables.part_entry.Lts as lts
 use Rattle.image.proofs.get_u32.Reads as get-u32-reads
 use Rattle.jhash.proofs.name_hash.Reads as name-hash-reads
-use Rattle.finish.proofs.fill.store_link.Reads as store-link-reads
+use Rattle.taking.proofs.fill.store_link.Reads as store-link-reads
 use Rattle.finish.proofs.tables.note_pair.Reads as note-pair-reads
 
 get-u32-requires : tie.Need-get-u32-requires

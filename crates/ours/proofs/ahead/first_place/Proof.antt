@@ -1,8 +1,9 @@
 -- `ours::ahead::first_place` meets its contract. Assumes nothing.
 use native.Mathlib.Omega.{arith}
 use Prim.Native.Nat.{_/_}
-use Rattle.finish.proofs.Taking.{start-below}
+use Rattle.taking.proofs.Taking.{start-below}
 use borrow.Author.Needs.{needs}
+use Rattle.ours.proofs.Noting.{place-zero, place-said}
 use Rattle.ours.proofs.ahead.first_place.Statement.{statement}
 use Rattle.ours.proofs.ahead.first_place.Tie as tie
 
@@ -34,7 +35,9 @@ cast-n : tie.Need-cast-n
 cast-n c = search needs
 
 returns : tie.Need-returns
-returns c = search needs
+returns c =
+    let a = c .before .before .before .before .args in
+    place-zero (a .image .now) (a .h) (c .before .get-u322 .result) (c .before .get-u322 .ensures) (c .if1 .taken)
 
 cast-result : tie.Need-cast-result
 cast-result c = search needs
@@ -64,7 +67,11 @@ add-result-2 c =
     omega (arith, start-below (h / 256) (of-n .result) (c .if1 .left), of-n .ok, of-o .ok)
 
 returns-2 : tie.Need-returns-2
-returns-2 c = search needs
+returns-2 c =
+    let a = c .before .before .before .before .args in
+    let of-n = c .before .get-u322 in
+    let of-o = c .before .before .get-u32 in
+    place-said (a .image .now) (a .h) (of-o .result) (of-n .result) (of-o .ensures) (of-n .ensures) (c .if1 .left)
 
 pub first-place-spec : {M : Type 1} → statement M
 first-place-spec =

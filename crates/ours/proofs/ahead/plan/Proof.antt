@@ -2,16 +2,18 @@
 use borrow.Author.Needs.{needs}
 use native.Mathlib.Omega.{arith}
 use Prim.Native.Nat.{_+_, _-_, _≤_}
-use Rattle.image.specs.Stored.{between}
-use Rattle.image.proofs.Between.{front, length-between}
+use mathlib.Core.Path.{refl}
+use lib.ListN.{take, drop, length-take}
+use Rattle.jhash.proofs.Outcomes.{told-refused, told-image-hash}
+use Rattle.ours.proofs.Noting.{Planned, plan-start, plan-room, plan-turn, plan-broken, plan-all}
 use Rattle.ours.proofs.ahead.plan.Statement.{statement}
 use Rattle.ours.proofs.ahead.plan.Tie as tie
 
 abbrev Inv-loop : tie.InvT-loop
-Inv-loop image from end places₀ at₀ i₀ places at i = (at ≤ end) × (i ≤ 64)
+Inv-loop image from end hashes₀ places₀ at₀ i₀ hashes places at i = Planned image end from hashes places at i
 
 abbrev μ-loop : tie.MeasureT-loop
-μ-loop image from end places₀ at₀ i₀ places at i = 64 - i
+μ-loop image from end hashes₀ places₀ at₀ i₀ hashes places at i = 256 - i
 
 -- a whole entry lies before the end
 room : (c : tie.Else1 Inv-loop μ-loop)
@@ -21,19 +23,23 @@ room c =
     let p = c .before .before .before .before .before .pre in
     let l = c .before .before .before .loop in
     let w = c .before .whole-length in
-    let f = front (between (a .image .now) (l .at) (a .end)) (w .result) (w .ensures .0) (c .if1 .left) in
-    let i = f .inside in
-    let j = length-between (a .image .now) (l .at) (a .end) (l .inv .0) (p .1) in
-    (omega arith, f .some)
+    plan-room (a .image .now) (a .end) (a .from) (l .hashes) (l .places) (l .at) (l .i) (l .inv) (p .1) (w .result) (w .ensures .0) (c .if1 .left)
 
 loop-holds : tie.Need-loop-holds Inv-loop μ-loop
-loop-holds c = (c .before .pre .0, omega arith)
+loop-holds c =
+    let a = c .before .args in
+    let p = c .before .pre in
+    plan-start (a .image .now) (a .end) (a .from) (a .hashes .now) (a .places .now) (p .0) (p .3) (p .4)
 
 whole-length-requires : tie.Need-whole-length-requires Inv-loop μ-loop
-whole-length-requires c κs = (c .before .loop .inv .0, c .before .before .before .pre .1)
+whole-length-requires c κs = (c .before .loop .inv .inside, c .before .before .before .pre .1)
 
 returns : tie.Need-returns Inv-loop μ-loop
-returns c = search needs
+returns c =
+    let a = c .before .before .before .before .before .args in
+    let l = c .before .before .before .loop in
+    let w = c .before .whole-length in
+    (l .inv .hashes-long, l .inv .places-long, plan-broken (a .image .now) (a .end) (a .from) (l .hashes) (l .places) (l .at) (l .i) (l .inv) (w .result) (w .ensures .0) (c .if1 .taken))
 
 add-name-hash : tie.Need-add-name-hash Inv-loop μ-loop
 add-name-hash c = let r = room c in omega (arith, c .before .before .before .before .before .pre .2)
@@ -63,10 +69,23 @@ enum-told : tie.Need-enum-told Inv-loop μ-loop
 enum-told c = search needs
 
 returns-2 : tie.Need-returns-2 Inv-loop μ-loop
-returns-2 c = search needs
+returns-2 c =
+    let a = c .before .before .before .before .before .before .before .before .before .args in
+    let l = c .before .before .before .before .before .before .before .loop in
+    let w = c .before .before .before .before .before .whole-length in
+    let name = take (l .at + 7 + w .result - (l .at + 8)) (drop (l .at + 8) (a .image .now)) in
+    let long = told-refused name 0 (c .before .before .name-hash .result) (c .before .before .name-hash .ensures) (c .enum-told .given .1) in
+    let few = simp length-take at long in
+    absurd (omega (arith, w .ensures .1))
 
 first-place-requires : tie.Need-first-place-requires Inv-loop μ-loop
 first-place-requires c κs = search needs
+
+mul-hashes : tie.Need-mul-hashes Inv-loop μ-loop
+mul-hashes c = omega (arith, c .before .before .before .before .before .before .before .before .loop-test .taken)
+
+element-write-hashes : tie.Need-element-write-hashes Inv-loop μ-loop
+element-write-hashes c = omega (arith, c .before .before .before .before .before .before .before .before .loop-test .taken)
 
 mul-places : tie.Need-mul-places Inv-loop μ-loop
 mul-places c = omega (arith, c .before .before .before .before .before .before .before .before .loop-test .taken)
@@ -94,11 +113,22 @@ loop-less c = omega (arith, c .before .before .before .before .before .before .b
 
 loop-again : tie.Need-loop-again Inv-loop μ-loop
 loop-again c =
-    let r = room (c .before .before .before .before .before .before) in
-    (r .0, omega (arith, c .before .before .before .before .before .before .before .before .loop-test .taken))
+    let a = c .before .before .before .before .before .before .before .before .before .before .before .args in
+    let p = c .before .before .before .before .before .before .before .before .before .before .before .pre in
+    let l = c .before .before .before .before .before .before .before .before .before .loop in
+    let w = c .before .before .before .before .before .before .before .whole-length in
+    let hashed = c .before .before .before .before .name-hash in
+    let h = c .before .before .h .given .0 .0 in
+    let name = take (l .at + 7 + w .result - (l .at + 8)) (drop (l .at + 8) (a .image .now)) in
+    let told = told-image-hash name (hashed .result) h (hashed .ensures) (c .before .before .h .given .1) in
+    plan-turn (a .image .now) (a .end) (a .from) (l .hashes) (l .places) (l .at) (l .i) (l .inv) (p .1) (w .result) (w .ensures .0) (c .before .before .before .before .before .before .if1 .left) (c .before .before .before .before .before .before .before .before .loop-test .taken)
+    h (c .first-place .result) name refl (told .1) (c .first-place .ensures)
 
 returns-3 : tie.Need-returns-3 Inv-loop μ-loop
-returns-3 c = search needs
+returns-3 c =
+    let a = c .before .before .before .args in
+    let l = c .before .loop in
+    (l .inv .hashes-long, l .inv .places-long, plan-all (a .image .now) (a .end) (a .from) (l .hashes) (l .places) (l .at) (l .i) (l .inv) (omega (arith, c .loop-test .left)))
 
 pub plan-spec : {M : Type 1} → statement M
 plan-spec =
@@ -120,6 +150,8 @@ plan-spec =
     enum-told
     returns-2
     first-place-requires
+    mul-hashes
+    element-write-hashes
     mul-places
     element-write-places
     add-at

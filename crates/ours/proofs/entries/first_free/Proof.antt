@@ -7,7 +7,7 @@ use mathlib.Core.Logic.{⊎-elim}
 use Rattle.image.specs.Bytes.{word}
 use Rattle.image.specs.Tables.{next, order, firstEmpty}
 use Rattle.image.proofs.Turns.{next-more, next-first}
-use Rattle.finish.proofs.Empties.{empty-here, empty-later, empty-none}
+use Rattle.taking.proofs.Empties.{empty-here, empty-later, empty-none}
 use Rattle.ours.specs.steps.Tests.{hidden}
 use Rattle.ours.proofs.entries.first_free.Statement.{statement}
 use Rattle.ours.proofs.entries.first_free.Tie as tie

@@ -1,0 +1,4 @@
+-- Laws about entries that are taken into tables and back array.
+pub mod Empties
+pub mod Taking
+pub mod Noting

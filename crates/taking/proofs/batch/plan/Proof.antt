@@ -1,0 +1,183 @@
+-- `taking::batch::plan` meets its contract. Assumes nothing.
+use native.Mathlib.Omega.{arith}
+use borrow.Author.Needs.{needs}
+use Prim.Native.Nat.{ℕ, _+_, _-_, _<_, _≤_}
+use mathlib.Core.Path.{_≡_, refl}
+use lib.ListN.{take, drop}
+use Rattle.jhash.proofs.Outcomes.{told-image-hash}
+use Rattle.image.specs.Stored.{between}
+use Rattle.image.proofs.Between.{front, length-between}
+use Rattle.taking.proofs.Noting.{Planned, plan-start, plan-turn}
+use Rattle.taking.proofs.batch.plan.Statement.{statement}
+use Rattle.taking.proofs.batch.plan.Tie as tie
+use Rattle.taking.proofs.batch.plan.Reads as reads
+use Rattle.taking.proofs.batch.plan.Lts as lts
+use Rattle.jhash.proofs.name_hash.Reads as name-hash-reads
+use Rattle.image.proofs.entries.whole_length.Reads as whole-length-reads
+use Rattle.taking.proofs.batch.place_of.Reads as place-of-reads
+
+abbrev Inv-loop : tie.InvT-loop
+Inv-loop buf from end most hashes₀ places₀ at₀ i₀ hashes places at i = Planned buf end from most hashes at i
+
+abbrev μ-loop : tie.MeasureT-loop
+μ-loop buf from end most hashes₀ places₀ at₀ i₀ hashes places at i = most - i
+
+pos-of : (n : ℕ) → (n ≡ 0 → ⊥) → 0 < n
+pos-of n h = omega arith
+
+-- a whole entry lies before the end
+room : (c : tie.Else1 Inv-loop μ-loop) → (c .before .before .before .loop .at + (8 + c .before .whole-length .result) ≤ c .before .before .before .before .before .args .end) × (1 ≤ c .before .whole-length .result)
+room c =
+    let a = c .before .before .before .before .before .args in
+    let start-pre = c .before .before .before .before .before .pre in
+    let of-loop = c .before .before .before .loop in
+    let f = front (between (a .buf .now) (of-loop .at) (a .end)) (c .before .whole-length .result) (c .before .whole-length .ensures .0) (c .if1 .left) in
+    let i = f .inside in
+    let j = of-loop .inv .inside in
+    let l = length-between (a .buf .now) (of-loop .at) (a .end) j (start-pre .1) in
+    (omega arith, f .some)
+
+loop-holds : tie.Need-loop-holds Inv-loop μ-loop
+loop-holds c = plan-start (c .before .args .buf .now) (c .before .args .end) (c .before .args .from) (c .before .args .most) (c .before .args .hashes .now) (c .before .pre .0) (c .before .pre .4)
+
+whole-length-requires : tie.Need-whole-length-requires Inv-loop μ-loop
+whole-length-requires c κs = (c .before .loop .inv .inside, c .before .before .before .pre .1)
+
+returns : tie.Need-returns Inv-loop μ-loop
+returns c = (c .before .before .before .loop .inv .few, c .before .before .before .loop .inv .sixteen, c .before .before .before .loop .inv .noted)
+
+add-name-hash : tie.Need-add-name-hash Inv-loop μ-loop
+add-name-hash c = let r = room c in omega (arith, c .before .before .before .before .before .pre .2)
+
+add-name-hash-2 : tie.Need-add-name-hash-2 Inv-loop μ-loop
+add-name-hash-2 c = let r = room c in omega (arith, c .before .before .before .before .before .pre .2)
+
+add-name-hash-3 : tie.Need-add-name-hash-3 Inv-loop μ-loop
+add-name-hash-3 c = let r = room c in omega (arith, c .before .before .before .before .before .pre .2)
+
+sub-name-hash : tie.Need-sub-name-hash Inv-loop μ-loop
+sub-name-hash c = let r = room c in omega arith
+
+part-name-hash-start : tie.Need-part-name-hash-start Inv-loop μ-loop
+part-name-hash-start c = let r = room c in omega arith
+
+part-name-hash-end : tie.Need-part-name-hash-end Inv-loop μ-loop
+part-name-hash-end c = let r = room c in omega (arith, c .before .before .before .before .before .pre .1)
+
+name-hash-requires : tie.Need-name-hash-requires Inv-loop μ-loop
+name-hash-requires c κs = search needs
+
+enum-known-h : tie.Need-enum-known-h Inv-loop μ-loop
+enum-known-h c = search needs
+
+enum-told : tie.Need-enum-told Inv-loop μ-loop
+enum-told c = search needs
+
+returns-2 : tie.Need-returns-2 Inv-loop μ-loop
+returns-2 c =
+    let of-loop = c .before .before .before .before .before .before .before .loop in
+    (of-loop .inv .few, of-loop .inv .sixteen, of-loop .inv .noted)
+
+place-of-requires : tie.Need-place-of-requires Inv-loop μ-loop
+place-of-requires c κs = search needs
+
+returns-3 : tie.Need-returns-3 Inv-loop μ-loop
+returns-3 c =
+    let of-loop = c .before .before .before .before .before .before .before .before .before .before .loop in
+    (of-loop .inv .few, of-loop .inv .sixteen, of-loop .inv .noted)
+
+mul-hashes : tie.Need-mul-hashes Inv-loop μ-loop
+mul-hashes c =
+    let start-pre = c .before .before .before .before .before .before .before .before .before .before .before .before .pre in
+    let of-loop-test = c .before .before .before .before .before .before .before .before .before .loop-test in
+    omega (arith, of-loop-test .taken, start-pre .3)
+
+element-write-hashes : tie.Need-element-write-hashes Inv-loop μ-loop
+element-write-hashes c =
+    let start-pre = c .before .before .before .before .before .before .before .before .before .before .before .before .pre in
+    let of-loop-test = c .before .before .before .before .before .before .before .before .before .loop-test in
+    omega (arith, of-loop-test .taken, start-pre .3)
+
+mul-places : tie.Need-mul-places Inv-loop μ-loop
+mul-places c =
+    let start-pre = c .before .before .before .before .before .before .before .before .before .before .before .before .pre in
+    let of-loop-test = c .before .before .before .before .before .before .before .before .before .loop-test in
+    omega (arith, of-loop-test .taken, start-pre .3)
+
+element-write-places : tie.Need-element-write-places Inv-loop μ-loop
+element-write-places c =
+    let start-pre = c .before .before .before .before .before .before .before .before .before .before .before .before .pre in
+    let of-loop-test = c .before .before .before .before .before .before .before .before .before .loop-test in
+    omega (arith, of-loop-test .taken, start-pre .3)
+
+add-at : tie.Need-add-at Inv-loop μ-loop
+add-at c =
+    let start-pre = c .before .before .before .before .before .before .before .before .before .before .before .before .pre in
+    let of-before = c .before .before .before .before .before .before .before in
+    let r = room (of-before) in omega (arith, start-pre .2)
+
+add-at-2 : tie.Need-add-at-2 Inv-loop μ-loop
+add-at-2 c =
+    let start-pre = c .before .before .before .before .before .before .before .before .before .before .before .before .pre in
+    let of-before = c .before .before .before .before .before .before .before in
+    let r = room (of-before) in omega (arith, start-pre .2)
+
+add-i : tie.Need-add-i Inv-loop μ-loop
+add-i c =
+    let start-pre = c .before .before .before .before .before .before .before .before .before .before .before .before .pre in
+    let of-loop-test = c .before .before .before .before .before .before .before .before .before .loop-test in
+    omega (arith, of-loop-test .taken, start-pre .3)
+
+loop-less : tie.Need-loop-less Inv-loop μ-loop
+loop-less c = omega (arith, c .before .before .before .before .before .before .before .before .before .loop-test .taken)
+
+loop-again : tie.Need-loop-again Inv-loop μ-loop
+loop-again c =
+    let a = c .before .before .before .before .before .before .before .before .before .before .before .before .args in
+    let start-pre = c .before .before .before .before .before .before .before .before .before .before .before .before .pre in
+    let i = c .before .before .before .before .before .before .before .before .before .before .loop in
+    let of-loop-test = c .before .before .before .before .before .before .before .before .before .loop-test in
+    let of-whole-length = c .before .before .before .before .before .before .before .before .whole-length in
+    let of-if1 = c .before .before .before .before .before .before .before .if1 in
+    let of-name-hash = c .before .before .before .before .before .name-hash in
+    let of-h = c .before .before .before .h in
+    let told = told-image-hash (take (i .at + 7 + of-whole-length .result - (i .at + 8)) (drop (i .at + 8) (a .buf .now))) (of-name-hash .result) (of-h .given .0 .0) (of-name-hash .ensures) (of-h .given .1) in
+    plan-turn (a .buf .now) (a .end) (a .from) (a .most) (i .hashes) (i .at) (i .i) (i .inv)
+    (start-pre .1) (start-pre .3) (of-loop-test .taken) (of-whole-length .result) (of-h .given .0 .0)
+    (take (i .at + 7 + of-whole-length .result - (i .at + 8)) (drop (i .at + 8) (a .buf .now)))
+    (of-whole-length .ensures .0) (of-if1 .left) refl (told .1) (c .before .place-of .ensures (pos-of _ (c .if2 .left)))
+
+returns-4 : tie.Need-returns-4 Inv-loop μ-loop
+returns-4 c = (c .before .loop .inv .few, c .before .loop .inv .sixteen, c .before .loop .inv .noted)
+
+pub plan-spec : {M : Type 1} → statement M
+plan-spec =
+    tie.close
+    (tie.spec
+    Inv-loop
+    μ-loop
+    loop-holds
+    whole-length-requires
+    returns
+    add-name-hash
+    add-name-hash-2
+    add-name-hash-3
+    sub-name-hash
+    part-name-hash-start
+    part-name-hash-end
+    name-hash-requires
+    enum-known-h
+    enum-told
+    returns-2
+    place-of-requires
+    returns-3
+    mul-hashes
+    element-write-hashes
+    mul-places
+    element-write-places
+    add-at
+    add-at-2
+    add-i
+    loop-less
+    loop-again
+    returns-4)

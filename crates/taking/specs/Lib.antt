@@ -1,0 +1,2 @@
+-- What taking entries into hash tables and back array leaves.
+pub mod steps
