@@ -21,7 +21,7 @@ use jhash::Hashed;
 use jhash::word::word;
 
 // What a search for a name sees in the entry at `at`.
-fn see_entry(image: &[u8], name: &[u8], at: u32) -> Seen
+pub fn see_entry(image: &[u8], name: &[u8], at: u32) -> Seen
     ensures { λ r. ⌜ seenOf r ≡ seeEntry (now (image .entry)) (now (name .entry)) at ⌝ }
 {
     if broken(image, at) {

@@ -1,24 +1,29 @@
 -- The lookups of listed names: their answers, and the buckets that they read. Assumes nothing.
-use Prim.Native.Nat.{ℕ, zero, suc, _+_, _*_, _≤_, _<_}
+use Prim.Native.Nat.{ℕ, suc, _+_, _≤_, _<_}
 use native.Mathlib.Omega.{arith}
-use native.Mathlib.Decide.{decLt}
 use mathlib.Core.Path.{_≡_, refl, sym, ap, _∙_}
-use mathlib.Core.List.{List, [], _∷_, map}
+use mathlib.Core.Bool.{Bool, true, false, cond}
+use mathlib.Core.List.{List, map}
+use borrow.Author.Tests.{le-ltb, le-leb, lt-leb, eq-eqb, ne-eqb}
 use lib.ListN.{length, getD, take, drop, length-take, drop-of-length-le}
-use lib.Seq.{sets, drop-cons, getD-take}
-use Rattle.reader.specs.Lookup.{Lookup, found, nothing, lookupBy, lookup}
-use Rattle.reader.specs.Cases.{reads, lookupOf}
-use Rattle.reader.specs.declared.ToId.{ToId}
-use Rattle.reader.proofs.Searches.{lookup-own}
+use lib.Seq.{drop-cons, getD-take}
+use Rattle.reader.specs.Lookup.{Lookup, found, nothing, Seen, ends, seeEntry, decide, lookupHash, lookupBy, lookup}
+use Rattle.reader.specs.Cases.{reads}
+use Rattle.reader.proofs.Searches.{lookup-with, lookup-own}
 use Rattle.round.specs.Names.{nth}
 use Rattle.round.specs.Round.{answerWords, bucketsOf}
-use Rattle.round.specs.steps.Telling.{key, Has}
+use Rattle.round.specs.steps.Telling.{key}
+use Rattle.round.specs.steps.Searching.{Decided}
 use Rattle.joined.proofs.Keys.{key-short}
-use Rattle.round.proofs.Places.{has-after}
 
 pub length-words : (x : Lookup) → length (answerWords x) ≡ 4
 length-words (found f) = refl
 length-words (nothing n) = refl
+
+-- the buckets read are the third word
+pub third-word : (x : Lookup) → getD (answerWords x) 2 0 ≡ reads x
+third-word (found f) = refl
+third-word (nothing n) = refl
 
 -- a lookup with a name's key is the name's
 pub by-key : (image name x : List ℕ) (h : ℕ) → name ≡ x → h ≡ key x → lookupBy image name h ≡ lookup image x
@@ -38,10 +43,9 @@ module _ (image : List ℕ) (xs : List (List ℕ)) (list : List ℕ) (m : ℕ) w
       ∙ ap (λ (k : ℕ). reads (lookup image (nth xs k)) + rest (suc x)) (getD-take m list x 0 h)
       ∙ ap (λ (k : ℕ). reads (lookup image (nth xs (getD list x 0))) + rest k) e
 
-  pub sum-turn : (x s r : ℕ) (a : ToId) → x < m → m ≤ length list → r ≡ reads (lookupOf a) → lookupOf a ≡ lookup image (nth xs (getD list x 0))
+  pub sum-turn : (x s r : ℕ) → x < m → m ≤ length list → r ≡ reads (lookup image (nth xs (getD list x 0)))
       → s + rest x ≡ bucketsOf image (map (nth xs) (take m list)) → s + r + rest (x + 1) ≡ bucketsOf image (map (nth xs) (take m list))
-  sum-turn x s r a h room e f all =
-      let g = e ∙ ap reads f in
+  sum-turn x s r h room g all =
       let k = rest-cons x h room in
       omega (arith, g, k, all)
 
@@ -51,20 +55,24 @@ module _ (image : List ℕ) (xs : List (List ℕ)) (list : List ℕ) (m : ℕ) w
       let none : rest x ≡ 0 = ap (λ (l : List ℕ). bucketsOf image (map (nth xs) l)) (drop-of-length-le (take m list) {i = x} (omega (arith, length-take m list))) in
       omega (arith, none, all)
 
--- one more answer in its place, i being the number of the x-th listed name
-pub held-turn : (image : List ℕ) (xs : List (List ℕ)) (list l : List ℕ) (x i : ℕ) (z : Lookup) → i ≡ getD list x 0 → z ≡ lookup image (nth xs i)
-    → 4 * i + 4 ≤ length l
-    → ((y : ℕ) → y < x → Has l (getD list y 0) (answerWords (lookup image (nth xs (getD list y 0)))))
-    → (y : ℕ) → y < x + 1 → Has (sets l (4 * i) (answerWords z)) (getD list y 0) (answerWords (lookup image (nth xs (getD list y 0))))
-held-turn image xs list l x i z e own room all y h =
-    has-after l i (answerWords z) (length-words z) room (getD list y 0) (answerWords (lookup image (nth xs (getD list y 0)))) new old
-  where
-    new : getD list y 0 ≡ i → (w : ℕ) → w < 4 → getD (answerWords z) w 0 ≡ getD (answerWords (lookup image (nth xs (getD list y 0)))) w 0
-    new p w k =
-        ap (λ (a : Lookup). getD (answerWords a) w 0) own ∙ ap (λ (j : ℕ). getD (answerWords (lookup image (nth xs j))) w 0) (sym p)
+-- ---- the answer of a search that is decided, for a name of any length
 
-    old : (getD list y 0 ≡ i → ⊥) → Has l (getD list y 0) (answerWords (lookup image (nth xs (getD list y 0))))
-    old apart = elim (decLt y x) [ yes u ↦ all y u | no u ↦ absurd (apart (at (omega arith))) ]
-      where
-        at : y ≡ x → getD list y 0 ≡ i
-        at q = ap (λ (k : ℕ). getD list k 0) q ∙ sym e
+module _ (image name : List ℕ) (h c e : ℕ) (decided : Decided image h c e) where
+  -- a name that is not too long
+  own-lookup : length name < 4294967295 → lookupHash image name h ≡ lookupBy image name h
+  own-lookup short = lookup-with image name h false false (le-ltb (length image) 2072 (decided .head)) (lt-leb 4294967295 (length name) short)
+
+  pub too-long : 4294967295 ≤ length name → nothing 0 ≡ lookupBy image name h
+  too-long long = lookup-with image name h false true (le-ltb (length image) 2072 (decided .head)) (le-leb 4294967295 (length name) long)
+
+  pub empty-decides : length name < 4294967295 → e ≡ 0 → nothing c ≡ lookupBy image name h
+  empty-decides short z =
+      ap (λ (t : Bool). decide (cond t ends (seeEntry image name e)) c (lookupHash image name h)) (sym (eq-eqb e 0 z))
+      ∙ decided .by-entry name ∙ own-lookup short
+
+  pub entry-decides : length name < 4294967295 → (e ≡ 0 → ⊥) → (s : Seen) → s ≡ seeEntry image name e
+      → decide s c (lookupHash image name h) ≡ lookupBy image name h
+  entry-decides short z s seen =
+      ap (λ (v : Seen). decide v c (lookupHash image name h)) seen
+      ∙ ap (λ (t : Bool). decide (cond t ends (seeEntry image name e)) c (lookupHash image name h)) (sym (ne-eqb e 0 z))
+      ∙ decided .by-entry name ∙ own-lookup short

@@ -7,7 +7,7 @@ use native.Mathlib.Numerals.{add-one}
 use mathlib.Core.Path.{_≡_, refl, sym, ap, _∙_}
 use mathlib.Core.Bool.{Bool, true, false, cond}
 use mathlib.Core.List.{List, [], _∷_, _++_, append-assoc, append-nil}
-use borrow.Author.Tests.{eq-eqb, ne-eqb}
+use borrow.Author.Tests.{eq-eqb, ne-eqb, eqb-true}
 use lib.ListN.{length, getD, set, take}
 use lib.Seq.{take-suc-set, take-set-le}
 use Rattle.image.specs.Bytes.{keep, range}
@@ -103,6 +103,26 @@ module _ (t : ℕ → Bool) where
         | no p ↦ later-kept s m i (among-from (suc s) m i (omega arith) (omega arith) e) (t s)
       ]
 
+  -- where all are kept, each passes the test
+  few-kept : (s m : ℕ) → length (keep t (range (suc s) m)) ≤ m → (b : Bool) → length (kept b s m) ≤ suc m
+  few-kept s m h true = omega arith
+  few-kept s m h false = omega arith
+
+  few-from : (s m : ℕ) → length (keep t (range s m)) ≤ m
+  unfolding range keep
+  few-from s zero = omega arith
+  few-from s (suc m) = few-kept s m (few-from (suc s) m) (t s)
+
+  full-kept : (s m i : ℕ) → s ≤ i → (s < i → m ≤ length (keep t (range (suc s) m)) → t i ≡ true)
+      → (b : Bool) → t s ≡ b → suc m ≤ length (kept b s m) → t i ≡ true
+  full-kept s m i h later true q e = elim (ℕ-discrete s i) [ yes p ↦ ap t (sym p) ∙ q | no p ↦ later (omega arith) (omega arith) ]
+  full-kept s m i h later false q e = absurd (omega (arith, few-from (suc s) m))
+
+  full-from : (s m i : ℕ) → s ≤ i → i < s + m → m ≤ length (keep t (range s m)) → t i ≡ true
+  unfolding range keep
+  full-from s zero i h k e = absurd (omega arith)
+  full-from s (suc m) i h k e = full-kept s m i h (λ p r. full-from (suc s) m i (omega arith) (omega arith) r) (t s) refl e
+
 pub news-below : (equals : List ℕ) (n x : ℕ) → x < length (news equals n) → getD (news equals n) x 0 < n
 unfolding news
 news-below equals n x h = omega (arith, below-from (isNew equals) 0 n x h)
@@ -110,3 +130,7 @@ news-below equals n x h = omega (arith, below-from (isNew equals) 0 n x h)
 pub news-all : (equals : List ℕ) (n i : ℕ) → i < n → getD equals i 0 ≡ 0 → Among (news equals n) i
 unfolding news
 news-all equals n i h e = among-from (isNew equals) 0 n i (omega arith) (omega arith) (eq-eqb (getD equals i 0) 0 e)
+
+pub news-full : (equals : List ℕ) (n i : ℕ) → i < n → n ≤ length (news equals n) → getD equals i 0 ≡ 0
+unfolding news
+news-full equals n i h e = eqb-true (getD equals i 0) 0 (full-from (isNew equals) 0 n i (omega arith) (omega arith) e)

@@ -15,10 +15,10 @@ use Rattle.image.proofs.Equal.{same-self, same-false}
 use Rattle.reader.specs.Lookup.{lookup}
 use Rattle.round.specs.Names.{names, astray, among, newOnly, differentFrom, different, nth}
 use Rattle.round.specs.Round.{answerWords, roundWords, bucketsOf, roundBuckets, rounding, leftBy, afterRound}
-use Rattle.round.specs.steps.Telling.{isNew, news, Equal, Told, Has, Kept, Begun}
+use Rattle.round.specs.steps.Telling.{isNew, news, Told, Has, Kept, Begun}
 use Rattle.round.proofs.Places.{has-words}
 use Rattle.round.proofs.Finds.{length-words}
-use Rattle.round.proofs.News.{Among, news-below, news-all}
+use Rattle.round.proofs.News.{Among, news-below, news-all, news-full}
 
 -- ---- the answer
 
@@ -165,22 +165,34 @@ module _ (image : List ℕ) (xs : List (List ℕ)) (equals list : List ℕ) (n m
   counted r e =
       e ∙ ap (λ (l : List ℕ). bucketsOf image (map (nth xs) l)) listed-all ∙ ap (bucketsOf image) (news-different xs equals told-all)
 
+  -- the words that belong to the places, and what is known of them once the listed names have theirs
+  abbrev words : ℕ → List ℕ
+  words i = answerWords (lookup image (nth xs i))
+
+  standing : (l : List ℕ) → ((x : ℕ) → x < m → Has l (getD list x 0) (words (getD list x 0)))
+      → (x : ℕ) → x < length (news equals (length xs)) → Has l (getD (news equals (length xs)) x 0) (words (getD (news equals (length xs)) x 0))
+  standing l stand x h =
+      let k : x < m = omega (arith, length-take m list, ap length listed-all) in
+      let e : getD list x 0 ≡ getD (news equals (length xs)) x 0 = sym (getD-take m list x 0 k) ∙ ap (λ (v : List ℕ). getD v x 0) listed-all in
+      subst (λ (j : ℕ). Has l j (words j)) e (stand x k)
+
+  ready : (l : List ℕ) → ((x : ℕ) → x < m → Has l (getD list x 0) (words (getD list x 0))) → Begun equals n l words
+  ready l stand = subst (λ (k : ℕ). Begun equals k l words) size (begun xs equals told-all image l (standing l stand))
+
   pub answered : (l₀ l₁ l₂ : List ℕ) → length l₁ ≡ length l₀ → length l₂ ≡ length l₁ → 4 * n ≤ length l₀
-      → ((x : ℕ) → x < m → Has l₁ (getD list x 0) (answerWords (lookup image (nth xs (getD list x 0))))) → Kept l₀ n l₁
-      → ((words : ℕ → List ℕ) → Begun equals n l₁ words → (i : ℕ) → i < n → Has l₂ i (words i)) → Kept l₁ n l₂
+      → ((x : ℕ) → x < m → Has l₁ (getD list x 0) (words (getD list x 0))) → Kept l₀ n l₁
+      → ((ws : ℕ → List ℕ) → Begun equals n l₁ ws → (i : ℕ) → i < n → Has l₂ i (ws i)) → Kept l₁ n l₂
       → l₂ ≡ roundWords image xs ++ drop (4 * length xs) l₀
   answered l₀ l₁ l₂ e₁ e₂ fits stand kept₁ copied kept₂ =
-      stored image xs l₀ l₂ (e₂ ∙ e₁) (omega arith) (λ i h. copied words ready i (omega arith))
+      stored image xs l₀ l₂ (e₂ ∙ e₁) (omega arith) (λ i h. copied words (ready l₁ stand) i (omega arith))
       (λ p q. let k : 4 * n ≤ p = omega arith in kept₂ p k ∙ kept₁ p k)
-    where
-      words : ℕ → List ℕ
-      words i = answerWords (lookup image (nth xs i))
 
-      standing : (x : ℕ) → x < length (news equals (length xs)) → Has l₁ (getD (news equals (length xs)) x 0) (words (getD (news equals (length xs)) x 0))
-      standing x h =
-          let k : x < m = omega (arith, length-take m list, ap length listed-all) in
-          let e : getD list x 0 ≡ getD (news equals (length xs)) x 0 = sym (getD-take m list x 0 k) ∙ ap (λ (l : List ℕ). getD l x 0) listed-all in
-          subst (λ (j : ℕ). Has l₁ j (words j)) e (stand x k)
-
-      ready : Begun equals n l₁ words
-      ready = subst (λ (k : ℕ). Begun equals k l₁ words) size (begun xs equals told-all image l₁ standing)
+  -- with no repeated name all places are those of listed names
+  pub answered-new : (l₀ l : List ℕ) → n ≤ m → length l ≡ length l₀ → 4 * n ≤ length l₀
+      → ((x : ℕ) → x < m → Has l (getD list x 0) (words (getD list x 0))) → Kept l₀ n l → l ≡ roundWords image xs ++ drop (4 * length xs) l₀
+  answered-new l₀ l all e fits stand kept =
+      stored image xs l₀ l e (omega arith)
+      (λ i h.
+      let k : i < n = omega arith in
+      ready l stand .stand i k (news-full equals n i k (omega (arith, length-take m list, ap length listed))))
+      (λ p q. let k : 4 * n ≤ p = omega arith in kept p k)

@@ -1,14 +1,13 @@
 -- Telling equal names: keys, links by slots, and the walk along a chain. Assumes nothing.
-use Prim.Native.Nat.{ℕ, zero, suc, _+_, _-_, _%_, _≤_, _<_}
+use Prim.Native.Nat.{ℕ, _+_, _-_, _%_, _≤_, _<_}
 use native.Mathlib.Omega.{arith}
 use native.Mathlib.Decide.{ℕ-discrete, decLt}
-use mathlib.Core.Path.{_≡_, refl, sym, ap, subst, _∙_}
+use mathlib.Core.Path.{_≡_, sym, ap, subst, _∙_}
 use mathlib.Core.List.{List}
-use lib.Dec.{ltb}
-use lib.ListN.{length, getD, set, replicate, getD-replicate}
+use lib.ListN.{length, getD, set}
 use lib.Seq.{getD-set-same, getD-set-other}
 use Rattle.round.specs.Names.{nth}
-use Rattle.round.specs.steps.Telling.{key, Keys, slot, Last, Linked, Equal, Told}
+use Rattle.round.specs.steps.Telling.{key, Keys, slot, Last, Linked, Equal}
 
 -- ---- keys
 
@@ -110,24 +109,13 @@ module _ (xs : List (List ℕ)) (keys : List ℕ) (i : ℕ) (ks : Keys xs keys) 
   walk-end q h w =
       record { below = omega arith; there = λ p. absurd (omega arith); none = λ z j b e. w .none-after j (omega arith) b e }
 
+  -- one with no link is new
+  pub unlinked : (q v : ℕ) → Last keys i (slot keys i) q → q ≡ 0 → v ≡ 0 → Equal xs i v
+  unlinked q v l z e = subst (λ (y : ℕ). Equal xs i y) (sym e) (walk-end q (omega arith) (walk-start q l))
+
   pub walk-found : (q : ℕ) → 0 < q → Walked xs keys i q → nth xs (q - 1) ≡ nth xs i → Equal xs i q
   walk-found q h w e = record { below = w .below; there = λ p. e; none = λ z. absurd (omega arith) }
 
   -- another key, another name
   pub other-key : (j : ℕ) → j < length xs → (getD keys j 0 ≡ getD keys i 0 → ⊥) → nth xs j ≡ nth xs i → ⊥
   other-key j h other e = other (ks j h ∙ ap key e ∙ sym (ks i inside))
-
--- ---- all told
-
-pub told-turn : (xs : List (List ℕ)) (equals : List ℕ) (i v : ℕ) → i < length equals → Told xs i equals → Equal xs i v → Told xs (i + 1) (set equals i v)
-told-turn xs equals i v h all l j k =
-    elim (ℕ-discrete j i) [
-      | yes p ↦ of-new (getD (set equals i v) j 0) (ap (λ (m : ℕ). getD (set equals i v) m 0) p ∙ getD-set-same equals i v 0 h) p
-      | no p ↦ of-old (getD (set equals i v) j 0) (getD-set-other equals i j v 0 p) (omega arith)
-    ]
-  where
-    of-new : (x : ℕ) → x ≡ v → j ≡ i → Equal xs j x
-    of-new x ex p = subst (λ (m : ℕ). Equal xs m x) (sym p) (subst (λ (y : ℕ). Equal xs i y) (sym ex) l)
-
-    of-old : (x : ℕ) → x ≡ getD equals j 0 → j < i → Equal xs j x
-    of-old x ex p = subst (λ (y : ℕ). Equal xs j y) (sym ex) (all j p)

@@ -6,19 +6,22 @@ use mathlib.Core.Bool.{Bool, true, false, cond, _||_}
 use mathlib.Core.List.{List, [], _∷_, _++_, append-assoc}
 use borrow.Author.Tests.{le-ltb}
 use lib.Dec.{ltb}
-use lib.ListN.{length, take, drop, length-append}
+use lib.ListN.{length, getD, take, drop, length-append}
 use lib.Seq.{take-at, drop-at, drop-drop}
 use Rattle.jhash.specs.Outcome.{value, refusal}
 use Rattle.image.specs.Bytes.{cat}
 use Rattle.image.specs.Stored.{between}
 use Rattle.image.proofs.Lists.{length-cat}
 use Rattle.reader.specs.Lookup.{lookup}
+use Rattle.reader.specs.Naming.{naming}
 use Rattle.round.specs.Names.{namesFrom, names, astray, joined, endsFrom, nth}
-use Rattle.round.specs.Round.{answerWords, roundWords, roundBuckets, rounding, leftBy, afterRound}
+use Rattle.round.specs.Round.{answerWords, roundWords, roundBuckets, rounding, afterRound}
+use Rattle.round.specs.NameRound.{placeWords, nameWords, nameRefusal, afterNames}
 use Rattle.round.specs.Theorem.{placeAt, Accepted, RoundHolds}
 use Rattle.joined.proofs.NameEnds.{length-names}
 use Rattle.round.proofs.Finds.{length-words}
 use Rattle.round.proofs.Rounds.{left}
+use Rattle.round.proofs.NameWords.{length-place, names-left}
 use Rattle.round.proofs.Different.{once-each, not-above, all-different}
 
 -- ---- names joined, and read back
@@ -63,23 +66,23 @@ module _ (image bytes ends answers : List ℕ) (a : Accepted image bytes ends an
   after-is = sym (left image bytes ends answers (value (a .count)) (sym (a .given)))
 
 -- the i-th of parts of four words
-part-at : (f : List ℕ → List ℕ) → ((x : List ℕ) → length (f x) ≡ 4) → (xs : List (List ℕ)) (rest : List ℕ) (i : ℕ) → i < length xs
-    → placeAt (cat f xs ++ rest) i ≡ f (nth xs i)
+part-at : {A : Type 0} (d : A) (f : A → List ℕ) → ((x : A) → length (f x) ≡ 4) → (xs : List A) (rest : List ℕ) (i : ℕ) → i < length xs
+    → placeAt (cat f xs ++ rest) i ≡ f (getD xs i d)
 unfolding cat
-part-at f four [] rest i h = absurd (omega arith)
-part-at f four (x ∷ xs) rest zero h =
+part-at d f four [] rest i h = absurd (omega arith)
+part-at d f four (x ∷ xs) rest zero h =
     let z : 4 * 0 ≡ 0 = omega arith in
     ap (λ (k : ℕ). take 4 (drop k ((f x ++ cat f xs) ++ rest))) z
     ∙ ap (take 4) (append-assoc (f x) (cat f xs) rest)
     ∙ take-at (f x) (cat f xs ++ rest) 4 (four x)
-part-at f four (x ∷ xs) rest (suc i) h =
+part-at d f four (x ∷ xs) rest (suc i) h =
     let e : 4 * suc i ≡ 4 + 4 * i = omega arith in
     let k : i < length xs = omega arith in
     ap (λ (j : ℕ). take 4 (drop j ((f x ++ cat f xs) ++ rest))) e
     ∙ ap (λ (l : List ℕ). take 4 (drop (4 + 4 * i) l)) (append-assoc (f x) (cat f xs) rest)
     ∙ ap (take 4) (sym (drop-drop (4 * i) 4 (f x ++ (cat f xs ++ rest))))
     ∙ ap (λ (l : List ℕ). take 4 (drop (4 * i) l)) (drop-at (f x) (cat f xs ++ rest) 4 (four x))
-    ∙ part-at f four xs rest i k
+    ∙ part-at d f four xs rest i k
 
 abbrev words-of : List ℕ → List ℕ → List ℕ
 words-of image x = answerWords (lookup image x)
@@ -89,7 +92,7 @@ single : (image bytes ends answers : List ℕ) → Accepted image bytes ends ans
 unfolding roundWords
 single image bytes ends answers a i h =
     ap (λ (l : List ℕ). placeAt l i) (after-is image bytes ends answers a)
-    ∙ part-at (words-of image) (λ x. length-words (lookup image x)) (names bytes ends) (drop (4 * length (names bytes ends)) answers) i
+    ∙ part-at [] (words-of image) (λ x. length-words (lookup image x)) (names bytes ends) (drop (4 * length (names bytes ends)) answers) i
     (omega (arith, length-names bytes ends))
 
 past-kept : (image bytes ends answers : List ℕ) → Accepted image bytes ends answers
@@ -101,6 +104,27 @@ past-kept image bytes ends answers a =
     ∙ drop-at (roundWords image (names bytes ends)) (drop (4 * length (names bytes ends)) answers) (4 * length ends)
     (length-cat (words-of image) 4 (λ x. length-words (lookup image x)) (names bytes ends) ∙ ap (λ (k : ℕ). 4 * k) e)
     ∙ ap (λ (k : ℕ). drop (4 * k) answers) e
+
+-- ---- ids in and names out
+
+abbrev place-of : List ℕ → ℕ → List ℕ
+place-of image id = placeWords (naming image id)
+
+module _ (image ids answers : List ℕ) (taken : nameRefusal ids (length answers / 4) ≡ 0) where
+  names-after : afterNames image ids answers ≡ cat (place-of image) ids ++ drop (4 * length ids) answers
+  unfolding afterNames nameWords
+  names-after = ap (λ (t : Bool). cond t answers (cat (place-of image) ids ++ drop (4 * length ids) answers)) (ap (ltb 0) taken ∙ le-ltb 0 0 (omega arith))
+
+  named : (i : ℕ) → i < length ids → placeAt (afterNames image ids answers) i ≡ placeWords (naming image (getD ids i 0))
+  named i h =
+      ap (λ (l : List ℕ). placeAt l i) names-after
+      ∙ part-at 0 (place-of image) (λ id. length-place (naming image id)) ids (drop (4 * length ids) answers) i h
+
+  names-past-kept : drop (4 * length ids) (afterNames image ids answers) ≡ drop (4 * length ids) answers
+  names-past-kept =
+      ap (drop (4 * length ids)) names-after
+      ∙ drop-at (cat (place-of image) ids) (drop (4 * length ids) answers) (4 * length ids)
+      (length-cat (place-of image) 4 (λ id. length-place (naming image id)) ids)
 
 pub round-holds : RoundHolds
 unfolding names
@@ -117,4 +141,7 @@ round-holds =
       all-different = all-different;
       past-kept = past-kept;
       refused-kept = λ image bytes ends answers k e. sym (left image bytes ends answers (refusal k) (sym e));
+      named = named;
+      names-past-kept = names-past-kept;
+      names-refused-kept = λ image ids answers h. sym (names-left image ids answers (nameRefusal ids (length answers / 4)) refl h);
     }

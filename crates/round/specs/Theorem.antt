@@ -1,13 +1,15 @@
--- What is proved of a round (`round-holds` in proofs/Theorem): the sentences of 02 (vii), over the definitions that the call's promise cites.
+-- What is proved of a round (`round-holds` in proofs/Theorem): the sentences of 02 (vii), over the definitions that the calls' promises cite.
 use Prim.Native.Nat.{ℕ, _*_, _/_, _≤_, _<_}
 use mathlib.Core.Path.{_≡_}
 use mathlib.Core.Bool.{false}
 use mathlib.Core.List.{List}
-use lib.ListN.{length, take, drop}
+use lib.ListN.{length, getD, take, drop}
 use Rattle.jhash.specs.Outcome.{value, refusal}
 use Rattle.reader.specs.Lookup.{lookup}
+use Rattle.reader.specs.Naming.{naming}
 use Rattle.round.specs.Names.{names, astray, among, different, joined, endsFrom, nth}
 use Rattle.round.specs.Round.{answerWords, bucketsOf, roundBuckets, rounding, afterRound}
+use Rattle.round.specs.NameRound.{placeWords, nameRefusal, afterNames}
 
 -- no two of the names are equal
 abbrev pub Distinct : List (List ℕ) → Type 0
@@ -49,3 +51,9 @@ pub record RoundHolds : Type 0 where
       → drop (4 * length ends) (afterRound image bytes ends answers) ≡ drop (4 * length ends) answers
   pub refused-kept : (image bytes ends answers : List ℕ) (k : ℕ) → rounding image bytes ends (length answers / 4) ≡ refusal k
       → afterRound image bytes ends answers ≡ answers
+  -- ids in and names out: each place holds the single naming of its id; places past the last keep their content; a refusal writes nothing
+  pub named : (image ids answers : List ℕ) → nameRefusal ids (length answers / 4) ≡ 0 → (i : ℕ) → i < length ids
+      → placeAt (afterNames image ids answers) i ≡ placeWords (naming image (getD ids i 0))
+  pub names-past-kept : (image ids answers : List ℕ) → nameRefusal ids (length answers / 4) ≡ 0
+      → drop (4 * length ids) (afterNames image ids answers) ≡ drop (4 * length ids) answers
+  pub names-refused-kept : (image ids answers : List ℕ) → 0 < nameRefusal ids (length answers / 4) → afterNames image ids answers ≡ answers

@@ -1,2 +1,3 @@
 -- What the steps of the code tell. No promise of a public function cites them.
 pub mod Telling
+pub mod Searching

@@ -6,13 +6,20 @@ ghost use Prim.Native.Nat.{ℕ, _+_, _*_, _≤_, _<_};
 ghost use lib.ListN.{length, getD, take, drop};
 ghost use lib.Seq.{sets};
 ghost use Rattle.reader.specs.Cases.{reads, lookupOf};
-ghost use Rattle.reader.specs.Lookup.{lookup};
+ghost use Rattle.reader.specs.Lookup.{lookupBy};
 ghost use Rattle.round.specs.Names.{names, astray, nth};
 ghost use Rattle.round.specs.Round.{answerWords, bucketsOf};
 ghost use Rattle.round.specs.steps.Telling.{Keys, Has, Kept, Begun};
+ghost use Rattle.round.specs.steps.Searching.{Decided, Right};
+use super::searching::pass;
 use joined::name_of;
+use reader::Seen;
 use reader::ToId;
+use reader::lookup::see_entry;
 use reader::lookup::to_id_by;
+
+// How many buckets the passes read for each name.
+const PASSES: u32 = 5;
 
 // Four words stored at a place.
 pub(crate) fn put_words(
@@ -62,8 +69,76 @@ fn copy_answer(answers: &mut [u32], from: usize, at: usize)
     put_words(&mut *answers, at, found, id, buckets, offset);
 }
 
-// The lookups of the first m listed names, each stored in its place. Gives the buckets that they read.
-pub(crate) fn find_all(
+// The answer of a name whose search came to the bucket with this offset after c buckets, stored at a place.
+fn put_decided(
+    image: &[u8],
+    name: &[u8],
+    h: u32,
+    offset: u32,
+    c: u32,
+    answers: &mut [u32],
+    at: usize,
+)
+    requires { ⌜ (at + 4 ≤ length (now answers)) × Decided (now image) h c offset ⌝ }
+    ensures { λ _. ⌜ now (answers .exit) ≡ sets (now (answers .entry)) at (answerWords (lookupBy (now (image .entry)) (now (name .entry)) h)) ⌝ }
+{
+    if 4294967295 <= name.len() {
+        put_words(&mut *answers, at, 0, 0, 0, 0);
+        return;
+    }
+    if offset == 0 {
+        put_words(&mut *answers, at, 0, 0, c, 0);
+        return;
+    }
+    match see_entry(image, name, offset) {
+        Seen::Pass => {
+            put_answer(&mut *answers, at, to_id_by(image, name, h));
+        }
+        Seen::Ends => {
+            put_words(&mut *answers, at, 0, 0, c, 0);
+        }
+        Seen::Hit(hit) => {
+            put_words(&mut *answers, at, 1, hit.id, c, hit.offset);
+        }
+    }
+}
+
+// The answers of the first m listed names, whose searches came to the buckets with these offsets after c buckets, in their places. What
+// other places hold stays.
+fn find_done(
+    image: &[u8],
+    bytes: &[u8],
+    ends: &[u64],
+    keys: &[u32],
+    list: &[u16],
+    m: usize,
+    offsets: &[u32],
+    c: u32,
+    answers: &mut [u32],
+)
+    requires { ⌜ (astray (length (now bytes)) 0 (now ends) ≡ false) × (length (now ends) ≤ length (now keys)) × (4 * length (now ends) ≤ length (now answers)) × (m ≤ length (now list)) × (m ≤ length (now offsets)) × ((x : ℕ) → x < m → getD (now list) x 0 < length (now ends)) × ((x : ℕ) → x < m → Decided (now image) (getD (now keys) (getD (now list) x 0) 0) c (getD (now offsets) x 0)) × Keys (names (now bytes) (now ends)) (now keys) ⌝ }
+    ensures stored { λ _. ⌜ ((x : ℕ) → x < m → Right (now (image .entry)) (names (now (bytes .entry)) (now (ends .entry))) (now (answers .exit)) (getD (now (list .entry)) x 0)) ⌝ }
+    ensures stays { λ _. ⌜ ((i : ℕ) → Right (now (image .entry)) (names (now (bytes .entry)) (now (ends .entry))) (now (answers .entry)) i → Right (now (image .entry)) (names (now (bytes .entry)) (now (ends .entry))) (now (answers .exit)) i) ⌝ }
+    ensures kept { λ _. ⌜ Kept (now (answers .entry)) (length (now (ends .entry))) (now (answers .exit)) ⌝ }
+{
+    let mut x: usize = 0;
+    while x < m {
+        let i = list[x] as usize;
+        put_decided(
+            image,
+            name_of(bytes, ends, i),
+            keys[i],
+            offsets[x],
+            c,
+            &mut *answers,
+            4 * i,
+        );
+        x += 1;
+    }
+}
+
+// The lookups of the first m listed names, each stored in its place. What other places hold stays.
+fn find_open(
     image: &[u8],
     bytes: &[u8],
     ends: &[u64],
@@ -71,18 +146,69 @@ pub(crate) fn find_all(
     list: &[u16],
     m: usize,
     answers: &mut [u32],
-) -> u64
-    requires { ⌜ (astray (length (now bytes)) 0 (now ends) ≡ false) × (length (now ends) ≤ length (now keys)) × (4 * length (now ends) ≤ length (now answers)) × (m ≤ 512) × (m ≤ length (now list)) × ((x : ℕ) → x < m → getD (now list) x 0 < length (now ends)) × Keys (names (now bytes) (now ends)) (now keys) ⌝ }
-    ensures count { λ r. ⌜ r ≡ bucketsOf (now (image .entry)) (map (nth (names (now (bytes .entry)) (now (ends .entry)))) (take m (now (list .entry)))) ⌝ }
-    ensures stored { λ _. ⌜ ((x : ℕ) → x < m → Has (now (answers .exit)) (getD (now (list .entry)) x 0) (answerWords (lookup (now (image .entry)) (nth (names (now (bytes .entry)) (now (ends .entry))) (getD (now (list .entry)) x 0))))) ⌝ }
+)
+    requires { ⌜ (astray (length (now bytes)) 0 (now ends) ≡ false) × (length (now ends) ≤ length (now keys)) × (4 * length (now ends) ≤ length (now answers)) × (m ≤ length (now list)) × ((x : ℕ) → x < m → getD (now list) x 0 < length (now ends)) × Keys (names (now bytes) (now ends)) (now keys) ⌝ }
+    ensures stored { λ _. ⌜ ((x : ℕ) → x < m → Right (now (image .entry)) (names (now (bytes .entry)) (now (ends .entry))) (now (answers .exit)) (getD (now (list .entry)) x 0)) ⌝ }
+    ensures stays { λ _. ⌜ ((i : ℕ) → Right (now (image .entry)) (names (now (bytes .entry)) (now (ends .entry))) (now (answers .entry)) i → Right (now (image .entry)) (names (now (bytes .entry)) (now (ends .entry))) (now (answers .exit)) i) ⌝ }
     ensures kept { λ _. ⌜ Kept (now (answers .entry)) (length (now (ends .entry))) (now (answers .exit)) ⌝ }
+{
+    let mut x: usize = 0;
+    while x < m {
+        let i = list[x] as usize;
+        let answer = to_id_by(image, name_of(bytes, ends, i), keys[i]);
+        put_answer(&mut *answers, 4 * i, answer);
+        x += 1;
+    }
+}
+
+// The lookups of the first m names listed in `live`, each stored in its place: five passes, and what is still open then, one in a
+// hundred, by itself.
+pub(crate) fn find_all(
+    image: &[u8],
+    bytes: &[u8],
+    ends: &[u64],
+    keys: &[u32],
+    live: &mut [u16],
+    m: usize,
+    answers: &mut [u32],
+)
+    requires { ⌜ (astray (length (now bytes)) 0 (now ends) ≡ false) × (length (now ends) ≤ length (now keys)) × (4 * length (now ends) ≤ length (now answers)) × (m ≤ 512) × (m ≤ length (now live)) × ((x : ℕ) → x < m → getD (now live) x 0 < length (now ends)) × Keys (names (now bytes) (now ends)) (now keys) ⌝ }
+    ensures stored { λ _. ⌜ ((x : ℕ) → x < m → Right (now (image .entry)) (names (now (bytes .entry)) (now (ends .entry))) (now (answers .exit)) (getD (now (live .entry)) x 0)) ⌝ }
+    ensures kept { λ _. ⌜ Kept (now (answers .entry)) (length (now (ends .entry))) (now (answers .exit)) ⌝ }
+{
+    let mut done: [u16; 512] = [0; 512];
+    let mut offsets: [u32; 512] = [0; 512];
+    let mut q = m;
+    let mut c: u32 = 0;
+    while c < PASSES {
+        let on = pass(image, keys, c, q, &mut *live, &mut done, &mut offsets);
+        c += 1;
+        find_done(
+            image,
+            bytes,
+            ends,
+            keys,
+            &done,
+            q - on,
+            &offsets,
+            c,
+            &mut *answers,
+        );
+        q = on;
+    }
+    find_open(image, bytes, ends, keys, &*live, q, &mut *answers);
+}
+
+// The buckets read over the first m listed names, from the answers in their places.
+pub(crate) fn sum_all(list: &[u16], m: usize, answers: &[u32]) -> u64
+    requires { ⌜ (m ≤ 512) × (m ≤ length (now list)) × ((x : ℕ) → x < m → 4 * getD (now list) x 0 + 4 ≤ length (now answers)) ⌝ }
+    ensures { λ r. ⌜ ((image : List ℕ) (xs : List (List ℕ)) → ((x : ℕ) → x < m → Right image xs (now (answers .entry)) (getD (now (list .entry)) x 0)) → r ≡ bucketsOf image (map (nth xs) (take m (now (list .entry))))) ⌝ }
 {
     let mut sum: u64 = 0;
     let mut x: usize = 0;
     while x < m {
         let i = list[x] as usize;
-        let answer = to_id_by(image, name_of(bytes, ends, i), keys[i]);
-        sum += put_answer(&mut *answers, 4 * i, answer) as u64;
+        sum += answers[4 * i + 2] as u64;
         x += 1;
     }
     sum

@@ -8,11 +8,13 @@ ghost use Rattle.round.specs.Names.{names, astray};
 ghost use Rattle.round.specs.Round.{roundWords, roundBuckets, rounding, afterRound, roundedOf};
 use answering::find_all;
 use answering::repeat_all;
+use answering::sum_all;
 use joined::astray;
 use telling::hash_all;
 use telling::list_new;
 use telling::tell;
 
+mod searching; // searching.rt: a pass over the searches that are still open
 mod telling; // telling.rt: equal names told
 mod answering; // answering.rt: the answers in their places
 pub mod naming; // naming.rt: name_round
@@ -38,8 +40,12 @@ fn answer_all(image: &[u8], bytes: &[u8], ends: &[u64], answers: &mut [u32]) -> 
     tell(bytes, ends, &keys, &mut equals);
     let mut list: [u16; 512] = [0; 512];
     let m = list_new(&equals, n, &mut list);
-    let sum = find_all(image, bytes, ends, &keys, &list, m, &mut *answers);
-    repeat_all(&equals, n, &mut *answers);
+    let mut live = list;
+    find_all(image, bytes, ends, &keys, &mut live, m, &mut *answers);
+    let sum = sum_all(&list, m, &*answers);
+    if m < n {
+        repeat_all(&equals, n, &mut *answers);
+    }
     sum
 }
 

@@ -2,11 +2,12 @@
 // chain names are compared where the whole keys are equal, since different names with one hash do occur.
 ghost use mathlib.Core.Path.{_≡_};
 ghost use mathlib.Core.Bool.{false};
-ghost use Prim.Native.Nat.{_≤_, _<_};
-ghost use lib.ListN.{length, take};
+ghost use mathlib.Core.Logic.{_⊎_};
+ghost use Prim.Native.Nat.{ℕ, _≤_, _<_};
+ghost use lib.ListN.{length, getD, take};
 ghost use Rattle.image.specs.Bytes.{same};
 ghost use Rattle.round.specs.Names.{names, astray, nth};
-ghost use Rattle.round.specs.steps.Telling.{key, Keys, Linked, Equal, Told, news};
+ghost use Rattle.round.specs.steps.Telling.{key, Keys, Listed, Linked, Equal, Told, news};
 use image::equality::same;
 use joined::key;
 use joined::name_of;
@@ -25,19 +26,33 @@ pub(crate) fn hash_all(bytes: &[u8], ends: &[u64], keys: &mut [u32])
     }
 }
 
-// Links each of the first n keys to the last before it in its slot, without a branch.
-fn link(keys: &[u32], n: usize, links: &mut [u16])
-    requires { ⌜ (n ≤ 512) × (n ≤ length (now keys)) × (n ≤ length (now links)) ⌝ }
-    ensures { λ _. ⌜ Linked (now (keys .entry)) n (now (links .exit)) ⌝ }
+// 0 for 0, 1 for all others.
+fn one_if_some(q: u16) -> usize
+    ensures { λ r. ⌜ (q ≡ 0 → r ≡ 0) × (0 < q → r ≡ 1) × (r ≤ 1) ⌝ }
+{
+    if q == 0 { 0 } else { 1 }
+}
+
+// Links each of the first n keys to the last before it in its slot, and lists those that have one, without a branch. Gives how many they
+// are.
+fn link(keys: &[u32], n: usize, links: &mut [u16], list: &mut [u16]) -> usize
+    requires { ⌜ (n ≤ 512) × (n ≤ length (now keys)) × (n ≤ length (now links)) × (n ≤ length (now list)) ⌝ }
+    ensures linked { λ _. ⌜ Linked (now (keys .entry)) n (now (links .exit)) ⌝ }
+    ensures listed { λ r. ⌜ (r ≤ n) × ((x : ℕ) → x < r → getD (now (list .exit)) x 0 < n) × ((i : ℕ) → i < n → (getD (now (links .exit)) i 0 ≡ 0) ⊎ Listed (now (list .exit)) r i) ⌝ }
 {
     let mut slots: [u16; 2048] = [0; 2048];
-    let mut i = 0;
+    let mut m: usize = 0;
+    let mut i: usize = 0;
     while i < n {
         let s = (keys[i] % SLOTS) as usize;
-        links[i] = slots[s];
+        let q = slots[s];
+        links[i] = q;
         slots[s] = (i + 1) as u16;
+        list[m] = i as u16;
+        m += one_if_some(q);
         i += 1;
     }
+    m
 }
 
 // Are two of the names equal? Names are compared only where their keys are equal.
@@ -67,17 +82,20 @@ fn equal_before(bytes: &[u8], ends: &[u64], keys: &[u32], links: &[u16], i: usiz
     0
 }
 
-// For each name the number of an equal one before it, or 0.
+// For each name the number of an equal one before it, or 0, which stands there already. Only names with one before them in their slot are
+// looked at.
 pub(crate) fn tell(bytes: &[u8], ends: &[u64], keys: &[u32], equals: &mut [u16])
-    requires { ⌜ (astray (length (now bytes)) 0 (now ends) ≡ false) × (length (now ends) ≤ 512) × (length (now ends) ≤ length (now keys)) × (length (now ends) ≤ length (now equals)) × Keys (names (now bytes) (now ends)) (now keys) ⌝ }
+    requires { ⌜ (astray (length (now bytes)) 0 (now ends) ≡ false) × (length (now ends) ≤ 512) × (length (now ends) ≤ length (now keys)) × (length (now ends) ≤ length (now equals)) × Keys (names (now bytes) (now ends)) (now keys) × ((i : ℕ) → i < length (now ends) → getD (now equals) i 0 ≡ 0) ⌝ }
     ensures { λ _. ⌜ Told (names (now (bytes .entry)) (now (ends .entry))) (length (now (ends .entry))) (now (equals .exit)) ⌝ }
 {
     let mut links: [u16; 512] = [0; 512];
-    link(keys, ends.len(), &mut links);
-    let mut i = 0;
-    while i < ends.len() {
+    let mut list: [u16; 512] = [0; 512];
+    let m = link(keys, ends.len(), &mut links, &mut list);
+    let mut x: usize = 0;
+    while x < m {
+        let i = list[x] as usize;
         equals[i] = equal_before(bytes, ends, keys, &links, i);
-        i += 1;
+        x += 1;
     }
 }
 

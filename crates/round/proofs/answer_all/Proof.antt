@@ -1,11 +1,11 @@
 -- `round::answer_all` meets its contract. Assumes nothing.
-use Prim.Native.Nat.{ℕ, _*_, _≤_, _<_}
+use Prim.Native.Nat.{ℕ, _≤_}
 use native.Mathlib.Omega.{arith}
-use mathlib.Core.Path.{_≡_, refl, sym, ap, _∙_}
-use lib.ListN.{length, length-replicate}
+use mathlib.Core.Path.{_≡_}
+use lib.ListN.{length, length-replicate, getD-replicate}
 use Rattle.round.specs.Names.{names}
 use Rattle.joined.proofs.NameEnds.{length-names}
-use Rattle.round.proofs.Rounds.{listed-below, counted, answered}
+use Rattle.round.proofs.Rounds.{listed-below, counted, answered, answered-new}
 use borrow.Author.Needs.{needs}
 use Rattle.round.proofs.answer_all.Statement.{statement}
 use Rattle.round.proofs.answer_all.Tie as tie
@@ -23,7 +23,15 @@ slice-aggregate-tell-2 : tie.Need-slice-aggregate-tell-2
 slice-aggregate-tell-2 c = search needs
 
 tell-requires : tie.Need-tell-requires
-tell-requires c κs = search needs
+tell-requires c κs =
+    let s = c .before .before .before .before .before .before .before .before .before in (
+      s .pre .1,
+      s .pre .0,
+      omega (arith, c .before .before .before .hash-all .kept, length-replicate {A = ℕ} 512 0, s .pre .0),
+      omega (arith, length-replicate {A = ℕ} 512 0, s .pre .0),
+      c .before .before .before .hash-all .ensures,
+      λ i h. getD-replicate {A = ℕ} 512 i 0 0 (omega (arith, h, s .pre .0)),
+    )
 
 slice-aggregate-list-new : tie.Need-slice-aggregate-list-new
 slice-aggregate-list-new c = search needs
@@ -56,15 +64,32 @@ find-all-requires c κs =
       c .before .before .before .before .before .before .before .before .before .before .before .before .hash-all .ensures,
     )
 
+slice-aggregate-sum-all : tie.Need-slice-aggregate-sum-all
+slice-aggregate-sum-all c = search needs
+
+sum-all-requires : tie.Need-sum-all-requires
+sum-all-requires c κs =
+    let s = c .before .before .before .before .before .before .before .before .before .before .before .before .before .before .before .before .before .before .before .before .before .before .before .before in
+    let of-list = c .before .before .before .before .before .before .before .before .before .before .list-new in
+    let equals = c .before .before .before .before .before .before .before .before .before .before .before .before .before .before .tell .last .1 .1 .1 .0 in
+    let list = of-list .last .1 .1 .0 in
+    let room : of-list .result ≤ length list = omega (arith, of-list .kept, length-replicate {A = ℕ} 512 0, of-list .ensures .0, s .pre .0) in (
+      omega (arith, of-list .ensures .0, s .pre .0),
+      room,
+      λ x h.
+          let small = listed-below equals list (length (s .args .ends .now)) (of-list .result) room (of-list .ensures .1) x h in
+          omega (arith, small, c .before .before .before .before .before .find-all .kept, s .pre .2),
+    )
+
 slice-aggregate-repeat-all : tie.Need-slice-aggregate-repeat-all
 slice-aggregate-repeat-all c = search needs
 
 repeat-all-requires : tie.Need-repeat-all-requires
 repeat-all-requires c κs =
-    let s = c .before .before .before .before .before .before .before .before .before .before .before .before .before .before .before .before .before .before .before .before .before .before .before in (
-      omega (arith, c .before .before .before .before .before .before .before .before .before .before .before .before .before .tell .kept, length-replicate {A = ℕ} 512 0, s .pre .0),
-      omega (arith, c .before .before .before .before .find-all .kept, s .pre .2),
-      λ i h. c .before .before .before .before .before .before .before .before .before .before .before .before .before .tell .ensures i h .below,
+    let s = c .before .before .before .before .before .before .before .before .before .before .before .before .before .before .before .before .before .before .before .before .before .before .before .before .before .before .before .before in (
+      omega (arith, c .before .before .before .before .before .before .before .before .before .before .before .before .before .before .before .before .before .before .tell .kept, length-replicate {A = ℕ} 512 0, s .pre .0),
+      omega (arith, c .before .before .before .before .before .before .before .before .before .find-all .kept, s .pre .2),
+      λ i h. c .before .before .before .before .before .before .before .before .before .before .before .before .before .before .before .before .before .before .tell .ensures i h .below,
     )
 
 same-length : tie.Need-same-length
@@ -72,13 +97,13 @@ same-length c = search needs
 
 returns : tie.Need-returns
 returns c =
-    let s = c .before .before .before .before .before .before .before .before .before .before .before .before .before .before .before .before .before .before .before .before .before .before .before .before .before .before in
+    let s = c .before .before .before .before .before .before .before .before .before .before .before .before .before .before .before .before .before .before .before .before .before .before .before .before .before .before .before .before .before .before .before in
     let image = s .args .image .now in
     let xs = names (s .args .bytes .now) (s .args .ends .now) in
     let size = length-names (s .args .bytes .now) (s .args .ends .now) in
-    let of-tell = c .before .before .before .before .before .before .before .before .before .before .before .before .before .before .before .before .tell in
-    let of-list = c .before .before .before .before .before .before .before .before .before .before .before .before .list-new in
-    let find = c .before .before .before .before .before .before .before .find-all in
+    let of-tell = c .before .before .before .before .before .before .before .before .before .before .before .before .before .before .before .before .before .before .before .before .before .tell in
+    let of-list = c .before .before .before .before .before .before .before .before .before .before .before .before .before .before .before .before .before .list-new in
+    let find = c .before .before .before .before .before .before .before .before .before .before .before .before .find-all in
     let again = c .before .before .repeat-all in
     let n = length (s .args .ends .now) in
     let m = of-list .result in
@@ -89,9 +114,34 @@ returns c =
     let room : m ≤ length list = omega (arith, of-list .kept, length-replicate {A = ℕ} 512 0, of-list .ensures .0, s .pre .0) in
     let e₁ : length after ≡ length (s .args .answers .now) = omega (arith, find .kept) in
     let e₂ : length last ≡ length after = omega (arith, again .kept) in (
-      counted image xs equals list n m size (of-tell .ensures) room (of-list .ensures .1) (find .result) (find .ensures .0),
+      counted image xs equals list n m size (of-tell .ensures) room (of-list .ensures .1) (c .before .before .before .before .before .before .sum-all .result) (c .before .before .before .before .before .before .sum-all .ensures image xs (find .ensures .0)),
       answered image xs equals list n m size (of-tell .ensures) room (of-list .ensures .1) (s .args .answers .now) after last e₁ e₂ (s .pre .2)
-          (find .ensures .1 .0) (find .ensures .1 .1) (again .ensures .0) (again .ensures .1),
+          (find .ensures .0) (find .ensures .1) (again .ensures .0) (again .ensures .1),
+    )
+
+same-length-2 : tie.Need-same-length-2
+same-length-2 c = search needs
+
+returns-2 : tie.Need-returns-2
+returns-2 c =
+    let s = c .before .before .before .before .before .before .before .before .before .before .before .before .before .before .before .before .before .before .before .before .before .before .before .before .before .before in
+    let image = s .args .image .now in
+    let xs = names (s .args .bytes .now) (s .args .ends .now) in
+    let size = length-names (s .args .bytes .now) (s .args .ends .now) in
+    let of-tell = c .before .before .before .before .before .before .before .before .before .before .before .before .before .before .before .before .tell in
+    let of-list = c .before .before .before .before .before .before .before .before .before .before .before .before .list-new in
+    let find = c .before .before .before .before .before .before .before .find-all in
+    let n = length (s .args .ends .now) in
+    let m = of-list .result in
+    let equals = of-tell .last .1 .1 .1 .0 in
+    let list = of-list .last .1 .1 .0 in
+    let after = find .last .1 .1 .1 .1 .1 .1 .0 in
+    let room : m ≤ length list = omega (arith, of-list .kept, length-replicate {A = ℕ} 512 0, of-list .ensures .0, s .pre .0) in
+    let e₁ : length after ≡ length (s .args .answers .now) = omega (arith, find .kept) in
+    let all : n ≤ m = c .if1 .left in (
+      counted image xs equals list n m size (of-tell .ensures) room (of-list .ensures .1) (c .before .sum-all .result) (c .before .sum-all .ensures image xs (find .ensures .0)),
+      answered-new image xs equals list n m size (of-tell .ensures) room (of-list .ensures .1) (s .args .answers .now) after all e₁ (s .pre .2)
+          (find .ensures .0) (find .ensures .1),
     )
 
 pub answer-all-spec : {M : Type 1} → statement M
@@ -109,7 +159,11 @@ answer-all-spec =
     slice-aggregate-find-all
     slice-aggregate-find-all-2
     find-all-requires
+    slice-aggregate-sum-all
+    sum-all-requires
     slice-aggregate-repeat-all
     repeat-all-requires
     same-length
-    returns)
+    returns
+    same-length-2
+    returns-2)

@@ -1,10 +1,10 @@
 -- What the steps of a round tell of its names, so that equal ones are searched for once.
 use Prim.Native.Nat.{ℕ, _+_, _*_, _-_, _%_, _≤_, _<_}
 use mathlib.Core.Path.{_≡_}
-use mathlib.Core.Bool.{Bool, cond}
+use mathlib.Core.Bool.{Bool}
 use mathlib.Core.List.{List}
 use lib.ListN.{length, getD}
-use lib.Dec.{eqb, ltb}
+use lib.Dec.{eqb}
 unfoldable pub use Rattle.joined.specs.Keys.{key}
 use Rattle.image.specs.Bytes.{keep, range}
 use Rattle.round.specs.Names.{nth}
@@ -12,6 +12,12 @@ use Rattle.round.specs.Names.{nth}
 -- a list that begins with the names' keys
 abbrev pub Keys : List (List ℕ) → List ℕ → Type 0
 Keys xs keys = (i : ℕ) → i < length xs → getD keys i 0 ≡ key (nth xs i)
+
+-- a number stands among the first n of a list
+pub record Listed (l : List ℕ) (n i : ℕ) : Type 0 where
+  pub place : ℕ
+  pub inside : place < n
+  pub is : getD l place 0 ≡ i
 
 -- the slot of the i-th key
 abbrev pub slot : List ℕ → ℕ → ℕ

@@ -1,119 +1,157 @@
--- `round::answering::find_all` meets its contract. The loop's invariant: the places of the names passed hold their answers. Assumes nothing.
-use Prim.Native.Nat.{ℕ, _+_, _*_, _-_, _≤_, _<_}
+-- `round::answering::find_all` meets its contract. The loop's invariant: each of the names has its answer, or its search is open and goes on after c
+-- buckets. Assumes nothing.
+use Prim.Native.Nat.{ℕ, _-_, _≤_, _<_}
 use native.Mathlib.Omega.{arith}
-use native.Mathlib.Nat.{zero-add}
-use mathlib.Core.Path.{_≡_, refl, sym, ap, subst, _∙_}
-use mathlib.Core.List.{List, map}
-use lib.ListN.{length, getD, take, drop}
-use lib.Seq.{sets}
-use Rattle.reader.specs.Lookup.{Lookup, lookup}
-use Rattle.reader.specs.Cases.{lookupOf}
-use Rattle.round.specs.Names.{names, nth}
-use Rattle.round.specs.Round.{answerWords, bucketsOf}
-use Rattle.round.specs.steps.Telling.{Has, Kept}
-use Rattle.joined.proofs.NameEnds.{length-names}
-use Rattle.round.proofs.Finds.{length-words, by-key, sum-turn, sum-end, held-turn}
-use Rattle.round.proofs.Places.{kept-after}
-use borrow.Author.Needs.{needs}
+use mathlib.Core.Path.{_≡_, refl, _∙_}
+use mathlib.Core.Logic.{_⊎_, inr}
+use lib.ListN.{length, getD, length-replicate}
+use Rattle.round.specs.Names.{names}
+use Rattle.round.specs.steps.Telling.{Listed, Kept}
+use Rattle.round.specs.steps.Searching.{Goes, Right}
+use Rattle.round.proofs.Sights.{goes-first}
+use Rattle.round.proofs.Passes.{listed-self, listed-via, listed-small, next-right, last-right}
 use Rattle.round.proofs.answering.find_all.Statement.{statement}
 use Rattle.round.proofs.answering.find_all.Tie as tie
 
 abbrev Inv-loop : tie.InvT-loop
-Inv-loop image bytes ends keys list m answers₀ sum₀ x₀ answers sum x =
-    (x ≤ m) × (length answers ≡ length answers₀) × Kept answers₀ (length ends) answers × (sum ≤ 4294967295 * x)
-    × (sum + bucketsOf image (map (nth (names bytes ends)) (drop x (take m list))) ≡ bucketsOf image (map (nth (names bytes ends)) (take m list)))
-    × ((y : ℕ) → y < x → Has answers (getD list y 0) (answerWords (lookup image (nth (names bytes ends) (getD list y 0)))))
+Inv-loop image bytes ends keys live₀ m answers₀ done₀ offsets₀ q₀ c₀ live answers done offsets q c =
+    (c ≤ 5) × (q ≤ m) × (length live ≡ length live₀) × (length done ≡ 512) × (length offsets ≡ 512) × (length answers ≡ length answers₀)
+    × Kept answers₀ (length ends) answers
+    × ((z : ℕ) → z < q → Listed live₀ m (getD live z 0))
+    × ((z : ℕ) → z < q → Goes image (getD keys (getD live z 0) 0) c)
+    × ((x : ℕ) → x < m → Right image (names bytes ends) answers (getD live₀ x 0) ⊎ Listed live q (getD live₀ x 0))
 
 abbrev μ-loop : tie.MeasureT-loop
-μ-loop image bytes ends keys list m answers₀ sum₀ x₀ answers sum x = m - x
+μ-loop image bytes ends keys live₀ m answers₀ done₀ offsets₀ q₀ c₀ live answers done offsets q c = 5 - c
 
 loop-holds : tie.Need-loop-holds Inv-loop μ-loop
-loop-holds c = (omega arith, refl, λ p h. refl, omega arith, zero-add _, λ y h. absurd (omega arith))
+loop-holds c =
+    let a = c .before .before .before .before .before .before .args in
+    let first = a .live .now in (
+      omega arith,
+      omega arith,
+      refl,
+      length-replicate {A = ℕ} 512 0,
+      length-replicate {A = ℕ} 512 0,
+      refl,
+      λ p h. refl,
+      λ z h. listed-self first (a .m) z h,
+      λ z h. goes-first (a .image .now) (getD (a .keys .now) (getD first z 0) 0),
+      λ x h. inr (listed-self first (a .m) x h),
+    )
 
-mul-i : tie.Need-mul-i Inv-loop μ-loop
-mul-i c = omega arith
+slice-aggregate-pass : tie.Need-slice-aggregate-pass Inv-loop μ-loop
+slice-aggregate-pass c = omega (arith, c .before .before .before .loop .inv .3)
 
-shared-slice-read-i : tie.Need-shared-slice-read-i Inv-loop μ-loop
-shared-slice-read-i c = omega (arith, c .before .before .before .before .before .before .before .before .before .pre .4)
+slice-aggregate-pass-2 : tie.Need-slice-aggregate-pass-2 Inv-loop μ-loop
+slice-aggregate-pass-2 c = omega (arith, c .before .before .before .before .loop .inv .4)
 
-cast-i : tie.Need-cast-i Inv-loop μ-loop
-cast-i c = omega (arith, c .shared-slice-known6 .given (c .before .before .loop .x))
+pass-requires : tie.Need-pass-requires Inv-loop μ-loop
+pass-requires c κs =
+    let s = c .before .before .before .before .before .before .before .before .before .before .before in
+    let l = c .before .before .before .before .loop in (
+      omega (arith, c .before .before .before .loop-test .taken),
+      omega (arith, l .inv .1, s .pre .3),
+      omega (arith, l .inv .1, l .inv .2, s .pre .4),
+      omega (arith, l .inv .1, l .inv .3, s .pre .3),
+      omega (arith, l .inv .1, l .inv .4, s .pre .3),
+      λ z h.
+          let small = listed-small (s .args .live .now) (s .args .m) (length (s .args .ends .now)) (getD (l .live) z 0) (s .pre .5) (l .inv .7 z h) in
+          omega (arith, small, s .pre .1),
+      l .inv .8,
+    )
 
-name-of-requires : tie.Need-name-of-requires Inv-loop μ-loop
-name-of-requires c κs = let s = c .before .before .before .before .before .before .before .before .before in (s .pre .5 (c .before .before .loop .x) (omega arith), s .pre .0)
+add-c : tie.Need-add-c Inv-loop μ-loop
+add-c c = omega (arith, c .before .before .before .before .before .before .before .before .before .loop .inv .0)
 
-mul-to-id-by : tie.Need-mul-to-id-by Inv-loop μ-loop
-mul-to-id-by c =
-    let s = c .before .before .before .before .before .before .before .before .before .before in
-    omega (arith, s .pre .5 (c .before .before .before .loop .x) (omega arith), s .pre .2, c .before .before .before .loop .inv .1)
+slice-aggregate-find-done : tie.Need-slice-aggregate-find-done Inv-loop μ-loop
+slice-aggregate-find-done c = omega (arith, c .before .before .before .before .before .pass .kept, c .before .before .before .before .before .before .before .before .before .before .loop .inv .3)
 
-shared-slice-read-to-id-by : tie.Need-shared-slice-read-to-id-by Inv-loop μ-loop
-shared-slice-read-to-id-by c = let s = c .before .before .before .before .before .before .before .before .before .before .before in omega (arith, s .pre .5 (c .before .before .before .before .loop .x) (omega arith), s .pre .1)
+sub-find-done : tie.Need-sub-find-done Inv-loop μ-loop
+sub-find-done c = omega (arith, c .before .before .before .before .before .pass .ensures .0 .0)
 
-to-id-by-requires : tie.Need-to-id-by-requires Inv-loop μ-loop
-to-id-by-requires c κs = tt
+slice-aggregate-find-done-2 : tie.Need-slice-aggregate-find-done-2 Inv-loop μ-loop
+slice-aggregate-find-done-2 c = omega (arith, c .before .before .before .before .before .before .pass .kept, c .before .before .before .before .before .before .before .before .before .before .before .loop .inv .4)
 
-mul-put-answer : tie.Need-mul-put-answer Inv-loop μ-loop
-mul-put-answer c =
-    let s = c .before .before .before .before .before .before .before .before .before .before .before .before .before in
-    let l = c .before .before .before .before .before .before in
-    omega (arith, s .pre .5 (l .loop .x) (omega arith), s .pre .2, l .loop .inv .1)
-
-put-answer-requires : tie.Need-put-answer-requires Inv-loop μ-loop
-put-answer-requires c κs =
-    let s = c .before .before .before .before .before .before .before .before .before .before .before .before .before in
-    let l = c .before .before .before .before .before .before in
-    omega (arith, s .pre .5 (l .loop .x) (omega arith), s .pre .2, l .loop .inv .1)
-
-cast-sum : tie.Need-cast-sum Inv-loop μ-loop
-cast-sum c = omega (arith, c .before .before .put-answer .ok)
-
-add-sum : tie.Need-add-sum Inv-loop μ-loop
-add-sum c = omega (arith, c .before .before .put-answer .ok, c .before .before .before .before .before .before .before .before .before .loop .inv .3, c .before .before .before .before .before .before .before .before .before .before .before .before .before .before .before .before .pre .3)
-
-add-x : tie.Need-add-x Inv-loop μ-loop
-add-x c = omega arith
+find-done-requires : tie.Need-find-done-requires Inv-loop μ-loop
+find-done-requires c κs =
+    let s = c .before .before .before .before .before .before .before .before .before .before .before .before .before .before .before .before .before .before .before in
+    let l = c .before .before .before .before .before .before .before .before .before .before .before .before .loop in
+    let parted = c .before .before .before .before .before .before .before .pass in
+    let first = s .args .live .now in
+    let done = parted .last .1 .1 .1 .1 .1 .0 in (
+      s .pre .0,
+      s .pre .1,
+      omega (arith, l .inv .5, s .pre .2),
+      omega (arith, parted .kept, l .inv .3, l .inv .1, s .pre .3),
+      omega (arith, parted .kept, l .inv .4, l .inv .1, s .pre .3),
+      λ x h.
+          listed-small first (s .args .m) (length (s .args .ends .now)) (getD done x 0) (s .pre .5)
+          (listed-via first (l .live) (s .args .m) (l .q) (getD done x 0) (l .inv .7) (parted .ensures .1 .1 x h .0)),
+      λ x h. parted .ensures .1 .1 x h .1,
+      s .pre .6,
+    )
 
 loop-less : tie.Need-loop-less Inv-loop μ-loop
-loop-less c = omega arith
+loop-less c = omega (arith, c .before .before .before .before .before .before .before .before .before .before .before .before .before .before .loop-test .taken)
 
 loop-again : tie.Need-loop-again Inv-loop μ-loop
 loop-again c =
-    let s = c .before .before .before .before .before .before .before .before .before .before .before .before .before .before .before .before in
-    let l = c .before .before .before .before .before .before .before .before .before .loop in
-    let put = c .before .before .put-answer in
-    let asked = c .before .before .before .before .to-id-by in
-    let xs = names (s .args .bytes .now) (s .args .ends .now) in
+    let s = c .before .before .before .before .before .before .before .before .before .before .before .before .before .before .before .before .before .before .before .before .before .before in
+    let l = c .before .before .before .before .before .before .before .before .before .before .before .before .before .before .before .loop in
+    let parted = c .before .before .before .before .before .before .before .before .before .before .pass in
+    let found = c .before .before .find-done in
     let image = s .args .image .now in
-    let i = getD (s .args .list .now) (l .x) 0 in
-    let small = s .pre .5 (l .x) (omega arith) in
-    let own : lookupOf (asked .result) ≡ lookup image (nth xs i) =
-    asked .ensures
-    ∙ by-key image _ (nth xs i) _ (c .before .before .before .before .before .before .name-of .ensures) (s .pre .6 i (omega (arith, small, length-names (s .args .bytes .now) (s .args .ends .now)))) in
-    let after = sym (put .ensures .1) in
-    let ws = answerWords (lookupOf (asked .result)) in
-    let four = length-words (lookupOf (asked .result)) in
-    let room : 4 * i + 4 ≤ length (l .answers) = omega (arith, small, s .pre .2, l .inv .1) in (
-      omega arith,
-      put .kept .0 ∙ l .inv .1,
-      subst (λ (r : List ℕ). Kept (s .args .answers .now) (length (s .args .ends .now)) r) after
-          (kept-after (l .answers) i ws four room (s .args .answers .now) (length (s .args .ends .now)) small (l .inv .2)),
-      omega (arith, put .ok, l .inv .3),
-      sum-turn image xs (s .args .list .now) (s .args .m) (l .x) (l .sum) (put .result) (asked .result) (omega arith) (s .pre .4) (put .ensures .0) own (l .inv .4),
-      λ y h. subst (λ (r : List ℕ). Has r (getD (s .args .list .now) y 0) (answerWords (lookup image (nth xs (getD (s .args .list .now) y 0))))) after
-          (held-turn image xs (s .args .list .now) (l .answers) (l .x) i (lookupOf (asked .result)) refl own room (l .inv .5) y h),
+    let xs = names (s .args .bytes .now) (s .args .ends .now) in
+    let first = s .args .live .now in
+    let live = parted .last .1 .1 .1 .1 .0 in
+    let done = parted .last .1 .1 .1 .1 .1 .0 in
+    let after = found .last .1 .1 .1 .1 .1 .1 .1 .1 .0 in (
+      omega (arith, c .before .before .before .before .before .before .before .before .before .before .before .before .before .before .loop-test .taken),
+      omega (arith, parted .ensures .0 .0, l .inv .1),
+      omega (arith, parted .kept, l .inv .2),
+      omega (arith, parted .kept, l .inv .3),
+      omega (arith, parted .kept, l .inv .4),
+      omega (arith, found .kept, l .inv .5),
+      λ p h. found .ensures .1 .1 p h ∙ l .inv .6 p h,
+      λ z h. listed-via first (l .live) (s .args .m) (l .q) (getD live z 0) (l .inv .7) (parted .ensures .1 .0 z h .0),
+      λ z h. parted .ensures .1 .0 z h .1,
+      λ x h.
+          let i = getD first x 0 in
+          next-right image xs (l .answers) after (l .live) live done (l .q) (parted .result) (l .q - parted .result) i
+          (found .ensures .1 .0 i) (parted .ensures .0 .1) (found .ensures .0) (l .inv .9 x h),
+    )
+
+find-open-requires : tie.Need-find-open-requires Inv-loop μ-loop
+find-open-requires c κs =
+    let s = c .before .before .before .before .before .before .before .before .before .before in
+    let l = c .before .before .before .loop in (
+      s .pre .0,
+      s .pre .1,
+      omega (arith, l .inv .5, s .pre .2),
+      omega (arith, l .inv .1, l .inv .2, s .pre .4),
+      λ x h. listed-small (s .args .live .now) (s .args .m) (length (s .args .ends .now)) (getD (l .live) x 0) (s .pre .5) (l .inv .7 x h),
+      s .pre .6,
     )
 
 same-length : tie.Need-same-length Inv-loop μ-loop
-same-length c = search needs
+same-length c = omega (arith, c .before .before .before .before .before .before .loop .inv .2)
+
+same-length-2 : tie.Need-same-length-2 Inv-loop μ-loop
+same-length-2 c = omega (arith, c .before .before .find-open .kept, c .before .before .before .before .before .before .loop .inv .5)
 
 returns : tie.Need-returns Inv-loop μ-loop
 returns c =
-    let s = c .before .before .before .before .before .before .before .before in
-    let l = c .before .loop in
-    let xs = names (s .args .bytes .now) (s .args .ends .now) in (
-      sum-end (s .args .image .now) xs (s .args .list .now) (s .args .m) (l .x) (l .sum) (omega arith) (l .inv .4),
-      (λ y h. l .inv .5 y (omega arith), l .inv .2),
+    let s = c .before .before .before .before .before .before .before .before .before .before .before .before .before in
+    let l = c .before .before .before .before .before .before .loop in
+    let found = c .before .before .find-open in
+    let image = s .args .image .now in
+    let xs = names (s .args .bytes .now) (s .args .ends .now) in
+    let after = found .last .1 .1 .1 .1 .1 .1 .0 in (
+      λ x h.
+          let i = getD (s .args .live .now) x 0 in
+          last-right image xs (l .answers) after (l .live) (l .q) i (found .ensures .1 .0 i) (found .ensures .0) (l .inv .9 x h),
+      λ p h. found .ensures .1 .1 p h ∙ l .inv .6 p h,
     )
 
 pub find-all-spec : {M : Type 1} → statement M
@@ -123,19 +161,17 @@ find-all-spec =
     Inv-loop
     μ-loop
     loop-holds
-    mul-i
-    shared-slice-read-i
-    cast-i
-    name-of-requires
-    mul-to-id-by
-    shared-slice-read-to-id-by
-    to-id-by-requires
-    mul-put-answer
-    put-answer-requires
-    cast-sum
-    add-sum
-    add-x
+    slice-aggregate-pass
+    slice-aggregate-pass-2
+    pass-requires
+    add-c
+    slice-aggregate-find-done
+    sub-find-done
+    slice-aggregate-find-done-2
+    find-done-requires
     loop-less
     loop-again
+    find-open-requires
     same-length
+    same-length-2
     returns)
