@@ -27,9 +27,10 @@ use Rattle.lists.proofs.Written.{Written}
 use Rattle.lists.proofs.Puts.{put-due, due-free, fresh-written}
 use Rattle.lists.proofs.Closes.{close-accepted}
 use Rattle.build.specs.Build.{callsOf}
-use Rattle.build.specs.Held.{heldBefore, answered, leftBy}
-use Rattle.build.specs.Along.{chosen, Puts}
-use Rattle.build.proofs.Chained.{held-more, held-set}
+use Rattle.build.specs.steps.Held.{at, heldBefore, answered, leftBy}
+use Rattle.build.specs.steps.Along.{chosen, Puts}
+use Rattle.build.proofs.Chained.{held-more, held-ext}
+use Rattle.build.proofs.Linked.{at-set}
 use Rattle.build.proofs.Turns.{chosen-written, turn-answer, turn-state, turn-written, entries-put}
 
 -- ---- the calls from the i-th on
@@ -70,7 +71,7 @@ holds-more name (x ∷ es) e b =
 pub record Going (mode : Mode) (repeats : Repeats) (buffer : List ℕ) (xs : List (List ℕ)) (ids places : List ℕ) (i : ℕ) (s : State) (rs : List ℕ) : Type 0 where
   pub es : List Entry
   pub written : Written mode On (length buffer) es s
-  pub helds : (name : List ℕ) → heldBefore xs rs i name ≡ holds name es
+  pub helds : (name : List ℕ) → heldBefore (nth xs) (at rs) i name ≡ holds name es
   pub free : (name : List ℕ) → holds name es ≡ true → hasZero name ≡ false
   pub left : after (chosen repeats s) (rest xs ids i) ≡ afterList mode repeats buffer (callsOf xs ids)
   pub told : take i rs ++ answers (chosen repeats s) (rest xs ids i) ≡ answersOf mode repeats buffer (callsOf xs ids)
@@ -124,7 +125,7 @@ module _ (mode : Mode) (repeats : Repeats) (buffer : List ℕ) (xs : List (List 
         sym (take-append-drop i rs) ∙ ap₂ {C = List ℕ} (λ (a b : List ℕ). a ++ b) told (g .kept i (omega arith) ∙ ap (λ (k : ℕ). drop k places) (sym e))
 
     module _ (inside : i < length xs) (many : length xs ≤ length ids) (room : length xs ≤ length rs) (word : getD ids i 0 < 2 ^ 32)
-        (held : Bool) (is : held ≡ (heldBefore xs rs i (nth xs i) && refusesRepeats repeats)) where
+        (held : Bool) (is : held ≡ (heldBefore (nth xs) (at rs) i (nth xs i) && refusesRepeats repeats)) where
       abbrev e : Entry
       e = entryOf (nth xs i) (getD ids i 0)
 
@@ -169,10 +170,10 @@ module _ (mode : Mode) (repeats : Repeats) (buffer : List ℕ) (xs : List (List 
             subst (Written mode On n then) (sym leaves)
             (turn-written mode repeats n es s (g .written) e (g .free (nth xs i)) held is-held (word-id mode))
 
-        helds-next : (name : List ℕ) → heldBefore xs (set rs i r) (i + 1) name ≡ holds name then
+        helds-next : (name : List ℕ) → heldBefore (nth xs) (at (set rs i r)) (i + 1) name ≡ holds name then
         helds-next name =
-            held-more xs (set rs i r) i name
-            ∙ ap₂ {C = Bool} (λ (a : Bool) (k : ℕ). a || (eqb k 0 && same (nth xs i) name)) (held-set xs rs i r name i (omega arith) ∙ g .helds name)
+            held-more (nth xs) (at (set rs i r)) i name
+            ∙ ap₂ {C = Bool} (λ (a : Bool) (k : ℕ). a || (eqb k 0 && same (nth xs i) name)) (held-ext (nth xs) (at rs) (at (set rs i r)) name i (at-set rs i r) ∙ g .helds name)
             (getD-set-same rs i r 0 (omega arith) ∙ r-is ∙ due)
             ∙ sym (holds-more name es e (eqb (putDue mode repeats n es e) 0))
 

@@ -16,8 +16,8 @@ use Rattle.writer.specs.Put.{putRefusal, appended, afterPut, writerAfter}
 use Rattle.lists.specs.Calls.{put, sizeOf, putDue, acceptedAfter, WordId}
 use Rattle.lists.proofs.Written.{Written}
 use Rattle.lists.proofs.Puts.{put-due, put-written}
-use Rattle.build.specs.Held.{answered, leftBy}
-use Rattle.build.specs.Along.{chosen}
+use Rattle.build.specs.steps.Held.{answered, leftBy}
+use Rattle.build.specs.steps.Along.{chosen}
 
 -- ---- what the choice changes
 

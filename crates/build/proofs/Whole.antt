@@ -3,7 +3,7 @@ use Prim.Native.Nat.{ℕ, _+_, _≤_, _<_}
 use native.Mathlib.Omega.{arith}
 use native.Mathlib.Decide.{decLt}
 use mathlib.Core.Path.{_≡_, refl, sym, ap, ap₂, _∙_}
-use mathlib.Core.Bool.{Bool, true, false, cond, _||_}
+use mathlib.Core.Bool.{Bool, true, false, cond, not, _&&_, _||_}
 use mathlib.Core.List.{List, _++_}
 use borrow.Author.Tests.{lt-ltb, le-ltb, ltb-true}
 use lib.Dec.{ltb, eqb}
@@ -13,11 +13,11 @@ use Rattle.image.specs.declared.Mode.{Mode}
 use Rattle.image.specs.Image.{headSize}
 use Rattle.joined.specs.Names.{astray}
 use Rattle.writer.specs.declared.Repeats.{Repeats}
-use Rattle.writer.specs.State.{State, fits}
-use Rattle.writer.specs.Close.{closeRefusal, closing, closedSize, closed, afterClose}
+use Rattle.writer.specs.State.{State, fits, finishedSize, tooLarge}
+use Rattle.writer.specs.Close.{closeRefusal, closedSize, closed, consistent, afterClose}
 use Rattle.lists.specs.Demand3.{answersOf, afterList, acceptedPuts}
 use Rattle.build.specs.declared.Made.{Made}
-use Rattle.build.specs.Along.{chosen, Puts}
+use Rattle.build.specs.steps.Along.{chosen, Puts}
 use Rattle.build.specs.Build.{listed, buildRefusal, madeOf, building, bufferAfter, answersAfter}
 
 -- ---- the refusals, in their order
@@ -69,14 +69,6 @@ module _ (repeats : Repeats) (s : State) where
 
 -- ---- what is given and left
 
-abbrev valueIn : Outcome ℕ → ℕ
-valueIn (value k) = k
-valueIn (refusal k) = 0
-
-abbrev isValue : Outcome ℕ → ℕ
-isValue (value k) = 1
-isValue (refusal k) = 0
-
 module _ (mode : Mode) (repeats : Repeats) (buffer bytes ends ids places : List ℕ) where
   -- a refusal writes nothing
   pub refused-build : (k : ℕ) → buildRefusal bytes ends (length ids) (length places) (length buffer) ≡ k → 0 < k
@@ -100,10 +92,6 @@ module _ (mode : Mode) (repeats : Repeats) (buffer bytes ends ids places : List 
     told-all rs e = e ∙ sym (ap (λ (b : Bool). cond b places (answersOf mode repeats buffer (listed bytes ends ids) ++ drop (length ends) places)) none)
 
     module _ (s : State) (p : Puts mode repeats buffer (listed bytes ends ids) s) where
-      gives : closing s ≡ value (closedSize s)
-      unfolding closing
-      gives = ap (λ (k : ℕ). cond (eqb k 0) (value (closedSize s)) (refusal k)) (p .closes)
-
       pub left-all : (l : List ℕ) → l ≡ afterClose s .buffer → l ≡ bufferAfter mode repeats buffer bytes ends ids (length places)
       unfolding bufferAfter
       left-all l e =
@@ -112,16 +100,13 @@ module _ (mode : Mode) (repeats : Repeats) (buffer bytes ends ids places : List 
           ∙ ap (λ (t : State). afterClose t .buffer) (p .left)
           ∙ sym (ap (λ (b : Bool). cond b buffer (afterClose (afterList mode repeats buffer (listed bytes ends ids)) .buffer)) none)
 
-      pub built-image : (size : ℕ) → value size ≡ closing s
-          → value (record { size = size; accepted = s .writer .entries }) ≡ building mode repeats buffer bytes ends ids (length places)
+      pub built-image : (m : Made) → m .size ≡ closedSize s → m .accepted ≡ s .writer .entries
+          → value m ≡ building mode repeats buffer bytes ends ids (length places)
       unfolding building madeOf
-      built-image size e =
-          let is : size ≡ closedSize (afterList mode repeats buffer (listed bytes ends ids)) = ap valueIn (e ∙ gives) ∙ ap closedSize (p .left) in
-          ap₂ {C = Outcome Made} (λ (x y : ℕ). value (record { size = x; accepted = y })) is (p .counted)
+      built-image m e f =
+          let is : m .size ≡ closedSize (afterList mode repeats buffer (listed bytes ends ids)) = e ∙ ap closedSize (p .left) in
+          ap₂ {C = Outcome Made} (λ (x y : ℕ). value (record { size = x; accepted = y })) is (f ∙ p .counted)
           ∙ sym (ap (λ (b : Bool). cond b (refusal (buildRefusal bytes ends (length ids) (length places) (length buffer))) (value (madeOf mode repeats buffer (listed bytes ends ids)))) none)
-
-      pub never-refused : (k : ℕ) → refusal k ≡ closing s → ⊥
-      never-refused k e = let z : _≡_ {A = ℕ} 0 1 = ap isValue (e ∙ gives) in omega arith
 
 abbrev isMade : Outcome Made → ℕ
 isMade (value m) = 1
@@ -143,3 +128,22 @@ refused-some mode repeats buffer bytes ends ids places k e = go (ltb 0 due) refl
 -- slots are within the lent memory
 pub slots-within : (r n words most : ℕ) → (0 < r → (r + n ≤ words) × (n ≤ most)) → r ≤ words
 slots-within r n words most f = elim (decLt 0 r) [ yes p ↦ omega (arith, f p .0) | no p ↦ omega arith ]
+
+-- ---- an accepted close
+
+-- what the checks of a close told
+pub record Accepted (s : State) : Type 0 where
+  pub fit : fits s ≡ true
+  pub fine : tooLarge (s .writer .length) (finishedSize (s .writer)) ≡ false
+  pub all : consistent s ≡ true
+
+pub accepted : (s : State) → closeRefusal s ≡ 0 → Accepted s
+unfolding closeRefusal
+accepted s e = go (fits s) (consistent s) (tooLarge (s .writer .length) (finishedSize (s .writer))) refl refl refl e
+  where
+    go : (f c t : Bool) → fits s ≡ f → consistent s ≡ c → tooLarge (s .writer .length) (finishedSize (s .writer)) ≡ t
+        → _≡_ {A = ℕ} (cond (not f) 2 (cond (c && not t) 0 4)) 0 → Accepted s
+    go true true false p q r z = record { fit = p; fine = r; all = q }
+    go true true true p q r z = absurd (omega arith)
+    go true false t p q r z = absurd (omega arith)
+    go false c t p q r z = absurd (omega arith)

@@ -1,5 +1,5 @@
 -- A whole list in one call: what it gives, and what its steps tell.
 pub mod Build
-pub mod Held
-pub mod Along
 pub mod Theorem
+pub mod Rows
+pub mod steps

@@ -7,7 +7,7 @@ ghost use lib.Dec.{eqb};
 ghost use Rattle.image.specs.Bytes.{same};
 ghost use Rattle.joined.specs.Names.{names, astray, nth};
 ghost use Rattle.writer.specs.State.{refusesRepeats};
-ghost use Rattle.build.specs.Held.{heldBefore, slotOf, Chains, linked};
+ghost use Rattle.build.specs.steps.Held.{at, heldBefore, slotOf, Chains, linkIn, linked};
 use image::equality::same;
 use joined::key;
 use joined::name_of;
@@ -37,13 +37,12 @@ pub(crate) fn slots_for(repeats: Repeats, words: usize, n: usize) -> u32
 }
 
 // Clears the heads: what the lent memory held is not trusted.
-pub(crate) fn clear(work: &mut [u32], slots: u32)
+pub(crate) fn clear(work: &mut [u32], slots: usize)
     requires { ⌜ slots ≤ length (now work) ⌝ }
-    ensures { λ _. ⌜ ((s : ℕ) → s < slots → getD (now (work .exit)) s 0 ≡ 0) ⌝ }
+    ensures { λ _. ⌜ ((s : ℕ) → s < slots → at (now (work .exit)) s ≡ 0) × ((k : ℕ) → slots ≤ k → at (now (work .exit)) k ≡ at (now (work .entry)) k) ⌝ }
 {
-    let end = slots as usize;
     let mut i = 0;
-    while i < end {
+    while i < slots {
         work[i] = 0;
         i += 1;
     }
@@ -76,8 +75,8 @@ fn chained(
     s: u32,
     i: usize,
 ) -> bool
-    requires { ⌜ (astray (length (now bytes)) 0 (now ends) ≡ false) × (i < length (now ends)) × (slots + length (now ends) ≤ length (now work)) × (s ≡ slotOf slots (nth (names (now bytes) (now ends)) i)) × (s < slots) × Chains (names (now bytes) (now ends)) (now rs) slots i (now work) ⌝ }
-    ensures { λ r. ⌜ r ≡ heldBefore (names (now (bytes .entry)) (now (ends .entry))) (now (rs .entry)) i (nth (names (now (bytes .entry)) (now (ends .entry))) i) ⌝ }
+    requires { ⌜ (astray (length (now bytes)) 0 (now ends) ≡ false) × (i < length (now ends)) × (slots + length (now ends) ≤ length (now work)) × (s ≡ slotOf slots (nth (names (now bytes) (now ends)) i)) × (s < slots) × Chains (nth (names (now bytes) (now ends))) (at (now rs)) (slotOf slots) slots i (at (now work)) (linkIn slots (now work)) ⌝ }
+    ensures { λ r. ⌜ r ≡ heldBefore (nth (names (now (bytes .entry)) (now (ends .entry)))) (at (now (rs .entry))) i (nth (names (now (bytes .entry)) (now (ends .entry))) i) ⌝ }
 {
     let name = name_of(bytes, ends, i);
     let mut q = work[s as usize];
@@ -105,7 +104,7 @@ fn equals(bytes: &[u8], ends: &[u64], rs: &[u32], j: usize, name: &[u8]) -> bool
 // By a walk along the names before the i-th.
 fn walked(bytes: &[u8], ends: &[u64], rs: &[u32], i: usize) -> bool
     requires { ⌜ (astray (length (now bytes)) 0 (now ends) ≡ false) × (i < length (now ends)) × (length (now ends) ≤ length (now rs)) ⌝ }
-    ensures { λ r. ⌜ r ≡ heldBefore (names (now (bytes .entry)) (now (ends .entry))) (now (rs .entry)) i (nth (names (now (bytes .entry)) (now (ends .entry))) i) ⌝ }
+    ensures { λ r. ⌜ r ≡ heldBefore (nth (names (now (bytes .entry)) (now (ends .entry)))) (at (now (rs .entry))) i (nth (names (now (bytes .entry)) (now (ends .entry))) i) ⌝ }
 {
     let name = name_of(bytes, ends, i);
     let mut j = 0;
@@ -129,8 +128,8 @@ pub(crate) fn held(
     s: u32,
     i: usize,
 ) -> bool
-    requires { ⌜ (astray (length (now bytes)) 0 (now ends) ≡ false) × (i < length (now ends)) × (length (now ends) ≤ length (now rs)) × (0 < slots → (slots + length (now ends) ≤ length (now work)) × (s ≡ slotOf slots (nth (names (now bytes) (now ends)) i)) × (s < slots) × Chains (names (now bytes) (now ends)) (now rs) slots i (now work)) ⌝ }
-    ensures { λ r. ⌜ r ≡ (heldBefore (names (now (bytes .entry)) (now (ends .entry))) (now (rs .entry)) i (nth (names (now (bytes .entry)) (now (ends .entry))) i) && refusesRepeats repeats) ⌝ }
+    requires { ⌜ (astray (length (now bytes)) 0 (now ends) ≡ false) × (i < length (now ends)) × (length (now ends) ≤ length (now rs)) × (0 < slots → (slots + length (now ends) ≤ length (now work)) × (s ≡ slotOf slots (nth (names (now bytes) (now ends)) i)) × (s < slots) × Chains (nth (names (now bytes) (now ends))) (at (now rs)) (slotOf slots) slots i (at (now work)) (linkIn slots (now work))) ⌝ }
+    ensures { λ r. ⌜ r ≡ (heldBefore (nth (names (now (bytes .entry)) (now (ends .entry)))) (at (now (rs .entry))) i (nth (names (now (bytes .entry)) (now (ends .entry))) i) && refusesRepeats repeats) ⌝ }
 {
     match repeats {
         Repeats::On => false,

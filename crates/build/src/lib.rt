@@ -2,7 +2,7 @@
 ghost use mathlib.Core.Path.{_≡_};
 ghost use mathlib.Core.Bool.{false, _&&_};
 ghost use mathlib.Core.List.{List, _++_};
-ghost use Prim.Native.Nat.{ℕ, _+_, _≤_, _<_};
+ghost use Prim.Native.Nat.{ℕ, _+_, _*_, _≤_, _<_};
 ghost use lib.ListN.{length, getD, drop};
 ghost use Rattle.jhash.specs.Outcome.{refusal};
 ghost use Rattle.image.specs.Image.{headSize};
@@ -10,11 +10,12 @@ ghost use Rattle.joined.specs.Names.{names, astray, nth};
 ghost use Rattle.writer.specs.declared.Repeats.the-variants.{On};
 ghost use Rattle.writer.specs.State.{State, stateWith, fresh, refusesRepeats};
 ghost use Rattle.writer.specs.Put.{entryOf};
-ghost use Rattle.writer.specs.Close.{closing, afterClose};
+ghost use Rattle.writer.specs.Close.{closeRefusal, closedSize, afterClose};
 ghost use Rattle.lists.specs.Demand3.{answersOf, afterList, acceptedPuts};
-ghost use Rattle.build.specs.Held.{heldBefore, slotOf, Chains, answered, leftBy};
+ghost use Rattle.build.specs.steps.Held.{answered, leftBy};
 ghost use Rattle.build.specs.Build.{listed, buildRefusal, building, bufferAfter, answersAfter, builtOf};
-ghost use Rattle.build.specs.Along.{Puts};
+ghost use Rattle.build.specs.steps.Along.{Puts};
+ghost use Rattle.build.specs.steps.Marked.{Roomy};
 use held::clear;
 use held::held;
 use held::link;
@@ -23,11 +24,17 @@ use held::slots_for;
 use image::Mode;
 use joined::astray;
 use joined::name_of;
+use marked::mark_list;
+use puts::put_marked;
+use puts::roomy;
 use writer::CQDBWriter;
 use writer::PutAnswer;
 use writer::Repeats;
 
 mod held; // held.rt: is a name held by an accepted put before?
+mod marked; // marked.rt: what is due to each name, told before the puts
+mod parted; // parted.rt: the names parted by table
+mod puts; // puts.rt: the puts without checks
 
 // The size of the image, and the number of accepted puts.
 pub struct Made {
@@ -94,8 +101,22 @@ fn put_all(
     after
 }
 
-// Begin, the puts and one close, where nothing is refused before.
-fn build_list(
+// The image written around the entries of a record that a close would accept: the puts know all that a close checks.
+fn finish_list(w: CQDBWriter, counts: &[u32; 256], buf: &mut [u8]) -> Made
+    requires { ⌜ closeRefusal (stateWith w (now counts) (now buf)) ≡ 0 ⌝ }
+    ensures { λ r. ⌜ (r .size ≡ closedSize (stateWith w (now (counts .entry)) (now (buf .entry)))) × (r .accepted ≡ w .entries) × (now (buf .exit) ≡ afterClose (stateWith w (now (counts .entry)) (now (buf .entry))) .buffer) ⌝ }
+{
+    let mode = w.mode;
+    let size = finish::size::finished_size(mode, w.end, w.entries, w.back);
+    finish::write_image(mode, w.end, w.entries, w.back, counts, &mut *buf);
+    Made {
+        size: size as u32,
+        accepted: w.entries,
+    }
+}
+
+// Begin, the puts one by one and one close, where nothing is refused before.
+fn build_singly(
     mode: Mode,
     repeats: Repeats,
     buf: &mut [u8],
@@ -111,7 +132,7 @@ fn build_list(
     ensures answers { λ _. ⌜ now (rs .exit) ≡ answersAfter mode repeats (now (buf .entry)) (now (bytes .entry)) (now (ends .entry)) (now (ids .entry)) (now (rs .entry)) ⌝ }
 {
     let slots = slots_for(repeats, work.len(), ends.len());
-    clear(&mut *work, slots);
+    clear(&mut *work, slots as usize);
     let mut counts = [0; 256];
     let w = CQDBWriter {
         mode,
@@ -133,13 +154,87 @@ fn build_list(
         &mut *work,
         slots,
     );
-    let accepted = after.entries;
-    let closed = writer::close(after, &counts, &mut *buf);
-    let answer = closed.answer;
-    match answer {
-        writer::Closed::Size(size) => Built::Image(Made { size, accepted }),
-        writer::Closed::Refused(k) => Built::Refused(k),
+    Built::Image(finish_list(after, &counts, &mut *buf))
+}
+
+// The same where all names have room: what is due to each is told first, then the names are put without a check.
+fn build_marked(
+    mode: Mode,
+    repeats: Repeats,
+    buf: &mut [u8],
+    bytes: &[u8],
+    ends: &[u64],
+    ids: &[u32],
+    rs: &mut [u32],
+    work: &mut [u32],
+) -> Built
+    requires { ⌜ (astray (length (now bytes)) 0 (now ends) ≡ false) × (length (now ends) ≤ length (now ids)) × (length (now ends) ≤ length (now rs)) × (headSize ≤ length (now buf)) × Roomy mode (now ends) (now ids) (length (now buf)) × (length (now ends) ≤ 171798691) × (6 * length (now ends) ≤ length (now work)) ⌝ }
+    ensures answer { λ r. ⌜ builtOf r ≡ building mode repeats (now (buf .entry)) (now (bytes .entry)) (now (ends .entry)) (now (ids .entry)) (length (now (rs .entry))) ⌝ }
+    ensures leaves { λ _. ⌜ now (buf .exit) ≡ bufferAfter mode repeats (now (buf .entry)) (now (bytes .entry)) (now (ends .entry)) (now (ids .entry)) (length (now (rs .entry))) ⌝ }
+    ensures answers { λ _. ⌜ now (rs .exit) ≡ answersAfter mode repeats (now (buf .entry)) (now (bytes .entry)) (now (ends .entry)) (now (ids .entry)) (now (rs .entry)) ⌝ }
+{
+    mark_list(repeats, bytes, ends, &mut *rs, &mut *work);
+    let mut counts = [0; 256];
+    let w = CQDBWriter {
+        mode,
+        repeats: Repeats::On,
+        length: buf.len() as u64,
+        end: 2072,
+        entries: 0,
+        back: 0,
+    };
+    let after = put_marked(
+        w,
+        &mut counts,
+        &mut *buf,
+        repeats,
+        bytes,
+        ends,
+        ids,
+        &*rs,
+        &*work,
+    );
+    Built::Image(finish_list(after, &counts, &mut *buf))
+}
+
+// The same by either way.
+fn build_list(
+    mode: Mode,
+    repeats: Repeats,
+    buf: &mut [u8],
+    bytes: &[u8],
+    ends: &[u64],
+    ids: &[u32],
+    rs: &mut [u32],
+    work: &mut [u32],
+) -> Built
+    requires { ⌜ (astray (length (now bytes)) 0 (now ends) ≡ false) × (length (now ends) ≤ length (now ids)) × (length (now ends) ≤ length (now rs)) × (headSize ≤ length (now buf)) ⌝ }
+    ensures answer { λ r. ⌜ builtOf r ≡ building mode repeats (now (buf .entry)) (now (bytes .entry)) (now (ends .entry)) (now (ids .entry)) (length (now (rs .entry))) ⌝ }
+    ensures leaves { λ _. ⌜ now (buf .exit) ≡ bufferAfter mode repeats (now (buf .entry)) (now (bytes .entry)) (now (ends .entry)) (now (ids .entry)) (length (now (rs .entry))) ⌝ }
+    ensures answers { λ _. ⌜ now (rs .exit) ≡ answersAfter mode repeats (now (buf .entry)) (now (bytes .entry)) (now (ends .entry)) (now (ids .entry)) (now (rs .entry)) ⌝ }
+{
+    if roomy(mode, ends, ids, buf.len(), work.len()) {
+        return build_marked(
+            mode,
+            repeats,
+            &mut *buf,
+            bytes,
+            ends,
+            ids,
+            &mut *rs,
+            &mut *work,
+        );
     }
+    build_singly(
+        mode,
+        repeats,
+        &mut *buf,
+        bytes,
+        ends,
+        ids,
+        &mut *rs,
+        &mut *work,
+    )
 }
 
 // The image of the names that lie joined in `bytes` with these ends, each put with the id at its place; the number of each put's

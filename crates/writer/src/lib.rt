@@ -1,6 +1,7 @@
 // Writing: begin, put and close over one lent buffer, for every writer record and every buffer.
 ghost use mathlib.Core.Path.{_≡_};
 ghost use lib.ListN.{length};
+ghost use Rattle.jhash.specs.NameHash.{hashOf};
 ghost use Rattle.writer.specs.State.{stateWith, beginning, begunOf, countsBegun};
 ghost use Rattle.writer.specs.Put.{putRefusal, appended, afterPut, entryOf};
 ghost use Rattle.writer.specs.Close.{closing, closedOf, afterClose};
@@ -93,7 +94,25 @@ fn put_refusal(w: CQDBWriter, counts: &[u32; 256], buf: &[u8], name: &[u8], id: 
     0
 }
 
-// What an accepted put does: it appends an entry, id, name length plus 1, the name, one zero byte; and raises the counts.
+// What an accepted put does, with the hash of its name at hand: it appends an entry, id, name length plus 1, the name, one zero
+// byte; and raises the counts. A leaf for the crates above, whose callers know that nothing is due to the put.
+pub fn append_by(
+    w: CQDBWriter,
+    counts: &mut [u32; 256],
+    buf: &mut [u8],
+    name: &[u8],
+    id: u32,
+    h: u32,
+) -> CQDBWriter
+    requires { ⌜ (putRefusal (stateWith w (now counts) (now buf)) (entryOf (now name) id) ≡ 0) × (h ≡ hashOf (now name)) ⌝ }
+    ensures { λ r. ⌜ stateWith r (now (counts .exit)) (now (buf .exit)) ≡ appended (stateWith w (now (counts .entry)) (now (buf .entry))) (entryOf (now (name .entry)) id) ⌝ }
+{
+    image::entries::raise(&mut *counts, h);
+    entry::store(&mut *buf, w.end as usize, name, id);
+    record::after(w, name.len(), id)
+}
+
+// What an accepted put does.
 fn append(
     w: CQDBWriter,
     counts: &mut [u32; 256],
@@ -107,9 +126,7 @@ fn append(
     let jhash::Hashed::Hash(h) = jhash::name_hash(name) else {
         return w;
     };
-    image::entries::raise(&mut *counts, h);
-    entry::store(&mut *buf, w.end as usize, name, id);
-    record::after(w, name.len(), id)
+    append_by(w, &mut *counts, &mut *buf, name, id, h)
 }
 
 // Appends an entry, or is refused and changes nothing.

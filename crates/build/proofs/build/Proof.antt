@@ -53,8 +53,10 @@ same-length-3 c = search needs
 
 returns-5 : tie.Need-returns-5
 returns-5 c =
-    let a = c .before .before .before .before .before .before .before .before .before .before .before .before .before .before .before .before .before .before .before .before .before .args in
-    let none = refusal-none (a .bytes .now) (a .ends .now) (length (a .ids .now)) (length (a .rs .now)) (length (a .buf .now)) (sym (c .before .before .before .before .before .before .before .before .before .before .before .before .before .before .astray .ensures) ∙ c .before .before .before .before .before .before .before .before .before .before .before .before .before .if1 .left) (c .before .before .before .before .before .before .before .before .before .before .before .before .if2 .left) (c .before .before .before .before .before .before .before .before .before .before .before .if3 .left) (c .before .before .before .before .before .before .before .before .before .before .if4 .left) in
+    let s = c .before .before .before .before .before .before .before .before .before .before in
+    let a = s .before .before .before .before .before .before .before .before .before .before .before .args in
+    let straight = sym (s .before .before .before .before .astray .ensures) ∙ s .before .before .before .if1 .left in
+    let none = refusal-none (a .bytes .now) (a .ends .now) (length (a .ids .now)) (length (a .rs .now)) (length (a .buf .now)) straight (s .before .before .if2 .left) (s .before .if3 .left) (s .if4 .left) in
     let out = c .before .before .before .before .before .before .build-list .ensures in
     (out .0, (out .1 .0, (out .1 .1, λ h. absurd (omega (arith, none, h)))))
 

@@ -5,15 +5,16 @@ use native.Mathlib.Omega.{arith}
 use mathlib.Core.Path.{_≡_, refl, sym, ap, subst, _∙_}
 use mathlib.Core.Bool.{Bool, _&&_}
 use mathlib.Core.List.{List}
-use lib.ListN.{length, getD, length-set}
+use lib.ListN.{length, getD, set, length-set}
 use borrow.Author.Needs.{needs}
 use Rattle.image.specs.Image.{Entry}
 use Rattle.joined.specs.Names.{names, nth}
 use Rattle.joined.proofs.NameEnds.{length-names}
 use Rattle.writer.specs.State.{State, stateWith}
 use Rattle.writer.specs.Put.{entryOf}
-use Rattle.build.specs.Held.{slotOf, Chains, answered, leftBy}
-use Rattle.build.proofs.Chained.{chains-none, chains-turn}
+use Rattle.build.specs.steps.Held.{at, slotOf, Chains, linkIn, answered, leftBy}
+use Rattle.build.proofs.Chained.{chains-none}
+use Rattle.build.proofs.Linked.{chains-turn}
 use Rattle.build.proofs.Going.{Going, going-start, going-end, told-end, going-turn}
 use Rattle.build.proofs.put_all.Statement.{statement}
 use Rattle.build.proofs.put_all.Tie as tie
@@ -24,7 +25,7 @@ Inv-loop counts₀ buf₀ repeats bytes ends ids rs₀ work₀ slots after₀ i�
     × (length buf ≡ length buf₀)
     × (length work ≡ length work₀)
     × Going (after₀ .mode) repeats buf₀ (names bytes ends) ids rs₀ i (stateWith after counts buf) rs
-    × (0 < slots → Chains (names bytes ends) rs slots i work)
+    × (0 < slots → Chains (nth (names bytes ends)) (at rs) (slotOf slots) slots i (at work) (linkIn slots work))
 
 abbrev μ-loop : tie.MeasureT-loop
 μ-loop counts₀ buf₀ repeats bytes ends ids rs₀ work₀ slots after₀ i₀ counts buf rs work after i = length ends - i
@@ -39,7 +40,7 @@ loop-holds c =
       refl,
       subst (λ (t : State). Going (a .w .mode) (a .repeats) (a .buf .now) xs (a .ids .now) (a .rs .now) 0 t (a .rs .now)) (sym (s .pre .4))
           (going-start (a .w .mode) (a .repeats) (a .buf .now) xs (a .ids .now) (a .rs .now) (s .pre .3)),
-      λ h. chains-none xs (a .slots) (a .rs .now) (a .work .now) (s .pre .5 h .2),
+      λ h. chains-none (nth xs) (slotOf (a .slots)) (a .slots) (at (a .rs .now)) (at (a .work .now)) (linkIn (a .slots) (a .work .now)) (s .pre .5 h .2),
     )
 
 name-of-requires : tie.Need-name-of-requires Inv-loop μ-loop
@@ -74,19 +75,28 @@ put-one-requires : tie.Need-put-one-requires Inv-loop μ-loop
 put-one-requires c κs = search needs
 
 mul-rs : tie.Need-mul-rs Inv-loop μ-loop
-mul-rs c = omega (arith, c .before .before .before .before .before .before .before .before .before .before .before .before .loop-test .taken, c .before .before .before .before .before .before .before .before .before .before .before .before .before .loop .inv .3 .size, c .before .before .before .before .before .before .before .before .before .before .before .before .before .before .before .before .before .before .before .before .pre .2, c .before .before .before .before .before .before .before .before .before .before .before .before .before .before .before .before .before .before .before .before .good, c .before .before .before .before .before .before .before .before .before .before .before .before .before .before .before .before .before .before .before .before .fits)
+mul-rs c =
+    let l = c .before .before .before .before .before .before .before .before .before .before .before .before in
+    let s = l .before .before .before .before .before .before .before .before in
+    omega (arith, l .loop-test .taken, l .before .loop .inv .3 .size, s .pre .2, s .good, s .fits)
 
 slice-write-rs : tie.Need-slice-write-rs Inv-loop μ-loop
-slice-write-rs c = omega (arith, c .before .before .before .before .before .before .before .before .before .before .before .before .loop-test .taken, c .before .before .before .before .before .before .before .before .before .before .before .before .before .before .before .before .before .before .before .before .pre .2, c .before .before .before .before .before .before .before .before .before .before .before .before .before .loop .inv .3 .size)
+slice-write-rs c =
+    let l = c .before .before .before .before .before .before .before .before .before .before .before .before in
+    omega (arith, l .loop-test .taken, l .before .before .before .before .before .before .before .before .pre .2, l .before .loop .inv .3 .size)
 
 link-requires : tie.Need-link-requires Inv-loop μ-loop
 link-requires c κs =
     let s = c .before .before .before .before .before .before .before .before .before .before .before .before .before .before .before .before .before .before .before .before .before in
     let l = c .before .before .before .before .before .before .before .before .before .before .before .before .before .before .loop in
-    λ h. (c .before .before .before .before .before .before .before .before .before .before .before .slot-of .ensures h .1, omega (arith, c .before .before .before .before .before .before .before .before .before .before .before .before .before .loop-test .taken, s .pre .5 h .0, l .inv .2), omega (arith, c .before .before .before .before .before .before .before .before .before .before .before .before .before .loop-test .taken, s .pre .5 h .1))
+    let below = c .before .before .before .before .before .before .before .before .before .before .before .before .before .loop-test .taken in
+    λ h. (c .before .before .before .before .before .before .before .before .before .before .before .slot-of .ensures h .1, omega (arith, below, s .pre .5 h .0, l .inv .2), omega (arith, below, s .pre .5 h .1))
 
 add-i : tie.Need-add-i Inv-loop μ-loop
-add-i c = omega (arith, c .before .before .before .before .before .before .before .before .before .before .before .before .before .before .before .before .loop-test .taken, c .before .before .before .before .before .before .before .before .before .before .before .before .before .before .before .before .before .before .before .before .before .before .before .before .good, c .before .before .before .before .before .before .before .before .before .before .before .before .before .before .before .before .before .before .before .before .before .before .before .before .fits)
+add-i c =
+    let l = c .before .before .before .before .before .before .before .before .before .before .before .before .before .before .before .before in
+    let s = l .before .before .before .before .before .before .before .before in
+    omega (arith, l .loop-test .taken, s .good, s .fits)
 
 loop-less : tie.Need-loop-less Inv-loop μ-loop
 loop-less c = omega (arith, c .before .before .before .before .before .before .before .before .before .before .before .before .before .before .before .before .loop-test .taken)
@@ -116,8 +126,8 @@ loop-again c =
       going-turn (a .w .mode) (a .repeats) (a .buf .now) xs (a .ids .now) (a .rs .now) (l .i) before (l .rs) g inside many room word (held .result) (held .ensures) (done .result .refusal) _
           (done .ensures .0 ∙ ap (λ (x : List ℕ). answered (held .result) before (entry x)) named)
           (done .ensures .1 ∙ ap (λ (x : List ℕ). leftBy (held .result) before (entry x)) named),
-      λ h. subst (Chains xs _ (a .slots) (l .i + 1)) (sym (c .before .before .link .ensures))
-          (chains-turn xs (a .slots) (l .rs) (l .work) (l .i) _ (done .result .refusal) (omega (arith, inside, room)) (slot h .0 ∙ ap (slotOf (a .slots)) named) (slot h .1) (omega (arith, below, s .pre .5 h .0, l .inv .2)) (l .inv .4 h)),
+      λ h. subst (λ (w : List ℕ). Chains (nth xs) (at (set (l .rs) (l .i) (done .result .refusal))) (slotOf (a .slots)) (a .slots) (l .i + 1) (at w) (linkIn (a .slots) w)) (sym (c .before .before .link .ensures))
+          (chains-turn (nth xs) (slotOf (a .slots)) (a .slots) (l .rs) (l .work) (l .i) _ (done .result .refusal) (omega (arith, inside, room)) (slot h .0 ∙ ap (slotOf (a .slots)) named) (slot h .1) (omega (arith, below, s .pre .5 h .0, l .inv .2)) (l .inv .4 h)),
     )
 
 same-length : tie.Need-same-length Inv-loop μ-loop

@@ -48,10 +48,12 @@ same-length-3 c = search needs
 returns-2 : tie.Need-returns-2
 returns-2 c =
     let a = c .before .before .before .before .before .before .before .before .before .before .before .before .before .before .before .before .before .before .before .before .before .before .before .args in
+    let m = c .before .before .before .before .before .before .before .before .before .before .before .before .before .before .mode-of in
+    let r = c .before .before .before .before .before .before .before .before .before .before .before .before .before .repeats-of in
     let done = c .before .before .before .before .before .before .before .before .before .build in
     let fine = sym (c .before .before .before .before .before .before .before .before .before .before .before .before .before .before .before .before .known .ensures) ∙ not-false _ (c .before .before .before .before .before .before .before .before .before .before .before .before .before .before .before .if1 .left) in
-    let out = known-build (a .mode) (a .repeats) (a .buf .now) (a .names .now) (a .ends .now) (a .ids .now) (a .refusals .now) fine (c .before .before .before .before .before .before .before .before .before .before .before .before .before .before .mode-of .result) (c .before .before .before .before .before .before .before .before .before .before .before .before .before .repeats-of .result)
-    (c .before .before .before .before .before .before .before .before .before .before .before .before .before .before .mode-of .ensures) (c .before .before .before .before .before .before .before .before .before .before .before .before .before .repeats-of .ensures) (builtOf (done .result)) _ _ (done .ensures .0) (done .ensures .1 .0) (done .ensures .1 .1 .0) in
+    let out = known-build (a .mode) (a .repeats) (a .buf .now) (a .names .now) (a .ends .now) (a .ids .now) (a .refusals .now) fine (m .result) (r .result)
+    (m .ensures) (r .ensures) (builtOf (done .result)) _ _ (done .ensures .0) (done .ensures .1 .0) (done .ensures .1 .1 .0) in
     (ap (λ (b : Built). builtAnswer (builtOf b)) (sym (c .before .built .given .1)) ∙ out .0, (out .1, (out .2, λ h. absurd (omega (arith, h)))))
 
 same-length-4 : tie.Need-same-length-4
@@ -66,11 +68,13 @@ same-length-6 c = search needs
 returns-3 : tie.Need-returns-3
 returns-3 c =
     let a = c .before .before .before .before .before .before .before .before .before .before .before .before .before .before .before .before .before .before .before .before .before .before .before .args in
+    let m = c .before .before .before .before .before .before .before .before .before .before .before .before .before .before .mode-of in
+    let r = c .before .before .before .before .before .before .before .before .before .before .before .before .before .repeats-of in
     let done = c .before .before .before .before .before .before .before .before .before .build in
     let fine = sym (c .before .before .before .before .before .before .before .before .before .before .before .before .before .before .before .before .known .ensures) ∙ not-false _ (c .before .before .before .before .before .before .before .before .before .before .before .before .before .before .before .if1 .left) in
-    let out = known-build (a .mode) (a .repeats) (a .buf .now) (a .names .now) (a .ends .now) (a .ids .now) (a .refusals .now) fine (c .before .before .before .before .before .before .before .before .before .before .before .before .before .before .mode-of .result) (c .before .before .before .before .before .before .before .before .before .before .before .before .before .repeats-of .result)
-    (c .before .before .before .before .before .before .before .before .before .before .before .before .before .before .mode-of .ensures) (c .before .before .before .before .before .before .before .before .before .before .before .before .before .repeats-of .ensures) (builtOf (done .result)) _ _ (done .ensures .0) (done .ensures .1 .0) (done .ensures .1 .1 .0) in
-    let some = refused-some (c .before .before .before .before .before .before .before .before .before .before .before .before .before .before .mode-of .result) (c .before .before .before .before .before .before .before .before .before .before .before .before .before .repeats-of .result) (a .buf .now) (a .names .now) (a .ends .now) (a .ids .now) (length (a .refusals .now)) _ (sym (done .ensures .0) ∙ ap builtOf (c .before .built2 .given .1)) in
+    let out = known-build (a .mode) (a .repeats) (a .buf .now) (a .names .now) (a .ends .now) (a .ids .now) (a .refusals .now) fine (m .result) (r .result)
+    (m .ensures) (r .ensures) (builtOf (done .result)) _ _ (done .ensures .0) (done .ensures .1 .0) (done .ensures .1 .1 .0) in
+    let some = refused-some (m .result) (r .result) (a .buf .now) (a .names .now) (a .ends .now) (a .ids .now) (length (a .refusals .now)) _ (sym (done .ensures .0) ∙ ap builtOf (c .before .built2 .given .1)) in
     (ap (λ (b : Built). builtAnswer (builtOf b)) (sym (c .before .built2 .given .1)) ∙ out .0, (out .1, (out .2, λ h. done .ensures .1 .1 .1 some)))
 
 pub cqdb-build-parts-spec : {M : Type 1} → statement M

@@ -7,13 +7,13 @@ use lib.ListN.{length}
 use borrow.Author.Needs.{needs}
 use Rattle.image.specs.Bytes.{same}
 use Rattle.joined.specs.Names.{names, nth}
-use Rattle.build.specs.Held.{heldBefore}
+use Rattle.build.specs.steps.Held.{at, heldBefore, slotOf}
 use Rattle.build.proofs.Chained.{Walk, walk-start, walk-found, walk-step, walk-end}
 use Rattle.build.proofs.held.chained.Statement.{statement}
 use Rattle.build.proofs.held.chained.Tie as tie
 
 abbrev Inv-loop : tie.InvT-loop
-Inv-loop bytes ends rs work slots s i name q₀ q = (name ≡ nth (names bytes ends) i) × Walk (names bytes ends) slots rs i q
+Inv-loop bytes ends rs work slots s i name q₀ q = (name ≡ nth (names bytes ends) i) × Walk (nth (names bytes ends)) (slotOf slots) (at rs) i q
 
 abbrev μ-loop : tie.MeasureT-loop
 μ-loop bytes ends rs work slots s i name q₀ q = q
@@ -29,7 +29,7 @@ shared-slice-read-q c = omega (arith, c .before .before .before .before .before 
 
 loop-holds : tie.Need-loop-holds Inv-loop μ-loop
 loop-holds c = (let s = c .before .before .before .before .before .before in
-    (c .before .name-of .ensures, walk-start (names (s .args .bytes .now) (s .args .ends .now)) (s .args .slots) (s .args .rs .now) (s .args .i) (s .args .s) _ (s .pre .3) (s .pre .5 .heads (s .args .s) (s .pre .4))))
+    (c .before .name-of .ensures, walk-start (nth (names (s .args .bytes .now) (s .args .ends .now))) (slotOf (s .args .slots)) (at (s .args .rs .now)) (s .args .i) (s .args .s) _ (s .pre .3) (s .pre .5 .heads (s .args .s) (s .pre .4))))
 
 sub-j : tie.Need-sub-j Inv-loop μ-loop
 sub-j c = omega arith
@@ -47,7 +47,7 @@ returns : tie.Need-returns Inv-loop μ-loop
 returns c = (let s = c .before .before .before .before .before .before .before .before .before .before .before in
     let l = c .before .before .before .before .loop in
     let xs = names (s .args .bytes .now) (s .args .ends .now) in
-    walk-found xs (s .args .slots) (s .args .rs .now) (s .args .i) (l .q) (omega arith) (l .inv .1)
+    walk-found (nth xs) (slotOf (s .args .slots)) (at (s .args .rs .now)) (s .args .i) (l .q) (omega arith) (l .inv .1)
     (ap₂ same (sym (c .before .before .name-of2 .ensures)) (sym (l .inv .0)) ∙ sym (c .before .alike .ensures) ∙ c .if1 .taken))
 
 add-q : tie.Need-add-q Inv-loop μ-loop
@@ -69,7 +69,7 @@ loop-again c = (let s = c .before .before .before .before .before .before .befor
     let w = l .inv .1 in
     let some : 0 < l .q = omega arith in (
       l .inv .0,
-      walk-step xs (s .args .slots) (s .args .rs .now) (s .args .i) (l .q) _ some w
+      walk-step (nth xs) (slotOf (s .args .slots)) (at (s .args .rs .now)) (s .args .i) (l .q) _ some w
           (ap₂ same (sym (c .before .before .before .name-of2 .ensures)) (sym (l .inv .0)) ∙ sym (c .before .before .alike .ensures) ∙ c .before .if1 .left)
           (s .pre .5 .links (l .q - 1) (omega (arith, w .below)) (w .taken some)),
     ))
@@ -77,7 +77,7 @@ loop-again c = (let s = c .before .before .before .before .before .before .befor
 returns-2 : tie.Need-returns-2 Inv-loop μ-loop
 returns-2 c = (let s = c .before .before .before .before .before .before .before .before in
     let l = c .before .loop in
-    walk-end (names (s .args .bytes .now) (s .args .ends .now)) (s .args .slots) (s .args .rs .now) (s .args .i) (l .q) (omega arith) (l .inv .1))
+    walk-end (nth (names (s .args .bytes .now) (s .args .ends .now))) (slotOf (s .args .slots)) (at (s .args .rs .now)) (s .args .i) (l .q) (omega arith) (l .inv .1))
 
 pub chained-spec : {M : Type 1} → statement M
 chained-spec =

@@ -1,21 +1,27 @@
 -- `build::held::clear` meets its contract. The loop's invariant: the words passed are zero. Assumes nothing.
 use Prim.Native.Nat.{ℕ, _+_, _-_, _≤_, _<_}
 use native.Mathlib.Omega.{arith}
-use mathlib.Core.Path.{_≡_, refl}
-use lib.ListN.{length, getD, length-set}
+use mathlib.Core.Path.{_≡_, refl, _∙_}
+use lib.ListN.{length, length-set}
+use lib.Seq.{getD-set-other}
 use borrow.Author.Needs.{needs}
-use Rattle.build.proofs.Chained.{zeros-turn}
+use Rattle.build.specs.steps.Held.{at}
+use Rattle.build.proofs.Linked.{zeros-turn}
 use Rattle.build.proofs.held.clear.Statement.{statement}
 use Rattle.build.proofs.held.clear.Tie as tie
 
 abbrev Inv-loop : tie.InvT-loop
-Inv-loop work₀ slots end i₀ work i = (i ≤ end) × (length work ≡ length work₀) × ((s : ℕ) → s < i → getD work s 0 ≡ 0)
+Inv-loop work₀ slots i₀ work i =
+    (i ≤ slots)
+    × (length work ≡ length work₀)
+    × ((s : ℕ) → s < i → at work s ≡ 0)
+    × ((k : ℕ) → slots ≤ k → at work k ≡ at work₀ k)
 
 abbrev μ-loop : tie.MeasureT-loop
-μ-loop work₀ slots end i₀ work i = end - i
+μ-loop work₀ slots i₀ work i = slots - i
 
 loop-holds : tie.Need-loop-holds Inv-loop μ-loop
-loop-holds c = (omega arith, refl, λ s h. absurd (omega arith))
+loop-holds c = (omega arith, refl, λ s h. absurd (omega arith), λ k h. refl)
 
 mul-work : tie.Need-mul-work Inv-loop μ-loop
 mul-work c = omega arith
@@ -31,14 +37,18 @@ loop-less c = omega arith
 
 loop-again : tie.Need-loop-again Inv-loop μ-loop
 loop-again c =
-    let l = c .before .loop in
-    (omega arith, simp length-set (l .inv .1), zeros-turn (l .work) (l .i) (omega (arith, l .inv .1)) (l .inv .2))
+    let l = c .before .loop in (
+      omega arith,
+      simp length-set (l .inv .1),
+      zeros-turn (l .work) (l .i) (omega (arith, l .inv .1)) (l .inv .2),
+      λ k h. getD-set-other (l .work) (l .i) k 0 0 (λ e. omega (arith, c .loop-test .taken)) ∙ l .inv .3 k h,
+    )
 
 same-length : tie.Need-same-length Inv-loop μ-loop
 same-length c = search needs
 
 returns : tie.Need-returns Inv-loop μ-loop
-returns c = λ s h. c .before .loop .inv .2 s (omega arith)
+returns c = (λ s h. c .before .loop .inv .2 s (omega arith), c .before .loop .inv .3)
 
 pub clear-spec : {M : Type 1} → statement M
 clear-spec =

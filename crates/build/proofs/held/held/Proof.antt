@@ -4,7 +4,7 @@ use native.Mathlib.Omega.{arith}
 use mathlib.Core.Path.{_∙_}
 use borrow.Author.Needs.{needs}
 use Rattle.joined.specs.Names.{names, nth}
-use Rattle.build.specs.Held.{heldBefore}
+use Rattle.build.specs.steps.Held.{at, heldBefore}
 use Rattle.build.proofs.Turns.{off-held, on-held}
 use Rattle.build.proofs.held.held.Statement.{statement}
 use Rattle.build.proofs.held.held.Tie as tie
@@ -34,7 +34,7 @@ returns-2 : tie.Need-returns-2
 returns-2 c =
     let a = c .before .before .before .before .before .before .args in
     let xs = names (a .bytes .now) (a .ends .now) in
-    on-held (heldBefore xs (a .rs .now) (a .i) (nth xs (a .i))) (a .repeats) (c .enum-told .given .1)
+    on-held (heldBefore (nth xs) (at (a .rs .now)) (a .i) (nth xs (a .i))) (a .repeats) (c .enum-told .given .1)
 
 returns-3 : tie.Need-returns-3
 returns-3 c = c .chained .ensures ∙ off-held _ _ (c .before .before .enum-told2 .given .1)

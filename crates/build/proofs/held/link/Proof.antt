@@ -3,7 +3,7 @@ use Prim.Native.Nat.{_<_}
 use native.Mathlib.Omega.{arith}
 use lib.ListN.{length-set}
 use borrow.Author.Needs.{needs}
-use Rattle.build.proofs.Chained.{linked-none, linked-refused, linked-accepted}
+use Rattle.build.proofs.Linked.{linked-none, linked-refused, linked-accepted}
 use Rattle.build.proofs.held.link.Statement.{statement}
 use Rattle.build.proofs.held.link.Tie as tie
 

@@ -1,6 +1,6 @@
 -- `build::held::slot_of` meets its contract. Assumes nothing.
 use native.Mathlib.Nat.{mod-lt}
-use Rattle.build.proofs.Chained.{slot-is}
+use Rattle.build.proofs.Linked.{slot-is}
 use borrow.Author.Needs.{needs}
 use Rattle.build.proofs.held.slot_of.Statement.{statement}
 use Rattle.build.proofs.held.slot_of.Tie as tie

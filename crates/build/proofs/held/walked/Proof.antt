@@ -9,14 +9,14 @@ use lib.Dec.{eqb}
 use borrow.Author.Needs.{needs}
 use Rattle.image.specs.Bytes.{same}
 use Rattle.joined.specs.Names.{names, nth}
-use Rattle.build.specs.Held.{heldBefore}
+use Rattle.build.specs.steps.Held.{at, heldBefore}
 use Rattle.build.proofs.Chained.{none-start, none-more, none-all, one-found}
 use Rattle.build.proofs.held.walked.Statement.{statement}
 use Rattle.build.proofs.held.walked.Tie as tie
 
 abbrev Inv-loop : tie.InvT-loop
 Inv-loop bytes ends rs i name j₀ j =
-    (name ≡ nth (names bytes ends) i) × (j ≤ i) × (heldBefore (names bytes ends) rs j (nth (names bytes ends) i) ≡ false)
+    (name ≡ nth (names bytes ends) i) × (j ≤ i) × (heldBefore (nth (names bytes ends)) (at rs) j (nth (names bytes ends) i) ≡ false)
 
 abbrev μ-loop : tie.MeasureT-loop
 μ-loop bytes ends rs i name j₀ j = i - j
@@ -28,7 +28,7 @@ loop-holds : tie.Need-loop-holds Inv-loop μ-loop
 loop-holds c =
     let a = c .before .before .before .before .args in
     let xs = names (a .bytes .now) (a .ends .now) in
-    (c .name-of .ensures, omega arith, none-start xs (a .rs .now) (nth xs (a .i)))
+    (c .name-of .ensures, omega arith, none-start (nth xs) (at (a .rs .now)) (nth xs (a .i)))
 
 equals-requires : tie.Need-equals-requires Inv-loop μ-loop
 equals-requires c κs =
@@ -40,7 +40,7 @@ returns c =
     let a = c .before .before .before .before .before .before .before .before .args in
     let l = c .before .before .before .loop in
     let xs = names (a .bytes .now) (a .ends .now) in
-    sym (one-found xs (a .rs .now) (nth xs (a .i)) (a .i) (l .j) (omega arith)
+    sym (one-found (nth xs) (at (a .rs .now)) (nth xs (a .i)) (a .i) (l .j) (omega arith)
     (ap (λ (x : List ℕ). eqb (getD (a .rs .now) (l .j) 0) 0 && same (nth xs (l .j)) x) (sym (l .inv .0)) ∙ sym (c .before .equals .ensures) ∙ c .if1 .taken))
 
 add-j : tie.Need-add-j Inv-loop μ-loop
@@ -56,7 +56,7 @@ loop-again c =
     let xs = names (a .bytes .now) (a .ends .now) in (
       l .inv .0,
       omega arith,
-      none-more xs (a .rs .now) (nth xs (a .i)) (l .j) (l .inv .2)
+      none-more (nth xs) (at (a .rs .now)) (nth xs (a .i)) (l .j) (l .inv .2)
           (ap (λ (x : List ℕ). eqb (getD (a .rs .now) (l .j) 0) 0 && same (nth xs (l .j)) x) (sym (l .inv .0)) ∙ sym (c .before .equals .ensures) ∙ c .if1 .left),
     )
 
@@ -65,7 +65,7 @@ returns-2 c =
     let a = c .before .before .before .before .before .before .args in
     let l = c .before .loop in
     let xs = names (a .bytes .now) (a .ends .now) in
-    none-all xs (a .rs .now) (nth xs (a .i)) (a .i) (l .j) (omega arith) (l .inv .2)
+    none-all (nth xs) (at (a .rs .now)) (nth xs (a .i)) (a .i) (l .j) (omega arith) (l .inv .2)
 
 pub walked-spec : {M : Type 1} → statement M
 walked-spec =
