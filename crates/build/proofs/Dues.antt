@@ -31,7 +31,7 @@ use Rattle.lists.specs.Calls.{sizeOf, putDue}
 use Rattle.lists.proofs.Written.{Written}
 use Rattle.lists.proofs.Appended.{entriesSize-snoc, backSize-snoc, sizeOf-is}
 use Rattle.lists.proofs.Puts.{put-due}
-use Rattle.build.specs.steps.Held.{at, heldBefore, answered, leftBy}
+use Rattle.build.specs.steps.Held.{at, heldBefore, answered, leftAnswered}
 use Rattle.build.specs.steps.Marked.{metBefore, markOf, putBy, Roomy}
 use Rattle.build.proofs.Chained.{and-false}
 use Rattle.build.proofs.Going.{Going, going-turn}
@@ -210,8 +210,8 @@ module _ (mode : Mode) (repeats : Repeats) (buffer bytes ends ids rs : List ℕ)
         ]
 
     module _ (s′ : State) (left : s′ ≡ putBy (at rs i) s e) (word : getD ids i 0 < 2 ^ 32) where
-      leaves : s′ ≡ leftBy held s e
-      unfolding leftBy answered afterPut putBy
+      leaves : s′ ≡ leftAnswered held s e
+      unfolding leftAnswered answered afterPut putBy
       leaves = left ∙ ap (λ (r : ℕ). cond (eqb r 0) (appended s e) s) due-answer ∙ go held
         where
           go : (h : Bool) → cond (eqb (cond h 16 (putRefusal s e)) 0) (appended s e) s ≡ cond h s (cond (eqb (putRefusal s e) 0) (appended s e) s)

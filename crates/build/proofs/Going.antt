@@ -27,7 +27,7 @@ use Rattle.lists.proofs.Written.{Written}
 use Rattle.lists.proofs.Puts.{put-due, due-free, fresh-written}
 use Rattle.lists.proofs.Closes.{close-accepted}
 use Rattle.build.specs.Build.{callsOf}
-use Rattle.build.specs.steps.Held.{at, heldBefore, answered, leftBy}
+use Rattle.build.specs.steps.Held.{at, heldBefore, answered, leftAnswered}
 use Rattle.build.specs.steps.Along.{chosen, Puts}
 use Rattle.build.proofs.Chained.{held-more, held-ext}
 use Rattle.build.proofs.Linked.{at-set}
@@ -155,7 +155,7 @@ module _ (mode : Mode) (repeats : Repeats) (buffer : List ℕ) (xs : List (List 
       word-id Oneway = word
 
       -- what is answered, and the state that is left
-      module _ (r : ℕ) (s' : State) (answer : r ≡ answered held s e) (leaves : s' ≡ leftBy held s e) where
+      module _ (r : ℕ) (s' : State) (answer : r ≡ answered held s e) (leaves : s' ≡ leftAnswered held s e) where
         abbrev then : List Entry
         then = acceptedAfter mode repeats n es (put e)
 

@@ -18,7 +18,7 @@ use Rattle.image.proofs.Equal.{same-true, same-false}
 use Rattle.joined.specs.Names.{nth}
 use Rattle.joined.specs.Keys.{key}
 use Rattle.build.specs.steps.Held.{at, heldBefore, Chains}
-use Rattle.build.specs.steps.Parted.{hashIn, numberIn, keptIn, linkOf, tableAt, tableIn, placeOf, Ordered, slotBy, slotIn}
+use Rattle.build.specs.steps.Parted.{hashIn, numberIn, keptIn, linkOf, tableOfName, tableIn, placeInOrder, Ordered, slotBy, slotInTable}
 use Rattle.build.specs.steps.Marked.{allTaken, metBefore, zeroMark, markOf, repeatMark, firstMark, Ready, linkedIn}
 use Rattle.build.proofs.Tallies.{order-told}
 use Rattle.build.proofs.Chained.{and-false, held-at, chains-none, chains-refused, chains-accepted}
@@ -63,14 +63,14 @@ both false false f g = refl
 
 -- ---- in the order of the tables
 
-module _ (xs : List (List ℕ)) (n : ℕ) (number : ℕ → ℕ) (o : Ordered (tableAt xs) n number) where
+module _ (xs : List (List ℕ)) (n : ℕ) (number : ℕ → ℕ) (o : Ordered (tableOfName xs) n number) where
   abbrev T : ℕ → ℕ
-  T = tableAt xs
+  T = tableOfName xs
 
-  own-place : (p : ℕ) → p < n → placeOf T n (number p) ≡ p
+  own-place : (p : ℕ) → p < n → placeInOrder T n (number p) ≡ p
   own-place p h =
       let i = number p in
-      let q = placeOf T n i in
+      let q = placeInOrder T n i in
       let inside : i < n = o .below p h in
       let back : number q ≡ number p = o .there i inside .1 in
       let here = o .there i inside .0 in
@@ -82,7 +82,7 @@ module _ (xs : List (List ℕ)) (n : ℕ) (number : ℕ → ℕ) (o : Ordered (t
         ]
       ]
 
-  pub place-other : (p i : ℕ) → p < n → i < n → (i ≡ number p → ⊥) → placeOf T n i ≡ p → ⊥
+  pub place-other : (p i : ℕ) → p < n → i < n → (i ≡ number p → ⊥) → placeInOrder T n i ≡ p → ⊥
   place-other p i h k other e = other (sym (o .there i k .1) ∙ ap number e)
 
   module _ (x : ℕ → List ℕ) (are : (q : ℕ) → q < n → x q ≡ nth xs (number q)) where
@@ -111,7 +111,7 @@ module _ (xs : List (List ℕ)) (n : ℕ) (number : ℕ → ℕ) (o : Ordered (t
             let l : j < i = f .before in
             let below : i < n = o .below p h in
             let k : j < n = omega arith in
-            let q = placeOf T n j in
+            let q = placeInOrder T n j in
             let w = o .there j k in
             let t : T j ≡ T i = same-table j i (f .equal) in
             let s : same (x q) (x p) ≡ true = ap₂ same (are q (w .0) ∙ ap (nth xs) (w .1)) (are p h) ∙ f .equal in
@@ -126,18 +126,18 @@ module _ (xs : List (List ℕ)) (n : ℕ) (number : ℕ → ℕ) (o : Ordered (t
 -- ---- the lent memory, a place at a time
 
 module _ (xs : List (List ℕ)) (n : ℕ) (slot : List ℕ → ℕ) where
-  order-ext : (f g : ℕ → ℕ) → ((p : ℕ) → p < n → g p ≡ f p) → Ordered (tableAt xs) n f → Ordered (tableAt xs) n g
+  order-ext : (f g : ℕ → ℕ) → ((p : ℕ) → p < n → g p ≡ f p) → Ordered (tableOfName xs) n f → Ordered (tableOfName xs) n g
   order-ext f g e o =
       record {
         below = λ p h. omega (arith, e p h, o .below p h);
-        there = λ i h. (o .there i h .0, e (placeOf (tableAt xs) n i) (o .there i h .0) ∙ o .there i h .1);
+        there = λ i h. (o .there i h .0, e (placeInOrder (tableOfName xs) n i) (o .there i h .0) ∙ o .there i h .1);
         rises = λ p q h k t.
             (let a = e p (omega arith) in
             let b = e q k in
-            omega (arith, a, b, o .rises p q h k (sym (ap (tableAt xs) a) ∙ t ∙ ap (tableAt xs) b)));
+            omega (arith, a, b, o .rises p q h k (sym (ap (tableOfName xs) a) ∙ t ∙ ap (tableOfName xs) b)));
       }
 
-  pub ready-start : (work : List ℕ) → Ordered (tableAt xs) n (numberIn n work) → ((p : ℕ) → p < n → hashIn n work p ≡ key (nth xs (numberIn n work p)))
+  pub ready-start : (work : List ℕ) → Ordered (tableOfName xs) n (numberIn n work) → ((p : ℕ) → p < n → hashIn n work p ≡ key (nth xs (numberIn n work p)))
       → ((s : ℕ) → s < 2 * n → at work s ≡ 0) → Ready xs n slot work 0
   ready-start work o hashed z =
       let x : ℕ → List ℕ = λ (q : ℕ). nth xs (numberIn n work q) in
@@ -152,10 +152,10 @@ module _ (xs : List (List ℕ)) (n : ℕ) (slot : List ℕ → ℕ) where
       numbers : (p : ℕ) → p < n → numberIn n work p ≡ numberIn n parted p
       numbers p h = same-words (2 * n + 3 * p + 1) (omega arith)
 
-      told : Ordered (tableAt xs) n (numberIn n parted)
-      told = order-told (tableIn n hashes) (tableAt xs) n (λ i h. ap tableOf (kept i h)) (numberIn n parted) o
+      told : Ordered (tableOfName xs) n (numberIn n parted)
+      told = order-told (tableIn n hashes) (tableOfName xs) n (λ i h. ap tableOf (kept i h)) (numberIn n parted) o
 
-      order : Ordered (tableAt xs) n (numberIn n work)
+      order : Ordered (tableOfName xs) n (numberIn n work)
       order = order-ext (numberIn n parted) (numberIn n work) numbers told
 
       own : (p : ℕ) → p < n → hashIn n work p ≡ key (nth xs (numberIn n work p))
@@ -232,25 +232,25 @@ module _ (xs : List (List ℕ)) (n : ℕ) (slot : List ℕ → ℕ) where
 
 -- the mark of the i-th name when the first p places are told
 abbrev pub markAt : List (List ℕ) → ℕ → ℕ → ℕ → ℕ
-markAt xs n p i = cond (ltb (placeOf (tableAt xs) n i) p) (markOf true (nth xs) i) (zeroMark (nth xs i))
+markAt xs n p i = cond (ltb (placeInOrder (tableOfName xs) n i) p) (markOf true (nth xs) i) (zeroMark (nth xs i))
 
 module _ (xs : List (List ℕ)) (n : ℕ) where
   pub marks-start : (rs : List ℕ) → ((i : ℕ) → i < n → at rs i ≡ zeroMark (nth xs i)) → (i : ℕ) → i < n → at rs i ≡ markAt xs n 0 i
   marks-start rs z i h =
-      z i h ∙ sym (ap (λ (b : Bool). cond b (markOf true (nth xs) i) (zeroMark (nth xs i))) (le-ltb (placeOf (tableAt xs) n i) 0 (omega arith)))
+      z i h ∙ sym (ap (λ (b : Bool). cond b (markOf true (nth xs) i) (zeroMark (nth xs i))) (le-ltb (placeInOrder (tableOfName xs) n i) 0 (omega arith)))
 
-  module _ (number : ℕ → ℕ) (o : Ordered (tableAt xs) n number) where
+  module _ (number : ℕ → ℕ) (o : Ordered (tableOfName xs) n number) where
     pub marks-end : (rs : List ℕ) (p : ℕ) → n ≤ p → ((i : ℕ) → i < n → at rs i ≡ markAt xs n p i) → (i : ℕ) → i < n → at rs i ≡ markOf true (nth xs) i
     marks-end rs p l z i h =
         z i h
         ∙ ap (λ (b : Bool). cond b (markOf true (nth xs) i) (zeroMark (nth xs i)))
-        (lt-ltb (placeOf (tableAt xs) n i) p (omega (arith, o .there i h .0)))
+        (lt-ltb (placeInOrder (tableOfName xs) n i) p (omega (arith, o .there i h .0)))
 
     module _ (p : ℕ) (inside : p < n) where
       -- another name's mark waits for its own place
       waits : (i : ℕ) → i < n → (i ≡ number p → ⊥) → markAt xs n p i ≡ markAt xs n (p + 1) i
       waits i h other =
-          let q = placeOf (tableAt xs) n i in
+          let q = placeInOrder (tableOfName xs) n i in
           let apart : q ≡ p → ⊥ = place-other xs n number o p i inside h other in
           ap (λ (b : Bool). cond b (markOf true (nth xs) i) (zeroMark (nth xs i))) (go q apart)
         where
@@ -263,13 +263,13 @@ module _ (xs : List (List ℕ)) (n : ℕ) where
 
       now : (i : ℕ) → i ≡ number p → markAt xs n p i ≡ zeroMark (nth xs i)
       now i e =
-          let q : placeOf (tableAt xs) n i ≡ p = ap (placeOf (tableAt xs) n) e ∙ own-place xs n number o p inside in
-          ap (λ (b : Bool). cond b (markOf true (nth xs) i) (zeroMark (nth xs i))) (le-ltb (placeOf (tableAt xs) n i) p (omega arith))
+          let q : placeInOrder (tableOfName xs) n i ≡ p = ap (placeInOrder (tableOfName xs) n) e ∙ own-place xs n number o p inside in
+          ap (λ (b : Bool). cond b (markOf true (nth xs) i) (zeroMark (nth xs i))) (le-ltb (placeInOrder (tableOfName xs) n i) p (omega arith))
 
       then-told : (i : ℕ) → i ≡ number p → markAt xs n (p + 1) i ≡ markOf true (nth xs) i
       then-told i e =
-          let q : placeOf (tableAt xs) n i ≡ p = ap (placeOf (tableAt xs) n) e ∙ own-place xs n number o p inside in
-          ap (λ (b : Bool). cond b (markOf true (nth xs) i) (zeroMark (nth xs i))) (lt-ltb (placeOf (tableAt xs) n i) (p + 1) (omega arith))
+          let q : placeInOrder (tableOfName xs) n i ≡ p = ap (placeInOrder (tableOfName xs) n) e ∙ own-place xs n number o p inside in
+          ap (λ (b : Bool). cond b (markOf true (nth xs) i) (zeroMark (nth xs i))) (lt-ltb (placeInOrder (tableOfName xs) n i) (p + 1) (omega arith))
 
       -- the place's name stands for the first time
       pub marks-first : (rs : List ℕ) → metBefore (nth xs) (number p) (nth xs (number p)) ≡ false → ((i : ℕ) → i < n → at rs i ≡ markAt xs n p i)
@@ -359,14 +359,14 @@ slot-fits a b h k = let l : 2 * a * b ≤ 8589934590 * 16777215 = mul-le-mul {n�
 pub slot-fits-sum : (f a b : ℕ) → f ≤ 4294967295 → a ≤ 4294967295 → b ≤ 16777215 → 2 * f + 2 * a * b / 16777216 < 18446744073709551616
 slot-fits-sum f a b g h k = let l : 2 * a * b < 18446744073709551616 = slot-fits a b h k in omega arith
 
-pub slot-inside : (n h : ℕ) (ends : List ℕ) → slotBy ends h < 2 * n → (slotBy ends h ≡ slotIn n ends h) × (slotBy ends h < 2 * n)
-unfolding slotIn
+pub slot-inside : (n h : ℕ) (ends : List ℕ) → slotBy ends h < 2 * n → (slotBy ends h ≡ slotInTable n ends h) × (slotBy ends h < 2 * n)
+unfolding slotInTable
 slot-inside n h ends l = (sym (ap (λ (b : Bool). cond b (slotBy ends h) 0) (lt-ltb (slotBy ends h) (2 * n) l)), l)
 
-pub slot-turned : (n h : ℕ) (ends : List ℕ) (s : ℕ) → slotBy ends h ≡ s → (slotBy ends h ≡ s → (slotBy ends h ≡ slotIn n ends h) × (slotBy ends h < 2 * n))
-    → (s ≡ slotIn n ends h) × (s < 2 * n)
+pub slot-turned : (n h : ℕ) (ends : List ℕ) (s : ℕ) → slotBy ends h ≡ s → (slotBy ends h ≡ s → (slotBy ends h ≡ slotInTable n ends h) × (slotBy ends h < 2 * n))
+    → (s ≡ slotInTable n ends h) × (s < 2 * n)
 slot-turned n h ends s e f = (sym e ∙ f e .0, omega (arith, e, f e .1))
 
-pub slot-outside : (n h : ℕ) (ends : List ℕ) → 0 < n → 2 * n ≤ slotBy ends h → (0 ≡ slotIn n ends h) × (0 < 2 * n)
-unfolding slotIn
+pub slot-outside : (n h : ℕ) (ends : List ℕ) → 0 < n → 2 * n ≤ slotBy ends h → (0 ≡ slotInTable n ends h) × (0 < 2 * n)
+unfolding slotInTable
 slot-outside n h ends some l = (sym (ap (λ (b : Bool). cond b (slotBy ends h) 0) (le-ltb (slotBy ends h) (2 * n) l)), omega arith)

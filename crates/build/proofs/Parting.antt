@@ -9,7 +9,7 @@ use lib.ListN.{length, getD, set, length-set}
 use lib.Seq.{getD-set-same, getD-set-other}
 use Rattle.image.specs.Tables.{tableOf}
 use Rattle.build.specs.steps.Held.{at}
-use Rattle.build.specs.steps.Parted.{hashIn, numberIn, keptIn, tableIn, tally, sumTo, firstOf, placeOf, Ordered}
+use Rattle.build.specs.steps.Parted.{hashIn, numberIn, keptIn, tableIn, countOfTable, sumTo, firstOf, placeInOrder, Ordered}
 use Rattle.build.proofs.Tallies.{sum-more, tally-own, tally-other, tally-none, place-below, place-apart, held-place, ordered}
 
 -- one word more of a run of words from o on
@@ -35,28 +35,28 @@ first-turn f l i v h e known j k =
 module _ (T : ℕ → ℕ) where
   -- a number more of table t, where d is added to each count
   pub count-turn : (tables : List ℕ) (d : ℕ → ℕ) (i t : ℕ) → t ≡ T i → t < 256 → length tables ≡ 256
-      → ((s : ℕ) → s < 256 → at tables s ≡ d s + tally T s i)
-      → (s : ℕ) → s < 256 → at (set tables t (at tables t + 1)) s ≡ d s + tally T s (i + 1)
+      → ((s : ℕ) → s < 256 → at tables s ≡ d s + countOfTable T s i)
+      → (s : ℕ) → s < 256 → at (set tables t (at tables t + 1)) s ≡ d s + countOfTable T s (i + 1)
   count-turn tables d i t e h size known s k =
       elim (ℕ-discrete s t) [
         | yes p ↦ own p
         | no p ↦ getD-set-other tables t s (at tables t + 1) 0 p ∙ known s k ∙ ap (λ (m : ℕ). d s + m) (sym (tally-other T s i (λ q. p (sym q ∙ sym e))))
       ]
     where
-      own : s ≡ t → at (set tables t (at tables t + 1)) s ≡ d s + tally T s (i + 1)
+      own : s ≡ t → at (set tables t (at tables t + 1)) s ≡ d s + countOfTable T s (i + 1)
       own p =
           let is : at (set tables t (at tables t + 1)) s ≡ at tables t + 1 = ap (at (set tables t (at tables t + 1))) p ∙ getD-set-same tables t (at tables t + 1) 0 (omega arith) in
-          let was : at tables t ≡ d s + tally T s i = ap (at tables) (sym p) ∙ known s k in
+          let was : at tables t ≡ d s + countOfTable T s i = ap (at tables) (sym p) ∙ known s k in
           omega (arith, is, was, tally-own T s i (sym e ∙ sym p))
 
-  pub counts-turn : (tables : List ℕ) (i t : ℕ) → t ≡ T i → t < 256 → length tables ≡ 256 → ((s : ℕ) → s < 256 → at tables s ≡ tally T s i)
-      → (s : ℕ) → s < 256 → at (set tables t (at tables t + 1)) s ≡ tally T s (i + 1)
-  counts-turn tables i t e h size known s k = count-turn tables (λ (m : ℕ). 0) i t e h size (λ m l. known m l ∙ nothing (tally T m i)) s k ∙ sym (nothing (tally T s (i + 1)))
+  pub counts-turn : (tables : List ℕ) (i t : ℕ) → t ≡ T i → t < 256 → length tables ≡ 256 → ((s : ℕ) → s < 256 → at tables s ≡ countOfTable T s i)
+      → (s : ℕ) → s < 256 → at (set tables t (at tables t + 1)) s ≡ countOfTable T s (i + 1)
+  counts-turn tables i t e h size known s k = count-turn tables (λ (m : ℕ). 0) i t e h size (λ m l. known m l ∙ nothing (countOfTable T m i)) s k ∙ sym (nothing (countOfTable T s (i + 1)))
     where
       nothing : (m : ℕ) → m ≡ 0 + m
       nothing m = omega arith
 
-  pub counts-none : (tables : List ℕ) → ((t : ℕ) → t < 256 → at tables t ≡ 0) → (t : ℕ) → t < 256 → at tables t ≡ tally T t 0
+  pub counts-none : (tables : List ℕ) → ((t : ℕ) → t < 256 → at tables t ≡ 0) → (t : ℕ) → t < 256 → at tables t ≡ countOfTable T t 0
   counts-none tables z t h = z t h ∙ sym (tally-none T t)
 
 pub sums-turn : (c : ℕ → ℕ) (tables : List ℕ) (t first : ℕ) → t < length tables → first ≡ sumTo c t
@@ -88,9 +88,9 @@ module _ (n : ℕ) (first : List ℕ) where
     pub long : length work ≡ length first
     pub rows : length tables ≡ 256
     pub kept : (j : ℕ) → j < n → keptIn n work j ≡ keptIn n first j
-    pub next : (t : ℕ) → t < 256 → at tables t ≡ firstOf T n t + tally T t i
-    pub hash : (j : ℕ) → j < i → hashIn n work (placeOf T n j) ≡ keptIn n first j
-    pub number : (j : ℕ) → j < i → numberIn n work (placeOf T n j) ≡ j
+    pub next : (t : ℕ) → t < 256 → at tables t ≡ firstOf T n t + countOfTable T t i
+    pub hash : (j : ℕ) → j < i → hashIn n work (placeInOrder T n j) ≡ keptIn n first j
+    pub number : (j : ℕ) → j < i → numberIn n work (placeInOrder T n j) ≡ j
 
   pub settled-start : (tables : List ℕ) → length tables ≡ 256 → ((t : ℕ) → t < 256 → at tables t ≡ firstOf T n t) → Settled 0 first tables
   settled-start tables size known =
@@ -98,7 +98,7 @@ module _ (n : ℕ) (first : List ℕ) where
         long = refl;
         rows = size;
         kept = λ j h. refl;
-        next = λ t h. known t h ∙ nothing (firstOf T n t) (tally T t 0) (tally-none T t);
+        next = λ t h. known t h ∙ nothing (firstOf T n t) (countOfTable T t 0) (tally-none T t);
         hash = λ j h. absurd (omega arith);
         number = λ j h. absurd (omega arith);
       }
@@ -108,13 +108,13 @@ module _ (n : ℕ) (first : List ℕ) where
 
   module _ (i : ℕ) (work tables : List ℕ) (s : Settled i work tables) (inside : i < n) (room : 6 * n ≤ length first) (h : ℕ) (is : h ≡ keptIn n work i) where
     abbrev p : ℕ
-    p = placeOf T n i
+    p = placeInOrder T n i
 
     in-table : tableOf h ≡ T i
     in-table = ap tableOf (is ∙ s .kept i inside)
 
     pub next-place : at tables (tableOf h) ≡ p
-    unfolding placeOf
+    unfolding placeInOrder
     next-place = ap (at tables) in-table ∙ s .next (T i) (tabled i)
 
     pub place-free : at tables (tableOf h) < n
@@ -139,7 +139,7 @@ module _ (n : ℕ) (first : List ℕ) where
     own-number : numberIn n then p ≡ i
     own-number = getD-set-same once (2 * n + 3 * p + 1) i 0 (omega (arith, below, s .long, length-set work (2 * n + 3 * p) h))
 
-    earlier : (j : ℕ) → j < i → placeOf T n j ≡ p → ⊥
+    earlier : (j : ℕ) → j < i → placeInOrder T n j ≡ p → ⊥
     earlier j k e = place-apart T 256 tabled n j i k inside e
 
     pub settled-turn : (work′ tables′ : List ℕ)
@@ -156,12 +156,12 @@ module _ (n : ℕ) (first : List ℕ) where
               ap (λ (l : List ℕ). at l t) f
               ∙ count-turn T tables (firstOf T n) i (tableOf h) in-table (mod-lt h (omega arith)) (s .rows) (s .next) t k;
           hash = λ j k. elim (ℕ-discrete j i) [
-            | yes q ↦ ap (λ (m : ℕ). hashIn n then (placeOf T n m)) q ∙ own-hash ∙ is ∙ s .kept i inside ∙ ap (keptIn n first) (sym q)
-            | no q ↦ other (2 * n + 3 * placeOf T n j) (λ z. earlier j (omega arith) (omega arith)) (λ z. omega arith) ∙ s .hash j (omega arith)
+            | yes q ↦ ap (λ (m : ℕ). hashIn n then (placeInOrder T n m)) q ∙ own-hash ∙ is ∙ s .kept i inside ∙ ap (keptIn n first) (sym q)
+            | no q ↦ other (2 * n + 3 * placeInOrder T n j) (λ z. earlier j (omega arith) (omega arith)) (λ z. omega arith) ∙ s .hash j (omega arith)
           ];
           number = λ j k. elim (ℕ-discrete j i) [
-            | yes q ↦ ap (λ (m : ℕ). numberIn n then (placeOf T n m)) q ∙ own-number ∙ sym q
-            | no q ↦ other (2 * n + 3 * placeOf T n j + 1) (λ z. omega arith) (λ z. earlier j (omega arith) (omega arith)) ∙ s .number j (omega arith)
+            | yes q ↦ ap (λ (m : ℕ). numberIn n then (placeInOrder T n m)) q ∙ own-number ∙ sym q
+            | no q ↦ other (2 * n + 3 * placeInOrder T n j + 1) (λ z. omega arith) (λ z. earlier j (omega arith) (omega arith)) ∙ s .number j (omega arith)
           ];
         })
 

@@ -19,7 +19,7 @@ use Rattle.lists.specs.Demand3.{answersOf, afterList, acceptedPuts}
 use Rattle.lists.proofs.Theorem.{calls-answered}
 use Rattle.build.specs.declared.Made.{Made}
 use Rattle.build.specs.Build.{callsOf, listed, buildRefusal, madeOf, building, answersAfter}
-use Rattle.build.specs.Rows.{Row, Holds, rows}
+use Rattle.build.specs.Rows.{Row, BuildRowHolds, buildRows}
 
 abbrev calls : Row → List Call
 calls r = listed (r .bytes) (r .ends) (r .ids)
@@ -34,7 +34,7 @@ Computed r =
     × (sizeOf Twoway (accepted Twoway (r .repeats) (r .room) (calls r)) ≡ r .made .size)
     × (length (accepted Twoway (r .repeats) (r .room) (calls r)) ≡ r .made .accepted)
 
-holds-in : (r : Row) → Computed r → Holds r
+holds-in : (r : Row) → Computed r → BuildRowHolds r
 unfolding building madeOf answersAfter
 holds-in r c buffer places long many =
     let cs = calls r in
@@ -53,7 +53,7 @@ holds-in r c buffer places long many =
           ∙ append-nil (r .refusals),
     )
 
-computed : All Computed rows
+computed : All Computed buildRows
 unfolding accepted acceptedFrom due dueFrom putDue hasZero holds same sizeOf putsSize backSize names namesFrom astray callsOf buildRefusal
 computed = (
   (lit≤ tt, refl, (tt, (tt, (tt, (tt, tt)))), refl, refl, refl),
@@ -63,5 +63,5 @@ computed = (
   ),
 )
 
-pub rows-hold : All Holds rows
-rows-hold = all-map holds-in rows computed
+pub rows-hold : All BuildRowHolds buildRows
+rows-hold = all-map holds-in buildRows computed

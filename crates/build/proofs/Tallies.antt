@@ -8,7 +8,7 @@ use mathlib.Core.Bool.{Bool, true, false, cond}
 use mathlib.Core.List.{List}
 use borrow.Author.Tests.{eq-eqb, ne-eqb, lt-ltb, le-ltb}
 use lib.Dec.{eqb, ltb}
-use Rattle.build.specs.steps.Parted.{tally, sumTo, firstOf, placeOf, Ordered}
+use Rattle.build.specs.steps.Parted.{countOfTable, sumTo, firstOf, placeInOrder, Ordered}
 
 abbrev one : Bool → ℕ
 one b = cond b 1 0
@@ -53,42 +53,42 @@ sum-ext c d m h (suc t) k = ap₂ (λ (a b : ℕ). a + b) (sum-ext c d m h t (om
 -- ---- counts
 
 module _ (T : ℕ → ℕ) where
-  tally-more : (t i : ℕ) → tally T t (i + 1) ≡ tally T t i + one (eqb (T i) t)
-  unfolding tally
-  tally-more t i = ap (tally T t) (add-one i)
+  tally-more : (t i : ℕ) → countOfTable T t (i + 1) ≡ countOfTable T t i + one (eqb (T i) t)
+  unfolding countOfTable
+  tally-more t i = ap (countOfTable T t) (add-one i)
 
-  pub tally-own : (t i : ℕ) → T i ≡ t → tally T t (i + 1) ≡ tally T t i + 1
-  tally-own t i e = tally-more t i ∙ ap (λ (b : Bool). tally T t i + one b) (eq-eqb (T i) t e)
+  pub tally-own : (t i : ℕ) → T i ≡ t → countOfTable T t (i + 1) ≡ countOfTable T t i + 1
+  tally-own t i e = tally-more t i ∙ ap (λ (b : Bool). countOfTable T t i + one b) (eq-eqb (T i) t e)
 
-  pub tally-other : (t i : ℕ) → (T i ≡ t → ⊥) → tally T t (i + 1) ≡ tally T t i
-  tally-other t i e = tally-more t i ∙ ap (λ (b : Bool). tally T t i + one b) (ne-eqb (T i) t e) ∙ none (tally T t i)
+  pub tally-other : (t i : ℕ) → (T i ≡ t → ⊥) → countOfTable T t (i + 1) ≡ countOfTable T t i
+  tally-other t i e = tally-more t i ∙ ap (λ (b : Bool). countOfTable T t i + one b) (ne-eqb (T i) t e) ∙ none (countOfTable T t i)
     where
       none : (k : ℕ) → k + 0 ≡ k
       none k = omega arith
 
-  pub tally-none : (t : ℕ) → tally T t 0 ≡ 0
-  unfolding tally
+  pub tally-none : (t : ℕ) → countOfTable T t 0 ≡ 0
+  unfolding countOfTable
   tally-none t = refl
 
   one-le : (b : Bool) → one b ≤ 1
   one-le true = omega arith
   one-le false = omega arith
 
-  pub tally-le : (t i : ℕ) → tally T t i ≤ i
-  unfolding tally
+  pub tally-le : (t i : ℕ) → countOfTable T t i ≤ i
+  unfolding countOfTable
   tally-le t zero = omega arith
   tally-le t (suc i) = omega (arith, tally-le t i, one-le (eqb (T i) t))
 
-  tally-mono : (t i j : ℕ) → i ≤ j → tally T t i ≤ tally T t j
-  unfolding tally
-  tally-mono t i zero h = let z : i ≡ 0 = omega arith in omega (arith, ap (tally T t) z)
+  tally-mono : (t i j : ℕ) → i ≤ j → countOfTable T t i ≤ countOfTable T t j
+  unfolding countOfTable
+  tally-mono t i zero h = let z : i ≡ 0 = omega arith in omega (arith, ap (countOfTable T t) z)
   tally-mono t i (suc j) h =
       elim (decLt j i) [
-        | yes p ↦ (let z : i ≡ suc j = omega arith in omega (arith, ap (tally T t) z))
+        | yes p ↦ (let z : i ≡ suc j = omega arith in omega (arith, ap (countOfTable T t) z))
         | no p ↦ omega (arith, tally-mono t i j (omega arith))
       ]
 
-  tally-less : (t i j : ℕ) → T i ≡ t → i < j → tally T t i < tally T t j
+  tally-less : (t i j : ℕ) → T i ≡ t → i < j → countOfTable T t i < countOfTable T t j
   tally-less t i j e h = omega (arith, tally-own t i e, tally-mono t (i + 1) j (omega arith))
 
   -- the k-th of a table
@@ -96,16 +96,16 @@ module _ (T : ℕ → ℕ) where
     number : ℕ
     inside : number < n
     table : T number ≡ t
-    kth : tally T t number ≡ k
+    kth : countOfTable T t number ≡ k
 
   kth-more : (t n k : ℕ) → Kth t n k → Kth t (suc n) k
   kth-more t n k f = record { number = f .number; inside = omega (arith, f .inside); table = f .table; kth = f .kth }
 
-  find-kth : (t n k : ℕ) → k < tally T t n → Kth t n k
-  unfolding tally
+  find-kth : (t n k : ℕ) → k < countOfTable T t n → Kth t n k
+  unfolding countOfTable
   find-kth t zero k h = absurd (omega arith)
   find-kth t (suc n) k h =
-      elim (decLt k (tally T t n)) [
+      elim (decLt k (countOfTable T t n)) [
         | yes p ↦ kth-more t n k (find-kth t n k p)
         | no p ↦ elim (ℕ-discrete (T n) t) [
           | yes e ↦ record { number = n; inside = omega arith; table = e; kth = omega (arith, ap one (eq-eqb (T n) t e)) }
@@ -115,8 +115,8 @@ module _ (T : ℕ → ℕ) where
 
   -- ---- all tables together
 
-  zeros : (m : ℕ) → sumTo (λ (s : ℕ). tally T s 0) m ≡ 0
-  unfolding sumTo tally
+  zeros : (m : ℕ) → sumTo (λ (s : ℕ). countOfTable T s 0) m ≡ 0
+  unfolding sumTo countOfTable
   zeros zero = refl
   zeros (suc m) = omega (arith, zeros m)
 
@@ -130,8 +130,8 @@ module _ (T : ℕ → ℕ) where
         ]
       ]
 
-  sum-suc : (n m : ℕ) → sumTo (λ (s : ℕ). tally T s (suc n)) m ≡ sumTo (λ (s : ℕ). tally T s n) m + one (ltb (T n) m)
-  unfolding sumTo tally
+  sum-suc : (n m : ℕ) → sumTo (λ (s : ℕ). countOfTable T s (suc n)) m ≡ sumTo (λ (s : ℕ). countOfTable T s n) m + one (ltb (T n) m)
+  unfolding sumTo countOfTable
   sum-suc n zero = omega (arith, ap one (le-ltb (T n) 0 (omega arith)))
   sum-suc n (suc m) = omega (arith, sum-suc n m, below-one (T n) m)
 
@@ -140,13 +140,13 @@ module _ (T : ℕ → ℕ) where
   first-le zero m = omega (arith, zeros m)
   first-le (suc n) m = omega (arith, first-le n m, sum-suc n m, one-le (ltb (T n) m))
 
-  first-more : (n t : ℕ) → firstOf T n (t + 1) ≡ firstOf T n t + tally T t n
+  first-more : (n t : ℕ) → firstOf T n (t + 1) ≡ firstOf T n t + countOfTable T t n
   unfolding firstOf
-  first-more n t = sum-more (λ (s : ℕ). tally T s n) t
+  first-more n t = sum-more (λ (s : ℕ). countOfTable T s n) t
 
   first-mono : (n s t : ℕ) → s ≤ t → firstOf T n s ≤ firstOf T n t
   unfolding firstOf
-  first-mono n s t h = sum-mono (λ (k : ℕ). tally T k n) s t h
+  first-mono n s t h = sum-mono (λ (k : ℕ). countOfTable T k n) s t h
 
   -- ---- places
 
@@ -157,26 +157,26 @@ module _ (T : ℕ → ℕ) where
     first-all (suc n) = omega (arith, first-all n, sum-suc n most, ap one (lt-ltb (T n) most (tabled n)))
 
     module _ (n : ℕ) where
-      place-is : (i : ℕ) → placeOf T n i ≡ firstOf T n (T i) + tally T (T i) i
-      unfolding placeOf
+      place-is : (i : ℕ) → placeInOrder T n i ≡ firstOf T n (T i) + countOfTable T (T i) i
+      unfolding placeInOrder
       place-is i = refl
 
-      place-before : (i : ℕ) → i < n → placeOf T n i < firstOf T n (T i + 1)
+      place-before : (i : ℕ) → i < n → placeInOrder T n i < firstOf T n (T i + 1)
       place-before i h = omega (arith, place-is i, first-more n (T i), tally-less (T i) i n refl h)
 
-      pub place-below : (i : ℕ) → i < n → placeOf T n i < n
+      pub place-below : (i : ℕ) → i < n → placeInOrder T n i < n
       place-below i h = omega (arith, place-before i h, first-le n (T i + 1))
 
-      apart : (i j : ℕ) → i < n → T i < T j → placeOf T n i < placeOf T n j
+      apart : (i j : ℕ) → i < n → T i < T j → placeInOrder T n i < placeInOrder T n j
       apart i j h k = omega (arith, place-before i h, first-mono n (T i + 1) (T j) (omega arith), place-is j)
 
-      within : (i j : ℕ) → i < j → T i ≡ T j → placeOf T n i < placeOf T n j
+      within : (i j : ℕ) → i < j → T i ≡ T j → placeInOrder T n i < placeInOrder T n j
       within i j h e =
           let same-first = ap (firstOf T n) e in
-          let same-tally = ap (λ (t : ℕ). tally T t j) e in
+          let same-tally = ap (λ (t : ℕ). countOfTable T t j) e in
           omega (arith, place-is i, place-is j, same-first, same-tally, tally-less (T i) i j refl h)
 
-      pub place-apart : (i j : ℕ) → i < j → j < n → placeOf T n i ≡ placeOf T n j → ⊥
+      pub place-apart : (i j : ℕ) → i < j → j < n → placeInOrder T n i ≡ placeInOrder T n j → ⊥
       place-apart i j h k e =
           elim (ℕ-discrete (T i) (T j)) [
             | yes p ↦ omega (arith, within i j h p)
@@ -189,26 +189,26 @@ module _ (T : ℕ → ℕ) where
       pub record Holder (p : ℕ) : Type 0 where
         pub number : ℕ
         pub inside : number < n
-        pub is : placeOf T n number ≡ p
+        pub is : placeInOrder T n number ≡ p
 
       pub held-place : (p : ℕ) → p < n → Holder p
-      unfolding firstOf placeOf
+      unfolding firstOf placeInOrder
       held-place p h =
-          let f = found (λ (s : ℕ). tally T s n) most p (omega (arith, first-all n)) in
+          let f = found (λ (s : ℕ). countOfTable T s n) most p (omega (arith, first-all n)) in
           let t = f .part in
           let k = find-kth t n (p - firstOf T n t) (omega (arith, f .from, f .to)) in
           let i = k .number in
           record {
             number = i;
             inside = k .inside;
-            is = ap (λ (s : ℕ). firstOf T n s + tally T s i) (k .table) ∙ sum (firstOf T n t) (tally T t i) (k .kth) (f .from);
+            is = ap (λ (s : ℕ). firstOf T n s + countOfTable T s i) (k .table) ∙ sum (firstOf T n t) (countOfTable T t i) (k .kth) (f .from);
           }
         where
           sum : (a b : ℕ) → b ≡ p - a → a ≤ p → a + b ≡ p
           sum a b e l = omega arith
 
       -- every number stands in its place: that is all
-      pub ordered : (number : ℕ → ℕ) → ((i : ℕ) → i < n → number (placeOf T n i) ≡ i) → Ordered T n number
+      pub ordered : (number : ℕ → ℕ) → ((i : ℕ) → i < n → number (placeInOrder T n i) ≡ i) → Ordered T n number
       ordered number stands =
           record {
             below = λ p h. (let f = held-place p h in omega (arith, told p h, f .inside));
@@ -231,7 +231,7 @@ module _ (T : ℕ → ℕ) where
               elim (decLt i j) [
                 | yes l ↦ omega arith
                 | no l ↦ elim (ℕ-discrete i j) [
-                  | yes m ↦ absurd (omega (arith, f .is, g .is, ap (placeOf T n) m))
+                  | yes m ↦ absurd (omega (arith, f .is, g .is, ap (placeInOrder T n) m))
                   | no m ↦ absurd (omega (arith, f .is, g .is, within j i (omega arith) (sym et)))
                 ]
               ]
@@ -239,19 +239,19 @@ module _ (T : ℕ → ℕ) where
 -- ---- the same tables told in another way
 
 module _ (T S : ℕ → ℕ) (n : ℕ) (same-tables : (i : ℕ) → i < n → T i ≡ S i) where
-  tally-ext : (t i : ℕ) → i ≤ n → tally T t i ≡ tally S t i
-  unfolding tally
+  tally-ext : (t i : ℕ) → i ≤ n → countOfTable T t i ≡ countOfTable S t i
+  unfolding countOfTable
   tally-ext t zero k = refl
   tally-ext t (suc i) k = ap₂ (λ (a b : ℕ). a + one (eqb b t)) (tally-ext t i (omega arith)) (same-tables i (omega arith))
 
   pub first-ext : (t : ℕ) → firstOf T n t ≡ firstOf S n t
   unfolding firstOf
-  first-ext t = sum-ext (λ (s : ℕ). tally T s n) (λ (s : ℕ). tally S s n) t (λ s k. tally-ext s n (omega arith)) t (omega arith)
+  first-ext t = sum-ext (λ (s : ℕ). countOfTable T s n) (λ (s : ℕ). countOfTable S s n) t (λ s k. tally-ext s n (omega arith)) t (omega arith)
 
-  place-ext : (i : ℕ) → i < n → placeOf T n i ≡ placeOf S n i
-  unfolding placeOf
+  place-ext : (i : ℕ) → i < n → placeInOrder T n i ≡ placeInOrder S n i
+  unfolding placeInOrder
   place-ext i h =
-      ap (λ (t : ℕ). firstOf T n t + tally T t i) (same-tables i h)
+      ap (λ (t : ℕ). firstOf T n t + countOfTable T t i) (same-tables i h)
       ∙ ap₂ (λ (a b : ℕ). a + b) (first-ext (S i)) (tally-ext (S i) i (omega arith))
 
   pub order-told : (number : ℕ → ℕ) → Ordered T n number → Ordered S n number
@@ -263,8 +263,8 @@ module _ (T S : ℕ → ℕ) (n : ℕ) (same-tables : (i : ℕ) → i < n → T 
       }
 
 -- the sums of the counts of n numbers are at most n
-pub sums-fit : (T : ℕ → ℕ) (n : ℕ) (tables : ℕ → ℕ) → ((t : ℕ) → t < 256 → tables t ≡ tally T t n) → (t : ℕ) → t ≤ 256 → (sumTo tables t ≡ firstOf T n t) × (sumTo tables t ≤ n)
+pub sums-fit : (T : ℕ → ℕ) (n : ℕ) (tables : ℕ → ℕ) → ((t : ℕ) → t < 256 → tables t ≡ countOfTable T t n) → (t : ℕ) → t ≤ 256 → (sumTo tables t ≡ firstOf T n t) × (sumTo tables t ≤ n)
 unfolding firstOf
 sums-fit T n tables known t h =
-    let e : sumTo tables t ≡ firstOf T n t = sum-ext tables (λ (s : ℕ). tally T s n) 256 known t h in
+    let e : sumTo tables t ≡ firstOf T n t = sum-ext tables (λ (s : ℕ). countOfTable T s n) 256 known t h in
     (e, omega (arith, e, first-le T n t))

@@ -16,7 +16,7 @@ use Rattle.writer.specs.Put.{putRefusal, appended, afterPut, writerAfter}
 use Rattle.lists.specs.Calls.{put, sizeOf, putDue, acceptedAfter, WordId}
 use Rattle.lists.proofs.Written.{Written}
 use Rattle.lists.proofs.Puts.{put-due, put-written}
-use Rattle.build.specs.steps.Held.{answered, leftBy}
+use Rattle.build.specs.steps.Held.{answered, leftAnswered}
 use Rattle.build.specs.steps.Along.{chosen}
 
 -- ---- what the choice changes
@@ -85,8 +85,8 @@ module _ (mode : Mode) (repeats : Repeats) (n : ℕ) (es : List Entry) (s : Stat
       ∙ due-held mode repeats n es e free
       ∙ sym (put-due mode repeats n es (chosen repeats s) (chosen-written mode repeats n es s w) e)
 
-  pub turn-state : chosen repeats (leftBy held s e) ≡ afterPut (chosen repeats s) e
-  unfolding answered leftBy afterPut appended writerAfter
+  pub turn-state : chosen repeats (leftAnswered held s e) ≡ afterPut (chosen repeats s) e
+  unfolding answered leftAnswered afterPut appended writerAfter
   turn-state = go held turn-answer
     where
       first : State
@@ -101,8 +101,8 @@ module _ (mode : Mode) (repeats : Repeats) (n : ℕ) (es : List Entry) (s : Stat
       go true q = ap (λ (k : ℕ). cond (eqb k 0) (appended first e) first) q
       go false q = commute (eqb (putRefusal s e) 0) ∙ ap (λ (k : ℕ). cond (eqb k 0) (appended first e) first) q
 
-  turn-on : leftBy held s e .writer .repeats ≡ On
-  unfolding leftBy afterPut appended writerAfter
+  turn-on : leftAnswered held s e .writer .repeats ≡ On
+  unfolding leftAnswered afterPut appended writerAfter
   turn-on = go held (eqb (putRefusal s e) 0)
     where
       go : (h b : Bool) → cond h s (cond b (appended s e) s) .writer .repeats ≡ On
@@ -110,9 +110,9 @@ module _ (mode : Mode) (repeats : Repeats) (n : ℕ) (es : List Entry) (s : Stat
       go false true = w .repeats-is
       go false false = w .repeats-is
 
-  pub turn-written : WordId mode (put e) → Written mode On n (acceptedAfter mode repeats n es (put e)) (leftBy held s e)
+  pub turn-written : WordId mode (put e) → Written mode On n (acceptedAfter mode repeats n es (put e)) (leftAnswered held s e)
   turn-written word =
-      plain-written mode repeats n (acceptedAfter mode repeats n es (put e)) (leftBy held s e) turn-on
+      plain-written mode repeats n (acceptedAfter mode repeats n es (put e)) (leftAnswered held s e) turn-on
       (subst (Written mode repeats n (acceptedAfter mode repeats n es (put e))) (sym turn-state)
       (put-written mode repeats n es (chosen repeats s) (chosen-written mode repeats n es s w) e word))
 
@@ -134,16 +134,16 @@ pub held-answer : (s : State) (e : Entry) (held : Bool) → held ≡ true → 16
 unfolding answered
 held-answer s e held h = sym (ap (λ (b : Bool). cond b 16 (putRefusal s e)) h)
 
-pub held-leaves : (s : State) (e : Entry) (held : Bool) → held ≡ true → s ≡ leftBy held s e
-unfolding leftBy
+pub held-leaves : (s : State) (e : Entry) (held : Bool) → held ≡ true → s ≡ leftAnswered held s e
+unfolding leftAnswered
 held-leaves s e held h = sym (ap (λ (b : Bool). cond b s (afterPut s e)) h)
 
 pub plain-answer : (s : State) (e : Entry) (held : Bool) → held ≡ false → putRefusal s e ≡ answered held s e
 unfolding answered
 plain-answer s e held h = sym (ap (λ (b : Bool). cond b 16 (putRefusal s e)) h)
 
-pub plain-leaves : (s : State) (e : Entry) (held : Bool) → held ≡ false → afterPut s e ≡ leftBy held s e
-unfolding leftBy
+pub plain-leaves : (s : State) (e : Entry) (held : Bool) → held ≡ false → afterPut s e ≡ leftAnswered held s e
+unfolding leftAnswered
 plain-leaves s e held h = sym (ap (λ (b : Bool). cond b s (afterPut s e)) h)
 
 -- ---- the choice

@@ -21,8 +21,8 @@ pub record Row : Type 0 where
   pub refusals : List ℕ
   pub made : Made
 
-abbrev pub Holds : Row → Type 0
-Holds r =
+abbrev pub BuildRowHolds : Row → Type 0
+BuildRowHolds r =
     (buffer places : List ℕ) → length buffer ≡ r .room → length places ≡ length (r .ends)
     → (building Twoway (r .repeats) buffer (r .bytes) (r .ends) (r .ids) (length places) ≡ value (r .made))
     × (answersAfter Twoway (r .repeats) buffer (r .bytes) (r .ends) (r .ids) places ≡ r .refusals)
@@ -34,8 +34,8 @@ abbrev row : Repeats → ℕ → List ℕ → List ℕ → List ℕ → List ℕ
 row repeats room bytes ends ids refusals m =
     record { repeats = repeats; room = room; bytes = bytes; ends = ends; ids = ids; refusals = refusals; made = m }
 
-abbrev pub rows : List Row
-rows =
+abbrev pub buildRows : List Row
+buildRows =
     -- A, B, A again and a name with a zero byte, with repeats off and on
     row Off 4096 (65 ∷ 66 ∷ 65 ∷ 67 ∷ 0 ∷ []) (1 ∷ 2 ∷ 3 ∷ 5 ∷ []) (0 ∷ 1 ∷ 2 ∷ 3 ∷ []) (0 ∷ 0 ∷ 16 ∷ 13 ∷ []) (made 2132 2)
     ∷ row On 4096 (65 ∷ 66 ∷ 65 ∷ 67 ∷ 0 ∷ []) (1 ∷ 2 ∷ 3 ∷ 5 ∷ []) (0 ∷ 1 ∷ 2 ∷ 3 ∷ []) (0 ∷ 0 ∷ 0 ∷ 13 ∷ []) (made 2162 3)

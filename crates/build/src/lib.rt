@@ -12,7 +12,7 @@ ghost use Rattle.writer.specs.State.{State, stateWith, fresh, refusesRepeats};
 ghost use Rattle.writer.specs.Put.{entryOf};
 ghost use Rattle.writer.specs.Close.{closeRefusal, closedSize, afterClose};
 ghost use Rattle.lists.specs.Demand3.{answersOf, afterList, acceptedPuts};
-ghost use Rattle.build.specs.steps.Held.{answered, leftBy};
+ghost use Rattle.build.specs.steps.Held.{answered, leftAnswered};
 ghost use Rattle.build.specs.Build.{listed, buildRefusal, building, bufferAfter, answersAfter, builtOf};
 ghost use Rattle.build.specs.steps.Along.{Puts};
 ghost use Rattle.build.specs.steps.Marked.{Roomy};
@@ -58,7 +58,7 @@ fn put_one(
     id: u32,
 ) -> PutAnswer
     ensures answer { λ r. ⌜ r .refusal ≡ answered held (stateWith w (now (counts .entry)) (now (buf .entry))) (entryOf (now (name .entry)) id) ⌝ }
-    ensures leaves { λ r. ⌜ stateWith (r .writer) (now (counts .exit)) (now (buf .exit)) ≡ leftBy held (stateWith w (now (counts .entry)) (now (buf .entry))) (entryOf (now (name .entry)) id) ⌝ }
+    ensures leaves { λ r. ⌜ stateWith (r .writer) (now (counts .exit)) (now (buf .exit)) ≡ leftAnswered held (stateWith w (now (counts .entry)) (now (buf .entry))) (entryOf (now (name .entry)) id) ⌝ }
 {
     if held {
         return PutAnswer {

@@ -10,7 +10,7 @@ ghost use Rattle.joined.specs.Keys.{key};
 ghost use Rattle.writer.specs.State.{refusesRepeats};
 ghost use Rattle.build.specs.steps.Held.{at};
 ghost use Rattle.build.specs.steps.Marked.{metBefore, zeroMark, markOf, repeatMark, Ready, Slotted, linkedIn};
-ghost use Rattle.build.specs.steps.Parted.{hashIn, numberIn, keptIn, tableAt, tally, firstIn, slotIn, tableSlot};
+ghost use Rattle.build.specs.steps.Parted.{hashIn, numberIn, keptIn, tableOfName, countOfTable, firstIn, slotInTable, tableSlot};
 use super::held::clear;
 use super::parted::hash_all;
 use super::parted::part;
@@ -43,7 +43,7 @@ fn share(tables: &[u32; 256], t: usize) -> u32
 // The slot of a hash. Each table has twice as many slots as names, and they lie side by side.
 fn slot_in(tables: &[u32; 256], n: usize, h: u32) -> usize
     requires { ⌜ (0 < n) × (n ≤ 4294967295) ⌝ }
-    ensures { λ r. ⌜ (r ≡ slotIn n (now (tables .entry)) h) × (r < 2 * n) ⌝ }
+    ensures { λ r. ⌜ (r ≡ slotInTable n (now (tables .entry)) h) × (r < 2 * n) ⌝ }
 {
     let t = (h % 256) as usize;
     let first = first_of(tables, t) as usize;
@@ -152,7 +152,7 @@ fn mark_repeats(
     work: &mut [u32],
     tables: &mut [u32; 256],
 )
-    requires { ⌜ (astray (length (now bytes)) 0 (now ends) ≡ false) × (length (now ends) ≤ length (now rs)) × (6 * length (now ends) ≤ length (now work)) × (length (now ends) ≤ 4294967295) × ((i : ℕ) → i < length (now ends) → keptIn (length (now ends)) (now work) i ≡ key (nth (names (now bytes) (now ends)) i)) × (length (now tables) ≡ 256) × ((t : ℕ) → t < 256 → at (now tables) t ≡ tally (tableAt (names (now bytes) (now ends))) t (length (now ends))) × ((i : ℕ) → i < length (now ends) → at (now rs) i ≡ zeroMark (nth (names (now bytes) (now ends)) i)) ⌝ }
+    requires { ⌜ (astray (length (now bytes)) 0 (now ends) ≡ false) × (length (now ends) ≤ length (now rs)) × (6 * length (now ends) ≤ length (now work)) × (length (now ends) ≤ 4294967295) × ((i : ℕ) → i < length (now ends) → keptIn (length (now ends)) (now work) i ≡ key (nth (names (now bytes) (now ends)) i)) × (length (now tables) ≡ 256) × ((t : ℕ) → t < 256 → at (now tables) t ≡ countOfTable (tableOfName (names (now bytes) (now ends))) t (length (now ends))) × ((i : ℕ) → i < length (now ends) → at (now rs) i ≡ zeroMark (nth (names (now bytes) (now ends)) i)) ⌝ }
     ensures marks { λ _. ⌜ ((i : ℕ) → i < length (now (ends .entry)) → at (now (rs .exit)) i ≡ markOf true (nth (names (now (bytes .entry)) (now (ends .entry)))) i) × (drop (length (now (ends .entry))) (now (rs .exit)) ≡ drop (length (now (ends .entry))) (now (rs .entry))) ⌝ }
     ensures kept { λ _. ⌜ ((i : ℕ) → i < length (now (ends .entry)) → keptIn (length (now (ends .entry))) (now (work .exit)) i ≡ keptIn (length (now (ends .entry))) (now (work .entry)) i) ⌝ }
     ensures lengths { λ _. ⌜ (length (now (rs .exit)) ≡ length (now (rs .entry))) × (length (now (work .exit)) ≡ length (now (work .entry))) ⌝ }

@@ -8,7 +8,7 @@ ghost use Rattle.joined.specs.Keys.{key};
 ghost use Rattle.image.specs.Tables.{tableOf};
 ghost use Rattle.build.specs.steps.Held.{at};
 ghost use Rattle.build.specs.steps.Marked.{zeroMark};
-ghost use Rattle.build.specs.steps.Parted.{hashIn, numberIn, keptIn, tableAt, tableIn, tally, sumTo, firstOf, Ordered};
+ghost use Rattle.build.specs.steps.Parted.{hashIn, numberIn, keptIn, tableOfName, tableIn, countOfTable, sumTo, firstOf, Ordered};
 use image::zero::has_zero;
 use joined::key;
 use joined::name_of;
@@ -39,7 +39,7 @@ pub(crate) fn hash_all(
 )
     requires { ⌜ (astray (length (now bytes)) 0 (now ends) ≡ false) × (length (now ends) ≤ length (now rs)) × (6 * length (now ends) ≤ length (now work)) × (length (now ends) ≤ 4294967295) × (length (now tables) ≡ 256) × ((t : ℕ) → t < 256 → at (now tables) t ≡ 0) ⌝ }
     ensures hashes { λ _. ⌜ ((i : ℕ) → i < length (now (ends .entry)) → keptIn (length (now (ends .entry))) (now (work .exit)) i ≡ key (nth (names (now (bytes .entry)) (now (ends .entry))) i)) ⌝ }
-    ensures counts { λ _. ⌜ (length (now (tables .exit)) ≡ 256) × ((t : ℕ) → t < 256 → at (now (tables .exit)) t ≡ tally (tableAt (names (now (bytes .entry)) (now (ends .entry)))) t (length (now (ends .entry)))) ⌝ }
+    ensures counts { λ _. ⌜ (length (now (tables .exit)) ≡ 256) × ((t : ℕ) → t < 256 → at (now (tables .exit)) t ≡ countOfTable (tableOfName (names (now (bytes .entry)) (now (ends .entry)))) t (length (now (ends .entry)))) ⌝ }
     ensures marks { λ _. ⌜ ((i : ℕ) → i < length (now (ends .entry)) → at (now (rs .exit)) i ≡ zeroMark (nth (names (now (bytes .entry)) (now (ends .entry))) i)) × (drop (length (now (ends .entry))) (now (rs .exit)) ≡ drop (length (now (ends .entry))) (now (rs .entry))) ⌝ }
     ensures lengths { λ _. ⌜ (length (now (rs .exit)) ≡ length (now (rs .entry))) × (length (now (work .exit)) ≡ length (now (work .entry))) ⌝ }
 {

@@ -20,7 +20,7 @@ use Rattle.image.proofs.Stores.{sets-whole, sets-part}
 use Rattle.image.proofs.Every.{All, all-append}
 use Rattle.image.proofs.Buckets.{filled-all}
 use Rattle.image.proofs.At.{At, at-whole, at-same, at-equal, at-left, at-right, at-word, at-second, at-part}
-use Rattle.finish.specs.steps.Parting.{pairsAt, listed, inserted, copied, withTable}
+use Rattle.finish.specs.steps.Parting.{pairsAt, pairsListed, inserted, copied, withTable}
 use Rattle.finish.proofs.Partial.{zeros-buckets}
 use Rattle.finish.proofs.OneMore.{firstEmpty-below, firstEmpty-alike}
 use Rattle.finish.proofs.Turn.{store-in}
@@ -30,8 +30,8 @@ use Rattle.finish.proofs.Turn.{store-in}
 abbrev pairOf : ℕ → ℕ → Bucket
 pairOf h at = record { hash = h; at = at }
 
-listed-suc : (hs os : List ℕ) (c : ℕ) → listed hs os (suc c) ≡ listed hs os c ++ (pairOf (getD hs c 0) (getD os c 0) ∷ [])
-unfolding listed
+listed-suc : (hs os : List ℕ) (c : ℕ) → pairsListed hs os (suc c) ≡ pairsListed hs os c ++ (pairOf (getD hs c 0) (getD os c 0) ∷ [])
+unfolding pairsListed
 listed-suc hs os c = refl
 
 pairs-suc : (buf : List ℕ) (o c : ℕ) → pairsAt buf o (suc c) ≡ pairsAt buf o c ++ (pairOf (word buf (o + 8 * c)) (word buf (o + 8 * c + 4)) ∷ [])
@@ -39,28 +39,28 @@ unfolding pairsAt
 pairs-suc buf o c = refl
 
 -- what is stored from place i on is not among the first i
-listed-set : (hs os : List ℕ) (i h v j : ℕ) → j ≤ i → listed (set hs i h) (set os i v) j ≡ listed hs os j
-unfolding listed
+listed-set : (hs os : List ℕ) (i h v j : ℕ) → j ≤ i → pairsListed (set hs i h) (set os i v) j ≡ pairsListed hs os j
+unfolding pairsListed
 listed-set hs os i h v zero l = refl
 listed-set hs os i h v (suc j) l =
     let a : getD (set hs i h) j 0 ≡ getD hs j 0 = getD-set-other hs i j h 0 (λ z. omega arith) in
     let b : getD (set os i v) j 0 ≡ getD os j 0 = getD-set-other os i j v 0 (λ z. omega arith) in
-    ap₂ (λ (x : ℕ) (y : ℕ). listed (set hs i h) (set os i v) j ++ (pairOf x y ∷ [])) a b
+    ap₂ (λ (x : ℕ) (y : ℕ). pairsListed (set hs i h) (set os i v) j ++ (pairOf x y ∷ [])) a b
     ∙ ap (λ (r : List Bucket). r ++ (pairOf (getD hs j 0) (getD os j 0) ∷ [])) (listed-set hs os i h v j (omega arith))
 
-pub copy-none : (hs os buf : List ℕ) (o : ℕ) → listed hs os 0 ≡ pairsAt buf o 0
-unfolding listed pairsAt
+pub copy-none : (hs os buf : List ℕ) (o : ℕ) → pairsListed hs os 0 ≡ pairsAt buf o 0
+unfolding pairsListed pairsAt
 copy-none hs os buf o = refl
 
 pub copy-turn : (hs os buf : List ℕ) (o i h v : ℕ) → i < length hs → i < length os → h ≡ word buf (o + 8 * i) → v ≡ word buf (o + 8 * i + 4)
-    → listed hs os i ≡ pairsAt buf o i → listed (set hs i h) (set os i v) (i + 1) ≡ pairsAt buf o (i + 1)
+    → pairsListed hs os i ≡ pairsAt buf o i → pairsListed (set hs i h) (set os i v) (i + 1) ≡ pairsAt buf o (i + 1)
 copy-turn hs os buf o i h v l m eh ev inv =
     let s : i + 1 ≡ suc i = omega arith in
     let a : getD (set hs i h) i 0 ≡ word buf (o + 8 * i) = getD-set-same hs i h 0 l ∙ eh in
     let b : getD (set os i v) i 0 ≡ word buf (o + 8 * i + 4) = getD-set-same os i v 0 m ∙ ev in
-    ap (listed (set hs i h) (set os i v)) s
+    ap (pairsListed (set hs i h) (set os i v)) s
     ∙ listed-suc (set hs i h) (set os i v) i
-    ∙ ap₂ (λ (x : ℕ) (y : ℕ). listed (set hs i h) (set os i v) i ++ (pairOf x y ∷ [])) a b
+    ∙ ap₂ (λ (x : ℕ) (y : ℕ). pairsListed (set hs i h) (set os i v) i ++ (pairOf x y ∷ [])) a b
     ∙ ap (λ (r : List Bucket). r ++ (pairOf (word buf (o + 8 * i)) (word buf (o + 8 * i + 4)) ∷ [])) (listed-set hs os i h v i (omega arith) ∙ inv)
     ∙ sym (ap (pairsAt buf o) s ∙ pairs-suc buf o i)
 
@@ -128,8 +128,8 @@ Small bs = All (λ (b : Bucket). b .at < 2 ^ 32) bs
 pub record Filled (buf₀ hs os : List ℕ) (o c i : ℕ) (buf : List ℕ) : Type 0 where
   pub few : i ≤ c
   pub long : length buf ≡ length buf₀
-  pub is : buf ≡ sets buf₀ o (cat bucketBytes (filled (2 * c) (listed hs os i)))
-  pub small : Small (listed hs os i)
+  pub is : buf ≡ sets buf₀ o (cat bucketBytes (filled (2 * c) (pairsListed hs os i)))
+  pub small : Small (pairsListed hs os i)
 
 -- the room of c entries at o in cleared bytes
 module _ (base : List ℕ) (o c : ℕ) (room : o + 16 * c ≤ length base) (buf₀ : List ℕ) (e : buf₀ ≡ sets base o (replicate (o + 16 * c - o) 0)) where
@@ -154,7 +154,7 @@ module _ (base : List ℕ) (o c : ℕ) (room : o + 16 * c ≤ length base) (buf�
       ∙ ap (sets base o) (sets-whole vs zeros [] (h ∙ sym n) ∙ append-nil vs)
 
   pub fill-start : (hs os : List ℕ) → Filled buf₀ hs os o c 0 buf₀
-  unfolding listed filled insertAll zeros
+  unfolding pairsListed filled insertAll zeros
   fill-start hs os =
       let T : List Bucket = replicate (2 * c) empty in
       let n : length (cat bucketBytes T) ≡ 16 * c =
@@ -168,13 +168,13 @@ module _ (base : List ℕ) (o c : ℕ) (room : o + 16 * c ≤ length base) (buf�
       }
 
   pub fill-end : (hs os : List ℕ) (i : ℕ) (buf : List ℕ) → Filled buf₀ hs os o c i buf → c ≤ i
-      → buf ≡ sets base o (cat bucketBytes (filled (2 * c) (listed hs os c)))
+      → buf ≡ sets base o (cat bucketBytes (filled (2 * c) (pairsListed hs os c)))
   fill-end hs os i buf f l =
       let k : i ≡ c = omega (arith, f .few) in
-      let T = filled (2 * c) (listed hs os c) in
+      let T = filled (2 * c) (pairsListed hs os c) in
       let n : length (cat bucketBytes T) ≡ 16 * c =
-      omega (arith, length-cat bucketBytes 8 length-bucketBytes T, length-filled (2 * c) (listed hs os c)) in
-      f .is ∙ ap (λ (j : ℕ). sets buf₀ o (cat bucketBytes (filled (2 * c) (listed hs os j)))) k ∙ over (cat bucketBytes T) n
+      omega (arith, length-cat bucketBytes 8 length-bucketBytes T, length-filled (2 * c) (pairsListed hs os c)) in
+      f .is ∙ ap (λ (j : ℕ). sets buf₀ o (cat bucketBytes (filled (2 * c) (pairsListed hs os j)))) k ∙ over (cat bucketBytes T) n
 
 module _ (buf₀ hs os : List ℕ) (o c : ℕ) where
   pub fill-turn : (i : ℕ) (buf buf′ : List ℕ) → Filled buf₀ hs os o c i buf → o + 16 * c ≤ length buf₀ → i < c
@@ -182,19 +182,19 @@ module _ (buf₀ hs os : List ℕ) (o c : ℕ) where
       → Filled buf₀ hs os o c (i + 1) buf′
   fill-turn i buf buf′ f room l h at eh ea word-small sized e =
       let n = 2 * c in
-      let T = filled n (listed hs os i) in
+      let T = filled n (pairsListed hs os i) in
       let b = pairOf h at in
       let s : suc i ≡ i + 1 = omega arith in
-      let more : listed hs os i ++ (b ∷ []) ≡ listed hs os (i + 1) =
-      ap₂ (λ (x : ℕ) (y : ℕ). listed hs os i ++ (pairOf x y ∷ [])) eh ea ∙ sym (listed-suc hs os i) ∙ ap (listed hs os) s in
-      let smallT : (k : ℕ) → atOf T k < 2 ^ 32 = filled-all (λ (x : Bucket). x .at < 2 ^ 32) n (listed hs os i) (omega arith) (f .small) in
+      let more : pairsListed hs os i ++ (b ∷ []) ≡ pairsListed hs os (i + 1) =
+      ap₂ (λ (x : ℕ) (y : ℕ). pairsListed hs os i ++ (pairOf x y ∷ [])) eh ea ∙ sym (listed-suc hs os i) ∙ ap (pairsListed hs os) s in
+      let smallT : (k : ℕ) → atOf T k < 2 ^ 32 = filled-all (λ (x : Bucket). x .at < 2 ^ 32) n (pairsListed hs os i) (omega arith) (f .small) in
       record {
         few = omega arith;
         long = sized ∙ f .long;
         is =
-            room-turn buf₀ buf T o n (length-filled n (listed hs os i)) (omega arith) (omega arith) smallT (f .is) h at buf′ e
-            ∙ ap (λ (r : List Bucket). sets buf₀ o (cat bucketBytes r)) (sym (filled-more n (listed hs os i) b) ∙ ap (filled n) more);
-        small = rw (← more) (all-append (λ (x : Bucket). x .at < 2 ^ 32) (listed hs os i) (b ∷ []) (f .small) (word-small, tt));
+            room-turn buf₀ buf T o n (length-filled n (pairsListed hs os i)) (omega arith) (omega arith) smallT (f .is) h at buf′ e
+            ∙ ap (λ (r : List Bucket). sets buf₀ o (cat bucketBytes r)) (sym (filled-more n (pairsListed hs os i) b) ∙ ap (filled n) more);
+        small = rw (← more) (all-append (λ (x : Bucket). x .at < 2 ^ 32) (pairsListed hs os i) (b ∷ []) (f .small) (word-small, tt));
       }
 
 -- ---- which tables are filled over the copy
@@ -215,8 +215,8 @@ module _ (buf : List ℕ) (o c : ℕ) where
   unfolding withTable
   table-none h = rw h
 
-  pub table-filled : copied buf o c ≡ true → (hs os buf′ : List ℕ) → listed hs os c ≡ pairsAt buf o c
-      → buf′ ≡ sets buf o (cat bucketBytes (filled (2 * c) (listed hs os c))) → buf′ ≡ withTable buf o c
+  pub table-filled : copied buf o c ≡ true → (hs os buf′ : List ℕ) → pairsListed hs os c ≡ pairsAt buf o c
+      → buf′ ≡ sets buf o (cat bucketBytes (filled (2 * c) (pairsListed hs os c))) → buf′ ≡ withTable buf o c
   unfolding withTable
   table-filled h hs os buf′ l e =
       e ∙ ap (λ (bs : List Bucket). sets buf o (cat bucketBytes (filled (2 * c) bs))) l

@@ -26,7 +26,7 @@ use Rattle.image.proofs.At.{At, at-equal, at-left, at-take, at-word, at-second}
 use Rattle.image.proofs.Parts.{placedIn, before-most, offset-word, number-word, bucket-of}
 use Rattle.image.proofs.EntryAt.{id-word, length-word, name-bytes, ids-below}
 use Rattle.image.specs.Stored.{between, wholeLength}
-use Rattle.taking.specs.steps.Working.{slot, withBucket, withLink, taken}
+use Rattle.taking.specs.steps.Working.{bucketFor, withBucket, withLink, entryTaken}
 use Rattle.image.proofs.Between.{is-whole}
 use Rattle.finish.proofs.Partial.{tableWith, tablesWith, length-tableWith, length-tablesWith, upToEntries, length-upToEntries, partial}
 use Rattle.finish.proofs.Partial.{rows-there, tables-there, entries-from}
@@ -226,8 +226,8 @@ module _ (mode : Mode) (es qs rest : List Entry) (e : Entry) (tail : List ℕ) (
       (bucket-of (placedIn es) (tableWith ps rs) (length-tableWith ps rs) (entriesEnd es) (tables-there mode es qs tail) u k u-below h))
       (offset-small k)
 
-  slot-there : slot B (hashOf (e .name)) ≡ entriesEnd es + 16 * entriesBefore u ps + 8 * place ps rs p
-  unfolding slot place u p
+  slot-there : bucketFor B (hashOf (e .name)) ≡ entriesEnd es + 16 * entriesBefore u ps + 8 * place ps rs p
+  unfolding bucketFor place u p
   slot-there =
       let o = entriesEnd es + 16 * entriesBefore u ps in
       let n = 2 * count u ps in
@@ -248,8 +248,8 @@ module _ (mode : Mode) (es qs rest : List Entry) (e : Entry) (tail : List ℕ) (
   with-bucket =
       let h = hashOf (e .name) in
       let at = headSize + entriesSize qs in
-      ap (λ (n : ℕ). cond (eqb n 0) B (sets B (slot B h) (le32 h ++ le32 at))) number-there
-      ∙ ap (λ (b : Bool). cond b B (sets B (slot B h) (le32 h ++ le32 at))) (ne-eqb (2 * count u ps) 0 (λ z. let s = some-there in omega arith))
+      ap (λ (n : ℕ). cond (eqb n 0) B (sets B (bucketFor B h) (le32 h ++ le32 at))) number-there
+      ∙ ap (λ (b : Bool). cond b B (sets B (bucketFor B h) (le32 h ++ le32 at))) (ne-eqb (2 * count u ps) 0 (λ z. let s = some-there in omega arith))
       ∙ ap (λ (o : ℕ). sets B o (le32 h ++ le32 at)) slot-there
       ∙ bucket-stored
     where
@@ -268,9 +268,9 @@ module _ (mode : Mode) (es qs rest : List Entry) (e : Entry) (tail : List ℕ) (
           ∙ ap (λ (l : List ℕ). U ++ l ++ (L ++ tail)) (tables-more ps rs p some-there)
           ∙ sym (append-assoc (U ++ tablesWith ps (rs ++ p ∷ [])) L tail)
 
-  pub turn : taken mode (backOffset mode es) (partial mode es qs ++ tail) (headSize + entriesSize qs) (length (e .name) + 1)
+  pub turn : entryTaken mode (backOffset mode es) (partial mode es qs ++ tail) (headSize + entriesSize qs) (length (e .name) + 1)
       ≡ partial mode es (qs ++ e ∷ []) ++ tail
-  unfolding taken partial B ps rs p U
+  unfolding entryTaken partial B ps rs p U
   turn =
       let at = headSize + entriesSize qs in
       let L = links rs (backSizeOf mode es) in

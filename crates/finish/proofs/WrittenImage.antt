@@ -15,9 +15,9 @@ use Rattle.image.proofs.Between.{length-between}
 use Rattle.image.proofs.Parts.{placedIn}
 use Rattle.image.proofs.Bools.{second}
 use Rattle.image.proofs.Every.{All}
-use Rattle.finish.specs.Finish.{finishedOf, noneAbove, standing, Standing, finished}
+use Rattle.finish.specs.Finish.{finishedOf, noneAbove, standing, Standing, finishedBuffer}
 use Rattle.image.specs.Stored.{whole, between}
-use Rattle.taking.specs.steps.Working.{taken, takenFrom}
+use Rattle.taking.specs.steps.Working.{entryTaken, takenFrom}
 use Rattle.finish.specs.steps.Parting.{byTables}
 use Rattle.finish.specs.steps.Written.{linksAt, headed, zeroed, parts, filledIn, written}
 use Rattle.image.proofs.Area.{Bytes, bytes-drop, bytes-take, length-entriesIn, whole-bytes, ids-words}
@@ -46,9 +46,9 @@ module _ (mode : Mode) (es : List Entry) (tail : List ℕ) (small : imageSize mo
       let o = backOffset mode es in
       let end = entriesEnd es in
       let n = length (e .name) + 1 in
-      ap (λ (k : ℕ). cond (eqb k 0) B (takenFrom mode o end (length rest) (at + (8 + k)) (taken mode o B at k)))
+      ap (λ (k : ℕ). cond (eqb k 0) B (takenFrom mode o end (length rest) (at + (8 + k)) (entryTaken mode o B at k)))
       (length-found mode es qs rest e tail split small ids)
-      ∙ ap (λ (b : Bool). cond b B (takenFrom mode o end (length rest) (at + (8 + n)) (taken mode o B at n)))
+      ∙ ap (λ (b : Bool). cond b B (takenFrom mode o end (length rest) (at + (8 + n)) (entryTaken mode o B at n)))
       (ne-eqb n 0 (λ z. omega arith))
       ∙ ap (λ (l : List ℕ). takenFrom mode o end (length rest) (at + (8 + n)) l) (turn mode es qs rest e tail split small ids)
       ∙ ap (λ (k : ℕ). takenFrom mode o end (length rest) k (partial mode es (qs ++ e ∷ []) ++ tail)) (next-at qs e)
@@ -143,7 +143,7 @@ module _ (mode : Mode) (end entries back : ℕ) (counts buf : List ℕ) (bytes :
       same : (a n : ℕ) {m : ℕ} → n ≡ m → a + 16 * n - a ≡ 16 * m
       same a n e = omega arith
 
-  pub written-image : written mode end entries back counts buf ≡ finished mode end entries back buf
+  pub written-image : written mode end entries back counts buf ≡ finishedBuffer mode end entries back buf
   unfolding written filledIn es size
   written-image = go (parts counts entries) refl
     where
@@ -151,6 +151,6 @@ module _ (mode : Mode) (end entries back : ℕ) (counts buf : List ℕ) (bytes :
           → cond t
           (byTables mode (linksAt mode end entries back) end entries counts (zeroed (headed mode end entries back counts buf) (end + 16 * entries) size))
           (takenFrom mode (linksAt mode end entries back) end entries headSize (zeroed (headed mode end entries back counts buf) end size))
-          ≡ finished mode end entries back buf
+          ≡ finishedBuffer mode end entries back buf
       go true few = written-by-tables few
       go false many = written-singly

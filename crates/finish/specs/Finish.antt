@@ -37,5 +37,5 @@ pub record Standing (mode : Mode) (end entries back : ℕ) (counts buf : List �
   pub small : finishedOf mode end entries back ≤ 4294967295
 
 -- what it leaves: the image of the entries. Bytes from the image's size on keep their content
-abbrev pub finished : Mode → ℕ → ℕ → ℕ → List ℕ → List ℕ
-finished mode end entries back buf = image mode (standing buf end entries) ++ drop (finishedOf mode end entries back) buf
+abbrev pub finishedBuffer : Mode → ℕ → ℕ → ℕ → List ℕ → List ℕ
+finishedBuffer mode end entries back buf = image mode (standing buf end entries) ++ drop (finishedOf mode end entries back) buf

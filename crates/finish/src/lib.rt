@@ -1,11 +1,11 @@
 // Finishing: entries that stand in a buffer become an image, when head, tables and back array are written around them.
 ghost use mathlib.Core.Path.{_≡_};
-ghost use Rattle.finish.specs.Finish.{Standing, finished};
+ghost use Rattle.finish.specs.Finish.{Standing, finishedBuffer};
 use image::Mode;
 
 pub mod counts; // counts.rt: none_above
 mod head;
-pub mod size; // size.rt: the finished size and its parts
+pub mod size; // size.rt: the finishedBuffer size and its parts
 mod tables;
 
 // Writes the image of the entries that stand from 2,072 to `end`: head and rows, tables and back array. A leaf for the
@@ -20,7 +20,7 @@ pub fn write_image(
     buf: &mut [u8],
 )
     requires { ⌜ Standing mode end entries back (now counts) (now buf) ⌝ }
-    ensures { λ _. ⌜ now (buf .exit) ≡ finished mode end entries back (now (buf .entry)) ⌝ }
+    ensures { λ _. ⌜ now (buf .exit) ≡ finishedBuffer mode end entries back (now (buf .entry)) ⌝ }
 {
     let size = size::finished_size(mode, end, entries, back);
     let back_size = size::back_in(mode, back as u64);

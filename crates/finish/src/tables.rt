@@ -10,7 +10,7 @@ ghost use Rattle.image.specs.Bytes.{word, le32, cat};
 ghost use Rattle.image.specs.Tables.{order, firstEmpty, filled};
 ghost use Rattle.image.specs.Image.{bucketBytes};
 ghost use Rattle.finish.specs.steps.Written.{parts, filledIn};
-ghost use Rattle.finish.specs.steps.Parting.{roomsFrom, withPair, moved, hashAt, parted, partedFrom, pairsAt, listed, inserted, copied, withTable, tablesFrom, byTables};
+ghost use Rattle.finish.specs.steps.Parting.{roomsFrom, withPair, moved, hashAt, parted, partedFrom, pairsAt, pairsListed, inserted, copied, withTable, tablesFrom, byTables};
 use super::counts::none_above;
 use super::head::clear;
 use super::head::low;
@@ -143,7 +143,7 @@ fn insert(buf: &mut [u8], o: usize, n: usize, h: u32, at: u32)
 // The c pairs at o, copied.
 fn copy_pairs(buf: &[u8], o: usize, c: usize, hashes: &mut [u32; 4608], offsets: &mut [u32; 4608])
     requires { ⌜ (c ≤ 4608) × (o + 8 * c ≤ length (now buf)) × (length (now hashes) ≡ 4608) × (length (now offsets) ≡ 4608) ⌝ }
-    ensures { λ _. ⌜ (length (now (hashes .exit)) ≡ 4608) × (length (now (offsets .exit)) ≡ 4608) × (listed (now (hashes .exit)) (now (offsets .exit)) c ≡ pairsAt (now (buf .entry)) o c) ⌝ }
+    ensures { λ _. ⌜ (length (now (hashes .exit)) ≡ 4608) × (length (now (offsets .exit)) ≡ 4608) × (pairsListed (now (hashes .exit)) (now (offsets .exit)) c ≡ pairsAt (now (buf .entry)) o c) ⌝ }
 {
     let mut i = 0;
     while i < c {
@@ -156,7 +156,7 @@ fn copy_pairs(buf: &[u8], o: usize, c: usize, hashes: &mut [u32; 4608], offsets:
 // The room of a table of c entries at o, cleared and filled with copied pairs in their order.
 fn fill_room(buf: &mut [u8], o: usize, c: usize, hashes: &[u32; 4608], offsets: &[u32; 4608])
     requires { ⌜ (c ≤ 4608) × (o + 16 * c ≤ length (now buf)) ⌝ }
-    ensures { λ _. ⌜ now (buf .exit) ≡ sets (now (buf .entry)) o (cat bucketBytes (filled (2 * c) (listed (now (hashes .entry)) (now (offsets .entry)) c))) ⌝ }
+    ensures { λ _. ⌜ now (buf .exit) ≡ sets (now (buf .entry)) o (cat bucketBytes (filled (2 * c) (pairsListed (now (hashes .entry)) (now (offsets .entry)) c))) ⌝ }
 {
     clear(&mut *buf, o, o + 16 * c);
     let mut i = 0;

@@ -16,7 +16,7 @@ use Rattle.image.specs.Tables.{tableOf}
 use Rattle.image.specs.declared.Mode.{Mode}
 use Rattle.image.specs.declared.Mode.the-variants.{Twoway, Oneway}
 use Rattle.image.specs.Stored.{between, wholeLength}
-use Rattle.taking.specs.steps.Working.{slot, withBucket, withLink, taken, takenFrom, placeOf, NotedFirst, Noted, linksApart}
+use Rattle.taking.specs.steps.Working.{bucketFor, withBucket, withLink, entryTaken, takenFrom, placeOf, NotedFirst, Noted, linksApart}
 use Rattle.image.proofs.Between.{Front, front, length-between, word-between, name-between, between-same, word-same, take-sets}
 use Rattle.taking.proofs.Taking.{taken-parts, from-turn}
 
@@ -110,8 +110,8 @@ module _ (buf : List ℕ) (end from most : ℕ) (hashes : List ℕ) (at i : ℕ)
 
 -- ---- storing
 
-slot-above : (buf : List ℕ) (h : ℕ) → word buf (24 + 8 * tableOf h) ≤ slot buf h
-unfolding slot
+slot-above : (buf : List ℕ) (h : ℕ) → word buf (24 + 8 * tableOf h) ≤ bucketFor buf h
+unfolding bucketFor
 slot-above buf h = above (word buf (24 + 8 * tableOf h)) _
   where
     above : (o k : ℕ) → o ≤ o + 8 * k
@@ -122,9 +122,9 @@ bucket-keeps : (buf : List ℕ) (end h at : ℕ) → end ≤ word buf (24 + 8 * 
 unfolding withBucket
 bucket-keeps buf end h at a = go (eqb (word buf (28 + 8 * tableOf h)) 0)
   where
-    go : (b : Bool) → take end (cond b buf (sets buf (slot buf h) (le32 h ++ le32 at))) ≡ take end buf
+    go : (b : Bool) → take end (cond b buf (sets buf (bucketFor buf h) (le32 h ++ le32 at))) ≡ take end buf
     go true = refl
-    go false = take-sets (le32 h ++ le32 at) buf end (slot buf h) (omega (arith, slot-above buf h))
+    go false = take-sets (le32 h ++ le32 at) buf end (bucketFor buf h) (omega (arith, slot-above buf h))
 
 link-keeps : (mode : Mode) (links end : ℕ) (buf : List ℕ) (id at : ℕ) → linksApart mode links end ≡ true
     → take end (withLink mode buf links id at) ≡ take end buf
@@ -200,7 +200,7 @@ module _ (mode : Mode) (links end from m : ℕ) (buf₀ : List ℕ) where
         now-noted .is
         ∙ ap hashOf
         (ap (λ (k : ℕ). take (k - 1) (drop 8 (between buf at end))) (sym w) ∙ name-between buf at end n inn one) in
-        let tk : buf′ ≡ taken mode links buf at n =
+        let tk : buf′ ≡ entryTaken mode links buf at n =
         taken-parts mode links buf at n (word buf at) h (take (at + 7 + n - (at + 8)) (drop (at + 8) buf)) (withBucket buf h at) buf′ one refl hash refl refl t in
         let there : n ≡ wholeLength (between buf₀ at end) = w ∙ ap wholeLength (between-same buf buf₀ end (r .same) at) in
         record {

@@ -16,7 +16,7 @@ use Rattle.image.specs.declared.Mode.{Mode}
 use Rattle.image.proofs.Words.{length-le32}
 use Rattle.image.proofs.Stores.{sets-then}
 use Rattle.image.specs.Stored.{between, wholeLength}
-use Rattle.taking.specs.steps.Working.{slot, withBucket, withLink, taken, takenFrom}
+use Rattle.taking.specs.steps.Working.{bucketFor, withBucket, withLink, entryTaken, takenFrom}
 
 -- a search among some buckets begins at one of them
 pub start-below : (x n : ℕ) → (n ≡ 0 → ⊥) → x % n < n
@@ -30,7 +30,7 @@ module _ (buf : List ℕ) (h at : ℕ) where
   pub bucket-stored : (o n k : ℕ) (b1 b2 : List ℕ) → o ≡ word buf (24 + 8 * (h % 256)) → n ≡ word buf (28 + 8 * (h % 256)) → (n ≡ 0 → ⊥)
       → k ≡ firstEmpty (λ (i : ℕ). word buf (o + 8 * i + 4)) (order n n (h / 256 % n))
       → b1 ≡ sets buf (o + 8 * k) (le32 h) → b2 ≡ sets b1 (o + 8 * k + 4) (le32 at) → b2 ≡ withBucket buf h at
-  unfolding withBucket slot
+  unfolding withBucket bucketFor
   bucket-stored o n k b1 b2 eo en nz ek p q =
       let o′ = word buf (24 + 8 * (h % 256)) in
       let n′ = word buf (28 + 8 * (h % 256)) in
@@ -47,8 +47,8 @@ module _ (buf : List ℕ) (h at : ℕ) where
 
 pub taken-parts : (mode : Mode) (links : ℕ) (buf : List ℕ) (at n id h : ℕ) (name b1 b2 : List ℕ) → 1 ≤ n
     → name ≡ take (at + 7 + n - (at + 8)) (drop (at + 8) buf) → h ≡ hashOf name → id ≡ word buf at
-    → b1 ≡ withBucket buf h at → b2 ≡ withLink mode b1 links id at → b2 ≡ taken mode links buf at n
-unfolding taken
+    → b1 ≡ withBucket buf h at → b2 ≡ withLink mode b1 links id at → b2 ≡ entryTaken mode links buf at n
+unfolding entryTaken
 taken-parts mode links buf at n id h name b1 b2 some en eh ei p q =
     let m : at + 7 + n - (at + 8) ≡ n - 1 = omega arith in
     let nh : h ≡ hashOf (take (n - 1) (drop (at + 8) buf)) =
@@ -60,7 +60,7 @@ module _ (mode : Mode) (links end : ℕ) where
   from-suc : (m at : ℕ) (buf : List ℕ)
       → takenFrom mode links end (suc m) at buf
       ≡ cond (eqb (wholeLength (between buf at end)) 0) buf
-      (takenFrom mode links end m (at + (8 + wholeLength (between buf at end))) (taken mode links buf at (wholeLength (between buf at end))))
+      (takenFrom mode links end m (at + (8 + wholeLength (between buf at end))) (entryTaken mode links buf at (wholeLength (between buf at end))))
   unfolding takenFrom
   from-suc m at buf = refl
 
@@ -71,17 +71,17 @@ module _ (mode : Mode) (links end : ℕ) where
       let w = wholeLength (between buf at end) in
       sym
       (sym p ∙ ap (λ (k : ℕ). takenFrom mode links end k at buf) m ∙ from-suc (left - 1) at buf
-      ∙ ap (λ (b : Bool). cond b buf (takenFrom mode links end (left - 1) (at + (8 + w)) (taken mode links buf at w))) (eq-eqb w 0 (sym e ∙ z)))
+      ∙ ap (λ (b : Bool). cond b buf (takenFrom mode links end (left - 1) (at + (8 + w)) (entryTaken mode links buf at w))) (eq-eqb w 0 (sym e ∙ z)))
 
   pub from-turn : (left at n : ℕ) (buf buf′ x : List ℕ) → 0 < left → n ≡ wholeLength (between buf at end) → (n ≡ 0 → ⊥)
-      → buf′ ≡ taken mode links buf at n → takenFrom mode links end left at buf ≡ x
+      → buf′ ≡ entryTaken mode links buf at n → takenFrom mode links end left at buf ≡ x
       → takenFrom mode links end (left - 1) (at + (8 + n)) buf′ ≡ x
   from-turn left at n buf buf′ x h e z t p =
       let m : left ≡ suc (left - 1) = omega arith in
       let w = wholeLength (between buf at end) in
       ap (λ (l : List ℕ). takenFrom mode links end (left - 1) (at + (8 + n)) l) t
-      ∙ ap (λ (k : ℕ). takenFrom mode links end (left - 1) (at + (8 + k)) (taken mode links buf at k)) e
-      ∙ sym (ap (λ (b : Bool). cond b buf (takenFrom mode links end (left - 1) (at + (8 + w)) (taken mode links buf at w))) (ne-eqb w 0 (λ y. z (e ∙ y))))
+      ∙ ap (λ (k : ℕ). takenFrom mode links end (left - 1) (at + (8 + k)) (entryTaken mode links buf at k)) e
+      ∙ sym (ap (λ (b : Bool). cond b buf (takenFrom mode links end (left - 1) (at + (8 + w)) (entryTaken mode links buf at w))) (ne-eqb w 0 (λ y. z (e ∙ y))))
       ∙ sym (ap (λ (k : ℕ). takenFrom mode links end k at buf) m ∙ from-suc (left - 1) at buf)
       ∙ p
 

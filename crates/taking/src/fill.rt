@@ -4,7 +4,7 @@ ghost use Prim.Native.Nat.{ℕ, _+_, _*_, _<_, _≤_};
 ghost use lib.ListN.{length};
 ghost use Rattle.image.specs.Bytes.{word};
 ghost use Rattle.image.specs.Tables.{tableOf, order, firstEmpty};
-ghost use Rattle.taking.specs.steps.Working.{withBucket, withLink, taken, takenFrom};
+ghost use Rattle.taking.specs.steps.Working.{withBucket, withLink, entryTaken, takenFrom};
 use image::Mode;
 
 // The first empty of the n buckets at o, from bucket k on; bucket 0 where none is empty.
@@ -66,7 +66,7 @@ pub fn store_link(mode: Mode, buf: &mut [u8], links: usize, id: u32, at: u32)
 // The entry at `at`, whose length word is n, taken into its table and the back array.
 fn take_entry(mode: Mode, links: usize, buf: &mut [u8], at: usize, n: usize)
     requires { ⌜ (at + (8 + n) ≤ length (now buf)) × (1 ≤ n) × (n < 4294967296) × (at < 4294967296) × (links < 4294967296) ⌝ }
-    ensures { λ _. ⌜ now (buf .exit) ≡ taken mode links (now (buf .entry)) at n ⌝ }
+    ensures { λ _. ⌜ now (buf .exit) ≡ entryTaken mode links (now (buf .entry)) at n ⌝ }
 {
     let id = image::get_u32(&*buf, at);
     let hashed = jhash::name_hash(&buf[at + 8..at + 7 + n]);

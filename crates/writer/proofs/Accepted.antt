@@ -10,7 +10,7 @@ use borrow.Author.Tests.{eqb-true}
 use Rattle.image.specs.Image.{backIn, backSize}
 use Rattle.image.specs.Stored.{whole}
 use Rattle.image.proofs.Bools.{first, second}
-use Rattle.finish.specs.Finish.{Standing, finished}
+use Rattle.finish.specs.Finish.{Standing, finishedBuffer}
 use Rattle.writer.specs.State.{stateWith, fits, finishedSize, tooLarge}
 use Rattle.writer.specs.Close.{entryArea, recorded, countsAgree, consistent, closed, afterClose}
 use Rattle.writer.specs.declared.CQDBWriter.{CQDBWriter}
@@ -37,6 +37,6 @@ module _ (w : CQDBWriter) (counts buf : List ℕ) (fit : fits (stateWith w count
         small = l .1;
       }
 
-  pub closes-image : (b : List ℕ) → b ≡ finished (w .mode) (w .end) (w .entries) (w .back) buf → stateWith w counts b ≡ afterClose (stateWith w counts buf)
+  pub closes-image : (b : List ℕ) → b ≡ finishedBuffer (w .mode) (w .end) (w .entries) (w .back) buf → stateWith w counts b ≡ afterClose (stateWith w counts buf)
   unfolding closed
   closes-image b e = ap (stateWith w counts) e ∙ closes (stateWith w counts buf) fit fine all .1

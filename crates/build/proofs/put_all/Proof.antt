@@ -12,7 +12,7 @@ use Rattle.joined.specs.Names.{names, nth}
 use Rattle.joined.proofs.NameEnds.{length-names}
 use Rattle.writer.specs.State.{State, stateWith}
 use Rattle.writer.specs.Put.{entryOf}
-use Rattle.build.specs.steps.Held.{at, slotOf, Chains, linkIn, answered, leftBy}
+use Rattle.build.specs.steps.Held.{at, slotOf, Chains, linkIn, answered, leftAnswered}
 use Rattle.build.proofs.Chained.{chains-none}
 use Rattle.build.proofs.Linked.{chains-turn}
 use Rattle.build.proofs.Going.{Going, going-start, going-end, told-end, going-turn}
@@ -125,7 +125,7 @@ loop-again c =
       search needs,
       going-turn (a .w .mode) (a .repeats) (a .buf .now) xs (a .ids .now) (a .rs .now) (l .i) before (l .rs) g inside many room word (held .result) (held .ensures) (done .result .refusal) _
           (done .ensures .0 ∙ ap (λ (x : List ℕ). answered (held .result) before (entry x)) named)
-          (done .ensures .1 ∙ ap (λ (x : List ℕ). leftBy (held .result) before (entry x)) named),
+          (done .ensures .1 ∙ ap (λ (x : List ℕ). leftAnswered (held .result) before (entry x)) named),
       λ h. subst (λ (w : List ℕ). Chains (nth xs) (at (set (l .rs) (l .i) (done .result .refusal))) (slotOf (a .slots)) (a .slots) (l .i + 1) (at w) (linkIn (a .slots) w)) (sym (c .before .before .link .ensures))
           (chains-turn (nth xs) (slotOf (a .slots)) (a .slots) (l .rs) (l .work) (l .i) _ (done .result .refusal) (omega (arith, inside, room)) (slot h .0 ∙ ap (slotOf (a .slots)) named) (slot h .1) (omega (arith, below, s .pre .5 h .0, l .inv .2)) (l .inv .4 h)),
     )

@@ -49,5 +49,5 @@ linked slots s i r work = cond (ltb 0 slots && eqb r 0) (set (set work (slots + 
 unfoldable pub answered : Bool → State → Entry → ℕ
 answered held s e = cond held 16 (putRefusal s e)
 
-unfoldable pub leftBy : Bool → State → Entry → State
-leftBy held s e = cond held s (afterPut s e)
+unfoldable pub leftAnswered : Bool → State → Entry → State
+leftAnswered held s e = cond held s (afterPut s e)

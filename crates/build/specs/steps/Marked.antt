@@ -13,7 +13,7 @@ use Rattle.joined.specs.Keys.{key}
 use Rattle.writer.specs.State.{State}
 use Rattle.writer.specs.Put.{appended}
 use Rattle.build.specs.steps.Held.{at, heldBefore, Chains}
-use Rattle.build.specs.steps.Parted.{hashIn, numberIn, linkOf, tableAt, Ordered}
+use Rattle.build.specs.steps.Parted.{hashIn, numberIn, linkOf, tableOfName, Ordered}
 
 -- nothing is refused
 abbrev pub allTaken : ℕ → ℕ
@@ -44,7 +44,7 @@ pub record Ready (xs : List (List ℕ)) (n : ℕ) (slot : List ℕ → ℕ) (wor
   pub x : ℕ → List ℕ
   pub are : (q : ℕ) → q < n → x q ≡ nth xs (numberIn n work q)
   pub hashed : (q : ℕ) → q < n → hashIn n work q ≡ key (x q)
-  pub order : Ordered (tableAt xs) n (numberIn n work)
+  pub order : Ordered (tableOfName xs) n (numberIn n work)
   pub chains : Chains x (firstMark x) slot (2 * n) p (at work) (linkOf n work)
 
 -- and s is the slot of the name at place p

@@ -26,16 +26,16 @@ abbrev pub keptIn : ℕ → List ℕ → ℕ → ℕ
 keptIn n work i = at work (5 * n + i)
 
 -- the table of the i-th name: by the names, and by the hashes
-abbrev pub tableAt : List (List ℕ) → ℕ → ℕ
-tableAt xs i = tableOf (key (nth xs i))
+abbrev pub tableOfName : List (List ℕ) → ℕ → ℕ
+tableOfName xs i = tableOf (key (nth xs i))
 
 abbrev pub tableIn : ℕ → List ℕ → ℕ → ℕ
 tableIn n work i = tableOf (keptIn n work i)
 
 -- how many of the first i have table t, where T tells the table of each
-unfoldable pub tally : (ℕ → ℕ) → ℕ → ℕ → ℕ
-tally T t zero = 0
-tally T t (suc i) = tally T t i + cond (eqb (T i) t) 1 0
+unfoldable pub countOfTable : (ℕ → ℕ) → ℕ → ℕ → ℕ
+countOfTable T t zero = 0
+countOfTable T t (suc i) = countOfTable T t i + cond (eqb (T i) t) 1 0
 
 -- the sum of the first t numbers
 unfoldable pub sumTo : (ℕ → ℕ) → ℕ → ℕ
@@ -44,16 +44,16 @@ sumTo c (suc t) = sumTo c t + c t
 
 -- how many of the first n have a table below t: there the places of table t begin
 unfoldable pub firstOf : (ℕ → ℕ) → ℕ → ℕ → ℕ
-firstOf T n t = sumTo (λ (s : ℕ). tally T s n) t
+firstOf T n t = sumTo (λ (s : ℕ). countOfTable T s n) t
 
 -- the place of the i-th
-unfoldable pub placeOf : (ℕ → ℕ) → ℕ → ℕ → ℕ
-placeOf T n i = firstOf T n (T i) + tally T (T i) i
+unfoldable pub placeInOrder : (ℕ → ℕ) → ℕ → ℕ → ℕ
+placeInOrder T n i = firstOf T n (T i) + countOfTable T (T i) i
 
 -- each of n numbers has a place, and the numbers of one table rise
 pub record Ordered (T : ℕ → ℕ) (n : ℕ) (number : ℕ → ℕ) : Type 0 where
   pub below : (p : ℕ) → p < n → number p < n
-  pub there : (i : ℕ) → i < n → (placeOf T n i < n) × (number (placeOf T n i) ≡ i)
+  pub there : (i : ℕ) → i < n → (placeInOrder T n i < n) × (number (placeInOrder T n i) ≡ i)
   pub rises : (p q : ℕ) → p < q → q < n → T (number p) ≡ T (number q) → number p < number q
 
 -- where the places of table t begin, by where each table ends
@@ -64,9 +64,9 @@ firstIn ends t = cond (eqb t 0) 0 (at ends (t - 1))
 abbrev pub slotBy : List ℕ → ℕ → ℕ
 slotBy ends h = 2 * firstIn ends (h % 256) + 2 * (at ends (h % 256) - firstIn ends (h % 256)) * (h / 256) / 16777216
 
-unfoldable pub slotIn : ℕ → List ℕ → ℕ → ℕ
-slotIn n ends h = cond (ltb (slotBy ends h) (2 * n)) (slotBy ends h) 0
+unfoldable pub slotInTable : ℕ → List ℕ → ℕ → ℕ
+slotInTable n ends h = cond (ltb (slotBy ends h) (2 * n)) (slotBy ends h) 0
 
 -- the slot of a name
 abbrev pub tableSlot : ℕ → List ℕ → List ℕ → ℕ
-tableSlot n ends name = slotIn n ends (key name)
+tableSlot n ends name = slotInTable n ends (key name)

@@ -47,9 +47,9 @@ pairsAt buf o zero = []
 pairsAt buf o (suc c) = pairsAt buf o c ++ (record { hash = word buf (o + 8 * c); at = word buf (o + 8 * c + 4) } ∷ [])
 
 -- the c pairs of a list of hashes and one of offsets
-unfoldable pub listed : List ℕ → List ℕ → ℕ → List Bucket
-listed hashes offsets zero = []
-listed hashes offsets (suc c) = listed hashes offsets c ++ (record { hash = getD hashes c 0; at = getD offsets c 0 } ∷ [])
+unfoldable pub pairsListed : List ℕ → List ℕ → ℕ → List Bucket
+pairsListed hashes offsets zero = []
+pairsListed hashes offsets (suc c) = pairsListed hashes offsets c ++ (record { hash = getD hashes c 0; at = getD offsets c 0 } ∷ [])
 
 -- a pair stored in the first empty bucket of its search among the n buckets at o
 unfoldable pub inserted : List ℕ → ℕ → ℕ → ℕ → ℕ → List ℕ

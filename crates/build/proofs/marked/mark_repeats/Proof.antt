@@ -8,7 +8,7 @@ use borrow.Author.Needs.{needs}
 use Rattle.image.specs.Tables.{tableOf}
 use Rattle.joined.specs.Names.{names}
 use Rattle.build.specs.steps.Held.{at}
-use Rattle.build.specs.steps.Parted.{tableAt, tableIn}
+use Rattle.build.specs.steps.Parted.{tableOfName, tableIn}
 use Rattle.build.proofs.Tallies.{first-ext, sums-fit}
 use Rattle.build.proofs.Marking.{ready-parted}
 use Rattle.build.proofs.marked.mark_repeats.Statement.{statement}
@@ -18,7 +18,7 @@ starts-requires : tie.Need-starts-requires
 starts-requires c κs =
     let s = c .before .before .before .before .before in
     let a = s .args in
-    let T = tableAt (names (a .bytes .now) (a .ends .now)) in
+    let T = tableOfName (names (a .bytes .now) (a .ends .now)) in
     (s .pre .5, λ t h. omega (arith, sums-fit T (length (a .ends .now)) (at (a .tables .now)) (s .pre .6) t h .1, s .pre .3))
 
 part-requires : tie.Need-part-requires
@@ -26,7 +26,7 @@ part-requires c κs =
     let s = c .before .before .before .before .before .before .before .before in
     let a = s .args in
     let n = length (a .ends .now) in
-    let T = tableAt (names (a .bytes .now) (a .ends .now)) in
+    let T = tableOfName (names (a .bytes .now) (a .ends .now)) in
     let begun = c .before .before .starts .ensures in (
       s .pre .2,
       s .pre .3,

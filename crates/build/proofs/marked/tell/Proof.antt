@@ -5,7 +5,7 @@ use mathlib.Core.Path.{_≡_, refl, sym, ap, subst, _∙_}
 use mathlib.Core.List.{List}
 use lib.ListN.{length}
 use Rattle.joined.specs.Names.{names, nth}
-use Rattle.build.specs.steps.Parted.{keptIn, numberIn, slotIn, tableSlot}
+use Rattle.build.specs.steps.Parted.{keptIn, numberIn, slotInTable, tableSlot}
 use Rattle.build.specs.steps.Marked.{Ready}
 use Rattle.build.proofs.Marking.{ready-repeat, ready-linked, number-kept, hashes-kept}
 use borrow.Author.Needs.{needs}
@@ -43,7 +43,7 @@ met-requires c κs =
       record {
         slot = tableSlot n (a .tables .now);
         ready = s .pre .4;
-        is = slot .0 ∙ ap (slotIn n (a .tables .now)) (s .pre .4 .hashed (a .p) (s .pre .1));
+        is = slot .0 ∙ ap (slotInTable n (a .tables .now)) (s .pre .4 .hashed (a .p) (s .pre .1));
         inside = slot .1;
       },
     )
@@ -79,7 +79,7 @@ returns-2 c =
     let xs = names (a .bytes .now) (a .ends .now) in
     let by = tableSlot n (a .tables .now) in
     let slot = c .before .before .before .before .before .before .before .slot-in in
-    let is = slot .ensures .0 ∙ ap (slotIn n (a .tables .now)) (s .pre .4 .hashed (a .p) (s .pre .1)) in
+    let is = slot .ensures .0 ∙ ap (slotInTable n (a .tables .now)) (s .pre .4 .hashed (a .p) (s .pre .1)) in
     let told = c .before .before .before .before .before .met .ensures in
     let linked = c .before .before .link-in .ensures in
     let work = a .work .now in

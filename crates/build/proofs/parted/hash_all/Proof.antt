@@ -12,7 +12,7 @@ use Rattle.joined.specs.Names.{names, nth}
 use Rattle.joined.specs.Keys.{key}
 use Rattle.build.specs.steps.Held.{at}
 use Rattle.build.specs.steps.Marked.{zeroMark}
-use Rattle.build.specs.steps.Parted.{tableAt, tally}
+use Rattle.build.specs.steps.Parted.{tableOfName, countOfTable}
 use Rattle.build.proofs.Tallies.{tally-le}
 use Rattle.build.proofs.Parting.{run-turn, first-turn, counts-turn, counts-none}
 use Rattle.build.proofs.parted.hash_all.Statement.{statement}
@@ -25,7 +25,7 @@ Inv-loop bytes ends rs₀ work₀ tables₀ n i₀ rs work tables i =
     × (length work ≡ length work₀)
     × (length tables ≡ 256)
     × ((j : ℕ) → j < i → at work (5 * n + j) ≡ key (nth (names bytes ends) j))
-    × ((t : ℕ) → t < 256 → at tables t ≡ tally (tableAt (names bytes ends)) t i)
+    × ((t : ℕ) → t < 256 → at tables t ≡ countOfTable (tableOfName (names bytes ends)) t i)
     × ((j : ℕ) → j < i → at rs j ≡ zeroMark (nth (names bytes ends) j))
     × (drop n rs ≡ drop n rs₀)
 
@@ -41,7 +41,7 @@ loop-holds c =
       refl,
       s .pre .4,
       λ j h. absurd (omega arith),
-      counts-none (tableAt xs) (s .args .tables .now) (s .pre .5),
+      counts-none (tableOfName xs) (s .args .tables .now) (s .pre .5),
       λ j h. absurd (omega arith),
       refl,
     )
@@ -70,7 +70,7 @@ count-in-requires c κs =
     let l = c .before .before .before .before .loop in
     let xs = names (s .args .bytes .now) (s .args .ends .now) in
     let t = tableOf (c .before .key .result) in
-    omega (arith, l .inv .5 t (mod-lt (c .before .key .result) (omega arith)), tally-le (tableAt xs) t (l .i), c .before .before .before .loop-test .taken, s .pre .3)
+    omega (arith, l .inv .5 t (mod-lt (c .before .key .result) (omega arith)), tally-le (tableOfName xs) t (l .i), c .before .before .before .loop-test .taken, s .pre .3)
 
 zero-mark-requires : tie.Need-zero-mark-requires Inv-loop μ-loop
 zero-mark-requires c κs = search needs
@@ -105,7 +105,7 @@ loop-again c =
       ap length counted ∙ simp length-set (l .inv .3),
       run-turn (λ (j : ℕ). key (nth xs j)) (l .work) (5 * n) (l .i) h (omega (arith, s .pre .2, l .inv .2, below)) hashed (l .inv .4),
       λ t k. ap (λ (x : List ℕ). at x t) counted
-          ∙ counts-turn (tableAt xs) (l .tables) (l .i) (tableOf h) (ap tableOf hashed) (mod-lt h (omega arith)) (l .inv .3) (l .inv .5) t k,
+          ∙ counts-turn (tableOfName xs) (l .tables) (l .i) (tableOf h) (ap tableOf hashed) (mod-lt h (omega arith)) (l .inv .3) (l .inv .5) t k,
       first-turn (λ (j : ℕ). zeroMark (nth xs j)) (l .rs) (l .i) _ (omega (arith, s .pre .1, l .inv .1, below)) marked (l .inv .6),
       drop-set-lt n (l .rs) (l .i) _ below ∙ l .inv .7,
     )
@@ -124,7 +124,7 @@ returns c =
     let last : l .i ≡ length (s .args .ends .now) = omega (arith, l .inv .0, c .loop-test .left) in (
       λ i h. l .inv .4 i (omega arith),
       (
-        (l .inv .3, λ t h. l .inv .5 t h ∙ ap (tally (tableAt xs) t) last),
+        (l .inv .3, λ t h. l .inv .5 t h ∙ ap (countOfTable (tableOfName xs) t) last),
         ((λ i h. l .inv .6 i (omega arith), l .inv .7), (l .inv .1, l .inv .2)),
       ),
     )

@@ -3,7 +3,7 @@ use native.Mathlib.Omega.{arith}
 use Prim.Native.Nat.{_≤_, _-_}
 use mathlib.Core.Path.{_≡_, _∙_}
 use lib.ListN.{length, length-set}
-use Rattle.finish.specs.steps.Parting.{listed, pairsAt}
+use Rattle.finish.specs.steps.Parting.{pairsListed, pairsAt}
 use Rattle.finish.proofs.Filling.{copy-none, copy-turn}
 use Rattle.finish.proofs.tables.copy_pairs.Statement.{statement}
 use Rattle.finish.proofs.tables.copy_pairs.Tie as tie
@@ -13,7 +13,7 @@ use Rattle.jhash.proofs.word.word.Reads as word-reads
 
 abbrev Inv-loop : tie.InvT-loop
 Inv-loop buf o c hashes₀ offsets₀ i₀ hashes offsets i =
-    (i ≤ c) × (length hashes ≡ 4608) × (length offsets ≡ 4608) × (listed hashes offsets i ≡ pairsAt buf o i)
+    (i ≤ c) × (length hashes ≡ 4608) × (length offsets ≡ 4608) × (pairsListed hashes offsets i ≡ pairsAt buf o i)
 
 abbrev μ-loop : tie.MeasureT-loop
 μ-loop buf o c hashes₀ offsets₀ i₀ hashes offsets i = c - i
