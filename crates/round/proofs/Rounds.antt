@@ -153,6 +153,15 @@ listed-below equals list n m room e x h =
     let same-one : getD list x 0 ≡ getD (news equals n) x 0 = sym (getD-take m list x 0 h) ∙ ap (λ (l : List ℕ). getD l x 0) e in
     omega (arith, news-below equals n x inside)
 
+-- listed again, they are the same names
+pub listed-again : (equals list list₂ : List ℕ) (n m k : ℕ) → m ≤ length list → k ≤ length list₂ → take m list ≡ news equals n → take k list₂ ≡ news equals n
+    → (P : ℕ → Type 0) → ((x : ℕ) → x < m → P (getD list x 0)) → (x : ℕ) → x < k → P (getD list₂ x 0)
+listed-again equals list list₂ n m k room room₂ e e₂ P all x h =
+    let j : x < m = omega (arith, length-take m list, length-take k list₂, ap length e, ap length e₂) in
+    let same-one : getD list x 0 ≡ getD list₂ x 0 =
+    sym (getD-take m list x 0 j) ∙ ap (λ (l : List ℕ). getD l x 0) (e ∙ sym e₂) ∙ getD-take k list₂ x 0 h in
+    subst P same-one (all x j)
+
 module _ (image : List ℕ) (xs : List (List ℕ)) (equals list : List ℕ) (n m : ℕ) (size : length xs ≡ n) (told : Told xs n equals)
     (room : m ≤ length list) (listed : take m list ≡ news equals n) where
   told-all : Told xs (length xs) equals

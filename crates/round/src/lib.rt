@@ -40,9 +40,9 @@ fn answer_all(image: &[u8], bytes: &[u8], ends: &[u64], answers: &mut [u32]) -> 
     tell(bytes, ends, &keys, &mut equals);
     let mut list: [u16; 512] = [0; 512];
     let m = list_new(&equals, n, &mut list);
-    let mut live = list;
-    find_all(image, bytes, ends, &keys, &mut live, m, &mut *answers);
-    let sum = sum_all(&list, m, &*answers);
+    find_all(image, bytes, ends, &keys, &mut list, m, &mut *answers);
+    let again = list_new(&equals, n, &mut list);
+    let sum = sum_all(&list, again, &*answers);
     if m < n {
         repeat_all(&equals, n, &mut *answers);
     }
