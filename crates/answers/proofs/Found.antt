@@ -24,7 +24,7 @@ use Rattle.image.proofs.Every.{All, all-map, all-both, all-keep, all-image, map
 use Rattle.image.proofs.Buckets.{filled-all}
 use Rattle.answers.proofs.Scan.{Taken}
 use Rattle.answers.proofs.Order.{meet-alike}
-use Rattle.answers.proofs.Filling.{hitsIn}
+use Rattle.answers.proofs.SearchFilling.{hitsIn}
 use Rattle.answers.proofs.Searched.{look, Searched, searched-same, searched}
 use Rattle.image.proofs.At.{at-left, at-word, at-second}
 use Rattle.image.proofs.Parts.{placedIn, most, tableAt-image, bucketNumber-image, bucket-at}
@@ -32,7 +32,7 @@ use Rattle.answers.proofs.Opened.{long-enough, table-inside}
 use Rattle.image.proofs.EntryAt.{Stands, entry-fits, all-stand, all-placed, ids-below}
 use Rattle.answers.proofs.EntrySeen.{seen-entry}
 use Rattle.image.proofs.Equal.{same-true}
-use Rattle.answers.proofs.Names.{told, verdict, tellings, hits-of-name, none-tell, names-short}
+use Rattle.answers.proofs.EntriesOf.{told, verdict, tellings, hits-of-name, none-tell, names-short}
 
 -- a search without a read meets nothing, where nothing is to be found
 pub nothing-searched : (hs : List Hit) (m : ℕ) → hs ≡ [] → Searched hs m (over 0)

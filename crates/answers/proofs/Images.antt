@@ -20,7 +20,7 @@ use Rattle.answers.proofs.Opened.{opening-image}
 use Rattle.agreement.proofs.Homes.{lookup-first}
 use Rattle.agreement.specs.Meets.{entriesMet, someMet}
 use Rattle.answers.proofs.Scan.{firstOf, foundHit, first-hit}
-use Rattle.answers.proofs.Names.{tellings, idIn, offsetIn, first-id, first-at, someId, some-met, named-told}
+use Rattle.answers.proofs.EntriesOf.{tellings, idIn, offsetIn, first-id, first-at, someId, some-met, named-told}
 use Rattle.answers.proofs.Found.{met-searched}
 use Rattle.answers.proofs.Named.{naming-image}
 

@@ -1,12 +1,12 @@
 -- The laws of answers on images.
 pub mod Scan
 pub mod Order
-pub mod Filling
+pub mod SearchFilling
 pub mod Table
 pub mod Searched
 pub mod Opened
 pub mod EntrySeen
-pub mod Names
+pub mod EntriesOf
 pub mod Found
 pub mod Named
 pub mod Images

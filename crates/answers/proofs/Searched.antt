@@ -20,7 +20,7 @@ use Rattle.image.proofs.Every.{All, all-map, map-alike}
 use Rattle.image.proofs.Buckets.{filled-all}
 use Rattle.answers.proofs.Scan.{meet-scan, scan-hits, scan-reads, scan-found, hits, metHits, used, Taken}
 use Rattle.answers.proofs.Order.{view}
-use Rattle.answers.proofs.Filling.{hitsIn, Sees}
+use Rattle.answers.proofs.SearchFilling.{hitsIn, Sees}
 use Rattle.answers.proofs.Table.{Apart, NotEmpty, filled-holds, filled-hits}
 
 -- ---- what a search for a hash sees in a bucket, by a verdict on the offsets of entries with that hash

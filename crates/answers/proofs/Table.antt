@@ -14,7 +14,7 @@ use Rattle.image.proofs.Buckets.{getD-empties}
 use Rattle.answers.proofs.Scan.{hits, used, Good, hitOf, idx, idx-below, used-set}
 use Rattle.answers.proofs.Scan.{own-good, own-hits, other-good, other-hits}
 use Rattle.answers.proofs.Order.{view, view-length}
-use Rattle.answers.proofs.Filling.{hitsIn, ends-used, ends-good, ends-hits, Sees, own-step, any-step}
+use Rattle.answers.proofs.SearchFilling.{hitsIn, ends-used, ends-good, ends-hits, Sees, own-step, any-step}
 
 -- ---- what holds after each entry: m buckets are taken, whatever the search's start, and no hit stands behind an empty one
 

@@ -28,9 +28,9 @@ use Rattle.writer.specs.State.{State, refusesRepeats, tooLarge, fresh}
 use Rattle.writer.specs.Put.{putRefusal, appended, afterPut, writerAfter, entryOf, raised}
 use Rattle.writer.proofs.Puts.{Passed, passed, long-name}
 use Rattle.lists.specs.Calls.{sizeOf, putDue}
-use Rattle.lists.proofs.Written.{Written}
+use Rattle.lists.proofs.ListWritten.{Written}
 use Rattle.lists.proofs.Appended.{entriesSize-snoc, backSize-snoc, sizeOf-is}
-use Rattle.lists.proofs.Puts.{put-due}
+use Rattle.lists.proofs.ListPuts.{put-due}
 use Rattle.build.specs.steps.Held.{at, heldBefore, answered, leftAnswered}
 use Rattle.build.specs.steps.Marked.{metBefore, markOf, putBy, Roomy}
 use Rattle.build.proofs.Chained.{and-false}

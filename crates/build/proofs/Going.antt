@@ -23,15 +23,15 @@ use Rattle.writer.specs.State.{State, refusesRepeats, fresh}
 use Rattle.writer.specs.Put.{putRefusal, afterPut, entryOf}
 use Rattle.lists.specs.Calls.{Call, put, after, answers, acceptedBy, putDue, acceptedAfter, WordId}
 use Rattle.lists.specs.Demand3.{answersOf, afterList, acceptedPuts}
-use Rattle.lists.proofs.Written.{Written}
-use Rattle.lists.proofs.Puts.{put-due, due-free, fresh-written}
-use Rattle.lists.proofs.Closes.{close-accepted}
+use Rattle.lists.proofs.ListWritten.{Written}
+use Rattle.lists.proofs.ListPuts.{put-due, due-free, fresh-written}
+use Rattle.lists.proofs.ListCloses.{close-accepted}
 use Rattle.build.specs.Build.{callsOf}
 use Rattle.build.specs.steps.Held.{at, heldBefore, answered, leftAnswered}
-use Rattle.build.specs.steps.Along.{chosen, Puts}
+use Rattle.build.specs.steps.PutsAlong.{chosen, Puts}
 use Rattle.build.proofs.Chained.{held-more, held-ext}
 use Rattle.build.proofs.Linked.{at-set}
-use Rattle.build.proofs.Turns.{chosen-written, turn-answer, turn-state, turn-written, entries-put}
+use Rattle.build.proofs.ToldPuts.{chosen-written, turn-answer, turn-state, turn-written, entries-put}
 
 -- ---- the calls from the i-th on
 

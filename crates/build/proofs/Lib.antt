@@ -2,9 +2,9 @@
 pub mod Chained
 pub mod Linked
 pub mod Tallies
-pub mod Parting
+pub mod NamesParted
 pub mod Marking
-pub mod Turns
+pub mod ToldPuts
 pub mod Going
 pub mod Dues
 pub mod Whole

@@ -17,7 +17,7 @@ use Rattle.writer.specs.State.{State, fits, finishedSize, tooLarge}
 use Rattle.writer.specs.Close.{closeRefusal, closedSize, closed, consistent, afterClose}
 use Rattle.lists.specs.Demand3.{answersOf, afterList, acceptedPuts}
 use Rattle.build.specs.declared.Made.{Made}
-use Rattle.build.specs.steps.Along.{chosen, Puts}
+use Rattle.build.specs.steps.PutsAlong.{chosen, Puts}
 use Rattle.build.specs.Build.{listed, buildRefusal, madeOf, building, bufferAfter, answersAfter}
 
 -- ---- the refusals, in their order

@@ -14,7 +14,7 @@ ghost use Rattle.writer.specs.Close.{closeRefusal, closedSize, afterClose};
 ghost use Rattle.lists.specs.Demand3.{answersOf, afterList, acceptedPuts};
 ghost use Rattle.build.specs.steps.Held.{answered, leftAnswered};
 ghost use Rattle.build.specs.Build.{listed, buildRefusal, building, bufferAfter, answersAfter, builtOf};
-ghost use Rattle.build.specs.steps.Along.{Puts};
+ghost use Rattle.build.specs.steps.PutsAlong.{Puts};
 ghost use Rattle.build.specs.steps.Marked.{Roomy};
 use held::clear;
 use held::held;

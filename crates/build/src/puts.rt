@@ -14,7 +14,7 @@ ghost use Rattle.writer.specs.Put.{putRefusal, entryOf};
 ghost use Rattle.lists.specs.Demand3.{answersOf};
 ghost use Rattle.build.specs.Build.{listed};
 ghost use Rattle.build.specs.steps.Held.{at};
-ghost use Rattle.build.specs.steps.Along.{Puts};
+ghost use Rattle.build.specs.steps.PutsAlong.{Puts};
 ghost use Rattle.build.specs.steps.Parted.{keptIn};
 ghost use Rattle.build.specs.steps.Marked.{markOf, putBy, Roomy};
 use image::Mode;

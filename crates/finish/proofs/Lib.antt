@@ -11,5 +11,5 @@ pub mod Filling
 pub mod Rooms
 pub mod ByTables
 pub mod TableByTable
-pub mod Writing
+pub mod FinishSteps
 pub mod WrittenImage

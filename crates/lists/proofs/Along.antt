@@ -13,9 +13,9 @@ use Rattle.writer.specs.State.{State, fresh, beginRefusal, beginning, countsBeg
 use Rattle.lists.specs.Calls.{Call, put, close, afterCall, answer, after, answers, acceptedOne, acceptedBy, acceptedAfter, dueTo}
 use Rattle.lists.specs.Calls.{acceptedFrom, dueFrom, accepted, due, Permitted, AllPermitted, WordId, WordIds}
 use Rattle.lists.specs.Demand3.{answersOf, afterList, acceptedPuts}
-use Rattle.lists.proofs.Written.{Written}
-use Rattle.lists.proofs.Puts.{put-due, due-number, put-written, fresh-written}
-use Rattle.lists.proofs.Closes.{close-accepted, close-written}
+use Rattle.lists.proofs.ListWritten.{Written}
+use Rattle.lists.proofs.ListPuts.{put-due, due-number, put-written, fresh-written}
+use Rattle.lists.proofs.ListCloses.{close-accepted, close-written}
 
 -- ---- one call
 

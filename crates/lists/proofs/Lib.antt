@@ -1,13 +1,13 @@
 -- The laws of lists of calls.
-pub mod Written
+pub mod ListWritten
 pub mod Read
 pub mod Parse
 pub mod Appended
 pub mod Recorded
-pub mod Puts
-pub mod Closes
+pub mod ListPuts
+pub mod ListCloses
 pub mod Along
-pub mod OneMore
+pub mod OneMoreClose
 pub mod Members
 pub mod Reading
 pub mod Theorem

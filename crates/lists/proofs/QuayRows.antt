@@ -24,7 +24,7 @@ use Rattle.lists.proofs.Read.{namedIn, Read}
 use Rattle.lists.specs.Demand3.{imageOf}
 use Rattle.lists.specs.QuayRows.{NameRow, IdRow, Row, Each, backArray, ImageHolds, RowHolds, HoldsInAny, quayRows, namedRows}
 use Rattle.lists.proofs.Along.{list-answers}
-use Rattle.lists.proofs.OneMore.{list-gives, list-formula, list-image, list-below}
+use Rattle.lists.proofs.OneMoreClose.{list-gives, list-formula, list-image, list-below}
 use Rattle.lists.proofs.Reading.{list-read}
 
 each-map : {A : Type 0} {P Q : A → Type 0} → ((x : A) → P x → Q x) → (xs : List A) → Each P xs → Each Q xs

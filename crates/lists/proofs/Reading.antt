@@ -27,7 +27,7 @@ use Rattle.lists.specs.AfterClose.{Answered}
 use Rattle.lists.specs.OneWay.{IdsUnanswered}
 use Rattle.lists.proofs.Read.{namedIn, Read}
 use Rattle.lists.proofs.Along.{list-written}
-use Rattle.lists.proofs.OneMore.{list-image, list-below}
+use Rattle.lists.proofs.OneMoreClose.{list-image, list-below}
 
 -- ---- reads of a lookup that finds
 

@@ -24,7 +24,7 @@ use Rattle.lists.specs.Calls.{Call, put, close, acceptedOne, putDue, acc
 use Rattle.lists.specs.Demand3.{imageOf}
 use Rattle.lists.specs.Readings.{Readings}
 use Rattle.lists.proofs.Read.{namedIn, Read}
-use Rattle.lists.proofs.Puts.{due-free}
+use Rattle.lists.proofs.ListPuts.{due-free}
 use Rattle.lists.proofs.Along.{two-way}
 use Rattle.lists.proofs.Reading.{list-read}
 

@@ -20,7 +20,7 @@ use Rattle.writer.specs.declared.Repeats.the-variants.{Off}
 use Rattle.lists.specs.Calls.{Call, put, close, acceptedBy, putDue, acceptedFrom, dueFrom, accepted, due, WordIds}
 use Rattle.lists.specs.Demand3.{acceptedPuts, imageOf}
 use Rattle.lists.specs.RepeatsOff.{putAll, ListOff, RepeatsOff}
-use Rattle.lists.proofs.Puts.{due-new, due-either}
+use Rattle.lists.proofs.ListPuts.{due-new, due-either}
 use Rattle.lists.proofs.Members.{only-entry}
 use Rattle.lists.proofs.Along.{accepted-by-due, list-accepted, list-written}
 use Rattle.lists.proofs.Reading.{list-read}

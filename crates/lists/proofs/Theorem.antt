@@ -16,7 +16,7 @@ use Rattle.lists.specs.Corollaries.{Together, Corollaries}
 use Rattle.lists.specs.AfterClose.{Answered}
 use Rattle.lists.proofs.Members.{named-first, first-last, last-first}
 use Rattle.lists.proofs.Along.{two-way, list-begins, list-counts, list-answers, list-permitted, list-accepted}
-use Rattle.lists.proofs.OneMore.{list-gives, list-formula, list-image, list-below, list-twice, none-accepted}
+use Rattle.lists.proofs.OneMoreClose.{list-gives, list-formula, list-image, list-below, list-twice, none-accepted}
 use Rattle.lists.proofs.Reading.{two-way-answered}
 
 -- ---- in either mode

@@ -15,7 +15,7 @@ use Rattle.writer.specs.Put.{putRefusal, afterPut}
 use Rattle.lists.specs.Calls.{put, after, putDue, accepted, acceptedAfter, acceptedFrom, acceptedOne, sizeOf}
 use Rattle.lists.specs.Demand3.{afterList}
 use Rattle.lists.proofs.Appended.{entriesSize-snoc, backSize-snoc, sizeOf-is}
-use Rattle.lists.proofs.Puts.{put-due}
+use Rattle.lists.proofs.ListPuts.{put-due}
 use Rattle.lists.proofs.Along.{two-way, after-append, accepted-append, list-written}
 use Rattle.lists.proofs.RepeatsOff.{putAll-append}
 use Rattle.load.specs.States.{stateAfter, loadEntry}

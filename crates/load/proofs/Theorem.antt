@@ -18,9 +18,9 @@ use Rattle.writer.specs.Put.{putRefusal}
 use Rattle.writer.specs.Close.{closing, closedSize, afterClose}
 use Rattle.lists.specs.Calls.{after, accepted, sizeOf}
 use Rattle.lists.specs.Demand3.{afterList, acceptedPuts, imageOf}
-use Rattle.lists.proofs.Written.{Written}
+use Rattle.lists.proofs.ListWritten.{Written}
 use Rattle.lists.proofs.Appended.{sizeOf-is}
-use Rattle.lists.proofs.Closes.{close-closed, closed-buffer}
+use Rattle.lists.proofs.ListCloses.{close-closed, closed-buffer}
 use Rattle.lists.proofs.Along.{two-way, list-accepted, list-written, begin-accepts}
 use Rattle.lists.proofs.Theorem.{one-list, calls-answered}
 use Rattle.load.specs.States.{loadEntry}

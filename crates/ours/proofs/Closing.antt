@@ -19,7 +19,7 @@ use Rattle.lists.specs.Demand3.{acceptedPuts, imageOf}
 use Rattle.lists.specs.RepeatsOff.{putAll}
 use Rattle.lists.proofs.Appended.{sizeOf-is}
 use Rattle.lists.proofs.Along.{list-written, list-accepted}
-use Rattle.lists.proofs.OneMore.{list-image, list-below}
+use Rattle.lists.proofs.OneMoreClose.{list-image, list-below}
 use Rattle.lists.proofs.Readings.{accepted-free}
 use Rattle.ours.specs.steps.Made.{Made}
 use Rattle.ours.specs.Ours.{Puttable, putsIn, modeIn}

@@ -25,7 +25,7 @@ use Rattle.masks.proofs.Filled.{filled-right}
 use Rattle.masks.proofs.Links.{offsets, right-linked}
 use Rattle.ours.specs.steps.InPlace.{bucketsAt, wordsAt}
 use Rattle.ours.proofs.InPlace.{LinksIn, InPlace}
-use Rattle.ours.proofs.Joins.{getD-bucketsAt, length-bucketsAt, getD-wordsAt, length-wordsAt}
+use Rattle.ours.proofs.StandTogether.{getD-bucketsAt, length-bucketsAt, getD-wordsAt, length-wordsAt}
 use Rattle.ours.proofs.Rises.{rises, rises-table}
 
 -- every link is a word

@@ -1,7 +1,7 @@
 -- Laws about images that are ours.
 pub mod ReadBack
 pub mod InPlace
-pub mod Joins
+pub mod StandTogether
 pub mod Rises
 pub mod Sound
 pub mod Complete
@@ -14,6 +14,6 @@ pub mod Theorem
 pub mod Rows
 pub mod Loops
 pub mod Steps
-pub mod Noting
+pub mod NotedEntries
 pub mod Enters
 pub mod Bodies

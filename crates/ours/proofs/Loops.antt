@@ -14,7 +14,7 @@ use Rattle.image.proofs.All.{all-turn, all-more, all-end}
 use Rattle.masks.specs.steps.Masks.{bit, above}
 use Rattle.ours.specs.steps.InPlace.{wordsAt}
 use Rattle.ours.specs.steps.Tests.{clean, usedIn, tableRight, rowsRight, rowCounts, TablesInside}
-use Rattle.ours.proofs.Joins.{getD-run}
+use Rattle.ours.proofs.StandTogether.{getD-run}
 
 -- ---- how many of a run of words are not zero
 

@@ -26,7 +26,7 @@ use Rattle.masks.proofs.Masked.{right-filled}
 use Rattle.masks.proofs.Links.{offsets, linked-right}
 use Rattle.ours.specs.steps.InPlace.{bucketsAt, wordsAt}
 use Rattle.ours.proofs.InPlace.{LinksIn, InPlace}
-use Rattle.ours.proofs.Joins.{at-nothing, at-join, at-all, at-cat, at-parts, at-le32, at-two, getD-bucketsAt, getD-wordsAt, length-wordsAt}
+use Rattle.ours.proofs.StandTogether.{at-nothing, at-join, at-all, at-cat, at-parts, at-le32, at-two, getD-bucketsAt, getD-wordsAt, length-wordsAt}
 use Rattle.ours.proofs.Rises.{rises, rises-table}
 
 abbrev letters : List ℕ

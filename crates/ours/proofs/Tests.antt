@@ -18,7 +18,7 @@ use Rattle.reader.specs.Open.{opening, hasLetters, someLeaves, halves}
 use Rattle.masks.specs.steps.Masks.{above, ats}
 use Rattle.ours.specs.steps.InPlace.{bucketAt, bucketsAt}
 use Rattle.ours.specs.steps.Tests.{clean, usedIn, tableRight, rowsRight, rowCounts, sayCounts, TablesInside}
-use Rattle.ours.proofs.Joins.{getD-run, getD-bucketsAt, length-bucketsAt}
+use Rattle.ours.proofs.StandTogether.{getD-run, getD-bucketsAt, length-bucketsAt}
 
 -- ---- opening
 

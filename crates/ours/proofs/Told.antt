@@ -31,7 +31,7 @@ use Rattle.ours.specs.Ours.{Puttable, modeIn}
 use Rattle.ours.specs.steps.InPlace.{bucketsAt}
 use Rattle.ours.proofs.InPlace.{LinksIn, InPlace}
 use Rattle.ours.specs.steps.Tests.{endIn, areaIn, entriesOf, tableRight, rowsRight, standsIn, entryRight, linksRight, Checked}
-use Rattle.ours.proofs.Joins.{length-bucketsAt}
+use Rattle.ours.proofs.StandTogether.{length-bucketsAt}
 use Rattle.ours.proofs.Tests.{opens, table-told, Row, rows-told}
 use Rattle.ours.proofs.Walks.{stands-told, entries-told, to-table, links-told}
 use Rattle.ours.proofs.Sound.{in-place-image}

@@ -23,7 +23,7 @@ use Rattle.masks.proofs.Masked.{getD-masked, place-in}
 use Rattle.masks.proofs.Filled.{first-below}
 use Rattle.ours.specs.steps.InPlace.{bucketAt, bucketsAt, wordsAt}
 use Rattle.ours.specs.steps.Tests.{hidden, slotIn, standsIn, entryRight, entriesRight, aheadIn, selvesIn}
-use Rattle.ours.proofs.Joins.{getD-bucketsAt, length-bucketsAt, getD-wordsAt}
+use Rattle.ours.proofs.StandTogether.{getD-bucketsAt, length-bucketsAt, getD-wordsAt}
 
 -- ---- an entry in its table
 

@@ -1,5 +1,5 @@
 -- What describes the steps of code. No rule stands here, and nobody has to believe it: proofs/ joins it to the rules.
 pub mod Made
 pub mod InPlace
-pub mod Noting
+pub mod Noted
 pub mod Tests

@@ -5,7 +5,7 @@ ghost use mathlib.Core.Path.{_≡_};
 ghost use Prim.Native.Nat.{ℕ, _<_, _≤_};
 ghost use lib.ListN.{length, getD};
 ghost use Rattle.image.specs.Bytes.{word};
-ghost use Rattle.ours.specs.steps.Noting.{firstPlace, NotedFrom, Notes};
+ghost use Rattle.ours.specs.steps.Noted.{firstPlace, NotedFrom, Notes};
 use image::entries::whole_length;
 use image::get_u32;
 

@@ -10,7 +10,7 @@ ghost use Rattle.image.specs.Stored.{whole, entriesIn, between};
 ghost use Rattle.image.specs.Tables.{order, firstEmpty};
 ghost use Rattle.image.specs.Tally.{tallied};
 ghost use Rattle.jhash.specs.NameHash.{hashOf};
-ghost use Rattle.ours.specs.steps.Noting.{firstPlace};
+ghost use Rattle.ours.specs.steps.Noted.{firstPlace};
 ghost use Rattle.ours.specs.steps.Tests.{hidden, standsIn, nameAt, nameRight, entriesRight, placedFrom};
 use super::ahead::ahead;
 use image::entries::larger;

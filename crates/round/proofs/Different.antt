@@ -10,7 +10,7 @@ use Rattle.image.proofs.Bools.{not-both, neither-first, neither-second}
 use Rattle.image.proofs.Equal.{same-self, same-true, same-false}
 use Rattle.reader.specs.Lookup.{lookup}
 use Rattle.reader.specs.Cases.{reads}
-use Rattle.round.specs.Names.{among, newOnly, differentFrom, different, nth}
+use Rattle.round.specs.RoundNames.{among, newOnly, differentFrom, different, nth}
 use Rattle.round.specs.Round.{bucketsOf}
 use Rattle.round.specs.Theorem.{Distinct, OnceEach}
 

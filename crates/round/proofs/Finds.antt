@@ -10,7 +10,7 @@ use lib.Seq.{drop-cons, getD-take}
 use Rattle.reader.specs.Lookup.{Lookup, found, nothing, Seen, ends, seeEntry, decide, lookupHash, lookupBy, lookup}
 use Rattle.reader.specs.Cases.{reads}
 use Rattle.reader.proofs.Searches.{lookup-with, lookup-own}
-use Rattle.round.specs.Names.{nth}
+use Rattle.round.specs.RoundNames.{nth}
 use Rattle.round.specs.Round.{answerWords, bucketsOf}
 use Rattle.round.specs.steps.Telling.{key}
 use Rattle.round.specs.steps.Searching.{Decided}

@@ -1,12 +1,12 @@
 -- Laws of a round.
 pub mod Tells
-pub mod Listing
-pub mod Places
+pub mod GrowingLists
+pub mod AnswerPlaces
 pub mod News
 pub mod Finds
 pub mod Sights
 pub mod Passes
-pub mod Rounds
+pub mod WholeRound
 pub mod NameWords
 pub mod Different
 pub mod Theorem

@@ -8,13 +8,13 @@ use mathlib.Core.List.{List}
 use lib.ListN.{length, getD, set}
 use lib.Seq.{sets, getD-set-other}
 use Rattle.reader.specs.Lookup.{Lookup, lookup}
-use Rattle.round.specs.Names.{nth}
+use Rattle.round.specs.RoundNames.{nth}
 use Rattle.round.specs.Round.{answerWords}
 use Rattle.round.specs.steps.Telling.{Listed}
 use Rattle.round.specs.steps.Searching.{Goes, Decided, Right}
 use Rattle.round.proofs.Finds.{length-words}
-use Rattle.round.proofs.Listing.{listed-old, listed-new}
-use Rattle.round.proofs.Places.{has-after}
+use Rattle.round.proofs.GrowingLists.{listed-old, listed-new}
+use Rattle.round.proofs.AnswerPlaces.{has-after}
 
 -- ---- the turn of a pass, for the z-th of the searches that were open: `on` tells whether it goes on
 

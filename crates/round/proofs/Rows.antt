@@ -9,7 +9,7 @@ use Rattle.reader.specs.Naming.{naming}
 use Rattle.reader.specs.Cases.{reads}
 use Rattle.reader.specs.QuayReads.{own}
 use Rattle.reader.proofs.QuayReads.{reads-right}
-use Rattle.round.specs.Names.{namesFrom, names, astray, among, differentFrom, different}
+use Rattle.round.specs.RoundNames.{namesFrom, names, astray, among, differentFrom, different}
 use Rattle.round.specs.Round.{answerWords, roundWords, bucketsOf, rounding, afterRound}
 use Rattle.round.specs.NameRound.{nameWords, nameRefusal, afterNames}
 use Rattle.round.specs.Rows.{TwiceOnce, RowsHold}

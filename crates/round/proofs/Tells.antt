@@ -6,7 +6,7 @@ use mathlib.Core.Path.{_≡_, sym, ap, subst, _∙_}
 use mathlib.Core.List.{List}
 use lib.ListN.{length, getD, set}
 use lib.Seq.{getD-set-same, getD-set-other}
-use Rattle.round.specs.Names.{nth}
+use Rattle.round.specs.RoundNames.{nth}
 use Rattle.round.specs.steps.Telling.{key, Keys, slot, Last, Linked, Equal}
 
 -- ---- keys

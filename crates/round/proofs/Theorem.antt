@@ -14,13 +14,13 @@ use Rattle.image.specs.Stored.{between}
 use Rattle.image.proofs.Lists.{length-cat}
 use Rattle.reader.specs.Lookup.{lookup}
 use Rattle.reader.specs.Naming.{naming}
-use Rattle.round.specs.Names.{namesFrom, names, astray, joined, endsFrom, nth}
+use Rattle.round.specs.RoundNames.{namesFrom, names, astray, joined, endsFrom, nth}
 use Rattle.round.specs.Round.{answerWords, roundWords, roundBuckets, rounding, afterRound}
 use Rattle.round.specs.NameRound.{placeWords, nameWords, nameRefusal, afterNames}
 use Rattle.round.specs.Theorem.{placeAt, Accepted, RoundHolds}
 use Rattle.joined.proofs.NameEnds.{length-names}
 use Rattle.round.proofs.Finds.{length-words}
-use Rattle.round.proofs.Rounds.{left}
+use Rattle.round.proofs.WholeRound.{left}
 use Rattle.round.proofs.NameWords.{length-place, names-left}
 use Rattle.round.proofs.Different.{once-each, not-above, all-different}
 

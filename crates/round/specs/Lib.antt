@@ -1,5 +1,5 @@
 -- What a round answers, and what is proved of it.
-pub mod Names
+pub mod RoundNames
 pub mod Round
 pub mod NameRound
 pub mod Theorem

@@ -8,7 +8,7 @@ use Rattle.jhash.specs.Outcome.{Outcome, value, refusal}
 use Rattle.image.specs.Bytes.{cat}
 use Rattle.reader.specs.Lookup.{Lookup, found, nothing, lookup}
 use Rattle.reader.specs.Cases.{reads}
-use Rattle.round.specs.Names.{names, astray, different}
+use Rattle.round.specs.RoundNames.{names, astray, different}
 use Rattle.round.specs.declared.Rounded.{Rounded}
 use Rattle.round.specs.declared.Rounded.the-variants.{Buckets, Refused}
 

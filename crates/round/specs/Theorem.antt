@@ -7,7 +7,7 @@ use lib.ListN.{length, getD, take, drop}
 use Rattle.jhash.specs.Outcome.{value, refusal}
 use Rattle.reader.specs.Lookup.{lookup}
 use Rattle.reader.specs.Naming.{naming}
-use Rattle.round.specs.Names.{names, astray, among, different, joined, endsFrom, nth}
+use Rattle.round.specs.RoundNames.{names, astray, among, different, joined, endsFrom, nth}
 use Rattle.round.specs.Round.{answerWords, bucketsOf, roundBuckets, rounding, afterRound}
 use Rattle.round.specs.NameRound.{placeWords, nameRefusal, afterNames}
 

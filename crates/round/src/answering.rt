@@ -7,7 +7,7 @@ ghost use lib.ListN.{length, getD, take, drop};
 ghost use lib.Seq.{sets};
 ghost use Rattle.reader.specs.Cases.{reads, lookupOf};
 ghost use Rattle.reader.specs.Lookup.{lookupBy};
-ghost use Rattle.round.specs.Names.{names, astray, nth};
+ghost use Rattle.round.specs.RoundNames.{names, astray, nth};
 ghost use Rattle.round.specs.Round.{answerWords, bucketsOf};
 ghost use Rattle.round.specs.steps.Telling.{Keys, Has, Kept, Begun};
 ghost use Rattle.round.specs.steps.Searching.{Decided, Right};

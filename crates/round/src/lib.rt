@@ -4,7 +4,7 @@ ghost use mathlib.Core.Bool.{false};
 ghost use mathlib.Core.List.{_++_};
 ghost use Prim.Native.Nat.{_*_, _/_, _≤_};
 ghost use lib.ListN.{length, drop};
-ghost use Rattle.round.specs.Names.{names, astray};
+ghost use Rattle.round.specs.RoundNames.{names, astray};
 ghost use Rattle.round.specs.Round.{roundWords, roundBuckets, rounding, afterRound, roundedOf};
 use answering::find_all;
 use answering::repeat_all;

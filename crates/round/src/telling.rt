@@ -6,7 +6,7 @@ ghost use mathlib.Core.Logic.{_⊎_};
 ghost use Prim.Native.Nat.{ℕ, _≤_, _<_};
 ghost use lib.ListN.{length, getD, take};
 ghost use Rattle.image.specs.Bytes.{same};
-ghost use Rattle.round.specs.Names.{names, astray, nth};
+ghost use Rattle.round.specs.RoundNames.{names, astray, nth};
 ghost use Rattle.round.specs.steps.Telling.{key, Keys, Listed, Linked, Equal, Told, news};
 use image::equality::same;
 use joined::key;

@@ -3,7 +3,7 @@ use mathlib.Core.Path.{_≡_, sym, ap, _∙_}
 use mathlib.Core.Bool.{Bool, cond}
 use Rattle.writer.specs.State.{State, stateWith}
 use Rattle.writer.specs.Put.{entryOf}
-use Rattle.build.proofs.Turns.{held-answer, held-leaves, plain-answer, plain-leaves}
+use Rattle.build.proofs.ToldPuts.{held-answer, held-leaves, plain-answer, plain-leaves}
 use borrow.Author.Needs.{needs}
 use Rattle.build.proofs.put_one.Statement.{statement}
 use Rattle.build.proofs.put_one.Tie as tie

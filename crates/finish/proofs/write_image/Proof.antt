@@ -3,7 +3,7 @@ use Prim.Native.Nat.{ℕ, _<_}
 use native.Mathlib.Omega.{arith}
 use mathlib.Core.Path.{_∙_}
 use lib.ListN.{getD}
-use Rattle.finish.proofs.Writing.{linksAt-le, written-parts}
+use Rattle.finish.proofs.FinishSteps.{linksAt-le, written-parts}
 use Rattle.finish.proofs.WrittenImage.{written-image}
 use borrow.Author.Needs.{needs}
 use Rattle.finish.proofs.write_image.Statement.{statement}

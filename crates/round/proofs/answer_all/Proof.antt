@@ -3,10 +3,10 @@ use Prim.Native.Nat.{ℕ, _≤_}
 use native.Mathlib.Omega.{arith}
 use mathlib.Core.Path.{_≡_}
 use lib.ListN.{length, length-replicate, getD-replicate}
-use Rattle.round.specs.Names.{names}
+use Rattle.round.specs.RoundNames.{names}
 use Rattle.round.specs.steps.Searching.{Right}
 use Rattle.joined.proofs.NameEnds.{length-names}
-use Rattle.round.proofs.Rounds.{listed-below, listed-again, counted, answered, answered-new}
+use Rattle.round.proofs.WholeRound.{listed-below, listed-again, counted, answered, answered-new}
 use borrow.Author.Needs.{needs}
 use Rattle.round.proofs.answer_all.Statement.{statement}
 use Rattle.round.proofs.answer_all.Tie as tie

@@ -6,9 +6,9 @@ use mathlib.Core.Bool.{true, false}
 use borrow.Author.Tests.{lt-ltb, le-ltb}
 use lib.ListN.{length}
 use Rattle.jhash.specs.Outcome.{Outcome, value, refusal}
-use Rattle.round.specs.Names.{names, astray}
+use Rattle.round.specs.RoundNames.{names, astray}
 use Rattle.round.specs.Round.{roundBuckets, rounding, leftBy, afterRound}
-use Rattle.round.proofs.Rounds.{rounding-by, left}
+use Rattle.round.proofs.WholeRound.{rounding-by, left}
 use borrow.Author.Needs.{needs}
 use Rattle.round.proofs.round.Statement.{statement}
 use Rattle.round.proofs.round.Tie as tie

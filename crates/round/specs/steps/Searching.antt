@@ -9,7 +9,7 @@ use Rattle.image.specs.Tables.{tableOf, order}
 use Rattle.image.specs.Image.{headSize}
 use Rattle.image.specs.Head.{tableAt, bucketNumber}
 use Rattle.reader.specs.Lookup.{Lookup, Seen, ends, seeEntry, see, decide, probe, unsearched, lookupHash, lookup}
-use Rattle.round.specs.Names.{nth}
+use Rattle.round.specs.RoundNames.{nth}
 use Rattle.round.specs.Round.{answerWords}
 use Rattle.round.specs.steps.Telling.{Has}
 

@@ -7,7 +7,7 @@ use lib.ListN.{length, getD}
 use lib.Dec.{eqb}
 unfoldable pub use Rattle.joined.specs.Keys.{key}
 use Rattle.image.specs.Bytes.{keep, range}
-use Rattle.round.specs.Names.{nth}
+use Rattle.round.specs.RoundNames.{nth}
 
 -- a list that begins with the names' keys
 abbrev pub Keys : List (List ℕ) → List ℕ → Type 0

@@ -14,7 +14,7 @@ use Rattle.build.specs.steps.Held.{at}
 use Rattle.build.specs.steps.Marked.{zeroMark}
 use Rattle.build.specs.steps.Parted.{tableOfName, countOfTable}
 use Rattle.build.proofs.Tallies.{tally-le}
-use Rattle.build.proofs.Parting.{run-turn, first-turn, counts-turn, counts-none}
+use Rattle.build.proofs.NamesParted.{run-turn, first-turn, counts-turn, counts-none}
 use Rattle.build.proofs.parted.hash_all.Statement.{statement}
 use Rattle.build.proofs.parted.hash_all.Tie as tie
 

@@ -4,7 +4,7 @@ use native.Mathlib.Omega.{arith}
 use mathlib.Core.Path.{_≡_, refl, sym, ap, subst, _∙_}
 use lib.ListN.{length}
 use borrow.Author.Needs.{needs}
-use Rattle.build.proofs.Parting.{Settled, settled-start, settled-turn, place-free, all-ordered, all-hashed}
+use Rattle.build.proofs.NamesParted.{Settled, settled-start, settled-turn, place-free, all-ordered, all-hashed}
 use Rattle.build.proofs.parted.part.Statement.{statement}
 use Rattle.build.proofs.parted.part.Tie as tie
 

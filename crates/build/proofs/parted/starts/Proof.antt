@@ -6,7 +6,7 @@ use lib.ListN.{length, length-set}
 use borrow.Author.Needs.{needs}
 use Rattle.build.specs.steps.Held.{at}
 use Rattle.build.specs.steps.Parted.{sumTo}
-use Rattle.build.proofs.Parting.{sums-turn, left-turn, sum-turn, sum-none}
+use Rattle.build.proofs.NamesParted.{sums-turn, left-turn, sum-turn, sum-none}
 use Rattle.build.proofs.parted.starts.Statement.{statement}
 use Rattle.build.proofs.parted.starts.Tie as tie
 

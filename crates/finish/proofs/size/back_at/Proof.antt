@@ -1,5 +1,5 @@
 -- `finish::size::back_at` meets its contract. Assumes nothing.
-use Rattle.finish.proofs.Writing.{linksAt-none, linksAt-some}
+use Rattle.finish.proofs.FinishSteps.{linksAt-none, linksAt-some}
 use borrow.Author.Needs.{needs}
 use Rattle.finish.proofs.size.back_at.Statement.{statement}
 use Rattle.finish.proofs.size.back_at.Tie as tie

@@ -1,6 +1,6 @@
 -- `finish::size::finished_size` meets its contract. Assumes nothing.
 use native.Mathlib.Omega.{arith}
-use Rattle.finish.proofs.Writing.{backIn-le}
+use Rattle.finish.proofs.FinishSteps.{backIn-le}
 use borrow.Author.Needs.{needs}
 use Rattle.finish.proofs.size.finished_size.Statement.{statement}
 use Rattle.finish.proofs.size.finished_size.Tie as tie

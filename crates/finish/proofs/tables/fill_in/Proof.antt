@@ -1,6 +1,6 @@
 -- `finish::tables::fill_in` meets its contract. Assumes nothing.
 use mathlib.Core.Path.{sym, _∙_}
-use Rattle.finish.proofs.Writing.{filled-by-tables, filled-singly}
+use Rattle.finish.proofs.FinishSteps.{filled-by-tables, filled-singly}
 use borrow.Author.Needs.{needs}
 use Rattle.finish.proofs.tables.fill_in.Statement.{statement}
 use Rattle.finish.proofs.tables.fill_in.Tie as tie

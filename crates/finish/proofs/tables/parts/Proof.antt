@@ -1,6 +1,6 @@
 -- `finish::tables::parts` meets its contract. Assumes nothing.
 use borrow.Author.Needs.{needs}
-use Rattle.finish.proofs.Writing.{parts-few, parts-many}
+use Rattle.finish.proofs.FinishSteps.{parts-few, parts-many}
 use Rattle.finish.proofs.tables.parts.Statement.{statement}
 use Rattle.finish.proofs.tables.parts.Tie as tie
 use Rattle.finish.proofs.counts.none_above.Reads as none-above-reads

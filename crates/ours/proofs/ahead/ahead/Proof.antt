@@ -1,6 +1,6 @@
 -- `ours::ahead::ahead` meets its contract. Assumes nothing.
 use native.Mathlib.Omega.{arith}
-use Rattle.ours.proofs.Noting.{notes-new}
+use Rattle.ours.proofs.NotedEntries.{notes-new}
 use Rattle.ours.proofs.ahead.ahead.Statement.{statement}
 use Rattle.ours.proofs.ahead.ahead.Tie as tie
 

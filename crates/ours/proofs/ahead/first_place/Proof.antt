@@ -3,7 +3,7 @@ use native.Mathlib.Omega.{arith}
 use Prim.Native.Nat.{_/_}
 use Rattle.taking.proofs.Taking.{start-below}
 use borrow.Author.Needs.{needs}
-use Rattle.ours.proofs.Noting.{place-zero, place-said}
+use Rattle.ours.proofs.NotedEntries.{place-zero, place-said}
 use Rattle.ours.proofs.ahead.first_place.Statement.{statement}
 use Rattle.ours.proofs.ahead.first_place.Tie as tie
 

@@ -5,7 +5,7 @@ use Prim.Native.Nat.{ℕ, _-_, _≤_, _<_}
 use mathlib.Core.Path.{_≡_, _∙_}
 use lib.ListN.{length, getD, length-set}
 use Rattle.image.specs.Bytes.{word}
-use Rattle.ours.proofs.Noting.{look-turn}
+use Rattle.ours.proofs.NotedEntries.{look-turn}
 use Rattle.ours.proofs.ahead.look.Statement.{statement}
 use Rattle.ours.proofs.ahead.look.Tie as tie
 

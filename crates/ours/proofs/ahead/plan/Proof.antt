@@ -5,7 +5,7 @@ use Prim.Native.Nat.{_+_, _-_, _≤_}
 use mathlib.Core.Path.{refl}
 use lib.ListN.{take, drop, length-take}
 use Rattle.jhash.proofs.Outcomes.{told-refused, told-image-hash}
-use Rattle.ours.proofs.Noting.{Planned, plan-start, plan-room, plan-turn, plan-broken, plan-all}
+use Rattle.ours.proofs.NotedEntries.{Planned, plan-start, plan-room, plan-turn, plan-broken, plan-all}
 use Rattle.ours.proofs.ahead.plan.Statement.{statement}
 use Rattle.ours.proofs.ahead.plan.Tie as tie
 

@@ -8,9 +8,9 @@ use mathlib.Core.Bool.{true}
 use lib.ListN.{getD}
 use Rattle.image.specs.Tables.{tableOf}
 use Rattle.image.proofs.Bools.{not-both}
-use Rattle.ours.specs.steps.Noting.{Notes}
+use Rattle.ours.specs.steps.Noted.{Notes}
 use Rattle.ours.proofs.Enters.{Enter, enter-start, enter-broken, enter-room, enter-wrong, enter-turn, enter-end}
-use Rattle.ours.proofs.Noting.{notes-start, notes-hash, notes-place, notes-word, notes-next}
+use Rattle.ours.proofs.NotedEntries.{notes-start, notes-hash, notes-place, notes-word, notes-next}
 use Rattle.ours.proofs.entries.entries_right.Statement.{statement}
 use Rattle.ours.proofs.entries.entries_right.Tie as tie
 

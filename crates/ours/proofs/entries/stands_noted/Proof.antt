@@ -1,6 +1,6 @@
 -- `ours::entries::stands_noted` meets its contract. Assumes nothing.
 use borrow.Author.Needs.{needs}
-use Rattle.ours.proofs.Noting.{stands-nowhere, stands-here, place-room}
+use Rattle.ours.proofs.NotedEntries.{stands-nowhere, stands-here, place-room}
 use Rattle.ours.proofs.entries.stands_noted.Statement.{statement}
 use Rattle.ours.proofs.entries.stands_noted.Tie as tie
 

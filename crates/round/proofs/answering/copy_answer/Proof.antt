@@ -1,7 +1,7 @@
 -- `round::answering::copy_answer` meets its contract. Assumes nothing.
 use mathlib.Core.Path.{ap, _∙_}
 use lib.Seq.{sets}
-use Rattle.round.proofs.Places.{four-read}
+use Rattle.round.proofs.AnswerPlaces.{four-read}
 use borrow.Author.Needs.{needs}
 use Rattle.round.proofs.answering.copy_answer.Statement.{statement}
 use Rattle.round.proofs.answering.copy_answer.Tie as tie

@@ -5,7 +5,7 @@ use native.Mathlib.Omega.{arith}
 use mathlib.Core.Path.{_≡_, refl, _∙_}
 use mathlib.Core.Logic.{_⊎_, inr}
 use lib.ListN.{length, getD, length-replicate}
-use Rattle.round.specs.Names.{names}
+use Rattle.round.specs.RoundNames.{names}
 use Rattle.round.specs.steps.Telling.{Listed, Kept}
 use Rattle.round.specs.steps.Searching.{Goes, Right}
 use Rattle.round.proofs.Sights.{goes-first}

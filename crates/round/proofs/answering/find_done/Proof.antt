@@ -6,13 +6,13 @@ use mathlib.Core.List.{List}
 use lib.ListN.{length, getD}
 use lib.Seq.{sets}
 use Rattle.reader.specs.Lookup.{Lookup, lookupBy, lookup}
-use Rattle.round.specs.Names.{names, nth}
+use Rattle.round.specs.RoundNames.{names, nth}
 use Rattle.round.specs.Round.{answerWords}
 use Rattle.round.specs.steps.Telling.{Kept}
 use Rattle.round.specs.steps.Searching.{Right}
 use Rattle.joined.proofs.NameEnds.{length-names}
 use Rattle.round.proofs.Finds.{length-words, by-key}
-use Rattle.round.proofs.Places.{kept-after}
+use Rattle.round.proofs.AnswerPlaces.{kept-after}
 use Rattle.round.proofs.Passes.{right-stays, right-turn}
 use borrow.Author.Needs.{needs}
 use Rattle.round.proofs.answering.find_done.Statement.{statement}

@@ -1,7 +1,7 @@
 -- `round::answering::put_words` meets its contract. Assumes nothing.
 use native.Mathlib.Omega.{arith}
 use lib.ListN.{length-set}
-use Rattle.round.proofs.Places.{four-stored}
+use Rattle.round.proofs.AnswerPlaces.{four-stored}
 use borrow.Author.Needs.{needs}
 use Rattle.round.proofs.answering.put_words.Statement.{statement}
 use Rattle.round.proofs.answering.put_words.Tie as tie

@@ -5,7 +5,7 @@ use mathlib.Core.Path.{_≡_, refl, sym, subst, _∙_}
 use mathlib.Core.List.{List}
 use lib.ListN.{length}
 use Rattle.round.specs.steps.Telling.{Kept, Begun}
-use Rattle.round.proofs.Places.{Copied, copied-turn, copied-kept}
+use Rattle.round.proofs.AnswerPlaces.{Copied, copied-turn, copied-kept}
 use borrow.Author.Needs.{needs}
 use Rattle.round.proofs.answering.repeat_all.Statement.{statement}
 use Rattle.round.proofs.answering.repeat_all.Tie as tie

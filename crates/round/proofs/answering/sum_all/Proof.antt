@@ -7,7 +7,7 @@ use mathlib.Core.Path.{_≡_, _∙_}
 use mathlib.Core.List.{List, map}
 use lib.ListN.{getD, take, drop}
 use Rattle.reader.specs.Lookup.{lookup}
-use Rattle.round.specs.Names.{nth}
+use Rattle.round.specs.RoundNames.{nth}
 use Rattle.round.specs.Round.{bucketsOf}
 use Rattle.round.specs.steps.Searching.{Right}
 use Rattle.round.proofs.Finds.{third-word, sum-turn, sum-end}

@@ -7,7 +7,7 @@ use mathlib.Core.Logic.{_⊎_}
 use lib.ListN.{length, getD, length-set}
 use Rattle.round.specs.steps.Telling.{Listed}
 use Rattle.round.specs.steps.Searching.{Goes}
-use Rattle.round.proofs.Listing.{each-turn, both-turn}
+use Rattle.round.proofs.GrowingLists.{each-turn, both-turn}
 use Rattle.round.proofs.Passes.{Going, Deciding, unread-turn, parted-turn, parted-end}
 use borrow.Author.Needs.{needs}
 use Rattle.round.proofs.searching.pass.Statement.{statement}

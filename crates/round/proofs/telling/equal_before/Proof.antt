@@ -7,7 +7,7 @@ use lib.ListN.{length}
 use Rattle.image.specs.Bytes.{same}
 use Rattle.image.proofs.Equal.{same-true, same-self}
 use Rattle.image.proofs.Bools.{not-both}
-use Rattle.round.specs.Names.{names, nth}
+use Rattle.round.specs.RoundNames.{names, nth}
 use Rattle.joined.proofs.NameEnds.{length-names}
 use Rattle.round.proofs.Tells.{Walked, walk-start, walk-step, walk-end, walk-found}
 use Rattle.round.proofs.telling.equal_before.Statement.{statement}

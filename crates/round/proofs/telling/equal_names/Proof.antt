@@ -6,7 +6,7 @@ use mathlib.Core.List.{List}
 use lib.ListN.{length}
 use Rattle.image.specs.Bytes.{same}
 use Rattle.image.proofs.Equal.{same-false}
-use Rattle.round.specs.Names.{names, nth}
+use Rattle.round.specs.RoundNames.{names, nth}
 use Rattle.joined.proofs.NameEnds.{length-names}
 use Rattle.round.proofs.Tells.{other-key}
 use borrow.Author.Needs.{needs}

@@ -3,7 +3,7 @@ use Prim.Native.Nat.{_-_, _≤_, _<_}
 use native.Mathlib.Omega.{arith}
 use mathlib.Core.Path.{_≡_, refl, ap, _∙_}
 use lib.ListN.{length, length-set}
-use Rattle.round.specs.Names.{names}
+use Rattle.round.specs.RoundNames.{names}
 use Rattle.round.specs.steps.Telling.{key}
 use Rattle.joined.proofs.NameEnds.{length-names}
 use Rattle.round.proofs.Tells.{KeysTo, keys-turn}

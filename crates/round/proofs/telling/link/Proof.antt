@@ -7,7 +7,7 @@ use mathlib.Core.Logic.{_⊎_}
 use lib.ListN.{length, getD, replicate, length-set, length-replicate, getD-replicate}
 use Rattle.round.specs.steps.Telling.{Listed, Linked, slot}
 use Rattle.round.proofs.Tells.{Slots, slots-none, slots-turn, linked-turn}
-use Rattle.round.proofs.Listing.{each-turn, linked-listed}
+use Rattle.round.proofs.GrowingLists.{each-turn, linked-listed}
 use borrow.Author.Needs.{needs}
 use Rattle.round.proofs.telling.link.Statement.{statement}
 use Rattle.round.proofs.telling.link.Tie as tie

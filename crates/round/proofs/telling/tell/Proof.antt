@@ -4,10 +4,10 @@ use native.Mathlib.Omega.{arith}
 use mathlib.Core.Path.{_≡_, refl}
 use lib.ListN.{length, getD, length-set, length-replicate}
 use Rattle.joined.proofs.NameEnds.{length-names}
-use Rattle.round.specs.Names.{names}
+use Rattle.round.specs.RoundNames.{names}
 use Rattle.round.specs.steps.Telling.{Equal}
 use Rattle.round.proofs.Tells.{unlinked}
-use Rattle.round.proofs.Listing.{told-stays, told-turn, told-each}
+use Rattle.round.proofs.GrowingLists.{told-stays, told-turn, told-each}
 use borrow.Author.Needs.{needs}
 use Rattle.round.proofs.telling.tell.Statement.{statement}
 use Rattle.round.proofs.telling.tell.Tie as tie

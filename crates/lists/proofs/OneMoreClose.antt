@@ -12,10 +12,10 @@ use Rattle.writer.specs.State.{State}
 use Rattle.writer.specs.Close.{closeRefusal, closedSize, closedImage, closing, afterClose}
 use Rattle.lists.specs.Calls.{Call, put, close, acceptedFrom, accepted, sizeOf, puts, WordIds}
 use Rattle.lists.specs.Demand3.{afterList}
-use Rattle.lists.proofs.Written.{Written}
+use Rattle.lists.proofs.ListWritten.{Written}
 use Rattle.lists.proofs.Appended.{sizeOf-is}
 use Rattle.lists.proofs.Recorded.{written-size}
-use Rattle.lists.proofs.Closes.{close-accepted, close-image, close-again}
+use Rattle.lists.proofs.ListCloses.{close-accepted, close-image, close-again}
 use Rattle.lists.proofs.Along.{list-written}
 
 module _ (mode : Mode) (repeats : Repeats) (buffer : List ℕ) (room : headSize ≤ length buffer) (cs : List Call) (word : WordIds mode cs) where

@@ -14,7 +14,7 @@ use Rattle.image.proofs.Sizes.{length-entries, length-headWords, length-tableRo
 use Rattle.writer.specs.declared.Repeats.{Repeats}
 use Rattle.writer.specs.State.{State, fits, finishedSize, tooLarge}
 use Rattle.writer.specs.Close.{consistent, closeRefusal, closedSize, closed, afterClose}
-use Rattle.lists.proofs.Written.{Written}
+use Rattle.lists.proofs.ListWritten.{Written}
 use Rattle.lists.proofs.Recorded.{written-fits, written-recorded, written-size, written-consistent}
 
 -- ---- the entries in an image

@@ -13,10 +13,10 @@ use Rattle.jhash.specs.Outcome.{Outcome, value, refusal}
 use Rattle.image.specs.Bytes.{same, cat, keep, range}
 use Rattle.image.proofs.Equal.{same-self, same-false}
 use Rattle.reader.specs.Lookup.{lookup}
-use Rattle.round.specs.Names.{names, astray, among, newOnly, differentFrom, different, nth}
+use Rattle.round.specs.RoundNames.{names, astray, among, newOnly, differentFrom, different, nth}
 use Rattle.round.specs.Round.{answerWords, roundWords, bucketsOf, roundBuckets, rounding, leftBy, afterRound}
 use Rattle.round.specs.steps.Telling.{isNew, news, Told, Has, Kept, Begun}
-use Rattle.round.proofs.Places.{has-words}
+use Rattle.round.proofs.AnswerPlaces.{has-words}
 use Rattle.round.proofs.Finds.{length-words}
 use Rattle.round.proofs.News.{Among, news-below, news-all, news-full}
 

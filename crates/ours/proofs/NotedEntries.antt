@@ -15,7 +15,7 @@ use Rattle.image.specs.Head.{tableAt, bucketNumber}
 use Rattle.image.specs.Stored.{between, wholeLength}
 use Rattle.image.specs.Tables.{tableOf, start, next, order, firstEmpty}
 use Rattle.image.proofs.Between.{front, length-between}
-use Rattle.ours.specs.steps.Noting.{firstPlace, NotedFrom, Notes}
+use Rattle.ours.specs.steps.Noted.{firstPlace, NotedFrom, Notes}
 use Rattle.ours.specs.steps.Tests.{hidden, standsIn, nameAt}
 use Rattle.ours.proofs.Steps.{stands-none, stands-other, stands-last}
 

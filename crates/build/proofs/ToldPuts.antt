@@ -14,10 +14,10 @@ use Rattle.writer.specs.declared.Repeats.the-variants.{Off, On}
 use Rattle.writer.specs.State.{State, refusesRepeats, tooLarge}
 use Rattle.writer.specs.Put.{putRefusal, appended, afterPut, writerAfter}
 use Rattle.lists.specs.Calls.{put, sizeOf, putDue, acceptedAfter, WordId}
-use Rattle.lists.proofs.Written.{Written}
-use Rattle.lists.proofs.Puts.{put-due, put-written}
+use Rattle.lists.proofs.ListWritten.{Written}
+use Rattle.lists.proofs.ListPuts.{put-due, put-written}
 use Rattle.build.specs.steps.Held.{answered, leftAnswered}
-use Rattle.build.specs.steps.Along.{chosen}
+use Rattle.build.specs.steps.PutsAlong.{chosen}
 
 -- ---- what the choice changes
 

@@ -18,7 +18,7 @@ use Rattle.answers.specs.Answer.{hasName, ofName, ofId, firstId, lastNam
 use Rattle.image.proofs.Every.{All}
 use Rattle.image.proofs.Equal.{same-self, same-true, same-false}
 use Rattle.answers.proofs.Scan.{firstOf, metHits}
-use Rattle.answers.proofs.Filling.{hitsIn}
+use Rattle.answers.proofs.SearchFilling.{hitsIn}
 
 -- ---- the entries of a name
 

@@ -24,7 +24,7 @@ use Rattle.image.specs.Tally.{countsAfter}
 use Rattle.writer.specs.Put.{raised, writerAfter, putRefusal, appended, afterPut}
 use Rattle.writer.specs.Close.{recorded, consistent}
 use Rattle.lists.specs.Calls.{put, sizeOf, putDue, acceptedAfter, WordId}
-use Rattle.lists.proofs.Written.{Written}
+use Rattle.lists.proofs.ListWritten.{Written}
 use Rattle.image.proofs.Lists.{cat-append}
 use Rattle.image.proofs.Sizes.{length-entryBytes, length-entries, backIn-twice}
 use Rattle.lists.proofs.Appended.{entriesSize-snoc, backSize-snoc, sizeOf-is, count-same, count-other}
