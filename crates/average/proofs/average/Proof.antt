@@ -1,9 +1,19 @@
 -- `average::average` meets its contract. Assumes nothing.
 use Rattle.average.proofs.Divided as answers
+use Prim.Native.Nat.{_<_}
 use native.Mathlib.Omega.{arith}
 use borrow.Author.Needs.{needs}
 use Rattle.average.proofs.average.Statement.{statement}
 use Rattle.average.proofs.average.Tie as tie
+
+-- past the refusals there are entries
+some : (c : tie.Else1) → 0 < c .before .before .before .entries .result
+some c =
+    let r = c .before .first-refusal in
+    let own = c .before .before .is-ours in
+    let number = c .before .before .before .entries in
+    let a = c .before .before .before .before .before .args in
+    answers.some-entries (a .image .now) (number .result) (number .ensures) (own .result) (r .result) (own .ensures) (r .ensures) (c .if1 .left)
 
 entries-requires : tie.Need-entries-requires
 entries-requires c κs = search needs
@@ -29,22 +39,10 @@ cast-count : tie.Need-cast-count
 cast-count c = search needs
 
 div-t7 : tie.Need-div-t7
-div-t7 c =
-    let r = c .before .before .first-refusal in
-    let own = c .before .before .before .is-ours in
-    let number = c .before .before .before .before .entries in
-    let a = c .before .before .before .before .before .before .args in
-    let some = answers.some-entries (a .image .now) (number .result) (number .ensures) (own .result) (r .result) (own .ensures) (r .ensures) (c .before .if1 .left) in
-    omega (arith, some)
+div-t7 c = omega (arith, some (c .before))
 
 rem-t8 : tie.Need-rem-t8
-rem-t8 c =
-    let r = c .before .before .first-refusal in
-    let own = c .before .before .before .is-ours in
-    let number = c .before .before .before .before .entries in
-    let a = c .before .before .before .before .before .before .args in
-    let some = answers.some-entries (a .image .now) (number .result) (number .ensures) (own .result) (r .result) (own .ensures) (r .ensures) (c .before .if1 .left) in
-    omega (arith, some)
+rem-t8 c = omega (arith, some (c .before))
 
 returns-2 : tie.Need-returns-2
 returns-2 c =
