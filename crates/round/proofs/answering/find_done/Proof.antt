@@ -1,34 +1,21 @@
 -- `round::answering::find_done` meets its contract. The loop's invariant: the names passed have their answers. Assumes nothing.
-use Prim.Native.Nat.{ℕ, _+_, _*_, _-_, _≤_, _<_}
+use Prim.Native.Nat.{_-_, _≤_}
 use native.Mathlib.Omega.{arith}
-use mathlib.Core.Path.{_≡_, refl, sym, ap, subst, _∙_}
-use mathlib.Core.List.{List}
-use lib.ListN.{length, getD}
-use lib.Seq.{sets}
-use Rattle.reader.specs.Lookup.{Lookup, lookupBy, lookup}
-use Rattle.round.specs.RoundNames.{names, nth}
-use Rattle.round.specs.Round.{answerWords}
-use Rattle.round.specs.steps.Telling.{Kept}
-use Rattle.round.specs.steps.Searching.{Right}
-use Rattle.joined.proofs.NameEnds.{length-names}
-use Rattle.round.proofs.Finds.{length-words, by-key}
-use Rattle.round.proofs.AnswerPlaces.{kept-after}
-use Rattle.round.proofs.Passes.{right-stays, right-turn}
+use mathlib.Core.Path.{_≡_, refl}
+use lib.ListN.{length}
+use Rattle.round.proofs.Passes.{Finding, finding-begins, finding-turn}
 use borrow.Author.Needs.{needs}
 use Rattle.round.proofs.answering.find_done.Statement.{statement}
 use Rattle.round.proofs.answering.find_done.Tie as tie
 
 abbrev Inv-loop : tie.InvT-loop
-Inv-loop image bytes ends keys list m offsets c answers₀ x₀ answers x =
-    (x ≤ m) × (length answers ≡ length answers₀) × Kept answers₀ (length ends) answers
-    × ((i : ℕ) → Right image (names bytes ends) answers₀ i → Right image (names bytes ends) answers i)
-    × ((y : ℕ) → y < x → Right image (names bytes ends) answers (getD list y 0))
+Inv-loop image bytes ends keys list m offsets c answers₀ x₀ answers x = (x ≤ m) × (length answers ≡ length answers₀) × Finding image bytes ends list answers₀ answers x
 
 abbrev μ-loop : tie.MeasureT-loop
 μ-loop image bytes ends keys list m offsets c answers₀ x₀ answers x = m - x
 
 loop-holds : tie.Need-loop-holds Inv-loop μ-loop
-loop-holds c = (omega arith, refl, λ p h. refl, λ i r. r, λ y h. absurd (omega arith))
+loop-holds c = (omega arith, refl, finding-begins _ _ _ _ _)
 
 mul-i : tie.Need-mul-i Inv-loop μ-loop
 mul-i c = omega arith
@@ -75,31 +62,22 @@ loop-less c = omega arith
 loop-again : tie.Need-loop-again Inv-loop μ-loop
 loop-again c =
     let s = c .before .before .before .before .before .before .before .before .before .before .before .before .before .before .before .before .before in
+    let a = s .args in
     let l = c .before .before .before .before .before .before .before .before .before .loop in
     let put = c .before .before .put-decided in
-    let xs = names (s .args .bytes .now) (s .args .ends .now) in
-    let image = s .args .image .now in
-    let list = s .args .list .now in
-    let i = getD list (l .x) 0 in
-    let small = s .pre .5 (l .x) (omega arith) in
-    let own : lookupBy image (c .before .before .before .before .before .before .name-of .result .now) (getD (s .args .keys .now) i 0) ≡ lookup image (nth xs i) =
-    by-key image _ (nth xs i) _ (c .before .before .before .before .before .before .name-of .ensures) (s .pre .7 i (omega (arith, small, length-names (s .args .bytes .now) (s .args .ends .now)))) in
-    let z = lookup image (nth xs i) in
-    let after = sym (put .ensures ∙ ap (λ (v : Lookup). sets (l .answers) (4 * i) (answerWords v)) own) in
-    let room : 4 * i + 4 ≤ length (l .answers) = omega (arith, small, s .pre .2, l .inv .1) in (
-      omega arith,
+    let more = c .before .before .before .before .before .before .before .before .loop-test .taken in
+    let name = c .before .before .before .before .before .before .name-of in (
+      omega (arith, more),
       omega (arith, put .kept, l .inv .1),
-      subst (λ (r : List ℕ). Kept (s .args .answers .now) (length (s .args .ends .now)) r) after
-          (kept-after (l .answers) i (answerWords z) (length-words z) room (s .args .answers .now) (length (s .args .ends .now)) small (l .inv .2)),
-      λ j h. subst (λ (r : List ℕ). Right image xs r j) after (right-stays image xs (l .answers) i z refl room j (l .inv .3 j h)),
-      λ y h. subst (λ (r : List ℕ). Right image xs r (getD list y 0)) after (right-turn image xs (l .answers) i z refl room list (l .x) refl (l .inv .4) y h),
+      finding-turn (a .image .now) (a .bytes .now) (a .ends .now) (a .list .now) (a .answers .now) (a .keys .now) (l .answers) _ (name .result .now) (l .x) _
+          (s .pre .5 (l .x) (omega (arith, more))) (omega (arith, s .pre .2, l .inv .1)) (s .pre .7) (name .ensures) refl (put .ensures) (l .inv .2),
     )
 
 same-length : tie.Need-same-length Inv-loop μ-loop
 same-length c = search needs
 
 returns : tie.Need-returns Inv-loop μ-loop
-returns c = let l = c .before .loop in (λ x h. l .inv .4 x (omega arith), (l .inv .3, l .inv .2))
+returns c = let l = c .before .loop in (λ x h. l .inv .2 .passed x (omega arith), (l .inv .2 .stays, l .inv .2 .kept))
 
 pub find-done-spec : {M : Type 1} → statement M
 find-done-spec =
