@@ -1,10 +1,16 @@
 -- `taking::batch::place_of` meets its contract. Assumes nothing.
 use native.Mathlib.Omega.{arith}
-use Prim.Native.Nat.{_/_}
+use Prim.Native.Nat.{_/_, _%_, _+_, _*_, _<_}
 use Rattle.taking.proofs.Taking.{start-below}
 use borrow.Author.Needs.{needs}
 use Rattle.taking.proofs.batch.place_of.Statement.{statement}
 use Rattle.taking.proofs.batch.place_of.Tie as tie
+
+-- the place is below 9 times 2^32
+small : (c : tie.Else2) → c .before .before .before .table-at .result + 8 * (c .before .before .before .before .before .args .h / 256 % c .before .before .bucket-number .result) + 4 < 38654705664
+small c =
+    let n = c .before .before .bucket-number in
+    omega (arith, start-below (c .before .before .before .before .before .args .h / 256) (n .result) (c .if2 .left), n .ensures .1, c .before .before .before .table-at .ensures .1)
 
 table-at-requires : tie.Need-table-at-requires
 table-at-requires c κs = search needs
@@ -25,19 +31,13 @@ rem-result : tie.Need-rem-result
 rem-result c = search needs
 
 mul-result : tie.Need-mul-result
-mul-result c =
-    let of-n = c .before .before .bucket-number in
-    omega (arith, start-below (c .before .before .before .before .before .args .h / 256) (of-n .result) (c .if2 .left), of-n .ensures .1, c .before .before .before .table-at .ensures .1)
+mul-result c = omega (arith, small c)
 
 add-result : tie.Need-add-result
-add-result c =
-    let of-n = c .before .before .bucket-number in
-    omega (arith, start-below (c .before .before .before .before .before .args .h / 256) (of-n .result) (c .if2 .left), of-n .ensures .1, c .before .before .before .table-at .ensures .1)
+add-result c = omega (arith, small c)
 
 add-result-2 : tie.Need-add-result-2
-add-result-2 c =
-    let of-n = c .before .before .bucket-number in
-    omega (arith, start-below (c .before .before .before .before .before .args .h / 256) (of-n .result) (c .if2 .left), of-n .ensures .1, c .before .before .before .table-at .ensures .1)
+add-result-2 c = omega (arith, small c)
 
 returns-3 : tie.Need-returns-3
 returns-3 c = search needs

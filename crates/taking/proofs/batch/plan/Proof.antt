@@ -37,6 +37,14 @@ room c =
     let l = length-between (a .buf .now) (of-loop .at) (a .end) j (start-pre .1) in
     (omega arith, f .some)
 
+-- it has one of the 16 places of a batch
+few : (c : tie.Else1 Inv-loop μ-loop) → c .before .before .before .loop .i < 16
+few c = omega (arith, c .before .before .loop-test .taken, c .before .before .before .before .before .pre .3)
+
+-- where its hash and its place are stored, the entry is known to be whole
+abbrev entry : tie.Else2 Inv-loop μ-loop → tie.Else1 Inv-loop μ-loop
+entry c = c .before .before .before .before .before .before .before
+
 loop-holds : tie.Need-loop-holds Inv-loop μ-loop
 loop-holds c = plan-start (c .before .args .buf .now) (c .before .args .end) (c .before .args .from) (c .before .args .most) (c .before .args .hashes .now) (c .before .pre .0) (c .before .pre .4)
 
@@ -87,65 +95,43 @@ returns-3 c =
     (of-loop .inv .few, of-loop .inv .sixteen, of-loop .inv .noted)
 
 mul-hashes : tie.Need-mul-hashes Inv-loop μ-loop
-mul-hashes c =
-    let start-pre = c .before .before .before .before .before .before .before .before .before .before .before .before .pre in
-    let of-loop-test = c .before .before .before .before .before .before .before .before .before .loop-test in
-    omega (arith, of-loop-test .taken, start-pre .3)
+mul-hashes c = omega (arith, few (entry c))
 
 element-write-hashes : tie.Need-element-write-hashes Inv-loop μ-loop
-element-write-hashes c =
-    let start-pre = c .before .before .before .before .before .before .before .before .before .before .before .before .pre in
-    let of-loop-test = c .before .before .before .before .before .before .before .before .before .loop-test in
-    omega (arith, of-loop-test .taken, start-pre .3)
+element-write-hashes c = omega (arith, few (entry c))
 
 mul-places : tie.Need-mul-places Inv-loop μ-loop
-mul-places c =
-    let start-pre = c .before .before .before .before .before .before .before .before .before .before .before .before .pre in
-    let of-loop-test = c .before .before .before .before .before .before .before .before .before .loop-test in
-    omega (arith, of-loop-test .taken, start-pre .3)
+mul-places c = omega (arith, few (entry c))
 
 element-write-places : tie.Need-element-write-places Inv-loop μ-loop
-element-write-places c =
-    let start-pre = c .before .before .before .before .before .before .before .before .before .before .before .before .pre in
-    let of-loop-test = c .before .before .before .before .before .before .before .before .before .loop-test in
-    omega (arith, of-loop-test .taken, start-pre .3)
+element-write-places c = omega (arith, few (entry c))
 
 add-at : tie.Need-add-at Inv-loop μ-loop
-add-at c =
-    let start-pre = c .before .before .before .before .before .before .before .before .before .before .before .before .pre in
-    let of-before = c .before .before .before .before .before .before .before in
-    let r = room (of-before) in omega (arith, start-pre .2)
+add-at c = let e = entry c in omega (arith, room e .0, e .before .before .before .before .before .pre .2)
 
 add-at-2 : tie.Need-add-at-2 Inv-loop μ-loop
-add-at-2 c =
-    let start-pre = c .before .before .before .before .before .before .before .before .before .before .before .before .pre in
-    let of-before = c .before .before .before .before .before .before .before in
-    let r = room (of-before) in omega (arith, start-pre .2)
+add-at-2 c = let e = entry c in omega (arith, room e .0, e .before .before .before .before .before .pre .2)
 
 add-i : tie.Need-add-i Inv-loop μ-loop
-add-i c =
-    let start-pre = c .before .before .before .before .before .before .before .before .before .before .before .before .pre in
-    let of-loop-test = c .before .before .before .before .before .before .before .before .before .loop-test in
-    omega (arith, of-loop-test .taken, start-pre .3)
+add-i c = omega (arith, few (entry c))
 
 loop-less : tie.Need-loop-less Inv-loop μ-loop
-loop-less c = omega (arith, c .before .before .before .before .before .before .before .before .before .loop-test .taken)
+loop-less c = omega (arith, entry c .before .before .loop-test .taken)
 
 loop-again : tie.Need-loop-again Inv-loop μ-loop
 loop-again c =
-    let a = c .before .before .before .before .before .before .before .before .before .before .before .before .args in
-    let start-pre = c .before .before .before .before .before .before .before .before .before .before .before .before .pre in
-    let i = c .before .before .before .before .before .before .before .before .before .before .loop in
-    let of-loop-test = c .before .before .before .before .before .before .before .before .before .loop-test in
-    let of-whole-length = c .before .before .before .before .before .before .before .before .whole-length in
-    let of-if1 = c .before .before .before .before .before .before .before .if1 in
-    let of-name-hash = c .before .before .before .before .before .name-hash in
-    let of-h = c .before .before .before .h in
-    let told = told-image-hash (take (i .at + 7 + of-whole-length .result - (i .at + 8)) (drop (i .at + 8) (a .buf .now))) (of-name-hash .result) (of-h .given .0 .0) (of-name-hash .ensures) (of-h .given .1) in
+    let e = entry c in
+    let s = e .before .before .before .before .before in
+    let a = s .args in
+    let i = e .before .before .before .loop in
+    let n = e .before .whole-length in
+    let hash = c .before .before .before .before .before .name-hash in
+    let h = c .before .before .before .h .given in
+    let name = take (i .at + 7 + n .result - (i .at + 8)) (drop (i .at + 8) (a .buf .now)) in
+    let told = told-image-hash name (hash .result) (h .0 .0) (hash .ensures) (h .1) in
     plan-turn (a .buf .now) (a .end) (a .from) (a .most) (i .hashes) (i .at) (i .i) (i .inv)
-    (start-pre .1) (start-pre .3) (of-loop-test .taken) (of-whole-length .result) (of-h .given .0 .0)
-    (take (i .at + 7 + of-whole-length .result - (i .at + 8)) (drop (i .at + 8) (a .buf .now)))
-    (of-whole-length .ensures .0) (of-if1 .left) refl (told .1) (c .before .place-of .ensures (pos-of _ (c .if2 .left)))
+    (s .pre .1) (s .pre .3) (e .before .before .loop-test .taken) (n .result) (h .0 .0) name
+    (n .ensures .0) (e .if1 .left) refl (told .1) (c .before .place-of .ensures (pos-of _ (c .if2 .left)))
 
 returns-4 : tie.Need-returns-4 Inv-loop μ-loop
 returns-4 c = (c .before .loop .inv .few, c .before .loop .inv .sixteen, c .before .loop .inv .noted)
