@@ -8,14 +8,15 @@ ghost use Rattle.image.specs.Bytes.{word};
 ghost use Rattle.ours.specs.steps.Noted.{firstPlace, NotedFrom, Notes};
 use image::entries::whole_length;
 use image::get_u32;
+use taking::fill::bucket_number;
+use taking::fill::table_at;
 
 // The place of the offset word of the first bucket that a hash is searched in; 0 where its table has no bucket.
 fn first_place(image: &[u8], h: u32) -> usize
     ensures { λ r. ⌜ r ≡ firstPlace (now (image .entry)) h ⌝ }
 {
-    let t = (h % 256) as usize;
-    let o = get_u32(image, 24 + 8 * t) as usize;
-    let n = get_u32(image, 28 + 8 * t) as usize;
+    let o = table_at(image, h);
+    let n = bucket_number(image, h);
     if n == 0 {
         return 0;
     }

@@ -18,6 +18,8 @@ use image::entries::raise;
 use image::entries::whole_length;
 use image::get_u32;
 use image::zero::has_zero;
+use taking::fill::bucket_number;
+use taking::fill::table_at;
 
 // An offset, but 0 from `at` on.
 fn hide(at: u32, w: u32) -> u32
@@ -47,9 +49,8 @@ fn first_free(image: &[u8], o: usize, n: usize, k: usize, at: u32) -> usize
 fn stands(image: &[u8], h: u32, at: u32) -> bool
     ensures { λ r. ⌜ r ≡ standsIn (now (image .entry)) h at ⌝ }
 {
-    let t = (h % 256) as usize;
-    let o = get_u32(image, 24 + 8 * t) as usize;
-    let n = get_u32(image, 28 + 8 * t) as usize;
+    let o = table_at(image, h);
+    let n = bucket_number(image, h);
     if n == 0 {
         return false;
     }

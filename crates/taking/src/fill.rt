@@ -25,14 +25,14 @@ fn first_empty(buf: &[u8], o: usize, n: usize, k: usize) -> usize
 }
 
 // The offset of a hash's table, by its row in the head.
-pub(super) fn table_at(buf: &[u8], h: u32) -> usize
+pub fn table_at(buf: &[u8], h: u32) -> usize
     ensures { λ r. ⌜ (r ≡ word (now (buf .entry)) (24 + 8 * tableOf h)) × (r < 4294967296) ⌝ }
 {
     image::get_u32(buf, 24 + 8 * ((h % 256) as usize)) as usize
 }
 
 // How many buckets it has.
-pub(super) fn bucket_number(buf: &[u8], h: u32) -> usize
+pub fn bucket_number(buf: &[u8], h: u32) -> usize
     ensures { λ r. ⌜ (r ≡ word (now (buf .entry)) (28 + 8 * tableOf h)) × (r < 4294967296) ⌝ }
 {
     image::get_u32(buf, 28 + 8 * ((h % 256) as usize)) as usize

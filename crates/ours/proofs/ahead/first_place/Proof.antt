@@ -1,43 +1,29 @@
 -- `ours::ahead::first_place` meets its contract. Assumes nothing.
 use native.Mathlib.Omega.{arith}
-use Prim.Native.Nat.{_/_}
+use Prim.Native.Nat.{_/_, _%_, _+_, _*_, _<_}
 use Rattle.taking.proofs.Taking.{start-below}
 use borrow.Author.Needs.{needs}
 use Rattle.ours.proofs.NotedEntries.{place-zero, place-said}
 use Rattle.ours.proofs.ahead.first_place.Statement.{statement}
 use Rattle.ours.proofs.ahead.first_place.Tie as tie
 
-cast-t : tie.Need-cast-t
-cast-t c = search needs
+-- the place is below 9 times 2^32
+small : (c : tie.Else1) → c .before .before .table-at .result + 8 * (c .before .before .before .before .args .h / 256 % c .before .bucket-number .result) + 4 < 38654705664
+small c =
+    let n = c .before .bucket-number in
+    omega (arith, start-below (c .before .before .before .before .args .h / 256) (n .result) (c .if1 .left), n .ensures .1, c .before .before .table-at .ensures .1)
 
-mul-get-u32 : tie.Need-mul-get-u32
-mul-get-u32 c = search needs
+table-at-requires : tie.Need-table-at-requires
+table-at-requires c κs = search needs
 
-add-get-u32 : tie.Need-add-get-u32
-add-get-u32 c = search needs
-
-get-u32-requires : tie.Need-get-u32-requires
-get-u32-requires c κs = search needs
-
-cast-o : tie.Need-cast-o
-cast-o c = search needs
-
-mul-get-u32-2 : tie.Need-mul-get-u32-2
-mul-get-u32-2 c = search needs
-
-add-get-u32-2 : tie.Need-add-get-u32-2
-add-get-u32-2 c = search needs
-
-get-u32-requires-2 : tie.Need-get-u32-requires-2
-get-u32-requires-2 c κs = search needs
-
-cast-n : tie.Need-cast-n
-cast-n c = search needs
+bucket-number-requires : tie.Need-bucket-number-requires
+bucket-number-requires c κs = search needs
 
 returns : tie.Need-returns
 returns c =
     let a = c .before .before .before .before .args in
-    place-zero (a .image .now) (a .h) (c .before .get-u322 .result) (c .before .get-u322 .ensures) (c .if1 .taken)
+    let n = c .before .bucket-number in
+    place-zero (a .image .now) (a .h) (n .result) (n .ensures .0) (c .if1 .taken)
 
 cast-result : tie.Need-cast-result
 cast-result c = search needs
@@ -46,46 +32,27 @@ rem-result : tie.Need-rem-result
 rem-result c = search needs
 
 mul-result : tie.Need-mul-result
-mul-result c =
-    let h = c .before .before .before .before .args .h in
-    let of-n = c .before .get-u322 in
-    let of-o = c .before .before .get-u32 in
-    omega (arith, start-below (h / 256) (of-n .result) (c .if1 .left), of-n .ok, of-o .ok)
+mul-result c = omega (arith, small c)
 
 add-result : tie.Need-add-result
-add-result c =
-    let h = c .before .before .before .before .args .h in
-    let of-n = c .before .get-u322 in
-    let of-o = c .before .before .get-u32 in
-    omega (arith, start-below (h / 256) (of-n .result) (c .if1 .left), of-n .ok, of-o .ok)
+add-result c = omega (arith, small c)
 
 add-result-2 : tie.Need-add-result-2
-add-result-2 c =
-    let h = c .before .before .before .before .args .h in
-    let of-n = c .before .get-u322 in
-    let of-o = c .before .before .get-u32 in
-    omega (arith, start-below (h / 256) (of-n .result) (c .if1 .left), of-n .ok, of-o .ok)
+add-result-2 c = omega (arith, small c)
 
 returns-2 : tie.Need-returns-2
 returns-2 c =
     let a = c .before .before .before .before .args in
-    let of-n = c .before .get-u322 in
-    let of-o = c .before .before .get-u32 in
-    place-said (a .image .now) (a .h) (of-o .result) (of-n .result) (of-o .ensures) (of-n .ensures) (c .if1 .left)
+    let o = c .before .before .table-at in
+    let n = c .before .bucket-number in
+    place-said (a .image .now) (a .h) (o .result) (n .result) (o .ensures .0) (n .ensures .0) (c .if1 .left)
 
 pub first-place-spec : {M : Type 1} → statement M
 first-place-spec =
     tie.close
     (tie.spec
-    cast-t
-    mul-get-u32
-    add-get-u32
-    get-u32-requires
-    cast-o
-    mul-get-u32-2
-    add-get-u32-2
-    get-u32-requires-2
-    cast-n
+    table-at-requires
+    bucket-number-requires
     returns
     cast-result
     rem-result
