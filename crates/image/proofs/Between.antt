@@ -77,12 +77,10 @@ take-sets (v ∷ vs) l n i h = take-sets vs (set l i v) n (suc i) (omega arith) 
 
 -- the name of the entry at the front
 pub name-between : (buf : List ℕ) (at end n : ℕ) → 8 + n ≤ end - at → 1 ≤ n
-    → take (n - 1) (drop 8 (between buf at end)) ≡ take (at + 7 + n - (at + 8)) (drop (at + 8) buf)
+    → take (n - 1) (drop 8 (between buf at end)) ≡ take (n - 1) (drop (at + 8) buf)
 name-between buf at end n h k =
-    let e : at + 7 + n - (at + 8) ≡ n - 1 = omega arith in
     ap (λ (l : List ℕ). take (n - 1) l) (drop-between buf at end 8)
     ∙ take-take-min (n - 1) (end - (at + 8)) (drop (at + 8) buf) (omega arith)
-    ∙ ap (λ (m : ℕ). take m (drop (at + 8) buf)) (sym e)
 
 -- ---- the length word of a whole entry, 0 otherwise
 
@@ -129,6 +127,13 @@ front bytes n e k = go (firstWhole bytes) refl e
         let w = whole-first bytes p in
         record { yes = p; is = sym q; some = omega arith; inside = omega arith }
     go false p q = absurd (k q)
+
+-- a whole entry lies before the end
+pub entry-room : (buf : List ℕ) (at end n : ℕ) → at ≤ end → end ≤ length buf → n ≡ wholeLength (between buf at end) → (n ≡ 0 → ⊥)
+    → (at + (8 + n) ≤ end) × (1 ≤ n)
+entry-room buf at end n h k e nz =
+    let f = front (between buf at end) n e nz in
+    (omega (arith, f .inside, length-between buf at end h k), f .some)
 
 pub not-whole : (bytes : List ℕ) → 0 ≡ wholeLength bytes → firstWhole bytes ≡ false
 unfolding wholeLength

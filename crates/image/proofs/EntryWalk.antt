@@ -90,7 +90,7 @@ module _ (buf : List ℕ) (at end n m : ℕ) (h : at ≤ end) (k : end ≤ lengt
       let j = inner in
       word-between buf at end 0 (omega arith) ∙ ap (λ (o : ℕ). word buf o) e
 
-  pub first-name : firstEntry (between buf at end) .name ≡ take (at + 7 + n - (at + 8)) (drop (at + 8) buf)
+  pub first-name : firstEntry (between buf at end) .name ≡ take (n - 1) (drop (at + 8) buf)
   first-name =
       ap (λ (w : ℕ). take (w - 1) (drop 8 (between buf at end))) (f .is) ∙ name-between buf at end n inner (f .some)
 
@@ -103,7 +103,7 @@ module _ (buf : List ℕ) (at end n m : ℕ) (h : at ≤ end) (k : end ≤ lengt
 pub walk-turn : (buf : List ℕ) (end entries : ℕ) (counts₀ : List ℕ) (at left back : ℕ) (counts : List ℕ) → end ≤ length buf
     → Rest buf end entries counts₀ at left back counts → 0 < left
     → (n h id : ℕ) (name counts′ : List ℕ) → Front (between buf at end) n → n < 4294967296 → id < 4294967296
-    → name ≡ take (at + 7 + n - (at + 8)) (drop (at + 8) buf) → h ≡ hashOf name → id ≡ word buf at → counts′ ≡ raisedCounts counts h
+    → name ≡ take (n - 1) (drop (at + 8) buf) → h ≡ hashOf name → id ≡ word buf at → counts′ ≡ raisedCounts counts h
     → Rest buf end entries counts₀ (at + (8 + n)) (left - 1) (max back (id + 1)) counts′
 walk-turn buf end entries counts₀ at left back counts k r some n h id name counts′ f small idsmall en eh ei ec =
     let m = left - 1 in
@@ -154,7 +154,7 @@ other-hash name sought h want short is wants differ =
 -- one turn: b says whether the name of the entry at `at` is the one that is sought
 pub met-turn : (buf : List ℕ) (end entries : ℕ) (sought : List ℕ) (at left : ℕ) (met : Bool) → end ≤ length buf → at ≤ end → 0 < left
     → MetRest buf end entries sought at left met → (n : ℕ) (name : List ℕ) (b : Bool) → Front (between buf at end) n
-    → name ≡ take (at + 7 + n - (at + 8)) (drop (at + 8) buf) → b ≡ same name sought
+    → name ≡ take (n - 1) (drop (at + 8) buf) → b ≡ same name sought
     → MetRest buf end entries sought (at + (8 + n)) (left - 1) (met || b)
 met-turn buf end entries sought at left met k a some m n name b f en eb =
     let later = entriesIn (left - 1) (between buf (at + (8 + n)) end) in

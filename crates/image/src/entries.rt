@@ -1,9 +1,9 @@
-// The entries that bytes hold: whether the one at a place is broken, or whole, and a walk over them that counts them by table
-// and says whether one has a given name.
+// The entries that bytes hold: whether the one at a place is broken, or whole, its name, and a walk over them that counts them by
+// table and says whether one has a given name.
 ghost use mathlib.Core.Path.{_≡_};
 ghost use mathlib.Core.Bool.{true};
 ghost use Prim.Native.Nat.{ℕ, _+_, _-_, _<_, _≤_, max};
-ghost use lib.ListN.{length, getD};
+ghost use lib.ListN.{length, getD, take, drop};
 ghost use Rattle.jhash.specs.NameHash.{hashOf};
 ghost use Rattle.image.specs.Bytes.{same};
 ghost use Rattle.image.specs.Tables.{tableOf};
@@ -78,6 +78,14 @@ pub fn whole_length(buf: &[u8], at: usize, end: usize) -> usize
     n
 }
 
+// The name of the whole entry at `at`, whose length word is n.
+pub fn name_at<'a>(buf: &'a [u8], at: usize, n: usize) -> &'a [u8]
+    requires { ⌜ (at + (8 + n) ≤ length (now buf)) × (1 ≤ n) ⌝ }
+    ensures { λ r. ⌜ (now r ≡ take (n - 1) (drop (at + 8) (now (buf .entry)))) × (length (now r) ≡ n - 1) ⌝ }
+{
+    &buf[at + 8..at + 7 + n]
+}
+
 // The hash of a name that is sought; 0 for one that is too long for an entry.
 fn sought_hash(sought: &[u8]) -> u32
     ensures { λ r. ⌜ (length (now (sought .entry)) < 4294967295 → r ≡ hashOf (now (sought .entry))) ⌝ }
@@ -123,7 +131,7 @@ pub fn walk(buf: &[u8], end: usize, entries: u32, counts: &mut [u32; 256], sough
                 met: false,
             };
         }
-        let name = &buf[at + 8..at + 7 + n];
+        let name = name_at(buf, at, n);
         back = larger(back, word(buf, at) as u64 + 1);
         let jhash::Hashed::Hash(h) = jhash::name_hash(name) else {
             return Walked {

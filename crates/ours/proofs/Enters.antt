@@ -1,20 +1,19 @@
 -- One entry of the walk that compares each entry with its bucket. Assumes nothing.
 use Prim.Native.Nat.{ℕ, _+_, _-_, _≤_, _<_, max}
-use native.Mathlib.Omega.{arith}
 use mathlib.Core.Path.{_≡_, refl, sym, ap, _∙_}
 use mathlib.Core.Bool.{Bool, true, false, _&&_}
 use mathlib.Core.List.{List}
-use lib.ListN.{length, getD, take, drop}
+use lib.ListN.{length, getD}
 use lib.Dec.{eqb}
 use Rattle.jhash.specs.NameHash.{hashOf}
 use Rattle.image.specs.Bytes.{word}
 use Rattle.image.specs.Image.{backSize}
 use Rattle.image.specs.Stored.{whole, entriesIn, between, wholeLength}
 use Rattle.image.specs.Tally.{raisedCounts, tallied}
-use Rattle.image.proofs.Between.{Front, front}
+use Rattle.image.proofs.Between.{Front, front, entry-room}
 use Rattle.image.proofs.EntryWalk.{Rest, walk-start, walk-turn, walk-broken, walk-end}
 use Rattle.ours.specs.steps.Tests.{nameAt, nameRight, entriesRight, placedFrom}
-use Rattle.ours.proofs.Steps.{walk-inside, walk-right, walk-wrong, walk-none}
+use Rattle.ours.proofs.Steps.{walk-right, walk-wrong, walk-none}
 
 -- what is to be found of the entries from `at` on
 pub record Enter (img : List ℕ) (end entries : ℕ) (counts₀ : List ℕ) (at left back : ℕ) (counts : List ℕ) : Type 0 where
@@ -41,7 +40,7 @@ module _ (img : List ℕ) (end entries : ℕ) (counts₀ : List ℕ) (k : end �
       there = front (between img at end) n is nz
 
       pub enter-room : (at + (8 + n) ≤ end) × (1 ≤ n)
-      enter-room = (walk-inside img at end n left (e .rest .inside) k there some, there .some)
+      enter-room = entry-room img at end n (e .rest .inside) k is nz
 
       pub enter-wrong : (r : Bool) → r ≡ nameRight img at (nameAt img at n) → r ≡ false → false ≡ (Whole && Right)
       enter-wrong r q z = no-second Whole Right (walk-wrong img at end n left (e .rest .inside) k there some r Right q z (e .right-same))
@@ -54,11 +53,8 @@ module _ (img : List ℕ) (end entries : ℕ) (counts₀ : List ℕ) (k : end �
           → n < 4294967296 → id < 4294967296 → id ≡ word img at → counts′ ≡ raisedCounts counts h
           → Enter img end entries counts₀ (at + (8 + n)) (left - 1) (max back (id + 1)) counts′
       enter-turn r h id counts′ q y eh small idsmall ei ec =
-          let size : n - 1 ≡ at + 7 + n - (at + 8) = omega arith in
-          let name : List ℕ = take (at + 7 + n - (at + 8)) (drop (at + 8) img) in
-          let same : nameAt img at n ≡ name = ap (λ (j : ℕ). take j (drop (at + 8) img)) size in
           record {
-            rest = walk-turn img end entries counts₀ at left back counts k (e .rest) some n h id name counts′ there small idsmall refl (eh ∙ ap hashOf same) ei ec;
+            rest = walk-turn img end entries counts₀ at left back counts k (e .rest) some n h id (nameAt img at n) counts′ there small idsmall refl eh ei ec;
             right-same = walk-right img at end n left (e .rest .inside) k there some r Right q y (e .right-same);
           }
 

@@ -5,7 +5,7 @@ use native.Mathlib.Decide.{decLt, ℕ-discrete}
 use mathlib.Core.Path.{_≡_, refl, sym, ap, ap₂, subst, _∙_}
 use mathlib.Core.Bool.{Bool, true, false, cond}
 use mathlib.Core.List.{List}
-use lib.ListN.{length, getD, take, drop, set, length-set}
+use lib.ListN.{length, getD, set, length-set}
 use lib.Seq.{getD-set-same, getD-set-other}
 use lib.Dec.{eqb}
 use borrow.Author.Tests.{eq-eqb, ne-eqb, le-ltb}
@@ -14,7 +14,7 @@ use Rattle.image.specs.Bytes.{word}
 use Rattle.image.specs.Head.{tableAt, bucketNumber}
 use Rattle.image.specs.Stored.{between, wholeLength}
 use Rattle.image.specs.Tables.{tableOf, start, next, order, firstEmpty}
-use Rattle.image.proofs.Between.{front, length-between}
+use Rattle.image.proofs.Between.{entry-room}
 use Rattle.ours.specs.steps.Noted.{firstPlace, NotedFrom, Notes}
 use Rattle.ours.specs.steps.Tests.{hidden, standsIn, nameAt}
 use Rattle.ours.proofs.Steps.{stands-none, stands-other, stands-last}
@@ -150,17 +150,11 @@ plan-start img end from hashes places l a b = record {
 
 module _ (img : List ℕ) (end from : ℕ) (hashes places : List ℕ) (at i : ℕ) (p : Planned img end from hashes places at i) where
   module _ (l : end ≤ length img) (n : ℕ) (e : n ≡ wholeLength (between img at end)) (nz : n ≡ 0 → ⊥) where
-    pub plan-room : (at + (8 + n) ≤ end) × (1 ≤ n)
-    plan-room =
-        let f = front (between img at end) n e nz in
-        let s = length-between img at end (p .inside) l in
-        (omega (arith, f .inside, p .inside), f .some)
-
-    pub plan-turn : i < 256 → (h place : ℕ) (name : List ℕ) → name ≡ take (at + 7 + n - (at + 8)) (drop (at + 8) img) → h ≡ hashOf name
+    pub plan-turn : i < 256 → (h place : ℕ) (name : List ℕ) → name ≡ nameAt img at n → h ≡ hashOf name
         → place ≡ firstPlace img h → Planned img end from (set hashes i h) (set places i place) (at + (8 + n)) (i + 1)
     plan-turn q h place name en eh ep = record {
       few = omega arith;
-      inside = plan-room .0;
+      inside = entry-room img at end n (p .inside) l e nz .0;
       hashes-long = length-set hashes i h ∙ p .hashes-long;
       places-long = length-set places i place ∙ p .places-long;
       joins = λ hs ps x y m z.
@@ -174,9 +168,7 @@ module _ (img : List ℕ) (end from : ℕ) (hashes places : List ℕ) (at i : �
     }
       where
         hash : h ≡ hashOf (nameAt img at n)
-        hash =
-            let size : at + 7 + n - (at + 8) ≡ n - 1 = omega arith in
-            eh ∙ ap hashOf (en ∙ ap (λ (j : ℕ). take j (drop (at + 8) img)) size)
+        hash = eh ∙ ap hashOf en
 
   -- the next is not whole, or all 256 are noted
   pub plan-stop : (m : ℕ) → i + m ≡ 256 → NotedFrom img end hashes places at i m → NotedFrom img end hashes places from 0 256

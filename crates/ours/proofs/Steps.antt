@@ -4,7 +4,7 @@ use native.Mathlib.Omega.{arith}
 use mathlib.Core.Path.{_≡_, sym, ap, ap₂, _∙_}
 use mathlib.Core.Bool.{Bool, true, false, cond, not, _&&_, _||_}
 use mathlib.Core.List.{List, _∷_}
-use lib.ListN.{length, take, drop, length-take, length-drop}
+use lib.ListN.{length, drop, length-take, length-drop}
 use lib.Dec.{eqb, leb}
 use borrow.Author.Tests.{eq-eqb, ne-eqb, le-leb, lt-leb}
 use Rattle.jhash.specs.NameHash.{hashOf}
@@ -61,12 +61,9 @@ module _ (img : List ℕ) (h at : ℕ) where
 
 -- ---- an entry's name and bucket
 
-module _ (img : List ℕ) (at n : ℕ) (name : List ℕ) (z : Bool) (is : name ≡ take (at + 7 + n - (at + 8)) (drop (at + 8) img)) (ez : z ≡ hasZero name) where
-  pub name-is : name ≡ nameAt img at n
-  name-is = let e : at + 7 + n - (at + 8) ≡ n - 1 = omega arith in is ∙ ap (λ (k : ℕ). take k (drop (at + 8) img)) e
-
+module _ (img : List ℕ) (at n : ℕ) (name : List ℕ) (z : Bool) (is : name ≡ nameAt img at n) (ez : z ≡ hasZero name) where
   zero-is : z ≡ hasZero (nameAt img at n)
-  zero-is = ez ∙ ap hasZero name-is
+  zero-is = ez ∙ ap hasZero is
 
   pub name-zero : z ≡ true → false ≡ nameRight img at (nameAt img at n)
   name-zero y = ap (λ (b : Bool). not b && standsIn img (hashOf (nameAt img at n)) at) (sym y ∙ zero-is)
@@ -98,9 +95,7 @@ module _ (img : List ℕ) (at end n left : ℕ) (h : at ≤ end) (k : end ≤ le
   first = record { entry = firstEntry (between img at end); at = at }
 
   name-first : firstEntry (between img at end) .name ≡ nameAt img at n
-  name-first =
-      let e : at + 7 + n - (at + 8) ≡ n - 1 = omega arith in
-      first-name img at end n (left - 1) h k f ∙ ap (λ (j : ℕ). take j (drop (at + 8) img)) e
+  name-first = first-name img at end n (left - 1) h k f
 
   size-first : entrySize (firstEntry (between img at end)) ≡ 8 + n
   size-first =

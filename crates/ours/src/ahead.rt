@@ -6,6 +6,7 @@ ghost use Prim.Native.Nat.{ℕ, _<_, _≤_};
 ghost use lib.ListN.{length, getD};
 ghost use Rattle.image.specs.Bytes.{word};
 ghost use Rattle.ours.specs.steps.Noted.{firstPlace, NotedFrom, Notes};
+use image::entries::name_at;
 use image::entries::whole_length;
 use image::get_u32;
 use taking::fill::bucket_number;
@@ -35,7 +36,7 @@ fn plan(image: &[u8], from: usize, end: usize, hashes: &mut [u32; 256], places: 
         if n == 0 {
             return;
         }
-        let jhash::Hashed::Hash(h) = jhash::name_hash(&image[at + 8..at + 7 + n]) else {
+        let jhash::Hashed::Hash(h) = jhash::name_hash(name_at(image, at, n)) else {
             return;
         };
         let place = first_place(image, h);

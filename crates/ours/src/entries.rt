@@ -14,6 +14,7 @@ ghost use Rattle.ours.specs.steps.Noted.{firstPlace};
 ghost use Rattle.ours.specs.steps.Tests.{hidden, standsIn, nameAt, nameRight, entriesRight, placedFrom};
 use super::ahead::ahead;
 use image::entries::larger;
+use image::entries::name_at;
 use image::entries::raise;
 use image::entries::whole_length;
 use image::get_u32;
@@ -81,7 +82,7 @@ fn entry_right(image: &[u8], at: usize, n: usize, h: u32, place: usize, first: u
     requires { ⌜ (at + (8 + n) ≤ length (now image)) × (1 ≤ n) × (at < 4294967296) × (h ≡ hashOf (nameAt (now image) at n)) × (place ≡ firstPlace (now image) h) × (first ≡ word (now image) place) ⌝ }
     ensures { λ r. ⌜ r ≡ nameRight (now (image .entry)) at (nameAt (now (image .entry)) at n) ⌝ }
 {
-    if has_zero(&image[at + 8..at + 7 + n]) {
+    if has_zero(name_at(image, at, n)) {
         return false;
     }
     stands_noted(image, h, at as u32, place, first)

@@ -17,7 +17,7 @@ use Rattle.image.specs.declared.Mode.{Mode}
 use Rattle.image.specs.declared.Mode.the-variants.{Twoway, Oneway}
 use Rattle.image.specs.Stored.{between, wholeLength}
 use Rattle.taking.specs.steps.Working.{bucketFor, withBucket, withLink, entryTaken, takenFrom, placeOf, NotedFirst, Noted, linksApart}
-use Rattle.image.proofs.Between.{Front, front, length-between, word-between, name-between, between-same, word-same, take-sets}
+use Rattle.image.proofs.Between.{Front, front, entry-room, length-between, word-between, name-between, between-same, word-same, take-sets}
 use Rattle.taking.proofs.Taking.{taken-parts, from-turn}
 
 -- ---- where the entries stand
@@ -57,7 +57,7 @@ plan-start buf end from most hashes h l =
     }
 
 first-noted : (buf : List ℕ) (at end n h : ℕ) (name : List ℕ) → at ≤ end → end ≤ length buf → n ≡ wholeLength (between buf at end)
-    → (n ≡ 0 → ⊥) → name ≡ take (at + 7 + n - (at + 8)) (drop (at + 8) buf) → h ≡ hashOf name → NotedFirst (between buf at end) h
+    → (n ≡ 0 → ⊥) → name ≡ take (n - 1) (drop (at + 8) buf) → h ≡ hashOf name → NotedFirst (between buf at end) h
 first-noted buf at end n h name i l e z en eh =
     let f = front (between buf at end) n e z in
     let s = length-between buf at end i l in
@@ -73,14 +73,12 @@ first-noted buf at end n h name i l e z en eh =
 
 module _ (buf : List ℕ) (end from most : ℕ) (hashes : List ℕ) (at i : ℕ) (p : Planned buf end from most hashes at i) where
   pub plan-turn : end ≤ length buf → most ≤ 16 → i < most → (n h : ℕ) (name : List ℕ) → n ≡ wholeLength (between buf at end) → (n ≡ 0 → ⊥)
-      → name ≡ take (at + 7 + n - (at + 8)) (drop (at + 8) buf) → h ≡ hashOf name → end ≤ word buf (24 + 8 * tableOf h)
+      → name ≡ take (n - 1) (drop (at + 8) buf) → h ≡ hashOf name → end ≤ word buf (24 + 8 * tableOf h)
       → Planned buf end from most (set hashes i h) (at + (8 + n)) (i + 1)
   plan-turn l u q n h name e z en eh ea =
-      let f = front (between buf at end) n e z in
-      let s = length-between buf at end (p .inside) l in
       record {
         few = omega arith;
-        inside = omega (arith, f .inside, p .inside);
+        inside = entry-room buf at end n (p .inside) l e z .0;
         stands = place-next buf end from i at n (p .stands) e;
         sixteen = length-set hashes i h ∙ p .sixteen;
         noted = λ k r. go k r (decLt k i);
@@ -196,12 +194,12 @@ module _ (mode : Mode) (links end from m : ℕ) (buf₀ : List ℕ) where
         let z : n ≡ 0 → ⊥ = λ y. now-noted .some (sym w ∙ y) in
         let inn : 8 + n ≤ end - at = omega (arith, f .inside) in
         let one : 1 ≤ n = omega (arith, f .some) in
-        let hash : h ≡ hashOf (take (at + 7 + n - (at + 8)) (drop (at + 8) buf)) =
+        let hash : h ≡ hashOf (take (n - 1) (drop (at + 8) buf)) =
         now-noted .is
         ∙ ap hashOf
         (ap (λ (k : ℕ). take (k - 1) (drop 8 (between buf at end))) (sym w) ∙ name-between buf at end n inn one) in
         let tk : buf′ ≡ entryTaken mode links buf at n =
-        taken-parts mode links buf at n (word buf at) h (take (at + 7 + n - (at + 8)) (drop (at + 8) buf)) (withBucket buf h at) buf′ one refl hash refl refl t in
+        taken-parts mode links buf at n (word buf at) h (take (n - 1) (drop (at + 8) buf)) (withBucket buf h at) buf′ refl hash refl refl t in
         let there : n ≡ wholeLength (between buf₀ at end) = w ∙ ap wholeLength (between-same buf buf₀ end (r .same) at) in
         record {
           few = omega arith;

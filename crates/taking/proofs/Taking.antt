@@ -1,5 +1,5 @@
 -- An entry taken into its table and the back array, and entries one after the other. Assumes nothing.
-use Prim.Native.Nat.{ℕ, suc, _+_, _-_, _*_, _/_, _%_, _≤_, _<_}
+use Prim.Native.Nat.{ℕ, suc, _+_, _-_, _*_, _/_, _%_, _<_}
 use native.Mathlib.Omega.{arith}
 use native.Mathlib.Nat.{mod-lt}
 use mathlib.Core.Path.{_≡_, refl, sym, ap, ap₂, _∙_}
@@ -45,16 +45,12 @@ module _ (buf : List ℕ) (h at : ℕ) where
       ∙ ap (λ (x : ℕ). sets buf x (le32 h ++ le32 at)) es
       ∙ sym (ap (λ (b : Bool). cond b buf (sets buf s (le32 h ++ le32 at))) (ne-eqb n′ 0 (λ z. nz (en ∙ z))))
 
-pub taken-parts : (mode : Mode) (links : ℕ) (buf : List ℕ) (at n id h : ℕ) (name b1 b2 : List ℕ) → 1 ≤ n
-    → name ≡ take (at + 7 + n - (at + 8)) (drop (at + 8) buf) → h ≡ hashOf name → id ≡ word buf at
+pub taken-parts : (mode : Mode) (links : ℕ) (buf : List ℕ) (at n id h : ℕ) (name b1 b2 : List ℕ)
+    → name ≡ take (n - 1) (drop (at + 8) buf) → h ≡ hashOf name → id ≡ word buf at
     → b1 ≡ withBucket buf h at → b2 ≡ withLink mode b1 links id at → b2 ≡ entryTaken mode links buf at n
 unfolding entryTaken
-taken-parts mode links buf at n id h name b1 b2 some en eh ei p q =
-    let m : at + 7 + n - (at + 8) ≡ n - 1 = omega arith in
-    let nh : h ≡ hashOf (take (n - 1) (drop (at + 8) buf)) =
-    eh ∙ ap hashOf (en ∙ ap (λ (k : ℕ). take k (drop (at + 8) buf)) m) in
-    q
-    ∙ ap₂ (λ (l : List ℕ) (i : ℕ). withLink mode l links i at) (p ∙ ap (λ (k : ℕ). withBucket buf k at) nh) ei
+taken-parts mode links buf at n id h name b1 b2 en eh ei p q =
+    q ∙ ap₂ (λ (l : List ℕ) (i : ℕ). withLink mode l links i at) (p ∙ ap (λ (k : ℕ). withBucket buf k at) (eh ∙ ap hashOf en)) ei
 
 module _ (mode : Mode) (links end : ℕ) where
   from-suc : (m at : ℕ) (buf : List ℕ)

@@ -14,6 +14,8 @@ use super::fill::store_link;
 use super::fill::table_at;
 use super::fill::take_singly;
 use image::Mode;
+use image::entries::name_at;
+use image::entries::whole_length;
 
 // Whether the back array, where there is one, stands behind the entries.
 fn links_apart(mode: Mode, links: usize, end: usize) -> bool
@@ -57,11 +59,11 @@ fn plan(
     let mut at = from;
     let mut i = 0;
     while i < most {
-        let n = image::entries::whole_length(buf, at, end);
+        let n = whole_length(buf, at, end);
         if n == 0 {
             return i;
         }
-        let jhash::Hashed::Hash(h) = jhash::name_hash(&buf[at + 8..at + 7 + n]) else {
+        let jhash::Hashed::Hash(h) = jhash::name_hash(name_at(buf, at, n)) else {
             return i;
         };
         let place = place_of(buf, h, end);

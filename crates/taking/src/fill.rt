@@ -69,7 +69,7 @@ fn take_entry(mode: Mode, links: usize, buf: &mut [u8], at: usize, n: usize)
     ensures { λ _. ⌜ now (buf .exit) ≡ entryTaken mode links (now (buf .entry)) at n ⌝ }
 {
     let id = image::get_u32(&*buf, at);
-    let hashed = jhash::name_hash(&buf[at + 8..at + 7 + n]);
+    let hashed = jhash::name_hash(image::entries::name_at(&*buf, at, n));
     let jhash::Hashed::Hash(h) = hashed else {
         return;
     };

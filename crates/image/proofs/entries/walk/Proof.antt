@@ -1,5 +1,4 @@
 -- `image::entries::walk` meets its contract. Assumes nothing.
-use lib.ListN.{take, drop, length-take}
 use Rattle.image.specs.Tables.{tableOf}
 use Rattle.jhash.proofs.Outcomes.{told-refused, told-image-hash}
 use borrow.Author.Needs.{needs}
@@ -7,9 +6,9 @@ use Prim.Native.Nat.{_+_}
 use mathlib.Core.Path.{sym, _∙_}
 use Rattle.image.proofs.Bools.{not-both}
 use Rattle.image.specs.Stored.{between}
-use Rattle.image.proofs.Between.{Front, front, length-between}
+use Rattle.image.proofs.Between.{Front, front, entry-room}
 use native.Mathlib.Omega.{arith}
-use Prim.Native.Nat.{_<_, _≤_, _-_}
+use Prim.Native.Nat.{_<_, _≤_}
 use mathlib.Core.Path.{_≡_, refl}
 use Rattle.image.proofs.EntryWalk.{Rest, MetRest, walk-start, walk-turn, walk-broken, walk-end, met-turn, met-end}
 use Rattle.image.proofs.entries.walk.Statement.{statement}
@@ -41,14 +40,10 @@ known c =
 room : (c : tie.Else1 Inv-loop μ-loop)
     → (c .before .before .before .loop .at + (8 + c .before .whole-length .result) ≤ c .before .before .before .before .before .before .before .args .end) × (1 ≤ c .before .whole-length .result)
 room c =
-    let a = c .before .before .before .before .before .before .before .args in
-    let start-pre = c .before .before .before .before .before .before .before .pre in
-    let of-loop = c .before .before .before .loop in
-    let k = known c in
-    let i = k .inside in
-    let j = of-loop .inv .0 .inside in
-    let l = length-between (a .buf .now) (of-loop .at) (a .end) j (start-pre .1) in
-    (omega arith, k .some)
+    let s = c .before .before .before .before .before .before .before in
+    let l = c .before .before .before .loop in
+    let n = c .before .whole-length in
+    entry-room (s .args .buf .now) (l .at) (s .args .end) (n .result) (l .inv .0 .inside) (s .pre .1) (n .ensures .0) (c .if1 .left)
 
 sought-hash-requires : tie.Need-sought-hash-requires Inv-loop μ-loop
 sought-hash-requires c κs = search needs
@@ -70,35 +65,8 @@ returns c =
       ((λ z. absurd (not-both z)), ((λ z. absurd (not-both z)), (λ z. absurd (not-both z)))),
     )
 
-add-name : tie.Need-add-name Inv-loop μ-loop
-add-name c =
-    let r = room c in
-    omega (arith, c .before .before .before .before .before .before .before .good, c .before .before .before .before .before .before .before .pre .1)
-
-add-name-2 : tie.Need-add-name-2 Inv-loop μ-loop
-add-name-2 c =
-    let r = room c in
-    omega (arith, c .before .before .before .before .before .before .before .good, c .before .before .before .before .before .before .before .pre .1)
-
-add-name-3 : tie.Need-add-name-3 Inv-loop μ-loop
-add-name-3 c =
-    let r = room c in
-    omega (arith, c .before .before .before .before .before .before .before .good, c .before .before .before .before .before .before .before .pre .1)
-
-sub-name : tie.Need-sub-name Inv-loop μ-loop
-sub-name c =
-    let r = room c in
-    omega arith
-
-part-name-start : tie.Need-part-name-start Inv-loop μ-loop
-part-name-start c =
-    let r = room c in
-    omega arith
-
-part-name-end : tie.Need-part-name-end Inv-loop μ-loop
-part-name-end c =
-    let r = room c in
-    omega (arith, c .before .before .before .before .before .before .before .pre .1)
+name-at-requires : tie.Need-name-at-requires Inv-loop μ-loop
+name-at-requires c κs = let r = room c in (omega (arith, c .before .before .before .before .before .before .before .pre .1), r .1)
 
 word-requires : tie.Need-word-requires Inv-loop μ-loop
 word-requires c κs =
@@ -125,14 +93,10 @@ enum-told c = search needs
 
 returns-2 : tie.Need-returns-2 Inv-loop μ-loop
 returns-2 c =
-    let a = c .before .before .before .before .before .before .before .before .before .before .before .before .before .args in
-    let of-loop = c .before .before .before .before .before .before .before .before .before .loop in
-    let of-whole-length = c .before .before .before .before .before .before .before .whole-length in
-    let r = room (c .before .before .before .before .before .before) in
-    let long = told-refused (take (of-loop .at + 7 + of-whole-length .result - (of-loop .at + 8)) (drop (of-loop .at + 8) (a .buf .now))) 0 (c .before .before .name-hash .result) (c .before .before .name-hash .ensures) (c .enum-told .given .1) in
-    let l = simp length-take at long in
-    let s = of-whole-length .ensures .1 in
-    absurd (omega arith)
+    let hashed = c .before .before .name-hash in
+    let name = c .before .before .before .before .before .name-at in
+    let n = c .before .before .before .before .before .before .before .whole-length in
+    absurd (omega (arith, told-refused (name .result .now) 0 (hashed .result) (hashed .ensures) (c .enum-told .given .1), name .ensures .1, n .ensures .1))
 
 raise-requires : tie.Need-raise-requires Inv-loop μ-loop
 raise-requires c κs =
@@ -144,12 +108,9 @@ raise-requires c κs =
 
 is-sought-requires : tie.Need-is-sought-requires Inv-loop μ-loop
 is-sought-requires c κs =
-    let a = c .before .before .before .before .before .before .before .before .before .before .before .before .before .before .before .before .args in
-    let of-loop = c .before .before .before .before .before .before .before .before .before .before .before .before .loop in
-    let of-whole-length = c .before .before .before .before .before .before .before .before .before .before .whole-length in
-    let of-name-hash = c .before .before .before .before .before .name-hash in
-    let of-h = c .before .before .before .h in
-    let told = told-image-hash (take (of-loop .at + 7 + of-whole-length .result - (of-loop .at + 8)) (drop (of-loop .at + 8) (a .buf .now))) (of-name-hash .result) (of-h .given .0 .0) (of-name-hash .ensures) (of-h .given .1) in
+    let hashed = c .before .before .before .before .before .name-hash in
+    let h = c .before .before .before .h .given in
+    let told = told-image-hash (c .before .before .before .before .before .before .before .before .name-at .result .now) (hashed .result) (h .0 .0) (hashed .ensures) (h .1) in
     (told .0, told .1, c .before .before .before .before .before .before .before .before .before .before .before .before .before .sought-hash .ensures)
 
 add-at : tie.Need-add-at Inv-loop μ-loop
@@ -185,13 +146,14 @@ loop-again c =
     let of-h = c .before .before .before .before .h in
     let of-raise = c .before .raise in
     let f = known (c .before .before .before .before .before .before .before .before .before .before) in
-    let name = take (of-loop .at + 7 + of-whole-length .result - (of-loop .at + 8)) (drop (of-loop .at + 8) (a .buf .now)) in
+    let of-name-at = c .before .before .before .before .before .before .before .before .before .name-at in
+    let name = of-name-at .result .now in
     let told = told-image-hash name (of-name-hash .result) (of-h .given .0 .0) (of-name-hash .ensures) (of-h .given .1) in
     let small : of-word .result < 4294967296 = omega (arith, of-word .ok) in
     let t = walk-turn (a .buf .now) (a .end) (a .entries) (a .counts .now) (of-loop .at) (of-loop .left) (of-loop .back) (of-loop .counts) (start-pre .1) (of-loop .inv .0) some
-    (of-whole-length .result) (of-h .given .0 .0) (of-word .result) name (of-raise .last .0) f (of-whole-length .ensures .1) small refl (told .1) (of-word .ensures) (of-raise .ensures) in
+    (of-whole-length .result) (of-h .given .0 .0) (of-word .result) name (of-raise .last .0) f (of-whole-length .ensures .1) small (of-name-at .ensures .0) (told .1) (of-word .ensures) (of-raise .ensures) in
     let m = met-turn (a .buf .now) (a .end) (a .entries) (a .sought .now) (of-loop .at) (of-loop .left) (of-loop .met) (start-pre .1) (of-loop .inv .0 .inside) some (of-loop .inv .1)
-    (of-whole-length .result) name (c .is-sought .result) f refl (c .is-sought .ensures) in
+    (of-whole-length .result) name (c .is-sought .result) f (of-name-at .ensures .0) (c .is-sought .ensures) in
     (rw (of-larger .ensures) t, m)
 
 returns-3 : tie.Need-returns-3 Inv-loop μ-loop
@@ -214,12 +176,7 @@ walk-spec =
     loop-holds
     whole-length-requires
     returns
-    add-name
-    add-name-2
-    add-name-3
-    sub-name
-    part-name-start
-    part-name-end
+    name-at-requires
     word-requires
     cast-larger
     add-larger

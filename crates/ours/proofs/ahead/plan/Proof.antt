@@ -2,10 +2,9 @@
 use borrow.Author.Needs.{needs}
 use native.Mathlib.Omega.{arith}
 use Prim.Native.Nat.{_+_, _-_, _≤_}
-use mathlib.Core.Path.{refl}
-use lib.ListN.{take, drop, length-take}
 use Rattle.jhash.proofs.Outcomes.{told-refused, told-image-hash}
-use Rattle.ours.proofs.NotedEntries.{Planned, plan-start, plan-room, plan-turn, plan-broken, plan-all}
+use Rattle.image.proofs.Between.{entry-room}
+use Rattle.ours.proofs.NotedEntries.{Planned, plan-start, plan-turn, plan-broken, plan-all}
 use Rattle.ours.proofs.ahead.plan.Statement.{statement}
 use Rattle.ours.proofs.ahead.plan.Tie as tie
 
@@ -19,11 +18,10 @@ abbrev μ-loop : tie.MeasureT-loop
 room : (c : tie.Else1 Inv-loop μ-loop)
     → (c .before .before .before .loop .at + (8 + c .before .whole-length .result) ≤ c .before .before .before .before .before .args .end) × (1 ≤ c .before .whole-length .result)
 room c =
-    let a = c .before .before .before .before .before .args in
-    let p = c .before .before .before .before .before .pre in
+    let s = c .before .before .before .before .before in
     let l = c .before .before .before .loop in
-    let w = c .before .whole-length in
-    plan-room (a .image .now) (a .end) (a .from) (l .hashes) (l .places) (l .at) (l .i) (l .inv) (p .1) (w .result) (w .ensures .0) (c .if1 .left)
+    let n = c .before .whole-length in
+    entry-room (s .args .image .now) (l .at) (s .args .end) (n .result) (l .inv .inside) (s .pre .1) (n .ensures .0) (c .if1 .left)
 
 loop-holds : tie.Need-loop-holds Inv-loop μ-loop
 loop-holds c =
@@ -41,23 +39,8 @@ returns c =
     let w = c .before .whole-length in
     (l .inv .hashes-long, l .inv .places-long, plan-broken (a .image .now) (a .end) (a .from) (l .hashes) (l .places) (l .at) (l .i) (l .inv) (w .result) (w .ensures .0) (c .if1 .taken))
 
-add-name-hash : tie.Need-add-name-hash Inv-loop μ-loop
-add-name-hash c = let r = room c in omega (arith, c .before .before .before .before .before .pre .2)
-
-add-name-hash-2 : tie.Need-add-name-hash-2 Inv-loop μ-loop
-add-name-hash-2 c = let r = room c in omega (arith, c .before .before .before .before .before .pre .2)
-
-add-name-hash-3 : tie.Need-add-name-hash-3 Inv-loop μ-loop
-add-name-hash-3 c = let r = room c in omega (arith, c .before .before .before .before .before .pre .2)
-
-sub-name-hash : tie.Need-sub-name-hash Inv-loop μ-loop
-sub-name-hash c = let r = room c in omega arith
-
-part-name-hash-start : tie.Need-part-name-hash-start Inv-loop μ-loop
-part-name-hash-start c = let r = room c in omega arith
-
-part-name-hash-end : tie.Need-part-name-hash-end Inv-loop μ-loop
-part-name-hash-end c = let r = room c in omega (arith, c .before .before .before .before .before .pre .1)
+name-at-requires : tie.Need-name-at-requires Inv-loop μ-loop
+name-at-requires c κs = let r = room c in (omega (arith, c .before .before .before .before .before .pre .1), r .1)
 
 name-hash-requires : tie.Need-name-hash-requires Inv-loop μ-loop
 name-hash-requires c κs = search needs
@@ -70,13 +53,9 @@ enum-told c = search needs
 
 returns-2 : tie.Need-returns-2 Inv-loop μ-loop
 returns-2 c =
-    let a = c .before .before .before .before .before .before .before .before .before .args in
-    let l = c .before .before .before .before .before .before .before .loop in
-    let w = c .before .before .before .before .before .whole-length in
-    let name = take (l .at + 7 + w .result - (l .at + 8)) (drop (l .at + 8) (a .image .now)) in
-    let long = told-refused name 0 (c .before .before .name-hash .result) (c .before .before .name-hash .ensures) (c .enum-told .given .1) in
-    let few = simp length-take at long in
-    absurd (omega (arith, w .ensures .1))
+    let hashed = c .before .before .name-hash in
+    let name = c .before .before .before .name-at in
+    absurd (omega (arith, told-refused (name .result .now) 0 (hashed .result) (hashed .ensures) (c .enum-told .given .1), name .ensures .1, c .before .before .before .before .before .whole-length .ensures .1))
 
 first-place-requires : tie.Need-first-place-requires Inv-loop μ-loop
 first-place-requires c κs = search needs
@@ -119,10 +98,10 @@ loop-again c =
     let w = c .before .before .before .before .before .before .before .whole-length in
     let hashed = c .before .before .before .before .name-hash in
     let h = c .before .before .h .given .0 .0 in
-    let name = take (l .at + 7 + w .result - (l .at + 8)) (drop (l .at + 8) (a .image .now)) in
-    let told = told-image-hash name (hashed .result) h (hashed .ensures) (c .before .before .h .given .1) in
+    let name = c .before .before .before .before .before .name-at in
+    let told = told-image-hash (name .result .now) (hashed .result) h (hashed .ensures) (c .before .before .h .given .1) in
     plan-turn (a .image .now) (a .end) (a .from) (l .hashes) (l .places) (l .at) (l .i) (l .inv) (p .1) (w .result) (w .ensures .0) (c .before .before .before .before .before .before .if1 .left) (c .before .before .before .before .before .before .before .before .loop-test .taken)
-    h (c .first-place .result) name refl (told .1) (c .first-place .ensures)
+    h (c .first-place .result) (name .result .now) (name .ensures .0) (told .1) (c .first-place .ensures)
 
 returns-3 : tie.Need-returns-3 Inv-loop μ-loop
 returns-3 c =
@@ -139,12 +118,7 @@ plan-spec =
     loop-holds
     whole-length-requires
     returns
-    add-name-hash
-    add-name-hash-2
-    add-name-hash-3
-    sub-name-hash
-    part-name-hash-start
-    part-name-hash-end
+    name-at-requires
     name-hash-requires
     enum-known-h
     enum-told

@@ -2,19 +2,12 @@
 use native.Mathlib.Omega.{arith}
 use borrow.Author.Needs.{needs}
 use Prim.Native.Nat.{ℕ, _+_, _-_, _<_, _≤_}
-use mathlib.Core.Path.{_≡_, refl}
-use lib.ListN.{take, drop}
+use mathlib.Core.Path.{_≡_}
 use Rattle.jhash.proofs.Outcomes.{told-image-hash}
-use Rattle.image.specs.Stored.{between}
-use Rattle.image.proofs.Between.{front, length-between}
+use Rattle.image.proofs.Between.{entry-room}
 use Rattle.taking.proofs.Noting.{Planned, plan-start, plan-turn}
 use Rattle.taking.proofs.batch.plan.Statement.{statement}
 use Rattle.taking.proofs.batch.plan.Tie as tie
-use Rattle.taking.proofs.batch.plan.Reads as reads
-use Rattle.taking.proofs.batch.plan.Lts as lts
-use Rattle.jhash.proofs.name_hash.Reads as name-hash-reads
-use Rattle.image.proofs.entries.whole_length.Reads as whole-length-reads
-use Rattle.taking.proofs.batch.place_of.Reads as place-of-reads
 
 abbrev Inv-loop : tie.InvT-loop
 Inv-loop buf from end most hashes₀ places₀ at₀ i₀ hashes places at i = Planned buf end from most hashes at i
@@ -28,14 +21,10 @@ pos-of n h = omega arith
 -- a whole entry lies before the end
 room : (c : tie.Else1 Inv-loop μ-loop) → (c .before .before .before .loop .at + (8 + c .before .whole-length .result) ≤ c .before .before .before .before .before .args .end) × (1 ≤ c .before .whole-length .result)
 room c =
-    let a = c .before .before .before .before .before .args in
-    let start-pre = c .before .before .before .before .before .pre in
-    let of-loop = c .before .before .before .loop in
-    let f = front (between (a .buf .now) (of-loop .at) (a .end)) (c .before .whole-length .result) (c .before .whole-length .ensures .0) (c .if1 .left) in
-    let i = f .inside in
-    let j = of-loop .inv .inside in
-    let l = length-between (a .buf .now) (of-loop .at) (a .end) j (start-pre .1) in
-    (omega arith, f .some)
+    let s = c .before .before .before .before .before in
+    let l = c .before .before .before .loop in
+    let n = c .before .whole-length in
+    entry-room (s .args .buf .now) (l .at) (s .args .end) (n .result) (l .inv .inside) (s .pre .1) (n .ensures .0) (c .if1 .left)
 
 -- it has one of the 16 places of a batch
 few : (c : tie.Else1 Inv-loop μ-loop) → c .before .before .before .loop .i < 16
@@ -54,23 +43,8 @@ whole-length-requires c κs = (c .before .loop .inv .inside, c .before .before .
 returns : tie.Need-returns Inv-loop μ-loop
 returns c = (c .before .before .before .loop .inv .few, c .before .before .before .loop .inv .sixteen, c .before .before .before .loop .inv .noted)
 
-add-name-hash : tie.Need-add-name-hash Inv-loop μ-loop
-add-name-hash c = let r = room c in omega (arith, c .before .before .before .before .before .pre .2)
-
-add-name-hash-2 : tie.Need-add-name-hash-2 Inv-loop μ-loop
-add-name-hash-2 c = let r = room c in omega (arith, c .before .before .before .before .before .pre .2)
-
-add-name-hash-3 : tie.Need-add-name-hash-3 Inv-loop μ-loop
-add-name-hash-3 c = let r = room c in omega (arith, c .before .before .before .before .before .pre .2)
-
-sub-name-hash : tie.Need-sub-name-hash Inv-loop μ-loop
-sub-name-hash c = let r = room c in omega arith
-
-part-name-hash-start : tie.Need-part-name-hash-start Inv-loop μ-loop
-part-name-hash-start c = let r = room c in omega arith
-
-part-name-hash-end : tie.Need-part-name-hash-end Inv-loop μ-loop
-part-name-hash-end c = let r = room c in omega (arith, c .before .before .before .before .before .pre .1)
+name-at-requires : tie.Need-name-at-requires Inv-loop μ-loop
+name-at-requires c κs = let r = room c in (omega (arith, c .before .before .before .before .before .pre .1), r .1)
 
 name-hash-requires : tie.Need-name-hash-requires Inv-loop μ-loop
 name-hash-requires c κs = search needs
@@ -127,11 +101,11 @@ loop-again c =
     let n = e .before .whole-length in
     let hash = c .before .before .before .before .before .name-hash in
     let h = c .before .before .before .h .given in
-    let name = take (i .at + 7 + n .result - (i .at + 8)) (drop (i .at + 8) (a .buf .now)) in
-    let told = told-image-hash name (hash .result) (h .0 .0) (hash .ensures) (h .1) in
+    let name = c .before .before .before .before .before .before .name-at in
+    let told = told-image-hash (name .result .now) (hash .result) (h .0 .0) (hash .ensures) (h .1) in
     plan-turn (a .buf .now) (a .end) (a .from) (a .most) (i .hashes) (i .at) (i .i) (i .inv)
-    (s .pre .1) (s .pre .3) (e .before .before .loop-test .taken) (n .result) (h .0 .0) name
-    (n .ensures .0) (e .if1 .left) refl (told .1) (c .before .place-of .ensures (pos-of _ (c .if2 .left)))
+    (s .pre .1) (s .pre .3) (e .before .before .loop-test .taken) (n .result) (h .0 .0) (name .result .now)
+    (n .ensures .0) (e .if1 .left) (name .ensures .0) (told .1) (c .before .place-of .ensures (pos-of _ (c .if2 .left)))
 
 returns-4 : tie.Need-returns-4 Inv-loop μ-loop
 returns-4 c = (c .before .loop .inv .few, c .before .loop .inv .sixteen, c .before .loop .inv .noted)
@@ -145,12 +119,7 @@ plan-spec =
     loop-holds
     whole-length-requires
     returns
-    add-name-hash
-    add-name-hash-2
-    add-name-hash-3
-    sub-name-hash
-    part-name-hash-start
-    part-name-hash-end
+    name-at-requires
     name-hash-requires
     enum-known-h
     enum-told

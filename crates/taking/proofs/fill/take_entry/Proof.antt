@@ -1,40 +1,16 @@
 -- `taking::fill::take_entry` meets its contract. Assumes nothing.
 use native.Mathlib.Omega.{arith}
-use Prim.Native.Nat.{_+_, _-_}
-use mathlib.Core.Path.{refl}
-use lib.ListN.{take, drop, length-take}
 use Rattle.jhash.proofs.Outcomes.{told-refused, told-image-hash}
 use Rattle.taking.proofs.Taking.{taken-parts}
 use borrow.Author.Needs.{needs}
 use Rattle.taking.proofs.fill.take_entry.Statement.{statement}
 use Rattle.taking.proofs.fill.take_entry.Tie as tie
-use Rattle.taking.proofs.fill.take_entry.Reads as reads
-use Rattle.taking.proofs.fill.take_entry.Lts as lts
-use Rattle.image.proofs.get_u32.Reads as get-u32-reads
-use Rattle.jhash.proofs.name_hash.Reads as name-hash-reads
-use Rattle.taking.proofs.fill.store_bucket.Reads as store-bucket-reads
-use Rattle.taking.proofs.fill.store_link.Reads as store-link-reads
 
 get-u32-requires : tie.Need-get-u32-requires
 get-u32-requires c κs = search needs
 
-add-name-hash : tie.Need-add-name-hash
-add-name-hash c = search needs
-
-add-name-hash-2 : tie.Need-add-name-hash-2
-add-name-hash-2 c = search needs
-
-add-name-hash-3 : tie.Need-add-name-hash-3
-add-name-hash-3 c = search needs
-
-sub-name-hash : tie.Need-sub-name-hash
-sub-name-hash c = search needs
-
-part-name-hash-start : tie.Need-part-name-hash-start
-part-name-hash-start c = search needs
-
-part-name-hash-end : tie.Need-part-name-hash-end
-part-name-hash-end c = search needs
+name-at-requires : tie.Need-name-at-requires
+name-at-requires c κs = search needs
 
 name-hash-requires : tie.Need-name-hash-requires
 name-hash-requires c κs = search needs
@@ -50,12 +26,9 @@ same-length c = search needs
 
 returns : tie.Need-returns
 returns c =
-    let a = c .before .before .before .before .before .before .before .before .args in
-    let start-pre = c .before .before .before .before .before .before .before .before .pre in
-    let long = told-refused (take (a .at + 7 + a .n - (a .at + 8)) (drop (a .at + 8) (a .buf .now))) 0 (c .before .before .name-hash .result) (c .before .before .name-hash .ensures) (c .enum-told .given .1) in
-    let l = simp length-take at long in
-    let s = start-pre .2 in
-    absurd (omega arith)
+    let hashed = c .before .before .name-hash in
+    let name = c .before .before .before .name-at in
+    absurd (omega (arith, told-refused (name .result .now) 0 (hashed .result) (hashed .ensures) (c .enum-told .given .1), name .ensures .1, c .before .before .before .before .before .before .before .before .pre .2))
 
 cast-store-bucket : tie.Need-cast-store-bucket
 cast-store-bucket c = search needs
@@ -75,26 +48,22 @@ same-length-2 c = search needs
 returns-2 : tie.Need-returns-2
 returns-2 c =
     let a = c .before .before .before .before .before .before .before .before .before .before .before .before .before .before .before .before .before .args in
-    let start-pre = c .before .before .before .before .before .before .before .before .before .before .before .before .before .before .before .before .before .pre in
-    let of-get-u32 = c .before .before .before .before .before .before .before .before .before .before .before .before .before .before .get-u32 in
-    let of-name-hash = c .before .before .before .before .before .before .before .before .before .before .before .name-hash in
-    let of-hashed = c .before .before .before .before .before .before .before .before .before .hashed in
-    let of-store-bucket = c .before .before .before .before .before .before .store-bucket in
-    let told = told-image-hash (take (a .at + 7 + a .n - (a .at + 8)) (drop (a .at + 8) (a .buf .now))) (of-name-hash .result) (of-hashed .given .0 .0) (of-name-hash .ensures) (of-hashed .given .1) in
-    taken-parts (a .mode) (a .links) (a .buf .now) (a .at) (a .n) (of-get-u32 .result) (of-hashed .given .0 .0) (take (a .at + 7 + a .n - (a .at + 8)) (drop (a .at + 8) (a .buf .now))) (of-store-bucket .last .0) (c .before .before .store-link .last .1 .0)
-    (start-pre .1) refl (told .1) (of-get-u32 .ensures) (of-store-bucket .ensures) (c .before .before .store-link .ensures)
+    let id = c .before .before .before .before .before .before .before .before .before .before .before .before .before .before .get-u32 in
+    let name = c .before .before .before .before .before .before .before .before .before .before .before .before .name-at in
+    let hashed = c .before .before .before .before .before .before .before .before .before .before .before .name-hash in
+    let h = c .before .before .before .before .before .before .before .before .before .hashed .given in
+    let bucket = c .before .before .before .before .before .before .store-bucket in
+    let link = c .before .before .store-link in
+    let told = told-image-hash (name .result .now) (hashed .result) (h .0 .0) (hashed .ensures) (h .1) in
+    taken-parts (a .mode) (a .links) (a .buf .now) (a .at) (a .n) (id .result) (h .0 .0) (name .result .now) (bucket .last .0) (link .last .1 .0)
+    (name .ensures .0) (told .1) (id .ensures) (bucket .ensures) (link .ensures)
 
 pub take-entry-spec : {M : Type 1} → statement M
 take-entry-spec =
     tie.close
     (tie.spec
     get-u32-requires
-    add-name-hash
-    add-name-hash-2
-    add-name-hash-3
-    sub-name-hash
-    part-name-hash-start
-    part-name-hash-end
+    name-at-requires
     name-hash-requires
     enum-known-hashed
     enum-told

@@ -4,16 +4,11 @@ use borrow.Author.Needs.{needs}
 use Prim.Native.Nat.{_+_, _≤_}
 use mathlib.Core.Path.{_≡_, refl, _∙_}
 use lib.ListN.{length}
-use Rattle.image.specs.Stored.{between}
 use Rattle.taking.specs.steps.Working.{takenFrom}
-use Rattle.image.proofs.Between.{front, length-between}
+use Rattle.image.proofs.Between.{entry-room}
 use Rattle.taking.proofs.Taking.{from-broken, from-turn, from-none}
 use Rattle.taking.proofs.fill.take_singly.Statement.{statement}
 use Rattle.taking.proofs.fill.take_singly.Tie as tie
-use Rattle.taking.proofs.fill.take_singly.Reads as reads
-use Rattle.taking.proofs.fill.take_singly.Lts as lts
-use Rattle.image.proofs.entries.whole_length.Reads as whole-length-reads
-use Rattle.taking.proofs.fill.take_entry.Reads as take-entry-reads
 
 abbrev Inv-loop : tie.InvT-loop
 Inv-loop mode links buf₀ from end entries at₀ left₀ buf at left = (at ≤ end) × (length buf ≡ length buf₀) × (takenFrom mode links end left at buf ≡ takenFrom mode links end entries from buf₀)
@@ -24,15 +19,10 @@ abbrev μ-loop : tie.MeasureT-loop
 -- a whole entry lies before the end
 room : (c : tie.Else1 Inv-loop μ-loop) → (c .before .before .before .before .loop .at + (8 + c .before .whole-length .result) ≤ c .before .before .before .before .before .before .args .end) × (1 ≤ c .before .whole-length .result)
 room c =
-    let a = c .before .before .before .before .before .before .args in
-    let start-pre = c .before .before .before .before .before .before .pre in
-    let of-loop = c .before .before .before .before .loop in
-    let f = front (between (of-loop .buf) (of-loop .at) (a .end)) (c .before .whole-length .result) (c .before .whole-length .ensures .0) (c .if1 .left) in
-    let i = f .inside in
-    let j = of-loop .inv .0 in
-    let k : a .end ≤ length (of-loop .buf) = omega (arith, of-loop .inv .1, start-pre .1) in
-    let l = length-between (of-loop .buf) (of-loop .at) (a .end) j k in
-    (omega arith, f .some)
+    let s = c .before .before .before .before .before .before in
+    let l = c .before .before .before .before .loop in
+    let n = c .before .whole-length in
+    entry-room (l .buf) (l .at) (s .args .end) (n .result) (l .inv .0) (omega (arith, l .inv .1, s .pre .1)) (n .ensures .0) (c .if1 .left)
 
 loop-holds : tie.Need-loop-holds Inv-loop μ-loop
 loop-holds c = (c .before .pre .0, refl, refl)

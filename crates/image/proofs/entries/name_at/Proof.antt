@@ -1,0 +1,45 @@
+-- `image::entries::name_at` meets its contract. Assumes nothing.
+use Prim.Native.Nat.{ℕ, _+_, _-_}
+use native.Mathlib.Omega.{arith}
+use mathlib.Core.Path.{_≡_, ap}
+use lib.ListN.{take, drop, length-take, length-drop}
+use borrow.Author.Needs.{needs}
+use Rattle.image.proofs.entries.name_at.Statement.{statement}
+use Rattle.image.proofs.entries.name_at.Tie as tie
+
+add-result : tie.Need-add-result
+add-result c = search needs
+
+add-result-2 : tie.Need-add-result-2
+add-result-2 c = search needs
+
+add-result-3 : tie.Need-add-result-3
+add-result-3 c = search needs
+
+sub-result : tie.Need-sub-result
+sub-result c = search needs
+
+part-result-start : tie.Need-part-result-start
+part-result-start c = search needs
+
+part-result-end : tie.Need-part-result-end
+part-result-end c = search needs
+
+returns : tie.Need-returns
+returns c =
+    let a = c .before .args in
+    let rest = drop (a .at + 8) (a .buf .now) in
+    let size : a .at + 7 + a .n - (a .at + 8) ≡ a .n - 1 = omega arith in
+    (ap (λ (m : ℕ). take m rest) size, omega (arith, length-take (a .at + 7 + a .n - (a .at + 8)) rest, length-drop (a .at + 8) (a .buf .now)))
+
+pub name-at-spec : {M : Type 1} → statement M
+name-at-spec =
+    tie.close
+    (tie.spec
+    add-result
+    add-result-2
+    add-result-3
+    sub-result
+    part-result-start
+    part-result-end
+    returns)
