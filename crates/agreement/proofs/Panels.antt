@@ -19,51 +19,40 @@ use Rattle.reader.proofs.Namings.{named, never}
 module _ (image : List ℕ) (id : ℕ) where
   -- an id that has a name
   module _ (s n : ℕ) (e : place s n ≡ naming image id) where
-    whole : take (s + n - s) (drop s image) ≡ take n (drop s image)
-    whole = let k : s + n - s ≡ n = omega arith in ap (λ (m : ℕ). take m (drop s image)) k
-
-    pub panel-named : (k : ℕ) → k ≡ length (beforeZero (take (s + n - s) (drop s image))) → place s k ≡ panel image id
+    pub panel-named : (k : ℕ) → k ≡ length (beforeZero (take n (drop s image))) → place s k ≡ panel image id
     unfolding panel
-    panel-named k h = ap (place s) (h ∙ ap (λ (l : List ℕ). length (beforeZero l)) whole) ∙ ap (cutAtZero image) e
+    panel-named k h = ap (place s) h ∙ ap (cutAtZero image) e
 
-    pub agree-named : (z : Bool) → z ≡ hasZero (take (s + n - s) (drop s image)) → not z ≡ agreeOn image id
+    pub agree-held : (z : Bool) → z ≡ hasZero (take n (drop s image)) → not z ≡ agreeOn image id
     unfolding panel
-    agree-named z h =
+    agree-held z h =
         let name = take n (drop s image) in
         let k = length (beforeZero name) in
         let short : k ≤ n = omega (arith, before-short name, length-take n (drop s image)) in
         let front : beforeZero name ≡ take k (drop s image) = before-front name ∙ take-take k n (drop s image) short in
-        ap not (h ∙ ap hasZero whole)
+        ap not h
         ∙ sym (readings-same name)
         ∙ ap (λ (l : List ℕ). same l name) front
         ∙ ap (λ (x : Naming). same (reading image (cutAtZero image x)) (reading image x)) e
 
     -- they agree exactly where the panel's is as long as the name
-    name-long : s + n ≤ length image → length (take (s + n - s) (drop s image)) ≡ n
-    name-long inside =
-        let k : s + n - s ≡ n = omega arith in
-        let took = length-take (s + n - s) (drop s image) in
-        let left = length-drop s image in
-        omega arith
+    name-long : s + n ≤ length image → length (take n (drop s image)) ≡ n
+    name-long inside = omega (arith, length-take n (drop s image), length-drop s image)
 
-    module _ (inside : s + n ≤ length image) (r : ℕ) (er : r ≡ length (beforeZero (take (s + n - s) (drop s image)))) where
+    module _ (inside : s + n ≤ length image) (r : ℕ) (er : r ≡ length (beforeZero (take n (drop s image)))) where
       pub look-agrees : r ≡ n → id + 1 ≡ cond (agreeOn image id) (id + 1) 0
-      look-agrees h = go (hasZero (take (s + n - s) (drop s image))) refl
+      look-agrees h = go (hasZero (take n (drop s image))) refl
         where
-          go : (z : Bool) → hasZero (take (s + n - s) (drop s image)) ≡ z → id + 1 ≡ cond (agreeOn image id) (id + 1) 0
-          go true q = let less = before-less (take (s + n - s) (drop s image)) q in let long = name-long inside in absurd (omega arith)
-          go false q = ap (λ (t : Bool). cond t (id + 1) 0) (agree-named false (sym q))
+          go : (z : Bool) → hasZero (take n (drop s image)) ≡ z → id + 1 ≡ cond (agreeOn image id) (id + 1) 0
+          go true q = let less = before-less (take n (drop s image)) q in let long = name-long inside in absurd (omega arith)
+          go false q = ap (λ (t : Bool). cond t (id + 1) 0) (agree-held false (sym q))
 
       pub look-differs : (r ≡ n → ⊥) → 0 ≡ cond (agreeOn image id) (id + 1) 0
-      look-differs h = go (hasZero (take (s + n - s) (drop s image))) refl
+      look-differs h = go (hasZero (take n (drop s image))) refl
         where
-          go : (z : Bool) → hasZero (take (s + n - s) (drop s image)) ≡ z → 0 ≡ cond (agreeOn image id) (id + 1) 0
-          go true q = ap (λ (t : Bool). cond t (id + 1) 0) (agree-named true (sym q))
-          go false q = absurd (h (er ∙ before-all (take (s + n - s) (drop s image)) q ∙ name-long inside))
-
-  -- the same, by the name that its place holds
-  pub agree-held : (s n : ℕ) → place s n ≡ naming image id → (z : Bool) → z ≡ hasZero (take n (drop s image)) → not z ≡ agreeOn image id
-  agree-held s n e z h = agree-named s n e z (h ∙ ap hasZero (sym (whole s n e)))
+          go : (z : Bool) → hasZero (take n (drop s image)) ≡ z → 0 ≡ cond (agreeOn image id) (id + 1) 0
+          go true q = ap (λ (t : Bool). cond t (id + 1) 0) (agree-held true (sym q))
+          go false q = absurd (h (er ∙ before-all (take n (drop s image)) q ∙ name-long inside))
 
   -- one that has none
   pub panel-unnamed : unnamed ≡ naming image id → unnamed ≡ panel image id

@@ -1,7 +1,9 @@
 // The panel's reading of names (02 (v)): a name up to its first zero byte, as a C string is read; and whether it is the whole name.
 ghost use mathlib.Core.Path.{_≡_};
 ghost use mathlib.Core.Bool.{cond};
-ghost use Prim.Native.Nat.{_+_, _<_};
+ghost use Prim.Native.Nat.{_+_, _<_, _≤_};
+ghost use lib.ListN.{length, take, drop};
+ghost use Rattle.image.specs.Zero.{beforeZero};
 ghost use Rattle.reader.specs.Slices.{slice};
 ghost use Rattle.agreement.specs.Panel.{panel, panelPart, agreeOn, readingsAgree};
 ghost use Rattle.reader.specs.Cases.{namingOf};
@@ -11,18 +13,23 @@ use reader::id_walk::iter;
 use reader::id_walk::size_hint;
 use reader::to_str;
 
+// How many bytes of the name at `start` the panel shows: those before its first zero byte.
+fn shown(image: &[u8], start: usize, len: usize) -> usize
+    requires { ⌜ start + len ≤ length (now image) ⌝ }
+    ensures { λ r. ⌜ r ≡ length (beforeZero (take len (drop start (now (image .entry))))) ⌝ }
+{
+    length_before_zero(&image[start..start + len])
+}
+
 // The place of an id's name up to its first zero byte, or nothing. A name that begins with a zero byte has a place of length 0.
 pub fn panel_place(image: &[u8], id: u32) -> Named
     ensures { λ r. ⌜ namingOf r ≡ panel (now (image .entry)) id ⌝ }
 {
     match to_str(image, id) {
-        Named::Place { start, len } => {
-            let end = start + len;
-            Named::Place {
-                start,
-                len: length_before_zero(&image[start..end]),
-            }
-        }
+        Named::Place { start, len } => Named::Place {
+            start,
+            len: shown(image, start, len),
+        },
         Named::Nothing => Named::Nothing,
     }
 }
@@ -45,9 +52,11 @@ fn after_look(image: &[u8], id: u32) -> u32
     let next = id + 1;
     match to_str(image, id) {
         Named::Place { start, len } => {
-            let end = start + len;
-            let shown = length_before_zero(&image[start..end]);
-            if shown == len { next } else { 0 }
+            if shown(image, start, len) == len {
+                next
+            } else {
+                0
+            }
         }
         Named::Nothing => next,
     }

@@ -1,14 +1,21 @@
 -- `agreement::panel::after_look` meets its contract. Assumes nothing.
-use Prim.Native.Nat.{_+_}
-use native.Mathlib.Omega.{arith}
+use Prim.Native.Nat.{_+_, _≤_}
 use mathlib.Core.Path.{sym, ap, _∙_}
 use mathlib.Core.Bool.{Bool, cond}
+use lib.ListN.{length}
 use Rattle.reader.specs.Cases.{namingOf}
 use Rattle.reader.proofs.Namings.{named}
 use Rattle.agreement.proofs.Panels.{agree-unnamed, look-agrees, look-differs}
 use borrow.Author.Needs.{needs}
 use Rattle.agreement.proofs.panel.after_look.Statement.{statement}
 use Rattle.agreement.proofs.panel.after_look.Tie as tie
+
+-- the name stands in the image
+inside : (c : tie.After-known-told) → c .before .start .given .0 .0 + c .before .start .given .0 .1 .0 ≤ length (c .before .before .before .before .before .args .image .now)
+inside c =
+    let a = c .before .before .before .before .before .args in
+    let place = c .before .start .given in
+    named (a .image .now) (a .id) (place .0 .0) (place .0 .1 .0) (sym (c .before .before .before .to-str .ensures) ∙ ap namingOf (place .1)) .inside
 
 add-next : tie.Need-add-next
 add-next c = search needs
@@ -19,49 +26,25 @@ to-str-requires c κs = search needs
 enum-known-start : tie.Need-enum-known-start
 enum-known-start c = search needs
 
-add-end : tie.Need-add-end
-add-end c =
-    let a = c .before .before .before .before .before .args in
-    let of-start = c .before .start .given in
-    let in-image = named (a .image .now) (a .id) (of-start .0 .0) (of-start .0 .1 .0) (sym (c .before .before .before .to-str .ensures) ∙ ap namingOf (of-start .1)) in
-    omega arith
-
-sub-length-before-zero : tie.Need-sub-length-before-zero
-sub-length-before-zero c = search needs
-
-part-length-before-zero-start : tie.Need-part-length-before-zero-start
-part-length-before-zero-start c = search needs
-
-part-length-before-zero-end : tie.Need-part-length-before-zero-end
-part-length-before-zero-end c =
-    let a = c .before .before .before .before .before .args in
-    let of-start = c .before .start .given in
-    let in-image = named (a .image .now) (a .id) (of-start .0 .0) (of-start .0 .1 .0) (sym (c .before .before .before .to-str .ensures) ∙ ap namingOf (of-start .1)) in
-    omega arith
-
-length-before-zero-requires : tie.Need-length-before-zero-requires
-length-before-zero-requires c κs = search needs
+shown-requires : tie.Need-shown-requires
+shown-requires c κs = inside c
 
 enum-told : tie.Need-enum-told
 enum-told c = search needs
 
 returns : tie.Need-returns
 returns c =
-    let a = c .before .before .before .before .before .before .before .before .args in
-    let of-start = c .before .before .before .before .start .given in
-    let cut = c .before .length-before-zero in
-    let told = ap namingOf (sym (of-start .1)) ∙ c .before .before .before .before .before .before .to-str .ensures in
-    let in-image = named (a .image .now) (a .id) (of-start .0 .0) (of-start .0 .1 .0) (sym told) in
-    look-agrees (a .image .now) (a .id) (of-start .0 .0) (of-start .0 .1 .0) told (in-image .inside) (cut .result) (cut .ensures .0) (c .if1 .taken)
+    let a = c .before .before .before .before .before .before .before .args in
+    let place = c .before .before .before .start .given in
+    let told = ap namingOf (sym (place .1)) ∙ c .before .before .before .before .before .to-str .ensures in
+    look-agrees (a .image .now) (a .id) (place .0 .0) (place .0 .1 .0) told (inside (c .before .before)) (c .before .shown .result) (c .before .shown .ensures) (c .if1 .taken)
 
 returns-2 : tie.Need-returns-2
 returns-2 c =
-    let a = c .before .before .before .before .before .before .before .before .args in
-    let of-start = c .before .before .before .before .start .given in
-    let cut = c .before .length-before-zero in
-    let told = ap namingOf (sym (of-start .1)) ∙ c .before .before .before .before .before .before .to-str .ensures in
-    let in-image = named (a .image .now) (a .id) (of-start .0 .0) (of-start .0 .1 .0) (sym told) in
-    look-differs (a .image .now) (a .id) (of-start .0 .0) (of-start .0 .1 .0) told (in-image .inside) (cut .result) (cut .ensures .0) (c .if1 .left)
+    let a = c .before .before .before .before .before .before .before .args in
+    let place = c .before .before .before .start .given in
+    let told = ap namingOf (sym (place .1)) ∙ c .before .before .before .before .before .to-str .ensures in
+    look-differs (a .image .now) (a .id) (place .0 .0) (place .0 .1 .0) told (inside (c .before .before)) (c .before .shown .result) (c .before .shown .ensures) (c .if1 .left)
 
 returns-3 : tie.Need-returns-3
 returns-3 c =
@@ -75,11 +58,7 @@ after-look-spec =
     add-next
     to-str-requires
     enum-known-start
-    add-end
-    sub-length-before-zero
-    part-length-before-zero-start
-    part-length-before-zero-end
-    length-before-zero-requires
+    shown-requires
     enum-told
     returns
     returns-2

@@ -1,5 +1,4 @@
 -- `agreement::panel::panel_place` meets its contract. Assumes nothing.
-use native.Mathlib.Omega.{arith}
 use mathlib.Core.Path.{sym, ap, _∙_}
 use Rattle.reader.specs.Cases.{namingOf}
 use Rattle.reader.proofs.Namings.{named}
@@ -14,39 +13,21 @@ to-str-requires c κs = search needs
 enum-known-start : tie.Need-enum-known-start
 enum-known-start c = search needs
 
-add-end : tie.Need-add-end
-add-end c =
+shown-requires : tie.Need-shown-requires
+shown-requires c κs =
     let a = c .before .before .before .before .before .args in
-    let of-start = c .before .start .given in
-    let in-image = named (a .image .now) (a .id) (of-start .0 .0) (of-start .0 .1 .0) (sym (c .before .before .before .to-str .ensures) ∙ ap namingOf (of-start .1)) in
-    omega arith
-
-sub-length-before-zero : tie.Need-sub-length-before-zero
-sub-length-before-zero c = search needs
-
-part-length-before-zero-start : tie.Need-part-length-before-zero-start
-part-length-before-zero-start c = search needs
-
-part-length-before-zero-end : tie.Need-part-length-before-zero-end
-part-length-before-zero-end c =
-    let a = c .before .before .before .before .before .args in
-    let of-start = c .before .start .given in
-    let in-image = named (a .image .now) (a .id) (of-start .0 .0) (of-start .0 .1 .0) (sym (c .before .before .before .to-str .ensures) ∙ ap namingOf (of-start .1)) in
-    omega arith
-
-length-before-zero-requires : tie.Need-length-before-zero-requires
-length-before-zero-requires c κs = search needs
+    let place = c .before .start .given in
+    named (a .image .now) (a .id) (place .0 .0) (place .0 .1 .0) (sym (c .before .before .before .to-str .ensures) ∙ ap namingOf (place .1)) .inside
 
 enum-told : tie.Need-enum-told
 enum-told c = search needs
 
 returns : tie.Need-returns
 returns c =
-    let a = c .before .before .before .before .before .before .before .args in
-    let of-start = c .before .before .before .start .given in
-    let told = ap namingOf (sym (of-start .1)) ∙ c .before .before .before .before .before .to-str .ensures in
-    let cut = c .length-before-zero in
-    panel-named (a .image .now) (a .id) (of-start .0 .0) (of-start .0 .1 .0) told (cut .result) (cut .ensures .0)
+    let a = c .before .before .before .before .before .before .args in
+    let place = c .before .before .start .given in
+    let told = ap namingOf (sym (place .1)) ∙ c .before .before .before .before .to-str .ensures in
+    panel-named (a .image .now) (a .id) (place .0 .0) (place .0 .1 .0) told (c .shown .result) (c .shown .ensures)
 
 returns-2 : tie.Need-returns-2
 returns-2 c =
@@ -59,11 +40,7 @@ panel-place-spec =
     (tie.spec
     to-str-requires
     enum-known-start
-    add-end
-    sub-length-before-zero
-    part-length-before-zero-start
-    part-length-before-zero-end
-    length-before-zero-requires
+    shown-requires
     enum-told
     returns
     returns-2)
