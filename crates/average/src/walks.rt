@@ -2,10 +2,10 @@
 // entries from 2,072 on; bytes that an entry would have past the end are left out, as the definition of the entries says.
 ghost use mathlib.Core.Path.{_≡_};
 ghost use Prim.Native.Nat.{_+_, _-_, _<_, min};
-ghost use lib.ListN.{length, getD, drop, replicate};
+ghost use lib.ListN.{getD, drop, replicate};
 ghost use Rattle.image.specs.Bytes.{word};
 ghost use Rattle.image.specs.Image.{headSize};
-ghost use Rattle.image.specs.Stored.{entriesIn, firstEntry};
+ghost use Rattle.image.specs.Stored.{entriesIn, firstEntry, afterFirst};
 ghost use Rattle.image.specs.Tally.{oneMore};
 ghost use Rattle.average.specs.SearchLengths.{searchLength, totalOf, binOf, lengthsFrom};
 ghost use Rattle.reader.specs.Cases.{reads, lookupOf};
@@ -53,25 +53,32 @@ fn front_length(image: &[u8], rest: &[u8]) -> u32
     buckets(reader::to_id(image, &rest[from..to]))
 }
 
-// Where the entry at the front of `rest` ends, or `rest` does.
-fn first_end(rest: &[u8]) -> usize
-    ensures { λ r. ⌜ r ≡ min (8 + word (now (rest .entry)) 4) (length (now (rest .entry))) ⌝ }
+// The bytes from a place on; none where they end before it.
+fn behind<'a>(bytes: &'a [u8], at: usize) -> &'a [u8]
+    ensures { λ r. ⌜ now r ≡ drop at (now (bytes .entry)) ⌝ }
 {
-    lesser(8 + length_word(rest), rest.len())
+    let from = lesser(at, bytes.len());
+    &bytes[from..]
+}
+
+// The bytes behind the entry at the front of `rest`.
+fn after_first<'a>(rest: &'a [u8]) -> &'a [u8]
+    ensures { λ r. ⌜ now r ≡ afterFirst (now (rest .entry)) ⌝ }
+{
+    behind(rest, 8 + length_word(rest))
 }
 
 // The total of n entries.
 pub(super) fn total(image: &[u8], n: u32) -> u64
     ensures { λ r. ⌜ r ≡ totalOf (now (image .entry)) (entriesIn n (drop headSize (now (image .entry)))) ⌝ }
 {
-    let head = lesser(2072, image.len());
-    let mut rest = &image[head..];
+    let mut rest = behind(image, 2072);
     let mut left = n;
     let mut sum: u64 = 0;
     while left > 0 {
         sum += front_length(image, rest) as u64;
-        let behind = first_end(rest);
-        rest = &rest[behind..];
+        let next = after_first(rest);
+        rest = next;
         left -= 1;
     }
     sum
@@ -104,14 +111,13 @@ pub(super) fn count_lengths(image: &[u8], n: u32, counts: &mut [u32; 16])
     requires { ⌜ now counts ≡ replicate 16 0 ⌝ }
     ensures { λ _. ⌜ now (counts .exit) ≡ lengthsFrom (now (image .entry)) (replicate 16 0) (entriesIn n (drop headSize (now (image .entry)))) ⌝ }
 {
-    let head = lesser(2072, image.len());
-    let mut rest = &image[head..];
+    let mut rest = behind(image, 2072);
     let mut left = n;
     while left > 0 {
         let k = bin_of(front_length(image, rest));
         raise_at(&mut *counts, k);
-        let behind = first_end(rest);
-        rest = &rest[behind..];
+        let next = after_first(rest);
+        rest = next;
         left -= 1;
     }
 }
