@@ -1,9 +1,10 @@
 -- The buckets that a search meets, and those of a filled table, one by one. Assumes nothing.
 use mathlib.Core.Path.{_≡_, refl, ap}
 use mathlib.Core.List.{List, [], _∷_}
-use Prim.Native.Nat.{ℕ, zero, suc, _≤_, _<_}
+use Prim.Native.Nat.{ℕ, zero, suc, _+_, _-_, _≤_, _<_}
 use native.Mathlib.Decide.{ℕ-discrete, decLt}
 use native.Mathlib.Omega.{arith}
+use native.Mathlib.Nat.{mod-lt}
 use lib.ListN.{length, getD, set, replicate}
 use lib.Seq.{getD-set-same, getD-set-other, set-out}
 use Rattle.image.specs.Tables.{Bucket, empty, atOf, start, next, order, firstEmpty, insert, insertAll, filled}
@@ -14,6 +15,18 @@ pub length-order : (n m k : ℕ) → length (order n m k) ≡ m
 unfolding order
 length-order n zero k = refl
 length-order n (suc m) k = ap suc (length-order n m (next n k))
+
+-- the first of them, and the rest
+pub order-turn : (n left k : ℕ) → 0 < left → order n left k ≡ k ∷ order n (left - 1) (next n k)
+unfolding order
+order-turn n left k h = let e : left ≡ suc (left - 1) = omega arith in ap (λ (m : ℕ). order n m k) e
+
+-- searches that see the same in each bucket find the same
+pub firstEmpty-alike : (f g : ℕ → ℕ) (n : ℕ) → ((k : ℕ) → k < n → f k ≡ g k) → (m k : ℕ) → k < n → firstEmpty f (order n m k) ≡ firstEmpty g (order n m k)
+unfolding firstEmpty order
+firstEmpty-alike f g n alike zero k h = refl
+firstEmpty-alike f g n alike (suc m) k h =
+    rw (alike k h, firstEmpty-alike f g n alike m (next n k) (mod-lt (k + 1) (omega arith)))
 
 pub getD-empties : (n k : ℕ) → getD (replicate n empty) k empty ≡ empty
 getD-empties zero k = refl

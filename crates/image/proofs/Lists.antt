@@ -4,7 +4,7 @@ use native.Mathlib.Omega.{arith}
 use native.Mathlib.Nat.{suc-add}
 use mathlib.Core.Path.{_≡_, refl, sym, ap, _∙_}
 use mathlib.Core.Bool.{Bool, true, false, cond}
-use mathlib.Core.List.{List, [], _∷_, _++_, append-assoc}
+use mathlib.Core.List.{List, [], _∷_, _++_, append-assoc, append-nil}
 use lib.ListN.{length, getD, length-append}
 use Rattle.image.specs.Bytes.{cat, keep, range}
 
@@ -86,6 +86,14 @@ range-more s (suc n) =
   where
     add-shift : suc s + n ≡ s + suc n
     add-shift = omega arith
+
+pub run-more : (f : ℕ → List ℕ) (t : ℕ) → cat f (range 0 (suc t)) ≡ cat f (range 0 t) ++ f t
+unfolding cat
+run-more f t =
+    let z : 0 + t ≡ t = omega arith in
+    ap (cat f) (range-more 0 t ∙ ap (λ (k : ℕ). range 0 t ++ (k ∷ [])) z)
+    ∙ cat-append f (range 0 t) (t ∷ [])
+    ∙ ap (λ (l : List ℕ). cat f (range 0 t) ++ l) (append-nil (f t))
 
 -- a run in two parts
 pub range-split : (s n m : ℕ) → range s (n + m) ≡ range s n ++ range (s + n) m

@@ -1,6 +1,8 @@
 -- Names by their ends: where each begins and ends. Assumes nothing.
 use Prim.Native.Nat.{ℕ, zero, suc, _+_, _-_, _≤_, _<_}
 use native.Mathlib.Omega.{arith}
+use native.Mathlib.Decide.{decLt}
+use native.Mathlib.Numerals.{add-one}
 use mathlib.Core.Path.{_≡_, refl, sym, ap, _∙_}
 use mathlib.Core.Bool.{Bool, true, false, cond, _||_}
 use mathlib.Core.List.{List, [], _∷_}
@@ -92,3 +94,22 @@ astray-end size s ends i b x h p = none b (ap (λ (l : List ℕ). b || astray si
     none : (b : Bool) → (b || false) ≡ x → b ≡ x
     none true q = q
     none false q = q
+
+-- ---- where names begin
+
+pub begin-later : (ends : List ℕ) (i : ℕ) → (i ≡ 0 → ⊥) → beginOf ends i ≡ getD ends (i - 1) 0
+begin-later ends i h = ap (λ (b : Bool). cond b 0 (getD ends (i - 1) 0)) (ne-eqb i 0 h)
+
+-- a name begins where the one before ends
+pub begin-next : (ends : List ℕ) (i : ℕ) → beginOf ends (i + 1) ≡ getD ends i 0
+begin-next ends i =
+    let e : i + 1 - 1 ≡ i = omega arith in
+    begin-later ends (i + 1) (λ z. omega arith) ∙ ap (λ (k : ℕ). getD ends k 0) e
+
+pub begins-rise : (size : ℕ) (ends : List ℕ) → astray size 0 ends ≡ false → (m i : ℕ) → i ≤ m → m ≤ length ends → beginOf ends i ≤ beginOf ends m
+begins-rise size ends good zero i h k = let z : i ≡ 0 = omega arith in omega (arith, ap (beginOf ends) z)
+begins-rise size ends good (suc m) i h k =
+    elim (decLt m i) [
+      | yes l ↦ (let z : i ≡ suc m = omega arith in omega (arith, ap (beginOf ends) z))
+      | no l ↦ omega (arith, begins-rise size ends good m i (omega arith) (omega arith), placed size ends m good (omega arith) .rises, begin-next ends m, ap (beginOf ends) (add-one m))
+    ]

@@ -6,10 +6,7 @@ use mathlib.Core.Bool.{Bool, cond}
 use mathlib.Core.List.{List, _∷_}
 use borrow.Author.Tests.{eq-eqb, ne-eqb}
 use Rattle.image.specs.Tables.{next, order, firstEmpty}
-
-order-turn : (n left i : ℕ) → 0 < left → order n left i ≡ i ∷ order n (left - 1) (next n i)
-unfolding order
-order-turn n left i h = let e : left ≡ suc (left - 1) = omega arith in ap (λ (m : ℕ). order n m i) e
+use Rattle.image.proofs.Buckets.{order-turn}
 
 pub empty-here : (at : ℕ → ℕ) (n left i x : ℕ) → 0 < left → at i ≡ 0 → firstEmpty at (order n left i) ≡ x → i ≡ x
 unfolding firstEmpty
