@@ -17,7 +17,7 @@ use Rattle.image.specs.Image.{Entry, Placed, headSize, entryBytes, entriesSize,
 use Rattle.image.specs.Image.{entriesBefore, links, backSizeOf, backOffset, entriesEnd, imageSize, headWords, tableRows}
 use Rattle.image.specs.Stored.{between, wholeLength}
 use Rattle.image.specs.declared.Mode.{Mode}
-use Rattle.image.proofs.Sizes.{entriesSize-append, length-placed, placed-append, count-nil, count-append, length-bucketBytes, length-headWords, length-tableRows, before-suc}
+use Rattle.image.proofs.Sizes.{length-placed, placed-append, count-nil, count-append, length-bucketBytes, length-headWords, length-tableRows, before-suc}
 use Rattle.image.proofs.Stores.{sets-whole}
 use Rattle.image.proofs.Every.{All}
 use Rattle.image.proofs.At.{At, at-same, at-right}
@@ -27,7 +27,7 @@ use Rattle.taking.specs.steps.Working.{withLink}
 use Rattle.finish.specs.steps.Parting.{withPair, moved, hashAt, parted, partedFrom, roomsFrom}
 use Rattle.finish.proofs.HeadRows.{Counts}
 use Rattle.finish.proofs.Partial.{upToEntries, length-upToEntries, entries-after}
-use Rattle.finish.proofs.Turn.{nextOf, placed-more, store-in, linked, entry-there, length-there, name-there, own-below, id-small, id-below, one-there, name-short, ends-there}
+use Rattle.finish.proofs.Turn.{nextOf, next-at, placed-more, store-in, linked, entry-there, length-there, name-there, own-below, id-small, id-below, one-there, name-short, ends-there}
 use Rattle.finish.proofs.Rooms.{roomWith, length-rooms, length-roomWith, count-own, count-other, rooms-more}
 
 -- ---- the entries in an image whose tables are not made yet
@@ -225,10 +225,6 @@ module _ (mode : Mode) (es : List Entry) (X tail : List ℕ) (long : length X �
             ∙ next .each t h
             ∙ ap (λ (k : ℕ). entriesEnd es + 16 * entriesBefore t (placedIn es) + 8 * k)
             (sym (count-other (placedIn es) X long (placedIn qs) (nextOf qs e) t z))
-
-  next-at : (qs : List Entry) (e : Entry) → headSize + entriesSize qs + (8 + (length (e .name) + 1)) ≡ headSize + entriesSize (qs ++ e ∷ [])
-  unfolding entriesSize
-  next-at qs e = omega (arith, entriesSize-append qs (e ∷ []))
 
   pub half-walked : imageSize mode es ≤ 4294967295 → All (λ (x : Entry). x .id < 2 ^ 32) es → (rest qs : List Entry) → es ≡ qs ++ rest → (places : List ℕ)
       → Places (entriesEnd es) (placedIn es) (placedIn qs) places

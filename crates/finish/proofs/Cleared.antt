@@ -4,14 +4,14 @@ use native.Mathlib.Omega.{arith}
 use mathlib.Core.Path.{_≡_, refl, sym, ap, _∙_}
 use mathlib.Core.Bool.{cond}
 use mathlib.Core.List.{List, [], _++_, append-assoc}
-use lib.ListN.{length, take, drop, replicate, length-append, length-drop, length-replicate}
+use lib.ListN.{length, take, drop, replicate, length-append, length-drop, length-replicate, take-append-drop}
 use lib.Seq.{sets, sets-eq, take-add, drop-drop}
 use lib.Dec.{eqb}
 use Rattle.image.specs.Bytes.{cat}
 use Rattle.image.specs.Image.{Entry, headSize, entryBytes, placed, flagWord, backIn, backSize, backSizeOf, entriesEnd, imageSize, backOffset, headBytes, headWords, tableRows, links}
 use Rattle.image.specs.declared.Mode.{Mode}
 use Rattle.image.specs.declared.Mode.the-variants.{Twoway, Oneway}
-use Rattle.image.proofs.Sizes.{length-placed, length-headWords, length-tableRows, length-links}
+use Rattle.image.proofs.Sizes.{length-placed, length-headWords, length-tableRows, length-links, backIn-twice}
 use Rattle.image.proofs.Stores.{sets-then, sets-right-at}
 use Rattle.image.proofs.Parts.{placedIn}
 use Rattle.finish.specs.Finish.{finishedOf}
@@ -65,15 +65,11 @@ pub record Tells (mode : Mode) (end entries back : ℕ) (counts buf : List ℕ) 
   pub area : between buf headSize end ≡ cat entryBytes es
   pub room : finishedOf mode end entries back ≤ length buf
 
-backIn-twice : (mode : Mode) (n : ℕ) → backIn mode (backIn mode n) ≡ backIn mode n
-backIn-twice Twoway n = refl
-backIn-twice Oneway n = refl
-
 module _ (mode : Mode) (end entries back : ℕ) (counts buf : List ℕ) (es : List Entry) (tells : Tells mode end entries back counts buf es) where
   abbrev size : ℕ
   size = finishedOf mode end entries back
 
-  told-back : backIn mode back ≡ backSizeOf mode es
+  pub told-back : backIn mode back ≡ backSizeOf mode es
   told-back = ap (backIn mode) (tells .backs) ∙ backIn-twice mode (backSize es)
 
   pub told-size : size ≡ imageSize mode es
@@ -101,22 +97,28 @@ module _ (mode : Mode) (end entries back : ℕ) (counts buf : List ℕ) (es : Li
       zeros-both (placedIn es) (backSizeOf mode es) (size - end)
       (omega (arith, told-back, tells .number, length-placed headSize es))
 
-  pub cleared-partial : zeroed (headed mode end entries back counts buf) end size ≡ partial mode es [] ++ drop size buf
-  unfolding headed zeroed partial upToEntries placed
-  cleared-partial =
+  -- head and rows, and bytes behind the entries
+  behind-stored : (z : List ℕ) (to : ℕ) → length z ≡ to - end → end ≤ to → to ≤ size
+      → sets (headed mode end entries back counts buf) end z ≡ upToEntries mode es ++ z ++ drop to buf
+  unfolding headed upToEntries
+  behind-stored z to long high below =
       let h = headBytes size (flagWord mode) (backIn mode back) (linksAt mode end entries back) in
       let r = rowsFrom counts end 0 256 in
-      let z : List ℕ = replicate (size - end) 0 in
-      let tail = drop size buf in
-      stores buf h r z end size
+      let tail = drop to buf in
+      stores buf h r z end to
       (ap length head-told ∙ length-headWords mode es)
       (ap length rows-told ∙ length-tableRows (entriesEnd es) (placedIn es))
-      (omega (arith, tells .ends)) (length-replicate (size - end) 0) (omega arith) (tells .room)
+      (omega (arith, tells .ends)) long high (omega (arith, tells .room))
       ∙ ap (λ (l : List ℕ). l ++ r ++ between buf headSize end ++ z ++ tail) head-told
       ∙ ap (λ (l : List ℕ). headWords mode es ++ l ++ between buf headSize end ++ z ++ tail) rows-told
       ∙ ap (λ (l : List ℕ). headWords mode es ++ tableRows (entriesEnd es) (placedIn es) ++ l ++ z ++ tail) (tells .area)
-      ∙ ap (λ (l : List ℕ). upToEntries mode es ++ l ++ tail) zeros-told
-      ∙ ap (λ (l : List ℕ). l ++ tail) (sym (append-assoc (upToEntries mode es) (tablesWith (placedIn es) []) (links [] (backSizeOf mode es))))
+
+  pub cleared-partial : zeroed (headed mode end entries back counts buf) end size ≡ partial mode es [] ++ drop size buf
+  unfolding zeroed partial placed
+  cleared-partial =
+      behind-stored (replicate (size - end) 0) size (length-replicate (size - end) 0) (omega arith) (omega arith)
+      ∙ ap (λ (l : List ℕ). upToEntries mode es ++ l ++ drop size buf) zeros-told
+      ∙ ap (λ (l : List ℕ). l ++ drop size buf) (sym (append-assoc (upToEntries mode es) (tablesWith (placedIn es) []) (links [] (backSizeOf mode es))))
 
   -- the back array alone cleared: what stands in the tables' rooms is whatever stood there
   zeros-back : replicate (size - (end + 16 * entries)) 0 ≡ links [] (backSizeOf mode es)
@@ -148,3 +150,18 @@ module _ (mode : Mode) (end entries back : ℕ) (counts buf : List ℕ) (es : Li
       (between-parts buf headSize end from (omega (arith, tells .ends)) (omega arith) ∙ ap (λ (l : List ℕ). l ++ X) (tells .area))
       ∙ ap (λ (l : List ℕ). l ++ z ++ tail) (sym (append-assoc (H ++ R) E X))
       ∙ ap (λ (l : List ℕ). H ++ R ++ E ++ X ++ l ++ tail) zeros-back
+
+  -- bytes for the tables stored: what stands behind them stays
+  pub tables-stored : (T : List ℕ) → length T ≡ 16 * entries
+      → sets (headed mode end entries back counts buf) end T
+      ≡ upToEntries mode es ++ T ++ between buf (end + 16 * entries) size ++ drop size buf
+  tables-stored T long =
+      let from = end + 16 * entries in
+      let L = between buf from size in
+      let to : from + (size - from) ≡ size = omega arith in
+      let behind : drop from buf ≡ L ++ drop size buf =
+      sym (take-append-drop (size - from) (drop from buf))
+      ∙ ap (λ (l : List ℕ). L ++ l) (drop-drop (size - from) from buf ∙ ap (λ (n : ℕ). drop n buf) to) in
+      behind-stored T from (omega arith) (omega arith) (omega arith)
+      ∙ ap (λ (l : List ℕ). upToEntries mode es ++ T ++ l) behind
+      ∙ sym (append-assoc (upToEntries mode es ++ T) L (drop size buf))

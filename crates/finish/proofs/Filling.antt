@@ -18,11 +18,11 @@ use Rattle.image.proofs.Lists.{length-cat}
 use Rattle.image.proofs.Sizes.{length-bucketBytes, length-filled, filled-more}
 use Rattle.image.proofs.Stores.{sets-whole, sets-part}
 use Rattle.image.proofs.Every.{All, all-append}
-use Rattle.image.proofs.Buckets.{filled-all}
+use Rattle.image.proofs.Buckets.{filled-all, firstEmpty-alike}
 use Rattle.image.proofs.At.{At, at-whole, at-same, at-equal, at-left, at-right, at-word, at-second, at-part}
 use Rattle.finish.specs.steps.Parting.{pairsAt, pairsListed, inserted, copied, withTable}
 use Rattle.finish.proofs.Partial.{zeros-buckets}
-use Rattle.finish.proofs.OneMore.{firstEmpty-below, firstEmpty-alike}
+use Rattle.finish.proofs.OneMore.{firstEmpty-below}
 use Rattle.finish.proofs.Turn.{store-in}
 
 -- ---- the copy

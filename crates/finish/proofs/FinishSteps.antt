@@ -38,22 +38,28 @@ module _ (mode : Mode) (end entries back : ℕ) where
       go true = omega arith
       go false = omega arith
 
-  -- all steps of writing
-  pub written-parts : (counts buf b1 b2 b3 : List ℕ) (n f k l : ℕ)
+  -- head and rows
+  pub headed-parts : (counts buf b1 b2 : List ℕ) (n f k l : ℕ)
       → n ≡ finishedOf mode end entries back → f ≡ flagWord mode → k ≡ backIn mode back → l ≡ linksAt mode end entries back
-      → b1 ≡ sets buf 0 (headBytes n f k l) → b2 ≡ sets b1 24 (rowsFrom counts end 0 256)
-      → b3 ≡ filledIn mode l end entries n counts b2 → b3 ≡ written mode end entries back counts buf
-  unfolding written headed
-  written-parts counts buf b1 b2 b3 n f k l en ef ek el p q r =
+      → b1 ≡ sets buf 0 (headBytes n f k l) → b2 ≡ sets b1 24 (rowsFrom counts end 0 256) → b2 ≡ headed mode end entries back counts buf
+  unfolding headed
+  headed-parts counts buf b1 b2 n f k l en ef ek el p q =
       let size = finishedOf mode end entries back in
       let links = linksAt mode end entries back in
       let first : b1 ≡ sets buf 0 (headBytes size (flagWord mode) (backIn mode back) links) =
       p ∙ ap (λ (x : ℕ). sets buf 0 (headBytes x f k l)) en ∙ ap (λ (x : ℕ). sets buf 0 (headBytes size x k l)) ef
       ∙ ap₂ (λ (x : ℕ) (y : ℕ). sets buf 0 (headBytes size (flagWord mode) x y)) ek el in
-      let second = q ∙ ap (λ (x : List ℕ). sets x 24 (rowsFrom counts end 0 256)) first in
-      r
-      ∙ ap₂ (λ (x : ℕ) (y : ℕ). filledIn mode x end entries y counts b2) el en
-      ∙ ap (filledIn mode links end entries size counts) second
+      q ∙ ap (λ (x : List ℕ). sets x 24 (rowsFrom counts end 0 256)) first
+
+  -- all steps of writing
+  pub written-parts : (counts buf b1 b2 : List ℕ) (n l : ℕ)
+      → n ≡ finishedOf mode end entries back → l ≡ linksAt mode end entries back → b1 ≡ headed mode end entries back counts buf
+      → b2 ≡ filledIn mode l end entries n counts b1 → b2 ≡ written mode end entries back counts buf
+  unfolding written
+  written-parts counts buf b1 b2 n l en el p q =
+      q
+      ∙ ap₂ (λ (x : ℕ) (y : ℕ). filledIn mode x end entries y counts b1) el en
+      ∙ ap (filledIn mode (linksAt mode end entries back) end entries (finishedOf mode end entries back) counts) p
 
 -- by tables, or one by one
 pub parts-few : (counts : List ℕ) (entries : ℕ) → entries < 1024 → false ≡ parts counts entries

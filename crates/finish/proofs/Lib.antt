@@ -11,5 +11,6 @@ pub mod Filling
 pub mod Rooms
 pub mod ByTables
 pub mod TableByTable
+pub mod AtHand
 pub mod FinishSteps
 pub mod WrittenImage

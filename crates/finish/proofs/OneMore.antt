@@ -32,13 +32,6 @@ firstEmpty-below f n (suc m) k h = go (eqb (f k) 0) (firstEmpty-below f n m (nex
     go true i = h
     go false i = i
 
--- and the same where the same is seen in each bucket
-pub firstEmpty-alike : (f g : ℕ → ℕ) (n : ℕ) → ((k : ℕ) → k < n → f k ≡ g k) → (m k : ℕ) → k < n → firstEmpty f (order n m k) ≡ firstEmpty g (order n m k)
-unfolding firstEmpty order
-firstEmpty-alike f g n same zero k h = refl
-firstEmpty-alike f g n same (suc m) k h =
-    rw (same k h, firstEmpty-alike f g n same m (next n k) (mod-lt (k + 1) (omega arith)))
-
 -- ---- tables
 
 -- an entry's table, and the bucket that takes it where the entries rs have been taken

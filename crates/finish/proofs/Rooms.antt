@@ -10,7 +10,7 @@ use borrow.Author.Tests.{eq-eqb, ne-eqb}
 use Rattle.image.specs.Bytes.{word, le32, cat, keep, range}
 use Rattle.image.specs.Tables.{Bucket, empty}
 use Rattle.image.specs.Image.{Placed, inTable, ofTable, count, bucketOf, bucketBytes, entriesBefore}
-use Rattle.image.proofs.Lists.{cat-append, cat-ext, length-cat, keep-yes, keep-no, range-more, range-at}
+use Rattle.image.proofs.Lists.{cat-append, cat-ext, length-cat, keep-yes, keep-no, range-at, run-more}
 use Rattle.image.proofs.Sizes.{ofTable-append, length-bucketBytes, before-all}
 use Rattle.image.proofs.Stores.{sets-right-at, sets-run}
 use Rattle.image.proofs.Parts.{before-most}
@@ -20,14 +20,6 @@ use Rattle.finish.specs.steps.Parting.{pairsAt}
 use Rattle.finish.proofs.OneMore.{ownTable}
 
 -- ---- runs of bytes of the sizes that the tables have
-
-run-more : (f : ℕ → List ℕ) (t : ℕ) → cat f (range 0 (suc t)) ≡ cat f (range 0 t) ++ f t
-unfolding cat
-run-more f t =
-    let z : 0 + t ≡ t = omega arith in
-    ap (cat f) (range-more 0 t ∙ ap (λ (k : ℕ). range 0 t ++ (k ∷ [])) z)
-    ∙ cat-append f (range 0 t) (t ∷ [])
-    ∙ ap (λ (l : List ℕ). cat f (range 0 t) ++ l) (append-nil (f t))
 
 module _ (ps : List Placed) (f : ℕ → List ℕ) (sized : (t : ℕ) → t < 256 → length (f t) ≡ 16 * count t ps) where
   pub length-rooms-to : (t : ℕ) → t ≤ 256 → length (cat f (range 0 t)) ≡ 16 * entriesBefore t ps

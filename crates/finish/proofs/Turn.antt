@@ -21,7 +21,7 @@ use Rattle.image.proofs.Lists.{cat-cons}
 use Rattle.image.proofs.Sizes.{length-entries, length-entryBytes, entriesSize-append, length-placed, placed-append, count-append, count-cons, length-bucketBytes, length-links}
 use Rattle.image.proofs.Stores.{sets-left, sets-right-at}
 use Rattle.image.proofs.Every.{All, all-middle, all-keep, all-image}
-use Rattle.image.proofs.Buckets.{filled-all}
+use Rattle.image.proofs.Buckets.{filled-all, firstEmpty-alike}
 use Rattle.image.proofs.At.{At, at-equal, at-left, at-take, at-word, at-second}
 use Rattle.image.proofs.Parts.{placedIn, before-most, offset-word, number-word, bucket-of}
 use Rattle.image.proofs.EntryAt.{id-word, length-word, name-bytes, ids-below}
@@ -30,7 +30,7 @@ use Rattle.taking.specs.steps.Working.{bucketFor, withBucket, withLink, entryTa
 use Rattle.image.proofs.Between.{is-whole}
 use Rattle.finish.proofs.Partial.{tableWith, tablesWith, length-tableWith, length-tablesWith, upToEntries, length-upToEntries, partial}
 use Rattle.finish.proofs.Partial.{rows-there, tables-there, entries-from}
-use Rattle.finish.proofs.OneMore.{place, place-below, firstEmpty-alike, tables-more, links-more}
+use Rattle.finish.proofs.OneMore.{place, place-below, tables-more, links-more}
 
 -- ---- the entry at the front of the bytes of entries is whole
 
@@ -110,6 +110,11 @@ nextOf qs e = record { entry = e; at = headSize + entriesSize qs }
 pub placed-more : (qs : List Entry) (e : Entry) → placedIn (qs ++ e ∷ []) ≡ placedIn qs ++ nextOf qs e ∷ []
 unfolding placed
 placed-more qs e = placed-append headSize qs (e ∷ [])
+
+-- where the entry after it begins
+pub next-at : (qs : List Entry) (e : Entry) → headSize + entriesSize qs + (8 + (length (e .name) + 1)) ≡ headSize + entriesSize (qs ++ e ∷ [])
+unfolding entriesSize
+next-at qs e = omega (arith, entriesSize-append qs (e ∷ []))
 
 -- offsets of entries are at most where the entries end
 pub offsets : (o n : ℕ) (es : List Entry) → o + entriesSize es ≤ n → All (λ (p : Placed). p .at ≤ n) (placed o es)

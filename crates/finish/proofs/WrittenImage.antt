@@ -1,21 +1,24 @@
 -- All that finishing writes is the image of the entries that stand in the buffer. Assumes nothing.
 use Prim.Native.Nat.{ℕ, _+_, _-_, _*_, _^_, _≤_, _<_}
 use native.Mathlib.Omega.{arith}
-use mathlib.Core.Path.{_≡_, refl, sym, ap, _∙_}
+use mathlib.Core.Path.{_≡_, refl, sym, ap, ap₂, _∙_}
 use mathlib.Core.Bool.{Bool, true, false, cond}
 use mathlib.Core.List.{List, [], _∷_, _++_, append-nil, append-assoc}
 use lib.ListN.{length, drop, length-take, length-drop}
+use lib.Seq.{sets}
 use lib.Dec.{eqb, leb}
 use borrow.Author.Tests.{ne-eqb}
-use Rattle.image.specs.Bytes.{cat}
-use Rattle.image.specs.Image.{Entry, headSize, entryBytes, entriesSize, links, backSizeOf, backOffset, entriesEnd, imageSize, image}
+use Rattle.image.specs.Bytes.{le32, cat}
+use Rattle.image.specs.Image.{Entry, headSize, entryBytes, entriesSize, tables, links, backSizeOf, backOffset, entriesEnd, imageSize, image}
 use Rattle.image.specs.declared.Mode.{Mode}
-use Rattle.image.proofs.Sizes.{length-entries, length-placed, entriesSize-append}
+use Rattle.image.proofs.Words.{length-le32}
+use Rattle.image.proofs.Lists.{length-cat}
+use Rattle.image.proofs.Sizes.{length-entries, length-placed}
 use Rattle.image.proofs.Between.{length-between}
 use Rattle.image.proofs.Parts.{placedIn}
 use Rattle.image.proofs.Bools.{second}
 use Rattle.image.proofs.Every.{All}
-use Rattle.finish.specs.Finish.{finishedOf, noneAbove, standing, Standing, finishedBuffer}
+use Rattle.finish.specs.Finish.{finishedOf, noneAbove, standing, Standing, TablesAtHand, LinksStand, finishedBuffer}
 use Rattle.image.specs.Stored.{whole, between}
 use Rattle.taking.specs.steps.Working.{entryTaken, takenFrom}
 use Rattle.finish.specs.steps.Parting.{byTables}
@@ -23,18 +26,15 @@ use Rattle.finish.specs.steps.Written.{linksAt, headed, zeroed, parts, f
 use Rattle.image.proofs.Area.{Bytes, bytes-drop, bytes-take, length-entriesIn, whole-bytes, ids-words}
 use Rattle.finish.proofs.HeadRows.{counts-agree}
 use Rattle.finish.proofs.Partial.{upToEntries, partial, partial-all}
-use Rattle.finish.proofs.Cleared.{Tells, told-size, told-links, cleared-partial, back-cleared}
-use Rattle.finish.proofs.Turn.{length-found, turn}
+use Rattle.finish.proofs.Cleared.{Tells, told-back, told-size, told-links, cleared-partial, tables-stored, back-cleared}
+use Rattle.finish.proofs.Turn.{next-at, length-found, turn}
 use Rattle.finish.proofs.TableByTable.{counts-few, by-tables-image}
+use Rattle.finish.proofs.AtHand.{words-number}
 
 -- ---- the walk, from any entry on
 
 module _ (mode : Mode) (es : List Entry) (tail : List ℕ) (small : imageSize mode es ≤ 4294967295)
     (ids : All (λ (e : Entry). e .id < 2 ^ 32) es) where
-  next-at : (qs : List Entry) (e : Entry) → headSize + entriesSize qs + (8 + (length (e .name) + 1)) ≡ headSize + entriesSize (qs ++ e ∷ [])
-  unfolding entriesSize
-  next-at qs e = omega (arith, entriesSize-append qs (e ∷ []))
-
   pub walked : (rest qs : List Entry) → es ≡ qs ++ rest
       → takenFrom mode (backOffset mode es) (entriesEnd es) (length rest) (headSize + entriesSize qs) (partial mode es qs ++ tail)
       ≡ partial mode es es ++ tail
@@ -154,3 +154,18 @@ module _ (mode : Mode) (end entries back : ℕ) (counts buf : List ℕ) (bytes :
           ≡ finishedBuffer mode end entries back buf
       go true few = written-by-tables few
       go false many = written-singly
+
+  -- with the tables at hand, and the back array in its place
+  pub written-with-image : (words b1 b2 : List ℕ) → TablesAtHand words (standing buf end entries) → LinksStand mode end entries back buf
+      → b1 ≡ headed mode end entries back counts buf → b2 ≡ sets b1 end (cat le32 words) → b2 ≡ finishedBuffer mode end entries back buf
+  unfolding es upToEntries image
+  written-with-image words b1 b2 at-hand linked front copied =
+      let tail = drop (finishedOf mode end entries back) buf in
+      let U = upToEntries mode es in
+      let long : length (cat le32 words) ≡ 16 * entries =
+      omega (arith, length-cat le32 4 length-le32 words, words-number words buf end entries at-hand) in
+      copied
+      ∙ ap (λ (l : List ℕ). sets l end (cat le32 words)) front
+      ∙ tables-stored mode end entries back counts buf es tells (cat le32 words) long
+      ∙ ap₂ (λ (t l : List ℕ). U ++ t ++ l ++ tail) at-hand linked
+      ∙ ap (λ (n : ℕ). U ++ tables (placedIn es) ++ links (placedIn es) n ++ tail) (told-back mode end entries back counts buf es tells)

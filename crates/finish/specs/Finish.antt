@@ -5,8 +5,8 @@ use mathlib.Core.Bool.{Bool, true}
 use mathlib.Core.List.{List, _++_}
 use lib.ListN.{length, getD, drop}
 use lib.Dec.{eqb, leb}
-use Rattle.image.specs.Bytes.{all}
-use Rattle.image.specs.Image.{Entry, headSize, backSize, backIn, placed, count, image}
+use Rattle.image.specs.Bytes.{all, le32, cat}
+use Rattle.image.specs.Image.{Entry, headSize, backSize, backIn, placed, count, tables, links, image}
 use Rattle.image.specs.Stored.{whole, entriesIn, between}
 use Rattle.image.specs.declared.Mode.{Mode}
 
@@ -35,6 +35,15 @@ pub record Standing (mode : Mode) (end entries back : ℕ) (counts buf : List �
   pub backs : back ≡ backIn mode (backSize (standing buf end entries))
   pub room : finishedOf mode end entries back ≤ length buf
   pub small : finishedOf mode end entries back ≤ 4294967295
+
+-- the tables of the entries, as words
+abbrev pub TablesAtHand : List ℕ → List Entry → Type 0
+TablesAtHand words es = cat le32 words ≡ tables (placed headSize es)
+
+-- the back array of the entries stands behind the tables
+abbrev pub LinksStand : Mode → ℕ → ℕ → ℕ → List ℕ → Type 0
+LinksStand mode end entries back buf =
+    between buf (end + 16 * entries) (finishedOf mode end entries back) ≡ links (placed headSize (standing buf end entries)) (backIn mode back)
 
 -- what it leaves: the image of the entries. Bytes from the image's size on keep their content
 abbrev pub finishedBuffer : Mode → ℕ → ℕ → ℕ → List ℕ → List ℕ

@@ -62,8 +62,8 @@ pub(super) fn write_rows(buf: &mut [u8], counts: &[u32; 256], end: u32)
     }
 }
 
-// Zeros from one place to another.
-pub(super) fn clear(buf: &mut [u8], from: usize, to: usize)
+// Zeros from one place to another. A leaf for the crates above.
+pub fn clear(buf: &mut [u8], from: usize, to: usize)
     requires { ⌜ (from ≤ to) × (to ≤ length (now buf)) ⌝ }
     ensures { λ _. ⌜ now (buf .exit) ≡ sets (now (buf .entry)) from (replicate (to - from) 0) ⌝ }
 {

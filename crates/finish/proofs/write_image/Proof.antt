@@ -10,96 +10,58 @@ use Rattle.finish.proofs.write_image.Statement.{statement}
 use Rattle.finish.proofs.write_image.Tie as tie
 use Rattle.finish.proofs.write_image.Reads as reads
 use Rattle.finish.proofs.write_image.Lts as lts
-use Rattle.finish.proofs.head.write_head.Reads as write-head-reads
-use Rattle.finish.proofs.head.write_rows.Reads as write-rows-reads
 use Rattle.finish.proofs.size.back_at.Reads as back-at-reads
-use Rattle.finish.proofs.size.back_in.Reads as back-in-reads
 use Rattle.finish.proofs.size.finished_size.Reads as finished-size-reads
 use Rattle.finish.proofs.tables.fill_in.Reads as fill-in-reads
-use Rattle.image.proofs.flag_word.Reads as flag-word-reads
+use Rattle.finish.proofs.write_front.Reads as write-front-reads
+
+write-front-requires : tie.Need-write-front-requires
+write-front-requires c κs = search needs
 
 finished-size-requires : tie.Need-finished-size-requires
 finished-size-requires c κs = search needs
 
-back-in-requires : tie.Need-back-in-requires
-back-in-requires c κs = search needs
-
 back-at-requires : tie.Need-back-at-requires
 back-at-requires c κs = search needs
 
-cast-write-head : tie.Need-cast-write-head
-cast-write-head c = search needs
-
-flag-word-requires : tie.Need-flag-word-requires
-flag-word-requires c κs = search needs
-
-cast-write-head-2 : tie.Need-cast-write-head-2
-cast-write-head-2 c = search needs
-
-cast-write-head-3 : tie.Need-cast-write-head-3
-cast-write-head-3 c =
-    let start = c .before .before .before .before .before .before in
-    let a = start .args in
-    omega (arith, c .before .before .back-at .ensures, linksAt-le (a .mode) (a .end) (a .entries) (a .back), start .pre .small)
-
-write-head-requires : tie.Need-write-head-requires
-write-head-requires c κs = search needs
-
-cast-write-rows : tie.Need-cast-write-rows
-cast-write-rows c = search needs
-
-write-rows-requires : tie.Need-write-rows-requires
-write-rows-requires c κs = search needs
-
 fill-in-requires : tie.Need-fill-in-requires
 fill-in-requires c κs =
-    let head = c .before .before .before .before .before .before .before in
-    let start = head .before .before .before .before .before .before .before in
+    let front = c .before .before .before .before .before in
+    let start = front .before .before .before in
     let a = start .args in
-    let rows-kept = c .before .before .before .write-rows .kept .0 in
-    let head-kept = head .write-head .kept .0 in
-    let size = head .before .before .before .before .before .finished-size .ensures in
+    let kept = front .write-front .kept .1 .1 .1 .1 .1 .0 in
+    let size = c .before .before .finished-size .ensures in
     let small = start .pre .small in
     let room = start .pre .room in
-    (start .pre .low, omega arith, omega arith, omega arith, omega (arith, head .before .before .before .back-at .ensures, linksAt-le (a .mode) (a .end) (a .entries) (a .back)))
+    (start .pre .low, omega arith, omega arith, omega arith, omega (arith, c .before .back-at .ensures, linksAt-le (a .mode) (a .end) (a .entries) (a .back)))
 
 same-length : tie.Need-same-length
 same-length c = search needs
 
 returns : tie.Need-returns
 returns c =
-    let head = c .before .before .before .before .before .before .before .before .before .before in
-    let start = head .before .before .before .before .before .before .before in
+    let front = c .before .before .before .before .before .before .before .before in
+    let known = front .before .before in
+    let start = known .before in
     let a = start .args in
     let of-fill-in = c .before .before .fill-in in
-    let of-write-rows = c .before .before .before .before .before .before .write-rows in
-    let of-write-head = head .write-head in
-    let of-flag-word = head .before .flag-word in
-    let of-back-at = head .before .before .before .back-at in
-    let of-back-in = head .before .before .before .before .back-in in
-    let of-finished-size = head .before .before .before .before .before .finished-size in
-    let bytes : (i : ℕ) → getD (a .buf .now) i 0 < 256 = λ i. omega (arith, head .before .before .before .before .before .before .slice-known .given i) in
+    let of-back-at = c .before .before .before .before .back-at in
+    let of-finished-size = c .before .before .before .before .before .finished-size in
+    let of-write-front = front .write-front in
+    let bytes : (i : ℕ) → getD (a .buf .now) i 0 < 256 = λ i. omega (arith, known .slice-known .given i) in
     written-parts (a .mode) (a .end) (a .entries) (a .back) (a .counts .now) (a .buf .now)
-    (of-write-head .last .0) (of-write-rows .last .0) (of-fill-in .last .1 .1 .0)
-    (of-finished-size .result) (of-flag-word .result) (of-back-in .result) (of-back-at .result)
-    (of-finished-size .ensures) (of-flag-word .ensures) (of-back-in .ensures) (of-back-at .ensures)
-    (of-write-head .ensures) (of-write-rows .ensures) (of-fill-in .ensures)
+    (of-write-front .last .1 .1 .1 .1 .1 .0) (of-fill-in .last .1 .1 .0)
+    (of-finished-size .result) (of-back-at .result) (of-finished-size .ensures) (of-back-at .ensures)
+    (of-write-front .ensures) (of-fill-in .ensures)
     ∙ written-image (a .mode) (a .end) (a .entries) (a .back) (a .counts .now) (a .buf .now) bytes (start .pre)
 
 pub write-image-spec : {M : Type 1} → statement M
 write-image-spec =
     tie.close
     (tie.spec
+    write-front-requires
     finished-size-requires
-    back-in-requires
     back-at-requires
-    cast-write-head
-    flag-word-requires
-    cast-write-head-2
-    cast-write-head-3
-    write-head-requires
-    cast-write-rows
-    write-rows-requires
     fill-in-requires
     same-length
     returns)
