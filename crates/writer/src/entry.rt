@@ -6,14 +6,15 @@ ghost use lib.Seq.{sets};
 ghost use Rattle.image.specs.Image.{entryBytes};
 ghost use Rattle.writer.specs.Put.{entryOf};
 use image::store::store_bytes;
+use image::store::store_word;
 
-// An entry stored from `at` on: id, name length plus 1, the name, one zero byte.
-pub(super) fn store(buf: &mut [u8], at: usize, name: &[u8], id: u32)
+// An entry stored from `at` on: id, name length plus 1, the name, one zero byte. A leaf: the caller knows that there is room.
+pub fn store(buf: &mut [u8], at: usize, name: &[u8], id: u32)
     requires { ⌜ (at + (length (now name) + 9) ≤ length (now buf)) × (length (now name) < 4294967295) ⌝ }
     ensures { λ _. ⌜ now (buf .exit) ≡ sets (now (buf .entry)) at (entryBytes (entryOf (now (name .entry)) id)) ⌝ }
 {
-    image::put_u32(&mut *buf, at, id);
-    image::put_u32(&mut *buf, at + 4, name.len() as u32 + 1);
+    store_word(&mut *buf, at, id);
+    store_word(&mut *buf, at + 4, name.len() as u32 + 1);
     store_bytes(&mut *buf, at + 8, name);
     buf[at + 8 + name.len()] = 0;
 }

@@ -8,7 +8,7 @@ ghost use Rattle.writer.specs.Close.{closing, closedOf, afterClose};
 use image::Mode;
 
 mod check;
-mod entry;
+pub mod entry; // entry.rt: store
 mod record;
 
 // 02 (viii)'s repeats mode: with repeats off a writer refuses a name that it already holds.

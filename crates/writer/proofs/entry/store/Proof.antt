@@ -1,25 +1,25 @@
 -- `writer::entry::store` meets its contract. Assumes nothing.
 use lib.ListN.{length-set}
 use native.Mathlib.Omega.{arith}
-use Rattle.writer.proofs.EntryStored.{stored-parts}
 use borrow.Author.Needs.{needs}
+use Rattle.writer.proofs.EntryStored.{stored-parts}
 use Rattle.writer.proofs.entry.store.Statement.{statement}
 use Rattle.writer.proofs.entry.store.Tie as tie
 
-put-u32-requires : tie.Need-put-u32-requires
-put-u32-requires c κs = search needs
+store-word-requires : tie.Need-store-word-requires
+store-word-requires c κs = search needs
 
-add-put-u32 : tie.Need-add-put-u32
-add-put-u32 c = search needs
+add-store-word : tie.Need-add-store-word
+add-store-word c = search needs
 
-cast-put-u32 : tie.Need-cast-put-u32
-cast-put-u32 c = search needs
+cast-store-word : tie.Need-cast-store-word
+cast-store-word c = search needs
 
-add-put-u32-2 : tie.Need-add-put-u32-2
-add-put-u32-2 c = search needs
+add-store-word-2 : tie.Need-add-store-word-2
+add-store-word-2 c = search needs
 
-put-u32-requires-2 : tie.Need-put-u32-requires-2
-put-u32-requires-2 c κs = search needs
+store-word-requires-2 : tie.Need-store-word-requires-2
+store-word-requires-2 c κs = search needs
 
 add-store-bytes : tie.Need-add-store-bytes
 add-store-bytes c = search needs
@@ -38,27 +38,27 @@ slice-write-buf c = search needs
 
 same-length : tie.Need-same-length
 same-length c =
-    let of-put-u32 = c .before .before .before .before .before .before .before .before .before .before .put-u32 in
-    let of-put-u322 = c .before .before .before .before .before .before .put-u322 in
-    simp length-set (omega (arith, c .before .before .store-bytes .kept, of-put-u322 .kept, of-put-u32 .kept))
+    let of-word = c .before .before .before .before .before .before .before .before .before .before .store-word in
+    let of-word2 = c .before .before .before .before .before .before .store-word2 in
+    simp length-set (omega (arith, c .before .before .store-bytes .kept, of-word2 .kept, of-word .kept))
 
 returns : tie.Need-returns
 returns c =
     let a = c .before .before .before .before .before .before .before .before .before .before .before .before .before .before .args in
-    let of-put-u32 = c .before .before .before .before .before .before .before .before .before .before .put-u32 in
-    let of-put-u322 = c .before .before .before .before .before .before .put-u322 in
-    stored-parts (a .name .now) (a .buf .now) (of-put-u32 .last .0) (of-put-u322 .last .0) (c .before .before .store-bytes .last .0) (a .at) (a .id)
-    (of-put-u32 .ensures) (of-put-u322 .ensures) (c .before .before .store-bytes .ensures)
+    let of-word = c .before .before .before .before .before .before .before .before .before .before .store-word in
+    let of-word2 = c .before .before .before .before .before .before .store-word2 in
+    let of-bytes = c .before .before .store-bytes in
+    stored-parts (a .name .now) (a .buf .now) (of-word .last .0) (of-word2 .last .0) (of-bytes .last .0) (a .at) (a .id) (of-word .ensures) (of-word2 .ensures) (of-bytes .ensures)
 
 pub store-spec : {M : Type 1} → statement M
 store-spec =
     tie.close
     (tie.spec
-    put-u32-requires
-    add-put-u32
-    cast-put-u32
-    add-put-u32-2
-    put-u32-requires-2
+    store-word-requires
+    add-store-word
+    cast-store-word
+    add-store-word-2
+    store-word-requires-2
     add-store-bytes
     store-bytes-requires
     add-buf
