@@ -43,7 +43,7 @@ fn building(n: usize, repetitions: usize) -> (f64, f64) {
     times
 }
 
-// The same list in one call with repeats off, with six words of lent memory for each name; beside the Rust's puts and close.
+// The same list in one call with repeats off, with seven words of lent memory for each name; beside the Rust's puts and close.
 fn whole_list(n: usize, repetitions: usize) {
     let names = Names::new('p', 9, 0..n);
     let names = names.all();
@@ -51,7 +51,7 @@ fn whole_list(n: usize, repetitions: usize) {
     let ends: Vec<u64> = (1..=n as u64).map(|i| 9 * i).collect();
     let ids: Vec<u32> = (0..n as u32).collect();
     let list = Joined { names: &joined, ends: &ends, ids: &ids };
-    let (mut refusals, mut work) = (vec![0; n], vec![0; 6 * n]);
+    let (mut refusals, mut work) = (vec![0; n], vec![0; 7 * n]);
     let size = image_size(n, 9);
     let (mut a, mut b) = (vec![0u8; size], vec![0u8; size]);
     let mut one_call = || {
@@ -89,6 +89,6 @@ pub fn run() {
     println!("| build, an entry of 1000000 over one of 4096 | {:.2} | {:.2} | | |", large.0 / small.0, large.1 / small.1);
     whole_list(4_096, 2_000);
     whole_list(100_000, 100);
-    whole_list(1_000_000, 15);
+    whole_list(1_000_000, 31);
     count_check();
 }

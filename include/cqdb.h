@@ -371,7 +371,7 @@ cqdb_build_answer cqdb_build_parts(uint32_t mode, uint32_t repeats, uint8_t *buf
    above names_len; 15 when there are fewer than n places; 1 for a buffer under 2,072 bytes. Then nothing is written.
 
    The words at work are lent for speed: how many there are, and what they hold, changes no answer, and what they hold
-   afterwards is left open. With 6 words for each name, and room in the buffer for all names, the list goes by tables and no put
+   afterwards is left open. With 7 words for each name, and room in the buffer for all names, the list goes by tables and no put
    is checked by itself. With 3 words for each name the time grows with the list, also where names repeat or are refused; with
    fewer than one for each name and repeats off, each name is compared with those before it. */
 static inline cqdb_build_answer cqdb_build(uint32_t mode, uint32_t repeats, uint8_t *buf, size_t len,
@@ -389,7 +389,7 @@ typedef struct {
 /* In a buffer of so many bytes no put of the list is refused for room, unless they exceed 4,294,967,295; with so many words it
    goes the fast way, in linear time. names_len is the length of the joined names. */
 static inline cqdb_build_needs_answer cqdb_build_needs(uint32_t mode, size_t names_len, const uint32_t *ids, size_t n) {
-    cqdb_build_needs_answer a = {2072 + (uint64_t)names_len + 25 * (uint64_t)n, 6 * (uint64_t)n};
+    cqdb_build_needs_answer a = {2072 + (uint64_t)names_len + 25 * (uint64_t)n, 7 * (uint64_t)n};
     uint64_t back = 0;
     for (size_t i = 0; i < n; i++) {
         if (ids[i] >= back) {

@@ -65,7 +65,7 @@ fn build<K: AsRef<[u8]>>(
     };
     let needed = HEAD as u64 + names.len() as u64 + 25 * ids.len() as u64 + back;
     let mut image = vec![0; needed.min(LIMIT) as usize];
-    let (mut refusals, mut work) = (vec![0; ids.len()], vec![0; 6 * ids.len()]);
+    let (mut refusals, mut work) = (vec![0; ids.len()], vec![0; 7 * ids.len()]);
     let joined = Joined { names: &names, ends: &ends, ids: &ids };
     let answer = archive::build(flag.bits(), repeats, &mut image, joined, &mut refusals, &mut work);
     image.truncate(answer.size as usize);

@@ -123,7 +123,7 @@ fn accepted_list(random: &mut Random, names: &Names, tally: &mut Tally) -> usize
     let places = random.below(3);
     let answers = words(random, puts.len() + places);
     let n = puts.len();
-    let much = random.pick(&[0, 1, n.saturating_sub(1), n, n + 1, 2 * n, (3 * n).saturating_sub(1), 3 * n, (6 * n).saturating_sub(1), 6 * n, 6 * n, 6 * n + 7]);
+    let much = random.pick(&[0, 1, n.saturating_sub(1), n, n + 1, 2 * n, (3 * n).saturating_sub(1), 3 * n, (7 * n).saturating_sub(1), 7 * n, 7 * n, 7 * n + 7]);
     let mut work = words(random, much);
     let list = List::new(&puts);
     let mut lent = list.joined();
@@ -178,7 +178,7 @@ fn refused_list(random: &mut Random, names: &Names, tally: &mut Tally) {
         }
         due = 2;
     }
-    let (buf, answers, work) = (random.bytes(len), words(random, places), words(random, 6 * n));
+    let (buf, answers, work) = (random.bytes(len), words(random, places), words(random, 7 * n));
     let mut after = work.clone();
     let ours = built(mode, repeats, buf.clone(), list.joined(), answers.clone(), &mut after);
     let answer = BuildAnswer { refusal: due, size: 0, accepted: 0 };
@@ -201,7 +201,7 @@ fn large(random: &mut Random, tally: &mut Tally) {
         }
     }
     let list = List::new(&puts);
-    let mut work = vec![u32::MAX; 6 * puts.len()];
+    let mut work = vec![u32::MAX; 7 * puts.len()];
     // room for the accepted names alone, and for all
     for room in [whole(0, &fresh), whole(0, &puts)] {
         let buf = vec![9; room];

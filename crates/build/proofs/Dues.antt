@@ -21,7 +21,7 @@ use Rattle.image.proofs.Bools.{not-both}
 use Rattle.image.proofs.Equal.{same-true}
 use Rattle.joined.specs.Names.{names, astray, nth, beginOf}
 use Rattle.joined.specs.Keys.{key}
-use Rattle.joined.proofs.NameEnds.{length-names, nth-name, placed}
+use Rattle.joined.proofs.NameEnds.{length-names, nth-name, placed, begin-next, begins-rise}
 use Rattle.writer.specs.declared.Repeats.{Repeats}
 use Rattle.writer.specs.declared.Repeats.the-variants.{On}
 use Rattle.writer.specs.State.{State, refusesRepeats, tooLarge, fresh}
@@ -31,30 +31,15 @@ use Rattle.lists.specs.Calls.{sizeOf, putDue}
 use Rattle.lists.proofs.ListWritten.{Written}
 use Rattle.lists.proofs.Appended.{entriesSize-snoc, backSize-snoc, sizeOf-is}
 use Rattle.lists.proofs.ListPuts.{put-due}
-use Rattle.build.specs.steps.Held.{at, heldBefore, answered, leftAnswered}
+use Rattle.build.specs.steps.Held.{heldBefore, answered, leftAnswered}
+use Rattle.tabling.specs.steps.Parted.{at}
 use Rattle.build.specs.steps.Marked.{metBefore, markOf, putBy, Roomy}
 use Rattle.build.proofs.Chained.{and-false}
 use Rattle.build.proofs.Going.{Going, going-turn}
 
 -- ---- names and their ends
 
-begin-next : (ends : List ℕ) (i : ℕ) → beginOf ends (i + 1) ≡ getD ends i 0
-begin-next ends i =
-    let k : i + 1 - 1 ≡ i = omega arith in
-    ap (λ (b : Bool). cond b 0 (getD ends (i + 1 - 1) 0)) (ne-eqb (i + 1) 0 (λ e. omega arith)) ∙ ap (λ (m : ℕ). getD ends m 0) k
-
-pub begin-last : (ends : List ℕ) (n : ℕ) → (n ≡ 0 → ⊥) → beginOf ends n ≡ getD ends (n - 1) 0
-begin-last ends n h = ap (λ (b : Bool). cond b 0 (getD ends (n - 1) 0)) (ne-eqb n 0 h)
-
 module _ (bytes ends : List ℕ) (straight : astray (length bytes) 0 ends ≡ false) where
-  begins-rise : (m i : ℕ) → i ≤ m → m ≤ length ends → beginOf ends i ≤ beginOf ends m
-  begins-rise zero i h k = let z : i ≡ 0 = omega arith in omega (arith, ap (beginOf ends) z)
-  begins-rise (suc m) i h k =
-      elim (decLt m i) [
-        | yes l ↦ (let z : i ≡ suc m = omega arith in omega (arith, ap (beginOf ends) z))
-        | no l ↦ omega (arith, begins-rise m i (omega arith) (omega arith), placed (length bytes) ends m straight (omega arith) .rises, begin-next ends m, ap (beginOf ends) (add-one m))
-      ]
-
   name-short : (i : ℕ) → i < length ends → length (nth (names bytes ends) i) + beginOf ends i ≤ beginOf ends (i + 1)
   name-short i h =
       let is : length (nth (names bytes ends) i) ≡ length (between bytes (beginOf ends i) (getD ends i 0)) = ap length (nth-name bytes ends i h) in
@@ -105,14 +90,6 @@ pub due-put : (r : ℕ) (s : State) (e : Entry) → r ≡ 0 → appended s e ≡
 unfolding putBy
 due-put r s e h = sym (ap (λ (b : Bool). cond b (appended s e) s) (eq-eqb r 0 h))
 
--- one id more
-pub ids-turn : (ids : List ℕ) (i top v : ℕ) → top ≤ v → at ids i ≤ v → ((j : ℕ) → j < i → at ids j ≤ top) → (j : ℕ) → j < i + 1 → at ids j ≤ v
-ids-turn ids i top v h k known j l =
-    elim (ℕ-discrete j i) [
-      | yes e ↦ omega (arith, ap (at ids) e)
-      | no e ↦ omega (arith, known j (omega arith))
-    ]
-
 -- ---- a turn
 
 -- what is written so far is no more than the names so far need
@@ -155,7 +132,7 @@ module _ (mode : Mode) (repeats : Repeats) (buffer bytes ends ids rs : List ℕ)
         let size = sizeOf mode (es ++ (e ∷ [])) in
         let back = back-below mode (s .writer .back) (roomy .top) (getD ids i 0) es e refl (w .back-size) (b .backs) (roomy .ids-below i inside) in
         let most : size ≤ headSize + beginOf ends (length ends) + 25 * length ends + 4 * backIn mode (roomy .top) =
-        omega (arith, sizeOf-is mode (es ++ (e ∷ [])), entriesSize-snoc es e, length-append es (e ∷ []), w .end, w .entries, b .ended, b .number, back, name-short bytes ends straight i inside, begins-rise bytes ends straight (length ends) (i + 1) (omega arith) (omega arith)) in
+        omega (arith, sizeOf-is mode (es ++ (e ∷ [])), entriesSize-snoc es e, length-append es (e ∷ []), w .end, w .entries, b .ended, b .number, back, name-short bytes ends straight i inside, begins-rise (length bytes) ends straight (length ends) (i + 1) (omega arith) (omega arith)) in
         ap₂ {C = Bool} (λ (x y : Bool). x || y) (le-ltb n size (omega (arith, most, roomy .within))) (le-ltb 4294967295 size (omega (arith, most, roomy .small)))
 
     pub due-answer : at rs i ≡ answered held s e

@@ -27,7 +27,8 @@ use Rattle.lists.proofs.ListWritten.{Written}
 use Rattle.lists.proofs.ListPuts.{put-due, due-free, fresh-written}
 use Rattle.lists.proofs.ListCloses.{close-accepted}
 use Rattle.build.specs.Build.{callsOf}
-use Rattle.build.specs.steps.Held.{at, heldBefore, answered, leftAnswered}
+use Rattle.build.specs.steps.Held.{heldBefore, answered, leftAnswered}
+use Rattle.tabling.specs.steps.Parted.{at}
 use Rattle.build.specs.steps.PutsAlong.{chosen, Puts}
 use Rattle.build.proofs.Chained.{held-more, held-ext}
 use Rattle.build.proofs.Linked.{at-set}
@@ -51,7 +52,7 @@ rest-none xs ids i h = ap (λ (l : List (List ℕ)). callsOf l (drop i ids)) (dr
 
 -- ---- names held by one put more
 
-holds-more : (name : List ℕ) (es : List Entry) (e : Entry) (b : Bool) → holds name (es ++ cond b (e ∷ []) []) ≡ (holds name es || (b && same (e .name) name))
+pub holds-more : (name : List ℕ) (es : List Entry) (e : Entry) (b : Bool) → holds name (es ++ cond b (e ∷ []) []) ≡ (holds name es || (b && same (e .name) name))
 unfolding holds
 holds-more name [] e true = or-false (same (e .name) name)
   where

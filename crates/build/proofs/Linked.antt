@@ -10,7 +10,8 @@ use lib.Dec.{eqb, ltb}
 use lib.ListN.{length, getD, set, length-set}
 use lib.Seq.{getD-set-same, getD-set-other}
 use Rattle.joined.specs.Keys.{key}
-use Rattle.build.specs.steps.Held.{at, slotOf, Chains, linkIn, linked}
+use Rattle.build.specs.steps.Held.{slotOf, Chains, linkIn, linked}
+use Rattle.tabling.specs.steps.Parted.{at}
 use Rattle.build.proofs.Chained.{and-false, chains-ext, chains-refused, chains-accepted}
 
 pub slot-is : (slots k : ℕ) (name : List ℕ) → k ≡ key name → k % slots ≡ slotOf slots name
@@ -68,14 +69,6 @@ module _ (x : ℕ → List ℕ) (slot : List ℕ → ℕ) (slots : ℕ) where
       link-other j k =
           getD-set-other once s (slots + j) (i + 1) 0 (λ q. omega arith)
           ∙ getD-set-other work (slots + i) (slots + j) (at work s) 0 (λ q. omega arith)
-
--- one word more is cleared
-pub zeros-turn : (work : List ℕ) (i : ℕ) → i < length work → ((s : ℕ) → s < i → getD work s 0 ≡ 0) → (s : ℕ) → s < i + 1 → getD (set work i 0) s 0 ≡ 0
-zeros-turn work i h z s k =
-    elim (ℕ-discrete s i) [
-      | yes p ↦ ap (λ (m : ℕ). getD (set work i 0) m 0) p ∙ getD-set-same work i 0 0 h
-      | no p ↦ getD-set-other work i s 0 0 p ∙ z s (omega arith)
-    ]
 
 -- the three ways of a link
 pub linked-none : (slots s i r : ℕ) (work : List ℕ) → slots ≡ 0 → work ≡ linked slots s i r work

@@ -17,10 +17,10 @@ use Rattle.image.proofs.Bools.{not-both, second}
 use Rattle.image.proofs.Equal.{same-true, same-false}
 use Rattle.joined.specs.Names.{nth}
 use Rattle.joined.specs.Keys.{key}
-use Rattle.build.specs.steps.Held.{at, heldBefore, Chains}
-use Rattle.build.specs.steps.Parted.{hashIn, numberIn, keptIn, linkOf, tableOfName, tableIn, placeInOrder, Ordered, slotBy, slotInTable}
-use Rattle.build.specs.steps.Marked.{allTaken, metBefore, zeroMark, markOf, repeatMark, firstMark, Ready, linkedIn}
-use Rattle.build.proofs.Tallies.{order-told}
+use Rattle.build.specs.steps.Held.{heldBefore, Chains}
+use Rattle.tabling.specs.steps.Parted.{at, zeroMark, hashIn, numberIn, linkOf, keptIn, tableOfName, tableIn, placeInOrder, Ordered}
+use Rattle.build.specs.steps.Marked.{allTaken, metBefore, markOf, repeatMark, firstMark, Ready, linkedIn, slotBy, slotInTable}
+use Rattle.tabling.proofs.Tallies.{order-told}
 use Rattle.build.proofs.Chained.{and-false, held-at, chains-none, chains-refused, chains-accepted}
 
 -- ---- first names
@@ -197,7 +197,7 @@ module _ (xs : List (List ℕ)) (n : ℕ) (slot : List ℕ → ℕ) where
         never : firstMark x p ≡ 0 → false ≡ true
         never z = let w : _≡_ {A = ℕ} 16 0 = sym (ap (λ (b : Bool). cond {A = ℕ} b 16 0) (ready-met ∙ e)) ∙ z in absurd (omega arith)
 
-    module _ (s : ℕ) (is : s ≡ slot (x p)) (below : s < 2 * n) (room : 6 * n ≤ length work) where
+    module _ (s : ℕ) (is : s ≡ slot (x p)) (below : s < 2 * n) (room : 7 * n ≤ length work) where
       abbrev once : List ℕ
       once = set work (2 * n + 3 * p + 2) (at work s)
 
@@ -211,7 +211,7 @@ module _ (xs : List (List ℕ)) (n : ℕ) (slot : List ℕ → ℕ) where
       number-kept q h = other (2 * n + 3 * q + 1) (λ e. omega arith) (λ e. omega arith)
 
       pub hashes-kept : (j : ℕ) → j < n → keptIn n then j ≡ keptIn n work j
-      hashes-kept j h = other (5 * n + j) (λ e. omega arith) (λ e. omega arith)
+      hashes-kept j h = other (6 * n + j) (λ e. omega arith) (λ e. omega arith)
 
       pub ready-linked : metBefore (nth xs) i (nth xs i) ≡ false → Ready xs n slot then (p + 1)
       ready-linked e =

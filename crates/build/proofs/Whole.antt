@@ -91,22 +91,35 @@ module _ (mode : Mode) (repeats : Repeats) (buffer bytes ends ids places : List 
     unfolding answersAfter
     told-all rs e = e ∙ sym (ap (λ (b : Bool). cond b places (answersOf mode repeats buffer (listed bytes ends ids) ++ drop (length ends) places)) none)
 
+    -- of the places only those behind the names count
+    pub told-same : (places′ : List ℕ) → length places ≡ length places′ → drop (length ends) places ≡ drop (length ends) places′
+        → answersAfter mode repeats buffer bytes ends ids places ≡ answersAfter mode repeats buffer bytes ends ids places′
+    unfolding answersAfter
+    told-same places′ e f =
+        let told : List ℕ = answersOf mode repeats buffer (listed bytes ends ids) in
+        ap (λ (b : Bool). cond b places (told ++ drop (length ends) places)) none
+        ∙ ap (λ (l : List ℕ). told ++ l) f
+        ∙ sym (ap (λ (b : Bool). cond b places′ (told ++ drop (length ends) places′)) (ap (λ (k : ℕ). ltb 0 (buildRefusal bytes ends (length ids) k (length buffer))) (sym e) ∙ none))
+
+    pub left-closed : (l : List ℕ) → l ≡ afterClose (afterList mode repeats buffer (listed bytes ends ids)) .buffer
+        → l ≡ bufferAfter mode repeats buffer bytes ends ids (length places)
+    unfolding bufferAfter
+    left-closed l e = e ∙ sym (ap (λ (b : Bool). cond b buffer (afterClose (afterList mode repeats buffer (listed bytes ends ids)) .buffer)) none)
+
+    pub built-made : (m : Made) → m .size ≡ closedSize (afterList mode repeats buffer (listed bytes ends ids))
+        → m .accepted ≡ length (acceptedPuts mode repeats buffer (listed bytes ends ids)) → value m ≡ building mode repeats buffer bytes ends ids (length places)
+    unfolding building madeOf
+    built-made m e f =
+        ap₂ {C = Outcome Made} (λ (x y : ℕ). value (record { size = x; accepted = y })) e f
+        ∙ sym (ap (λ (b : Bool). cond b (refusal (buildRefusal bytes ends (length ids) (length places) (length buffer))) (value (madeOf mode repeats buffer (listed bytes ends ids)))) none)
+
     module _ (s : State) (p : Puts mode repeats buffer (listed bytes ends ids) s) where
       pub left-all : (l : List ℕ) → l ≡ afterClose s .buffer → l ≡ bufferAfter mode repeats buffer bytes ends ids (length places)
-      unfolding bufferAfter
-      left-all l e =
-          e
-          ∙ sym (chosen-buffer repeats s)
-          ∙ ap (λ (t : State). afterClose t .buffer) (p .left)
-          ∙ sym (ap (λ (b : Bool). cond b buffer (afterClose (afterList mode repeats buffer (listed bytes ends ids)) .buffer)) none)
+      left-all l e = left-closed l (e ∙ sym (chosen-buffer repeats s) ∙ ap (λ (t : State). afterClose t .buffer) (p .left))
 
       pub built-image : (m : Made) → m .size ≡ closedSize s → m .accepted ≡ s .writer .entries
           → value m ≡ building mode repeats buffer bytes ends ids (length places)
-      unfolding building madeOf
-      built-image m e f =
-          let is : m .size ≡ closedSize (afterList mode repeats buffer (listed bytes ends ids)) = e ∙ ap closedSize (p .left) in
-          ap₂ {C = Outcome Made} (λ (x y : ℕ). value (record { size = x; accepted = y })) is (f ∙ p .counted)
-          ∙ sym (ap (λ (b : Bool). cond b (refusal (buildRefusal bytes ends (length ids) (length places) (length buffer))) (value (madeOf mode repeats buffer (listed bytes ends ids)))) none)
+      built-image m e f = built-made m (e ∙ ap closedSize (p .left)) (f ∙ p .counted)
 
 abbrev isMade : Outcome Made → ℕ
 isMade (value m) = 1

@@ -1,5 +1,4 @@
 -- What describes the steps of code. No rule stands here, and nobody has to believe it: proofs/ joins it to the rules.
 pub mod Held
 pub mod PutsAlong
-pub mod Parted
 pub mod Marked

@@ -7,7 +7,8 @@ ghost use lib.Dec.{eqb};
 ghost use Rattle.image.specs.Bytes.{same};
 ghost use Rattle.joined.specs.Names.{names, astray, nth};
 ghost use Rattle.writer.specs.State.{refusesRepeats};
-ghost use Rattle.build.specs.steps.Held.{at, heldBefore, slotOf, Chains, linkIn, linked};
+ghost use Rattle.build.specs.steps.Held.{heldBefore, slotOf, Chains, linkIn, linked};
+ghost use Rattle.tabling.specs.steps.Parted.{at};
 use image::equality::same;
 use joined::key;
 use joined::name_of;
@@ -33,18 +34,6 @@ pub(crate) fn slots_for(repeats: Repeats, words: usize, n: usize) -> u32
                 (2 * n) as u32
             }
         }
-    }
-}
-
-// Clears the heads: what the lent memory held is not trusted.
-pub(crate) fn clear(work: &mut [u32], slots: usize)
-    requires { ⌜ slots ≤ length (now work) ⌝ }
-    ensures { λ _. ⌜ ((s : ℕ) → s < slots → at (now (work .exit)) s ≡ 0) × ((k : ℕ) → slots ≤ k → at (now (work .exit)) k ≡ at (now (work .entry)) k) ⌝ }
-{
-    let mut i = 0;
-    while i < slots {
-        work[i] = 0;
-        i += 1;
     }
 }
 

@@ -16,7 +16,6 @@ ghost use Rattle.build.specs.steps.Held.{answered, leftAnswered};
 ghost use Rattle.build.specs.Build.{listed, buildRefusal, building, bufferAfter, answersAfter, builtOf};
 ghost use Rattle.build.specs.steps.PutsAlong.{Puts};
 ghost use Rattle.build.specs.steps.Marked.{Roomy};
-use held::clear;
 use held::held;
 use held::link;
 use held::slot_of;
@@ -27,14 +26,17 @@ use joined::name_of;
 use marked::mark_list;
 use puts::put_marked;
 use puts::roomy;
+use stored::write_list;
+use tabling::parted::clear;
+use tabling::table_list;
 use writer::CQDBWriter;
 use writer::PutAnswer;
 use writer::Repeats;
 
 mod held; // held.rt: is a name held by an accepted put before?
 mod marked; // marked.rt: what is due to each name, told before the puts
-mod parted; // parted.rt: the names parted by table
 mod puts; // puts.rt: the puts without checks
+mod stored; // stored.rt: the image of all names, whose tables are at hand
 
 // The size of the image, and the number of accepted puts.
 pub struct Made {
@@ -168,7 +170,7 @@ fn build_marked(
     rs: &mut [u32],
     work: &mut [u32],
 ) -> Built
-    requires { ⌜ (astray (length (now bytes)) 0 (now ends) ≡ false) × (length (now ends) ≤ length (now ids)) × (length (now ends) ≤ length (now rs)) × (headSize ≤ length (now buf)) × Roomy mode (now ends) (now ids) (length (now buf)) × (length (now ends) ≤ 171798691) × (6 * length (now ends) ≤ length (now work)) ⌝ }
+    requires { ⌜ (astray (length (now bytes)) 0 (now ends) ≡ false) × (length (now ends) ≤ length (now ids)) × (length (now ends) ≤ length (now rs)) × (headSize ≤ length (now buf)) × Roomy mode (now ends) (now ids) (length (now buf)) × (length (now ends) ≤ 171798691) × (7 * length (now ends) ≤ length (now work)) ⌝ }
     ensures answer { λ r. ⌜ builtOf r ≡ building mode repeats (now (buf .entry)) (now (bytes .entry)) (now (ends .entry)) (now (ids .entry)) (length (now (rs .entry))) ⌝ }
     ensures leaves { λ _. ⌜ now (buf .exit) ≡ bufferAfter mode repeats (now (buf .entry)) (now (bytes .entry)) (now (ends .entry)) (now (ids .entry)) (length (now (rs .entry))) ⌝ }
     ensures answers { λ _. ⌜ now (rs .exit) ≡ answersAfter mode repeats (now (buf .entry)) (now (bytes .entry)) (now (ends .entry)) (now (ids .entry)) (now (rs .entry)) ⌝ }
@@ -197,6 +199,55 @@ fn build_marked(
     Built::Image(finish_list(after, &counts, &mut *buf))
 }
 
+// Are repeats refused?
+fn refuses(repeats: Repeats) -> bool
+    ensures { λ r. ⌜ r ≡ refusesRepeats repeats ⌝ }
+{
+    match repeats {
+        Repeats::On => false,
+        Repeats::Off => true,
+    }
+}
+
+// The same, where nothing is refused from tables that are made before the first entry is stored; else by the marks.
+fn build_roomy(
+    mode: Mode,
+    repeats: Repeats,
+    buf: &mut [u8],
+    bytes: &[u8],
+    ends: &[u64],
+    ids: &[u32],
+    rs: &mut [u32],
+    work: &mut [u32],
+) -> Built
+    requires { ⌜ (astray (length (now bytes)) 0 (now ends) ≡ false) × (length (now ends) ≤ length (now ids)) × (length (now ends) ≤ length (now rs)) × (headSize ≤ length (now buf)) × Roomy mode (now ends) (now ids) (length (now buf)) × (length (now ends) ≤ 171798691) × (7 * length (now ends) ≤ length (now work)) × (0 < length (now ends)) ⌝ }
+    ensures answer { λ r. ⌜ builtOf r ≡ building mode repeats (now (buf .entry)) (now (bytes .entry)) (now (ends .entry)) (now (ids .entry)) (length (now (rs .entry))) ⌝ }
+    ensures leaves { λ _. ⌜ now (buf .exit) ≡ bufferAfter mode repeats (now (buf .entry)) (now (bytes .entry)) (now (ends .entry)) (now (ids .entry)) (length (now (rs .entry))) ⌝ }
+    ensures answers { λ _. ⌜ now (rs .exit) ≡ answersAfter mode repeats (now (buf .entry)) (now (bytes .entry)) (now (ends .entry)) (now (ids .entry)) (now (rs .entry)) ⌝ }
+{
+    let n = ends.len();
+    let mut counts = [0; 256];
+    let different = refuses(repeats);
+    if table_list(different, bytes, ends, &mut *rs, &mut *work, &mut counts) {
+        let words = &work[..4 * n];
+        let size = write_list(mode, &mut *buf, bytes, ends, ids, &counts, words);
+        return Built::Image(Made {
+            size,
+            accepted: n as u32,
+        });
+    }
+    build_marked(
+        mode,
+        repeats,
+        &mut *buf,
+        bytes,
+        ends,
+        ids,
+        &mut *rs,
+        &mut *work,
+    )
+}
+
 // The same by either way.
 fn build_list(
     mode: Mode,
@@ -214,7 +265,7 @@ fn build_list(
     ensures answers { λ _. ⌜ now (rs .exit) ≡ answersAfter mode repeats (now (buf .entry)) (now (bytes .entry)) (now (ends .entry)) (now (ids .entry)) (now (rs .entry)) ⌝ }
 {
     if roomy(mode, ends, ids, buf.len(), work.len()) {
-        return build_marked(
+        return build_roomy(
             mode,
             repeats,
             &mut *buf,

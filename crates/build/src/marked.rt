@@ -8,15 +8,15 @@ ghost use Rattle.image.specs.Bytes.{same};
 ghost use Rattle.joined.specs.Names.{names, astray, nth};
 ghost use Rattle.joined.specs.Keys.{key};
 ghost use Rattle.writer.specs.State.{refusesRepeats};
-ghost use Rattle.build.specs.steps.Held.{at};
-ghost use Rattle.build.specs.steps.Marked.{metBefore, zeroMark, markOf, repeatMark, Ready, Slotted, linkedIn};
-ghost use Rattle.build.specs.steps.Parted.{hashIn, numberIn, keptIn, tableOfName, countOfTable, firstIn, slotInTable, tableSlot};
-use super::held::clear;
-use super::parted::hash_all;
-use super::parted::part;
-use super::parted::starts;
+ghost use Rattle.tabling.specs.steps.Parted.{firstIn, at, zeroMark, hashIn, numberIn, keptIn, tableOfName, countOfTable};
+ghost use Rattle.build.specs.steps.Marked.{slotInTable, tableSlot};
+ghost use Rattle.build.specs.steps.Marked.{metBefore, markOf, repeatMark, Ready, Slotted, linkedIn};
 use image::equality::same;
 use joined::name_of;
+use tabling::parted::clear;
+use tabling::parted::hash_all;
+use tabling::parted::part;
+use tabling::parted::starts;
 use writer::Repeats;
 
 // Where the places of a table begin.
@@ -54,7 +54,7 @@ fn slot_in(tables: &[u32; 256], n: usize, h: u32) -> usize
 
 // Is the name at place q the i-th name, whose hash is h? Names are compared where the hashes are equal.
 fn alike_at(bytes: &[u8], ends: &[u64], work: &[u32], q: usize, h: u32, i: usize) -> bool
-    requires { ⌜ (astray (length (now bytes)) 0 (now ends) ≡ false) × (i < length (now ends)) × (q < length (now ends)) × (6 * length (now ends) ≤ length (now work)) × (length (now ends) ≤ 4294967295) × (numberIn (length (now ends)) (now work) q < length (now ends)) × (hashIn (length (now ends)) (now work) q ≡ key (nth (names (now bytes) (now ends)) (numberIn (length (now ends)) (now work) q))) × (h ≡ key (nth (names (now bytes) (now ends)) i)) ⌝ }
+    requires { ⌜ (astray (length (now bytes)) 0 (now ends) ≡ false) × (i < length (now ends)) × (q < length (now ends)) × (7 * length (now ends) ≤ length (now work)) × (length (now ends) ≤ 4294967295) × (numberIn (length (now ends)) (now work) q < length (now ends)) × (hashIn (length (now ends)) (now work) q ≡ key (nth (names (now bytes) (now ends)) (numberIn (length (now ends)) (now work) q))) × (h ≡ key (nth (names (now bytes) (now ends)) i)) ⌝ }
     ensures { λ r. ⌜ r ≡ same (nth (names (now (bytes .entry)) (now (ends .entry))) (numberIn (length (now (ends .entry))) (now (work .entry)) q)) (nth (names (now (bytes .entry)) (now (ends .entry))) i) ⌝ }
 {
     let place = 2 * ends.len() + 3 * q;
@@ -67,7 +67,7 @@ fn alike_at(bytes: &[u8], ends: &[u64], work: &[u32], q: usize, h: u32, i: usize
 
 // Does the name at place p stand before in the list? By the chain of its slot s.
 fn met(bytes: &[u8], ends: &[u64], work: &[u32], s: usize, p: usize) -> bool
-    requires { ⌜ (astray (length (now bytes)) 0 (now ends) ≡ false) × (p < length (now ends)) × (6 * length (now ends) ≤ length (now work)) × (length (now ends) ≤ 4294967295) × Slotted (names (now bytes) (now ends)) (length (now ends)) (now work) p s ⌝ }
+    requires { ⌜ (astray (length (now bytes)) 0 (now ends) ≡ false) × (p < length (now ends)) × (7 * length (now ends) ≤ length (now work)) × (length (now ends) ≤ 4294967295) × Slotted (names (now bytes) (now ends)) (length (now ends)) (now work) p s ⌝ }
     ensures { λ r. ⌜ r ≡ metBefore (nth (names (now (bytes .entry)) (now (ends .entry)))) (numberIn (length (now (ends .entry))) (now (work .entry)) p) (nth (names (now (bytes .entry)) (now (ends .entry))) (numberIn (length (now (ends .entry))) (now (work .entry)) p)) ⌝ }
 {
     let n = ends.len();
@@ -85,7 +85,7 @@ fn met(bytes: &[u8], ends: &[u64], work: &[u32], s: usize, p: usize) -> bool
 
 // Links place p into the chain of slot s.
 fn link_in(work: &mut [u32], n: usize, s: usize, p: usize)
-    requires { ⌜ (s < 2 * n) × (p < n) × (6 * n ≤ length (now work)) × (n ≤ 4294967295) ⌝ }
+    requires { ⌜ (s < 2 * n) × (p < n) × (7 * n ≤ length (now work)) × (n ≤ 4294967295) ⌝ }
     ensures { λ _. ⌜ now (work .exit) ≡ linkedIn n (now (work .entry)) s p ⌝ }
 {
     let head = work[s];
@@ -95,7 +95,7 @@ fn link_in(work: &mut [u32], n: usize, s: usize, p: usize)
 
 // Does the name at place p stand before in the list? If not, it is linked.
 fn tell(bytes: &[u8], ends: &[u64], work: &mut [u32], tables: &[u32; 256], p: usize) -> bool
-    requires { ⌜ (astray (length (now bytes)) 0 (now ends) ≡ false) × (p < length (now ends)) × (6 * length (now ends) ≤ length (now work)) × (length (now ends) ≤ 4294967295) × Ready (names (now bytes) (now ends)) (length (now ends)) (tableSlot (length (now ends)) (now tables)) (now work) p ⌝ }
+    requires { ⌜ (astray (length (now bytes)) 0 (now ends) ≡ false) × (p < length (now ends)) × (7 * length (now ends) ≤ length (now work)) × (length (now ends) ≤ 4294967295) × Ready (names (now bytes) (now ends)) (length (now ends)) (tableSlot (length (now ends)) (now tables)) (now work) p ⌝ }
     ensures answer { λ r. ⌜ r ≡ metBefore (nth (names (now (bytes .entry)) (now (ends .entry)))) (numberIn (length (now (ends .entry))) (now (work .entry)) p) (nth (names (now (bytes .entry)) (now (ends .entry))) (numberIn (length (now (ends .entry))) (now (work .entry)) p)) ⌝ }
     ensures ready { λ _. ⌜ Ready (names (now (bytes .entry)) (now (ends .entry))) (length (now (ends .entry))) (tableSlot (length (now (ends .entry))) (now (tables .entry))) (now (work .exit)) (p + 1) ⌝ }
     ensures kept { λ _. ⌜ ((i : ℕ) → i < length (now (ends .entry)) → keptIn (length (now (ends .entry))) (now (work .exit)) i ≡ keptIn (length (now (ends .entry))) (now (work .entry)) i) × (numberIn (length (now (ends .entry))) (now (work .exit)) p ≡ numberIn (length (now (ends .entry))) (now (work .entry)) p) ⌝ }
@@ -129,7 +129,7 @@ fn mark(rs: &mut [u32], i: usize, repeat: bool)
 
 // 16 for each name that stands before in the list and has no zero byte, table by table.
 fn mark_all(bytes: &[u8], ends: &[u64], rs: &mut [u32], work: &mut [u32], tables: &[u32; 256])
-    requires { ⌜ (astray (length (now bytes)) 0 (now ends) ≡ false) × (length (now ends) ≤ length (now rs)) × (6 * length (now ends) ≤ length (now work)) × (length (now ends) ≤ 4294967295) × Ready (names (now bytes) (now ends)) (length (now ends)) (tableSlot (length (now ends)) (now tables)) (now work) 0 × ((i : ℕ) → i < length (now ends) → at (now rs) i ≡ zeroMark (nth (names (now bytes) (now ends)) i)) ⌝ }
+    requires { ⌜ (astray (length (now bytes)) 0 (now ends) ≡ false) × (length (now ends) ≤ length (now rs)) × (7 * length (now ends) ≤ length (now work)) × (length (now ends) ≤ 4294967295) × Ready (names (now bytes) (now ends)) (length (now ends)) (tableSlot (length (now ends)) (now tables)) (now work) 0 × ((i : ℕ) → i < length (now ends) → at (now rs) i ≡ zeroMark (nth (names (now bytes) (now ends)) i)) ⌝ }
     ensures marks { λ _. ⌜ ((i : ℕ) → i < length (now (ends .entry)) → at (now (rs .exit)) i ≡ markOf true (nth (names (now (bytes .entry)) (now (ends .entry)))) i) × (drop (length (now (ends .entry))) (now (rs .exit)) ≡ drop (length (now (ends .entry))) (now (rs .entry))) ⌝ }
     ensures kept { λ _. ⌜ ((i : ℕ) → i < length (now (ends .entry)) → keptIn (length (now (ends .entry))) (now (work .exit)) i ≡ keptIn (length (now (ends .entry))) (now (work .entry)) i) ⌝ }
     ensures lengths { λ _. ⌜ (length (now (rs .exit)) ≡ length (now (rs .entry))) × (length (now (work .exit)) ≡ length (now (work .entry))) ⌝ }
@@ -145,23 +145,18 @@ fn mark_all(bytes: &[u8], ends: &[u64], rs: &mut [u32], work: &mut [u32], tables
 }
 
 // The repeats marked: the names parted by table, then told table by table.
-fn mark_repeats(
-    bytes: &[u8],
-    ends: &[u64],
-    rs: &mut [u32],
-    work: &mut [u32],
-    tables: &mut [u32; 256],
-)
-    requires { ⌜ (astray (length (now bytes)) 0 (now ends) ≡ false) × (length (now ends) ≤ length (now rs)) × (6 * length (now ends) ≤ length (now work)) × (length (now ends) ≤ 4294967295) × ((i : ℕ) → i < length (now ends) → keptIn (length (now ends)) (now work) i ≡ key (nth (names (now bytes) (now ends)) i)) × (length (now tables) ≡ 256) × ((t : ℕ) → t < 256 → at (now tables) t ≡ countOfTable (tableOfName (names (now bytes) (now ends))) t (length (now ends))) × ((i : ℕ) → i < length (now ends) → at (now rs) i ≡ zeroMark (nth (names (now bytes) (now ends)) i)) ⌝ }
+fn mark_repeats(bytes: &[u8], ends: &[u64], rs: &mut [u32], work: &mut [u32], tables: &[u32; 256])
+    requires { ⌜ (astray (length (now bytes)) 0 (now ends) ≡ false) × (length (now ends) ≤ length (now rs)) × (7 * length (now ends) ≤ length (now work)) × (length (now ends) ≤ 4294967295) × ((i : ℕ) → i < length (now ends) → keptIn (length (now ends)) (now work) i ≡ key (nth (names (now bytes) (now ends)) i)) × (length (now tables) ≡ 256) × ((t : ℕ) → t < 256 → at (now tables) t ≡ countOfTable (tableOfName (names (now bytes) (now ends))) t (length (now ends))) × ((i : ℕ) → i < length (now ends) → at (now rs) i ≡ zeroMark (nth (names (now bytes) (now ends)) i)) ⌝ }
     ensures marks { λ _. ⌜ ((i : ℕ) → i < length (now (ends .entry)) → at (now (rs .exit)) i ≡ markOf true (nth (names (now (bytes .entry)) (now (ends .entry)))) i) × (drop (length (now (ends .entry))) (now (rs .exit)) ≡ drop (length (now (ends .entry))) (now (rs .entry))) ⌝ }
     ensures kept { λ _. ⌜ ((i : ℕ) → i < length (now (ends .entry)) → keptIn (length (now (ends .entry))) (now (work .exit)) i ≡ keptIn (length (now (ends .entry))) (now (work .entry)) i) ⌝ }
     ensures lengths { λ _. ⌜ (length (now (rs .exit)) ≡ length (now (rs .entry))) × (length (now (work .exit)) ≡ length (now (work .entry))) ⌝ }
 {
     let n = ends.len();
-    starts(&mut *tables);
-    part(&mut *work, &mut *tables, n);
+    let mut places = [0; 256];
+    starts(tables, &mut places);
+    part(&mut *work, &mut places, n);
     clear(&mut *work, 2 * n);
-    mark_all(bytes, ends, &mut *rs, &mut *work, &*tables);
+    mark_all(bytes, ends, &mut *rs, &mut *work, &places);
 }
 
 // What is due to each name, where all of them have room: 13 for a zero byte; then, with repeats off, 16 for a repeat. The hashes
@@ -173,7 +168,7 @@ pub(crate) fn mark_list(
     rs: &mut [u32],
     work: &mut [u32],
 )
-    requires { ⌜ (astray (length (now bytes)) 0 (now ends) ≡ false) × (length (now ends) ≤ length (now rs)) × (6 * length (now ends) ≤ length (now work)) × (length (now ends) ≤ 4294967295) ⌝ }
+    requires { ⌜ (astray (length (now bytes)) 0 (now ends) ≡ false) × (length (now ends) ≤ length (now rs)) × (7 * length (now ends) ≤ length (now work)) × (length (now ends) ≤ 4294967295) ⌝ }
     ensures marks { λ _. ⌜ ((i : ℕ) → i < length (now (ends .entry)) → at (now (rs .exit)) i ≡ markOf (refusesRepeats repeats) (nth (names (now (bytes .entry)) (now (ends .entry)))) i) × (drop (length (now (ends .entry))) (now (rs .exit)) ≡ drop (length (now (ends .entry))) (now (rs .entry))) ⌝ }
     ensures hashes { λ _. ⌜ ((i : ℕ) → i < length (now (ends .entry)) → keptIn (length (now (ends .entry))) (now (work .exit)) i ≡ key (nth (names (now (bytes .entry)) (now (ends .entry))) i)) ⌝ }
     ensures lengths { λ _. ⌜ (length (now (rs .exit)) ≡ length (now (rs .entry))) × (length (now (work .exit)) ≡ length (now (work .entry))) ⌝ }
@@ -182,6 +177,6 @@ pub(crate) fn mark_list(
     hash_all(bytes, ends, &mut *rs, &mut *work, &mut tables);
     match repeats {
         Repeats::On => {}
-        Repeats::Off => mark_repeats(bytes, ends, &mut *rs, &mut *work, &mut tables),
+        Repeats::Off => mark_repeats(bytes, ends, &mut *rs, &mut *work, &tables),
     }
 }

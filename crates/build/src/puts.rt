@@ -2,7 +2,7 @@
 ghost use mathlib.Core.Path.{_≡_};
 ghost use mathlib.Core.Bool.{true, false};
 ghost use mathlib.Core.List.{_++_};
-ghost use Prim.Native.Nat.{ℕ, _+_, _*_, _≤_, _<_};
+ghost use Prim.Native.Nat.{ℕ, _+_, _*_, _≤_, _<_, max};
 ghost use lib.ListN.{length, drop};
 ghost use Rattle.jhash.specs.NameHash.{hashOf};
 ghost use Rattle.image.specs.Image.{headSize};
@@ -13,10 +13,9 @@ ghost use Rattle.writer.specs.State.{stateWith, fresh, refusesRepeats};
 ghost use Rattle.writer.specs.Put.{putRefusal, entryOf};
 ghost use Rattle.lists.specs.Demand3.{answersOf};
 ghost use Rattle.build.specs.Build.{listed};
-ghost use Rattle.build.specs.steps.Held.{at};
+ghost use Rattle.tabling.specs.steps.Parted.{at, keptIn};
 ghost use Rattle.build.specs.steps.PutsAlong.{Puts};
-ghost use Rattle.build.specs.steps.Parted.{keptIn};
-ghost use Rattle.build.specs.steps.Marked.{markOf, putBy, Roomy};
+ghost use Rattle.build.specs.steps.Marked.{markOf, putBy, largestTo, Roomy};
 use image::Mode;
 use joined::name_of;
 use writer::CQDBWriter;
@@ -24,15 +23,15 @@ use writer::Repeats;
 
 // The larger of two ids.
 fn larger(a: u32, b: u32) -> u32
-    ensures { λ r. ⌜ (a ≤ r) × (b ≤ r) ⌝ }
+    ensures { λ r. ⌜ r ≡ max a b ⌝ }
 {
     if a < b { b } else { a }
 }
 
-// An id that none of the first n exceeds.
-fn largest(ids: &[u32], n: usize) -> u32
+// The largest of the first n ids, 0 without any.
+pub(crate) fn largest(ids: &[u32], n: usize) -> u32
     requires { ⌜ n ≤ length (now ids) ⌝ }
-    ensures { λ r. ⌜ ((i : ℕ) → i < n → at (now (ids .entry)) i ≤ r) ⌝ }
+    ensures { λ r. ⌜ r ≡ largestTo (now (ids .entry)) n ⌝ }
 {
     let mut top = 0;
     let mut i = 0;
@@ -43,10 +42,10 @@ fn largest(ids: &[u32], n: usize) -> u32
     top
 }
 
-// Has an image of all names room, and the lent memory 6 words for each? An empty list is left to the other way.
+// Has an image of all names room, and the lent memory 7 words for each? An empty list is left to the other way.
 pub(crate) fn roomy(mode: Mode, ends: &[u64], ids: &[u32], room: usize, words: usize) -> bool
     requires { ⌜ length (now ends) ≤ length (now ids) ⌝ }
-    ensures { λ r. ⌜ (r ≡ true → Roomy mode (now (ends .entry)) (now (ids .entry)) room × (length (now (ends .entry)) ≤ 171798691) × (6 * length (now (ends .entry)) ≤ words)) ⌝ }
+    ensures { λ r. ⌜ (r ≡ true → Roomy mode (now (ends .entry)) (now (ids .entry)) room × (length (now (ends .entry)) ≤ 171798691) × (7 * length (now (ends .entry)) ≤ words) × (0 < length (now (ends .entry)))) ⌝ }
 {
     let n = ends.len();
     if n == 0 {
@@ -55,7 +54,7 @@ pub(crate) fn roomy(mode: Mode, ends: &[u64], ids: &[u32], room: usize, words: u
     if 171798691 < n {
         return false;
     }
-    if words < 6 * n {
+    if words < 7 * n {
         return false;
     }
     let last = ends[n - 1];
@@ -108,7 +107,7 @@ pub(crate) fn put_marked(
     rs: &[u32],
     work: &[u32],
 ) -> CQDBWriter
-    requires { ⌜ (astray (length (now bytes)) 0 (now ends) ≡ false) × (length (now ends) ≤ length (now ids)) × (length (now ends) ≤ length (now rs)) × (6 * length (now ends) ≤ length (now work)) × (length (now ends) ≤ 171798691) × (headSize ≤ length (now buf)) × (stateWith w (now counts) (now buf) ≡ fresh (w .mode) On (now buf)) × Roomy (w .mode) (now ends) (now ids) (length (now buf)) × ((i : ℕ) → i < length (now ends) → keptIn (length (now ends)) (now work) i ≡ key (nth (names (now bytes) (now ends)) i)) × ((i : ℕ) → i < length (now ends) → at (now rs) i ≡ markOf (refusesRepeats repeats) (nth (names (now bytes) (now ends))) i) ⌝ }
+    requires { ⌜ (astray (length (now bytes)) 0 (now ends) ≡ false) × (length (now ends) ≤ length (now ids)) × (length (now ends) ≤ length (now rs)) × (7 * length (now ends) ≤ length (now work)) × (length (now ends) ≤ 171798691) × (headSize ≤ length (now buf)) × (stateWith w (now counts) (now buf) ≡ fresh (w .mode) On (now buf)) × Roomy (w .mode) (now ends) (now ids) (length (now buf)) × ((i : ℕ) → i < length (now ends) → keptIn (length (now ends)) (now work) i ≡ key (nth (names (now bytes) (now ends)) i)) × ((i : ℕ) → i < length (now ends) → at (now rs) i ≡ markOf (refusesRepeats repeats) (nth (names (now bytes) (now ends))) i) ⌝ }
     ensures state { λ r. ⌜ Puts (w .mode) repeats (now (buf .entry)) (listed (now (bytes .entry)) (now (ends .entry)) (now (ids .entry))) (stateWith r (now (counts .exit)) (now (buf .exit))) ⌝ }
     ensures answers { λ _. ⌜ now (rs .entry) ≡ answersOf (w .mode) repeats (now (buf .entry)) (listed (now (bytes .entry)) (now (ends .entry)) (now (ids .entry))) ++ drop (length (now (ends .entry))) (now (rs .entry)) ⌝ }
 {
@@ -123,7 +122,7 @@ pub(crate) fn put_marked(
             &mut *buf,
             name,
             ids[i],
-            work[5 * n + i],
+            work[6 * n + i],
             rs[i],
         );
         i += 1;

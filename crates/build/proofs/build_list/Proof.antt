@@ -6,11 +6,11 @@ use Rattle.build.proofs.build_list.Tie as tie
 roomy-requires : tie.Need-roomy-requires
 roomy-requires c κs = c .before .before .before .before .before .before .pre .1
 
-build-marked-requires : tie.Need-build-marked-requires
-build-marked-requires c κs =
+build-roomy-requires : tie.Need-build-roomy-requires
+build-roomy-requires c κs =
     let s = c .before .before .before .before .before .before .before .before .before .before .before in
     let told = c .before .before .before .before .roomy .ensures (c .before .before .before .if1 .taken) in
-    (s .pre .0, s .pre .1, s .pre .2, s .pre .3, told .0, told .1, told .2)
+    (s .pre .0, s .pre .1, s .pre .2, s .pre .3, told .0, told .1, told .2, told .3)
 
 same-length : tie.Need-same-length
 same-length c = search needs
@@ -22,7 +22,7 @@ same-length-3 : tie.Need-same-length-3
 same-length-3 c = search needs
 
 returns : tie.Need-returns
-returns c = c .before .before .before .before .before .before .build-marked .ensures
+returns c = c .before .before .before .before .before .before .build-roomy .ensures
 
 build-singly-requires : tie.Need-build-singly-requires
 build-singly-requires c κs = c .before .before .before .before .before .before .before .before .before .before .before .pre
@@ -44,7 +44,7 @@ build-list-spec =
     tie.close
     (tie.spec
     roomy-requires
-    build-marked-requires
+    build-roomy-requires
     same-length
     same-length-2
     same-length-3

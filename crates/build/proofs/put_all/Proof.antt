@@ -12,7 +12,8 @@ use Rattle.joined.specs.Names.{names, nth}
 use Rattle.joined.proofs.NameEnds.{length-names}
 use Rattle.writer.specs.State.{State, stateWith}
 use Rattle.writer.specs.Put.{entryOf}
-use Rattle.build.specs.steps.Held.{at, slotOf, Chains, linkIn, answered, leftAnswered}
+use Rattle.build.specs.steps.Held.{slotOf, Chains, linkIn, answered, leftAnswered}
+use Rattle.tabling.specs.steps.Parted.{at}
 use Rattle.build.proofs.Chained.{chains-none}
 use Rattle.build.proofs.Linked.{chains-turn}
 use Rattle.build.proofs.Going.{Going, going-start, going-end, told-end, going-turn}

@@ -9,12 +9,9 @@ use lib.Dec.{eqb, ltb}
 use Rattle.image.specs.Bytes.{same}
 use Rattle.image.specs.Image.{Entry}
 use Rattle.joined.specs.Keys.{key}
+use Rattle.tabling.specs.steps.Parted.{at}
 use Rattle.writer.specs.State.{State}
 use Rattle.writer.specs.Put.{putRefusal, afterPut}
-
--- the word at a place
-abbrev pub at : List ℕ → ℕ → ℕ
-at l i = getD l i 0
 
 -- does one of the first i names x 0, x 1, .. that were accepted equal this name? r has the answers
 unfoldable pub heldBefore : (ℕ → List ℕ) → (ℕ → ℕ) → ℕ → List ℕ → Bool

@@ -1,10 +1,10 @@
 -- What is due to each put of a list that has room for all its names, told before the first is put. No rule stands here: proofs/ joins it to the rules.
-use Prim.Native.Nat.{ℕ, _+_, _*_, _≤_, _<_}
+use Prim.Native.Nat.{ℕ, zero, suc, _+_, _*_, _-_, _/_, _%_, _≤_, _<_, max}
 use mathlib.Core.Path.{_≡_}
 use mathlib.Core.Bool.{Bool, cond, _&&_}
 use mathlib.Core.List.{List}
 use lib.ListN.{length, set}
-use lib.Dec.{eqb}
+use lib.Dec.{eqb, ltb}
 use Rattle.image.specs.Zero.{hasZero}
 use Rattle.image.specs.Image.{Entry, headSize, backIn}
 use Rattle.image.specs.declared.Mode.{Mode}
@@ -12,8 +12,19 @@ use Rattle.joined.specs.Names.{nth, beginOf}
 use Rattle.joined.specs.Keys.{key}
 use Rattle.writer.specs.State.{State}
 use Rattle.writer.specs.Put.{appended}
-use Rattle.build.specs.steps.Held.{at, heldBefore, Chains}
-use Rattle.build.specs.steps.Parted.{hashIn, numberIn, linkOf, tableOfName, Ordered}
+use Rattle.build.specs.steps.Held.{heldBefore, Chains}
+use Rattle.tabling.specs.steps.Parted.{at, firstIn, hashIn, numberIn, linkOf, tableOfName, Ordered}
+
+-- the slot of a hash, before it is held within 2n: each table has twice as many slots as names
+abbrev pub slotBy : List ℕ → ℕ → ℕ
+slotBy ends h = 2 * firstIn ends (h % 256) + 2 * (at ends (h % 256) - firstIn ends (h % 256)) * (h / 256) / 16777216
+
+unfoldable pub slotInTable : ℕ → List ℕ → ℕ → ℕ
+slotInTable n ends h = cond (ltb (slotBy ends h) (2 * n)) (slotBy ends h) 0
+
+-- the slot of a name
+abbrev pub tableSlot : ℕ → List ℕ → List ℕ → ℕ
+tableSlot n ends name = slotInTable n ends (key name)
 
 -- nothing is refused
 abbrev pub allTaken : ℕ → ℕ
@@ -22,10 +33,6 @@ allTaken j = 0
 -- does one of the first i names equal this one?
 abbrev pub metBefore : (ℕ → List ℕ) → ℕ → List ℕ → Bool
 metBefore x i name = heldBefore x allTaken i name
-
--- 13 for a zero byte
-abbrev pub zeroMark : List ℕ → ℕ
-zeroMark name = cond (hasZero name) 13 0
 
 -- then, with repeats off, 16 where the same name stands before in the list
 abbrev pub markOf : Bool → (ℕ → List ℕ) → ℕ → ℕ
@@ -61,6 +68,11 @@ linkedIn n work s p = set (set work (2 * n + 3 * p + 2) (at work s)) s (p + 1)
 -- a put to which r is due
 unfoldable pub putBy : ℕ → State → Entry → State
 putBy r s e = cond (eqb r 0) (appended s e) s
+
+-- the largest of the first n ids, 0 without any
+unfoldable pub largestTo : List ℕ → ℕ → ℕ
+largestTo ids zero = 0
+largestTo ids (suc n) = max (largestTo ids n) (at ids n)
 
 -- all names have room: `top` is above every id
 pub record Roomy (mode : Mode) (ends ids : List ℕ) (room : ℕ) : Type 0 where

@@ -7,10 +7,26 @@ use borrow.Author.Needs.{needs}
 use Rattle.build.specs.declared.Built.{Built}
 use Rattle.build.specs.Build.{builtOf}
 use Rattle.build.proofs.Whole.{refused-some}
-use Rattle.build_c.specs.Building.{builtAnswer}
+use Rattle.build_c.specs.Building.{builtAnswer, buildAnswer, bufferBuilt, answersBuilt}
 use Rattle.build_c.proofs.Builds.{unknown-build, known-build}
 use Rattle.build_c.proofs.cqdb_build_parts.Statement.{statement}
 use Rattle.build_c.proofs.cqdb_build_parts.Tie as tie
+
+-- what was built, as the struct tells it
+module _ (c : tie.After-build) where
+  abbrev start : tie.Start
+  start = c .before .before .before .before .before .before .before .before .before .before .before .before .before .before
+
+  told : (builtAnswer (builtOf (c .build .result)) ≡ buildAnswer (start .args .mode) (start .args .repeats) (start .args .buf .now) (start .args .names .now) (start .args .ends .now) (start .args .ids .now) (length (start .args .refusals .now)))
+      × (c .build .last .1 .1 .0 ≡ bufferBuilt (start .args .mode) (start .args .repeats) (start .args .buf .now) (start .args .names .now) (start .args .ends .now) (start .args .ids .now) (length (start .args .refusals .now)))
+      × (c .build .last .1 .1 .1 .1 .1 .1 .0 ≡ answersBuilt (start .args .mode) (start .args .repeats) (start .args .buf .now) (start .args .names .now) (start .args .ends .now) (start .args .ids .now) (start .args .refusals .now))
+  told =
+      let m = c .before .before .before .before .before .mode-of in
+      let r = c .before .before .before .before .repeats-of in
+      let done = c .build in
+      let fine = sym (c .before .before .before .before .before .before .before .known .ensures) ∙ not-false _ (c .before .before .before .before .before .before .if1 .left) in
+      known-build (start .args .mode) (start .args .repeats) (start .args .buf .now) (start .args .names .now) (start .args .ends .now) (start .args .ids .now) (start .args .refusals .now) fine (m .result) (r .result)
+      (m .ensures) (r .ensures) (builtOf (done .result)) _ _ (done .ensures .0) (done .ensures .1 .0) (done .ensures .1 .1 .0)
 
 known-requires : tie.Need-known-requires
 known-requires c κs = search needs
@@ -47,13 +63,7 @@ same-length-3 c = search needs
 
 returns-2 : tie.Need-returns-2
 returns-2 c =
-    let a = c .before .before .before .before .before .before .before .before .before .before .before .before .before .before .before .before .before .before .before .before .before .before .before .args in
-    let m = c .before .before .before .before .before .before .before .before .before .before .before .before .before .before .mode-of in
-    let r = c .before .before .before .before .before .before .before .before .before .before .before .before .before .repeats-of in
-    let done = c .before .before .before .before .before .before .before .before .before .build in
-    let fine = sym (c .before .before .before .before .before .before .before .before .before .before .before .before .before .before .before .before .known .ensures) ∙ not-false _ (c .before .before .before .before .before .before .before .before .before .before .before .before .before .before .before .if1 .left) in
-    let out = known-build (a .mode) (a .repeats) (a .buf .now) (a .names .now) (a .ends .now) (a .ids .now) (a .refusals .now) fine (m .result) (r .result)
-    (m .ensures) (r .ensures) (builtOf (done .result)) _ _ (done .ensures .0) (done .ensures .1 .0) (done .ensures .1 .1 .0) in
+    let out = told (c .before .before .before .before .before .before .before .before .before) in
     (ap (λ (b : Built). builtAnswer (builtOf b)) (sym (c .before .built .given .1)) ∙ out .0, (out .1, (out .2, λ h. absurd (omega (arith, h)))))
 
 same-length-4 : tie.Need-same-length-4
@@ -67,14 +77,11 @@ same-length-6 c = search needs
 
 returns-3 : tie.Need-returns-3
 returns-3 c =
-    let a = c .before .before .before .before .before .before .before .before .before .before .before .before .before .before .before .before .before .before .before .before .before .before .before .args in
-    let m = c .before .before .before .before .before .before .before .before .before .before .before .before .before .before .mode-of in
-    let r = c .before .before .before .before .before .before .before .before .before .before .before .before .before .repeats-of in
-    let done = c .before .before .before .before .before .before .before .before .before .build in
-    let fine = sym (c .before .before .before .before .before .before .before .before .before .before .before .before .before .before .before .before .known .ensures) ∙ not-false _ (c .before .before .before .before .before .before .before .before .before .before .before .before .before .before .before .if1 .left) in
-    let out = known-build (a .mode) (a .repeats) (a .buf .now) (a .names .now) (a .ends .now) (a .ids .now) (a .refusals .now) fine (m .result) (r .result)
-    (m .ensures) (r .ensures) (builtOf (done .result)) _ _ (done .ensures .0) (done .ensures .1 .0) (done .ensures .1 .1 .0) in
-    let some = refused-some (m .result) (r .result) (a .buf .now) (a .names .now) (a .ends .now) (a .ids .now) (length (a .refusals .now)) _ (sym (done .ensures .0) ∙ ap builtOf (c .before .built2 .given .1)) in
+    let b = c .before .before .before .before .before .before .before .before .before in
+    let a = start b .args in
+    let done = b .build in
+    let out = told b in
+    let some = refused-some (b .before .before .before .before .before .mode-of .result) (b .before .before .before .before .repeats-of .result) (a .buf .now) (a .names .now) (a .ends .now) (a .ids .now) (length (a .refusals .now)) _ (sym (done .ensures .0) ∙ ap builtOf (c .before .built2 .given .1)) in
     (ap (λ (b : Built). builtAnswer (builtOf b)) (sym (c .before .built2 .given .1)) ∙ out .0, (out .1, (out .2, λ h. done .ensures .1 .1 .1 some)))
 
 pub cqdb-build-parts-spec : {M : Type 1} → statement M

@@ -7,7 +7,8 @@ use lib.ListN.{length}
 use borrow.Author.Needs.{needs}
 use Rattle.image.specs.Bytes.{same}
 use Rattle.joined.specs.Names.{names, nth}
-use Rattle.build.specs.steps.Held.{at, heldBefore, slotOf}
+use Rattle.build.specs.steps.Held.{heldBefore, slotOf}
+use Rattle.tabling.specs.steps.Parted.{at}
 use Rattle.build.proofs.Chained.{Walk, walk-start, walk-found, walk-step, walk-end}
 use Rattle.build.proofs.held.chained.Statement.{statement}
 use Rattle.build.proofs.held.chained.Tie as tie

@@ -4,7 +4,8 @@ use native.Mathlib.Omega.{arith}
 use mathlib.Core.Path.{_∙_}
 use borrow.Author.Needs.{needs}
 use Rattle.joined.specs.Names.{names, nth}
-use Rattle.build.specs.steps.Held.{at, heldBefore}
+use Rattle.build.specs.steps.Held.{heldBefore}
+use Rattle.tabling.specs.steps.Parted.{at}
 use Rattle.build.proofs.ToldPuts.{off-held, on-held}
 use Rattle.build.proofs.held.held.Statement.{statement}
 use Rattle.build.proofs.held.held.Tie as tie

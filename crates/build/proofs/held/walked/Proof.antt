@@ -9,7 +9,8 @@ use lib.Dec.{eqb}
 use borrow.Author.Needs.{needs}
 use Rattle.image.specs.Bytes.{same}
 use Rattle.joined.specs.Names.{names, nth}
-use Rattle.build.specs.steps.Held.{at, heldBefore}
+use Rattle.build.specs.steps.Held.{heldBefore}
+use Rattle.tabling.specs.steps.Parted.{at}
 use Rattle.build.proofs.Chained.{none-start, none-more, none-all, one-found}
 use Rattle.build.proofs.held.walked.Statement.{statement}
 use Rattle.build.proofs.held.walked.Tie as tie

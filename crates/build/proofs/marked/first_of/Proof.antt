@@ -3,7 +3,7 @@ use Prim.Native.Nat.{ℕ, _-_}
 use mathlib.Core.Path.{_≡_, sym, ap}
 use mathlib.Core.Bool.{Bool, cond}
 use borrow.Author.Tests.{eq-eqb, ne-eqb}
-use Rattle.build.specs.steps.Held.{at}
+use Rattle.tabling.specs.steps.Parted.{at}
 use borrow.Author.Needs.{needs}
 use Rattle.build.proofs.marked.first_of.Statement.{statement}
 use Rattle.build.proofs.marked.first_of.Tie as tie

@@ -5,7 +5,7 @@ use mathlib.Core.Path.{_≡_, ap, _∙_}
 use mathlib.Core.List.{List}
 use lib.ListN.{set, length-set}
 use borrow.Author.Needs.{needs}
-use Rattle.build.specs.steps.Held.{at}
+use Rattle.tabling.specs.steps.Parted.{at}
 use Rattle.build.specs.steps.Marked.{repeatMark}
 use Rattle.build.proofs.Marking.{not-chosen, chosen-one}
 use Rattle.build.proofs.marked.mark.Statement.{statement}

@@ -5,9 +5,8 @@ use mathlib.Core.Path.{_≡_, refl, sym, ap, _∙_}
 use lib.ListN.{length, drop}
 use borrow.Author.Needs.{needs}
 use Rattle.joined.specs.Names.{names, nth}
-use Rattle.build.specs.steps.Held.{at}
-use Rattle.build.specs.steps.Parted.{keptIn, numberIn, tableSlot}
-use Rattle.build.specs.steps.Marked.{Ready}
+use Rattle.tabling.specs.steps.Parted.{at, numberIn, keptIn}
+use Rattle.build.specs.steps.Marked.{Ready, tableSlot}
 use Rattle.build.proofs.Marking.{markAt, marks-start, marks-turn, marks-end}
 use Rattle.build.proofs.marked.mark_all.Statement.{statement}
 use Rattle.build.proofs.marked.mark_all.Tie as tie

@@ -29,8 +29,8 @@ mark-repeats-requires c κs =
     let hashed = c .before .before .before .before .before .before .before .before .before .hash-all in
     let h = hashed .ensures in (
       s .pre .0,
-      omega (arith, s .pre .1, h .1 .1 .1 .0, h .1 .1 .1 .1),
-      omega (arith, s .pre .2, h .1 .1 .1 .0, h .1 .1 .1 .1),
+      omega (arith, s .pre .1, h .1 .1 .1 .0 .0, h .1 .1 .1 .0 .1),
+      omega (arith, s .pre .2, h .1 .1 .1 .0 .0, h .1 .1 .1 .0 .1),
       s .pre .3,
       h .0,
       h .1 .0 .0,
@@ -49,7 +49,7 @@ returns c =
     let a = c .before .before .before .before .before .before .before .before .before .before .before .before .before .before .args in
     let x = nth (names (a .bytes .now) (a .ends .now)) in
     let h = c .before .before .before .before .before .before .hash-all .ensures in
-    ((λ i k. h .1 .1 .0 .0 i k ∙ mark-on x i ∙ ap (λ (r : Repeats). markOf (refusesRepeats r) x i) (sym (c .enum-told .given .1)), h .1 .1 .0 .1), (h .0, h .1 .1 .1))
+    ((λ i k. h .1 .1 .0 .0 i k ∙ mark-on x i ∙ ap (λ (r : Repeats). markOf (refusesRepeats r) x i) (sym (c .enum-told .given .1)), h .1 .1 .0 .1), (h .0, h .1 .1 .1 .0))
 
 same-length-3 : tie.Need-same-length-3
 same-length-3 c = search needs
@@ -64,7 +64,7 @@ returns-2 c =
     let h = c .before .before .before .before .before .before .before .before .before .before .before .before .before .before .hash-all .ensures in
     let m = c .before .before .before .before .mark-repeats .ensures in (
       (λ i k. m .0 .0 i k ∙ ap (λ (r : Repeats). markOf (refusesRepeats r) x i) (sym (c .before .before .before .before .before .before .before .before .enum-told2 .given .1)), m .0 .1 ∙ h .1 .1 .0 .1),
-      (λ i k. m .1 .0 i k ∙ h .0 i k, (m .1 .1 .0 ∙ h .1 .1 .1 .0, m .1 .1 .1 ∙ h .1 .1 .1 .1)),
+      (λ i k. m .1 .0 i k ∙ h .0 i k, (m .1 .1 .0 ∙ h .1 .1 .1 .0 .0, m .1 .1 .1 ∙ h .1 .1 .1 .0 .1)),
     )
 
 pub mark-list-spec : {M : Type 1} → statement M

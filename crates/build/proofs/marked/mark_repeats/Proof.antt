@@ -3,13 +3,12 @@ use Prim.Native.Nat.{ℕ, _+_, _*_, _≤_, _<_}
 use native.Mathlib.Omega.{arith}
 use mathlib.Core.Path.{_≡_, sym, ap, _∙_}
 use mathlib.Core.List.{List}
-use lib.ListN.{length}
+use lib.ListN.{length, length-replicate}
 use borrow.Author.Needs.{needs}
 use Rattle.image.specs.Tables.{tableOf}
 use Rattle.joined.specs.Names.{names}
-use Rattle.build.specs.steps.Held.{at}
-use Rattle.build.specs.steps.Parted.{tableOfName, tableIn}
-use Rattle.build.proofs.Tallies.{first-ext, sums-fit}
+use Rattle.tabling.specs.steps.Parted.{at, tableOfName, tableIn}
+use Rattle.tabling.proofs.Tallies.{first-ext, sums-fit}
 use Rattle.build.proofs.Marking.{ready-parted}
 use Rattle.build.proofs.marked.mark_repeats.Statement.{statement}
 use Rattle.build.proofs.marked.mark_repeats.Tie as tie
@@ -19,7 +18,7 @@ starts-requires c κs =
     let s = c .before .before .before .before .before in
     let a = s .args in
     let T = tableOfName (names (a .bytes .now) (a .ends .now)) in
-    (s .pre .5, λ t h. omega (arith, sums-fit T (length (a .ends .now)) (at (a .tables .now)) (s .pre .6) t h .1, s .pre .3))
+    (length-replicate {A = ℕ} 256 0, λ t h. omega (arith, sums-fit T (length (a .ends .now)) (at (a .tables .now)) (s .pre .6) t h .1, s .pre .3))
 
 part-requires : tie.Need-part-requires
 part-requires c κs =
@@ -70,7 +69,7 @@ returns c =
     let put = c .before .before .before .before .before .before .before .before .before .before .before .before .before .before .part in (
       done .0,
       (
-        λ i h. done .1 .0 i h ∙ cleared .ensures .1 (5 * n + i) (omega arith) ∙ put .ensures .1 .1 i h,
+        λ i h. done .1 .0 i h ∙ cleared .ensures .1 (6 * n + i) (omega arith) ∙ put .ensures .1 .1 i h,
         (done .1 .1 .0, omega (arith, done .1 .1 .1, cleared .kept, put .kept)),
       ),
     )

@@ -8,8 +8,7 @@ use borrow.Author.Needs.{needs}
 use Rattle.image.specs.Bytes.{same}
 use Rattle.joined.specs.Names.{names, nth}
 use Rattle.joined.specs.Keys.{key}
-use Rattle.build.specs.steps.Held.{at}
-use Rattle.build.specs.steps.Parted.{hashIn, numberIn}
+use Rattle.tabling.specs.steps.Parted.{at, hashIn, numberIn}
 use Rattle.build.specs.steps.Marked.{firstMark, Slotted}
 use Rattle.build.proofs.Chained.{Walk, walk-start, walk-found, walk-step, walk-end}
 use Rattle.build.proofs.Marking.{ready-told, alike-turned}
@@ -24,6 +23,13 @@ Inv-loop bytes ends work s p n h i q₀ q =
 
 abbrev μ-loop : tie.MeasureT-loop
 μ-loop bytes ends work s p n h i q₀ q = q
+
+-- a turn that does not end the walk: where the call began, and that the walk stands at one of the names before
+abbrev start : tie.Else1 Inv-loop μ-loop → tie.Start Inv-loop μ-loop
+start c = c .before .before .before .before .before .before .before .before .before .before
+
+below : (c : tie.Else1 Inv-loop μ-loop) → c .before .before .before .loop .q ≤ start c .args .p
+below c = c .before .before .before .loop .inv .2 (start c .pre .4) .below
 
 mul-h : tie.Need-mul-h Inv-loop μ-loop
 mul-h c = let s = c .before .before .before in omega (arith, s .pre .1, s .pre .2, s .pre .3)
@@ -118,46 +124,25 @@ returns c =
     walk-found (k .ready .x) (k .slot) (firstMark (k .ready .x)) p (l .q) some w (sym told ∙ c .if1 .taken) ∙ ready-told xs n (k .slot) work p (k .ready) (s .pre .1)
 
 mul-q-2 : tie.Need-mul-q-2 Inv-loop μ-loop
-mul-q-2 c =
-    let s = c .before .before .before .before .before .before .before .before .before .before in
-    let w = c .before .before .before .loop .inv .2 (s .pre .4) in
-    omega (arith, s .pre .1, s .pre .2, s .pre .3, w .below, c .before .before .loop-test .taken)
+mul-q-2 c = let s = start c in omega (arith, s .pre .1, s .pre .2, s .pre .3, below c, c .before .before .loop-test .taken)
 
 sub-q : tie.Need-sub-q Inv-loop μ-loop
-sub-q c =
-    let s = c .before .before .before .before .before .before .before .before .before .before in
-    let w = c .before .before .before .loop .inv .2 (s .pre .4) in
-    omega (arith, s .pre .1, s .pre .2, s .pre .3, w .below, c .before .before .loop-test .taken)
+sub-q c = let s = start c in omega (arith, s .pre .1, s .pre .2, s .pre .3, below c, c .before .before .loop-test .taken)
 
 mul-q-3 : tie.Need-mul-q-3 Inv-loop μ-loop
-mul-q-3 c =
-    let s = c .before .before .before .before .before .before .before .before .before .before in
-    let w = c .before .before .before .loop .inv .2 (s .pre .4) in
-    omega (arith, s .pre .1, s .pre .2, s .pre .3, w .below, c .before .before .loop-test .taken)
+mul-q-3 c = let s = start c in omega (arith, s .pre .1, s .pre .2, s .pre .3, below c, c .before .before .loop-test .taken)
 
 add-q : tie.Need-add-q Inv-loop μ-loop
-add-q c =
-    let s = c .before .before .before .before .before .before .before .before .before .before in
-    let w = c .before .before .before .loop .inv .2 (s .pre .4) in
-    omega (arith, s .pre .1, s .pre .2, s .pre .3, w .below, c .before .before .loop-test .taken)
+add-q c = let s = start c in omega (arith, s .pre .1, s .pre .2, s .pre .3, below c, c .before .before .loop-test .taken)
 
 add-q-2 : tie.Need-add-q-2 Inv-loop μ-loop
-add-q-2 c =
-    let s = c .before .before .before .before .before .before .before .before .before .before in
-    let w = c .before .before .before .loop .inv .2 (s .pre .4) in
-    omega (arith, s .pre .1, s .pre .2, s .pre .3, w .below, c .before .before .loop-test .taken)
+add-q-2 c = let s = start c in omega (arith, s .pre .1, s .pre .2, s .pre .3, below c, c .before .before .loop-test .taken)
 
 mul-q-4 : tie.Need-mul-q-4 Inv-loop μ-loop
-mul-q-4 c =
-    let s = c .before .before .before .before .before .before .before .before .before .before in
-    let w = c .before .before .before .loop .inv .2 (s .pre .4) in
-    omega (arith, s .pre .1, s .pre .2, s .pre .3, w .below, c .before .before .loop-test .taken)
+mul-q-4 c = let s = start c in omega (arith, s .pre .1, s .pre .2, s .pre .3, below c, c .before .before .loop-test .taken)
 
 shared-slice-read-q-2 : tie.Need-shared-slice-read-q-2 Inv-loop μ-loop
-shared-slice-read-q-2 c =
-    let s = c .before .before .before .before .before .before .before .before .before .before .before in
-    let w = c .before .before .before .before .loop .inv .2 (s .pre .4) in
-    omega (arith, s .pre .1, s .pre .2, s .pre .3, w .below, c .before .before .before .loop-test .taken)
+shared-slice-read-q-2 c = let s = start (c .before) in omega (arith, s .pre .1, s .pre .2, s .pre .3, below (c .before), c .before .before .before .loop-test .taken)
 
 cast-q-2 : tie.Need-cast-q-2 Inv-loop μ-loop
 cast-q-2 c = omega (arith, c .shared-slice-known7 .given (2 * length (c .before .before .before .before .before .before .before .before .before .before .before .args .ends .now) + 3 * (c .before .before .before .before .loop .q - 1) + 2))

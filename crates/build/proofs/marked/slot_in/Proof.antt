@@ -2,7 +2,7 @@
 use Prim.Native.Nat.{ℕ, _+_, _*_, _-_, _/_, _%_, _<_, _≤_}
 use native.Mathlib.Omega.{arith}
 use mathlib.Core.Path.{_≡_, refl, sym, ap, ap₂, _∙_}
-use Rattle.build.specs.steps.Parted.{slotBy, slotInTable}
+use Rattle.build.specs.steps.Marked.{slotBy, slotInTable}
 use Rattle.build.proofs.Marking.{slot-fits, slot-fits-sum, slot-inside, slot-outside, slot-turned}
 use borrow.Author.Needs.{needs}
 use Rattle.build.proofs.marked.slot_in.Statement.{statement}

@@ -5,8 +5,8 @@ use mathlib.Core.Path.{_≡_, refl, sym, ap, subst, _∙_}
 use mathlib.Core.List.{List}
 use lib.ListN.{length}
 use Rattle.joined.specs.Names.{names, nth}
-use Rattle.build.specs.steps.Parted.{keptIn, numberIn, slotInTable, tableSlot}
-use Rattle.build.specs.steps.Marked.{Ready}
+use Rattle.tabling.specs.steps.Parted.{numberIn, keptIn}
+use Rattle.build.specs.steps.Marked.{Ready, slotInTable, tableSlot}
 use Rattle.build.proofs.Marking.{ready-repeat, ready-linked, number-kept, hashes-kept}
 use borrow.Author.Needs.{needs}
 use Rattle.build.proofs.marked.tell.Statement.{statement}

@@ -1,22 +1,23 @@
--- `build::puts::largest` meets its contract. The loop's invariant: no id passed exceeds it. Assumes nothing.
+-- `build::puts::largest` meets its contract. The loop's invariant: it is that of the ids passed. Assumes nothing.
 use Prim.Native.Nat.{ℕ, _+_, _-_, _≤_, _<_}
 use native.Mathlib.Omega.{arith}
-use mathlib.Core.Path.{_≡_}
+use mathlib.Core.Path.{_≡_, ap, _∙_}
 use lib.ListN.{length}
 use borrow.Author.Needs.{needs}
-use Rattle.build.specs.steps.Held.{at}
-use Rattle.build.proofs.Dues.{ids-turn}
+use Rattle.tabling.specs.steps.Parted.{at}
+use Rattle.build.specs.steps.Marked.{largestTo}
+use Rattle.build.proofs.Largest.{largest-none, largest-turn}
 use Rattle.build.proofs.puts.largest.Statement.{statement}
 use Rattle.build.proofs.puts.largest.Tie as tie
 
 abbrev Inv-loop : tie.InvT-loop
-Inv-loop ids n top₀ i₀ top i = (i ≤ n) × ((j : ℕ) → j < i → at ids j ≤ top)
+Inv-loop ids n top₀ i₀ top i = (i ≤ n) × (top ≡ largestTo ids i)
 
 abbrev μ-loop : tie.MeasureT-loop
 μ-loop ids n top₀ i₀ top i = n - i
 
 loop-holds : tie.Need-loop-holds Inv-loop μ-loop
-loop-holds c = (omega arith, λ j h. absurd (omega arith))
+loop-holds c = (omega arith, largest-none _)
 
 mul-larger : tie.Need-mul-larger Inv-loop μ-loop
 mul-larger c = omega arith
@@ -37,10 +38,13 @@ loop-again : tie.Need-loop-again Inv-loop μ-loop
 loop-again c =
     let l = c .before .before .before .loop in
     let r = c .larger in
-    (omega (arith, c .before .before .loop-test .taken), ids-turn (c .before .before .before .before .before .args .ids .now) (l .i) (l .top) (r .result) (r .ensures .0) (r .ensures .1) (l .inv .1))
+    (omega (arith, c .before .before .loop-test .taken), largest-turn (c .before .before .before .before .before .args .ids .now) (l .i) (l .top) (r .result) (l .inv .1) (r .ensures))
 
 returns : tie.Need-returns Inv-loop μ-loop
-returns c = λ i h. c .before .loop .inv .1 i (omega (arith, c .loop-test .left))
+returns c =
+    let l = c .before .loop in
+    let last : l .i ≡ c .before .before .before .args .n = omega (arith, l .inv .0, c .loop-test .left) in
+    l .inv .1 ∙ ap (largestTo (c .before .before .before .args .ids .now)) last
 
 pub largest-spec : {M : Type 1} → statement M
 largest-spec = tie.close (tie.spec Inv-loop μ-loop loop-holds mul-larger shared-slice-read-larger larger-requires add-i loop-less loop-again returns)

@@ -11,7 +11,7 @@ use Rattle.joined.proofs.NameEnds.{length-names}
 use Rattle.writer.specs.declared.Repeats.{Repeats}
 use Rattle.writer.specs.State.{State, stateWith, refusesRepeats}
 use Rattle.writer.specs.Put.{putRefusal, entryOf}
-use Rattle.build.specs.steps.Held.{at}
+use Rattle.tabling.specs.steps.Parted.{at}
 use Rattle.build.specs.steps.Marked.{markOf, putBy, Roomy}
 use Rattle.build.proofs.Going.{Going, going-start, going-end, told-end}
 use Rattle.build.proofs.Dues.{Bounded, bounded-start, due-none, due-hash, due-turn, bounded-turn}

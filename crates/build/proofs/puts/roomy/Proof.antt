@@ -5,7 +5,8 @@ use mathlib.Core.Path.{_≡_}
 use lib.ListN.{length}
 use borrow.Author.Needs.{needs}
 use Rattle.image.proofs.Bools.{not-both}
-use Rattle.build.proofs.Dues.{begin-last}
+use Rattle.joined.proofs.NameEnds.{begin-later}
+use Rattle.build.proofs.Largest.{largest-above}
 use Rattle.build.proofs.puts.roomy.Statement.{statement}
 use Rattle.build.proofs.puts.roomy.Tie as tie
 
@@ -73,17 +74,18 @@ returns-8 : tie.Need-returns-8
 returns-8 c = λ e. (let s = c .before .before .before .before .before .before .before .before .before .before .before .before in
     let a = s .args in
     let n = length (a .ends .now) in
-    let last = begin-last (a .ends .now) n (c .before .before .before .before .before .before .before .before .before .if1 .left) in
+    let last = begin-later (a .ends .now) n (c .before .before .before .before .before .before .before .before .before .if1 .left) in
     let back = c .before .before .before .back-in .ensures in
     let top = c .before .before .before .before .largest in (
       record {
         top = top .result + 1;
-        ids-below = λ i h. omega (arith, top .ensures i h);
+        ids-below = λ i h. omega (arith, top .ensures, largest-above (a .ids .now) n i h);
         within = omega (arith, last, back, c .if7 .left);
         small = omega (arith, last, back, c .before .if6 .left);
       },
       omega (arith, c .before .before .before .before .before .before .before .before .if2 .left),
       omega (arith, c .before .before .before .before .before .before .before .if3 .left),
+      omega (arith, c .before .before .before .before .before .before .before .before .before .if1 .left),
     ))
 
 pub roomy-spec : {M : Type 1} → statement M

@@ -1,0 +1,374 @@
+-- A list of puts of which none is refused: the entries are all names with their ids, and one close leaves their image. Assumes nothing.
+use Prim.Native.Nat.{ℕ, suc, _+_, _*_, _-_, _^_, _≤_, _<_}
+use native.Mathlib.Omega.{arith}
+use mathlib.Core.Path.{_≡_, refl, sym, ap, ap₂, subst, _∙_}
+use mathlib.Core.Bool.{Bool, true, false, cond, _||_, _&&_}
+use mathlib.Core.List.{List, [], _∷_, _++_, map, append-assoc, append-nil}
+use borrow.Author.Tests.{le-ltb, ltb-false}
+use lib.Dec.{ltb}
+use lib.ListN.{length, getD, take, drop, replicate, length-append}
+use lib.Seq.{drop-drop}
+use Rattle.image.specs.declared.Mode.{Mode}
+use Rattle.image.specs.declared.Mode.the-variants.{Twoway, Oneway}
+use Rattle.image.specs.Bytes.{same, cat}
+use Rattle.image.specs.Image.{Entry, headSize, entryBytes, entrySize, entriesSize, entriesEnd, placed, count, backSize, backIn, backSizeOf, imageSize, image, holds}
+use Rattle.image.specs.Stored.{between}
+use Rattle.image.specs.Zero.{hasZero}
+use Rattle.image.proofs.Between.{length-between}
+use Rattle.image.proofs.Bools.{neither-first, neither-second}
+use Rattle.image.proofs.Sizes.{entriesSize-append}
+use Rattle.joined.specs.Names.{namesFrom, names, astray, nth, beginOf}
+use Rattle.joined.proofs.NameEnds.{length-names}
+use Rattle.finish.specs.Finish.{Standing, standing}
+use Rattle.writer.specs.declared.Repeats.{Repeats}
+use Rattle.writer.specs.declared.Repeats.the-variants.{Off, On}
+use Rattle.writer.specs.declared.CQDBWriter.{CQDBWriter}
+use Rattle.writer.specs.State.{State, stateWith, refusesRepeats, tooLarge, fresh}
+use Rattle.writer.specs.Put.{entryOf, afterPut}
+use Rattle.writer.specs.Close.{closedSize, afterClose}
+use Rattle.writer.proofs.Accepted.{stands}
+use Rattle.writer.proofs.Kept.{put-keeps-behind}
+use Rattle.lists.specs.Calls.{Call, put, after, acceptedAfter, dueFrom, acceptedFrom, accepted, due, sizeOf, putDue, WordId, WordIds}
+use Rattle.lists.specs.Demand3.{answersOf, afterList, acceptedPuts}
+use Rattle.lists.proofs.ListWritten.{Written}
+use Rattle.lists.proofs.Appended.{entriesSize-snoc, sizeOf-is}
+use Rattle.lists.proofs.Recorded.{written-size, written-recorded}
+use Rattle.lists.proofs.ListPuts.{put-written, fresh-written}
+use Rattle.lists.proofs.ListCloses.{close-accepted, close-closed, closed-buffer}
+use Rattle.lists.proofs.Along.{list-answers, list-accepted, list-written}
+use Rattle.tabling.specs.steps.Parted.{at}
+use Rattle.build.specs.Build.{callsOf, listed}
+use Rattle.build.specs.steps.Marked.{Roomy}
+use Rattle.build.specs.steps.PutsAlong.{entriesListed}
+use Rattle.build.proofs.Going.{holds-more}
+use Rattle.joined.proofs.NameEnds.{begin-later}
+use Rattle.build.proofs.Whole.{accepted as closable}
+
+-- ---- the entries of all names
+
+entries-number : (xs : List (List ℕ)) (ids : List ℕ) → length xs ≤ length ids → length (entriesListed xs ids) ≡ length xs
+unfolding entriesListed
+entries-number [] ids h = refl
+entries-number (x ∷ xs) [] h = absurd (omega arith)
+entries-number (x ∷ xs) (id ∷ ids) h = ap suc (entries-number xs ids (omega arith))
+
+entries-names : (xs : List (List ℕ)) (ids : List ℕ) → length xs ≤ length ids → map (λ (e : Entry). e .name) (entriesListed xs ids) ≡ xs
+unfolding entriesListed
+entries-names [] ids h = refl
+entries-names (x ∷ xs) [] h = absurd (omega arith)
+entries-names (x ∷ xs) (id ∷ ids) h = ap (λ (l : List (List ℕ)). x ∷ l) (entries-names xs ids (omega arith))
+
+entries-back : (xs : List (List ℕ)) (ids : List ℕ) (top : ℕ) → ((i : ℕ) → i < length xs → at ids i < top) → backSize (entriesListed xs ids) ≤ top
+unfolding entriesListed backSize
+entries-back [] ids top h = omega arith
+entries-back (x ∷ xs) [] top h = omega arith
+entries-back (x ∷ xs) (id ∷ ids) top h =
+    let first : id < top = h 0 (omega arith) in
+    let later = entries-back xs ids top (λ i k. h (suc i) (omega arith)) in
+    omega arith
+
+-- the last end, or s where there is none
+abbrev lastEnd : ℕ → List ℕ → ℕ
+lastEnd s [] = s
+lastEnd s (e ∷ es) = lastEnd e es
+
+last-is : (e : ℕ) (es : List ℕ) → lastEnd e es ≡ getD (e ∷ es) (length es) 0
+last-is e [] = refl
+last-is e (f ∷ es) = last-is f es
+
+last-begin : (ends : List ℕ) → lastEnd 0 ends ≡ beginOf ends (length ends)
+last-begin [] = refl
+last-begin (e ∷ es) =
+    let k : length es ≡ length (e ∷ es) - 1 = omega arith in
+    last-is e es ∙ ap (λ (m : ℕ). getD (e ∷ es) m 0) k ∙ sym (begin-later (e ∷ es) (length (e ∷ es)) (λ z. omega arith))
+
+entries-size : (bytes : List ℕ) (s : ℕ) (ends ids : List ℕ) → astray (length bytes) s ends ≡ false → length ends ≤ length ids
+    → s + entriesSize (entriesListed (namesFrom bytes s ends) ids) ≡ lastEnd s ends + 9 * length ends
+unfolding namesFrom astray entriesListed entriesSize
+entries-size bytes s [] ids good many = omega arith
+entries-size bytes s (e ∷ es) [] good many = absurd (omega arith)
+entries-size bytes s (e ∷ es) (id ∷ ids) good many =
+    let size = length bytes in
+    let two = neither-first (ltb e s || ltb size e) (astray size e es) good in
+    let rises = ltb-false e s (neither-first (ltb e s) (ltb size e) two) in
+    let inside = ltb-false size e (neither-second (ltb e s) (ltb size e) two) in
+    let later = entries-size bytes e es ids (neither-second (ltb e s || ltb size e) (astray size e es) good) (omega arith) in
+    omega (arith, rises, length-between bytes s e rises inside, later)
+
+module _ (bytes ends ids : List ℕ) (good : astray (length bytes) 0 ends ≡ false) (many : length ends ≤ length ids) where
+  pub number-all : length (entriesListed (names bytes ends) ids) ≡ length ends
+  number-all = let n = length-names bytes ends in entries-number (names bytes ends) ids (omega arith) ∙ n
+
+  pub names-all : map (λ (e : Entry). e .name) (entriesListed (names bytes ends) ids) ≡ names bytes ends
+  names-all = let n = length-names bytes ends in entries-names (names bytes ends) ids (omega arith)
+
+  pub end-all : entriesEnd (entriesListed (names bytes ends) ids) ≡ headSize + beginOf ends (length ends) + 9 * length ends
+  unfolding names
+  end-all = omega (arith, entries-size bytes 0 ends ids good many, last-begin ends)
+
+-- ---- the size of their image
+
+back-rises : (mode : Mode) (a b : ℕ) → a ≤ b → backIn mode a ≤ backIn mode b
+back-rises Twoway a b h = h
+back-rises Oneway a b h = omega arith
+
+module _ (mode : Mode) (buffer bytes ends ids : List ℕ) (good : astray (length bytes) 0 ends ≡ false) (many : length ends ≤ length ids)
+    (roomy : Roomy mode ends ids (length buffer)) where
+  size-most : imageSize mode (entriesListed (names bytes ends) ids) ≤ headSize + beginOf ends (length ends) + 25 * length ends + 4 * backIn mode (roomy .top)
+  size-most =
+      let n = length-names bytes ends in
+      let es = entriesListed (names bytes ends) ids in
+      let back = entries-back (names bytes ends) ids (roomy .top) (λ i h. roomy .ids-below i (omega arith)) in
+      omega (arith, end-all bytes ends ids good many, number-all bytes ends ids good many, back-rises mode (backSize es) (roomy .top) back)
+
+  pub size-within : imageSize mode (entriesListed (names bytes ends) ids) ≤ length buffer
+  size-within = omega (arith, size-most, roomy .within)
+
+  pub size-small : imageSize mode (entriesListed (names bytes ends) ids) ≤ 4294967295
+  size-small = omega (arith, size-most, roomy .small)
+
+-- ---- what is due to each put
+
+-- the first of some entries need no more room than all
+back-front : (es more : List Entry) → backSize es ≤ backSize (es ++ more)
+unfolding backSize
+back-front [] more = omega arith
+back-front (e ∷ es) more = omega (arith, back-front es more)
+
+size-front : (mode : Mode) (es more : List Entry) → imageSize mode es ≤ imageSize mode (es ++ more)
+size-front mode es more =
+    omega (arith, entriesSize-append es more, length-append es more, back-rises mode (backSize es) (backSize (es ++ more)) (back-front es more))
+
+-- ids that are words
+word-id : (mode : Mode) (x : List ℕ) (id : ℕ) → id < 2 ^ 32 → WordId mode (put (entryOf x id))
+word-id Twoway x id h = tt
+word-id Oneway x id h = h
+
+word-ids : (mode : Mode) (xs : List (List ℕ)) (ids : List ℕ) → ((i : ℕ) → i < length xs → getD ids i 0 < 2 ^ 32) → WordIds mode (callsOf xs ids)
+unfolding callsOf
+word-ids mode [] ids h = tt
+word-ids mode (x ∷ xs) [] h = tt
+word-ids mode (x ∷ xs) (id ∷ ids) h = (word-id mode x id (h 0 (omega arith)), word-ids mode xs ids (λ i k. h (suc i) (omega arith)))
+
+-- a put keeps every byte behind its entry
+put-keeps-from : (s : State) (e : Entry) (k : ℕ) → s .writer .end + entrySize e ≤ k → drop k (afterPut s e .buffer) ≡ drop k (s .buffer)
+put-keeps-from s e k h =
+    let m : ℕ = s .writer .end + entrySize e in
+    let is : m + (k - m) ≡ k = omega arith in
+    ap (λ (j : ℕ). drop j (afterPut s e .buffer)) (sym is)
+    ∙ sym (drop-drop (k - m) m (afterPut s e .buffer))
+    ∙ ap (drop (k - m)) (put-keeps-behind s e)
+    ∙ drop-drop (k - m) m (s .buffer)
+    ∙ ap (λ (j : ℕ). drop j (s .buffer)) is
+
+-- after the puts es each of the names xs can be put: none has a zero byte or, with repeats off, stands before, and all have room
+record Free (mode : Mode) (repeats : Repeats) (n : ℕ) (es : List Entry) (xs : List (List ℕ)) (ids : List ℕ) : Type 0 where
+  many : length xs ≤ length ids
+  within : imageSize mode (es ++ entriesListed xs ids) ≤ n
+  small : imageSize mode (es ++ entriesListed xs ids) ≤ 4294967295
+  words : (i : ℕ) → i < length xs → getD ids i 0 < 2 ^ 32
+  zeros : (i : ℕ) → i < length xs → hasZero (nth xs i) ≡ false
+  new : refusesRepeats repeats ≡ true → (i : ℕ) → i < length xs → holds (nth xs i) es ≡ false
+  apart : refusesRepeats repeats ≡ true → (i j : ℕ) → j < i → i < length xs → same (nth xs j) (nth xs i) ≡ false
+
+module _ (mode : Mode) (repeats : Repeats) (n : ℕ) where
+  module _ (es : List Entry) (x : List ℕ) (xs : List (List ℕ)) (id : ℕ) (ids : List ℕ) (f : Free mode repeats n es (x ∷ xs) (id ∷ ids)) where
+    abbrev e : Entry
+    e = entryOf x id
+
+    abbrev next : List Entry
+    next = es ++ (e ∷ [])
+
+    all-same : next ++ entriesListed xs ids ≡ es ++ entriesListed (x ∷ xs) (id ∷ ids)
+    unfolding entriesListed
+    all-same = append-assoc es (e ∷ []) (entriesListed xs ids)
+
+    free-room : tooLarge n (sizeOf mode next) ≡ false
+    free-room =
+        let is = sizeOf-is mode next in
+        let front = size-front mode next (entriesListed xs ids) in
+        let whole = ap (imageSize mode) all-same in
+        ap₂ {C = Bool} (λ (a b : Bool). a || b) (le-ltb n (sizeOf mode next) (omega (arith, is, front, whole, f .within)))
+        (le-ltb 4294967295 (sizeOf mode next) (omega (arith, is, front, whole, f .small)))
+
+    free-new : (holds x es && refusesRepeats repeats) ≡ false
+    free-new = go repeats (f .new)
+      where
+        go : (r : Repeats) → (refusesRepeats r ≡ true → (i : ℕ) → i < length (x ∷ xs) → holds (nth (x ∷ xs) i) es ≡ false) → (holds x es && refusesRepeats r) ≡ false
+        go Off h = ap (λ (b : Bool). b && true) (h refl 0 (omega arith))
+        go On h = none (holds x es)
+          where
+            none : (b : Bool) → (b && false) ≡ false
+            none true = refl
+            none false = refl
+
+    free-due : putDue mode repeats n es e ≡ 0
+    unfolding putDue
+    free-due = decided (hasZero x) (holds x es && refusesRepeats repeats) (tooLarge n (sizeOf mode next)) (f .zeros 0 (omega arith)) free-new free-room
+      where
+        decided : (z h t : Bool) → z ≡ false → h ≡ false → t ≡ false → _≡_ {A = ℕ} (cond z 13 (cond h 16 (cond t 3 0))) 0
+        decided z h t p q r = rw (p, q, r) refl
+
+    free-accepted : acceptedAfter mode repeats n es (put e) ≡ next
+    free-accepted = rw free-due refl
+
+    free-next : Free mode repeats n next xs ids
+    free-next =
+        let whole = ap (imageSize mode) all-same in
+        record {
+          many = omega (arith, f .many);
+          within = omega (arith, whole, f .within);
+          small = omega (arith, whole, f .small);
+          words = λ i h. f .words (suc i) (omega arith);
+          zeros = λ i h. f .zeros (suc i) (omega arith);
+          new = λ off i h. holds-more (nth xs i) es e true
+              ∙ ap₂ {C = Bool} (λ (a b : Bool). a || b) (f .new off (suc i) (omega arith)) (f .apart off (suc i) 0 (omega arith) (omega arith));
+          apart = λ off i j h k. f .apart off (suc i) (suc j) (omega arith) (omega arith);
+        }
+
+  none-due : (es : List Entry) (xs : List (List ℕ)) (ids : List ℕ) → Free mode repeats n es xs ids → dueFrom mode repeats n es (callsOf xs ids) ≡ replicate (length xs) 0
+  unfolding dueFrom callsOf
+  none-due es [] ids f = refl
+  none-due es (x ∷ xs) [] f = absurd (omega (arith, f .many))
+  none-due es (x ∷ xs) (id ∷ ids) f =
+      ap₂ {C = List ℕ} (λ (r : ℕ) (rs : List ℕ). r ∷ rs) (free-due es x xs id ids f)
+      (ap (λ (l : List Entry). dueFrom mode repeats n l (callsOf xs ids)) (free-accepted es x xs id ids f)
+      ∙ none-due (es ++ (entryOf x id ∷ [])) xs ids (free-next es x xs id ids f))
+
+  all-accepted : (es : List Entry) (xs : List (List ℕ)) (ids : List ℕ) → Free mode repeats n es xs ids → acceptedFrom mode repeats n es (callsOf xs ids) ≡ es ++ entriesListed xs ids
+  unfolding acceptedFrom callsOf entriesListed
+  all-accepted es [] ids f = sym (append-nil es)
+  all-accepted es (x ∷ xs) [] f = absurd (omega (arith, f .many))
+  all-accepted es (x ∷ xs) (id ∷ ids) f =
+      ap (λ (l : List Entry). acceptedFrom mode repeats n l (callsOf xs ids)) (free-accepted es x xs id ids f)
+      ∙ all-accepted (es ++ (entryOf x id ∷ [])) xs ids (free-next es x xs id ids f)
+      ∙ append-assoc es (entryOf x id ∷ []) (entriesListed xs ids)
+
+  -- such puts keep every byte from the end of their entries on
+  puts-keep : (es : List Entry) (s : State) (xs : List (List ℕ)) (ids : List ℕ) → Written mode repeats n es s → Free mode repeats n es xs ids
+      → (k : ℕ) → entriesEnd (es ++ entriesListed xs ids) ≤ k → drop k (after s (callsOf xs ids) .buffer) ≡ drop k (s .buffer)
+  unfolding after callsOf entriesListed
+  puts-keep es s [] ids w f k h = refl
+  puts-keep es s (x ∷ xs) [] w f k h = absurd (omega (arith, f .many))
+  puts-keep es s (x ∷ xs) (id ∷ ids) w f k h =
+      let e = entryOf x id in
+      let next = es ++ (e ∷ []) in
+      let all = ap entriesSize (all-same es x xs id ids f) in
+      let then : Written mode repeats n next (afterPut s e) =
+      subst (λ (l : List Entry). Written mode repeats n l (afterPut s e)) (free-accepted es x xs id ids f)
+      (put-written mode repeats n es s w e (word-id mode x id (f .words 0 (omega arith)))) in
+      puts-keep next (afterPut s e) xs ids then (free-next es x xs id ids f) k (omega (arith, all, h))
+      ∙ put-keeps-from s e k
+      (omega (arith, all, h, w .end, entriesSize-snoc es e, entriesSize-append next (entriesListed xs ids)))
+
+-- ---- the list
+
+module _ (mode : Mode) (repeats : Repeats) (buffer bytes ends ids : List ℕ) (good : astray (length bytes) 0 ends ≡ false) (many : length ends ≤ length ids)
+    (room : headSize ≤ length buffer) (roomy : Roomy mode ends ids (length buffer)) (words : (i : ℕ) → i < length ends → getD ids i 0 < 2 ^ 32)
+    (zeros : (i : ℕ) → i < length ends → hasZero (nth (names bytes ends) i) ≡ false)
+    (apart : refusesRepeats repeats ≡ true → (i j : ℕ) → j < i → i < length ends → same (nth (names bytes ends) j) (nth (names bytes ends) i) ≡ false) where
+  abbrev n : ℕ
+  n = length buffer
+
+  abbrev xs : List (List ℕ)
+  xs = names bytes ends
+
+  abbrev es : List Entry
+  es = entriesListed xs ids
+
+  abbrev cs : List Call
+  cs = listed bytes ends ids
+
+  free-all : Free mode repeats n [] xs ids
+  unfolding holds
+  free-all =
+      let all = length-names bytes ends in
+      record {
+        many = omega (arith, all, many);
+        within = size-within mode buffer bytes ends ids good many roomy;
+        small = size-small mode buffer bytes ends ids good many roomy;
+        words = λ i h. words i (omega arith);
+        zeros = λ i h. zeros i (omega arith);
+        new = λ off i h. refl;
+        apart = λ off i j h k. apart off i j h (omega arith);
+      }
+
+  word : WordIds mode cs
+  word = word-ids mode xs ids (free-all .words)
+
+  accepted-is : accepted mode repeats n cs ≡ es
+  unfolding accepted
+  accepted-is = all-accepted mode repeats n [] xs ids free-all
+
+  -- every put is accepted, and answered by none
+  pub accepted-all : acceptedPuts mode repeats buffer (listed bytes ends ids) ≡ entriesListed (names bytes ends) ids
+  accepted-all = list-accepted mode repeats buffer room cs word ∙ accepted-is
+
+  pub answers-none : answersOf mode repeats buffer (listed bytes ends ids) ≡ replicate (length ends) 0
+  unfolding due
+  answers-none =
+      list-answers mode repeats buffer room cs word
+      ∙ none-due mode repeats n [] xs ids free-all
+      ∙ ap (λ (k : ℕ). replicate k 0) (length-names bytes ends)
+
+  -- the list leaves these entries, and keeps the bytes behind them
+  left-all : Written mode repeats n es (afterList mode repeats buffer cs)
+  left-all = subst (λ (l : List Entry). Written mode repeats n l (afterList mode repeats buffer cs)) accepted-is (list-written mode repeats buffer room cs word)
+
+  behind-all : drop (imageSize mode es) (afterList mode repeats buffer cs .buffer) ≡ drop (imageSize mode es) buffer
+  unfolding fresh
+  behind-all = puts-keep mode repeats n [] (fresh mode repeats buffer) xs ids (fresh-written mode repeats buffer room) free-all (imageSize mode es) (omega arith)
+
+  -- one close gives the size of their image, and leaves it
+  pub size-all : closedSize (afterList mode repeats buffer (listed bytes ends ids)) ≡ imageSize mode (entriesListed (names bytes ends) ids)
+  size-all = written-size mode repeats n es (afterList mode repeats buffer cs) left-all
+
+  pub closed-all : afterClose (afterList mode repeats buffer (listed bytes ends ids)) .buffer
+      ≡ image mode (entriesListed (names bytes ends) ids) ++ drop (imageSize mode (entriesListed (names bytes ends) ids)) buffer
+  closed-all =
+      let s = afterList mode repeats buffer cs in
+      ap (λ (t : State). t .buffer) (close-closed mode repeats n es s left-all)
+      ∙ closed-buffer mode repeats n es s left-all
+      ∙ ap (λ (l : List ℕ). image mode es ++ l) behind-all
+
+-- ---- their entries in a buffer
+
+-- where the entries of all names stand, finishing finds what it asks for, and these entries
+module _ (mode : Mode) (buffer bytes ends ids : List ℕ) (good : astray (length bytes) 0 ends ≡ false) (many : length ends ≤ length ids)
+    (roomy : Roomy mode ends ids (length buffer)) (words : (i : ℕ) → i < length ends → getD ids i 0 < 2 ^ 32) where
+  abbrev all : List Entry
+  all = entriesListed (names bytes ends) ids
+
+  abbrev writer : CQDBWriter
+  writer = record { mode = mode; repeats = On; length = length buffer; end = entriesEnd all; entries = length ends; back = backSizeOf mode all }
+
+  module _ (counts buf : List ℕ) (long : length buf ≡ length buffer) (area : between buf headSize (entriesEnd (entriesListed (names bytes ends) ids)) ≡ cat entryBytes (entriesListed (names bytes ends) ids))
+      (tallies : (t : ℕ) → t < 256 → getD counts t 0 ≡ count t (placed headSize (entriesListed (names bytes ends) ids))) (tables : length counts ≡ 256) where
+    written-all : Written mode On (length buffer) all (stateWith writer counts buf)
+    written-all =
+        let size : entriesSize all ≡ entriesEnd all - headSize = omega arith in
+        let number = length-names bytes ends in
+        record {
+          mode-is = refl;
+          repeats-is = refl;
+          length-is = refl;
+          length-kept = long;
+          end = refl;
+          entries = sym (number-all bytes ends ids good many);
+          back-size = refl;
+          tables = tables;
+          counts = tallies;
+          area = ap (λ (k : ℕ). take k (drop headSize buf)) size ∙ area;
+          within = size-within mode buffer bytes ends ids good many roomy;
+          below = size-small mode buffer bytes ends ids good many roomy;
+          ids = entries-back (names bytes ends) ids (2 ^ 32) (λ i h. words i (omega arith));
+        }
+
+    pub standing-all : standing buf (entriesEnd (entriesListed (names bytes ends) ids)) (length ends) ≡ entriesListed (names bytes ends) ids
+    standing-all = written-recorded mode On (length buffer) all (stateWith writer counts buf) written-all
+
+    pub stands-all : Standing mode (entriesEnd (entriesListed (names bytes ends) ids)) (length ends) (backSizeOf mode (entriesListed (names bytes ends) ids)) counts buf
+    stands-all =
+        let s = stateWith writer counts buf in
+        let ok = closable s (close-accepted mode On (length buffer) all s written-all) in
+        stands writer counts buf (ok .fit) (ok .fine) (ok .all)

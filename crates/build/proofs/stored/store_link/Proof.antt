@@ -1,0 +1,51 @@
+-- `build::stored::store_link` meets its contract. Assumes nothing.
+use Prim.Native.Nat.{_+_}
+use native.Mathlib.Omega.{arith}
+use mathlib.Core.Path.{sym, ap, _∙_}
+use borrow.Author.Needs.{needs}
+use Rattle.image.specs.declared.Mode.{Mode}
+use Rattle.image.specs.Image.{backIn}
+use Rattle.taking.specs.steps.Working.{withLink}
+use Rattle.build.proofs.stored.store_link.Statement.{statement}
+use Rattle.build.proofs.stored.store_link.Tie as tie
+
+enum-told : tie.Need-enum-told
+enum-told c = search needs
+
+mul-store-word : tie.Need-mul-store-word
+mul-store-word c = search needs
+
+add-store-word : tie.Need-add-store-word
+add-store-word c = search needs
+
+store-word-requires : tie.Need-store-word-requires
+store-word-requires c κs =
+    let s = c .before .before .before .before in
+    omega (arith, s .pre, ap (λ (m : Mode). backIn m (s .args .id + 1)) (c .before .enum-told .given .1))
+
+enum-told-2 : tie.Need-enum-told-2
+enum-told-2 c = search needs
+
+same-length : tie.Need-same-length
+same-length c = search needs
+
+returns : tie.Need-returns
+returns c =
+    let a = c .before .before .before .before .before .before .before .args in
+    c .before .before .store-word .ensures ∙ ap (λ (m : Mode). withLink m (a .buf .now) (a .links) (a .id) (a .at)) (sym (c .before .before .before .before .enum-told .given .1))
+
+returns-2 : tie.Need-returns-2
+returns-2 c = search needs
+
+pub store-link-spec : {M : Type 1} → statement M
+store-link-spec =
+    tie.close
+    (tie.spec
+    enum-told
+    mul-store-word
+    add-store-word
+    store-word-requires
+    enum-told-2
+    same-length
+    returns
+    returns-2)

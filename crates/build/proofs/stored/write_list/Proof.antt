@@ -1,0 +1,187 @@
+-- `build::stored::write_list` meets its contract. Assumes nothing.
+use Prim.Native.Nat.{ℕ, _+_, _*_, _-_, _^_, _≤_, _<_}
+use native.Mathlib.Omega.{arith}
+use mathlib.Core.Path.{_≡_, refl, sym, ap, subst, _∙_}
+use lib.ListN.{length, getD, drop, replicate}
+use borrow.Author.Needs.{needs}
+use Rattle.image.specs.Image.{backIn, imageSize}
+use Rattle.joined.specs.Names.{names}
+use Rattle.build.specs.steps.PutsAlong.{entriesListed}
+use Rattle.image.specs.Stored.{between}
+use Rattle.joined.proofs.NameEnds.{begin-later}
+use Rattle.build.proofs.ListWhole.{Numbers, numbers, zeros-between, zeros-behind, asked, left-image}
+use Rattle.build.proofs.stored.write_list.Statement.{statement}
+use Rattle.build.proofs.stored.write_list.Tie as tie
+
+sub-end : tie.Need-sub-end
+sub-end c = search needs
+
+mul-end : tie.Need-mul-end
+mul-end c = search needs
+
+shared-slice-read-end : tie.Need-shared-slice-read-end
+shared-slice-read-end c = search needs
+
+add-end : tie.Need-add-end
+add-end c =
+    let s = c .before .before .before .before .before .before in
+    let n = length (s .args .ends .now) in
+    omega (arith, s .pre .1, s .pre .4 .small, begin-later (s .args .ends .now) n (λ z. omega (arith, s .pre .1)))
+
+mul-end-2 : tie.Need-mul-end-2
+mul-end-2 c = search needs
+
+add-end-2 : tie.Need-add-end-2
+add-end-2 c =
+    let s = c .before .before .before .before .before .before in
+    let n = length (s .args .ends .now) in
+    omega (arith, s .pre .1, s .pre .4 .small, begin-later (s .args .ends .now) n (λ z. omega (arith, s .pre .1)))
+
+largest-requires : tie.Need-largest-requires
+largest-requires c κs = search needs
+
+cast-back-in : tie.Need-cast-back-in
+cast-back-in c = search needs
+
+add-back-in : tie.Need-add-back-in
+add-back-in c = search needs
+
+back-in-requires : tie.Need-back-in-requires
+back-in-requires c κs = search needs
+
+mul-at : tie.Need-mul-at
+mul-at c = search needs
+
+-- ids are words
+words : (c : tie.After-back-in) (i : ℕ) → i < length (c .before .before .before .before .before .before .before .before .args .ends .now) → getD (c .before .before .before .before .before .before .before .before .args .ids .now) i 0 < 2 ^ 32
+words c i h = omega (arith, c .before .before .before .before .shared-slice-known3 .given i)
+
+-- the numbers, once the back size is known
+abbrev Known : tie.After-back-in → Type 0
+Known c =
+    let s = c .before .before .before .before .before .before .before .before in
+    let a = s .args in
+    let n = length (a .ends .now) in
+    let end = 2072 + getD (a .ends .now) (n - 1) 0 + 9 * n in
+    Numbers (a .mode) (a .buf .now) (a .bytes .now) (a .ends .now) (a .ids .now) (s .pre .0) (s .pre .3) (s .pre .4) (words c) end (c .back-in .result) (end + 16 * n)
+    (end + 16 * n + 4 * c .back-in .result)
+
+known : (c : tie.After-back-in) → Known c
+known c =
+    let s = c .before .before .before .before .before .before .before .before in
+    let a = s .args in
+    numbers (a .mode) (a .buf .now) (a .bytes .now) (a .ends .now) (a .ids .now) (s .pre .0) (s .pre .3) (s .pre .4) (words c) (s .pre .1) (c .back-in .result)
+    (c .back-in .ensures ∙ ap (λ (m : ℕ). backIn (a .mode) (m + 1)) (c .before .largest .ensures))
+
+add-at : tie.Need-add-at
+add-at c =
+    let z = known c in
+    omega (arith, z .small)
+
+mul-size : tie.Need-mul-size
+mul-size c =
+    let z = known c in
+    omega (arith, z .small)
+
+add-size : tie.Need-add-size
+add-size c =
+    let z = known c in
+    omega (arith, z .small)
+
+clear-requires : tie.Need-clear-requires
+clear-requires c κs =
+    let z = known (c .before) in
+    (omega arith, z .within)
+
+store-list-requires : tie.Need-store-list-requires
+store-list-requires c κs =
+    let s = c .before .before .before .before .before .before .before .before .before .before .before .before .before in
+    let a = s .args in
+    let z = known (c .before .before .before .before .before) in
+    let cleared = c .before .before .before .clear in
+    let same : length (cleared .last .0) ≡ length (a .buf .now) = cleared .kept .0 in (
+      s .pre .0,
+      s .pre .2,
+      s .pre .3,
+      omega (arith, z .within, z .size-is, same),
+      omega (arith, z .small, z .size-is),
+      z .at-is,
+      ap (between (cleared .last .0) _) (sym (z .size-is))
+          ∙ zeros-between (a .buf .now) _ (4 * c .before .before .before .before .before .back-in .result) (z .within) (cleared .last .0) _ refl (cleared .ensures)
+          ∙ ap (λ (k : ℕ). replicate {A = ℕ} (4 * k) 0) (z .back-is),
+    )
+
+cast-write-image-with : tie.Need-cast-write-image-with
+cast-write-image-with c = search needs
+
+cast-write-image-with-2 : tie.Need-cast-write-image-with-2
+cast-write-image-with-2 c =
+    let z = known (c .before .before .before .before .before .before .before .before) in
+    omega (arith, z .small)
+
+write-image-with-requires : tie.Need-write-image-with-requires
+write-image-with-requires c κs =
+    let s = c .before .before .before .before .before .before .before .before .before .before .before .before .before .before .before .before .before in
+    let a = s .args in
+    let told = c .before .before .before .before .before .before .before .before .before in
+    let z = known told in
+    let cleared = c .before .before .before .before .before .before .before .clear in
+    let stored = c .before .before .before .store-list in
+    let same : length (cleared .last .0) ≡ length (a .buf .now) = cleared .kept .0 in
+    let buf = stored .last .1 .1 .1 .1 .1 .0 in
+    asked (a .mode) (a .buf .now) (a .bytes .now) (a .ends .now) (a .ids .now) (s .pre .0) (s .pre .3) (s .pre .4) (words told) (a .counts .now) buf
+    (stored .ensures .1 .1 .1 ∙ same) (stored .ensures .0) (s .pre .6) (s .pre .5) _ (told .back-in .result) (z .end-is) (z .back-is) (a .words .now) (s .pre .7)
+    (ap (λ (k : ℕ). between buf k (imageSize (a .mode) (entriesListed (names (a .bytes .now) (a .ends .now)) (a .ids .now)))) (sym (z .at-is)) ∙ stored .ensures .1 .0)
+
+cast-result : tie.Need-cast-result
+cast-result c =
+    let z = known (c .before .before .before .before .before .before .before .before .before .before .before .before) in
+    omega (arith, z .small)
+
+same-length : tie.Need-same-length
+same-length c = search needs
+
+returns : tie.Need-returns
+returns c =
+    let s = c .before .before .before .before .before .before .before .before .before .before .before .before .before .before .before .before .before .before .before .before in
+    let a = s .args in
+    let told = c .before .before .before .before .before .before .before .before .before .before .before .before in
+    let z = known told in
+    let cleared = c .before .before .before .before .before .before .before .before .before .before .clear in
+    let stored = c .before .before .before .before .before .before .store-list in
+    let done = c .before .before .write-image-with in
+    let same : length (cleared .last .0) ≡ length (a .buf .now) = cleared .kept .0 in
+    let buf = stored .last .1 .1 .1 .1 .1 .0 in
+    let behind = zeros-behind (a .buf .now) _ (4 * told .back-in .result) (z .within) (cleared .last .0) _ refl (cleared .ensures) in (
+      z .size-is,
+      left-image (a .mode) (a .buf .now) (a .bytes .now) (a .ends .now) (a .ids .now) (s .pre .0) (s .pre .3) (s .pre .4) (words told) (a .counts .now) buf
+          (stored .ensures .1 .1 .1 ∙ same) (stored .ensures .0) (s .pre .6) (s .pre .5) _ (told .back-in .result) (z .end-is) (z .back-is)
+          (stored .ensures .1 .1 .0 ∙ ap (λ (k : ℕ). drop k (cleared .last .0)) (sym (z .size-is)) ∙ behind ∙ ap (λ (k : ℕ). drop k (a .buf .now)) (z .size-is)) _ (done .ensures),
+    )
+
+pub write-list-spec : {M : Type 1} → statement M
+write-list-spec =
+    tie.close
+    (tie.spec
+    sub-end
+    mul-end
+    shared-slice-read-end
+    add-end
+    mul-end-2
+    add-end-2
+    largest-requires
+    cast-back-in
+    add-back-in
+    back-in-requires
+    mul-at
+    add-at
+    mul-size
+    add-size
+    clear-requires
+    store-list-requires
+    cast-write-image-with
+    cast-write-image-with-2
+    write-image-with-requires
+    cast-result
+    same-length
+    returns)
