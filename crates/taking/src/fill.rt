@@ -78,14 +78,7 @@ fn take_entry(mode: Mode, links: usize, buf: &mut [u8], at: usize, n: usize)
 }
 
 // The entries from `from` on, one after the other.
-pub fn take_singly(
-    mode: Mode,
-    links: usize,
-    buf: &mut [u8],
-    from: usize,
-    end: usize,
-    entries: u32,
-)
+pub fn take_singly(mode: Mode, links: usize, buf: &mut [u8], from: usize, end: usize, entries: u32)
     requires { ⌜ (from ≤ end) × (end ≤ length (now buf)) × (end < 4294967296) × (links < 4294967296) ⌝ }
     ensures { λ _. ⌜ now (buf .exit) ≡ takenFrom mode links end entries from (now (buf .entry)) ⌝ }
 {
