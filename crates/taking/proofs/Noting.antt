@@ -15,7 +15,8 @@ use Rattle.image.specs.Bytes.{word, le32}
 use Rattle.image.specs.Tables.{tableOf}
 use Rattle.image.specs.declared.Mode.{Mode}
 use Rattle.image.specs.declared.Mode.the-variants.{Twoway, Oneway}
-use Rattle.image.specs.Stored.{between, wholeLength}
+use Rattle.image.specs.Stored.{between}
+use Rattle.image.specs.steps.EntryLength.{wholeLength}
 use Rattle.taking.specs.steps.Working.{bucketFor, withBucket, withLink, entryTaken, takenFrom, placeOf, NotedFirst, Noted, linksApart}
 use Rattle.image.proofs.Between.{Front, front, entry-room, length-between, word-between, name-between, between-same, word-same, take-sets}
 use Rattle.taking.proofs.Taking.{taken-parts, from-turn}
