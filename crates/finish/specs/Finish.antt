@@ -13,4 +13,5 @@ standing buf end entries = entriesIn entries (between buf headSize end)
 
 -- what finishing leaves: the image of the entries. Bytes from the image's size on keep their content
 abbrev pub finishedBuffer : Mode → ℕ → ℕ → ℕ → List ℕ → List ℕ
-finishedBuffer mode end entries back buf = image mode (standing buf end entries) ++ drop (finishedOf mode end entries back) buf
+finishedBuffer mode end entries back buf =
+    image mode (standing buf end entries) ++ drop (finishedOf mode end entries back) buf

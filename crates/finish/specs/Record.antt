@@ -1,5 +1,5 @@
--- The rules of the writer record that need its numbers and counts alone: 01, "The writer record" and "When a call is refused". What it means that the
--- record fits a buffer is said with them in specs/State of the crate writer.
+-- The rules of the writer record that need its numbers and counts alone: 01, "The writer record" and "When a call is
+-- refused". What it means that the record fits a buffer is said with them in specs/State of the crate writer.
 use Prim.Native.Nat.{ℕ, _+_, _*_}
 use mathlib.Core.Bool.{Bool}
 use mathlib.Core.List.{List}

@@ -1,4 +1,5 @@
--- What a walk over the ids lists, and that it ends for good, on every byte string: 01, "Walking, and the added home check".
+-- What a walk over the ids lists, and that it ends for good, on every byte string: 01, "Walking, and the added home
+-- check".
 use Prim.Native.Nat.{ℕ, _+_, _-_, _≤_, _<_}
 use mathlib.Core.Path.{_≡_}
 use mathlib.Core.List.{List, _++_, map}
@@ -21,8 +22,10 @@ pub record Ends (image : List ℕ) : Type 0 where
   pub within : at ≤ backSizeAt image
 
 pub record Walks : Type 0 where
-  -- the walk from id 0: each id up to the first without a name in turn, with the place of its name, and from then on the end
-  pub walk-lists : (image : List ℕ) (k : ℕ) → First image 0 k → (r : ℕ) → steps image 0 (k + r) ≡ map (step image) (range 0 k) ++ replicate r done
+  -- the walk from id 0: each id up to the first without a name in turn, with the place of its name, and from then on
+  -- the end
+  pub walk-lists : (image : List ℕ) (k : ℕ) → First image 0 k → (r : ℕ)
+      → steps image 0 (k + r) ≡ map (step image) (range 0 k) ++ replicate r done
   -- a walk that has ended stays where it stands: every further step is the end again
   pub stays-ended : (image : List ℕ) (n : ℕ) → step image n ≡ done → (m : ℕ) → steps image n m ≡ replicate m done
   -- every walk ends

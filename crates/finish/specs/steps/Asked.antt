@@ -1,4 +1,5 @@
--- What finishing asks of its callers, as the code needs it. No rule of 01 stands here: close has checked as much, by specs/Close of the crate writer.
+-- What finishing asks of its callers, as the code needs it. No rule of 01 stands here: close has checked as much, by
+-- specs/Close of the crate writer.
 use Prim.Native.Nat.{ℕ, _+_, _*_, _≤_}
 use mathlib.Core.Path.{_≡_}
 use mathlib.Core.Bool.{true}
@@ -11,8 +12,8 @@ use Rattle.image.specs.declared.Mode.{Mode}
 use Rattle.finish.specs.Record.{finishedOf, countsAgree}
 use Rattle.finish.specs.Finish.{standing}
 
--- what finishing asks for: the bytes from 2,072 to end are this number of whole entries, with these table counts and this back size (0 if
--- one-way), and the finished size exceeds neither the buffer nor 4,294,967,295
+-- what finishing asks for: the bytes from 2,072 to end are this number of whole entries, with these table counts and
+-- this back size (0 if one-way), and the finished size exceeds neither the buffer nor 4,294,967,295
 pub record Standing (mode : Mode) (end entries back : ℕ) (counts buf : List ℕ) : Type 0 where
   pub low : headSize ≤ end
   pub entire : whole entries (between buf headSize end) ≡ true
@@ -28,4 +29,5 @@ TablesAtHand words es = cat le32 words ≡ tables (placed headSize es)
 -- the back array of the entries stands behind the tables
 abbrev pub LinksStand : Mode → ℕ → ℕ → ℕ → List ℕ → Type 0
 LinksStand mode end entries back buf =
-    between buf (end + 16 * entries) (finishedOf mode end entries back) ≡ links (placed headSize (standing buf end entries)) (backIn mode back)
+    between buf (end + 16 * entries) (finishedOf mode end entries back)
+    ≡ links (placed headSize (standing buf end entries)) (backIn mode back)
