@@ -19,7 +19,8 @@ use Rattle.image.proofs.Bools.{neither-first, neither-second}
 use Rattle.image.proofs.Sizes.{entriesSize-append}
 use Rattle.joined.specs.Names.{namesFrom, names, astray, nth, beginOf}
 use Rattle.joined.proofs.NameEnds.{length-names}
-use Rattle.finish.specs.Finish.{Standing, standing}
+use Rattle.finish.specs.Finish.{standing}
+use Rattle.finish.specs.steps.Asked.{Standing}
 use Rattle.writer.specs.declared.Repeats.{Repeats}
 use Rattle.writer.specs.declared.Repeats.the-variants.{Off, On}
 use Rattle.writer.specs.declared.CQDBWriter.{CQDBWriter}

@@ -13,7 +13,9 @@ use Rattle.image.specs.declared.Mode.{Mode}
 use Rattle.image.proofs.Sizes.{backIn-twice}
 use Rattle.joined.specs.Names.{names, nth, astray, beginOf}
 use Rattle.joined.proofs.NameEnds.{length-names}
-use Rattle.finish.specs.Finish.{Standing, standing, finishedOf, finishedBuffer, TablesAtHand, LinksStand}
+use Rattle.finish.specs.Finish.{standing, finishedBuffer}
+use Rattle.finish.specs.Record.{finishedOf}
+use Rattle.finish.specs.steps.Asked.{Standing, TablesAtHand, LinksStand}
 use Rattle.tabling.specs.steps.Parted.{tableOfName, countOfTable}
 use Rattle.tabling.proofs.PairsOfTable.{table-count}
 use Rattle.tabling.proofs.Offsets.{names-short}

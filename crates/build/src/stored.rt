@@ -11,7 +11,7 @@ ghost use Rattle.image.specs.Stored.{between};
 ghost use Rattle.image.specs.Image.{Entry, headSize, entryBytes, placed, links, backIn, entriesEnd, backSizeOf, imageSize, image};
 ghost use Rattle.joined.specs.Names.{names, astray};
 ghost use Rattle.taking.specs.steps.Working.{withLink};
-ghost use Rattle.finish.specs.Finish.{TablesAtHand};
+ghost use Rattle.finish.specs.steps.Asked.{TablesAtHand};
 ghost use Rattle.tabling.specs.steps.Parted.{tableOfName, countOfTable};
 ghost use Rattle.writer.specs.Put.{entryOf};
 ghost use Rattle.build.specs.steps.PutsAlong.{entriesListed};

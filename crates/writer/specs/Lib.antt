@@ -2,4 +2,5 @@
 pub mod State
 pub mod Put
 pub mod Close
+pub mod Kept
 pub mod steps
