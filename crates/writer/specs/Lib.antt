@@ -2,4 +2,5 @@
 pub mod State
 pub mod Put
 pub mod Close
+pub mod Grown
 pub mod steps
