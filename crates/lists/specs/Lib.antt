@@ -7,3 +7,5 @@ pub mod OneWay
 pub mod QuayRows
 pub mod Readings
 pub mod RepeatsOff
+pub mod Room
+pub mod LongerBuffer
