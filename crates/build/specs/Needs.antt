@@ -1,4 +1,5 @@
--- What a whole list needs: an added call. So many bytes have room for the image of all its names, and so many words are worth lending to the call.
+-- What a whole list needs: an added call. So many bytes have room for the image of all its names, and so many words
+-- are worth lending to the call.
 use Prim.Native.Nat.{ℕ, _+_, _*_, _-_, _^_, _≤_, min, max}
 use mathlib.Core.Path.{_≡_}
 use mathlib.Core.Bool.{false}
@@ -22,7 +23,8 @@ unfoldable pub idsBack : List ℕ → ℕ
 idsBack [] = 0
 idsBack (id ∷ ids) = max (id + 1) (idsBack ids)
 
--- the size of the image of all names, which have `size` bytes together: 2,072, the names, 25 for each, and in two-way mode 4 × (the largest id + 1)
+-- the size of the image of all names, which have `size` bytes together: 2,072, the names, 25 for each, and in two-way
+-- mode 4 × (the largest id + 1)
 unfoldable pub bytesNeeded : Mode → ℕ → List ℕ → ℕ
 bytesNeeded mode size ids = atMost (headSize + size + 25 * length ids + 4 * backIn mode (idsBack ids))
 
@@ -36,9 +38,11 @@ needed mode size ids = record { bytes = bytesNeeded mode size ids; words = atMos
 -- ---- what is proved of it
 
 pub record NeedsHold : Type 0 where
-  -- in a buffer of so many bytes no put of the list is refused with 3, in either mode and with either choice of repeats, unless they exceed 4,294,967,295
-  pub none-refused : (mode : Mode) (repeats : Repeats) (buffer bytes ends ids : List ℕ) → astray (length bytes) 0 ends ≡ false
-      → WordIds mode (listed bytes ends ids) → bytesNeeded mode (length bytes) ids ≤ length buffer → bytesNeeded mode (length bytes) ids ≤ 4294967295
+  -- in a buffer of so many bytes no put of the list is refused with 3, in either mode and with either choice of
+  -- repeats, unless they exceed 4,294,967,295
+  pub none-refused : (mode : Mode) (repeats : Repeats) (buffer bytes ends ids : List ℕ)
+      → astray (length bytes) 0 ends ≡ false → WordIds mode (listed bytes ends ids)
+      → bytesNeeded mode (length bytes) ids ≤ length buffer → bytesNeeded mode (length bytes) ids ≤ 4294967295
       → (i : ℕ) → getD (answersOf mode repeats buffer (listed bytes ends ids)) i 0 ≡ 3 → ⊥
   -- and no byte of it is too many: it is the size of the image of all names, so any shorter buffer refuses one of them
   pub exact : (mode : Mode) (xs : List (List ℕ)) (ids : List ℕ) → length xs ≡ length ids

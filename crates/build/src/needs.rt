@@ -1,4 +1,5 @@
-// What a list needs: the bytes of a buffer in which no put is refused for room, and the words of lent memory for the fast way.
+// What a list needs: the bytes of a buffer in which no put is refused for room, and the words of lent memory for the
+// fast way.
 ghost use mathlib.Core.Path.{_≡_};
 ghost use Prim.Native.Nat.{_+_, _*_, _≤_, _^_, min};
 ghost use Rattle.build.specs.Needs.{atMost, wordsEach, idsBack, bytesNeeded, needed};

@@ -74,8 +74,8 @@ pub struct NeedsAnswer {
     pub words: u64,
 }
 
-// What a list of names, which have `size` bytes together, with these ids needs; 2^64 - 1 where it is more. Every mode but 0 is
-// one-way.
+// What a list of names, which have `size` bytes together, with these ids needs; 2^64 - 1 where it is more. Every mode
+// but 0 is one-way.
 #[no_mangle]
 pub extern "C" fn cqdb_build_needs(mode: u32, size: usize, ids: &[u32]) -> NeedsAnswer
     ensures { λ r. ⌜ r ≡ needsAnswer mode size (now (ids .entry)) ⌝ }

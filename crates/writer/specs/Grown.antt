@@ -1,4 +1,5 @@
--- A buffer that grows between calls: an added call. The entries stand where they stood, and the record takes the new length.
+-- A buffer that grows between calls: an added call. The entries stand where they stood, and the record takes the new
+-- length.
 use Prim.Native.Nat.{ℕ}
 use mathlib.Core.Bool.{cond}
 use lib.Dec.{ltb}

@@ -35,7 +35,8 @@ pub enum Begun {
     Refused(u32),
 }
 
-// What put and grown answer, the number of the refusal or 0 where the call is accepted, and the record that it hands back.
+// What put and grown answer, the number of the refusal or 0 where the call is accepted, and the record that it hands
+// back.
 pub struct PutAnswer {
     pub refusal: u32,
     pub writer: CQDBWriter,
@@ -149,7 +150,8 @@ pub fn put(
     PutAnswer { refusal: 0, writer }
 }
 
-// The record of a buffer that has grown to this length, whose entries stand where they stood; or refusal 2 for a shorter buffer.
+// The record of a buffer that has grown to this length, whose entries stand where they stood; or refusal 2 for a
+// shorter buffer.
 pub fn grown(w: CQDBWriter, length: u64) -> PutAnswer
     ensures answer { λ r. ⌜ r .refusal ≡ grownRefusal w length ⌝ }
     ensures leaves { λ r. ⌜ r .writer ≡ grownWriter w length ⌝ }
