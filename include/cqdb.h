@@ -20,7 +20,9 @@
    copy. That put writes where the close had placed the tables, so until the next close the buffer is no image, though
    cqdb_open may still accept it: names and ids may then give nothing, or each other's answers. See cqdb_put.
 
-   What is proved is the archive. The declarations, structs and inline functions of this file are tested. */
+   What is proved is the archive. The declarations, structs and inline functions of this file are tested. The inline functions
+   only copy numbers (begin: where it is accepted), pass arguments on (rounds: four words for each place) or take a C string's
+   length. */
 #ifndef CQDB_H
 #define CQDB_H
 
@@ -219,9 +221,9 @@ typedef struct {
 #define CQDB_REPEATS_OFF 0u
 #define CQDB_REPEATS_ON 1u
 
-/* The archive exports cqdb_begin_parts, cqdb_put_parts and cqdb_close_parts; cqdb_begin, cqdb_put and cqdb_close below
-   call them, and programs in other languages may. They take the writer in two parts: a cqdb_record by value, and the
-   counts, which are lent and changed in place. */
+/* The archive exports cqdb_begin_parts, cqdb_put_parts, cqdb_close_parts and cqdb_grown_parts; cqdb_begin, cqdb_put,
+   cqdb_close and cqdb_grown below call them, and programs in other languages may. They take the writer in two parts: a
+   cqdb_record by value, and the counts, which are lent and changed in place. */
 typedef struct {
     uint32_t mode;
     uint32_t repeats;
@@ -255,6 +257,7 @@ cqdb_begin_answer cqdb_begin_parts(uint32_t mode, uint32_t repeats, uint32_t *co
 cqdb_put_answer cqdb_put_parts(cqdb_record record, uint32_t *counts, uint8_t *buf, size_t len,
                                const uint8_t *name, size_t name_len, uint32_t id);
 cqdb_close_parts_answer cqdb_close_parts(cqdb_record record, const uint32_t *counts, uint8_t *buf, size_t len);
+cqdb_put_answer cqdb_grown_parts(cqdb_record record, uint64_t len);
 
 /* refusal is 0 when the call was accepted; size is the image's, 0 when the call was refused. */
 typedef struct {
@@ -327,15 +330,14 @@ static inline uint32_t cqdb_put_text(cqdb_writer *w, uint8_t *buf, size_t len, c
     return cqdb_put(w, buf, len, (const uint8_t *)name, strlen(name), id);
 }
 
-/* Takes the new length of a buffer that has grown, as by realloc after refusal 3. The bytes up to w->end are those of
-   before; what follows them does not matter, and where the buffer stands does not either. The writer is then as if it had
-   begun with the larger buffer. Gives 0, or 2, and the writer stays as it was, when the buffer has become shorter. */
+/* Takes the new length of a buffer that has grown, as by realloc after refusal 3. The bytes from 2,072 to w->end are those of
+   before; what the others are does not matter, and where the buffer stands does not either. The writer is then as if it had
+   begun with the larger buffer and been given the accepted puts. Gives 0, or 2, and the writer stays as it was, when the buffer
+   has become shorter, or for a mode or a repeats that is neither 0 nor 1. */
 static inline uint32_t cqdb_grown(cqdb_writer *w, size_t len) {
-    if (len < w->length) {
-        return CQDB_UNFIT;
-    }
-    w->length = len;
-    return 0;
+    cqdb_put_answer a = cqdb_grown_parts(cqdb_record_of(w), len);
+    cqdb_keep(w, a.record);
+    return a.refusal;
 }
 
 /* Writes head, tables and back array: the buffer's first `size` bytes are then the image, up to the next accepted put.
@@ -386,21 +388,11 @@ typedef struct {
     uint64_t words;
 } cqdb_build_needs_answer;
 
-/* In a buffer of so many bytes no put of the list is refused for room, unless they exceed 4,294,967,295; with so many words it
-   goes the fast way, in linear time. names_len is the length of the joined names. */
-static inline cqdb_build_needs_answer cqdb_build_needs(uint32_t mode, size_t names_len, const uint32_t *ids, size_t n) {
-    cqdb_build_needs_answer a = {2072 + (uint64_t)names_len + 25 * (uint64_t)n, 7 * (uint64_t)n};
-    uint64_t back = 0;
-    for (size_t i = 0; i < n; i++) {
-        if (ids[i] >= back) {
-            back = (uint64_t)ids[i] + 1;
-        }
-    }
-    if (mode == CQDB_TWOWAY) {
-        a.bytes += 4 * back;
-    }
-    return a;
-}
+/* In a buffer of so many bytes no put of the list is refused with 3, with either choice of repeats, unless they exceed
+   4,294,967,295; with so many words it goes the fast way, in linear time. names_len is the length of the joined names, and n the
+   number of ids. Without a refused put and without a byte behind the last name, bytes is the image's size. A mode other than 0
+   is taken as one-way, and what exceeds 2^64 - 1 is given as that. Changes nothing, and reads each id once. */
+cqdb_build_needs_answer cqdb_build_needs(uint32_t mode, size_t names_len, const uint32_t *ids, size_t n);
 
 /* Order of a round. Needs no image. */
 

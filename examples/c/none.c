@@ -63,6 +63,7 @@ static void check_lists(void) {
     uint32_t ids[2] = {3, 4}, refusals[2] = {9, 9};
     cqdb_build_answer none = cqdb_build(CQDB_TWOWAY, CQDB_REPEATS_OFF, buf, sizeof buf, NULL, 0, NULL, NULL, 0, NULL, 0, NULL, 0);
     expect(none.refusal == 0 && none.size == 2072 && none.accepted == 0, "a list of no names");
+    expect(cqdb_build_needs(CQDB_TWOWAY, 0, NULL, 0).bytes == 2072, "what a list of no names needs");
     cqdb_build_answer two = cqdb_build(CQDB_TWOWAY, CQDB_REPEATS_OFF, buf, sizeof buf, NULL, 0, ends, ids, 2, refusals, 2, NULL, 0);
     expect(two.refusal == 0 && two.accepted == 1 && refusals[0] == 0 && refusals[1] == CQDB_REPEATED, "a list of empty names");
     expect(cqdb_to_id(buf, two.size, NULL, 0).id == 3, "the empty name of a list");

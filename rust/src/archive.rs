@@ -45,7 +45,7 @@ pub struct Record {
     pub end: u64,
 }
 
-/// What begin and put answer.
+/// What begin, put and grown answer.
 #[repr(C)]
 #[derive(Clone, Copy, Debug, PartialEq, Eq)]
 pub struct RecordAnswer {
@@ -191,6 +191,14 @@ pub struct BuildAnswer {
     pub accepted: u32,
 }
 
+/// How many bytes and words a list needs.
+#[repr(C)]
+#[derive(Clone, Copy, Debug, PartialEq, Eq)]
+pub struct BuildNeeds {
+    pub bytes: u64,
+    pub words: u64,
+}
+
 /// The names of a list, joined, with the place where each ends, and their ids.
 #[derive(Clone, Copy, Debug)]
 pub struct Joined<'a> {
@@ -243,6 +251,7 @@ extern "C" {
         id: u32,
     ) -> RecordAnswer;
     fn cqdb_close_parts(record: Record, counts: *const u32, buf: *mut u8, len: usize) -> CloseAnswer;
+    fn cqdb_grown_parts(record: Record, len: u64) -> RecordAnswer;
     fn cqdb_references_first(pairs: *const Pair, n: usize, round: *const u32, m: usize) -> OrderAnswer;
     fn cqdb_sheet_read(file: *const u8, len: usize) -> SheetAnswer;
     fn cqdb_sheet_write(
@@ -284,6 +293,7 @@ extern "C" {
         work: *mut u32,
         words: usize,
     ) -> BuildAnswer;
+    fn cqdb_build_needs(mode: u32, names_len: usize, ids: *const u32, n: usize) -> BuildNeeds;
 }
 
 /// The hash of a name with a start value, or the refusal.
@@ -373,6 +383,11 @@ pub fn close(record: Record, counts: &Counts, buf: &mut [u8]) -> CloseAnswer {
     unsafe { cqdb_close_parts(record, counts.as_ptr(), buf.as_mut_ptr(), buf.len()) }
 }
 
+/// The record of a buffer that has grown to this length, or the refusal.
+pub fn grown(record: Record, len: u64) -> RecordAnswer {
+    unsafe { cqdb_grown_parts(record, len) }
+}
+
 /// Whether every pair is kept in a round, or the place of the first that is not.
 pub fn references_first(pairs: &[Pair], round: &[u32]) -> OrderAnswer {
     unsafe { cqdb_references_first(pairs.as_ptr(), pairs.len(), round.as_ptr(), round.len()) }
@@ -455,4 +470,10 @@ pub fn build(
             work.len(),
         )
     }
+}
+
+/// How many bytes have room for the image of a list whose names have `names_len` bytes together, and how many words are worth
+/// lending to [`build`].
+pub fn build_needs(mode: u32, names_len: usize, ids: &[u32]) -> BuildNeeds {
+    unsafe { cqdb_build_needs(mode, names_len, ids.as_ptr(), ids.len()) }
 }

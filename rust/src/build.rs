@@ -2,7 +2,7 @@
 use crate::archive::{self, Joined};
 use crate::flag::Flag;
 use crate::refusal::{self, Refusal};
-use crate::write::{MemoryWriter, HEAD, LIMIT};
+use crate::write::{MemoryWriter, LIMIT};
 
 /// The image of a whole list, with the refusal of each put that was refused.
 #[derive(Clone, Debug, PartialEq, Eq)]
@@ -59,13 +59,9 @@ fn build<K: AsRef<[u8]>>(
         ends.push(names.len() as u64);
         ids.push(id);
     }
-    let back = match flag {
-        Flag::ONEWAY => 0,
-        _ => ids.iter().map(|&id| 4 * (u64::from(id) + 1)).max().unwrap_or(0),
-    };
-    let needed = HEAD as u64 + names.len() as u64 + 25 * ids.len() as u64 + back;
-    let mut image = vec![0; needed.min(LIMIT) as usize];
-    let (mut refusals, mut work) = (vec![0; ids.len()], vec![0; 7 * ids.len()]);
+    let needs = archive::build_needs(flag.bits(), names.len(), &ids);
+    let mut image = vec![0; needs.bytes.min(LIMIT) as usize];
+    let (mut refusals, mut work) = (vec![0; ids.len()], vec![0; needs.words as usize]);
     let joined = Joined { names: &names, ends: &ends, ids: &ids };
     let answer = archive::build(flag.bits(), repeats, &mut image, joined, &mut refusals, &mut work);
     image.truncate(answer.size as usize);

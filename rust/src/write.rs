@@ -7,7 +7,7 @@ use crate::held::Held;
 use crate::refusal::{self, Refusal};
 
 /// The head of an image, which the entries follow.
-pub(crate) const HEAD: usize = 2_072;
+const HEAD: usize = 2_072;
 /// The length of the first buffer; it grows as needed.
 const FIRST: usize = 4_096;
 /// The archive's writer begins with repeats on: this crate's writers look for repeats themselves.
@@ -115,10 +115,14 @@ impl MemoryWriter {
         }
         let end = self.record.end as usize;
         let length = needed.max(2 * self.record.length).min(LIMIT);
+        let grown = archive::grown(self.record, length);
+        if grown.refusal != 0 {
+            return false;
+        }
         let mut larger = vec![0; length as usize];
         larger[HEAD..end].copy_from_slice(&self.buffer[HEAD..end]);
         self.buffer = larger;
-        self.record.length = length;
+        self.record = grown.record;
         true
     }
 

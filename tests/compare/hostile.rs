@@ -1,5 +1,5 @@
 // Hostile calls, to be run under valgrind: damaged images, random bytes, records that do not fit, broken buffers, pairs and rounds
-// of any ids, round sheets cut anywhere, broken bundles, any dates and windows, lists and outputs without room, loads in buffers of any length. Everything lent
+// of any ids, round sheets cut anywhere, broken bundles, any dates and windows, lists and outputs without room, buffers that grow or shrink, loads in buffers of any length. Everything lent
 // stands in a heap block of exactly its length, so that valgrind reports a read or write outside it. A refusal changes no byte,
 // reading changes none, and every place in an answer lies in what was lent.
 // hostile [CALLS | too-much]
@@ -310,6 +310,35 @@ impl Run {
         self.refused += u64::from(answer.refusal > 0);
         self.calls += 1;
         self.lists += 1;
+        self.needs(random, mode, joined);
+    }
+
+    // What a list needs, by the rule; in a heap block of exactly so many bytes none of its puts is refused with 3.
+    fn needs(&mut self, random: &mut Random, mode: u32, list: ours::Joined<'_>) {
+        let back = if mode == 0 { list.ids.iter().map(|&id| u64::from(id) + 1).max().unwrap_or(0) } else { 0 };
+        let due = (HEAD + list.names.len() + 25 * list.ids.len()) as u64 + 4 * back;
+        let needs = ours::build_needs(mode, list.names.len(), list.ids);
+        self.tally.rule(needs.bytes, due, || format!("{needs:?} for {list:?}"));
+        let long = random.pick(&[usize::MAX, usize::MAX - 2_072, usize::MAX / 2]);
+        let most = ours::build_needs(mode, long, list.ids).bytes;
+        self.tally.rule(u128::from(most), u128::from(u64::MAX).min(long as u128 + u128::from(due) - list.names.len() as u128), || format!("{most} for {long} bytes"));
+        let (mut buf, mut answers) = (exact(&random.bytes(due as usize)), vec![0; list.ends.len()].into_boxed_slice());
+        let mut work = vec![random.word(); random.pick(&[0, needs.words as usize])].into_boxed_slice();
+        let answer = ours::build(mode, random.pick(&[0, 1]), &mut buf, list, &mut answers, &mut work);
+        self.tally.rule(answers.contains(&3), false, || format!("{answer:?} and {answers:?} in {due} bytes"));
+        self.refused += u64::from(answer.refusal > 0);
+        self.calls += 3;
+    }
+
+    // A longer buffer, or a shorter one, for any record: refused with 2 where it is shorter or mode or repeats is no choice.
+    fn grow(&mut self, random: &mut Random, s: &State) {
+        let length = random.pick(&[0, 2_072, s.record.length, s.record.length.wrapping_add(1), s.record.length.wrapping_sub(1), u64::MAX]);
+        let grown = ours::grown(s.record, length);
+        let fine = s.record.mode <= 1 && s.record.repeats <= 1 && s.record.length <= length;
+        let due = if fine { (0, ours::Record { length, ..s.record }) } else { (2, s.record) };
+        self.tally.rule((grown.refusal, grown.record), due, || format!("{grown:?} for {length} bytes"));
+        self.refused += u64::from(grown.refusal > 0);
+        self.calls += 1;
     }
 
     // Any dates and windows on one image: a name lies in it, and where a list is refused the rest are zeros.
@@ -412,6 +441,7 @@ fn round(run: &mut Run, random: &mut Random) {
             spoil::state(random, &mut odd);
         }
         run.write(random, &odd, &names);
+        run.grow(random, &odd);
     }
     for _ in 0..60 {
         run.order(random);

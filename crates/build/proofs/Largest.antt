@@ -31,7 +31,7 @@ largest-above ids (suc n) i h =
     ]
 
 -- by its first id
-largest-cons : (id : ℕ) (ids : List ℕ) (n : ℕ) → largestTo (id ∷ ids) (suc n) ≡ max id (largestTo ids n)
+pub largest-cons : (id : ℕ) (ids : List ℕ) (n : ℕ) → largestTo (id ∷ ids) (suc n) ≡ max id (largestTo ids n)
 unfolding largestTo
 largest-cons id ids zero = omega arith
 largest-cons id ids (suc n) = omega (arith, largest-cons id ids n)

@@ -12,3 +12,4 @@ pub mod AllPut
 pub mod ListWhole
 pub mod Theorem
 pub mod Rows
+pub mod Needed

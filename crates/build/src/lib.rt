@@ -34,6 +34,7 @@ use writer::PutAnswer;
 use writer::Repeats;
 
 mod held; // held.rt: is a name held by an accepted put before?
+pub mod needs; // needs.rt: what a list needs
 mod marked; // marked.rt: what is due to each name, told before the puts
 mod puts; // puts.rt: the puts without checks
 mod stored; // stored.rt: the image of all names, whose tables are at hand

@@ -3,3 +3,4 @@ pub mod Hash
 pub mod ReadAnswers
 pub mod Record
 pub mod Writing
+pub mod Grown

@@ -13,7 +13,10 @@ pub mod Reading
 pub mod Theorem
 pub mod AfterClose
 pub mod OneWay
+pub mod Again
 pub mod RepeatsOff
+pub mod Room
+pub mod Growing
 pub mod Readings
 pub mod QuayRows
 pub mod Quay

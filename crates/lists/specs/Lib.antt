@@ -8,3 +8,5 @@ pub mod QuayRows
 pub mod Examples
 pub mod Readings
 pub mod RepeatsOff
+pub mod Room
+pub mod LongerBuffer

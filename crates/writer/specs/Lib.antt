@@ -3,4 +3,5 @@ pub mod State
 pub mod Put
 pub mod Close
 pub mod Kept
+pub mod Grown
 pub mod steps

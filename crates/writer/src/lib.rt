@@ -5,6 +5,7 @@ ghost use Rattle.jhash.specs.NameHash.{hashOf};
 ghost use Rattle.writer.specs.State.{stateWith, beginning, begunOf, countsBegun};
 ghost use Rattle.writer.specs.Put.{putRefusal, appended, afterPut, entryOf};
 ghost use Rattle.writer.specs.Close.{closing, closedOf, afterClose};
+ghost use Rattle.writer.specs.Grown.{grownRefusal, grownWriter};
 use image::Mode;
 
 mod check;
@@ -34,7 +35,8 @@ pub enum Begun {
     Refused(u32),
 }
 
-// What put answers, the number of its refusal or 0 where it is accepted, and the record that it hands back.
+// What put and grown answer, the number of the refusal or 0 where the call is accepted, and the record that it hands
+// back.
 pub struct PutAnswer {
     pub refusal: u32,
     pub writer: CQDBWriter,
@@ -146,6 +148,33 @@ pub fn put(
     }
     let writer = append(w, &mut *counts, &mut *buf, name, id);
     PutAnswer { refusal: 0, writer }
+}
+
+// The record of a buffer that has grown to this length, whose entries stand where they stood; or refusal 2 for a
+// shorter buffer.
+pub fn grown(w: CQDBWriter, length: u64) -> PutAnswer
+    ensures answer { λ r. ⌜ r .refusal ≡ grownRefusal w length ⌝ }
+    ensures leaves { λ r. ⌜ r .writer ≡ grownWriter w length ⌝ }
+{
+    if length < w.length {
+        return PutAnswer {
+            refusal: 2,
+            writer: w,
+        };
+    }
+    let mode = w.mode;
+    let repeats = w.repeats;
+    PutAnswer {
+        refusal: 0,
+        writer: CQDBWriter {
+            mode,
+            repeats,
+            length,
+            end: w.end,
+            entries: w.entries,
+            back: w.back,
+        },
+    }
 }
 
 // Writes head, tables and back array into the lent buffer, and gives the image's size. May be called often.
