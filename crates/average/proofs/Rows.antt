@@ -18,8 +18,8 @@ use Rattle.image.specs.declared.Mode.the-variants.{Twoway, Oneway}
 use Rattle.image.proofs.Every.{All}
 use Rattle.reader.specs.Lookup.{seeEntry, see, probe, searchTable, lookupHash, lookup}
 use Rattle.reader.specs.Open.{opening}
-use Rattle.ours.specs.steps.Made.{Made}
-use Rattle.ours.specs.Ours.{Puttable, putsIn, allFree, ours}
+use Rattle.ours.specs.steps.Made.{Storable, Made}
+use Rattle.ours.specs.Ours.{putsIn, allFree, ours}
 use Rattle.ours.proofs.ReadBack.{made-puts, ours-yes}
 use Rattle.average.specs.SearchLengths.{totalOf}
 use Rattle.average.specs.Average.{entryCount, total, averaging}
@@ -28,7 +28,7 @@ use Rattle.average.specs.declared.Mean.{Mean}
 use Rattle.average.proofs.Theorem.{average-search}
 
 -- an image of puts is ours, and has these entries
-module _ (mode : Mode) (es : List Entry) (each : All Puttable es) (fits : imageSize mode es ≤ 4294967295) where
+module _ (mode : Mode) (es : List Entry) (each : All Storable es) (fits : imageSize mode es ≤ 4294967295) where
   made : Made (image mode es)
   made = record { mode = mode; puts = es; each = each; fits = fits; is = refl }
 
@@ -49,8 +49,8 @@ module _ (mode : Mode) (es : List Entry) (each : All Puttable es) (fits : imageS
       mean : ℕ → ℕ → Outcome Mean
       mean s k = value (record { entries = k; quotient = s / k; remainder = s % k })
 
-puttable : (c id : ℕ) → hasZero (c ∷ []) ≡ false → id < 4294967296 → Puttable (letter c id)
-puttable c id f h = record { free = f; id-word = h }
+storable : (c id : ℕ) → hasZero (c ∷ []) ≡ false → id < 4294967296 → Storable (letter c id)
+storable c id f h = record { free = f; id-word = h }
 
 crowded : totalOf (image Twoway (letter 73 0 ∷ letter 81 1 ∷ [])) (letter 73 0 ∷ letter 81 1 ∷ []) ≡ 3
 unfolding hashOf word le32 cat keep range same entryBytes entriesSize placed ofTable bucketBytes table tableBytes entriesBefore tableOffset tableRow backSize placedOfId lastFrom link backOffset headBytes headWords tableRows tables links image order firstEmpty insert insertAll filled seeEntry see probe searchTable lookupHash lookup totalOf
@@ -68,9 +68,9 @@ nothing = refl
 pub rows-hold : All Averages averageRows
 unfolding entriesSize backSize hasZero
 rows-hold = (
-  averaged Twoway (letter 73 0 ∷ letter 81 1 ∷ []) (puttable 73 0 refl (lit< tt), (puttable 81 1 refl (lit< tt), tt)) (lit≤ tt) 2 3 refl (lit< tt) crowded,
+  averaged Twoway (letter 73 0 ∷ letter 81 1 ∷ []) (storable 73 0 refl (lit< tt), (storable 81 1 refl (lit< tt), tt)) (lit≤ tt) 2 3 refl (lit< tt) crowded,
   (
-    averaged Oneway (letter 65 5 ∷ letter 65 9 ∷ []) (puttable 65 5 refl (lit< tt), (puttable 65 9 refl (lit< tt), tt)) (lit≤ tt) 2 2 refl (lit< tt) repeated,
+    averaged Oneway (letter 65 5 ∷ letter 65 9 ∷ []) (storable 65 5 refl (lit< tt), (storable 65 9 refl (lit< tt), tt)) (lit≤ tt) 2 2 refl (lit< tt) repeated,
     (
       average-search .no-entries (image Twoway []) (ours-yes (image Twoway []) (made Twoway [] tt (lit≤ tt))) (ap length (entries-are Twoway [] tt (lit≤ tt))),
       (average-search .not-ours [] nothing, tt),
