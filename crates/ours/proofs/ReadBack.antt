@@ -123,8 +123,10 @@ ids-of (e ∷ es) a = (a .0 .id-word, ids-of es (a .1))
 storables : (es : List Entry) → allFree es ≡ true → WordIds es → All Storable es
 unfolding allFree
 storables [] f i = tt
-storables (e ∷ es) f i =
-    (record { free = not-true (hasZero (e .name)) (first (not (hasZero (e .name))) (allFree es) f); id-word = i .0 }, storables es (second (not (hasZero (e .name))) (allFree es) f) (i .1))
+storables (e ∷ es) f i = (
+  record { free = not-true (hasZero (e .name)) (first (not (hasZero (e .name))) (allFree es) f); id-word = i .0 },
+  storables es (second (not (hasZero (e .name))) (allFree es) f) (i .1),
+)
 
 -- puts and direction of an image that puts make are read back
 pub made-puts : (img : List ℕ) (m : Made img) → putsIn img ≡ m .puts

@@ -56,7 +56,8 @@ module _ (id : ℕ) (date : Date) where
   folded-form a b c (w ∷ ws) =
       ap (λ (s : Standing). folded id date s ws) (stepped-form w)
       ∙ folded-form (a || undated w) (b || turned w) (c || holdsDate id date w) ws
-      ∙ (λ i. form (or-assoc a (undated w) (someWindow undated ws) i) (or-assoc b (turned w) (someWindow turned ws) i) (or-assoc c (holdsDate id date w) (someWindow (holdsDate id date) ws) i))
+      ∙ (λ i. form (or-assoc a (undated w) (someWindow undated ws) i) (or-assoc b (turned w) (someWindow turned ws) i)
+      (or-assoc c (holdsDate id date w) (someWindow (holdsDate id date) ws) i))
     where
       stepped-form : (w : Window) → stepped id date (form a b c) w ≡ form (a || undated w) (b || turned w) (c || holdsDate id date w)
       stepped-form w = joined a b c (undated w) (turned w) (holdsDate id date w)
@@ -81,7 +82,8 @@ module _ (image : List ℕ) (id : ℕ) (date : Date) (ws : List Window) where
   pub placed : placeBy image id date (said id date ws) ≡ namingOn image id date ws
   unfolding said inSeason
   placed =
-      ap (λ (x : Outcome Naming). cond (not (isDate date)) (refusal 22) x) (by-form (someWindow undated ws) (someWindow turned ws) (someWindow (holdsDate id date) ws))
+      ap (λ (x : Outcome Naming). cond (not (isDate date)) (refusal 22) x)
+      (by-form (someWindow undated ws) (someWindow turned ws) (someWindow (holdsDate id date) ws))
     where
       by-form : (a b c : Bool) → answerBy (form a b c) (naming image id)
           ≡ cond a (refusal 22) (cond b (refusal 23) (value (cond c (naming image id) unnamed)))

@@ -20,7 +20,8 @@ SomeAt test windows = (k : ℕ) × (w : Window) × (getElem? windows k ≡ some 
 
 -- nothing is refused: the date asked about and all dates of the windows exist within the bounds, and every window starts before its end
 abbrev pub Accepted : Date → List Window → Type 0
-Accepted date windows = (isDate date ≡ true) × (someWindow undated windows ≡ false) × (someWindow turned windows ≡ false)
+Accepted date windows =
+    (isDate date ≡ true) × (someWindow undated windows ≡ false) × (someWindow turned windows ≡ false)
 
 pub record Seasons : Type 0 where
   -- "month lengths run from 28 to 31"; another number than 1 to 12 is no month, and has no day
@@ -31,19 +32,22 @@ pub record Seasons : Type 0 where
   pub transitive : (a b c : Date) → earlier a b ≡ true → earlier b c ≡ true → earlier a c ≡ true
   pub total : (a b : Date) → (earlier a b ≡ true) ⊎ ((a ≡ b) ⊎ (earlier b a ≡ true))
   -- "some window": one that stands in the list
-  pub some-window : (test : Window → Bool) (windows : List Window) → (someWindow test windows ≡ true) ↔ SomeAt test windows
+  pub some-window : (test : Window → Bool) (windows : List Window)
+      → (someWindow test windows ≡ true) ↔ SomeAt test windows
   -- a "window of that id holds the date": the first date included, "the end date not included"
   pub holds-exactly : (id : ℕ) (date : Date) (w : Window)
       → (holdsDate id date w ≡ true) ↔ ((w .id ≡ id) × (earlier date (w .first) ≡ false) × (earlier date (w .end) ≡ true))
   -- "gives its name exactly when it has one and some window of that id holds the date": a name on a date is the name of the naming rule
   pub named-exactly : (image : List ℕ) (id : ℕ) (date : Date) (windows : List Window) (start length : ℕ)
       → (namingOn image id date windows ≡ value (place start length))
-      ↔ (Accepted date windows × (naming image id ≡ place start length) × (someWindow (holdsDate id date) windows ≡ true))
+      ↔ (Accepted date windows × (naming image id ≡ place start length)
+      × (someWindow (holdsDate id date) windows ≡ true))
   -- 22 for "a date that doesn't exist or lies outside these bounds", the one asked about or a window's; "after these" 23
   pub gives-22 : (image : List ℕ) (id : ℕ) (date : Date) (windows : List Window)
       → (namingOn image id date windows ≡ refusal 22) ↔ ((isDate date ≡ false) ⊎ (someWindow undated windows ≡ true))
   pub gives-23 : (image : List ℕ) (id : ℕ) (date : Date) (windows : List Window)
-      → (namingOn image id date windows ≡ refusal 23) ↔ ((isDate date ≡ true) × (someWindow undated windows ≡ false) × (someWindow turned windows ≡ true))
+      → (namingOn image id date windows ≡ refusal 23)
+      ↔ ((isDate date ≡ true) × (someWindow undated windows ≡ false) × (someWindow turned windows ≡ true))
   -- what the windows say, and what is answered where they say it, are the rule in two parts
   pub in-two-parts : (image : List ℕ) (id : ℕ) (date : Date) (windows : List Window)
       → placeBy image id date (said id date windows) ≡ namingOn image id date windows

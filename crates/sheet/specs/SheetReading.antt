@@ -55,8 +55,8 @@ sectionOf s References = s .references
 sectionOf s Walls = s .walls
 sectionOf s Retired = s .retired
 
--- "the part of the file that holds its ids", as a returned part: of the lent file's own bytes those from the place's start on; empty
--- where the file is refused
+-- "the part of the file that holds its ids", as a returned part: of the lent file's own bytes those from the place's
+-- start on; empty where the file is refused
 abbrev pub partAt : slices.Slice → Place → slices.Slice
 partAt file p = slices.part file (p .start) (4 * p .count)
 
@@ -67,7 +67,8 @@ partOrNone file which (refusal n) = slices.part file 0 0
 abbrev pub sectionPart : slices.Slice → Which → slices.Slice
 sectionPart file which = partOrNone file which (readSheet (file .bytes))
 
--- the part at any place, also one that no reader gave: what of it lies past the end is left out; empty where it starts there
+-- the part at any place, also one that no reader gave: what of it lies past the end is left out; empty where it starts
+-- past the end
 abbrev pub cutPart : slices.Slice → Place → slices.Slice
 cutPart file p = cond (ltb (length (file .bytes)) (p .start)) (slices.part file 0 0) (partAt file p)
 

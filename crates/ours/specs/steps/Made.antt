@@ -8,7 +8,8 @@ use Rattle.image.specs.Image.{Entry, imageSize, image}
 use Rattle.image.specs.Zero.{hasZero}
 use Rattle.image.specs.declared.Mode.{Mode}
 
--- a put whose entry can be stored and read back: its name has no zero byte, its id is a word. It is not asked that the name be bytes
+-- a put whose entry can be stored and read back: its name has no zero byte, its id is a word. It is not asked that the
+-- name be bytes
 pub record Storable (e : Entry) : Type 0 where
   pub free : hasZero (e .name) ≡ false
   pub id-word : e .id < 2 ^ 32
