@@ -21,8 +21,8 @@ use Rattle.reader.specs.Lookup.{Lookup, seeEntry, see, probe, searchTable, look
 use Rattle.reader.specs.Cases.{reads}
 use Rattle.reader.proofs.Searches.{lookup-own}
 use Rattle.reader.specs.Open.{opening}
-use Rattle.ours.specs.steps.Made.{Made}
-use Rattle.ours.specs.Ours.{Puttable, putsIn, allFree, ours}
+use Rattle.ours.specs.steps.Made.{Storable, Made}
+use Rattle.ours.specs.Ours.{putsIn, allFree, ours}
 use Rattle.ours.proofs.ReadBack.{made-puts, ours-yes}
 use Rattle.average.specs.SearchLengths.{totalOf}
 use Rattle.average.specs.Average.{entryCount, total, averaging}
@@ -31,7 +31,7 @@ use Rattle.average.specs.declared.Mean.{Mean}
 use Rattle.average.proofs.Theorem.{average-search}
 
 -- an image of puts is ours, and has these entries
-module _ (mode : Mode) (es : List Entry) (each : All Puttable es) (fits : imageSize mode es ≤ 4294967295) where
+module _ (mode : Mode) (es : List Entry) (each : All Storable es) (fits : imageSize mode es ≤ 4294967295) where
   made : Made (image mode es)
   made = record { mode = mode; puts = es; each = each; fits = fits; is = refl }
 
@@ -52,8 +52,8 @@ module _ (mode : Mode) (es : List Entry) (each : All Puttable es) (fits : imageS
       mean : ℕ → ℕ → Outcome Mean
       mean s k = value (record { entries = k; quotient = s / k; remainder = s % k })
 
-puttable : (c id : ℕ) → hasZero (c ∷ []) ≡ false → id < 4294967296 → Puttable (letter c id)
-puttable c id f h = record { free = f; id-word = h }
+storable : (c id : ℕ) → hasZero (c ∷ []) ≡ false → id < 4294967296 → Storable (letter c id)
+storable c id f h = record { free = f; id-word = h }
 
 -- an image of two puts, by the hashes of their names: the rows and tables of the image are computed from the two numbers alone
 module _ (mode : Mode) (e₁ e₂ : Entry) (h₁ h₂ : ℕ) (is₁ : hashOf (e₁ .name) ≡ h₁) (is₂ : hashOf (e₂ .name) ≡ h₂) where
@@ -141,9 +141,9 @@ nothing = refl
 pub rows-hold : All Averages averageRows
 unfolding entriesSize backSize hasZero
 rows-hold = (
-  averaged Twoway (letter 73 0 ∷ letter 81 1 ∷ []) (puttable 73 0 refl (lit< tt), (puttable 81 1 refl (lit< tt), tt)) (lit≤ tt) 2 3 refl (lit< tt) crowded,
+  averaged Twoway (letter 73 0 ∷ letter 81 1 ∷ []) (storable 73 0 refl (lit< tt), (storable 81 1 refl (lit< tt), tt)) (lit≤ tt) 2 3 refl (lit< tt) crowded,
   (
-    averaged Oneway (letter 65 5 ∷ letter 65 9 ∷ []) (puttable 65 5 refl (lit< tt), (puttable 65 9 refl (lit< tt), tt)) (lit≤ tt) 2 2 refl (lit< tt) repeated,
+    averaged Oneway (letter 65 5 ∷ letter 65 9 ∷ []) (storable 65 5 refl (lit< tt), (storable 65 9 refl (lit< tt), tt)) (lit≤ tt) 2 2 refl (lit< tt) repeated,
     (
       average-search .no-entries (image Twoway []) (ours-yes (image Twoway []) (made Twoway [] tt (lit≤ tt))) (ap length (entries-are Twoway [] tt (lit≤ tt))),
       (average-search .not-ours [] nothing, tt),

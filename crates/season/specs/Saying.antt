@@ -1,5 +1,5 @@
--- What the windows alone say, and what a saying makes of a naming: the code finds the one first and then the other. `placed` and `parted` (proofs/WindowLaws)
--- join both to the rule.
+-- What the windows alone say of an id on a date, and what is answered where they say it: the rule in two parts, for a
+-- call that asks the windows first. Both together are the rule (`in-two-parts` of specs/Seasons).
 use Prim.Native.Nat.{ℕ}
 use mathlib.Core.Bool.{cond, not}
 use mathlib.Core.List.{List}
@@ -7,7 +7,7 @@ use Rattle.jhash.specs.Outcome.{Outcome, value, refusal}
 use Rattle.reader.specs.Slices.{Slice, part}
 use Rattle.reader.specs.Naming.{Naming, unnamed, naming, partOr}
 use Rattle.season.specs.Calendar.{isDate}
-use Rattle.season.specs.Rule.{some, undated, turned, holdsDate, namedIn}
+use Rattle.season.specs.Rule.{someWindow, undated, turned, holdsDate, namedIn}
 use Rattle.season.specs.declared.Date.{Date}
 use Rattle.season.specs.declared.Window.{Window}
 use Rattle.season.specs.declared.Standing.{Standing}
@@ -16,9 +16,9 @@ use Rattle.season.specs.declared.Standing.the-variants.{Away, Holds, Tur
 -- what the windows say, in the rule's order
 unfoldable pub said : ℕ → Date → List Window → Standing
 said id date windows =
-    cond (some undated windows) Undated
-    (cond (some turned windows) Turned
-    (cond (some (holdsDate id date) windows) Holds Away))
+    cond (someWindow undated windows) Undated
+    (cond (someWindow turned windows) Turned
+    (cond (someWindow (holdsDate id date) windows) Holds Away))
 
 -- what a saying makes of a naming
 abbrev pub answerBy : Standing → Naming → Outcome Naming
