@@ -48,10 +48,11 @@ extern "C" {
 /* The refusals: the same numbers in all calls, 0 for none. Each comment names the calls that give it. A refused call
    changes no byte of what it is lent, the writer included. docs/FORMAT.md has the same table. */
 #define CQDB_TOO_SHORT 1u        /* begin, open, load, build: under 2,072 bytes */
-#define CQDB_UNFIT 2u            /* begin, put, close, grown, build: the writer does not fit the buffer, or mode or repeats is neither 0 nor 1 */
-#define CQDB_NO_ROOM 3u          /* put, bundle_append: the image would exceed the buffer; put: or 4,294,967,295 bytes */
-#define CQDB_INCONSISTENT 4u     /* put, close: the buffer's entries are not the writer's (put asks with repeats off only), or the
-                                    image that close would write is too large */
+#define CQDB_UNFIT 2u            /* begin, put, close, grown, build, put_indexed, index: the writer does not fit the buffer, or mode or
+                                    repeats is neither 0 nor 1 */
+#define CQDB_NO_ROOM 3u          /* put, bundle_append, put_indexed: the image would exceed the buffer; puts: or 4,294,967,295 bytes */
+#define CQDB_INCONSISTENT 4u     /* put, close, index: the buffer's entries are not the writer's (put asks with repeats off only), or
+                                    the image that close would write is too large */
 #define CQDB_WRONG_LETTERS 5u    /* open, bundle_open: the image does not begin with the letters CQDB */
 #define CQDB_WRONG_BYTE_ORDER 6u /* open, bundle_open: the word at 12, which shows the byte order, is wrong */
 #define CQDB_TABLE_LEAVES 7u     /* open, bundle_open: a table with an offset above 0 leaves the image */
@@ -60,10 +61,10 @@ extern "C" {
 #define CQDB_BROKEN_BUNDLE 10u   /* bundle_open, bundle_append, bundle_count: the images do not lie back to back, or append's new one is unfit */
 #define CQDB_NO_SUCH_IMAGE 11u   /* bundle_open: the file ends at or before the position */
 #define CQDB_PAGE_TOO_LONG 12u   /* page: it has more bytes than the output */
-#define CQDB_ZERO_BYTE 13u       /* put: the name has a zero byte */
+#define CQDB_ZERO_BYTE 13u       /* put, put_indexed: the name has a zero byte */
 #define CQDB_ROUND_UNFIT 14u     /* round, name_round, build: ends that fall or pass the names; rounds: or more than 512 names or ids */
 #define CQDB_ANSWERS_TOO_FEW 15u /* round, name_round, build: fewer answer places than names or ids; build: or fewer ids */
-#define CQDB_REPEATED 16u        /* put: repeats are off, and an earlier entry has this name */
+#define CQDB_REPEATED 16u        /* put, put_indexed: repeats are off, and an earlier entry has this name */
 #define CQDB_NOT_OURS 17u        /* average, lengths: the bytes are not the image that some list of puts closes to */
 #define CQDB_NO_ENTRIES 18u      /* average, lengths: the image has no entry */
 #define CQDB_TOO_FEW_BYTES 19u   /* sheet_read: the file ends before its third section does */
@@ -71,6 +72,7 @@ extern "C" {
 #define CQDB_SHEET_TOO_LARGE 21u /* sheet_write: a list has more than 65,535 ids, or the buffer is too short */
 #define CQDB_NO_SUCH_DATE 22u    /* name_on: a date, the one asked about or a window's, does not exist or is out of bounds */
 #define CQDB_NOT_BEFORE_END 23u  /* name_on: a window does not start before its end */
+#define CQDB_INDEX_FULL 24u      /* put_indexed, index: every slot is taken; index: more entries than slots */
 
 /* The name hash. */
 

@@ -27,7 +27,7 @@ use marked::mark_list;
 use puts::put_marked;
 use puts::roomy;
 use stored::write_list;
-use tabling::parted::clear;
+use image::scratch::clear;
 use tabling::table_list;
 use writer::CQDBWriter;
 use writer::PutAnswer;

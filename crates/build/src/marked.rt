@@ -13,7 +13,7 @@ ghost use Rattle.build.specs.steps.Marked.{slotInTable, tableSlot};
 ghost use Rattle.build.specs.steps.Marked.{metBefore, markOf, repeatMark, Ready, Slotted, linkedIn};
 use image::equality::same;
 use joined::name_of;
-use tabling::parted::clear;
+use image::scratch::clear;
 use tabling::parted::hash_all;
 use tabling::parted::part;
 use tabling::parted::starts;

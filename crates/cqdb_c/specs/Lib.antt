@@ -1,5 +1,4 @@
 -- What the exported functions answer.
 pub mod Hash
 pub mod ReadAnswers
-pub mod Record
 pub mod Writing

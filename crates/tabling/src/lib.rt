@@ -13,7 +13,7 @@ ghost use Rattle.tabling.specs.steps.Parted.{at, tableOfName, countOfTab
 ghost use Rattle.tabling.specs.steps.Tabled.{offsetOf};
 use fill::fill_all;
 use pairs::part_pairs;
-use parted::clear;
+use image::scratch::clear;
 use parted::hash_all;
 use parted::starts;
 

@@ -11,18 +11,6 @@ use image::zero::has_zero;
 use joined::key;
 use joined::name_of;
 
-// Clears the first words: what the lent memory held is not trusted.
-pub fn clear(work: &mut [u32], slots: usize)
-    requires { ⌜ slots ≤ length (now work) ⌝ }
-    ensures { λ _. ⌜ ((s : ℕ) → s < slots → at (now (work .exit)) s ≡ 0) × ((k : ℕ) → slots ≤ k → at (now (work .exit)) k ≡ at (now (work .entry)) k) ⌝ }
-{
-    let mut i = 0;
-    while i < slots {
-        work[i] = 0;
-        i += 1;
-    }
-}
-
 // 13 for a name with a zero byte.
 fn zero_mark(name: &[u8]) -> u32
     ensures { λ r. ⌜ r ≡ zeroMark (now (name .entry)) ⌝ }

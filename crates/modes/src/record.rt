@@ -1,10 +1,10 @@
 // The writer record as C has it, but for the 256 table counts, which are lent apart.
-use modes::mode_of;
-use modes::repeats_of;
-use modes::repeats_word;
+use super::mode_of;
+use super::repeats_of;
+use super::repeats_word;
 use writer::CQDBWriter;
 ghost use mathlib.Core.Path.{_≡_};
-ghost use Rattle.cqdb_c.specs.Record.{writerOf, recordOf};
+ghost use Rattle.modes.specs.Record.{writerOf, recordOf};
 
 // The mode (0 two-way, 1 one-way), the repeats mode (0 off, 1 on), the number of entries, the back size, the buffer's length
 // and the end of the entries.
@@ -19,7 +19,7 @@ pub struct Record {
 }
 
 // The record as the writer has it.
-pub(crate) fn writer_of(r: Record) -> CQDBWriter
+pub fn writer_of(r: Record) -> CQDBWriter
     ensures { λ w. ⌜ w ≡ writerOf r ⌝ }
 {
     let mode = mode_of(r.mode);
@@ -35,7 +35,7 @@ pub(crate) fn writer_of(r: Record) -> CQDBWriter
 }
 
 // The writer's record as C has it.
-pub(crate) fn record_of(w: CQDBWriter) -> Record
+pub fn record_of(w: CQDBWriter) -> Record
     ensures { λ r. ⌜ r ≡ recordOf w ⌝ }
 {
     let mode = w.mode;

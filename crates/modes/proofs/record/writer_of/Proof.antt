@@ -1,11 +1,11 @@
--- `cqdb_c::record::writer_of` meets its contract. Assumes nothing.
+-- `modes::record::writer_of` meets its contract. Assumes nothing.
 use mathlib.Core.Path.{ap₂}
 use Rattle.image.specs.declared.Mode.{Mode}
 use Rattle.writer.specs.declared.Repeats.{Repeats}
 use Rattle.writer.specs.declared.CQDBWriter.{CQDBWriter}
 use borrow.Author.Needs.{needs}
-use Rattle.cqdb_c.proofs.record.writer_of.Statement.{statement}
-use Rattle.cqdb_c.proofs.record.writer_of.Tie as tie
+use Rattle.modes.proofs.record.writer_of.Statement.{statement}
+use Rattle.modes.proofs.record.writer_of.Tie as tie
 
 mode-of-requires : tie.Need-mode-of-requires
 mode-of-requires c κs = search needs

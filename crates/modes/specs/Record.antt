@@ -1,11 +1,12 @@
 -- The writer record as C has it: 01, "The writer record". Assumes nothing.
 use Prim.Native.Nat.{ℕ}
+use mathlib.Core.Bool.{Bool}
 use mathlib.Core.List.{List}
 use Rattle.image.specs.Image.{flagWord}
 use Rattle.writer.specs.declared.CQDBWriter.{CQDBWriter}
 use Rattle.writer.specs.State.{State, stateWith}
-pub use Rattle.modes.specs.Modes.{known, modeOf, repeatsOf, repeatsWord}
-use Rattle.cqdb_c.specs.declared.record.Record.{Record}
+use Rattle.modes.specs.Modes.{known, modeOf, repeatsOf, repeatsWord}
+use Rattle.modes.specs.declared.record.Record.{Record}
 
 -- the writer record that C's stands for, and the other way round
 abbrev pub writerOf : Record → CQDBWriter
@@ -45,3 +46,7 @@ stateOf h = stateWith (writerOf (h .writer)) (h .counts) (h .buffer)
 
 abbrev pub heldOf : State → Held
 heldOf s = held (recordOf (s .writer)) (s .counts) (s .buffer)
+
+-- is a lent record one of 01's?
+abbrev pub knownIn : Held → Bool
+knownIn h = known (h .writer .mode) (h .writer .repeats)

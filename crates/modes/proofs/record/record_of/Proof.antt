@@ -1,10 +1,10 @@
--- `cqdb_c::record::record_of` meets its contract. Assumes nothing.
+-- `modes::record::record_of` meets its contract. Assumes nothing.
 use Prim.Native.Nat.{ℕ}
 use mathlib.Core.Path.{ap₂}
-use Rattle.cqdb_c.specs.declared.record.Record.{Record}
+use Rattle.modes.specs.declared.record.Record.{Record}
 use borrow.Author.Needs.{needs}
-use Rattle.cqdb_c.proofs.record.record_of.Statement.{statement}
-use Rattle.cqdb_c.proofs.record.record_of.Tie as tie
+use Rattle.modes.proofs.record.record_of.Statement.{statement}
+use Rattle.modes.proofs.record.record_of.Tie as tie
 
 flag-word-requires : tie.Need-flag-word-requires
 flag-word-requires c κs = search needs
