@@ -17,8 +17,8 @@ use Rattle.finish.specs.Finish.{Standing, standing, finishedOf, finishedBuffer,
 use Rattle.tabling.specs.steps.Parted.{tableOfName, countOfTable}
 use Rattle.tabling.proofs.PairsOfTable.{table-count}
 use Rattle.tabling.proofs.Offsets.{names-short}
-use Rattle.build.specs.steps.Marked.{largestTo, Roomy}
-use Rattle.build.specs.steps.PutsAlong.{entriesListed}
+use Rattle.build.specs.steps.Capacity.{largestTo, Roomy}
+use Rattle.build.specs.steps.Steps.{entriesListed}
 use Rattle.joined.proofs.NameEnds.{begin-later}
 use Rattle.build.proofs.Largest.{back-all}
 use Rattle.build.proofs.AllPut.{number-all, names-all, end-all, size-within, size-small, standing-all, stands-all}

@@ -5,7 +5,7 @@ use mathlib.Core.Path.{_≡_, ap, _∙_}
 use lib.ListN.{length}
 use borrow.Author.Needs.{needs}
 use Rattle.tabling.specs.steps.Parted.{at}
-use Rattle.build.specs.steps.Marked.{largestTo}
+use Rattle.build.specs.steps.Capacity.{largestTo}
 use Rattle.build.proofs.Largest.{largest-none, largest-turn}
 use Rattle.build.proofs.puts.largest.Statement.{statement}
 use Rattle.build.proofs.puts.largest.Tie as tie

@@ -6,7 +6,7 @@ use mathlib.Core.Path.{_≡_, refl, sym}
 use lib.ListN.{length}
 use Rattle.joined.specs.Names.{names, beginOf}
 use Rattle.joined.proofs.NameEnds.{placed}
-use Rattle.build.specs.steps.PutsAlong.{entriesListed}
+use Rattle.build.specs.steps.Steps.{entriesListed}
 use Rattle.joined.proofs.NameEnds.{begin-next}
 use Rattle.build.proofs.StoredAll.{Along, along-start, along-length, along-end, along-room, along-turn, area-stored, stored-links, behind-kept}
 use Rattle.build.proofs.stored.store_list.Statement.{statement}

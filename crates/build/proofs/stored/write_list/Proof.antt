@@ -6,7 +6,7 @@ use lib.ListN.{length, getD, drop, replicate}
 use borrow.Author.Needs.{needs}
 use Rattle.image.specs.Image.{backIn, imageSize}
 use Rattle.joined.specs.Names.{names}
-use Rattle.build.specs.steps.PutsAlong.{entriesListed}
+use Rattle.build.specs.steps.Steps.{entriesListed}
 use Rattle.image.specs.Stored.{between}
 use Rattle.joined.proofs.NameEnds.{begin-later}
 use Rattle.build.proofs.ListWhole.{Numbers, numbers, zeros-between, zeros-behind, asked, left-image}

@@ -1,4 +1,4 @@
--- `build::build_roomy` meets its contract. Assumes nothing.
+-- `build::build_bulk` meets its contract. Assumes nothing.
 use Prim.Native.Nat.{ℕ, _+_, _*_, _^_, _≤_, _<_}
 use native.Mathlib.Omega.{arith}
 use mathlib.Core.Path.{_≡_, refl, sym, ap, _∙_}
@@ -13,8 +13,8 @@ use Rattle.build.proofs.Whole.{refusal-none, told-all, told-same, left-
 use Rattle.build.specs.Build.{building, bufferAfter}
 use Rattle.build.proofs.AllPut.{number-all, accepted-all, answers-none, size-all, closed-all}
 use Rattle.build.proofs.ListWhole.{told-none}
-use Rattle.build.proofs.build_roomy.Statement.{statement}
-use Rattle.build.proofs.build_roomy.Tie as tie
+use Rattle.build.proofs.build_bulk.Statement.{statement}
+use Rattle.build.proofs.build_bulk.Tie as tie
 
 refuses-requires : tie.Need-refuses-requires
 refuses-requires c κs = search needs
@@ -22,7 +22,7 @@ refuses-requires c κs = search needs
 table-list-requires : tie.Need-table-list-requires
 table-list-requires c κs =
     let s = c .before .before .before .before .before .before .before .before .before .before in
-    (s .pre .0, s .pre .7, s .pre .5, omega (arith, s .pre .4 .small), s .pre .2, s .pre .6, length-replicate {A = ℕ} 256 0, λ t h. getD-replicate 256 t 0 0 h)
+    (s .pre .list .packed, s .pre .some, s .pre .few, omega (arith, s .pre .roomy .small), s .pre .list .refusals-long, s .pre .scratch, length-replicate {A = ℕ} 256 0, λ t h. getD-replicate 256 t 0 0 h)
 
 mul-words : tie.Need-mul-words
 mul-words c = search needs
@@ -35,15 +35,15 @@ slice-aggregate-words c =
     let s = c .before .before .before .before .before .before .before .before .before .before .before .before .before .before .before .before .before in
     let told = c .before .before .before .before .before .before .table-list in
     let work = told .last .1 .1 .1 .1 .0 in
-    let long : length work ≡ length (s .args .work .now) = told .ensures .1 .1 .1 .1 .2 in
-    sym (length-take-le (4 * length (s .args .ends .now)) work (omega (arith, s .pre .6, long)))
+    let long : length work ≡ length (s .args .scratch .now) = told .ensures .1 .1 .1 .1 .2 in
+    sym (length-take-le (4 * length (s .args .ends .now)) work (omega (arith, s .pre .scratch, long)))
 
 write-list-requires : tie.Need-write-list-requires
 write-list-requires c κs =
     let s = c .before .before .before .before .before .before .before .before .before .before .before .before .before .before .before .before .before .before .before in
     let told = c .before .before .before .before .before .before .before .before .table-list .ensures in
     let yes = c .before .before .before .if1 .taken in
-    (s .pre .0, s .pre .7, s .pre .5, s .pre .1, s .pre .4, told .1 .1 .1 .0 .0, told .1 .1 .1 .0 .1, told .1 .1 .0 yes)
+    (s .pre .list .packed, s .pre .some, s .pre .few, s .pre .list .ids-long, s .pre .roomy, told .1 .1 .1 .0 .0, told .1 .1 .1 .0 .1, told .1 .1 .0 yes)
 
 cast-t25 : tie.Need-cast-t25
 cast-t25 c = search needs
@@ -68,20 +68,19 @@ returns c =
     let zero = told .0 yes in
     let word : (i : ℕ) → i < length (a .ends .now) → getD (a .ids .now) i 0 < 2 ^ 32 = λ i h. omega (arith, c .before .before .before .before .before .before .before .before .before .before .before .before .before .before .before .before .before .before .shared-slice-known3 .given i) in
     let clean : (i : ℕ) → i < length (a .ends .now) → hasZero (nth (names (a .bytes .now) (a .ends .now)) i) ≡ _ = λ i h. zero i h .1 in
-    let ok = refusal-none (a .bytes .now) (a .ends .now) (length (a .ids .now)) (length (a .rs .now)) (length (a .buf .now)) (s .pre .0) (s .pre .1) (s .pre .2) (s .pre .3) in (
-      built-made (a .mode) (a .repeats) (a .buf .now) (a .bytes .now) (a .ends .now) (a .ids .now) (a .rs .now) ok _
-          (done .ensures .0 ∙ sym (size-all (a .mode) (a .repeats) (a .buf .now) (a .bytes .now) (a .ends .now) (a .ids .now) (s .pre .0) (s .pre .1) (s .pre .3) (s .pre .4) word clean (λ d. told .1 .0 yes (off ∙ d))))
-          (sym (ap length (accepted-all (a .mode) (a .repeats) (a .buf .now) (a .bytes .now) (a .ends .now) (a .ids .now) (s .pre .0) (s .pre .1) (s .pre .3) (s .pre .4) word clean (λ d. told .1 .0 yes (off ∙ d))) ∙ number-all (a .bytes .now) (a .ends .now) (a .ids .now) (s .pre .0) (s .pre .1))),
-      (
-        left-closed (a .mode) (a .repeats) (a .buf .now) (a .bytes .now) (a .ends .now) (a .ids .now) (a .rs .now) ok _
-            (done .ensures .1 ∙ sym (closed-all (a .mode) (a .repeats) (a .buf .now) (a .bytes .now) (a .ends .now) (a .ids .now) (s .pre .0) (s .pre .1) (s .pre .3) (s .pre .4) word clean (λ d. told .1 .0 yes (off ∙ d)))),
-        told-all (a .mode) (a .repeats) (a .buf .now) (a .bytes .now) (a .ends .now) (a .ids .now) (a .rs .now) ok _
-            (told-none _ (a .rs .now) _ (length (a .ends .now)) (omega (arith, s .pre .2, told .1 .1 .1 .1 .1)) (λ i h. zero i h .0) (told .1 .1 .1 .1 .0) (answers-none (a .mode) (a .repeats) (a .buf .now) (a .bytes .now) (a .ends .now) (a .ids .now) (s .pre .0) (s .pre .1) (s .pre .3) (s .pre .4) word clean (λ d. told .1 .0 yes (off ∙ d)))),
-      ),
-    )
+    let ok = refusal-none (a .bytes .now) (a .ends .now) (length (a .ids .now)) (length (a .refusals .now)) (length (a .buf .now)) (s .pre .list .packed) (s .pre .list .ids-long) (s .pre .list .refusals-long) (s .pre .list .head-fits) in
+    record {
+      gives = built-made (a .mode) (a .repeats) (a .buf .now) (a .bytes .now) (a .ends .now) (a .ids .now) (a .refusals .now) ok _
+          (done .ensures .0 ∙ sym (size-all (a .mode) (a .repeats) (a .buf .now) (a .bytes .now) (a .ends .now) (a .ids .now) (s .pre .list .packed) (s .pre .list .ids-long) (s .pre .list .head-fits) (s .pre .roomy) word clean (λ d. told .1 .0 yes (off ∙ d))))
+          (sym (ap length (accepted-all (a .mode) (a .repeats) (a .buf .now) (a .bytes .now) (a .ends .now) (a .ids .now) (s .pre .list .packed) (s .pre .list .ids-long) (s .pre .list .head-fits) (s .pre .roomy) word clean (λ d. told .1 .0 yes (off ∙ d))) ∙ number-all (a .bytes .now) (a .ends .now) (a .ids .now) (s .pre .list .packed) (s .pre .list .ids-long)));
+      leaves = left-closed (a .mode) (a .repeats) (a .buf .now) (a .bytes .now) (a .ends .now) (a .ids .now) (a .refusals .now) ok _
+          (done .ensures .1 ∙ sym (closed-all (a .mode) (a .repeats) (a .buf .now) (a .bytes .now) (a .ends .now) (a .ids .now) (s .pre .list .packed) (s .pre .list .ids-long) (s .pre .list .head-fits) (s .pre .roomy) word clean (λ d. told .1 .0 yes (off ∙ d))));
+      answers = told-all (a .mode) (a .repeats) (a .buf .now) (a .bytes .now) (a .ends .now) (a .ids .now) (a .refusals .now) ok _
+          (told-none _ (a .refusals .now) _ (length (a .ends .now)) (omega (arith, s .pre .list .refusals-long, told .1 .1 .1 .1 .1)) (λ i h. zero i h .0) (told .1 .1 .1 .1 .0) (answers-none (a .mode) (a .repeats) (a .buf .now) (a .bytes .now) (a .ends .now) (a .ids .now) (s .pre .list .packed) (s .pre .list .ids-long) (s .pre .list .head-fits) (s .pre .roomy) word clean (λ d. told .1 .0 yes (off ∙ d))));
+    }
 
-build-marked-requires : tie.Need-build-marked-requires
-build-marked-requires c κs = search needs
+build-singly-requires : tie.Need-build-singly-requires
+build-singly-requires c κs = search needs
 
 same-length-4 : tie.Need-same-length-4
 same-length-4 c = search needs
@@ -98,18 +97,21 @@ returns-2 c =
     let a = s .args in
     let kept = c .before .before .before .before .before .before .before .before .before .before .before .before .before .before .before .table-list .ensures .1 .1 .1 .1 in
     let rs = c .before .before .before .before .before .before .before .before .before .before .before .before .before .before .before .table-list .last .1 .1 .1 .0 in
-    let same : length rs ≡ length (a .rs .now) = kept .1 in
-    let marked = c .before .before .before .before .before .before .build-marked .ensures in
-    let ok = refusal-none (a .bytes .now) (a .ends .now) (length (a .ids .now)) (length rs) (length (a .buf .now)) (s .pre .0) (s .pre .1) (omega (arith, s .pre .2, same)) (s .pre .3) in (
-      marked .0 ∙ ap (building (a .mode) (a .repeats) (a .buf .now) (a .bytes .now) (a .ends .now) (a .ids .now)) same,
-      (
-        marked .1 .0 ∙ ap (bufferAfter (a .mode) (a .repeats) (a .buf .now) (a .bytes .now) (a .ends .now) (a .ids .now)) same,
-        marked .1 .1 ∙ told-same (a .mode) (a .repeats) (a .buf .now) (a .bytes .now) (a .ends .now) (a .ids .now) rs ok (a .rs .now) same (kept .0),
-      ),
-    )
+    let same : length rs ≡ length (a .refusals .now) = kept .1 in
+    let singly = c .before .before .before .before .before .before .build-singly .ensures in
+    let ok =
+    refusal-none (a .bytes .now) (a .ends .now) (length (a .ids .now)) (length rs) (length (a .buf .now)) (s .pre .list .packed) (s .pre .list .ids-long)
+    (omega (arith, s .pre .list .refusals-long, same)) (s .pre .list .head-fits) in
+    record {
+      gives = singly .gives ∙ ap (building (a .mode) (a .repeats) (a .buf .now) (a .bytes .now) (a .ends .now) (a .ids .now)) same;
+      leaves = singly .leaves ∙ ap (bufferAfter (a .mode) (a .repeats) (a .buf .now) (a .bytes .now) (a .ends .now) (a .ids .now)) same;
+      answers =
+          singly .answers
+          ∙ told-same (a .mode) (a .repeats) (a .buf .now) (a .bytes .now) (a .ends .now) (a .ids .now) rs ok (a .refusals .now) same (kept .0);
+    }
 
-pub build-roomy-spec : {M : Type 1} → statement M
-build-roomy-spec =
+pub build-bulk-spec : {M : Type 1} → statement M
+build-bulk-spec =
     tie.close
     (tie.spec
     refuses-requires
@@ -123,7 +125,7 @@ build-roomy-spec =
     same-length-2
     same-length-3
     returns
-    build-marked-requires
+    build-singly-requires
     same-length-4
     same-length-5
     same-length-6
