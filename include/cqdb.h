@@ -372,10 +372,15 @@ cqdb_build_answer cqdb_build_parts(uint32_t mode, uint32_t repeats, uint8_t *buf
    the first that applies: 2 for a mode or a choice of repeats that is neither 0 nor 1; 14 when an end is below the one before or
    above names_len; 15 when there are fewer than n places; 1 for a buffer under 2,072 bytes. Then nothing is written.
 
-   The words at work are lent for speed: how many there are, and what they hold, changes no answer, and what they hold
-   afterwards is left open. With 7 words for each name, and room in the buffer for all names, the list goes by tables and no put
-   is checked by itself. With 3 words for each name the time grows with the list, also where names repeat or are refused; with
-   fewer than one for each name and repeats off, each name is compared with those before it. */
+   The words at work are scratch memory, lent for speed: how many there are, and what they hold, changes no answer, and what they
+   hold afterwards is unspecified. What a list of n names costs, by the words and the list:
+   - 7n words, and room in the buffer for all names: linear. All tables are made first, then the image is written in one pass. Where
+     a name is refused, the names are put one by one instead, still in linear time: @RATIO@ of a list whose names are all accepted.
+   - 4n words: linear, each put by an index of the names. From 2n words on there is an index, too, but the fuller it gets the longer
+     a put probes it.
+   - Below 2n words: with repeats on linear; with repeats off each put walks the entries before it, which is quadratic: @WALK@.
+   - With repeats on, by any way, a name that is put k times costs k * k / 2 probes of the image's own table, as in cqdb_close: 64,000
+     puts of one name take @ONE@. */
 static inline cqdb_build_answer cqdb_build(uint32_t mode, uint32_t repeats, uint8_t *buf, size_t len,
                                            const uint8_t *names, size_t names_len, const uint64_t *ends, const uint32_t *ids,
                                            size_t n, uint32_t *refusals, size_t places, uint32_t *work, size_t words) {
