@@ -22,6 +22,7 @@ use Rattle.index.specs.steps.Fill.{FillPre, SlotsFilled}
 
 module _ (s : State) (words : List ℕ) (r : ℕ) (answer : r ≡ closeRefusal s) where
   pub index-refused : (r ≡ 0 → ⊥) → Indexed s words r words
+  unfolding indexRefusal
   index-refused n =
       record {
         answer = is;
@@ -31,7 +32,6 @@ module _ (s : State) (words : List ℕ) (r : ℕ) (answer : r ≡ closeRefusal s
       }
     where
       is : r ≡ indexRefusal s words
-      unfolding indexRefusal
       is = rw (ne-eqb (closeRefusal s) 0 (λ z. n (answer ∙ z))) answer
 
   module _ (none : r ≡ 0) where
@@ -39,6 +39,7 @@ module _ (s : State) (words : List ℕ) (r : ℕ) (answer : r ≡ closeRefusal s
     closes = sym answer ∙ none
 
     pub index-full : slotCount words < s .writer .entries → Indexed s words 24 words
+    unfolding indexRefusal
     index-full l =
         record {
           answer = is;
@@ -48,7 +49,6 @@ module _ (s : State) (words : List ℕ) (r : ℕ) (answer : r ≡ closeRefusal s
         }
       where
         is : 24 ≡ indexRefusal s words
-        unfolding indexRefusal
         is = rw (eq-eqb (closeRefusal s) 0 closes, lt-ltb (slotCount words) (s .writer .entries) l) refl
 
     -- cleared, then filled with the entries

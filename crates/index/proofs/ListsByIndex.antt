@@ -155,7 +155,7 @@ module _ (m : ℕ) (mode : Mode) (repeats : Repeats) (n : ℕ) where
 
   pub along : (cs : List Call) (es : List Entry) (s : State) (words : List ℕ) → Written mode repeats n es s → Right s words → slotCount words ≡ m → WordIds mode cs
       → (rs : List ℕ) (t : State) (words′ : List ℕ) → Run s words cs rs t words′ → Along m mode repeats n es s cs rs t words′
-  unfolding dueIndexed withoutFull notFull answers after
+  unfolding dueIndexed withoutFull notFull answers after afterPut
   along [] es s words w right size word [] t words′ run =
       record {
         answered = refl;
@@ -187,7 +187,6 @@ module _ (m : ℕ) (mode : Mode) (repeats : Repeats) (n : ℕ) where
       go : ((fs : List Entry) → Written mode repeats n fs u → Along m mode repeats n fs u cs rs t words′)
           → Accepted m mode repeats n es s words w right size e r u mid ⊎ (Full m mode repeats n es s words w right size e r u mid ⊎ Refused m mode repeats n es s words w right size e r u mid)
           → Along m mode repeats n es s (put e ∷ cs) (r ∷ rs) t words′
-      unfolding afterPut
       go rest (inl o) =
           let left : u ≡ afterPut s e = o .state ∙ sym (ap (λ (b : Bool). cond b (appended s e) s) (eq-eqb (putRefusal s e) 0 (put-is ∙ o .put-is))) in
           let v : Written mode repeats n (es ++ (e ∷ [])) u =
@@ -257,6 +256,7 @@ module _ (m : ℕ) (mode : Mode) (repeats : Repeats) (n : ℕ) where
 -- ---- from a fresh record
 
 pub lists-by-index : ListsByIndex
+unfolding due accepted imageOf
 lists-by-index =
     record {
       runs = λ mode repeats buffer words cs rs t words′ room word right run. one mode repeats buffer words cs rs t words′ room word right run;
@@ -266,7 +266,6 @@ lists-by-index =
     one : (mode : Mode) (repeats : Repeats) (buffer words : List ℕ) (cs : List Call) (rs : List ℕ) (t : State) (words′ : List ℕ)
         → headSize ≤ length buffer → WordIds mode cs → Right (fresh mode repeats buffer) words
         → Run (fresh mode repeats buffer) words cs rs t words′ → RunByIndex mode repeats buffer words cs rs t words′
-    unfolding due accepted imageOf
     one mode repeats buffer words cs rs t words′ room word right run =
         let n = length buffer in
         let a = along (slotCount words) mode repeats n cs [] (fresh mode repeats buffer) words (fresh-written mode repeats buffer room) right refl word rs t words′ run in

@@ -86,7 +86,7 @@ module _ (w : CQDBWriter) (counts buf words name : List ℕ) (id : ℕ) where
           let a = accepted s (right .closes) in
           refusal-duplicate s words (entryOf name id) (a .fitted) (a .agrees) free (result-of right .found l)
 
-      module _ (absent : r ≤ slotCount words) where
+      module _ (new : r ≤ slotCount words) where
         pub too-big : tooLarge (w .length) (finishedSize (writerWith w (length name) id)) ≡ true → Refuses 3
         unfolding writerAfter
         too-big t right =

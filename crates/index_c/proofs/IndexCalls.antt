@@ -30,7 +30,6 @@ held-right s words right =
 -- ---- the put
 
 pub put-unknown : (h : Held) (words : List ℕ) (e : Entry) → knownIn h ≡ false → PutIndexedHeld h words e 2 h words
-unfolding putIndexedNumber leftByPutIndexed
 put-unknown h words e over =
     record {
       refused = λ n. (refl, refl);
@@ -75,6 +74,7 @@ module _ (h : Held) (words : List ℕ) (e : Entry) (v w' : CQDBWriter) (r : Reco
 -- ---- making the index
 
 pub index-unknown : (h : Held) (words : List ℕ) → knownIn h ≡ false → IndexedHeld h words 2 words
+unfolding indexNumber
 index-unknown h words over =
     record {
       answer = is;
@@ -84,7 +84,6 @@ index-unknown h words over =
     }
   where
     is : 2 ≡ indexNumber h words
-    unfolding indexNumber
     is = rw over refl
 
 module _ (h : Held) (words words′ : List ℕ) (v : CQDBWriter) (k : ℕ) (fine : knownIn h ≡ true) (is : v ≡ writerOf (h .writer))
