@@ -38,7 +38,7 @@ use Rattle.lists.proofs.ListCloses.{close-accepted, close-closed, closed-buffer
 use Rattle.lists.proofs.Along.{list-answers, list-accepted, list-written}
 use Rattle.tabling.specs.steps.Parted.{at}
 use Rattle.build.specs.Build.{callsOf, listed}
-use Rattle.build.specs.steps.Capacity.{Roomy}
+use Rattle.build.specs.steps.Capacity.{RoomForAll}
 use Rattle.build.specs.steps.Steps.{entriesListed}
 use Rattle.joined.proofs.NameEnds.{begin-later}
 use Rattle.build.proofs.StoredAll.{length-listed}
@@ -107,7 +107,7 @@ back-rises Twoway a b h = h
 back-rises Oneway a b h = omega arith
 
 module _ (mode : Mode) (buffer bytes ends ids : List ℕ) (good : astray (length bytes) 0 ends ≡ false) (many : length ends ≤ length ids)
-    (roomy : Roomy mode ends ids (length buffer)) where
+    (roomy : RoomForAll mode ends ids (length buffer)) where
   size-most : imageSize mode (entriesListed (names bytes ends) ids) ≤ headSize + beginOf ends (length ends) + 25 * length ends + 4 * backIn mode (roomy .top)
   size-most =
       let n = length-names bytes ends in
@@ -274,7 +274,7 @@ module _ (mode : Mode) (repeats : Repeats) (n : ℕ) where
 -- ---- the list
 
 module _ (mode : Mode) (repeats : Repeats) (buffer bytes ends ids : List ℕ) (good : astray (length bytes) 0 ends ≡ false) (many : length ends ≤ length ids)
-    (room : headSize ≤ length buffer) (roomy : Roomy mode ends ids (length buffer)) (words : (i : ℕ) → i < length ends → getD ids i 0 < 2 ^ 32)
+    (room : headSize ≤ length buffer) (roomy : RoomForAll mode ends ids (length buffer)) (words : (i : ℕ) → i < length ends → getD ids i 0 < 2 ^ 32)
     (zeros : (i : ℕ) → i < length ends → hasZero (nth (names bytes ends) i) ≡ false)
     (apart : refusesRepeats repeats ≡ true → (i j : ℕ) → j < i → i < length ends → same (nth (names bytes ends) j) (nth (names bytes ends) i) ≡ false) where
   abbrev n : ℕ
@@ -345,7 +345,7 @@ module _ (mode : Mode) (repeats : Repeats) (buffer bytes ends ids : List ℕ) (g
 
 -- where the entries of all names stand, finishing finds what it asks for, and these entries
 module _ (mode : Mode) (buffer bytes ends ids : List ℕ) (good : astray (length bytes) 0 ends ≡ false) (many : length ends ≤ length ids)
-    (roomy : Roomy mode ends ids (length buffer)) (words : (i : ℕ) → i < length ends → getD ids i 0 < 2 ^ 32) where
+    (roomy : RoomForAll mode ends ids (length buffer)) (words : (i : ℕ) → i < length ends → getD ids i 0 < 2 ^ 32) where
   abbrev all : List Entry
   all = entriesListed (names bytes ends) ids
 

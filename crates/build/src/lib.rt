@@ -1,16 +1,16 @@
 // A whole list in one call: begin, the puts in order and one close.
 ghost use mathlib.Core.Path.{_≡_};
-ghost use Prim.Native.Nat.{ℕ, _*_, _≤_, _<_};
+ghost use Prim.Native.Nat.{_<_};
 ghost use lib.ListN.{length};
 ghost use Rattle.writer.specs.State.{stateWith, refusesRepeats};
 ghost use Rattle.writer.specs.Close.{closeRefusal};
 ghost use Rattle.build.specs.Build.{buildRefusal, building, bufferAfter, answersAfter, builtOf};
-ghost use Rattle.build.specs.steps.Capacity.{Roomy};
-ghost use Rattle.build.specs.steps.Steps.{ListPre, BulkPre, ListBuilt, Finished};
+ghost use Rattle.build.specs.steps.Capacity.{Capacity};
+ghost use Rattle.build.specs.steps.Steps.{ListPre, ListBuilt, Finished};
+use capacity::has_capacity;
 use image::Mode;
 use image::scratch::clear;
 use joined::astray;
-use puts::roomy;
 use singly::index_words;
 use singly::put_list;
 use stored::write_list;
@@ -18,7 +18,7 @@ use tabling::table_list;
 use writer::CQDBWriter;
 use writer::Repeats;
 
-mod puts; // puts.rt: has an image of all names room?
+mod capacity; // capacity.rt: has an image of all names room?
 mod singly; // singly.rt: the puts one by one
 mod stored; // stored.rt: the image of all names, whose tables are made before
 
@@ -112,7 +112,10 @@ fn build_bulk(
     refusals: &mut [u32],
     scratch: &mut [u32],
 ) -> Built
-    requires { ⌜ BulkPre mode (now buf) (now bytes) (now ends) (now ids) (now refusals) (length (now scratch)) ⌝ }
+    requires { ⌜
+        ListPre (now buf) (now bytes) (now ends) (now ids) (now refusals)
+        × Capacity mode (now ends) (now ids) (length (now buf)) (length (now scratch))
+        ⌝ }
     ensures { λ r. ⌜
         ListBuilt mode repeats (now (buf .entry)) (now (bytes .entry)) (now (ends .entry)) (now (ids .entry))
         (now (refusals .entry)) r (now (buf .exit)) (now (refusals .exit))
@@ -165,7 +168,7 @@ fn build_list(
         (now (refusals .entry)) r (now (buf .exit)) (now (refusals .exit))
         ⌝ }
 {
-    if roomy(mode, ends, ids, buf.len(), scratch.len()) {
+    if has_capacity(mode, ends, ids, buf.len(), scratch.len()) {
         return build_bulk(
             mode,
             repeats,

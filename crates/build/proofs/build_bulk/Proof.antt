@@ -22,7 +22,7 @@ refuses-requires c κs = search needs
 table-list-requires : tie.Need-table-list-requires
 table-list-requires c κs =
     let s = c .before .before .before .before .before .before .before .before .before .before in
-    (s .pre .list .packed, s .pre .some, s .pre .few, omega (arith, s .pre .roomy .small), s .pre .list .refusals-long, s .pre .scratch, length-replicate {A = ℕ} 256 0, λ t h. getD-replicate 256 t 0 0 h)
+    (s .pre .0 .packed, s .pre .1 .some, s .pre .1 .few, omega (arith, s .pre .1 .fits .small), s .pre .0 .refusals-long, s .pre .1 .scratch, length-replicate {A = ℕ} 256 0, λ t h. getD-replicate 256 t 0 0 h)
 
 mul-words : tie.Need-mul-words
 mul-words c = search needs
@@ -36,14 +36,23 @@ slice-aggregate-words c =
     let told = c .before .before .before .before .before .before .table-list in
     let work = told .last .1 .1 .1 .1 .0 in
     let long : length work ≡ length (s .args .scratch .now) = told .ensures .1 .1 .1 .1 .2 in
-    sym (length-take-le (4 * length (s .args .ends .now)) work (omega (arith, s .pre .scratch, long)))
+    sym (length-take-le (4 * length (s .args .ends .now)) work (omega (arith, s .pre .1 .scratch, long)))
 
 write-list-requires : tie.Need-write-list-requires
 write-list-requires c κs =
     let s = c .before .before .before .before .before .before .before .before .before .before .before .before .before .before .before .before .before .before .before in
     let told = c .before .before .before .before .before .before .before .before .table-list .ensures in
     let yes = c .before .before .before .if1 .taken in
-    (s .pre .list .packed, s .pre .some, s .pre .few, s .pre .list .ids-long, s .pre .roomy, told .1 .1 .1 .0 .0, told .1 .1 .1 .0 .1, told .1 .1 .0 yes)
+    record {
+      packed = s .pre .0 .packed;
+      some = s .pre .1 .some;
+      few = s .pre .1 .few;
+      ids-long = s .pre .0 .ids-long;
+      fits = s .pre .1 .fits;
+      tables = told .1 .1 .1 .0 .0;
+      counted = told .1 .1 .1 .0 .1;
+      tabled = told .1 .1 .0 yes;
+    }
 
 cast-t25 : tie.Need-cast-t25
 cast-t25 c = search needs
@@ -68,15 +77,15 @@ returns c =
     let zero = told .0 yes in
     let word : (i : ℕ) → i < length (a .ends .now) → getD (a .ids .now) i 0 < 2 ^ 32 = λ i h. omega (arith, c .before .before .before .before .before .before .before .before .before .before .before .before .before .before .before .before .before .before .shared-slice-known3 .given i) in
     let clean : (i : ℕ) → i < length (a .ends .now) → hasZero (nth (names (a .bytes .now) (a .ends .now)) i) ≡ _ = λ i h. zero i h .1 in
-    let ok = refusal-none (a .bytes .now) (a .ends .now) (length (a .ids .now)) (length (a .refusals .now)) (length (a .buf .now)) (s .pre .list .packed) (s .pre .list .ids-long) (s .pre .list .refusals-long) (s .pre .list .head-fits) in
+    let ok = refusal-none (a .bytes .now) (a .ends .now) (length (a .ids .now)) (length (a .refusals .now)) (length (a .buf .now)) (s .pre .0 .packed) (s .pre .0 .ids-long) (s .pre .0 .refusals-long) (s .pre .0 .head-fits) in
     record {
       gives = built-made (a .mode) (a .repeats) (a .buf .now) (a .bytes .now) (a .ends .now) (a .ids .now) (a .refusals .now) ok _
-          (done .ensures .0 ∙ sym (size-all (a .mode) (a .repeats) (a .buf .now) (a .bytes .now) (a .ends .now) (a .ids .now) (s .pre .list .packed) (s .pre .list .ids-long) (s .pre .list .head-fits) (s .pre .roomy) word clean (λ d. told .1 .0 yes (off ∙ d))))
-          (sym (ap length (accepted-all (a .mode) (a .repeats) (a .buf .now) (a .bytes .now) (a .ends .now) (a .ids .now) (s .pre .list .packed) (s .pre .list .ids-long) (s .pre .list .head-fits) (s .pre .roomy) word clean (λ d. told .1 .0 yes (off ∙ d))) ∙ number-all (a .bytes .now) (a .ends .now) (a .ids .now) (s .pre .list .packed) (s .pre .list .ids-long)));
+          (done .ensures .size ∙ sym (size-all (a .mode) (a .repeats) (a .buf .now) (a .bytes .now) (a .ends .now) (a .ids .now) (s .pre .0 .packed) (s .pre .0 .ids-long) (s .pre .0 .head-fits) (s .pre .1 .fits) word clean (λ d. told .1 .0 yes (off ∙ d))))
+          (sym (ap length (accepted-all (a .mode) (a .repeats) (a .buf .now) (a .bytes .now) (a .ends .now) (a .ids .now) (s .pre .0 .packed) (s .pre .0 .ids-long) (s .pre .0 .head-fits) (s .pre .1 .fits) word clean (λ d. told .1 .0 yes (off ∙ d))) ∙ number-all (a .bytes .now) (a .ends .now) (a .ids .now) (s .pre .0 .packed) (s .pre .0 .ids-long)));
       leaves = left-closed (a .mode) (a .repeats) (a .buf .now) (a .bytes .now) (a .ends .now) (a .ids .now) (a .refusals .now) ok _
-          (done .ensures .1 ∙ sym (closed-all (a .mode) (a .repeats) (a .buf .now) (a .bytes .now) (a .ends .now) (a .ids .now) (s .pre .list .packed) (s .pre .list .ids-long) (s .pre .list .head-fits) (s .pre .roomy) word clean (λ d. told .1 .0 yes (off ∙ d))));
+          (done .ensures .leaves ∙ sym (closed-all (a .mode) (a .repeats) (a .buf .now) (a .bytes .now) (a .ends .now) (a .ids .now) (s .pre .0 .packed) (s .pre .0 .ids-long) (s .pre .0 .head-fits) (s .pre .1 .fits) word clean (λ d. told .1 .0 yes (off ∙ d))));
       answers = told-all (a .mode) (a .repeats) (a .buf .now) (a .bytes .now) (a .ends .now) (a .ids .now) (a .refusals .now) ok _
-          (told-none _ (a .refusals .now) _ (length (a .ends .now)) (omega (arith, s .pre .list .refusals-long, told .1 .1 .1 .1 .1)) (λ i h. zero i h .0) (told .1 .1 .1 .1 .0) (answers-none (a .mode) (a .repeats) (a .buf .now) (a .bytes .now) (a .ends .now) (a .ids .now) (s .pre .list .packed) (s .pre .list .ids-long) (s .pre .list .head-fits) (s .pre .roomy) word clean (λ d. told .1 .0 yes (off ∙ d))));
+          (told-none _ (a .refusals .now) _ (length (a .ends .now)) (omega (arith, s .pre .0 .refusals-long, told .1 .1 .1 .1 .1)) (λ i h. zero i h .0) (told .1 .1 .1 .1 .0) (answers-none (a .mode) (a .repeats) (a .buf .now) (a .bytes .now) (a .ends .now) (a .ids .now) (s .pre .0 .packed) (s .pre .0 .ids-long) (s .pre .0 .head-fits) (s .pre .1 .fits) word clean (λ d. told .1 .0 yes (off ∙ d))));
     }
 
 build-singly-requires : tie.Need-build-singly-requires
@@ -100,8 +109,8 @@ returns-2 c =
     let same : length rs ≡ length (a .refusals .now) = kept .1 in
     let singly = c .before .before .before .before .before .before .build-singly .ensures in
     let ok =
-    refusal-none (a .bytes .now) (a .ends .now) (length (a .ids .now)) (length rs) (length (a .buf .now)) (s .pre .list .packed) (s .pre .list .ids-long)
-    (omega (arith, s .pre .list .refusals-long, same)) (s .pre .list .head-fits) in
+    refusal-none (a .bytes .now) (a .ends .now) (length (a .ids .now)) (length rs) (length (a .buf .now)) (s .pre .0 .packed) (s .pre .0 .ids-long)
+    (omega (arith, s .pre .0 .refusals-long, same)) (s .pre .0 .head-fits) in
     record {
       gives = singly .gives ∙ ap (building (a .mode) (a .repeats) (a .buf .now) (a .bytes .now) (a .ends .now) (a .ids .now)) same;
       leaves = singly .leaves ∙ ap (bufferAfter (a .mode) (a .repeats) (a .buf .now) (a .bytes .now) (a .ends .now) (a .ids .now)) same;

@@ -3,14 +3,13 @@ use borrow.Author.Needs.{needs}
 use Rattle.build.proofs.build_list.Statement.{statement}
 use Rattle.build.proofs.build_list.Tie as tie
 
-roomy-requires : tie.Need-roomy-requires
-roomy-requires c κs = search needs
+has-capacity-requires : tie.Need-has-capacity-requires
+has-capacity-requires c κs = search needs
 
 build-bulk-requires : tie.Need-build-bulk-requires
 build-bulk-requires c κs =
     let s = c .before .before .before .before .before .before .before .before .before .before .before in
-    let told = c .before .before .before .before .roomy .ensures (c .before .before .before .if1 .taken) in
-    record { list = s .pre; roomy = told .0; few = told .1; scratch = told .2; some = told .3 }
+    (s .pre, c .before .before .before .before .has-capacity .ensures (c .before .before .before .if1 .taken))
 
 same-length : tie.Need-same-length
 same-length c = search needs
@@ -43,7 +42,7 @@ pub build-list-spec : {M : Type 1} → statement M
 build-list-spec =
     tie.close
     (tie.spec
-    roomy-requires
+    has-capacity-requires
     build-bulk-requires
     same-length
     same-length-2

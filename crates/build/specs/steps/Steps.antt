@@ -17,7 +17,6 @@ use Rattle.lists.specs.Demand3.{answersOf, afterList}
 use Rattle.index.specs.Index.{slotCount, Right}
 use Rattle.build.specs.declared.Made.{Made}
 use Rattle.build.specs.declared.Built.{Built}
-use Rattle.build.specs.steps.Capacity.{Roomy}
 use Rattle.build.specs.Build.{callsOf, listed, building, bufferAfter, answersAfter, builtOf}
 
 -- the entries of names and ids, where every name is accepted
@@ -30,14 +29,6 @@ pub record ListPre (buffer bytes ends ids refusals : List ℕ) : Type 0 where
   pub ids-long : length ends ≤ length ids
   pub refusals-long : length ends ≤ length refusals
   pub head-fits : headSize ≤ length buffer
-
--- a list whose image has room for all names, and scratch memory of 7 words a name
-pub record BulkPre (mode : Mode) (buffer bytes ends ids refusals : List ℕ) (words : ℕ) : Type 0 where
-  pub list : ListPre buffer bytes ends ids refusals
-  pub roomy : Roomy mode ends ids (length buffer)
-  pub few : length ends ≤ 171798691
-  pub scratch : 7 * length ends ≤ words
-  pub some : 0 < length ends
 
 -- the call's promise: what it gives, and the buffer and the refusals afterwards
 pub record ListBuilt (mode : Mode) (repeats : Repeats) (buffer bytes ends ids refusals : List ℕ)

@@ -1,4 +1,4 @@
--- `build::puts::largest` meets its contract. The loop's invariant: it is that of the ids passed. Assumes nothing.
+-- `build::capacity::largest` meets its contract. The loop's invariant: it is that of the ids passed. Assumes nothing.
 use Prim.Native.Nat.{ℕ, _+_, _-_, _≤_, _<_}
 use native.Mathlib.Omega.{arith}
 use mathlib.Core.Path.{_≡_, ap, _∙_}
@@ -7,8 +7,8 @@ use borrow.Author.Needs.{needs}
 use Rattle.tabling.specs.steps.Parted.{at}
 use Rattle.build.specs.steps.Capacity.{largestTo}
 use Rattle.build.proofs.Largest.{largest-none, largest-turn}
-use Rattle.build.proofs.puts.largest.Statement.{statement}
-use Rattle.build.proofs.puts.largest.Tie as tie
+use Rattle.build.proofs.capacity.largest.Statement.{statement}
+use Rattle.build.proofs.capacity.largest.Tie as tie
 
 abbrev Inv-loop : tie.InvT-loop
 Inv-loop ids n top₀ i₀ top i = (i ≤ n) × (top ≡ largestTo ids i)

@@ -1,9 +1,9 @@
 // Whether a buffer has room for the image of all names of a list.
 ghost use mathlib.Core.Path.{_≡_};
 ghost use mathlib.Core.Bool.{true};
-ghost use Prim.Native.Nat.{_*_, _≤_, _<_, max};
+ghost use Prim.Native.Nat.{_≤_, max};
 ghost use lib.ListN.{length};
-ghost use Rattle.build.specs.steps.Capacity.{largestTo, Roomy};
+ghost use Rattle.build.specs.steps.Capacity.{largestTo, Capacity};
 use image::Mode;
 
 // The larger of two ids.
@@ -27,10 +27,10 @@ pub(crate) fn largest(ids: &[u32], n: usize) -> u32
     top
 }
 
-// Has an image of all names room, and the lent memory 7 words for each? An empty list is left to the other way.
-pub(crate) fn roomy(mode: Mode, ends: &[u64], ids: &[u32], room: usize, words: usize) -> bool
+// Has the buffer room for an image of all names, and the scratch memory 7 words for each? False for an empty list.
+pub(crate) fn has_capacity(mode: Mode, ends: &[u64], ids: &[u32], room: usize, words: usize) -> bool
     requires { ⌜ length (now ends) ≤ length (now ids) ⌝ }
-    ensures { λ r. ⌜ (r ≡ true → Roomy mode (now (ends .entry)) (now (ids .entry)) room × (length (now (ends .entry)) ≤ 171798691) × (7 * length (now (ends .entry)) ≤ words) × (0 < length (now (ends .entry)))) ⌝ }
+    ensures { λ r. ⌜ (r ≡ true → Capacity mode (now (ends .entry)) (now (ids .entry)) room words) ⌝ }
 {
     let n = ends.len();
     if n == 0 {

@@ -1,4 +1,4 @@
--- `build::puts::roomy` meets its contract. Assumes nothing.
+-- `build::capacity::has_capacity` meets its contract. Assumes nothing.
 use Prim.Native.Nat.{ℕ, _+_, _*_, _-_, _≤_, _<_}
 use native.Mathlib.Omega.{arith}
 use mathlib.Core.Path.{_≡_}
@@ -7,8 +7,8 @@ use borrow.Author.Needs.{needs}
 use Rattle.image.proofs.Bools.{not-both}
 use Rattle.joined.proofs.NameEnds.{begin-later}
 use Rattle.build.proofs.Largest.{largest-above}
-use Rattle.build.proofs.puts.roomy.Statement.{statement}
-use Rattle.build.proofs.puts.roomy.Tie as tie
+use Rattle.build.proofs.capacity.has_capacity.Statement.{statement}
+use Rattle.build.proofs.capacity.has_capacity.Tie as tie
 
 returns : tie.Need-returns
 returns c = λ e. absurd (not-both e)
@@ -76,20 +76,22 @@ returns-8 c = λ e. (let s = c .before .before .before .before .before .before .
     let n = length (a .ends .now) in
     let last = begin-later (a .ends .now) n (c .before .before .before .before .before .before .before .before .before .if1 .left) in
     let back = c .before .before .before .back-in .ensures in
-    let top = c .before .before .before .before .largest in (
-      record {
-        top = top .result + 1;
-        ids-below = λ i h. omega (arith, top .ensures, largest-above (a .ids .now) n i h);
-        within = omega (arith, last, back, c .if7 .left);
-        small = omega (arith, last, back, c .before .if6 .left);
-      },
-      omega (arith, c .before .before .before .before .before .before .before .before .if2 .left),
-      omega (arith, c .before .before .before .before .before .before .before .if3 .left),
-      omega (arith, c .before .before .before .before .before .before .before .before .before .if1 .left),
-    ))
+    let top = c .before .before .before .before .largest in
+    record {
+      fits =
+          record {
+            top = top .result + 1;
+            ids-below = λ i h. omega (arith, top .ensures, largest-above (a .ids .now) n i h);
+            within = omega (arith, last, back, c .if7 .left);
+            small = omega (arith, last, back, c .before .if6 .left);
+          };
+      few = omega (arith, c .before .before .before .before .before .before .before .before .if2 .left);
+      scratch = omega (arith, c .before .before .before .before .before .before .before .if3 .left);
+      some = omega (arith, c .before .before .before .before .before .before .before .before .before .if1 .left);
+    })
 
-pub roomy-spec : {M : Type 1} → statement M
-roomy-spec =
+pub has-capacity-spec : {M : Type 1} → statement M
+has-capacity-spec =
     tie.close
     (tie.spec
     returns
