@@ -48,7 +48,8 @@ fn finish_list(w: CQDBWriter, counts: &[u32; 256], buf: &mut [u8]) -> Made
     }
 }
 
-// The puts one by one and one close, from a fresh record. The index of a fresh record has no entry: its slots are cleared.
+// The puts one by one and one close, from a fresh record. The index of a fresh record has no entry: its slots are
+// cleared.
 fn build_singly(
     mode: Mode,
     repeats: Repeats,
@@ -100,8 +101,8 @@ fn refuses(repeats: Repeats) -> bool
     }
 }
 
-// Bulk path: makes all tables in the scratch memory, then writes the image in one pass. Where a name is refused, or may be, the
-// names are put one by one.
+// Bulk path: makes all tables in the scratch memory, then writes the image in one pass. Where a name is refused, or
+// may be, the names are put one by one.
 fn build_bulk(
     mode: Mode,
     repeats: Repeats,
@@ -192,9 +193,9 @@ fn build_list(
     )
 }
 
-// The image of the names that lie joined in `bytes` with these ends, each put with the id at its place; the number of each put's
-// refusal goes to `refusals`. Refused with 14, 15 or 1, and then nothing is written. What `scratch` holds changes only the time, and
-// what it holds afterwards is unspecified.
+// The image of the names that lie joined in `bytes` with these ends, each put with the id at its place; the number of
+// each put's refusal goes to `refusals`. Refused with 14, 15 or 1, and then nothing is written. What `scratch` holds
+// changes only the time, and what it holds afterwards is unspecified.
 pub fn build(
     mode: Mode,
     repeats: Repeats,

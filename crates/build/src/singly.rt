@@ -1,5 +1,5 @@
-// The puts of a list, one by one: by an index in the scratch memory, which tells a duplicate in constant time, or by the rule's own
-// put, which with repeats off walks all earlier entries.
+// The puts of a list, one by one: by an index in the scratch memory, which tells a duplicate in constant time, or by
+// the rule's own put, which with repeats off walks all earlier entries.
 ghost use Rattle.writer.specs.State.{stateWith};
 ghost use Rattle.writer.specs.Put.{entryOf};
 ghost use Rattle.build.specs.steps.Steps.{IndexWords, PutPre, PutPost, PutListPre, PutListPost};
@@ -9,8 +9,8 @@ use writer::CQDBWriter;
 use writer::PutAnswer;
 use writer::Repeats;
 
-// How many words of the scratch memory are the index of n names: two slots of two words a name, or what there is. 0 where there is
-// less than a slot a name, and with repeats on, where no put looks for its name.
+// How many words of the scratch memory are the index of n names: two slots of two words a name, or what there is. 0
+// where there is less than a slot a name, and with repeats on, where no put looks for its name.
 pub(crate) fn index_words(repeats: Repeats, n: usize, words: usize) -> usize
     ensures { λ r. ⌜ IndexWords n words r ⌝ }
 {
@@ -39,8 +39,9 @@ fn put_name(
 ) -> PutAnswer
     requires { ⌜ PutPre (stateWith w (now counts) (now buf)) (now slots) ⌝ }
     ensures { λ r. ⌜
-        PutPost (stateWith w (now (counts .entry)) (now (buf .entry))) (now (slots .entry)) (entryOf (now (name .entry)) id)
-        (r .refusal) (stateWith (r .writer) (now (counts .exit)) (now (buf .exit))) (now (slots .exit))
+        PutPost (stateWith w (now (counts .entry)) (now (buf .entry))) (now (slots .entry))
+        (entryOf (now (name .entry)) id) (r .refusal)
+        (stateWith (r .writer) (now (counts .exit)) (now (buf .exit))) (now (slots .exit))
         ⌝ }
 {
     if slots.len() == 0 {
@@ -64,8 +65,8 @@ pub(crate) fn put_list(
         PutListPre w (now counts) (now buf) (now slots) (now bytes) (now ends) (now ids) (now refusals)
         ⌝ }
     ensures { λ r. ⌜
-        PutListPost w (now (buf .entry)) (now (bytes .entry)) (now (ends .entry)) (now (ids .entry)) (now (refusals .entry))
-        (stateWith r (now (counts .exit)) (now (buf .exit))) (now (refusals .exit))
+        PutListPost w (now (buf .entry)) (now (bytes .entry)) (now (ends .entry)) (now (ids .entry))
+        (now (refusals .entry)) (stateWith r (now (counts .exit)) (now (buf .exit))) (now (refusals .exit))
         ⌝ }
 {
     let mut after = w;

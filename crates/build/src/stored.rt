@@ -1,5 +1,5 @@
-// The image of a list, all of whose names are put: its entries stored in one pass, each with its link in the back array, and head,
-// rows and tables around them.
+// The image of a list, all of whose names are put: its entries stored in one pass, each with its link in the back
+// array, and head, rows and tables around them.
 ghost use mathlib.Core.Path.{_≡_};
 ghost use Prim.Native.Nat.{_+_, _*_, _≤_};
 ghost use lib.ListN.{length};
@@ -22,8 +22,8 @@ fn store_link(mode: Mode, buf: &mut [u8], links: usize, id: u32, at: u32)
     }
 }
 
-// The entries of all names one behind the other from 2,072 on, and in a two-way image the offset of each under its id in the back
-// array, which begins at `at` and was cleared.
+// The entries of all names one behind the other from 2,072 on, and in a two-way image the offset of each under its id
+// in the back array, which begins at `at` and was cleared.
 pub(crate) fn store_list(
     mode: Mode,
     at: usize,
@@ -34,7 +34,8 @@ pub(crate) fn store_list(
 )
     requires { ⌜ StoreListPre mode at (now bytes) (now ends) (now ids) (now buf) ⌝ }
     ensures { λ _. ⌜
-        StoreListPost mode at (now (bytes .entry)) (now (ends .entry)) (now (ids .entry)) (now (buf .entry)) (now (buf .exit))
+        StoreListPost mode at (now (bytes .entry)) (now (ends .entry)) (now (ids .entry)) (now (buf .entry))
+        (now (buf .exit))
         ⌝ }
 {
     let mut o = 2072;
@@ -52,8 +53,8 @@ pub(crate) fn store_list(
     }
 }
 
-// The image of all names, with these table counts and the words of its tables: entries and back array, then head, rows and tables
-// around them. Gives its size.
+// The image of all names, with these table counts and the words of its tables: entries and back array, then head,
+// rows and tables around them. Gives its size.
 pub(crate) fn write_list(
     mode: Mode,
     buf: &mut [u8],
@@ -65,7 +66,8 @@ pub(crate) fn write_list(
 ) -> u32
     requires { ⌜ WriteListPre mode (now buf) (now bytes) (now ends) (now ids) (now counts) (now words) ⌝ }
     ensures { λ r. ⌜
-        WriteListPost mode (now (buf .entry)) (now (bytes .entry)) (now (ends .entry)) (now (ids .entry)) r (now (buf .exit))
+        WriteListPost mode (now (buf .entry)) (now (bytes .entry)) (now (ends .entry)) (now (ids .entry)) r
+        (now (buf .exit))
         ⌝ }
 {
     let n = ends.len();

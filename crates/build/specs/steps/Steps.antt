@@ -48,7 +48,8 @@ pub record PutPre (s : State) (slots : List ℕ) : Type 0 where
   pub spare : 0 < length slots → s .writer .entries < slotCount slots
 
 -- by either way the put of the rules, and the index is right again
-pub record PutPost (s : State) (slots : List ℕ) (e : Entry) (refusal : ℕ) (then : State) (slotsThen : List ℕ) : Type 0 where
+pub record PutPost (s : State) (slots : List ℕ) (e : Entry) (refusal : ℕ) (then : State) (slotsThen : List ℕ)
+    : Type 0 where
   pub answer : refusal ≡ putRefusal s e
   pub leaves : then ≡ afterPut s e
   pub right : 0 < length slots → Right then slotsThen

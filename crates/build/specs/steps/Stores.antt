@@ -1,4 +1,5 @@
--- What the functions that write the image of all names ask and give. No rule stands here: proofs/ joins it to the rules.
+-- What the functions that write the image of all names ask and give. No rule stands here: proofs/ joins it to the
+-- rules.
 use Prim.Native.Nat.{ℕ, _+_, _*_, _≤_, _<_}
 use mathlib.Core.Path.{_≡_}
 use mathlib.Core.Bool.{false}
@@ -26,14 +27,17 @@ pub record StoreListPre (mode : Mode) (at : ℕ) (bytes ends ids buf : List ℕ)
   pub within : imageSize mode (entriesOf bytes ends ids) ≤ length buf
   pub small : imageSize mode (entriesOf bytes ends ids) ≤ 4294967295
   pub at-is : at ≡ entriesEnd (entriesOf bytes ends ids) + 16 * length ends
-  pub cleared : between buf at (imageSize mode (entriesOf bytes ends ids)) ≡ replicate (4 * backSizeOf mode (entriesOf bytes ends ids)) 0
+  pub cleared : between buf at (imageSize mode (entriesOf bytes ends ids))
+      ≡ replicate (4 * backSizeOf mode (entriesOf bytes ends ids)) 0
 
 -- they stand one behind the other, each offset under its id in the back array, and what follows the image is as it was
 pub record StoreListPost (mode : Mode) (at : ℕ) (bytes ends ids buf bufThen : List ℕ) : Type 0 where
-  pub area : between bufThen headSize (entriesEnd (entriesOf bytes ends ids)) ≡ cat entryBytes (entriesOf bytes ends ids)
+  pub area : between bufThen headSize (entriesEnd (entriesOf bytes ends ids))
+      ≡ cat entryBytes (entriesOf bytes ends ids)
   pub linked : between bufThen at (imageSize mode (entriesOf bytes ends ids))
       ≡ links (placed headSize (entriesOf bytes ends ids)) (backSizeOf mode (entriesOf bytes ends ids))
-  pub behind : drop (imageSize mode (entriesOf bytes ends ids)) bufThen ≡ drop (imageSize mode (entriesOf bytes ends ids)) buf
+  pub behind : drop (imageSize mode (entriesOf bytes ends ids)) bufThen
+      ≡ drop (imageSize mode (entriesOf bytes ends ids)) buf
   pub long : length bufThen ≡ length buf
 
 -- the image of all names is to be written, with these table counts and the words of its tables
