@@ -50,10 +50,11 @@ extern "C" {
 /* The refusals: the same numbers in all calls, 0 for none. Each comment names the calls that give it. A refused call
    changes no byte of what it is lent, the writer included. docs/FORMAT.md has the same table. */
 #define CQDB_TOO_SHORT 1u        /* begin, open, load, build: under 2,072 bytes */
-#define CQDB_UNFIT 2u            /* begin, put, close, grown, build: the writer does not fit the buffer, or mode or repeats is neither 0 nor 1 */
-#define CQDB_NO_ROOM 3u          /* put, bundle_append: the image would exceed the buffer; put: or 4,294,967,295 bytes */
-#define CQDB_INCONSISTENT 4u     /* put, close: the buffer's entries are not the writer's (put asks with repeats off only), or the
-                                    image that close would write is too large */
+#define CQDB_UNFIT 2u            /* begin, put, close, grown, build, put_indexed, index: the writer does not fit the buffer, or mode or
+                                    repeats is neither 0 nor 1 */
+#define CQDB_NO_ROOM 3u          /* put, bundle_append, put_indexed: the image would exceed the buffer; puts: or 4,294,967,295 bytes */
+#define CQDB_INCONSISTENT 4u     /* put, close, index: the buffer's entries are not the writer's (put asks with repeats off only), or
+                                    the image that close would write is too large */
 #define CQDB_WRONG_LETTERS 5u    /* open, bundle_open: the image does not begin with the letters CQDB */
 #define CQDB_WRONG_BYTE_ORDER 6u /* open, bundle_open: the word at 12, which shows the byte order, is wrong */
 #define CQDB_TABLE_LEAVES 7u     /* open, bundle_open: a table with an offset above 0 leaves the image */
@@ -62,10 +63,10 @@ extern "C" {
 #define CQDB_BROKEN_BUNDLE 10u   /* bundle_open, bundle_append, bundle_count: the images do not lie back to back, or append's new one is unfit */
 #define CQDB_NO_SUCH_IMAGE 11u   /* bundle_open: the file ends at or before the position */
 #define CQDB_PAGE_TOO_LONG 12u   /* page: it has more bytes than the output */
-#define CQDB_ZERO_BYTE 13u       /* put: the name has a zero byte */
+#define CQDB_ZERO_BYTE 13u       /* put, put_indexed: the name has a zero byte */
 #define CQDB_ROUND_UNFIT 14u     /* round, name_round, build: ends that fall or pass the names; rounds: or more than 512 names or ids */
 #define CQDB_ANSWERS_TOO_FEW 15u /* round, name_round, build: fewer answer places than names or ids; build: or fewer ids */
-#define CQDB_REPEATED 16u        /* put: repeats are off, and an earlier entry has this name */
+#define CQDB_REPEATED 16u        /* put, put_indexed: repeats are off, and an earlier entry has this name */
 #define CQDB_NOT_OURS 17u        /* average, lengths: the bytes are not the image that some list of puts closes to */
 #define CQDB_NO_ENTRIES 18u      /* average, lengths: the image has no entry */
 #define CQDB_TOO_FEW_BYTES 19u   /* sheet_read: the file ends before its third section does */
@@ -73,6 +74,7 @@ extern "C" {
 #define CQDB_SHEET_TOO_LARGE 21u /* sheet_write: a list has more than 65,535 ids, or the buffer is too short */
 #define CQDB_NO_SUCH_DATE 22u    /* name_on: a date, the one asked about or a window's, does not exist or is out of bounds */
 #define CQDB_NOT_BEFORE_END 23u  /* name_on: a window does not start before its end */
+#define CQDB_INDEX_FULL 24u      /* put_indexed, index: every slot is taken; index: more entries than slots */
 
 /* The name hash. */
 
@@ -372,10 +374,15 @@ cqdb_build_answer cqdb_build_parts(uint32_t mode, uint32_t repeats, uint8_t *buf
    the first that applies: 2 for a mode or a choice of repeats that is neither 0 nor 1; 14 when an end is below the one before or
    above names_len; 15 when there are fewer than n places; 1 for a buffer under 2,072 bytes. Then nothing is written.
 
-   The words at work are lent for speed: how many there are, and what they hold, changes no answer, and what they hold
-   afterwards is left open. With 7 words for each name, and room in the buffer for all names, the list goes by tables and no put
-   is checked by itself. With 3 words for each name the time grows with the list, also where names repeat or are refused; with
-   fewer than one for each name and repeats off, each name is compared with those before it. */
+   The words at work are scratch memory, lent for speed: how many there are, and what they hold, changes no answer, and what they
+   hold afterwards is unspecified. What a list of n names costs, by the words and the list:
+   - 7n words, and room in the buffer for all names: linear. All tables are made first, then the image is written in one pass. Where
+     a name is refused, the names are put one by one instead, still in linear time: @RATIO@ of a list whose names are all accepted.
+   - 4n words: linear, each put by an index of the names. From 2n words on there is an index, too, but the fuller it gets the longer
+     a put probes it.
+   - Below 2n words: with repeats on linear; with repeats off each put walks the entries before it, which is quadratic: @WALK@.
+   - With repeats on, by any way, a name that is put k times costs k * k / 2 probes of the image's own table, as in cqdb_close: 64,000
+     puts of one name take @ONE@. */
 static inline cqdb_build_answer cqdb_build(uint32_t mode, uint32_t repeats, uint8_t *buf, size_t len,
                                            const uint8_t *names, size_t names_len, const uint64_t *ends, const uint32_t *ids,
                                            size_t n, uint32_t *refusals, size_t places, uint32_t *work, size_t words) {

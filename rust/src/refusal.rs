@@ -76,6 +76,8 @@ refusals! {
     NoSuchDate = 22, "a date does not exist, or is out of bounds";
     /// A window does not start before its end.
     NotBeforeEnd = 23, "a window does not start before its end";
+    /// The writer's index has no free slot. No writer of this crate gets there: its index grows.
+    IndexFull = 24, "the index has no free slot";
 }
 
 impl Refusal {

@@ -19,8 +19,8 @@ use Rattle.finish.specs.steps.Asked.{Standing, TablesAtHand, LinksStand}
 use Rattle.tabling.specs.steps.Parted.{tableOfName, countOfTable}
 use Rattle.tabling.proofs.PairsOfTable.{table-count}
 use Rattle.tabling.proofs.Offsets.{names-short}
-use Rattle.build.specs.steps.Marked.{largestTo, Roomy}
-use Rattle.build.specs.steps.PutsAlong.{entriesListed}
+use Rattle.build.specs.steps.Capacity.{largestTo, RoomForAll}
+use Rattle.build.specs.steps.Steps.{entriesListed}
 use Rattle.joined.proofs.NameEnds.{begin-later}
 use Rattle.build.proofs.Largest.{back-all}
 use Rattle.build.proofs.AllPut.{number-all, names-all, end-all, size-within, size-small, standing-all, stands-all}
@@ -63,7 +63,7 @@ module _ (l : List ℕ) (at m : ℕ) (room : at + m ≤ length l) (l′ : List �
 -- ---- the numbers of the image
 
 module _ (mode : Mode) (buffer bytes ends ids : List ℕ) (good : astray (length bytes) 0 ends ≡ false) (many : length ends ≤ length ids)
-    (roomy : Roomy mode ends ids (length buffer)) (words : (i : ℕ) → i < length ends → getD ids i 0 < 2 ^ 32) where
+    (roomy : RoomForAll mode ends ids (length buffer)) (words : (i : ℕ) → i < length ends → getD ids i 0 < 2 ^ 32) where
   abbrev xs : List (List ℕ)
   xs = names bytes ends
 

@@ -19,7 +19,7 @@ use Rattle.lists.specs.Demand3.{answersOf}
 use Rattle.lists.proofs.Room.{room, back-rises}
 use Rattle.build.specs.declared.needs.Needs.{Needs}
 use Rattle.build.specs.Build.{callsOf, listed}
-use Rattle.build.specs.steps.Marked.{largestTo}
+use Rattle.build.specs.steps.Capacity.{largestTo}
 use Rattle.build.specs.Needs.{atMost, idsBack, bytesNeeded, needed, wordsEach, NeedsHold}
 use Rattle.build.proofs.Largest.{largest-none, largest-cons}
 

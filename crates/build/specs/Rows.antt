@@ -1,4 +1,5 @@
--- Worked examples of a whole list: names joined with their ends, ids, and what the call gives in every buffer of that length.
+-- Worked examples of a whole list: names joined with their ends, ids, and what the call gives in every buffer of that
+-- length.
 use Prim.Native.Nat.{ℕ}
 use mathlib.Core.Path.{_≡_}
 use mathlib.Core.List.{List, [], _∷_}

@@ -3,7 +3,7 @@
 ghost use mathlib.Core.Path.{_≡_};
 ghost use Prim.Native.Nat.{_+_, _*_, _≤_, _^_, min};
 ghost use Rattle.build.specs.Needs.{atMost, wordsEach, idsBack, bytesNeeded, needed};
-use super::puts::largest;
+use super::capacity::largest;
 use image::Mode;
 
 // The words of lent memory for each name; `wordsEach` is the same number.

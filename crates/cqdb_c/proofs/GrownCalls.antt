@@ -6,8 +6,9 @@ use mathlib.Core.List.{[]}
 use lib.Dec.{ltb}
 use Rattle.writer.specs.declared.CQDBWriter.{CQDBWriter}
 use Rattle.writer.specs.Grown.{withLength, grownRefusal, grownWriter}
-use Rattle.cqdb_c.specs.declared.record.Record.{Record}
-use Rattle.cqdb_c.specs.Record.{known, writerOf, recordOf, Held, held}
+use Rattle.modes.specs.declared.record.Record.{Record}
+use Rattle.modes.specs.Modes.{known}
+use Rattle.modes.specs.Record.{writerOf, recordOf, Held, held}
 use Rattle.cqdb_c.specs.Grown.{grownNumber, recordGrown}
 use Rattle.cqdb_c.proofs.CCalls.{back-and-forth}
 

@@ -1,6 +1,5 @@
 -- What the exported functions answer.
 pub mod Hash
 pub mod ReadAnswers
-pub mod Record
 pub mod Writing
 pub mod Grown

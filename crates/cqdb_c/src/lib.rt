@@ -4,5 +4,4 @@
 pub mod hash; // hash.rt: cqdb_hash
 pub mod opening; // opening.rt: cqdb_open
 pub mod naming; // naming.rt: cqdb_to_str, cqdb_size_hint, cqdb_home
-pub mod record; // record.rt: the writer record as C has it
 pub mod writing; // writing.rt: cqdb_begin_parts, cqdb_put_parts, cqdb_close_parts, cqdb_grown_parts

@@ -1,10 +1,10 @@
 // Writing, for C: the record goes in and comes back by value, the 256 table counts and the buffer are lent. A record whose
 // mode or repeats mode is neither 0 nor 1 is none of 01's and fits no buffer.
-use super::record::Record;
-use super::record::record_of;
-use super::record::writer_of;
 use modes::known;
 use modes::mode_of;
+use modes::record::Record;
+use modes::record::record_of;
+use modes::record::writer_of;
 use modes::repeats_of;
 use writer::Begun;
 use writer::Closed;
@@ -12,7 +12,7 @@ ghost use mathlib.Core.Path.{_≡_};
 ghost use lib.ListN.{length};
 ghost use Rattle.writer.specs.Put.{entryOf};
 ghost use Rattle.writer.specs.Close.{closedOf};
-ghost use Rattle.cqdb_c.specs.Record.{held};
+ghost use Rattle.modes.specs.Record.{held};
 ghost use Rattle.cqdb_c.specs.Writing.{notBegun, beginAnswer, countsLeft, putNumber, leftByPut, closingHeld, refusalIn, sizeIn, leftByClose};
 ghost use Rattle.cqdb_c.specs.Grown.{grownNumber, recordGrown};
 

@@ -1,5 +1,6 @@
 -- The laws of lists of calls.
 pub mod ListWritten
+pub mod Closable
 pub mod Read
 pub mod Parse
 pub mod Appended

@@ -22,3 +22,20 @@ module _ (s : State) where
       → (value (closedSize s) ≡ closing s) × (closed s ≡ afterClose s)
   unfolding closeRefusal closing afterClose
   closes h k l = rw (h, k, l) (refl, refl)
+
+  -- the number of its refusal
+  pub due-unfit : fits s ≡ false → 2 ≡ closeRefusal s
+  unfolding closeRefusal
+  due-unfit h = rw h refl
+
+  pub due-big : fits s ≡ true → tooLarge (s .writer .length) (finishedSize (s .writer)) ≡ true → 4 ≡ closeRefusal s
+  unfolding closeRefusal
+  due-big h k = rw (h, k, and-false (consistent s)) refl
+
+  pub due-differs : fits s ≡ true → consistent s ≡ false → 4 ≡ closeRefusal s
+  unfolding closeRefusal
+  due-differs h k = rw (h, k) refl
+
+  pub due-none : fits s ≡ true → tooLarge (s .writer .length) (finishedSize (s .writer)) ≡ false → consistent s ≡ true → 0 ≡ closeRefusal s
+  unfolding closeRefusal
+  due-none h k l = rw (h, k, l) refl

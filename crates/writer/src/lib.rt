@@ -4,13 +4,13 @@ ghost use lib.ListN.{length};
 ghost use Rattle.jhash.specs.NameHash.{hashOf};
 ghost use Rattle.writer.specs.State.{stateWith, beginning, begunOf, countsBegun};
 ghost use Rattle.writer.specs.Put.{putRefusal, appended, afterPut, entryOf};
-ghost use Rattle.writer.specs.Close.{closing, closedOf, afterClose};
+ghost use Rattle.writer.specs.Close.{closeRefusal, closing, closedOf, afterClose};
 ghost use Rattle.writer.specs.Grown.{grownRefusal, grownWriter};
 use image::Mode;
 
 mod check;
 pub mod entry; // entry.rt: store
-mod record;
+pub mod record; // record.rt: the numbers of the record after a put
 
 // 02 (viii)'s repeats mode: with repeats off a writer refuses a name that it already holds.
 pub enum Repeats {
@@ -175,6 +175,24 @@ pub fn grown(w: CQDBWriter, length: u64) -> PutAnswer
             back: w.back,
         },
     }
+}
+
+// The number of the refusal that is due to a close, 0 where it is accepted. Changes nothing.
+pub fn close_refusal(w: CQDBWriter, counts: &[u32; 256], buf: &[u8]) -> u32
+    ensures { λ r. ⌜ r ≡ closeRefusal (stateWith w (now (counts .entry)) (now (buf .entry))) ⌝ }
+{
+    if !record::fits(w, counts, buf) {
+        return 2;
+    }
+    let mode = w.mode;
+    let size = finish::size::finished_size(mode, w.end, w.entries, w.back);
+    if record::too_large(w.length, size) {
+        return 4;
+    }
+    if !check::agrees(w, counts, buf) {
+        return 4;
+    }
+    0
 }
 
 // Writes head, tables and back array into the lent buffer, and gives the image's size. May be called often.

@@ -37,11 +37,14 @@ returns : tie.Need-returns
 returns c =
     let s = c .before .before .before .before .before .before in
     let a = s .args in
-    let k = accepted (stateWith (a .w) (a .counts .now) (a .buf .now)) (s .pre) in (
-      c .before .before .before .before .finished-size .ensures,
-      refl,
-      ap (λ (t : State). t .buffer) (closes-image (a .w) (a .counts .now) (a .buf .now) (k .fit) (k .fine) (k .all) _ (c .before .before .write-image .ensures)),
-    )
+    let k = accepted (stateWith (a .w) (a .counts .now) (a .buf .now)) (s .pre) in
+    record {
+      size = c .before .before .before .before .finished-size .ensures;
+      accepted = refl;
+      leaves =
+          ap (λ (t : State). t .buffer)
+          (closes-image (a .w) (a .counts .now) (a .buf .now) (k .fit) (k .fine) (k .all) _ (c .before .before .write-image .ensures));
+    }
 
 pub finish-list-spec : {M : Type 1} → statement M
 finish-list-spec = tie.close (tie.spec finished-size-requires write-image-requires cast-t9 same-length returns)
