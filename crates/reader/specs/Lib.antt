@@ -7,3 +7,4 @@ pub mod IdWalk
 pub mod Cases
 pub mod FoundAt
 pub mod QuayReads
+pub mod steps
