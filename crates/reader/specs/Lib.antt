@@ -9,3 +9,4 @@ pub mod FoundAt
 pub mod Bounds
 pub mod Walks
 pub mod QuayReads
+pub mod steps

@@ -12,6 +12,7 @@ ghost use Rattle.round.specs.steps.Telling.{Listed};
 ghost use Rattle.round.specs.steps.Searching.{Goes, Decided};
 use jhash::word::word;
 use reader::Table;
+use reader::lookup::bucket_after;
 use reader::lookup::table_of;
 
 // What the next bucket of a search shows: its offset, and 1 where the search goes on past it, else 0.
@@ -48,7 +49,7 @@ fn sight(image: &[u8], h: u32, c: u32) -> Shown
     if table.n <= c {
         return Shown { entry: 0, on: 1 };
     }
-    let k = (h / 256 + c) % table.n;
+    let k = bucket_after(h, c, table.n);
     let at = table.at as usize + 8 * (k as usize);
     let entry = word(image, at + 4);
     let on = passed(word(image, at), h, entry);

@@ -90,6 +90,7 @@ find-done-requires c κs =
           (listed-via first (l .live) (s .args .m) (l .q) (getD done x 0) (l .inv .7) (parted .ensures .1 .1 x h .0)),
       λ x h. parted .ensures .1 .1 x h .1,
       s .pre .6,
+      omega (arith, l .inv .0),
     )
 
 loop-less : tie.Need-loop-less Inv-loop μ-loop
@@ -132,6 +133,8 @@ find-open-requires c κs =
       omega (arith, l .inv .1, l .inv .2, s .pre .4),
       λ x h. listed-small (s .args .live .now) (s .args .m) (length (s .args .ends .now)) (getD (l .live) x 0) (s .pre .5) (l .inv .7 x h),
       s .pre .6,
+      omega (arith, l .inv .0),
+      l .inv .8,
     )
 
 same-length : tie.Need-same-length Inv-loop μ-loop
@@ -147,7 +150,7 @@ returns c =
     let found = c .before .before .find-open in
     let image = s .args .image .now in
     let xs = names (s .args .bytes .now) (s .args .ends .now) in
-    let after = found .last .1 .1 .1 .1 .1 .1 .0 in (
+    let after = found .last .1 .1 .1 .1 .1 .1 .1 .0 in (
       λ x h.
           let i = getD (s .args .live .now) x 0 in
           last-right image xs (l .answers) after (l .live) (l .q) i (found .ensures .1 .0 i) (found .ensures .0) (l .inv .9 x h),

@@ -51,7 +51,7 @@ put-decided-requires : tie.Need-put-decided-requires Inv-loop μ-loop
 put-decided-requires c κs =
     let s = c .before .before .before .before .before .before .before .before .before .before .before .before .before .before in
     let l = c .before .before .before .before .before .before .loop in
-    (omega (arith, s .pre .5 (l .x) (omega arith), s .pre .2, l .inv .1), s .pre .6 (l .x) (omega arith))
+    (omega (arith, s .pre .5 (l .x) (omega arith), s .pre .2, l .inv .1), s .pre .6 (l .x) (omega arith), s .pre .8)
 
 add-x : tie.Need-add-x Inv-loop μ-loop
 add-x c = omega arith

@@ -1,8 +1,6 @@
 -- `round::searching::sight` meets its contract. Assumes nothing.
-use Prim.Native.Nat.{_+_, _%_, _/_, _<_}
+use Prim.Native.Nat.{_<_}
 use native.Mathlib.Omega.{arith}
-use native.Mathlib.Nat.{mod-lt}
-use mathlib.Core.Path.{refl}
 use Rattle.round.proofs.Sights.{goes-past, passed-on, decided-here}
 use borrow.Author.Needs.{needs}
 use Rattle.round.proofs.searching.sight.Statement.{statement}
@@ -13,17 +11,20 @@ table-in-requires c κs = search needs
 
 returns : tie.Need-returns
 returns c =
-    let a = c .before .before .before .before .args in
+    let s = c .before .before .before .before in
+    let a = s .args in
     let t = c .before .before .table-in in (
-      (omega arith, λ e. goes-past (a .image .now) (a .h) (a .c) (t .result .n) (t .ensures .0) (λ some. t .ensures .1 some .3) (c .if1 .taken)),
+      (
+        omega arith,
+        λ e.
+            goes-past (a .image .now) (a .h) (a .c) (t .result .n) (t .ensures .0) (λ some. let row = t .ensures .1 some in (row .1, row .3))
+            (c .if1 .taken) (s .pre .1),
+      ),
       λ z. absurd (omega arith),
     )
 
-add-k : tie.Need-add-k
-add-k c = search needs
-
-rem-k : tie.Need-rem-k
-rem-k c = search needs
+bucket-after-requires : tie.Need-bucket-after-requires
+bucket-after-requires c κs = (omega (arith, c .if1 .left), omega (arith, c .before .before .before .before .pre .0))
 
 cast-at : tie.Need-cast-at
 cast-at c = search needs
@@ -32,37 +33,37 @@ cast-at-2 : tie.Need-cast-at-2
 cast-at-2 c =
     let t = c .before .before .before .before .table-in in
     let some : 0 < t .result .n = omega (arith, c .before .before .if1 .left) in
-    omega (arith, mod-lt (c .before .before .before .before .before .before .args .h / 256 + c .before .before .before .before .before .before .args .c) {m = t .result .n} some, t .ensures .1 some .4)
+    omega (arith, c .before .bucket-after .ensures .1, t .ensures .1 some .4)
 
 mul-at : tie.Need-mul-at
 mul-at c =
     let t = c .before .before .before .before .table-in in
     let some : 0 < t .result .n = omega (arith, c .before .before .if1 .left) in
-    omega (arith, mod-lt (c .before .before .before .before .before .before .args .h / 256 + c .before .before .before .before .before .before .args .c) {m = t .result .n} some, t .ensures .1 some .4)
+    omega (arith, c .before .bucket-after .ensures .1, t .ensures .1 some .4)
 
 add-at : tie.Need-add-at
 add-at c =
     let t = c .before .before .before .before .table-in in
     let some : 0 < t .result .n = omega (arith, c .before .before .if1 .left) in
-    omega (arith, mod-lt (c .before .before .before .before .before .before .args .h / 256 + c .before .before .before .before .before .before .args .c) {m = t .result .n} some, t .ensures .1 some .4)
+    omega (arith, c .before .bucket-after .ensures .1, t .ensures .1 some .4)
 
 add-word : tie.Need-add-word
 add-word c =
     let t = c .before .before .before .before .table-in in
     let some : 0 < t .result .n = omega (arith, c .before .before .if1 .left) in
-    omega (arith, mod-lt (c .before .before .before .before .before .before .args .h / 256 + c .before .before .before .before .before .before .args .c) {m = t .result .n} some, t .ensures .1 some .4)
+    omega (arith, c .before .bucket-after .ensures .1, t .ensures .1 some .4)
 
 word-requires : tie.Need-word-requires
 word-requires c κs =
     let t = c .before .before .before .before .table-in in
     let some : 0 < t .result .n = omega (arith, c .before .before .if1 .left) in
-    omega (arith, mod-lt (c .before .before .before .before .before .before .args .h / 256 + c .before .before .before .before .before .before .args .c) {m = t .result .n} some, t .ensures .1 some .4)
+    omega (arith, c .before .bucket-after .ensures .1, t .ensures .1 some .4)
 
 word-requires-2 : tie.Need-word-requires-2
 word-requires-2 c κs =
     let t = c .before .before .before .before .before .table-in in
     let some : 0 < t .result .n = omega (arith, c .before .before .before .if1 .left) in
-    omega (arith, mod-lt (c .before .before .before .before .before .before .before .args .h / 256 + c .before .before .before .before .before .before .before .args .c) {m = t .result .n} some, t .ensures .1 some .4)
+    omega (arith, c .before .before .bucket-after .ensures .1, t .ensures .1 some .4)
 
 passed-requires : tie.Need-passed-requires
 passed-requires c κs = search needs
@@ -75,16 +76,17 @@ returns-2 c =
     let more : a .c < t .result .n = omega (arith, c .before .before .before .before .before .if1 .left) in
     let row = t .ensures .1 some in
     let image = a .image .now in
-    let k = (a .h / 256 + a .c) % t .result .n in
+    let at = c .before .before .before .before .bucket-after in
+    let k = at .result in
     let p = c .passed in (
       (
         p .ensures .0,
         λ e.
-            passed-on image (a .h) (a .c) (t .result .at) (t .result .n) k (c .before .before .word .result) (c .before .word2 .result) (row .0) (row .1) (row .2) (row .3) more refl
+            passed-on image (a .h) (a .c) (t .result .at) (t .result .n) k (c .before .before .word .result) (c .before .word2 .result) (row .0) (row .1) (row .2) (row .3) more (at .ensures .0)
             (c .before .before .word .ensures) (c .before .word2 .ensures) (c .before .before .before .before .before .before .before .before .before .pre .1) (p .ensures .1 e .0) (p .ensures .1 e .1),
       ),
       λ z.
-          decided-here image (a .h) (a .c) (t .result .at) (t .result .n) k (c .before .before .word .result) (c .before .word2 .result) (row .0) (row .1) (row .2) (row .3) more refl
+          decided-here image (a .h) (a .c) (t .result .at) (t .result .n) k (c .before .before .word .result) (c .before .word2 .result) (row .0) (row .1) (row .2) (row .3) more (at .ensures .0)
           (c .before .before .word .ensures) (c .before .word2 .ensures) (c .before .before .before .before .before .before .before .before .before .pre .1) (p .ensures .2 z),
     )
 
@@ -94,8 +96,7 @@ sight-spec =
     (tie.spec
     table-in-requires
     returns
-    add-k
-    rem-k
+    bucket-after-requires
     cast-at
     cast-at-2
     mul-at
