@@ -43,7 +43,7 @@ use Rattle.build.specs.steps.Capacity.{RoomForAll}
 use Rattle.build.specs.steps.Steps.{entriesListed}
 use Rattle.joined.proofs.NameEnds.{begin-later}
 use Rattle.build.proofs.StoredAll.{length-listed}
-use Rattle.build.proofs.Whole.{accepted as closable}
+use Rattle.writer.proofs.Closes.{accepted as closable}
 
 -- ---- the entries of all names
 

@@ -116,22 +116,3 @@ refused-some mode repeats buffer bytes ends ids places k e = go (ltb 0 due) refl
     go : (b : Bool) → ltb 0 due ≡ b → cond b (refusal due) (value (madeOf mode repeats buffer (listed bytes ends ids))) ≡ refusal k → 0 < due
     go true p q = ltb-true 0 due p
     go false p q = let z : _≡_ {A = ℕ} 1 0 = ap isMade q in absurd (omega arith)
-
--- ---- an accepted close
-
--- what the checks of a close told
-pub record Accepted (s : State) : Type 0 where
-  pub fit : fits s ≡ true
-  pub fine : tooLarge (s .writer .length) (finishedSize (s .writer)) ≡ false
-  pub all : consistent s ≡ true
-
-pub accepted : (s : State) → closeRefusal s ≡ 0 → Accepted s
-unfolding closeRefusal
-accepted s e = go (fits s) (consistent s) (tooLarge (s .writer .length) (finishedSize (s .writer))) refl refl refl e
-  where
-    go : (f c t : Bool) → fits s ≡ f → consistent s ≡ c → tooLarge (s .writer .length) (finishedSize (s .writer)) ≡ t
-        → _≡_ {A = ℕ} (cond (not f) 2 (cond (c && not t) 0 4)) 0 → Accepted s
-    go true true false p q r z = record { fit = p; fine = r; all = q }
-    go true true true p q r z = absurd (omega arith)
-    go true false t p q r z = absurd (omega arith)
-    go false c t p q r z = absurd (omega arith)

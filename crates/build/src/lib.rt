@@ -40,11 +40,9 @@ fn finish_list(w: CQDBWriter, counts: &[u32; 256], buf: &mut [u8]) -> Made
     requires { ⌜ closeRefusal (stateWith w (now counts) (now buf)) ≡ 0 ⌝ }
     ensures { λ r. ⌜ Finished (stateWith w (now (counts .entry)) (now (buf .entry))) r (now (buf .exit)) ⌝ }
 {
-    let mode = w.mode;
-    let size = finish::size::finished_size(mode, w.end, w.entries, w.back);
-    finish::write_image(mode, w.end, w.entries, w.back, counts, &mut *buf);
+    let size = writer::write_closed(w, counts, &mut *buf);
     Made {
-        size: size as u32,
+        size,
         accepted: w.entries,
     }
 }

@@ -16,7 +16,7 @@ use Rattle.writer.specs.State.{State, stateWith, finishedSize}
 use Rattle.writer.specs.Close.{entryArea, recorded, closeRefusal}
 use Rattle.writer.specs.State.{countsAgree}
 use Rattle.writer.proofs.Fits.{fitting, not-too-large}
-use Rattle.lists.proofs.Closable.{accepted}
+use Rattle.writer.proofs.Closes.{accepted}
 use Rattle.index.specs.Index.{slotCount, slot, entryBuckets, Right, indexRefusal}
 use Rattle.index.specs.Promise.{Indexed}
 use Rattle.index.specs.steps.Fill.{FillPre, SlotsFilled}
@@ -89,14 +89,14 @@ pub fillable : (w : CQDBWriter) (counts buf words : List ℕ) → closeRefusal (
 fillable w counts buf words closes room cleared =
     let s = stateWith w counts buf in
     let a = accepted s closes in
-    let f = fitting w counts buf (a .fitted) in
+    let f = fitting w counts buf (a .fit) in
     record {
       low = f .low;
       inside = omega (arith, f .high, f .same-length);
-      small = omega (arith, not-too-large (w .length) (finishedSize w) (a .small) .1);
+      small = omega (arith, not-too-large (w .length) (finishedSize w) (a .fine) .1);
       entire =
           first (whole (w .entries) (entryArea s)) (countsAgree counts (recorded s))
-          (first (whole (w .entries) (entryArea s) && countsAgree counts (recorded s)) (eqb (w .back) (backIn (w .mode) (backSize (recorded s)))) (a .agrees));
+          (first (whole (w .entries) (entryArea s) && countsAgree counts (recorded s)) (eqb (w .back) (backIn (w .mode) (backSize (recorded s)))) (a .all));
       room = room;
       cleared = cleared;
     }

@@ -20,7 +20,7 @@ use Rattle.writer.proofs.Puts.{long-name, count-small}
 use Rattle.index.specs.Index.{slotCount, slot, firstEmptySlot, Right, indexedRefusal}
 use Rattle.index.specs.steps.Probe.{duplicateAt, probe}
 use Rattle.index.specs.steps.Decided.{InBounds, Decided}
-use Rattle.lists.proofs.Closable.{Accepted, accepted}
+use Rattle.writer.proofs.Closes.{Accepted, accepted}
 use Rattle.index.proofs.Probing.{probe-first}
 use Rattle.index.proofs.Contains.{PutProbe, put-probe, long-absent}
 use Rattle.index.proofs.PutRefusals.{refusal-full, refusal-none, refusal-zero, refusal-duplicate, refusal-large, put-accepts}
@@ -51,18 +51,18 @@ module _ (w : CQDBWriter) (counts buf words name : List ℕ) (id : ℕ) where
   )
 
   pub unfit : false ≡ fits (stateWith w counts buf) → Refuses 2
-  unfit fails right = absurd (not-both (fails ∙ accepted s (right .closes) .fitted))
+  unfit fails right = absurd (not-both (fails ∙ accepted s (right .closes) .fit))
 
   pub zero-byte : hasZero name ≡ true → Refuses 13
   zero-byte z right =
       let a = accepted s (right .closes) in
-      refusal-zero s words (entryOf name id) (a .fitted) (a .agrees) z
+      refusal-zero s words (entryOf name id) (a .fit) (a .all) z
 
   module _ (bytes : Bytes buf) (free : hasZero name ≡ false) where
     pub too-long : 4294967295 ≤ length name → Refuses 3
     too-long l right =
         let a = accepted s (right .closes) in
-        refusal-large s words (entryOf name id) (a .fitted) (a .agrees) free (ap (λ (b : Bool). b && refusesRepeats (w .repeats)) (long-absent s words bytes right name l)) (long-name w name id l)
+        refusal-large s words (entryOf name id) (a .fit) (a .all) free (ap (λ (b : Bool). b && refusesRepeats (w .repeats)) (long-absent s words bytes right name l)) (long-name w name id l)
 
     module _ (img : List ℕ) (h r : ℕ) (before : img ≡ take (w .end) buf) (eh : h ≡ hashOf name)
         (er : r ≡ probe (slotCount words) (slot words) h (duplicateAt (refusesRepeats (w .repeats)) img name) (order (slotCount words) (slotCount words) (start h (slotCount words)))) where
@@ -84,32 +84,32 @@ module _ (w : CQDBWriter) (counts buf words name : List ℕ) (id : ℕ) where
       pub duplicate : slotCount words < r → Refuses 16
       duplicate l right =
           let a = accepted s (right .closes) in
-          refusal-duplicate s words (entryOf name id) (a .fitted) (a .agrees) free (result-of right .found l)
+          refusal-duplicate s words (entryOf name id) (a .fit) (a .all) free (result-of right .found l)
 
       module _ (new : r ≤ slotCount words) where
         pub too-big : tooLarge (w .length) (finishedSize (writerWith w (length name) id)) ≡ true → Refuses 3
         unfolding writerAfter
         too-big t right =
             let a = accepted s (right .closes) in
-            refusal-large s words (entryOf name id) (a .fitted) (a .agrees) free (result-of right .absent new) t
+            refusal-large s words (entryOf name id) (a .fit) (a .all) free (result-of right .absent new) t
 
         module _ (t : tooLarge (w .length) (finishedSize (writerWith w (length name) id)) ≡ false) where
           pub no-slot : slotCount words ≤ w .entries → Refuses 24
           unfolding writerAfter
           no-slot l right =
               let a = accepted s (right .closes) in
-              refusal-full s words (entryOf name id) (put-accepts s words (entryOf name id) (a .fitted) (a .agrees) free (result-of right .absent new) t) l
+              refusal-full s words (entryOf name id) (put-accepts s words (entryOf name id) (a .fit) (a .all) free (result-of right .absent new) t) l
 
           pub none-free : r ≡ slotCount words → Refuses 24
           none-free e right = no-slot (result-of right .full e) right
 
           pub count-full : (c : ℕ) → c ≡ getD counts (tableOf h) 0 → 4294967294 < c → Refuses 2
           count-full c ec l right =
-              absurd (omega (arith, ec, l, count-small w counts buf (length name) id (accepted s (right .closes) .fitted) t h))
+              absurd (omega (arith, ec, l, count-small w counts buf (length name) id (accepted s (right .closes) .fit) t h))
 
           pub accepts : w .entries < slotCount words → Refuses 0
           unfolding writerAfter
           accepts l right =
               let a = accepted s (right .closes) in
               refusal-none s words (entryOf name id)
-              (put-accepts s words (entryOf name id) (a .fitted) (a .agrees) free (result-of right .absent new) t) l
+              (put-accepts s words (entryOf name id) (a .fit) (a .all) free (result-of right .absent new) t) l

@@ -21,31 +21,9 @@ use Rattle.finish.proofs.WrittenImage.{area-kept, standing-end}
 use Rattle.writer.specs.State.{State, fits, finishedSize, tooLarge}
 use Rattle.writer.specs.Close.{entryArea, recorded, consistent, closeRefusal}
 use Rattle.writer.specs.State.{countsAgree}
+use Rattle.writer.proofs.Closes.{Accepted, accepted}
 use Rattle.writer.proofs.Fits.{Fitting, fitting, not-too-large}
 use Rattle.lists.proofs.ListWritten.{Written}
-
--- what an accepted close has passed
-pub record Accepted (s : State) : Type 0 where
-  pub fitted : fits s ≡ true
-  pub agrees : consistent s ≡ true
-  pub small : tooLarge (s .writer .length) (finishedSize (s .writer)) ≡ false
-
-pub accepted : (s : State) → closeRefusal s ≡ 0 → Accepted s
-unfolding closeRefusal
-accepted s h = go (fits s) refl (consistent s) refl (tooLarge (s .writer .length) (finishedSize (s .writer))) refl h
-  where
-    no-two : _≡_ {A = ℕ} 2 0 → ⊥
-    no-two z = omega arith
-
-    no-four : _≡_ {A = ℕ} 4 0 → ⊥
-    no-four z = omega arith
-
-    go : (f : Bool) → fits s ≡ f → (c : Bool) → consistent s ≡ c → (t : Bool) → tooLarge (s .writer .length) (finishedSize (s .writer)) ≡ t
-        → _≡_ {A = ℕ} (cond (not f) 2 (cond (c && not t) 0 4)) 0 → Accepted s
-    go true p true q false r e = record { fitted = p; agrees = q; small = r }
-    go true p true q true r e = absurd (no-four e)
-    go true p false q t r e = absurd (no-four e)
-    go false p c q t r e = absurd (no-two e)
 
 backs-words : (es : List Entry) → All (λ (e : Entry). e .id < 2 ^ 32) es → backSize es ≤ 2 ^ 32
 unfolding backSize
@@ -57,7 +35,7 @@ module _ (s : State) (bytes : Bytes (s .buffer)) (closes : closeRefusal s ≡ 0)
   a = accepted s closes
 
   f : Fitting (s .writer) (s .counts) (s .buffer)
-  f = fitting (s .writer) (s .counts) (s .buffer) (a .fitted)
+  f = fitting (s .writer) (s .counts) (s .buffer) (a .fit)
 
   wholes : Bool
   wholes = whole (s .writer .entries) (entryArea s)
@@ -68,17 +46,17 @@ module _ (s : State) (bytes : Bytes (s .buffer)) (closes : closeRefusal s ≡ 0)
   entire : whole (s .writer .entries) (entryArea s) ≡ true
   entire =
       first (whole (s .writer .entries) (entryArea s)) (countsAgree (s .counts) (recorded s))
-      (first (whole (s .writer .entries) (entryArea s) && countsAgree (s .counts) (recorded s)) (eqb (s .writer .back) (backIn (s .writer .mode) (backSize (recorded s)))) (a .agrees))
+      (first (whole (s .writer .entries) (entryArea s) && countsAgree (s .counts) (recorded s)) (eqb (s .writer .back) (backIn (s .writer .mode) (backSize (recorded s)))) (a .all))
 
   agree : countsAgree (s .counts) (recorded s) ≡ true
   agree =
       second (whole (s .writer .entries) (entryArea s)) (countsAgree (s .counts) (recorded s))
-      (first (whole (s .writer .entries) (entryArea s) && countsAgree (s .counts) (recorded s)) (eqb (s .writer .back) (backIn (s .writer .mode) (backSize (recorded s)))) (a .agrees))
+      (first (whole (s .writer .entries) (entryArea s) && countsAgree (s .counts) (recorded s)) (eqb (s .writer .back) (backIn (s .writer .mode) (backSize (recorded s)))) (a .all))
 
   back-is : s .writer .back ≡ backIn (s .writer .mode) (backSize (recorded s))
   back-is =
       eqb-true (s .writer .back) (backIn (s .writer .mode) (backSize (recorded s)))
-      (second (whole (s .writer .entries) (entryArea s) && countsAgree (s .counts) (recorded s)) (eqb (s .writer .back) (backIn (s .writer .mode) (backSize (recorded s)))) (a .agrees))
+      (second (whole (s .writer .entries) (entryArea s) && countsAgree (s .counts) (recorded s)) (eqb (s .writer .back) (backIn (s .writer .mode) (backSize (recorded s)))) (a .all))
 
   pub area-is : entryArea s ≡ cat entryBytes (recorded s)
   area-is = area-kept (s .writer .end) (s .writer .entries) (s .buffer) bytes entire
@@ -93,7 +71,7 @@ module _ (s : State) (bytes : Bytes (s .buffer)) (closes : closeRefusal s ≡ 0)
   number = length-entriesIn (s .writer .entries) (entryArea s)
 
   sizes : (finishedSize (s .writer) ≤ s .writer .length) × (finishedSize (s .writer) ≤ 4294967295)
-  sizes = not-too-large (s .writer .length) (finishedSize (s .writer)) (a .small)
+  sizes = not-too-large (s .writer .length) (finishedSize (s .writer)) (a .fine)
 
   pub end-small : s .writer .end ≤ 4294967295
   end-small = omega (arith, sizes .1)

@@ -1,22 +1,18 @@
 -- What close answers in each case, as its checks go. Assumes nothing.
-use mathlib.Core.Path.{_≡_, refl}
-use mathlib.Core.Bool.{true, false, and-false}
+use Prim.Native.Nat.{ℕ}
+use native.Mathlib.Omega.{arith}
+use mathlib.Core.Path.{_≡_, refl, sym, _∙_}
+use mathlib.Core.Bool.{Bool, true, false, cond, not, _&&_, and-false}
+use borrow.Author.Tests.{ne-eqb}
 use Rattle.jhash.specs.Outcome.{value, refusal}
 use Rattle.writer.specs.State.{State, fits, finishedSize, tooLarge}
 use Rattle.writer.specs.Close.{consistent, closeRefusal, closedSize, closed, afterClose, closing}
 
 module _ (s : State) where
-  pub unfit : fits s ≡ false → (refusal 2 ≡ closing s) × (s ≡ afterClose s)
-  unfolding closeRefusal closing afterClose
-  unfit h = rw h (refl, refl)
-
-  pub too-big : fits s ≡ true → tooLarge (s .writer .length) (finishedSize (s .writer)) ≡ true → (refusal 4 ≡ closing s) × (s ≡ afterClose s)
-  unfolding closeRefusal closing afterClose
-  too-big h k = rw (h, k, and-false (consistent s)) (refl, refl)
-
-  pub differs : fits s ≡ true → consistent s ≡ false → (refusal 4 ≡ closing s) × (s ≡ afterClose s)
-  unfolding closeRefusal closing afterClose
-  differs h k = rw (h, k) (refl, refl)
+  -- a refusal has its number, and changes nothing
+  pub refused : (r : ℕ) → r ≡ closeRefusal s → (r ≡ 0 → ⊥) → (refusal r ≡ closing s) × (s ≡ afterClose s)
+  unfolding closing afterClose
+  refused r e n = rw (ne-eqb (closeRefusal s) 0 (λ z. n (e ∙ z)), sym e) (refl, refl)
 
   pub closes : fits s ≡ true → tooLarge (s .writer .length) (finishedSize (s .writer)) ≡ false → consistent s ≡ true
       → (value (closedSize s) ≡ closing s) × (closed s ≡ afterClose s)
@@ -39,3 +35,20 @@ module _ (s : State) where
   pub due-none : fits s ≡ true → tooLarge (s .writer .length) (finishedSize (s .writer)) ≡ false → consistent s ≡ true → 0 ≡ closeRefusal s
   unfolding closeRefusal
   due-none h k l = rw (h, k, l) refl
+
+-- what an accepted close has passed
+pub record Accepted (s : State) : Type 0 where
+  pub fit : fits s ≡ true
+  pub fine : tooLarge (s .writer .length) (finishedSize (s .writer)) ≡ false
+  pub all : consistent s ≡ true
+
+pub accepted : (s : State) → closeRefusal s ≡ 0 → Accepted s
+unfolding closeRefusal
+accepted s e = go (fits s) (consistent s) (tooLarge (s .writer .length) (finishedSize (s .writer))) refl refl refl e
+  where
+    go : (f c t : Bool) → fits s ≡ f → consistent s ≡ c → tooLarge (s .writer .length) (finishedSize (s .writer)) ≡ t
+        → _≡_ {A = ℕ} (cond (not f) 2 (cond (c && not t) 0 4)) 0 → Accepted s
+    go true true false p q r z = record { fit = p; fine = r; all = q }
+    go true true true p q r z = absurd (omega arith)
+    go true false t p q r z = absurd (omega arith)
+    go false c t p q r z = absurd (omega arith)

@@ -6,6 +6,7 @@ ghost use Rattle.writer.specs.State.{stateWith, beginning, begunOf, coun
 ghost use Rattle.writer.specs.Put.{putRefusal, appended, afterPut, entryOf};
 ghost use Rattle.writer.specs.Close.{closeRefusal, closing, closedOf, afterClose};
 ghost use Rattle.writer.specs.Grown.{grownRefusal, grownWriter};
+ghost use Rattle.writer.specs.steps.Closing.{WriteClosedPost};
 use image::Mode;
 
 mod check;
@@ -195,34 +196,32 @@ pub fn close_refusal(w: CQDBWriter, counts: &[u32; 256], buf: &[u8]) -> u32
     0
 }
 
+// Writes the image of a record that close accepts, and gives its size.
+pub fn write_closed(w: CQDBWriter, counts: &[u32; 256], buf: &mut [u8]) -> u32
+    requires { ⌜ closeRefusal (stateWith w (now counts) (now buf)) ≡ 0 ⌝ }
+    ensures { λ r. ⌜ WriteClosedPost (stateWith w (now (counts .entry)) (now (buf .entry))) r (now (buf .exit)) ⌝ }
+{
+    let mode = w.mode;
+    let size = finish::size::finished_size(mode, w.end, w.entries, w.back);
+    finish::write_image(mode, w.end, w.entries, w.back, counts, &mut *buf);
+    size as u32
+}
+
 // Writes head, tables and back array into the lent buffer, and gives the image's size. May be called often.
 pub fn close(w: CQDBWriter, counts: &[u32; 256], buf: &mut [u8]) -> CloseAnswer
     ensures answer { λ r. ⌜ closedOf (r .answer) ≡ closing (stateWith w (now (counts .entry)) (now (buf .entry))) ⌝ }
     ensures leaves { λ r. ⌜ stateWith (r .writer) (now (counts .entry)) (now (buf .exit)) ≡ afterClose (stateWith w (now (counts .entry)) (now (buf .entry))) ⌝ }
 {
-    if !record::fits(w, counts, &*buf) {
+    let refusal = close_refusal(w, counts, &*buf);
+    if refusal != 0 {
         return CloseAnswer {
-            answer: Closed::Refused(2),
+            answer: Closed::Refused(refusal),
             writer: w,
         };
     }
-    let mode = w.mode;
-    let size = finish::size::finished_size(mode, w.end, w.entries, w.back);
-    if record::too_large(w.length, size) {
-        return CloseAnswer {
-            answer: Closed::Refused(4),
-            writer: w,
-        };
-    }
-    if !check::agrees(w, counts, &*buf) {
-        return CloseAnswer {
-            answer: Closed::Refused(4),
-            writer: w,
-        };
-    }
-    finish::write_image(mode, w.end, w.entries, w.back, counts, &mut *buf);
+    let size = write_closed(w, counts, &mut *buf);
     CloseAnswer {
-        answer: Closed::Size(size as u32),
+        answer: Closed::Size(size),
         writer: w,
     }
 }

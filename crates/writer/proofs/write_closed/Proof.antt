@@ -1,13 +1,12 @@
--- `build::finish_list` meets its contract. Assumes nothing.
-use Prim.Native.Nat.{ℕ, _≤_}
+-- `writer::write_closed` meets its contract. Assumes nothing.
 use native.Mathlib.Omega.{arith}
-use mathlib.Core.Path.{_≡_, refl, ap, _∙_}
+use mathlib.Core.Path.{ap}
 use borrow.Author.Needs.{needs}
 use Rattle.writer.specs.State.{State, stateWith}
 use Rattle.writer.proofs.Accepted.{stands, closes-image}
-use Rattle.build.proofs.Whole.{accepted}
-use Rattle.build.proofs.finish_list.Statement.{statement}
-use Rattle.build.proofs.finish_list.Tie as tie
+use Rattle.writer.proofs.Closes.{accepted}
+use Rattle.writer.proofs.write_closed.Statement.{statement}
+use Rattle.writer.proofs.write_closed.Tie as tie
 
 finished-size-requires : tie.Need-finished-size-requires
 finished-size-requires c κs =
@@ -23,8 +22,8 @@ write-image-requires c κs =
     let k = accepted (stateWith (a .w) (a .counts .now) (a .buf .now)) (s .pre) in
     stands (a .w) (a .counts .now) (a .buf .now) (k .fit) (k .fine) (k .all)
 
-cast-t9 : tie.Need-cast-t9
-cast-t9 c =
+cast-result : tie.Need-cast-result
+cast-result c =
     let s = c .before .before .before .before .before .before in
     let a = s .args in
     let k = accepted (stateWith (a .w) (a .counts .now) (a .buf .now)) (s .pre) in
@@ -39,12 +38,11 @@ returns c =
     let a = s .args in
     let k = accepted (stateWith (a .w) (a .counts .now) (a .buf .now)) (s .pre) in
     record {
-      size = c .before .before .before .before .finished-size .ensures;
-      accepted = refl;
+      gives = c .before .before .before .before .finished-size .ensures;
       leaves =
           ap (λ (t : State). t .buffer)
           (closes-image (a .w) (a .counts .now) (a .buf .now) (k .fit) (k .fine) (k .all) _ (c .before .before .write-image .ensures));
     }
 
-pub finish-list-spec : {M : Type 1} → statement M
-finish-list-spec = tie.close (tie.spec finished-size-requires write-image-requires cast-t9 same-length returns)
+pub write-closed-spec : {M : Type 1} → statement M
+write-closed-spec = tie.close (tie.spec finished-size-requires write-image-requires cast-result same-length returns)
