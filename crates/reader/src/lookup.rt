@@ -108,8 +108,8 @@ fn near_empty(image: &[u8], h: u32, at: u32, n: u32, k: u32) -> u32
     )
 }
 
-// The search for a name in the table of n buckets at `at`, where m buckets are left: from bucket `first` on by one, from the last
-// to the first.
+// The search for a name in the table of n buckets at `at`, where m buckets are left: from bucket `first` on by one,
+// from the last to the first.
 fn search_rest(image: &[u8], name: &[u8], h: u32, at: u32, n: u32, first: u32, m: u32) -> ToId
     requires { ⌜ (first < n) × (m ≤ n) × (at + 8 * n ≤ length (now image)) ⌝ }
     ensures { λ r. ⌜ lookupOf r ≡ rest (now (image .entry)) (now (name .entry)) h at n first m ⌝ }
@@ -211,8 +211,8 @@ pub fn bucket_after(h: u32, c: u32, n: u32) -> u32
     (h / 256 + c) % n
 }
 
-// The rest of a lookup, for a caller that has hashed the name and read the first c buckets of its search: h is the hash. The number of
-// buckets counts those too.
+// The rest of a lookup, for a caller that has hashed the name and read the first c buckets of its search: h is the
+// hash. The number of buckets in the answer counts those too.
 pub fn search_from(image: &[u8], name: &[u8], h: u32, c: u32) -> ToId
     requires { ⌜ h / 256 + c < 4294967296 ⌝ }
     ensures { λ r. ⌜ lookupOf r ≡ lookupFrom (now (image .entry)) (now (name .entry)) h c ⌝ }

@@ -27,4 +27,5 @@ searchFrom image name h c =
 -- what is left of the lookup by a hash h (`lookupBy`) after c buckets
 unfoldable pub lookupFrom : List ℕ → List ℕ → ℕ → ℕ → Lookup
 lookupFrom image name h c =
-    cond (ltb (length image) headSize) (nothing 0) (cond (leb 4294967295 (length name)) (nothing 0) (searchFrom image name h c))
+    cond (ltb (length image) headSize) (nothing 0)
+    (cond (leb 4294967295 (length name)) (nothing 0) (searchFrom image name h c))
