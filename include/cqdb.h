@@ -375,14 +375,16 @@ cqdb_build_answer cqdb_build_parts(uint32_t mode, uint32_t repeats, uint8_t *buf
    above names_len; 15 when there are fewer than n places; 1 for a buffer under 2,072 bytes. Then nothing is written.
 
    The words at work are scratch memory, lent for speed: how many there are, and what they hold, changes no answer, and what they
-   hold afterwards is unspecified. What a list of n names costs, by the words and the list:
+   hold afterwards is unspecified. What a list of n names costs, by the words and by the list:
    - 7n words, and room in the buffer for all names: linear. All tables are made first, then the image is written in one pass. Where
-     a name is refused, the names are put one by one instead, still in linear time: @RATIO@ of a list whose names are all accepted.
-   - 4n words: linear, each put by an index of the names. From 2n words on there is an index, too, but the fuller it gets the longer
-     a put probes it.
-   - Below 2n words: with repeats on linear; with repeats off each put walks the entries before it, which is quadratic: @WALK@.
-   - With repeats on, by any way, a name that is put k times costs k * k / 2 probes of the image's own table, as in cqdb_close: 64,000
-     puts of one name take @ONE@. */
+     a name is refused, the names are put one by one instead. That is linear, too: 2.1 times the time of a list whose names are all
+     accepted at 4,096 names, 2.4 times at 100,000, when measured.
+   - 4n words: linear. Each put looks into an index of the names. There is an index from 2n words on, but the fuller it gets the
+     more slots a put reads: with 2n words a put of 100,000 names took 8 times as long as with 4n.
+   - Fewer than 2n words: with repeats on linear, since no put looks for its name; with repeats off quadratic, since each put walks
+     the entries before it: 16,000 names took 0.6 s.
+   - With repeats on and whatever is lent, a name that is put k times costs k * k / 2 reads of buckets, as in cqdb_close: equal names
+     have one probe sequence in their table of the image. 64,000 puts of one name took 1.8 s. */
 static inline cqdb_build_answer cqdb_build(uint32_t mode, uint32_t repeats, uint8_t *buf, size_t len,
                                            const uint8_t *names, size_t names_len, const uint64_t *ends, const uint32_t *ids,
                                            size_t n, uint32_t *refusals, size_t places, uint32_t *work, size_t words) {
