@@ -12,8 +12,8 @@ ghost use Rattle.tabling.specs.steps.Parted.{firstIn, at, zeroMark, hashIn, num
 ghost use Rattle.build.specs.steps.Marked.{slotInTable, tableSlot};
 ghost use Rattle.build.specs.steps.Marked.{metBefore, markOf, repeatMark, Ready, Slotted, linkedIn};
 use image::equality::same;
-use joined::name_of;
 use image::scratch::clear;
+use joined::name_of;
 use tabling::parted::hash_all;
 use tabling::parted::part;
 use tabling::parted::starts;

@@ -128,7 +128,7 @@ pub fn put_indexed(
 ) -> PutAnswer
     ensures { λ r. ⌜
         PutIndexed (stateWith w (now (counts .entry)) (now (buf .entry))) (now (slots .entry)) (entryOf (now (name .entry)) id)
-            (r .refusal) (stateWith (r .writer) (now (counts .exit)) (now (buf .exit))) (now (slots .exit))
+        (r .refusal) (stateWith (r .writer) (now (counts .exit)) (now (buf .exit))) (now (slots .exit))
         ⌝ }
 {
     let d = decide(w, &*counts, &*buf, &*slots, name, id);

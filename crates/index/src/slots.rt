@@ -83,7 +83,7 @@ pub(super) fn probe_for_put(
     requires { ⌜ 2 * m ≤ length (now slots) ⌝ }
     ensures { λ r. ⌜
         r ≡ probe m (slot (now (slots .entry))) h
-            (duplicateAt (refusesRepeats repeats) (now (bytes .entry)) (now (name .entry))) (order m m (start h m))
+        (duplicateAt (refusesRepeats repeats) (now (bytes .entry)) (now (name .entry))) (order m m (start h m))
         ⌝ }
 {
     match repeats {

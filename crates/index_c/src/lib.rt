@@ -30,7 +30,12 @@ pub extern "C" fn cqdb_index_words(names: usize) -> usize
 
 // Makes the index of the entries in the buffer. Gives 0, or refusal 2, 4 or 24, and nothing is written.
 #[no_mangle]
-pub extern "C" fn cqdb_index_parts(w: Record, counts: &[u32; 256], buf: &[u8], slots: &mut [u32]) -> u32
+pub extern "C" fn cqdb_index_parts(
+    w: Record,
+    counts: &[u32; 256],
+    buf: &[u8],
+    slots: &mut [u32],
+) -> u32
     ensures { λ r. ⌜
         IndexedHeld (held w (now (counts .entry)) (now (buf .entry))) (now (slots .entry)) r (now (slots .exit))
         ⌝ }
@@ -53,7 +58,7 @@ pub extern "C" fn cqdb_put_indexed_parts(
 ) -> PutIndexedAnswer
     ensures { λ r. ⌜
         PutIndexedHeld (held w (now (counts .entry)) (now (buf .entry))) (now (slots .entry)) (entryOf (now (name .entry)) id)
-            (r .refusal) (held (r .writer) (now (counts .exit)) (now (buf .exit))) (now (slots .exit))
+        (r .refusal) (held (r .writer) (now (counts .exit)) (now (buf .exit))) (now (slots .exit))
         ⌝ }
 {
     if !known(w.mode, w.repeats) {

@@ -12,8 +12,8 @@ ghost use Rattle.joined.specs.Names.{names, astray, nth};
 ghost use Rattle.tabling.specs.steps.Parted.{at, tableOfName, countOfTable};
 ghost use Rattle.tabling.specs.steps.Tabled.{offsetOf};
 use fill::fill_all;
-use pairs::part_pairs;
 use image::scratch::clear;
+use pairs::part_pairs;
 use parted::hash_all;
 use parted::starts;
 
