@@ -1,5 +1,5 @@
--- The index for C: h is what a call is lent (record, counts, buffer) with the words of the slots, h′ and words′ what it leaves. A
--- record with a mode or a repeats mode that is neither 0 nor 1 fits no buffer: refusal 2, and nothing changes.
+-- The index for C: h is what a call is lent (record, counts, buffer) with the words of the slots, h′ and words′ what it
+-- leaves. A record with a mode or a repeats mode that is neither 0 nor 1 fits no buffer: refusal 2, and nothing changes.
 use Prim.Native.Nat.{ℕ, _*_, _≤_}
 use mathlib.Core.Path.{_≡_}
 use mathlib.Core.Bool.{true, cond}
@@ -43,7 +43,8 @@ putIndexedNumber h words e = cond (knownIn h) (indexedRefusal (stateOf h) words 
 unfoldable pub leftByPutIndexed : Held → List ℕ → Entry → Held
 leftByPutIndexed h words e = cond (knownIn h) (heldOf (afterIndexed (stateOf h) words e)) h
 
-pub record PutIndexedHeld (h : Held) (words : List ℕ) (e : Entry) (refusal : ℕ) (h′ : Held) (words′ : List ℕ) : Type 0 where
+pub record PutIndexedHeld (h : Held) (words : List ℕ) (e : Entry) (refusal : ℕ) (h′ : Held)
+    (words′ : List ℕ) : Type 0 where
   -- whatever is lent, a refusal changes nothing, and an accepted put appends the entry and inserts its slot
   pub refused : (refusal ≡ 0 → ⊥) → (h′ ≡ h) × (words′ ≡ words)
   pub accepted : refusal ≡ 0
@@ -67,7 +68,8 @@ pub record IndexedHeld (h : Held) (words : List ℕ) (refusal : ℕ) (words′ :
 
 -- so an index is right that cqdb_index made, where since then only cqdb_put_indexed, cqdb_close and cqdb_grown were called
 pub record KeptRightHeld : Type 0 where
-  pub made : (h : Held) (words words′ : List ℕ) → length (h .counts) ≡ 256 → IndexedHeld h words 0 words′ → RightHeld h words′
+  pub made : (h : Held) (words words′ : List ℕ) → length (h .counts) ≡ 256 → IndexedHeld h words 0 words′
+      → RightHeld h words′
   pub put : (h h′ : Held) (words words′ : List ℕ) (e : Entry) (refusal : ℕ) → PutIndexedHeld h words e refusal h′ words′
       → RightHeld h words → RightHeld h′ words′
   pub closed : (h : Held) (words : List ℕ) → Bytes (stateOf h)

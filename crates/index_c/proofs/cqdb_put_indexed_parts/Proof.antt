@@ -1,6 +1,5 @@
 -- `index_c::cqdb_put_indexed_parts` meets its contract: what `put_indexed` promises, of C's record. Assumes nothing.
 use mathlib.Core.Path.{sym, ap, _∙_}
-use mathlib.Core.Bool.{Bool}
 use borrow.Author.Tests.{not-true, not-false}
 use Rattle.writer.specs.Put.{entryOf}
 use Rattle.modes.specs.declared.record.Record.{Record}
