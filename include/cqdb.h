@@ -28,7 +28,8 @@
 #include <stdint.h>
 #include <string.h>
 
-/* The version of this header and of the archive that comes with it. */
+/* The version of this header and of the archive that comes with it. cqdb_version_number gives that of the archive or the
+   shared library that the program runs with. */
 #define CQDB_VERSION "0.2.0"
 
 #ifdef __cplusplus
@@ -71,6 +72,40 @@ extern "C" {
 #define CQDB_SHEET_TOO_LARGE 21u /* sheet_write: a list has more than 65,535 ids, or the buffer is too short */
 #define CQDB_NO_SUCH_DATE 22u    /* name_on: a date, the one asked about or a window's, does not exist or is out of bounds */
 #define CQDB_NOT_BEFORE_END 23u  /* name_on: a window does not start before its end */
+
+/* What a refusal's number means, in the words of the Rust crate and of the Python module. */
+static inline const char *cqdb_refusal_text(uint32_t refusal) {
+    switch (refusal) {
+    case 0: return "accepted";
+    case CQDB_TOO_SHORT: return "invalid file format";
+    case CQDB_UNFIT: return "the writer does not fit its buffer";
+    case CQDB_NO_ROOM: return "no room: the image would be too large";
+    case CQDB_INCONSISTENT: return "the buffer's entries are not those of the writer";
+    case CQDB_WRONG_LETTERS: return "invalid file format, magic mismatch";
+    case CQDB_WRONG_BYTE_ORDER: return "invalid file format, byte order mismatch";
+    case CQDB_TABLE_LEAVES: return "invalid table data: out of bounds";
+    case CQDB_BACK_LEAVES: return "invalid backward link data: out of bounds";
+    case CQDB_NAME_TOO_LONG: return "the name is too long";
+    case CQDB_BROKEN_BUNDLE: return "invalid bundle: no image begins where one should";
+    case CQDB_NO_SUCH_IMAGE: return "the bundle has no image at this position";
+    case CQDB_PAGE_TOO_LONG: return "the page is longer than the output";
+    case CQDB_ZERO_BYTE: return "the name has a zero byte";
+    case CQDB_ROUND_UNFIT: return "the round has too many names or ids, or ends that do not fit its names";
+    case CQDB_ANSWERS_TOO_FEW: return "the answer list is shorter than the round";
+    case CQDB_REPEATED: return "the writer already holds this name, and repeats are off";
+    case CQDB_NOT_OURS: return "the image is none that a list of puts makes";
+    case CQDB_NO_ENTRIES: return "the image has no entry";
+    case CQDB_TOO_FEW_BYTES: return "invalid round sheet, too few bytes";
+    case CQDB_LEFT_OVER_BYTES: return "invalid round sheet, left-over bytes";
+    case CQDB_SHEET_TOO_LARGE: return "no room: a list of the round sheet is too long, or its buffer too short";
+    case CQDB_NO_SUCH_DATE: return "a date does not exist, or is out of bounds";
+    case CQDB_NOT_BEFORE_END: return "a window does not start before its end";
+    default: return "no such refusal";
+    }
+}
+
+/* The version as one number: major x 65536 + minor x 256 + patch. */
+uint32_t cqdb_version_number(void);
 
 /* The name hash. */
 

@@ -203,6 +203,7 @@ pub struct Joined<'a> {
 pub type Counts = [u32; 256];
 
 extern "C" {
+    fn cqdb_version_number() -> u32;
     fn cqdb_hash(name: *const u8, len: usize, start: u32) -> HashAnswer;
     fn cqdb_open(image: *const u8, len: usize) -> OpenAnswer;
     fn cqdb_to_id(image: *const u8, len: usize, name: *const u8, name_len: usize) -> IdAnswer;
@@ -284,6 +285,12 @@ extern "C" {
         work: *mut u32,
         words: usize,
     ) -> BuildAnswer;
+}
+
+/// The version of the archive as one number.
+pub fn version_number() -> u32 {
+    // SAFETY: the call is lent nothing.
+    unsafe { cqdb_version_number() }
 }
 
 /// The hash of a name with a start value, or the refusal.

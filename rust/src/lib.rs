@@ -72,3 +72,13 @@ pub fn jhash(name: &[u8], start: u32) -> Result<u32, Refusal> {
     let answer = archive::hash(name, start);
     refusal::or(answer.refusal, answer.hash)
 }
+
+/// The version of the archive that the program is linked with, as one number: major * 65,536 + minor * 256 + patch.
+///
+/// ```
+/// let parts = env!("CARGO_PKG_VERSION").split('.').map(|part| part.parse::<u32>().unwrap());
+/// assert_eq!(cqdb::version_number(), parts.fold(0, |number, part| 256 * number + part));
+/// ```
+pub fn version_number() -> u32 {
+    archive::version_number()
+}

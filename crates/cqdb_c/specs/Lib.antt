@@ -2,4 +2,5 @@
 pub mod Hash
 pub mod ReadAnswers
 pub mod Record
+pub mod Version
 pub mod Writing

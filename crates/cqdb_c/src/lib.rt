@@ -6,3 +6,4 @@ pub mod opening; // opening.rt: cqdb_open
 pub mod naming; // naming.rt: cqdb_to_str, cqdb_size_hint, cqdb_home
 pub mod record; // record.rt: the writer record as C has it
 pub mod writing; // writing.rt: cqdb_begin_parts, cqdb_put_parts, cqdb_close_parts
+pub mod version; // version.rt: cqdb_version_number
