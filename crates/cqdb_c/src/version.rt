@@ -3,7 +3,9 @@ ghost use mathlib.Core.Path.{_≡_};
 ghost use Rattle.cqdb_c.specs.Version.{versionNumber};
 
 const MAJOR: u32 = 0;
+
 const MINOR: u32 = 2;
+
 const PATCH: u32 = 0;
 
 // The version as one number.
