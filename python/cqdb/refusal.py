@@ -47,16 +47,19 @@ class Refusal(enum.IntEnum):
 
 
 class CQDBError(Exception):
-    """A call was refused, and nothing was changed. `refusal` says why, by number and text.
+    """A call was refused, and nothing was changed. The error has the refusal, its number and its text.
 
-    >>> error = CQDBError(5)
-    >>> str(error), error.number, error.refusal
-    ('invalid file format, magic mismatch (refusal 5)', 5, <Refusal.WRONG_LETTERS: 5>)
+    >>> error = CQDBError(5, "walls.cqdb")
+    >>> str(error)
+    'walls.cqdb: invalid file format, magic mismatch (refusal 5)'
+    >>> error.refusal, error.number
+    (<Refusal.WRONG_LETTERS: 5>, 5)
     """
 
-    def __init__(self, number: int) -> None:
+    def __init__(self, number: int, where: str = "") -> None:
+        super().__init__(number, where)
         self.refusal = Refusal(number)
-        super().__init__(number)
+        self.where = where
 
     @property
     def number(self) -> int:
@@ -69,10 +72,11 @@ class CQDBError(Exception):
         return self.refusal.text
 
     def __str__(self) -> str:
-        return f"{self.text} (refusal {self.number})"
+        place = f"{self.where}: " if self.where else ""
+        return f"{place}{self.text} (refusal {self.number})"
 
 
-def accept(number: int) -> None:
+def accept(number: int, where: str = "") -> None:
     """Raises CQDBError unless the number is 0."""
     if number != 0:
-        raise CQDBError(number)
+        raise CQDBError(number, where)
