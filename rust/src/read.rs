@@ -20,7 +20,6 @@ pub struct Found {
 
 /// An opened image.
 #[derive(Clone, Copy)]
-#[must_use = "an opened image does nothing until it is asked"]
 pub struct CQDB<'a> {
     image: &'a [u8],
     num: u32,
@@ -206,7 +205,6 @@ impl fmt::Debug for CQDB<'_> {
 
 /// A walk over the ids and names of an image. As with cqdb-rs each step is a `Result`; it is never an error.
 #[derive(Clone, Debug)]
-#[must_use = "a walk does nothing until it is asked for its steps"]
 pub struct Iter<'a> {
     db: CQDB<'a>,
     next: u32,

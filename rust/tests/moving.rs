@@ -17,12 +17,16 @@ fn names() {
     let name: &BStr = BStr::new("crane");
     let kept: Vec<u8> = name.to_owned();
     assert_eq!(kept, b"crane");
+    println!("{}", BStr::new(&name.to_owned()));
+    let name = BStr::new(b"Kai \xff");
+    let error: std::str::Utf8Error = String::try_from(name).unwrap_err();
+    assert_eq!(error.valid_up_to(), 4);
 }
 
 #[test]
 fn flags() {
     let flag = Flag::from_bits_truncate(4);
-    assert!(!flag.contains(Flag::ONEWAY));
+    assert_eq!(flag, Flag::NONE);
 }
 
 #[test]

@@ -1,5 +1,6 @@
 //! Names as text.
 #![allow(clippy::cmp_owned, clippy::op_ref, clippy::comparison_to_empty, clippy::nonminimal_bool)]
+use std::borrow::Cow;
 use std::collections::BTreeMap;
 
 use cqdb::BStr;
@@ -25,6 +26,29 @@ fn as_bytes_and_as_text() {
     let mut ids = BTreeMap::new();
     ids.insert(name.to_owned(), 7);
     assert_eq!(ids.get(name), Some(&7));
+}
+
+#[test]
+fn owned_and_in_part() {
+    let name = BStr::new("north wall");
+    let boxed: Box<BStr> = Box::<[u8]>::from(&b"north wall"[..]).into();
+    assert_eq!((&*boxed.clone(), &*boxed), (name, name));
+    assert_eq!(&*Box::<[u8]>::from(boxed), b"north wall");
+    let either: [Cow<'_, BStr>; 2] = [name.into(), Cow::Owned(b"north wall".to_vec())];
+    assert!(either.iter().all(|held| name == *held && *held == name));
+    assert!(
+        name == Cow::Borrowed("north wall")
+            && Cow::Borrowed(&b"north wall"[..]) == name
+            && name != Cow::Borrowed("north")
+    );
+    assert_eq!(
+        (&name[..5], &name[6..], &name[6..=7], name[0]),
+        (BStr::new("north"), BStr::new("wall"), BStr::new("wa"), b'n')
+    );
+    assert_eq!((<&str>::try_from(name), String::try_from(name)), (Ok("north wall"), Ok("north wall".to_string())));
+    assert_eq!(<&str>::try_from(BStr::new(b"a\xff")).unwrap_err().valid_up_to(), 1);
+    let ids: BTreeMap<String, u32> = [("north wall".to_string(), 7)].into();
+    assert_eq!((ids.get(name), ids.get(BStr::new("north"))), (Some(&7), None));
 }
 
 #[test]
