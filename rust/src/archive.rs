@@ -295,6 +295,7 @@ pub fn version_number() -> u32 {
 }
 
 /// The hash of a name with a start value, or the refusal.
+#[inline]
 pub fn hash(name: &[u8], start: u32) -> HashAnswer {
     // SAFETY: the name is lent with its length, and is only read.
     unsafe { cqdb_hash(name.as_ptr(), name.len(), start) }
@@ -307,18 +308,21 @@ pub fn open(image: &[u8]) -> OpenAnswer {
 }
 
 /// The id of a name and the offset of its entry, or nothing; and the number of buckets read.
+#[inline]
 pub fn to_id(image: &[u8], name: &[u8]) -> IdAnswer {
     // SAFETY: image and name are each lent with their length, and are only read, so they may overlap.
     unsafe { cqdb_to_id(image.as_ptr(), image.len(), name.as_ptr(), name.len()) }
 }
 
 /// The place of an id's name, or nothing.
+#[inline]
 pub fn to_str(image: &[u8], id: u32) -> StrAnswer {
     // SAFETY: the image is lent with its length, and is only read; any id is taken.
     unsafe { cqdb_to_str(image.as_ptr(), image.len(), id) }
 }
 
 /// The place of an id's name up to its first zero byte, or nothing.
+#[inline]
 pub fn panel(image: &[u8], id: u32) -> StrAnswer {
     // SAFETY: the image is lent with its length, and is only read; any id is taken.
     unsafe { cqdb_panel(image.as_ptr(), image.len(), id) }
@@ -371,6 +375,7 @@ pub fn round(image: &[u8], names: &[u8], ends: &[u64], answers: &mut [IdAnswer])
 }
 
 /// The places of the ids' names, an answer in the place of each; 0, or the refusal.
+#[inline]
 pub fn name_round(image: &[u8], ids: &[u32], answers: &mut [StrAnswer]) -> u32 {
     // An answer is four words of 32 bits: found, the length, and the start, low word first.
     let (words, count) = (answers.as_mut_ptr().cast(), 4 * answers.len());

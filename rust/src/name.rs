@@ -22,6 +22,7 @@ pub struct BStr([u8]);
 
 impl BStr {
     /// These bytes as a name.
+    #[inline]
     pub fn new<B: AsRef<[u8]> + ?Sized>(bytes: &B) -> &BStr {
         let bytes: *const [u8] = bytes.as_ref();
         // SAFETY: BStr is a transparent struct over [u8], so a reference to one is a reference to the other.
@@ -57,6 +58,7 @@ impl BStr {
 impl Deref for BStr {
     type Target = [u8];
 
+    #[inline]
     fn deref(&self) -> &[u8] {
         &self.0
     }
