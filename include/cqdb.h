@@ -45,7 +45,7 @@
      average, lengths                25, 86 for each entry                                           6
      begin                           16
      put, repeats on                 22
-     put, repeats off                22, and 4.5 for each earlier entry: n puts take 2.2 x n x n      3
+     put, repeats off                22, and 4.5 for each earlier entry: n puts take 2.2 x n x n      2
      close                           11, 16 for each entry                                           39
      build, 7 words for each name    13, 18 for each name                                            4
      build, 3 words for each name    31, 49 for each name                                            41
