@@ -28,14 +28,17 @@
    that is cut short ends the process at the first byte behind its new end, by the signal SIGBUS. So write a new file beside the
    old one and rename it; examples/c/build_file.c does, and examples/c/ask_file.c maps one.
 
-   What the calls cost. The times are examples, in ns on an AMD EPYC with names of 9 bytes and 4,096 entries, or where two stand
-   with 100,000; lookups in images that exceed the processor's caches take up to 110. The stack is rounded up, in KB of 1,024 bytes;
-   all other calls take less than 1 KB.
+   What the calls cost. The times are examples, in ns on an AMD EPYC with names of 9 bytes and 4,096 entries; a second number is for
+   100,000 entries. Lookups in images that exceed the processor's caches take up to 110. The stack is rounded up, in KB of 1,024
+   bytes; calls without a number take less than 1 KB.
 
      call                            time                                                            stack
+     version_number                  1
+     hash                            4; 390 for a name of 1,024 bytes
      open, bundle_open               90; bundle_open: and a step for each image before it
      to_id, home                     10 to 20, by the buckets that are read
-     to_str, panel, size_hint        3 to 5
+     to_str, panel                   3 to 5
+     size_hint, page_length          3
      name_on                         10, and each window is read once
      round                           13 for each name                                                11
      name_round                      1.2 for each id
@@ -52,6 +55,7 @@
      build, no words, repeats on     27, 32 for each name                                            41
      build, no words, repeats off    as put                                                          41
      load                            130,000                                                         39
+     bundle_count                    a step for each image
      bundle_append                   a copy of the image, and a step for each image before it
      sheet_read, sheet_write         4; 0.6 for each id
      references_first                up to a step for each pair and id of the round

@@ -35,6 +35,8 @@ static void home(void) { kept = cqdb_home(image, size, 77); }
 static void ours(void) { kept = cqdb_ours(image, size); }
 static void average(void) { kept = cqdb_average(image, size).quotient; }
 static void lengths(void) { kept = cqdb_lengths(image, size, counts); }
+static void page_length(void) { kept = cqdb_page_length(image, size); }
+static void version_number(void) { kept = cqdb_version_number(); }
 static void print(void) { kept = cqdb_page(image, size, page, sizeof page).length; }
 static void round_(void) { kept = cqdb_round(image, size, names, sizeof names, ends, 512, answers, 512).buckets; }
 static void name_round(void) { kept = cqdb_name_round(image, size, ids, 512, places, 512); }
@@ -66,7 +68,7 @@ static void references_first(void) { kept = cqdb_references_first(pairs, 1, ids,
 static const struct {
     const char *name;
     void (*call)(void);
-} calls[] = {{"hash", hash}, {"open", open_}, {"to_id", to_id}, {"to_str", to_str}, {"panel", panel}, {"readings_agree", readings_agree},
+} calls[] = {{"version_number", version_number}, {"page_length", page_length}, {"hash", hash}, {"open", open_}, {"to_id", to_id}, {"to_str", to_str}, {"panel", panel}, {"readings_agree", readings_agree},
              {"size_hint", size_hint}, {"home", home}, {"ours", ours}, {"average", average}, {"lengths", lengths}, {"page", print},
              {"round", round_}, {"name_round", name_round}, {"begin", begin}, {"put, repeats on", put_on}, {"put, repeats off", put_off},
              {"close", close_}, {"build, 7 words for each name", build_7}, {"build, 3 words for each name", build_3},
