@@ -93,6 +93,19 @@ fn convert(bytes: &[u8]) -> Result<(), Box<dyn std::error::Error>> {
     println!("{:?} {:?}", ids.get(name), ids.get(&b"crane"[..]));
     println!("{:?}", <&str>::try_from(&db.to_str(2).ok_or("no name")?[..3]).is_err());
     CQDBWriter::new(Cursor::new(Vec::new()))?;
+    owned(&db)
+}
+
+/// Names that are kept.
+fn owned(db: &CQDB) -> Result<(), Box<dyn std::error::Error>> {
+    let name = db.to_str(0).ok_or("no name")?;
+    let mut kept = name.to_owned();
+    kept.push(b'!');
+    println!("{kept} {kept:?} {} {} {}", kept.len(), kept == "quay corner!", name < kept);
+    let text: &str = (&kept).try_into()?;
+    println!("{text} {:?} {:?}", String::try_from(kept.clone())?, Vec::from(kept.clone()));
+    let ids: BTreeMap<_, u32> = db.iter().flatten().map(|(id, name)| (name.to_owned(), id)).collect();
+    println!("{ids:?} {:?} {:?} {:?}", ids.get(name), ids.get(&b"crane"[..]), ids.keys().max());
     Ok(())
 }
 

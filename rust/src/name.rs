@@ -130,14 +130,6 @@ macro_rules! borrows {
 
 borrows! { Vec<u8> String [u8] str }
 
-impl ToOwned for BStr {
-    type Owned = Vec<u8>;
-
-    fn to_owned(&self) -> Vec<u8> {
-        self.0.to_vec()
-    }
-}
-
 impl Default for &BStr {
     fn default() -> Self {
         BStr::new("")
@@ -212,12 +204,12 @@ impl<'a> TryFrom<&'a BStr> for String {
     }
 }
 
-/// Comparisons of a name with another type that has bytes, in both directions.
+/// Comparisons of a name, owned or not, with another type that has bytes, in both directions.
 macro_rules! compares {
     ($(($($generics:tt)*) $name:ty, $other:ty;)*) => {$(
         impl<$($generics)*> PartialEq<$other> for $name {
             fn eq(&self, other: &$other) -> bool {
-                self.0 == *AsRef::<[u8]>::as_ref(other)
+                self.0[..] == *AsRef::<[u8]>::as_ref(other)
             }
         }
 
@@ -229,7 +221,7 @@ macro_rules! compares {
 
         impl<$($generics)*> PartialOrd<$other> for $name {
             fn partial_cmp(&self, other: &$other) -> Option<Ordering> {
-                Some(self.0.cmp(AsRef::<[u8]>::as_ref(other)))
+                Some(self.0[..].cmp(AsRef::<[u8]>::as_ref(other)))
             }
         }
 
@@ -240,6 +232,8 @@ macro_rules! compares {
         }
     )*};
 }
+
+pub(crate) use compares;
 
 compares! {
     () BStr, [u8];

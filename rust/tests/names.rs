@@ -3,7 +3,7 @@
 use std::borrow::Cow;
 use std::collections::BTreeMap;
 
-use cqdb::BStr;
+use cqdb::{BStr, BString};
 
 #[test]
 fn comparing() {
@@ -34,7 +34,7 @@ fn owned_and_in_part() {
     let boxed: Box<BStr> = Box::<[u8]>::from(&b"north wall"[..]).into();
     assert_eq!((&*boxed.clone(), &*boxed), (name, name));
     assert_eq!(&*Box::<[u8]>::from(boxed), b"north wall");
-    let either: [Cow<'_, BStr>; 2] = [name.into(), Cow::Owned(b"north wall".to_vec())];
+    let either: [Cow<'_, BStr>; 2] = [name.into(), BString::from("north wall").into()];
     assert!(either.iter().all(|held| name == *held && *held == name));
     assert!(
         name == Cow::Borrowed("north wall")
@@ -49,6 +49,32 @@ fn owned_and_in_part() {
     assert_eq!(<&str>::try_from(BStr::new(b"a\xff")).unwrap_err().valid_up_to(), 1);
     let ids: BTreeMap<String, u32> = [("north wall".to_string(), 7)].into();
     assert_eq!((ids.get(name), ids.get(BStr::new("north"))), (Some(&7), None));
+}
+
+#[test]
+fn owned() {
+    let name = BString::new(b"mole\xff".to_vec());
+    let same: [BString; 5] = [
+        b"mole\xff".into(),
+        b"mole\xff"[..].into(),
+        BStr::new(b"mole\xff").into(),
+        [&b"mole"[..], b"\xff"].into_iter().collect(),
+        b"mole\xff".iter().copied().collect(),
+    ];
+    assert!(same.iter().all(|other| *other == name && name == b"mole\xff" && name == BStr::new(other)));
+    assert!(name > "mole".to_string() && *"mole" < name && name != b"mole".to_vec() && name != "mole");
+    let text: BString = ["no", "rth"].into_iter().collect();
+    assert_eq!(
+        (String::try_from(text.clone()), "north".parse::<BString>()),
+        (Ok("north".to_string()), Ok(text.clone()))
+    );
+    assert_eq!("north".chars().collect::<BString>(), [text.clone()].into_iter().collect::<BString>());
+    assert!(String::try_from(name.clone()).is_err() && <&str>::try_from(&name).is_err());
+    assert_eq!(<&str>::try_from(&text), Ok("north"));
+    assert_eq!((Vec::from(name.clone()), Cow::from(&name)), (b"mole\xff".to_vec(), Cow::from(BStr::new(b"mole\xff"))));
+    assert_eq!(format!("[{name}] [{name:?}] [{text:>6}]"), "[mole\u{fffd}] [\"mole\\xff\"] [ north]");
+    let ids: BTreeMap<BString, u32> = [(text, 7)].into();
+    assert_eq!((ids.get(BStr::new("north")), ids.get(&b"north"[..])), (Some(&7), Some(&7)));
 }
 
 #[test]
