@@ -23,16 +23,24 @@ def get_requires_for_build_wheel(config_settings: Settings = None) -> List[str]:
     return []
 
 
+def prepare_metadata_for_build_wheel(metadata_directory: str, config_settings: Settings = None) -> str:
+    """Writes what pip asks before the wheel is made, into a folder whose name it gives."""
+    folder = pathlib.Path(metadata_directory) / f"lithwennog-{_version()}.dist-info"
+    folder.mkdir()
+    (folder / "METADATA").write_bytes(_metadata())
+    (folder / "WHEEL").write_bytes(_wheel())
+    return folder.name
+
+
 def build_wheel(wheel_directory: str, config_settings: Settings = None, metadata_directory: Optional[str] = None) -> str:
     """Makes the wheel in a folder, and gives its file's name."""
     _make_library()
-    version = (ROOT / "VERSION").read_text().strip()
-    about = f"lithwennog-{version}.dist-info"
+    about = f"lithwennog-{_version()}.dist-info"
     files = [(f"cqdb/{file.name}", file.read_bytes()) for file in sorted(MODULE.glob("*.py")) + [MODULE / "py.typed", SHARED]]
     files += [(f"{about}/{name}", (ROOT / name).read_bytes()) for name in ("LICENSE", "NOTICE")]
-    files += [(f"{about}/METADATA", _metadata(version)), (f"{about}/WHEEL", _wheel())]
+    files += [(f"{about}/METADATA", _metadata()), (f"{about}/WHEEL", _wheel())]
     files.append((f"{about}/RECORD", _record(files, f"{about}/RECORD")))
-    wheel = f"lithwennog-{version}-{TAG}.whl"
+    wheel = f"lithwennog-{_version()}-{TAG}.whl"
     with zipfile.ZipFile(pathlib.Path(wheel_directory) / wheel, "w", zipfile.ZIP_DEFLATED) as out:
         for name, content in files:
             # The same files make the same wheel, whenever it is made.
@@ -49,16 +57,21 @@ def build_sdist(sdist_directory: str, config_settings: Settings = None) -> str:
 
 
 def _make_library() -> None:
-    if not ARCHIVE.is_file():
-        subprocess.run([str(ROOT / "make-archive")], check=True)
-    subprocess.run([str(ROOT / "make-shared")], check=True)
+    scripts = ["make-shared"] if ARCHIVE.is_file() else ["make-archive", "make-shared"]
+    for script in scripts:
+        if subprocess.run([str(ROOT / script)]).returncode != 0:
+            raise SystemExit(f"cqdb: the library was not made: ./{script} says above what is missing")
 
 
-def _metadata(version: str) -> bytes:
+def _version() -> str:
+    return (ROOT / "VERSION").read_text().strip()
+
+
+def _metadata() -> bytes:
     lines = [
         "Metadata-Version: 2.1",
         "Name: lithwennog",
-        f"Version: {version}",
+        f"Version: {_version()}",
         "Summary: Constant quark database images: names to ids and ids to names, over a proved library",
         "License: MIT AND BSD-3-Clause",
         "License-File: LICENSE",
