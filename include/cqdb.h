@@ -16,10 +16,6 @@
      What a call only reads may overlap.
    - Nobody else writes to what is lent while the call runs.
 
-   When an image can be read: from the cqdb_close that made it to the next accepted cqdb_put in the same buffer, or from a
-   copy. That put writes where the close had placed the tables, so until the next close the buffer is no image, though
-   cqdb_open may still accept it: names and ids may then give nothing, or each other's answers. See cqdb_put.
-
    Threads: any number of them may read one image at the same time, by all calls that take it as const. A buffer that is being
    written belongs to one thread.
 
@@ -59,6 +55,10 @@
      bundle_append                   a copy of the image, and a step for each image before it
      sheet_read, sheet_write         4; 0.6 for each id
      references_first                up to a step for each pair and id of the round
+
+   When an image can be read: from the cqdb_close that made it to the next accepted cqdb_put in the same buffer, or from a
+   copy. That put writes where the close had placed the tables, so until the next close the buffer is no image, though
+   cqdb_open may still accept it: names and ids may then give nothing, or each other's answers. See cqdb_put.
 
    What is proved is the archive. The declarations, structs and inline functions of this file are tested. */
 #ifndef CQDB_H
