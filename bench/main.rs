@@ -3,6 +3,7 @@
 mod average;
 mod building;
 mod bundle;
+mod drop_in;
 mod hash;
 mod load;
 mod names;
@@ -15,7 +16,7 @@ mod repeats;
 mod round;
 mod table;
 
-const PARTS: [(&str, fn()); 10] = [
+const PARTS: [(&str, fn()); 11] = [
     ("hash", hash::run),
     ("reading", reading::run),
     ("building", building::run),
@@ -26,6 +27,7 @@ const PARTS: [(&str, fn()); 10] = [
     ("origin", origin::run),
     ("round", round::run),
     ("average", average::run),
+    ("drop-in", drop_in::run),
 ];
 
 fn main() {

@@ -16,6 +16,46 @@
      What a call only reads may overlap.
    - Nobody else writes to what is lent while the call runs.
 
+   Threads: any number of them may read one image at the same time, by all calls that take it as const. A buffer that is being
+   written belongs to one thread.
+
+   Files: an image may be a mapped file. One that is replaced, by a rename of a new file, stays mapped as it was. One that is
+   written in place while a call runs breaks what the caller owes: the call may give answers of neither image, or read outside. One
+   that is cut short ends the process at the first byte behind its new end, by the signal SIGBUS. So write a new file beside the
+   old one and rename it; examples/c/build_file.c does, and examples/c/ask_file.c maps one.
+
+   What the calls cost. The times are examples, in ns on an AMD EPYC with names of 9 bytes and 4,096 entries; a second number is for
+   100,000 entries. Lookups in images that exceed the processor's caches take up to 110. The stack is rounded up, in KB of 1,024
+   bytes; calls without a number take less than 1 KB.
+
+     call                            time                                                            stack
+     version_number                  1
+     hash                            4; 390 for a name of 1,024 bytes
+     open, bundle_open               90; bundle_open: and a step for each image before it
+     to_id, home                     10 to 20, by the buckets that are read
+     to_str, panel                   3 to 5
+     size_hint, page_length          3
+     name_on                         10, and each window is read once
+     round                           13 for each name                                                11
+     name_round                      1.2 for each id
+     readings_agree                  3 for each id below the back size
+     page                            7 for each line
+     ours                            13, 18 for each entry                                           6
+     average, lengths                25, 86 for each entry                                           6
+     begin                           16
+     put, repeats on                 22
+     put, repeats off                22, and 4.5 for each earlier entry: n puts take 2.2 x n x n      2
+     close                           11, 16 for each entry                                           39
+     build, 7 words for each name    13, 18 for each name                                            4
+     build, 3 words for each name    31, 49 for each name                                            41
+     build, no words, repeats on     27, 32 for each name                                            41
+     build, no words, repeats off    as put                                                          41
+     load                            130,000                                                         39
+     bundle_count                    a step for each image
+     bundle_append                   a copy of the image, and a step for each image before it
+     sheet_read, sheet_write         4; 0.6 for each id
+     references_first                up to a step for each pair and id of the round
+
    When an image can be read: from the cqdb_close that made it to the next accepted cqdb_put in the same buffer, or from a
    copy. That put writes where the close had placed the tables, so until the next close the buffer is no image, though
    cqdb_open may still accept it: names and ids may then give nothing, or each other's answers. See cqdb_put.
@@ -26,11 +66,16 @@
 #ifndef CQDB_H
 #define CQDB_H
 
+#if !defined(__x86_64__) || defined(__ILP32__)
+#error "cqdb: the proved archive is for x86-64 Linux alone, with pointers of 64 bits"
+#endif
+
 #include <stddef.h>
 #include <stdint.h>
 #include <string.h>
 
-/* The version of this header and of the archive that comes with it. */
+/* The version of this header and of the archive that comes with it. cqdb_version_number gives that of the archive or the
+   shared library that the program runs with. */
 #define CQDB_VERSION "0.2.0"
 
 #ifdef __cplusplus
@@ -75,6 +120,40 @@ extern "C" {
 #define CQDB_NO_SUCH_DATE 22u    /* name_on: a date, the one asked about or a window's, does not exist or is out of bounds */
 #define CQDB_NOT_BEFORE_END 23u  /* name_on: a window does not start before its end */
 #define CQDB_INDEX_FULL 24u      /* put_indexed, index: every slot is taken; index: more entries than slots */
+
+/* What a refusal's number means, in the words of the Rust crate and of the Python module. */
+static inline const char *cqdb_refusal_text(uint32_t refusal) {
+    switch (refusal) {
+    case 0: return "accepted";
+    case CQDB_TOO_SHORT: return "invalid file format";
+    case CQDB_UNFIT: return "the writer does not fit its buffer";
+    case CQDB_NO_ROOM: return "no room: the image would be too large";
+    case CQDB_INCONSISTENT: return "the buffer's entries are not those of the writer";
+    case CQDB_WRONG_LETTERS: return "invalid file format, magic mismatch";
+    case CQDB_WRONG_BYTE_ORDER: return "invalid file format, byte order mismatch";
+    case CQDB_TABLE_LEAVES: return "invalid table data: out of bounds";
+    case CQDB_BACK_LEAVES: return "invalid backward link data: out of bounds";
+    case CQDB_NAME_TOO_LONG: return "the name is too long";
+    case CQDB_BROKEN_BUNDLE: return "invalid bundle: no image begins where one should";
+    case CQDB_NO_SUCH_IMAGE: return "the bundle has no image at this position";
+    case CQDB_PAGE_TOO_LONG: return "the page is longer than the output";
+    case CQDB_ZERO_BYTE: return "the name has a zero byte";
+    case CQDB_ROUND_UNFIT: return "the round has too many names or ids, or ends that do not fit its names";
+    case CQDB_ANSWERS_TOO_FEW: return "the answer list is shorter than the round";
+    case CQDB_REPEATED: return "the writer already holds this name, and repeats are off";
+    case CQDB_NOT_OURS: return "the image is none that a list of puts makes";
+    case CQDB_NO_ENTRIES: return "the image has no entry";
+    case CQDB_TOO_FEW_BYTES: return "invalid round sheet, too few bytes";
+    case CQDB_LEFT_OVER_BYTES: return "invalid round sheet, left-over bytes";
+    case CQDB_SHEET_TOO_LARGE: return "no room: a list of the round sheet is too long, or its buffer too short";
+    case CQDB_NO_SUCH_DATE: return "a date does not exist, or is out of bounds";
+    case CQDB_NOT_BEFORE_END: return "a window does not start before its end";
+    default: return "no such refusal";
+    }
+}
+
+/* The version as one number: major x 65536 + minor x 256 + patch. */
+uint32_t cqdb_version_number(void);
 
 /* The name hash. */
 
@@ -346,7 +425,7 @@ static inline uint32_t cqdb_grown(cqdb_writer *w, size_t len) {
    Entries, and bytes from size on, keep their content, and the writer stays as it is: puts and closes may follow. Gives
    the first refusal that applies: 2 when the writer does not fit the buffer; 4 when the bytes from 2,072 to end are not the
    writer's number of whole entries with its counts and back size, or when the finished size exceeds the buffer or
-   4,294,967,295. Takes 38 KB of stack. */
+   4,294,967,295. */
 static inline cqdb_close_answer cqdb_close(const cqdb_writer *w, uint8_t *buf, size_t len) {
     cqdb_close_parts_answer a = cqdb_close_parts(cqdb_record_of(w), w->counts, buf, len);
     cqdb_close_answer c = {a.refusal, a.size};
@@ -559,8 +638,7 @@ uint32_t cqdb_name_round_words(const uint8_t *image, size_t len, const uint32_t 
 /* The ids of up to 512 names. They lie joined in names, the first from byte 0 on, and ends[i] is where the i-th ends; bytes may
    follow the last. answers[i] is what cqdb_to_id gives for the i-th name, and equal names are searched for once: buckets is the
    sum over the different names. Places past the n-th keep their content. Refusals, the first that applies, and then nothing is
-   written: 14 for more than 512 names, or an end below the one before or above names_len; 15 for fewer places than names. Takes
-   10 KB of stack. */
+   written: 14 for more than 512 names, or an end below the one before or above names_len; 15 for fewer places than names. */
 static inline cqdb_round_answer cqdb_round(const uint8_t *image, size_t len, const uint8_t *names, size_t names_len,
                                            const uint64_t *ends, size_t n, cqdb_id_answer *answers, size_t places) {
     return cqdb_round_words(image, len, names, names_len, ends, n, (uint32_t *)answers, 4 * places);

@@ -28,10 +28,11 @@ build_both() {
     build_original && build_archive
 }
 
-# build_driver SOURCE PROGRAM: builds a Rust program over both, in release settings.
+# build_driver SOURCE PROGRAM [ARGUMENT..]: builds a Rust program over both, in release settings; what it is linked with besides
+# stands in the arguments.
 build_driver() {
     mkdir -p "$(dirname "$2")" &&
-        rustc -C opt-level=3 --edition 2021 -L target/oracle --extern cqdb=target/oracle/libcqdb.rlib \
+        rustc -C opt-level=3 --edition 2021 "${@:3}" -L target/oracle --extern cqdb=target/oracle/libcqdb.rlib \
             -L native=target/staticlib -l static=cqdb_c -l static=lookup3 "$1" -o "$2"
 }
 

@@ -453,6 +453,7 @@ fn round(run: &mut Run, random: &mut Random) {
 // Lends one byte more than the heap block has. valgrind has to report it, which shows that it watches the archive.
 fn lend_too_much() {
     let name = exact(&[7; 40]);
+    // SAFETY: none: this breaks what is owed, on purpose. It runs under valgrind alone, which reports the byte.
     let more = unsafe { std::slice::from_raw_parts(name.as_ptr(), 41) };
     println!("hostile: the hash of one byte too much is {:x}", ours::hash(more, 0).hash);
 }

@@ -12,7 +12,7 @@ extern "C" {
 /// lookup3's hash of a name and one zero byte.
 pub fn hash(name: &[u8]) -> u32 {
     let closed: Vec<u8> = name.iter().copied().chain([0, 0, 0, 0]).collect();
-    // Three more bytes than are counted are there: lookup3 may read an aligned word whole.
+    // SAFETY: three more bytes than are counted are there: lookup3 may read an aligned word whole.
     unsafe { jenkins_hashlittle(closed.as_ptr(), name.len() + 1, 0) }
 }
 

@@ -1,4 +1,5 @@
 -- What the exported functions answer.
+pub mod Version
 pub mod Hash
 pub mod ReadAnswers
 pub mod Writing

@@ -17,6 +17,7 @@ extern "C" {
 pub fn keep_running_at_a_size_limit() {
     const SIGXFSZ: i32 = 25;
     const SIG_IGN: usize = 1;
+    // SAFETY: signal is lent two numbers; to ignore a signal installs no function.
     unsafe { signal(SIGXFSZ, SIG_IGN) };
 }
 

@@ -28,7 +28,7 @@ fn names_of<'a>(db: &'a CQDB<'a>, words: &'a [&'a [u8]]) -> Result<Answers<'a>, 
     let ids = words.iter().map(|word| id_of(word)).collect::<Result<Vec<u32>, Failure>>()?;
     let names = db.name_round(&ids).map_err(|refusal| Failure::new(files::refusal_in_words(refusal)))?;
     let answer = |(id, name): (u32, Option<&'a BStr>)| match name {
-        Some(name) => Ok((id, &name[..])),
+        Some(name) => Ok((id, name.as_ref())),
         None => Err(format!("no name for id {id}")),
     };
     Ok(ids.into_iter().zip(names).map(answer).collect())
