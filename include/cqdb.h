@@ -148,6 +148,7 @@ static inline const char *cqdb_refusal_text(uint32_t refusal) {
     case CQDB_SHEET_TOO_LARGE: return "no room: a list of the round sheet is too long, or its buffer too short";
     case CQDB_NO_SUCH_DATE: return "a date does not exist, or is out of bounds";
     case CQDB_NOT_BEFORE_END: return "a window does not start before its end";
+    case CQDB_INDEX_FULL: return "the index has no free slot";
     default: return "no such refusal";
     }
 }

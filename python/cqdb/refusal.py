@@ -44,6 +44,7 @@ class Refusal(enum.IntEnum):
     SHEET_TOO_LARGE = 21, "no room: a list of the round sheet is too long, or its buffer too short"
     NO_SUCH_DATE = 22, "a date does not exist, or is out of bounds"
     NOT_BEFORE_END = 23, "a window does not start before its end"
+    INDEX_FULL = 24, "the index has no free slot"
 
 
 class CQDBError(Exception):
