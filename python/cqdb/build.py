@@ -6,6 +6,7 @@ from array import array
 from typing import Iterable, List, NamedTuple, Tuple
 
 from cqdb.library import calls
+from cqdb.memory import zeros
 from cqdb.names import Name, Text, id_number
 from cqdb.refusal import Refusal, accept
 from cqdb.writer import LARGEST_IMAGE
@@ -45,7 +46,7 @@ def build(
         ids.append(id_number(id))
     joined = bytes(names)
     back = 0 if one_way else max(ids, default=-1) + 1
-    buffer = ctypes.create_string_buffer(min(HEAD + len(joined) + 25 * len(ids) + 4 * back, LARGEST_IMAGE))
+    buffer = zeros(min(HEAD + len(joined) + 25 * len(ids) + 4 * back, LARGEST_IMAGE))
     refusals, work = array("I", bytes(4 * len(ids))), array("I", bytes(28 * len(ids)))
     lists = [part for words in (ends, ids, refusals, work) for part in words.buffer_info()]
     answer = calls.cqdb_build_parts(
