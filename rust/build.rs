@@ -3,6 +3,8 @@
 use std::path::{Path, PathBuf};
 use std::{env, fs, process};
 
+mod comment;
+
 fn main() {
     let target = ["ARCH", "OS", "POINTER_WIDTH"].map(|part| variable(&format!("CARGO_CFG_TARGET_{part}")));
     if target != ["x86_64", "linux", "64"] {
@@ -27,10 +29,13 @@ fn main() {
     println!("cargo:rerun-if-changed={}", archive.display());
     println!("cargo:rerun-if-env-changed=CQDB_ARCHIVE");
 
-    // The kit with which the archive was proved, for `cqdb --version`.
-    let kit = here("../KIT");
-    println!("cargo:rerun-if-changed={}", kit.display());
-    println!("cargo:rustc-env=CQDB_KIT={}", fs::read_to_string(&kit).as_deref().unwrap_or("unknown kit").trim());
+    // What the archive says of the kit with which it was proved, for `cqdb --version`.
+    println!("cargo:rerun-if-changed=comment.rs");
+    let said = fs::read(&archive).map_err(|error| error.to_string()).and_then(|bytes| comment::of_archive(&bytes));
+    match said {
+        Ok(kit) => println!("cargo:rustc-env=CQDB_KIT={kit}"),
+        Err(why) => stop(&format!("{}: {why}: run ./make-archive in the repository", archive.display())),
+    }
 }
 
 fn variable(name: &str) -> String {

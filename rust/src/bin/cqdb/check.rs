@@ -2,8 +2,10 @@
 use cqdb::CQDB;
 
 use crate::args::{Args, Command};
-use crate::files;
+use crate::files::{self, Source};
+use crate::making;
 use crate::outcome::{Failure, Outcome, Output};
+use crate::progress::Progress;
 
 pub const COMMAND: Command = Command {
     name: "check",
@@ -24,35 +26,45 @@ The exit status is 1 where an answer is no.
 };
 
 fn run(args: Args) -> Outcome {
-    let bytes = files::read(args.path(0))?;
+    let source = Source::open(args.path(0))?;
     let mut out = Output::new();
-    let db = match CQDB::new(&bytes) {
-        Ok(db) => db,
-        Err(error) => {
-            line(&mut out, Err(files::in_words(&error)), "it opens")?;
-            return out.finish(false);
-        }
-    };
-    let mut all = true;
-    let ours = if db.is_ours() { Ok(()) } else { Err("no list of puts makes these bytes".to_string()) };
-    let questions = [
-        ("it opens", Ok(())),
-        ("it is one of ours", ours),
-        ("readings agree", readings(&db)),
-        ("every name is home", homes(&db)),
-    ];
-    for (question, answer) in questions {
-        all &= answer.is_ok();
-        line(&mut out, answer, question)?;
-    }
+    let all = questions(&source, &mut out, COMMAND.name)?.is_some_and(|(_, all)| all);
     out.finish(all)
 }
 
-fn line(out: &mut Output, answer: Result<(), String>, question: &str) -> Result<(), Failure> {
-    match answer {
-        Ok(()) => out.text(&format!("yes  {question}")),
-        Err(why) => out.text(&format!("no   {question}: {why}")),
+/// Prints a line for each question, and gives the image with the answer whether all were yes; none where it does not open.
+pub fn questions<'a>(
+    source: &'a Source,
+    out: &mut Output,
+    command: &str,
+) -> Result<Option<(CQDB<'a>, bool)>, Failure> {
+    let db = match source.opened()? {
+        Ok(db) => db,
+        Err(error) => {
+            line(out, &Err(files::in_words(&error)), "it opens")?;
+            return Ok(None);
+        }
+    };
+    line(out, &Ok(()), "it opens")?;
+    out.flush()?;
+    if let Some(most) = equal_hashes(&db).filter(|most| *most >= 10_000) {
+        making::tell_quadratic(command, most);
     }
+    let ours = if db.is_ours() { Ok(()) } else { Err("no list of puts makes these bytes".to_string()) };
+    let mut all = line(out, &ours, "it is one of ours")?;
+    all &= line(out, &readings(&db), "readings agree")?;
+    out.flush()?;
+    all &= line(out, &homes(&db), "every name is home")?;
+    Ok(Some((db, all)))
+}
+
+/// Prints a question with its answer: yes, or no and why.
+pub fn line(out: &mut Output, answer: &Result<(), String>, question: &str) -> Result<bool, Failure> {
+    match answer {
+        Ok(()) => out.text(&format!("yes  {question}"))?,
+        Err(why) => out.text(&format!("no   {question}: {why}"))?,
+    }
+    Ok(answer.is_ok())
 }
 
 /// Why the readings do not agree.
@@ -66,8 +78,41 @@ fn readings(db: &CQDB) -> Result<(), String> {
 
 /// The first id that has a name and is not home.
 fn homes(db: &CQDB) -> Result<(), String> {
-    match (0..db.back_size()).find(|id| db.to_str(*id).is_some() && !db.home(*id)) {
-        None => Ok(()),
-        Some(id) => Err(format!("id {id} is not")),
+    let mut progress = Progress::new();
+    let away = (0..db.back_size()).find(|id| {
+        progress.at(u64::from(*id), "ids");
+        db.to_str(*id).is_some() && !db.home(*id)
+    });
+    progress.clear();
+    away.map_or(Ok(()), |id| Err(format!("id {id} is not")))
+}
+
+/// The largest number of entries of a table that have the same hash; none where no table is large.
+fn equal_hashes(db: &CQDB) -> Option<u64> {
+    const ROWS: usize = 24;
+    const LARGE: usize = 20_000;
+    let bytes = db.bytes();
+    let word = |at: usize| bytes.get(at..at + 4).map(|word| u32::from_le_bytes([word[0], word[1], word[2], word[3]]));
+    let run = |table: usize| -> Option<u64> {
+        let (start, buckets) = (word(ROWS + 8 * table)? as usize, word(ROWS + 8 * table + 4)? as usize);
+        let part = bytes.get(start..start.checked_add(buckets.checked_mul(8)?)?).filter(|_| buckets >= LARGE)?;
+        let filled = part.chunks_exact(8).filter(|bucket| bucket[4..] != [0; 4]);
+        let mut hashes: Vec<u32> = Vec::new();
+        hashes.try_reserve(buckets).ok()?;
+        hashes.extend(filled.map(|bucket| u32::from_le_bytes([bucket[0], bucket[1], bucket[2], bucket[3]])));
+        hashes.sort_unstable();
+        Some(longest_run(&hashes))
+    };
+    (0..256).filter_map(run).max()
+}
+
+/// The length of the longest run of equal words.
+fn longest_run(words: &[u32]) -> u64 {
+    let (mut longest, mut run, mut before) = (0, 0, None);
+    for word in words {
+        run = if before == Some(word) { run + 1 } else { 1 };
+        longest = longest.max(run);
+        before = Some(word);
     }
+    longest
 }

@@ -73,7 +73,7 @@ fn search_lengths(out: &mut Output, db: &CQDB) -> Result<(), Failure> {
     for (place, entries) in lengths[..last].iter().enumerate() {
         let length = if place == 15 { "16+".to_string() } else { (place + 1).to_string() };
         let bar = "#".repeat((u64::from(*entries) * WIDE).div_ceil(most) as usize);
-        out.text(format!("length-{length:<3}{entries} {bar}").trim_end())?;
+        out.text(format!("length-{length:<2} {entries} {bar}").trim_end())?;
     }
     Ok(())
 }

@@ -1,0 +1,152 @@
+//! The image that grows while `cqdb make` reads its list.
+use std::collections::HashMap;
+
+use cqdb::{jhash, Flag, MemoryWriter, Refusal};
+
+use crate::args::{Args, Opt};
+use crate::files;
+use crate::lines;
+use crate::outcome::{self, Failure};
+use crate::problem::{self, Problem};
+
+pub const ONE_WAY: Opt = Opt {
+    long: "--one-way",
+    short: None,
+    value: None,
+    text: "names to ids alone: the array that names ids is left out",
+};
+pub const RENAMED: Opt =
+    Opt { long: "--renamed", short: None, value: None, text: "take an id that was put before: its later name is meant" };
+pub const REPEATS: Opt =
+    Opt { long: "--repeats", short: None, value: None, text: "take a name that was put before, as of a renewed prism" };
+pub const SPARSE: Opt =
+    Opt { long: "--sparse", short: None, value: None, text: "an image with more than 64 MB for ids without a name is meant" };
+
+/// The bytes of the back array that may be for ids without a name.
+const EMPTY: u64 = 64 << 20;
+/// The size of the largest image.
+const LIMIT: u64 = u32::MAX as u64;
+/// An entry has 9 bytes beside its name, and 16 in its table.
+const ENTRY: u64 = 9 + 16;
+const HEAD: u64 = 2_072;
+/// So many equal names take some tenths of a second; twice as many take four times as long.
+const MANY: u32 = 10_000;
+
+pub struct Making {
+    writer: MemoryWriter,
+    options: Options,
+    /// The line of each put that was accepted.
+    lines: Vec<u64>,
+    /// The place of the first put of each id among them.
+    places: HashMap<u32, u32>,
+    /// How many puts have each hash, where names may repeat.
+    hashes: HashMap<u32, u32>,
+    /// The size of the image without its back array.
+    size: u64,
+    /// The largest id, and the line that put it first.
+    largest: Option<(u32, u64)>,
+}
+
+struct Options {
+    one_way: bool,
+    renamed: bool,
+    repeats: bool,
+    sparse: bool,
+}
+
+impl Making {
+    pub fn new(args: &Args) -> Making {
+        let options = Options {
+            one_way: args.has(&ONE_WAY),
+            renamed: args.has(&RENAMED),
+            repeats: args.has(&REPEATS),
+            sparse: args.has(&SPARSE),
+        };
+        let flag = if options.one_way { Flag::ONEWAY } else { Flag::NONE };
+        let writer = if options.repeats { MemoryWriter::with_repeats(flag) } else { MemoryWriter::with_flag(flag) };
+        Making {
+            writer,
+            options,
+            lines: Vec::new(),
+            places: HashMap::new(),
+            hashes: HashMap::new(),
+            size: HEAD,
+            largest: None,
+        }
+    }
+
+    /// The number of puts that were accepted.
+    pub fn entries(&self) -> u64 {
+        self.lines.len() as u64
+    }
+
+    /// Puts a name under an id.
+    pub fn put(&mut self, number: u64, id: u32, name: &[u8]) -> Result<(), Problem> {
+        match self.places.get(&id) {
+            Some(place) if !self.options.renamed => {
+                return Err(Problem::IdAgain { id, line: self.lines[*place as usize] });
+            }
+            _ => {}
+        }
+        let size = self.size + name.len() as u64 + ENTRY;
+        let largest = self.largest.filter(|(largest, _)| *largest >= id).unwrap_or((id, number));
+        let back = self.back(largest.0);
+        let room = self.lines.try_reserve(1).is_ok()
+            && self.places.try_reserve(1).is_ok()
+            && self.hashes.try_reserve(1).is_ok();
+        let put = if room { self.writer.put(name, id) } else { Err(Refusal::NoRoom) };
+        put.map_err(|refusal| match refusal {
+            Refusal::NoRoom if size + back > LIMIT => Problem::NoRoom { size: size + back, back, largest: largest.0 },
+            // The archive would take it.
+            Refusal::NoRoom => Problem::NoMemory { size: size + back, back, largest: largest.0 },
+            Refusal::Repeated => self.name_again(name),
+            refusal => Problem::Refused(refusal),
+        })?;
+        self.places.entry(id).or_insert(self.lines.len() as u32);
+        if self.options.repeats {
+            *self.hashes.entry(jhash(name, 0).unwrap_or(0)).or_default() += 1;
+        }
+        self.lines.push(number);
+        (self.size, self.largest) = (size, Some(largest));
+        Ok(())
+    }
+
+    fn name_again(&self, name: &[u8]) -> Problem {
+        match self.writer.place_of(name) {
+            Some(place) => Problem::NameAgain { name: lines::shown(name), line: self.lines[place as usize] },
+            None => Problem::Refused(Refusal::Repeated),
+        }
+    }
+
+    /// The bytes of the array that names the ids up to one.
+    fn back(&self, largest: u32) -> u64 {
+        if self.options.one_way { 0 } else { 4 * (u64::from(largest) + 1) }
+    }
+
+    /// The finished image. `unit` is what the numbers of puts count.
+    pub fn finish(self, unit: &str) -> Result<Vec<u8>, Failure> {
+        if let Some((largest, line)) = self.largest {
+            let back = self.back(largest);
+            let empty = back.saturating_sub(4 * self.places.len() as u64);
+            if empty > EMPTY && !self.options.sparse {
+                let size = problem::size_in_words(self.size + back, back, largest);
+                return Err(Failure::new(format!(
+                    "the image would have {size}, which {unit} {line} puts; {empty} are for ids without a name: \
+                     say --sparse where that is meant"
+                )));
+            }
+        }
+        if let Some(most) = self.hashes.values().max().filter(|most| **most >= MANY) {
+            tell_quadratic("make", u64::from(*most));
+        }
+        self.writer.finish().map_err(files::refused)
+    }
+}
+
+/// Says why it takes long where many entries have the same name.
+pub fn tell_quadratic(command: &str, most: u64) {
+    let steps = most * most / 2;
+    outcome::tell(&format!(
+        "{command}: {most} entries have the same hash, as equal names have: the searches for them take {steps} steps"
+    ));
+}
