@@ -19,6 +19,7 @@ impl Folder {
         Folder(path)
     }
 
+    #[allow(dead_code)]
     pub fn write(&self, name: &str, bytes: impl AsRef<[u8]>) {
         fs::write(self.0.join(name), bytes).unwrap();
     }

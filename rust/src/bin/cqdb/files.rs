@@ -111,7 +111,7 @@ impl Source {
             (Some(position), _) => Ok(Bundle::new(&self.bytes).open(position).map_err(io::Error::from)),
             (None, Images::One) => Ok(CQDB::new(&self.bytes)),
             (None, Images::Several(images)) => Err(Failure::new(format!(
-                "{path} is a bundle of {images} images: {path}:0 to {path}:{} name them",
+                "{path} is a bundle of {images} images: {path}:0 to {path}:{} name them; id, name and list take --all",
                 images - 1
             ))),
             (None, Images::Broken) => Err(Failure::new(format!(

@@ -1,0 +1,139 @@
+//! The tool under limits of memory, on large files, and on names that are all equal.
+mod tool;
+
+use std::fs::OpenOptions;
+use std::io::Write;
+use std::process::{Command, Stdio};
+use std::time::Instant;
+
+use cqdb::{Flag, MemoryWriter, Refusal};
+use tool::{Folder, TOOL};
+
+/// One mistyped id does not make an image of gigabytes.
+#[test]
+fn a_sparse_image_has_to_be_meant() {
+    let folder = Folder::new();
+    folder.image("image", "1 old\n");
+    let old = folder.read("image");
+    let list = "0 crane\n1000000000 mole\n2 pier\n";
+    let told = "cqdb: make: the image would have 4000002164 bytes, 4000000004 of them for the ids up to 1000000000, \
+                which line 2 puts; 3999999992 are for ids without a name: say --sparse where that is meant\n";
+    let begun = Instant::now();
+    folder.with(list, &["make", "image"]).gives(2).prints("").tells(told);
+    assert!(begun.elapsed().as_secs() < 5);
+    assert!(folder.read("image") == old && folder.files() == ["image"]);
+    folder.with(list, &["make", "--one-way", "image"]).gives(0).prints("image: 3 entries, 2160 bytes\n");
+    // 64 MB, and four bytes more.
+    let largest = (64 << 20) / 4;
+    folder.with(format!("{largest} far\n"), &["make", "image"]).gives(0).prints("image: 1 entry, 67110968 bytes\n");
+    let list = format!("{} far\n", largest + 1);
+    folder.with(&list, &["make", "image"]).gives(2);
+    folder.with(&list, &["make", "--sparse", "image"]).gives(0).prints("image: 1 entry, 67110972 bytes\n");
+    folder.cqdb(&["name", "image", &(largest + 1).to_string()]).prints(&list);
+}
+
+/// What a list decides has a message, where memory is short. The limit is in KiB of address space.
+#[test]
+fn without_memory() {
+    let folder = Folder::new();
+    folder.image("image", "1 old\n");
+    let old = folder.read("image");
+    let limited = |line: &str| folder.shell(&format!("ulimit -v 100000; {line}"));
+    let ran = limited("printf '0 crane\\n90000000 mole\\n' | \"$CQDB\" make --sparse image").gives(2);
+    ran.tells(
+        "cqdb: make: standard input, line 2: not enough memory for an image of 360002135 bytes, \
+         360000004 of them for the ids up to 90000000\n",
+    );
+    // A line, a record and a file that do not fit.
+    for (line, what) in [
+        ("head -c 300000000 /dev/zero | tr '\\0' x | \"$CQDB\" make image", "line 1 of standard input"),
+        ("head -c 300000000 /dev/zero | tr '\\0' x | \"$CQDB\" id image", "line 1 of standard input"),
+        ("printf '+300000000,1:x' | \"$CQDB\" make --cdb image", "record 1 of standard input"),
+        ("head -c 300000000 /dev/zero | \"$CQDB\" list -", "standard input"),
+        ("yes 'wall 7' | head -n 90000000 | \"$CQDB\" sheet make round", "standard input"),
+    ] {
+        let ran = limited(line).gives(2);
+        assert!(ran.err.contains(&format!("not enough memory for {what}: ")), "{line}: {}", ran.err);
+    }
+    assert!(folder.read("image") == old && folder.files() == ["image"]);
+    // An image that is mapped, whose page is larger than the memory.
+    folder.with("4000000 far\n", &["make", "image"]).gives(0);
+    let ran = limited("\"$CQDB\" page image").gives(2);
+    ran.tells("cqdb: page: not enough memory for the page of 4000001 ids: 180000045 bytes\n");
+    limited("\"$CQDB\" name image 4000000").gives(0).prints("4000000 far\n");
+}
+
+/// A name that is refused needs no room for its id.
+#[test]
+fn a_list_with_a_refused_name_of_a_large_id() {
+    let refused = [("a\0b", 1_000_000_000, Refusal::ZeroByte), ("crane", 1_000_000_001, Refusal::Repeated), ("x", u32::MAX, Refusal::NoRoom)];
+    for (name, id, refusal) in refused {
+        let built = MemoryWriter::build(Flag::NONE, [("crane", 1), (name, id), ("mole", 2)]).unwrap();
+        assert_eq!((built.accepted, built.refused), (2, vec![(1, refusal)]));
+        assert!(built.image.capacity() < 10_000, "{}", built.image.capacity());
+    }
+    let built = MemoryWriter::build_with_repeats(Flag::NONE, [("crane", 1), ("crane", 3)]).unwrap();
+    assert_eq!((built.accepted, built.image.len()), (2, 2_072 + 2 * 30 + 16));
+    // A name whose first put is refused for its id is put by the next.
+    let built = MemoryWriter::build(Flag::NONE, [("crane", u32::MAX), ("crane", 3)]).unwrap();
+    assert_eq!((built.accepted, built.refused), (1, vec![(0, Refusal::NoRoom)]));
+}
+
+/// A question reads the pages that it needs: the file has 8 GB behind its image, and the process may have 100 MB of its own.
+#[test]
+fn a_question_does_not_read_the_whole_file() {
+    let folder = Folder::new();
+    folder.image("image", "0 north wall\n1 crane\n");
+    OpenOptions::new().write(true).open(folder.0.join("image")).unwrap().set_len(8 << 30).unwrap();
+    let begun = Instant::now();
+    for (question, answer) in [("id image crane", "1 crane\n"), ("name image 1", "1 crane\n"), ("list image", "0 north wall\n1 crane\n")] {
+        folder.shell(&format!("ulimit -d 100000; \"$CQDB\" {question}")).gives(0).prints(answer);
+    }
+    assert!(begun.elapsed().as_secs() < 5, "{:?}", begun.elapsed());
+    // Where it has to be read, it does not fit.
+    let ran = folder.shell("ulimit -d 100000; cat image | \"$CQDB\" id - crane").gives(2);
+    assert!(ran.err.starts_with("cqdb: id: not enough memory for standard input: "), "{}", ran.err);
+}
+
+/// A file that another program makes shorter while it is read is told, and no signal ends the tool.
+#[test]
+fn a_file_that_becomes_shorter() {
+    let folder = Folder::new();
+    folder.image("image", (0..100_000).map(|id| format!("{id} prism {id}\n")).collect::<String>());
+    let mut child = Command::new(TOOL)
+        .args(["name", "image"])
+        .current_dir(&folder.0)
+        .stdin(Stdio::piped())
+        .stdout(Stdio::null())
+        .stderr(Stdio::piped())
+        .spawn()
+        .unwrap();
+    let mut input = child.stdin.take().unwrap();
+    // The first round of 512 is answered, so the file is open and mapped.
+    input.write_all(&b"7\n".repeat(600)).unwrap();
+    std::thread::sleep(std::time::Duration::from_millis(300));
+    OpenOptions::new().write(true).open(folder.0.join("image")).unwrap().set_len(4_096).unwrap();
+    let _ = input.write_all(&b"99999\n".repeat(600));
+    drop(input);
+    let output = child.wait_with_output().unwrap();
+    assert_eq!(output.status.code(), Some(2));
+    assert_eq!(String::from_utf8_lossy(&output.stderr), "cqdb: a file became shorter while it was read\n");
+}
+
+/// Names that are all equal take time that grows with the square of their number: that is said.
+#[test]
+fn many_equal_names() {
+    let folder = Folder::new();
+    let list: String = (0..10_000).map(|id| format!("{id} crane\n")).collect();
+    let told = |command: &str| {
+        format!(
+            "cqdb: {command}: 10000 entries have the same hash, as equal names have: \
+             the searches for them take 50000000 steps\n"
+        )
+    };
+    folder.with(&list, &["make", "--repeats", "image"]).gives(0).tells(&told("make"));
+    folder.cqdb(&["check", "image"]).gives(0).tells(&told("check"));
+    let list: String = (0..100_000).map(|id| format!("{id} crane {id}\n")).collect();
+    folder.with(&list, &["make", "--repeats", "image"]).gives(0).tells("");
+    folder.cqdb(&["check", "image"]).gives(0).tells("");
+}
