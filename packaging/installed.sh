@@ -4,3 +4,4 @@ archive=lib/libcqdb_c.a
 package=lib/pkgconfig/cqdb.pc
 program=bin/cqdb
 manual=share/man/man1/cqdb.1
+completions=share/bash-completion/completions/cqdb

@@ -1,5 +1,5 @@
-//! Links the archive. `CQDB_ARCHIVE` names its folder, from the caller's working folder where it is relative; the default is
-//! target/staticlib of the repository, where `./make-archive` writes it.
+//! Links the archive. `CQDB_ARCHIVE` names its folder, from the caller's working folder where it is relative; the
+//! default is target/staticlib of the repository, where `./make-archive` writes it.
 use std::path::{Path, PathBuf};
 use std::{env, fs, process};
 
@@ -47,8 +47,8 @@ fn here(path: &str) -> PathBuf {
     Path::new(&variable("CARGO_MANIFEST_DIR")).join(path)
 }
 
-/// A path from the folder in which the caller started cargo. Cargo starts this program in the crate's own folder, so the
-/// working folder is asked of the parent, which is cargo, or else of the shell's variable.
+/// A path from the folder in which the caller started cargo. Cargo starts this program in the crate's own folder, so
+/// the working folder is asked of the parent, which is cargo, or else of the shell's variable.
 fn of_the_caller(path: &Path) -> PathBuf {
     if path.is_absolute() {
         return path.to_path_buf();

@@ -15,8 +15,8 @@ pub fn of_archive(archive: &[u8]) -> Result<String, String> {
     }
 }
 
-/// The objects of an archive: behind eight letters each file has a head of 60 bytes, its length in decimal digits at 48, and
-/// begins at an even offset. The names that begin with a slash are the archive's own tables.
+/// The objects of an archive: behind eight letters each file has a head of 60 bytes, its length in decimal digits at
+/// 48, and begins at an even offset. The names that begin with a slash are the archive's own tables.
 fn objects(archive: &[u8]) -> Option<Vec<&[u8]>> {
     let mut rest = archive.strip_prefix(b"!<arch>\n")?;
     let mut objects = Vec::new();
@@ -32,8 +32,8 @@ fn objects(archive: &[u8]) -> Option<Vec<&[u8]>> {
     Some(objects)
 }
 
-/// The section `.comment` of an object of x86-64: the head says at 40 where the heads of the sections are, at 58 how long each is,
-/// at 60 how many there are, and at 62 which of them holds their names.
+/// The section `.comment` of an object of x86-64: the head says at 40 where the heads of the sections are, at 58 how
+/// long each is, at 60 how many there are, and at 62 which of them holds their names.
 fn comment(object: &[u8]) -> Option<&[u8]> {
     let number = |at: usize, bytes: usize| -> Option<usize> {
         object.get(at..at + bytes).map(|part| part.iter().rev().fold(0, |sum, byte| sum << 8 | usize::from(*byte)))

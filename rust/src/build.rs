@@ -73,8 +73,8 @@ fn build<K: AsRef<[u8]>>(
     refusal::or(answer.refusal, Built { image, accepted: answer.accepted, refused })
 }
 
-/// The bytes of the back array, or more. Puts that are refused for their names or for an id that fits into no image need none:
-/// they are left out where that could matter, since the array would be larger than the rest of the image.
+/// The bytes of the back array, or more. A put that is refused for its name, or for an id that fits into no image, needs
+/// none: such puts are left out where the array would be larger than the rest of the image.
 fn back_array(list: Joined<'_>, repeats: u32) -> u64 {
     let bytes = |id: &u32| 4 * (u64::from(*id) + 1);
     let most = list.ids.iter().map(bytes).max().unwrap_or(0);

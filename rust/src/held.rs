@@ -5,8 +5,8 @@ use crate::archive;
 use crate::refusal::Refusal;
 use crate::write::HEAD;
 
-/// Which names are among the entries of a buffer. With repeats off the archive walks all entries at each put; a writer of
-/// this crate looks here instead, so that a list takes time linear in its names.
+/// Which names are among the entries of a buffer. With repeats off the archive walks all entries at each put; a writer
+/// of this crate looks here instead, so that a list takes time linear in its names.
 #[derive(Clone, Default)]
 pub(crate) struct Held {
     /// The offset of the first entry with each hash.

@@ -73,11 +73,11 @@ impl MemoryWriter {
         MemoryWriter { buffer, record: begun.record, counts, held }
     }
 
-    /// Puts a name, any bytes but 0, under an id. A name gives the id of its first put, and an id gives the name of its last.
-    /// Refused, and nothing changes, with [`Refusal::ZeroByte`] when the name has a zero byte; else with
-    /// [`Refusal::Repeated`] when the writer holds the name, unless it was made by [`with_repeats`](Self::with_repeats); else
-    /// with [`Refusal::NoRoom`] when the image would exceed 4,294,967,295 bytes, or the memory that can be had; a two-way image has four
-    /// bytes for each id up to the largest.
+    /// Puts a name, any bytes but 0, under an id. A name gives the id of its first put, and an id gives the name of its
+    /// last. Refused, and nothing changes, with [`Refusal::ZeroByte`] when the name has a zero byte; else with
+    /// [`Refusal::Repeated`] when the writer holds the name, unless it was made by
+    /// [`with_repeats`](Self::with_repeats); else with [`Refusal::NoRoom`] when the image would exceed 4,294,967,295
+    /// bytes, or the memory that can be had; a two-way image has four bytes for each id up to the largest.
     pub fn put<K: AsRef<[u8]>>(&mut self, name: K, id: u32) -> Result<(), Refusal> {
         let name = name.as_ref();
         if let Some(held) = &mut self.held {
@@ -97,8 +97,8 @@ impl MemoryWriter {
         Ok(())
     }
 
-    /// The place, counted from 0, of the name's put among the accepted ones. None where the writer does not hold the name, or
-    /// takes repeats. The time grows with the place.
+    /// The place, counted from 0, of the name's put among the accepted ones. None where the writer does not hold the
+    /// name, or takes repeats. The time grows with the place.
     ///
     /// ```
     /// # fn main() -> Result<(), cqdb::Refusal> {
@@ -126,8 +126,8 @@ impl MemoryWriter {
         refusal::or(answer.refusal, ())
     }
 
-    /// Takes a larger buffer with the same entries, if one can hold the image after this put. The writer is then as if it
-    /// had begun with that buffer. The archive decides whether the put is accepted there.
+    /// Takes a larger buffer with the same entries, if one can hold the image after this put. The writer is then as if
+    /// it had begun with that buffer. The archive decides whether the put is accepted there.
     fn grow(&mut self, name_len: usize, id: u32) -> bool {
         let needed = self.size_with(name_len, id);
         if needed > LIMIT {

@@ -1,7 +1,8 @@
 //! Memory that may be wanting.
 use std::alloc::{alloc_zeroed, Layout};
 
-/// So many zero bytes; none where memory cannot be had for them. Linux gives a page of them when it is first written to.
+/// So many zero bytes; none where memory cannot be had for them. Linux gives a page of them when it is first written
+/// to.
 pub(crate) fn zeros(length: usize) -> Option<Vec<u8>> {
     if length == 0 {
         return Some(Vec::new());

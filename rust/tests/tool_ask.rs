@@ -38,7 +38,8 @@ fn names_of_ids() {
     folder.cqdb(&["name", "one-way", "0"]).gives(1).prints("0 \n");
     // A word that is no id does not stand in the way of the others.
     for word in ["x", "", "4294967296", "1 "] {
-        let told = format!("cqdb: name: {word:?} is no decimal id up to 4294967295\ncqdb: name: 1 word was not answered\n");
+        let told =
+            format!("cqdb: name: {word:?} is no decimal id up to 4294967295\ncqdb: name: 1 word was not answered\n");
         let ran = folder.cqdb(&["name", "walls", "0", word, "1"]).gives(2);
         ran.prints(format!("0 north wall\n{word} \n1 crane\n")).tells(&told);
     }
@@ -240,7 +241,10 @@ fn helps_and_versions() {
     // The sum of the kit's logic, as the archive itself has it: that of the file KIT, in full.
     let sum = include_str!("../../KIT").split_whitespace().last().unwrap();
     let said = version.lines().find_map(|line| line.strip_prefix("proved with rattle logic=")).unwrap();
-    assert!(said.starts_with(sum) && said.len() == 64 && said.bytes().all(|byte| byte.is_ascii_hexdigit()), "{version}");
+    assert!(
+        said.starts_with(sum) && said.len() == 64 && said.bytes().all(|byte| byte.is_ascii_hexdigit()),
+        "{version}"
+    );
 }
 
 #[test]

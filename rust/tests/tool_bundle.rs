@@ -134,7 +134,9 @@ fn a_bundle_is_not_taken_for_an_image() {
         folder.cqdb(command).gives(2).prints("").tells(&format!("cqdb: {}: {told}", command[0]));
     }
     let told = "cannot write walls: a bundle of 2 images is there; remove it, name another place, or say --force\n";
-    for command in [&["make", "walls", "list"][..], &["load", "0", "walls"], &["bundle", "extract", "walls", "0", "walls"]] {
+    for command in
+        [&["make", "walls", "list"][..], &["load", "0", "walls"], &["bundle", "extract", "walls", "0", "walls"]]
+    {
         folder.cqdb(command).gives(2).prints("").tells(&format!("cqdb: {}: {told}", command[0]));
     }
     // Where the second image is cut, the file is a bundle still.
@@ -168,7 +170,11 @@ fn one_image_of_a_bundle_and_all() {
     folder.cqdb(&["check", "walls:3"]).gives(0);
     let ran = folder.cqdb(&["id", "walls:4", "A"]).gives(2);
     ran.tells("cqdb: id: walls:4: the bundle has no image at this position (refusal 11)\n");
-    folder.cqdb(&["id", "--all", "walls", "crane", "A"]).gives(0).prints("2 7 crane\n3 1 crane\n0 0 A\n3 2 A\n").tells("");
+    folder
+        .cqdb(&["id", "--all", "walls", "crane", "A"])
+        .gives(0)
+        .prints("2 7 crane\n3 1 crane\n0 0 A\n3 2 A\n")
+        .tells("");
     let ran = folder.cqdb(&["name", "--all", "walls", "1", "9"]).gives(1).prints("0 1 B\n3 1 crane\n 9 \n");
     ran.tells("cqdb: name: walls has no name for id 9\n");
     folder.cqdb(&["list", "--all", "walls"]).gives(0).prints("0 0 A\n0 1 B\n2 7 crane\n3 1 crane\n3 2 A\n");

@@ -12,7 +12,10 @@ fn folder() -> Folder {
 #[test]
 fn names_on_a_date() {
     let folder = folder();
-    folder.write("windows", "1 2024-03-01 2024-06-01\n4 2023-01-01 2200-01-01\n1 2024-09-01 2024-10-01\n7 2024-01-01 2025-01-01\n");
+    folder.write(
+        "windows",
+        "1 2024-03-01 2024-06-01\n4 2023-01-01 2200-01-01\n1 2024-09-01 2024-10-01\n7 2024-01-01 2025-01-01\n",
+    );
     let on = |date: &str, ids: &[&str]| folder.cqdb(&[&["on", date, "walls", "windows"], ids].concat());
     on("2024-05-31", &["1", "4"]).gives(0).prints("1 crane\n4 mole\n").tells("");
     on("2024-06-01", &["1", "4"]).gives(1).prints("1 \n4 mole\n").tells("cqdb: on: walls has no name for id 1\n");
@@ -28,7 +31,10 @@ fn names_on_a_date() {
     for (line, told) in [
         ("1 2023-02-29 2024-01-01", "line 2: a date does not exist, or is out of bounds (refusal 22)"),
         ("1 2024-06-01 2024-06-01", "line 2: a window does not start before its end (refusal 23)"),
-        ("1 2024-06-01", "line 2: not an id, a first date and an end date as 2024-03-31, a space between: \"1 2024-06-01\""),
+        (
+            "1 2024-06-01",
+            "line 2: not an id, a first date and an end date as 2024-03-31, a space between: \"1 2024-06-01\"",
+        ),
     ] {
         folder.write("windows", format!("4 2023-01-01 2200-01-01\n{line}\n"));
         on("2024-05-31", &["4"]).gives(2).prints("").tells(&format!("cqdb: on: windows, {told}\n"));
@@ -76,7 +82,11 @@ fn every_id_of_a_name() {
     folder.cqdb(&["ids", "renewed", "crane", "mole"]).gives(0).prints("2 crane\n5 crane\n9 crane\n7 mole\n").tells("");
     let ran = folder.with("pier\ncrane\n", &["ids", "-q", "--missing", "none", "renewed"]).gives(1);
     ran.prints("none\n2\n5\n9\n").tells("");
-    folder.cqdb(&["ids", "renewed", "pier"]).gives(1).prints(" pier\n").tells("cqdb: ids: renewed has no name \"pier\"\n");
+    folder
+        .cqdb(&["ids", "renewed", "pier"])
+        .gives(1)
+        .prints(" pier\n")
+        .tells("cqdb: ids: renewed has no name \"pier\"\n");
     // An id that has got another name is no longer one of the first.
     folder.with("5 crane\n9 crane\n5 mole\n", &["make", "--repeats", "--renamed", "other"]).gives(0);
     folder.cqdb(&["ids", "other", "crane", "mole"]).gives(0).prints("9 crane\n5 mole\n");

@@ -7,7 +7,9 @@ use tool::Folder;
 
 fn folder() -> Folder {
     let folder = Folder::new();
-    folder.with(b"0 north wall\x001 crane\x004 two\nlines\t\"x\\\x005 caf\xe9\x00".as_slice(), &["make", "-0", "walls"]).gives(0);
+    folder
+        .with(b"0 north wall\x001 crane\x004 two\nlines\t\"x\\\x005 caf\xe9\x00".as_slice(), &["make", "-0", "walls"])
+        .gives(0);
     folder
 }
 
@@ -52,7 +54,10 @@ fn json_and_tables() {
                 {\"id\":4,\"name\":\"two\\nlines\\t\\\"x\\\\\"}\n\
                 {\"id\":5,\"name\":\"caf\u{fffd}\",\"hex\":\"636166e9\"}\n";
     folder.cqdb(&["list", "--json", "walls"]).gives(0).prints(list);
-    folder.cqdb(&["name", "--json", "walls", "0", "2"]).gives(1).prints("{\"id\":0,\"name\":\"north wall\"}\n{\"id\":2,\"name\":null}\n");
+    folder
+        .cqdb(&["name", "--json", "walls", "0", "2"])
+        .gives(1)
+        .prints("{\"id\":0,\"name\":\"north wall\"}\n{\"id\":2,\"name\":null}\n");
     folder.cqdb(&["id", "--json", "walls", "x\u{1}"]).gives(1).prints("{\"id\":null,\"name\":\"x\\u0001\"}\n");
     let table = [&b"0\tnorth wall\n1\tcrane\n4\ttwo\\nlines\\t\"x\\\\\n5\tcaf\xe9\n"[..]].concat();
     folder.cqdb(&["list", "--tsv", "walls"]).gives(0).prints(table);
@@ -75,11 +80,16 @@ fn a_hyphen_is_standard_input_or_output() {
     assert_eq!(folder.cqdb(&["load", "7", "-"]).gives(0).out, cqdb::load(7));
     folder.cqdb(&["bundle", "append", "bundle", "walls"]).gives(0);
     folder.cqdb(&["bundle", "extract", "bundle", "0", "-"]).gives(0).prints(&image);
-    folder.with(&image, &["bundle", "append", "bundle", "-"]).gives(0).prints(format!("bundle: 2 images, {} bytes\n", 2 * image.len()));
+    folder
+        .with(&image, &["bundle", "append", "bundle", "-"])
+        .gives(0)
+        .prints(format!("bundle: 2 images, {} bytes\n", 2 * image.len()));
     folder.with([&image[..], &image].concat(), &["bundle", "list", "-"]).gives(0);
     let sheet = folder.with("wall 7\n", &["sheet", "make", "-"]).gives(0).out;
     folder.with(&sheet, &["sheet", "show", "-"]).gives(0).prints("wall 7\n");
-    folder.shell("\"$CQDB\" list walls --json | wc -l; cat walls | \"$CQDB\" list --tsv - | \"$CQDB\" hash | wc -l").prints("4\n4\n");
+    folder
+        .shell("\"$CQDB\" list walls --json | wc -l; cat walls | \"$CQDB\" list --tsv - | \"$CQDB\" hash | wc -l")
+        .prints("4\n4\n");
     assert!(!folder.0.join("-").exists());
     let told = "standard input is meant twice, and can be read once\n";
     folder.with(&image, &["name", "-"]).gives(2).tells(&format!("cqdb: name: {told}"));
@@ -102,7 +112,10 @@ fn folder_image(list: &str) -> Vec<u8> {
 #[test]
 fn lines_of_windows() {
     let folder = folder();
-    folder.with("\u{feff}crane\r\nnorth wall\r\n", &["id", "--windows", "walls"]).gives(0).prints("1 crane\n0 north wall\n");
+    folder
+        .with("\u{feff}crane\r\nnorth wall\r\n", &["id", "--windows", "walls"])
+        .gives(0)
+        .prints("1 crane\n0 north wall\n");
     folder.with("1\r\n0\r\n", &["name", "--windows", "walls"]).gives(0).prints("1 crane\n0 north wall\n");
     let ran = folder.with("wall 1\r\nreference 2\r\n", &["sheet", "make", "--windows", "round"]).gives(0);
     ran.prints("round: 2 ids, 14 bytes\n");
@@ -111,8 +124,16 @@ fn lines_of_windows() {
     let ran = folder.with("crane\r\n", &["id", "walls"]).gives(1).prints(" crane\r\n");
     ran.tells("cqdb: id: walls has no name \"crane\\r\": --windows drops the carriage return\n");
     let ran = folder.with("1\r\n", &["name", "walls"]).gives(2);
-    assert!(ran.err.starts_with("cqdb: name: \"1\\r\" is no decimal id up to 4294967295: --windows drops"), "{}", ran.err);
+    assert!(
+        ran.err.starts_with("cqdb: name: \"1\\r\" is no decimal id up to 4294967295: --windows drops"),
+        "{}",
+        ran.err
+    );
     let ran = folder.with("wall 1\r\n", &["sheet", "make", "other"]).gives(2);
-    assert!(ran.err.starts_with("cqdb: sheet: standard input, line 1: a carriage return before the line feed (CR LF)"), "{}", ran.err);
+    assert!(
+        ran.err.starts_with("cqdb: sheet: standard input, line 1: a carriage return before the line feed (CR LF)"),
+        "{}",
+        ran.err
+    );
     assert!(fs::metadata(folder.0.join("other")).is_err());
 }

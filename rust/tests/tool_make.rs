@@ -80,11 +80,11 @@ fn each_refusal_of_a_put_stops_it_with_its_number() {
     folder.cqdb(&["make", "image", "list"]).gives(2).prints("").tells(told);
     folder.write("list", "1 one\n2 two\n4294967295 far\n");
     let told = "cqdb: make: list, line 3: no room: the image would be too large (refusal 3): \
-                17179871340 bytes, 17179869184 of them for the ids up to 4294967295\n";
+                17179871340 bytes, for ids up to 4294967295\n";
     folder.cqdb(&["make", "image", "list"]).gives(2).prints("").tells(told);
     folder.write("list", "1 one\n2 two\n3 one\n");
     let told = "cqdb: make: list, line 3: the writer already holds this name, and repeats are off (refusal 16): \
-                \"one\" was put by line 1, and --repeats takes it again\n";
+                \"one\" is in line 1; --repeats takes it\n";
     folder.cqdb(&["make", "image", "list"]).gives(2).prints("").tells(told);
     assert!(folder.read("image") == old && folder.files() == ["image", "list"]);
 }
@@ -215,7 +215,9 @@ fn an_id_that_comes_again() {
     folder.cqdb(&["list", "image"]).prints("5 crane\n6 mole\n7 pier\n");
     // The number of the earlier line counts the lines that were passed over.
     let ran = folder.with("x\n1 one\nx\n2 two\n3 two\n4 four\n2 five\n", &["make", "--skip", "image"]).gives(1);
-    assert!(ran.err.contains("line 5: the writer already holds this name, and repeats are off (refusal 16): \"two\" was put by line 4"));
+    assert!(ran.err.contains(
+        "line 5: the writer already holds this name, and repeats are off (refusal 16): \"two\" is in line 4"
+    ));
     assert!(ran.err.contains("line 7: id 2 was put by line 4"), "{}", ran.err);
 }
 
@@ -229,12 +231,25 @@ fn records_of_cdb() {
     folder.cqdb(&["id", "image", "crane"]).prints("7 crane\n");
     // The empty line behind the last record may be missing.
     folder.with("+5,1:crane->7\n", &["make", "--cdb", "image"]).gives(0);
-    for bad in ["+5,1:crane->7", "+5,1:crane-:7\n", "5,1:crane->7\n", "+5:crane->7\n", "+x,1:crane->7\n", "+5,1:cra", "+99999999999,1:x->1\n"] {
+    for bad in [
+        "+5,1:crane->7",
+        "+5,1:crane-:7\n",
+        "5,1:crane->7\n",
+        "+5:crane->7\n",
+        "+x,1:crane->7\n",
+        "+5,1:cra",
+        "+99999999999,1:x->1\n",
+    ] {
         let ran = folder.with(format!("+1,1:a->1\n{bad}"), &["make", "--cdb", "image"]).gives(2);
         ran.tells("cqdb: make: standard input, record 2: not +klen,dlen:key->data\n");
     }
     let ran = folder.with("+1,1:a->1\n+1,1:b->x\n", &["make", "--cdb", "image"]).gives(2);
     ran.tells("cqdb: make: standard input, record 2: the data \"x\" is no decimal id up to 4294967295\n");
-    folder.with(records, &["make", "--cdb", "--tab", "image"]).gives(2).tells("cqdb: make: say --cdb or --tab, not both\n");
+    let ran = folder.with("+1,1:a->1\n+1,1:b->1\n", &["make", "--cdb", "image"]).gives(2);
+    ran.tells("cqdb: make: standard input, record 2: id 1 was put by record 1: --renamed takes the later name\n");
+    folder
+        .with(records, &["make", "--cdb", "--tab", "image"])
+        .gives(2)
+        .tells("cqdb: make: say --cdb or --tab, not both\n");
     folder.cqdb(&["list", "image"]).prints("7 crane\n");
 }

@@ -16,8 +16,8 @@ fn a_sparse_image_has_to_be_meant() {
     folder.image("image", "1 old\n");
     let old = folder.read("image");
     let list = "0 crane\n1000000000 mole\n2 pier\n";
-    let told = "cqdb: make: the image would have 4000002164 bytes, 4000000004 of them for the ids up to 1000000000, \
-                which line 2 puts; 3999999992 are for ids without a name: say --sparse where that is meant\n";
+    let told = "cqdb: make: standard input, line 2: id 1000000000 makes an image of 4000002164 bytes, \
+                3999999992 of them for ids without a name: --sparse takes it\n";
     let begun = Instant::now();
     folder.with(list, &["make", "image"]).gives(2).prints("").tells(told);
     assert!(begun.elapsed().as_secs() < 5);
@@ -42,7 +42,7 @@ fn without_memory() {
     let ran = limited("printf '0 crane\\n90000000 mole\\n' | \"$CQDB\" make --sparse image").gives(2);
     ran.tells(
         "cqdb: make: standard input, line 2: not enough memory for an image of 360002135 bytes, \
-         360000004 of them for the ids up to 90000000\n",
+         for ids up to 90000000\n",
     );
     // A line, a record and a file that do not fit.
     for (line, what) in [
@@ -66,7 +66,11 @@ fn without_memory() {
 /// A name that is refused needs no room for its id.
 #[test]
 fn a_list_with_a_refused_name_of_a_large_id() {
-    let refused = [("a\0b", 1_000_000_000, Refusal::ZeroByte), ("crane", 1_000_000_001, Refusal::Repeated), ("x", u32::MAX, Refusal::NoRoom)];
+    let refused = [
+        ("a\0b", 1_000_000_000, Refusal::ZeroByte),
+        ("crane", 1_000_000_001, Refusal::Repeated),
+        ("x", u32::MAX, Refusal::NoRoom),
+    ];
     for (name, id, refusal) in refused {
         let built = MemoryWriter::build(Flag::NONE, [("crane", 1), (name, id), ("mole", 2)]).unwrap();
         assert_eq!((built.accepted, built.refused), (2, vec![(1, refusal)]));
@@ -79,14 +83,17 @@ fn a_list_with_a_refused_name_of_a_large_id() {
     assert_eq!((built.accepted, built.refused), (1, vec![(0, Refusal::NoRoom)]));
 }
 
-/// A question reads the pages that it needs: the file has 8 GB behind its image, and the process may have 100 MB of its own.
+/// A question reads the pages that it needs: the file has 8 GB behind its image, and the process may have 100 MB of its
+/// own.
 #[test]
 fn a_question_does_not_read_the_whole_file() {
     let folder = Folder::new();
     folder.image("image", "0 north wall\n1 crane\n");
     OpenOptions::new().write(true).open(folder.0.join("image")).unwrap().set_len(8 << 30).unwrap();
     let begun = Instant::now();
-    for (question, answer) in [("id image crane", "1 crane\n"), ("name image 1", "1 crane\n"), ("list image", "0 north wall\n1 crane\n")] {
+    for (question, answer) in
+        [("id image crane", "1 crane\n"), ("name image 1", "1 crane\n"), ("list image", "0 north wall\n1 crane\n")]
+    {
         folder.shell(&format!("ulimit -d 100000; \"$CQDB\" {question}")).gives(0).prints(answer);
     }
     assert!(begun.elapsed().as_secs() < 5, "{:?}", begun.elapsed());

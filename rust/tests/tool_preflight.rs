@@ -3,7 +3,8 @@ mod tool;
 
 use tool::{Folder, Ran};
 
-const LIST: &str = "0 reference east pier\n1 reference west pier\n14 north wall 1\n15 north wall 2\n47 retired: quay 06\n";
+const LIST: &str =
+    "0 reference east pier\n1 reference west pier\n14 north wall 1\n15 north wall 2\n47 retired: quay 06\n";
 
 /// A catalogue, its sheet, round, pairs and windows, without a fault.
 fn folder() -> Folder {
@@ -26,7 +27,8 @@ fn sheet(folder: &Folder, list: &str) {
 
 /// Asks every question.
 fn asked(folder: &Folder) -> Ran {
-    let words = "preflight image --last old --sheet sheet --round round --pairs pairs --validity windows --date 2024-03-31";
+    let words =
+        "preflight image --last old --sheet sheet --round round --pairs pairs --validity windows --date 2024-03-31";
     folder.cqdb(&words.split(' ').collect::<Vec<_>>())
 }
 
@@ -38,7 +40,7 @@ const LINES: [&str; 8] = [
     "one name for one id",
     "every id of the sheet has a name",
     "the round keeps references before walls",
-    "no id of the sheet names another prism, and no name of it has moved",
+    "ids of the sheet name the same prisms as before, and their names have not moved",
 ];
 
 /// Asserts that the lines with these numbers, from 0, say no for these reasons, and all others yes.
@@ -93,7 +95,7 @@ fn a_zero_byte_in_a_name() {
         "no   it is one of ours: no list of puts makes these bytes\n",
         "no   readings agree: the name of id 14 has a zero byte\n",
         "no   every name is home: id 14 is not\n",
-        "no   no id of the sheet names another prism, and no name of it has moved: \
+        "no   ids of the sheet name the same prisms as before, and their names have not moved: \
          id 14 was \"north wall 1\" and is \"north\\0wall 1\"\n",
     ] {
         assert!(text.contains(line), "{text}");
@@ -189,13 +191,21 @@ fn what_cannot_be_done() {
         ("image --validity windows --date 2024-03-31", "--validity needs --sheet too"),
         ("image --sheet image", "image: invalid round sheet, too few bytes (refusal 19)"),
         ("image --sheet sheet --last round", "round: invalid file format (refusal 1)"),
-        ("image --sheet sheet --validity windows --date 2024-02-30", "the date asked about: a date does not exist, or is out of bounds (refusal 22)"),
+        (
+            "image --sheet sheet --validity windows --date 2024-02-30",
+            "the date asked about: a date does not exist, or is out of bounds (refusal 22)",
+        ),
         ("image --sheet", "--sheet needs its SHEET"),
     ] {
         let words: Vec<&str> = ["preflight"].into_iter().chain(words.split(' ')).collect();
         folder.cqdb(&words).gives(2).prints("").tells(&format!("cqdb: preflight: {told}\n"));
     }
-    for words in ["missing", "image --sheet missing", "image --sheet sheet --last missing", "image --pairs missing --round round"] {
+    for words in [
+        "missing",
+        "image --sheet missing",
+        "image --sheet sheet --last missing",
+        "image --pairs missing --round round",
+    ] {
         let words: Vec<&str> = ["preflight"].into_iter().chain(words.split(' ')).collect();
         let ran = folder.cqdb(&words).gives(2).prints("");
         assert!(ran.err.starts_with("cqdb: preflight: cannot read missing: "), "{}", ran.err);

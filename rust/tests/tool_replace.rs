@@ -45,7 +45,11 @@ fn an_empty_list_replaces_nothing_that_is_full() {
     folder.with("wall 1\n", &["sheet", "make", "round"]).gives(0);
     let old = ["image", "round"].map(|name| folder.read(name));
     let told = "is there, and an empty one would replace it; say --force\n";
-    folder.cqdb(&["make", "image"]).gives(2).prints("").tells(&format!("cqdb: make: cannot write image: an image {told}"));
+    folder
+        .cqdb(&["make", "image"])
+        .gives(2)
+        .prints("")
+        .tells(&format!("cqdb: make: cannot write image: an image {told}"));
     let ran = folder.cqdb(&["sheet", "make", "round"]).gives(2).prints("");
     ran.tells(&format!("cqdb: sheet: cannot write round: a round sheet {told}"));
     assert_eq!(["image", "round"].map(|name| folder.read(name)), old);
@@ -67,9 +71,13 @@ fn a_link_and_the_rights_of_the_old_image_are_kept() {
     assert_eq!((kept & 0o777, folder.files()), (0o640, vec!["image".to_string(), "link".to_string()]));
     // A link to nothing stays a link to nothing.
     symlink("nowhere", folder.0.join("dangling")).unwrap();
-    for words in [&["make", "dangling"][..], &["bundle", "append", "dangling", "image"], &["sheet", "make", "dangling"]] {
+    for words in [&["make", "dangling"][..], &["bundle", "append", "dangling", "image"], &["sheet", "make", "dangling"]]
+    {
         let ran = folder.with("", words).gives(2).prints("");
-        ran.tells(&format!("cqdb: {}: cannot write dangling: it is a symbolic link to nowhere, which is not there\n", words[0]));
+        ran.tells(&format!(
+            "cqdb: {}: cannot write dangling: it is a symbolic link to nowhere, which is not there\n",
+            words[0]
+        ));
     }
     assert_eq!(folder.files(), ["dangling", "image", "link"]);
     assert!(fs::symlink_metadata(folder.0.join("dangling")).unwrap().is_symlink());
@@ -119,8 +127,12 @@ fn a_folder_that_cannot_be_synced() {
     );
     let ran = folder.shell(&line).gives(0);
     let text = String::from_utf8(ran.out).unwrap();
-    assert_eq!(text, "place/image: 1 entry, 2109 bytes\nplace/walls: 1 image, 2109 bytes\n0\nplace/walls: 2 images, 4218 bytes\n0\n");
-    let told = ran.err.lines().filter(|line| line.starts_with("cqdb: place/walls is written; its folder could not be synced"));
+    assert_eq!(
+        text,
+        "place/image: 1 entry, 2109 bytes\nplace/walls: 1 image, 2109 bytes\n0\nplace/walls: 2 images, 4218 bytes\n0\n"
+    );
+    let told =
+        ran.err.lines().filter(|line| line.starts_with("cqdb: place/walls is written; its folder could not be synced"));
     assert_eq!(told.count(), 2, "{}", ran.err);
 }
 
@@ -157,7 +169,7 @@ fn a_name_of_250_letters() {
         folder.image(&name, "1 old\n");
         folder.image(&name, "1 new\n");
         folder.cqdb(&["list", &name]).prints("1 new\n");
-        assert_eq!(folder.files(), [name.clone()]);
+        assert_eq!(folder.files(), std::slice::from_ref(&name));
         fs::remove_file(folder.0.join(name)).unwrap();
     }
 }
@@ -170,7 +182,8 @@ fn waiting(folder: &Folder) -> Child {
     child
 }
 
-/// A signal that comes while the new file is written removes it. The file is made slow by a size that takes a while to sync.
+/// A signal that comes while the new file is written removes it. The file is made slow by a size that takes a while to
+/// sync.
 #[test]
 fn a_signal_removes_the_new_file() {
     let folder = Folder::new();

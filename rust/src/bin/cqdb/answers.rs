@@ -5,21 +5,13 @@ use std::os::unix::ffi::OsStrExt;
 use crate::args::{Args, Opt, ALL, TAB};
 use crate::outcome::{Failure, Output};
 
-pub const JSON: Opt = Opt { long: "--json", short: None, value: None, text: "an object of JSON for each answer, one to a line" };
-pub const TSV: Opt = Opt {
-    long: "--tsv",
-    short: None,
-    value: None,
-    text: "a tab between; tab, line feed, CR and backslash in a name are \\t \\n \\r \\\\",
-};
+pub const JSON: Opt = Opt::plain("--json", "an object of JSON for each answer, one to a line");
+pub const TSV: Opt =
+    Opt::plain("--tsv", "a tab between; tab, line feed, CR and backslash in a name are \\t \\n \\r \\\\");
 pub const QUIET: Opt =
-    Opt { long: "--quiet", short: Some(b'q'), value: None, text: "the bare value, and no messages on what is not found" };
-pub const MISSING: Opt = Opt {
-    long: "--missing",
-    short: None,
-    value: Some("TEXT"),
-    text: "stands for a value that is not found, in place of nothing",
-};
+    Opt { short: Some(b'q'), ..Opt::plain("--quiet", "the bare value, and no messages on what is not found") };
+pub const MISSING: Opt =
+    Opt::with_value("--missing", "TEXT", "stands for a value that is not found, in place of nothing");
 
 /// An id and its name, as an image gives them.
 #[derive(Clone, Copy)]
@@ -59,7 +51,8 @@ impl<'a> Form<'a> {
         args.not_both(&[&JSON, &TSV, &QUIET])?;
         args.not_both(&[&JSON, &MISSING])?;
         let layouts = [(&JSON, Layout::Json), (&TSV, Layout::Tsv), (&QUIET, Layout::Bare)];
-        let layout = layouts.into_iter().find(|(option, _)| args.has(option)).map_or(Layout::Line, |(_, layout)| layout);
+        let layout =
+            layouts.into_iter().find(|(option, _)| args.has(option)).map_or(Layout::Line, |(_, layout)| layout);
         let (between, end) = match layout {
             Layout::Tsv => (b'\t', b'\n'),
             Layout::Json => (b' ', b'\n'),
@@ -69,18 +62,14 @@ impl<'a> Form<'a> {
         Ok(Form { layout, value, positions: args.has(&ALL), missing, between, end })
     }
 
-    /// Prints the line of an answer. The position is that of the image in its bundle; `word` is the question where it is no id.
-    pub fn print(
-        &self,
-        out: &mut Output,
-        position: Option<u64>,
-        row: Row,
-        word: Option<&[u8]>,
-    ) -> Result<(), Failure> {
+    /// Prints the line of an answer. The position is that of the image in its bundle; `word` is the question where it
+    /// is no id.
+    pub fn print(&self, out: &mut Output, position: Option<u64>, row: Row, word: Option<&[u8]>) -> Result<(), Failure> {
         if self.layout == Layout::Json {
             return out.text(&self.json(position, row, word));
         }
-        let number = |number: Option<u64>| number.map_or(self.missing.to_vec(), |number| number.to_string().into_bytes());
+        let number =
+            |number: Option<u64>| number.map_or(self.missing.to_vec(), |number| number.to_string().into_bytes());
         let id = word.filter(|_| row.id.is_none()).map_or_else(|| number(row.id.map(u64::from)), |word| word.to_vec());
         let mut fields = Vec::new();
         if self.positions {
@@ -104,7 +93,8 @@ impl<'a> Form<'a> {
     /// A name that holds the byte that ends a line would be read as two.
     fn two_lines(&self, id: Option<u32>, field: &[u8]) -> Failure {
         let whose = id.map_or(crate::lines::shown(field), |id| format!("the name of id {id}"));
-        let what = if self.end == 0 { "a zero byte: leave --zero out" } else { "a line feed: say --zero, --tsv or --json" };
+        let what =
+            if self.end == 0 { "a zero byte: leave --zero out" } else { "a line feed: say --zero, --tsv or --json" };
         Failure::new(format!("{whose} has {what}"))
     }
 

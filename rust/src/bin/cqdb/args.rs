@@ -31,16 +31,20 @@ pub struct Opt {
 }
 
 impl Opt {
-    const fn plain(long: &'static str, text: &'static str) -> Opt {
+    /// An option without a value.
+    pub const fn plain(long: &'static str, text: &'static str) -> Opt {
         Opt { long, short: None, value: None, text }
+    }
+
+    /// An option with a value, and what the help calls that.
+    pub const fn with_value(long: &'static str, value: &'static str, text: &'static str) -> Opt {
+        Opt { long, short: None, value: Some(value), text }
     }
 }
 
 /// Lines that end with a zero byte.
-pub const ZERO: Opt = Opt {
-    short: Some(b'0'),
-    ..Opt::plain("--zero", "lines end with a zero byte, so a name may hold a line feed")
-};
+pub const ZERO: Opt =
+    Opt { short: Some(b'0'), ..Opt::plain("--zero", "lines end with a zero byte, so a name may hold a line feed") };
 /// A tab between id and name.
 pub const TAB: Opt = Opt::plain("--tab", "a tab stands between id and name, in place of a space");
 /// Lines of Windows.

@@ -6,8 +6,7 @@ use crate::args::Opt;
 use crate::lines;
 use crate::outcome::{self, Failure};
 
-pub const CDB: Opt =
-    Opt { long: "--cdb", short: None, value: None, text: "records of cdb, +klen,dlen:key->data, of name and id" };
+pub const CDB: Opt = Opt::plain("--cdb", "records of cdb, +klen,dlen:key->data, of name and id");
 
 /// The record of a name and its id.
 pub fn record(name: &[u8], id: u32) -> Vec<u8> {
@@ -15,7 +14,14 @@ pub fn record(name: &[u8], id: u32) -> Vec<u8> {
     [format!("+{},{}:", name.len(), data.len()).as_bytes(), name, b"->", data.as_bytes(), b"\n"].concat()
 }
 
-/// The records of an input, counted from 1.
+/// A record with its number, counted from 1.
+pub struct Record<'a> {
+    pub number: u64,
+    pub key: &'a [u8],
+    pub data: &'a [u8],
+}
+
+/// The records of an input.
 pub struct Records {
     input: Box<dyn BufRead>,
     /// What messages call the input.
@@ -32,16 +38,16 @@ impl Records {
         Ok(Records { input, name, number: 0, key: Vec::new(), data: Vec::new() })
     }
 
-    /// The next record with its number: key and data. None behind the last. Behind a record of another form nobody knows where the
+    /// The next record. None behind the last. Behind a record of another form nobody knows where the
     /// next begins, so that is a failure.
-    pub fn read(&mut self) -> Result<Option<(u64, &[u8], &[u8])>, Failure> {
+    pub fn read(&mut self) -> Result<Option<Record<'_>>, Failure> {
         self.number += 1;
         let Some((key, data)) = self.lengths()? else { return Ok(None) };
         self.key = self.bytes(key)?;
         self.fixed(b"->")?;
         self.data = self.bytes(data)?;
         self.fixed(b"\n")?;
-        Ok(Some((self.number, &self.key, &self.data)))
+        Ok(Some(Record { number: self.number, key: &self.key, data: &self.data }))
     }
 
     fn failed(&self, error: Option<io::Error>) -> Failure {

@@ -32,12 +32,9 @@ fn run(args: Args) -> Outcome {
     out.finish(all)
 }
 
-/// Prints a line for each question, and gives the image with the answer whether all were yes; none where it does not open.
-pub fn questions<'a>(
-    source: &'a Source,
-    out: &mut Output,
-    command: &str,
-) -> Result<Option<(CQDB<'a>, bool)>, Failure> {
+/// Prints a line for each question, and gives the image with the answer whether all were yes; none where it does not
+/// open.
+pub fn questions<'a>(source: &'a Source, out: &mut Output, command: &str) -> Result<Option<(CQDB<'a>, bool)>, Failure> {
     let db = match source.opened()? {
         Ok(db) => db,
         Err(error) => {

@@ -1,5 +1,5 @@
-//! An image beside itself and beside an older one: whether names and ids keep to each other. Every answer is one of the proved
-//! lookups, of an id's name or of a name's id.
+//! An image beside itself and beside an older one: whether names and ids keep to each other. Every answer is one of the
+//! proved lookups, of an id's name or of a name's id.
 use cqdb::CQDB;
 
 use crate::lines;
@@ -8,7 +8,7 @@ use crate::progress::Progress;
 /// The question whose answer `one_name_for_one_id` gives.
 pub const ONE_NAME: &str = "one name for one id";
 /// The question whose answer `kept_since` gives.
-pub const KEPT: &str = "no id of the sheet names another prism, and no name of it has moved";
+pub const KEPT: &str = "ids of the sheet name the same prisms as before, and their names have not moved";
 
 /// The first entry whose id has another name, or whose name finds another id.
 pub fn one_name_for_one_id(db: &CQDB) -> Result<(), String> {
@@ -32,8 +32,8 @@ fn or_none(id: Option<u32>) -> String {
     id.map_or("none".to_string(), |id| id.to_string())
 }
 
-/// The first id that names another prism than before, or whose name, now or before, has moved to another id. An id or a name
-/// that one of the two images lacks is not compared.
+/// The first id that names another prism than before, or whose name, now or before, has moved to another id. An id or a
+/// name that one of the two images lacks is not compared.
 pub fn kept_since(old: &CQDB, new: &CQDB, ids: impl Iterator<Item = u32>) -> Result<(), String> {
     for id in ids {
         let (before, now) = (old.to_str(id), new.to_str(id));

@@ -33,7 +33,11 @@ impl Deref for Bytes {
 
 /// What messages call a file.
 pub fn shown(path: &Path) -> String {
-    if path == Path::new("-") { "standard input".to_string() } else { path.display().to_string() }
+    if path == Path::new("-") {
+        "standard input".to_string()
+    } else {
+        path.display().to_string()
+    }
 }
 
 /// Standard input. It can be read by one part of a command.

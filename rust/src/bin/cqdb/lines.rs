@@ -50,12 +50,7 @@ impl Lines {
     }
 
     /// What `parse` makes of each line. A line of another form is a failure that says what it is not.
-    pub fn parsed<T>(
-        mut self,
-        args: &Args,
-        form: &str,
-        parse: impl Fn(&[u8]) -> Option<T>,
-    ) -> Result<Vec<T>, Failure> {
+    pub fn parsed<T>(mut self, args: &Args, form: &str, parse: impl Fn(&[u8]) -> Option<T>) -> Result<Vec<T>, Failure> {
         let (name, mut list) = (self.name.clone(), Vec::new());
         while let Some((number, line)) = self.read()? {
             let at = |what: String| Failure::new(format!("{name}, line {number}: {what}"));

@@ -7,8 +7,7 @@ use crate::cdb::{self, CDB};
 use crate::files::Source;
 use crate::outcome::{Answer, Failure, Outcome, Output};
 
-const PUTS: Opt =
-    Opt { long: "--puts", short: None, value: None, text: "every put in put order, of an image that is one of ours" };
+const PUTS: Opt = Opt::plain("--puts", "every put in put order, of an image that is one of ours");
 
 pub const COMMAND: Command = Command {
     name: "list",

@@ -1,5 +1,5 @@
-//! `cqdb`: makes, asks and checks constant quark database images from a shell. Each command is a file of its own, over the
-//! crate's calls; COMMANDS lists them. The exit status is 0, 1 (not found, or no) or 2 (it could not be done).
+//! `cqdb`: makes, asks and checks constant quark database images from a shell. Each command is a file of its own, over
+//! the crate's calls; COMMANDS lists them. The exit status is 0, 1 (not found, or no) or 2 (it could not be done).
 mod answers;
 mod args;
 mod bundle;

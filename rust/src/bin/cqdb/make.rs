@@ -1,6 +1,6 @@
 //! `cqdb make`: an image from a list.
 use crate::args::{Args, Command, Opt, TAB, WINDOWS, ZERO};
-use crate::cdb::{Records, CDB};
+use crate::cdb::{Record, Records, CDB};
 use crate::kind::Kind;
 use crate::lines::{self, Lines};
 use crate::making::{Making, ONE_WAY, RENAMED, REPEATS, SPARSE};
@@ -9,12 +9,7 @@ use crate::problem::{Problem, Skipped};
 use crate::progress::Progress;
 use crate::replace::{Target, FORCE};
 
-const SKIP: Opt = Opt {
-    long: "--skip",
-    short: None,
-    value: None,
-    text: "pass over lines that cannot be put, tell them and count them",
-};
+const SKIP: Opt = Opt::plain("--skip", "pass over lines that cannot be put, tell them and count them");
 
 pub const COMMAND: Command = Command {
     name: "make",
@@ -51,7 +46,7 @@ fn run(args: Args) -> Outcome {
     args.not_both(&[&CDB, &WINDOWS])?;
     let target = Target::new(&args, 0, Kind::Image)?;
     let mut list = List::open(&args)?;
-    let mut making = Making::new(&args);
+    let mut making = Making::new(&args, list.unit_of_one());
     let mut skipped = Skipped::default();
     let mut progress = Progress::new();
     while let Some((number, put)) = list.read(&args)? {
@@ -59,7 +54,7 @@ fn run(args: Args) -> Outcome {
         progress.at(number, list.unit());
         if let Err(problem) = put {
             progress.clear();
-            let what = format!("{}, {} {number}: {problem}", list.name(), list.unit_of_one());
+            let what = list.at(number, &problem);
             if !args.has(&SKIP) || problem.is_final() {
                 return Err(Failure::new(what));
             }
@@ -71,8 +66,11 @@ fn run(args: Args) -> Outcome {
     if args.has(&SKIP) && making.entries() == 0 {
         return Err(Failure::new(format!("no {} could be put, so no image is written", list.unit_of_one())));
     }
+    if let Some((number, problem)) = making.sparse() {
+        return Err(Failure::new(list.at(number, &problem)));
+    }
     let entries = outcome::count(making.entries(), "entry", "entries");
-    let image = making.finish(list.unit_of_one())?;
+    let image = making.finish()?;
     target.replace(&image, &format!("{}: {entries}, {} bytes\n", args.path(0).display(), image.len()))?;
     Ok(Answer::from(skipped.lines == 0))
 }
@@ -94,11 +92,13 @@ impl List {
         }
     }
 
-    fn name(&self) -> &str {
-        match self {
+    /// What is said of a problem with the put of this number.
+    fn at(&self, number: u64, problem: &Problem) -> String {
+        let name = match self {
             List::Lines(lines) => &lines.name,
             List::Records(records) => &records.name,
-        }
+        };
+        format!("{name}, {} {number}: {problem}", self.unit_of_one())
     }
 
     fn unit_of_one(&self) -> &'static str {
@@ -119,9 +119,7 @@ impl List {
     fn read(&mut self, args: &Args) -> Result<Option<(u64, Put<'_>)>, Failure> {
         Ok(match self {
             List::Lines(lines) => lines.read()?.map(|(number, line)| (number, of_line(args, number, line))),
-            List::Records(records) => records.read()?.map(|(number, name, data)| {
-                (number, lines::id_of(data).map(|id| (id, name)).ok_or_else(|| Problem::Data(lines::shown(data))))
-            }),
+            List::Records(records) => records.read()?.map(|record| (record.number, of_record(&record))),
         })
     }
 }
@@ -132,4 +130,9 @@ fn of_line<'a>(args: &Args, number: u64, line: &'a [u8]) -> Put<'a> {
     let at = line.iter().position(|byte| *byte == args.between()).ok_or_else(other)?;
     let id = lines::id_of(&line[..at]).ok_or_else(other)?;
     Ok((id, &line[at + 1..]))
+}
+
+fn of_record<'a>(record: &Record<'a>) -> Put<'a> {
+    let id = lines::id_of(record.data).ok_or_else(|| Problem::Data(lines::shown(record.data)))?;
+    Ok((id, record.key))
 }

@@ -7,20 +7,12 @@ use crate::args::{Args, Opt};
 use crate::files;
 use crate::lines;
 use crate::outcome::{self, Failure};
-use crate::problem::{self, Problem};
+use crate::problem::{Problem, Size};
 
-pub const ONE_WAY: Opt = Opt {
-    long: "--one-way",
-    short: None,
-    value: None,
-    text: "names to ids alone: the array that names ids is left out",
-};
-pub const RENAMED: Opt =
-    Opt { long: "--renamed", short: None, value: None, text: "take an id that was put before: its later name is meant" };
-pub const REPEATS: Opt =
-    Opt { long: "--repeats", short: None, value: None, text: "take a name that was put before, as of a renewed prism" };
-pub const SPARSE: Opt =
-    Opt { long: "--sparse", short: None, value: None, text: "an image with more than 64 MB for ids without a name is meant" };
+pub const ONE_WAY: Opt = Opt::plain("--one-way", "names to ids alone: the array that names ids is left out");
+pub const RENAMED: Opt = Opt::plain("--renamed", "take an id that was put before: its later name is meant");
+pub const REPEATS: Opt = Opt::plain("--repeats", "take a name that was put before, as of a renewed prism");
+pub const SPARSE: Opt = Opt::plain("--sparse", "an image with more than 64 MB for ids without a name is meant");
 
 /// The bytes of the back array that may be for ids without a name.
 const EMPTY: u64 = 64 << 20;
@@ -35,6 +27,7 @@ const MANY: u32 = 10_000;
 pub struct Making {
     writer: MemoryWriter,
     options: Options,
+    unit: &'static str,
     /// The line of each put that was accepted.
     lines: Vec<u64>,
     /// The place of the first put of each id among them.
@@ -55,7 +48,8 @@ struct Options {
 }
 
 impl Making {
-    pub fn new(args: &Args) -> Making {
+    /// `unit` is what the list consists of, lines or records.
+    pub fn new(args: &Args, unit: &'static str) -> Making {
         let options = Options {
             one_way: args.has(&ONE_WAY),
             renamed: args.has(&RENAMED),
@@ -67,6 +61,7 @@ impl Making {
         Making {
             writer,
             options,
+            unit,
             lines: Vec::new(),
             places: HashMap::new(),
             hashes: HashMap::new(),
@@ -84,7 +79,7 @@ impl Making {
     pub fn put(&mut self, number: u64, id: u32, name: &[u8]) -> Result<(), Problem> {
         match self.places.get(&id) {
             Some(place) if !self.options.renamed => {
-                return Err(Problem::IdAgain { id, line: self.lines[*place as usize] });
+                return Err(Problem::IdAgain { id, before: self.line(*place) });
             }
             _ => {}
         }
@@ -95,10 +90,11 @@ impl Making {
             && self.places.try_reserve(1).is_ok()
             && self.hashes.try_reserve(1).is_ok();
         let put = if room { self.writer.put(name, id) } else { Err(Refusal::NoRoom) };
+        let whole = Size { bytes: size + back, largest: (back > 0).then_some(largest.0) };
         put.map_err(|refusal| match refusal {
-            Refusal::NoRoom if size + back > LIMIT => Problem::NoRoom { size: size + back, back, largest: largest.0 },
+            Refusal::NoRoom if whole.bytes > LIMIT => Problem::NoRoom(whole),
             // The archive would take it.
-            Refusal::NoRoom => Problem::NoMemory { size: size + back, back, largest: largest.0 },
+            Refusal::NoRoom => Problem::NoMemory(whole),
             Refusal::Repeated => self.name_again(name),
             refusal => Problem::Refused(refusal),
         })?;
@@ -113,29 +109,34 @@ impl Making {
 
     fn name_again(&self, name: &[u8]) -> Problem {
         match self.writer.place_of(name) {
-            Some(place) => Problem::NameAgain { name: lines::shown(name), line: self.lines[place as usize] },
+            Some(place) => Problem::NameAgain { name: lines::shown(name), before: self.line(place) },
             None => Problem::Refused(Refusal::Repeated),
         }
     }
 
-    /// The bytes of the array that names the ids up to one.
-    fn back(&self, largest: u32) -> u64 {
-        if self.options.one_way { 0 } else { 4 * (u64::from(largest) + 1) }
+    /// The line of an accepted put, in words.
+    fn line(&self, place: u32) -> String {
+        format!("{} {}", self.unit, self.lines[place as usize])
     }
 
-    /// The finished image. `unit` is what the numbers of puts count.
-    pub fn finish(self, unit: &str) -> Result<Vec<u8>, Failure> {
-        if let Some((largest, line)) = self.largest {
-            let back = self.back(largest);
-            let empty = back.saturating_sub(4 * self.places.len() as u64);
-            if empty > EMPTY && !self.options.sparse {
-                let size = problem::size_in_words(self.size + back, back, largest);
-                return Err(Failure::new(format!(
-                    "the image would have {size}, which {unit} {line} puts; {empty} are for ids without a name: \
-                     say --sparse where that is meant"
-                )));
-            }
+    /// The bytes of the array that names the ids up to one.
+    fn back(&self, largest: u32) -> u64 {
+        if self.options.one_way {
+            0
+        } else {
+            4 * (u64::from(largest) + 1)
         }
+    }
+
+    /// The line whose id leaves too many ids without a name, where that was not asked for.
+    pub fn sparse(&self) -> Option<(u64, Problem)> {
+        let (id, line) = self.largest.filter(|_| !self.options.sparse)?;
+        let empty = self.back(id).saturating_sub(4 * self.places.len() as u64);
+        (empty > EMPTY).then(|| (line, Problem::Sparse { id, size: self.size + self.back(id), empty }))
+    }
+
+    /// The finished image.
+    pub fn finish(self) -> Result<Vec<u8>, Failure> {
         if let Some(most) = self.hashes.values().max().filter(|most| **most >= MANY) {
             tell_quadratic("make", u64::from(*most));
         }

@@ -4,9 +4,9 @@ use std::path::Path;
 use cqdb::{references_first, Order, Pair};
 
 use crate::args::{Args, Command, WINDOWS};
+use crate::check;
 use crate::lines::{self, Lines};
 use crate::outcome::{Failure, Outcome, Output};
-use crate::check;
 
 pub const COMMAND: Command = Command {
     name: "order",

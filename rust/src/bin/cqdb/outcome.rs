@@ -69,7 +69,8 @@ pub fn out_of_memory(what: &str, bytes: u64) -> Failure {
     Failure::new(format!("not enough memory for {what}: {bytes} bytes"))
 }
 
-/// Says what is about to be done, so that it is not done where this cannot be said. A reader who is gone does not matter.
+/// Says what is about to be done, so that it is not done where this cannot be said. A reader who is gone does not
+/// matter.
 pub fn announce(text: &str) -> Result<(), Failure> {
     let mut out = Output::new();
     match out.bytes(text.as_bytes()).and_then(|()| out.flush()) {

@@ -1,7 +1,5 @@
 //! `cqdb preflight`: the questions to ask before a report leaves.
-use std::path::Path;
-
-use cqdb::{Sheet, CQDB};
+use cqdb::{Pair, Sheet, CQDB};
 
 use crate::args::{Args, Command, Opt, WINDOWS};
 use crate::dates::{self, Windows};
@@ -9,16 +7,12 @@ use crate::files::{self, Source};
 use crate::outcome::{Failure, Outcome, Output};
 use crate::{check, compare, lines, order, sheet};
 
-const fn file(long: &'static str, value: &'static str, text: &'static str) -> Opt {
-    Opt { long, short: None, value: Some(value), text }
-}
-
-const LAST: Opt = file("--last", "OLD", "the image of the last report, to compare the sheet's ids with");
-const SHEET: Opt = file("--sheet", "SHEET", "the round sheet of the report");
-const ROUND: Opt = file("--round", "IDS", "the round, an id to a line in the order of sighting");
-const PAIRS: Opt = file("--pairs", "PAIRS", "pairs of a reference and a wall prism, as for 'cqdb order'");
-const VALIDITY: Opt = file("--validity", "WINDOWS", "windows in which prisms stand, as for 'cqdb on'");
-const DATE: Opt = file("--date", "DATE", "the date of the report, as 2024-03-31");
+const LAST: Opt = Opt::with_value("--last", "OLD", "the image of the last report, to compare the sheet's ids with");
+const SHEET: Opt = Opt::with_value("--sheet", "SHEET", "the round sheet of the report");
+const ROUND: Opt = Opt::with_value("--round", "IDS", "the round, an id to a line in the order of sighting");
+const PAIRS: Opt = Opt::with_value("--pairs", "PAIRS", "pairs of a reference and a wall prism, as for 'cqdb order'");
+const VALIDITY: Opt = Opt::with_value("--validity", "WINDOWS", "windows in which prisms stand, as for 'cqdb on'");
+const DATE: Opt = Opt::with_value("--date", "DATE", "the date of the report, as 2024-03-31");
 
 pub const COMMAND: Command = Command {
     name: "preflight",
@@ -29,11 +23,14 @@ Asks the questions of 'cqdb check' and those below and prints a line for each: y
 or no, the question, and the first thing that breaks it.
 
   one name for one id      each entry's id has its name, and its name has its id
-  every id of the sheet has a name       with --sheet; with --validity and --date
+  every id of the sheet has a name
+                           with --sheet; with --validity and --date too,
                            references and walls have it on that date
-  the round keeps references before walls               with --round and --pairs
-  no id of the sheet names another prism, and no name of it has moved
-                           with --last and --sheet: since the older image
+  the round keeps references before walls
+                           with --round and --pairs
+  ids of the sheet name the same prisms as before, and their names have not moved
+                           with --last and --sheet: no id that both images name has
+                           another name, and no name that both have another id
 
 The exit status is 0 where every line says yes, 1 where one says no, and 2 where it
 cannot be done, so that a script can hold the report back.
@@ -44,25 +41,14 @@ cannot be done, so that a script can hold the report back.
 };
 
 fn run(args: Args) -> Outcome {
-    for (option, other) in [(&PAIRS, &ROUND), (&ROUND, &PAIRS), (&VALIDITY, &DATE), (&DATE, &VALIDITY), (&VALIDITY, &SHEET), (&LAST, &SHEET)] {
-        if args.has(option) && !args.has(other) {
-            return Err(Failure::new(format!("{} needs {} too", option.long, other.long)));
-        }
-    }
     // What cannot be read is said before the first line.
-    let windows = match (args.path_of(&VALIDITY), args.value(&DATE)) {
-        (Some(path), Some(date)) => Some(Windows::read(&args, path, dates::of_word(date)?)?),
-        _ => None,
-    };
-    let round = match (args.path_of(&PAIRS), args.path_of(&ROUND)) {
-        (Some(pairs), Some(round)) => Some((order::pairs(&args, pairs)?, lines::ids(&args, round)?)),
-        _ => None,
-    };
+    needs(&args)?;
+    let (windows, round) = (windows(&args)?, round(&args)?);
     let old = args.path_of(&LAST).map(Source::open).transpose()?;
     let old = old.as_ref().map(Source::image).transpose()?;
-    let sheet = args.path_of(&SHEET).map(files::read).transpose()?;
-    let path = args.path_of(&SHEET).unwrap_or(Path::new(""));
-    let sheet = sheet.as_ref().map(|bytes| sheet::sheet_of(path, bytes)).transpose()?;
+    let path = args.path_of(&SHEET);
+    let bytes = path.map(files::read).transpose()?;
+    let sheet = path.zip(bytes.as_ref()).map(|(path, bytes)| sheet::sheet_of(path, bytes)).transpose()?;
     let image = Source::open(args.path(0))?;
 
     let mut out = Output::new();
@@ -71,8 +57,8 @@ fn run(args: Args) -> Outcome {
     if let Some(sheet) = &sheet {
         all &= check::line(&mut out, &all_named(&db, sheet, windows.as_ref())?, "every id of the sheet has a name")?;
     }
-    if let Some((pairs, round)) = &round {
-        all &= check::line(&mut out, &order::kept(pairs, round), order::QUESTION)?;
+    if let Some(Round { pairs, ids }) = &round {
+        all &= check::line(&mut out, &order::kept(pairs, ids), order::QUESTION)?;
     }
     if let (Some(old), Some(sheet)) = (&old, &sheet) {
         all &= check::line(&mut out, &compare::kept_since(old, &db, ids_of(sheet)), compare::KEPT)?;
@@ -80,13 +66,42 @@ fn run(args: Args) -> Outcome {
     out.finish(all)
 }
 
+/// Fails where an option is given without another that it needs.
+fn needs(args: &Args) -> Result<(), Failure> {
+    let both = [(&PAIRS, &ROUND), (&VALIDITY, &DATE)];
+    let needs = both.into_iter().chain(both.map(|(one, other)| (other, one)));
+    for (option, other) in needs.chain([(&VALIDITY, &SHEET), (&LAST, &SHEET)]) {
+        if args.has(option) && !args.has(other) {
+            return Err(Failure::new(format!("{} needs {} too", option.long, other.long)));
+        }
+    }
+    Ok(())
+}
+
+fn windows(args: &Args) -> Result<Option<Windows>, Failure> {
+    let both = args.path_of(&VALIDITY).zip(args.value(&DATE));
+    both.map(|(path, date)| Windows::read(args, path, dates::of_word(date)?)).transpose()
+}
+
+/// The ids of a round, and the pairs that it has to keep.
+struct Round {
+    pairs: Vec<Pair>,
+    ids: Vec<u32>,
+}
+
+fn round(args: &Args) -> Result<Option<Round>, Failure> {
+    let both = args.path_of(&PAIRS).zip(args.path_of(&ROUND));
+    let read = |(pairs, ids)| Ok(Round { pairs: order::pairs(args, pairs)?, ids: lines::ids(args, ids)? });
+    both.map(read).transpose()
+}
+
 /// The ids of a sheet: references, wall prisms and retired prisms.
 fn ids_of<'a>(sheet: &Sheet<'a>) -> impl Iterator<Item = u32> + 'a {
     sheet.references().chain(sheet.walls()).chain(sheet.retired())
 }
 
-/// The first id of the sheet that has no name: on the date of the windows, where there are some. A retired prism stands no
-/// longer, so it needs a name and no window.
+/// The first id of the sheet that has no name: on the date of the windows, where there are some. A retired prism stands
+/// no longer, so it needs a name and no window.
 fn all_named(db: &CQDB, sheet: &Sheet, windows: Option<&Windows>) -> Result<Result<(), String>, Failure> {
     if let Some(id) = ids_of(sheet).find(|id| db.to_str(*id).is_none()) {
         return Ok(Err(format!("id {id} has none")));

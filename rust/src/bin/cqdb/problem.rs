@@ -10,24 +10,38 @@ use crate::outcome;
 
 /// Why a line cannot be put.
 pub enum Problem {
-    Form { between: &'static str, line: String },
+    Form {
+        between: &'static str,
+        line: String,
+    },
     /// The data of a record is no id.
     Data(String),
     OfWindows(OfWindows),
-    /// The id was put before, by the line of this number.
-    IdAgain { id: u32, line: u64 },
-    /// The name was put before, by the line of this number.
-    NameAgain { name: String, line: u64 },
-    /// The image would have so many bytes, and so many of them for the ids up to the largest.
-    NoRoom { size: u64, back: u64, largest: u32 },
-    NoMemory { size: u64, back: u64, largest: u32 },
+    /// The id was put before, by the line that is named.
+    IdAgain {
+        id: u32,
+        before: String,
+    },
+    /// The name was put before, by the line that is named.
+    NameAgain {
+        name: String,
+        before: String,
+    },
+    NoRoom(Size),
+    NoMemory(Size),
+    /// So many bytes of the image would be for ids without a name, since this one is so large.
+    Sparse {
+        id: u32,
+        size: u64,
+        empty: u64,
+    },
     Refused(Refusal),
 }
 
 impl Problem {
     /// Does it stand in the way of every line?
     pub fn is_final(&self) -> bool {
-        matches!(self, Problem::NoMemory { .. })
+        matches!(self, Problem::NoMemory(_))
     }
 
     /// One word or two for the summary.
@@ -38,18 +52,23 @@ impl Problem {
             Problem::OfWindows(_) => "with a byte order mark".to_string(),
             Problem::IdAgain { .. } => "with an id again".to_string(),
             Problem::NameAgain { .. } => format!("refused with {}", Refusal::Repeated.number()),
-            Problem::NoRoom { .. } => format!("refused with {}", Refusal::NoRoom.number()),
-            Problem::NoMemory { .. } => "without memory".to_string(),
+            Problem::NoRoom(_) => format!("refused with {}", Refusal::NoRoom.number()),
+            Problem::NoMemory(_) | Problem::Sparse { .. } => "too large".to_string(),
             Problem::Refused(refusal) => format!("refused with {}", refusal.number()),
         }
     }
 }
 
-/// How large an image would be, and why.
-pub fn size_in_words(size: u64, back: u64, largest: u32) -> String {
-    match back {
-        0 => format!("{size} bytes"),
-        back => format!("{size} bytes, {back} of them for the ids up to {largest}"),
+/// How large an image would be, and why. The largest id is none where the image is one-way.
+pub struct Size {
+    pub bytes: u64,
+    pub largest: Option<u32>,
+}
+
+impl fmt::Display for Size {
+    fn fmt(&self, f: &mut fmt::Formatter<'_>) -> fmt::Result {
+        write!(f, "{} bytes", self.bytes)?;
+        self.largest.map_or(Ok(()), |largest| write!(f, ", for ids up to {largest}"))
     }
 }
 
@@ -61,19 +80,20 @@ impl fmt::Display for Problem {
             }
             Problem::Data(data) => write!(f, "the data {data} is no decimal id up to 4294967295"),
             Problem::OfWindows(what) => what.fmt(f),
-            Problem::IdAgain { id, line } => {
-                write!(f, "id {id} was put by line {line}: --renamed takes the later name")
+            Problem::IdAgain { id, before } => {
+                write!(f, "id {id} was put by {before}: --renamed takes the later name")
             }
-            Problem::NameAgain { name, line } => {
+            Problem::NameAgain { name, before } => {
                 let refusal = files::refusal_in_words(Refusal::Repeated);
-                write!(f, "{refusal}: {name} was put by line {line}, and --repeats takes it again")
+                write!(f, "{refusal}: {name} is in {before}; --repeats takes it")
             }
-            Problem::NoRoom { size, back, largest } => {
-                let refusal = files::refusal_in_words(Refusal::NoRoom);
-                write!(f, "{refusal}: {}", size_in_words(*size, *back, *largest))
-            }
-            Problem::NoMemory { size, back, largest } => {
-                write!(f, "not enough memory for an image of {}", size_in_words(*size, *back, *largest))
+            Problem::NoRoom(size) => write!(f, "{}: {size}", files::refusal_in_words(Refusal::NoRoom)),
+            Problem::NoMemory(size) => write!(f, "not enough memory for an image of {size}"),
+            Problem::Sparse { id, size, empty } => {
+                write!(
+                    f,
+                    "id {id} makes an image of {size} bytes, {empty} of them for ids without a name: --sparse takes it"
+                )
             }
             Problem::Refused(refusal) => f.write_str(&files::refusal_in_words(*refusal)),
         }

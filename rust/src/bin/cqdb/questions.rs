@@ -1,4 +1,5 @@
-//! What is asked: the operands, or else the lines of standard input, in rounds; and the answers, a line for each question.
+//! What is asked: the operands, or else the lines of standard input, in rounds; and the answers, a line for each
+//! question.
 use std::io::{self, IsTerminal};
 
 use cqdb::CQDB;
@@ -27,8 +28,8 @@ pub trait Question {
     fn ask<'a>(&self, db: &CQDB<'a>, words: &[&'a [u8]]) -> Result<Vec<Said<'a>>, Failure>;
 }
 
-/// Puts words to the image of an operand, or to every image of a bundle, and prints a line for each question. What is lacking
-/// is told. The places are that of the image and the first of the words.
+/// Puts words to the image of an operand, or to every image of a bundle, and prints a line for each question. What is
+/// lacking is told. The places are that of the image and the first of the words.
 pub fn put_to_image(args: &Args, command: &str, places: (usize, usize), question: &impl Question) -> Outcome {
     let source = Source::open(args.path(places.0))?;
     let images = if args.has(&ALL) { source.images()? } else { vec![(0, source.image()?)] };
@@ -130,14 +131,18 @@ pub fn names_of_ids<'a>(
 
 /// What to do where a word ends with a carriage return.
 pub fn hint(word: &[u8]) -> &'static str {
-    if word.ends_with(b"\r") { ": --windows drops the carriage return" } else { "" }
+    if word.ends_with(b"\r") {
+        ": --windows drops the carriage return"
+    } else {
+        ""
+    }
 }
 
 /// The most questions that one call of the library takes.
 const ROUND: usize = 512;
 
-/// Calls with the questions in rounds of up to 512: the operands from a place on, or the lines of standard input where there
-/// is none. From a terminal each line is a round, so that its answer comes at once.
+/// Calls with the questions in rounds of up to 512: the operands from a place on, or the lines of standard input where
+/// there is none. From a terminal each line is a round, so that its answer comes at once.
 pub fn rounds(args: &Args, from: usize, mut ask: impl FnMut(&[&[u8]]) -> Result<(), Failure>) -> Result<(), Failure> {
     if args.operand(from).is_some() {
         let words: Vec<&[u8]> = args.bytes_from(from).collect();

@@ -1,4 +1,5 @@
-//! Files that are written: beside their place, and moved there. A reader sees the old file or the new one, never a part.
+//! Files that are written: beside their place, and moved there. A reader sees the old file or the new one, never a
+//! part.
 use std::collections::hash_map::RandomState;
 use std::fs::{self, File, Metadata, OpenOptions};
 use std::hash::{BuildHasher, Hasher};
@@ -15,8 +16,7 @@ use crate::kind::Kind;
 use crate::outcome::{self, Failure, Output};
 use crate::system::{self, RemovedAtSignal};
 
-pub const FORCE: Opt =
-    Opt { long: "--force", short: None, value: None, text: "replace a file of another kind too, or a full one by an empty one" };
+pub const FORCE: Opt = Opt::plain("--force", "replace a file of another kind too, or a full one by an empty one");
 
 fn cannot_write(path: &Path, why: impl std::fmt::Display) -> Failure {
     Failure::new(format!("cannot write {}: {why}", path.display()))
@@ -30,13 +30,16 @@ pub struct Target<'a> {
 }
 
 impl<'a> Target<'a> {
-    /// The place that an operand names, `-` for standard output. What stands there is looked at now, before any work is done,
-    /// and again before it is replaced.
+    /// The place that an operand names, `-` for standard output. What stands there is looked at now, before any work is
+    /// done, and again before it is replaced.
     pub fn new(args: &'a Args, at: usize, kind: Kind) -> Result<Target<'a>, Failure> {
         let target = Target { path: args.path(at), kind, force: args.has(&FORCE) };
         if target.is_standard_output() {
             if io::stdout().is_terminal() && !target.force {
-                return Err(Failure::new(format!("standard output is a terminal, no place for {}: say --force", kind.in_words())));
+                return Err(Failure::new(format!(
+                    "standard output is a terminal, no place for {}: say --force",
+                    kind.in_words()
+                )));
             }
         } else if let Some(old) = Old::open(target.path)? {
             target.may_replace(&old, false)?;
@@ -56,11 +59,17 @@ impl<'a> Target<'a> {
         }
         if !self.kind.may_replace(&bytes) {
             let what = self.kind.what_is_not_replaced(&bytes);
-            return Err(cannot_write(self.path, format_args!("{what} is there; remove it, name another place, or say --force")));
+            return Err(cannot_write(
+                self.path,
+                format_args!("{what} is there; remove it, name another place, or say --force"),
+            ));
         }
         if by_bare && !self.kind.is_bare(&bytes) {
             let what = self.kind.in_words();
-            return Err(cannot_write(self.path, format_args!("{what} is there, and an empty one would replace it; say --force")));
+            return Err(cannot_write(
+                self.path,
+                format_args!("{what} is there, and an empty one would replace it; say --force"),
+            ));
         }
         Ok(())
     }
@@ -98,7 +107,10 @@ impl Old {
     /// None where nothing is there.
     fn open(path: &Path) -> Result<Option<Old>, Failure> {
         if let Some(to) = files::dangling(path) {
-            return Err(cannot_write(path, format_args!("it is a symbolic link to {}, which is not there", to.display())));
+            return Err(cannot_write(
+                path,
+                format_args!("it is a symbolic link to {}, which is not there", to.display()),
+            ));
         }
         let failed = |error| cannot_write(path, error);
         let place = match fs::canonicalize(path) {
@@ -196,8 +208,8 @@ fn wait_for_lock(old: &Old) -> Result<(), Failure> {
     Ok(())
 }
 
-/// Writes a file beside its place, says the message and moves the file there; where that fails the old file stays. False where
-/// no old file was there, and now there is one.
+/// Writes a file beside its place, says the message and moves the file there; where that fails the old file stays.
+/// False where no old file was there, and now there is one.
 fn put_in_place(
     shown: &Path,
     place: &Path,
@@ -269,7 +281,8 @@ impl New {
         }
     }
 
-    /// Gives it the rights of the old file and the bytes, and waits until they are on the disk. Says what could not be kept.
+    /// Gives it the rights of the old file and the bytes, and waits until they are on the disk. Says what could not be
+    /// kept.
     fn fill(&mut self, bytes: &[u8], old: Option<&Metadata>) -> io::Result<Option<String>> {
         let lost = old.map_or(Ok(None), |old| keep_rights(&self.file, old))?;
         self.file.write_all(bytes)?;
@@ -286,9 +299,8 @@ impl New {
     }
 
     fn remove(self) -> Result<(), Failure> {
-        fs::remove_file(&self.path).map_err(|error| {
-            Failure::new(format!("cannot write, and {} is left behind: {error}", self.path.display()))
-        })
+        fs::remove_file(&self.path)
+            .map_err(|error| Failure::new(format!("cannot write, and {} is left behind: {error}", self.path.display())))
     }
 }
 
@@ -311,7 +323,8 @@ fn tell_leftovers(place: &Path) {
     let Ok(entries) = fs::read_dir(folder(place)) else { return };
     for entry in entries.flatten() {
         let name = entry.file_name();
-        let middle = name.as_bytes().strip_prefix(beginning(place)).and_then(|rest| rest.strip_suffix(ENDING.as_bytes()));
+        let middle =
+            name.as_bytes().strip_prefix(beginning(place)).and_then(|rest| rest.strip_suffix(ENDING.as_bytes()));
         let random = middle.is_some_and(|middle| {
             middle.len() == 17 && middle[0] == b'.' && middle[1..].iter().all(u8::is_ascii_hexdigit)
         });

@@ -1,5 +1,5 @@
-//! What the tool asks of Linux beyond Rust's own library. The crate has no dependencies, so the C library's functions are
-//! declared here by hand, each behind a safe function; no other file of the tool has a word `unsafe`.
+//! What the tool asks of Linux beyond Rust's own library. The crate has no dependencies, so the C library's functions
+//! are declared here by hand, each behind a safe function; no other file of the tool has a word `unsafe`.
 use std::ffi::{c_char, c_int, c_void, CString};
 use std::fs::File;
 use std::io;
@@ -65,9 +65,9 @@ impl Deref for Map {
     type Target = [u8];
 
     fn deref(&self) -> &[u8] {
-        // The mapping is there until it is dropped, and nothing in this process writes to it. A program that writes to the
-        // file in place could change it; the tool's own commands replace files by a rename, which leaves the mapped file as it is.
-        // A file that gets shorter gives the signal SIGBUS, which `tell_where_a_file_was_cut` answers.
+        // The mapping is there until it is dropped, and nothing in this process writes to it. A program that writes to
+        // the file in place could change it; the tool's own commands replace files by a rename, which leaves the mapped
+        // file as it is. A file that gets shorter gives the signal SIGBUS, which `tell_where_a_file_was_cut` answers.
         unsafe { slice::from_raw_parts(self.start.cast(), self.length) }
     }
 }
@@ -79,8 +79,8 @@ impl Drop for Map {
     }
 }
 
-/// Takes the lock of a file for this process alone, until the file is closed. False where another one has it and `wait` is not
-/// asked for.
+/// Takes the lock of a file for this process alone, until the file is closed. False where another one has it and `wait`
+/// is not asked for.
 pub fn lock(file: &File, wait: bool) -> io::Result<bool> {
     const LOCK_EX: c_int = 2;
     const LOCK_NB: c_int = 4;
@@ -129,8 +129,8 @@ fn on_signal(signal: c_int, handler: usize, flags: c_int) {
     }
 }
 
-/// A process that would exceed its limit of a file's size is ended by a signal. With the signal ignored the write fails instead,
-/// so that it can be told and the half file removed.
+/// A process that would exceed its limit of a file's size is ended by a signal. With the signal ignored the write fails
+/// instead, so that it can be told and the half file removed.
 pub fn keep_running_at_a_size_limit() {
     on_signal(SIGXFSZ, SIG_IGN, 0);
 }
@@ -151,15 +151,16 @@ pub fn tell_where_a_file_was_cut() {
 /// The file that goes where a signal ends the process.
 static NEW_FILE: AtomicPtr<c_char> = AtomicPtr::new(null_mut());
 
-/// As long as this is there, the signals INT, TERM and HUP remove a file before they end the process. There is one at a time.
+/// As long as this is there, the signals INT, TERM and HUP remove a file before they end the process. There is one at a
+/// time.
 pub struct RemovedAtSignal;
 
 impl RemovedAtSignal {
     pub fn new(path: &Path) -> io::Result<RemovedAtSignal> {
         extern "C" fn end(signal: c_int) {
             let path = NEW_FILE.load(Ordering::SeqCst);
-            // A path that is not null ends with a zero byte. The raised signal has its default action again; where that does not
-            // end the process, since it is process 1, the last call does.
+            // A path that is not null ends with a zero byte. The raised signal has its default action again; where that
+            // does not end the process, since it is process 1, the last call does.
             unsafe {
                 if !path.is_null() {
                     unlink(path);
