@@ -14,7 +14,9 @@
      the output of cqdb_page, the answers of cqdb_round and cqdb_name_round,
      the refusals and the work of cqdb_build) overlaps nothing else that the same call is lent: no name, no list, no buffer, no counts and no image.
      What a call only reads may overlap.
-   - Nobody else writes to what is lent while the call runs.
+   - Nobody else writes to what is lent while the call runs. That goes for the bytes of a mapped file (mmap) too: a program that
+     writes to the file in place changes them, and one that makes it shorter takes them away (SIGBUS). Replace an image by a
+     rename: who has mapped the old file then keeps its bytes.
 
    When an image can be read: from the cqdb_close that made it to the next accepted cqdb_put in the same buffer, or from a
    copy. That put writes where the close had placed the tables, so until the next close the buffer is no image, though
