@@ -137,3 +137,12 @@ fn lines_of_windows() {
     );
     assert!(fs::metadata(folder.0.join("other")).is_err());
 }
+
+/// A bundle that is made on standard output.
+#[test]
+fn a_bundle_on_standard_output() {
+    let folder = folder();
+    let image = folder.read("walls");
+    folder.cqdb(&["bundle", "append", "-", "walls", "walls"]).gives(0).prints([&image[..], &image].concat()).tells("");
+    assert_eq!(folder.files(), ["walls"]);
+}

@@ -53,6 +53,10 @@ fn an_empty_list_replaces_nothing_that_is_full() {
     let ran = folder.cqdb(&["sheet", "make", "round"]).gives(2).prints("");
     ran.tells(&format!("cqdb: sheet: cannot write round: a round sheet {told}"));
     assert_eq!(["image", "round"].map(|name| folder.read(name)), old);
+    // A damaged image is not an empty one.
+    folder.write("damaged", &old[0][..2_100]);
+    folder.cqdb(&["make", "damaged"]).gives(2);
+    folder.with("1 pier\n", &["make", "damaged"]).gives(0);
     folder.cqdb(&["make", "--force", "image"]).gives(0).prints("image: 0 entries, 2072 bytes\n");
     folder.cqdb(&["make", "image"]).gives(0);
     folder.cqdb(&["sheet", "make", "--force", "round"]).gives(0);

@@ -1,8 +1,8 @@
 //! The forms in which answers are printed.
-use std::fmt::Write;
 use std::os::unix::ffi::OsStrExt;
 
 use crate::args::{Args, Opt, ALL, TAB};
+use crate::lines;
 use crate::outcome::{Failure, Output};
 
 pub const JSON: Opt = Opt::plain("--json", "an object of JSON for each answer, one to a line");
@@ -62,96 +62,121 @@ impl<'a> Form<'a> {
         Ok(Form { layout, value, positions: args.has(&ALL), missing, between, end })
     }
 
-    /// Prints the line of an answer. The position is that of the image in its bundle; `word` is the question where it
-    /// is no id.
+    /// Prints the line of an answer. The position is that of the image in its bundle; `word` is the question where it is
+    /// no id. Names are not copied, since one may be as large as its image.
     pub fn print(&self, out: &mut Output, position: Option<u64>, row: Row, word: Option<&[u8]>) -> Result<(), Failure> {
         if self.layout == Layout::Json {
-            return out.text(&self.json(position, row, word));
+            return self.json(out, position, row, word);
         }
-        let number =
-            |number: Option<u64>| number.map_or(self.missing.to_vec(), |number| number.to_string().into_bytes());
-        let id = word.filter(|_| row.id.is_none()).map_or_else(|| number(row.id.map(u64::from)), |word| word.to_vec());
-        let mut fields = Vec::new();
-        if self.positions {
-            fields.push(number(position));
+        let (position, id) = (position.map(|number| number.to_string()), row.id.map(|id| id.to_string()));
+        let or_missing =
+            |number: &'_ Option<String>| number.as_deref().map(str::as_bytes).unwrap_or(self.missing).to_vec();
+        let (position, id) = (or_missing(&position), word.map_or_else(|| or_missing(&id), <[u8]>::to_vec));
+        let name = row.name.unwrap_or(self.missing);
+        let bare = self.layout == Layout::Bare;
+        let fields = [
+            (self.positions, &position[..]),
+            (!bare || self.value == Value::Id, &id[..]),
+            (!bare || self.value == Value::Name, name),
+        ];
+        let fields = fields.into_iter().filter(|(printed, _)| *printed).map(|(_, field)| field);
+        if self.layout != Layout::Tsv {
+            if let Some(field) = fields.clone().find(|field| field.contains(&self.end)) {
+                return Err(self.two_lines(row.id, field));
+            }
         }
-        if self.layout != Layout::Bare || self.value == Value::Id {
-            fields.push(id);
+        for (at, field) in fields.enumerate() {
+            if at > 0 {
+                out.bytes(&[self.between])?;
+            }
+            match self.layout {
+                Layout::Tsv => escaped(out, field)?,
+                _ => out.bytes(field)?,
+            }
         }
-        if self.layout != Layout::Bare || self.value == Value::Name {
-            fields.push(row.name.unwrap_or(self.missing).to_vec());
-        }
-        if self.layout == Layout::Tsv {
-            fields.iter_mut().for_each(|field| *field = escaped(field));
-        }
-        if let Some(field) = fields.iter().find(|field| field.contains(&self.end)) {
-            return Err(self.two_lines(row.id, field));
-        }
-        out.line(&[&fields.join(&self.between)], self.end)
+        out.bytes(&[self.end])
     }
 
     /// A name that holds the byte that ends a line would be read as two.
     fn two_lines(&self, id: Option<u32>, field: &[u8]) -> Failure {
-        let whose = id.map_or(crate::lines::shown(field), |id| format!("the name of id {id}"));
+        let whose = id.map_or(lines::shown(field), |id| format!("the name of id {id}"));
         let what =
             if self.end == 0 { "a zero byte: leave --zero out" } else { "a line feed: say --zero, --tsv or --json" };
         Failure::new(format!("{whose} has {what}"))
     }
 
-    fn json(&self, position: Option<u64>, row: Row, word: Option<&[u8]>) -> String {
-        let mut text = String::from("{");
+    fn json(&self, out: &mut Output, position: Option<u64>, row: Row, word: Option<&[u8]>) -> Result<(), Failure> {
         let number = |number: Option<u64>| number.map_or("null".to_string(), |number| number.to_string());
+        out.bytes(b"{")?;
         if self.positions {
-            let _ = write!(text, "\"position\":{},", number(position));
+            out.bytes(format!("\"position\":{},", number(position)).as_bytes())?;
         }
         if let Some(word) = word {
-            let _ = write!(text, "\"question\":{},", quoted(word));
+            out.bytes(b"\"question\":")?;
+            quoted(out, word)?;
+            out.bytes(b",")?;
         }
-        let _ = write!(text, "\"id\":{},\"name\":", number(row.id.map(u64::from)));
+        out.bytes(format!("\"id\":{},\"name\":", number(row.id.map(u64::from))).as_bytes())?;
         match row.name {
-            None => text.push_str("null"),
-            Some(name) if std::str::from_utf8(name).is_ok() => text.push_str(&quoted(name)),
+            None => out.bytes(b"null")?,
             Some(name) => {
-                let digits: String = name.iter().map(|byte| format!("{byte:02x}")).collect();
-                let _ = write!(text, "{},\"hex\":\"{digits}\"", quoted(name));
+                quoted(out, name)?;
+                if std::str::from_utf8(name).is_err() {
+                    out.bytes(b",\"hex\":\"")?;
+                    name.iter().try_for_each(|byte| out.bytes(format!("{byte:02x}").as_bytes()))?;
+                    out.bytes(b"\"")?;
+                }
             }
         }
-        text.push('}');
-        text
+        out.bytes(b"}\n")
     }
 }
 
-/// A name as a field of a table: one line, without a tab.
-fn escaped(field: &[u8]) -> Vec<u8> {
-    let mut bytes = Vec::with_capacity(field.len());
-    for byte in field {
-        match byte {
-            b'\t' => bytes.extend(b"\\t"),
-            b'\n' => bytes.extend(b"\\n"),
-            b'\r' => bytes.extend(b"\\r"),
-            b'\\' => bytes.extend(b"\\\\"),
-            byte => bytes.push(*byte),
+/// Prints a name as a field of a table: one line, without a tab.
+fn escaped(out: &mut Output, field: &[u8]) -> Result<(), Failure> {
+    for part in field.split_inclusive(|byte| b"\t\n\r\\".contains(byte)) {
+        let (last, before) = part.split_last().expect("a part has its last byte");
+        match last {
+            b'\t' => out.line(&[before, b"\\"], b't')?,
+            b'\n' => out.line(&[before, b"\\"], b'n')?,
+            b'\r' => out.line(&[before, b"\\"], b'r')?,
+            b'\\' => out.line(&[before, b"\\"], b'\\')?,
+            _ => out.bytes(part)?,
         }
     }
-    bytes
+    Ok(())
 }
 
-/// A text of JSON. Bytes that are no text are shown as the replacement character.
-pub fn quoted(bytes: &[u8]) -> String {
-    let mut text = String::from("\"");
-    for letter in String::from_utf8_lossy(bytes).chars() {
-        match letter {
-            '"' => text.push_str("\\\""),
-            '\\' => text.push_str("\\\\"),
-            '\n' => text.push_str("\\n"),
-            '\r' => text.push_str("\\r"),
-            '\t' => text.push_str("\\t"),
-            letter if letter < ' ' => {
-                let _ = write!(text, "\\u{:04x}", letter as u32);
+/// Prints a text of JSON. Bytes that are no text are shown as the replacement character.
+fn quoted(out: &mut Output, bytes: &[u8]) -> Result<(), Failure> {
+    out.bytes(b"\"")?;
+    let mut rest = bytes;
+    while !rest.is_empty() {
+        let (text, behind) = match std::str::from_utf8(rest) {
+            Ok(text) => (text, rest.len()),
+            Err(error) => {
+                let end = error.valid_up_to();
+                let wrong = error.error_len().unwrap_or(rest.len() - end);
+                (std::str::from_utf8(&rest[..end]).unwrap_or(""), end + wrong)
             }
-            letter => text.push(letter),
+        };
+        text.chars().try_for_each(|letter| quoted_letter(out, letter))?;
+        if text.len() < behind {
+            out.bytes("\u{fffd}".as_bytes())?;
         }
+        rest = &rest[behind..];
     }
-    text.push('"');
-    text
+    out.bytes(b"\"")
+}
+
+fn quoted_letter(out: &mut Output, letter: char) -> Result<(), Failure> {
+    match letter {
+        '"' => out.bytes(b"\\\""),
+        '\\' => out.bytes(b"\\\\"),
+        '\n' => out.bytes(b"\\n"),
+        '\r' => out.bytes(b"\\r"),
+        '\t' => out.bytes(b"\\t"),
+        letter if letter < ' ' => out.bytes(format!("\\u{:04x}", letter as u32).as_bytes()),
+        letter => out.bytes(letter.encode_utf8(&mut [0; 4]).as_bytes()),
+    }
 }

@@ -4,7 +4,7 @@ use std::path::Path;
 use cqdb::{Bundle, Refusal};
 
 use crate::args::{Args, Command};
-use crate::files;
+use crate::files::{self, Bytes};
 use crate::kind::Kind;
 use crate::lines;
 use crate::outcome::{self, Answer, Failure, Outcome, Output};
@@ -16,8 +16,8 @@ pub const COMMAND: Command = Command {
     summary: "keep several images in a file",
     text: "
 A bundle holds images one behind the other; an empty file, or one that is not
-there yet, holds none. 'append' puts each IMAGE behind the last; runs side by side
-wait for each other. 'list' prints a line for each image: its position from 0, its
+there yet, holds none. 'append' puts each IMAGE behind the last, or to standard
+output where the BUNDLE is called -; runs side by side wait for each other. 'list' prints a line for each image: its position from 0, its
 number of entries and its size. 'extract' writes the image at a position to a file
 of its own, or to standard output where it is called -; the exit status is 1 where
 the bundle has no such position. Other commands name the image at position 1 by
@@ -29,10 +29,9 @@ BUNDLE:1.
 };
 
 fn run(args: Args) -> Outcome {
-    let bundle = args.path(1);
     match (args.operand(0).and_then(|word| word.to_str()), args.count()) {
-        (Some("append"), 3..) => append(bundle, (2..args.count()).map(|at| args.path(at))),
-        (Some("list"), 2) => list(bundle),
+        (Some("append"), 3..) => append(&args),
+        (Some("list"), 2) => list(args.path(1)),
         (Some("extract"), 4) => extract(&args),
         _ => Err(Failure::new(format!("say: cqdb bundle {}", COMMAND.usage))),
     }
@@ -42,21 +41,21 @@ fn refused(path: &Path, refusal: Refusal) -> Failure {
     Failure::new(format!("{}: {}", files::shown(path), files::refusal_in_words(refusal)))
 }
 
-fn append<'a>(path: &Path, images: impl Iterator<Item = &'a Path>) -> Outcome {
-    let images: Vec<&Path> = images.collect();
-    let read: Result<Vec<_>, Failure> = images.iter().map(|image| files::read(image)).collect();
-    let read = read?;
+/// Puts images behind those of a bundle; standard output has none before.
+fn append(args: &Args) -> Outcome {
+    let path = args.path(1);
+    let images = (2..args.count()).map(|at| args.path(at));
+    let images = images.map(|image| Ok((image, files::read(image)?))).collect::<Result<Vec<_>, Failure>>()?;
+    if path == Path::new("-") {
+        let (file, _) = joined(path, &[], &images)?;
+        let mut out = Output::new();
+        out.bytes(&file)?;
+        return out.finish(Answer::Yes);
+    }
     let locked = Locked::open_or_create(path)?;
     let old = locked.bytes()?;
     let before = Bundle::new(&old).count().map_err(|refusal| refused(path, refusal))?;
-    let mut file = Vec::new();
-    let length = old.len() + read.iter().map(|image| image.len()).sum::<usize>();
-    outcome::reserve(&mut file, length, || path.display().to_string())?;
-    file.extend_from_slice(&old);
-    for (image, bytes) in images.iter().zip(&read) {
-        Bundle::append(&mut file, bytes).map_err(|refusal| refused(image, refusal))?;
-    }
-    let after = Bundle::new(&file).count().map_err(|refusal| refused(path, refusal))?;
+    let (file, after) = joined(path, &old, &images)?;
     let images = outcome::count(after, "image", "images");
     locked.replace(&file, &format!("{}: {images}, {} bytes\n", path.display(), file.len()))?;
     if before == 1 {
@@ -64,6 +63,19 @@ fn append<'a>(path: &Path, images: impl Iterator<Item = &'a Path>) -> Outcome {
         outcome::tell(&format!("bundle: {shown} had one image and is a bundle now: {shown}:0 names that image"));
     }
     Ok(Answer::Yes)
+}
+
+/// The bundle with images behind its last, and how many it has then.
+fn joined(path: &Path, old: &[u8], images: &[(&Path, Bytes)]) -> Result<(Vec<u8>, u64), Failure> {
+    let mut file = Vec::new();
+    let length = old.len() + images.iter().map(|(_, image)| image.len()).sum::<usize>();
+    outcome::reserve(&mut file, length, || path.display().to_string())?;
+    file.extend_from_slice(old);
+    for (image, bytes) in images {
+        Bundle::append(&mut file, bytes).map_err(|refusal| refused(image, refusal))?;
+    }
+    let after = Bundle::new(&file).count().map_err(|refusal| refused(path, refusal))?;
+    Ok((file, after))
 }
 
 fn list(path: &Path) -> Outcome {

@@ -4,14 +4,14 @@ use std::io::{self, BufRead, Read};
 
 use crate::args::Opt;
 use crate::lines;
-use crate::outcome::{self, Failure};
+use crate::outcome::{self, Failure, Output};
 
 pub const CDB: Opt = Opt::plain("--cdb", "records of cdb, +klen,dlen:key->data, of name and id");
 
-/// The record of a name and its id.
-pub fn record(name: &[u8], id: u32) -> Vec<u8> {
+/// Prints the record of a name and its id.
+pub fn print(out: &mut Output, name: &[u8], id: u32) -> Result<(), Failure> {
     let data = id.to_string();
-    [format!("+{},{}:", name.len(), data.len()).as_bytes(), name, b"->", data.as_bytes(), b"\n"].concat()
+    out.line(&[format!("+{},{}:", name.len(), data.len()).as_bytes(), name, b"->", data.as_bytes()], b'\n')
 }
 
 /// A record with its number, counted from 1.

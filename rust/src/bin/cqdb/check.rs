@@ -3,9 +3,9 @@ use cqdb::CQDB;
 
 use crate::args::{Args, Command};
 use crate::files::{self, Source};
-use crate::making;
 use crate::outcome::{Failure, Outcome, Output};
 use crate::progress::Progress;
+use crate::quadratic;
 
 pub const COMMAND: Command = Command {
     name: "check",
@@ -44,9 +44,7 @@ pub fn questions<'a>(source: &'a Source, out: &mut Output, command: &str) -> Res
     };
     line(out, &Ok(()), "it opens")?;
     out.flush()?;
-    if let Some(most) = equal_hashes(&db).filter(|most| *most >= 10_000) {
-        making::tell_quadratic(command, most);
-    }
+    quadratic::tell_of(&db, command);
     let ours = if db.is_ours() { Ok(()) } else { Err("no list of puts makes these bytes".to_string()) };
     let mut all = line(out, &ours, "it is one of ours")?;
     all &= line(out, &readings(&db), "readings agree")?;
@@ -82,34 +80,4 @@ fn homes(db: &CQDB) -> Result<(), String> {
     });
     progress.clear();
     away.map_or(Ok(()), |id| Err(format!("id {id} is not")))
-}
-
-/// The largest number of entries of a table that have the same hash; none where no table is large.
-fn equal_hashes(db: &CQDB) -> Option<u64> {
-    const ROWS: usize = 24;
-    const LARGE: usize = 20_000;
-    let bytes = db.bytes();
-    let word = |at: usize| bytes.get(at..at + 4).map(|word| u32::from_le_bytes([word[0], word[1], word[2], word[3]]));
-    let run = |table: usize| -> Option<u64> {
-        let (start, buckets) = (word(ROWS + 8 * table)? as usize, word(ROWS + 8 * table + 4)? as usize);
-        let part = bytes.get(start..start.checked_add(buckets.checked_mul(8)?)?).filter(|_| buckets >= LARGE)?;
-        let filled = part.chunks_exact(8).filter(|bucket| bucket[4..] != [0; 4]);
-        let mut hashes: Vec<u32> = Vec::new();
-        hashes.try_reserve(buckets).ok()?;
-        hashes.extend(filled.map(|bucket| u32::from_le_bytes([bucket[0], bucket[1], bucket[2], bucket[3]])));
-        hashes.sort_unstable();
-        Some(longest_run(&hashes))
-    };
-    (0..256).filter_map(run).max()
-}
-
-/// The length of the longest run of equal words.
-fn longest_run(words: &[u32]) -> u64 {
-    let (mut longest, mut run, mut before) = (0, 0, None);
-    for word in words {
-        run = if before == Some(word) { run + 1 } else { 1 };
-        longest = longest.max(run);
-        before = Some(word);
-    }
-    longest
 }

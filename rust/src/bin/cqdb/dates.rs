@@ -1,5 +1,4 @@
 //! Dates, and the windows in which prisms stand.
-use std::collections::HashMap;
 use std::ffi::OsStr;
 use std::os::unix::ffi::OsStrExt;
 use std::path::Path;
@@ -31,26 +30,27 @@ pub fn of_word(word: &OsStr) -> Result<Date, Failure> {
 /// The windows of a file and a date, all of them ones that the archive takes.
 pub struct Windows {
     date: Date,
-    of_id: HashMap<u32, Vec<Window>>,
+    /// In the order of their ids.
+    list: Vec<Window>,
 }
 
 impl Windows {
     /// Reads the lines of a file: an id, its first date and the date from which on it stands no longer.
     pub fn read(args: &Args, path: &Path, date: Date) -> Result<Windows, Failure> {
         let form = "an id, a first date and an end date as 2024-03-31, a space between";
-        let list = Lines::open(Some(path.as_os_str()), b'\n')?.parsed(args, form, window_of)?;
+        let mut list = Lines::open(Some(path.as_os_str()), b'\n')?.parsed(args, form, window_of)?;
         if let Err(refusal) = refusal_of(date, &list) {
             return Err(refused(path, date, &list, refusal));
         }
-        let mut of_id: HashMap<u32, Vec<Window>> = HashMap::new();
-        list.into_iter().for_each(|window| of_id.entry(window.id).or_default().push(window));
-        Ok(Windows { date, of_id })
+        list.sort_unstable_by_key(|window| window.id);
+        Ok(Windows { date, list })
     }
 
     /// The name of an id on the date. The windows of other ids do not matter, now that all are accepted.
     pub fn name_on<'a>(&self, db: &CQDB<'a>, id: u32) -> Result<Option<&'a [u8]>, Failure> {
-        let windows = self.of_id.get(&id).map_or(&[][..], Vec::as_slice);
-        let name = db.name_on(id, self.date, windows).map_err(files::refused)?;
+        let first = self.list.partition_point(|window| window.id < id);
+        let behind = self.list.partition_point(|window| window.id <= id);
+        let name = db.name_on(id, self.date, &self.list[first..behind]).map_err(files::refused)?;
         Ok(name.map(|name| &name[..]))
     }
 }

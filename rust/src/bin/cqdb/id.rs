@@ -33,8 +33,12 @@ impl Question for Ids {
     const VALUE: Value = Value::Id;
 
     fn ask<'a>(&self, db: &CQDB<'a>, words: &[&'a [u8]]) -> Result<Vec<Said<'a>>, Failure> {
-        let round = db.round(words).map_err(files::refused)?;
-        let said = words.iter().zip(round.answers).map(|(name, (found, _))| match found {
+        // A single name is not copied to join it with others.
+        let answers = match words {
+            [name] => vec![db.lookup(name)],
+            _ => db.round(words).map_err(files::refused)?.answers,
+        };
+        let said = words.iter().zip(answers).map(|(name, (found, _))| match found {
             Some(found) => Said::Found(Row { id: Some(found.id), name: Some(name) }),
             None => {
                 let what = format!("no name {}{}", lines::shown(name), questions::hint(name));

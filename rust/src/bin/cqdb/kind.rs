@@ -1,5 +1,5 @@
 //! What a file holds, so that no command takes one kind for another.
-use cqdb::{Bundle, Sheet};
+use cqdb::{Bundle, Sheet, CQDB};
 
 /// What a command writes.
 #[derive(Clone, Copy, PartialEq, Eq)]
@@ -22,10 +22,10 @@ impl Kind {
         }
     }
 
-    /// Does a file of this kind say nothing?
+    /// Does a file of this kind say nothing? A damaged image does not.
     pub fn is_bare(self, bytes: &[u8]) -> bool {
         match self {
-            Kind::Image => cqdb::CQDB::new(bytes).map_or(true, |db| db.num() == 0),
+            Kind::Image => bytes.is_empty() || CQDB::new(bytes).is_ok_and(|db| db.num() == 0),
             Kind::Sheet => bytes.iter().all(|byte| *byte == 0),
         }
     }

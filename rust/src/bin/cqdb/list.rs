@@ -75,7 +75,7 @@ impl Listing<'_> {
 
     fn entry(&mut self, position: u64, id: u32, name: &[u8]) -> Result<(), Failure> {
         if self.cdb {
-            return self.out.bytes(&cdb::record(name, id));
+            return cdb::print(&mut self.out, name, id);
         }
         self.form.print(&mut self.out, Some(position), Row { id: Some(id), name: Some(name) }, None)
     }

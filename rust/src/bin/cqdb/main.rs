@@ -28,6 +28,7 @@ mod panel;
 mod preflight;
 mod problem;
 mod progress;
+mod quadratic;
 mod questions;
 mod replace;
 mod sheet;

@@ -6,8 +6,9 @@ use cqdb::{jhash, Flag, MemoryWriter, Refusal};
 use crate::args::{Args, Opt};
 use crate::files;
 use crate::lines;
-use crate::outcome::{self, Failure};
+use crate::outcome::Failure;
 use crate::problem::{Problem, Size};
+use crate::quadratic;
 
 pub const ONE_WAY: Opt = Opt::plain("--one-way", "names to ids alone: the array that names ids is left out");
 pub const RENAMED: Opt = Opt::plain("--renamed", "take an id that was put before: its later name is meant");
@@ -21,8 +22,6 @@ const LIMIT: u64 = u32::MAX as u64;
 /// An entry has 9 bytes beside its name, and 16 in its table.
 const ENTRY: u64 = 9 + 16;
 const HEAD: u64 = 2_072;
-/// So many equal names take some tenths of a second; twice as many take four times as long.
-const MANY: u32 = 10_000;
 
 pub struct Making {
     writer: MemoryWriter,
@@ -137,17 +136,7 @@ impl Making {
 
     /// The finished image.
     pub fn finish(self) -> Result<Vec<u8>, Failure> {
-        if let Some(most) = self.hashes.values().max().filter(|most| **most >= MANY) {
-            tell_quadratic("make", u64::from(*most));
-        }
+        quadratic::tell("make", self.hashes.values().max().map_or(0, |most| u64::from(*most)));
         self.writer.finish().map_err(files::refused)
     }
-}
-
-/// Says why it takes long where many entries have the same name.
-pub fn tell_quadratic(command: &str, most: u64) {
-    let steps = most * most / 2;
-    outcome::tell(&format!(
-        "{command}: {most} entries have the same hash, as equal names have: the searches for them take {steps} steps"
-    ));
 }

@@ -140,9 +140,11 @@ pub fn hint(word: &[u8]) -> &'static str {
 
 /// The most questions that one call of the library takes.
 const ROUND: usize = 512;
+/// A round ends behind so many bytes, since its names are joined in memory.
+const BYTES: usize = 1 << 20;
 
-/// Calls with the questions in rounds of up to 512: the operands from a place on, or the lines of standard input where
-/// there is none. From a terminal each line is a round, so that its answer comes at once.
+/// Calls with the questions in rounds of up to 512: the operands from a place on, or the lines of standard input where there
+/// is none. From a terminal each line is a round, so that its answer comes at once.
 pub fn rounds(args: &Args, from: usize, mut ask: impl FnMut(&[&[u8]]) -> Result<(), Failure>) -> Result<(), Failure> {
     if args.operand(from).is_some() {
         let words: Vec<&[u8]> = args.bytes_from(from).collect();
@@ -151,12 +153,12 @@ pub fn rounds(args: &Args, from: usize, mut ask: impl FnMut(&[&[u8]]) -> Result<
     let most = if io::stdin().is_terminal() { 1 } else { ROUND };
     let mut lines = Lines::open(None, args.end())?;
     loop {
-        let mut round = Vec::new();
-        while round.len() < most {
-            match lines.read()? {
-                Some((number, line)) => round.push(copy(lines::without_windows(args, number, line).unwrap_or(line))?),
-                None => break,
-            }
+        let (mut round, mut bytes) = (Vec::new(), 0);
+        while round.len() < most && bytes < BYTES {
+            let Some((number, line)) = lines.read()? else { break };
+            let line = copy(lines::without_windows(args, number, line).unwrap_or(line))?;
+            bytes += line.len();
+            round.push(line);
         }
         if round.is_empty() {
             return Ok(());

@@ -53,10 +53,10 @@ impl<'a> Target<'a> {
 
     /// Fails where a file of another kind stands there, or a full one that a bare one would replace.
     fn may_replace(&self, old: &Old, by_bare: bool) -> Result<(), Failure> {
-        let bytes = old.bytes()?;
         if self.force {
             return Ok(());
         }
+        let bytes = old.bytes()?;
         if !self.kind.may_replace(&bytes) {
             let what = self.kind.what_is_not_replaced(&bytes);
             return Err(cannot_write(
@@ -82,7 +82,7 @@ impl<'a> Target<'a> {
             return out.flush();
         }
         loop {
-            let old = Locked::open(self.path)?;
+            let old = Locked::open(self.path, false)?;
             if let Some(old) = &old {
                 self.may_replace(&old.old, self.kind.is_bare(bytes))?;
             }
@@ -121,7 +121,9 @@ impl Old {
         if !fs::metadata(&place).map_err(failed)?.is_file() {
             return Err(cannot_write(path, "it is no regular file"));
         }
-        let file = match File::open(&place) {
+        // Some file systems lock only what may be written to.
+        let opened = OpenOptions::new().read(true).write(true).open(&place).or_else(|_| File::open(&place));
+        let file = match opened {
             Err(error) if error.kind() == io::ErrorKind::NotFound => return Ok(None),
             opened => opened.map_err(|error| files::cannot_read(path, error))?,
         };
@@ -147,11 +149,14 @@ pub struct Locked {
 }
 
 impl Locked {
-    /// None where nothing is there.
-    fn open(path: &Path) -> Result<Option<Locked>, Failure> {
+    /// None where nothing is there. A file system without locks is a failure only where `needed` says so.
+    fn open(path: &Path, needed: bool) -> Result<Option<Locked>, Failure> {
         loop {
             let Some(old) = Old::open(path)? else { return Ok(None) };
-            wait_for_lock(&old)?;
+            match wait_for_lock(&old) {
+                Err(failure) if needed => return Err(failure),
+                _ => {}
+            }
             if old.is_there() {
                 return Ok(Some(Locked { old, created: false }));
             }
@@ -162,7 +167,7 @@ impl Locked {
     pub fn open_or_create(path: &Path) -> Result<Locked, Failure> {
         let mut created = false;
         loop {
-            if let Some(mut locked) = Locked::open(path)? {
+            if let Some(mut locked) = Locked::open(path, true)? {
                 locked.created = created && locked.old.about.len() == 0;
                 return Ok(locked);
             }
@@ -272,7 +277,7 @@ impl New {
             let removed = RemovedAtSignal::new(&path)?;
             match OpenOptions::new().write(true).create_new(true).open(&path) {
                 Ok(file) => {
-                    system::lock(&file, false)?;
+                    let _ = system::lock(&file, false);
                     return Ok(New { path, file, _removed: removed });
                 }
                 Err(error) if error.kind() == io::ErrorKind::AlreadyExists => {}

@@ -58,11 +58,15 @@ fn make(args: &Args) -> Outcome {
     let target = Target::new(args, 1, Kind::Sheet)?;
     let list = Lines::open(args.operand(2), b'\n')?;
     let list = list.parsed(args, "reference, wall or retired, a space and an id", kind_and_id)?;
-    let of_kind = |kind: usize| -> Vec<u32> { list.iter().filter(|(k, _)| *k == kind).map(|(_, id)| *id).collect() };
+    let mut ids: [Vec<u32>; 3] = Default::default();
+    for (kind, id) in &list {
+        outcome::reserve(&mut ids[*kind], 1, || "the round sheet".to_string())?;
+        ids[*kind].push(*id);
+    }
     let mut file = Vec::new();
     outcome::reserve(&mut file, 6 + 4 * list.len(), || "the round sheet".to_string())?;
     file.resize(6 + 4 * list.len(), 0);
-    let length = Sheet::write(&mut file, &of_kind(0), &of_kind(1), &of_kind(2)).map_err(files::refused)?;
+    let length = Sheet::write(&mut file, &ids[0], &ids[1], &ids[2]).map_err(files::refused)?;
     let ids = outcome::count(list.len() as u64, "id", "ids");
     target.replace(&file[..length], &format!("{}: {ids}, {length} bytes\n", args.path(1).display()))?;
     Ok(Answer::Yes)

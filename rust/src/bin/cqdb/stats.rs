@@ -4,6 +4,7 @@ use cqdb::CQDB;
 use crate::args::{Args, Command};
 use crate::files;
 use crate::outcome::{Answer, Failure, Outcome, Output};
+use crate::quadratic;
 
 pub const COMMAND: Command = Command {
     name: "stats",
@@ -61,6 +62,8 @@ const WIDE: u64 = 50;
 
 /// The average search length with its three first decimals, and a bar for each length that some entry has.
 fn search_lengths(out: &mut Output, db: &CQDB) -> Result<(), Failure> {
+    out.flush()?;
+    quadratic::tell_of(db, COMMAND.name);
     let (average, lengths) = match db.average().and_then(|average| Ok((average, db.lengths()?))) {
         Ok(both) => both,
         Err(refusal) => return out.text(&format!("average   none: {}", files::refusal_in_words(refusal))),
