@@ -56,6 +56,18 @@ fn without_memory() {
         assert!(ran.err.contains(&format!("not enough memory for {what}: ")), "{line}: {}", ran.err);
     }
     assert!(folder.read("image") == old && folder.files() == ["image"]);
+    // A name that is nearly as large as the memory is printed without a copy.
+    let large = folder.shell("(printf '7 '; head -c 60000000 /dev/zero | tr '\\0' x) | \"$CQDB\" make large").gives(0);
+    large.prints("large: 1 entry, 60002129 bytes\n");
+    for (command, bytes) in [
+        ("name large 7", 60_000_003),
+        ("name -q large 7", 60_000_001),
+        ("name --tsv large 7", 60_000_003),
+        ("name --json large 7", 60_000_019),
+        ("list --cdb large", 60_000_017),
+    ] {
+        limited(&format!("set -o pipefail; \"$CQDB\" {command} | wc -c")).gives(0).prints(format!("{bytes}\n"));
+    }
     // An image that is mapped, whose page is larger than the memory.
     folder.with("4000000 far\n", &["make", "image"]).gives(0);
     let ran = limited("\"$CQDB\" page image").gives(2);
