@@ -144,11 +144,14 @@ fn search_lengths() {
     assert_eq!(entries.iter().zip(1..).map(|(entries, length)| entries * length).sum::<u64>(), 5_673);
     assert_eq!((words[0][0], words[0][2].len()), ("length-1", 50));
     assert!(words.iter().skip(1).all(|words| words.get(2).map_or(0, |bar| bar.len()) <= 25), "{text}");
-    // Twenty entries of one name: the searches for it meet up to 20 buckets, and the last line says 16 or more.
-    let equal: String = (0..20).map(|id| format!("{id} crane\n")).collect();
-    folder.with(equal, &["make", "--repeats", "equal"]).gives(0);
-    let text = String::from_utf8(folder.cqdb(&["stats", "equal"]).gives(0).out).unwrap();
-    assert!(text.contains("\nlength-1  20 #"), "{text}");
+    // Twenty names that begin their search at one bucket, of the 40 that their table has: their searches meet 1 to 20 buckets.
+    let first = |name: &String| cqdb::jhash(name.as_bytes(), 0).is_ok_and(|hash| hash % 256 == 7 && (hash >> 8) % 40 == 11);
+    let names = (0..).map(|number| format!("prism {number}")).filter(first).take(20);
+    let list: String = names.zip(0..).map(|(name, id)| format!("{id} {name}\n")).collect();
+    folder.image("crowded", list);
+    let text = String::from_utf8(folder.cqdb(&["stats", "crowded"]).gives(0).out).unwrap();
+    assert!(text.contains("\nlength-1  1 ") && text.contains("\nlength-15 1 "), "{text}");
+    assert!(text.ends_with(&format!("\nlength-16+ 5 {}\n", "#".repeat(50))), "{text}");
     // Without entries, and not one of ours.
     folder.cqdb(&["make", "empty"]).gives(0);
     let text = String::from_utf8(folder.cqdb(&["stats", "empty"]).gives(0).out).unwrap();
@@ -226,11 +229,9 @@ fn loads() {
 #[test]
 fn helps_and_versions() {
     let folder = folder();
-    let overview = String::from_utf8(folder.cqdb(&["--help"]).gives(0).out).unwrap();
-    let commands: Vec<&str> =
-        overview.lines().filter_map(|line| line.strip_prefix("  cqdb ")?.split_whitespace().next()).collect();
-    assert!(commands.len() >= 9, "{overview}");
-    for command in commands {
+    let commands = folder.commands();
+    assert!(commands.len() >= 18, "{commands:?}");
+    for command in &commands {
         let help = folder.cqdb(&[command, "--help"]).gives(0);
         assert!(help.out.starts_with(format!("Usage: cqdb {command} ").as_bytes()), "{help:?}");
         folder.cqdb(&["help", command]).gives(0).prints(&help.out);

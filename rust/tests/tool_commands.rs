@@ -108,12 +108,10 @@ fn completed(folder: &Folder, words: &[&str]) -> Vec<String> {
 #[test]
 fn completions() {
     let folder = folder();
-    let overview = String::from_utf8(folder.cqdb(&["--help"]).gives(0).out).unwrap();
-    let commands: Vec<&str> =
-        overview.lines().filter_map(|line| line.strip_prefix("  cqdb ")?.split_whitespace().next()).collect();
+    let commands = folder.commands();
     let offered = completed(&folder, &["''"]);
     assert!(commands.iter().all(|command| offered.iter().any(|word| word == command)), "{offered:?}");
-    for command in commands {
+    for command in &commands {
         let help = String::from_utf8(folder.cqdb(&[command, "--help"]).gives(0).out).unwrap();
         let options = help.split("\nOptions:\n").nth(1).unwrap_or("");
         let longs = options.lines().filter_map(|line| line.split_whitespace().find(|word| word.starts_with("--")));

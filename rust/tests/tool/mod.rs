@@ -58,6 +58,14 @@ impl Folder {
         self.with(list, &["make", name]).gives(0);
     }
 
+    /// The commands that the help lists.
+    #[allow(dead_code)]
+    pub fn commands(&self) -> Vec<String> {
+        let overview = String::from_utf8(self.cqdb(&["--help"]).gives(0).out).unwrap();
+        let firsts = overview.lines().filter_map(|line| line.strip_prefix("  cqdb ")?.split_whitespace().next());
+        firsts.map(str::to_string).collect()
+    }
+
     fn run(&self, command: &mut Command, input: &[u8]) -> Ran {
         let command = command.current_dir(&self.0).stdin(Stdio::piped()).stdout(Stdio::piped()).stderr(Stdio::piped());
         let mut child = command.spawn().unwrap();
