@@ -145,7 +145,8 @@ fn search_lengths() {
     assert_eq!((words[0][0], words[0][2].len()), ("length-1", 50));
     assert!(words.iter().skip(1).all(|words| words.get(2).map_or(0, |bar| bar.len()) <= 25), "{text}");
     // Twenty names that begin their search at one bucket, of the 40 that their table has: their searches meet 1 to 20 buckets.
-    let first = |name: &String| cqdb::jhash(name.as_bytes(), 0).is_ok_and(|hash| hash % 256 == 7 && (hash >> 8) % 40 == 11);
+    let first =
+        |name: &String| cqdb::jhash(name.as_bytes(), 0).is_ok_and(|hash| hash % 256 == 7 && (hash >> 8) % 40 == 11);
     let names = (0..).map(|number| format!("prism {number}")).filter(first).take(20);
     let list: String = names.zip(0..).map(|(name, id)| format!("{id} {name}\n")).collect();
     folder.image("crowded", list);

@@ -6,7 +6,6 @@ use std::io::Write;
 use std::process::{Command, Stdio};
 use std::time::Instant;
 
-use cqdb::{Flag, MemoryWriter, Refusal};
 use tool::{Folder, TOOL};
 
 /// One mistyped id does not make an image of gigabytes.
@@ -73,26 +72,6 @@ fn without_memory() {
     let ran = limited("\"$CQDB\" page image").gives(2);
     ran.tells("cqdb: page: not enough memory for the page of 4000001 ids: 180000045 bytes\n");
     limited("\"$CQDB\" name image 4000000").gives(0).prints("4000000 far\n");
-}
-
-/// A name that is refused needs no room for its id.
-#[test]
-fn a_list_with_a_refused_name_of_a_large_id() {
-    let refused = [
-        ("a\0b", 1_000_000_000, Refusal::ZeroByte),
-        ("crane", 1_000_000_001, Refusal::Repeated),
-        ("x", u32::MAX, Refusal::NoRoom),
-    ];
-    for (name, id, refusal) in refused {
-        let built = MemoryWriter::build(Flag::NONE, [("crane", 1), (name, id), ("mole", 2)]).unwrap();
-        assert_eq!((built.accepted, built.refused), (2, vec![(1, refusal)]));
-        assert!(built.image.capacity() < 10_000, "{}", built.image.capacity());
-    }
-    let built = MemoryWriter::build_with_repeats(Flag::NONE, [("crane", 1), ("crane", 3)]).unwrap();
-    assert_eq!((built.accepted, built.image.len()), (2, 2_072 + 2 * 30 + 16));
-    // A name whose first put is refused for its id is put by the next.
-    let built = MemoryWriter::build(Flag::NONE, [("crane", u32::MAX), ("crane", 3)]).unwrap();
-    assert_eq!((built.accepted, built.refused), (1, vec![(0, Refusal::NoRoom)]));
 }
 
 /// A question reads the pages that it needs: the file has 8 GB behind its image, and the process may have 100 MB of its
