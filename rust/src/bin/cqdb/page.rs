@@ -1,6 +1,6 @@
 //! `cqdb page`: the printed catalogue.
 use crate::args::{Args, Command};
-use crate::outcome::{self, Answer, Outcome};
+use crate::outcome::{Answer, Outcome};
 use crate::{files, list};
 
 pub const COMMAND: Command = Command {
@@ -24,11 +24,7 @@ fn run(args: Args) -> Outcome {
             out.tell(&format!("page: {} is one-way: it names no ids", args.path(0).display()))?;
             return Ok(Answer::No);
         }
-        let (page, mut bytes) = (db.page(), Vec::new());
-        outcome::reserve(&mut bytes, page.len() as usize, || format!("the page of {} ids", db.back_size()))?;
-        bytes.resize(page.len() as usize, 0);
-        page.print(&mut bytes).map_err(files::refused)?;
-        out.bytes(&bytes)?;
+        db.page().parts(|part| out.bytes(part))?;
         Ok(Answer::Yes)
     })
 }
