@@ -139,6 +139,7 @@ pub fn keep_running_at_a_size_limit() {
 pub fn tell_where_a_file_was_cut() {
     extern "C" fn told(_: c_int) {
         const TEXT: &[u8] = b"cqdb: a file became shorter while it was read\n";
+        remove_new_file();
         // The text is there for ever.
         unsafe {
             write(2, TEXT.as_ptr().cast(), TEXT.len());
@@ -151,6 +152,14 @@ pub fn tell_where_a_file_was_cut() {
 /// The file that goes where a signal ends the process.
 static NEW_FILE: AtomicPtr<c_char> = AtomicPtr::new(null_mut());
 
+fn remove_new_file() {
+    let path = NEW_FILE.load(Ordering::SeqCst);
+    if !path.is_null() {
+        // A path that is not null ends with a zero byte.
+        unsafe { unlink(path) };
+    }
+}
+
 /// As long as this is there, the signals INT, TERM and HUP remove a file before they end the process. There is one at a
 /// time.
 pub struct RemovedAtSignal;
@@ -158,13 +167,10 @@ pub struct RemovedAtSignal;
 impl RemovedAtSignal {
     pub fn new(path: &Path) -> io::Result<RemovedAtSignal> {
         extern "C" fn end(signal: c_int) {
-            let path = NEW_FILE.load(Ordering::SeqCst);
-            // A path that is not null ends with a zero byte. The raised signal has its default action again; where that
-            // does not end the process, since it is process 1, the last call does.
+            remove_new_file();
+            // The raised signal has its default action again; where that does not end the process, since it is process
+            // 1, the last call does.
             unsafe {
-                if !path.is_null() {
-                    unlink(path);
-                }
                 raise(signal);
                 _exit(128 + signal)
             }
