@@ -11,10 +11,12 @@
      length is 0 it may be NULL, which is taken as no bytes.
    - `counts` points to 256 words, those of cqdb_lengths to 16, and `w` to a whole cqdb_writer.
    - What a call writes (the buffer of cqdb_put, cqdb_close, cqdb_sheet_write, cqdb_bundle_append, cqdb_load and cqdb_build, the counts, the writer,
-     the output of cqdb_page, the answers of cqdb_round and cqdb_name_round,
+     the output of cqdb_page and cqdb_page_part, the answers of cqdb_round and cqdb_name_round,
      the refusals and the work of cqdb_build) overlaps nothing else that the same call is lent: no name, no list, no buffer, no counts and no image.
      What a call only reads may overlap.
-   - Nobody else writes to what is lent while the call runs.
+   - Nobody else writes to what is lent while the call runs. That goes for the bytes of a mapped file (mmap) too: a program that
+     writes to the file in place changes them, and one that makes it shorter takes them away (SIGBUS). Replace an image by a
+     rename: who has mapped the old file then keeps its bytes.
 
    Threads: any number of them may read one image at the same time, by all calls that take it as const. A buffer that is being
    written belongs to one thread.
@@ -107,7 +109,7 @@ extern "C" {
 #define CQDB_NAME_TOO_LONG 9u    /* hash: the name has 4,294,967,295 bytes or more */
 #define CQDB_BROKEN_BUNDLE 10u   /* bundle_open, bundle_append, bundle_count: the images do not lie back to back, or append's new one is unfit */
 #define CQDB_NO_SUCH_IMAGE 11u   /* bundle_open: the file ends at or before the position */
-#define CQDB_PAGE_TOO_LONG 12u   /* page: it has more bytes than the output */
+#define CQDB_PAGE_TOO_LONG 12u   /* page, page_part: more bytes than the output has */
 #define CQDB_ZERO_BYTE 13u       /* put, put_indexed: the name has a zero byte */
 #define CQDB_ROUND_UNFIT 14u     /* round, name_round, build: ends that fall or pass the names; rounds: or more than 512 names or ids */
 #define CQDB_ANSWERS_TOO_FEW 15u /* round, name_round, build: fewer answer places than names or ids; build: or fewer ids */
@@ -267,13 +269,13 @@ uint32_t cqdb_lengths(const uint8_t *image, size_t len, uint32_t *counts);
         a line feed
 
    Bytes outside 32 to 126 are printed as full stops, and a shorter name is followed by spaces. An id without a name has 32
-   hyphens, so a name of 32 hyphens looks the same. Both calls take any bytes as an image, opened or not. */
+   hyphens, so a name of 32 hyphens looks the same. The calls take any bytes as an image, opened or not. */
 
 /* How many bytes the page has: 45 x cqdb_size_hint(image, len, 0), at most 193,273,528,275, which takes 38 bits. It is 0
    where no back array can be read. */
 uint64_t cqdb_page_length(const uint8_t *image, size_t len);
 
-/* refusal is 0 when the page was printed; length is the page's, 0 when the call was refused. */
+/* refusal is 0 when the page or the part was printed; length is that of what was printed, 0 when the call was refused. */
 typedef struct {
     uint32_t refusal;
     uint64_t length;
@@ -282,6 +284,11 @@ typedef struct {
 /* Prints the page to the first bytes of out, as many as cqdb_page_length gives; those behind them keep their content.
    Refusal: 12 when out_len is less, and nothing is written. */
 cqdb_page_answer cqdb_page(const uint8_t *image, size_t len, uint8_t *out, size_t out_len);
+
+/* Prints a part of the page, so that a long page needs little memory: the lines of `count` ids from `first` on, of those below
+   back size. The length is 45 for each of them, 0 where there is none. Parts that follow each other, joined, are the page.
+   Refusal: 12 when out_len is less, and nothing is written. */
+cqdb_page_answer cqdb_page_part(const uint8_t *image, size_t len, uint32_t first, uint32_t count, uint8_t *out, size_t out_len);
 
 /* Writing. One buffer takes the entries, and close makes it the image. The writer belongs to the caller: all of its fields
    are open, and the calls answer every value of them. A writer fits a buffer when its mode is 0 or 1, its repeats is 0

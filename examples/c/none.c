@@ -31,6 +31,7 @@ static void check_names(void) {
     expect(closed.refusal == 0 && a.found == 1 && a.id == 3, "to_id of the empty name");
     expect(cqdb_page(NULL, 0, NULL, 0).refusal == 0, "a page of no bytes in no bytes");
     expect(cqdb_page(buf, closed.size, NULL, 0).refusal == CQDB_PAGE_TOO_LONG, "a page in no bytes");
+    expect(cqdb_page_part(NULL, 0, 0, 7, NULL, 0).refusal == 0, "a part of a page of no bytes in no bytes");
 }
 
 /* No bytes as an image and as a buffer. */

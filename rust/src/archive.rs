@@ -224,6 +224,14 @@ extern "C" {
     fn cqdb_ours(image: *const u8, len: usize) -> u32;
     fn cqdb_page_length(image: *const u8, len: usize) -> u64;
     fn cqdb_page(image: *const u8, len: usize, out: *mut u8, out_len: usize) -> PageAnswer;
+    fn cqdb_page_part(
+        image: *const u8,
+        len: usize,
+        first: u32,
+        count: u32,
+        out: *mut u8,
+        out_len: usize,
+    ) -> PageAnswer;
     fn cqdb_round_words(
         image: *const u8,
         len: usize,
@@ -372,6 +380,12 @@ pub fn page_length(image: &[u8]) -> u64 {
 pub fn page(image: &[u8], out: &mut [u8]) -> PageAnswer {
     // SAFETY: image and output are lent with their lengths; the output is written, and a `&mut` overlaps no image.
     unsafe { cqdb_page(image.as_ptr(), image.len(), out.as_mut_ptr(), out.len()) }
+}
+
+/// The lines of `count` ids from `first` on, of those below the back size, in the first bytes of `out`, and their length; or
+/// the refusal.
+pub fn page_part(image: &[u8], first: u32, count: u32, out: &mut [u8]) -> PageAnswer {
+    unsafe { cqdb_page_part(image.as_ptr(), image.len(), first, count, out.as_mut_ptr(), out.len()) }
 }
 
 /// The ids of the names that lie joined with these ends, an answer in the place of each; and the buckets read over the different

@@ -2,9 +2,11 @@
 use std::collections::HashMap;
 
 use crate::archive;
+use crate::refusal::Refusal;
+use crate::write::HEAD;
 
-/// Which names are among the entries of a buffer. With repeats off the archive walks all entries at each put; a writer of
-/// this crate looks here instead, so that a list takes time linear in its names.
+/// Which names are among the entries of a buffer. With repeats off the archive walks all entries at each put; a writer
+/// of this crate looks here instead, so that a list takes time linear in its names.
 #[derive(Clone, Default)]
 pub(crate) struct Held {
     /// The offset of the first entry with each hash.
@@ -14,11 +16,27 @@ pub(crate) struct Held {
 }
 
 impl Held {
-    /// Has an entry of the buffer this name?
-    pub fn has(&self, buffer: &[u8], name: &[u8]) -> bool {
+    /// The offset of the entry of the buffer that has this name.
+    pub fn find(&self, buffer: &[u8], name: &[u8]) -> Option<u32> {
         let hash = archive::hash(name, 0).hash;
         let others = self.others.get(&hash).into_iter().flatten();
-        self.first.get(&hash).into_iter().chain(others).any(|at| name_at(buffer, *at) == name)
+        self.first.get(&hash).into_iter().chain(others).copied().find(|at| name_at(buffer, *at) == name)
+    }
+
+    /// The place of that entry, counted from 0, from the front of the buffer's entries.
+    pub fn place_of(&self, buffer: &[u8], name: &[u8]) -> Option<u32> {
+        let found = self.find(buffer, name)?;
+        let (mut at, mut place) = (HEAD as u32, 0);
+        while at < found {
+            at += 9 + name_at(buffer, at).len() as u32;
+            place += 1;
+        }
+        Some(place)
+    }
+
+    /// Makes room for one more name, if memory can be had for it.
+    pub fn reserve(&mut self) -> Result<(), Refusal> {
+        self.first.try_reserve(1).map_err(|_| Refusal::NoRoom)
     }
 
     /// Notes the entry of a name that was not held.

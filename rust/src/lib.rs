@@ -46,6 +46,7 @@ mod round;
 mod sheet;
 mod stream;
 mod write;
+mod zeros;
 
 #[doc = include_str!("../MOVING.md")]
 pub mod moving {}

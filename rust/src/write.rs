@@ -5,6 +5,7 @@ use crate::archive::{self, Counts, Record};
 use crate::flag::Flag;
 use crate::held::Held;
 use crate::refusal::{self, Refusal};
+use crate::zeros::zeros;
 
 /// The head of an image, which the entries follow.
 const HEAD: usize = 2_072;
@@ -72,15 +73,18 @@ impl MemoryWriter {
         MemoryWriter { buffer, record: begun.record, counts, held }
     }
 
-    /// Puts a name, any bytes but 0, under an id. A name gives the id of its first put, and an id gives the name of its last.
-    /// Refused, and nothing changes, with [`Refusal::ZeroByte`] when the name has a zero byte; else with
-    /// [`Refusal::Repeated`] when the writer holds the name, unless it was made by [`with_repeats`](Self::with_repeats); else
-    /// with [`Refusal::NoRoom`] when the image would exceed 4,294,967,295 bytes; a two-way image has four bytes for each id up
-    /// to the largest.
+    /// Puts a name, any bytes but 0, under an id. A name gives the id of its first put, and an id gives the name of its
+    /// last. Refused, and nothing changes, with [`Refusal::ZeroByte`] when the name has a zero byte; else with
+    /// [`Refusal::Repeated`] when the writer holds the name, unless it was made by
+    /// [`with_repeats`](Self::with_repeats); else with [`Refusal::NoRoom`] when the image would exceed 4,294,967,295
+    /// bytes, or the memory that can be had; a two-way image has four bytes for each id up to the largest.
     pub fn put<K: AsRef<[u8]>>(&mut self, name: K, id: u32) -> Result<(), Refusal> {
         let name = name.as_ref();
-        if self.held.as_ref().is_some_and(|held| held.has(&self.buffer, name)) {
-            return Err(Refusal::Repeated);
+        if let Some(held) = &mut self.held {
+            if held.find(&self.buffer, name).is_some() {
+                return Err(Refusal::Repeated);
+            }
+            held.reserve()?;
         }
         let at = self.record.end as u32;
         match self.put_here(name, id) {
@@ -91,6 +95,22 @@ impl MemoryWriter {
             held.add(name, at);
         }
         Ok(())
+    }
+
+    /// The place, counted from 0, of the name's put among the accepted ones. None where the writer does not hold the
+    /// name, or takes repeats. The time grows with the place.
+    ///
+    /// ```
+    /// # fn main() -> Result<(), cqdb::Refusal> {
+    /// let mut writer = cqdb::MemoryWriter::new();
+    /// writer.put("north wall", 0)?;
+    /// writer.put("crane", 7)?;
+    /// assert_eq!((writer.place_of(b"crane"), writer.place_of(b"mole")), (Some(1), None));
+    /// # Ok(())
+    /// # }
+    /// ```
+    pub fn place_of(&self, name: &[u8]) -> Option<u32> {
+        self.held.as_ref()?.place_of(&self.buffer, name)
     }
 
     /// Closes the writer and gives the finished image.
@@ -106,20 +126,20 @@ impl MemoryWriter {
         refusal::or(answer.refusal, ())
     }
 
-    /// Takes a larger buffer with the same entries, if one can hold the image after this put. The writer is then as if it
-    /// had begun with that buffer. The archive decides whether the put is accepted there.
+    /// Takes a larger buffer with the same entries, if one can hold the image after this put. The writer is then as if
+    /// it had begun with that buffer. The archive decides whether the put is accepted there.
     fn grow(&mut self, name_len: usize, id: u32) -> bool {
         let needed = self.size_with(name_len, id);
         if needed > LIMIT {
             return false;
         }
         let end = self.record.end as usize;
-        let length = needed.max(2 * self.record.length).min(LIMIT);
-        let grown = archive::grown(self.record, length);
+        let twice = needed.max(2 * self.record.length).min(LIMIT);
+        let Some(mut larger) = zeros(twice as usize).or_else(|| zeros(needed as usize)) else { return false };
+        let grown = archive::grown(self.record, larger.len() as u64);
         if grown.refusal != 0 {
             return false;
         }
-        let mut larger = vec![0; length as usize];
         larger[HEAD..end].copy_from_slice(&self.buffer[HEAD..end]);
         self.buffer = larger;
         self.record = grown.record;
