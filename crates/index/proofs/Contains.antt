@@ -1,17 +1,16 @@
 -- A probe of a right index: whether an entry has the name, and the first empty slot. Assumes nothing.
-use Prim.Native.Nat.{ℕ, _+_, _*_, _/_, _≤_, _<_}
+use Prim.Native.Nat.{ℕ, _/_, _≤_, _<_}
 use native.Mathlib.Omega.{arith}
 use native.Mathlib.Decide.{ℕ-discrete}
 use native.Mathlib.Nat.{mod-lt}
 use mathlib.Core.Path.{_≡_, refl, sym, ap, _∙_}
-use mathlib.Core.Bool.{Bool, true, false, cond, _&&_, and-false}
+use mathlib.Core.Bool.{Bool, true, false, _&&_, and-false}
 use mathlib.Core.List.{List, [], _∷_, map}
 use mathlib.Core.Logic.{_⊎_, inl, inr}
 use lib.ListN.{length, getD, take, length-take, length-map}
 use Rattle.jhash.specs.NameHash.{hashOf}
-use Rattle.image.specs.Bytes.{same}
 use Rattle.image.specs.Tables.{Bucket, empty, start, order, firstEmpty, filled}
-use Rattle.image.specs.Image.{Entry, Placed, headSize, entriesSize, placed, bucketOf, holds}
+use Rattle.image.specs.Image.{Entry, headSize, placed, bucketOf, holds}
 use Rattle.image.proofs.Area.{Bytes}
 use Rattle.image.proofs.Bools.{not-both}
 use Rattle.image.proofs.Every.{All}

@@ -1,16 +1,15 @@
 -- A probe of the slots matches a name exactly when an entry has it. Assumes nothing.
-use Prim.Native.Nat.{ℕ, zero, suc, _+_, _≤_, _<_, _^_}
+use Prim.Native.Nat.{ℕ, _+_, _≤_, _<_, _^_}
 use native.Mathlib.Omega.{arith}
-use native.Mathlib.Nat.{mod-lt}
 use mathlib.Core.Path.{_≡_, refl, sym, ap, _∙_}
 use mathlib.Core.Bool.{Bool, true, false, cond, _&&_, _||_}
 use mathlib.Core.List.{List, [], _∷_, map}
 use borrow.Author.Tests.{eqb-false}
 use lib.Dec.{eqb}
-use lib.ListN.{length, getD, take}
+use lib.ListN.{length, getD}
 use Rattle.jhash.specs.NameHash.{hashOf}
 use Rattle.image.specs.Bytes.{same, cat}
-use Rattle.image.specs.Tables.{Bucket, empty, next, order, start, filled}
+use Rattle.image.specs.Tables.{Bucket, empty, order, start, filled}
 use Rattle.image.specs.Image.{Entry, Placed, headSize, entryBytes, entrySize, placed, bucketOf, hasName, holds}
 use Rattle.image.proofs.At.{At}
 use Rattle.image.proofs.Bools.{not-both}
@@ -18,7 +17,7 @@ use Rattle.image.proofs.Buckets.{filled-all}
 use Rattle.image.proofs.EntryAt.{Stands, standing, all-placed}
 use Rattle.image.proofs.Equal.{same-true}
 use Rattle.image.proofs.Every.{All, all-map, all-both, all-image}
-use Rattle.reader.specs.Lookup.{Seen, Hit, hit, pass, seeEntry}
+use Rattle.reader.specs.Lookup.{Hit, hit, pass}
 use Rattle.answers.proofs.EntrySeen.{seen-entry}
 use Rattle.answers.proofs.Table.{NotEmpty}
 use Rattle.answers.specs.steps.Matches.{matches}

@@ -1,19 +1,16 @@
 -- An index made entry by entry: after each the slots are those of the entries passed. Assumes nothing.
-use Prim.Native.Nat.{ℕ, zero, suc, _+_, _*_, _-_, _/_, _≤_, _<_}
+use Prim.Native.Nat.{ℕ, suc, _+_, _*_, _-_, _/_, _≤_, _<_}
 use native.Mathlib.Omega.{arith}
-use native.Mathlib.Decide.{ℕ-discrete}
 use native.Mathlib.Nat.{mod-lt}
-use mathlib.Core.Path.{_≡_, refl, sym, ap, ap₂, subst, _∙_}
-use mathlib.Core.Bool.{Bool, true, false, cond, _&&_, and-false}
+use mathlib.Core.Path.{_≡_, refl, sym, ap, _∙_}
+use mathlib.Core.Bool.{Bool, true, _&&_}
 use mathlib.Core.List.{List, [], _∷_, _++_, map, map-append, append-assoc, append-nil}
 use mathlib.Core.Logic.{_⊎_, inl, inr}
-use borrow.Author.Tests.{eq-eqb, ne-eqb}
-use lib.Dec.{eqb, ltb, leb}
-use lib.ListN.{length, getD, take, drop, replicate, length-append, length-map}
+use lib.ListN.{length, getD, take, drop, length-append, length-map}
 use Rattle.jhash.specs.NameHash.{hashOf}
 use Rattle.image.specs.Tables.{Bucket, empty, start, order, firstEmpty, insertAll, filled}
-use Rattle.image.specs.Image.{Entry, Placed, headSize, entrySize, entriesSize, placed, bucketOf}
-use Rattle.image.specs.Stored.{firstWhole, firstEntry, afterFirst, whole, entriesIn, between, wholeLength}
+use Rattle.image.specs.Image.{Entry, headSize, entrySize, entriesSize, placed, bucketOf}
+use Rattle.image.specs.Stored.{firstEntry, afterFirst, whole, entriesIn, between, wholeLength}
 use Rattle.image.proofs.Between.{Front, front, not-whole, length-between}
 use Rattle.image.proofs.Bools.{not-both}
 use Rattle.image.proofs.Buckets.{getD-empties}
@@ -21,7 +18,6 @@ use Rattle.image.proofs.EntryWalk.{whole-rest, first-name, entries-rest}
 use Rattle.image.proofs.Every.{All}
 use Rattle.image.proofs.Sizes.{entriesSize-append, placed-append, length-placed}
 use Rattle.answers.proofs.Table.{NotEmpty}
-use Rattle.answers.specs.steps.Matches.{matches}
 use Rattle.index.specs.Index.{slotCount, slot, slotStored}
 use Rattle.index.specs.steps.Probe.{probe}
 use Rattle.index.specs.steps.Fill.{SlotsFilled}

@@ -2,7 +2,7 @@
 use Prim.Native.Nat.{ℕ, _*_, _/_, _≤_, _<_}
 use native.Mathlib.Omega.{arith}
 use mathlib.Core.Path.{_≡_, refl, sym, ap, _∙_}
-use mathlib.Core.Bool.{true, _&&_}
+use mathlib.Core.Bool.{_&&_}
 use mathlib.Core.List.{List, map}
 use borrow.Author.Tests.{eq-eqb, ne-eqb, lt-ltb, le-ltb}
 use lib.Dec.{eqb}
@@ -16,7 +16,7 @@ use Rattle.writer.specs.State.{State, stateWith, finishedSize}
 use Rattle.writer.specs.Close.{entryArea, recorded, countsAgree, closeRefusal}
 use Rattle.writer.proofs.Fits.{fitting, not-too-large}
 use Rattle.lists.proofs.Closable.{accepted}
-use Rattle.index.specs.Index.{slotCount, slot, entryBuckets, Right, indexRefusal}
+use Rattle.index.specs.Index.{slotCount, entryBuckets, Right, indexRefusal}
 use Rattle.index.specs.Promise.{Indexed}
 use Rattle.index.specs.steps.Fill.{FillPre, SlotsFilled}
 

@@ -5,7 +5,7 @@ use mathlib.Core.Path.{_≡_, refl, sym, ap, ap₂, subst, _∙_}
 use mathlib.Core.Bool.{Bool, true, false, cond, _&&_}
 use mathlib.Core.List.{List, [], _∷_, _++_, map, append-nil}
 use mathlib.Core.Logic.{_⊎_, inl, inr}
-use borrow.Author.Tests.{eq-eqb, ne-eqb, eqb-true, eqb-false, le-leb, lt-leb, leb-true, leb-false}
+use borrow.Author.Tests.{eq-eqb, ne-eqb, eqb-true, eqb-false, le-leb, lt-leb}
 use lib.Dec.{eqb, leb}
 use lib.ListN.{length, length-append}
 use Rattle.jhash.specs.NameHash.{hashOf}
@@ -15,15 +15,15 @@ use Rattle.image.specs.Zero.{hasZero}
 use Rattle.writer.specs.declared.Repeats.{Repeats}
 use Rattle.writer.specs.State.{State, fresh, refusesRepeats, tooLarge}
 use Rattle.writer.specs.Put.{putRefusal, appended, afterPut}
-use Rattle.writer.specs.Close.{closeRefusal, afterClose, closedImage}
-use Rattle.lists.specs.Calls.{Call, put, close, afterCall, answer, after, answers, acceptedOne, putDue, sizeOf, dueTo, acceptedAfter, acceptedFrom, dueFrom, accepted, due, WordId, WordIds}
-use Rattle.lists.specs.Demand3.{answersOf, afterList, acceptedPuts, imageOf}
+use Rattle.writer.specs.Close.{afterClose, closedImage}
+use Rattle.lists.specs.Calls.{Call, put, close, afterCall, answer, after, answers, acceptedOne, putDue, sizeOf, dueTo, acceptedAfter, acceptedFrom, dueFrom, accepted, due, WordIds}
+use Rattle.lists.specs.Demand3.{afterList, imageOf}
 use Rattle.lists.proofs.ListWritten.{Written}
 use Rattle.lists.proofs.ListPuts.{put-due, appended-written, fresh-written}
 use Rattle.lists.proofs.ListCloses.{close-accepted, close-written}
 use Rattle.lists.proofs.Recorded.{written-recorded}
 use Rattle.lists.proofs.Along.{list-answers, list-accepted}
-use Rattle.index.specs.Index.{slotCount, slotInserted, firstEmptySlot, Right, indexedRefusal}
+use Rattle.index.specs.Index.{slotCount, firstEmptySlot, Right, indexedRefusal}
 use Rattle.index.specs.Promise.{PutIndexed}
 use Rattle.index.specs.ListsByIndex.{Run, dueToIndexed, dueIndexed, withoutFull, notFull, RunByIndex, ListsByIndex}
 use Rattle.index.proofs.Insert.{length-stored}

@@ -1,26 +1,24 @@
 -- What each check of a put by the index comes to, for whatever was lent, and by a right index. Assumes nothing.
 use Prim.Native.Nat.{ℕ, suc, _+_, _^_, _≤_, _<_}
 use native.Mathlib.Omega.{arith}
-use mathlib.Core.Path.{_≡_, refl, sym, ap, subst, _∙_}
+use mathlib.Core.Path.{_≡_, sym, ap, subst, _∙_}
 use mathlib.Core.Bool.{Bool, true, false, _&&_}
 use mathlib.Core.List.{List}
 use lib.ListN.{length, getD, take}
 use Rattle.jhash.specs.NameHash.{hashOf}
 use Rattle.image.specs.Tables.{tableOf, start, order}
-use Rattle.image.specs.Image.{Entry, holds}
 use Rattle.image.specs.Zero.{hasZero}
 use Rattle.image.proofs.Area.{Bytes}
 use Rattle.image.proofs.Bools.{not-both}
 use Rattle.writer.specs.declared.CQDBWriter.{CQDBWriter}
 use Rattle.writer.specs.State.{State, stateWith, refusesRepeats, fits, finishedSize, tooLarge}
 use Rattle.writer.specs.Put.{entryOf, writerWith, writerAfter}
-use Rattle.writer.specs.Close.{recorded}
 use Rattle.writer.proofs.Fits.{not-too-large}
 use Rattle.writer.proofs.Puts.{long-name, count-small}
 use Rattle.index.specs.Index.{slotCount, slot, firstEmptySlot, Right, indexedRefusal}
 use Rattle.index.specs.steps.Probe.{duplicateAt, probe}
-use Rattle.index.specs.steps.Decided.{InBounds, Decided}
-use Rattle.lists.proofs.Closable.{Accepted, accepted}
+use Rattle.index.specs.steps.Decided.{Decided}
+use Rattle.lists.proofs.Closable.{accepted}
 use Rattle.index.proofs.Probing.{probe-first}
 use Rattle.index.proofs.Contains.{PutProbe, put-probe, long-absent}
 use Rattle.index.proofs.PutRefusals.{refusal-full, refusal-none, refusal-zero, refusal-duplicate, refusal-large, put-accepts}
@@ -43,12 +41,8 @@ module _ (w : CQDBWriter) (counts buf words name : List ℕ) (id : ℕ) where
   Refuses k = Right (stateWith w counts buf) words → k ≡ indexedRefusal (stateWith w counts buf) words (entryOf name id)
 
   -- a refusal, whatever was lent
-  pub refused-with : (r h k n : ℕ) → r ≡ suc n → Refuses (suc n)
-      → (r ≡ 0 → InBounds w counts buf words name id h k) × (Right (stateWith w counts buf) words → Decided (stateWith w counts buf) words (entryOf name id) r)
-  refused-with r h k n e due = (
-    λ z. absurd (omega (arith, e, z)),
-    λ right. e ∙ due right,
-  )
+  pub refused-with : (r h k n : ℕ) → r ≡ suc n → Refuses (suc n) → Decided w counts buf words name id r h k
+  refused-with r h k n e due = record { bounds = λ z. absurd (omega (arith, e, z)); rule = λ right. e ∙ due right }
 
   pub unfit : false ≡ fits (stateWith w counts buf) → Refuses 2
   unfit fails right = absurd (not-both (fails ∙ accepted s (right .closes) .fitted))

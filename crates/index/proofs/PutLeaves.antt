@@ -1,6 +1,6 @@
 -- What a put by the index leaves: refused, all as it was; accepted, the entry, its count and its slot. Assumes nothing.
 use Prim.Native.Nat.{ℕ, _^_, _<_}
-use mathlib.Core.Path.{_≡_, refl, sym, ap, ap₂, subst, _∙_}
+use mathlib.Core.Path.{_≡_, refl, sym, ap₂, subst, _∙_}
 use mathlib.Core.List.{List}
 use lib.ListN.{length}
 use lib.Seq.{sets}
@@ -12,14 +12,14 @@ use Rattle.writer.specs.declared.CQDBWriter.{CQDBWriter}
 use Rattle.writer.specs.State.{State, stateWith}
 use Rattle.writer.specs.Put.{entryOf, writerWith, appended}
 use Rattle.writer.proofs.Puts.{appended-parts}
-use Rattle.index.specs.Index.{slotStored, slotInserted, Right, indexedRefusal, afterIndexed}
+use Rattle.index.specs.Index.{slotStored, slotInserted, Right, indexedRefusal}
 use Rattle.index.specs.Promise.{PutIndexed}
-use Rattle.index.specs.steps.Decided.{InBounds, Decided}
+use Rattle.index.specs.steps.Decided.{InBounds}
 use Rattle.index.proofs.PutRefusals.{kept-refused, left-accepted, none-refused}
 use Rattle.index.proofs.RightAfterPut.{right-after-put}
 
 module _ (w : CQDBWriter) (counts buf words name : List ℕ) (id d : ℕ)
-    (decided : Right (stateWith w counts buf) words → Decided (stateWith w counts buf) words (entryOf name id) d) where
+    (decided : Right (stateWith w counts buf) words → d ≡ indexedRefusal (stateWith w counts buf) words (entryOf name id)) where
   pub put-refused : (d ≡ 0 → ⊥) → PutIndexed (stateWith w counts buf) words (entryOf name id) d (stateWith w counts buf) words
   put-refused n =
       record {

@@ -1,5 +1,5 @@
 -- A right index stays right: an accepted put that takes the first empty slot of its probe, a close, and a buffer that grows. Assumes nothing.
-use Prim.Native.Nat.{ℕ, _+_, _*_, _/_, _^_, _≤_, _<_}
+use Prim.Native.Nat.{ℕ, _+_, _/_, _^_, _<_}
 use native.Mathlib.Omega.{arith}
 use mathlib.Core.Path.{_≡_, refl, sym, ap, ap₂, _∙_}
 use mathlib.Core.List.{List, [], _∷_, _++_, map}
@@ -8,20 +8,20 @@ use Rattle.jhash.specs.NameHash.{hashOf}
 use Rattle.image.specs.declared.Mode.{Mode}
 use Rattle.image.specs.declared.Mode.the-variants.{Twoway, Oneway}
 use Rattle.image.specs.Tables.{Bucket, empty, filled}
-use Rattle.image.specs.Image.{Entry, Placed, headSize, entriesSize, placed, bucketOf}
+use Rattle.image.specs.Image.{Entry, headSize, entriesSize, placed, bucketOf}
 use Rattle.image.proofs.Area.{Bytes}
 use Rattle.image.proofs.Sizes.{placed-append}
 use Rattle.writer.specs.State.{State}
 use Rattle.writer.specs.Put.{putRefusal, writerAfter, appended}
 use Rattle.writer.specs.Close.{recorded, closeRefusal}
-use Rattle.lists.specs.Calls.{put, putDue, WordId}
+use Rattle.lists.specs.Calls.{put, WordId}
 use Rattle.lists.proofs.ListWritten.{Written}
 use Rattle.lists.proofs.ListPuts.{put-due, appended-written}
 use Rattle.lists.proofs.ListCloses.{close-accepted}
 use Rattle.lists.proofs.Recorded.{written-recorded}
 use Rattle.index.specs.Index.{slotCount, slot, slotStored, firstEmptySlot, entryBuckets, Right}
 use Rattle.lists.proofs.Closable.{written, ends}
-use Rattle.index.proofs.Insert.{slots-more, length-stored, same-slot}
+use Rattle.index.proofs.Insert.{slots-more, length-stored}
 
 map-more : {A B : Type 0} (f : A → B) (xs ys : List A) → map f (xs ++ ys) ≡ map f xs ++ map f ys
 map-more f [] ys = refl

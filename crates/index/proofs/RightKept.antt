@@ -1,19 +1,17 @@
 -- An index is right for a fresh record while every slot is empty; a right one stays right when the buffer is closed, and when it grows. Assumes nothing.
-use Prim.Native.Nat.{ℕ, _+_, _*_, _-_, _≤_, _<_}
+use Prim.Native.Nat.{ℕ, _+_, _*_, _-_, _≤_}
 use native.Mathlib.Omega.{arith}
 use mathlib.Core.Path.{_≡_, refl, sym, ap, _∙_}
-use mathlib.Core.List.{List, [], _∷_, map}
+use mathlib.Core.List.{List, [], map}
 use lib.ListN.{length, getD, take, drop}
 use Rattle.image.specs.declared.Mode.{Mode}
 use Rattle.image.specs.Tables.{empty, insertAll, filled}
 use Rattle.image.specs.Image.{Entry, headSize, entriesSize, placed, bucketOf}
-use Rattle.image.specs.Stored.{between}
 use Rattle.image.proofs.Area.{Bytes}
 use Rattle.image.proofs.Between.{between-same}
 use Rattle.image.proofs.Buckets.{getD-empties}
-use Rattle.writer.specs.declared.CQDBWriter.{CQDBWriter}
 use Rattle.writer.specs.declared.Repeats.{Repeats}
-use Rattle.writer.specs.State.{State, stateWith, fresh}
+use Rattle.writer.specs.State.{State, fresh}
 use Rattle.writer.specs.Close.{recorded, afterClose}
 use Rattle.lists.proofs.ListWritten.{Written}
 use Rattle.lists.proofs.ListPuts.{fresh-written}

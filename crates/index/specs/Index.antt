@@ -1,4 +1,5 @@
--- The index of the names that a buffer holds: slots in lent words, which a put probes where 02 (viii)'s put walks the earlier entries.
+-- The index of the names that a buffer holds: slots in lent words, which a put probes where 02 (viii)'s put walks the
+-- earlier entries.
 use Prim.Native.Nat.{ℕ, _+_, _*_, _/_, _≤_, _<_}
 use mathlib.Core.Path.{_≡_}
 use mathlib.Core.Bool.{cond, _&&_}
@@ -7,21 +8,20 @@ use lib.ListN.{length, getD, set}
 use lib.Dec.{eqb, ltb, leb}
 use Rattle.image.specs.Tables.{Bucket, empty, start, order, firstEmpty, filled}
 use Rattle.image.specs.Image.{Entry, headSize, placed, bucketOf}
-use Rattle.writer.specs.declared.CQDBWriter.{CQDBWriter}
 use Rattle.writer.specs.State.{State}
 use Rattle.writer.specs.Put.{putRefusal, appended}
 use Rattle.writer.specs.Close.{recorded, closeRefusal}
 
--- the lent words are slots of two words each: a hash, then the offset of an entry; offset 0 marks an empty slot. An odd last word
--- has no meaning
+-- the lent words are slots of two words each: a hash, then the offset of an entry; offset 0 marks an empty slot. An odd
+-- last word has no meaning
 abbrev pub slotCount : List ℕ → ℕ
 slotCount words = length words / 2
 
 abbrev pub slot : List ℕ → ℕ → Bucket
 slot words k = record { hash = getD words (2 * k) 0; at = getD words (2 * k + 1) 0 }
 
--- hash and offset stored in slot k; inserted: in the first empty slot of the hash's probe sequence, which is that of the image's
--- own tables
+-- hash and offset stored in slot k; inserted: in the first empty slot of the hash's probe sequence, which is that of the
+-- image's own tables
 abbrev pub slotStored : List ℕ → ℕ → ℕ → ℕ → List ℕ
 slotStored words k h at = set (set words (2 * k) h) (2 * k + 1) at
 
@@ -36,8 +36,8 @@ slotInserted words h at = slotStored words (firstEmptySlot words h) h at
 unfoldable pub entryBuckets : State → List Bucket
 entryBuckets s = map bucketOf (placed headSize (recorded s))
 
--- the index is right: close would accept record and buffer, there are 256 counts, no entry is without a slot, and the slots are
--- what inserting the entries in put order into empty ones leaves, by the rule of the image's own tables
+-- the index is right: close would accept record and buffer, there are 256 counts, no entry is without a slot, and the slots
+-- are what inserting the entries in put order into empty ones leaves, by the rule of the image's own tables
 pub record Right (s : State) (words : List ℕ) : Type 0 where
   pub closes : closeRefusal s ≡ 0
   pub tables : length (s .counts) ≡ 256

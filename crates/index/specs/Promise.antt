@@ -10,7 +10,8 @@ use Rattle.writer.specs.Put.{appended}
 use Rattle.index.specs.Index.{slotCount, slotInserted, Right, indexedRefusal, afterIndexed, indexRefusal}
 
 -- a put by the index
-pub record PutIndexed (s : State) (words : List ℕ) (e : Entry) (refusal : ℕ) (t : State) (words′ : List ℕ) : Type 0 where
+pub record PutIndexed (s : State) (words : List ℕ) (e : Entry) (refusal : ℕ) (t : State)
+    (words′ : List ℕ) : Type 0 where
   -- whatever is lent, a refusal changes nothing, and an accepted put appends the entry and inserts its slot
   pub refused : (refusal ≡ 0 → ⊥) → (t ≡ s) × (words′ ≡ words)
   pub accepted : refusal ≡ 0

@@ -1,18 +1,10 @@
-// The index of the names that a buffer holds, in lent words, and a put that probes it: with repeats off it compares the name with
-// the entries of an equal hash alone, where `writer::put` walks all earlier ones.
+// The index of the names that a buffer holds, in lent words, and a put that probes it: with repeats off it compares the name
+// with the entries of an equal hash alone, where `writer::put` walks all earlier ones.
 ghost use mathlib.Core.Path.{_≡_};
-ghost use mathlib.Core.Bool.{true, false};
-ghost use mathlib.Core.List.{List, map};
-ghost use Prim.Native.Nat.{ℕ, _+_, _*_, _≤_, _<_};
-ghost use lib.ListN.{length, getD};
-ghost use Rattle.image.specs.Tables.{empty, filled};
-ghost use Rattle.image.specs.Image.{headSize, placed, bucketOf};
-ghost use Rattle.image.specs.Stored.{whole, entriesIn, between};
-ghost use Rattle.writer.specs.State.{stateWith, fits};
+ghost use Rattle.writer.specs.State.{stateWith};
 ghost use Rattle.writer.specs.Put.{entryOf};
-ghost use Rattle.index.specs.Index.{slotCount, slot, Right};
 ghost use Rattle.index.specs.Promise.{PutIndexed, Indexed};
-ghost use Rattle.index.specs.steps.Decided.{InBounds, Decided};
+ghost use Rattle.index.specs.steps.Decided.{FitsBuffer, Decided};
 ghost use Rattle.index.specs.steps.Fill.{FillPre, SlotsFilled};
 use image::entries::name_at;
 use image::entries::whole_length;
@@ -30,8 +22,7 @@ mod slots; // slots.rt: slots probed and stored
 
 // Is the record of this buffer's length, and its end in it?
 fn fits_buffer(w: CQDBWriter, buf: &[u8]) -> bool
-    ensures yes { λ r. ⌜ (r ≡ true → (w .length ≡ length (now (buf .entry))) × (2072 ≤ w .end) × (w .end ≤ w .length)) ⌝ }
-    ensures no { λ r. ⌜ (r ≡ false → (counts : List ℕ) → false ≡ fits (stateWith w counts (now (buf .entry)))) ⌝ }
+    ensures { λ r. ⌜ FitsBuffer w (now (buf .entry)) r ⌝ }
 {
     if w.length != buf.len() as u64 {
         return false;
@@ -72,13 +63,9 @@ fn decide(
     name: &[u8],
     id: u32,
 ) -> Decision
-    ensures bounds { λ r. ⌜
-        (r .refusal ≡ 0
-        → InBounds w (now (counts .entry)) (now (buf .entry)) (now (slots .entry)) (now (name .entry)) id (r .hash) (r .slot))
-        ⌝ }
-    ensures decided { λ r. ⌜
-        (Right (stateWith w (now (counts .entry)) (now (buf .entry))) (now (slots .entry))
-        → Decided (stateWith w (now (counts .entry)) (now (buf .entry))) (now (slots .entry)) (entryOf (now (name .entry)) id) (r .refusal))
+    ensures { λ r. ⌜
+        Decided w (now (counts .entry)) (now (buf .entry)) (now (slots .entry)) (now (name .entry)) id
+        (r .refusal) (r .hash) (r .slot)
         ⌝ }
 {
     if !fits_buffer(w, buf) {
@@ -127,8 +114,9 @@ pub fn put_indexed(
     id: u32,
 ) -> PutAnswer
     ensures { λ r. ⌜
-        PutIndexed (stateWith w (now (counts .entry)) (now (buf .entry))) (now (slots .entry)) (entryOf (now (name .entry)) id)
-        (r .refusal) (stateWith (r .writer) (now (counts .exit)) (now (buf .exit))) (now (slots .exit))
+        PutIndexed (stateWith w (now (counts .entry)) (now (buf .entry))) (now (slots .entry))
+        (entryOf (now (name .entry)) id) (r .refusal)
+        (stateWith (r .writer) (now (counts .exit)) (now (buf .exit))) (now (slots .exit))
         ⌝ }
 {
     let d = decide(w, &*counts, &*buf, &*slots, name, id);
@@ -144,8 +132,8 @@ pub fn put_indexed(
     PutAnswer { refusal: 0, writer }
 }
 
-// Inserts the entries of the buffer into empty slots, in put order. Internal: the caller knows that the entries are whole and that
-// there is a slot for each.
+// Inserts the entries of the buffer into empty slots, in put order. Internal: the caller knows that the entries are whole and
+// that there is a slot for each.
 fn fill(buf: &[u8], end: usize, entries: u32, slots: &mut [u32])
     requires { ⌜ FillPre (now buf) end entries (now slots) ⌝ }
     ensures { λ _. ⌜ SlotsFilled (now (buf .entry)) end entries (now (slots .entry)) (now (slots .exit)) ⌝ }
@@ -168,8 +156,8 @@ fn fill(buf: &[u8], end: usize, entries: u32, slots: &mut [u32])
     }
 }
 
-// Makes the index of the entries in the buffer, or is refused and changes nothing: with close's refusals, and with 24 where there
-// are more entries than slots. For a fresh record every slot is empty.
+// Makes the index of the entries in the buffer, or is refused and changes nothing: with close's refusals, and with 24 where
+// there are more entries than slots. For a fresh record every slot is empty.
 pub fn index(w: CQDBWriter, counts: &[u32; 256], buf: &[u8], slots: &mut [u32]) -> u32
     ensures { λ r. ⌜
         Indexed (stateWith w (now (counts .entry)) (now (buf .entry))) (now (slots .entry)) r (now (slots .exit))

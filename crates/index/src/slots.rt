@@ -22,12 +22,13 @@ fn has_name(bytes: &[u8], name: &[u8], at: u32) -> bool
     }
 }
 
-// Probes the m slots for a name of hash h: m + 1 where an entry has the name, otherwise the first empty slot, m where every slot
-// is taken.
+// Probes the m slots for a name of hash h: m + 1 where an entry has the name, otherwise the first empty slot, m where every
+// slot is taken.
 fn probe(bytes: &[u8], slots: &[u32], m: usize, h: u32, name: &[u8]) -> usize
     requires { ⌜ 2 * m ≤ length (now slots) ⌝ }
     ensures { λ r. ⌜
-        r ≡ probe m (slot (now (slots .entry))) h (hasNameAt (now (bytes .entry)) (now (name .entry))) (order m m (start h m))
+        r ≡ probe m (slot (now (slots .entry))) h
+        (hasNameAt (now (bytes .entry)) (now (name .entry))) (order m m (start h m))
         ⌝ }
 {
     if m == 0 {

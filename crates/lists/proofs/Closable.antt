@@ -1,14 +1,14 @@
 -- A record and a buffer that close would accept are written: the entries that the bytes hold stand there, one after the other. Assumes nothing.
-use Prim.Native.Nat.{ℕ, _+_, _*_, _-_, _^_, _≤_, _<_}
+use Prim.Native.Nat.{ℕ, _+_, _-_, _^_, _≤_, _<_}
 use native.Mathlib.Omega.{arith}
-use mathlib.Core.Path.{_≡_, refl, sym, ap, ap₂, _∙_}
+use mathlib.Core.Path.{_≡_, refl, sym, ap, _∙_}
 use mathlib.Core.Bool.{Bool, true, false, cond, not, _&&_}
-use mathlib.Core.List.{List, [], _∷_, _++_, append-nil}
+use mathlib.Core.List.{List, [], _∷_, append-nil}
 use lib.ListN.{length, getD, take, drop}
 use lib.Dec.{eqb}
 use borrow.Author.Tests.{eqb-true}
 use Rattle.image.specs.Bytes.{cat}
-use Rattle.image.specs.Image.{Entry, Placed, headSize, entryBytes, entriesSize, placed, count, backSize, backIn}
+use Rattle.image.specs.Image.{Entry, headSize, entryBytes, entriesSize, placed, count, backSize, backIn}
 use Rattle.image.specs.Stored.{whole}
 use Rattle.image.proofs.All.{all-each}
 use Rattle.image.proofs.At.{At}

@@ -11,7 +11,6 @@ use Rattle.image.specs.Image.{flagWord}
 use Rattle.image.proofs.Bools.{first, second}
 use Rattle.writer.specs.declared.Repeats.{Repeats}
 use Rattle.writer.specs.declared.Repeats.the-variants.{Off, On}
-use Rattle.writer.specs.declared.CQDBWriter.{CQDBWriter}
 use Rattle.writer.specs.State.{State, stateWith}
 use Rattle.modes.specs.Modes.{known, modeOf, repeatsOf, repeatsWord}
 use Rattle.modes.specs.Record.{Held, held, knownIn, stateOf, heldOf}

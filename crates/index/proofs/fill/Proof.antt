@@ -1,7 +1,7 @@
 -- `index::fill` meets its contract. The loop's invariant: the slots are those of the entries passed. Assumes nothing.
-use Prim.Native.Nat.{ℕ, _+_, _-_, _/_, _<_, _≤_}
+use Prim.Native.Nat.{_+_, _-_, _/_}
 use native.Mathlib.Omega.{arith}
-use mathlib.Core.Path.{_≡_, refl, sym, subst, _∙_}
+use mathlib.Core.Path.{refl, sym, subst}
 use lib.ListN.{length}
 use denote.Ref.{now}
 use Rattle.jhash.proofs.Outcomes.{told-refused, told-image-hash}

@@ -1,6 +1,6 @@
 -- `index::index` meets its contract. Assumes nothing.
 use native.Mathlib.Omega.{arith}
-use mathlib.Core.Path.{_≡_, refl, sym, _∙_}
+use mathlib.Core.Path.{sym, _∙_}
 use Rattle.writer.specs.State.{stateWith}
 use Rattle.index.proofs.IndexRefusals.{index-refused, index-full, index-made, fillable}
 use borrow.Author.Needs.{needs}

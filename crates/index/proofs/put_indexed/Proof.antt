@@ -1,7 +1,6 @@
 -- `index::put_indexed` meets its contract: the decision, then the stores. Assumes nothing.
 use Prim.Native.Nat.{ℕ, _^_, _<_}
 use native.Mathlib.Omega.{arith}
-use mathlib.Core.Path.{_≡_, refl, sym, _∙_}
 use lib.ListN.{length, getD}
 use Rattle.index.proofs.PutChecks.{end-word}
 use Rattle.index.proofs.PutLeaves.{put-refused, put-accepted}
@@ -22,29 +21,29 @@ returns : tie.Need-returns
 returns c =
     let a = c .before .before .before .before .before .before .before .before .args in
     let d = c .before .decide in
-    put-refused (a .w) (a .counts .now) (a .buf .now) (a .slots .now) (a .name .now) (a .id) (d .result .refusal) (d .ensures .1) (c .if1 .taken)
+    put-refused (a .w) (a .counts .now) (a .buf .now) (a .slots .now) (a .name .now) (a .id) (d .result .refusal) (d .ensures .rule) (c .if1 .taken)
 
 cast-store-slot : tie.Need-cast-store-slot
 cast-store-slot c =
     let s = c .before .before .before .before .before .before .before .before .before .before in
-    let bounds = c .before .before .before .decide .ensures .0 (c .before .before .if1 .left) in
+    let bounds = c .before .before .before .decide .ensures .bounds (c .before .before .if1 .left) in
     record { fits = end-word (s .args .w) (length (s .args .name .now)) (s .args .id) (bounds .size) }
 
 store-slot-requires : tie.Need-store-slot-requires
 store-slot-requires c κs =
-    c .before .before .before .decide .ensures .0 (c .before .before .if1 .left) .inside
+    c .before .before .before .decide .ensures .bounds (c .before .before .if1 .left) .inside
 
 raise-requires : tie.Need-raise-requires
 raise-requires c κs =
-    c .before .before .before .before .before .before .before .decide .ensures .0 (c .before .before .before .before .before .before .if1 .left) .count
+    c .before .before .before .before .before .before .before .decide .ensures .bounds (c .before .before .before .before .before .before .if1 .left) .count
 
 store-requires : tie.Need-store-requires
 store-requires c κs =
-    let bounds = c .before .before .before .before .before .before .before .before .before .decide .ensures .0 (c .before .before .before .before .before .before .before .before .if1 .left) in (bounds .entry, bounds .short)
+    let bounds = c .before .before .before .before .before .before .before .before .before .decide .ensures .bounds (c .before .before .before .before .before .before .before .before .if1 .left) in (bounds .entry, bounds .short)
 
 after-requires : tie.Need-after-requires
 after-requires c κs =
-    c .before .before .before .before .before .before .before .before .before .before .before .before .decide .ensures .0 (c .before .before .before .before .before .before .before .before .before .before .before .if1 .left) .size
+    c .before .before .before .before .before .before .before .before .before .before .before .before .decide .ensures .bounds (c .before .before .before .before .before .before .before .before .before .before .before .if1 .left) .size
 
 same-length-3 : tie.Need-same-length-3
 same-length-3 c = search needs
@@ -59,8 +58,8 @@ returns-2 c =
     let bytes : (i : ℕ) → getD (a .buf .now) i 0 < 256 = λ i. omega (arith, c .before .before .before .before .before .before .before .before .before .before .before .before .before .before .before .before .before .before .before .slice-known .given i) in
     let word : a .id < 2 ^ 32 = omega (arith, c .before .before .before .before .before .before .before .before .before .before .before .before .before .before .before .before .before .before .before .before .good) in
     let z = c .before .before .before .before .before .before .before .before .before .before .before .before .if1 .left in
-    put-accepted (a .w) (a .counts .now) (a .buf .now) (a .slots .now) (a .name .now) (a .id) (d .result .refusal) (d .ensures .1) z
-    (d .result .hash) (d .result .slot) (c .after .result) _ _ _ bytes word (d .ensures .0 z) (c .after .ensures) (c .before .before .before .before .before .raise .ensures)
+    put-accepted (a .w) (a .counts .now) (a .buf .now) (a .slots .now) (a .name .now) (a .id) (d .result .refusal) (d .ensures .rule) z
+    (d .result .hash) (d .result .slot) (c .after .result) _ _ _ bytes word (d .ensures .bounds z) (c .after .ensures) (c .before .before .before .before .before .raise .ensures)
     (c .before .before .before .store .ensures) (c .before .before .before .before .before .before .before .before .before .store-slot .ensures)
 
 pub put-indexed-spec : {M : Type 1} → statement M

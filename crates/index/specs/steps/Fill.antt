@@ -20,6 +20,7 @@ pub record FillPre (buf : List ℕ) (end entries : ℕ) (words : List ℕ) : Typ
 pub record SlotsFilled (buf : List ℕ) (end entries : ℕ) (words words′ : List ℕ) : Type 0 where
   pub slots : (k : ℕ) → k < slotCount words
       → slot words′ k
-      ≡ getD (filled (slotCount words) (map bucketOf (placed headSize (entriesIn entries (between buf 2072 end))))) k empty
+      ≡ getD (filled (slotCount words) (map bucketOf (placed headSize (entriesIn entries (between buf 2072 end))))) k
+      empty
   pub long : length words′ ≡ length words
   pub last : (i : ℕ) → 2 * slotCount words ≤ i → getD words′ i 0 ≡ getD words i 0

@@ -19,8 +19,8 @@ hasNameAt bytes name at = isHit (seeEntry bytes name at)
 abbrev pub duplicateAt : Bool → List ℕ → List ℕ → ℕ → Bool
 duplicateAt refuses bytes name at = refuses && hasNameAt bytes name at
 
--- a probe of m slots for a hash, along a probe sequence: m + 1 where v says that an entry of the hash is a match, otherwise the
--- first empty slot, m where there is none
+-- a probe of m slots for a hash, along a probe sequence: m + 1 where v says that an entry of the hash is a match, otherwise
+-- the first empty slot, m where there is none
 unfoldable pub probe : ℕ → (ℕ → Bucket) → ℕ → (ℕ → Bool) → List ℕ → ℕ
 probe m b h v [] = m
 probe m b h v (k ∷ ks) =

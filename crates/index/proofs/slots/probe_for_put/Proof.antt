@@ -1,10 +1,8 @@
 -- `index::slots::probe_for_put` meets its contract. Assumes nothing.
-use mathlib.Core.Path.{sym, ap, _∙_}
+use mathlib.Core.Path.{_∙_}
 use Rattle.image.specs.Tables.{start, order}
-use Rattle.writer.specs.declared.Repeats.{Repeats}
-use Rattle.writer.specs.State.{refusesRepeats}
 use Rattle.index.specs.Index.{slot}
-use Rattle.index.specs.steps.Probe.{duplicateAt, probe}
+use Rattle.index.specs.steps.Probe.{probe}
 use Rattle.index.proofs.Probing.{probe-by}
 use borrow.Author.Needs.{needs}
 use Rattle.index.proofs.slots.probe_for_put.Statement.{statement}
