@@ -1,7 +1,6 @@
 -- `build::finish_list` meets its contract. Assumes nothing.
-use Prim.Native.Nat.{ℕ, _≤_}
 use native.Mathlib.Omega.{arith}
-use mathlib.Core.Path.{_≡_, refl, ap, _∙_}
+use mathlib.Core.Path.{refl, ap}
 use borrow.Author.Needs.{needs}
 use Rattle.writer.specs.State.{State, stateWith}
 use Rattle.writer.proofs.Accepted.{stands, closes-image}
