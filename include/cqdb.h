@@ -467,7 +467,7 @@ cqdb_build_answer cqdb_build_parts(uint32_t mode, uint32_t repeats, uint8_t *buf
      a name is refused, the names are put one by one instead. That is linear, too: 2.1 times the time of a list whose names are all
      accepted at 4,096 names, 2.4 times at 100,000, when measured.
    - 4n words: linear. Each put looks into an index of the names. There is an index from 2n words on, but the fuller it gets the
-     more slots a put reads: with 2n words a put of 100,000 names took 8 times as long as with 4n.
+     more slots a put reads: with 2n words 100,000 names took 7 times as long as with 4n.
    - Fewer than 2n words: with repeats on linear, since no put looks for its name; with repeats off quadratic, since each put walks
      the entries before it: 16,000 names took 0.6 s.
    - With repeats on and whatever is lent, a name that is put k times costs k * k / 2 reads of buckets, as in cqdb_close: equal names

@@ -40,6 +40,7 @@ impl MemoryWriter {
     }
 
     /// The same where a name may be put again, as by a writer [`with_repeats`](Self::with_repeats).
+    /// A name that is put k times takes k²/2 steps, as in a close: equal names have one probe sequence in the image.
     pub fn build_with_repeats<K: AsRef<[u8]>>(
         flag: Flag,
         list: impl IntoIterator<Item = (K, u32)>,
