@@ -41,13 +41,15 @@
      round                           13 for each name                                                11
      name_round                      1.2 for each id
      readings_agree                  3 for each id below the back size
-     page                            7 for each line
+     page, page_part                 7 for each line
      ours                            13, 18 for each entry                                           6
      average, lengths                25, 86 for each entry                                           6
      begin                           16
      put, repeats on                 22
      put, repeats off                22, and 4.5 for each earlier entry: n puts take 2.2 x n x n      2
      close                           11, 16 for each entry                                           39
+     grown                           12
+     build_needs                     0.2 for each id
      build, 7 words for each name    13, 18 for each name                                            4
      build, 3 words for each name    31, 49 for each name                                            41
      build, no words, repeats on     27, 32 for each name                                            41

@@ -38,6 +38,9 @@ static void lengths(void) { kept = cqdb_lengths(image, size, counts); }
 static void page_length(void) { kept = cqdb_page_length(image, size); }
 static void version_number(void) { kept = cqdb_version_number(); }
 static void print(void) { kept = cqdb_page(image, size, page, sizeof page).length; }
+static void page_part(void) { kept = cqdb_page_part(image, size, 7, 70, page, sizeof page).length; }
+static void grown(void) { kept = cqdb_grown(&w, sizeof buf); }
+static void build_needs(void) { kept = cqdb_build_needs(CQDB_TWOWAY, sizeof names, ids, NAMES).bytes; }
 static void round_(void) { kept = cqdb_round(image, size, names, sizeof names, ends, 512, answers, 512).buckets; }
 static void name_round(void) { kept = cqdb_name_round(image, size, ids, 512, places, 512); }
 static void begin(void) { kept = cqdb_begin(&w, CQDB_TWOWAY, buf, sizeof buf); }
@@ -69,7 +72,8 @@ static const struct {
     const char *name;
     void (*call)(void);
 } calls[] = {{"version_number", version_number}, {"page_length", page_length}, {"hash", hash}, {"open", open_}, {"to_id", to_id}, {"to_str", to_str}, {"panel", panel}, {"readings_agree", readings_agree},
-             {"size_hint", size_hint}, {"home", home}, {"ours", ours}, {"average", average}, {"lengths", lengths}, {"page", print},
+             {"size_hint", size_hint}, {"home", home}, {"ours", ours}, {"average", average}, {"lengths", lengths}, {"page", print}, {"page_part", page_part}, {"grown", grown},
+             {"build_needs", build_needs},
              {"round", round_}, {"name_round", name_round}, {"begin", begin}, {"put, repeats on", put_on}, {"put, repeats off", put_off},
              {"close", close_}, {"build, 7 words for each name", build_7}, {"build, 3 words for each name", build_3},
              {"build, no words, repeats on", build_on}, {"build, no words, repeats off", build_off}, {"load", load}, {"name_on", name_on},

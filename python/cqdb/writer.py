@@ -81,8 +81,9 @@ class Writer:
             return False
         larger = zeros(min(max(needed, 2 * record.length), LARGEST_IMAGE))
         ctypes.memmove(larger, self._buffer, record.end)
-        self._buffer = larger
-        record.length = len(larger)
+        grown = calls.cqdb_grown_parts(record, len(larger))
+        accept(grown.refusal)
+        self._buffer, self._record = larger, grown.record
         return True
 
     def close(self) -> bytes:

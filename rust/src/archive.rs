@@ -385,6 +385,7 @@ pub fn page(image: &[u8], out: &mut [u8]) -> PageAnswer {
 /// The lines of `count` ids from `first` on, of those below the back size, in the first bytes of `out`, and their length; or
 /// the refusal.
 pub fn page_part(image: &[u8], first: u32, count: u32, out: &mut [u8]) -> PageAnswer {
+    // SAFETY: image and output are lent with their lengths; the output is written, and a `&mut` overlaps no image. Any ids are taken.
     unsafe { cqdb_page_part(image.as_ptr(), image.len(), first, count, out.as_mut_ptr(), out.len()) }
 }
 
@@ -428,6 +429,7 @@ pub fn close(record: Record, counts: &Counts, buf: &mut [u8]) -> CloseAnswer {
 
 /// The record of a buffer that has grown to this length, or the refusal.
 pub fn grown(record: Record, len: u64) -> RecordAnswer {
+    // SAFETY: the call is lent nothing: the record goes and comes by value.
     unsafe { cqdb_grown_parts(record, len) }
 }
 
@@ -529,5 +531,6 @@ pub fn build(
 /// How many bytes have room for the image of a list whose names have `names_len` bytes together, and how many words are worth
 /// lending to [`build`].
 pub fn build_needs(mode: u32, names_len: usize, ids: &[u32]) -> BuildNeeds {
+    // SAFETY: the ids are lent with their number, and are only read.
     unsafe { cqdb_build_needs(mode, names_len, ids.as_ptr(), ids.len()) }
 }

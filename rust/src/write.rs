@@ -8,7 +8,7 @@ use crate::refusal::{self, Refusal};
 use crate::zeros::zeros;
 
 /// The head of an image, which the entries follow.
-pub const HEAD: usize = 2_072;
+pub(crate) const HEAD: usize = 2_072;
 /// The length of the first buffer; it grows as needed.
 const FIRST: usize = 4_096;
 /// The archive's writer begins with repeats on: this crate's writers look for repeats themselves.
