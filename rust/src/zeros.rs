@@ -8,7 +8,8 @@ pub(crate) fn zeros(length: usize) -> Option<Vec<u8>> {
         return Some(Vec::new());
     }
     let layout = Layout::array::<u8>(length).ok()?;
-    // The layout is that of `length` bytes, at least one; a vector of bytes frees its memory by the same layout.
+    // SAFETY: the layout is that of `length` bytes, at least one; a vector of bytes frees its memory by the same
+    // layout.
     unsafe {
         let start = alloc_zeroed(layout);
         (!start.is_null()).then(|| Vec::from_raw_parts(start, length, length))

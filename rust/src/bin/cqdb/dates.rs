@@ -51,7 +51,7 @@ impl Windows {
         let first = self.list.partition_point(|window| window.id < id);
         let behind = self.list.partition_point(|window| window.id <= id);
         let name = db.name_on(id, self.date, &self.list[first..behind]).map_err(files::refused)?;
-        Ok(name.map(|name| &name[..]))
+        Ok(name.map(|name| name.as_ref()))
     }
 }
 

@@ -36,7 +36,7 @@ impl Question for Names {
     fn ask<'a>(&self, db: &CQDB<'a>, words: &[&'a [u8]]) -> Result<Vec<Said<'a>>, Failure> {
         questions::names_of_ids(words, |ids| {
             let names = db.name_round(ids).map_err(files::refused)?;
-            Ok(names.into_iter().map(|name| name.map(|name| &name[..])).collect())
+            Ok(names.into_iter().map(|name| name.map(|name| name.as_ref())).collect())
         })
     }
 }

@@ -30,6 +30,6 @@ impl Question for Panels {
     const VALUE: Value = Value::Name;
 
     fn ask<'a>(&self, db: &CQDB<'a>, words: &[&'a [u8]]) -> Result<Vec<Said<'a>>, Failure> {
-        questions::names_of_ids(words, |ids| Ok(ids.iter().map(|id| db.panel(*id).map(|name| &name[..])).collect()))
+        questions::names_of_ids(words, |ids| Ok(ids.iter().map(|id| db.panel(*id).map(|name| name.as_ref())).collect()))
     }
 }

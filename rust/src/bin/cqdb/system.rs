@@ -52,7 +52,7 @@ impl Map {
     pub fn new(file: &File, length: usize) -> io::Result<Map> {
         const PROT_READ: c_int = 1;
         const MAP_PRIVATE: c_int = 2;
-        // Without a wanted place, Linux chooses one that overlaps no memory of this process.
+        // SAFETY: without a wanted place, Linux chooses one that overlaps no memory of this process.
         let start = unsafe { mmap(null_mut(), length, PROT_READ, MAP_PRIVATE, file.as_raw_fd(), 0) };
         if start as isize == -1 {
             return Err(io::Error::last_os_error());
@@ -65,16 +65,17 @@ impl Deref for Map {
     type Target = [u8];
 
     fn deref(&self) -> &[u8] {
-        // The mapping is there until it is dropped, and nothing in this process writes to it. A program that writes to
-        // the file in place could change it; the tool's own commands replace files by a rename, which leaves the mapped
-        // file as it is. A file that gets shorter gives the signal SIGBUS, which `tell_where_a_file_was_cut` answers.
+        // SAFETY: the mapping is there until it is dropped, and nothing in this process writes to it. A program that
+        // writes to the file in place could change it; the tool's own commands replace files by a rename, which leaves
+        // the mapped file as it is. A file that gets shorter gives the signal SIGBUS, which `tell_where_a_file_was_cut`
+        // answers.
         unsafe { slice::from_raw_parts(self.start.cast(), self.length) }
     }
 }
 
 impl Drop for Map {
     fn drop(&mut self) {
-        // Nothing borrows the mapping any longer.
+        // SAFETY: nothing borrows the mapping any longer.
         unsafe { munmap(self.start, self.length) };
     }
 }
@@ -86,7 +87,7 @@ pub fn lock(file: &File, wait: bool) -> io::Result<bool> {
     const LOCK_NB: c_int = 4;
     let operation = if wait { LOCK_EX } else { LOCK_EX | LOCK_NB };
     loop {
-        // The file is open.
+        // SAFETY: the file is open.
         if unsafe { flock(file.as_raw_fd(), operation) } == 0 {
             return Ok(true);
         }
@@ -104,7 +105,7 @@ pub fn rename_to_free(from: &Path, to: &Path) -> io::Result<()> {
     const AT_FDCWD: c_int = -100;
     const RENAME_NOREPLACE: u32 = 1;
     let (old, new) = (CString::new(from.as_os_str().as_bytes())?, CString::new(to.as_os_str().as_bytes())?);
-    // Both are texts that end with a zero byte.
+    // SAFETY: both are texts that end with a zero byte.
     if unsafe { renameat2(AT_FDCWD, old.as_ptr(), AT_FDCWD, new.as_ptr(), RENAME_NOREPLACE) } == 0 {
         return Ok(());
     }
@@ -119,8 +120,8 @@ pub fn rename_to_free(from: &Path, to: &Path) -> io::Result<()> {
 fn on_signal(signal: c_int, handler: usize, flags: c_int) {
     let mut before = Action { handler: 0, mask: [0; 16], flags: 0, restorer: 0 };
     let action = Action { handler, mask: [0; 16], flags, restorer: 0 };
-    // The handlers below call nothing but unlink, write, raise and _exit, which a handler may call. A signal that is
-    // ignored, as by nohup, stays ignored.
+    // SAFETY: the handlers below call nothing but unlink, write, raise and _exit, which a handler may call. A signal
+    // that is ignored, as by nohup, stays ignored.
     unsafe {
         sigaction(signal, null(), &mut before);
         if before.handler != SIG_IGN {
@@ -140,7 +141,7 @@ pub fn tell_where_a_file_was_cut() {
     extern "C" fn told(_: c_int) {
         const TEXT: &[u8] = b"cqdb: a file became shorter while it was read\n";
         remove_new_file();
-        // The text is there for ever.
+        // SAFETY: the text is there for ever.
         unsafe {
             write(2, TEXT.as_ptr().cast(), TEXT.len());
             _exit(2)
@@ -155,7 +156,7 @@ static NEW_FILE: AtomicPtr<c_char> = AtomicPtr::new(null_mut());
 fn remove_new_file() {
     let path = NEW_FILE.load(Ordering::SeqCst);
     if !path.is_null() {
-        // A path that is not null ends with a zero byte.
+        // SAFETY: A path that is not null ends with a zero byte.
         unsafe { unlink(path) };
     }
 }
@@ -168,8 +169,8 @@ impl RemovedAtSignal {
     pub fn new(path: &Path) -> io::Result<RemovedAtSignal> {
         extern "C" fn end(signal: c_int) {
             remove_new_file();
-            // The raised signal has its default action again; where that does not end the process, since it is process
-            // 1, the last call does.
+            // SAFETY: the raised signal has its default action again; where that does not end the process, since it is
+            // process 1, the last call does.
             unsafe {
                 raise(signal);
                 _exit(128 + signal)
@@ -188,7 +189,8 @@ impl Drop for RemovedAtSignal {
     fn drop(&mut self) {
         let path = NEW_FILE.swap(null_mut(), Ordering::SeqCst);
         if !path.is_null() {
-            // It came from `into_raw`. A handler runs in this thread, the only one, and from here on it sees null.
+            // SAFETY: it came from `into_raw`. A handler runs in this thread, the only one, and from here on it sees
+            // null.
             drop(unsafe { CString::from_raw(path) });
         }
     }
