@@ -224,14 +224,8 @@ extern "C" {
     fn cqdb_ours(image: *const u8, len: usize) -> u32;
     fn cqdb_page_length(image: *const u8, len: usize) -> u64;
     fn cqdb_page(image: *const u8, len: usize, out: *mut u8, out_len: usize) -> PageAnswer;
-    fn cqdb_page_part(
-        image: *const u8,
-        len: usize,
-        first: u32,
-        count: u32,
-        out: *mut u8,
-        out_len: usize,
-    ) -> PageAnswer;
+    fn cqdb_page_part(image: *const u8, len: usize, first: u32, count: u32, out: *mut u8, out_len: usize)
+        -> PageAnswer;
     fn cqdb_round_words(
         image: *const u8,
         len: usize,

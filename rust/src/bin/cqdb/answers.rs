@@ -62,8 +62,8 @@ impl<'a> Form<'a> {
         Ok(Form { layout, value, positions: args.has(&ALL), missing, between, end })
     }
 
-    /// Prints the line of an answer. The position is that of the image in its bundle; `word` is the question where it is
-    /// no id. Names are not copied, since one may be as large as its image.
+    /// Prints the line of an answer. The position is that of the image in its bundle; `word` is the question where it
+    /// is no id. Names are not copied, since one may be as large as its image.
     pub fn print(&self, out: &mut Output, position: Option<u64>, row: Row, word: Option<&[u8]>) -> Result<(), Failure> {
         if self.layout == Layout::Json {
             return self.json(out, position, row, word);

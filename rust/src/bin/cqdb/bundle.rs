@@ -17,11 +17,11 @@ pub const COMMAND: Command = Command {
     text: "
 A bundle holds images one behind the other; an empty file, or one that is not
 there yet, holds none. 'append' puts each IMAGE behind the last, or to standard
-output where the BUNDLE is called -; runs side by side wait for each other. 'list' prints a line for each image: its position from 0, its
-number of entries and its size. 'extract' writes the image at a position to a file
-of its own, or to standard output where it is called -; the exit status is 1 where
-the bundle has no such position. Other commands name the image at position 1 by
-BUNDLE:1.
+output where the BUNDLE is called -; runs side by side wait for each other.
+'list' prints a line for each image: its position from 0, its number of entries
+and its size. 'extract' writes the image at a position to a file of its own, or
+to standard output where it is called -; the exit status is 1 where the bundle
+has no such position. Other commands name the image at position 1 by BUNDLE:1.
 ",
     options: &[FORCE],
     operands: (2, usize::MAX),

@@ -1,5 +1,5 @@
-//! What takes time that grows with the square of a number: entries whose names are equal stand in one table, and each search
-//! for one of them passes the others.
+//! What takes time that grows with the square of a number: entries whose names are equal stand in one table, and each
+//! search for one of them passes the others.
 use cqdb::CQDB;
 
 use crate::outcome;

@@ -143,8 +143,8 @@ const ROUND: usize = 512;
 /// A round ends behind so many bytes, since its names are joined in memory.
 const BYTES: usize = 1 << 20;
 
-/// Calls with the questions in rounds of up to 512: the operands from a place on, or the lines of standard input where there
-/// is none. From a terminal each line is a round, so that its answer comes at once.
+/// Calls with the questions in rounds of up to 512: the operands from a place on, or the lines of standard input where
+/// there is none. From a terminal each line is a round, so that its answer comes at once.
 pub fn rounds(args: &Args, from: usize, mut ask: impl FnMut(&[&[u8]]) -> Result<(), Failure>) -> Result<(), Failure> {
     if args.operand(from).is_some() {
         let words: Vec<&[u8]> = args.bytes_from(from).collect();
