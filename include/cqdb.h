@@ -11,7 +11,8 @@
      length is 0 it may be NULL, which is taken as no bytes.
    - `counts` points to 256 words, those of cqdb_lengths to 16, and `w` to a whole cqdb_writer.
    - What a call writes (the buffer of cqdb_put, cqdb_close, cqdb_sheet_write, cqdb_bundle_append, cqdb_load and cqdb_build, the counts, the writer,
-     the output of cqdb_page and cqdb_page_part, the answers of cqdb_round and cqdb_name_round,
+     the slots of cqdb_index and cqdb_put_indexed, the output of cqdb_page and cqdb_page_part, the answers of cqdb_round and
+     cqdb_name_round,
      the refusals and the work of cqdb_build) overlaps nothing else that the same call is lent: no name, no list, no buffer, no counts and no image.
      What a call only reads may overlap.
    - Nobody else writes to what is lent while the call runs. That goes for the bytes of a mapped file (mmap) too: a program that
@@ -47,6 +48,9 @@
      begin                           16
      put, repeats on                 22
      put, repeats off                22, and 4.5 for each earlier entry: n puts take 2.2 x n x n      2
+     put_indexed                     16, 23, with either choice of repeats; 4 words for each name
+     index                           11, 18 for each entry
+     index_words                     1
      close                           11, 16 for each entry                                           39
      grown                           12
      build_needs                     0.2 for each id
@@ -382,7 +386,8 @@ static inline uint32_t cqdb_begin_with(cqdb_writer *w, uint32_t mode, uint32_t r
 
 /* Makes *w, whatever it held, a fresh writer for the buffer: the mode, repeats off, the buffer's length, end 2,072,
    otherwise zeros. Reads and changes no byte of the buffer. Gives 0, or the first refusal that applies: 2 for a mode that is
-   neither 0 nor 1, 1 for a buffer under 2,072 bytes. Each put then looks at all earlier entries (see cqdb_put). */
+   neither 0 nor 1, 1 for a buffer under 2,072 bytes. Each cqdb_put then looks at all earlier entries; cqdb_put_indexed and
+   cqdb_build do not. */
 CQDB_LENGTH_ALONE(3) CQDB_INLINED
 static inline uint32_t cqdb_begin(cqdb_writer *w, uint32_t mode, const uint8_t *buf, size_t len) {
     return cqdb_begin_with(w, mode, CQDB_REPEATS_OFF, buf, len);
@@ -404,7 +409,7 @@ static inline uint32_t cqdb_begin_repeats(cqdb_writer *w, uint32_t mode, const u
 
    With repeats off a put walks all earlier entries, some 5 ns for each with names of 9 bytes. So n puts take n x n / 2 such
    steps: 40 ms for 4,096 names, half a minute for 100,000. With repeats on a put does not look at them: 4,096 puts take
-   0.1 ms, 100,000 take 3 ms.
+   0.1 ms, 100,000 take 3 ms. With repeats off cqdb_put_indexed takes as little.
 
    The bytes at w->end are those where the last close placed its tables. After an accepted put the buffer is therefore no
    image, though its head is still that of the last close and cqdb_open may accept it. After A->0, B->1, close and C->2,
@@ -440,6 +445,55 @@ static inline cqdb_close_answer cqdb_close(const cqdb_writer *w, uint8_t *buf, s
     cqdb_close_parts_answer a = cqdb_close_parts(cqdb_record_of(w), w->counts, buf, len);
     cqdb_close_answer c = {a.refusal, a.size};
     return c;
+}
+
+/* Single puts in constant time, also with repeats off: by an index, in words that the caller lends. A put by the index compares
+   its name with the entries of an equal hash alone. The index is no part of the image: both ways of putting make the same bytes.
+
+   An index is right for a writer and its buffer when cqdb_index made it, in words of this number, and since then the writer, the
+   buffer's bytes from 2,072 to w->end and the words were changed by cqdb_put_indexed, cqdb_close and cqdb_grown alone; refused
+   calls of any kind do not matter. For a writer that is fresh from cqdb_begin, words that are all 0 are right as well. Whatever
+   else the words hold, no call touches anything outside what it is lent, each call ends, a refusal changes nothing, and an
+   accepted put appends exactly its entry; but it may be refused with 16 or 24 without need, or accept a name that an earlier
+   entry has. */
+
+/* How many words to lend for so many names: 4 for each, so that the index is half full at the end; 2^64 - 1 where that is more
+   than a size can be. An index of n words, an odd last one apart, has room for n / 2 names. The fuller it gets the longer a put
+   takes: with 2 words for each name, seven times as long at 100,000. */
+size_t cqdb_index_words(size_t names);
+
+/* The archive exports cqdb_index_parts and cqdb_put_indexed_parts, which cqdb_index and cqdb_put_indexed call. The second takes the
+   record in place: the words mode, repeats, entries and back, and the sizes length and end. */
+uint32_t cqdb_index_parts(cqdb_record record, const uint32_t *counts, const uint8_t *buf, size_t len, uint32_t *slots, size_t n);
+uint32_t cqdb_put_indexed_parts(uint32_t *numbers, uint64_t *sizes, uint32_t *counts, uint8_t *buf, size_t len,
+                                uint32_t *slots, size_t n, const uint8_t *name, size_t name_len, uint32_t id);
+
+/* The writer begins with these four words and two sizes; elsewhere this line does not compile. */
+typedef char cqdb_writer_in_place[offsetof(cqdb_writer, back) == 12 && offsetof(cqdb_writer, length) == 16 &&
+                                  offsetof(cqdb_writer, end) == 24 ? 1 : -1];
+
+/* Makes the n words at slots the index of the entries in the buffer, whatever they held; of a fresh writer, by clearing them. Changes
+   nothing else. Gives 0, or the first refusal that applies, and then the words stay as they were: 2 and 4 as cqdb_close gives
+   them, 24 when there are more entries than n / 2. Call it again with more words before the index is full. It walks the entries
+   twice: an index that grows by a factor when it is half full costs each put a constant time more. */
+static inline uint32_t cqdb_index(const cqdb_writer *w, const uint8_t *buf, size_t len, uint32_t *slots, size_t n) {
+    return cqdb_index_parts(cqdb_record_of(w), w->counts, buf, len, slots, n);
+}
+
+/* By a right index: cqdb_put with the writer's own choice of repeats, and the index is right again. Gives 0, or put's refusals in
+   put's order (2, 13, 16, 3; not 4, since the entries of a right index are the writer's), or else 24 when every slot is taken; the
+   put would be accepted by a larger index. Appends the entry, raises the writer's numbers and writes the two words of a slot, and
+   changes no other byte. By any other words: see above; 2 is given when the writer's mode, repeats, length or end does not fit the
+   buffer, or the count of the name's table cannot be raised. The other counts are not looked at. */
+static inline uint32_t cqdb_put_indexed(cqdb_writer *w, uint8_t *buf, size_t len, uint32_t *slots, size_t n,
+                                        const uint8_t *name, size_t name_len, uint32_t id) {
+    return cqdb_put_indexed_parts((uint32_t *)w, (uint64_t *)w + 2, w->counts, buf, len, slots, n, name, name_len, id);
+}
+
+/* The same of a name that is a C string. */
+static inline uint32_t cqdb_put_indexed_text(cqdb_writer *w, uint8_t *buf, size_t len, uint32_t *slots, size_t n, const char *name,
+                                             uint32_t id) {
+    return cqdb_put_indexed(w, buf, len, slots, n, (const uint8_t *)name, strlen(name), id);
 }
 
 /* A whole list in one call. */

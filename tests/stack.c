@@ -15,7 +15,7 @@
 
 static uint8_t image[ROOM], buf[ROOM], file[2 * ROOM], page[45 * NAMES], names[9 * NAMES];
 static uint64_t ends[NAMES];
-static uint32_t ids[NAMES], refusals[NAMES], work[7 * NAMES], counts[16];
+static uint32_t ids[NAMES], refusals[NAMES], work[7 * NAMES], counts[16], slots[16];
 static size_t size;
 static cqdb_writer w;
 static cqdb_id_answer answers[512];
@@ -46,6 +46,9 @@ static void name_round(void) { kept = cqdb_name_round(image, size, ids, 512, pla
 static void begin(void) { kept = cqdb_begin(&w, CQDB_TWOWAY, buf, sizeof buf); }
 static void put_on(void) { w.repeats = CQDB_REPEATS_ON, kept = cqdb_put(&w, buf, sizeof buf, names, 9, 1); }
 static void put_off(void) { w.repeats = CQDB_REPEATS_OFF, kept = cqdb_put(&w, buf, sizeof buf, names + 9, 9, 2); }
+static void index_(void) { kept = cqdb_index(&w, buf, sizeof buf, slots, 16); }
+static void put_indexed(void) { kept = cqdb_put_indexed(&w, buf, sizeof buf, slots, 16, names + 18, 9, 3); }
+static void index_words(void) { kept = cqdb_index_words(NAMES); }
 static void close_(void) { kept = cqdb_close(&w, buf, sizeof buf).size; }
 static void built(size_t words, uint32_t repeats) {
     cqdb_build_answer a = cqdb_build(CQDB_TWOWAY, repeats, buf, sizeof buf, names, sizeof names, ends, ids, NAMES, refusals, NAMES, work, words);
@@ -75,7 +78,7 @@ static const struct {
              {"size_hint", size_hint}, {"home", home}, {"ours", ours}, {"average", average}, {"lengths", lengths}, {"page", print}, {"page_part", page_part}, {"grown", grown},
              {"build_needs", build_needs},
              {"round", round_}, {"name_round", name_round}, {"begin", begin}, {"put, repeats on", put_on}, {"put, repeats off", put_off},
-             {"close", close_}, {"build, 7 words for each name", build_7}, {"build, 3 words for each name", build_3},
+             {"index", index_}, {"put_indexed", put_indexed}, {"index_words", index_words}, {"close", close_}, {"build, 7 words for each name", build_7}, {"build, 3 words for each name", build_3},
              {"build, no words, repeats on", build_on}, {"build, no words, repeats off", build_off}, {"load", load}, {"name_on", name_on},
              {"bundle_append", bundle_append}, {"bundle_open", bundle_open}, {"bundle_count", bundle_count}, {"sheet_write", sheet_write},
              {"sheet_read", sheet_read}, {"references_first", references_first}};

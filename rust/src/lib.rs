@@ -33,7 +33,6 @@ mod average;
 mod build;
 mod bundle;
 mod flag;
-mod held;
 mod load;
 mod name;
 mod order;
