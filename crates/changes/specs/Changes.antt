@@ -1,4 +1,4 @@
--- Changes: the ids that two images, any bytes, name differently. An added call: naming an id is 01's rule, the upper hint its walk's.
+-- Changes: the ids that two images, any bytes, name differently. An added call, by 01's naming and upper hint.
 use Prim.Native.Nat.{ℕ, zero, suc, _+_, _-_, max}
 use mathlib.Core.Bool.{Bool, true, false, not}
 use mathlib.Core.List.{List}
@@ -25,7 +25,8 @@ differs old new id = not (sameNames (nameGiven old id) (nameGiven new id))
 -- the first of m ids from `from` on that they name differently, or none
 unfoldable pub firstAmong : List ℕ → List ℕ → ℕ → ℕ → Option ℕ
 firstAmong old new from zero = none
-firstAmong old new from (suc m) = elim (differs old new from) [ true ↦ some from | false ↦ firstAmong old new (from + 1) m ]
+firstAmong old new from (suc m) =
+    elim (differs old new from) [ true ↦ some from | false ↦ firstAmong old new (from + 1) m ]
 
 -- the first id from `from` on, below the upper bound
 unfoldable pub firstChange : List ℕ → List ℕ → ℕ → Option ℕ

@@ -44,15 +44,18 @@ pub record MovesTo (old new : List ℕ) (id other : ℕ) : Type 0 where
 
 pub record Compared : Type 0 where
   -- "what is not listed is named alike by both, byte for byte; what is listed is not"
-  pub differs-exactly : (old new : List ℕ) (id : ℕ) → (differs old new id ≡ true) ↔ ¬ (nameGiven old id ≡ nameGiven new id)
-  pub alike-exactly : (old new : List ℕ) (id : ℕ) → (differs old new id ≡ false) ↔ (nameGiven old id ≡ nameGiven new id)
-  -- the id of an answer is the first that differs; and where none is answered, no id from there on differs, however large
+  pub differs-exactly : (old new : List ℕ) (id : ℕ)
+      → (differs old new id ≡ true) ↔ ¬ (nameGiven old id ≡ nameGiven new id)
+  pub alike-exactly : (old new : List ℕ) (id : ℕ)
+      → (differs old new id ≡ false) ↔ (nameGiven old id ≡ nameGiven new id)
+  -- the id of an answer is the first that differs; where none is answered, no id from there on differs, however large
   pub first-exactly : (old new : List ℕ) (from k : ℕ) → (firstChange old new from ≡ some k) ↔ First old new from k
   pub none-exactly : (old new : List ℕ) (from : ℕ)
       → (firstChange old new from ≡ none) ↔ ((id : ℕ) → from ≤ id → nameGiven old id ≡ nameGiven new id)
   -- at the upper bound and above it both name nothing
-  pub none-above : (old new : List ℕ) (id : ℕ) → upper old new ≤ id → (nameGiven old id ≡ none) × (nameGiven new id ≡ none)
-  -- "Repeated calls list every change once, in rising order": as many calls as there are ids list, of these ids, those that differ
+  pub none-above : (old new : List ℕ) (id : ℕ) → upper old new ≤ id
+      → (nameGiven old id ≡ none) × (nameGiven new id ≡ none)
+  -- "Repeated calls list every change once, in rising order": as many calls as there are ids list those that differ
   pub lists-changes : (old new : List ℕ) (from m : ℕ) → upper old new - from ≤ m
       → calls old new from m ≡ keep (differs old new) (range from (upper old new - from))
   -- "equal images have none"
