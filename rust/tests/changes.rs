@@ -30,7 +30,11 @@ fn what_was_and_is() {
         ]
     );
     let back: Vec<_> = changes(&new, &old).map(|c| (c.id, c.before, c.after)).collect();
-    assert_eq!(back, all.iter().map(|c| (c.id, c.after, c.before)).collect::<Vec<_>>(), "swapped images, swapped answers");
+    assert_eq!(
+        back,
+        all.iter().map(|c| (c.id, c.after, c.before)).collect::<Vec<_>>(),
+        "swapped images, swapped answers"
+    );
 }
 
 #[test]

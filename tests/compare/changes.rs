@@ -73,7 +73,9 @@ impl Run {
             self.tally.rule(back, answer(new, old, wanted), || format!("from {from}, the images exchanged"));
             from = wanted.map_or(from, |id| u64::from(id) + 1);
         }
-        for from in [upper(old, new), random.below(upper(old, new) as usize + 2) as u64, 1 << 32, u64::MAX, random.next()] {
+        for from in
+            [upper(old, new), random.below(upper(old, new) as usize + 2) as u64, 1 << 32, u64::MAX, random.next()]
+        {
             let wanted = ids.iter().copied().find(|&id| u64::from(id) >= from);
             self.tally.rule(ours::next_change(old, new, from), answer(old, new, wanted), || format!("from {from}"));
         }
@@ -171,7 +173,10 @@ fn main() {
         "changes: {} pairs with changes, {} without: {} ids with another name, {} with a name in one image only; {} names moved",
         run.with, run.without, run.renamed, run.one_sided, run.moved
     );
-    assert!(run.with > 0 && run.without > 0 && run.renamed > 0 && run.one_sided > 0 && run.moved > 0, "a case was not met");
+    assert!(
+        run.with > 0 && run.without > 0 && run.renamed > 0 && run.one_sided > 0 && run.moved > 0,
+        "a case was not met"
+    );
     println!("changes: {} answers compared with the rule: {} different", run.tally.rule, run.tally.different);
     std::process::exit(i32::from(run.tally.different > 0));
 }
