@@ -12,8 +12,7 @@
    - `counts` points to 256 words, those of cqdb_lengths to 16, and `w` to a whole cqdb_writer.
    - What a call writes (the buffer of cqdb_put, cqdb_close, cqdb_sheet_write, cqdb_bundle_append, cqdb_load and cqdb_build, the counts, the writer,
      the slots of cqdb_index and cqdb_put_indexed, the output of cqdb_page and cqdb_page_part, the answers of cqdb_round and
-     cqdb_name_round,
-     the refusals and the work of cqdb_build) overlaps nothing else that the same call is lent: no name, no list, no buffer, no counts and no image.
+     cqdb_name_round, the refusals and the work of cqdb_build) overlaps nothing else that the same call is lent: no name, no list, no buffer, no counts and no image.
      What a call only reads may overlap.
    - Nobody else writes to what is lent while the call runs. That goes for the bytes of a mapped file (mmap) too: a program that
      writes to the file in place changes them, and one that makes it shorter takes them away (SIGBUS). Replace an image by a
@@ -39,6 +38,8 @@
      to_str, panel                   3 to 5
      size_hint, page_length          3
      name_on                         10, and each window is read once
+     next_change                     3 for each id from the first one to the change
+     moved                           13 to 19
      round                           13 for each name                                                11
      name_round                      1.2 for each id
      readings_agree                  3 for each id below the back size
@@ -683,6 +684,33 @@ typedef struct {
    no name. Refusals: 22 when a date does not exist or is out of bounds, the one asked about or one of a window; 23 when none is,
    and a window does not start before its end. Changes nothing, and reads each window once. */
 cqdb_on_answer cqdb_name_on(const uint8_t *image, size_t len, uint32_t id, cqdb_date date, const cqdb_window *windows, size_t n);
+
+/* Two images compared: which ids they name differently, and where an old name went. Both calls take any bytes as images, opened or
+   not, are never refused and change nothing. */
+
+/* found is 1 or 0. before is what cqdb_to_str gives for id in the old image, after what it gives in the new one; before.start counts
+   from the old image, after.start from the new one. All numbers are 0 where no change is found. */
+typedef struct {
+    uint32_t found;
+    uint32_t id;
+    cqdb_str_answer before;
+    cqdb_str_answer after;
+} cqdb_change_answer;
+
+/* The first id from `from` on, below the larger of the two cqdb_size_hint at 0, that the two images name differently: by a name and
+   another name, byte for byte, or by a name and none. Where none is found, no id from there on is named differently. To list all
+   changes, in rising order, begin with 0 and go on with the id found plus 1: from has 64 bits, so that the last step does not wrap. */
+cqdb_change_answer cqdb_next_change(const uint8_t *old_image, size_t old_len, const uint8_t *new_image, size_t new_len, uint64_t from);
+
+/* found is 1 or 0; both numbers are 0 where the name has not moved. */
+typedef struct {
+    uint32_t found;
+    uint32_t id;
+} cqdb_moved_answer;
+
+/* Whether the old name of an id is now another id's name: found is 1 where the id has a name in the old image and cqdb_to_id of that
+   name, in the new image, finds another id, which the answer gives. */
+cqdb_moved_answer cqdb_moved(const uint8_t *old_image, size_t old_len, const uint8_t *new_image, size_t new_len, uint32_t id);
 
 /* A whole round in one call, in both directions. The archive exports cqdb_round_words and cqdb_name_round_words, which take the
    answers as words of 32 bits, four to an answer, as the structs above lie in memory; cqdb_round and cqdb_name_round hand the

@@ -64,6 +64,8 @@ static void name_on(void) {
     cqdb_window window = {77, {2024, 1, 1}, {2025, 1, 1}};
     kept = cqdb_name_on(image, size, 77, date, &window, 1).start;
 }
+static void next_change(void) { kept = cqdb_next_change(image, size, image, size, 0).found; }
+static void moved(void) { kept = cqdb_moved(image, size, image, size, 77).found; }
 static void bundle_append(void) { kept = cqdb_bundle_append(file, sizeof file, size, image, size).length; }
 static void bundle_open(void) { kept = cqdb_bundle_open(file, 2 * size, 1).num; }
 static void bundle_count(void) { kept = cqdb_bundle_count(file, 2 * size).images; }
@@ -80,7 +82,7 @@ static const struct {
              {"round", round_}, {"name_round", name_round}, {"begin", begin}, {"put, repeats on", put_on}, {"put, repeats off", put_off},
              {"index", index_}, {"put_indexed", put_indexed}, {"index_words", index_words}, {"close", close_}, {"build, 7 words for each name", build_7}, {"build, 3 words for each name", build_3},
              {"build, no words, repeats on", build_on}, {"build, no words, repeats off", build_off}, {"load", load}, {"name_on", name_on},
-             {"bundle_append", bundle_append}, {"bundle_open", bundle_open}, {"bundle_count", bundle_count}, {"sheet_write", sheet_write},
+             {"next_change", next_change}, {"moved", moved}, {"bundle_append", bundle_append}, {"bundle_open", bundle_open}, {"bundle_count", bundle_count}, {"sheet_write", sheet_write},
              {"sheet_read", sheet_read}, {"references_first", references_first}};
 
 static void (*running)(void);

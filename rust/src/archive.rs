@@ -166,6 +166,23 @@ pub struct OnAnswer {
     pub start: u64,
 }
 
+/// An id that two images name differently, with the places of both names; all 0 where there is none.
+#[repr(C)]
+#[derive(Clone, Copy, Debug, PartialEq, Eq)]
+pub struct ChangeAnswer {
+    pub found: u32,
+    pub id: u32,
+    pub before: StrAnswer,
+    pub after: StrAnswer,
+}
+
+#[repr(C)]
+#[derive(Clone, Copy, Debug, PartialEq, Eq)]
+pub struct MovedAnswer {
+    pub found: u32,
+    pub id: u32,
+}
+
 /// The buckets read over the different names of a round.
 #[repr(C)]
 #[derive(Clone, Copy, Debug, PartialEq, Eq)]
@@ -302,6 +319,8 @@ extern "C" {
     fn cqdb_average(image: *const u8, len: usize) -> AverageAnswer;
     fn cqdb_lengths(image: *const u8, len: usize, counts: *mut u32) -> u32;
     fn cqdb_name_on(image: *const u8, len: usize, id: u32, date: Date, windows: *const Window, n: usize) -> OnAnswer;
+    fn cqdb_next_change(old: *const u8, old_len: usize, new: *const u8, new_len: usize, from: u64) -> ChangeAnswer;
+    fn cqdb_moved(old: *const u8, old_len: usize, new: *const u8, new_len: usize, id: u32) -> MovedAnswer;
     fn cqdb_build_parts(
         mode: u32,
         repeats: u32,
@@ -532,6 +551,18 @@ pub fn load(seed: u32, buf: &mut [u8]) -> LoadAnswer {
 pub fn name_on(image: &[u8], id: u32, date: Date, windows: &[Window]) -> OnAnswer {
     // SAFETY: image and windows are lent with their lengths and only read; Date and Window are laid out as cqdb_date and cqdb_window.
     unsafe { cqdb_name_on(image.as_ptr(), image.len(), id, date, windows.as_ptr(), windows.len()) }
+}
+
+/// The first id from `from` on that two images name differently, or none.
+pub fn next_change(old: &[u8], new: &[u8], from: u64) -> ChangeAnswer {
+    // SAFETY: the images are each lent with their length, and are only read, so they may overlap; any start is taken.
+    unsafe { cqdb_next_change(old.as_ptr(), old.len(), new.as_ptr(), new.len(), from) }
+}
+
+/// The other id, if any, that the new image has for the id's old name.
+pub fn moved(old: &[u8], new: &[u8], id: u32) -> MovedAnswer {
+    // SAFETY: the images are each lent with their length, and are only read, so they may overlap; any id is taken.
+    unsafe { cqdb_moved(old.as_ptr(), old.len(), new.as_ptr(), new.len(), id) }
 }
 
 /// Entries, quotient and remainder of the average search length, or the refusal.
