@@ -5,8 +5,6 @@ use crate::archive::{self, Counts, Record};
 use crate::flag::Flag;
 use crate::refusal::{self, Refusal};
 
-/// The head of an image, which the entries follow.
-const HEAD: usize = 2_072;
 /// The length of the first buffer; it grows as needed.
 const FIRST: usize = 4_096;
 /// The choice of repeats, as the record has it.
@@ -80,7 +78,8 @@ impl MemoryWriter {
     /// Refused, and nothing changes, with [`Refusal::ZeroByte`] when the name has a zero byte; else with
     /// [`Refusal::Repeated`] when the writer holds the name, unless it was made by [`with_repeats`](Self::with_repeats); else
     /// with [`Refusal::NoRoom`] when the image would exceed 4,294,967,295 bytes; a two-way image has four bytes for each id up
-    /// to the largest.
+    /// to the largest. Also with [`Refusal::NoRoom`], or with [`Refusal::IndexFull`], where memory for a larger buffer or index
+    /// cannot be had.
     pub fn put<K: AsRef<[u8]>>(&mut self, name: K, id: u32) -> Result<(), Refusal> {
         let name = name.as_ref();
         match self.put_here(name, id) {
@@ -116,15 +115,15 @@ impl MemoryWriter {
         if needed > LIMIT {
             return false;
         }
-        let end = self.record.end as usize;
-        let length = needed.max(2 * self.record.length).min(LIMIT);
+        // The vector asks for twice its memory, which moves large blocks without a copy. It is cleared, and so taken from the
+        // system, only as far as the image needs it soon.
+        let length = (needed + needed / 8).min(LIMIT);
         let grown = archive::grown(self.record, length);
-        if grown.refusal != 0 {
+        let more = length as usize - self.buffer.len();
+        if grown.refusal != 0 || self.buffer.try_reserve(more).is_err() {
             return false;
         }
-        let mut larger = vec![0; length as usize];
-        larger[HEAD..end].copy_from_slice(&self.buffer[HEAD..end]);
-        self.buffer = larger;
+        self.buffer.resize(length as usize, 0);
         self.record = grown.record;
         true
     }
@@ -139,16 +138,14 @@ impl MemoryWriter {
     }
 }
 
-/// Takes a larger index, of four times as many words while it is small and then of twice as many, and makes it from the
-/// entries. Where memory cannot be had the old one stays: half of it is still empty.
+/// Gives the index more words, four times as many while it is small and then twice as many, and makes it from the entries
+/// anew. Where memory cannot be had it stays as it is: half of it is still empty.
 fn widen(slots: &mut Vec<u32>, record: Record, counts: &Counts, buffer: &[u8]) {
-    let words = slots.len() * if slots.len() < SMALL_INDEX { 4 } else { 2 };
-    let mut larger = Vec::new();
-    if larger.try_reserve_exact(words).is_ok() {
-        larger.resize(words, 0);
-        let refusal = archive::index(record, counts, buffer, &mut larger);
+    let more = slots.len() * if slots.len() < SMALL_INDEX { 3 } else { 1 };
+    if slots.try_reserve_exact(more).is_ok() {
+        slots.resize(slots.len() + more, 0);
+        let refusal = archive::index(record, counts, buffer, slots);
         assert_eq!(refusal, 0, "record, counts and buffer are the writer's own");
-        *slots = larger;
     }
 }
 
