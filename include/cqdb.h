@@ -64,8 +64,8 @@
    cqdb_open may still accept it: names and ids may then give nothing, or each other's answers. See cqdb_put.
 
    What is proved is the archive. The declarations, structs and inline functions of this file are tested. The inline functions
-   only copy numbers (begin: where it is accepted), pass arguments on (rounds: four words for each place) or take a C string's
-   length. */
+   only copy numbers (begin: where it is accepted), pass arguments on (rounds: four words for each place; put_indexed: the
+   writer's numbers in place) or take a C string's length. */
 #ifndef CQDB_H
 #define CQDB_H
 

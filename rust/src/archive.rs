@@ -435,6 +435,7 @@ pub fn close(record: Record, counts: &Counts, buf: &mut [u8]) -> CloseAnswer {
 
 /// The record of a buffer that has grown to this length, or the refusal.
 pub fn grown(record: Record, len: u64) -> RecordAnswer {
+    // SAFETY: the call is lent nothing.
     unsafe { cqdb_grown_parts(record, len) }
 }
 
@@ -570,5 +571,6 @@ pub fn build(
 /// How many bytes have room for the image of a list whose names have `names_len` bytes together, and how many words are worth
 /// lending to [`build`].
 pub fn build_needs(mode: u32, names_len: usize, ids: &[u32]) -> BuildNeeds {
+    // SAFETY: the ids are lent with their number, and are only read.
     unsafe { cqdb_build_needs(mode, names_len, ids.as_ptr(), ids.len()) }
 }
