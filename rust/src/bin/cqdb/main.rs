@@ -3,6 +3,7 @@
 mod args;
 mod bundle;
 mod check;
+mod diff;
 mod files;
 mod hash;
 mod id;
@@ -32,6 +33,7 @@ const COMMANDS: &[&Command] = &[
     &list::COMMAND,
     &page::COMMAND,
     &check::COMMAND,
+    &diff::COMMAND,
     &stats::COMMAND,
     &bundle::COMMAND,
     &sheet::COMMAND,
