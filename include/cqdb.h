@@ -11,10 +11,12 @@
      length is 0 it may be NULL, which is taken as no bytes.
    - `counts` points to 256 words, those of cqdb_lengths to 16, and `w` to a whole cqdb_writer.
    - What a call writes (the buffer of cqdb_put, cqdb_close, cqdb_sheet_write, cqdb_bundle_append, cqdb_load and cqdb_build, the counts, the writer,
-     the output of cqdb_page, the answers of cqdb_round and cqdb_name_round,
-     the refusals and the work of cqdb_build) overlaps nothing else that the same call is lent: no name, no list, no buffer, no counts and no image.
+     the slots of cqdb_index and cqdb_put_indexed, the output of cqdb_page and cqdb_page_part, the answers of cqdb_round and
+     cqdb_name_round, the refusals and the work of cqdb_build) overlaps nothing else that the same call is lent: no name, no list, no buffer, no counts and no image.
      What a call only reads may overlap.
-   - Nobody else writes to what is lent while the call runs.
+   - Nobody else writes to what is lent while the call runs. That goes for the bytes of a mapped file (mmap) too: a program that
+     writes to the file in place changes them, and one that makes it shorter takes them away (SIGBUS). Replace an image by a
+     rename: who has mapped the old file then keeps its bytes.
 
    Threads: any number of them may read one image at the same time, by all calls that take it as const. A buffer that is being
    written belongs to one thread.
@@ -41,13 +43,18 @@
      round                           13 for each name                                                11
      name_round                      1.2 for each id
      readings_agree                  3 for each id below the back size
-     page                            7 for each line
+     page, page_part                 7 for each line
      ours                            13, 18 for each entry                                           6
      average, lengths                25, 86 for each entry                                           6
      begin                           16
      put, repeats on                 22
      put, repeats off                22, and 4.5 for each earlier entry: n puts take 2.2 x n x n      2
+     put_indexed                     16, 23, with either choice of repeats; 4 words for each name
+     index                           11, 18 for each entry
+     index_words                     1
      close                           11, 16 for each entry                                           39
+     grown                           12
+     build_needs                     0.2 for each id
      build, 7 words for each name    13, 18 for each name                                            4
      build, 3 words for each name    31, 49 for each name                                            41
      build, no words, repeats on     27, 32 for each name                                            41
@@ -109,7 +116,7 @@ extern "C" {
 #define CQDB_NAME_TOO_LONG 9u    /* hash: the name has 4,294,967,295 bytes or more */
 #define CQDB_BROKEN_BUNDLE 10u   /* bundle_open, bundle_append, bundle_count: the images do not lie back to back, or append's new one is unfit */
 #define CQDB_NO_SUCH_IMAGE 11u   /* bundle_open: the file ends at or before the position */
-#define CQDB_PAGE_TOO_LONG 12u   /* page: it has more bytes than the output */
+#define CQDB_PAGE_TOO_LONG 12u   /* page, page_part: more bytes than the output has */
 #define CQDB_ZERO_BYTE 13u       /* put, put_indexed: the name has a zero byte */
 #define CQDB_ROUND_UNFIT 14u     /* round, name_round, build: ends that fall or pass the names; rounds: or more than 512 names or ids */
 #define CQDB_ANSWERS_TOO_FEW 15u /* round, name_round, build: fewer answer places than names or ids; build: or fewer ids */
@@ -269,13 +276,13 @@ uint32_t cqdb_lengths(const uint8_t *image, size_t len, uint32_t *counts);
         a line feed
 
    Bytes outside 32 to 126 are printed as full stops, and a shorter name is followed by spaces. An id without a name has 32
-   hyphens, so a name of 32 hyphens looks the same. Both calls take any bytes as an image, opened or not. */
+   hyphens, so a name of 32 hyphens looks the same. The calls take any bytes as an image, opened or not. */
 
 /* How many bytes the page has: 45 x cqdb_size_hint(image, len, 0), at most 193,273,528,275, which takes 38 bits. It is 0
    where no back array can be read. */
 uint64_t cqdb_page_length(const uint8_t *image, size_t len);
 
-/* refusal is 0 when the page was printed; length is the page's, 0 when the call was refused. */
+/* refusal is 0 when the page or the part was printed; length is that of what was printed, 0 when the call was refused. */
 typedef struct {
     uint32_t refusal;
     uint64_t length;
@@ -284,6 +291,11 @@ typedef struct {
 /* Prints the page to the first bytes of out, as many as cqdb_page_length gives; those behind them keep their content.
    Refusal: 12 when out_len is less, and nothing is written. */
 cqdb_page_answer cqdb_page(const uint8_t *image, size_t len, uint8_t *out, size_t out_len);
+
+/* Prints a part of the page, so that a long page needs little memory: the lines of `count` ids from `first` on, of those below
+   back size. The length is 45 for each of them, 0 where there is none. Parts that follow each other, joined, are the page.
+   Refusal: 12 when out_len is less, and nothing is written. */
+cqdb_page_answer cqdb_page_part(const uint8_t *image, size_t len, uint32_t first, uint32_t count, uint8_t *out, size_t out_len);
 
 /* Writing. One buffer takes the entries, and close makes it the image. The writer belongs to the caller: all of its fields
    are open, and the calls answer every value of them. A writer fits a buffer when its mode is 0 or 1, its repeats is 0
@@ -375,7 +387,8 @@ static inline uint32_t cqdb_begin_with(cqdb_writer *w, uint32_t mode, uint32_t r
 
 /* Makes *w, whatever it held, a fresh writer for the buffer: the mode, repeats off, the buffer's length, end 2,072,
    otherwise zeros. Reads and changes no byte of the buffer. Gives 0, or the first refusal that applies: 2 for a mode that is
-   neither 0 nor 1, 1 for a buffer under 2,072 bytes. Each put then looks at all earlier entries (see cqdb_put). */
+   neither 0 nor 1, 1 for a buffer under 2,072 bytes. Each cqdb_put then looks at all earlier entries; cqdb_put_indexed and
+   cqdb_build do not. */
 CQDB_LENGTH_ALONE(3) CQDB_INLINED
 static inline uint32_t cqdb_begin(cqdb_writer *w, uint32_t mode, const uint8_t *buf, size_t len) {
     return cqdb_begin_with(w, mode, CQDB_REPEATS_OFF, buf, len);
@@ -397,7 +410,7 @@ static inline uint32_t cqdb_begin_repeats(cqdb_writer *w, uint32_t mode, const u
 
    With repeats off a put walks all earlier entries, some 5 ns for each with names of 9 bytes. So n puts take n x n / 2 such
    steps: 40 ms for 4,096 names, half a minute for 100,000. With repeats on a put does not look at them: 4,096 puts take
-   0.1 ms, 100,000 take 3 ms.
+   0.1 ms, 100,000 take 3 ms. With repeats off cqdb_put_indexed takes as little.
 
    The bytes at w->end are those where the last close placed its tables. After an accepted put the buffer is therefore no
    image, though its head is still that of the last close and cqdb_open may accept it. After A->0, B->1, close and C->2,
@@ -435,6 +448,55 @@ static inline cqdb_close_answer cqdb_close(const cqdb_writer *w, uint8_t *buf, s
     return c;
 }
 
+/* Single puts in constant time, also with repeats off: by an index, in words that the caller lends. A put by the index compares
+   its name with the entries of an equal hash alone. The index is no part of the image: both ways of putting make the same bytes.
+
+   An index is right for a writer and its buffer when cqdb_index made it, in words of this number, and since then the writer, the
+   buffer's bytes from 2,072 to w->end and the words were changed by cqdb_put_indexed, cqdb_close and cqdb_grown alone; refused
+   calls of any kind do not matter. For a writer that is fresh from cqdb_begin, words that are all 0 are right as well. Whatever
+   else the words hold, no call touches anything outside what it is lent, each call ends, a refusal changes nothing, and an
+   accepted put appends exactly its entry; but it may be refused with 16 or 24 without need, or accept a name that an earlier
+   entry has. */
+
+/* How many words to lend for so many names: 4 for each, so that the index is half full at the end; 2^64 - 1 where that is more
+   than a size can be. An index of n words, an odd last one apart, has room for n / 2 names. The fuller it gets the longer a put
+   takes: with 2 words for each name, seven times as long at 100,000. */
+size_t cqdb_index_words(size_t names);
+
+/* The archive exports cqdb_index_parts and cqdb_put_indexed_parts, which cqdb_index and cqdb_put_indexed call. The second takes the
+   record in place: the words mode, repeats, entries and back, and the sizes length and end. */
+uint32_t cqdb_index_parts(cqdb_record record, const uint32_t *counts, const uint8_t *buf, size_t len, uint32_t *slots, size_t n);
+uint32_t cqdb_put_indexed_parts(uint32_t *numbers, uint64_t *sizes, uint32_t *counts, uint8_t *buf, size_t len,
+                                uint32_t *slots, size_t n, const uint8_t *name, size_t name_len, uint32_t id);
+
+/* The writer begins with these four words and two sizes; elsewhere this line does not compile. */
+typedef char cqdb_writer_in_place[offsetof(cqdb_writer, back) == 12 && offsetof(cqdb_writer, length) == 16 &&
+                                  offsetof(cqdb_writer, end) == 24 ? 1 : -1];
+
+/* Makes the n words at slots the index of the entries in the buffer, whatever they held; of a fresh writer, by clearing them. Changes
+   nothing else. Gives 0, or the first refusal that applies, and then the words stay as they were: 2 and 4 as cqdb_close gives
+   them, 24 when there are more entries than n / 2. Call it again with more words before the index is full. It walks the entries
+   twice: an index that grows by a factor when it is half full costs each put a constant time more. */
+static inline uint32_t cqdb_index(const cqdb_writer *w, const uint8_t *buf, size_t len, uint32_t *slots, size_t n) {
+    return cqdb_index_parts(cqdb_record_of(w), w->counts, buf, len, slots, n);
+}
+
+/* By a right index: cqdb_put with the writer's own choice of repeats, and the index is right again. Gives 0, or put's refusals in
+   put's order (2, 13, 16, 3; not 4, since the entries of a right index are the writer's), or else 24 when every slot is taken; the
+   put would be accepted by a larger index. Appends the entry, raises the writer's numbers and writes the two words of a slot, and
+   changes no other byte. By any other words: see above; 2 is given when the writer's mode, repeats, length or end does not fit the
+   buffer, or the count of the name's table cannot be raised. The other counts are not looked at. */
+static inline uint32_t cqdb_put_indexed(cqdb_writer *w, uint8_t *buf, size_t len, uint32_t *slots, size_t n,
+                                        const uint8_t *name, size_t name_len, uint32_t id) {
+    return cqdb_put_indexed_parts((uint32_t *)w, (uint64_t *)w + 2, w->counts, buf, len, slots, n, name, name_len, id);
+}
+
+/* The same of a name that is a C string. */
+static inline uint32_t cqdb_put_indexed_text(cqdb_writer *w, uint8_t *buf, size_t len, uint32_t *slots, size_t n, const char *name,
+                                             uint32_t id) {
+    return cqdb_put_indexed(w, buf, len, slots, n, (const uint8_t *)name, strlen(name), id);
+}
+
 /* A whole list in one call. */
 
 /* refusal is 0 when the list was accepted; size is the image's, and accepted the number of accepted puts. Both are 0 where it
@@ -462,7 +524,7 @@ cqdb_build_answer cqdb_build_parts(uint32_t mode, uint32_t repeats, uint8_t *buf
      a name is refused, the names are put one by one instead. That is linear, too: 2.1 times the time of a list whose names are all
      accepted at 4,096 names, 2.4 times at 100,000, when measured.
    - 4n words: linear. Each put looks into an index of the names. There is an index from 2n words on, but the fuller it gets the
-     more slots a put reads: with 2n words a put of 100,000 names took 8 times as long as with 4n.
+     more slots a put reads: with 2n words 100,000 names took 7 times as long as with 4n.
    - Fewer than 2n words: with repeats on linear, since no put looks for its name; with repeats off quadratic, since each put walks
      the entries before it: 16,000 names took 0.6 s.
    - With repeats on and whatever is lent, a name that is put k times costs k * k / 2 reads of buckets, as in cqdb_close: equal names

@@ -8,3 +8,4 @@ licence=share/doc/cqdb/LICENSE
 notice=share/doc/cqdb/NOTICE
 program=bin/cqdb
 manual=share/man/man1/cqdb.1
+completions=share/bash-completion/completions/cqdb

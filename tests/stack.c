@@ -15,7 +15,7 @@
 
 static uint8_t image[ROOM], buf[ROOM], file[2 * ROOM], page[45 * NAMES], names[9 * NAMES];
 static uint64_t ends[NAMES];
-static uint32_t ids[NAMES], refusals[NAMES], work[7 * NAMES], counts[16];
+static uint32_t ids[NAMES], refusals[NAMES], work[7 * NAMES], counts[16], slots[16];
 static size_t size;
 static cqdb_writer w;
 static cqdb_id_answer answers[512];
@@ -38,11 +38,17 @@ static void lengths(void) { kept = cqdb_lengths(image, size, counts); }
 static void page_length(void) { kept = cqdb_page_length(image, size); }
 static void version_number(void) { kept = cqdb_version_number(); }
 static void print(void) { kept = cqdb_page(image, size, page, sizeof page).length; }
+static void page_part(void) { kept = cqdb_page_part(image, size, 7, 70, page, sizeof page).length; }
+static void grown(void) { kept = cqdb_grown(&w, sizeof buf); }
+static void build_needs(void) { kept = cqdb_build_needs(CQDB_TWOWAY, sizeof names, ids, NAMES).bytes; }
 static void round_(void) { kept = cqdb_round(image, size, names, sizeof names, ends, 512, answers, 512).buckets; }
 static void name_round(void) { kept = cqdb_name_round(image, size, ids, 512, places, 512); }
 static void begin(void) { kept = cqdb_begin(&w, CQDB_TWOWAY, buf, sizeof buf); }
 static void put_on(void) { w.repeats = CQDB_REPEATS_ON, kept = cqdb_put(&w, buf, sizeof buf, names, 9, 1); }
 static void put_off(void) { w.repeats = CQDB_REPEATS_OFF, kept = cqdb_put(&w, buf, sizeof buf, names + 9, 9, 2); }
+static void index_(void) { kept = cqdb_index(&w, buf, sizeof buf, slots, 16); }
+static void put_indexed(void) { kept = cqdb_put_indexed(&w, buf, sizeof buf, slots, 16, names + 18, 9, 3); }
+static void index_words(void) { kept = cqdb_index_words(NAMES); }
 static void close_(void) { kept = cqdb_close(&w, buf, sizeof buf).size; }
 static void built(size_t words, uint32_t repeats) {
     cqdb_build_answer a = cqdb_build(CQDB_TWOWAY, repeats, buf, sizeof buf, names, sizeof names, ends, ids, NAMES, refusals, NAMES, work, words);
@@ -71,9 +77,10 @@ static const struct {
     const char *name;
     void (*call)(void);
 } calls[] = {{"version_number", version_number}, {"page_length", page_length}, {"hash", hash}, {"open", open_}, {"to_id", to_id}, {"to_str", to_str}, {"panel", panel}, {"readings_agree", readings_agree},
-             {"size_hint", size_hint}, {"home", home}, {"ours", ours}, {"average", average}, {"lengths", lengths}, {"page", print},
+             {"size_hint", size_hint}, {"home", home}, {"ours", ours}, {"average", average}, {"lengths", lengths}, {"page", print}, {"page_part", page_part}, {"grown", grown},
+             {"build_needs", build_needs},
              {"round", round_}, {"name_round", name_round}, {"begin", begin}, {"put, repeats on", put_on}, {"put, repeats off", put_off},
-             {"close", close_}, {"build, 7 words for each name", build_7}, {"build, 3 words for each name", build_3},
+             {"index", index_}, {"put_indexed", put_indexed}, {"index_words", index_words}, {"close", close_}, {"build, 7 words for each name", build_7}, {"build, 3 words for each name", build_3},
              {"build, no words, repeats on", build_on}, {"build, no words, repeats off", build_off}, {"load", load}, {"name_on", name_on},
              {"next_change", next_change}, {"moved", moved}, {"bundle_append", bundle_append}, {"bundle_open", bundle_open}, {"bundle_count", bundle_count}, {"sheet_write", sheet_write},
              {"sheet_read", sheet_read}, {"references_first", references_first}};

@@ -6,11 +6,10 @@ from array import array
 from typing import Iterable, List, NamedTuple, Tuple
 
 from cqdb.library import calls
+from cqdb.memory import zeros
 from cqdb.names import Name, Text, id_number
 from cqdb.refusal import Refusal, accept
 from cqdb.writer import LARGEST_IMAGE
-
-HEAD = 2_072
 
 
 class Built(NamedTuple):
@@ -44,9 +43,9 @@ def build(
         ends.append(len(names))
         ids.append(id_number(id))
     joined = bytes(names)
-    back = 0 if one_way else max(ids, default=-1) + 1
-    buffer = ctypes.create_string_buffer(min(HEAD + len(joined) + 25 * len(ids) + 4 * back, LARGEST_IMAGE))
-    refusals, work = array("I", bytes(4 * len(ids))), array("I", bytes(28 * len(ids)))
+    needs = calls.cqdb_build_needs(int(one_way), len(joined), *ids.buffer_info())
+    buffer = zeros(min(needs.bytes, LARGEST_IMAGE))
+    refusals, work = array("I", bytes(4 * len(ids))), array("I", bytes(4 * needs.words))
     lists = [part for words in (ends, ids, refusals, work) for part in words.buffer_info()]
     answer = calls.cqdb_build_parts(
         int(one_way), int(repeats), buffer, len(buffer), joined, len(joined), *lists

@@ -57,6 +57,10 @@ class BuildAnswer(Structure):
     _fields_ = [("refusal", c_uint32), ("size", c_uint32), ("accepted", c_uint32)]
 
 
+class BuildNeeds(Structure):
+    _fields_ = [("bytes", c_uint64), ("words", c_uint64)]
+
+
 Counts = c_uint32 * 256
 
 # Bytes and lists are lent as an address and a length.
@@ -75,6 +79,8 @@ _FUNCTIONS: List[Tuple[str, Any, List[Any]]] = [
     ("cqdb_begin_parts", RecordAnswer, [c_uint32, c_uint32, c_void_p] + _LENT),
     ("cqdb_put_parts", RecordAnswer, [Record, c_void_p] + _LENT + _LENT + [c_uint32]),
     ("cqdb_close_parts", CloseAnswer, [Record, c_void_p] + _LENT),
+    ("cqdb_grown_parts", RecordAnswer, [Record, c_uint64]),
+    ("cqdb_build_needs", BuildNeeds, [c_uint32, c_size_t] + _LENT),
     ("cqdb_build_parts", BuildAnswer, [c_uint32, c_uint32] + _LENT * 6),
 ]
 

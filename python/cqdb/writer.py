@@ -8,6 +8,7 @@ from typing import Union
 
 from cqdb.files import replace
 from cqdb.library import Counts, Record, calls
+from cqdb.memory import zeros
 from cqdb.names import Name, Text, id_number
 from cqdb.refusal import Refusal, accept
 
@@ -34,7 +35,7 @@ class Writer:
         self._text = Text(encoding, errors)
         self._lock = threading.Lock()
         self._counts = Counts()
-        self._buffer = ctypes.create_string_buffer(FIRST_LENGTH)
+        self._buffer = zeros(FIRST_LENGTH)
         answer = calls.cqdb_begin_parts(int(one_way), int(repeats), self._counts, self._buffer, FIRST_LENGTH)
         accept(answer.refusal)
         self._record: Record = answer.record
@@ -78,10 +79,11 @@ class Writer:
         needed = record.end + name_length + 9 + 16 * (record.entries + 1) + 4 * back
         if needed > LARGEST_IMAGE:
             return False
-        larger = ctypes.create_string_buffer(min(max(needed, 2 * record.length), LARGEST_IMAGE))
+        larger = zeros(min(max(needed, 2 * record.length), LARGEST_IMAGE))
         ctypes.memmove(larger, self._buffer, record.end)
-        self._buffer = larger
-        record.length = len(larger)
+        grown = calls.cqdb_grown_parts(record, len(larger))
+        accept(grown.refusal)
+        self._buffer, self._record = larger, grown.record
         return True
 
     def close(self) -> bytes:

@@ -24,6 +24,7 @@ STRUCTS = {
     "cqdb_put_answer": library.RecordAnswer,
     "cqdb_close_parts_answer": library.CloseAnswer,
     "cqdb_build_answer": library.BuildAnswer,
+    "cqdb_build_needs_answer": library.BuildNeeds,
 }
 TYPES = {ctypes.c_uint32: "uint32_t", ctypes.c_uint64: "uint64_t", library.Record: "cqdb_record"}
 
@@ -45,7 +46,8 @@ class Header(unittest.TestCase):
             kinds = ["pointer" if "*" in part else part.split()[0] for part in given]
             ours = {ctypes.c_void_p: "pointer", ctypes.c_size_t: "size_t", **TYPES}
             # c_size_t and c_uint64 are one type of ctypes on x86-64
-            self.assertEqual([ours[kind].replace("uint64_t", "size_t") for kind in arguments], kinds, name)
+            words = [kind.replace("uint64_t", "size_t") for kind in kinds]
+            self.assertEqual([ours[kind].replace("uint64_t", "size_t") for kind in arguments], words, name)
             self.assertTrue(found.group(1) == TYPES.get(result) or STRUCTS.get(found.group(1)) is result, name)
 
 

@@ -2,6 +2,7 @@
 import os
 import pathlib
 import pickle
+import resource
 import stat
 import tempfile
 import threading
@@ -57,6 +58,25 @@ class Puts(unittest.TestCase):
         image = image_of(entries)
         self.assertEqual(len(image), 2_072 + sum(len(name) + 25 for name, _ in entries) + 4 * 50_001)
         self.assertEqual([cqdb.Catalogue(image)[name] for name, _ in entries], [id for _, id in entries])
+
+    def test_a_far_id_takes_no_memory_before_the_close(self) -> None:
+        before = resource.getrusage(resource.RUSAGE_SELF).ru_maxrss
+        writer = cqdb.Writer()
+        writer.put("far", 300_000_000)
+        self.assertLess(resource.getrusage(resource.RUSAGE_SELF).ru_maxrss - before, 100_000)
+        self.assertEqual(len(writer), 1)
+
+    def test_no_memory(self) -> None:
+        writer = cqdb.Writer()
+        writer.put("crane", 1)
+        limits = resource.getrlimit(resource.RLIMIT_AS)
+        resource.setrlimit(resource.RLIMIT_AS, (2_000_000_000, limits[1]))
+        try:
+            self.assertRaises(MemoryError, writer.put, "far", 900_000_000)
+        finally:
+            resource.setrlimit(resource.RLIMIT_AS, limits)
+        writer.put("mole", 2)
+        self.assertEqual(writer.close(), image_of([(b"crane", 1), (b"mole", 2)]))
 
     def test_threads_put_in_turn(self) -> None:
         writer = cqdb.Writer(repeats=True)

@@ -241,6 +241,8 @@ extern "C" {
     fn cqdb_ours(image: *const u8, len: usize) -> u32;
     fn cqdb_page_length(image: *const u8, len: usize) -> u64;
     fn cqdb_page(image: *const u8, len: usize, out: *mut u8, out_len: usize) -> PageAnswer;
+    fn cqdb_page_part(image: *const u8, len: usize, first: u32, count: u32, out: *mut u8, out_len: usize)
+        -> PageAnswer;
     fn cqdb_round_words(
         image: *const u8,
         len: usize,
@@ -271,6 +273,27 @@ extern "C" {
     ) -> RecordAnswer;
     fn cqdb_close_parts(record: Record, counts: *const u32, buf: *mut u8, len: usize) -> CloseAnswer;
     fn cqdb_grown_parts(record: Record, len: u64) -> RecordAnswer;
+    fn cqdb_index_words(names: usize) -> usize;
+    fn cqdb_index_parts(
+        record: Record,
+        counts: *const u32,
+        buf: *const u8,
+        len: usize,
+        slots: *mut u32,
+        n: usize,
+    ) -> u32;
+    fn cqdb_put_indexed_parts(
+        numbers: *mut u32,
+        sizes: *mut u64,
+        counts: *mut u32,
+        buf: *mut u8,
+        len: usize,
+        slots: *mut u32,
+        n: usize,
+        name: *const u8,
+        name_len: usize,
+        id: u32,
+    ) -> u32;
     fn cqdb_references_first(pairs: *const Pair, n: usize, round: *const u32, m: usize) -> OrderAnswer;
     fn cqdb_sheet_read(file: *const u8, len: usize) -> SheetAnswer;
     fn cqdb_sheet_write(
@@ -393,6 +416,13 @@ pub fn page(image: &[u8], out: &mut [u8]) -> PageAnswer {
     unsafe { cqdb_page(image.as_ptr(), image.len(), out.as_mut_ptr(), out.len()) }
 }
 
+/// The lines of `count` ids from `first` on, of those below the back size, in the first bytes of `out`, and their length; or
+/// the refusal.
+pub fn page_part(image: &[u8], first: u32, count: u32, out: &mut [u8]) -> PageAnswer {
+    // SAFETY: image and output are lent with their lengths; the output is written, and a `&mut` overlaps no image. Any ids are taken.
+    unsafe { cqdb_page_part(image.as_ptr(), image.len(), first, count, out.as_mut_ptr(), out.len()) }
+}
+
 /// The ids of the names that lie joined with these ends, an answer in the place of each; and the buckets read over the different
 /// names, or the refusal.
 pub fn round(image: &[u8], names: &[u8], ends: &[u64], answers: &mut [IdAnswer]) -> RoundAnswer {
@@ -433,7 +463,42 @@ pub fn close(record: Record, counts: &Counts, buf: &mut [u8]) -> CloseAnswer {
 
 /// The record of a buffer that has grown to this length, or the refusal.
 pub fn grown(record: Record, len: u64) -> RecordAnswer {
+    // SAFETY: the call is lent nothing: the record goes and comes by value.
     unsafe { cqdb_grown_parts(record, len) }
+}
+
+/// How many words to lend for an index of this many names.
+pub fn index_words(names: usize) -> usize {
+    // SAFETY: the call is lent nothing.
+    unsafe { cqdb_index_words(names) }
+}
+
+/// Makes the slots the index of the entries in the buffer; 0, or the refusal.
+pub fn index(record: Record, counts: &Counts, buf: &[u8], slots: &mut [u32]) -> u32 {
+    let (buf, len) = (buf.as_ptr(), buf.len());
+    // SAFETY: counts, 256 words, and buffer are only read; the slots are lent with their number of words, and as a `&mut` overlap neither.
+    unsafe { cqdb_index_parts(record, counts.as_ptr(), buf, len, slots.as_mut_ptr(), slots.len()) }
+}
+
+/// One put by an index; 0, or the refusal. The record is changed in place.
+#[inline]
+pub fn put_indexed(
+    record: &mut Record,
+    counts: &mut Counts,
+    buf: &mut [u8],
+    slots: &mut [u32],
+    name: &[u8],
+    id: u32,
+) -> u32 {
+    let (buf, len, slots, n) = (buf.as_mut_ptr(), buf.len(), slots.as_mut_ptr(), slots.len());
+    let record: *mut Record = record;
+    // SAFETY: a record is four words, mode to back, and two of 64 bits, length and end, as the archive takes them in place. The counts
+    // are 256 words; buffer, slots and name are lent with their lengths. All but the name are `&mut`, so nothing that is written overlaps.
+    unsafe {
+        let sizes = std::ptr::addr_of_mut!((*record).length);
+        let (counts, name, name_len) = (counts.as_mut_ptr(), name.as_ptr(), name.len());
+        cqdb_put_indexed_parts(record.cast(), sizes, counts, buf, len, slots, n, name, name_len, id)
+    }
 }
 
 /// Whether every pair is kept in a round, or the place of the first that is not.
@@ -546,5 +611,6 @@ pub fn build(
 /// How many bytes have room for the image of a list whose names have `names_len` bytes together, and how many words are worth
 /// lending to [`build`].
 pub fn build_needs(mode: u32, names_len: usize, ids: &[u32]) -> BuildNeeds {
+    // SAFETY: the ids are lent with their number, and are only read.
     unsafe { cqdb_build_needs(mode, names_len, ids.as_ptr(), ids.len()) }
 }

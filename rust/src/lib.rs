@@ -34,7 +34,6 @@ mod build;
 mod bundle;
 mod changes;
 mod flag;
-mod held;
 mod load;
 mod name;
 mod order;
@@ -47,6 +46,7 @@ mod round;
 mod sheet;
 mod stream;
 mod write;
+mod zeros;
 
 #[doc = include_str!("../MOVING.md")]
 pub mod moving {}

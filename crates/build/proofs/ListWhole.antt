@@ -11,7 +11,7 @@ use Rattle.image.specs.Stored.{between}
 use Rattle.image.specs.Image.{Entry, headSize, entryBytes, placed, count, links, backSize, backIn, entriesEnd, backSizeOf, imageSize, image}
 use Rattle.image.specs.declared.Mode.{Mode}
 use Rattle.image.proofs.Sizes.{backIn-twice}
-use Rattle.joined.specs.Names.{names, nth, astray, beginOf}
+use Rattle.joined.specs.Names.{names, astray}
 use Rattle.joined.proofs.NameEnds.{length-names}
 use Rattle.finish.specs.Finish.{standing, finishedBuffer}
 use Rattle.finish.specs.Record.{finishedOf}

@@ -1,6 +1,6 @@
 -- The puts of a list one by one: before each put, what is left to be put makes of what was put what the whole list leaves; and the record after
 -- the last one closes. Assumes nothing.
-use Prim.Native.Nat.{ℕ, suc, _+_, _*_, _^_, _≤_, _<_}
+use Prim.Native.Nat.{ℕ, _+_, _^_, _≤_, _<_}
 use native.Mathlib.Omega.{arith}
 use native.Mathlib.Decide.{decLt}
 use native.Mathlib.Numerals.{add-one}
@@ -8,11 +8,11 @@ use mathlib.Core.Path.{_≡_, refl, sym, ap, ap₂, _∙_}
 use mathlib.Core.Bool.{Bool, true, false, cond, _&&_, and-false}
 use mathlib.Core.List.{List, [], _∷_, _++_, append-assoc, append-nil}
 use borrow.Author.Tests.{lt-leb}
-use lib.Dec.{eqb, leb}
+use lib.Dec.{eqb}
 use lib.ListN.{length, getD, set, take, drop, length-set, drop-of-length-le, take-append-drop, List·getD-eq-default}
 use lib.Seq.{drop-cons, take-suc-set, drop-set-lt, getD-take, length-take-le}
 use Rattle.image.specs.declared.Mode.{Mode}
-use Rattle.image.specs.Image.{Entry, headSize}
+use Rattle.image.specs.Image.{Entry}
 use Rattle.joined.specs.Names.{names, nth}
 use Rattle.joined.proofs.NameEnds.{length-names}
 use Rattle.writer.specs.declared.Repeats.{Repeats}

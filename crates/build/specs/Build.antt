@@ -1,7 +1,7 @@
 -- A whole list in one call: an added call, by the rules of 01, "Whole lists". It is begin, the puts in order and one
 -- close.
 use Prim.Native.Nat.{ℕ}
-use mathlib.Core.Bool.{Bool, cond, _||_}
+use mathlib.Core.Bool.{cond, _||_}
 use mathlib.Core.List.{List, [], _∷_, _++_}
 use lib.ListN.{length, drop}
 use lib.Dec.{ltb}

@@ -10,7 +10,7 @@ use Rattle.modes.specs.declared.record.Record.{Record}
 use Rattle.modes.specs.Modes.{known}
 use Rattle.modes.specs.Record.{writerOf, recordOf, Held, held}
 use Rattle.cqdb_c.specs.Grown.{grownNumber, recordGrown}
-use Rattle.cqdb_c.proofs.CCalls.{back-and-forth}
+use Rattle.modes.proofs.Records.{back-and-forth}
 
 -- a record that is none of 01's
 pub grown-unknown : (r : Record) (n : ℕ) → known (r .mode) (r .repeats) ≡ false → (2 ≡ grownNumber r n) × (r ≡ recordGrown r n)

@@ -164,9 +164,6 @@ module _ (buf : List ℕ) (end entries : ℕ) (words₀ : List ℕ) where
             size-is : entrySize first ≡ 8 + n
             size-is = omega (arith, ap length is-name, sized, fr .some)
 
-            b : Bucket
-            b = record { hash = h; at = at }
-
             one : (j : ℕ) → j < slotCount words₀ → slot (slotStored words k h at) j ≡ getD (filled (slotCount words₀) (bucketsOf (f .done ++ (first ∷ [])))) j empty
             one j below =
                 slots-more words (bucketsOf (f .done)) (slotCount words₀) (omega (arith, f .long)) (f .slots) (record { hash = h; at = at }) k free is-first j below

@@ -68,9 +68,6 @@ module _ (m : ℕ) (bs : List Bucket) (s₀ : ℕ) (inside : s₀ < m) (room : l
 
 module _ (words : List ℕ) (bs : List Bucket) (m : ℕ) (long : 2 * m ≤ length words) (slots : (k : ℕ) → k < m → slot words k ≡ getD (filled m bs) k empty)
     (b : Bucket) (k : ℕ) (free : k < m) (is : k ≡ firstEmpty (λ (j : ℕ). slot words j .at) (order m m (start (b .hash) m))) where
-  once : List ℕ
-  once = set words (2 * k) (b .hash)
-
   table : List Bucket
   table = filled m bs
 

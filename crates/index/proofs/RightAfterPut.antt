@@ -45,9 +45,6 @@ right-by s t words right closes tables number same =
 
 module _ (s : State) (words : List ℕ) (bytes : Bytes (s .buffer)) (right : Right s words) (e : Entry) (word : e .id < 2 ^ 32)
     (due : putRefusal s e ≡ 0) (room : s .writer .entries < slotCount words) where
-  mode : Mode
-  mode = s .writer .mode
-
   was : Written (s .writer .mode) (s .writer .repeats) (s .writer .length) (recorded s) s
   was = written s bytes (right .closes) (right .tables)
 
@@ -55,9 +52,6 @@ module _ (s : State) (words : List ℕ) (bytes : Bytes (s .buffer)) (right : Rig
   now =
       appended-written (s .writer .mode) (s .writer .repeats) (s .writer .length) (recorded s) s was e
       (sym (put-due (s .writer .mode) (s .writer .repeats) (s .writer .length) (recorded s) s was e) ∙ due) (word-of (s .writer .mode) e word)
-
-  own : Bucket
-  own = record { hash = hashOf (e .name); at = s .writer .end }
 
   buckets-more : entryBuckets (appended s e) ≡ entryBuckets s ++ (record { hash = hashOf (e .name); at = s .writer .end } ∷ [])
   unfolding entryBuckets placed

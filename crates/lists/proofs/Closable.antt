@@ -37,12 +37,6 @@ module _ (s : State) (bytes : Bytes (s .buffer)) (closes : closeRefusal s ≡ 0)
   f : Fitting (s .writer) (s .counts) (s .buffer)
   f = fitting (s .writer) (s .counts) (s .buffer) (a .fit)
 
-  wholes : Bool
-  wholes = whole (s .writer .entries) (entryArea s)
-
-  backs : Bool
-  backs = eqb (s .writer .back) (backIn (s .writer .mode) (backSize (recorded s)))
-
   entire : whole (s .writer .entries) (entryArea s) ≡ true
   entire =
       first (whole (s .writer .entries) (entryArea s)) (countsAgree (s .counts) (recorded s))

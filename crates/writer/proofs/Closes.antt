@@ -1,11 +1,12 @@
 -- What close answers in each case, as its checks go. Assumes nothing.
 use Prim.Native.Nat.{ℕ}
 use native.Mathlib.Omega.{arith}
-use mathlib.Core.Path.{_≡_, refl, sym, _∙_}
+use mathlib.Core.Path.{_≡_, refl, sym, ap, _∙_}
 use mathlib.Core.Bool.{Bool, true, false, cond, not, _&&_, and-false}
+use mathlib.Core.List.{List}
 use borrow.Author.Tests.{ne-eqb}
 use Rattle.jhash.specs.Outcome.{value, refusal}
-use Rattle.writer.specs.State.{State, fits, finishedSize, tooLarge}
+use Rattle.writer.specs.State.{State, stateWith, fits, finishedSize, tooLarge}
 use Rattle.writer.specs.Close.{consistent, closeRefusal, closedSize, closed, afterClose, closing}
 
 module _ (s : State) where
@@ -52,3 +53,15 @@ accepted s e = go (fits s) (consistent s) (tooLarge (s .writer .length) (finishe
     go true true true p q r z = absurd (omega arith)
     go true false t p q r z = absurd (omega arith)
     go false c t p q r z = absurd (omega arith)
+
+rejoined : (s : State) → stateWith (s .writer) (s .counts) (closed s .buffer) ≡ closed s
+unfolding closed
+rejoined s = refl
+
+-- a buffer that an accepted close has written
+pub written : (s : State) (size : ℕ) (b : List ℕ) → closeRefusal s ≡ 0 → size ≡ closedSize s → b ≡ afterClose s .buffer
+    → (value size ≡ closing s) × (stateWith (s .writer) (s .counts) b ≡ afterClose s)
+written s size b z e f =
+    let a = accepted s z in
+    let c = closes s (a .fit) (a .fine) (a .all) in
+    (ap value e ∙ c .0, ap (stateWith (s .writer) (s .counts)) (f ∙ ap (λ (t : State). t .buffer) (sym (c .1))) ∙ rejoined s ∙ c .1)

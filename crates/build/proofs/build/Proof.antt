@@ -1,6 +1,6 @@
 -- `build::build` meets its contract. Assumes nothing.
 use native.Mathlib.Omega.{arith}
-use mathlib.Core.Path.{_≡_, refl, sym, _∙_}
+use mathlib.Core.Path.{refl, sym, _∙_}
 use lib.ListN.{length}
 use borrow.Author.Needs.{needs}
 use Rattle.build.proofs.Whole.{refusal-14, refusal-15, refusal-15-places, refusal-1, refusal-none, refused-build}

@@ -1,7 +1,6 @@
 -- The names by table, in list order within each table, as the code goes. No rule stands here: proofs/ joins it to the rules. The lent memory has 7 words for
 -- each of n names, the last n of them the hashes in list order; what the others are is in Tabled.
-use Prim.Native.Nat.{ℕ, zero, suc, _+_, _*_, _-_, _<_}
-use mathlib.Core.Path.{_≡_}
+use Prim.Native.Nat.{ℕ, zero, suc, _+_, _*_, _-_}
 use mathlib.Core.Bool.{cond}
 use mathlib.Core.List.{List}
 use lib.ListN.{getD}

@@ -1,11 +1,12 @@
 //! `cqdb diff`: the ids that two images name differently.
 use cqdb::{Change, CQDB};
 
-use crate::args::{Args, Command, Opt, TAB, ZERO};
-use crate::files;
-use crate::outcome::{Answer, Failure, Outcome, Output};
+use crate::args::{Args, Command, Opt, ZERO};
+use crate::files::Source;
+use crate::list;
+use crate::outcome::{Failure, Outcome, Output};
 
-const SWAPPED: Opt = Opt { long: "--swapped", text: "only the ids whose old name has another id now", ..TAB };
+const SWAPPED: Opt = Opt::plain("--swapped", "only the ids whose old name has another id now");
 
 pub const COMMAND: Command = Command {
     name: "diff",
@@ -24,29 +25,27 @@ The exit status is 0 where nothing is printed, and 1 where something is.
 };
 
 fn run(args: Args) -> Outcome {
-    files::asked(args.path(0), |old, _| {
-        files::asked(args.path(1), |new, out| {
-            names_ids(&args, 0, old)?;
-            names_ids(&args, 1, new)?;
-            let mut alike = true;
-            for change in cqdb::changes(old, new) {
-                if change.moved_to.is_some() || !args.has(&SWAPPED) {
-                    alike = false;
-                    print(&args, out, &change)?;
-                }
-            }
-            Ok(Answer::from(alike))
-        })
-    })
+    let (old, new) = (Source::open(args.path(0))?, Source::open(args.path(1))?);
+    let (old, new) = (image(&old)?, image(&new)?);
+    let mut out = Output::new();
+    let mut alike = true;
+    for change in cqdb::changes(&old, &new) {
+        if change.moved_to.is_some() || !args.has(&SWAPPED) {
+            alike = false;
+            print(&args, &mut out, &change)?;
+        }
+    }
+    out.finish(alike)
 }
 
-/// Fails for an image with entries that names no ids.
-fn names_ids(args: &Args, at: usize, db: &CQDB) -> Result<(), Failure> {
-    if db.back_size() == 0 && db.num() > 0 {
-        let path = args.path(at).display();
-        return Err(Failure::new(format!("{path} is one-way: it names no ids, so there is nothing to compare")));
+/// The image of a file. One that has entries and names no ids cannot be compared.
+fn image(source: &Source) -> Result<CQDB<'_>, Failure> {
+    let db = source.image()?;
+    if list::names_none(&db) {
+        let what = "is one-way: it names no ids, so there is nothing to compare";
+        return Err(Failure::new(format!("{} {what}", source.name())));
     }
-    Ok(())
+    Ok(db)
 }
 
 fn print(args: &Args, out: &mut Output, change: &Change) -> Result<(), Failure> {

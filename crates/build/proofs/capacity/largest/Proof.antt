@@ -1,10 +1,8 @@
 -- `build::capacity::largest` meets its contract. The loop's invariant: it is that of the ids passed. Assumes nothing.
-use Prim.Native.Nat.{ℕ, _+_, _-_, _≤_, _<_}
+use Prim.Native.Nat.{_-_, _≤_}
 use native.Mathlib.Omega.{arith}
 use mathlib.Core.Path.{_≡_, ap, _∙_}
-use lib.ListN.{length}
 use borrow.Author.Needs.{needs}
-use Rattle.tabling.specs.steps.Parted.{at}
 use Rattle.build.specs.steps.Capacity.{largestTo}
 use Rattle.build.proofs.Largest.{largest-none, largest-turn}
 use Rattle.build.proofs.capacity.largest.Statement.{statement}
