@@ -3,6 +3,7 @@
 mod average;
 mod building;
 mod bundle;
+mod changes;
 mod drop_in;
 mod hash;
 mod load;
@@ -16,7 +17,7 @@ mod repeats;
 mod round;
 mod table;
 
-const PARTS: [(&str, fn()); 11] = [
+const PARTS: [(&str, fn()); 12] = [
     ("hash", hash::run),
     ("reading", reading::run),
     ("building", building::run),
@@ -27,6 +28,7 @@ const PARTS: [(&str, fn()); 11] = [
     ("origin", origin::run),
     ("round", round::run),
     ("average", average::run),
+    ("changes", changes::run),
     ("drop-in", drop_in::run),
 ];
 

@@ -27,7 +27,7 @@ pub struct Change<'a, 'b> {
 ///     let mut writer = cqdb::MemoryWriter::new();
 ///     writer.put(names[0], 14)?;
 ///     writer.put(names[1], 15)?;
-///     writer.finish()
+///     Ok(writer.finish()?)
 /// };
 /// let (old, new) = (image(["north wall", "crane"])?, image(["crane", "north wall"])?);
 /// let (old, new) = (cqdb::CQDB::new(&old)?, cqdb::CQDB::new(&new)?);

@@ -24,6 +24,7 @@ impl Folder {
         fs::write(self.0.join(name), bytes).unwrap();
     }
 
+    #[allow(dead_code)]
     pub fn read(&self, name: &str) -> Vec<u8> {
         fs::read(self.0.join(name)).unwrap()
     }

@@ -8,6 +8,7 @@ mod check;
 mod compare;
 mod completions;
 mod dates;
+mod diff;
 mod files;
 mod hash;
 mod home;
@@ -54,6 +55,7 @@ const COMMANDS: &[&Command] = &[
     &page::COMMAND,
     &check::COMMAND,
     &preflight::COMMAND,
+    &diff::COMMAND,
     &stats::COMMAND,
     &bundle::COMMAND,
     &sheet::COMMAND,
