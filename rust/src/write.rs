@@ -4,6 +4,7 @@ use std::fmt;
 use crate::archive::{self, Counts, Record};
 use crate::flag::Flag;
 use crate::refusal::{self, Refusal};
+use crate::zeros::zeros;
 
 /// The head of an image, which the entries follow.
 pub(crate) const HEAD: usize = 2_072;
@@ -15,6 +16,8 @@ const REPEATS_ON: u32 = 1;
 /// The words of the first index, and those from which on it doubles.
 const FIRST_INDEX: usize = 256;
 const SMALL_INDEX: usize = 1 << 18;
+/// A buffer that has to become so many times as long is taken anew.
+const LEAP: usize = 4;
 /// The size of the largest image.
 pub(crate) const LIMIT: u64 = 4_294_967_295;
 
@@ -143,18 +146,33 @@ impl MemoryWriter {
         if needed > LIMIT {
             return false;
         }
-        // The vector asks for twice its memory, which moves large blocks without a copy. It is cleared, and so taken from the
-        // system, only as far as the image needs it soon.
         let length = (needed + needed / 8).min(LIMIT);
         let grown = archive::grown(self.record, length);
-        let more = length as usize - self.buffer.len();
-        let room = self.buffer.try_reserve(more).or_else(|_| self.buffer.try_reserve_exact(more));
-        if grown.refusal != 0 || room.is_err() {
+        if grown.refusal != 0 || !self.lengthen(length as usize) {
             return false;
         }
-        self.buffer.resize(length as usize, 0);
         self.record = grown.record;
         true
+    }
+
+    /// Makes the buffer so long, with zeros behind the entries, if memory can be had.
+    fn lengthen(&mut self, length: usize) -> bool {
+        let end = self.record.end as usize;
+        if length / LEAP > self.buffer.len() {
+            // One large id: fresh pages are zero, and cost nothing until they are written to.
+            let Some(mut larger) = zeros(length) else { return false };
+            larger[HEAD..end].copy_from_slice(&self.buffer[HEAD..end]);
+            self.buffer = larger;
+            return true;
+        }
+        // The vector asks for twice its memory, which moves large blocks without a copy. It is cleared, and so taken from the
+        // system, only as far as the image needs it soon.
+        let more = length - self.buffer.len();
+        let room = self.buffer.try_reserve(more).or_else(|_| self.buffer.try_reserve_exact(more));
+        if room.is_ok() {
+            self.buffer.resize(length, 0);
+        }
+        room.is_ok()
     }
 
     /// The size of the finished image after a put.
