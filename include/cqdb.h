@@ -47,7 +47,7 @@
      put, repeats off                22, and 4.5 for each earlier entry: n puts take 2.2 x n x n      2
      put_indexed                     16, 23, with either choice of repeats; 4 words for each name
      index                           11, 18 for each entry                                           2
-     index_words                     1
+     index_words                     2
      close                           11, 16 for each entry                                           39
      build, 7 words for each name    13, 18 for each name                                            4
      build, 3 words for each name    31, 49 for each name                                            41
