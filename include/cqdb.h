@@ -51,7 +51,7 @@
      put, repeats off                22, and 4.5 for each earlier entry: n puts take 2.2 x n x n      2
      put_indexed                     16, 23, with either choice of repeats; 4 words for each name
      index                           11, 18 for each entry                                           2
-     index_words                     1
+     index_words                     2
      close                           11, 16 for each entry                                           39
      grown                           12
      build_needs                     0.2 for each id
