@@ -1,5 +1,6 @@
 // The drop-in: the same lines over the interface of cqdb-rs, built with the Rust crate of this repository and with the original. Ids
-// are asked in order and by a walk, names in an order that jumps about.
+// are asked in order and by a walk, names in an order that jumps about. Images are written to a stream in memory that grows; ours
+// refuses a name that it holds, which the original does not look for.
 use crate::names::{mixed, Names};
 use crate::reading::image;
 use crate::table::{self, best};
@@ -9,7 +10,18 @@ use std::hint::black_box;
 macro_rules! side {
     ($side:ident, $cqdb:ident) => {
         mod $side {
-            use $cqdb::CQDB;
+            use std::io::Cursor;
+            use $cqdb::{CQDBWriter, CQDB};
+
+            pub fn write(names: &[&str]) -> Vec<u8> {
+                let mut stream = Cursor::new(Vec::new());
+                let mut writer = CQDBWriter::new(&mut stream).expect("a stream in memory");
+                for (id, name) in names.iter().enumerate() {
+                    writer.put(name, id as u32).expect("a name that is put once");
+                }
+                drop(writer);
+                stream.into_inner()
+            }
 
             pub fn open(image: &[u8]) -> CQDB<'_> {
                 CQDB::new(image).expect("an image")
@@ -47,7 +59,17 @@ fn sides(repetitions: usize, n: usize, ours: impl Fn() -> usize, rust: impl Fn()
     best(repetitions, n, || kept(ours()), || kept(rust()))
 }
 
+// Both write one image.
+fn writing(names: &[&str], repetitions: usize) {
+    assert!(ours::write(names) == rust::write(names), "the same image");
+    let times = best(repetitions, names.len(), || drop(black_box(ours::write(names))), || drop(black_box(rust::write(names))));
+    table::row(&format!("the crate: CQDBWriter, an entry of {}", names.len()), times, None);
+}
+
 pub fn run() {
+    for (n, repetitions) in [(4_096, 3_000), (100_000, 100), (1_000_000, 15)] {
+        writing(&Names::new('p', 9, 0..n).all(), repetitions);
+    }
     for (n, repetitions) in [(4_096, 3_000), (100_000, 300), (1_000_000, 31)] {
         let image = image(&Names::new('p', 9, 0..n).all());
         let names = Names::new('p', 9, mixed(n));

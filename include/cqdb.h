@@ -50,7 +50,7 @@
      put, repeats on                 22
      put, repeats off                22, and 4.5 for each earlier entry: n puts take 2.2 x n x n      2
      put_indexed                     16, 23, with either choice of repeats; 4 words for each name
-     index                           11, 18 for each entry
+     index                           11, 18 for each entry                                           2
      index_words                     1
      close                           11, 16 for each entry                                           39
      grown                           12
@@ -70,8 +70,8 @@
    cqdb_open may still accept it: names and ids may then give nothing, or each other's answers. See cqdb_put.
 
    What is proved is the archive. The declarations, structs and inline functions of this file are tested. The inline functions
-   only copy numbers (begin: where it is accepted), pass arguments on (rounds: four words for each place) or take a C string's
-   length. */
+   only copy numbers (begin: where it is accepted), pass arguments on (rounds: four words for each place; put_indexed: the
+   writer's numbers in place) or take a C string's length. */
 #ifndef CQDB_H
 #define CQDB_H
 

@@ -76,7 +76,7 @@ refusals! {
     NoSuchDate = 22, "a date does not exist, or is out of bounds";
     /// A window does not start before its end.
     NotBeforeEnd = 23, "a window does not start before its end";
-    /// The index that was lent has no free slot. No writer of this crate gets there.
+    /// The writer's index has no free slot. A writer of this crate gets there only where memory for a larger one cannot be had.
     IndexFull = 24, "the index has no free slot";
 }
 

@@ -4,7 +4,6 @@ use std::fmt;
 use crate::archive::{self, Counts, Record};
 use crate::flag::Flag;
 use crate::refusal::{self, Refusal};
-use crate::zeros::zeros;
 
 /// The head of an image, which the entries follow.
 pub(crate) const HEAD: usize = 2_072;
@@ -77,11 +76,12 @@ impl MemoryWriter {
         MemoryWriter { buffer, record: begun.record, counts, slots }
     }
 
-    /// Puts a name, any bytes but 0, under an id. A name gives the id of its first put, and an id gives the name of its
-    /// last. Refused, and nothing changes, with [`Refusal::ZeroByte`] when the name has a zero byte; else with
-    /// [`Refusal::Repeated`] when the writer holds the name, unless it was made by
-    /// [`with_repeats`](Self::with_repeats); else with [`Refusal::NoRoom`] when the image would exceed 4,294,967,295
-    /// bytes, or the memory that can be had; a two-way image has four bytes for each id up to the largest.
+    /// Puts a name, any bytes but 0, under an id. A name gives the id of its first put, and an id gives the name of its last.
+    /// Refused, and nothing changes, with [`Refusal::ZeroByte`] when the name has a zero byte; else with
+    /// [`Refusal::Repeated`] when the writer holds the name, unless it was made by [`with_repeats`](Self::with_repeats); else
+    /// with [`Refusal::NoRoom`] when the image would exceed 4,294,967,295 bytes; a two-way image has four bytes for each id up
+    /// to the largest. Also with [`Refusal::NoRoom`], or with [`Refusal::IndexFull`], where memory for a larger buffer or index
+    /// cannot be had.
     pub fn put<K: AsRef<[u8]>>(&mut self, name: K, id: u32) -> Result<(), Refusal> {
         let name = name.as_ref();
         match self.put_here(name, id) {
@@ -143,15 +143,16 @@ impl MemoryWriter {
         if needed > LIMIT {
             return false;
         }
-        let end = self.record.end as usize;
-        let twice = needed.max(2 * self.record.length).min(LIMIT);
-        let Some(mut larger) = zeros(twice as usize).or_else(|| zeros(needed as usize)) else { return false };
-        let grown = archive::grown(self.record, larger.len() as u64);
-        if grown.refusal != 0 {
+        // The vector asks for twice its memory, which moves large blocks without a copy. It is cleared, and so taken from the
+        // system, only as far as the image needs it soon.
+        let length = (needed + needed / 8).min(LIMIT);
+        let grown = archive::grown(self.record, length);
+        let more = length as usize - self.buffer.len();
+        let room = self.buffer.try_reserve(more).or_else(|_| self.buffer.try_reserve_exact(more));
+        if grown.refusal != 0 || room.is_err() {
             return false;
         }
-        larger[HEAD..end].copy_from_slice(&self.buffer[HEAD..end]);
-        self.buffer = larger;
+        self.buffer.resize(length as usize, 0);
         self.record = grown.record;
         true
     }
@@ -173,16 +174,14 @@ fn name_at(buffer: &[u8], at: usize) -> &[u8] {
     &entry[8..8 + length]
 }
 
-/// Takes a larger index, of four times as many words while it is small and then of twice as many, and makes it from the
-/// entries. Where memory cannot be had the old one stays: half of it is still empty.
+/// Gives the index more words, four times as many while it is small and then twice as many, and makes it from the entries
+/// anew. Where memory cannot be had it stays as it is: half of it is still empty.
 fn widen(slots: &mut Vec<u32>, record: Record, counts: &Counts, buffer: &[u8]) {
-    let words = slots.len() * if slots.len() < SMALL_INDEX { 4 } else { 2 };
-    let mut larger = Vec::new();
-    if larger.try_reserve_exact(words).is_ok() {
-        larger.resize(words, 0);
-        let refusal = archive::index(record, counts, buffer, &mut larger);
+    let more = slots.len() * if slots.len() < SMALL_INDEX { 3 } else { 1 };
+    if slots.try_reserve_exact(more).is_ok() {
+        slots.resize(slots.len() + more, 0);
+        let refusal = archive::index(record, counts, buffer, slots);
         assert_eq!(refusal, 0, "record, counts and buffer are the writer's own");
-        *slots = larger;
     }
 }
 

@@ -1,5 +1,5 @@
 // Hostile calls, to be run under valgrind: damaged images, random bytes, records that do not fit, broken buffers, pairs and rounds
-// of any ids, round sheets cut anywhere, broken bundles, any dates and windows, lists and outputs without room, buffers that grow or shrink, loads in buffers of any length. Everything lent
+// of any ids, round sheets cut anywhere, broken bundles, any dates and windows, lists and outputs without room, buffers that grow or shrink, slots of any words, loads in buffers of any length. Everything lent
 // stands in a heap block of exactly its length, so that valgrind reports a read or write outside it. A refusal changes no byte,
 // reading changes none, and every place in an answer lies in what was lent.
 // hostile [CALLS | too-much]
@@ -35,6 +35,7 @@ struct Run {
     seasons: u64,
     pairs: u64,
     lists: u64,
+    slots: u64,
 }
 
 // A heap block of exactly these bytes.
@@ -342,6 +343,30 @@ impl Run {
         self.calls += 1;
     }
 
+    // A put by slots of any words, and an index made in them.
+    fn indexed(&mut self, random: &mut Random, s: &State, names: &[Box<[u8]>]) {
+        let (mut buf, mut counts, mut record) = (exact(&s.buf), Box::new(s.counts), Box::new(s.record));
+        let some = [0, 0, 0, 1, HEAD as u32, s.record.end as u32, (s.record.end as u32).wrapping_sub(9), u32::MAX];
+        let n = random.below(30);
+        let before: Box<[u32]> = (0..n).map(|_| if random.once_in(4) { random.word() } else { random.pick(&some) }).collect();
+        let mut slots = before.clone();
+        let name = if random.once_in(2) { names[random.below(names.len())].clone() } else { exact(&names::any(random)) };
+        let id = random.pick(&[0, 9, s.record.back, 0xffff_fffe, 0xffff_ffff]);
+        let refusal = ours::put_indexed(&mut record, &mut counts, &mut buf, &mut slots, &name, id);
+        self.tally.rule([0, 2, 3, 13, 16, 24].contains(&refusal), true, || format!("a put by an index gave {refusal}"));
+        if refusal > 0 {
+            self.unchanged((*record, &counts, &buf), s, "a refused put by an index");
+            self.tally.rule(&slots, &before, || "the slots after a refused put".into());
+        }
+        let before = slots.clone();
+        let refusal = ours::index(*record, &counts, &buf, &mut slots);
+        self.tally.rule([0, 2, 4, 24].contains(&refusal), true, || format!("an index gave {refusal}"));
+        self.tally.rule(refusal == 0 || slots == before, true, || "the slots after a refused index".into());
+        self.refused += u64::from(refusal > 0);
+        self.calls += 2;
+        self.slots += 1;
+    }
+
     // Any dates and windows on one image: a name lies in it, and where a list is refused the rest are zeros.
     fn season(&mut self, random: &mut Random, bytes: &[u8]) {
         let date = |random: &mut Random| {
@@ -468,6 +493,7 @@ fn round(run: &mut Run, random: &mut Random) {
         }
         run.write(random, &odd, &names);
         run.grow(random, &odd);
+        run.indexed(random, &odd, &names);
     }
     for _ in 0..60 {
         run.order(random);
@@ -491,13 +517,13 @@ fn main() {
     let calls = std::env::args().nth(1).map_or(CALLS, |text| text.parse().expect("a number of calls"));
     let mut random = Random::new();
     println!("hostile: seed {}", random.seed);
-    let mut run = Run { tally: Tally::default(), calls: 0, refused: 0, images: 0, states: 0, rounds: 0, sheets: 0, bundles: 0, loads: 0, seasons: 0, pairs: 0, lists: 0, repeated: 0 };
+    let mut run = Run { tally: Tally::default(), calls: 0, refused: 0, images: 0, states: 0, rounds: 0, sheets: 0, bundles: 0, loads: 0, seasons: 0, pairs: 0, lists: 0, slots: 0, repeated: 0 };
     while run.calls < calls {
         round(&mut run, &mut random);
     }
     println!(
-        "hostile: {} calls on {} images, {} records with their buffers, {} rounds, {} sheets, {} bundles, {} loads, {} lists of windows, {} pairs of images and {} whole lists; {} refused, {} of them repeats; {} of {} checks failed",
-        run.calls, run.images, run.states, run.rounds, run.sheets, run.bundles, run.loads, run.seasons, run.pairs, run.lists, run.refused, run.repeated, run.tally.different, run.tally.rule
+        "hostile: {} calls on {} images, {} records with their buffers, {} rounds, {} sheets, {} bundles, {} loads, {} lists of windows, {} pairs of images, {} whole lists and {} lists of slots; {} refused, {} of them repeats; {} of {} checks failed",
+        run.calls, run.images, run.states, run.rounds, run.sheets, run.bundles, run.loads, run.seasons, run.pairs, run.lists, run.slots, run.refused, run.repeated, run.tally.different, run.tally.rule
     );
     std::process::exit(i32::from(run.tally.different > 0));
 }
