@@ -33,6 +33,7 @@ struct Run {
     bundles: u64,
     loads: u64,
     seasons: u64,
+    pairs: u64,
     lists: u64,
     slots: u64,
 }
@@ -404,6 +405,29 @@ impl Run {
         self.seasons += 1;
     }
 
+    // Two images from any id on: both namings are those of the single calls and differ, and a moved name is found where it went.
+    fn changes(&mut self, random: &mut Random, bytes: (&[u8], &[u8])) {
+        let (old, new) = (exact(bytes.0), exact(bytes.1));
+        let from = random.pick(&[0, 0, 1, 3, u64::from(u32::MAX), 1 << 32, u64::MAX]);
+        let answer = ours::next_change(&old, &new, from);
+        let named = (ours::named(&old, answer.id), ours::named(&new, answer.id));
+        let so = match answer.found {
+            0 => (answer.id, answer.before.found, answer.after.found) == (0, 0, 0),
+            _ => {
+                let places = (ours::to_str(&old, answer.id), ours::to_str(&new, answer.id));
+                (answer.before, answer.after) == places && named.0 != named.1 && u64::from(answer.id) >= from
+            }
+        };
+        self.tally.rule(so, true, || format!("{answer:?} from {from}"));
+        let moved = ours::moved(&old, &new, answer.id);
+        let other = named.0.and_then(|name| ours::found_id(&new, name)).filter(|&id| id != answer.id);
+        self.tally.rule((moved.found == 1).then_some(moved.id), other, || format!("{moved:?} of {}", answer.id));
+        self.tally.bytes(&old, bytes.0, || "an old image that was compared".into());
+        self.tally.bytes(&new, bytes.1, || "a new image that was compared".into());
+        self.calls += 2;
+        self.pairs += 1;
+    }
+
     fn unchanged(&mut self, (record, counts, buf): (ours::Record, &Counts, &[u8]), s: &State, what: &str) {
         self.refused += 1;
         self.tally.rule(record, s.record, || format!("the record after {what}"));
@@ -455,6 +479,8 @@ fn round(run: &mut Run, random: &mut Random) {
         run.bundle(random, &images);
         let image = &images[random.below(images.len())];
         run.season(random, image);
+        let other = &images[random.below(images.len())];
+        run.changes(random, (image, other));
         run.list(random);
     }
     let n = random.below(4000);
@@ -491,13 +517,13 @@ fn main() {
     let calls = std::env::args().nth(1).map_or(CALLS, |text| text.parse().expect("a number of calls"));
     let mut random = Random::new();
     println!("hostile: seed {}", random.seed);
-    let mut run = Run { tally: Tally::default(), calls: 0, refused: 0, images: 0, states: 0, rounds: 0, sheets: 0, bundles: 0, loads: 0, seasons: 0, lists: 0, slots: 0, repeated: 0 };
+    let mut run = Run { tally: Tally::default(), calls: 0, refused: 0, images: 0, states: 0, rounds: 0, sheets: 0, bundles: 0, loads: 0, seasons: 0, pairs: 0, lists: 0, slots: 0, repeated: 0 };
     while run.calls < calls {
         round(&mut run, &mut random);
     }
     println!(
-        "hostile: {} calls on {} images, {} records with their buffers, {} rounds, {} sheets, {} bundles, {} loads, {} lists of windows, {} whole lists and {} lists of slots; {} refused, {} of them repeats; {} of {} checks failed",
-        run.calls, run.images, run.states, run.rounds, run.sheets, run.bundles, run.loads, run.seasons, run.lists, run.slots, run.refused, run.repeated, run.tally.different, run.tally.rule
+        "hostile: {} calls on {} images, {} records with their buffers, {} rounds, {} sheets, {} bundles, {} loads, {} lists of windows, {} pairs of images, {} whole lists and {} lists of slots; {} refused, {} of them repeats; {} of {} checks failed",
+        run.calls, run.images, run.states, run.rounds, run.sheets, run.bundles, run.loads, run.seasons, run.pairs, run.lists, run.slots, run.refused, run.repeated, run.tally.different, run.tally.rule
     );
     std::process::exit(i32::from(run.tally.different > 0));
 }
