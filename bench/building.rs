@@ -63,6 +63,24 @@ fn whole_list(n: usize, repetitions: usize) {
     table::row(&format!("a list in one call, repeats off, an entry of {n}"), times, None);
 }
 
+// The same list with its last name equal to its first, which is refused with 16. The list without it takes turns with it.
+fn refused_name(n: usize, repetitions: usize) {
+    let names = Names::new('p', 9, 0..n);
+    let clean = names.all().concat().into_bytes();
+    let repeated = [&clean[..9 * (n - 1)], &clean[..9]].concat();
+    let ends: Vec<u64> = (1..=n as u64).map(|i| 9 * i).collect();
+    let ids: Vec<u32> = (0..n as u32).collect();
+    let buffers = || (vec![0; n], vec![0; 7 * n], vec![0u8; image_size(n, 9)]);
+    let one_call = |names: &[u8], accepted: usize, (refusals, work, buf): &mut (Vec<u32>, Vec<u32>, Vec<u8>)| {
+        let answer = ours::build(0, 0, black_box(buf), Joined { names, ends: &ends, ids: &ids }, refusals, work);
+        assert_eq!((answer.refusal, answer.accepted as usize), (0, accepted));
+    };
+    let (mut a, mut b) = (buffers(), buffers());
+    let times = best(repetitions, n, || one_call(&repeated, n - 1, &mut a), || one_call(&clean, n, &mut b));
+    table::own_row(&format!("a list in one call, its last name refused, an entry of {n}"), times.0);
+    table::own_row(&format!("the same list, no name refused, an entry of {n}"), times.1);
+}
+
 // Two closes that are refused: one by the record's length, before the counts are read, and one by the size, after it.
 fn count_check() {
     let mut counts = [0; 256];
@@ -90,5 +108,8 @@ pub fn run() {
     whole_list(4_096, 2_000);
     whole_list(100_000, 100);
     whole_list(1_000_000, 31);
+    refused_name(4_096, 2_000);
+    refused_name(100_000, 100);
+    refused_name(1_000_000, 31);
     count_check();
 }

@@ -37,6 +37,7 @@ pub fn run() {
         let jhash: fn(&[u8], u32, u32) -> u32 = black_box(rust::jhash);
         let called = || all(calls, &names, |n| jhash(n, n.len() as u32 + 1, 0));
         let times = best(REPETITIONS, calls, ours, called);
+        // SAFETY: the slice is valid for its length; lookup3 may read an aligned word whole, past its end.
         let c = || all(calls, &closed, |n| unsafe { jenkins_hashlittle(n.as_ptr(), n.len(), 0) });
         let c = least(REPETITIONS, calls, c);
         table::row(&format!("hash of {size} bytes"), times, Some(c));

@@ -3,6 +3,8 @@
 mod average;
 mod building;
 mod bundle;
+mod changes;
+mod drop_in;
 mod hash;
 mod load;
 mod names;
@@ -15,7 +17,7 @@ mod repeats;
 mod round;
 mod table;
 
-const PARTS: [(&str, fn()); 10] = [
+const PARTS: [(&str, fn()); 12] = [
     ("hash", hash::run),
     ("reading", reading::run),
     ("building", building::run),
@@ -26,6 +28,8 @@ const PARTS: [(&str, fn()); 10] = [
     ("origin", origin::run),
     ("round", round::run),
     ("average", average::run),
+    ("changes", changes::run),
+    ("drop-in", drop_in::run),
 ];
 
 fn main() {

@@ -42,6 +42,7 @@ macro_rules! peer {
             extern "C" {
                 static $name: Peer;
             }
+            // SAFETY: the C file of the peer defines it, and nobody writes to it.
             Some(unsafe { &$name })
         }
         #[cfg(not($name))]
@@ -72,10 +73,12 @@ impl Side {
     fn build(&self, build: Build, list: &List) -> f64 {
         self.remove();
         let path = self.path();
+        // SAFETY: the path ends with a zero byte, and the list's pointers are those of slices that outlive the call.
         time(list.n, || assert_eq!(unsafe { build(path.as_ptr(), list) }, 0, "{} builds", self.name))
     }
 
     fn open(&self) -> Opened<'_> {
+        // SAFETY: the path ends with a zero byte.
         let db = unsafe { (self.peer.open)(self.path().as_ptr()) };
         assert!(!db.is_null(), "{} opens its file", self.name);
         Opened { side: self, db }
@@ -97,6 +100,7 @@ struct Opened<'a> {
 impl Opened<'_> {
     fn ask(&self, questions: &Questions) {
         for (name, &answer) in questions.names.iter().zip(&questions.answers) {
+            // SAFETY: the peer opened db, and the name is lent with its length.
             let found = unsafe { (self.side.peer.find)(self.db, name.as_ptr(), name.len()) };
             assert!(found == answer, "{}: {name} gives {found} in place of {answer}", self.side.name);
         }
@@ -105,6 +109,7 @@ impl Opened<'_> {
 
 impl Drop for Opened<'_> {
     fn drop(&mut self) {
+        // SAFETY: the peer opened db, and it is not asked again.
         unsafe { (self.side.peer.close)(self.db) };
     }
 }
@@ -164,6 +169,7 @@ fn in_memory(sides: &[Side], list: &List, repetitions: usize) {
     let ours = sides[0].peer;
     let ways = [("single puts, repeats on", ours.add.expect("single puts")), ("one call, repeats off", ours.insert)];
     for (what, build) in ways {
+        // SAFETY: our builds take a null path, and the list's pointers are those of slices that outlive the call.
         let run = || assert_eq!(unsafe { build(ptr::null(), list) }, 0, "ours builds");
         let times = turns(repetitions, sides, |side| ptr::eq(side.peer, ours).then(|| time(list.n, run)));
         row(&format!("build in memory, {what}"), list.n, times, " ns");

@@ -23,6 +23,7 @@ extern "C" {
 fn thread_time() -> f64 {
     const THREAD: i32 = 3;
     let mut now = Timespec { seconds: 0, nanoseconds: 0 };
+    // SAFETY: the struct is laid out as C has it, and is written alone.
     assert_eq!(unsafe { clock_gettime(THREAD, &mut now) }, 0);
     now.seconds as f64 * 1e9 + now.nanoseconds as f64
 }

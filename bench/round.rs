@@ -1,5 +1,5 @@
-// A whole round of 512 in one call: names in and ids out beside the Rust's loop of `to_id` and our own single calls; ids in and names out
-// beside the Rust's loop of `to_str`. The rounds of a run take turns, so that a large image is not read from the cache.
+// A whole round of 512 in one call: names in and ids out, all found or none, beside the Rust's loop of `to_id` and our own single calls; ids in
+// and names out beside the Rust's loop of `to_str`. The rounds of a run take turns, so that a large image is not read from the cache.
 use crate::names::Names;
 use crate::ours::{self, IdAnswer, StrAnswer};
 use crate::reading::image;
@@ -21,10 +21,11 @@ fn rounds(n: usize, count: usize, half: bool) -> Vec<Vec<usize>> {
     (0..count).map(|round| (0..NAMES).map(|i| number(round, i)).collect()).collect()
 }
 
-fn names_in(image: &[u8], n: usize, count: usize, repetitions: usize, half: bool) {
+// The names of an image begin with p; those that begin with m are not found.
+fn names_in(image: &[u8], n: usize, count: usize, repetitions: usize, letter: char, half: bool) {
     let db = CQDB::new(image).expect("an image");
     let joined: Vec<Names> =
-        rounds(n, count, half).into_iter().map(|numbers| Names::new('p', LENGTH, numbers.into_iter())).collect();
+        rounds(n, count, half).into_iter().map(|numbers| Names::new(letter, LENGTH, numbers.into_iter())).collect();
     let lists: Vec<Vec<&str>> = joined.iter().map(Names::all).collect();
     let texts: Vec<String> = lists.iter().map(|list| list.concat()).collect();
     let ends: Vec<u64> = (1..=NAMES as u64).map(|i| i * LENGTH as u64).collect();
@@ -53,8 +54,10 @@ fn names_in(image: &[u8], n: usize, count: usize, repetitions: usize, half: bool
             black_box(&places);
         }
     });
-    assert!(answers == places && answers.iter().all(|a| a.found == 1), "all names are found, as by single calls");
+    let found = u32::from(letter == 'p');
+    assert!(answers == places && answers.iter().all(|a| a.found == found), "all names are found, or none, as by single calls");
     let what = if half { "half repeated" } else { "all different" };
+    let what = if found == 1 { what.to_string() } else { format!("{what}, none found") };
     table::row(&format!("round, a name of 512, {what}, {n} entries"), times, None);
     table::own_row(&format!("the same by our single calls, {what}, {n} entries"), single);
 }
@@ -84,8 +87,8 @@ fn ids_in(image: &[u8], n: usize, count: usize, repetitions: usize) {
 pub fn run() {
     for (n, count, repetitions) in [(4_096, 200, 150), (1_000_000, 2_000, 12)] {
         let image = image(&Names::new('p', LENGTH, 0..n).all());
-        for half in [false, true] {
-            names_in(&image, n, count, repetitions, half);
+        for (letter, half) in [('p', false), ('p', true), ('m', false)] {
+            names_in(&image, n, count, repetitions, letter, half);
         }
         ids_in(&image, n, count, repetitions);
     }

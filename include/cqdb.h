@@ -11,24 +11,80 @@
      length is 0 it may be NULL, which is taken as no bytes.
    - `counts` points to 256 words, those of cqdb_lengths to 16, and `w` to a whole cqdb_writer.
    - What a call writes (the buffer of cqdb_put, cqdb_close, cqdb_sheet_write, cqdb_bundle_append, cqdb_load and cqdb_build, the counts, the writer,
-     the output of cqdb_page, the answers of cqdb_round and cqdb_name_round,
-     the refusals and the work of cqdb_build) overlaps nothing else that the same call is lent: no name, no list, no buffer, no counts and no image.
+     the slots of cqdb_index and cqdb_put_indexed, the output of cqdb_page and cqdb_page_part, the answers of cqdb_round and
+     cqdb_name_round, the refusals and the work of cqdb_build) overlaps nothing else that the same call is lent: no name, no list, no buffer, no counts and no image.
      What a call only reads may overlap.
-   - Nobody else writes to what is lent while the call runs.
+   - Nobody else writes to what is lent while the call runs. That goes for the bytes of a mapped file (mmap) too: a program that
+     writes to the file in place changes them, and one that makes it shorter takes them away (SIGBUS). Replace an image by a
+     rename: who has mapped the old file then keeps its bytes.
+
+   Threads: any number of them may read one image at the same time, by all calls that take it as const. A buffer that is being
+   written belongs to one thread.
+
+   Files: an image may be a mapped file. One that is replaced, by a rename of a new file, stays mapped as it was. One that is
+   written in place while a call runs breaks what the caller owes: the call may give answers of neither image, or read outside. One
+   that is cut short ends the process at the first byte behind its new end, by the signal SIGBUS. So write a new file beside the
+   old one and rename it; examples/c/build_file.c does, and examples/c/ask_file.c maps one.
+
+   What the calls cost. The times are examples, in ns on an AMD EPYC with names of 9 bytes and 4,096 entries; a second number is for
+   100,000 entries. Lookups in images that exceed the processor's caches take up to 110. The stack is rounded up, in KB of 1,024
+   bytes; calls without a number take less than 1 KB.
+
+     call                            time                                                            stack
+     version_number                  1
+     hash                            4; 390 for a name of 1,024 bytes
+     open, bundle_open               90; bundle_open: and a step for each image before it
+     to_id, home                     10 to 20, by the buckets that are read
+     to_str, panel                   3 to 5
+     size_hint, page_length          3
+     name_on                         10, and each window is read once
+     next_change                     3 for each id from the first one to the change
+     moved                           13 to 19
+     round                           13 for each name                                                11
+     name_round                      1.2 for each id
+     readings_agree                  3 for each id below the back size
+     page, page_part                 7 for each line
+     ours                            13, 18 for each entry                                           6
+     average, lengths                25, 86 for each entry                                           6
+     begin                           16
+     put, repeats on                 22
+     put, repeats off                22, and 4.5 for each earlier entry: n puts take 2.2 x n x n      2
+     put_indexed                     16, 23, with either choice of repeats; 4 words for each name
+     index                           11, 18 for each entry                                           2
+     index_words                     2
+     close                           11, 16 for each entry                                           39
+     grown                           12
+     build_needs                     0.2 for each id
+     build, 7 words for each name    13, 18 for each name                                            4
+     build, 3 words for each name    31, 49 for each name                                            41
+     build, no words, repeats on     27, 32 for each name                                            41
+     build, no words, repeats off    as put                                                          41
+     load                            130,000                                                         39
+     bundle_count                    a step for each image
+     bundle_append                   a copy of the image, and a step for each image before it
+     sheet_read, sheet_write         4; 0.6 for each id
+     references_first                up to a step for each pair and id of the round
 
    When an image can be read: from the cqdb_close that made it to the next accepted cqdb_put in the same buffer, or from a
    copy. That put writes where the close had placed the tables, so until the next close the buffer is no image, though
    cqdb_open may still accept it: names and ids may then give nothing, or each other's answers. See cqdb_put.
 
-   What is proved is the archive. The declarations, structs and inline functions of this file are tested. */
+   What is proved is the archive. The declarations, structs and inline functions of this file are tested. The inline functions
+   only copy numbers (begin: where it is accepted), pass arguments on (rounds: four words for each place; put_indexed: the
+   writer's numbers in place) or take a C string's length. */
 #ifndef CQDB_H
 #define CQDB_H
+
+#if !defined(__x86_64__) || defined(__ILP32__)
+#error "cqdb: the proved archive is for x86-64 Linux alone, with pointers of 64 bits"
+#endif
 
 #include <stddef.h>
 #include <stdint.h>
 #include <string.h>
 
-/* The version of this header and of the archive that comes with it. */
+/* The version of this header and of the archive that comes with it. cqdb_version_number gives that of the archive or the
+   shared library that the program runs with. */
 #define CQDB_VERSION "0.2.0"
 
 #ifdef __cplusplus
@@ -48,10 +104,11 @@ extern "C" {
 /* The refusals: the same numbers in all calls, 0 for none. Each comment names the calls that give it. A refused call
    changes no byte of what it is lent, the writer included. docs/FORMAT.md has the same table. */
 #define CQDB_TOO_SHORT 1u        /* begin, open, load, build: under 2,072 bytes */
-#define CQDB_UNFIT 2u            /* begin, put, close, grown, build: the writer does not fit the buffer, or mode or repeats is neither 0 nor 1 */
-#define CQDB_NO_ROOM 3u          /* put, bundle_append: the image would exceed the buffer; put: or 4,294,967,295 bytes */
-#define CQDB_INCONSISTENT 4u     /* put, close: the buffer's entries are not the writer's (put asks with repeats off only), or the
-                                    image that close would write is too large */
+#define CQDB_UNFIT 2u            /* begin, put, close, grown, build, put_indexed, index: the writer does not fit the buffer, or mode or
+                                    repeats is neither 0 nor 1 */
+#define CQDB_NO_ROOM 3u          /* put, bundle_append, put_indexed: the image would exceed the buffer; puts: or 4,294,967,295 bytes */
+#define CQDB_INCONSISTENT 4u     /* put, close, index: the buffer's entries are not the writer's (put asks with repeats off only), or
+                                    the image that close would write is too large */
 #define CQDB_WRONG_LETTERS 5u    /* open, bundle_open: the image does not begin with the letters CQDB */
 #define CQDB_WRONG_BYTE_ORDER 6u /* open, bundle_open: the word at 12, which shows the byte order, is wrong */
 #define CQDB_TABLE_LEAVES 7u     /* open, bundle_open: a table with an offset above 0 leaves the image */
@@ -59,11 +116,11 @@ extern "C" {
 #define CQDB_NAME_TOO_LONG 9u    /* hash: the name has 4,294,967,295 bytes or more */
 #define CQDB_BROKEN_BUNDLE 10u   /* bundle_open, bundle_append, bundle_count: the images do not lie back to back, or append's new one is unfit */
 #define CQDB_NO_SUCH_IMAGE 11u   /* bundle_open: the file ends at or before the position */
-#define CQDB_PAGE_TOO_LONG 12u   /* page: it has more bytes than the output */
-#define CQDB_ZERO_BYTE 13u       /* put: the name has a zero byte */
+#define CQDB_PAGE_TOO_LONG 12u   /* page, page_part: more bytes than the output has */
+#define CQDB_ZERO_BYTE 13u       /* put, put_indexed: the name has a zero byte */
 #define CQDB_ROUND_UNFIT 14u     /* round, name_round, build: ends that fall or pass the names; rounds: or more than 512 names or ids */
 #define CQDB_ANSWERS_TOO_FEW 15u /* round, name_round, build: fewer answer places than names or ids; build: or fewer ids */
-#define CQDB_REPEATED 16u        /* put: repeats are off, and an earlier entry has this name */
+#define CQDB_REPEATED 16u        /* put, put_indexed: repeats are off, and an earlier entry has this name */
 #define CQDB_NOT_OURS 17u        /* average, lengths: the bytes are not the image that some list of puts closes to */
 #define CQDB_NO_ENTRIES 18u      /* average, lengths: the image has no entry */
 #define CQDB_TOO_FEW_BYTES 19u   /* sheet_read: the file ends before its third section does */
@@ -71,6 +128,42 @@ extern "C" {
 #define CQDB_SHEET_TOO_LARGE 21u /* sheet_write: a list has more than 65,535 ids, or the buffer is too short */
 #define CQDB_NO_SUCH_DATE 22u    /* name_on: a date, the one asked about or a window's, does not exist or is out of bounds */
 #define CQDB_NOT_BEFORE_END 23u  /* name_on: a window does not start before its end */
+#define CQDB_INDEX_FULL 24u      /* put_indexed, index: every slot is taken; index: more entries than slots */
+
+/* What a refusal's number means, in the words of the Rust crate and of the Python module. */
+static inline const char *cqdb_refusal_text(uint32_t refusal) {
+    switch (refusal) {
+    case 0: return "accepted";
+    case CQDB_TOO_SHORT: return "invalid file format";
+    case CQDB_UNFIT: return "the writer does not fit its buffer";
+    case CQDB_NO_ROOM: return "no room: the image would be too large";
+    case CQDB_INCONSISTENT: return "the buffer's entries are not those of the writer";
+    case CQDB_WRONG_LETTERS: return "invalid file format, magic mismatch";
+    case CQDB_WRONG_BYTE_ORDER: return "invalid file format, byte order mismatch";
+    case CQDB_TABLE_LEAVES: return "invalid table data: out of bounds";
+    case CQDB_BACK_LEAVES: return "invalid backward link data: out of bounds";
+    case CQDB_NAME_TOO_LONG: return "the name is too long";
+    case CQDB_BROKEN_BUNDLE: return "invalid bundle: no image begins where one should";
+    case CQDB_NO_SUCH_IMAGE: return "the bundle has no image at this position";
+    case CQDB_PAGE_TOO_LONG: return "the page is longer than the output";
+    case CQDB_ZERO_BYTE: return "the name has a zero byte";
+    case CQDB_ROUND_UNFIT: return "the round has too many names or ids, or ends that do not fit its names";
+    case CQDB_ANSWERS_TOO_FEW: return "the answer list is shorter than the round";
+    case CQDB_REPEATED: return "the writer already holds this name, and repeats are off";
+    case CQDB_NOT_OURS: return "the image is none that a list of puts makes";
+    case CQDB_NO_ENTRIES: return "the image has no entry";
+    case CQDB_TOO_FEW_BYTES: return "invalid round sheet, too few bytes";
+    case CQDB_LEFT_OVER_BYTES: return "invalid round sheet, left-over bytes";
+    case CQDB_SHEET_TOO_LARGE: return "no room: a list of the round sheet is too long, or its buffer too short";
+    case CQDB_NO_SUCH_DATE: return "a date does not exist, or is out of bounds";
+    case CQDB_NOT_BEFORE_END: return "a window does not start before its end";
+    case CQDB_INDEX_FULL: return "the index has no free slot";
+    default: return "no such refusal";
+    }
+}
+
+/* The version as one number: major x 65536 + minor x 256 + patch. */
+uint32_t cqdb_version_number(void);
 
 /* The name hash. */
 
@@ -183,13 +276,13 @@ uint32_t cqdb_lengths(const uint8_t *image, size_t len, uint32_t *counts);
         a line feed
 
    Bytes outside 32 to 126 are printed as full stops, and a shorter name is followed by spaces. An id without a name has 32
-   hyphens, so a name of 32 hyphens looks the same. Both calls take any bytes as an image, opened or not. */
+   hyphens, so a name of 32 hyphens looks the same. The calls take any bytes as an image, opened or not. */
 
 /* How many bytes the page has: 45 x cqdb_size_hint(image, len, 0), at most 193,273,528,275, which takes 38 bits. It is 0
    where no back array can be read. */
 uint64_t cqdb_page_length(const uint8_t *image, size_t len);
 
-/* refusal is 0 when the page was printed; length is the page's, 0 when the call was refused. */
+/* refusal is 0 when the page or the part was printed; length is that of what was printed, 0 when the call was refused. */
 typedef struct {
     uint32_t refusal;
     uint64_t length;
@@ -198,6 +291,11 @@ typedef struct {
 /* Prints the page to the first bytes of out, as many as cqdb_page_length gives; those behind them keep their content.
    Refusal: 12 when out_len is less, and nothing is written. */
 cqdb_page_answer cqdb_page(const uint8_t *image, size_t len, uint8_t *out, size_t out_len);
+
+/* Prints a part of the page, so that a long page needs little memory: the lines of `count` ids from `first` on, of those below
+   back size. The length is 45 for each of them, 0 where there is none. Parts that follow each other, joined, are the page.
+   Refusal: 12 when out_len is less, and nothing is written. */
+cqdb_page_answer cqdb_page_part(const uint8_t *image, size_t len, uint32_t first, uint32_t count, uint8_t *out, size_t out_len);
 
 /* Writing. One buffer takes the entries, and close makes it the image. The writer belongs to the caller: all of its fields
    are open, and the calls answer every value of them. A writer fits a buffer when its mode is 0 or 1, its repeats is 0
@@ -219,9 +317,9 @@ typedef struct {
 #define CQDB_REPEATS_OFF 0u
 #define CQDB_REPEATS_ON 1u
 
-/* The archive exports cqdb_begin_parts, cqdb_put_parts and cqdb_close_parts; cqdb_begin, cqdb_put and cqdb_close below
-   call them, and programs in other languages may. They take the writer in two parts: a cqdb_record by value, and the
-   counts, which are lent and changed in place. */
+/* The archive exports cqdb_begin_parts, cqdb_put_parts, cqdb_close_parts and cqdb_grown_parts; cqdb_begin, cqdb_put,
+   cqdb_close and cqdb_grown below call them, and programs in other languages may. They take the writer in two parts: a
+   cqdb_record by value, and the counts, which are lent and changed in place. */
 typedef struct {
     uint32_t mode;
     uint32_t repeats;
@@ -255,6 +353,7 @@ cqdb_begin_answer cqdb_begin_parts(uint32_t mode, uint32_t repeats, uint32_t *co
 cqdb_put_answer cqdb_put_parts(cqdb_record record, uint32_t *counts, uint8_t *buf, size_t len,
                                const uint8_t *name, size_t name_len, uint32_t id);
 cqdb_close_parts_answer cqdb_close_parts(cqdb_record record, const uint32_t *counts, uint8_t *buf, size_t len);
+cqdb_put_answer cqdb_grown_parts(cqdb_record record, uint64_t len);
 
 /* refusal is 0 when the call was accepted; size is the image's, 0 when the call was refused. */
 typedef struct {
@@ -288,7 +387,8 @@ static inline uint32_t cqdb_begin_with(cqdb_writer *w, uint32_t mode, uint32_t r
 
 /* Makes *w, whatever it held, a fresh writer for the buffer: the mode, repeats off, the buffer's length, end 2,072,
    otherwise zeros. Reads and changes no byte of the buffer. Gives 0, or the first refusal that applies: 2 for a mode that is
-   neither 0 nor 1, 1 for a buffer under 2,072 bytes. Each put then looks at all earlier entries (see cqdb_put). */
+   neither 0 nor 1, 1 for a buffer under 2,072 bytes. Each cqdb_put then looks at all earlier entries; cqdb_put_indexed and
+   cqdb_build do not. */
 CQDB_LENGTH_ALONE(3) CQDB_INLINED
 static inline uint32_t cqdb_begin(cqdb_writer *w, uint32_t mode, const uint8_t *buf, size_t len) {
     return cqdb_begin_with(w, mode, CQDB_REPEATS_OFF, buf, len);
@@ -310,7 +410,7 @@ static inline uint32_t cqdb_begin_repeats(cqdb_writer *w, uint32_t mode, const u
 
    With repeats off a put walks all earlier entries, some 5 ns for each with names of 9 bytes. So n puts take n x n / 2 such
    steps: 40 ms for 4,096 names, half a minute for 100,000. With repeats on a put does not look at them: 4,096 puts take
-   0.1 ms, 100,000 take 3 ms.
+   0.1 ms, 100,000 take 3 ms. With repeats off cqdb_put_indexed takes as little.
 
    The bytes at w->end are those where the last close placed its tables. After an accepted put the buffer is therefore no
    image, though its head is still that of the last close and cqdb_open may accept it. After A->0, B->1, close and C->2,
@@ -327,26 +427,74 @@ static inline uint32_t cqdb_put_text(cqdb_writer *w, uint8_t *buf, size_t len, c
     return cqdb_put(w, buf, len, (const uint8_t *)name, strlen(name), id);
 }
 
-/* Takes the new length of a buffer that has grown, as by realloc after refusal 3. The bytes up to w->end are those of
-   before; what follows them does not matter, and where the buffer stands does not either. The writer is then as if it had
-   begun with the larger buffer. Gives 0, or 2, and the writer stays as it was, when the buffer has become shorter. */
+/* Takes the new length of a buffer that has grown, as by realloc after refusal 3. The bytes from 2,072 to w->end are those of
+   before; what the others are does not matter, and where the buffer stands does not either. The writer is then as if it had
+   begun with the larger buffer and been given the accepted puts. Gives 0, or 2, and the writer stays as it was, when the buffer
+   has become shorter, or for a mode or a repeats that is neither 0 nor 1. */
 static inline uint32_t cqdb_grown(cqdb_writer *w, size_t len) {
-    if (len < w->length) {
-        return CQDB_UNFIT;
-    }
-    w->length = len;
-    return 0;
+    cqdb_put_answer a = cqdb_grown_parts(cqdb_record_of(w), len);
+    cqdb_keep(w, a.record);
+    return a.refusal;
 }
 
 /* Writes head, tables and back array: the buffer's first `size` bytes are then the image, up to the next accepted put.
    Entries, and bytes from size on, keep their content, and the writer stays as it is: puts and closes may follow. Gives
    the first refusal that applies: 2 when the writer does not fit the buffer; 4 when the bytes from 2,072 to end are not the
    writer's number of whole entries with its counts and back size, or when the finished size exceeds the buffer or
-   4,294,967,295. Takes 38 KB of stack. */
+   4,294,967,295. */
 static inline cqdb_close_answer cqdb_close(const cqdb_writer *w, uint8_t *buf, size_t len) {
     cqdb_close_parts_answer a = cqdb_close_parts(cqdb_record_of(w), w->counts, buf, len);
     cqdb_close_answer c = {a.refusal, a.size};
     return c;
+}
+
+/* Single puts in constant time, also with repeats off: by an index, in words that the caller lends. A put by the index compares
+   its name with the entries of an equal hash alone. The index is no part of the image: both ways of putting make the same bytes.
+
+   An index is right for a writer and its buffer when cqdb_index made it, in words of this number, and since then the writer, the
+   buffer's bytes from 2,072 to w->end and the words were changed by cqdb_put_indexed, cqdb_close and cqdb_grown alone; refused
+   calls of any kind do not matter. For a writer that is fresh from cqdb_begin, words that are all 0 are right as well. Whatever
+   else the words hold, no call touches anything outside what it is lent, each call ends, a refusal changes nothing, and an
+   accepted put appends exactly its entry; but it may be refused with 16 or 24 without need, or accept a name that an earlier
+   entry has. */
+
+/* How many words to lend for so many names: 4 for each, so that the index is half full at the end; 2^64 - 1 where that is more
+   than a size can be. An index of n words, an odd last one apart, has room for n / 2 names. The fuller it gets the longer a put
+   takes: with 2 words for each name, seven times as long at 100,000. */
+size_t cqdb_index_words(size_t names);
+
+/* The archive exports cqdb_index_parts and cqdb_put_indexed_parts, which cqdb_index and cqdb_put_indexed call. The second takes the
+   record in place: the words mode, repeats, entries and back, and the sizes length and end. */
+uint32_t cqdb_index_parts(cqdb_record record, const uint32_t *counts, const uint8_t *buf, size_t len, uint32_t *slots, size_t n);
+uint32_t cqdb_put_indexed_parts(uint32_t *numbers, uint64_t *sizes, uint32_t *counts, uint8_t *buf, size_t len,
+                                uint32_t *slots, size_t n, const uint8_t *name, size_t name_len, uint32_t id);
+
+/* The writer begins with these four words and two sizes; elsewhere this line does not compile. */
+typedef char cqdb_writer_in_place[offsetof(cqdb_writer, back) == 12 && offsetof(cqdb_writer, length) == 16 &&
+                                  offsetof(cqdb_writer, end) == 24 ? 1 : -1];
+
+/* Makes the n words at slots the index of the entries in the buffer, whatever they held; of a fresh writer, by clearing them. Changes
+   nothing else. Gives 0, or the first refusal that applies, and then the words stay as they were: 2 and 4 as cqdb_close gives
+   them, 24 when there are more entries than n / 2. Call it again with more words before the index is full. It walks the entries
+   twice: an index that grows by a factor when it is half full costs each put a constant time more. */
+static inline uint32_t cqdb_index(const cqdb_writer *w, const uint8_t *buf, size_t len, uint32_t *slots, size_t n) {
+    return cqdb_index_parts(cqdb_record_of(w), w->counts, buf, len, slots, n);
+}
+
+/* By a right index: cqdb_put with the writer's own choice of repeats, and the index is right again. Gives 0, or put's refusals in
+   put's order (2, 13, 16, 3; not 4, since the entries of a right index are the writer's), or else 24 when every slot is taken; the
+   put would be accepted by a larger index. Appends the entry, raises the writer's numbers and writes the two words of a slot, and
+   changes no other byte. By any other words: see above; 2 is given when the writer's mode, repeats, length or end does not fit the
+   buffer, or the count of the name's table cannot be raised. The other counts are not looked at. */
+static inline uint32_t cqdb_put_indexed(cqdb_writer *w, uint8_t *buf, size_t len, uint32_t *slots, size_t n,
+                                        const uint8_t *name, size_t name_len, uint32_t id) {
+    return cqdb_put_indexed_parts((uint32_t *)w, (uint64_t *)w + 2, w->counts, buf, len, slots, n, name, name_len, id);
+}
+
+/* The same of a name that is a C string. */
+static inline uint32_t cqdb_put_indexed_text(cqdb_writer *w, uint8_t *buf, size_t len, uint32_t *slots, size_t n, const char *name,
+                                             uint32_t id) {
+    return cqdb_put_indexed(w, buf, len, slots, n, (const uint8_t *)name, strlen(name), id);
 }
 
 /* A whole list in one call. */
@@ -370,10 +518,17 @@ cqdb_build_answer cqdb_build_parts(uint32_t mode, uint32_t repeats, uint8_t *buf
    the first that applies: 2 for a mode or a choice of repeats that is neither 0 nor 1; 14 when an end is below the one before or
    above names_len; 15 when there are fewer than n places; 1 for a buffer under 2,072 bytes. Then nothing is written.
 
-   The words at work are lent for speed: how many there are, and what they hold, changes no answer, and what they hold
-   afterwards is left open. With 7 words for each name, and room in the buffer for all names, the list goes by tables and no put
-   is checked by itself. With 3 words for each name the time grows with the list, also where names repeat or are refused; with
-   fewer than one for each name and repeats off, each name is compared with those before it. */
+   The words at work are scratch memory, lent for speed: how many there are, and what they hold, changes no answer, and what they
+   hold afterwards is unspecified. What a list of n names costs, by the words and by the list:
+   - 7n words, and room in the buffer for all names: linear. All tables are made first, then the image is written in one pass. Where
+     a name is refused, the names are put one by one instead. That is linear, too: 2.1 times the time of a list whose names are all
+     accepted at 4,096 names, 2.4 times at 100,000, when measured.
+   - 4n words: linear. Each put looks into an index of the names. There is an index from 2n words on, but the fuller it gets the
+     more slots a put reads: with 2n words 100,000 names took 7 times as long as with 4n.
+   - Fewer than 2n words: with repeats on linear, since no put looks for its name; with repeats off quadratic, since each put walks
+     the entries before it: 16,000 names took 0.6 s.
+   - With repeats on and whatever is lent, a name that is put k times costs k * k / 2 reads of buckets, as in cqdb_close: equal names
+     have one probe sequence in their table of the image. 64,000 puts of one name took 1.8 s. */
 static inline cqdb_build_answer cqdb_build(uint32_t mode, uint32_t repeats, uint8_t *buf, size_t len,
                                            const uint8_t *names, size_t names_len, const uint64_t *ends, const uint32_t *ids,
                                            size_t n, uint32_t *refusals, size_t places, uint32_t *work, size_t words) {
@@ -386,21 +541,11 @@ typedef struct {
     uint64_t words;
 } cqdb_build_needs_answer;
 
-/* In a buffer of so many bytes no put of the list is refused for room, unless they exceed 4,294,967,295; with so many words it
-   goes the fast way, in linear time. names_len is the length of the joined names. */
-static inline cqdb_build_needs_answer cqdb_build_needs(uint32_t mode, size_t names_len, const uint32_t *ids, size_t n) {
-    cqdb_build_needs_answer a = {2072 + (uint64_t)names_len + 25 * (uint64_t)n, 7 * (uint64_t)n};
-    uint64_t back = 0;
-    for (size_t i = 0; i < n; i++) {
-        if (ids[i] >= back) {
-            back = (uint64_t)ids[i] + 1;
-        }
-    }
-    if (mode == CQDB_TWOWAY) {
-        a.bytes += 4 * back;
-    }
-    return a;
-}
+/* In a buffer of so many bytes no put of the list is refused with 3, with either choice of repeats, unless they exceed
+   4,294,967,295; with so many words it goes the fast way, in linear time. names_len is the length of the joined names, and n the
+   number of ids. Without a refused put and without a byte behind the last name, bytes is the image's size. A mode other than 0
+   is taken as one-way, and what exceeds 2^64 - 1 is given as that. Changes nothing, and reads each id once. */
+cqdb_build_needs_answer cqdb_build_needs(uint32_t mode, size_t names_len, const uint32_t *ids, size_t n);
 
 /* Order of a round. Needs no image. */
 
@@ -540,6 +685,33 @@ typedef struct {
    and a window does not start before its end. Changes nothing, and reads each window once. */
 cqdb_on_answer cqdb_name_on(const uint8_t *image, size_t len, uint32_t id, cqdb_date date, const cqdb_window *windows, size_t n);
 
+/* Two images compared: which ids they name differently, and where an old name went. Both calls take any bytes as images, opened or
+   not, are never refused and change nothing. */
+
+/* found is 1 or 0. before is what cqdb_to_str gives for id in the old image, after what it gives in the new one; before.start counts
+   from the old image, after.start from the new one. All numbers are 0 where no change is found. */
+typedef struct {
+    uint32_t found;
+    uint32_t id;
+    cqdb_str_answer before;
+    cqdb_str_answer after;
+} cqdb_change_answer;
+
+/* The first id from `from` on, below the larger of the two cqdb_size_hint at 0, that the two images name differently: by a name and
+   another name, byte for byte, or by a name and none. Where none is found, no id from there on is named differently. To list all
+   changes, in rising order, begin with 0 and go on with the id found plus 1: from has 64 bits, so that the last step does not wrap. */
+cqdb_change_answer cqdb_next_change(const uint8_t *old_image, size_t old_len, const uint8_t *new_image, size_t new_len, uint64_t from);
+
+/* found is 1 or 0; both numbers are 0 where the name has not moved. */
+typedef struct {
+    uint32_t found;
+    uint32_t id;
+} cqdb_moved_answer;
+
+/* Whether the old name of an id is now another id's name: found is 1 where the id has a name in the old image and cqdb_to_id of that
+   name, in the new image, finds another id, which the answer gives. */
+cqdb_moved_answer cqdb_moved(const uint8_t *old_image, size_t old_len, const uint8_t *new_image, size_t new_len, uint32_t id);
+
 /* A whole round in one call, in both directions. The archive exports cqdb_round_words and cqdb_name_round_words, which take the
    answers as words of 32 bits, four to an answer, as the structs above lie in memory; cqdb_round and cqdb_name_round hand the
    answers over so. */
@@ -558,8 +730,7 @@ uint32_t cqdb_name_round_words(const uint8_t *image, size_t len, const uint32_t 
 /* The ids of up to 512 names. They lie joined in names, the first from byte 0 on, and ends[i] is where the i-th ends; bytes may
    follow the last. answers[i] is what cqdb_to_id gives for the i-th name, and equal names are searched for once: buckets is the
    sum over the different names. Places past the n-th keep their content. Refusals, the first that applies, and then nothing is
-   written: 14 for more than 512 names, or an end below the one before or above names_len; 15 for fewer places than names. Takes
-   10 KB of stack. */
+   written: 14 for more than 512 names, or an end below the one before or above names_len; 15 for fewer places than names. */
 static inline cqdb_round_answer cqdb_round(const uint8_t *image, size_t len, const uint8_t *names, size_t names_len,
                                            const uint64_t *ends, size_t n, cqdb_id_answer *answers, size_t places) {
     return cqdb_round_words(image, len, names, names_len, ends, n, (uint32_t *)answers, 4 * places);

@@ -1,6 +1,11 @@
-# For ./install and ./uninstall: the files below the prefix.
+# For ./install and ./uninstall: the files below the prefix. Those of libdir stand elsewhere where it begins with /.
 header=include/cqdb.h
-archive=lib/libcqdb_c.a
-package=lib/pkgconfig/cqdb.pc
+archive=$libdir/libcqdb_c.a
+shared=$libdir/libcqdb.so.0
+link=$libdir/libcqdb.so
+package=$libdir/pkgconfig/cqdb.pc
+licence=share/doc/cqdb/LICENSE
+notice=share/doc/cqdb/NOTICE
 program=bin/cqdb
 manual=share/man/man1/cqdb.1
+completions=share/bash-completion/completions/cqdb

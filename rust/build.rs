@@ -1,7 +1,9 @@
-//! Links the archive. `CQDB_ARCHIVE` names its folder, from the caller's working folder where it is relative; the default is
-//! target/staticlib of the repository, where `./make-archive` writes it.
+//! Links the archive. `CQDB_ARCHIVE` names its folder, from the caller's working folder where it is relative; the
+//! default is target/staticlib of the repository, where `./make-archive` writes it.
 use std::path::{Path, PathBuf};
 use std::{env, fs, process};
+
+mod comment;
 
 fn main() {
     let target = ["ARCH", "OS", "POINTER_WIDTH"].map(|part| variable(&format!("CARGO_CFG_TARGET_{part}")));
@@ -27,10 +29,13 @@ fn main() {
     println!("cargo:rerun-if-changed={}", archive.display());
     println!("cargo:rerun-if-env-changed=CQDB_ARCHIVE");
 
-    // The kit with which the archive was proved, for `cqdb --version`.
-    let kit = here("../KIT");
-    println!("cargo:rerun-if-changed={}", kit.display());
-    println!("cargo:rustc-env=CQDB_KIT={}", fs::read_to_string(&kit).as_deref().unwrap_or("unknown kit").trim());
+    // What the archive says of the kit with which it was proved, for `cqdb --version`.
+    println!("cargo:rerun-if-changed=comment.rs");
+    let said = fs::read(&archive).map_err(|error| error.to_string()).and_then(|bytes| comment::of_archive(&bytes));
+    match said {
+        Ok(kit) => println!("cargo:rustc-env=CQDB_KIT={kit}"),
+        Err(why) => stop(&format!("{}: {why}: run ./make-archive in the repository", archive.display())),
+    }
 }
 
 fn variable(name: &str) -> String {
@@ -42,8 +47,8 @@ fn here(path: &str) -> PathBuf {
     Path::new(&variable("CARGO_MANIFEST_DIR")).join(path)
 }
 
-/// A path from the folder in which the caller started cargo. Cargo starts this program in the crate's own folder, so the
-/// working folder is asked of the parent, which is cargo, or else of the shell's variable.
+/// A path from the folder in which the caller started cargo. Cargo starts this program in the crate's own folder, so
+/// the working folder is asked of the parent, which is cargo, or else of the shell's variable.
 fn of_the_caller(path: &Path) -> PathBuf {
     if path.is_absolute() {
         return path.to_path_buf();

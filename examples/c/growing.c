@@ -60,6 +60,9 @@ int main(void) {
     }
     expect(cqdb_grown(&w, len - 1) == CQDB_UNFIT && w.length == len, "a shorter buffer is refused and changes nothing");
     expect(cqdb_grown(&w, len) == 0 && w.length == len, "the same length changes nothing");
+    cqdb_writer odd = w;
+    odd.mode = 2;
+    expect(cqdb_grown(&odd, len + 1) == CQDB_UNFIT && odd.mode == 2 && odd.length == len, "a mode that is neither 0 nor 1 is refused and changes nothing");
     cqdb_close_answer a = cqdb_close(&w, buf, len);
     cqdb_close_answer b = cqdb_close(&v, large, LARGE);
     expect(a.refusal == 0 && a.size == b.size && memcmp(buf, large, a.size) == 0, "both images are the same");

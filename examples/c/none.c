@@ -31,6 +31,7 @@ static void check_names(void) {
     expect(closed.refusal == 0 && a.found == 1 && a.id == 3, "to_id of the empty name");
     expect(cqdb_page(NULL, 0, NULL, 0).refusal == 0, "a page of no bytes in no bytes");
     expect(cqdb_page(buf, closed.size, NULL, 0).refusal == CQDB_PAGE_TOO_LONG, "a page in no bytes");
+    expect(cqdb_page_part(NULL, 0, 0, 7, NULL, 0).refusal == 0, "a part of a page of no bytes in no bytes");
 }
 
 /* No bytes as an image and as a buffer. */
@@ -63,11 +64,33 @@ static void check_lists(void) {
     uint32_t ids[2] = {3, 4}, refusals[2] = {9, 9};
     cqdb_build_answer none = cqdb_build(CQDB_TWOWAY, CQDB_REPEATS_OFF, buf, sizeof buf, NULL, 0, NULL, NULL, 0, NULL, 0, NULL, 0);
     expect(none.refusal == 0 && none.size == 2072 && none.accepted == 0, "a list of no names");
+    expect(cqdb_build_needs(CQDB_TWOWAY, 0, NULL, 0).bytes == 2072, "what a list of no names needs");
     cqdb_build_answer two = cqdb_build(CQDB_TWOWAY, CQDB_REPEATS_OFF, buf, sizeof buf, NULL, 0, ends, ids, 2, refusals, 2, NULL, 0);
     expect(two.refusal == 0 && two.accepted == 1 && refusals[0] == 0 && refusals[1] == CQDB_REPEATED, "a list of empty names");
     expect(cqdb_to_id(buf, two.size, NULL, 0).id == 3, "the empty name of a list");
     expect(cqdb_build(CQDB_TWOWAY, CQDB_REPEATS_OFF, NULL, 0, NULL, 0, ends, ids, 2, refusals, 2, NULL, 0).refusal == CQDB_TOO_SHORT,
            "a list in no bytes");
+}
+
+/* An index of no words, one of an odd number of them, and one in use for the empty name. */
+static void check_indexes(void) {
+    static uint8_t buf[4096];
+    uint32_t slots[3] = {7, 7, 7};
+    cqdb_writer w;
+    memset(&w, 0, sizeof w);
+    expect(cqdb_index_words(0) == 0 && cqdb_index_words(SIZE_MAX) == SIZE_MAX, "index_words");
+    expect(cqdb_index(&w, NULL, 0, NULL, 0) == CQDB_UNFIT, "an index of no bytes");
+    expect(cqdb_put_indexed(&w, NULL, 0, NULL, 0, NULL, 0, 0) == CQDB_UNFIT, "put_indexed in no bytes");
+    expect(cqdb_begin(&w, CQDB_TWOWAY, buf, sizeof buf) == 0, "begin");
+    expect(cqdb_index(&w, buf, sizeof buf, NULL, 0) == 0, "an index of no words for no entries");
+    expect(cqdb_put_indexed(&w, buf, sizeof buf, NULL, 0, NULL, 0, 3) == CQDB_INDEX_FULL && w.entries == 0, "put_indexed by no words");
+    expect(cqdb_put_indexed(&w, buf, sizeof buf, slots, 1, NULL, 0, 3) == CQDB_INDEX_FULL && slots[0] == 7, "put_indexed by one word");
+    expect(cqdb_index(&w, buf, sizeof buf, slots, 3) == 0 && slots[0] == 0 && slots[1] == 0 && slots[2] == 7, "an index of three words");
+    expect(cqdb_put_indexed(&w, buf, sizeof buf, slots, 3, NULL, 0, 3) == 0 && slots[1] == 2072 && slots[2] == 7, "put_indexed");
+    expect(cqdb_put_indexed(&w, buf, sizeof buf, slots, 3, NULL, 0, 4) == CQDB_REPEATED, "put_indexed again");
+    expect(cqdb_put_indexed_text(&w, buf, sizeof buf, slots, 3, "A", 4) == CQDB_INDEX_FULL, "put_indexed by a full index");
+    expect(cqdb_index(&w, buf, sizeof buf, NULL, 0) == CQDB_INDEX_FULL, "an index of no words for an entry");
+    expect(cqdb_to_id(buf, cqdb_close(&w, buf, sizeof buf).size, NULL, 0).id == 3, "the empty name, put by an index");
 }
 
 static void check_rounds(void) {
@@ -93,6 +116,7 @@ int main(void) {
     check_names();
     check_images();
     check_lists();
+    check_indexes();
     check_rounds();
     check_bundles();
     printf("none: checked %u, %u wrong\n", checked, different);

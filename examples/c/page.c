@@ -39,6 +39,16 @@ int main(void) {
     a = cqdb_page(buf, size, out, sizeof out);
     expect(a.refusal == 0 && a.length == length, "an output with room");
     expect(memcmp(out, wanted, length) == 0 && out[length] == 7, "the page, and the bytes behind it");
+    memset(out, 7, sizeof out);
+    a = cqdb_page_part(buf, size, 1, 9, out, 90);
+    expect(a.refusal == 0 && a.length == 90 && memcmp(out, wanted + 45, 90) == 0 && out[90] == 7, "the part from id 1 on");
+    a = cqdb_page_part(buf, size, 0, 1, out, 45);
+    expect(a.refusal == 0 && a.length == 45 && memcmp(out, wanted, 45) == 0, "the line of id 0");
+    a = cqdb_page_part(buf, size, 0, 2, out, 89);
+    expect(a.refusal == CQDB_PAGE_TOO_LONG && a.length == 0 && memcmp(out, wanted, 45) == 0, "a part that is too long");
+    a = cqdb_page_part(buf, size, 3, 9, NULL, 0);
+    expect(a.refusal == 0 && a.length == 0, "no line behind the last id");
+    cqdb_page(buf, size, out, sizeof out);
     fwrite(out, 1, length, stdout);
     printf("page: %u checked, %u different\n", checked, different);
     return different > 0;

@@ -2,6 +2,8 @@
 //! both print the same.
 //!
 //!     cargo run --example drop_in
+#![deny(warnings)]
+#![allow(clippy::redundant_slicing)]
 use std::collections::BTreeMap;
 use std::fs::{self, File};
 use std::io::{self, BufWriter, Cursor, Seek, SeekFrom, Write};
@@ -73,6 +75,40 @@ fn show(bytes: &[u8]) -> io::Result<()> {
     Ok(())
 }
 
+/// Names as text, as bytes and in part.
+fn convert(bytes: &[u8]) -> Result<(), Box<dyn std::error::Error>> {
+    CQDB::new(bytes)?;
+    let db = CQDB::new(bytes)?;
+    db.iter();
+    let name = db.to_str(0).ok_or("no name")?;
+    let text: &str = name.try_into()?;
+    let plain: &[u8] = name.into();
+    println!("{} {text} {plain:?} {}", String::try_from(name)?, plain == name);
+    println!("{} {} {:?} {:?} {:?}", &name[1..3], &name[4..], &name[..5], &name[..=1], &name[5..=6]);
+    println!("{:?} {:?} {}", name[0], &name[..], &name[2..4] == "ay");
+    let held = std::borrow::Cow::from(name);
+    println!("{held:?} {} {}", name == held, name == std::borrow::Cow::Borrowed("quay corner"));
+    println!("{:?}", db.to_str(2).map(|name| &name[..3]));
+    let ids: BTreeMap<Vec<u8>, u32> = db.iter().flatten().map(|(id, name)| (name.to_vec(), id)).collect();
+    println!("{:?} {:?}", ids.get(name), ids.get(&b"crane"[..]));
+    println!("{:?}", <&str>::try_from(&db.to_str(2).ok_or("no name")?[..3]).is_err());
+    CQDBWriter::new(Cursor::new(Vec::new()))?;
+    owned(&db)
+}
+
+/// Names that are kept.
+fn owned(db: &CQDB) -> Result<(), Box<dyn std::error::Error>> {
+    let name = db.to_str(0).ok_or("no name")?;
+    let mut kept = name.to_owned();
+    kept.push(b'!');
+    println!("{kept} {kept:?} {} {} {}", kept.len(), kept == "quay corner!", name < kept);
+    let text: &str = (&kept).try_into()?;
+    println!("{text} {:?} {:?}", String::try_from(kept.clone())?, Vec::from(kept.clone()));
+    let ids: BTreeMap<_, u32> = db.iter().flatten().map(|(id, name)| (name.to_owned(), id)).collect();
+    println!("{ids:?} {:?} {:?} {:?}", ids.get(name), ids.get(&b"crane"[..]), ids.keys().max());
+    Ok(())
+}
+
 fn sum(bytes: &[u8]) -> u32 {
     bytes.iter().fold(5381, |sum: u32, byte| sum.wrapping_mul(33) ^ u32::from(*byte))
 }
@@ -103,6 +139,11 @@ fn flags() {
         _ => "two-way",
     };
     println!("{way} {:#?}", [Flag::NONE, Flag::ONEWAY].into_iter().collect::<Flag>());
+    for f in Flag::all() {
+        println!("{f:?}");
+    }
+    println!("{:?} {:?}", Flag::all().iter().collect::<Vec<_>>(), Flag::NONE.iter().count());
+    println!("{:?}", Flag::all().iter_names().collect::<Vec<_>>());
 }
 
 /// Bytes that are no text, as a name of an image.
@@ -125,6 +166,7 @@ fn main() -> io::Result<()> {
     show(&one_way()?)?;
     show(&in_a_file()?)?;
     no_text()?;
+    convert(&image).map_err(|error| io::Error::other(error.to_string()))?;
     errors(&image);
     flags();
     Ok(())

@@ -1,5 +1,6 @@
 //! The archive's functions as include/cqdb.h declares them, each behind a safe function. The calls are sound: a slice is a
-//! pointer that is not null and is valid for its length, a `&mut` overlaps nothing, and no function keeps a pointer.
+//! pointer that is not null and is valid for its length, a `&mut` overlaps nothing, and no function keeps a pointer. What each
+//! call is lent stands beside it.
 //! The crate, the comparisons with the original and the benchmarks all use this file.
 
 #[repr(C)]
@@ -45,7 +46,7 @@ pub struct Record {
     pub end: u64,
 }
 
-/// What begin and put answer.
+/// What begin, put and grown answer.
 #[repr(C)]
 #[derive(Clone, Copy, Debug, PartialEq, Eq)]
 pub struct RecordAnswer {
@@ -165,6 +166,23 @@ pub struct OnAnswer {
     pub start: u64,
 }
 
+/// An id that two images name differently, with the places of both names; all 0 where there is none.
+#[repr(C)]
+#[derive(Clone, Copy, Debug, PartialEq, Eq)]
+pub struct ChangeAnswer {
+    pub found: u32,
+    pub id: u32,
+    pub before: StrAnswer,
+    pub after: StrAnswer,
+}
+
+#[repr(C)]
+#[derive(Clone, Copy, Debug, PartialEq, Eq)]
+pub struct MovedAnswer {
+    pub found: u32,
+    pub id: u32,
+}
+
 /// The buckets read over the different names of a round.
 #[repr(C)]
 #[derive(Clone, Copy, Debug, PartialEq, Eq)]
@@ -191,6 +209,14 @@ pub struct BuildAnswer {
     pub accepted: u32,
 }
 
+/// How many bytes and words a list needs.
+#[repr(C)]
+#[derive(Clone, Copy, Debug, PartialEq, Eq)]
+pub struct BuildNeeds {
+    pub bytes: u64,
+    pub words: u64,
+}
+
 /// The names of a list, joined, with the place where each ends, and their ids.
 #[derive(Clone, Copy, Debug)]
 pub struct Joined<'a> {
@@ -203,6 +229,7 @@ pub struct Joined<'a> {
 pub type Counts = [u32; 256];
 
 extern "C" {
+    fn cqdb_version_number() -> u32;
     fn cqdb_hash(name: *const u8, len: usize, start: u32) -> HashAnswer;
     fn cqdb_open(image: *const u8, len: usize) -> OpenAnswer;
     fn cqdb_to_id(image: *const u8, len: usize, name: *const u8, name_len: usize) -> IdAnswer;
@@ -214,6 +241,8 @@ extern "C" {
     fn cqdb_ours(image: *const u8, len: usize) -> u32;
     fn cqdb_page_length(image: *const u8, len: usize) -> u64;
     fn cqdb_page(image: *const u8, len: usize, out: *mut u8, out_len: usize) -> PageAnswer;
+    fn cqdb_page_part(image: *const u8, len: usize, first: u32, count: u32, out: *mut u8, out_len: usize)
+        -> PageAnswer;
     fn cqdb_round_words(
         image: *const u8,
         len: usize,
@@ -243,6 +272,28 @@ extern "C" {
         id: u32,
     ) -> RecordAnswer;
     fn cqdb_close_parts(record: Record, counts: *const u32, buf: *mut u8, len: usize) -> CloseAnswer;
+    fn cqdb_grown_parts(record: Record, len: u64) -> RecordAnswer;
+    fn cqdb_index_words(names: usize) -> usize;
+    fn cqdb_index_parts(
+        record: Record,
+        counts: *const u32,
+        buf: *const u8,
+        len: usize,
+        slots: *mut u32,
+        n: usize,
+    ) -> u32;
+    fn cqdb_put_indexed_parts(
+        numbers: *mut u32,
+        sizes: *mut u64,
+        counts: *mut u32,
+        buf: *mut u8,
+        len: usize,
+        slots: *mut u32,
+        n: usize,
+        name: *const u8,
+        name_len: usize,
+        id: u32,
+    ) -> u32;
     fn cqdb_references_first(pairs: *const Pair, n: usize, round: *const u32, m: usize) -> OrderAnswer;
     fn cqdb_sheet_read(file: *const u8, len: usize) -> SheetAnswer;
     fn cqdb_sheet_write(
@@ -268,6 +319,8 @@ extern "C" {
     fn cqdb_average(image: *const u8, len: usize) -> AverageAnswer;
     fn cqdb_lengths(image: *const u8, len: usize, counts: *mut u32) -> u32;
     fn cqdb_name_on(image: *const u8, len: usize, id: u32, date: Date, windows: *const Window, n: usize) -> OnAnswer;
+    fn cqdb_next_change(old: *const u8, old_len: usize, new: *const u8, new_len: usize, from: u64) -> ChangeAnswer;
+    fn cqdb_moved(old: *const u8, old_len: usize, new: *const u8, new_len: usize, id: u32) -> MovedAnswer;
     fn cqdb_build_parts(
         mode: u32,
         repeats: u32,
@@ -284,61 +337,90 @@ extern "C" {
         work: *mut u32,
         words: usize,
     ) -> BuildAnswer;
+    fn cqdb_build_needs(mode: u32, names_len: usize, ids: *const u32, n: usize) -> BuildNeeds;
+}
+
+/// The version of the archive as one number.
+pub fn version_number() -> u32 {
+    // SAFETY: the call is lent nothing.
+    unsafe { cqdb_version_number() }
 }
 
 /// The hash of a name with a start value, or the refusal.
+#[inline]
 pub fn hash(name: &[u8], start: u32) -> HashAnswer {
+    // SAFETY: the name is lent with its length, and is only read.
     unsafe { cqdb_hash(name.as_ptr(), name.len(), start) }
 }
 
 /// num, or the refusal.
 pub fn open(image: &[u8]) -> OpenAnswer {
+    // SAFETY: the image is lent with its length, and is only read.
     unsafe { cqdb_open(image.as_ptr(), image.len()) }
 }
 
 /// The id of a name and the offset of its entry, or nothing; and the number of buckets read.
+#[inline]
 pub fn to_id(image: &[u8], name: &[u8]) -> IdAnswer {
+    // SAFETY: image and name are each lent with their length, and are only read, so they may overlap.
     unsafe { cqdb_to_id(image.as_ptr(), image.len(), name.as_ptr(), name.len()) }
 }
 
 /// The place of an id's name, or nothing.
+#[inline]
 pub fn to_str(image: &[u8], id: u32) -> StrAnswer {
+    // SAFETY: the image is lent with its length, and is only read; any id is taken.
     unsafe { cqdb_to_str(image.as_ptr(), image.len(), id) }
 }
 
 /// The place of an id's name up to its first zero byte, or nothing.
+#[inline]
 pub fn panel(image: &[u8], id: u32) -> StrAnswer {
+    // SAFETY: the image is lent with its length, and is only read; any id is taken.
     unsafe { cqdb_panel(image.as_ptr(), image.len(), id) }
 }
 
 /// 1 where the panel's reading is the whole name for every id below the back size, else 0.
 pub fn readings_agree(image: &[u8]) -> u32 {
+    // SAFETY: the image is lent with its length, and is only read.
     unsafe { cqdb_readings_agree(image.as_ptr(), image.len()) }
 }
 
 /// The upper hint of a walk that stands before the id `next`.
 pub fn size_hint(image: &[u8], next: u32) -> u32 {
+    // SAFETY: the image is lent with its length, and is only read; any id is taken.
     unsafe { cqdb_size_hint(image.as_ptr(), image.len(), next) }
 }
 
 /// 1 where the id is home, else 0.
 pub fn home(image: &[u8], id: u32) -> u32 {
+    // SAFETY: the image is lent with its length, and is only read; any id is taken.
     unsafe { cqdb_home(image.as_ptr(), image.len(), id) }
 }
 
 /// 1 when the bytes are the image that some list of puts closes to, with no byte after it, else 0.
 pub fn ours(image: &[u8]) -> u32 {
+    // SAFETY: the image is lent with its length, and is only read.
     unsafe { cqdb_ours(image.as_ptr(), image.len()) }
 }
 
 /// The length of the printed catalogue.
 pub fn page_length(image: &[u8]) -> u64 {
+    // SAFETY: the image is lent with its length, and is only read.
     unsafe { cqdb_page_length(image.as_ptr(), image.len()) }
 }
 
 /// The printed catalogue in the first bytes of `out`, and its length; or the refusal.
 pub fn page(image: &[u8], out: &mut [u8]) -> PageAnswer {
+    // SAFETY: image and output are lent with their lengths; the output is written, and a `&mut` overlaps no image.
     unsafe { cqdb_page(image.as_ptr(), image.len(), out.as_mut_ptr(), out.len()) }
+}
+
+/// The lines of `count` ids from `first` on, of those below the back size, in the first bytes of `out`, and their length; or
+/// the refusal.
+pub fn page_part(image: &[u8], first: u32, count: u32, out: &mut [u8]) -> PageAnswer {
+    // SAFETY: image and output are lent with their lengths; the output is written, and a `&mut` overlaps no image. Any ids are taken.
+    unsafe { cqdb_page_part(image.as_ptr(), image.len(), first, count, out.as_mut_ptr(), out.len()) }
 }
 
 /// The ids of the names that lie joined with these ends, an answer in the place of each; and the buckets read over the different
@@ -347,39 +429,87 @@ pub fn round(image: &[u8], names: &[u8], ends: &[u64], answers: &mut [IdAnswer])
     let (image, len, names, names_len) = (image.as_ptr(), image.len(), names.as_ptr(), names.len());
     // An answer is four words of 32 bits, one after the other.
     let (words, count) = (answers.as_mut_ptr().cast(), 4 * answers.len());
+    // SAFETY: image, names and ends are lent with their lengths and only read; the answers, four words each, are a `&mut` and overlap none of them.
     unsafe { cqdb_round_words(image, len, names, names_len, ends.as_ptr(), ends.len(), words, count) }
 }
 
 /// The places of the ids' names, an answer in the place of each; 0, or the refusal.
+#[inline]
 pub fn name_round(image: &[u8], ids: &[u32], answers: &mut [StrAnswer]) -> u32 {
     // An answer is four words of 32 bits: found, the length, and the start, low word first.
     let (words, count) = (answers.as_mut_ptr().cast(), 4 * answers.len());
+    // SAFETY: image and ids are lent with their lengths and only read; the answers, four words each, are a `&mut` and overlap neither.
     unsafe { cqdb_name_round_words(image.as_ptr(), image.len(), ids.as_ptr(), ids.len(), words, count) }
 }
 
 /// A fresh record, or the refusal.
 pub fn begin(mode: u32, repeats: u32, counts: &mut Counts, buf: &[u8]) -> RecordAnswer {
+    // SAFETY: the counts are 256 words of their own, which are written; the buffer is lent for its length and is not touched.
     unsafe { cqdb_begin_parts(mode, repeats, counts.as_mut_ptr(), buf.as_ptr(), buf.len()) }
 }
 
 /// One put.
 pub fn put(record: Record, counts: &mut Counts, buf: &mut [u8], name: &[u8], id: u32) -> RecordAnswer {
     let (buf, len) = (buf.as_mut_ptr(), buf.len());
+    // SAFETY: the counts are 256 words and the buffer is lent with its length; both are `&mut`, so they overlap neither each other nor the name.
     unsafe { cqdb_put_parts(record, counts.as_mut_ptr(), buf, len, name.as_ptr(), name.len(), id) }
 }
 
 /// One close.
 pub fn close(record: Record, counts: &Counts, buf: &mut [u8]) -> CloseAnswer {
+    // SAFETY: the counts are 256 words, which are read; the buffer is lent with its length, and as a `&mut` does not overlap them.
     unsafe { cqdb_close_parts(record, counts.as_ptr(), buf.as_mut_ptr(), buf.len()) }
+}
+
+/// The record of a buffer that has grown to this length, or the refusal.
+pub fn grown(record: Record, len: u64) -> RecordAnswer {
+    // SAFETY: the call is lent nothing: the record goes and comes by value.
+    unsafe { cqdb_grown_parts(record, len) }
+}
+
+/// How many words to lend for an index of this many names.
+pub fn index_words(names: usize) -> usize {
+    // SAFETY: the call is lent nothing.
+    unsafe { cqdb_index_words(names) }
+}
+
+/// Makes the slots the index of the entries in the buffer; 0, or the refusal.
+pub fn index(record: Record, counts: &Counts, buf: &[u8], slots: &mut [u32]) -> u32 {
+    let (buf, len) = (buf.as_ptr(), buf.len());
+    // SAFETY: counts, 256 words, and buffer are only read; the slots are lent with their number of words, and as a `&mut` overlap neither.
+    unsafe { cqdb_index_parts(record, counts.as_ptr(), buf, len, slots.as_mut_ptr(), slots.len()) }
+}
+
+/// One put by an index; 0, or the refusal. The record is changed in place.
+#[inline]
+pub fn put_indexed(
+    record: &mut Record,
+    counts: &mut Counts,
+    buf: &mut [u8],
+    slots: &mut [u32],
+    name: &[u8],
+    id: u32,
+) -> u32 {
+    let (buf, len, slots, n) = (buf.as_mut_ptr(), buf.len(), slots.as_mut_ptr(), slots.len());
+    let record: *mut Record = record;
+    // SAFETY: a record is four words, mode to back, and two of 64 bits, length and end, as the archive takes them in place. The counts
+    // are 256 words; buffer, slots and name are lent with their lengths. All but the name are `&mut`, so nothing that is written overlaps.
+    unsafe {
+        let sizes = std::ptr::addr_of_mut!((*record).length);
+        let (counts, name, name_len) = (counts.as_mut_ptr(), name.as_ptr(), name.len());
+        cqdb_put_indexed_parts(record.cast(), sizes, counts, buf, len, slots, n, name, name_len, id)
+    }
 }
 
 /// Whether every pair is kept in a round, or the place of the first that is not.
 pub fn references_first(pairs: &[Pair], round: &[u32]) -> OrderAnswer {
+    // SAFETY: pairs and round are lent with their numbers of elements, and are only read; Pair is laid out as cqdb_pair.
     unsafe { cqdb_references_first(pairs.as_ptr(), pairs.len(), round.as_ptr(), round.len()) }
 }
 
 /// Where the ids of a round sheet's three sections stand in the file, or the refusal.
 pub fn sheet_read(file: &[u8]) -> SheetAnswer {
+    // SAFETY: the file is lent with its length, and is only read.
     unsafe { cqdb_sheet_read(file.as_ptr(), file.len()) }
 }
 
@@ -388,42 +518,62 @@ pub fn sheet_read(file: &[u8]) -> SheetAnswer {
 pub fn sheet_write(buf: &mut [u8], lists: [&[u32]; 3]) -> SheetLengthAnswer {
     let [a, b, c] = lists;
     let (buf, len) = (buf.as_mut_ptr(), buf.len());
+    // SAFETY: the three lists are lent with their numbers of ids and only read; the buffer is a `&mut` and overlaps none of them.
     unsafe { cqdb_sheet_write(buf, len, a.as_ptr(), a.len(), b.as_ptr(), b.len(), c.as_ptr(), c.len()) }
 }
 
 /// The image at a position of a bundle, or the refusal.
 pub fn bundle_open(file: &[u8], position: u64) -> BundleOpenAnswer {
+    // SAFETY: the file is lent with its length, and is only read; any position is taken.
     unsafe { cqdb_bundle_open(file.as_ptr(), file.len(), position) }
 }
 
 /// Appends an image to the file that is the buffer's first `file_len` bytes.
 pub fn bundle_append(buf: &mut [u8], file_len: u64, image: &[u8]) -> BundleAppendAnswer {
     let (buf, len) = (buf.as_mut_ptr(), buf.len());
+    // SAFETY: the buffer is lent with its length and is a `&mut`, so it does not overlap the image; any file length is taken.
     unsafe { cqdb_bundle_append(buf, len, file_len, image.as_ptr(), image.len()) }
 }
 
 /// The number of images in a bundle, or the refusal.
 pub fn bundle_count(file: &[u8]) -> BundleCountAnswer {
+    // SAFETY: the file is lent with its length, and is only read.
     unsafe { cqdb_bundle_count(file.as_ptr(), file.len()) }
 }
 
 /// The load of a seed in the first bytes of `buf`, and the number of its entries; or the refusal.
 pub fn load(seed: u32, buf: &mut [u8]) -> LoadAnswer {
+    // SAFETY: the buffer is lent with its length, and is the only thing that is lent.
     unsafe { cqdb_load(seed, buf.as_mut_ptr(), buf.len()) }
 }
 
 /// The place of an id's name on a date, or nothing, or the refusal.
 pub fn name_on(image: &[u8], id: u32, date: Date, windows: &[Window]) -> OnAnswer {
+    // SAFETY: image and windows are lent with their lengths and only read; Date and Window are laid out as cqdb_date and cqdb_window.
     unsafe { cqdb_name_on(image.as_ptr(), image.len(), id, date, windows.as_ptr(), windows.len()) }
+}
+
+/// The first id from `from` on that two images name differently, or none.
+pub fn next_change(old: &[u8], new: &[u8], from: u64) -> ChangeAnswer {
+    // SAFETY: the images are each lent with their length, and are only read, so they may overlap; any start is taken.
+    unsafe { cqdb_next_change(old.as_ptr(), old.len(), new.as_ptr(), new.len(), from) }
+}
+
+/// The other id, if any, that the new image has for the id's old name.
+pub fn moved(old: &[u8], new: &[u8], id: u32) -> MovedAnswer {
+    // SAFETY: the images are each lent with their length, and are only read, so they may overlap; any id is taken.
+    unsafe { cqdb_moved(old.as_ptr(), old.len(), new.as_ptr(), new.len(), id) }
 }
 
 /// Entries, quotient and remainder of the average search length, or the refusal.
 pub fn average(image: &[u8]) -> AverageAnswer {
+    // SAFETY: the image is lent with its length, and is only read.
     unsafe { cqdb_average(image.as_ptr(), image.len()) }
 }
 
 /// How many entries have each search length, into the counts; the refusal, 0 for none.
 pub fn lengths(image: &[u8], counts: &mut [u32; 16]) -> u32 {
+    // SAFETY: the image is lent with its length; the counts are 16 words, and as a `&mut` do not overlap it.
     unsafe { cqdb_lengths(image.as_ptr(), image.len(), counts.as_mut_ptr()) }
 }
 
@@ -437,6 +587,7 @@ pub fn build(
     work: &mut [u32],
 ) -> BuildAnswer {
     let Joined { names, ends, ids } = list;
+    // SAFETY: names, ends and ids are lent with their lengths and only read; buffer, refusals and work are `&mut`, so they overlap nothing.
     unsafe {
         cqdb_build_parts(
             mode,
@@ -455,4 +606,11 @@ pub fn build(
             work.len(),
         )
     }
+}
+
+/// How many bytes have room for the image of a list whose names have `names_len` bytes together, and how many words are worth
+/// lending to [`build`].
+pub fn build_needs(mode: u32, names_len: usize, ids: &[u32]) -> BuildNeeds {
+    // SAFETY: the ids are lent with their number, and are only read.
+    unsafe { cqdb_build_needs(mode, names_len, ids.as_ptr(), ids.len()) }
 }

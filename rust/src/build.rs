@@ -1,8 +1,11 @@
 //! A whole list in one call.
+use std::collections::HashSet;
+
 use crate::archive::{self, Joined};
 use crate::flag::Flag;
 use crate::refusal::{self, Refusal};
 use crate::write::{MemoryWriter, HEAD, LIMIT};
+use crate::zeros::zeros;
 
 /// The image of a whole list, with the refusal of each put that was refused.
 #[derive(Clone, Debug, PartialEq, Eq)]
@@ -37,6 +40,7 @@ impl MemoryWriter {
     }
 
     /// The same where a name may be put again, as by a writer [`with_repeats`](Self::with_repeats).
+    /// A name that is put k times takes k²/2 steps, as in a close: equal names have one probe sequence in the image.
     pub fn build_with_repeats<K: AsRef<[u8]>>(
         flag: Flag,
         list: impl IntoIterator<Item = (K, u32)>,
@@ -59,16 +63,32 @@ fn build<K: AsRef<[u8]>>(
         ends.push(names.len() as u64);
         ids.push(id);
     }
-    let back = match flag {
-        Flag::ONEWAY => 0,
-        _ => ids.iter().map(|&id| 4 * (u64::from(id) + 1)).max().unwrap_or(0),
-    };
-    let needed = HEAD as u64 + names.len() as u64 + 25 * ids.len() as u64 + back;
-    let mut image = vec![0; needed.min(LIMIT) as usize];
-    let (mut refusals, mut work) = (vec![0; ids.len()], vec![0; 7 * ids.len()]);
+    let needs = archive::build_needs(flag.bits(), names.len(), &ids);
     let joined = Joined { names: &names, ends: &ends, ids: &ids };
+    let back = if flag == Flag::ONEWAY { 0 } else { back_array(joined, repeats) };
+    let needed = HEAD as u64 + names.len() as u64 + 25 * ids.len() as u64 + back;
+    let mut image = zeros(needed.min(LIMIT) as usize).ok_or(Refusal::NoRoom)?;
+    let (mut refusals, mut work) = (vec![0; ids.len()], vec![0; needs.words as usize]);
     let answer = archive::build(flag.bits(), repeats, &mut image, joined, &mut refusals, &mut work);
     image.truncate(answer.size as usize);
     let refused = refusals.iter().enumerate().filter_map(|(i, &k)| refusal::or(k, ()).err().map(|why| (i, why))).collect();
     refusal::or(answer.refusal, Built { image, accepted: answer.accepted, refused })
+}
+
+/// The bytes of the back array, or more. A put that is refused for its name, or for an id that fits into no image, needs
+/// none: such puts are left out where the array would be larger than the rest of the image.
+fn back_array(list: Joined<'_>, repeats: u32) -> u64 {
+    let bytes = |id: &u32| 4 * (u64::from(*id) + 1);
+    let most = list.ids.iter().map(bytes).max().unwrap_or(0);
+    if most <= list.names.len() as u64 + 25 * list.ids.len() as u64 {
+        return most;
+    }
+    let starts = [0].iter().chain(list.ends);
+    let names = starts.zip(list.ends).map(|(start, end)| &list.names[*start as usize..*end as usize]);
+    let mut held = HashSet::new();
+    let fits = |name: &[u8], id| HEAD as u64 + name.len() as u64 + 25 + bytes(id) <= LIMIT;
+    let accepted = names
+        .zip(list.ids)
+        .filter(|(name, id)| !name.contains(&0) && fits(name, id) && (held.insert(*name) || repeats == REPEATS_ON));
+    accepted.map(|(_, id)| bytes(id)).max().unwrap_or(0)
 }

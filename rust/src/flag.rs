@@ -1,6 +1,7 @@
 //! The flag of a writer.
 use std::fmt;
 use std::ops::{BitAnd, BitAndAssign, BitOr, BitOrAssign, BitXor, BitXorAssign, Not, Sub, SubAssign};
+use std::option;
 
 /// Does an image name ids? A set of flags with the calls and operators that cqdb-rs has from the crate bitflags. It holds no
 /// other bits than those below.
@@ -50,6 +51,23 @@ impl Flag {
             "ONEWAY" => Some(Flag::ONEWAY),
             _ => None,
         }
+    }
+
+    /// The flags that are set, one by one.
+    ///
+    /// ```
+    /// use cqdb::Flag;
+    ///
+    /// assert!(Flag::all().iter().eq([Flag::ONEWAY]));
+    /// assert!(Flag::NONE.iter().next().is_none());
+    /// ```
+    pub fn iter(&self) -> option::IntoIter<Flag> {
+        self.contains(Flag::ONEWAY).then_some(Flag::ONEWAY).into_iter()
+    }
+
+    /// The names of the flags that are set, with their flags.
+    pub fn iter_names(&self) -> option::IntoIter<(&'static str, Flag)> {
+        self.contains(Flag::ONEWAY).then_some(("ONEWAY", Flag::ONEWAY)).into_iter()
     }
 
     /// Is no flag set?
@@ -154,6 +172,15 @@ impl Not for Flag {
 
     fn not(self) -> Flag {
         self.complement()
+    }
+}
+
+impl IntoIterator for Flag {
+    type Item = Flag;
+    type IntoIter = option::IntoIter<Flag>;
+
+    fn into_iter(self) -> option::IntoIter<Flag> {
+        self.iter()
     }
 }
 

@@ -32,11 +32,12 @@ mod archive;
 mod average;
 mod build;
 mod bundle;
+mod changes;
 mod flag;
-mod held;
 mod load;
 mod name;
 mod order;
+mod owned;
 mod page;
 mod puts;
 mod read;
@@ -45,6 +46,7 @@ mod round;
 mod sheet;
 mod stream;
 mod write;
+mod zeros;
 
 #[doc = include_str!("../MOVING.md")]
 pub mod moving {}
@@ -53,10 +55,12 @@ pub use archive::{Date, Window};
 pub use average::Average;
 pub use build::Built;
 pub use bundle::{Bundle, Images};
+pub use changes::{changes, Change, Changes};
 pub use flag::Flag;
 pub use load::{load, load_in};
 pub use name::BStr;
 pub use order::{references_first, Order, Pair};
+pub use owned::BString;
 pub use page::Page;
 pub use puts::Puts;
 pub use read::{Found, Iter, CQDB};
@@ -71,4 +75,14 @@ pub use write::MemoryWriter;
 pub fn jhash(name: &[u8], start: u32) -> Result<u32, Refusal> {
     let answer = archive::hash(name, start);
     refusal::or(answer.refusal, answer.hash)
+}
+
+/// The version of the archive that the program is linked with, as one number: major * 65,536 + minor * 256 + patch.
+///
+/// ```
+/// let parts = env!("CARGO_PKG_VERSION").split('.').map(|part| part.parse::<u32>().unwrap());
+/// assert_eq!(cqdb::version_number(), parts.fold(0, |number, part| 256 * number + part));
+/// ```
+pub fn version_number() -> u32 {
+    archive::version_number()
 }

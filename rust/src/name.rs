@@ -2,7 +2,7 @@
 use std::borrow::{Borrow, Cow};
 use std::cmp::Ordering;
 use std::fmt::{self, Write};
-use std::ops::Deref;
+use std::ops::{Deref, Index, Range, RangeFrom, RangeFull, RangeInclusive, RangeTo, RangeToInclusive};
 use std::str;
 
 /// A name: bytes that are text by custom. It prints as text, with a replacement character for bytes that are none, compares
@@ -22,9 +22,10 @@ pub struct BStr([u8]);
 
 impl BStr {
     /// These bytes as a name.
+    #[inline]
     pub fn new<B: AsRef<[u8]> + ?Sized>(bytes: &B) -> &BStr {
         let bytes: *const [u8] = bytes.as_ref();
-        // BStr is a transparent struct over [u8], so a reference to one is a reference to the other.
+        // SAFETY: BStr is a transparent struct over [u8], so a reference to one is a reference to the other.
         unsafe { &*(bytes as *const BStr) }
     }
 
@@ -57,6 +58,7 @@ impl BStr {
 impl Deref for BStr {
     type Target = [u8];
 
+    #[inline]
     fn deref(&self) -> &[u8] {
         &self.0
     }
@@ -65,6 +67,12 @@ impl Deref for BStr {
 impl AsRef<[u8]> for BStr {
     fn as_ref(&self) -> &[u8] {
         &self.0
+    }
+}
+
+impl AsRef<BStr> for BStr {
+    fn as_ref(&self) -> &BStr {
+        self
     }
 }
 
@@ -80,19 +88,47 @@ impl AsRef<BStr> for str {
     }
 }
 
-impl Borrow<BStr> for Vec<u8> {
-    fn borrow(&self) -> &BStr {
-        BStr::new(self)
+impl Index<usize> for BStr {
+    type Output = u8;
+
+    fn index(&self, place: usize) -> &u8 {
+        &self.0[place]
     }
 }
 
-impl ToOwned for BStr {
-    type Owned = Vec<u8>;
+/// A part of a name is a name: it prints as text, where a part of a `[u8]` prints as numbers.
+macro_rules! parts {
+    ($($range:ty)*) => {$(
+        impl Index<$range> for BStr {
+            type Output = BStr;
 
-    fn to_owned(&self) -> Vec<u8> {
-        self.0.to_vec()
+            fn index(&self, range: $range) -> &BStr {
+                BStr::new(&self.0[range])
+            }
+        }
+    )*};
+}
+
+parts! { RangeFull Range<usize> RangeInclusive<usize> RangeFrom<usize> RangeTo<usize> RangeToInclusive<usize> }
+
+impl Borrow<[u8]> for BStr {
+    fn borrow(&self) -> &[u8] {
+        &self.0
     }
 }
+
+/// What can stand for a name in a map that has names as keys.
+macro_rules! borrows {
+    ($($owner:ty)*) => {$(
+        impl Borrow<BStr> for $owner {
+            fn borrow(&self) -> &BStr {
+                BStr::new(self)
+            }
+        }
+    )*};
+}
+
+borrows! { Vec<u8> String [u8] str }
 
 impl Default for &BStr {
     fn default() -> Self {
@@ -118,12 +154,62 @@ impl<'a, const N: usize> From<&'a [u8; N]> for &'a BStr {
     }
 }
 
-/// Comparisons of a name with another type that has bytes, in both directions.
+impl<'a> From<&'a BStr> for &'a [u8] {
+    fn from(name: &'a BStr) -> &'a [u8] {
+        name
+    }
+}
+
+impl<'a> From<&'a BStr> for Cow<'a, BStr> {
+    fn from(name: &'a BStr) -> Cow<'a, BStr> {
+        Cow::Borrowed(name)
+    }
+}
+
+impl From<Box<BStr>> for Box<[u8]> {
+    fn from(name: Box<BStr>) -> Box<[u8]> {
+        // SAFETY: BStr is a transparent struct over [u8], so what was allocated for one can be freed as the other.
+        unsafe { Box::from_raw(Box::into_raw(name) as *mut [u8]) }
+    }
+}
+
+impl From<Box<[u8]>> for Box<BStr> {
+    fn from(bytes: Box<[u8]>) -> Box<BStr> {
+        // SAFETY: as above, the other way.
+        unsafe { Box::from_raw(Box::into_raw(bytes) as *mut BStr) }
+    }
+}
+
+impl Clone for Box<BStr> {
+    fn clone(&self) -> Box<BStr> {
+        Box::<[u8]>::from(&self.0).into()
+    }
+}
+
+/// The name where it is text, as [`BStr::to_str`] gives it.
+impl<'a> TryFrom<&'a BStr> for &'a str {
+    type Error = str::Utf8Error;
+
+    fn try_from(name: &'a BStr) -> Result<&'a str, str::Utf8Error> {
+        name.to_str()
+    }
+}
+
+/// The same, owned.
+impl<'a> TryFrom<&'a BStr> for String {
+    type Error = str::Utf8Error;
+
+    fn try_from(name: &'a BStr) -> Result<String, str::Utf8Error> {
+        name.to_str().map(str::to_owned)
+    }
+}
+
+/// Comparisons of a name, owned or not, with another type that has bytes, in both directions.
 macro_rules! compares {
     ($(($($generics:tt)*) $name:ty, $other:ty;)*) => {$(
         impl<$($generics)*> PartialEq<$other> for $name {
             fn eq(&self, other: &$other) -> bool {
-                self.0 == *AsRef::<[u8]>::as_ref(other)
+                self.0[..] == *AsRef::<[u8]>::as_ref(other)
             }
         }
 
@@ -135,7 +221,7 @@ macro_rules! compares {
 
         impl<$($generics)*> PartialOrd<$other> for $name {
             fn partial_cmp(&self, other: &$other) -> Option<Ordering> {
-                Some(self.0.cmp(AsRef::<[u8]>::as_ref(other)))
+                Some(self.0[..].cmp(AsRef::<[u8]>::as_ref(other)))
             }
         }
 
@@ -146,6 +232,8 @@ macro_rules! compares {
         }
     )*};
 }
+
+pub(crate) use compares;
 
 compares! {
     () BStr, [u8];
@@ -162,6 +250,25 @@ compares! {
     ('a) &'a BStr, Vec<u8>;
     ('a) &'a BStr, String;
 }
+
+/// Comparisons with bytes that may be owned or not.
+macro_rules! compares_cow {
+    ($($other:ty)*) => {$(
+        impl<'a> PartialEq<Cow<'a, $other>> for &'a BStr {
+            fn eq(&self, other: &Cow<'a, $other>) -> bool {
+                **self == *AsRef::<[u8]>::as_ref(&**other)
+            }
+        }
+
+        impl<'a> PartialEq<&'a BStr> for Cow<'a, $other> {
+            fn eq(&self, name: &&'a BStr) -> bool {
+                name == self
+            }
+        }
+    )*};
+}
+
+compares_cow! { BStr str [u8] }
 
 impl fmt::Display for BStr {
     fn fmt(&self, f: &mut fmt::Formatter<'_>) -> fmt::Result {

@@ -4,12 +4,15 @@ use std::fmt;
 use crate::archive;
 use crate::refusal::{self, Refusal};
 
+/// How many lines a part has.
+const LINES: u32 = 1_024;
+
 /// The printed catalogue of an image: a line of 45 bytes for every id below the back size, in rising order. The id stands
 /// right-aligned in 10 bytes; then come a space, 32 bytes of the name, a plus sign where the name is longer or else a space,
 /// and a line feed. Bytes outside 32 to 126 are printed as full stops. An id without a name has 32 hyphens.
 ///
-/// The view holds the image and nothing else. `{}` prints the page to any [`fmt::Write`], and [`Page::to_vec`] gives its
-/// bytes; both make the whole page in memory first.
+/// The view holds the image and nothing else. `{}` prints the page to any [`fmt::Write`], and [`Page::parts`] gives its bytes
+/// in parts, both with memory for some lines; [`Page::to_vec`] gives all of them.
 ///
 /// ```
 /// # fn main() -> std::io::Result<()> {
@@ -57,6 +60,35 @@ impl<'a> Page<'a> {
         refusal::or(answer.refusal, answer.length)
     }
 
+    /// Prints the lines of `count` ids from `first` on, of those below the back size, to the first bytes of `out`, and gives
+    /// their length. Refused as [`Page::print`] is. Parts that follow each other, joined, are the page.
+    pub fn print_part(&self, first: u32, count: u32, out: &mut [u8]) -> Result<u64, Refusal> {
+        let answer = archive::page_part(self.image, first, count, out);
+        refusal::or(answer.refusal, answer.length)
+    }
+
+    /// Gives the page in parts, one after the other, until one of the calls fails.
+    ///
+    /// ```
+    /// let image = cqdb::load(0);
+    /// let (page, mut bytes) = (cqdb::Page::new(&image), Vec::new());
+    /// page.parts(|part| Ok::<(), ()>(bytes.extend_from_slice(part))).unwrap();
+    /// assert_eq!(bytes, page.to_vec());
+    /// ```
+    pub fn parts<E>(&self, mut each: impl FnMut(&[u8]) -> Result<(), E>) -> Result<(), E> {
+        let mut part = [0; LINES as usize * 45];
+        let mut first = 0;
+        loop {
+            let length = self.print_part(first, LINES, &mut part).expect("room for so many lines");
+            if length == 0 {
+                return Ok(());
+            }
+            each(&part[..length as usize])?;
+            // Behind the last id there is no line; the largest back size is 4,294,967,295.
+            first = first.saturating_add(LINES);
+        }
+    }
+
     /// The bytes of the page.
     pub fn to_vec(&self) -> Vec<u8> {
         let mut bytes = vec![0; self.len() as usize];
@@ -66,7 +98,7 @@ impl<'a> Page<'a> {
 
     /// Writes the page, as `{}` does.
     pub fn write_to<W: fmt::Write + ?Sized>(&self, out: &mut W) -> fmt::Result {
-        out.write_str(std::str::from_utf8(&self.to_vec()).expect("bytes 32 to 126 and line feeds"))
+        self.parts(|part| out.write_str(std::str::from_utf8(part).expect("bytes 32 to 126 and line feeds")))
     }
 }
 

@@ -20,7 +20,6 @@ pub struct Found {
 
 /// An opened image.
 #[derive(Clone, Copy)]
-#[must_use = "an opened image does nothing until it is asked"]
 pub struct CQDB<'a> {
     image: &'a [u8],
     num: u32,
@@ -39,11 +38,13 @@ impl<'a> CQDB<'a> {
     }
 
     /// The bytes that were opened.
+    #[inline]
     pub fn bytes(&self) -> &'a [u8] {
         self.image
     }
 
     /// The number of associations.
+    #[inline]
     pub fn num(&self) -> u32 {
         self.num
     }
@@ -55,17 +56,20 @@ impl<'a> CQDB<'a> {
     }
 
     /// The id of a name, of its first put.
+    #[inline]
     pub fn to_id(&self, name: &str) -> Option<u32> {
         self.to_id_bytes(name.as_bytes())
     }
 
     /// The id of a name that may be any bytes.
+    #[inline]
     pub fn to_id_bytes(&self, name: &[u8]) -> Option<u32> {
         self.lookup(name).0.map(|found| found.id)
     }
 
     /// The id of a name and where its entry stands, and the number of buckets that the search reads, the one that decides
     /// included.
+    #[inline]
     pub fn lookup(&self, name: &[u8]) -> (Option<Found>, u32) {
         let answer = archive::to_id(self.image, name);
         let found = Found { id: answer.id, offset: answer.offset };
@@ -73,11 +77,13 @@ impl<'a> CQDB<'a> {
     }
 
     /// The name of an id, of its last put. A one-way image names none.
+    #[inline]
     pub fn to_str(&self, id: u32) -> Option<&'a BStr> {
         self.part(archive::to_str(self.image, id))
     }
 
     /// The name of an id up to its first zero byte, as a C string is read; all of it where it has none.
+    #[inline]
     pub fn panel(&self, id: u32) -> Option<&'a BStr> {
         self.part(archive::panel(self.image, id))
     }
@@ -114,6 +120,7 @@ impl<'a> CQDB<'a> {
         refusal::or(answer.refusal, self.part(place))
     }
 
+    #[inline]
     pub(crate) fn part(&self, answer: StrAnswer) -> Option<&'a BStr> {
         let (start, len) = (answer.start as usize, answer.len as usize);
         (answer.found == 1).then(|| BStr::new(&self.image[start..start + len]))
@@ -167,6 +174,7 @@ impl<'a> CQDB<'a> {
     }
 
     /// The ids and their names from id 0 on, up to the first id that has none.
+    #[inline]
     pub fn iter(&self) -> Iter<'a> {
         Iter { db: *self, next: 0 }
     }
@@ -206,7 +214,6 @@ impl fmt::Debug for CQDB<'_> {
 
 /// A walk over the ids and names of an image. As with cqdb-rs each step is a `Result`; it is never an error.
 #[derive(Clone, Debug)]
-#[must_use = "a walk does nothing until it is asked for its steps"]
 pub struct Iter<'a> {
     db: CQDB<'a>,
     next: u32,
@@ -215,6 +222,7 @@ pub struct Iter<'a> {
 impl<'a> Iterator for Iter<'a> {
     type Item = io::Result<(u32, &'a BStr)>;
 
+    #[inline]
     fn next(&mut self) -> Option<Self::Item> {
         let id = self.next;
         let name = self.db.to_str(id)?;
@@ -235,6 +243,7 @@ impl<'a> IntoIterator for &CQDB<'a> {
     type Item = io::Result<(u32, &'a BStr)>;
     type IntoIter = Iter<'a>;
 
+    #[inline]
     fn into_iter(self) -> Iter<'a> {
         self.iter()
     }

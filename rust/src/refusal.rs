@@ -34,7 +34,7 @@ refusals! {
     TooShort = 1, "invalid file format";
     /// The writer's record and its buffer do not fit together. No writer of this crate gets there.
     Unfit = 2, "the writer does not fit its buffer";
-    /// The finished image would exceed 4,294,967,295 bytes. No [`Bundle`](crate::Bundle) gets there: its file grows.
+    /// The finished image would exceed 4,294,967,295 bytes, or the memory that can be had. No [`Bundle`](crate::Bundle) gets there: its file grows.
     NoRoom = 3, "no room: the image would be too large";
     /// The buffer's entries are not those of the record. No writer of this crate gets there.
     Inconsistent = 4, "the buffer's entries are not those of the writer";
@@ -76,6 +76,8 @@ refusals! {
     NoSuchDate = 22, "a date does not exist, or is out of bounds";
     /// A window does not start before its end.
     NotBeforeEnd = 23, "a window does not start before its end";
+    /// The writer's index has no free slot. A writer of this crate gets there only where memory for a larger one cannot be had.
+    IndexFull = 24, "the index has no free slot";
 }
 
 impl Refusal {

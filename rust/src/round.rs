@@ -10,7 +10,7 @@ pub struct Round {
     /// For each name, in their order, what [`CQDB::lookup`] gives for it: the id and the offset of its entry or nothing, and the
     /// number of buckets that its search reads.
     pub answers: Vec<(Option<Found>, u32)>,
-    /// The buckets that the call reads: the sum over the different names, since equal names are searched for once.
+    /// The sum of the buckets over the different names, since equal names are searched for once: those that the call reads.
     pub buckets: u64,
 }
 

@@ -21,17 +21,6 @@ use crate::write::MemoryWriter;
 /// # Ok(())
 /// # }
 /// ```
-///
-/// A writer that is thrown away is a warning:
-///
-/// ```compile_fail
-/// #![deny(unused_must_use)]
-/// # fn main() -> std::io::Result<()> {
-/// cqdb::CQDBWriter::new(std::io::Cursor::new(Vec::new()))?;
-/// # Ok(())
-/// # }
-/// ```
-#[must_use = "a writer has to be given its names"]
 pub struct CQDBWriter<T: Write + Seek> {
     /// None once the image has been written.
     stream: Option<T>,

@@ -3,15 +3,21 @@ use std::fmt;
 
 use crate::archive::{self, Counts, Record};
 use crate::flag::Flag;
-use crate::held::Held;
 use crate::refusal::{self, Refusal};
+use crate::zeros::zeros;
 
 /// The head of an image, which the entries follow.
 pub(crate) const HEAD: usize = 2_072;
 /// The length of the first buffer; it grows as needed.
 const FIRST: usize = 4_096;
-/// The archive's writer begins with repeats on: this crate's writers look for repeats themselves.
+/// The choice of repeats, as the record has it.
+const REPEATS_OFF: u32 = 0;
 const REPEATS_ON: u32 = 1;
+/// The words of the first index, and those from which on it doubles.
+const FIRST_INDEX: usize = 256;
+const SMALL_INDEX: usize = 1 << 18;
+/// A buffer that has to become so many times as long is taken anew.
+const LEAP: usize = 4;
 /// The size of the largest image.
 pub(crate) const LIMIT: u64 = 4_294_967_295;
 
@@ -44,8 +50,8 @@ pub struct MemoryWriter {
     buffer: Vec<u8>,
     record: Record,
     counts: Counts,
-    /// The names so far, where repeats are off.
-    held: Option<Held>,
+    /// The index of the entries, where repeats are off: right whenever no call is under way.
+    slots: Option<Vec<u32>>,
 }
 
 impl MemoryWriter {
@@ -56,41 +62,61 @@ impl MemoryWriter {
 
     /// A writer of a two-way or one-way image.
     pub fn with_flag(flag: Flag) -> Self {
-        Self::begin(flag, Some(Held::default()))
+        // Zeros are the index of a writer without entries.
+        Self::begin(flag, REPEATS_OFF, Some(vec![0; FIRST_INDEX]))
     }
 
     /// A writer that takes a name that it holds already, as for a prism that is renewed under another id.
     pub fn with_repeats(flag: Flag) -> Self {
-        Self::begin(flag, None)
+        Self::begin(flag, REPEATS_ON, None)
     }
 
-    fn begin(flag: Flag, held: Option<Held>) -> Self {
+    fn begin(flag: Flag, repeats: u32, slots: Option<Vec<u32>>) -> Self {
         let buffer = vec![0; FIRST];
         let mut counts = [0; 256];
-        let begun = archive::begin(flag.bits(), REPEATS_ON, &mut counts, &buffer);
+        let begun = archive::begin(flag.bits(), repeats, &mut counts, &buffer);
         assert_eq!(begun.refusal, 0, "begin accepts every buffer of 2,072 bytes or more");
-        MemoryWriter { buffer, record: begun.record, counts, held }
+        MemoryWriter { buffer, record: begun.record, counts, slots }
     }
 
     /// Puts a name, any bytes but 0, under an id. A name gives the id of its first put, and an id gives the name of its last.
     /// Refused, and nothing changes, with [`Refusal::ZeroByte`] when the name has a zero byte; else with
     /// [`Refusal::Repeated`] when the writer holds the name, unless it was made by [`with_repeats`](Self::with_repeats); else
     /// with [`Refusal::NoRoom`] when the image would exceed 4,294,967,295 bytes; a two-way image has four bytes for each id up
-    /// to the largest.
+    /// to the largest. Also with [`Refusal::NoRoom`], or with [`Refusal::IndexFull`], where memory for a larger buffer or index
+    /// cannot be had.
     pub fn put<K: AsRef<[u8]>>(&mut self, name: K, id: u32) -> Result<(), Refusal> {
         let name = name.as_ref();
-        if self.held.as_ref().is_some_and(|held| held.has(&self.buffer, name)) {
-            return Err(Refusal::Repeated);
-        }
-        let at = self.record.end as u32;
         match self.put_here(name, id) {
             Err(Refusal::NoRoom) if self.grow(name.len(), id) => self.put_here(name, id),
             answer => answer,
-        }?;
-        if let Some(held) = &mut self.held {
-            held.add(name, at);
         }
-        Ok(())
+    }
+
+    /// The place, counted from 0, of the name's put among the accepted ones. None where the writer does not hold the
+    /// name, or takes repeats. The time grows with the place.
+    ///
+    /// ```
+    /// # fn main() -> Result<(), cqdb::Refusal> {
+    /// let mut writer = cqdb::MemoryWriter::new();
+    /// writer.put("north wall", 0)?;
+    /// writer.put("crane", 7)?;
+    /// assert_eq!((writer.place_of(b"crane"), writer.place_of(b"mole")), (Some(1), None));
+    /// # Ok(())
+    /// # }
+    /// ```
+    pub fn place_of(&self, name: &[u8]) -> Option<u32> {
+        self.slots.as_ref()?;
+        let (mut at, mut place) = (HEAD, 0);
+        while at < self.record.end as usize {
+            let held = name_at(&self.buffer, at);
+            if held == name {
+                return Some(place);
+            }
+            at += 9 + held.len();
+            place += 1;
+        }
+        None
     }
 
     /// Closes the writer and gives the finished image.
@@ -101,25 +127,52 @@ impl MemoryWriter {
     }
 
     fn put_here(&mut self, name: &[u8], id: u32) -> Result<(), Refusal> {
-        let answer = archive::put(self.record, &mut self.counts, &mut self.buffer, name, id);
-        self.record = answer.record;
-        refusal::or(answer.refusal, ())
+        let Some(slots) = &mut self.slots else {
+            let answer = archive::put(self.record, &mut self.counts, &mut self.buffer, name, id);
+            self.record = answer.record;
+            return refusal::or(answer.refusal, ());
+        };
+        if slots.len() < archive::index_words(self.record.entries as usize + 1) {
+            widen(slots, self.record, &self.counts, &self.buffer);
+        }
+        let refusal = archive::put_indexed(&mut self.record, &mut self.counts, &mut self.buffer, slots, name, id);
+        refusal::or(refusal, ())
     }
 
-    /// Takes a larger buffer with the same entries, if one can hold the image after this put. The writer is then as if it
-    /// had begun with that buffer. The archive decides whether the put is accepted there.
+    /// Takes a larger buffer with the same entries, if one can hold the image after this put. The writer is then as if
+    /// it had begun with that buffer. The archive decides whether the put is accepted there.
     fn grow(&mut self, name_len: usize, id: u32) -> bool {
         let needed = self.size_with(name_len, id);
         if needed > LIMIT {
             return false;
         }
-        let end = self.record.end as usize;
-        let length = needed.max(2 * self.record.length).min(LIMIT);
-        let mut larger = vec![0; length as usize];
-        larger[HEAD..end].copy_from_slice(&self.buffer[HEAD..end]);
-        self.buffer = larger;
-        self.record.length = length;
+        let length = (needed + needed / 8).min(LIMIT);
+        let grown = archive::grown(self.record, length);
+        if grown.refusal != 0 || !self.lengthen(length as usize) {
+            return false;
+        }
+        self.record = grown.record;
         true
+    }
+
+    /// Makes the buffer so long, with zeros behind the entries, if memory can be had.
+    fn lengthen(&mut self, length: usize) -> bool {
+        let end = self.record.end as usize;
+        if length / LEAP > self.buffer.len() {
+            // One large id: fresh pages are zero, and cost nothing until they are written to.
+            let Some(mut larger) = zeros(length) else { return false };
+            larger[HEAD..end].copy_from_slice(&self.buffer[HEAD..end]);
+            self.buffer = larger;
+            return true;
+        }
+        // The vector asks for twice its memory, which moves large blocks without a copy. It is cleared, and so taken from the
+        // system, only as far as the image needs it soon.
+        let more = length - self.buffer.len();
+        let room = self.buffer.try_reserve(more).or_else(|_| self.buffer.try_reserve_exact(more));
+        if room.is_ok() {
+            self.buffer.resize(length, 0);
+        }
+        room.is_ok()
     }
 
     /// The size of the finished image after a put.
@@ -129,6 +182,24 @@ impl MemoryWriter {
             _ => 0,
         };
         self.record.end + (name_len as u64 + 9) + 16 * (u64::from(self.record.entries) + 1) + 4 * back
+    }
+}
+
+/// The name of the entry at an offset: the id, the length of the name plus 1, and the name.
+fn name_at(buffer: &[u8], at: usize) -> &[u8] {
+    let entry = &buffer[at..];
+    let length = u32::from_le_bytes([entry[4], entry[5], entry[6], entry[7]]) as usize - 1;
+    &entry[8..8 + length]
+}
+
+/// Gives the index more words, four times as many while it is small and then twice as many, and makes it from the entries
+/// anew. Where memory cannot be had it stays as it is: half of it is still empty.
+fn widen(slots: &mut Vec<u32>, record: Record, counts: &Counts, buffer: &[u8]) {
+    let more = slots.len() * if slots.len() < SMALL_INDEX { 3 } else { 1 };
+    if slots.try_reserve_exact(more).is_ok() {
+        slots.resize(slots.len() + more, 0);
+        let refusal = archive::index(record, counts, buffer, slots);
+        assert_eq!(refusal, 0, "record, counts and buffer are the writer's own");
     }
 }
 

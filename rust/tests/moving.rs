@@ -3,6 +3,7 @@
 use std::io::{self, Cursor};
 
 use cqdb::BStr;
+use cqdb::BString;
 use cqdb::{CQDBWriter, Flag, Refusal, CQDB};
 
 const TABLE: &str = include_str!("../MOVING.md");
@@ -15,14 +16,17 @@ fn refused<T>(answer: io::Result<T>) -> Refusal {
 #[test]
 fn names() {
     let name: &BStr = BStr::new("crane");
-    let kept: Vec<u8> = name.to_owned();
+    let kept: BString = name.to_owned();
     assert_eq!(kept, b"crane");
+    let name = BStr::new(b"Kai \xff");
+    let error: std::str::Utf8Error = String::try_from(name).unwrap_err();
+    assert_eq!(error.valid_up_to(), 4);
 }
 
 #[test]
 fn flags() {
     let flag = Flag::from_bits_truncate(4);
-    assert!(!flag.contains(Flag::ONEWAY));
+    assert_eq!(flag, Flag::NONE);
 }
 
 #[test]

@@ -97,3 +97,18 @@ fn the_order_of_refusals() {
     assert_eq!(writer.put("A\0", u32::MAX), Err(Refusal::ZeroByte));
     assert_eq!(Refusal::Repeated.number(), 16);
 }
+
+/// As many names as make the index grow by each of its factors: none is lost when it grows, and the image is that of one call.
+#[test]
+fn an_index_that_grows() {
+    let name = |i: u32| format!("prism {i}");
+    let mut writer = MemoryWriter::new();
+    for i in 0..70_000 {
+        writer.put(name(i), i).unwrap();
+        assert_eq!(writer.put(name(i / 2), i), Err(Refusal::Repeated), "{i}");
+    }
+    assert!((0..70_000).all(|i| writer.put(name(i), 1) == Err(Refusal::Repeated)));
+    let built = MemoryWriter::build(Flag::NONE, (0..70_000).map(|i| (name(i), i))).unwrap();
+    assert_eq!(built.accepted, 70_000);
+    assert!(writer.finish().unwrap() == built.image);
+}

@@ -7,8 +7,8 @@ const LIST: &str = "0 north wall\n1 crane\n4 mole\n4 pier\n";
 
 fn folder() -> Folder {
     let folder = Folder::new();
-    folder.image("walls", LIST);
-    folder.with(LIST, &["make", "--one-way", "one-way"]).gives(0);
+    folder.with(LIST, &["make", "--renamed", "walls"]).gives(0);
+    folder.with(LIST, &["make", "--renamed", "--one-way", "one-way"]).gives(0);
     folder
 }
 
@@ -17,11 +17,11 @@ fn ids_of_names() {
     let folder = folder();
     folder.cqdb(&["id", "walls", "crane", "pier", "mole"]).gives(0).prints("1 crane\n4 pier\n4 mole\n").tells("");
     folder.cqdb(&["id", "one-way", "north wall"]).gives(0).prints("0 north wall\n");
-    let ran = folder.cqdb(&["id", "walls", "Crane", "crane", ""]).gives(1).prints("1 crane\n");
+    let ran = folder.cqdb(&["id", "walls", "Crane", "crane", ""]).gives(1).prints(" Crane\n1 crane\n \n");
     ran.tells("cqdb: id: walls has no name \"Crane\"\ncqdb: id: walls has no name \"\"\n");
     folder.cqdb(&["id", "--tab", "walls", "crane"]).prints("1\tcrane\n");
     folder.with("7 two\nlines\0", &["make", "-0", "lines"]).gives(0);
-    let told = "cqdb: id: the name of id 7 has a line feed: say --zero\n";
+    let told = "cqdb: id: the name of id 7 has a line feed: say --zero, --tsv or --json\n";
     folder.cqdb(&["id", "lines", "two\nlines"]).gives(2).prints("").tells(told);
     folder.cqdb(&["id", "-0", "lines", "two\nlines"]).gives(0).prints("7 two\nlines\0");
     let long = "x".repeat(99);
@@ -33,19 +33,22 @@ fn ids_of_names() {
 fn names_of_ids() {
     let folder = folder();
     folder.cqdb(&["name", "walls", "4", "000", "1"]).gives(0).prints("4 pier\n0 north wall\n1 crane\n").tells("");
-    let ran = folder.cqdb(&["name", "walls", "2", "1", "4294967295"]).gives(1).prints("1 crane\n");
+    let ran = folder.cqdb(&["name", "walls", "2", "1", "4294967295"]).gives(1).prints("2 \n1 crane\n4294967295 \n");
     ran.tells("cqdb: name: walls has no name for id 2\ncqdb: name: walls has no name for id 4294967295\n");
-    folder.cqdb(&["name", "one-way", "0"]).gives(1).prints("");
+    folder.cqdb(&["name", "one-way", "0"]).gives(1).prints("0 \n");
+    // A word that is no id does not stand in the way of the others.
     for word in ["x", "", "4294967296", "1 "] {
-        let told = format!("cqdb: name: {word:?} is no decimal id up to 4294967295\n");
-        folder.cqdb(&["name", "walls", word]).gives(2).tells(&told);
+        let told =
+            format!("cqdb: name: {word:?} is no decimal id up to 4294967295\ncqdb: name: 1 word was not answered\n");
+        let ran = folder.cqdb(&["name", "walls", "0", word, "1"]).gives(2);
+        ran.prints(format!("0 north wall\n{word} \n1 crane\n")).tells(&told);
     }
 }
 
 #[test]
 fn questions_from_standard_input() {
     let folder = folder();
-    folder.with("pier\nnobody\nnorth wall", &["id", "walls"]).gives(1).prints("4 pier\n0 north wall\n");
+    folder.with("pier\nnobody\nnorth wall", &["id", "walls"]).gives(1).prints("4 pier\n nobody\n0 north wall\n");
     folder.with("4\n0\n", &["name", "walls"]).gives(0).prints("4 pier\n0 north wall\n");
     folder.with("", &["id", "walls"]).gives(0).prints("");
     folder.with("pier\0crane\0", &["id", "-0", "walls"]).gives(0).prints("4 pier\x001 crane\0");
@@ -76,7 +79,7 @@ fn lists_of_puts() {
     }
     // The list of an image makes the image again.
     let list = "5 crane\n9 crane\n5 mole\n0 \n";
-    folder.with(list, &["make", "--repeats", "image"]).gives(0);
+    folder.with(list, &["make", "--repeats", "--renamed", "image"]).gives(0);
     folder.cqdb(&["list", "--puts", "image"]).prints(list);
     let mut bytes = folder.read("image");
     bytes.push(0);
@@ -100,7 +103,13 @@ fn pages() {
     let lines: Vec<&str> = text.lines().collect();
     assert_eq!(lines[0], format!("{:>10} {:32} ", 0, "north wall"));
     assert_eq!(lines[2], format!("{:>10} {} ", 2, "-".repeat(32)));
-    folder.cqdb(&["page", "one-way"]).gives(0).prints("");
+    // A one-way image with entries has neither page nor list; one without has both, and they are empty.
+    let told = |command: &str| format!("cqdb: {command}: one-way is one-way: it names no ids");
+    folder.cqdb(&["page", "one-way"]).gives(1).prints("").tells(&(told("page") + "\n"));
+    folder.cqdb(&["list", "one-way"]).gives(1).prints("").tells(&(told("list") + "; --puts lists its entries\n"));
+    folder.cqdb(&["make", "--one-way", "none"]).gives(0);
+    folder.cqdb(&["page", "none"]).gives(0).prints("").tells("");
+    folder.cqdb(&["list", "none"]).gives(0).prints("").tells("");
 }
 
 #[test]
@@ -135,6 +144,15 @@ fn search_lengths() {
     assert_eq!(entries.iter().zip(1..).map(|(entries, length)| entries * length).sum::<u64>(), 5_673);
     assert_eq!((words[0][0], words[0][2].len()), ("length-1", 50));
     assert!(words.iter().skip(1).all(|words| words.get(2).map_or(0, |bar| bar.len()) <= 25), "{text}");
+    // Twenty names that begin their search at one bucket, of the 40 that their table has: their searches meet 1 to 20 buckets.
+    let first =
+        |name: &String| cqdb::jhash(name.as_bytes(), 0).is_ok_and(|hash| hash % 256 == 7 && (hash >> 8) % 40 == 11);
+    let names = (0..).map(|number| format!("prism {number}")).filter(first).take(20);
+    let list: String = names.zip(0..).map(|(name, id)| format!("{id} {name}\n")).collect();
+    folder.image("crowded", list);
+    let text = String::from_utf8(folder.cqdb(&["stats", "crowded"]).gives(0).out).unwrap();
+    assert!(text.contains("\nlength-1  1 ") && text.contains("\nlength-15 1 "), "{text}");
+    assert!(text.ends_with(&format!("\nlength-16+ 5 {}\n", "#".repeat(50))), "{text}");
     // Without entries, and not one of ours.
     folder.cqdb(&["make", "empty"]).gives(0);
     let text = String::from_utf8(folder.cqdb(&["stats", "empty"]).gives(0).out).unwrap();
@@ -212,11 +230,9 @@ fn loads() {
 #[test]
 fn helps_and_versions() {
     let folder = folder();
-    let overview = String::from_utf8(folder.cqdb(&["--help"]).gives(0).out).unwrap();
-    let commands: Vec<&str> =
-        overview.lines().filter_map(|line| line.strip_prefix("  cqdb ")?.split_whitespace().next()).collect();
-    assert!(commands.len() >= 9, "{overview}");
-    for command in commands {
+    let commands = folder.commands();
+    assert!(commands.len() >= 18, "{commands:?}");
+    for command in &commands {
         let help = folder.cqdb(&[command, "--help"]).gives(0);
         assert!(help.out.starts_with(format!("Usage: cqdb {command} ").as_bytes()), "{help:?}");
         folder.cqdb(&["help", command]).gives(0).prints(&help.out);
@@ -224,7 +240,13 @@ fn helps_and_versions() {
     }
     let version = String::from_utf8(folder.cqdb(&["--version"]).gives(0).out).unwrap();
     assert!(version.starts_with(concat!("cqdb ", env!("CARGO_PKG_VERSION"), "\n")), "{version}");
-    assert!(version.contains(include_str!("../../KIT").trim()), "{version}");
+    // The sum of the kit's logic, as the archive itself has it: that of the file KIT, in full.
+    let sum = include_str!("../../KIT").split_whitespace().last().unwrap();
+    let said = version.lines().find_map(|line| line.strip_prefix("proved with rattle logic=")).unwrap();
+    assert!(
+        said.starts_with(sum) && said.len() == 64 && said.bytes().all(|byte| byte.is_ascii_hexdigit()),
+        "{version}"
+    );
 }
 
 #[test]

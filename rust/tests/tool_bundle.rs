@@ -76,3 +76,112 @@ fn broken_bundles_and_images() {
     folder.cqdb(&["bundle", "list", "walls", "more"]).gives(2);
     fs::remove_file(folder.0.join("out")).unwrap();
 }
+
+/// Eight at once, ten times: none is lost.
+#[test]
+fn appends_side_by_side() {
+    let folder = folder();
+    let line = "for i in $(seq 10); do for j in $(seq 8); do \"$CQDB\" bundle append walls north >>said 2>>told || echo $? & done; wait; done";
+    folder.shell(line).gives(0).prints("").tells("");
+    let (walls, north) = (folder.read("walls"), folder.read("north"));
+    assert_eq!(walls.len(), 80 * north.len());
+    assert!(walls.chunks(north.len()).all(|image| image == north));
+    let said = String::from_utf8(folder.read("said")).unwrap();
+    let mut images: Vec<u32> = said.lines().map(|line| line.split(' ').nth(1).unwrap().parse().unwrap()).collect();
+    images.sort_unstable();
+    assert_eq!(images, (1..=80).collect::<Vec<u32>>());
+    assert_eq!(folder.files(), ["empty", "north", "quay", "said", "told", "walls"]);
+}
+
+/// A bundle that another process changes is waited for, and a message says so after a second.
+#[test]
+fn a_bundle_that_is_locked() {
+    let folder = folder();
+    if folder.shell("command -v flock").status != Some(0) {
+        eprintln!("skipped: there is no program 'flock'");
+        return;
+    }
+    folder.cqdb(&["bundle", "append", "walls", "north"]).gives(0);
+    let line = "flock walls sleep 1.6 & sleep 0.2; \"$CQDB\" bundle append walls quay";
+    let ran = folder.shell(line).gives(0);
+    assert!(ran.err.starts_with("cqdb: waiting: another process is changing walls\n"), "{}", ran.err);
+    folder.cqdb(&["bundle", "list", "walls"]).prints(format!(
+        "0 2 {}\n1 1 {}\n",
+        folder.read("north").len(),
+        folder.read("quay").len()
+    ));
+}
+
+#[test]
+fn a_bundle_is_not_taken_for_an_image() {
+    let folder = folder();
+    folder.cqdb(&["bundle", "append", "walls", "north", "quay"]).gives(0);
+    let whole = folder.read("walls");
+    folder.write("list", "3 mole\n");
+    let told = "walls is a bundle of 2 images: walls:0 to walls:1 name them; id, name and list take --all\n";
+    for command in [
+        &["id", "walls", "A"][..],
+        &["name", "walls", "0"],
+        &["stats", "walls"],
+        &["list", "walls"],
+        &["page", "walls"],
+        &["check", "walls"],
+        &["home", "walls", "0"],
+        &["panel", "walls", "0"],
+        &["ids", "walls", "A"],
+        &["preflight", "walls"],
+    ] {
+        folder.cqdb(command).gives(2).prints("").tells(&format!("cqdb: {}: {told}", command[0]));
+    }
+    let told = "cannot write walls: a bundle of 2 images is there; remove it, name another place, or say --force\n";
+    for command in
+        [&["make", "walls", "list"][..], &["load", "0", "walls"], &["bundle", "extract", "walls", "0", "walls"]]
+    {
+        folder.cqdb(command).gives(2).prints("").tells(&format!("cqdb: {}: {told}", command[0]));
+    }
+    // Where the second image is cut, the file is a bundle still.
+    folder.write("cut", &whole[..whole.len() - 1]);
+    let ran = folder.cqdb(&["id", "cut", "A"]).gives(2);
+    ran.tells("cqdb: id: cut is a broken bundle: cut:0 names its first image (refusal 10)\n");
+    folder.cqdb(&["id", "cut:0", "A"]).gives(0).prints("0 A\n");
+    folder.cqdb(&["make", "cut", "list"]).gives(2);
+    assert_eq!(folder.read("walls"), whole);
+    folder.cqdb(&["make", "--force", "walls", "list"]).gives(0);
+    folder.cqdb(&["list", "walls"]).prints("3 mole\n");
+}
+
+#[test]
+fn an_image_that_becomes_a_bundle() {
+    let folder = folder();
+    let told = "cqdb: bundle: north had one image and is a bundle now: north:0 names that image\n";
+    folder.cqdb(&["bundle", "append", "north", "quay"]).gives(0).tells(told);
+    folder.cqdb(&["list", "north:0"]).gives(0).prints("0 A\n1 B\n");
+    folder.cqdb(&["bundle", "append", "north", "quay"]).gives(0).tells("");
+}
+
+#[test]
+fn one_image_of_a_bundle_and_all() {
+    let folder = folder();
+    folder.image("more", "1 crane\n2 A\n");
+    folder.cqdb(&["bundle", "append", "walls", "north", "empty", "quay", "more"]).gives(0);
+    folder.cqdb(&["id", "walls:2", "crane"]).gives(0).prints("7 crane\n");
+    folder.cqdb(&["name", "walls:3", "1", "2"]).gives(0).prints("1 crane\n2 A\n");
+    folder.cqdb(&["list", "walls:0"]).prints("0 A\n1 B\n");
+    folder.cqdb(&["check", "walls:3"]).gives(0);
+    let ran = folder.cqdb(&["id", "walls:4", "A"]).gives(2);
+    ran.tells("cqdb: id: walls:4: the bundle has no image at this position (refusal 11)\n");
+    folder
+        .cqdb(&["id", "--all", "walls", "crane", "A"])
+        .gives(0)
+        .prints("2 7 crane\n3 1 crane\n0 0 A\n3 2 A\n")
+        .tells("");
+    let ran = folder.cqdb(&["name", "--all", "walls", "1", "9"]).gives(1).prints("0 1 B\n3 1 crane\n 9 \n");
+    ran.tells("cqdb: name: walls has no name for id 9\n");
+    folder.cqdb(&["list", "--all", "walls"]).gives(0).prints("0 0 A\n0 1 B\n2 7 crane\n3 1 crane\n3 2 A\n");
+    let json = "{\"position\":2,\"id\":7,\"name\":\"crane\"}\n{\"position\":3,\"id\":1,\"name\":\"crane\"}\n";
+    folder.cqdb(&["id", "--all", "--json", "walls", "crane"]).gives(0).prints(json);
+    folder.cqdb(&["id", "--all", "north", "B"]).gives(0).prints("0 1 B\n");
+    // A file whose name has a colon is that file.
+    fs::copy(folder.0.join("quay"), folder.0.join("walls:0")).unwrap();
+    folder.cqdb(&["list", "walls:0"]).prints("7 crane\n");
+}

@@ -2,7 +2,6 @@
 mod tool;
 
 use std::fs;
-use std::os::unix::fs::{symlink, PermissionsExt};
 
 use cqdb::{MemoryWriter, CQDB};
 use tool::Folder;
@@ -12,9 +11,10 @@ fn a_list_from_a_file_or_standard_input() {
     let folder = Folder::new();
     let list = "0 north wall\n3 crane\n0 quay corner\n7 ";
     folder.write("list", list);
-    folder.cqdb(&["make", "image", "list"]).gives(0).prints("image: 4 entries, 2230 bytes\n").tells("");
-    folder.with(list, &["make", "other"]).gives(0);
-    folder.with(list, &["make", "third", "-"]).gives(0);
+    let ran = folder.cqdb(&["make", "--renamed", "image", "list"]).gives(0);
+    ran.prints("image: 4 entries, 2230 bytes\n").tells("");
+    folder.with(list, &["make", "--renamed", "other"]).gives(0);
+    folder.with(list, &["make", "--renamed", "third", "-"]).gives(0);
     let mut writer = MemoryWriter::new();
     for (name, id) in [("north wall", 0), ("crane", 3), ("quay corner", 0), ("", 7)] {
         writer.put(name, id).unwrap();
@@ -79,10 +79,12 @@ fn each_refusal_of_a_put_stops_it_with_its_number() {
     let told = "cqdb: make: list, line 2: the name has a zero byte (refusal 13)\n";
     folder.cqdb(&["make", "image", "list"]).gives(2).prints("").tells(told);
     folder.write("list", "1 one\n2 two\n4294967295 far\n");
-    let told = "cqdb: make: list, line 3: no room: the image would be too large (refusal 3)\n";
+    let told = "cqdb: make: list, line 3: no room: the image would be too large (refusal 3): \
+                17179871340 bytes, for ids up to 4294967295\n";
     folder.cqdb(&["make", "image", "list"]).gives(2).prints("").tells(told);
     folder.write("list", "1 one\n2 two\n3 one\n");
-    let told = "cqdb: make: list, line 3: the writer already holds this name, and repeats are off (refusal 16)\n";
+    let told = "cqdb: make: list, line 3: the writer already holds this name, and repeats are off (refusal 16): \
+                \"one\" is in line 1; --repeats takes it\n";
     folder.cqdb(&["make", "image", "list"]).gives(2).prints("").tells(told);
     assert!(folder.read("image") == old && folder.files() == ["image", "list"]);
 }
@@ -91,24 +93,26 @@ fn each_refusal_of_a_put_stops_it_with_its_number() {
 fn repeats_where_they_are_asked_for() {
     let folder = Folder::new();
     let list = "5 crane\n9 crane\n5 mole\n";
-    folder.with(list, &["make", "--repeats", "image"]).gives(0).prints("image: 3 entries, 2201 bytes\n").tells("");
+    let ran = folder.with(list, &["make", "--repeats", "--renamed", "image"]).gives(0);
+    ran.prints("image: 3 entries, 2201 bytes\n").tells("");
     folder.cqdb(&["id", "image", "crane"]).prints("5 crane\n");
     folder.cqdb(&["list", "image"]).prints("5 mole\n9 crane\n");
-    let ran = folder.with(list, &["make", "--skip", "image"]).gives(0).prints("image: 2 entries, 2155 bytes\n");
+    let ran = folder.with(list, &["make", "--skip", "--renamed", "image"]).gives(1);
+    let ran = ran.prints("image: 2 entries, 2155 bytes\n");
     assert!(ran.err.ends_with("cqdb: make: 1 line skipped: 1 refused with 16\n"), "{}", ran.err);
 }
 
 #[test]
 fn skipped_lines_are_told_and_counted() {
     let folder = Folder::new();
-    let ran = folder.with("1 one\nx\n2 a\0b\n3 three\n", &["make", "--skip", "image"]).gives(0);
+    let ran = folder.with("1 one\nx\n2 a\0b\n3 three\n", &["make", "--skip", "image"]).gives(1);
     ran.prints("image: 2 entries, 2146 bytes\n").tells(
         "cqdb: make: skipped: standard input, line 2: not a decimal id up to 4294967295, a space and a name: \"x\"\n\
          cqdb: make: skipped: standard input, line 3: the name has a zero byte (refusal 13)\n\
          cqdb: make: 2 lines skipped: 1 of another form, 1 refused with 13\n",
     );
     folder.cqdb(&["list", "image"]).prints("1 one\n3 three\n");
-    let ran = folder.with("bad\n".repeat(500) + "1 one\n", &["make", "--skip", "image"]).gives(0);
+    let ran = folder.with("bad\n".repeat(500) + "1 one\n", &["make", "--skip", "image"]).gives(1);
     assert_eq!(ran.err.lines().count(), 11);
     assert!(ran.err.ends_with("cqdb: make: 500 lines skipped: 500 of another form\n"), "{}", ran.err);
 }
@@ -141,7 +145,7 @@ fn names_of_any_bytes_survive() {
     assert!(names.iter().enumerate().all(|(id, name)| db.to_str(id as u32).unwrap() == *name));
     // Without -0, a name with a line feed is told and not printed as two lines.
     let ran = folder.cqdb(&["list", "image"]).gives(2);
-    ran.tells("cqdb: list: the name of id 9 has a line feed: say --zero\n");
+    ran.tells("cqdb: list: the name of id 9 has a line feed: say --zero, --tsv or --json\n");
     // Of the other names, those that end with a carriage return need -0 as well.
     let plain: Vec<Vec<u8>> = (names.iter().enumerate())
         .filter(|(_, name)| !name.contains(&b'\n') && name.last() != Some(&b'\r'))
@@ -179,30 +183,73 @@ fn where_an_image_cannot_be_written() {
     assert_eq!(folder.files(), ["pipe", "place"]);
 }
 
+/// Without --skip nothing changes; with it at least one line has to be left.
 #[test]
-fn a_file_that_is_no_image_is_not_replaced() {
+fn a_list_without_a_line_that_can_be_put() {
     let folder = Folder::new();
-    folder.write("list", "0 crane\n");
-    let told = "cannot write list: a file is there that is no image; remove it, or name another place\n";
-    folder.with("1 mole\n", &["make", "list"]).gives(2).prints("").tells(&format!("cqdb: make: {told}"));
-    folder.cqdb(&["load", "0", "list"]).gives(2).tells(&format!("cqdb: load: {told}"));
-    folder.image("image", "1 mole\n");
-    folder.cqdb(&["bundle", "append", "walls", "image"]).gives(0);
-    folder.cqdb(&["bundle", "extract", "walls", "0", "list"]).gives(2).tells(&format!("cqdb: bundle: {told}"));
-    assert!(folder.read("list") == b"0 crane\n" && folder.files() == ["image", "list", "walls"]);
-    folder.write("empty", "");
-    folder.image("empty", "1 mole\n");
-    assert!(folder.read("empty") == folder.read("image"));
+    folder.image("image", "1 old\n");
+    folder.image("other", "2 crane\n");
+    let old = folder.read("image");
+    for list in ["0 crane\r\n1 mole\r\n", "x\n", ""] {
+        let ran = folder.with(list, &["make", "--skip", "image"]).gives(2).prints("");
+        assert!(ran.err.ends_with("cqdb: make: no line could be put, so no image is written\n"), "{}", ran.err);
+    }
+    folder.cqdb(&["make", "--skip", "image", "other"]).gives(2);
+    folder.with("x\n", &["make", "--skip", "new"]).gives(2);
+    assert!(folder.read("image") == old && folder.files() == ["image", "other"]);
 }
 
 #[test]
-fn a_link_and_the_rights_of_the_old_image_are_kept() {
+fn an_id_that_comes_again() {
     let folder = Folder::new();
-    folder.image("image", "1 old\n");
-    fs::set_permissions(folder.0.join("image"), fs::Permissions::from_mode(0o640)).unwrap();
-    symlink("image", folder.0.join("link")).unwrap();
-    folder.image("link", "1 new\n");
-    folder.cqdb(&["list", "image"]).prints("1 new\n");
-    let kept = fs::metadata(folder.0.join("image")).unwrap().permissions().mode();
-    assert_eq!((kept & 0o777, folder.files()), (0o640, vec!["image".to_string(), "link".to_string()]));
+    let list = "5 crane\n6 mole\n5 pier\n7 pier\n";
+    let told = "standard input, line 3: id 5 was put by line 1: --renamed takes the later name\n";
+    folder.with(list, &["make", "image"]).gives(2).prints("").tells(&format!("cqdb: make: {told}"));
+    folder.with(list, &["make", "--repeats", "image"]).gives(2).prints("");
+    assert!(folder.files().is_empty());
+    folder.with("5 crane\n6 mole\n5 pier\n", &["make", "--renamed", "image"]).gives(0).tells("");
+    folder.cqdb(&["name", "image", "5"]).prints("5 pier\n");
+    // A line that is passed over holds neither its id nor its name.
+    let ran = folder.with(list, &["make", "--skip", "image"]).gives(1).prints("image: 3 entries, 2192 bytes\n");
+    ran.tells(&format!("cqdb: make: skipped: {told}cqdb: make: 1 line skipped: 1 with an id again\n"));
+    folder.cqdb(&["list", "image"]).prints("5 crane\n6 mole\n7 pier\n");
+    // The number of the earlier line counts the lines that were passed over.
+    let ran = folder.with("x\n1 one\nx\n2 two\n3 two\n4 four\n2 five\n", &["make", "--skip", "image"]).gives(1);
+    assert!(ran.err.contains(
+        "line 5: the writer already holds this name, and repeats are off (refusal 16): \"two\" is in line 4"
+    ));
+    assert!(ran.err.contains("line 7: id 2 was put by line 4"), "{}", ran.err);
+}
+
+#[test]
+fn records_of_cdb() {
+    let folder = Folder::new();
+    let records = "+5,1:crane->7\n+10,2:two\nlines:->12\n+0,1:->0\n\n";
+    folder.with(records, &["make", "--cdb", "image"]).gives(0).prints("image: 3 entries, 2214 bytes\n").tells("");
+    folder.cqdb(&["list", "--cdb", "--puts", "image"]).gives(0).prints(records).tells("");
+    folder.cqdb(&["list", "--cdb", "image"]).prints("+0,1:->0\n+5,1:crane->7\n+10,2:two\nlines:->12\n\n");
+    folder.cqdb(&["id", "image", "crane"]).prints("7 crane\n");
+    // The empty line behind the last record may be missing.
+    folder.with("+5,1:crane->7\n", &["make", "--cdb", "image"]).gives(0);
+    for bad in [
+        "+5,1:crane->7",
+        "+5,1:crane-:7\n",
+        "5,1:crane->7\n",
+        "+5:crane->7\n",
+        "+x,1:crane->7\n",
+        "+5,1:cra",
+        "+99999999999,1:x->1\n",
+    ] {
+        let ran = folder.with(format!("+1,1:a->1\n{bad}"), &["make", "--cdb", "image"]).gives(2);
+        ran.tells("cqdb: make: standard input, record 2: not +klen,dlen:key->data\n");
+    }
+    let ran = folder.with("+1,1:a->1\n+1,1:b->x\n", &["make", "--cdb", "image"]).gives(2);
+    ran.tells("cqdb: make: standard input, record 2: the data \"x\" is no decimal id up to 4294967295\n");
+    let ran = folder.with("+1,1:a->1\n+1,1:b->1\n", &["make", "--cdb", "image"]).gives(2);
+    ran.tells("cqdb: make: standard input, record 2: id 1 was put by record 1: --renamed takes the later name\n");
+    folder
+        .with(records, &["make", "--cdb", "--tab", "image"])
+        .gives(2)
+        .tells("cqdb: make: say --cdb or --tab, not both\n");
+    folder.cqdb(&["list", "image"]).prints("7 crane\n");
 }

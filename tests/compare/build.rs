@@ -123,7 +123,22 @@ fn accepted_list(random: &mut Random, names: &Names, tally: &mut Tally) -> usize
     let places = random.below(3);
     let answers = words(random, puts.len() + places);
     let n = puts.len();
-    let much = random.pick(&[0, 1, n.saturating_sub(1), n, n + 1, 2 * n, (3 * n).saturating_sub(1), 3 * n, (7 * n).saturating_sub(1), 7 * n, 7 * n, 7 * n + 7]);
+    // no index, one of a slot a name, one of two, the tables; and a word less or more
+    let much = random.pick(&[
+        0,
+        1,
+        n,
+        (2 * n).saturating_sub(1),
+        2 * n,
+        2 * n + 1,
+        3 * n,
+        (4 * n).saturating_sub(1),
+        4 * n,
+        (7 * n).saturating_sub(1),
+        7 * n,
+        7 * n,
+        7 * n + 7,
+    ]);
     let mut work = words(random, much);
     let list = List::new(&puts);
     let mut lent = list.joined();

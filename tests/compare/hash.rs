@@ -17,7 +17,7 @@ const LIMIT: usize = 4_294_967_295;
 
 // lookup3's hash of bytes that include the zero byte.
 fn c(closed: &[u8], start: u32) -> u32 {
-    // The slice is valid for its length. lookup3 may read an aligned word whole, past the end of the slice.
+    // SAFETY: the slice is valid for its length. lookup3 may read an aligned word whole, past the end of the slice.
     unsafe { jenkins_hashlittle(closed.as_ptr(), closed.len(), start) }
 }
 

@@ -1,5 +1,5 @@
 // Hostile calls, to be run under valgrind: damaged images, random bytes, records that do not fit, broken buffers, pairs and rounds
-// of any ids, round sheets cut anywhere, broken bundles, any dates and windows, lists and outputs without room, loads in buffers of any length. Everything lent
+// of any ids, round sheets cut anywhere, broken bundles, any dates and windows, lists and outputs without room, buffers that grow or shrink, slots of any words, loads in buffers of any length. Everything lent
 // stands in a heap block of exactly its length, so that valgrind reports a read or write outside it. A refusal changes no byte,
 // reading changes none, and every place in an answer lies in what was lent.
 // hostile [CALLS | too-much]
@@ -33,7 +33,9 @@ struct Run {
     bundles: u64,
     loads: u64,
     seasons: u64,
+    pairs: u64,
     lists: u64,
+    slots: u64,
 }
 
 // A heap block of exactly these bytes.
@@ -310,6 +312,59 @@ impl Run {
         self.refused += u64::from(answer.refusal > 0);
         self.calls += 1;
         self.lists += 1;
+        self.needs(random, mode, joined);
+    }
+
+    // What a list needs, by the rule; in a heap block of exactly so many bytes none of its puts is refused with 3.
+    fn needs(&mut self, random: &mut Random, mode: u32, list: ours::Joined<'_>) {
+        let back = if mode == 0 { list.ids.iter().map(|&id| u64::from(id) + 1).max().unwrap_or(0) } else { 0 };
+        let due = (HEAD + list.names.len() + 25 * list.ids.len()) as u64 + 4 * back;
+        let needs = ours::build_needs(mode, list.names.len(), list.ids);
+        self.tally.rule(needs.bytes, due, || format!("{needs:?} for {list:?}"));
+        let long = random.pick(&[usize::MAX, usize::MAX - 2_072, usize::MAX / 2]);
+        let most = ours::build_needs(mode, long, list.ids).bytes;
+        self.tally.rule(u128::from(most), u128::from(u64::MAX).min(long as u128 + u128::from(due) - list.names.len() as u128), || format!("{most} for {long} bytes"));
+        let (mut buf, mut answers) = (exact(&random.bytes(due as usize)), vec![0; list.ends.len()].into_boxed_slice());
+        let mut work = vec![random.word(); random.pick(&[0, needs.words as usize])].into_boxed_slice();
+        let answer = ours::build(mode, random.pick(&[0, 1]), &mut buf, list, &mut answers, &mut work);
+        self.tally.rule(answers.contains(&3), false, || format!("{answer:?} and {answers:?} in {due} bytes"));
+        self.refused += u64::from(answer.refusal > 0);
+        self.calls += 3;
+    }
+
+    // A longer buffer, or a shorter one, for any record: refused with 2 where it is shorter or mode or repeats is no choice.
+    fn grow(&mut self, random: &mut Random, s: &State) {
+        let length = random.pick(&[0, 2_072, s.record.length, s.record.length.wrapping_add(1), s.record.length.wrapping_sub(1), u64::MAX]);
+        let grown = ours::grown(s.record, length);
+        let fine = s.record.mode <= 1 && s.record.repeats <= 1 && s.record.length <= length;
+        let due = if fine { (0, ours::Record { length, ..s.record }) } else { (2, s.record) };
+        self.tally.rule((grown.refusal, grown.record), due, || format!("{grown:?} for {length} bytes"));
+        self.refused += u64::from(grown.refusal > 0);
+        self.calls += 1;
+    }
+
+    // A put by slots of any words, and an index made in them.
+    fn indexed(&mut self, random: &mut Random, s: &State, names: &[Box<[u8]>]) {
+        let (mut buf, mut counts, mut record) = (exact(&s.buf), Box::new(s.counts), Box::new(s.record));
+        let some = [0, 0, 0, 1, HEAD as u32, s.record.end as u32, (s.record.end as u32).wrapping_sub(9), u32::MAX];
+        let n = random.below(30);
+        let before: Box<[u32]> = (0..n).map(|_| if random.once_in(4) { random.word() } else { random.pick(&some) }).collect();
+        let mut slots = before.clone();
+        let name = if random.once_in(2) { names[random.below(names.len())].clone() } else { exact(&names::any(random)) };
+        let id = random.pick(&[0, 9, s.record.back, 0xffff_fffe, 0xffff_ffff]);
+        let refusal = ours::put_indexed(&mut record, &mut counts, &mut buf, &mut slots, &name, id);
+        self.tally.rule([0, 2, 3, 13, 16, 24].contains(&refusal), true, || format!("a put by an index gave {refusal}"));
+        if refusal > 0 {
+            self.unchanged((*record, &counts, &buf), s, "a refused put by an index");
+            self.tally.rule(&slots, &before, || "the slots after a refused put".into());
+        }
+        let before = slots.clone();
+        let refusal = ours::index(*record, &counts, &buf, &mut slots);
+        self.tally.rule([0, 2, 4, 24].contains(&refusal), true, || format!("an index gave {refusal}"));
+        self.tally.rule(refusal == 0 || slots == before, true, || "the slots after a refused index".into());
+        self.refused += u64::from(refusal > 0);
+        self.calls += 2;
+        self.slots += 1;
     }
 
     // Any dates and windows on one image: a name lies in it, and where a list is refused the rest are zeros.
@@ -348,6 +403,29 @@ impl Run {
         self.refused += u64::from(answer.refusal > 0);
         self.calls += 2;
         self.seasons += 1;
+    }
+
+    // Two images from any id on: both namings are those of the single calls and differ, and a moved name is found where it went.
+    fn changes(&mut self, random: &mut Random, bytes: (&[u8], &[u8])) {
+        let (old, new) = (exact(bytes.0), exact(bytes.1));
+        let from = random.pick(&[0, 0, 1, 3, u64::from(u32::MAX), 1 << 32, u64::MAX]);
+        let answer = ours::next_change(&old, &new, from);
+        let named = (ours::named(&old, answer.id), ours::named(&new, answer.id));
+        let so = match answer.found {
+            0 => (answer.id, answer.before.found, answer.after.found) == (0, 0, 0),
+            _ => {
+                let places = (ours::to_str(&old, answer.id), ours::to_str(&new, answer.id));
+                (answer.before, answer.after) == places && named.0 != named.1 && u64::from(answer.id) >= from
+            }
+        };
+        self.tally.rule(so, true, || format!("{answer:?} from {from}"));
+        let moved = ours::moved(&old, &new, answer.id);
+        let other = named.0.and_then(|name| ours::found_id(&new, name)).filter(|&id| id != answer.id);
+        self.tally.rule((moved.found == 1).then_some(moved.id), other, || format!("{moved:?} of {}", answer.id));
+        self.tally.bytes(&old, bytes.0, || "an old image that was compared".into());
+        self.tally.bytes(&new, bytes.1, || "a new image that was compared".into());
+        self.calls += 2;
+        self.pairs += 1;
     }
 
     fn unchanged(&mut self, (record, counts, buf): (ours::Record, &Counts, &[u8]), s: &State, what: &str) {
@@ -401,6 +479,8 @@ fn round(run: &mut Run, random: &mut Random) {
         run.bundle(random, &images);
         let image = &images[random.below(images.len())];
         run.season(random, image);
+        let other = &images[random.below(images.len())];
+        run.changes(random, (image, other));
         run.list(random);
     }
     let n = random.below(4000);
@@ -412,6 +492,8 @@ fn round(run: &mut Run, random: &mut Random) {
             spoil::state(random, &mut odd);
         }
         run.write(random, &odd, &names);
+        run.grow(random, &odd);
+        run.indexed(random, &odd, &names);
     }
     for _ in 0..60 {
         run.order(random);
@@ -423,6 +505,7 @@ fn round(run: &mut Run, random: &mut Random) {
 // Lends one byte more than the heap block has. valgrind has to report it, which shows that it watches the archive.
 fn lend_too_much() {
     let name = exact(&[7; 40]);
+    // SAFETY: none: this breaks what is owed, on purpose. It runs under valgrind alone, which reports the byte.
     let more = unsafe { std::slice::from_raw_parts(name.as_ptr(), 41) };
     println!("hostile: the hash of one byte too much is {:x}", ours::hash(more, 0).hash);
 }
@@ -434,13 +517,13 @@ fn main() {
     let calls = std::env::args().nth(1).map_or(CALLS, |text| text.parse().expect("a number of calls"));
     let mut random = Random::new();
     println!("hostile: seed {}", random.seed);
-    let mut run = Run { tally: Tally::default(), calls: 0, refused: 0, images: 0, states: 0, rounds: 0, sheets: 0, bundles: 0, loads: 0, seasons: 0, lists: 0, repeated: 0 };
+    let mut run = Run { tally: Tally::default(), calls: 0, refused: 0, images: 0, states: 0, rounds: 0, sheets: 0, bundles: 0, loads: 0, seasons: 0, pairs: 0, lists: 0, slots: 0, repeated: 0 };
     while run.calls < calls {
         round(&mut run, &mut random);
     }
     println!(
-        "hostile: {} calls on {} images, {} records with their buffers, {} rounds, {} sheets, {} bundles, {} loads, {} lists of windows and {} whole lists; {} refused, {} of them repeats; {} of {} checks failed",
-        run.calls, run.images, run.states, run.rounds, run.sheets, run.bundles, run.loads, run.seasons, run.lists, run.refused, run.repeated, run.tally.different, run.tally.rule
+        "hostile: {} calls on {} images, {} records with their buffers, {} rounds, {} sheets, {} bundles, {} loads, {} lists of windows, {} pairs of images, {} whole lists and {} lists of slots; {} refused, {} of them repeats; {} of {} checks failed",
+        run.calls, run.images, run.states, run.rounds, run.sheets, run.bundles, run.loads, run.seasons, run.pairs, run.lists, run.slots, run.refused, run.repeated, run.tally.different, run.tally.rule
     );
     std::process::exit(i32::from(run.tally.different > 0));
 }

@@ -23,6 +23,7 @@ pub struct Mapped {
 }
 
 fn map(at: *mut c_void, len: usize, flags: c_int, file: c_int) -> *mut c_void {
+    // SAFETY: the kernel chooses the addresses, or they are those of a map that nobody has been lent yet.
     let at = unsafe { mmap(at, len, READ_WRITE, flags, file, 0) };
     assert_ne!(at as isize, -1, "{len} bytes of addresses");
     at
@@ -38,11 +39,14 @@ impl Mapped {
     /// bytes written to a place of the window are what all copies show there. For outputs that are written and not read.
     pub fn window(len: usize, times: usize) -> Mapped {
         let mapped = Mapped::zeros(len * times);
+        // SAFETY: the name ends with a zero byte.
         let file = unsafe { memfd_create(c"window".as_ptr(), 0) };
+        // SAFETY: ftruncate is lent two numbers.
         assert!(file >= 0 && unsafe { ftruncate(file, len as i64) } == 0, "a file in memory");
         for i in 0..times {
             map(mapped.at.wrapping_byte_add(i * len), len, SHARED | FIXED, file);
         }
+        // SAFETY: the file is open, and nobody else has its number.
         unsafe { close(file) };
         mapped
     }
@@ -52,18 +56,21 @@ impl Deref for Mapped {
     type Target = [u8];
 
     fn deref(&self) -> &[u8] {
+        // SAFETY: the map has len bytes, and lasts as long as self.
         unsafe { std::slice::from_raw_parts(self.at.cast(), self.len) }
     }
 }
 
 impl DerefMut for Mapped {
     fn deref_mut(&mut self) -> &mut [u8] {
+        // SAFETY: as above; self is lent for writing.
         unsafe { std::slice::from_raw_parts_mut(self.at.cast(), self.len) }
     }
 }
 
 impl Drop for Mapped {
     fn drop(&mut self) {
+        // SAFETY: the map is self's, and no slice of it outlives self.
         unsafe { munmap(self.at, self.len) };
     }
 }

@@ -55,8 +55,25 @@ struct Run {
 impl Run {
     // One output buffer: what is given, and every byte afterwards.
     fn print(&mut self, image: &[u8], page: &[u8], before: Vec<u8>) {
+        self.call(page, before, |out| ours::page(image, out));
+    }
+
+    // Some ids from one on, which may be behind the last: a part of the page.
+    fn part(&mut self, random: &mut Random, image: &[u8], page: &[u8]) {
+        let lines = page.len() / LINE;
+        let first = random.pick(&[0, 1, lines / 2, lines, lines + 7]);
+        let count = random.pick(&[0, 1, lines / 3, lines, lines + 9, u32::MAX as usize]);
+        let (start, end) = (first.min(lines), (first + count).min(lines));
+        let part = &page[start * LINE..end * LINE];
+        for room in [part.len() + random.below(50), part.len().saturating_sub(1)] {
+            let before = random.bytes(room);
+            self.call(part, before, |out| ours::page_part(image, first as u32, count as u32, out));
+        }
+    }
+
+    fn call(&mut self, page: &[u8], before: Vec<u8>, call: impl Fn(&mut [u8]) -> PageAnswer) {
         let mut out = before.clone();
-        let answer = ours::page(image, &mut out);
+        let answer = call(&mut out);
         let length = page.len() as u64;
         let (wanted, refusal) =
             if before.len() < page.len() { (before, 12) } else { ([page, &before[page.len()..]].concat(), 0) };
@@ -76,6 +93,7 @@ impl Run {
             let before = random.bytes(room);
             self.print(image, &page, before);
         }
+        self.part(random, image, &page);
         self.images += 1;
         self.lines += (page.len() / LINE) as u64;
         self.gaps += page.chunks(LINE).filter(|line| line[11..43] == [b'-'; 32]).count() as u64;

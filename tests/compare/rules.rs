@@ -12,7 +12,7 @@ extern "C" {
 /// lookup3's hash of a name and one zero byte.
 pub fn hash(name: &[u8]) -> u32 {
     let closed: Vec<u8> = name.iter().copied().chain([0, 0, 0, 0]).collect();
-    // Three more bytes than are counted are there: lookup3 may read an aligned word whole.
+    // SAFETY: three more bytes than are counted are there: lookup3 may read an aligned word whole.
     unsafe { jenkins_hashlittle(closed.as_ptr(), name.len() + 1, 0) }
 }
 
@@ -107,7 +107,7 @@ fn see(image: &[u8], name: &[u8], h: u32, bucket: usize) -> Seen {
 }
 
 // The name's hash, and offset and bucket number of its table; none where no bucket is read.
-fn searched(image: &[u8], name: &[u8]) -> Option<(u32, u64, u64)> {
+fn searched(hash: fn(&[u8]) -> u32, image: &[u8], name: &[u8]) -> Option<(u32, u64, u64)> {
     if image.len() < HEAD || name.len() as u64 > LONGEST {
         return None;
     }
@@ -119,8 +119,13 @@ fn searched(image: &[u8], name: &[u8]) -> Option<(u32, u64, u64)> {
 
 /// Looking up a name.
 pub fn to_id(image: &[u8], name: &[u8]) -> Lookup {
+    to_id_by(hash, image, name)
+}
+
+/// The same by a hash that is handed in, where lookup3 is not linked.
+pub fn to_id_by(hash: fn(&[u8]) -> u32, image: &[u8], name: &[u8]) -> Lookup {
     let nothing = Lookup { id: None, buckets: 0, offset: 0, unending: false };
-    let Some((h, offset, n)) = searched(image, name) else { return nothing };
+    let Some((h, offset, n)) = searched(hash, image, name) else { return nothing };
     let start = (h as u64 / 256) % n;
     for read in 0..n {
         let bucket = offset + 8 * ((start + read) % n);
@@ -169,7 +174,7 @@ pub fn upper_hint(image: &[u8], next: u32) -> u32 {
 /// empty bucket, a broken entry or all buckets are read.
 pub fn met(image: &[u8], name: &[u8]) -> Vec<u32> {
     let mut ids = Vec::new();
-    let Some((h, offset, n)) = searched(image, name) else { return ids };
+    let Some((h, offset, n)) = searched(hash, image, name) else { return ids };
     for read in 0..n {
         let bucket = offset + 8 * (((h as u64 / 256) + read) % n);
         match see(image, name, h, bucket as usize) {

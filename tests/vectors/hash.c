@@ -40,7 +40,7 @@ static void vector(size_t n, int kind) {
     for (size_t i = 0; i < n; i++)
         name[i] = byte_of(kind);
     name[n] = 0;
-    printf("%08x %08x", start, jenkins_hashlittle(name, n + 1, start));
+    printf("hash %08x %08x", start, jenkins_hashlittle(name, n + 1, start));
     if (n)
         putchar(' ');
     for (size_t i = 0; i < n; i++)
@@ -50,7 +50,7 @@ static void vector(size_t n, int kind) {
 
 int main(void) {
     static const size_t more[] = {255, 256, 1000};
-    puts("# Start value, hash and name, made from lookup3 by tests/vectors/make.");
+    puts("# Start value, hash and name, made from lookup3 by tests/vectors/make; crates/replay/src/main.rt says what the lines mean.");
     for (size_t n = 0; n <= 64; n++)
         for (int kind = 0; kind < KINDS; kind++)
             vector(n, kind);

@@ -4,6 +4,7 @@ pub mod Order
 pub mod SearchFilling
 pub mod Table
 pub mod Searched
+pub mod Matching
 pub mod Opened
 pub mod EntrySeen
 pub mod EntriesOf

@@ -1,5 +1,5 @@
-// Average search length: 02 (x). How many buckets are read when the name of each entry of an image is looked up, over the number
-// of entries; and how many entries have each length.
+// The average search length (02 (x)): how many buckets are read when the name of each entry of an image is looked up, over
+// the number of entries; and how many entries have each length.
 ghost use mathlib.Core.Path.{_≡_};
 ghost use Rattle.reader.specs.Open.{opening};
 ghost use Rattle.ours.specs.Ours.{counted};

@@ -11,7 +11,7 @@ use lib.Seq.{drop-drop}
 use Rattle.image.specs.declared.Mode.{Mode}
 use Rattle.image.specs.declared.Mode.the-variants.{Twoway, Oneway}
 use Rattle.image.specs.Bytes.{same, cat}
-use Rattle.image.specs.Image.{Entry, headSize, entryBytes, entrySize, entriesSize, entriesEnd, placed, count, backSize, backIn, backSizeOf, imageSize, image, holds}
+use Rattle.image.specs.Image.{Entry, headSize, entryBytes, entrySize, entriesSize, entriesEnd, placed, count, backSize, backIn, backSizeOf, imageSize, image, hasName, holds}
 use Rattle.image.specs.Stored.{between}
 use Rattle.image.specs.Zero.{hasZero}
 use Rattle.image.proofs.Between.{length-between}
@@ -19,7 +19,8 @@ use Rattle.image.proofs.Bools.{neither-first, neither-second}
 use Rattle.image.proofs.Sizes.{entriesSize-append}
 use Rattle.joined.specs.Names.{namesFrom, names, astray, nth, beginOf}
 use Rattle.joined.proofs.NameEnds.{length-names}
-use Rattle.finish.specs.Finish.{Standing, standing}
+use Rattle.finish.specs.Finish.{standing}
+use Rattle.finish.specs.steps.Asked.{Standing}
 use Rattle.writer.specs.declared.Repeats.{Repeats}
 use Rattle.writer.specs.declared.Repeats.the-variants.{Off, On}
 use Rattle.writer.specs.declared.CQDBWriter.{CQDBWriter}
@@ -28,7 +29,7 @@ use Rattle.writer.specs.Put.{entryOf, afterPut}
 use Rattle.writer.specs.Close.{closedSize, afterClose}
 use Rattle.writer.proofs.Accepted.{stands}
 use Rattle.writer.proofs.Kept.{put-keeps-behind}
-use Rattle.lists.specs.Calls.{Call, put, after, acceptedAfter, dueFrom, acceptedFrom, accepted, due, sizeOf, putDue, WordId, WordIds}
+use Rattle.lists.specs.Calls.{Call, put, after, acceptedAfter, dueFrom, acceptedFrom, accepted, due, sizeOf, putDue, WordId, WordIds, puts}
 use Rattle.lists.specs.Demand3.{answersOf, afterList, acceptedPuts}
 use Rattle.lists.proofs.ListWritten.{Written}
 use Rattle.lists.proofs.Appended.{entriesSize-snoc, sizeOf-is}
@@ -38,28 +39,22 @@ use Rattle.lists.proofs.ListCloses.{close-accepted, close-closed, closed-buffer
 use Rattle.lists.proofs.Along.{list-answers, list-accepted, list-written}
 use Rattle.tabling.specs.steps.Parted.{at}
 use Rattle.build.specs.Build.{callsOf, listed}
-use Rattle.build.specs.steps.Marked.{Roomy}
-use Rattle.build.specs.steps.PutsAlong.{entriesListed}
-use Rattle.build.proofs.Going.{holds-more}
+use Rattle.build.specs.steps.Capacity.{RoomForAll}
+use Rattle.build.specs.steps.Steps.{entriesListed}
 use Rattle.joined.proofs.NameEnds.{begin-later}
-use Rattle.build.proofs.Whole.{accepted as closable}
+use Rattle.build.proofs.StoredAll.{length-listed}
+use Rattle.writer.proofs.Closes.{accepted as closable}
 
 -- ---- the entries of all names
 
-entries-number : (xs : List (List ℕ)) (ids : List ℕ) → length xs ≤ length ids → length (entriesListed xs ids) ≡ length xs
-unfolding entriesListed
-entries-number [] ids h = refl
-entries-number (x ∷ xs) [] h = absurd (omega arith)
-entries-number (x ∷ xs) (id ∷ ids) h = ap suc (entries-number xs ids (omega arith))
-
 entries-names : (xs : List (List ℕ)) (ids : List ℕ) → length xs ≤ length ids → map (λ (e : Entry). e .name) (entriesListed xs ids) ≡ xs
-unfolding entriesListed
+unfolding callsOf puts
 entries-names [] ids h = refl
 entries-names (x ∷ xs) [] h = absurd (omega arith)
 entries-names (x ∷ xs) (id ∷ ids) h = ap (λ (l : List (List ℕ)). x ∷ l) (entries-names xs ids (omega arith))
 
 entries-back : (xs : List (List ℕ)) (ids : List ℕ) (top : ℕ) → ((i : ℕ) → i < length xs → at ids i < top) → backSize (entriesListed xs ids) ≤ top
-unfolding entriesListed backSize
+unfolding callsOf puts backSize
 entries-back [] ids top h = omega arith
 entries-back (x ∷ xs) [] top h = omega arith
 entries-back (x ∷ xs) (id ∷ ids) top h =
@@ -84,7 +79,7 @@ last-begin (e ∷ es) =
 
 entries-size : (bytes : List ℕ) (s : ℕ) (ends ids : List ℕ) → astray (length bytes) s ends ≡ false → length ends ≤ length ids
     → s + entriesSize (entriesListed (namesFrom bytes s ends) ids) ≡ lastEnd s ends + 9 * length ends
-unfolding namesFrom astray entriesListed entriesSize
+unfolding namesFrom astray callsOf puts entriesSize
 entries-size bytes s [] ids good many = omega arith
 entries-size bytes s (e ∷ es) [] good many = absurd (omega arith)
 entries-size bytes s (e ∷ es) (id ∷ ids) good many =
@@ -97,7 +92,7 @@ entries-size bytes s (e ∷ es) (id ∷ ids) good many =
 
 module _ (bytes ends ids : List ℕ) (good : astray (length bytes) 0 ends ≡ false) (many : length ends ≤ length ids) where
   pub number-all : length (entriesListed (names bytes ends) ids) ≡ length ends
-  number-all = let n = length-names bytes ends in entries-number (names bytes ends) ids (omega arith) ∙ n
+  number-all = let n = length-names bytes ends in length-listed (names bytes ends) ids (omega arith) ∙ n
 
   pub names-all : map (λ (e : Entry). e .name) (entriesListed (names bytes ends) ids) ≡ names bytes ends
   names-all = let n = length-names bytes ends in entries-names (names bytes ends) ids (omega arith)
@@ -113,7 +108,7 @@ back-rises Twoway a b h = h
 back-rises Oneway a b h = omega arith
 
 module _ (mode : Mode) (buffer bytes ends ids : List ℕ) (good : astray (length bytes) 0 ends ≡ false) (many : length ends ≤ length ids)
-    (roomy : Roomy mode ends ids (length buffer)) where
+    (roomy : RoomForAll mode ends ids (length buffer)) where
   size-most : imageSize mode (entriesListed (names bytes ends) ids) ≤ headSize + beginOf ends (length ends) + 25 * length ends + 4 * backIn mode (roomy .top)
   size-most =
       let n = length-names bytes ends in
@@ -126,6 +121,22 @@ module _ (mode : Mode) (buffer bytes ends ids : List ℕ) (good : astray (length
 
   pub size-small : imageSize mode (entriesListed (names bytes ends) ids) ≤ 4294967295
   size-small = omega (arith, size-most, roomy .small)
+
+-- ---- a name among the entries and one more
+
+holds-more : (name : List ℕ) (es : List Entry) (e : Entry) → holds name (es ++ (e ∷ [])) ≡ (holds name es || same (e .name) name)
+unfolding holds
+holds-more name [] e = or-false (same (e .name) name)
+  where
+    or-false : (a : Bool) → (a || false) ≡ a
+    or-false true = refl
+    or-false false = refl
+holds-more name (x ∷ es) e =
+    ap (λ (t : Bool). hasName name x || t) (holds-more name es e) ∙ assoc (hasName name x) (holds name es) (same (e .name) name)
+  where
+    assoc : (p q r : Bool) → (p || (q || r)) ≡ ((p || q) || r)
+    assoc true q r = refl
+    assoc false q r = refl
 
 -- ---- what is due to each put
 
@@ -144,7 +155,7 @@ word-id : (mode : Mode) (x : List ℕ) (id : ℕ) → id < 2 ^ 32 → WordId mod
 word-id Twoway x id h = tt
 word-id Oneway x id h = h
 
-word-ids : (mode : Mode) (xs : List (List ℕ)) (ids : List ℕ) → ((i : ℕ) → i < length xs → getD ids i 0 < 2 ^ 32) → WordIds mode (callsOf xs ids)
+pub word-ids : (mode : Mode) (xs : List (List ℕ)) (ids : List ℕ) → ((i : ℕ) → i < length xs → getD ids i 0 < 2 ^ 32) → WordIds mode (callsOf xs ids)
 unfolding callsOf
 word-ids mode [] ids h = tt
 word-ids mode (x ∷ xs) [] h = tt
@@ -180,7 +191,7 @@ module _ (mode : Mode) (repeats : Repeats) (n : ℕ) where
     next = es ++ (e ∷ [])
 
     all-same : next ++ entriesListed xs ids ≡ es ++ entriesListed (x ∷ xs) (id ∷ ids)
-    unfolding entriesListed
+    unfolding callsOf puts
     all-same = append-assoc es (e ∷ []) (entriesListed xs ids)
 
     free-room : tooLarge n (sizeOf mode next) ≡ false
@@ -221,7 +232,7 @@ module _ (mode : Mode) (repeats : Repeats) (n : ℕ) where
           small = omega (arith, whole, f .small);
           words = λ i h. f .words (suc i) (omega arith);
           zeros = λ i h. f .zeros (suc i) (omega arith);
-          new = λ off i h. holds-more (nth xs i) es e true
+          new = λ off i h. holds-more (nth xs i) es e
               ∙ ap₂ {C = Bool} (λ (a b : Bool). a || b) (f .new off (suc i) (omega arith)) (f .apart off (suc i) 0 (omega arith) (omega arith));
           apart = λ off i j h k. f .apart off (suc i) (suc j) (omega arith) (omega arith);
         }
@@ -236,7 +247,7 @@ module _ (mode : Mode) (repeats : Repeats) (n : ℕ) where
       ∙ none-due (es ++ (entryOf x id ∷ [])) xs ids (free-next es x xs id ids f))
 
   all-accepted : (es : List Entry) (xs : List (List ℕ)) (ids : List ℕ) → Free mode repeats n es xs ids → acceptedFrom mode repeats n es (callsOf xs ids) ≡ es ++ entriesListed xs ids
-  unfolding acceptedFrom callsOf entriesListed
+  unfolding acceptedFrom callsOf puts
   all-accepted es [] ids f = sym (append-nil es)
   all-accepted es (x ∷ xs) [] f = absurd (omega (arith, f .many))
   all-accepted es (x ∷ xs) (id ∷ ids) f =
@@ -247,7 +258,7 @@ module _ (mode : Mode) (repeats : Repeats) (n : ℕ) where
   -- such puts keep every byte from the end of their entries on
   puts-keep : (es : List Entry) (s : State) (xs : List (List ℕ)) (ids : List ℕ) → Written mode repeats n es s → Free mode repeats n es xs ids
       → (k : ℕ) → entriesEnd (es ++ entriesListed xs ids) ≤ k → drop k (after s (callsOf xs ids) .buffer) ≡ drop k (s .buffer)
-  unfolding after callsOf entriesListed
+  unfolding after callsOf puts
   puts-keep es s [] ids w f k h = refl
   puts-keep es s (x ∷ xs) [] w f k h = absurd (omega (arith, f .many))
   puts-keep es s (x ∷ xs) (id ∷ ids) w f k h =
@@ -264,7 +275,7 @@ module _ (mode : Mode) (repeats : Repeats) (n : ℕ) where
 -- ---- the list
 
 module _ (mode : Mode) (repeats : Repeats) (buffer bytes ends ids : List ℕ) (good : astray (length bytes) 0 ends ≡ false) (many : length ends ≤ length ids)
-    (room : headSize ≤ length buffer) (roomy : Roomy mode ends ids (length buffer)) (words : (i : ℕ) → i < length ends → getD ids i 0 < 2 ^ 32)
+    (room : headSize ≤ length buffer) (roomy : RoomForAll mode ends ids (length buffer)) (words : (i : ℕ) → i < length ends → getD ids i 0 < 2 ^ 32)
     (zeros : (i : ℕ) → i < length ends → hasZero (nth (names bytes ends) i) ≡ false)
     (apart : refusesRepeats repeats ≡ true → (i j : ℕ) → j < i → i < length ends → same (nth (names bytes ends) j) (nth (names bytes ends) i) ≡ false) where
   abbrev n : ℕ
@@ -335,7 +346,7 @@ module _ (mode : Mode) (repeats : Repeats) (buffer bytes ends ids : List ℕ) (g
 
 -- where the entries of all names stand, finishing finds what it asks for, and these entries
 module _ (mode : Mode) (buffer bytes ends ids : List ℕ) (good : astray (length bytes) 0 ends ≡ false) (many : length ends ≤ length ids)
-    (roomy : Roomy mode ends ids (length buffer)) (words : (i : ℕ) → i < length ends → getD ids i 0 < 2 ^ 32) where
+    (roomy : RoomForAll mode ends ids (length buffer)) (words : (i : ℕ) → i < length ends → getD ids i 0 < 2 ^ 32) where
   abbrev all : List Entry
   all = entriesListed (names bytes ends) ids
 

@@ -8,8 +8,10 @@ use mathlib.Core.List.{List, [], _∷_}
 use lib.ListN.{length}
 use Rattle.image.specs.Image.{backSize}
 use Rattle.tabling.specs.steps.Parted.{at}
-use Rattle.build.specs.steps.Marked.{largestTo}
-use Rattle.build.specs.steps.PutsAlong.{entriesListed}
+use Rattle.build.specs.steps.Capacity.{largestTo}
+use Rattle.lists.specs.Calls.{puts}
+use Rattle.build.specs.Build.{callsOf}
+use Rattle.build.specs.steps.Steps.{entriesListed}
 
 pub largest-none : (ids : List ℕ) → 0 ≡ largestTo ids 0
 unfolding largestTo
@@ -31,14 +33,14 @@ largest-above ids (suc n) i h =
     ]
 
 -- by its first id
-largest-cons : (id : ℕ) (ids : List ℕ) (n : ℕ) → largestTo (id ∷ ids) (suc n) ≡ max id (largestTo ids n)
+pub largest-cons : (id : ℕ) (ids : List ℕ) (n : ℕ) → largestTo (id ∷ ids) (suc n) ≡ max id (largestTo ids n)
 unfolding largestTo
 largest-cons id ids zero = omega arith
 largest-cons id ids (suc n) = omega (arith, largest-cons id ids n)
 
 back-listed : (x : List ℕ) (xs : List (List ℕ)) (ids : List ℕ) → suc (length xs) ≤ length ids
     → backSize (entriesListed (x ∷ xs) ids) ≡ largestTo ids (suc (length xs)) + 1
-unfolding backSize entriesListed
+unfolding backSize callsOf puts
 back-listed x xs [] h = absurd (omega arith)
 back-listed x [] (id ∷ ids) h = let z : largestTo ids 0 ≡ 0 = sym (largest-none ids) in omega (arith, largest-cons id ids 0)
 back-listed x (y ∷ ys) (id ∷ ids) h = omega (arith, back-listed y ys ids (omega arith), largest-cons id ids (suc (length ys)))

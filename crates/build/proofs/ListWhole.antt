@@ -11,14 +11,16 @@ use Rattle.image.specs.Stored.{between}
 use Rattle.image.specs.Image.{Entry, headSize, entryBytes, placed, count, links, backSize, backIn, entriesEnd, backSizeOf, imageSize, image}
 use Rattle.image.specs.declared.Mode.{Mode}
 use Rattle.image.proofs.Sizes.{backIn-twice}
-use Rattle.joined.specs.Names.{names, nth, astray, beginOf}
+use Rattle.joined.specs.Names.{names, astray}
 use Rattle.joined.proofs.NameEnds.{length-names}
-use Rattle.finish.specs.Finish.{Standing, standing, finishedOf, finishedBuffer, TablesAtHand, LinksStand}
+use Rattle.finish.specs.Finish.{standing, finishedBuffer}
+use Rattle.finish.specs.Record.{finishedOf}
+use Rattle.finish.specs.steps.Asked.{Standing, TablesAtHand, LinksStand}
 use Rattle.tabling.specs.steps.Parted.{tableOfName, countOfTable}
 use Rattle.tabling.proofs.PairsOfTable.{table-count}
 use Rattle.tabling.proofs.Offsets.{names-short}
-use Rattle.build.specs.steps.Marked.{largestTo, Roomy}
-use Rattle.build.specs.steps.PutsAlong.{entriesListed}
+use Rattle.build.specs.steps.Capacity.{largestTo, RoomForAll}
+use Rattle.build.specs.steps.Steps.{entriesListed}
 use Rattle.joined.proofs.NameEnds.{begin-later}
 use Rattle.build.proofs.Largest.{back-all}
 use Rattle.build.proofs.AllPut.{number-all, names-all, end-all, size-within, size-small, standing-all, stands-all}
@@ -61,7 +63,7 @@ module _ (l : List ℕ) (at m : ℕ) (room : at + m ≤ length l) (l′ : List �
 -- ---- the numbers of the image
 
 module _ (mode : Mode) (buffer bytes ends ids : List ℕ) (good : astray (length bytes) 0 ends ≡ false) (many : length ends ≤ length ids)
-    (roomy : Roomy mode ends ids (length buffer)) (words : (i : ℕ) → i < length ends → getD ids i 0 < 2 ^ 32) where
+    (roomy : RoomForAll mode ends ids (length buffer)) (words : (i : ℕ) → i < length ends → getD ids i 0 < 2 ^ 32) where
   abbrev xs : List (List ℕ)
   xs = names bytes ends
 

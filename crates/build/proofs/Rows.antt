@@ -1,9 +1,9 @@
 -- The worked examples of a whole list hold, computed by the checker. Assumes nothing.
 use Prim.Native.Nat.{ℕ, _≤_}
 use native.Mathlib.Omega.{arith}
-use mathlib.Core.Path.{_≡_, refl, sym, ap, ap₂, _∙_}
+use mathlib.Core.Path.{_≡_, refl, ap, ap₂, _∙_}
 use mathlib.Core.Bool.{cond}
-use mathlib.Core.List.{List, [], _∷_, _++_, append-nil}
+use mathlib.Core.List.{List, [], _++_, append-nil}
 use lib.ListN.{length, drop, drop-of-length-le}
 use lib.Dec.{ltb, lit≤}
 use Rattle.jhash.specs.Outcome.{Outcome, value, refusal}

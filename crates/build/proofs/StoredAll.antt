@@ -24,19 +24,21 @@ use Rattle.finish.proofs.Turn.{store-in, nextOf, placed-more, next-at}
 use Rattle.joined.specs.Names.{names, nth, beginOf}
 use Rattle.joined.proofs.NameEnds.{length-names, nth-name}
 use Rattle.writer.specs.Put.{entryOf}
-use Rattle.build.specs.steps.PutsAlong.{entriesListed}
+use Rattle.lists.specs.Calls.{puts}
+use Rattle.build.specs.Build.{callsOf}
+use Rattle.build.specs.steps.Steps.{entriesListed}
 
 -- ---- the entries of a list
 
 pub length-listed : (xs : List (List ℕ)) (ids : List ℕ) → length xs ≤ length ids → length (entriesListed xs ids) ≡ length xs
-unfolding entriesListed
+unfolding callsOf puts
 length-listed [] ids h = refl
 length-listed (x ∷ xs) [] h = absurd (omega arith)
 length-listed (x ∷ xs) (id ∷ ids) h = let k : length xs ≤ length ids = omega arith in ap suc (length-listed xs ids k)
 
 nth-listed : (xs : List (List ℕ)) (ids : List ℕ) (i : ℕ) (d : Entry) → length xs ≤ length ids → i < length xs
     → getD (entriesListed xs ids) i d ≡ entryOf (nth xs i) (getD ids i 0)
-unfolding entriesListed
+unfolding callsOf puts
 nth-listed [] ids i d h k = absurd (omega arith)
 nth-listed (x ∷ xs) [] i d h k = absurd (omega arith)
 nth-listed (x ∷ xs) (id ∷ ids) zero d h k = refl

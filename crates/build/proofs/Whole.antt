@@ -1,12 +1,11 @@
 -- The whole call: its refusals, and what it gives and leaves where none applies. Assumes nothing.
-use Prim.Native.Nat.{ℕ, _+_, _≤_, _<_}
+use Prim.Native.Nat.{ℕ, _≤_, _<_}
 use native.Mathlib.Omega.{arith}
-use native.Mathlib.Decide.{decLt}
 use mathlib.Core.Path.{_≡_, refl, sym, ap, ap₂, _∙_}
 use mathlib.Core.Bool.{Bool, true, false, cond, not, _&&_, _||_}
 use mathlib.Core.List.{List, _++_}
 use borrow.Author.Tests.{lt-ltb, le-ltb, ltb-true}
-use lib.Dec.{ltb, eqb}
+use lib.Dec.{ltb}
 use lib.ListN.{length, drop}
 use Rattle.jhash.specs.Outcome.{Outcome, value, refusal}
 use Rattle.image.specs.declared.Mode.{Mode}
@@ -14,10 +13,9 @@ use Rattle.image.specs.Image.{headSize}
 use Rattle.joined.specs.Names.{astray}
 use Rattle.writer.specs.declared.Repeats.{Repeats}
 use Rattle.writer.specs.State.{State, fits, finishedSize, tooLarge}
-use Rattle.writer.specs.Close.{closeRefusal, closedSize, closed, consistent, afterClose}
+use Rattle.writer.specs.Close.{closeRefusal, closedSize, consistent, afterClose}
 use Rattle.lists.specs.Demand3.{answersOf, afterList, acceptedPuts}
 use Rattle.build.specs.declared.Made.{Made}
-use Rattle.build.specs.steps.PutsAlong.{chosen, Puts}
 use Rattle.build.specs.Build.{listed, buildRefusal, madeOf, building, bufferAfter, answersAfter}
 
 -- ---- the refusals, in their order
@@ -55,17 +53,6 @@ module _ (bytes ends : List ℕ) (ids places room : ℕ) where
   refusal-none e h k l =
       ap₂ (λ (t u : Bool). number t u (ltb places n) (ltb room headSize)) e (le-ltb ids n h)
       ∙ ap₂ (λ (t u : Bool). number false false t u) (le-ltb places n k) (le-ltb room headSize l)
-
--- ---- the choice of repeats changes no close
-
-module _ (repeats : Repeats) (s : State) where
-  chosen-buffer : afterClose (chosen repeats s) .buffer ≡ afterClose s .buffer
-  unfolding afterClose closeRefusal closed fits
-  chosen-buffer = go (eqb (closeRefusal s) 0)
-    where
-      go : (b : Bool) → cond b (closed (chosen repeats s)) (chosen repeats s) .buffer ≡ cond b (closed s) s .buffer
-      go true = refl
-      go false = refl
 
 -- ---- what is given and left
 
@@ -113,14 +100,6 @@ module _ (mode : Mode) (repeats : Repeats) (buffer bytes ends ids places : List 
         ap₂ {C = Outcome Made} (λ (x y : ℕ). value (record { size = x; accepted = y })) e f
         ∙ sym (ap (λ (b : Bool). cond b (refusal (buildRefusal bytes ends (length ids) (length places) (length buffer))) (value (madeOf mode repeats buffer (listed bytes ends ids)))) none)
 
-    module _ (s : State) (p : Puts mode repeats buffer (listed bytes ends ids) s) where
-      pub left-all : (l : List ℕ) → l ≡ afterClose s .buffer → l ≡ bufferAfter mode repeats buffer bytes ends ids (length places)
-      left-all l e = left-closed l (e ∙ sym (chosen-buffer repeats s) ∙ ap (λ (t : State). afterClose t .buffer) (p .left))
-
-      pub built-image : (m : Made) → m .size ≡ closedSize s → m .accepted ≡ s .writer .entries
-          → value m ≡ building mode repeats buffer bytes ends ids (length places)
-      built-image m e f = built-made m (e ∙ ap closedSize (p .left)) (f ∙ p .counted)
-
 abbrev isMade : Outcome Made → ℕ
 isMade (value m) = 1
 isMade (refusal k) = 0
@@ -137,26 +116,3 @@ refused-some mode repeats buffer bytes ends ids places k e = go (ltb 0 due) refl
     go : (b : Bool) → ltb 0 due ≡ b → cond b (refusal due) (value (madeOf mode repeats buffer (listed bytes ends ids))) ≡ refusal k → 0 < due
     go true p q = ltb-true 0 due p
     go false p q = let z : _≡_ {A = ℕ} 1 0 = ap isMade q in absurd (omega arith)
-
--- slots are within the lent memory
-pub slots-within : (r n words most : ℕ) → (0 < r → (r + n ≤ words) × (n ≤ most)) → r ≤ words
-slots-within r n words most f = elim (decLt 0 r) [ yes p ↦ omega (arith, f p .0) | no p ↦ omega arith ]
-
--- ---- an accepted close
-
--- what the checks of a close told
-pub record Accepted (s : State) : Type 0 where
-  pub fit : fits s ≡ true
-  pub fine : tooLarge (s .writer .length) (finishedSize (s .writer)) ≡ false
-  pub all : consistent s ≡ true
-
-pub accepted : (s : State) → closeRefusal s ≡ 0 → Accepted s
-unfolding closeRefusal
-accepted s e = go (fits s) (consistent s) (tooLarge (s .writer .length) (finishedSize (s .writer))) refl refl refl e
-  where
-    go : (f c t : Bool) → fits s ≡ f → consistent s ≡ c → tooLarge (s .writer .length) (finishedSize (s .writer)) ≡ t
-        → _≡_ {A = ℕ} (cond (not f) 2 (cond (c && not t) 0 4)) 0 → Accepted s
-    go true true false p q r z = record { fit = p; fine = r; all = q }
-    go true true true p q r z = absurd (omega arith)
-    go true false t p q r z = absurd (omega arith)
-    go false c t p q r z = absurd (omega arith)

@@ -1,6 +1,7 @@
--- A whole list in one call: an added call, by the rules of 01, "Whole lists". It is begin, the puts in order and one close.
+-- A whole list in one call: an added call, by the rules of 01, "Whole lists". It is begin, the puts in order and one
+-- close.
 use Prim.Native.Nat.{ℕ}
-use mathlib.Core.Bool.{Bool, cond, _||_}
+use mathlib.Core.Bool.{cond, _||_}
 use mathlib.Core.List.{List, [], _∷_, _++_}
 use lib.ListN.{length, drop}
 use lib.Dec.{ltb}
@@ -27,7 +28,8 @@ callsOf (x ∷ xs) (id ∷ ids) = put (entryOf x id) ∷ callsOf xs ids
 abbrev pub listed : List ℕ → List ℕ → List ℕ → List Call
 listed bytes ends ids = callsOf (names bytes ends) ids
 
--- ends that fall or pass the bytes give 14, then a list of ids or of answers that is shorter than the names 15, then a buffer under 2,072 bytes 1. 0: none
+-- ends that fall or pass the bytes give 14, then a list of ids or of answers that is shorter than the names 15, then a
+-- buffer under 2,072 bytes 1. 0: none
 unfoldable pub buildRefusal : List ℕ → List ℕ → ℕ → ℕ → ℕ → ℕ
 buildRefusal bytes ends ids places room =
     cond (astray (length bytes) 0 ends) 14
@@ -37,7 +39,10 @@ buildRefusal bytes ends ids places room =
 -- the size of the image that one close gives after the list, and the number of accepted puts
 unfoldable pub madeOf : Mode → Repeats → List ℕ → List Call → Made
 madeOf mode repeats buffer cs =
-    record { size = closedSize (afterList mode repeats buffer cs); accepted = length (acceptedPuts mode repeats buffer cs) }
+    record {
+      size = closedSize (afterList mode repeats buffer cs);
+      accepted = length (acceptedPuts mode repeats buffer cs);
+    }
 
 unfoldable pub building : Mode → Repeats → List ℕ → List ℕ → List ℕ → List ℕ → ℕ → Outcome Made
 building mode repeats buffer bytes ends ids places =

@@ -2,4 +2,5 @@
 pub mod Build
 pub mod Theorem
 pub mod Rows
+pub mod Needs
 pub mod steps

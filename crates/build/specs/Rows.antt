@@ -1,10 +1,10 @@
--- Worked examples of a whole list: names joined with their ends, ids, and what the call gives in every buffer of that length.
+-- Worked examples of a whole list: names joined with their ends, ids, and what the call gives in every buffer of that
+-- length.
 use Prim.Native.Nat.{ℕ}
 use mathlib.Core.Path.{_≡_}
 use mathlib.Core.List.{List, [], _∷_}
 use lib.ListN.{length}
 use Rattle.jhash.specs.Outcome.{value}
-use Rattle.image.specs.declared.Mode.{Mode}
 use Rattle.image.specs.declared.Mode.the-variants.{Twoway}
 use Rattle.writer.specs.declared.Repeats.{Repeats}
 use Rattle.writer.specs.declared.Repeats.the-variants.{Off, On}

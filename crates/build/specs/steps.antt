@@ -1,4 +1,4 @@
 -- What describes the steps of code. No rule stands here, and nobody has to believe it: proofs/ joins it to the rules.
-pub mod Held
-pub mod PutsAlong
-pub mod Marked
+pub mod Capacity
+pub mod Steps
+pub mod Stores

@@ -1,22 +1,12 @@
-// The image of a list, all of whose names are put: its entries stored in one pass, each with its link in the back array, and head,
-// rows and tables around them.
+// The image of a list, all of whose names are put: its entries stored in one pass, each with its link in the back
+// array, and head, rows and tables around them.
 ghost use mathlib.Core.Path.{_≡_};
-ghost use mathlib.Core.Bool.{false};
-ghost use mathlib.Core.List.{List, _++_, map};
-ghost use Prim.Native.Nat.{ℕ, _+_, _*_, _≤_, _<_};
-ghost use lib.ListN.{length, getD, drop, replicate};
-ghost use lib.Seq.{sets};
-ghost use Rattle.image.specs.Bytes.{cat};
-ghost use Rattle.image.specs.Stored.{between};
-ghost use Rattle.image.specs.Image.{Entry, headSize, entryBytes, placed, links, backIn, entriesEnd, backSizeOf, imageSize, image};
-ghost use Rattle.joined.specs.Names.{names, astray};
+ghost use Prim.Native.Nat.{_+_, _*_, _≤_};
+ghost use lib.ListN.{length};
+ghost use Rattle.image.specs.Image.{backIn};
 ghost use Rattle.taking.specs.steps.Working.{withLink};
-ghost use Rattle.finish.specs.Finish.{TablesAtHand};
-ghost use Rattle.tabling.specs.steps.Parted.{tableOfName, countOfTable};
-ghost use Rattle.writer.specs.Put.{entryOf};
-ghost use Rattle.build.specs.steps.PutsAlong.{entriesListed};
-ghost use Rattle.build.specs.steps.Marked.{Roomy};
-use super::puts::largest;
+ghost use Rattle.build.specs.steps.Stores.{StoreListPre, StoreListPost, WriteListPre, WriteListPost};
+use super::capacity::largest;
 use image::Mode;
 use image::store::store_word;
 use writer::entry::store;
@@ -32,8 +22,8 @@ fn store_link(mode: Mode, buf: &mut [u8], links: usize, id: u32, at: u32)
     }
 }
 
-// The entries of all names one behind the other from 2,072 on, and in a two-way image the offset of each under its id in the back
-// array, which begins at `at` and was cleared.
+// The entries of all names one behind the other from 2,072 on, and in a two-way image the offset of each under its id
+// in the back array, which begins at `at` and was cleared.
 pub(crate) fn store_list(
     mode: Mode,
     at: usize,
@@ -42,10 +32,11 @@ pub(crate) fn store_list(
     ids: &[u32],
     buf: &mut [u8],
 )
-    requires { ⌜ (astray (length (now bytes)) 0 (now ends) ≡ false) × (length (now ends) ≤ 171798691) × (length (now ends) ≤ length (now ids)) × (imageSize mode (entriesListed (names (now bytes) (now ends)) (now ids)) ≤ length (now buf)) × (imageSize mode (entriesListed (names (now bytes) (now ends)) (now ids)) ≤ 4294967295) × (at ≡ entriesEnd (entriesListed (names (now bytes) (now ends)) (now ids)) + 16 * length (now ends)) × (between (now buf) at (imageSize mode (entriesListed (names (now bytes) (now ends)) (now ids))) ≡ replicate (4 * backSizeOf mode (entriesListed (names (now bytes) (now ends)) (now ids))) 0) ⌝ }
-    ensures area { λ _. ⌜ between (now (buf .exit)) headSize (entriesEnd (entriesListed (names (now (bytes .entry)) (now (ends .entry))) (now (ids .entry)))) ≡ cat entryBytes (entriesListed (names (now (bytes .entry)) (now (ends .entry))) (now (ids .entry))) ⌝ }
-    ensures linked { λ _. ⌜ between (now (buf .exit)) at (imageSize mode (entriesListed (names (now (bytes .entry)) (now (ends .entry))) (now (ids .entry)))) ≡ links (placed headSize (entriesListed (names (now (bytes .entry)) (now (ends .entry))) (now (ids .entry)))) (backSizeOf mode (entriesListed (names (now (bytes .entry)) (now (ends .entry))) (now (ids .entry)))) ⌝ }
-    ensures kept { λ _. ⌜ (drop (imageSize mode (entriesListed (names (now (bytes .entry)) (now (ends .entry))) (now (ids .entry)))) (now (buf .exit)) ≡ drop (imageSize mode (entriesListed (names (now (bytes .entry)) (now (ends .entry))) (now (ids .entry)))) (now (buf .entry))) × (length (now (buf .exit)) ≡ length (now (buf .entry))) ⌝ }
+    requires { ⌜ StoreListPre mode at (now bytes) (now ends) (now ids) (now buf) ⌝ }
+    ensures { λ _. ⌜
+        StoreListPost mode at (now (bytes .entry)) (now (ends .entry)) (now (ids .entry)) (now (buf .entry))
+        (now (buf .exit))
+        ⌝ }
 {
     let mut o = 2072;
     let mut start = 0;
@@ -62,8 +53,8 @@ pub(crate) fn store_list(
     }
 }
 
-// The image of all names, with these table counts and the words of its tables at hand: entries and back array, then head, rows and
-// tables around them. Gives its size.
+// The image of all names, with these table counts and the words of its tables: entries and back array, then head,
+// rows and tables around them. Gives its size.
 pub(crate) fn write_list(
     mode: Mode,
     buf: &mut [u8],
@@ -73,9 +64,11 @@ pub(crate) fn write_list(
     counts: &[u32; 256],
     words: &[u32],
 ) -> u32
-    requires { ⌜ (astray (length (now bytes)) 0 (now ends) ≡ false) × (0 < length (now ends)) × (length (now ends) ≤ 171798691) × (length (now ends) ≤ length (now ids)) × Roomy mode (now ends) (now ids) (length (now buf)) × (length (now counts) ≡ 256) × ((t : ℕ) → t < 256 → getD (now counts) t 0 ≡ countOfTable (tableOfName (names (now bytes) (now ends))) t (length (now ends))) × ((es : List Entry) → map (λ (e : Entry). e .name) es ≡ names (now bytes) (now ends) → TablesAtHand (now words) es) ⌝ }
-    ensures size { λ r. ⌜ r ≡ imageSize mode (entriesListed (names (now (bytes .entry)) (now (ends .entry))) (now (ids .entry))) ⌝ }
-    ensures leaves { λ _. ⌜ now (buf .exit) ≡ image mode (entriesListed (names (now (bytes .entry)) (now (ends .entry))) (now (ids .entry))) ++ drop (imageSize mode (entriesListed (names (now (bytes .entry)) (now (ends .entry))) (now (ids .entry)))) (now (buf .entry)) ⌝ }
+    requires { ⌜ WriteListPre mode (now buf) (now bytes) (now ends) (now ids) (now counts) (now words) ⌝ }
+    ensures { λ r. ⌜
+        WriteListPost mode (now (buf .entry)) (now (bytes .entry)) (now (ends .entry)) (now (ids .entry)) r
+        (now (buf .exit))
+        ⌝ }
 {
     let n = ends.len();
     let end = 2072 + ends[n - 1] + 9 * (n as u64);

@@ -1,2 +1,3 @@
 -- Laws of the exported building of a list.
 pub mod Builds
+pub mod Needed

@@ -1,2 +1,3 @@
--- What the exported building of a list answers.
+-- What the exported building of a list answers, and what a list needs.
 pub mod Building
+pub mod Needs

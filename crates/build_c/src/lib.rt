@@ -8,6 +8,7 @@ ghost use mathlib.Core.Path.{_≡_};
 ghost use Prim.Native.Nat.{_<_};
 ghost use lib.ListN.{length};
 ghost use Rattle.build_c.specs.Building.{buildAnswer, bufferBuilt, answersBuilt};
+ghost use Rattle.build_c.specs.Needs.{needsAnswer};
 
 // The refusal's number, 0 when accepted; the image's size and the number of accepted puts, zeros when refused.
 #[repr(C)]
@@ -63,5 +64,25 @@ pub extern "C" fn cqdb_build_parts(
             size: 0,
             accepted: 0,
         },
+    }
+}
+
+// How many bytes and words a list needs.
+#[repr(C)]
+pub struct NeedsAnswer {
+    pub bytes: u64,
+    pub words: u64,
+}
+
+// What a list of names, which have `size` bytes together, with these ids needs; 2^64 - 1 where it is more. Every mode
+// but 0 is one-way.
+#[no_mangle]
+pub extern "C" fn cqdb_build_needs(mode: u32, size: usize, ids: &[u32]) -> NeedsAnswer
+    ensures { λ r. ⌜ r ≡ needsAnswer mode size (now (ids .entry)) ⌝ }
+{
+    let needs = build::needs::for_list(mode_of(mode), size as u64, ids);
+    NeedsAnswer {
+        bytes: needs.bytes,
+        words: needs.words,
     }
 }

@@ -1,27 +1,25 @@
 -- The writing calls as C has them: a mode or a repeats mode above 1 changes nothing; with modes of 01's and 02's, what the writer's calls promise. Assumes
 -- nothing.
-use Prim.Native.Nat.{ℕ, _≤_}
-use mathlib.Core.Path.{_≡_, refl, sym, ap, ap₂, _∙_}
+use Prim.Native.Nat.{ℕ}
+use mathlib.Core.Path.{_≡_, refl, ap, ap₂, _∙_}
 use mathlib.Core.Bool.{Bool, true, false, cond}
 use mathlib.Core.List.{List}
 use lib.ListN.{replicate}
-use lib.Dec.{eqb, leb}
-use native.Mathlib.Omega.{arith}
-use borrow.Author.Tests.{leb-true, eqb-true, eqb-false, ne-eqb}
+use lib.Dec.{eqb}
+use borrow.Author.Tests.{ne-eqb}
 use Rattle.jhash.specs.Outcome.{Outcome, value, refusal}
-use Rattle.image.specs.Image.{Entry, flagWord}
+use Rattle.image.specs.Image.{Entry}
 use Rattle.image.specs.declared.Mode.{Mode}
-use Rattle.image.specs.declared.Mode.the-variants.{Twoway, Oneway}
-use Rattle.image.proofs.Bools.{first, second}
 use Rattle.writer.specs.declared.Repeats.{Repeats}
-use Rattle.writer.specs.declared.Repeats.the-variants.{Off, On}
 use Rattle.writer.specs.declared.CQDBWriter.{CQDBWriter}
 use Rattle.writer.specs.State.{State, stateWith, beginning, beginRefusal, freshWriter, countsBegun}
 use Rattle.writer.specs.Put.{putRefusal, appended, afterPut}
 use Rattle.writer.specs.Close.{closing, closeRefusal, closedSize, closed, afterClose}
-use Rattle.cqdb_c.specs.declared.record.Record.{Record}
-use Rattle.cqdb_c.specs.Record.{known, modeOf, repeatsOf, repeatsWord, writerOf, recordOf, Held, held, stateOf, heldOf}
-use Rattle.cqdb_c.specs.Writing.{notBegun, begunAnswer, beginAnswer, countsLeft, knownIn, putNumber, leftByPut, closingHeld, refusalIn, sizeIn, leftByClose}
+use Rattle.modes.specs.declared.record.Record.{Record}
+use Rattle.modes.specs.Modes.{known, modeOf, repeatsOf}
+use Rattle.modes.specs.Record.{writerOf, recordOf, Held, held, knownIn, stateOf, heldOf}
+use Rattle.modes.proofs.Records.{back-and-forth}
+use Rattle.cqdb_c.specs.Writing.{notBegun, begunAnswer, beginAnswer, countsLeft, putNumber, leftByPut, closingHeld, refusalIn, sizeIn, leftByClose}
 
 -- begin with a mode or a repeats mode above 1
 pub begin-unknown : (mode repeats n : ℕ) (counts : List ℕ) → known mode repeats ≡ false
@@ -78,35 +76,6 @@ close-known h v w' r buffer d k n fine is answer leaves number told back =
       (number ∙ ap refusalIn d-is, told ∙ ap sizeIn d-is),
       ap (λ (x : Record). held x (h .counts) buffer) back ∙ ap heldOf (leaves ∙ ap afterClose same),
     )
-
--- a number that stands for a mode is that mode's flag word
-mode-word : (mode : ℕ) → mode ≤ 1 → flagWord (modeOf mode) ≡ mode
-mode-word mode fine = go (eqb mode 0) refl
-  where
-    go : (t : Bool) → eqb mode 0 ≡ t → flagWord (cond t Twoway Oneway) ≡ mode
-    go true e = sym (eqb-true mode 0 e)
-    go false e = omega (arith, eqb-false mode 0 e)
-
--- and one that stands for a repeats mode is that one's
-repeats-word : (repeats : ℕ) → repeats ≤ 1 → repeatsWord (repeatsOf repeats) ≡ repeats
-repeats-word repeats fine = go (eqb repeats 0) refl
-  where
-    go : (t : Bool) → eqb repeats 0 ≡ t → repeatsWord (cond t Off On) ≡ repeats
-    go true e = sym (eqb-true repeats 0 e)
-    go false e = omega (arith, eqb-false repeats 0 e)
-
--- C's record and 01's stand for each other, so that a refused call hands back the very record
-pub back-and-forth : (h : Held) → knownIn h ≡ true → heldOf (stateOf h) ≡ h
-back-and-forth h fine =
-    let w = h .writer in
-    ap₂
-    (λ (m r : ℕ).
-    held
-    (record { mode = m; repeats = r; entries = w .entries; back = w .back; length = w .length; end = w .end })
-    (h .counts)
-    (h .buffer))
-    (mode-word (w .mode) (leb-true (w .mode) 1 (first (leb (w .mode) 1) (leb (w .repeats) 1) fine)))
-    (repeats-word (w .repeats) (leb-true (w .repeats) 1 (second (leb (w .mode) 1) (leb (w .repeats) 1) fine)))
 
 -- no refusal changes the record, the counts or a byte: begin
 pub begin-refused : (mode repeats n : ℕ) (counts : List ℕ) → (beginAnswer mode repeats n .refusal ≡ 0 → ⊥) → countsLeft mode repeats n counts ≡ counts

@@ -1,5 +1,6 @@
 -- What the exported functions answer.
+pub mod Version
 pub mod Hash
 pub mod ReadAnswers
-pub mod Record
 pub mod Writing
+pub mod Grown

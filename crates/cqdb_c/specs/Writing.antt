@@ -1,7 +1,7 @@
 -- The exported writing calls: each rule's answer as numbers, and what it leaves. A record with a mode or a repeats mode that is neither 0 nor 1 fits no
 -- buffer: refusal 2, and nothing changes. Assumes nothing.
 use Prim.Native.Nat.{ℕ}
-use mathlib.Core.Bool.{Bool, cond}
+use mathlib.Core.Bool.{cond}
 use mathlib.Core.List.{List}
 use Rattle.jhash.specs.Outcome.{Outcome, value, refusal}
 use Rattle.image.specs.Image.{Entry}
@@ -10,7 +10,8 @@ use Rattle.writer.specs.State.{beginning, countsBegun}
 use Rattle.writer.specs.Put.{putRefusal, afterPut}
 use Rattle.writer.specs.Close.{closing, afterClose}
 use Rattle.cqdb_c.specs.declared.writing.BeginAnswer.{BeginAnswer}
-use Rattle.cqdb_c.specs.Record.{known, modeOf, repeatsOf, recordOf, Held, stateOf, heldOf}
+use Rattle.modes.specs.Modes.{known, modeOf, repeatsOf}
+use Rattle.modes.specs.Record.{recordOf, Held, knownIn, stateOf, heldOf}
 
 -- a refused begin has the refusal's number, and zeros for the record
 abbrev pub notBegun : ℕ → BeginAnswer
@@ -28,10 +29,6 @@ beginAnswer mode repeats n = cond (known mode repeats) (begunAnswer (beginning (
 -- the counts that begin leaves
 unfoldable pub countsLeft : ℕ → ℕ → ℕ → List ℕ → List ℕ
 countsLeft mode repeats n counts = cond (known mode repeats) (countsBegun n counts) counts
-
--- is a lent record one of 01's?
-abbrev pub knownIn : Held → Bool
-knownIn h = known (h .writer .mode) (h .writer .repeats)
 
 -- the rule of put: the refusal's number, 0 when accepted; and what put leaves
 unfoldable pub putNumber : Held → Entry → ℕ

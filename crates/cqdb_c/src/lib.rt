@@ -1,8 +1,8 @@
 // The C interface: what programs in other languages link, declared in include/cqdb.h. Each function is a thin call of the
 // proved function that bears the work, and answers a number or a struct of plain numbers. cqdb_to_id stands in a crate of
 // its own, lookup_c; the archive holds both.
+pub mod version; // version.rt: cqdb_version_number
 pub mod hash; // hash.rt: cqdb_hash
 pub mod opening; // opening.rt: cqdb_open
 pub mod naming; // naming.rt: cqdb_to_str, cqdb_size_hint, cqdb_home
-pub mod record; // record.rt: the writer record as C has it
-pub mod writing; // writing.rt: cqdb_begin_parts, cqdb_put_parts, cqdb_close_parts
+pub mod writing; // writing.rt: cqdb_begin_parts, cqdb_put_parts, cqdb_close_parts, cqdb_grown_parts

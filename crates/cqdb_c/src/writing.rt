@@ -1,10 +1,10 @@
 // Writing, for C: the record goes in and comes back by value, the 256 table counts and the buffer are lent. A record whose
 // mode or repeats mode is neither 0 nor 1 is none of 01's and fits no buffer.
-use super::record::Record;
-use super::record::record_of;
-use super::record::writer_of;
 use modes::known;
 use modes::mode_of;
+use modes::record::Record;
+use modes::record::record_of;
+use modes::record::writer_of;
 use modes::repeats_of;
 use writer::Begun;
 use writer::Closed;
@@ -12,8 +12,9 @@ ghost use mathlib.Core.Path.{_≡_};
 ghost use lib.ListN.{length};
 ghost use Rattle.writer.specs.Put.{entryOf};
 ghost use Rattle.writer.specs.Close.{closedOf};
-ghost use Rattle.cqdb_c.specs.Record.{held};
+ghost use Rattle.modes.specs.Record.{held};
 ghost use Rattle.cqdb_c.specs.Writing.{notBegun, beginAnswer, countsLeft, putNumber, leftByPut, closingHeld, refusalIn, sizeIn, leftByClose};
+ghost use Rattle.cqdb_c.specs.Grown.{grownNumber, recordGrown};
 
 // The refusal's number, 0 when accepted; the fresh record, all zeros when refused.
 #[repr(C)]
@@ -22,7 +23,7 @@ pub struct BeginAnswer {
     pub writer: Record,
 }
 
-// The refusal's number, 0 when accepted; the record to go on with.
+// What put and grown answer: the refusal's number, 0 when accepted; the record to go on with.
 #[repr(C)]
 pub struct PutAnswer {
     pub refusal: u32,
@@ -144,6 +145,26 @@ pub extern "C" fn cqdb_close_parts(w: Record, counts: &[u32; 256], buf: &mut [u8
     CloseAnswer {
         refusal: close_number(answer),
         size: close_size(answer),
+        writer: record_of(after),
+    }
+}
+
+// Takes the new length of a buffer that has grown; or refusal 2 where it has become shorter.
+#[no_mangle]
+pub extern "C" fn cqdb_grown_parts(w: Record, length: u64) -> PutAnswer
+    ensures answer { λ r. ⌜ r .refusal ≡ grownNumber w length ⌝ }
+    ensures leaves { λ r. ⌜ r .writer ≡ recordGrown w length ⌝ }
+{
+    if !known(w.mode, w.repeats) {
+        return PutAnswer {
+            refusal: 2,
+            writer: w,
+        };
+    }
+    let done = writer::grown(writer_of(w), length);
+    let after = done.writer;
+    PutAnswer {
+        refusal: done.refusal,
         writer: record_of(after),
     }
 }

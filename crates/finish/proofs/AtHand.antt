@@ -14,7 +14,8 @@ use Rattle.image.proofs.Sizes.{length-placed, length-tables}
 use Rattle.image.proofs.Stores.{sets-then}
 use Rattle.image.proofs.Area.{length-entriesIn}
 use Rattle.image.proofs.Parts.{placedIn}
-use Rattle.finish.specs.Finish.{standing, TablesAtHand}
+use Rattle.finish.specs.Finish.{standing}
+use Rattle.finish.specs.steps.Asked.{TablesAtHand}
 
 pub words-turn : (words b b1 x : List ℕ) (at i w : ℕ) → i < length words → w ≡ getD words i 0 → b1 ≡ sets b (at + 4 * i) (le32 w)
     → sets b (at + 4 * i) (cat le32 (drop i words)) ≡ x → sets b1 (at + 4 * (i + 1)) (cat le32 (drop (i + 1) words)) ≡ x

@@ -15,7 +15,8 @@ use Rattle.image.specs.Bytes.{word, cat, range}
 use Rattle.image.specs.Tables.{tableOf}
 use Rattle.image.specs.Image.{Entry, Placed, headSize, entryBytes, entriesSize, placed, count, bucketOf, bucketBytes}
 use Rattle.image.specs.Image.{entriesBefore, links, backSizeOf, backOffset, entriesEnd, imageSize, headWords, tableRows}
-use Rattle.image.specs.Stored.{between, wholeLength}
+use Rattle.image.specs.Stored.{between}
+use Rattle.image.specs.steps.EntryLength.{wholeLength}
 use Rattle.image.specs.declared.Mode.{Mode}
 use Rattle.image.proofs.Sizes.{length-placed, placed-append, count-nil, count-append, length-bucketBytes, length-headWords, length-tableRows, before-suc}
 use Rattle.image.proofs.Stores.{sets-whole}

@@ -14,7 +14,7 @@ use Rattle.image.specs.declared.Mode.the-variants.{Twoway, Oneway}
 use Rattle.image.proofs.Sizes.{length-placed, length-headWords, length-tableRows, length-links, backIn-twice}
 use Rattle.image.proofs.Stores.{sets-then, sets-right-at}
 use Rattle.image.proofs.Parts.{placedIn}
-use Rattle.finish.specs.Finish.{finishedOf}
+use Rattle.finish.specs.Record.{finishedOf}
 use Rattle.image.specs.Stored.{between}
 use Rattle.finish.specs.steps.Written.{rowsFrom, linksAt, headed, zeroed}
 use Rattle.finish.proofs.HeadRows.{Counts, rows-image}

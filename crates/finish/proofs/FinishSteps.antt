@@ -11,7 +11,7 @@ use borrow.Author.Tests.{eq-eqb, ne-eqb, le-leb, lt-leb}
 use Rattle.image.specs.Image.{backIn, flagWord, headBytes}
 use Rattle.image.specs.declared.Mode.{Mode}
 use Rattle.image.specs.declared.Mode.the-variants.{Twoway, Oneway}
-use Rattle.finish.specs.Finish.{finishedOf, noneAbove}
+use Rattle.finish.specs.Record.{finishedOf, noneAbove}
 use Rattle.taking.specs.steps.Working.{takenFrom}
 use Rattle.finish.specs.steps.Parting.{byTables}
 use Rattle.finish.specs.steps.Written.{rowsFrom, linksAt, headed, zeroed, parts, filledIn, written}

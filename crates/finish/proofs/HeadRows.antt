@@ -11,7 +11,7 @@ use Rattle.image.specs.Bytes.{le32, cat, range}
 use Rattle.image.specs.Image.{Entry, Placed, headSize, placed, count, entriesBefore, tableOffset, tableRow, tableRows}
 use Rattle.image.proofs.All.{all-each}
 use Rattle.image.proofs.Sizes.{before-suc}
-use Rattle.finish.specs.Finish.{countsAgree}
+use Rattle.finish.specs.Record.{countsAgree}
 use Rattle.finish.specs.steps.Written.{rowsFrom}
 
 -- the counts of entries, table by table

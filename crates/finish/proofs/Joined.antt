@@ -11,7 +11,7 @@ use lib.Bits.{bitOr}
 use borrow.Author.Tests.{le-leb}
 use Rattle.image.proofs.All.{all-true}
 use Rattle.image.proofs.Joins.{le-or-l, le-or-r}
-use Rattle.finish.specs.Finish.{noneAbove}
+use Rattle.finish.specs.Record.{noneAbove}
 
 module _ (counts : List ℕ) where
   -- one turn of the loop: one more count is joined

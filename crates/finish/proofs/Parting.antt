@@ -12,7 +12,8 @@ use borrow.Author.Tests.{eq-eqb, ne-eqb}
 use Rattle.jhash.specs.NameHash.{hashOf}
 use Rattle.image.specs.Bytes.{word, le32}
 use Rattle.image.specs.declared.Mode.{Mode}
-use Rattle.image.specs.Stored.{between, wholeLength}
+use Rattle.image.specs.Stored.{between}
+use Rattle.image.specs.steps.EntryLength.{wholeLength}
 use Rattle.image.proofs.Words.{length-le32}
 use Rattle.image.proofs.Stores.{sets-then}
 use Rattle.taking.specs.steps.Working.{withLink}

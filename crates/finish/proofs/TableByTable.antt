@@ -23,7 +23,7 @@ use Rattle.image.proofs.Stores.{sets-whole}
 use Rattle.image.proofs.Every.{All, all-keep, all-image}
 use Rattle.image.proofs.At.{At, at-same, at-equal, at-left, at-right}
 use Rattle.image.proofs.Parts.{placedIn, before-most}
-use Rattle.finish.specs.Finish.{noneAbove}
+use Rattle.finish.specs.Record.{noneAbove}
 use Rattle.finish.specs.steps.Parting.{roomsFrom, partedFrom, pairsAt, copied, withTable, tablesFrom, byTables}
 use Rattle.finish.proofs.HeadRows.{Counts}
 use Rattle.finish.proofs.Partial.{upToEntries, length-upToEntries}

@@ -25,7 +25,8 @@ use Rattle.image.proofs.Buckets.{filled-all, firstEmpty-alike}
 use Rattle.image.proofs.At.{At, at-equal, at-left, at-take, at-word, at-second}
 use Rattle.image.proofs.Parts.{placedIn, before-most, offset-word, number-word, bucket-of}
 use Rattle.image.proofs.EntryAt.{id-word, length-word, name-bytes, ids-below}
-use Rattle.image.specs.Stored.{between, wholeLength}
+use Rattle.image.specs.Stored.{between}
+use Rattle.image.specs.steps.EntryLength.{wholeLength}
 use Rattle.taking.specs.steps.Working.{bucketFor, withBucket, withLink, entryTaken}
 use Rattle.image.proofs.Between.{is-whole}
 use Rattle.finish.proofs.Partial.{tableWith, tablesWith, length-tableWith, length-tablesWith, upToEntries, length-upToEntries, partial}

@@ -18,7 +18,9 @@ use Rattle.image.proofs.Between.{length-between}
 use Rattle.image.proofs.Parts.{placedIn}
 use Rattle.image.proofs.Bools.{second}
 use Rattle.image.proofs.Every.{All}
-use Rattle.finish.specs.Finish.{finishedOf, noneAbove, standing, Standing, TablesAtHand, LinksStand, finishedBuffer}
+use Rattle.finish.specs.Finish.{standing, finishedBuffer}
+use Rattle.finish.specs.Record.{finishedOf, noneAbove}
+use Rattle.finish.specs.steps.Asked.{Standing, TablesAtHand, LinksStand}
 use Rattle.image.specs.Stored.{whole, between}
 use Rattle.taking.specs.steps.Working.{entryTaken, takenFrom}
 use Rattle.finish.specs.steps.Parting.{byTables}

@@ -2,7 +2,7 @@
 ghost use mathlib.Core.Path.{_≡_};
 ghost use Prim.Native.Nat.{ℕ, _<_, _≤_};
 ghost use lib.ListN.{getD};
-ghost use Rattle.finish.specs.Finish.{noneAbove};
+ghost use Rattle.finish.specs.Record.{noneAbove};
 
 // All table counts joined bit by bit, a number that no count exceeds, since a join by `|` is never below what it joins. The
 // loop has no branch, so the compiler makes vector code of it.

@@ -1,14 +1,16 @@
 // Finishing: entries that stand in a buffer become an image, when head, tables and back array are written around them.
 ghost use mathlib.Core.Path.{_≡_};
 ghost use Prim.Native.Nat.{_≤_};
-ghost use Rattle.finish.specs.Finish.{finishedOf, Standing, TablesAtHand, LinksStand, standing, finishedBuffer};
+ghost use Rattle.finish.specs.Finish.{standing, finishedBuffer};
+ghost use Rattle.finish.specs.Record.{finishedOf};
+ghost use Rattle.finish.specs.steps.Asked.{Standing, TablesAtHand, LinksStand};
 ghost use Rattle.finish.specs.steps.Written.{headed};
 use image::Mode;
 
 mod at_hand;
 pub mod counts; // counts.rt: none_above
 pub mod head; // head.rt: clear
-pub mod size; // size.rt: the finishedBuffer size and its parts
+pub mod size; // size.rt: the finished size and its parts
 mod tables;
 
 // Head and rows of the image of the entries that end at `end`.

@@ -2,7 +2,7 @@
 ghost use mathlib.Core.Path.{_≡_};
 ghost use Prim.Native.Nat.{_<_, _^_};
 ghost use Rattle.image.specs.Image.{backIn};
-ghost use Rattle.finish.specs.Finish.{finishedOf};
+ghost use Rattle.finish.specs.Record.{finishedOf};
 ghost use Rattle.finish.specs.steps.Written.{linksAt};
 use image::Mode;
 

@@ -17,8 +17,8 @@ use super::head::low;
 use super::head::wide;
 use image::Mode;
 use image::store::store_word;
-use taking::batch::take_entries;
 use taking::fill::store_link;
+use taking::fill::take_singly;
 
 // A pair stored at `at`, where there is room for it.
 fn store_pair(buf: &mut [u8], at: usize, h: u32, offset: u32)
@@ -260,5 +260,5 @@ pub(super) fn fill_in(
         return;
     }
     clear(&mut *buf, end, size);
-    take_entries(mode, links, &mut *buf, end, entries);
+    take_singly(mode, links, &mut *buf, 2072, end, entries);
 }

@@ -8,7 +8,8 @@ use lib.ListN.{length, getD, take, drop, set, length-take, length-drop}
 use lib.Seq.{sets, getD-take, getD-drop, drop-drop, take-set-le}
 use borrow.Author.Tests.{le-leb, lt-leb, eq-eqb, ne-eqb}
 use Rattle.image.specs.Bytes.{word}
-use Rattle.image.specs.Stored.{firstWhole, between, wholeLength}
+use Rattle.image.specs.Stored.{firstWhole, between}
+use Rattle.image.specs.steps.EntryLength.{wholeLength}
 use Rattle.image.proofs.Area.{whole-first}
 
 pub length-between : (buf : List ℕ) (at end : ℕ) → at ≤ end → end ≤ length buf → length (between buf at end) ≡ end - at

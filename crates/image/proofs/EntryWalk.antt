@@ -13,7 +13,8 @@ use Rattle.jhash.specs.NameHash.{hashOf}
 use Rattle.image.specs.Bytes.{word, same}
 use Rattle.image.specs.Tables.{tableOf}
 use Rattle.image.specs.Image.{Entry, backSize, hasName, holds}
-use Rattle.image.specs.Stored.{firstWhole, firstEntry, afterFirst, whole, entriesIn, between, wholeLength}
+use Rattle.image.specs.Stored.{firstWhole, firstEntry, afterFirst, whole, entriesIn, between}
+use Rattle.image.specs.steps.EntryLength.{wholeLength}
 use Rattle.image.specs.Tally.{tallied, raisedCounts, countsAfter}
 use Rattle.image.proofs.Equal.{same-false}
 use Rattle.image.proofs.Between.{Front, not-whole, length-between, drop-between, word-between, name-between}

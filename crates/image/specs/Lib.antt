@@ -6,3 +6,4 @@ pub mod Head
 pub mod Stored
 pub mod Tally
 pub mod Zero
+pub mod steps

@@ -1,7 +1,7 @@
 -- The entries that bytes hold: 01, "Looking up a name" (an entry at an offset of an image, broken or not) and "When a call is refused" (whole
 -- entries one after the other, as close finds them).
 use Prim.Native.Nat.{ℕ, zero, suc, _+_, _-_}
-use mathlib.Core.Bool.{Bool, cond, _&&_, _||_}
+use mathlib.Core.Bool.{Bool, _&&_, _||_}
 use mathlib.Core.List.{List, [], _∷_}
 use lib.ListN.{length, getD, take, drop}
 use lib.Dec.{eqb, ltb, leb}
@@ -42,7 +42,3 @@ entriesIn (suc n) bytes = firstEntry bytes ∷ entriesIn n (afterFirst bytes)
 -- the bytes from `at` to `end`
 abbrev pub between : List ℕ → ℕ → ℕ → List ℕ
 between buf at end = take (end - at) (drop at buf)
-
--- the length word of the entry at the front of some bytes, 0 where it is not whole
-unfoldable pub wholeLength : List ℕ → ℕ
-wholeLength bytes = cond (firstWhole bytes) (word bytes 4) 0

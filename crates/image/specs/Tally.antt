@@ -1,11 +1,8 @@
 -- Entries counted by table: 01, "The writer record" and "Writing".
 use Prim.Native.Nat.{ℕ, _+_}
-use mathlib.Core.Bool.{Bool}
 use mathlib.Core.List.{List, [], _∷_}
 use lib.ListN.{getD, set}
-use lib.Dec.{eqb}
 use Rattle.jhash.specs.NameHash.{hashOf}
-use Rattle.image.specs.Bytes.{all}
 use Rattle.image.specs.Tables.{tableOf}
 use Rattle.image.specs.Image.{Entry}
 
@@ -26,7 +23,3 @@ countsAfter counts e = raisedCounts counts (hashOf (e .name))
 unfoldable pub tallied : List ℕ → List Entry → List ℕ
 tallied counts [] = counts
 tallied counts (e ∷ es) = tallied (countsAfter counts e) es
-
--- do two lists agree at the 256 tables?
-abbrev pub sameCounts : List ℕ → List ℕ → Bool
-sameCounts a b = all (λ (t : ℕ). eqb (getD a t 0) (getD b t 0)) 0 256

@@ -8,7 +8,8 @@ ghost use Rattle.jhash.specs.NameHash.{hashOf};
 ghost use Rattle.image.specs.Bytes.{same};
 ghost use Rattle.image.specs.Tables.{tableOf};
 ghost use Rattle.image.specs.Image.{backSize, holds};
-ghost use Rattle.image.specs.Stored.{broken, whole, entriesIn, between, wholeLength};
+ghost use Rattle.image.specs.Stored.{broken, whole, entriesIn, between};
+ghost use Rattle.image.specs.steps.EntryLength.{wholeLength};
 ghost use Rattle.image.specs.Tally.{raisedCounts, tallied};
 use jhash::word::word;
 

@@ -1,5 +1,4 @@
--- For readers of lookup3 who think of a rotation as a product: by a power of two, split at 2 ^ 32, the two halves added (02 (iv)).
--- Assumes nothing.
+-- A rotation is a product by a power of two, split at 2 ^ 32, its two halves added (`specs/Rotation`). Assumes nothing.
 use mathlib.Core.Path.{_≡_, sym, ap, ap₂, _∙_, subst}
 use Prim.Native.Nat.{ℕ, _+_, _-_, _*_, _/_, _%_, _^_, _<_}
 use native.Mathlib.Nat.{add-comm, add-zero, le-of-lt, lt-trans, lt-of-le-of-lt, mod-lt, mod-eq-of-lt, mul-mod-left, mul-div-mul-right, sub-add-cancel}
@@ -7,6 +6,7 @@ use native.Mathlib.Omega.{arith}
 use lib.Bits.{bitOr, or-shifted, or-lt}
 use lib.Pow.{pow-add, pow-pos, pow-lt, mod-pow-add, shl-lt, shl-shr, shr-le, shr-lt}
 use Rattle.jhash.specs.Lookup3.{rotl32}
+use Rattle.jhash.specs.Rotation.{halvesAdded, RotationAdds}
 
 -- the lower half of the product is a multiple of the power
 lower : (x j k : ℕ) → x * 2 ^ k % 2 ^ (j + k) ≡ x % 2 ^ j * 2 ^ k
@@ -27,7 +27,7 @@ halves x j k h =
     ∙ or-shifted (x % 2 ^ j) k (x / 2 ^ j) (shr-lt k j (subst (λ (n : ℕ). x < 2 ^ n) (add-comm j k) h))
     ∙ ap₂ (λ (a b : ℕ). a + b) (sym (lower x j k)) (sym (upper x j k))
 
-pub rotation : (x k : ℕ) → x < 2 ^ 32 → k < 32 → rotl32 x k ≡ x * 2 ^ k % 2 ^ 32 + x * 2 ^ k / 2 ^ 32
+pub rotation : RotationAdds
 rotation x k h below =
     subst
     (λ (n : ℕ). x < 2 ^ n → bitOr (x * 2 ^ k % 2 ^ n) (x / 2 ^ (32 - k)) ≡ x * 2 ^ k % 2 ^ n + x * 2 ^ k / 2 ^ n)
@@ -36,7 +36,7 @@ rotation x k h below =
     h
 
 -- the sum of the halves never carries past 32 bits
-no-carry : (x k : ℕ) → x < 2 ^ 32 → k < 32 → x * 2 ^ k % 2 ^ 32 + x * 2 ^ k / 2 ^ 32 < 2 ^ 32
+no-carry : (x k : ℕ) → x < 2 ^ 32 → k < 32 → halvesAdded x k < 2 ^ 32
 no-carry x k h below =
     subst
     (λ (n : ℕ). n < 2 ^ 32)

@@ -48,6 +48,8 @@ rows =
     ∷ row (named (letters 24)) 0 0xaa8556dd
     ∷ row (named (letters 25)) 0 0xdbb586ee
     ∷ row (named (65 ∷ [])) 0 0x89284101
+    ∷ row (named (73 ∷ [])) 0 0xcae4bcb3
+    ∷ row (named (81 ∷ [])) 0 0x27d3a0b3
     ∷ row (named (letters 11)) 0xffffffff 0x5f61edf8
     ∷ row (named (letters 12)) 0xffffffff 0xc7594d0f
     ∷ row (named (letters 24)) 0xffffffff 0x197b8c64
@@ -59,7 +61,7 @@ pub rows-hold : map (λ (r : Row). hashlittle (r .bytes) (r .start)) rows ≡ ma
 unfolding hashlittle rows row named fourScore letters
 rows-hold = refl
 
--- ---- the hash of images, for the names of examples: the empty one and A
+-- ---- the hash of images, for the names of examples: the empty one, A, I and Q
 
 pub hash-empty : hashOf [] ≡ 0x8ba9414b
 unfolding hashOf
@@ -68,3 +70,11 @@ hash-empty = refl
 pub hash-A : hashOf (65 ∷ []) ≡ 0x89284101
 unfolding hashOf
 hash-A = refl
+
+pub hash-I : hashOf (73 ∷ []) ≡ 0xcae4bcb3
+unfolding hashOf
+hash-I = refl
+
+pub hash-Q : hashOf (81 ∷ []) ≡ 0x27d3a0b3
+unfolding hashOf
+hash-Q = refl

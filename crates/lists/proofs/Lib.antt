@@ -1,5 +1,6 @@
 -- The laws of lists of calls.
 pub mod ListWritten
+pub mod Closable
 pub mod Read
 pub mod Parse
 pub mod Appended
@@ -13,7 +14,10 @@ pub mod Reading
 pub mod Theorem
 pub mod AfterClose
 pub mod OneWay
+pub mod Again
 pub mod RepeatsOff
+pub mod Room
+pub mod Growing
 pub mod Readings
 pub mod QuayRows
 pub mod Quay

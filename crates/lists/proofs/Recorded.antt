@@ -14,8 +14,8 @@ use Rattle.image.specs.Stored.{whole, entriesIn}
 use Rattle.image.proofs.All.{all-true}
 use Rattle.image.proofs.Sizes.{length-placed, backIn-twice}
 use Rattle.writer.specs.declared.Repeats.{Repeats}
-use Rattle.writer.specs.State.{State, noneAbove, fits}
-use Rattle.writer.specs.Close.{entryArea, recorded, countsAgree, consistent, closedSize}
+use Rattle.writer.specs.State.{State, noneAbove, fits, countsAgree}
+use Rattle.writer.specs.Close.{entryArea, recorded, consistent, closedSize}
 use Rattle.lists.proofs.ListWritten.{Written}
 use Rattle.lists.proofs.Parse.{AllWordly, parsed, parsed-whole}
 use Rattle.lists.proofs.Appended.{count-within}

@@ -1,28 +1,28 @@
 -- Lists of calls with repeats off: each name is put once, and the accepted puts make the same image with either choice. Assumes nothing.
-use Prim.Native.Nat.{ℕ, _+_, _^_, _≤_}
+use Prim.Native.Nat.{ℕ, _+_, _≤_}
 use native.Mathlib.Omega.{arith}
 use mathlib.Core.Path.{_≡_, refl, sym, ap, _∙_}
 use mathlib.Core.Bool.{Bool, true, false, cond, and-true}
-use mathlib.Core.List.{List, [], _∷_, _++_, append-assoc, append-nil}
+use mathlib.Core.List.{List, [], _∷_, _++_, append-nil}
 use lib.ListN.{length, length-append}
 use lib.Dec.{eqb}
-use borrow.Author.Tests.{eqb-true, eq-eqb}
+use borrow.Author.Tests.{eqb-true}
 use Rattle.image.specs.declared.Mode.{Mode}
-use Rattle.image.specs.declared.Mode.the-variants.{Twoway, Oneway}
 use Rattle.image.specs.Bytes.{keep}
-use Rattle.image.specs.Image.{Entry, headSize, backSize, hasName, holds, image}
+use Rattle.image.specs.Image.{Entry, headSize, hasName, holds, image}
 use Rattle.image.proofs.Lists.{keep-nil, keep-yes, keep-no, keep-append}
 use Rattle.image.proofs.Equal.{same-true}
 use Rattle.image.proofs.Bools.{neither-first, neither-second}
 use Rattle.answers.specs.Answer.{ofName, firstId}
 use Rattle.writer.specs.declared.Repeats.{Repeats}
 use Rattle.writer.specs.declared.Repeats.the-variants.{Off}
-use Rattle.lists.specs.Calls.{Call, put, close, acceptedBy, putDue, acceptedFrom, dueFrom, accepted, due, WordIds}
+use Rattle.lists.specs.Calls.{Call, put, close, putDue, acceptedFrom, accepted, WordIds}
 use Rattle.lists.specs.Demand3.{acceptedPuts, imageOf}
 use Rattle.lists.specs.RepeatsOff.{putAll, ListOff, RepeatsOff}
 use Rattle.lists.proofs.ListPuts.{due-new, due-either}
 use Rattle.lists.proofs.Members.{only-entry}
-use Rattle.lists.proofs.Along.{accepted-by-due, list-accepted, list-written}
+use Rattle.lists.proofs.Along.{list-accepted, list-written}
+use Rattle.lists.proofs.Again.{again, again-accepted, again-there, words-again}
 use Rattle.lists.proofs.Reading.{list-read}
 use Rattle.lists.proofs.Theorem.{calls-imaged}
 
@@ -69,53 +69,18 @@ module _ (mode : Mode) (n : ℕ) where
   unfolding accepted ofName
   once name cs = once-from name [] cs (omega (arith, ap length (keep-nil (hasName name))))
 
-  -- ---- the accepted puts, put again
-
-  -- with repeats off none of these is refused, each put after those before it
-  abbrev Again : List Entry → List Entry → Type 0
-  Again es [] = Unit {0}
-  Again es (f ∷ fs) = (putDue mode Off n es f ≡ 0) × Again (es ++ (f ∷ [])) fs
-
-  again-from : (es : List Entry) (cs : List Call) → Again es (acceptedBy cs (dueFrom mode Off n es cs))
-  unfolding acceptedBy dueFrom
-  again-from es [] = tt
-  again-from es (close ∷ cs) = rw (append-nil es) (again-from es cs)
-  again-from es (put e ∷ cs) = go (eqb (putDue mode Off n es e) 0) refl (again-from es cs) (again-from (es ++ (e ∷ [])) cs)
-    where
-      go : (b : Bool) → eqb (putDue mode Off n es e) 0 ≡ b → Again es (acceptedBy cs (dueFrom mode Off n es cs))
-          → Again (es ++ (e ∷ [])) (acceptedBy cs (dueFrom mode Off n (es ++ (e ∷ [])) cs))
-          → Again es (cond b (e ∷ []) [] ++ acceptedBy cs (dueFrom mode Off n (es ++ cond b (e ∷ []) []) cs))
-      go true d without with-it = (eqb-true (putDue mode Off n es e) 0 d, with-it)
-      go false d without with-it = rw (append-nil es) without
-
-  -- so with either choice all are accepted
-  all-accepted : (repeats : Repeats) (es fs : List Entry) → Again es fs → acceptedFrom mode repeats n es (putAll fs) ≡ es ++ fs
-  unfolding acceptedFrom putAll
-  all-accepted repeats es [] again = sym (append-nil es)
-  all-accepted repeats es (f ∷ fs) again =
-      ap (λ (b : Bool). acceptedFrom mode repeats n (es ++ cond b (f ∷ []) []) (putAll fs))
-      (eq-eqb (putDue mode repeats n es f) 0 (due-either mode n es f (again .0) repeats))
-      ∙ all-accepted repeats (es ++ (f ∷ [])) fs (again .1)
-      ∙ append-assoc es (f ∷ []) fs
+  -- ---- the accepted puts, put again with either choice
 
   accepted-again : (repeats : Repeats) (cs : List Call) → accepted mode repeats n (putAll (accepted mode Off n cs)) ≡ accepted mode Off n cs
-  unfolding accepted due
   accepted-again repeats cs =
-      let by = accepted-by-due mode Off n cs in
-      ap (λ (es : List Entry). acceptedFrom mode repeats n [] (putAll es)) (sym by) ∙ all-accepted repeats [] (acceptedBy cs (due mode Off n cs)) (again-from [] cs) ∙ by
+      let es = accepted mode Off n cs in
+      again-accepted mode repeats n es (again-there mode Off repeats n n (λ fs f d. due-either mode n fs f d repeats) [] es (again mode Off n cs))
 
 -- the puts of one list of entries and then of another
 pub putAll-append : (es fs : List Entry) → putAll (es ++ fs) ≡ putAll es ++ putAll fs
 unfolding putAll
 putAll-append [] fs = refl
 putAll-append (e ∷ es) fs = ap (λ (cs : List Call). put e ∷ cs) (putAll-append es fs)
-
--- their ids are words
-words-again : (mode : Mode) (es : List Entry) → backSize es ≤ 2 ^ 32 → WordIds mode (putAll es)
-unfolding putAll backSize
-words-again mode [] h = tt
-words-again Twoway (e ∷ es) h = (tt, words-again Twoway es (omega arith))
-words-again Oneway (e ∷ es) h = (omega arith, words-again Oneway es (omega arith))
 
 -- ---- the theorem
 

@@ -5,5 +5,8 @@ pub mod Corollaries
 pub mod AfterClose
 pub mod OneWay
 pub mod QuayRows
+pub mod Examples
 pub mod Readings
 pub mod RepeatsOff
+pub mod Room
+pub mod LongerBuffer

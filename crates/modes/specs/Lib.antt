@@ -1,2 +1,3 @@
--- The numbers of modes and repeats modes.
+-- The numbers of modes and repeats modes, and C's writer record.
 pub mod Modes
+pub mod Record

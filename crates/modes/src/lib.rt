@@ -1,8 +1,10 @@
-// The numbers by which C names a mode and a repeats mode: 0 two-way and 1 one-way; 0 off and 1 on.
+// The numbers by which C names a mode and a repeats mode: 0 two-way and 1 one-way; 0 off and 1 on. And C's writer record.
 use image::Mode;
 use writer::Repeats;
 ghost use mathlib.Core.Path.{_≡_};
 ghost use Rattle.modes.specs.Modes.{known, modeOf, repeatsOf, repeatsWord};
+
+pub mod record; // record.rt: the writer record as C has it
 
 // Whether both numbers stand for something: 0 or 1.
 pub fn known(mode: u32, repeats: u32) -> bool

@@ -1,4 +1,5 @@
-// References before walls: a lent list of pair records, and a round as a list of ids.
+// References before walls: whether a round, a list of ids, has the reference of each lent pair before the first occurrence
+// of its wall prism.
 ghost use mathlib.Core.Path.{_≡_};
 ghost use Rattle.order.specs.Rule.{kept, ordered};
 ghost use Rattle.order.specs.Cases.{verdictOf};

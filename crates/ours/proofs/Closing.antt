@@ -21,15 +21,15 @@ use Rattle.lists.proofs.Appended.{sizeOf-is}
 use Rattle.lists.proofs.Along.{list-written, list-accepted}
 use Rattle.lists.proofs.OneMoreClose.{list-image, list-below}
 use Rattle.lists.proofs.Readings.{accepted-free}
-use Rattle.ours.specs.steps.Made.{Made}
-use Rattle.ours.specs.Ours.{Puttable, putsIn, modeIn}
+use Rattle.ours.specs.steps.Made.{Storable, Made}
+use Rattle.ours.specs.Ours.{putsIn, modeIn}
 use Rattle.ours.proofs.ReadBack.{word-ids, puts-image, flag-of-image}
 
 -- ---- the image of every list is ours, and its puts are the accepted ones
 
-puttables : (es : List Entry) → All (λ (e : Entry). hasZero (e .name) ≡ false) es → All (λ (e : Entry). e .id < 2 ^ 32) es → All Puttable es
-puttables [] f i = tt
-puttables (e ∷ es) f i = (record { free = f .0; id-word = i .0 }, puttables es (f .1) (i .1))
+storables : (es : List Entry) → All (λ (e : Entry). hasZero (e .name) ≡ false) es → All (λ (e : Entry). e .id < 2 ^ 32) es → All Storable es
+storables [] f i = tt
+storables (e ∷ es) f i = (record { free = f .0; id-word = i .0 }, storables es (f .1) (i .1))
 
 module _ (mode : Mode) (repeats : Repeats) (buffer : List ℕ) (room : headSize ≤ length buffer) (cs : List Call) (word : WordIds mode cs) where
   ids : All (λ (e : Entry). e .id < 2 ^ 32) (accepted mode repeats (length buffer) cs)
@@ -45,7 +45,7 @@ module _ (mode : Mode) (repeats : Repeats) (buffer : List ℕ) (room : headSize 
   list-made = record {
     mode = mode;
     puts = accepted mode repeats (length buffer) cs;
-    each = puttables (accepted mode repeats (length buffer) cs) (accepted-free mode repeats (length buffer) cs) ids;
+    each = storables (accepted mode repeats (length buffer) cs) (accepted-free mode repeats (length buffer) cs) ids;
     fits = list-below mode repeats buffer room cs word;
     is = sym of-accepted;
   }
@@ -89,7 +89,7 @@ none-due : (mode : Mode) (n : ℕ) (done : List Entry) (e : Entry) → hasZero (
 unfolding putDue
 none-due mode n done e free h k = rw (free, and-false (holds (e .name) done), le-ltb n (sizeOf mode (done ++ (e ∷ []))) h, le-ltb 4294967295 (sizeOf mode (done ++ (e ∷ []))) k)
 
-all-accepted : (mode : Mode) (n : ℕ) (done es : List Entry) → All Puttable es → sizeOf mode (done ++ es) ≤ n → sizeOf mode (done ++ es) ≤ 4294967295
+all-accepted : (mode : Mode) (n : ℕ) (done es : List Entry) → All Storable es → sizeOf mode (done ++ es) ≤ n → sizeOf mode (done ++ es) ≤ 4294967295
     → acceptedFrom mode On n done (putAll es) ≡ done ++ es
 unfolding acceptedFrom putAll
 all-accepted mode n done [] a h k = sym (append-nil done)
@@ -101,7 +101,7 @@ all-accepted mode n done (e ∷ es) a h k =
     ∙ all-accepted mode n (done ++ (e ∷ [])) es (a .1) (omega arith) (omega arith)
     ∙ g
 
-pub words : (mode : Mode) (es : List Entry) → All Puttable es → WordIds mode (putAll es)
+pub words : (mode : Mode) (es : List Entry) → All Storable es → WordIds mode (putAll es)
 unfolding putAll
 words mode [] a = tt
 words Twoway (e ∷ es) a = (tt, words Twoway es (a .1))

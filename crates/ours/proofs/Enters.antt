@@ -8,7 +8,8 @@ use lib.Dec.{eqb}
 use Rattle.jhash.specs.NameHash.{hashOf}
 use Rattle.image.specs.Bytes.{word}
 use Rattle.image.specs.Image.{backSize}
-use Rattle.image.specs.Stored.{whole, entriesIn, between, wholeLength}
+use Rattle.image.specs.Stored.{whole, entriesIn, between}
+use Rattle.image.specs.steps.EntryLength.{wholeLength}
 use Rattle.image.specs.Tally.{raisedCounts, tallied}
 use Rattle.image.proofs.Between.{Front, front, entry-room}
 use Rattle.image.proofs.EntryWalk.{Rest, walk-start, walk-turn, walk-broken, walk-end}

@@ -27,8 +27,8 @@ use Rattle.image.specs.declared.Mode.{Mode}
 use Rattle.image.specs.declared.Mode.the-variants.{Twoway, Oneway}
 use Rattle.masks.specs.steps.Masks.{place, Right}
 use Rattle.image.specs.Zero.{hasZero}
-use Rattle.ours.specs.steps.Made.{Made}
-use Rattle.ours.specs.Ours.{Puttable, modeIn}
+use Rattle.ours.specs.steps.Made.{Storable, Made}
+use Rattle.ours.specs.Ours.{modeIn}
 use Rattle.ours.specs.steps.InPlace.{bucketsAt}
 use Rattle.ours.proofs.InPlace.{LinksIn, InPlace}
 use Rattle.ours.specs.steps.Tests.{endIn, areaIn, entriesOf, tableRight, rowsRight, standsIn, entryRight, entriesRight, linksRight, Checked}
@@ -38,7 +38,7 @@ use Rattle.ours.proofs.Walks.{stands-test, entries-test, from-tables, a
 use Rattle.ours.proofs.Complete.{image-in-place}
 use Rattle.ours.proofs.Told.{counts-are}
 
-frees : (es : List Entry) → All Puttable es → All (λ (e : Entry). not (hasZero (e .name)) ≡ true) es
+frees : (es : List Entry) → All Storable es → All (λ (e : Entry). not (hasZero (e .name)) ≡ true) es
 frees [] a = tt
 frees (e ∷ es) a = (ap not (a .0 .free), frees es (a .1))
 
@@ -50,7 +50,7 @@ links-from img es Twoway o b p e k =
     ∙ links-test img (entriesEnd es + 16 * length es) (backSize es) (placed headSize es)
     (all-placed (λ (x : Entry). x .id < backSize es) headSize es (ids-below es (backSize es) (omega arith))) k
 
-module _ (mode : Mode) (es : List Entry) (each : All Puttable es) (fits : imageSize mode es ≤ 4294967295) where
+module _ (mode : Mode) (es : List Entry) (each : All Storable es) (fits : imageSize mode es ≤ 4294967295) where
   img : List ℕ
   img = image mode es
 

@@ -12,7 +12,8 @@ use borrow.Author.Tests.{eq-eqb, ne-eqb, le-ltb}
 use Rattle.jhash.specs.NameHash.{hashOf}
 use Rattle.image.specs.Bytes.{word}
 use Rattle.image.specs.Head.{tableAt, bucketNumber}
-use Rattle.image.specs.Stored.{between, wholeLength}
+use Rattle.image.specs.Stored.{between}
+use Rattle.image.specs.steps.EntryLength.{wholeLength}
 use Rattle.image.specs.Tables.{tableOf, start, next, order, firstEmpty}
 use Rattle.image.proofs.Between.{entry-room}
 use Rattle.ours.specs.steps.Noted.{firstPlace, NotedFrom, Notes}

@@ -1,5 +1,5 @@
 -- Two different lists of puts in one direction never close to the same image; and the rule decides what is ours. Assumes nothing.
-use Prim.Native.Nat.{ℕ, _+_, _^_, _≤_, _<_}
+use Prim.Native.Nat.{ℕ, zero, suc, _+_, _-_, _^_, _≤_, _<_}
 use native.Mathlib.Omega.{arith}
 use mathlib.Core.Path.{_≡_, refl, sym, ap, ap₂, _∙_}
 use mathlib.Core.Bool.{true, cond, not, _&&_}
@@ -11,7 +11,7 @@ use Rattle.jhash.specs.Outcome.{Outcome}
 use Rattle.image.specs.Bytes.{word, le32, cat, same}
 use Rattle.image.specs.Image.{Entry, headSize, entryBytes, entriesSize, backSize, backSizeOf, backOffset, imageSize, flagWord, headWords, image}
 use Rattle.image.specs.Stored.{entriesIn, firstEntry, afterFirst}
-use Rattle.image.proofs.Area.{Bytes, bytes-drop, ids-words}
+use Rattle.image.proofs.Area.{Bytes, bytes-drop, bytes-take, ids-words}
 use Rattle.image.proofs.At.{At, at-same, at-left, at-right, at-word}
 use Rattle.image.proofs.Bools.{first, second, both}
 use Rattle.image.proofs.Equal.{same-true, same-self}
@@ -24,8 +24,8 @@ use Rattle.lists.proofs.Parse.{AllWordly, first-entry, after-first}
 use Rattle.image.specs.declared.Mode.{Mode}
 use Rattle.image.specs.declared.Mode.the-variants.{Twoway, Oneway}
 use Rattle.image.specs.Zero.{hasZero}
-use Rattle.ours.specs.steps.Made.{Made}
-use Rattle.ours.specs.Ours.{Puttable, counted, putsIn, modeIn, allFree, ours}
+use Rattle.ours.specs.steps.Made.{Storable, Made}
+use Rattle.ours.specs.Ours.{counted, putsIn, modeIn, allFree, ours}
 
 -- entries are read back, whatever follows them
 parsed-front : (es : List Entry) (rest : List ℕ) → AllWordly es → entriesIn (length es) (cat entryBytes es ++ rest) ≡ es
@@ -56,6 +56,13 @@ flag-image mode es =
     small : (m : Mode) → flagWord m < 2 ^ 32
     small Twoway = omega arith
     small Oneway = omega arith
+
+-- names that are read from bytes are bytes
+pub names-bytes : (n : ℕ) (l : List ℕ) → Bytes l → All (λ (e : Entry). Bytes (e .name)) (entriesIn n l)
+unfolding entriesIn
+names-bytes zero l bytes = tt
+names-bytes (suc n) l bytes =
+    (bytes-take (word l 4 - 1) (drop 8 l) (bytes-drop 8 l bytes), names-bytes n (afterFirst l) (bytes-drop (8 + word l 4) l bytes))
 
 -- the ids are words
 abbrev pub WordIds : List Entry → Type 0
@@ -104,20 +111,22 @@ direction-injective f g es fs ie if fe ff e = sym (flag-of-image f es ie fe) ∙
 
 -- ---- the rule decides
 
-frees : (es : List Entry) → All Puttable es → allFree es ≡ true
+frees : (es : List Entry) → All Storable es → allFree es ≡ true
 unfolding allFree
 frees [] a = refl
 frees (e ∷ es) a = both (not (hasZero (e .name))) (allFree es) (ap not (a .0 .free)) (frees es (a .1))
 
-pub ids-of : (es : List Entry) → All Puttable es → WordIds es
+pub ids-of : (es : List Entry) → All Storable es → WordIds es
 ids-of [] a = tt
 ids-of (e ∷ es) a = (a .0 .id-word, ids-of es (a .1))
 
-puttables : (es : List Entry) → allFree es ≡ true → WordIds es → All Puttable es
+storables : (es : List Entry) → allFree es ≡ true → WordIds es → All Storable es
 unfolding allFree
-puttables [] f i = tt
-puttables (e ∷ es) f i =
-    (record { free = not-true (hasZero (e .name)) (first (not (hasZero (e .name))) (allFree es) f); id-word = i .0 }, puttables es (second (not (hasZero (e .name))) (allFree es) f) (i .1))
+storables [] f i = tt
+storables (e ∷ es) f i = (
+  record { free = not-true (hasZero (e .name)) (first (not (hasZero (e .name))) (allFree es) f); id-word = i .0 },
+  storables es (second (not (hasZero (e .name))) (allFree es) f) (i .1),
+)
 
 -- puts and direction of an image that puts make are read back
 pub made-puts : (img : List ℕ) (m : Made img) → putsIn img ≡ m .puts
@@ -148,7 +157,7 @@ ours-only img bytes h =
     record {
       mode = modeIn img;
       puts = putsIn img;
-      each = puttables (putsIn img) (first a b ab) (ids-words (counted (opening img)) (drop headSize img) (bytes-drop headSize img bytes));
+      each = storables (putsIn img) (first a b ab) (ids-words (counted (opening img)) (drop headSize img) (bytes-drop headSize img bytes));
       fits = leb-true (imageSize (modeIn img) (putsIn img)) 4294967295 (second a b ab);
       is = same-true (image (modeIn img) (putsIn img)) img (second (a && b) c h);
     }

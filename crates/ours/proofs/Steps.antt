@@ -10,7 +10,8 @@ use borrow.Author.Tests.{eq-eqb, ne-eqb, le-leb, lt-leb}
 use Rattle.jhash.specs.NameHash.{hashOf}
 use Rattle.image.specs.Bytes.{word}
 use Rattle.image.specs.Image.{Placed, entrySize, placed}
-use Rattle.image.specs.Stored.{firstEntry, afterFirst, whole, entriesIn, between, wholeLength}
+use Rattle.image.specs.Stored.{firstEntry, afterFirst, whole, entriesIn, between}
+use Rattle.image.specs.steps.EntryLength.{wholeLength}
 use Rattle.image.specs.Tables.{order, firstEmpty}
 use Rattle.image.proofs.Between.{Front, not-whole, length-between}
 use Rattle.image.proofs.Bools.{not-both}

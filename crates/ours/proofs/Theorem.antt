@@ -10,11 +10,12 @@ use Rattle.image.specs.Bytes.{word}
 use Rattle.image.specs.Image.{Entry, headSize}
 use Rattle.image.specs.declared.Mode.{Mode}
 use Rattle.image.specs.declared.Mode.the-variants.{Twoway, Oneway}
-use Rattle.image.proofs.Area.{Bytes, bytes-take}
+use Rattle.image.proofs.Area.{Bytes, bytes-drop, bytes-take}
 use Rattle.image.proofs.Equal.{same-self}
-use Rattle.image.proofs.Every.{All, all-map}
+use Rattle.image.proofs.Every.{All, all-map, all-both}
 use Rattle.image.proofs.Lists.{keep-append, keep-yes}
 use Rattle.reader.specs.Lookup.{lookup}
+use Rattle.reader.specs.Open.{opening}
 use Rattle.agreement.specs.Panel.{readingsAgree}
 use Rattle.agreement.specs.Home.{home}
 use Rattle.answers.specs.Answer.{foundId, nameGiven, hasName, ofName, firstId, isNamed}
@@ -25,10 +26,10 @@ use Rattle.lists.specs.RepeatsOff.{putAll}
 use Rattle.lists.proofs.Read.{Read}
 use Rattle.lists.proofs.Reading.{list-read}
 use Rattle.lists.proofs.Readings.{readings}
-use Rattle.ours.specs.steps.Made.{Made}
-use Rattle.ours.specs.Ours.{Ours, putsIn, modeIn, ours}
+use Rattle.ours.specs.steps.Made.{Storable, Made}
+use Rattle.ours.specs.Ours.{Ours, counted, putsIn, modeIn, ours}
 use Rattle.ours.specs.Theorem.{IsOurs, Theorem}
-use Rattle.ours.proofs.ReadBack.{made-puts, made-mode, ours-yes, ours-only}
+use Rattle.ours.proofs.ReadBack.{names-bytes, made-puts, made-mode, ours-yes, ours-only}
 use Rattle.ours.proofs.Holds.{ours-checked}
 use Rattle.ours.proofs.Closing.{words, list-made, list-puts, list-mode, lists-injective, accepted-all, made-accepted, made-closes, made-size, made-room}
 
@@ -139,23 +140,33 @@ module _ (img : List ℕ) (bytes : Bytes img) (yes : ours img ≡ true) where
 -- ---- the rule, and lists
 
 ours-made : (img : List ℕ) → Ours img → Made img
-ours-made img o = rw (o .closes) at (list-made (o .mode) On (o .buffer) (o .room) (putAll (o .puts)) (words (o .mode) (o .puts) (o .each)))
+ours-made img o =
+    let each : All Storable (o .puts) = all-map (λ e p. record { free = p .free; id-word = p .id-word }) (o .puts) (o .each) in
+    rw (o .closes) at (list-made (o .mode) On (o .buffer) (o .room) (putAll (o .puts)) (words (o .mode) (o .puts) each))
 
-made-ours : (img : List ℕ) → Made img → Ours img
-made-ours img m =
+-- the names of an image of bytes are bytes
+named-in-bytes : (img : List ℕ) → Bytes img → All (λ (e : Entry). Bytes (e .name)) (putsIn img)
+unfolding putsIn
+named-in-bytes img bytes = names-bytes (counted (opening img)) (drop headSize img) (bytes-drop headSize img bytes)
+
+made-ours : (img : List ℕ) → Bytes img → Made img → Ours img
+made-ours img bytes m =
+    let names : All (λ (e : Entry). Bytes (e .name)) (m .puts) = rw (made-puts img m) at (named-in-bytes img bytes) in
     record {
       mode = m .mode;
       buffer = img;
       room = made-room img m img (omega arith);
       puts = m .puts;
-      each = m .each;
+      each =
+          all-map (λ (e : Entry) (p : Storable e × Bytes (e .name)). record { bytes = p .1; free = p .0 .free; id-word = p .0 .id-word }) (m .puts)
+          (all-both Storable (λ (e : Entry). Bytes (e .name)) (m .puts) (m .each) names);
       closes = made-closes img m img (omega arith);
     }
 
 pub theorem : Theorem
 theorem =
     record {
-      exactly = λ img bytes. (λ yes. made-ours img (ours-only img bytes yes), λ o. ours-yes img (ours-made img o));
+      exactly = λ img bytes. (λ yes. made-ours img bytes (ours-only img bytes yes), λ o. ours-yes img (ours-made img o));
       holds = is-ours;
       of-list =
           λ mode repeats buffer cs room word. record {

@@ -26,8 +26,8 @@ use Rattle.image.specs.declared.Mode.{Mode}
 use Rattle.image.specs.declared.Mode.the-variants.{Twoway, Oneway}
 use Rattle.masks.specs.steps.Masks.{place, Right}
 use Rattle.image.specs.Zero.{hasZero}
-use Rattle.ours.specs.steps.Made.{Made}
-use Rattle.ours.specs.Ours.{Puttable, modeIn}
+use Rattle.ours.specs.steps.Made.{Storable, Made}
+use Rattle.ours.specs.Ours.{modeIn}
 use Rattle.ours.specs.steps.InPlace.{bucketsAt}
 use Rattle.ours.proofs.InPlace.{LinksIn, InPlace}
 use Rattle.ours.specs.steps.Tests.{endIn, areaIn, entriesOf, tableRight, rowsRight, standsIn, entryRight, linksRight, Checked}
@@ -45,11 +45,11 @@ counts-are es t h =
     none : (x y : ℕ) → x ≡ 0 → x + y ≡ y
     none x y z = omega arith
 
-puttable : (o : ℕ) (es : List Entry) → All (λ (p : Placed). not (hasZero (p .entry .name)) ≡ true) (placed o es) → All (λ (e : Entry). e .id < 2 ^ 32) es
-    → All Puttable es
+storable : (o : ℕ) (es : List Entry) → All (λ (p : Placed). not (hasZero (p .entry .name)) ≡ true) (placed o es) → All (λ (e : Entry). e .id < 2 ^ 32) es
+    → All Storable es
 unfolding placed
-puttable o [] f i = tt
-puttable o (e ∷ es) f i = (record { free = not-true (hasZero (e .name)) (f .0); id-word = i .0 }, puttable (o + entrySize e) es (f .1) (i .1))
+storable o [] f i = tt
+storable o (e ∷ es) f i = (record { free = not-true (hasZero (e .name)) (f .0); id-word = i .0 }, storable (o + entrySize e) es (f .1) (i .1))
 
 links-of : (img : List ℕ) (es : List Entry) (f : Mode) (o b : ℕ) → o ≡ entriesEnd es + 16 * length es → b ≡ backIn f (backSize es)
     → linksRight f img o b (placed headSize es) ≡ true → LinksIn f img es
@@ -218,7 +218,7 @@ module _ (img : List ℕ) (n : ℕ) (bytes : Bytes img) (c : Checked img n) wher
     mode = mode;
     puts = es;
     each =
-        puttable headSize es
+        storable headSize es
         (all-map (λ p r. first (not (hasZero (p .entry .name))) (standsIn img (hashOf (p .entry .name)) (p .at)) r) ps tests)
         (ids-words n (areaIn img n) (bytes-take (endIn img n - headSize) (drop headSize img) (bytes-drop headSize img bytes)));
     fits = omega (arith, total, c .size, word-below img 4 bytes);

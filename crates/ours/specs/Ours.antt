@@ -6,6 +6,7 @@ use mathlib.Core.List.{List, [], _∷_}
 use lib.ListN.{length, drop}
 use lib.Dec.{eqb, leb}
 use Rattle.jhash.specs.Outcome.{Outcome, value, refusal}
+use Rattle.jhash.specs.Word.{Bytes}
 use Rattle.image.specs.Bytes.{word, same, Each}
 use Rattle.image.specs.Image.{Entry, headSize, imageSize, image}
 use Rattle.image.specs.Stored.{entriesIn}
@@ -17,8 +18,9 @@ use Rattle.writer.specs.declared.Repeats.the-variants.{On}
 use Rattle.lists.specs.Demand3.{imageOf}
 use Rattle.lists.specs.RepeatsOff.{putAll}
 
--- a put that a writer can accept: its name has no zero byte, its id is a word
+-- a put that a writer can be given and accepts: its name is a string of bytes, none of them zero, its id is a word
 pub record Puttable (e : Entry) : Type 0 where
+  pub bytes : Bytes (e .name)
   pub free : hasZero (e .name) ≡ false
   pub id-word : e .id < 2 ^ 32
 

@@ -1,5 +1,5 @@
-// Is this image one of ours? 02 (ix): is it the image that some list of puts closes to, with no byte after it? The image alone
-// is lent: every part of it is compared where it stands.
+// Whether an image is one of ours (02 (ix)): the image that some list of puts closes to, with no byte after it. The image
+// alone is lent: every part of it is compared where it stands.
 ghost use mathlib.Core.Path.{_≡_};
 ghost use mathlib.Core.Bool.{cond};
 ghost use Prim.Native.Nat.{_<_, _≤_};

@@ -1,6 +1,7 @@
 -- Lines one after the other, and what the call gives and leaves. Assumes nothing.
-use Prim.Native.Nat.{ℕ, suc, _+_, _*_, _-_, _≤_, _<_}
+use Prim.Native.Nat.{ℕ, suc, _+_, _*_, _-_, _≤_, _<_, min}
 use native.Mathlib.Omega.{arith}
+use native.Mathlib.Decide.{decLt}
 use mathlib.Core.Path.{_≡_, sym, ap, _∙_}
 use mathlib.Core.Bool.{Bool, true, false, cond}
 use mathlib.Core.List.{List, _++_}
@@ -9,74 +10,108 @@ use lib.ListN.{length, drop}
 use lib.Seq.{sets, sets-eq}
 use lib.Dec.{ltb}
 use borrow.Author.Tests.{lt-ltb, le-ltb}
-use Rattle.jhash.specs.Outcome.{value, refusal}
+use Rattle.jhash.specs.Outcome.{Outcome, value, refusal}
 use Rattle.image.specs.Bytes.{cat, range}
-use Rattle.image.proofs.Lists.{length-cat, length-range}
+use Rattle.image.proofs.Lists.{cat-append, length-cat, length-range, range-split}
 use Rattle.image.proofs.Stores.{sets-then}
 use Rattle.reader.specs.Naming.{nameGiven}
 use Rattle.reader.specs.IdWalk.{upperHint}
-use Rattle.page.specs.Page.{line, page}
-use Rattle.page.specs.Call.{pageOf, pageLength, printing, afterPage}
+use Rattle.page.specs.Page.{line, lines, page}
+use Rattle.page.specs.Call.{printingLines, afterLines, printing, afterPage, partLines, partPrinting, afterPart}
 use Rattle.page.proofs.Fields.{length-line}
 
 module _ (name : ℕ → Option (List ℕ)) where
+  pub length-lines : (first n : ℕ) → length (lines name first n) ≡ 45 * n
+  unfolding lines
+  length-lines first n =
+      length-cat (line name) 45 (length-line name) (range first n) ∙ ap (λ (k : ℕ). 45 * k) (length-range first n)
+
   pub length-page : (n : ℕ) → length (page name n) ≡ 45 * n
   unfolding page
-  length-page n = length-cat (line name) 45 (length-line name) (range 0 n) ∙ ap (λ (k : ℕ). 45 * k) (length-range 0 n)
+  length-page n = length-lines 0 n
 
-  -- the lines of all ids are left
-  pub lines-start : (out : List ℕ) (n : ℕ) → sets out (45 * 0) (cat (line name) (range 0 (n - 0))) ≡ sets out 0 (page name n)
-  unfolding page
-  lines-start out n = let e : n - 0 ≡ n = omega arith in ap (λ (k : ℕ). sets out 0 (cat (line name) (range 0 k))) e
+  -- lines in two parts
+  pub lines-split : (first m k : ℕ) → lines name first (m + k) ≡ lines name first m ++ lines name (first + m) k
+  unfolding lines
+  lines-split first m k =
+      ap (cat (line name)) (range-split first m k) ∙ cat-append (line name) (range first m) (range (first + m) k)
+
+  -- where a part of `a` ids ends, of which `left` are there: k lines follow, and none where the part has fewer than `a`
+  pub behind-part : (left first a k : ℕ) → (left < a → k ≡ 0) → lines name (first + min a left) k ≡ lines name (first + a) k
+  unfolding lines range
+  behind-part left first a k z =
+      elim (decLt left a) [
+        | yes p ↦ ap (lines name (first + min a left)) (z p) ∙ sym (ap (lines name (first + a)) (z p))
+        | no p ↦ (let e : min a left ≡ a = omega arith in ap (λ (m : ℕ). lines name (first + m) k) e)
+      ]
+
+  -- all lines are left
+  pub lines-start : (out : List ℕ) (first n : ℕ) → sets out (45 * 0) (lines name (first + 0) (n - 0)) ≡ sets out 0 (lines name first n)
+  lines-start out first n =
+      let e : n - 0 ≡ n = omega arith in
+      let f : first + 0 ≡ first = omega arith in
+      ap (λ (k : ℕ). sets out 0 (lines name (first + 0) k)) e ∙ ap (λ (k : ℕ). sets out 0 (lines name k n)) f
 
   -- one line more is printed
-  pub lines-turn : (out out₁ : List ℕ) (id n : ℕ) → id < n → out₁ ≡ sets out (45 * id) (line name id)
-      → sets out₁ (45 * (id + 1)) (cat (line name) (range (id + 1) (n - (id + 1)))) ≡ sets out (45 * id) (cat (line name) (range id (n - id)))
-  unfolding cat range
-  lines-turn out out₁ id n h e =
+  pub lines-turn : (out out₁ : List ℕ) (first i n : ℕ) → i < n → out₁ ≡ sets out (45 * i) (line name (first + i))
+      → sets out₁ (45 * (i + 1)) (lines name (first + (i + 1)) (n - (i + 1))) ≡ sets out (45 * i) (lines name (first + i) (n - i))
+  unfolding lines cat range
+  lines-turn out out₁ first i n h e =
+      let id = first + i in
       let w = length-line name id in
-      let m : suc (n - (id + 1)) ≡ n - id = omega arith in
-      let s : id + 1 ≡ suc id = omega arith in
-      let rest = cat (line name) (range (suc id) (n - (id + 1))) in
-      ap (λ (l : List ℕ). sets l (45 * (id + 1)) (cat (line name) (range (id + 1) (n - (id + 1))))) e
-      ∙ ap (λ (k : ℕ). sets (sets out (45 * id) (line name id)) (45 * (id + 1)) (cat (line name) (range k (n - (id + 1))))) s
-      ∙ sets-then (line name id) rest out (45 * id) (45 * (id + 1)) (omega arith)
-      ∙ ap (λ (k : ℕ). sets out (45 * id) (cat (line name) (range id k))) m
+      let m : suc (n - (i + 1)) ≡ n - i = omega arith in
+      let s : first + (i + 1) ≡ suc id = omega arith in
+      let rest = lines name (suc id) (n - (i + 1)) in
+      ap (λ (l : List ℕ). sets l (45 * (i + 1)) (lines name (first + (i + 1)) (n - (i + 1)))) e
+      ∙ ap (λ (k : ℕ). sets (sets out (45 * i) (line name id)) (45 * (i + 1)) (lines name k (n - (i + 1)))) s
+      ∙ sets-then (line name id) rest out (45 * i) (45 * (i + 1)) (omega arith)
+      ∙ ap (λ (k : ℕ). sets out (45 * i) (lines name id k)) m
 
   -- no line is left
-  pub lines-end : (out : List ℕ) (id n : ℕ) → n ≤ id → sets out (45 * id) (cat (line name) (range id (n - id))) ≡ out
-  unfolding cat range
-  lines-end out id n h = let z : n - id ≡ 0 = omega arith in ap (λ (k : ℕ). sets out (45 * id) (cat (line name) (range id k))) z
+  pub lines-end : (out : List ℕ) (first i n : ℕ) → n ≤ i → sets out (45 * i) (lines name (first + i) (n - i)) ≡ out
+  unfolding lines cat range
+  lines-end out first i n h = let z : n - i ≡ 0 = omega arith in ap (λ (k : ℕ). sets out (45 * i) (lines name (first + i) k)) z
 
--- ---- the call, for an image with n lines
+-- ---- the call, for n lines from `first` on
 
-module _ (image out : List ℕ) (n : ℕ) (e : n ≡ upperHint image 0) where
-  room : ltb (length out) (pageLength image) ≡ ltb (length out) (45 * n)
-  room = ap (λ (k : ℕ). ltb (length out) (45 * k)) (sym e)
-
-  pub too-short : length out < 45 * n → (refusal 12 ≡ printing image (length out)) × (out ≡ afterPage image out)
-  unfolding printing afterPage
+module _ (name : ℕ → Option (List ℕ)) (first n : ℕ) (out : List ℕ) where
+  pub too-short : length out < 45 * n → (refusal 12 ≡ printingLines n (length out)) × (out ≡ afterLines name first n out)
+  unfolding printingLines afterLines
   too-short h =
-      let t : ltb (length out) (pageLength image) ≡ true = room ∙ lt-ltb (length out) (45 * n) h in (
-        sym (ap (λ (b : Bool). cond b (refusal 12) (value (pageLength image))) t),
-        sym (ap (λ (b : Bool). cond b out (pageOf image ++ drop (pageLength image) out)) t),
+      let t : ltb (length out) (45 * n) ≡ true = lt-ltb (length out) (45 * n) h in (
+        sym (ap (λ (b : Bool). cond b (refusal 12) (value (45 * n))) t),
+        sym (ap (λ (b : Bool). cond b out (lines name first n ++ drop (45 * n) out)) t),
       )
 
-  -- the page stands in front of what was behind it
-  in-front : 45 * n ≤ length out → sets out 0 (page (nameGiven image) n) ≡ pageOf image ++ drop (pageLength image) out
-  unfolding pageOf
+  -- the lines stand in front of what was behind them
+  in-front : 45 * n ≤ length out → sets out 0 (lines name first n) ≡ lines name first n ++ drop (45 * n) out
   in-front h =
-      let w = length-page (nameGiven image) n in
-      let k : 0 + length (page (nameGiven image) n) ≡ 45 * n = omega arith in
-      sets-eq (page (nameGiven image) n) out 0 (omega arith)
-      ∙ ap (λ (m : ℕ). page (nameGiven image) n ++ drop m out) k
-      ∙ ap (λ (m : ℕ). page (nameGiven image) m ++ drop (45 * m) out) e
+      let w = length-lines name first n in
+      let k : 0 + length (lines name first n) ≡ 45 * n = omega arith in
+      sets-eq (lines name first n) out 0 (omega arith) ∙ ap (λ (m : ℕ). lines name first n ++ drop m out) k
 
-  pub all-printed : (out₁ : List ℕ) → 45 * n ≤ length out → out₁ ≡ sets out 0 (page (nameGiven image) n)
-      → (value (45 * n) ≡ printing image (length out)) × (out₁ ≡ afterPage image out)
-  unfolding printing afterPage
+  pub all-printed : (out₁ : List ℕ) → 45 * n ≤ length out → out₁ ≡ sets out 0 (lines name first n)
+      → (value (45 * n) ≡ printingLines n (length out)) × (out₁ ≡ afterLines name first n out)
+  unfolding printingLines afterLines
   all-printed out₁ h p =
-      let f : ltb (length out) (pageLength image) ≡ false = room ∙ le-ltb (length out) (45 * n) h in (
-        ap (λ (k : ℕ). value (45 * k)) e ∙ sym (ap (λ (b : Bool). cond b (refusal 12) (value (pageLength image))) f),
-        p ∙ in-front h ∙ sym (ap (λ (b : Bool). cond b out (pageOf image ++ drop (pageLength image) out)) f),
+      let f : ltb (length out) (45 * n) ≡ false = le-ltb (length out) (45 * n) h in (
+        sym (ap (λ (b : Bool). cond b (refusal 12) (value (45 * n))) f),
+        p ∙ in-front h ∙ sym (ap (λ (b : Bool). cond b out (lines name first n ++ drop (45 * n) out)) f),
       )
+
+-- ---- the calls, for an image of that back size
+
+pub whole-page : (image out out₁ : List ℕ) (size : ℕ) (r : Outcome ℕ) → size ≡ upperHint image 0
+    → r ≡ printingLines size (length out) → out₁ ≡ afterLines (nameGiven image) 0 size out
+    → (r ≡ printing image (length out)) × (out₁ ≡ afterPage image out)
+unfolding printing afterPage
+whole-page image out out₁ size r e p q =
+    (p ∙ ap (λ (k : ℕ). printingLines k (length out)) e, q ∙ ap (λ (k : ℕ). afterLines (nameGiven image) 0 k out) e)
+
+pub part-of-page : (image out out₁ : List ℕ) (first count size n : ℕ) (r : Outcome ℕ) → size ≡ upperHint image 0 → n ≡ min count (size - first)
+    → r ≡ printingLines n (length out) → out₁ ≡ afterLines (nameGiven image) first n out
+    → (r ≡ partPrinting image first count (length out)) × (out₁ ≡ afterPart image first count out)
+unfolding partPrinting afterPart
+part-of-page image out out₁ first count size n r e m p q =
+    let w : n ≡ partLines image first count = m ∙ ap (λ (k : ℕ). min count (k - first)) e in
+    (p ∙ ap (λ (k : ℕ). printingLines k (length out)) w, q ∙ ap (λ (k : ℕ). afterLines (nameGiven image) first k out) w)

@@ -1,5 +1,5 @@
 -- The theorem `printed-page` (`specs/PrintedPage`). Assumes nothing.
-use Prim.Native.Nat.{ℕ, _+_, _*_, _^_, _≤_, _<_}
+use Prim.Native.Nat.{ℕ, _+_, _*_, _-_, _^_, _≤_, _<_, min}
 use native.Mathlib.Omega.{arith}
 use native.Mathlib.Nat.{zero-add}
 use mathlib.Core.Path.{_≡_, refl, sym, ap, subst, _∙_}
@@ -18,11 +18,11 @@ use Rattle.image.proofs.Lists.{cat-run, length-range, getD-range}
 use Rattle.image.proofs.At.{At, at-whole, at-same, at-equal, at-part, at-take}
 use Rattle.reader.specs.Naming.{nameGiven}
 use Rattle.reader.specs.IdWalk.{upperHint}
-use Rattle.page.specs.Page.{idField, nameField, line, page}
-use Rattle.page.specs.Call.{pageOf, pageLength, printing, afterPage}
+use Rattle.page.specs.Page.{idField, nameField, line, lines, page}
+use Rattle.page.specs.Call.{pageOf, pageLength, printing, afterPage, partOf}
 use Rattle.page.specs.PrintedPage.{PrintedPage, Plain, readFrom}
 use Rattle.page.proofs.Fields.{length-number, length-field, length-line}
-use Rattle.page.proofs.Pages.{length-page}
+use Rattle.page.proofs.Pages.{length-page, lines-split, behind-part}
 use Rattle.page.proofs.Printable.{all-at, front, plain-front, printable-lines}
 use Rattle.page.proofs.IdFields.{read-number}
 
@@ -88,11 +88,29 @@ alike a b e h =
     let g = line (nameGiven b) in
     cat-run f g 0 (upperHint a 0) (λ i k. same-line (nameGiven a) (nameGiven b) (0 + i) (h (0 + i) (omega arith))) ∙ ap (λ (n : ℕ). cat g (range 0 n)) e
 
+-- ---- the page in parts
+
+whole : (image : List ℕ) (count : ℕ) → upperHint image 0 ≤ count → partOf image 0 count ≡ pageOf image
+unfolding partOf pageOf
+whole image count h =
+    let e : min count (upperHint image 0 - 0) ≡ upperHint image 0 = omega arith in
+    ap (lines (nameGiven image) 0) e
+
+joined : (image : List ℕ) (first a b : ℕ) → partOf image first (a + b) ≡ partOf image first a ++ partOf image (first + a) b
+unfolding partOf
+joined image first a b =
+    let size = upperHint image 0 in
+    let f = nameGiven image in
+    let m = min a (size - first) in
+    let k = min b (size - (first + a)) in
+    let e : min (a + b) (size - first) ≡ m + k = omega arith in
+    ap (lines f first) e ∙ lines-split f first m k ∙ ap (λ (l : List ℕ). lines f first m ++ l) (behind-part f (size - first) first a k (omega arith))
+
 -- ---- the output
 
 module _ (image out : List ℕ) where
   written : pageLength image ≤ length out → afterPage image out ≡ pageOf image ++ drop (pageLength image) out
-  unfolding afterPage
+  unfolding afterPage pageOf
   written h = ap (λ (t : Bool). cond t out (pageOf image ++ drop (pageLength image) out)) (le-ltb (length out) (pageLength image) h)
 
   in-front : pageLength image ≤ length out → take (pageLength image) (afterPage image out) ≡ pageOf image
@@ -102,7 +120,7 @@ module _ (image out : List ℕ) where
   behind h = ap (drop (pageLength image)) (written h) ∙ drop-at (pageOf image) (drop (pageLength image) out) (pageLength image) (page-length image)
 
   unwritten : printing image (length out) ≡ refusal 12 → afterPage image out ≡ out
-  unfolding printing afterPage
+  unfolding printing afterPage pageOf
   unwritten e = go (ltb (length out) (pageLength image)) e
     where
       go : (t : Bool) → cond t (refusal 12) (value (pageLength image)) ≡ refusal 12 → cond t out (pageOf image ++ drop (pageLength image) out) ≡ out
@@ -119,6 +137,8 @@ printed-page =
       page-length = page-length;
       line-stands = line-stands;
       page-printable = page-printable;
+      whole = whole;
+      joined = joined;
       alike = alike;
       in-front = in-front;
       behind = behind;

@@ -31,6 +31,11 @@ nameField none = replicate 32 45 ++ (32 ∷ [])
 unfoldable pub line : (ℕ → Option (List ℕ)) → ℕ → List ℕ
 line name id = idField id ++ (32 ∷ []) ++ nameField (name id) ++ (10 ∷ [])
 
--- "every id below back size, in rising order", "gaps included"
+-- the lines of `count` ids from `first` on, in rising order, "gaps included"
+unfoldable pub lines : (ℕ → Option (List ℕ)) → ℕ → ℕ → List ℕ
+lines name first count = cat (line name) (range first count)
+
+-- "every id below back size"
 unfoldable pub page : (ℕ → Option (List ℕ)) → ℕ → List ℕ
-page name size = cat (line name) (range 0 size)
+unfolding lines
+page name size = lines name 0 size

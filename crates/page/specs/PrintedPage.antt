@@ -4,7 +4,7 @@ use Prim.Native.Nat.{ℕ, _+_, _*_, _-_, _^_, _≤_, _<_}
 use mathlib.Core.Path.{_≡_}
 use mathlib.Core.Logic.{_⊎_}
 use mathlib.Core.Bool.{cond}
-use mathlib.Core.List.{List, [], _∷_}
+use mathlib.Core.List.{List, [], _∷_, _++_}
 use mathlib.Core.Option.{Option}
 use lib.ListN.{length, getD, take, drop}
 use lib.Dec.{eqb}
@@ -12,7 +12,7 @@ use Rattle.jhash.specs.Outcome.{refusal}
 use Rattle.reader.specs.Naming.{nameGiven}
 use Rattle.reader.specs.IdWalk.{upperHint}
 use Rattle.page.specs.Page.{line}
-use Rattle.page.specs.Call.{pageOf, pageLength, printing, afterPage}
+use Rattle.page.specs.Call.{pageOf, pageLength, printing, afterPage, partOf}
 
 -- bytes 32 to 126 print as themselves
 abbrev pub Plain : ℕ → Type 0
@@ -38,6 +38,9 @@ pub record PrintedPage : Type 0 where
   -- "a function of the naming rule and the back size": images that name every id alike and have the same back size print the same page
   pub alike : (a b : List ℕ) → upperHint a 0 ≡ upperHint b 0 → ((id : ℕ) → id < upperHint a 0 → nameGiven a id ≡ nameGiven b id)
       → pageOf a ≡ pageOf b
+  -- the page in parts: one of as many ids as there are is the whole page, and two that follow each other are the part of both
+  pub whole : (image : List ℕ) (count : ℕ) → upperHint image 0 ≤ count → partOf image 0 count ≡ pageOf image
+  pub joined : (image : List ℕ) (first a b : ℕ) → partOf image first (a + b) ≡ partOf image first a ++ partOf image (first + a) b
   -- an output with room holds the page in front, and "bytes past the page keep their content"; one that is refused is "unwritten"
   pub in-front : (image out : List ℕ) → pageLength image ≤ length out → take (pageLength image) (afterPage image out) ≡ pageOf image
   pub behind : (image out : List ℕ) → pageLength image ≤ length out → drop (pageLength image) (afterPage image out) ≡ drop (pageLength image) out

@@ -1,4 +1,4 @@
--- A lookup reads no more buckets than its table has, and each of them lies in the image. Assumes nothing.
+-- A lookup reads no more buckets than its table has, and each of them lies in the image (`specs/Bounds`). Assumes nothing.
 use Prim.Native.Nat.{ℕ, zero, suc, _+_, _*_, _/_, _≤_, _<_, zero-le}
 use native.Mathlib.Omega.{arith}
 use native.Mathlib.Nat.{mod-lt}
@@ -14,6 +14,7 @@ use Rattle.image.proofs.Buckets.{length-order}
 use Rattle.image.specs.Head.{tableAt, bucketNumber}
 use Rattle.reader.specs.Lookup.{Lookup, nothing, Seen, pass, ends, hit, see, decide, probe, searchTable, unsearched, lookupHash, lookup}
 use Rattle.reader.specs.Cases.{reads}
+use Rattle.reader.specs.Bounds.{Bounds}
 
 -- ---- how many buckets are read
 
@@ -85,3 +86,14 @@ bucket-inside image h o n i fits l =
   where
     inside : (k : ℕ) → k < n → o + 8 * k + 8 ≤ length image
     inside k b = omega arith
+
+-- ---- all of it
+
+pub bounds : Bounds
+bounds =
+    record {
+      search-reads = search-reads;
+      lookup-reads = lookup-reads;
+      lookup-unsearched = lookup-unsearched;
+      bucket-inside = bucket-inside;
+    }

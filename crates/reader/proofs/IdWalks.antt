@@ -1,4 +1,4 @@
--- What a walk lists: the ids from 0 on up to the first without a name, each with the place of its name; then it has ended for good. Assumes nothing.
+-- What a walk lists, and that it ends for good (`specs/Walks`). Assumes nothing.
 use Prim.Native.Nat.{ℕ, zero, suc, _+_, _-_, _≤_, _<_, zero-le}
 use native.Mathlib.Omega.{arith}
 use native.Mathlib.Numerals.{add-one}
@@ -13,6 +13,7 @@ use Rattle.image.specs.Bytes.{range}
 use Rattle.image.specs.Head.{backSizeAt}
 use Rattle.reader.specs.Naming.{Naming, place, unnamed, noBack, naming}
 use Rattle.reader.specs.IdWalk.{Step, done, stepOf, step, upperHint, standsAfter, steps}
+use Rattle.reader.specs.Walks.{First, Ends, Walks}
 use Rattle.reader.proofs.Namings.{named, never, hint-back}
 
 -- ---- one step
@@ -39,12 +40,6 @@ stays-ended image n e (suc m) =
     ap (λ (s : Step). s ∷ steps image (standsAfter n s) m) e ∙ ap (λ (l : List Step). done ∷ l) (stays-ended image n e m)
 
 -- ---- what it lists
-
--- k is the first id from n on without a name
-pub record First (image : List ℕ) (n k : ℕ) : Type 0 where
-  pub from : n ≤ k
-  pub without : naming image k ≡ unnamed
-  pub each : (i : ℕ) → n ≤ i → i < k → naming image i ≡ unnamed → ⊥
 
 -- the first j steps, where j ids have names
 pub listed : (image : List ℕ) (j n r : ℕ) → ((i : ℕ) → n ≤ i → i < n + j → naming image i ≡ unnamed → ⊥)
@@ -73,11 +68,6 @@ walk-lists image k first r =
     (ap (λ (n : ℕ). steps image n r) e ∙ stays-ended image k (step-unnamed image k (first .without)) r)
 
 -- ---- there is always an end, at the back size or before it
-
-pub record Ends (image : List ℕ) : Type 0 where
-  pub at : ℕ
-  pub first : First image 0 at
-  pub within : at ≤ backSizeAt image
 
 unnamed? : (x : Naming) → Dec (x ≡ unnamed)
 unnamed? (place s n) = no (λ e. never s n (sym e))
@@ -118,3 +108,8 @@ hint-holds image n k first = elim (decLt n k) [
       omega (arith, e, b .1)
   | no p ↦ omega arith
 ]
+
+-- ---- all of it
+
+pub walks : Walks
+walks = record { walk-lists = walk-lists; stays-ended = stays-ended; ends = ends; hint-holds = hint-holds }

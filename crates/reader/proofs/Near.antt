@@ -10,7 +10,8 @@ use Rattle.image.specs.Bytes.{word}
 use Rattle.image.specs.Tables.{start, next}
 use Rattle.image.proofs.Turns.{next-more, next-first}
 use Rattle.reader.specs.Lookup.{nothing, pass, ends, searchTable}
-use Rattle.reader.proofs.Searches.{see-by, rest, rest-start, rest-seen}
+use Rattle.reader.specs.steps.Resume.{rest}
+use Rattle.reader.proofs.Searches.{see-by, rest-start, rest-seen}
 
 -- ---- among fewer than three buckets a search comes back to where it was
 

@@ -21,7 +21,8 @@ use Rattle.reader.specs.Open.{someLeaves, halves, opening}
 use Rattle.reader.specs.Lookup.{found, nothing, Seen, pass, hit, seeEntry, see, decide, lookup}
 use Rattle.reader.specs.QuayReads.{rowOf, headOf, c9, c10, taken, OneTaken, own, ReadsHold}
 use Rattle.reader.proofs.Opens.{opening-by}
-use Rattle.reader.proofs.Searches.{see-by, rest, rest-start, rest-over, rest-seen, lookup-hash-by, lookup-by}
+use Rattle.reader.specs.steps.Resume.{rest}
+use Rattle.reader.proofs.Searches.{see-by, rest-start, rest-over, rest-seen, lookup-hash-by, lookup-by}
 
 -- ---- the rows of a head one after the other, so that they are computed in one pass
 

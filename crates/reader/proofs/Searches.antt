@@ -1,10 +1,11 @@
 -- The search along the buckets, a turn at a time. Assumes nothing.
-use Prim.Native.Nat.{ℕ, suc, _+_, _*_, _-_, _≤_, _<_}
+use Prim.Native.Nat.{ℕ, suc, _+_, _*_, _-_, _/_, _%_, _≤_, _<_}
 use native.Mathlib.Omega.{arith}
+use native.Mathlib.Decide.{ℕ-discrete}
 use mathlib.Core.Path.{_≡_, refl, sym, ap, ap₂, _∙_}
 use mathlib.Core.Bool.{Bool, true, false, cond, _||_}
 use mathlib.Core.List.{List}
-use borrow.Author.Tests.{lt-ltb, le-ltb, leb-false, eq-eqb, ne-eqb}
+use borrow.Author.Tests.{lt-ltb, le-ltb, ltb-false, leb-false, eq-eqb, ne-eqb}
 use lib.Dec.{eqb, ltb, leb}
 use lib.ListN.{length, take, drop}
 use Rattle.jhash.specs.NameHash.{hashOf}
@@ -13,6 +14,7 @@ use Rattle.image.specs.Tables.{tableOf, start, next, order}
 use Rattle.image.specs.Head.{tableAt, bucketNumber}
 use Rattle.image.specs.Stored.{nameOf, broken}
 use Rattle.reader.specs.Lookup.{Lookup, nothing, Seen, pass, ends, hit, hitAt, seeEntry, see, decide, probe, unsearched, searchTable, lookupHash, lookupBy, lookup}
+use Rattle.reader.specs.steps.Resume.{rest, bucketAfter, searchFrom, lookupFrom}
 
 -- ---- what is seen in an entry and in a bucket
 
@@ -37,10 +39,6 @@ module _ (image name : List ℕ) (at : ℕ) where
       ∙ ap (λ (k : ℕ). cond (eqb k 0) ends (cond (eqb (word image b) h) (seeEntry image name k) pass)) ea
 
 -- ---- the search
-
--- what is left of the search in the table of n buckets at o, before bucket k and with m buckets left
-abbrev pub rest : List ℕ → List ℕ → ℕ → ℕ → ℕ → ℕ → ℕ → Lookup
-rest image name h o n k m = probe (λ (j : ℕ). see image name h (o + 8 * j)) (order n m k) (n - m)
 
 module _ (image name : List ℕ) (h o n : ℕ) where
   pub rest-start : rest image name h o n (start h n) n ≡ searchTable image name h o n
@@ -137,3 +135,65 @@ lookup-own image name h e = ap (λ (x : Lookup). cond (ltb (length image) 2072) 
         → cond t (nothing 0) (lookupHash image name h) ≡ cond t (nothing 0) (lookupHash image name (hashOf name))
     go true q = refl
     go false q = ap (lookupHash image name) (e (leb-false 4294967295 (length name) q))
+
+-- ---- the rest of a lookup after c buckets
+
+pub from-unread : (image name : List ℕ) (h c : ℕ) → unsearched image (tableOf h) ≡ true → nothing 0 ≡ searchFrom image name h c
+unfolding searchFrom
+from-unread image name h c e = rw e
+
+pub from-read : (image name : List ℕ) (h c at n : ℕ) → unsearched image (tableOf h) ≡ false → at ≡ tableAt image (tableOf h) → n ≡ bucketNumber image (tableOf h)
+    → rest image name h at n (bucketAfter h n c) (n - c) ≡ searchFrom image name h c
+unfolding searchFrom
+from-read image name h c at n e ea en = rw e (λ i. rest image name h (ea i) (en i) (bucketAfter h (en i) c) (en i - c))
+
+-- after all of a table's n buckets, 0 where none is read
+pub from-over : (image name : List ℕ) (h c n : ℕ) → (n ≡ 0 → unsearched image (tableOf h) ≡ true)
+    → (0 < n → (unsearched image (tableOf h) ≡ false) × (n ≡ bucketNumber image (tableOf h))) → n ≤ c → nothing n ≡ searchFrom image name h c
+from-over image name h c n none some l =
+    elim (ℕ-discrete n 0) [
+      | yes z ↦ ap nothing z ∙ from-unread image name h c (none z)
+      | no z ↦
+          let row = some (omega arith) in
+          let e : n ≡ n - (n - c) = omega arith in
+          ap nothing e ∙ rest-over image name h (tableAt image (tableOf h)) n (bucketAfter h n c) (n - c) (omega arith)
+          ∙ from-read image name h c (tableAt image (tableOf h)) n (row .0) refl (row .1)
+    ]
+
+-- before the first bucket it is the whole
+module _ (image name : List ℕ) (h : ℕ) where
+  abbrev o : ℕ
+  o = tableAt image (tableOf h)
+
+  abbrev size : ℕ
+  size = bucketNumber image (tableOf h)
+
+  all-left : rest image name h o size (bucketAfter h size 0) (size - 0) ≡ searchTable image name h o size
+  all-left =
+      let x : h / 256 + 0 ≡ h / 256 = omega arith in
+      let f : size - 0 ≡ size = omega arith in
+      (λ i. rest image name h o size (x i % size) (f i)) ∙ rest-start image name h o size
+
+  pub from-start : searchFrom image name h 0 ≡ lookupHash image name h
+  from-start = go (unsearched image (tableOf h)) refl
+    where
+      go : (t : Bool) → unsearched image (tableOf h) ≡ t → searchFrom image name h 0 ≡ lookupHash image name h
+      go true e = sym (from-unread image name h 0 e) ∙ lookup-unread image name h e
+      go false e = sym (from-read image name h 0 o size e refl refl) ∙ all-left ∙ lookup-read image name h o size e refl refl
+
+pub from-by : (image name : List ℕ) (h c : ℕ) (s l : Bool) → ltb (length image) 2072 ≡ s → leb 4294967295 (length name) ≡ l
+    → cond s (nothing 0) (cond l (nothing 0) (searchFrom image name h c)) ≡ lookupFrom image name h c
+unfolding lookupFrom
+from-by image name h c s l es el = sym (λ i. cond (es i) (nothing 0) (cond (el i) (nothing 0) (searchFrom image name h c)))
+
+-- where the search answers the whole search's answer, the lookup does
+pub from-whole : (image name : List ℕ) (h c : ℕ) → (2072 ≤ length image → searchFrom image name h c ≡ lookupHash image name h)
+    → lookupFrom image name h c ≡ lookupBy image name h
+unfolding lookupFrom lookupBy
+from-whole image name h c e = go (ltb (length image) 2072) refl
+  where
+    go : (t : Bool) → ltb (length image) 2072 ≡ t
+        → cond t (nothing 0) (cond (leb 4294967295 (length name)) (nothing 0) (searchFrom image name h c))
+        ≡ cond t (nothing 0) (cond (leb 4294967295 (length name)) (nothing 0) (lookupHash image name h))
+    go true q = refl
+    go false q = ap (cond (leb 4294967295 (length name)) (nothing 0)) (e (ltb-false (length image) 2072 q))

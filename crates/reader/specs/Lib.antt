@@ -6,4 +6,7 @@ pub mod Naming
 pub mod IdWalk
 pub mod Cases
 pub mod FoundAt
+pub mod Bounds
+pub mod Walks
 pub mod QuayReads
+pub mod steps

@@ -67,12 +67,13 @@ lookupHash image name h =
     cond (unsearched image (tableOf h)) (nothing 0)
     (searchTable image name h (tableAt image (tableOf h)) (bucketNumber image (tableOf h)))
 
--- an image under 2,072 bytes, a name of 4,294,967,295 bytes or more
-unfoldable pub lookup : List ℕ → List ℕ → Lookup
-lookup image name =
-    cond (ltb (length image) headSize) (nothing 0) (cond (leb 4294967295 (length name)) (nothing 0) (lookupHash image name (hashOf name)))
-
--- the same with a hash h that is at hand; by the name's own hash it is the lookup
+-- with the name's hash h: nothing after 0 reads in an image under 2,072 bytes, and for a name of 4,294,967,295 bytes or
+-- more
 unfoldable pub lookupBy : List ℕ → List ℕ → ℕ → Lookup
 lookupBy image name h =
-    cond (ltb (length image) headSize) (nothing 0) (cond (leb 4294967295 (length name)) (nothing 0) (lookupHash image name h))
+    cond (ltb (length image) headSize) (nothing 0)
+    (cond (leb 4294967295 (length name)) (nothing 0) (lookupHash image name h))
+
+unfoldable pub lookup : List ℕ → List ℕ → Lookup
+unfolding lookupBy
+lookup image name = lookupBy image name (hashOf name)

@@ -1,13 +1,14 @@
 // Looking up a name (reference `to_id`): what a bucket shows, the search along the buckets, and the call.
 ghost use mathlib.Core.Path.{_≡_};
-ghost use Prim.Native.Nat.{ℕ, _+_, _*_, _<_, _≤_};
+ghost use Prim.Native.Nat.{ℕ, _+_, _*_, _/_, _<_, _≤_};
 ghost use mathlib.Core.Bool.{true, false};
 ghost use mathlib.Core.List.{List};
 ghost use lib.ListN.{length};
 ghost use Rattle.image.specs.Tables.{tableOf, start, next};
 ghost use Rattle.image.specs.Head.{tableAt, bucketNumber};
-ghost use Rattle.reader.specs.Lookup.{nothing, seeEntry, see, unsearched, searchTable, lookupHash, lookupBy, lookup};
+ghost use Rattle.reader.specs.Lookup.{nothing, seeEntry, see, unsearched, searchTable, lookupHash, lookup};
 ghost use Rattle.reader.specs.Cases.{seenOf, lookupOf};
+ghost use Rattle.reader.specs.steps.Resume.{rest, bucketAfter, lookupFrom};
 use super::Found;
 use super::HEAD_SIZE;
 use super::Hit;
@@ -107,38 +108,49 @@ fn near_empty(image: &[u8], h: u32, at: u32, n: u32, k: u32) -> u32
     )
 }
 
-// The search for a name in the table of n buckets at `at`: from bucket (hash / 256) modulo n on by one, from the last to
-// the first, and no further than n buckets.
-fn search(image: &[u8], name: &[u8], h: u32, at: u32, n: u32) -> ToId
-    requires { ⌜ (0 < n) × (at + 8 * n ≤ length (now image)) ⌝ }
-    ensures { λ r. ⌜ lookupOf r ≡ searchTable (now (image .entry)) (now (name .entry)) h at n ⌝ }
+// The search for a name in the table of n buckets at `at`, where m buckets are left: from bucket `first` on by one,
+// from the last to the first.
+fn search_rest(image: &[u8], name: &[u8], h: u32, at: u32, n: u32, first: u32, m: u32) -> ToId
+    requires { ⌜ (first < n) × (m ≤ n) × (at + 8 * n ≤ length (now image)) ⌝ }
+    ensures { λ r. ⌜ lookupOf r ≡ rest (now (image .entry)) (now (name .entry)) h at n first m ⌝ }
 {
-    let mut k = start(h, n);
-    let ended_after = near_empty(image, h, at, n, k);
-    if ended_after != 0 {
-        return ToId::Nothing {
-            buckets: ended_after,
-        };
-    }
-    let mut left = n;
+    let mut k = first;
+    let mut left = m;
     while 0 < left {
         left -= 1;
+        let read = n - left;
         match see(image, name, h, at as usize + 8 * (k as usize)) {
             Seen::Pass => {}
             Seen::Ends => {
-                return ToId::Nothing { buckets: n - left };
+                return ToId::Nothing { buckets: read };
             }
             Seen::Hit(hit) => {
                 return ToId::Found(Found {
                     id: hit.id,
-                    buckets: n - left,
+                    buckets: read,
                     offset: hit.offset,
                 });
             }
         }
         k = next_bucket(k, n);
     }
-    ToId::Nothing { buckets: n - left }
+    ToId::Nothing { buckets: n }
+}
+
+// The search for a name in the table of n buckets at `at`: from bucket (hash / 256) modulo n on by one, from the last to
+// the first, and no further than n buckets.
+fn search(image: &[u8], name: &[u8], h: u32, at: u32, n: u32) -> ToId
+    requires { ⌜ (0 < n) × (at + 8 * n ≤ length (now image)) ⌝ }
+    ensures { λ r. ⌜ lookupOf r ≡ searchTable (now (image .entry)) (now (name .entry)) h at n ⌝ }
+{
+    let k = start(h, n);
+    let ended_after = near_empty(image, h, at, n, k);
+    if ended_after != 0 {
+        return ToId::Nothing {
+            buckets: ended_after,
+        };
+    }
+    search_rest(image, name, h, at, n, k, n)
 }
 
 // The table that a hash is searched in, its offset and bucket number. The number is 0 where no bucket is read: offset 0, bucket
@@ -191,9 +203,19 @@ pub fn to_id(image: &[u8], name: &[u8]) -> ToId
     }
 }
 
-// The same for a name whose hash is h, for a caller that has hashed it already.
-pub fn to_id_by(image: &[u8], name: &[u8], h: u32) -> ToId
-    ensures { λ r. ⌜ lookupOf r ≡ lookupBy (now (image .entry)) (now (name .entry)) h ⌝ }
+// The bucket that a search in a table of n buckets reads after c others.
+pub fn bucket_after(h: u32, c: u32, n: u32) -> u32
+    requires { ⌜ (0 < n) × (h / 256 + c < 4294967296) ⌝ }
+    ensures { λ r. ⌜ (r ≡ bucketAfter h n c) × (r < n) ⌝ }
+{
+    (h / 256 + c) % n
+}
+
+// The rest of a lookup, for a caller that has hashed the name and read the first c buckets of its search: h is the
+// hash. The number of buckets in the answer counts those too.
+pub fn search_from(image: &[u8], name: &[u8], h: u32, c: u32) -> ToId
+    requires { ⌜ h / 256 + c < 4294967296 ⌝ }
+    ensures { λ r. ⌜ lookupOf r ≡ lookupFrom (now (image .entry)) (now (name .entry)) h c ⌝ }
 {
     if image.len() < HEAD_SIZE {
         return ToId::Nothing { buckets: 0 };
@@ -201,5 +223,11 @@ pub fn to_id_by(image: &[u8], name: &[u8], h: u32) -> ToId
     if 4294967295 <= name.len() {
         return ToId::Nothing { buckets: 0 };
     }
-    to_id_hashed(image, name, h)
+    let table = table_of(image, h);
+    let n = table.n;
+    if n <= c {
+        return ToId::Nothing { buckets: n };
+    }
+    let k = bucket_after(h, c, n);
+    search_rest(image, name, h, table.at, n, k, n - c)
 }

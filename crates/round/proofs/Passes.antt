@@ -10,8 +10,8 @@ use lib.Seq.{sets, getD-set-other}
 use Rattle.reader.specs.Lookup.{Lookup, lookupBy, lookup}
 use Rattle.round.specs.RoundNames.{names, nth}
 use Rattle.round.specs.Round.{answerWords}
-use Rattle.round.specs.steps.Telling.{Keys, Listed, Kept}
-use Rattle.round.specs.steps.Searching.{Goes, Decided, Right}
+use Rattle.round.specs.steps.Telling.{Keys, Listed}
+use Rattle.round.specs.steps.Searching.{Goes, Decided, Right, Answered}
 use Rattle.joined.proofs.NameEnds.{length-names}
 use Rattle.round.proofs.Finds.{length-words, by-key}
 use Rattle.round.proofs.GrowingLists.{listed-old, listed-new}
@@ -84,31 +84,31 @@ module _ (image : List ℕ) (xs : List (List ℕ)) (l : List ℕ) (i : ℕ) (z :
       less : (y ≡ x → ⊥) → y < x
       less f = elim (ℕ-discrete y x) [ yes g ↦ absurd (f g) | no g ↦ omega arith ]
 
--- the first x listed names have their answers; what was right stays so, and what stands behind the places is kept
-pub record Finding (image bytes ends list l₀ l : List ℕ) (x : ℕ) : Type 0 where
-  pub kept : Kept l₀ (length ends) l
-  pub stays : (i : ℕ) → Right image (names bytes ends) l₀ i → Right image (names bytes ends) l i
-  pub passed : (y : ℕ) → y < x → Right image (names bytes ends) l (getD list y 0)
-
 module _ (image bytes ends list l₀ : List ℕ) where
-  pub finding-begins : Finding image bytes ends list l₀ l₀ 0
-  finding-begins = record { kept = λ p h. refl; stays = λ i r. r; passed = λ y h. absurd (omega arith) }
+  pub finding-begins : Answered image bytes ends list l₀ l₀ 0
+  finding-begins = record { kept = λ p h. refl; stays = λ i r. r; stored = λ y h. absurd (omega arith) }
 
   -- the answer of one more, which was looked up with its key
   pub finding-turn : (keys l after name : List ℕ) (x : ℕ) (v : Lookup) → getD list x 0 < length ends → 4 * length ends ≤ length l
       → Keys (names bytes ends) keys → name ≡ nth (names bytes ends) (getD list x 0) → v ≡ lookupBy image name (getD keys (getD list x 0) 0)
-      → after ≡ sets l (4 * getD list x 0) (answerWords v) → Finding image bytes ends list l₀ l x → Finding image bytes ends list l₀ after (x + 1)
+      → after ≡ sets l (4 * getD list x 0) (answerWords v) → Answered image bytes ends list l₀ l x → Answered image bytes ends list l₀ after (x + 1)
   finding-turn keys l after name x v small space keyed is answer stored old =
       let xs = names bytes ends in
       let i = getD list x 0 in
       let room : 4 * i + 4 ≤ length l = omega arith in
       let own : v ≡ lookup image (nth xs i) = answer ∙ by-key image name (nth xs i) (getD keys i 0) is (keyed i (omega (arith, length-names bytes ends))) in
-      subst (λ (r : List ℕ). Finding image bytes ends list l₀ r (x + 1)) (sym stored)
+      subst (λ (r : List ℕ). Answered image bytes ends list l₀ r (x + 1)) (sym stored)
       (record {
         kept = kept-after l i (answerWords v) (length-words v) room l₀ (length ends) small (old .kept);
         stays = λ j h. right-stays image xs l i v own room j (old .stays j h);
-        passed = right-turn image xs l i v own room list x refl (old .passed);
+        stored = right-turn image xs l i v own room list x refl (old .stored);
       })
+
+-- after the last
+pub all-answered : (image bytes ends list before after : List ℕ) (x m : ℕ) → m ≤ x → Answered image bytes ends list before after x
+    → Answered image bytes ends list before after m
+all-answered image bytes ends list before after x m l a =
+    record { kept = a .kept; stays = a .stays; stored = λ y h. a .stored y (omega arith) }
 
 -- ---- from pass to pass
 

@@ -10,11 +10,12 @@ use borrow.Author.Tests.{eq-eqb, ne-eqb, eqb-true, eqb-false}
 use lib.Dec.{eqb}
 use lib.ListN.{length}
 use Rattle.image.specs.Bytes.{word}
-use Rattle.image.specs.Tables.{tableOf, start, next}
+use Rattle.image.specs.Tables.{tableOf, next}
 use Rattle.image.specs.Head.{tableAt, bucketNumber}
 use Rattle.image.proofs.Bools.{not-both, neither-first, neither-second}
-use Rattle.reader.specs.Lookup.{Lookup, Seen, pass, ends, hit, seeEntry, see, decide, unsearched, lookupHash}
-use Rattle.reader.proofs.Searches.{see-by, rest, rest-start, rest-seen, lookup-read}
+use Rattle.reader.specs.Lookup.{Seen, pass, ends, seeEntry, see, decide, unsearched, lookupHash}
+use Rattle.reader.specs.steps.Resume.{rest, bucketAfter, searchFrom}
+use Rattle.reader.proofs.Searches.{see-by, rest-seen, from-over, from-read, from-start}
 use Rattle.round.specs.steps.Searching.{Goes, seenAt, Decided}
 
 -- ---- whether a bucket is passed
@@ -37,28 +38,13 @@ module _ (met h entry : ℕ) where
 
 -- before the first bucket all is left
 pub goes-first : (image : List ℕ) (h : ℕ) → Goes image h 0
-goes-first image h head read some name =
-    let at = tableAt image (tableOf h) in
-    let n = bucketNumber image (tableOf h) in
-    let x : h / 256 + 0 ≡ h / 256 = omega arith in
-    let e : (h / 256 + 0) % n ≡ start h n = ap (λ (v : ℕ). v % n) x in
-    let f : n - 0 ≡ n = omega arith in
-    (λ i. rest image name h at n (e i) (f i)) ∙ rest-start image name h at n ∙ lookup-read image name h at n read refl refl
+goes-first image h head name = from-start image name h
 
 -- a table of m buckets, 0 where none is read, has no more than c
 pub goes-past : (image : List ℕ) (h c m : ℕ) → (m ≡ 0 → 2072 ≤ length image → unsearched image (tableOf h) ≡ true)
-    → (0 < m → m ≡ bucketNumber image (tableOf h)) → m ≤ c → Goes image h (c + 1)
-goes-past image h c m none some l head read more name =
-    elim (ℕ-discrete m 0) [
-      | yes z ↦ absurd (not-both (sym read ∙ none z head))
-      | no z ↦ absurd (omega (arith, some (omega arith)))
-    ]
-
--- an answer that is decided stays so, whatever the search would find else
-settled : (s : Seen) (c : ℕ) (other whole : Lookup) → decide s c other ≡ whole → decide s c whole ≡ whole
-settled pass c other whole e = refl
-settled ends c other whole e = e
-settled (hit h) c other whole e = e
+    → (0 < m → (unsearched image (tableOf h) ≡ false) × (m ≡ bucketNumber image (tableOf h))) → m ≤ c → Goes image h c → Goes image h (c + 1)
+goes-past image h c m none some l before head name =
+    sym (from-over image name h (c + 1) m (λ z. none z head) some (omega arith)) ∙ from-over image name h c m (λ z. none z head) some l ∙ before head name
 
 module _ (image : List ℕ) (h c at n k entry met : ℕ) (head : 2072 ≤ length image) (read : unsearched image (tableOf h) ≡ false)
     (ea : at ≡ tableAt image (tableOf h)) (en : n ≡ bucketNumber image (tableOf h)) (more : c < n) (ek : k ≡ (h / 256 + c) % n)
@@ -81,28 +67,30 @@ module _ (image : List ℕ) (h c at n k entry met : ℕ) (head : 2072 ≤ length
   hash : met ≡ word image (o + 8 * b)
   hash = em ∙ ap (word image) place
 
-  -- what is left by then
-  abbrev later : List ℕ → Lookup
-  later name = rest image name h o size (next size b) (size - c - 1)
+  -- what is left after this bucket
+  left-then : (name : List ℕ) → rest image name h o size (next size b) (size - c - 1) ≡ searchFrom image name h (c + 1)
+  left-then name =
+      let x : h / 256 + c + 1 ≡ h / 256 + (c + 1) = omega arith in
+      let e : next size b ≡ bucketAfter h size (c + 1) = mod-add-mod (h / 256 + c) size 1 ∙ ap (λ (v : ℕ). v % size) x in
+      let f : size - c - 1 ≡ size - (c + 1) = omega arith in
+      (λ i. rest image name h o size (e i) (f i)) ∙ from-read image name h (c + 1) o size read refl refl
 
-  turn : (name : List ℕ) → decide (see image name h (o + 8 * b)) (c + 1) (later name) ≡ lookupHash image name h
+  turn : (name : List ℕ) → decide (see image name h (o + 8 * b)) (c + 1) (searchFrom image name h (c + 1)) ≡ lookupHash image name h
   turn name =
       let some : 0 < size - c = omega (arith, en, more) in
       let all : size - c ≤ size = omega arith in
       let r : c + 1 ≡ size - (size - c - 1) = omega (arith, en, more) in
-      ap (λ (v : ℕ). decide (see image name h (o + 8 * b)) v (later name)) r
+      (λ i. decide (see image name h (o + 8 * b)) (r i) (sym (left-then name) i))
       ∙ rest-seen image name h o size b (size - c) (see image name h (o + 8 * b)) some all refl
-      ∙ before head read (omega (arith, en, more)) name
+      ∙ from-read image name h c o size read refl refl
+      ∙ before head name
 
   -- another hash: the search goes on
   pub passed-on : (met ≡ h → ⊥) → 0 < entry → Goes image h (c + 1)
-  passed-on other some head' read' more' name =
+  passed-on other some head' name =
       let apart : eqb (word image (o + 8 * b)) h ≡ false = ne-eqb (word image (o + 8 * b)) h (λ e. other (hash ∙ e)) in
       let seen : pass ≡ see image name h (o + 8 * b) = see-by image name entry h (o + 8 * b) false false offset (ne-eqb entry 0 (λ z. omega arith)) apart in
-      let x : h / 256 + c + 1 ≡ h / 256 + (c + 1) = omega arith in
-      let e : (h / 256 + (c + 1)) % size ≡ next size b = sym (mod-add-mod (h / 256 + c) size 1 ∙ ap (λ (v : ℕ). v % size) x) in
-      let f : size - (c + 1) ≡ size - c - 1 = omega arith in
-      (λ i. rest image name h o size (e i) (f i)) ∙ ap (λ (s : Seen). decide s (c + 1) (later name)) seen ∙ turn name
+      ap (λ (s : Seen). decide s (c + 1) (searchFrom image name h (c + 1))) seen ∙ turn name
 
   -- an empty bucket, or one with the hash
   shown : (0 < entry → met ≡ h) → (name : List ℕ) → seenAt image name entry ≡ see image name h (o + 8 * b)
@@ -121,7 +109,5 @@ module _ (image : List ℕ) (h c at n k entry met : ℕ) (head : 2072 ≤ length
   decided-here same =
       record {
         head = head;
-        by-entry = λ name.
-            settled (seenAt image name entry) (c + 1) (later name) (lookupHash image name h)
-            (ap (λ (s : Seen). decide s (c + 1) (later name)) (shown same name) ∙ turn name);
+        by-entry = λ name. ap (λ (s : Seen). decide s (c + 1) (searchFrom image name h (c + 1))) (shown same name) ∙ turn name;
       }

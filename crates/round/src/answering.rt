@@ -10,13 +10,13 @@ ghost use Rattle.reader.specs.Lookup.{lookupBy};
 ghost use Rattle.round.specs.RoundNames.{names, astray, nth};
 ghost use Rattle.round.specs.Round.{answerWords, bucketsOf};
 ghost use Rattle.round.specs.steps.Telling.{Keys, Has, Kept, Begun};
-ghost use Rattle.round.specs.steps.Searching.{Decided, Right};
+ghost use Rattle.round.specs.steps.Searching.{Decided, Right, Listing, AllDecided, AllGo, Answered};
 use super::searching::pass;
 use joined::name_of;
 use reader::Seen;
 use reader::ToId;
+use reader::lookup::search_from;
 use reader::lookup::see_entry;
-use reader::lookup::to_id_by;
 
 // How many buckets the passes read for each name.
 const PASSES: u32 = 5;
@@ -69,7 +69,8 @@ fn copy_answer(answers: &mut [u32], from: usize, at: usize)
     put_words(&mut *answers, at, found, id, buckets, offset);
 }
 
-// The answer of a name whose search came to the bucket with this offset after c buckets, stored at a place.
+// The answer of a name, the c-th bucket of whose search has this offset, stored at a place. An entry with another name
+// there leaves the search to go on.
 fn put_decided(
     image: &[u8],
     name: &[u8],
@@ -79,7 +80,7 @@ fn put_decided(
     answers: &mut [u32],
     at: usize,
 )
-    requires { ⌜ (at + 4 ≤ length (now answers)) × Decided (now image) h c offset ⌝ }
+    requires { ⌜ (at + 4 ≤ length (now answers)) × Decided (now image) h c offset × (c ≤ 512) ⌝ }
     ensures { λ _. ⌜ now (answers .exit) ≡ sets (now (answers .entry)) at (answerWords (lookupBy (now (image .entry)) (now (name .entry)) h)) ⌝ }
 {
     if 4294967295 <= name.len() {
@@ -92,7 +93,7 @@ fn put_decided(
     }
     match see_entry(image, name, offset) {
         Seen::Pass => {
-            put_answer(&mut *answers, at, to_id_by(image, name, h));
+            put_answer(&mut *answers, at, search_from(image, name, h, c));
         }
         Seen::Ends => {
             put_words(&mut *answers, at, 0, 0, c, 0);
@@ -103,8 +104,8 @@ fn put_decided(
     }
 }
 
-// The answers of the first m listed names, whose searches came to the buckets with these offsets after c buckets, in their places. What
-// other places hold stays.
+// The answers of the first m listed names, the c-th buckets of whose searches have these offsets, in their places.
+// What other places hold stays.
 fn find_done(
     image: &[u8],
     bytes: &[u8],
@@ -116,10 +117,8 @@ fn find_done(
     c: u32,
     answers: &mut [u32],
 )
-    requires { ⌜ (astray (length (now bytes)) 0 (now ends) ≡ false) × (length (now ends) ≤ length (now keys)) × (4 * length (now ends) ≤ length (now answers)) × (m ≤ length (now list)) × (m ≤ length (now offsets)) × ((x : ℕ) → x < m → getD (now list) x 0 < length (now ends)) × ((x : ℕ) → x < m → Decided (now image) (getD (now keys) (getD (now list) x 0) 0) c (getD (now offsets) x 0)) × Keys (names (now bytes) (now ends)) (now keys) ⌝ }
-    ensures stored { λ _. ⌜ ((x : ℕ) → x < m → Right (now (image .entry)) (names (now (bytes .entry)) (now (ends .entry))) (now (answers .exit)) (getD (now (list .entry)) x 0)) ⌝ }
-    ensures stays { λ _. ⌜ ((i : ℕ) → Right (now (image .entry)) (names (now (bytes .entry)) (now (ends .entry))) (now (answers .entry)) i → Right (now (image .entry)) (names (now (bytes .entry)) (now (ends .entry))) (now (answers .exit)) i) ⌝ }
-    ensures kept { λ _. ⌜ Kept (now (answers .entry)) (length (now (ends .entry))) (now (answers .exit)) ⌝ }
+    requires { ⌜ Listing (now bytes) (now ends) (now keys) (now list) (now answers) m × AllDecided (now image) (now keys) (now list) (now offsets) m c ⌝ }
+    ensures { λ _. ⌜ Answered (now (image .entry)) (now (bytes .entry)) (now (ends .entry)) (now (list .entry)) (now (answers .entry)) (now (answers .exit)) m ⌝ }
 {
     let mut x: usize = 0;
     while x < m {
@@ -137,7 +136,8 @@ fn find_done(
     }
 }
 
-// The lookups of the first m listed names, each stored in its place. What other places hold stays.
+// The answers of the first m listed names, whose searches go on after c buckets, in their places. What other places
+// hold stays.
 fn find_open(
     image: &[u8],
     bytes: &[u8],
@@ -145,24 +145,23 @@ fn find_open(
     keys: &[u32],
     list: &[u16],
     m: usize,
+    c: u32,
     answers: &mut [u32],
 )
-    requires { ⌜ (astray (length (now bytes)) 0 (now ends) ≡ false) × (length (now ends) ≤ length (now keys)) × (4 * length (now ends) ≤ length (now answers)) × (m ≤ length (now list)) × ((x : ℕ) → x < m → getD (now list) x 0 < length (now ends)) × Keys (names (now bytes) (now ends)) (now keys) ⌝ }
-    ensures stored { λ _. ⌜ ((x : ℕ) → x < m → Right (now (image .entry)) (names (now (bytes .entry)) (now (ends .entry))) (now (answers .exit)) (getD (now (list .entry)) x 0)) ⌝ }
-    ensures stays { λ _. ⌜ ((i : ℕ) → Right (now (image .entry)) (names (now (bytes .entry)) (now (ends .entry))) (now (answers .entry)) i → Right (now (image .entry)) (names (now (bytes .entry)) (now (ends .entry))) (now (answers .exit)) i) ⌝ }
-    ensures kept { λ _. ⌜ Kept (now (answers .entry)) (length (now (ends .entry))) (now (answers .exit)) ⌝ }
+    requires { ⌜ Listing (now bytes) (now ends) (now keys) (now list) (now answers) m × AllGo (now image) (now keys) (now list) m c ⌝ }
+    ensures { λ _. ⌜ Answered (now (image .entry)) (now (bytes .entry)) (now (ends .entry)) (now (list .entry)) (now (answers .entry)) (now (answers .exit)) m ⌝ }
 {
     let mut x: usize = 0;
     while x < m {
         let i = list[x] as usize;
-        let answer = to_id_by(image, name_of(bytes, ends, i), keys[i]);
+        let answer = search_from(image, name_of(bytes, ends, i), keys[i], c);
         put_answer(&mut *answers, 4 * i, answer);
         x += 1;
     }
 }
 
-// The lookups of the first m names listed in `live`, each stored in its place: five passes, and what is still open then, one in a
-// hundred, by itself.
+// The lookups of the first m names listed in `live`, each stored in its place: five passes, and each search that is
+// still open then goes on by itself.
 pub(crate) fn find_all(
     image: &[u8],
     bytes: &[u8],
@@ -196,7 +195,7 @@ pub(crate) fn find_all(
         );
         q = on;
     }
-    find_open(image, bytes, ends, keys, &*live, q, &mut *answers);
+    find_open(image, bytes, ends, keys, &*live, q, c, &mut *answers);
 }
 
 // The buckets read over the first m listed names, from the answers in their places.

@@ -6,12 +6,11 @@ ghost use mathlib.Core.Logic.{_⊎_};
 ghost use Prim.Native.Nat.{ℕ, _+_, _*_, _-_, _≤_, _<_};
 ghost use lib.ListN.{length, getD};
 ghost use Rattle.image.specs.Tables.{tableOf};
-ghost use Rattle.image.specs.Head.{tableAt, bucketNumber};
 ghost use Rattle.reader.specs.Lookup.{unsearched};
 ghost use Rattle.round.specs.steps.Telling.{Listed};
-ghost use Rattle.round.specs.steps.Searching.{Goes, Decided};
+ghost use Rattle.round.specs.steps.Searching.{Searched, Goes, Decided};
 use jhash::word::word;
-use reader::Table;
+use reader::lookup::bucket_after;
 use reader::lookup::table_of;
 
 // What the next bucket of a search shows: its offset, and 1 where the search goes on past it, else 0.
@@ -20,15 +19,16 @@ struct Shown {
     on: usize,
 }
 
-// The table that a hash is searched in. Its bucket number is 0 where no bucket is read, and in an image that has no head.
-fn table_in(image: &[u8], h: u32) -> Table
-    ensures unread { λ r. ⌜ (r .n ≡ 0 → 2072 ≤ length (now (image .entry)) → unsearched (now (image .entry)) (tableOf h) ≡ true) ⌝ }
-    ensures searched { λ r. ⌜ (0 < r .n → (2072 ≤ length (now (image .entry))) × (unsearched (now (image .entry)) (tableOf h) ≡ false) × (r .at ≡ tableAt (now (image .entry)) (tableOf h)) × (r .n ≡ bucketNumber (now (image .entry)) (tableOf h)) × (r .at + 8 * r .n ≤ length (now (image .entry)))) ⌝ }
+// The bucket number of the table that a hash is searched in; 0 where no bucket is read, and in an image without a head.
+fn buckets_in(image: &[u8], h: u32) -> u32
+    ensures unread { λ r. ⌜ (r ≡ 0 → 2072 ≤ length (now (image .entry)) → unsearched (now (image .entry)) (tableOf h) ≡ true) ⌝ }
+    ensures searched { λ r. ⌜ (0 < r → Searched (now (image .entry)) h r) ⌝ }
 {
     if image.len() < 2072 {
-        return Table { at: 0, n: 0 };
+        return 0;
     }
-    table_of(image, h)
+    let table = table_of(image, h);
+    table.n
 }
 
 // 1 where a bucket with this hash and offset is passed: another hash, and not empty. Else 0.
@@ -44,12 +44,14 @@ fn sight(image: &[u8], h: u32, c: u32) -> Shown
     ensures goes { λ r. ⌜ (r .on ≤ 1) × (r .on ≡ 1 → Goes (now (image .entry)) h (c + 1)) ⌝ }
     ensures decided { λ r. ⌜ (r .on ≡ 0 → Decided (now (image .entry)) h (c + 1) (r .entry)) ⌝ }
 {
-    let table = table_in(image, h);
-    if table.n <= c {
+    let n = buckets_in(image, h);
+    if n <= c {
         return Shown { entry: 0, on: 1 };
     }
-    let k = (h / 256 + c) % table.n;
-    let at = table.at as usize + 8 * (k as usize);
+    let t = (h % 256) as usize;
+    let start = word(image, 24 + 8 * t) as usize;
+    let k = bucket_after(h, c, n) as usize;
+    let at = start + 8 * k;
     let entry = word(image, at + 4);
     let on = passed(word(image, at), h, entry);
     Shown { entry, on }

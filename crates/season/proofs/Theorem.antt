@@ -5,22 +5,23 @@ use Prim.Native.Nat.{ℕ, zero, suc}
 use native.Mathlib.Omega.{arith}
 use mathlib.Core.Bool.{Bool, true, false, cond, not, _&&_, _||_, true≢false}
 use mathlib.Core.List.{List, [], _∷_, _++_}
-use mathlib.Core.Option as option
+use mathlib.Core.Option.{none, some}
 use borrow.Author.Tests.{eqb-true, eq-eqb}
 use lib.Dec.{eqb}
 use Rattle.jhash.specs.Outcome.{Outcome, value, refusal}
 use Rattle.reader.specs.Naming.{Naming, place, unnamed, naming}
 use Rattle.reader.proofs.Namings.{never}
 use Rattle.season.specs.Calendar.{isDate, isEnd, earlier}
-use Rattle.season.specs.Rule.{some, undated, turned, holdsDate, inSeason, namingOn}
+use Rattle.season.specs.Rule.{someWindow, undated, turned, holdsDate, inSeason, namingOn}
 use Rattle.season.specs.Seasons.{SomeAt, Accepted, Seasons}
 use Rattle.season.specs.declared.Date.{Date}
 use Rattle.season.specs.declared.Window.{Window}
 use Rattle.season.proofs.Months.{no-month, month-lengths}
 use Rattle.season.proofs.Dates.{irreflexive, transitive, total}
+use Rattle.season.proofs.WindowLaws.{placed}
 
 -- ---- some window
-past-the-end : {w : Window} → ¬ (option.none ≡ option.some w)
+past-the-end : {w : Window} → ¬ (none ≡ some w)
 past-the-end e = let z : _≡_ {A = ℕ} 0 1 = cc in omega arith
 
 decided : (b : Bool) → (b ≡ true) ⊎ (b ≡ false)
@@ -28,40 +29,40 @@ decided true = inl refl
 decided false = inr refl
 
 module _ (test : Window → Bool) where
-  some-here : (w : Window) (ws : List Window) → test w ≡ true → some test (w ∷ ws) ≡ true
-  unfolding some
-  some-here w ws e = ap (λ (b : Bool). b || some test ws) e
+  some-here : (w : Window) (ws : List Window) → test w ≡ true → someWindow test (w ∷ ws) ≡ true
+  unfolding someWindow
+  some-here w ws e = ap (λ (b : Bool). b || someWindow test ws) e
 
-  some-behind : (w : Window) (ws : List Window) → test w ≡ false → some test (w ∷ ws) ≡ some test ws
-  unfolding some
-  some-behind w ws e = ap (λ (b : Bool). b || some test ws) e
+  some-behind : (w : Window) (ws : List Window) → test w ≡ false → someWindow test (w ∷ ws) ≡ someWindow test ws
+  unfolding someWindow
+  some-behind w ws e = ap (λ (b : Bool). b || someWindow test ws) e
 
-  some-more : (w : Window) (ws : List Window) → some test ws ≡ true → some test (w ∷ ws) ≡ true
+  some-more : (w : Window) (ws : List Window) → someWindow test ws ≡ true → someWindow test (w ∷ ws) ≡ true
   some-more w ws e =
       elim (decided (test w)) [
         | inl t ↦ some-here w ws t
         | inr f ↦ some-behind w ws f ∙ e
       ]
 
-  some-window : (ws : List Window) → (some test ws ≡ true) ↔ SomeAt test ws
-  unfolding some
+  some-window : (ws : List Window) → (someWindow test ws ≡ true) ↔ SomeAt test ws
+  unfolding someWindow
   some-window [] = (λ e. absurd (true≢false (sym e)), λ s. absurd (past-the-end (s .2)))
   some-window (v ∷ ws) = (to (some-window ws), from (some-window ws))
     where
-      to : ((some test ws ≡ true) ↔ SomeAt test ws) → some test (v ∷ ws) ≡ true → SomeAt test (v ∷ ws)
+      to : ((someWindow test ws ≡ true) ↔ SomeAt test ws) → someWindow test (v ∷ ws) ≡ true → SomeAt test (v ∷ ws)
       to rest e =
           elim (decided (test v)) [
             | inl t ↦ (0, v, refl, t)
             | inr f ↦ (let s = rest .0 (sym (some-behind v ws f) ∙ e) in (suc (s .0), s .1, s .2, s .3))
           ]
 
-      from : ((some test ws ≡ true) ↔ SomeAt test ws) → SomeAt test (v ∷ ws) → some test (v ∷ ws) ≡ true
+      from : ((someWindow test ws ≡ true) ↔ SomeAt test ws) → SomeAt test (v ∷ ws) → someWindow test (v ∷ ws) ≡ true
       from rest (zero, w, at, t) = let e : v ≡ w = cc in some-here v ws (ap test e ∙ t)
       from rest (suc k, w, at, t) = some-more v ws (rest .1 (k, w, at, t))
 
   -- a window more, behind the first ones
   module _ (w : Window) (after : List Window) where
-    some-added : (before : List Window) → some test (before ++ after) ≡ true → some test (before ++ w ∷ after) ≡ true
+    some-added : (before : List Window) → someWindow test (before ++ after) ≡ true → someWindow test (before ++ w ∷ after) ≡ true
     some-added [] e = some-more w after e
     some-added (v ∷ vs) e =
         elim (decided (test v)) [
@@ -69,7 +70,7 @@ module _ (test : Window → Bool) where
           | inr f ↦ some-behind v (vs ++ w ∷ after) f ∙ some-added vs (sym (some-behind v (vs ++ after) f) ∙ e)
         ]
 
-    none-added : (before : List Window) → test w ≡ false → some test (before ++ after) ≡ false → some test (before ++ w ∷ after) ≡ false
+    none-added : (before : List Window) → test w ≡ false → someWindow test (before ++ after) ≡ false → someWindow test (before ++ w ∷ after) ≡ false
     none-added [] n e = some-behind w after n ∙ e
     none-added (v ∷ vs) n e =
         elim (decided (test v)) [
@@ -144,13 +145,13 @@ module _ (image : List ℕ) (id : ℕ) (date : Date) (ws : List Window) where
   t = isDate date
 
   abbrev a : Bool
-  a = some undated ws
+  a = someWindow undated ws
 
   abbrev b : Bool
-  b = some turned ws
+  b = someWindow turned ws
 
   abbrev c : Bool
-  c = some (holdsDate id date) ws
+  c = someWindow (holdsDate id date) ws
 
   named-exactly : (s l : ℕ) → (namingOn image id date ws ≡ value (place s l)) ↔ (Accepted date ws × (naming image id ≡ place s l) × (c ≡ true))
   unfolding inSeason
@@ -194,5 +195,6 @@ seasons = record {
   named-exactly = named-exactly;
   gives-22 = gives-22;
   gives-23 = gives-23;
+  in-two-parts = placed;
   adding = adding;
 }

@@ -9,9 +9,9 @@ use Rattle.jhash.specs.Outcome.{Outcome, value, refusal}
 use Rattle.reader.specs.Slices.{Slice, part}
 use Rattle.reader.specs.Naming.{Naming, unnamed, naming, partOr}
 use Rattle.season.specs.Calendar.{isDate}
-use Rattle.season.specs.Rule.{some, undated, turned, holdsDate, inSeason, namingOn, namedIn, namePartOn}
+use Rattle.season.specs.Rule.{someWindow, undated, turned, holdsDate, inSeason, namingOn, namedIn, namePartOn}
 use Rattle.season.specs.steps.Fold.{told, stronger, stepped, folded}
-use Rattle.season.specs.steps.Saying.{said, answerBy, placeBy, partBy}
+use Rattle.season.specs.Saying.{said, answerBy, placeBy, partBy}
 use Rattle.season.specs.declared.Date.{Date}
 use Rattle.season.specs.declared.Window.{Window}
 use Rattle.season.specs.declared.Standing.{Standing}
@@ -50,13 +50,14 @@ module _ (id : ℕ) (date : Date) where
   none-more false = refl
 
   folded-form : (a b c : Bool) (ws : List Window)
-      → folded id date (form a b c) ws ≡ form (a || some undated ws) (b || some turned ws) (c || some (holdsDate id date) ws)
-  unfolding folded some told
+      → folded id date (form a b c) ws ≡ form (a || someWindow undated ws) (b || someWindow turned ws) (c || someWindow (holdsDate id date) ws)
+  unfolding folded someWindow told
   folded-form a b c [] = λ i. form (none-more a i) (none-more b i) (none-more c i)
   folded-form a b c (w ∷ ws) =
       ap (λ (s : Standing). folded id date s ws) (stepped-form w)
       ∙ folded-form (a || undated w) (b || turned w) (c || holdsDate id date w) ws
-      ∙ (λ i. form (or-assoc a (undated w) (some undated ws) i) (or-assoc b (turned w) (some turned ws) i) (or-assoc c (holdsDate id date w) (some (holdsDate id date) ws) i))
+      ∙ (λ i. form (or-assoc a (undated w) (someWindow undated ws) i) (or-assoc b (turned w) (someWindow turned ws) i)
+      (or-assoc c (holdsDate id date w) (someWindow (holdsDate id date) ws) i))
     where
       stepped-form : (w : Window) → stepped id date (form a b c) w ≡ form (a || undated w) (b || turned w) (c || holdsDate id date w)
       stepped-form w = joined a b c (undated w) (turned w) (holdsDate id date w)
@@ -81,7 +82,8 @@ module _ (image : List ℕ) (id : ℕ) (date : Date) (ws : List Window) where
   pub placed : placeBy image id date (said id date ws) ≡ namingOn image id date ws
   unfolding said inSeason
   placed =
-      ap (λ (x : Outcome Naming). cond (not (isDate date)) (refusal 22) x) (by-form (some undated ws) (some turned ws) (some (holdsDate id date) ws))
+      ap (λ (x : Outcome Naming). cond (not (isDate date)) (refusal 22) x)
+      (by-form (someWindow undated ws) (someWindow turned ws) (someWindow (holdsDate id date) ws))
     where
       by-form : (a b c : Bool) → answerBy (form a b c) (naming image id)
           ≡ cond a (refusal 22) (cond b (refusal 23) (value (cond c (naming image id) unnamed)))

@@ -13,7 +13,7 @@ use Rattle.reader.proofs.Namings.{never}
 use Rattle.season.specs.Calendar.{isDate, isEnd, earlier}
 use Rattle.season.specs.Rule.{undated, turned, holdsDate, namedIn}
 use Rattle.season.specs.steps.Fold.{told, rank, stronger}
-use Rattle.season.specs.steps.Saying.{answerBy, placeBy, partBy}
+use Rattle.season.specs.Saying.{answerBy, placeBy, partBy}
 use Rattle.season.specs.declared.Date.{Date}
 use Rattle.season.specs.declared.Window.{Window}
 use Rattle.season.specs.declared.Standing.{Standing}

@@ -11,9 +11,9 @@ use Rattle.season.specs.declared.Date.{Date}
 use Rattle.season.specs.declared.Window.{Window}
 
 -- does the test hold of some window?
-unfoldable pub some : (Window → Bool) → List Window → Bool
-some test [] = false
-some test (w ∷ ws) = test w || some test ws
+unfoldable pub someWindow : (Window → Bool) → List Window → Bool
+someWindow test [] = false
+someWindow test (w ∷ ws) = test w || someWindow test ws
 
 -- "a date that doesn't exist or lies outside these bounds", of a window: its first date, or its end date
 unfoldable pub undated : Window → Bool
@@ -32,9 +32,9 @@ holdsDate id date w = eqb (w .id) id && not (earlier date (w .first)) && earlier
 unfoldable pub inSeason : Naming → ℕ → Date → List Window → Outcome Naming
 inSeason n id date windows =
     cond (not (isDate date)) (refusal 22)
-    (cond (some undated windows) (refusal 22)
-    (cond (some turned windows) (refusal 23)
-    (value (cond (some (holdsDate id date) windows) n unnamed))))
+    (cond (someWindow undated windows) (refusal 22)
+    (cond (someWindow turned windows) (refusal 23)
+    (value (cond (someWindow (holdsDate id date) windows) n unnamed))))
 
 -- "naming an id on a date", in an image
 abbrev pub namingOn : List ℕ → ℕ → Date → List Window → Outcome Naming

@@ -4,7 +4,7 @@ ghost use Rattle.season.specs.Calendar.{leap, monthLength, isDate, isEnd
 use super::Date;
 
 // Is it a leap year, by the 4, 100 and 400 rule?
-pub fn leap(year: u16) -> bool
+fn leap(year: u16) -> bool
     ensures { λ r. ⌜ r ≡ leap year ⌝ }
 {
     if year % 4 != 0 {
@@ -17,7 +17,7 @@ pub fn leap(year: u16) -> bool
 }
 
 // How many days a month has; 0 where the number is no month's.
-pub fn month_length(year: u16, month: u8) -> u8
+fn month_length(year: u16, month: u8) -> u8
     ensures { λ r. ⌜ r ≡ monthLength year month ⌝ }
 {
     match month {
@@ -29,7 +29,7 @@ pub fn month_length(year: u16, month: u8) -> u8
 }
 
 // Does the date exist, in the years 1900 to 2199?
-pub fn is_date(d: Date) -> bool
+pub(super) fn is_date(d: Date) -> bool
     ensures { λ r. ⌜ r ≡ isDate d ⌝ }
 {
     if d.year < 1900 {
@@ -45,7 +45,7 @@ pub fn is_date(d: Date) -> bool
 }
 
 // Can it be an end date: does it exist so, or is it 1 January 2200?
-pub fn is_end(d: Date) -> bool
+pub(super) fn is_end(d: Date) -> bool
     ensures { λ r. ⌜ r ≡ isEnd d ⌝ }
 {
     if is_date(d) {
@@ -61,7 +61,7 @@ pub fn is_end(d: Date) -> bool
 }
 
 // Does the date a come before b: by year, then month, then day?
-pub fn earlier(a: Date, b: Date) -> bool
+pub(super) fn earlier(a: Date, b: Date) -> bool
     ensures { λ r. ⌜ r ≡ earlier a b ⌝ }
 {
     if a.year != b.year {

@@ -3,13 +3,13 @@ ghost use mathlib.Core.Path.{_≡_};
 ghost use Rattle.reader.specs.Slices.{slice};
 ghost use Rattle.season.specs.Rule.{namingOn, namePartOn};
 ghost use Rattle.season.specs.Cases.{namedOnOf};
-ghost use Rattle.season.specs.steps.Saying.{placeBy, partBy};
+ghost use Rattle.season.specs.Saying.{placeBy, partBy};
 use calendar::is_date;
 use reader::Named;
 use windows::standing;
 
-pub mod calendar; // calendar.rt: months, dates, and their order
-pub mod windows; // windows.rt: what the windows say of an id on a date
+mod calendar; // calendar.rt: months, dates, and their order
+pub mod windows; // windows.rt: standing, what the windows say of an id on a date
 
 // Year, month and day, whether such a day exists or not.
 #[repr(C)]
@@ -62,7 +62,7 @@ pub fn place_by(image: &[u8], id: u32, date: Date, s: Standing) -> NamedOn
 }
 
 // The part of the lent image that is an id's name on a date, where the windows say s; empty if it has none, or is refused.
-pub fn part_by<'a>(image: &'a [u8], id: u32, date: Date, s: Standing) -> &'a [u8]
+fn part_by<'a>(image: &'a [u8], id: u32, date: Date, s: Standing) -> &'a [u8]
     ensures { λ r. ⌜ slice r ≡ partBy (slice (image .entry)) id date s ⌝ }
 {
     if !is_date(date) {

@@ -1,6 +1,6 @@
 // What windows say of an id on a date.
 ghost use mathlib.Core.Path.{_≡_};
-ghost use Rattle.season.specs.steps.Saying.{said};
+ghost use Rattle.season.specs.Saying.{said};
 ghost use Rattle.season.specs.steps.Fold.{told, rank, stepped};
 use super::Date;
 use super::Standing;
@@ -10,7 +10,7 @@ use super::calendar::is_date;
 use super::calendar::is_end;
 
 // What one window says.
-pub fn tell(w: Window, id: u32, date: Date) -> Standing
+fn tell(w: Window, id: u32, date: Date) -> Standing
     ensures { λ r. ⌜ r ≡ told id date w ⌝ }
 {
     let first = w.first;
@@ -37,7 +37,7 @@ pub fn tell(w: Window, id: u32, date: Date) -> Standing
 }
 
 // How strong a case is.
-pub fn rank(s: Standing) -> u8
+fn rank(s: Standing) -> u8
     ensures { λ r. ⌜ r ≡ rank s ⌝ }
 {
     match s {
@@ -49,7 +49,7 @@ pub fn rank(s: Standing) -> u8
 }
 
 // One window more: the stronger of what the windows before it say and what it says.
-pub fn step(s: Standing, w: Window, id: u32, date: Date) -> Standing
+fn step(s: Standing, w: Window, id: u32, date: Date) -> Standing
     ensures { λ r. ⌜ r ≡ stepped id date s w ⌝ }
 {
     let t = tell(w, id, date);

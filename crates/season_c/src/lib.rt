@@ -5,7 +5,7 @@ use season::Standing;
 use season::Window;
 ghost use mathlib.Core.Path.{_≡_};
 ghost use Rattle.season.specs.Rule.{namingOn};
-ghost use Rattle.season.specs.steps.Saying.{placeBy};
+ghost use Rattle.season.specs.Saying.{placeBy};
 ghost use Rattle.season_c.specs.NameOnAnswer.{onAnswer};
 
 // The refusal's number, 0 when accepted; 1 and the place of the name in the image, its length and its first byte's offset; or
@@ -19,7 +19,7 @@ pub struct OnAnswer {
 }
 
 // The place of an id's name on a date as C has it, where the windows say s.
-pub fn answer_by(image: &[u8], id: u32, date: Date, s: Standing) -> OnAnswer
+fn answer_by(image: &[u8], id: u32, date: Date, s: Standing) -> OnAnswer
     ensures { λ r. ⌜ r ≡ onAnswer (placeBy (now (image .entry)) id date s) ⌝ }
 {
     match season::place_by(image, id, date, s) {

@@ -1,7 +1,7 @@
 -- Reading a file: the three sections, and nothing left over. Assumes nothing.
 use Prim.Native.Nat.{ℕ, _≤_, _<_}
 use native.Mathlib.Omega.{arith}
-use mathlib.Core.Path.{_≡_, refl, sym, ap, _∙_}
+use mathlib.Core.Path.{_≡_, refl, sym, ap, subst, _∙_}
 use mathlib.Core.Logic.{_⊎_, inl, inr}
 use mathlib.Core.Bool.{Bool, true, false}
 use mathlib.Core.List.{List, [], _∷_, _++_, append-nil}
@@ -10,6 +10,7 @@ use lib.Dec.{ltb}
 use lib.ListN.{length, length-append}
 use lib.Seq.{take-all}
 use Rattle.jhash.specs.Outcome.{Outcome, value, refusal}
+use Rattle.jhash.proofs.ValueOrRefusal.{no-value}
 use Rattle.sheet.specs.Format.{Lists, sheetBytes}
 use Rattle.sheet.specs.SheetReading.{partEnd, andThen, sections, nothingLeft, readSheet, listsOf, readLists}
 use Rattle.sheet.specs.RoundSheet.{Below, Fits}
@@ -71,6 +72,22 @@ cases file = found (three-or-short file)
     found : Three file ⊎ (sections file ≡ refusal 19) → Cases file
     found (inl t) = ended t (ltb (partEnd (t .places .retired)) (length file)) refl
     found (inr short) = inr (inr (reading-short file short))
+
+-- two answers of one file are one
+pub one-value : {A : Type 0} {r : Outcome A} (x y : A) → r ≡ value x → r ≡ value y → x ≡ y
+one-value x y p q = cc
+
+pub not-refused : {A : Type 0} {r : Outcome A} (x : A) (n : ℕ) → r ≡ value x → ¬ (r ≡ refusal n)
+not-refused x n p q = no-value n x (sym q ∙ p)
+
+-- what holds of every whole file holds of the places that were read
+pub of-whole : (P : Sheet → Type 0) (file : List ℕ) → ((w : Whole file) → P (w .places)) → (s : Sheet) → readSheet file ≡ value s → P s
+of-whole P file f s e = by (cases file)
+  where
+    by : Cases file → P s
+    by (inl w) = subst P (one-value _ _ (w .read) e) (f w)
+    by (inr (inl g)) = absurd (not-refused s 20 e (g .read))
+    by (inr (inr short)) = absurd (not-refused s 19 e short)
 
 -- ---- the file of three lists
 

@@ -3,6 +3,7 @@ pub mod CountsAndIds
 pub mod Sections
 pub mod Sheets
 pub mod Files
+pub mod Parts
 pub mod SheetStored
 pub mod Theorem
 pub mod Rows

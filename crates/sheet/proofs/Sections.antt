@@ -7,8 +7,8 @@ use mathlib.Core.Bool.{Bool, true, false}
 use mathlib.Core.List.{List, [], _++_, append-assoc, append-nil}
 use borrow.Author.Tests.{lt-ltb, le-ltb, ltb-true, ltb-false}
 use lib.Dec.{ltb}
-use lib.ListN.{length, take, drop, length-append, length-take, length-drop, drop-of-length-le}
-use lib.Seq.{take-nil, take-all, take-at, drop-at, take-add, drop-drop, drop-append-seam, drop-append-add}
+use lib.ListN.{length, take, drop, length-append, length-take, length-drop}
+use lib.Seq.{take-all, take-at, drop-at, take-add, drop-drop, drop-append-seam, drop-append-add}
 use Rattle.jhash.specs.Outcome.{value, refusal}
 use Rattle.jhash.proofs.ValueOrRefusal.{no-value}
 use Rattle.sheet.specs.Format.{countAt, countBytes, ids, idBytes, sectionBytes}
@@ -67,23 +67,6 @@ module _ (file : List ℕ) (o : ℕ) where
       by : FoundAt file o ⊎ (sectionAt file o ≡ refusal 19) → partEnd p ≤ length file
       by (inl f) = let same : f .place ≡ p = cc in omega (arith, ap partEnd same, f .lies .inside)
       by (inr short) = absurd (no-value 19 p (sym short ∙ e))
-
--- ---- a part by its start and end, also of a place that leaves the file
-
-module _ (file : List ℕ) (p : Place) where
-  pub part-past : length file < p .start → partOf file p ≡ []
-  part-past h = ap (take (4 * p .count)) (drop-of-length-le file {i = p .start} (omega arith)) ∙ take-nil (4 * p .count)
-
-  pub part-cut : length file - p .start < 4 * p .count → partOf file p ≡ take (length file - p .start) (drop (p .start) file)
-  part-cut h =
-      let e : length (drop (p .start) file) ≡ length file - p .start = length-drop (p .start) file in
-      take-all (4 * p .count) (drop (p .start) file) (omega arith)
-      ∙ sym (take-all (length file - p .start) (drop (p .start) file) (omega arith))
-
-  pub part-by : take (p .start + 4 * p .count - p .start) (drop (p .start) file) ≡ partOf file p
-  part-by =
-      let e : p .start + 4 * p .count - p .start ≡ 4 * p .count = omega arith in
-      ap (λ (n : ℕ). take n (drop (p .start) file)) e
 
 -- ---- from the bytes of a list: what stands before the section, and behind it
 

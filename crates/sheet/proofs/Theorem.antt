@@ -11,18 +11,10 @@ use Rattle.sheet.specs.SheetReading.{partEnd, readSheet, listsOf, readLi
 use Rattle.sheet.specs.SheetWriting.{writing, afterWriting}
 use Rattle.sheet.specs.RoundSheet.{Below, Fits, PartsPlaced, HoldsIds, GoesOn, BreaksOff, OneOfThree, RoundSheet}
 use Rattle.sheet.specs.declared.Sheet.{Sheet}
-use Rattle.jhash.proofs.ValueOrRefusal.{no-value}
 use Rattle.sheet.proofs.Sections.{part-holds}
 use Rattle.sheet.proofs.Sheets.{sized, lists-fit, file-again}
-use Rattle.sheet.proofs.Files.{Whole, Cases, cases, lists-of, no-lists, sheet-back, longer-read, whole-again}
+use Rattle.sheet.proofs.Files.{Cases, cases, one-value, not-refused, of-whole, lists-of, no-lists, sheet-back, longer-read, whole-again}
 use Rattle.sheet.proofs.SheetStored.{accepted, file-in}
-
--- two answers of one file are one
-one-value : {A : Type 0} {r : Outcome A} (x y : A) → r ≡ value x → r ≡ value y → x ≡ y
-one-value x y p q = cc
-
-not-refused : {A : Type 0} {r : Outcome A} (x : A) (n : ℕ) → r ≡ value x → ¬ (r ≡ refusal n)
-not-refused x n p q = no-value n x (sym q ∙ p)
 
 two-refusals : {A : Type 0} {r : Outcome A} → r ≡ refusal 19 → ¬ (r ≡ refusal 20)
 two-refusals p q = let z : _≡_ {A = ℕ} 19 20 = cc in omega arith
@@ -78,14 +70,6 @@ one-of-three file = by (cases file)
     by (inr (inr short)) = inr (inl short)
 
 -- ---- where the parts stand
-
-of-whole : (P : Sheet → Type 0) (file : List ℕ) → ((w : Whole file) → P (w .places)) → (s : Sheet) → readSheet file ≡ value s → P s
-of-whole P file f s e = by (cases file)
-  where
-    by : Cases file → P s
-    by (inl w) = subst P (one-value _ _ (w .read) e) (f w)
-    by (inr (inl g)) = absurd (not-refused s 20 e (g .read))
-    by (inr (inr short)) = absurd (not-refused s 19 e short)
 
 placed : (file : List ℕ) (s : Sheet) → readSheet file ≡ value s → PartsPlaced file s
 placed file = of-whole (PartsPlaced file) file (λ w. record {

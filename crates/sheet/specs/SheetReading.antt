@@ -1,10 +1,11 @@
 -- The reader: 02 (xi). "The reader gives, for each section, the part of the file that holds its ids"; "a section may be empty".
 use Prim.Native.Nat.{ℕ, _+_, _*_, _/_}
 use mathlib.Core.Bool.{cond}
-use mathlib.Core.List.{List, []}
+use mathlib.Core.List.{List}
 use lib.ListN.{length, take, drop}
 use lib.Dec.{ltb}
 use Rattle.jhash.specs.Outcome.{Outcome, value, refusal}
+use Rattle.reader.specs.Slices as slices
 use Rattle.sheet.specs.Format.{countAt, ids, Lists}
 use Rattle.sheet.specs.declared.Place.{Place}
 use Rattle.sheet.specs.declared.Sheet.{Sheet}
@@ -48,15 +49,28 @@ nothingLeft file s = cond (ltb (partEnd (s .retired)) (length file)) (refusal 20
 unfoldable pub readSheet : List ℕ → Outcome Sheet
 readSheet file = andThen (sections file) (nothingLeft file)
 
--- the part of one of the three sections, empty where the file is refused
+-- the place of one of the three sections
 abbrev pub sectionOf : Sheet → Which → Place
 sectionOf s References = s .references
 sectionOf s Walls = s .walls
 sectionOf s Retired = s .retired
 
-abbrev pub partOrEmpty : List ℕ → Which → Outcome Sheet → List ℕ
-partOrEmpty file which (value s) = partOf file (sectionOf s which)
-partOrEmpty file which (refusal n) = []
+-- "the part of the file that holds its ids", as a returned part: of the lent file's own bytes those from the place's
+-- start on; empty where the file is refused
+abbrev pub partAt : slices.Slice → Place → slices.Slice
+partAt file p = slices.part file (p .start) (4 * p .count)
+
+abbrev pub partOrNone : slices.Slice → Which → Outcome Sheet → slices.Slice
+partOrNone file which (value s) = partAt file (sectionOf s which)
+partOrNone file which (refusal n) = slices.part file 0 0
+
+abbrev pub sectionPart : slices.Slice → Which → slices.Slice
+sectionPart file which = partOrNone file which (readSheet (file .bytes))
+
+-- the part at any place, also one that no reader gave: what of it lies past the end is left out; empty where it starts
+-- past the end
+abbrev pub cutPart : slices.Slice → Place → slices.Slice
+cutPart file p = cond (ltb (length (file .bytes)) (p .start)) (slices.part file 0 0) (partAt file p)
 
 -- the three lists that a file reads as
 abbrev pub listsOf : List ℕ → Sheet → Lists

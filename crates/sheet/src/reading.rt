@@ -3,7 +3,8 @@ ghost use mathlib.Core.Path.{_≡_};
 ghost use Prim.Native.Nat.{_+_, _<_, _≤_};
 ghost use lib.ListN.{length, getD};
 ghost use Rattle.sheet.specs.Format.{countAt};
-ghost use Rattle.sheet.specs.SheetReading.{partEnd, partOf, idsIn, sectionAt, readSheet, sectionOf, partOrEmpty};
+ghost use Rattle.reader.specs.Slices.{slice};
+ghost use Rattle.sheet.specs.SheetReading.{partEnd, idsIn, sectionAt, readSheet, sectionOf, sectionPart, cutPart};
 ghost use Rattle.sheet.specs.Cases.{foundOf, readOf};
 use super::Found;
 use super::Place;
@@ -72,9 +73,9 @@ pub fn read(file: &[u8]) -> ReadAnswer
     })
 }
 
-// The part of the file at a place; what of it lies past the end is left out.
+// The part of the lent file at a place; what of it lies past the end is left out.
 pub fn part<'a>(file: &'a [u8], p: Place) -> &'a [u8]
-    ensures { λ r. ⌜ now r ≡ partOf (now (file .entry)) p ⌝ }
+    ensures { λ r. ⌜ slice r ≡ cutPart (slice (file .entry)) p ⌝ }
 {
     let all = file.len();
     let start = p.start;
@@ -108,9 +109,9 @@ fn place_of(s: Sheet, which: Which) -> Place
     }
 }
 
-// The part of the file that holds a section's ids, empty where the file is refused.
+// The part of the lent file that holds a section's ids, empty where the file is refused.
 pub fn section<'a>(file: &'a [u8], which: Which) -> &'a [u8]
-    ensures { λ r. ⌜ now r ≡ partOrEmpty (now (file .entry)) which (readSheet (now (file .entry))) ⌝ }
+    ensures { λ r. ⌜ slice r ≡ sectionPart (slice (file .entry)) which ⌝ }
 {
     match read(file) {
         ReadAnswer::Whole(s) => part(file, place_of(s, which)),

@@ -5,7 +5,7 @@ pub mod Offsets
 pub mod PairsParted
 pub mod PairsOfTable
 pub mod Searching
-pub mod NoneMet
+pub mod Twins
 pub mod TablesFilled
 pub mod AllApart
 pub mod TableWords

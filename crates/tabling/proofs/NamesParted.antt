@@ -8,8 +8,8 @@ use mathlib.Core.List.{List}
 use lib.ListN.{length, set, length-set}
 use lib.Seq.{getD-set-same, getD-set-other}
 use Rattle.image.specs.Tables.{tableOf}
-use Rattle.tabling.specs.steps.Parted.{at, hashIn, numberIn, keptIn, tableIn, countOfTable, sumTo, firstOf, placeInOrder, Ordered}
-use Rattle.tabling.proofs.Tallies.{sum-more, tally-own, tally-other, tally-none, place-below, place-apart, held-place, ordered}
+use Rattle.tabling.specs.steps.Parted.{at, keptIn, tableIn, countOfTable, sumTo, firstOf, placeInOrder}
+use Rattle.tabling.proofs.Tallies.{sum-more, tally-own, tally-other, tally-none, place-below, place-apart}
 
 -- one word more of a run of words from o on
 pub run-turn : (f : ℕ → ℕ) (l : List ℕ) (o i v : ℕ) → o + i < length l → v ≡ f i → ((j : ℕ) → j < i → at l (o + j) ≡ f j)
@@ -66,10 +66,6 @@ pub sum-turn : (c : ℕ → ℕ) (first count t : ℕ) → first ≡ sumTo c t �
 sum-turn c first count t e f = ap₂ (λ (a b : ℕ). a + b) e f ∙ sym (sum-more c t)
 
 -- ---- all in their places
-
--- where the words of place p begin
-abbrev pub nameAt : ℕ → ℕ → ℕ
-nameAt n p = 2 * n + 3 * p
 
 module _ (n : ℕ) (first : List ℕ) where
   abbrev T : ℕ → ℕ
@@ -172,15 +168,3 @@ module _ (n : ℕ) (first : List ℕ) where
                 | no q ↦ earlier j (omega arith) (a (placeInOrder T n j) + 1) (omega arith) (omega arith) ∙ s .second j (omega arith)
               ];
             })
-
-  -- the numbers of all names are settled
-  abbrev pub NamesSettled : ℕ → List ℕ → List ℕ → Type 0
-  NamesSettled = Settled (nameAt n) (λ (i : ℕ). i)
-
-  pub all-ordered : (work tables : List ℕ) → NamesSettled n work tables → Ordered T n (numberIn n work)
-  all-ordered work tables s = ordered T 256 tabled n (numberIn n work) (s .second)
-
-  pub all-hashed : (work tables : List ℕ) → NamesSettled n work tables → (q : ℕ) → q < n → hashIn n work q ≡ keptIn n first (numberIn n work q)
-  all-hashed work tables s q h =
-      let f = held-place T 256 tabled n q h in
-      ap (hashIn n work) (sym (f .is)) ∙ s .hash (f .number) (f .inside) ∙ ap (keptIn n first) (sym (ap (numberIn n work) (sym (f .is)) ∙ s .second (f .number) (f .inside)))

@@ -1,11 +1,8 @@
 -- The pairs of all names parted by table, a turn at a time. Assumes nothing.
-use Prim.Native.Nat.{ℕ, _+_, _*_, _-_, _<_}
-use native.Mathlib.Omega.{arith}
+use Prim.Native.Nat.{ℕ, _+_, _*_, _<_}
 use mathlib.Core.Path.{_≡_, sym, ap, _∙_}
-use mathlib.Core.Bool.{Bool, cond}
 use mathlib.Core.List.{List}
-use borrow.Author.Tests.{ne-eqb}
-use lib.ListN.{length, getD}
+use lib.ListN.{length}
 use Rattle.joined.specs.Names.{beginOf}
 use Rattle.tabling.specs.steps.Parted.{at, keptIn, tableIn, firstOf, placeInOrder}
 use Rattle.tabling.specs.steps.Tabled.{offsetOf, pairIn}

@@ -16,8 +16,10 @@ use Rattle.image.proofs.Every.{All, all-append, all-middle}
 use Rattle.image.proofs.Buckets.{getD-empties, firstEmpty-alike}
 use Rattle.answers.proofs.Table.{NotEmpty}
 use Rattle.tabling.specs.steps.Parted.{at, firstIn}
-use Rattle.tabling.specs.steps.Tabled.{pairIn, pairsIn, bucketIn, Differ, meets, Fills, Apart}
-use Rattle.tabling.proofs.NoneMet.{meets-alike, none-met, twin, twin-false, twin-differ}
+use Rattle.answers.specs.steps.Matches.{matches}
+use Rattle.answers.proofs.Matching.{matches-equal, no-match}
+use Rattle.tabling.specs.steps.Tabled.{pairIn, pairsIn, bucketIn, Differ, Fills, Apart}
+use Rattle.tabling.proofs.Twins.{twin, twin-false, twin-differ}
 
 -- equal words make equal buckets
 same-bucket : {h h′ o o′ : ℕ} → h ≡ h′ → o ≡ o′ → _≡_ {A = Bucket} (record { hash = h; at = o }) (record { hash = h′; at = o′ })
@@ -137,19 +139,19 @@ module _ (different : Bool) (bytes ends work₀ : List ℕ) (first c : ℕ) wher
     below = mod-lt (h / 256) (omega arith)
 
     -- no pair of this hash that is in the table is of the same name
-    later : (meets (bucketIn work o) h (twin bytes ends offset) (order m m (start h m)) ≡ false)
+    later : (matches (bucketIn work o) h (twin bytes ends offset) (order m m (start h m)) ≡ false)
         → (j : ℕ) → j < i → pairIn n work₀ (first + j) .hash ≡ h → Differ bytes ends (pairIn n work₀ (first + j) .at) offset
     later none j k e =
         let v = twin bytes ends offset in
         let others =
-        none-met h v m (pairs i) (omega arith) (omega (arith, length-pairs n work₀ first i))
+        no-match h v m (pairs i) (omega arith) (omega (arith, length-pairs n work₀ first i))
         (pairs-all n work₀ first NotEmpty i (λ l r z. omega (arith, full (first + l) (omega arith) (omega arith))))
-        (sym (meets-alike (bucketIn work o) (λ (k : ℕ). getD (filled m (pairs i)) k empty) h v m (s .buckets) m (start h m) below) ∙ none) in
+        (sym (matches-equal (bucketIn work o) (λ (k : ℕ). getD (filled m (pairs i)) k empty) h v m (s .buckets) m (start h m) below) ∙ none) in
         twin-differ bytes ends offset (pairIn n work₀ (first + j) .at)
         (pairs-each n work₀ first (λ (x : Bucket). x .hash ≡ h → v (x .at) ≡ false) i others j k e)
 
     abbrev Met : Type 0
-    Met = different ≡ true → (v : ℕ → Bool) → ((a : ℕ) → Differ bytes ends a offset → v a ≡ false) → meets (bucketIn work o) h v (order m m (start h m)) ≡ false
+    Met = different ≡ true → (v : ℕ → Bool) → ((a : ℕ) → Differ bytes ends a offset → v a ≡ false) → matches (bucketIn work o) h v (order m m (start h m)) ≡ false
 
     apart-more : Met → different ≡ true → Apart bytes ends work₀ first (i + 1)
     apart-more none d p q from less to e =

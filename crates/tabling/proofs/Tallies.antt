@@ -3,12 +3,11 @@ use Prim.Native.Nat.{ℕ, zero, suc, _+_, _-_, _≤_, _<_}
 use native.Mathlib.Omega.{arith}
 use native.Mathlib.Decide.{ℕ-discrete, decLt}
 use native.Mathlib.Numerals.{add-one}
-use mathlib.Core.Path.{_≡_, refl, sym, ap, ap₂, subst, _∙_}
+use mathlib.Core.Path.{_≡_, refl, sym, ap, ap₂, _∙_}
 use mathlib.Core.Bool.{Bool, true, false, cond}
-use mathlib.Core.List.{List}
 use borrow.Author.Tests.{eq-eqb, ne-eqb, lt-ltb, le-ltb}
 use lib.Dec.{eqb, ltb}
-use Rattle.tabling.specs.steps.Parted.{countOfTable, sumTo, firstOf, placeInOrder, Ordered}
+use Rattle.tabling.specs.steps.Parted.{countOfTable, sumTo, firstOf, placeInOrder}
 
 abbrev one : Bool → ℕ
 one b = cond b 1 0
@@ -207,35 +206,6 @@ module _ (T : ℕ → ℕ) where
           sum : (a b : ℕ) → b ≡ p - a → a ≤ p → a + b ≡ p
           sum a b e l = omega arith
 
-      -- every number stands in its place: that is all
-      pub ordered : (number : ℕ → ℕ) → ((i : ℕ) → i < n → number (placeInOrder T n i) ≡ i) → Ordered T n number
-      ordered number stands =
-          record {
-            below = λ p h. (let f = held-place p h in omega (arith, told p h, f .inside));
-            there = λ i h. (place-below i h, stands i h);
-            rises = rises;
-          }
-        where
-          told : (p : ℕ) (h : p < n) → number p ≡ held-place p h .number
-          told p h = let f = held-place p h in ap number (sym (f .is)) ∙ stands (f .number) (f .inside)
-
-          rises : (p q : ℕ) → p < q → q < n → T (number p) ≡ T (number q) → number p < number q
-          rises p q h k e =
-              let f = held-place p (omega arith) in
-              let g = held-place q k in
-              let i = f .number in
-              let j = g .number in
-              let ei : number p ≡ i = told p (omega arith) in
-              let ej : number q ≡ j = told q k in
-              let et : T i ≡ T j = ap T (sym ei) ∙ e ∙ ap T ej in
-              elim (decLt i j) [
-                | yes l ↦ omega arith
-                | no l ↦ elim (ℕ-discrete i j) [
-                  | yes m ↦ absurd (omega (arith, f .is, g .is, ap (placeInOrder T n) m))
-                  | no m ↦ absurd (omega (arith, f .is, g .is, within j i (omega arith) (sym et)))
-                ]
-              ]
-
 -- ---- the same tables told in another way
 
 module _ (T S : ℕ → ℕ) (n : ℕ) (same-tables : (i : ℕ) → i < n → T i ≡ S i) where
@@ -253,14 +223,6 @@ module _ (T S : ℕ → ℕ) (n : ℕ) (same-tables : (i : ℕ) → i < n → T 
   place-ext i h =
       ap (λ (t : ℕ). firstOf T n t + countOfTable T t i) (same-tables i h)
       ∙ ap₂ (λ (a b : ℕ). a + b) (first-ext (S i)) (tally-ext (S i) i (omega arith))
-
-  pub order-told : (number : ℕ → ℕ) → Ordered T n number → Ordered S n number
-  order-told number o =
-      record {
-        below = o .below;
-        there = λ i h. (omega (arith, o .there i h .0, place-ext i h), ap number (sym (place-ext i h)) ∙ o .there i h .1);
-        rises = λ p q h k e. o .rises p q h k (same-tables (number p) (o .below p (omega arith)) ∙ e ∙ sym (same-tables (number q) (o .below q k)));
-      }
 
 -- the sums of the counts of n numbers are at most n
 pub sums-fit : (T : ℕ → ℕ) (n : ℕ) (tables : ℕ → ℕ) → ((t : ℕ) → t < 256 → tables t ≡ countOfTable T t n) → (t : ℕ) → t ≤ 256 → (sumTo tables t ≡ firstOf T n t) × (sumTo tables t ≤ n)

@@ -9,13 +9,13 @@ use mathlib.Core.List.{List, map}
 use lib.ListN.{length, getD, take, length-map}
 use Rattle.image.specs.Bytes.{same, cat, le32}
 use Rattle.image.specs.Tables.{Bucket, empty, tableOf, filled}
-use Rattle.image.specs.Image.{Entry, Placed, headSize, placed, count, bucketOf, ofTable, table, tables, entriesBefore}
+use Rattle.image.specs.Image.{Entry, Placed, headSize, placed, count, table, tables, entriesBefore}
 use Rattle.image.proofs.Sizes.{length-placed}
 use Rattle.joined.specs.Names.{names, nth, astray}
 use Rattle.joined.specs.Keys.{key}
 use Rattle.joined.proofs.NameEnds.{length-names}
 use Rattle.tabling.specs.steps.Parted.{at, keptIn, tableIn, tableOfName, countOfTable, sumTo, firstOf, placeInOrder, firstIn}
-use Rattle.tabling.specs.steps.Tabled.{offsetOf, pairIn, pairsIn, bucketIn, Fills, Apart}
+use Rattle.tabling.specs.steps.Tabled.{offsetOf, pairIn, bucketIn, Fills, Apart}
 use Rattle.tabling.proofs.Tallies.{first-le, first-more, first-ext, place-ext, held-place}
 use Rattle.tabling.proofs.Offsets.{names-short}
 use Rattle.tabling.proofs.TablesFilled.{first-next}

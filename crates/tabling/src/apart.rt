@@ -3,7 +3,7 @@ ghost use mathlib.Core.Path.{_≡_};
 ghost use mathlib.Core.Bool.{true, false};
 ghost use Prim.Native.Nat.{ℕ, _≤_, _<_};
 ghost use lib.ListN.{length};
-ghost use Rattle.joined.specs.Names.{names, astray, nth};
+ghost use Rattle.joined.specs.Names.{astray};
 ghost use Rattle.tabling.specs.steps.Tabled.{offsetOf, Differ};
 use image::equality::same;
 use joined::name_of;

@@ -7,7 +7,8 @@ ghost use lib.ListN.{length};
 ghost use Rattle.image.specs.Tables.{start, order, firstEmpty};
 ghost use Rattle.joined.specs.Names.{astray};
 ghost use Rattle.tabling.specs.steps.Parted.{at, firstIn};
-ghost use Rattle.tabling.specs.steps.Tabled.{offsetOf, pairIn, bucketIn, Differ, meets, Fills, Apart};
+ghost use Rattle.answers.specs.steps.Matches.{matches};
+ghost use Rattle.tabling.specs.steps.Tabled.{offsetOf, pairIn, bucketIn, Differ, Fills, Apart};
 use super::apart::differ;
 
 // The first empty bucket of the search for a pair among the m buckets from word o on; m where an equal name may have been met, if
@@ -24,7 +25,7 @@ fn bucket_for(
 ) -> usize
     requires { ⌜ (astray (length (now bytes)) 0 (now ends) ≡ false) × (0 < length (now ends)) × (length (now ends) ≤ 171798691) × ((k : ℕ) → k ≤ length (now ends) → offsetOf (now ends) k ≤ 4294967295) × (0 < m) × (o + 2 * m ≤ length (now work)) ⌝ }
     ensures first { λ r. ⌜ (r < m → r ≡ firstEmpty (λ (k : ℕ). bucketIn (now (work .entry)) o k .at) (order m m (start h m))) ⌝ }
-    ensures apart { λ r. ⌜ (r < m → different ≡ true → (v : ℕ → Bool) → ((a : ℕ) → Differ (now (bytes .entry)) (now (ends .entry)) a offset → v a ≡ false) → meets (bucketIn (now (work .entry)) o) h v (order m m (start h m)) ≡ false) ⌝ }
+    ensures apart { λ r. ⌜ (r < m → different ≡ true → (v : ℕ → Bool) → ((a : ℕ) → Differ (now (bytes .entry)) (now (ends .entry)) a offset → v a ≡ false) → matches (bucketIn (now (work .entry)) o) h v (order m m (start h m)) ≡ false) ⌝ }
 {
     let mut k = (h / 256) as usize % m;
     let mut left = m;

@@ -1,9 +1,8 @@
-// The names of a list by table, in lent memory: parted, and, where all of them can be put, the tables of their image, made before
-// any name is put.
+// The tables of the image of a list, made in lent memory before any name is put, where every name is accepted.
 ghost use mathlib.Core.Path.{_≡_};
 ghost use mathlib.Core.Bool.{true, false};
 ghost use mathlib.Core.List.{List, map};
-ghost use Prim.Native.Nat.{ℕ, _+_, _*_, _≤_, _<_};
+ghost use Prim.Native.Nat.{ℕ, _*_, _≤_, _<_};
 ghost use lib.ListN.{length, take, drop};
 ghost use Rattle.image.specs.Bytes.{same, cat, le32};
 ghost use Rattle.image.specs.Zero.{hasZero};
@@ -12,15 +11,15 @@ ghost use Rattle.joined.specs.Names.{names, astray, nth};
 ghost use Rattle.tabling.specs.steps.Parted.{at, tableOfName, countOfTable};
 ghost use Rattle.tabling.specs.steps.Tabled.{offsetOf};
 use fill::fill_all;
+use image::scratch::clear;
 use pairs::part_pairs;
-use parted::clear;
 use parted::hash_all;
 use parted::starts;
 
 mod apart; // apart.rt: do the names of two entries differ?
 mod fill; // fill.rt: the tables filled
 mod pairs; // pairs.rt: the pairs parted by table
-pub mod parted; // parted.rt: the names parted by table
+mod parted; // parted.rt: hashes, counts, and where each table begins
 
 // The tables of the image of all names, in the first words of the lent memory: none has a zero byte, and where names are to differ
 // no two are equal. False where that is not so or is not told, and then the memory holds nothing of use. `counts`, all 0 before, has

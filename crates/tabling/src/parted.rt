@@ -1,4 +1,4 @@
-// The names parted by table, in list order within each table: hashes and numbers in the lent memory.
+// The hash of each name in the lent memory, the number of names of each table, and where the places of each table begin.
 ghost use mathlib.Core.Path.{_≡_};
 ghost use mathlib.Core.Bool.{false};
 ghost use Prim.Native.Nat.{ℕ, _+_, _*_, _%_, _≤_, _<_};
@@ -6,22 +6,10 @@ ghost use lib.ListN.{length, drop, set};
 ghost use Rattle.joined.specs.Names.{names, astray, nth};
 ghost use Rattle.joined.specs.Keys.{key};
 ghost use Rattle.image.specs.Tables.{tableOf};
-ghost use Rattle.tabling.specs.steps.Parted.{at, zeroMark, hashIn, numberIn, keptIn, tableOfName, tableIn, countOfTable, sumTo, firstOf, Ordered};
+ghost use Rattle.tabling.specs.steps.Parted.{at, zeroMark, keptIn, tableOfName, countOfTable, sumTo};
 use image::zero::has_zero;
 use joined::key;
 use joined::name_of;
-
-// Clears the first words: what the lent memory held is not trusted.
-pub fn clear(work: &mut [u32], slots: usize)
-    requires { ⌜ slots ≤ length (now work) ⌝ }
-    ensures { λ _. ⌜ ((s : ℕ) → s < slots → at (now (work .exit)) s ≡ 0) × ((k : ℕ) → slots ≤ k → at (now (work .exit)) k ≡ at (now (work .entry)) k) ⌝ }
-{
-    let mut i = 0;
-    while i < slots {
-        work[i] = 0;
-        i += 1;
-    }
-}
 
 // 13 for a name with a zero byte.
 fn zero_mark(name: &[u8]) -> u32
@@ -48,7 +36,7 @@ fn either(a: u32, b: u32) -> u32
 
 // The hash of each name, the number of names of each table, and 13 for each name that has a zero byte, 0 for the others. Gives 0
 // only where no name has one.
-pub fn hash_all(
+pub(super) fn hash_all(
     bytes: &[u8],
     ends: &[u64],
     rs: &mut [u32],
@@ -79,7 +67,7 @@ pub fn hash_all(
 }
 
 // Where the places of each table begin, from the number of names of each.
-pub fn starts(counts: &[u32; 256], firsts: &mut [u32; 256])
+pub(super) fn starts(counts: &[u32; 256], firsts: &mut [u32; 256])
     requires { ⌜ (length (now firsts) ≡ 256) × ((t : ℕ) → t ≤ 256 → sumTo (at (now counts)) t ≤ 4294967295) ⌝ }
     ensures { λ _. ⌜ (length (now (firsts .exit)) ≡ 256) × ((t : ℕ) → t < 256 → at (now (firsts .exit)) t ≡ sumTo (at (now (counts .entry))) t) ⌝ }
 {
@@ -89,33 +77,5 @@ pub fn starts(counts: &[u32; 256], firsts: &mut [u32; 256])
         firsts[t] = first;
         first = first + counts[t];
         t += 1;
-    }
-}
-
-// A hash and the number of its name, in the next place of its table.
-fn settle(work: &mut [u32], tables: &mut [u32; 256], n: usize, h: u32, i: usize)
-    requires { ⌜ (at (now tables) (tableOf h) < n) × (5 * n ≤ length (now work)) × (n ≤ 4294967295) × (i < n) × (length (now tables) ≡ 256) ⌝ }
-    ensures { λ _. ⌜ (now (work .exit) ≡ set (set (now (work .entry)) (2 * n + 3 * at (now (tables .entry)) (tableOf h)) h) (2 * n + 3 * at (now (tables .entry)) (tableOf h) + 1) i) × (now (tables .exit) ≡ set (now (tables .entry)) (tableOf h) (at (now (tables .entry)) (tableOf h) + 1)) ⌝ }
-{
-    let t = (h % 256) as usize;
-    let p = tables[t];
-    let place = 2 * n + 3 * (p as usize);
-    work[place] = h;
-    work[place + 1] = i as u32;
-    tables[t] = p + 1;
-}
-
-// All hashes and numbers in their places.
-pub fn part(work: &mut [u32], tables: &mut [u32; 256], n: usize)
-    requires { ⌜ (7 * n ≤ length (now work)) × (n ≤ 4294967295) × (length (now tables) ≡ 256) × ((t : ℕ) → t < 256 → at (now tables) t ≡ firstOf (tableIn n (now work)) n t) ⌝ }
-    ensures ordered { λ _. ⌜ Ordered (tableIn n (now (work .entry))) n (numberIn n (now (work .exit))) ⌝ }
-    ensures hashes { λ _. ⌜ ((p : ℕ) → p < n → hashIn n (now (work .exit)) p ≡ keptIn n (now (work .entry)) (numberIn n (now (work .exit)) p)) ⌝ }
-    ensures kept { λ _. ⌜ ((i : ℕ) → i < n → keptIn n (now (work .exit)) i ≡ keptIn n (now (work .entry)) i) ⌝ }
-{
-    let mut i = 0;
-    while i < n {
-        let h = work[6 * n + i];
-        settle(&mut *work, &mut *tables, n, h, i);
-        i += 1;
     }
 }

@@ -15,7 +15,8 @@ use Rattle.image.specs.Tables.{order, firstEmpty}
 use Rattle.image.specs.declared.Mode.{Mode}
 use Rattle.image.proofs.Words.{length-le32}
 use Rattle.image.proofs.Stores.{sets-then}
-use Rattle.image.specs.Stored.{between, wholeLength}
+use Rattle.image.specs.Stored.{between}
+use Rattle.image.specs.steps.EntryLength.{wholeLength}
 use Rattle.taking.specs.steps.Working.{bucketFor, withBucket, withLink, entryTaken, takenFrom}
 
 -- a search among some buckets begins at one of them

@@ -39,7 +39,7 @@ pub fn bucket_number(buf: &[u8], h: u32) -> usize
 }
 
 // An entry of hash h at `at`, stored in the first empty bucket of its search.
-pub(super) fn store_bucket(buf: &mut [u8], h: u32, at: u32)
+fn store_bucket(buf: &mut [u8], h: u32, at: u32)
     ensures { λ _. ⌜ now (buf .exit) ≡ withBucket (now (buf .entry)) h at ⌝ }
 {
     let o = table_at(&*buf, h);
@@ -78,14 +78,7 @@ fn take_entry(mode: Mode, links: usize, buf: &mut [u8], at: usize, n: usize)
 }
 
 // The entries from `from` on, one after the other.
-pub(super) fn take_singly(
-    mode: Mode,
-    links: usize,
-    buf: &mut [u8],
-    from: usize,
-    end: usize,
-    entries: u32,
-)
+pub fn take_singly(mode: Mode, links: usize, buf: &mut [u8], from: usize, end: usize, entries: u32)
     requires { ⌜ (from ≤ end) × (end ≤ length (now buf)) × (end < 4294967296) × (links < 4294967296) ⌝ }
     ensures { λ _. ⌜ now (buf .exit) ≡ takenFrom mode links end entries from (now (buf .entry)) ⌝ }
 {

@@ -10,9 +10,10 @@ use borrow.Author.Tests.{eqb-true}
 use Rattle.image.specs.Image.{backIn, backSize}
 use Rattle.image.specs.Stored.{whole}
 use Rattle.image.proofs.Bools.{first, second}
-use Rattle.finish.specs.Finish.{Standing, finishedBuffer}
-use Rattle.writer.specs.State.{stateWith, fits, finishedSize, tooLarge}
-use Rattle.writer.specs.Close.{entryArea, recorded, countsAgree, consistent, closed, afterClose}
+use Rattle.finish.specs.Finish.{finishedBuffer}
+use Rattle.finish.specs.steps.Asked.{Standing}
+use Rattle.writer.specs.State.{stateWith, fits, finishedSize, tooLarge, countsAgree}
+use Rattle.writer.specs.Close.{entryArea, recorded, consistent, closed, afterClose}
 use Rattle.writer.specs.declared.CQDBWriter.{CQDBWriter}
 use Rattle.writer.proofs.Fits.{fitting, not-too-large}
 use Rattle.writer.proofs.Closes.{closes}

@@ -15,8 +15,9 @@ use Rattle.image.specs.Image.{Entry, Placed, headSize, entrySize, placed, count
 use Rattle.image.proofs.EntryWalk.{tallied-cons}
 use Rattle.image.proofs.Sizes.{count-nil, count-cons}
 use Rattle.image.proofs.All.{all-ext}
-use Rattle.writer.specs.Close.{countsAgree}
-use Rattle.image.specs.Tally.{tallied, sameCounts, raisedCounts}
+use Rattle.writer.specs.State.{countsAgree}
+use Rattle.image.specs.Tally.{tallied, raisedCounts}
+use Rattle.writer.specs.steps.Earlier.{sameCounts}
 
 -- no entries, no counts
 pub zeros : (n t : ℕ) → getD {A = ℕ} (replicate n 0) t 0 ≡ 0

@@ -8,12 +8,12 @@ use lib.Dec.{eqb}
 use borrow.Author.Tests.{eq-eqb, ne-eqb}
 use Rattle.image.specs.Image.{backSize, backIn, holds}
 use Rattle.image.specs.Stored.{whole}
-use Rattle.image.specs.Tally.{tallied, sameCounts}
+use Rattle.image.specs.Tally.{tallied}
 use Rattle.image.proofs.Bools.{first-fails, second-fails, third-decides}
 use Rattle.writer.specs.declared.CQDBWriter.{CQDBWriter}
-use Rattle.writer.specs.State.{State, stateWith, refusesRepeats}
-use Rattle.writer.specs.Close.{entryArea, recorded, countsAgree, consistent}
-use Rattle.writer.specs.steps.Earlier.{walkRefusal, earlierRefusal}
+use Rattle.writer.specs.State.{State, stateWith, refusesRepeats, countsAgree}
+use Rattle.writer.specs.Close.{entryArea, recorded, consistent}
+use Rattle.writer.specs.steps.Earlier.{walkRefusal, earlierRefusal, sameCounts}
 use Rattle.writer.proofs.Agree.{same-agree}
 
 -- ---- the walk

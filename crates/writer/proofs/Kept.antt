@@ -1,5 +1,4 @@
--- What calls leave as it was: a put changes its own entry's bytes alone, and an accepted close leaves the entries and the bytes from the
--- image's size on. Assumes nothing.
+-- A put changes its own entry's bytes alone, and an accepted close leaves the entries (`specs/Kept`). Assumes nothing.
 use Prim.Native.Nat.{ℕ, suc, _+_, _-_, _≤_, _<_}
 use native.Mathlib.Omega.{arith}
 use mathlib.Core.Path.{_≡_, refl, sym, ap, _∙_}
@@ -14,10 +13,11 @@ use Rattle.image.specs.declared.Mode.{Mode}
 use Rattle.image.proofs.Sizes.{length-entryBytes, length-entries, length-image}
 use Rattle.image.proofs.At.{at-take}
 use Rattle.image.proofs.Parts.{entries-at}
-use Rattle.writer.specs.State.{State, fits, finishedSize, tooLarge}
+use Rattle.writer.specs.State.{State, fits, finishedSize, tooLarge, countsAgree}
 use Rattle.writer.specs.Put.{putRefusal, appended, afterPut}
 use Rattle.image.specs.Stored.{whole}
-use Rattle.writer.specs.Close.{entryArea, recorded, countsAgree, closeRefusal, closedSize, closed, afterClose}
+use Rattle.writer.specs.Close.{entryArea, recorded, closeRefusal, closedSize, closed, afterClose}
+use Rattle.writer.specs.Kept.{Kept}
 use Rattle.image.proofs.Between.{take-sets}
 use Rattle.finish.proofs.WrittenImage.{area-kept, standing-end}
 use Rattle.writer.proofs.Fits.{fitting}
@@ -107,3 +107,8 @@ module _ (s : State) (bytes : (i : ℕ) → getD (s .buffer) i 0 < 256) (accepte
       ap entryArea is-closed
       ∙ area-in-image s (recorded s) (w .end) (drop (closedSize s) (s .buffer)) ends
       ∙ sym (area-kept (w .end) (w .entries) (s .buffer) bytes (a .1))
+
+-- ---- all of it
+
+pub kept : Kept
+kept = record { put-keeps = put-keeps; put-keeps-behind = put-keeps-behind; close-keeps = close-keeps }

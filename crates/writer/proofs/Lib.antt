@@ -7,3 +7,4 @@ pub mod Puts
 pub mod Closes
 pub mod Accepted
 pub mod Kept
+pub mod Longer

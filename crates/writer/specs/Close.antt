@@ -9,9 +9,7 @@ use Rattle.image.specs.Image.{Entry, headSize, backSize, backIn, image}
 use Rattle.image.specs.Stored.{whole, entriesIn, between}
 use Rattle.writer.specs.declared.Closed.{Closed}
 use Rattle.writer.specs.declared.Closed.the-variants.{Size, Refused}
-use Rattle.writer.specs.State.{State, fits, finishedSize, tooLarge}
--- do the table counts agree with the entries?
-pub use Rattle.finish.specs.Finish.{countsAgree}
+use Rattle.writer.specs.State.{State, countsAgree, fits, finishedSize, tooLarge}
 
 -- the bytes from 2,072 to end, and the entries there
 abbrev pub entryArea : State → List ℕ

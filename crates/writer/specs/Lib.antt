@@ -2,4 +2,6 @@
 pub mod State
 pub mod Put
 pub mod Close
+pub mod Kept
+pub mod Grown
 pub mod steps

@@ -7,14 +7,14 @@ use lib.Dec.{eqb, ltb, leb}
 use Rattle.jhash.specs.Outcome.{Outcome, value, refusal}
 use Rattle.image.specs.Image.{headSize}
 use Rattle.image.specs.declared.Mode.{Mode}
-use Rattle.finish.specs.Finish.{finishedOf}
 use Rattle.writer.specs.declared.Repeats.{Repeats}
 use Rattle.writer.specs.declared.Repeats.the-variants.{Off, On}
 use Rattle.writer.specs.declared.CQDBWriter.{CQDBWriter}
 use Rattle.writer.specs.declared.Begun.{Begun}
 use Rattle.writer.specs.declared.Begun.the-variants.{Fresh, Refused}
--- no table count exceeds the number of entries
-pub use Rattle.finish.specs.Finish.{noneAbove}
+-- the rules of the record that finishing has too: the finished size; no table count exceeds a number; table counts agree
+-- with entries
+pub use Rattle.finish.specs.Record.{finishedOf, noneAbove, countsAgree}
 
 -- what a call is lent: the writer record, whose 256 table counts are lent apart, and the buffer
 pub record State : Type 0 where

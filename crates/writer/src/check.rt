@@ -6,7 +6,7 @@ ghost use lib.ListN.{length};
 ghost use Rattle.writer.specs.State.{stateWith};
 ghost use Rattle.writer.specs.Close.{consistent};
 ghost use Rattle.writer.specs.steps.Earlier.{walkRefusal, earlierRefusal};
-ghost use Rattle.image.specs.Tally.{sameCounts};
+ghost use Rattle.writer.specs.steps.Earlier.{sameCounts};
 use super::CQDBWriter;
 use super::Repeats;
 

@@ -4,12 +4,14 @@ ghost use lib.ListN.{length};
 ghost use Rattle.jhash.specs.NameHash.{hashOf};
 ghost use Rattle.writer.specs.State.{stateWith, beginning, begunOf, countsBegun};
 ghost use Rattle.writer.specs.Put.{putRefusal, appended, afterPut, entryOf};
-ghost use Rattle.writer.specs.Close.{closing, closedOf, afterClose};
+ghost use Rattle.writer.specs.Close.{closeRefusal, closing, closedOf, afterClose};
+ghost use Rattle.writer.specs.Grown.{grownRefusal, grownWriter};
+ghost use Rattle.writer.specs.steps.Closing.{WriteClosedPost};
 use image::Mode;
 
 mod check;
 pub mod entry; // entry.rt: store
-mod record;
+pub mod record; // record.rt: the numbers of the record after a put
 
 // 02 (viii)'s repeats mode: with repeats off a writer refuses a name that it already holds.
 pub enum Repeats {
@@ -34,7 +36,8 @@ pub enum Begun {
     Refused(u32),
 }
 
-// What put answers, the number of its refusal or 0 where it is accepted, and the record that it hands back.
+// What put and grown answer, the number of the refusal or 0 where the call is accepted, and the record that it hands
+// back.
 pub struct PutAnswer {
     pub refusal: u32,
     pub writer: CQDBWriter,
@@ -148,34 +151,77 @@ pub fn put(
     PutAnswer { refusal: 0, writer }
 }
 
+// The record of a buffer that has grown to this length, whose entries stand where they stood; or refusal 2 for a
+// shorter buffer.
+pub fn grown(w: CQDBWriter, length: u64) -> PutAnswer
+    ensures answer { λ r. ⌜ r .refusal ≡ grownRefusal w length ⌝ }
+    ensures leaves { λ r. ⌜ r .writer ≡ grownWriter w length ⌝ }
+{
+    if length < w.length {
+        return PutAnswer {
+            refusal: 2,
+            writer: w,
+        };
+    }
+    let mode = w.mode;
+    let repeats = w.repeats;
+    PutAnswer {
+        refusal: 0,
+        writer: CQDBWriter {
+            mode,
+            repeats,
+            length,
+            end: w.end,
+            entries: w.entries,
+            back: w.back,
+        },
+    }
+}
+
+// The number of the refusal that is due to a close, 0 where it is accepted. Changes nothing.
+pub fn close_refusal(w: CQDBWriter, counts: &[u32; 256], buf: &[u8]) -> u32
+    ensures { λ r. ⌜ r ≡ closeRefusal (stateWith w (now (counts .entry)) (now (buf .entry))) ⌝ }
+{
+    if !record::fits(w, counts, buf) {
+        return 2;
+    }
+    let mode = w.mode;
+    let size = finish::size::finished_size(mode, w.end, w.entries, w.back);
+    if record::too_large(w.length, size) {
+        return 4;
+    }
+    if !check::agrees(w, counts, buf) {
+        return 4;
+    }
+    0
+}
+
+// Writes the image of a record that close accepts, and gives its size.
+pub fn write_closed(w: CQDBWriter, counts: &[u32; 256], buf: &mut [u8]) -> u32
+    requires { ⌜ closeRefusal (stateWith w (now counts) (now buf)) ≡ 0 ⌝ }
+    ensures { λ r. ⌜ WriteClosedPost (stateWith w (now (counts .entry)) (now (buf .entry))) r (now (buf .exit)) ⌝ }
+{
+    let mode = w.mode;
+    let size = finish::size::finished_size(mode, w.end, w.entries, w.back);
+    finish::write_image(mode, w.end, w.entries, w.back, counts, &mut *buf);
+    size as u32
+}
+
 // Writes head, tables and back array into the lent buffer, and gives the image's size. May be called often.
 pub fn close(w: CQDBWriter, counts: &[u32; 256], buf: &mut [u8]) -> CloseAnswer
     ensures answer { λ r. ⌜ closedOf (r .answer) ≡ closing (stateWith w (now (counts .entry)) (now (buf .entry))) ⌝ }
     ensures leaves { λ r. ⌜ stateWith (r .writer) (now (counts .entry)) (now (buf .exit)) ≡ afterClose (stateWith w (now (counts .entry)) (now (buf .entry))) ⌝ }
 {
-    if !record::fits(w, counts, &*buf) {
+    let refusal = close_refusal(w, counts, &*buf);
+    if refusal != 0 {
         return CloseAnswer {
-            answer: Closed::Refused(2),
+            answer: Closed::Refused(refusal),
             writer: w,
         };
     }
-    let mode = w.mode;
-    let size = finish::size::finished_size(mode, w.end, w.entries, w.back);
-    if record::too_large(w.length, size) {
-        return CloseAnswer {
-            answer: Closed::Refused(4),
-            writer: w,
-        };
-    }
-    if !check::agrees(w, counts, &*buf) {
-        return CloseAnswer {
-            answer: Closed::Refused(4),
-            writer: w,
-        };
-    }
-    finish::write_image(mode, w.end, w.entries, w.back, counts, &mut *buf);
+    let size = write_closed(w, counts, &mut *buf);
     CloseAnswer {
-        answer: Closed::Size(size as u32),
+        answer: Closed::Size(size),
         writer: w,
     }
 }

@@ -23,7 +23,7 @@ pub(super) fn fits(w: CQDBWriter, counts: &[u32; 256], buf: &[u8]) -> bool
 }
 
 // Whether a size exceeds the buffer or 4,294,967,295.
-pub(super) fn too_large(room: u64, size: u64) -> bool
+pub fn too_large(room: u64, size: u64) -> bool
     ensures { λ r. ⌜ r ≡ tooLarge room size ⌝ }
 {
     room < size || 4294967295 < size
@@ -40,7 +40,7 @@ fn raised(mode: Mode, back: u32, id: u32) -> u64
 }
 
 // The finished size after a put of an id and a name of n bytes.
-pub(super) fn size_with(w: CQDBWriter, n: usize, id: u32) -> u64
+pub fn size_with(w: CQDBWriter, n: usize, id: u32) -> u64
     requires { ⌜ (w .end < 2 ^ 63) × (n < 4294967295) ⌝ }
     ensures { λ r. ⌜ r ≡ finishedSize (writerWith w n id) ⌝ }
 {
@@ -50,7 +50,7 @@ pub(super) fn size_with(w: CQDBWriter, n: usize, id: u32) -> u64
 }
 
 // The record after a put of an id and a name of n bytes, where the finished size is no more than 4,294,967,295.
-pub(super) fn after(w: CQDBWriter, n: usize, id: u32) -> CQDBWriter
+pub fn after(w: CQDBWriter, n: usize, id: u32) -> CQDBWriter
     requires { ⌜ finishedSize (writerWith w n id) ≤ 4294967295 ⌝ }
     ensures { λ r. ⌜ r ≡ writerWith w n id ⌝ }
 {

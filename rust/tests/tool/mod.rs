@@ -19,10 +19,12 @@ impl Folder {
         Folder(path)
     }
 
+    #[allow(dead_code)]
     pub fn write(&self, name: &str, bytes: impl AsRef<[u8]>) {
         fs::write(self.0.join(name), bytes).unwrap();
     }
 
+    #[allow(dead_code)]
     pub fn read(&self, name: &str) -> Vec<u8> {
         fs::read(self.0.join(name)).unwrap()
     }
@@ -55,6 +57,14 @@ impl Folder {
     /// Makes an image of the list; both are called by the name.
     pub fn image(&self, name: &str, list: impl AsRef<[u8]>) {
         self.with(list, &["make", name]).gives(0);
+    }
+
+    /// The commands that the help lists.
+    #[allow(dead_code)]
+    pub fn commands(&self) -> Vec<String> {
+        let overview = String::from_utf8(self.cqdb(&["--help"]).gives(0).out).unwrap();
+        let firsts = overview.lines().filter_map(|line| line.strip_prefix("  cqdb ")?.split_whitespace().next());
+        firsts.map(str::to_string).collect()
     }
 
     fn run(&self, command: &mut Command, input: &[u8]) -> Ran {

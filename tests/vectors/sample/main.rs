@@ -1,7 +1,6 @@
 // Writes a stored sample of the original's answers: `writing`, what the Rust's writer makes of lists of puts whose names have
 // no zero byte, or `reading`, what its reader answers on images of such lists, also with zero bytes in names, and on damaged
-// copies of them. The lines are those that the programs
-// writer_replay and reader_replay read.
+// copies of them. The lines are those that the program replay reads.
 mod damage;
 #[path = "../../../target/oracle/src/hash.rs"]
 mod hash;
@@ -43,7 +42,7 @@ fn print_calls(list: &List, image: &[u8]) {
     for ((id, name), accepted) in list.puts.iter().zip(list.accepted()) {
         println!("{}", numbered(if accepted { "puts" } else { "full" }, *id, name));
     }
-    println!("size {:08x}", image.len());
+    println!("clos {:08x}", image.len());
 }
 
 /// An image as runs of at least eight zeros, and what stands between them in parts of at most 64 bytes.
@@ -68,18 +67,18 @@ fn is_zeros(part: &[u8]) -> bool {
 fn print_bytes(image: &[u8]) {
     for (_, part) in parts(image) {
         if is_zeros(part) {
-            println!("zero {:08x}", part.len());
+            println!("nils {:08x}", part.len());
         } else {
             println!("part {}", hex(part));
         }
     }
-    println!("ends");
+    println!("last");
 }
 
 // Two hashes of an image, as the Rust hashes a name.
 fn print_hashes(image: &[u8]) {
     let hashed = |start| hash::jhash(image, image.len() as u32 + 1, start);
-    println!("hash {:08x} {:08x}", hashed(0), hashed(0xdead_beef));
+    println!("sums {:08x} {:08x}", hashed(0), hashed(0xdead_beef));
 }
 
 // All bytes of an image, to be read.
@@ -93,8 +92,7 @@ fn print_image(image: &[u8]) {
 }
 
 fn writing(lists: &[List]) {
-    println!("# Lists of puts, and the images that the Rust makes of them. tests/vectors/sample/make makes these lines,");
-    println!("# crates/writer_replay/src/main.rt says what they mean.");
+    println!("# Lists of puts, and the images that the Rust makes of them.");
     for (i, list) in lists.iter().map(List::zero_free).enumerate() {
         let image = list.image();
         println!("# {i}: {}", list.title);
@@ -111,8 +109,7 @@ fn writing(lists: &[List]) {
 fn reading(lists: &[List], names: &Names, random: &mut Random) {
     let mut questions = Questions::new();
     let (mut images, mut damaged) = (0, 0);
-    println!("# Images that the Rust made, damaged ones, and what it answers on them. tests/vectors/sample/make makes these");
-    println!("# lines, crates/reader_replay/src/main.rt says what they mean.");
+    println!("# Images that the Rust made, damaged ones, and what it answers on them.");
     for (i, list) in lists.iter().enumerate().filter(|(i, _)| i % 5 == 2) {
         let image = list.image();
         println!("# {i}: {}", list.title);

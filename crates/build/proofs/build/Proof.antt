@@ -1,6 +1,6 @@
 -- `build::build` meets its contract. Assumes nothing.
 use native.Mathlib.Omega.{arith}
-use mathlib.Core.Path.{_≡_, refl, sym, _∙_}
+use mathlib.Core.Path.{refl, sym, _∙_}
 use lib.ListN.{length}
 use borrow.Author.Needs.{needs}
 use Rattle.build.proofs.Whole.{refusal-14, refusal-15, refusal-15-places, refusal-1, refusal-none, refused-build}
@@ -13,34 +13,40 @@ astray-requires c κs = search needs
 returns : tie.Need-returns
 returns c =
     let a = c .before .before .before .before .before .before .before .before .args in
-    let told = refusal-14 (a .bytes .now) (a .ends .now) (length (a .ids .now)) (length (a .rs .now)) (length (a .buf .now)) (sym (c .before .astray .ensures) ∙ c .if1 .taken) in
-    let out = refused-build (a .mode) (a .repeats) (a .buf .now) (a .bytes .now) (a .ends .now) (a .ids .now) (a .rs .now) 14 told (omega arith) in
+    let told = refusal-14 (a .bytes .now) (a .ends .now) (length (a .ids .now)) (length (a .refusals .now)) (length (a .buf .now)) (sym (c .before .astray .ensures) ∙ c .if1 .taken) in
+    let out = refused-build (a .mode) (a .repeats) (a .buf .now) (a .bytes .now) (a .ends .now) (a .ids .now) (a .refusals .now) 14 told (omega arith) in
     (out .0, (out .1, (out .2, λ h. refl)))
 
 returns-2 : tie.Need-returns-2
 returns-2 c =
     let a = c .before .before .before .before .before .before .before .before .before .args in
-    let told = refusal-15 (a .bytes .now) (a .ends .now) (length (a .ids .now)) (length (a .rs .now)) (length (a .buf .now)) (sym (c .before .before .astray .ensures) ∙ c .before .if1 .left) (c .if2 .taken) in
-    let out = refused-build (a .mode) (a .repeats) (a .buf .now) (a .bytes .now) (a .ends .now) (a .ids .now) (a .rs .now) 15 told (omega arith) in
+    let told = refusal-15 (a .bytes .now) (a .ends .now) (length (a .ids .now)) (length (a .refusals .now)) (length (a .buf .now)) (sym (c .before .before .astray .ensures) ∙ c .before .if1 .left) (c .if2 .taken) in
+    let out = refused-build (a .mode) (a .repeats) (a .buf .now) (a .bytes .now) (a .ends .now) (a .ids .now) (a .refusals .now) 15 told (omega arith) in
     (out .0, (out .1, (out .2, λ h. refl)))
 
 returns-3 : tie.Need-returns-3
 returns-3 c =
     let a = c .before .before .before .before .before .before .before .before .before .before .args in
-    let told = refusal-15-places (a .bytes .now) (a .ends .now) (length (a .ids .now)) (length (a .rs .now)) (length (a .buf .now)) (sym (c .before .before .before .astray .ensures) ∙ c .before .before .if1 .left) (c .before .if2 .left) (c .if3 .taken) in
-    let out = refused-build (a .mode) (a .repeats) (a .buf .now) (a .bytes .now) (a .ends .now) (a .ids .now) (a .rs .now) 15 told (omega arith) in
+    let told = refusal-15-places (a .bytes .now) (a .ends .now) (length (a .ids .now)) (length (a .refusals .now)) (length (a .buf .now)) (sym (c .before .before .before .astray .ensures) ∙ c .before .before .if1 .left) (c .before .if2 .left) (c .if3 .taken) in
+    let out = refused-build (a .mode) (a .repeats) (a .buf .now) (a .bytes .now) (a .ends .now) (a .ids .now) (a .refusals .now) 15 told (omega arith) in
     (out .0, (out .1, (out .2, λ h. refl)))
 
 returns-4 : tie.Need-returns-4
 returns-4 c =
     let a = c .before .before .before .before .before .before .before .before .before .before .before .args in
-    let told = refusal-1 (a .bytes .now) (a .ends .now) (length (a .ids .now)) (length (a .rs .now)) (length (a .buf .now)) (sym (c .before .before .before .before .astray .ensures) ∙ c .before .before .before .if1 .left) (c .before .before .if2 .left) (c .before .if3 .left) (c .if4 .taken) in
-    let out = refused-build (a .mode) (a .repeats) (a .buf .now) (a .bytes .now) (a .ends .now) (a .ids .now) (a .rs .now) 1 told (omega arith) in
+    let told = refusal-1 (a .bytes .now) (a .ends .now) (length (a .ids .now)) (length (a .refusals .now)) (length (a .buf .now)) (sym (c .before .before .before .before .astray .ensures) ∙ c .before .before .before .if1 .left) (c .before .before .if2 .left) (c .before .if3 .left) (c .if4 .taken) in
+    let out = refused-build (a .mode) (a .repeats) (a .buf .now) (a .bytes .now) (a .ends .now) (a .ids .now) (a .refusals .now) 1 told (omega arith) in
     (out .0, (out .1, (out .2, λ h. refl)))
 
 build-list-requires : tie.Need-build-list-requires
 build-list-requires c κs =
-    (sym (c .before .before .before .before .before .before .before .astray .ensures) ∙ c .before .before .before .before .before .before .if1 .left, c .before .before .before .before .before .if2 .left, c .before .before .before .before .if3 .left, c .before .before .before .if4 .left)
+    let s = c .before .before .before in
+    record {
+      packed = sym (s .before .before .before .before .astray .ensures) ∙ s .before .before .before .if1 .left;
+      ids-long = s .before .before .if2 .left;
+      refusals-long = s .before .if3 .left;
+      head-fits = s .if4 .left;
+    }
 
 same-length : tie.Need-same-length
 same-length c = search needs
@@ -56,9 +62,9 @@ returns-5 c =
     let s = c .before .before .before .before .before .before .before .before .before .before in
     let a = s .before .before .before .before .before .before .before .before .before .before .before .args in
     let straight = sym (s .before .before .before .before .astray .ensures) ∙ s .before .before .before .if1 .left in
-    let none = refusal-none (a .bytes .now) (a .ends .now) (length (a .ids .now)) (length (a .rs .now)) (length (a .buf .now)) straight (s .before .before .if2 .left) (s .before .if3 .left) (s .if4 .left) in
+    let none = refusal-none (a .bytes .now) (a .ends .now) (length (a .ids .now)) (length (a .refusals .now)) (length (a .buf .now)) straight (s .before .before .if2 .left) (s .before .if3 .left) (s .if4 .left) in
     let out = c .before .before .before .before .before .before .build-list .ensures in
-    (out .0, (out .1 .0, (out .1 .1, λ h. absurd (omega (arith, none, h)))))
+    (out .gives, (out .leaves, (out .answers, λ h. absurd (omega (arith, none, h)))))
 
 pub build-spec : {M : Type 1} → statement M
 build-spec =

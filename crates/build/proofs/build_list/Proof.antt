@@ -3,14 +3,13 @@ use borrow.Author.Needs.{needs}
 use Rattle.build.proofs.build_list.Statement.{statement}
 use Rattle.build.proofs.build_list.Tie as tie
 
-roomy-requires : tie.Need-roomy-requires
-roomy-requires c κs = c .before .before .before .before .before .before .pre .1
+has-capacity-requires : tie.Need-has-capacity-requires
+has-capacity-requires c κs = search needs
 
-build-roomy-requires : tie.Need-build-roomy-requires
-build-roomy-requires c κs =
+build-bulk-requires : tie.Need-build-bulk-requires
+build-bulk-requires c κs =
     let s = c .before .before .before .before .before .before .before .before .before .before .before in
-    let told = c .before .before .before .before .roomy .ensures (c .before .before .before .if1 .taken) in
-    (s .pre .0, s .pre .1, s .pre .2, s .pre .3, told .0, told .1, told .2, told .3)
+    (s .pre, c .before .before .before .before .has-capacity .ensures (c .before .before .before .if1 .taken))
 
 same-length : tie.Need-same-length
 same-length c = search needs
@@ -22,10 +21,10 @@ same-length-3 : tie.Need-same-length-3
 same-length-3 c = search needs
 
 returns : tie.Need-returns
-returns c = c .before .before .before .before .before .before .build-roomy .ensures
+returns c = search needs
 
 build-singly-requires : tie.Need-build-singly-requires
-build-singly-requires c κs = c .before .before .before .before .before .before .before .before .before .before .before .pre
+build-singly-requires c κs = search needs
 
 same-length-4 : tie.Need-same-length-4
 same-length-4 c = search needs
@@ -37,14 +36,14 @@ same-length-6 : tie.Need-same-length-6
 same-length-6 c = search needs
 
 returns-2 : tie.Need-returns-2
-returns-2 c = c .before .before .before .before .before .before .build-singly .ensures
+returns-2 c = search needs
 
 pub build-list-spec : {M : Type 1} → statement M
 build-list-spec =
     tie.close
     (tie.spec
-    roomy-requires
-    build-roomy-requires
+    has-capacity-requires
+    build-bulk-requires
     same-length
     same-length-2
     same-length-3

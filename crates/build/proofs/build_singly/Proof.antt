@@ -1,40 +1,71 @@
 -- `build::build_singly` meets its contract. Assumes nothing.
+use Prim.Native.Nat.{ℕ, _^_, _≤_, _<_}
 use native.Mathlib.Omega.{arith}
-use mathlib.Core.Path.{_≡_, refl, sym, ap, _∙_}
-use lib.ListN.{length}
+use mathlib.Core.Path.{_≡_, refl, sym}
+use mathlib.Core.List.{List}
+use lib.ListN.{length, getD, take}
+use lib.Seq.{length-take-le}
 use borrow.Author.Needs.{needs}
 use Rattle.writer.specs.State.{fresh}
-use Rattle.build.proofs.Whole.{refusal-none, told-all, left-all, built-image, slots-within}
+use Rattle.index.proofs.RightKept.{right-fresh}
+use Rattle.build.proofs.SinglePuts.{slots-cleared, list-closes, list-built}
 use Rattle.build.proofs.build_singly.Statement.{statement}
 use Rattle.build.proofs.build_singly.Tie as tie
 
-slots-for-requires : tie.Need-slots-for-requires
-slots-for-requires c κs = search needs
+-- the scratch memory with the slots cleared
+abbrev cleared : tie.After-clear → List ℕ
+cleared c = c .clear .last .0
 
-cast-clear : tie.Need-cast-clear
-cast-clear c = search needs
+-- the places before a clear and before the puts
+abbrev begun : tie.After-clear → tie.Start
+begun c = c .before .before .before .before .before .before .before .before .before
+
+abbrev sized : tie.After-clear → tie.After-index-words
+sized c = c .before .before
+
+words-within : (c : tie.After-clear) → sized c .index-words .result ≤ length (cleared c)
+words-within c = omega (arith, sized c .index-words .ensures .within, c .clear .kept)
+
+abbrev put-start : tie.After-put-list → tie.Start
+put-start c = c .before .before .before .before .before .before .before .before .before .before .before .before .before .before .before .before
+
+word-ids : (c : tie.After-put-list) (i : ℕ) → i < length (put-start c .args .ends .now) → getD (put-start c .args .ids .now) i 0 < 2 ^ 32
+word-ids c i h = omega (arith, c .before .before .before .before .before .before .before .before .before .before .before .before .shared-slice-known3 .given i)
+
+index-words-requires : tie.Need-index-words-requires
+index-words-requires c κs = search needs
 
 clear-requires : tie.Need-clear-requires
-clear-requires c κs =
-    let s = c .before .before .before .before .before .before .before .before in
-    slots-within (c .before .slots-for .result) (length (s .args .ends .now)) (length (s .args .work .now)) 4294967295 (c .before .slots-for .ensures)
+clear-requires c κs = search needs
 
-put-all-requires : tie.Need-put-all-requires
+slice-relend-prefix-slots : tie.Need-slice-relend-prefix-slots
+slice-relend-prefix-slots c = search needs
+
+slice-aggregate-slots : tie.Need-slice-aggregate-slots
+slice-aggregate-slots c =
+    let z = c .before .before .before in
+    sym (length-take-le (sized z .index-words .result) (cleared z) (words-within z))
+
+put-list-requires : tie.Need-put-list-requires
 unfolding fresh
-put-all-requires c κs =
-    let s = c .before .before .before .before .before .before .before .before .before .before .before .before .before .before .before in
-    let slots = c .before .before .before .before .before .before .before .before .slots-for .ensures in
-    let cleared = c .before .before .before .before .before .before .clear in (
-      s .pre .0,
-      s .pre .1,
-      s .pre .2,
-      s .pre .3,
-      refl,
-      λ h. (omega (arith, slots h .0, cleared .kept), slots h .1, cleared .ensures .0),
-    )
+put-list-requires c κs =
+    let z = c .before .before .before .before .before .before in
+    let s = begun z in
+    let a = s .args in
+    let n = sized z .index-words .result in
+    let long : length (take n (cleared z)) ≡ n = length-take-le n (cleared z) (words-within z) in
+    record {
+      list = s .pre;
+      begun = refl;
+      right = λ h. right-fresh (a .mode) (a .repeats) (a .buf .now) (take n (cleared z)) (s .pre .head-fits) (slots-cleared (cleared z) n (words-within z) (z .clear .ensures .0));
+      enough = λ h. omega (arith, long, sized z .index-words .ensures .enough (omega (arith, h, long)));
+    }
 
 finish-list-requires : tie.Need-finish-list-requires
-finish-list-requires c κs = c .before .before .before .before .before .before .before .before .put-all .ensures .0 .closes
+finish-list-requires c κs =
+    let p = c .before .before .before .before .before .before .before .before in
+    let a = put-start p .args in
+    list-closes (a .mode) (a .repeats) (put-start p .pre) (word-ids p) (p .put-list .ensures .leaves)
 
 same-length : tie.Need-same-length
 same-length c = search needs
@@ -47,19 +78,21 @@ same-length-3 c = search needs
 
 returns : tie.Need-returns
 returns c =
-    let s = c .before .before .before .before .before .before .before .before .before .before .before .before .before .before .before .before .before .before .before .before .before .before .before .before .before .before .before in
-    let a = s .args in
-    let put = c .before .before .before .before .before .before .before .before .before .before .before .put-all .ensures in
-    let done = c .before .before .finish-list in
-    let ok = refusal-none (a .bytes .now) (a .ends .now) (length (a .ids .now)) (length (a .rs .now)) (length (a .buf .now)) (s .pre .0) (s .pre .1) (s .pre .2) (s .pre .3) in (
-      built-image (a .mode) (a .repeats) (a .buf .now) (a .bytes .now) (a .ends .now) (a .ids .now) (a .rs .now) ok _ (put .0) (done .result) (done .ensures .0) (done .ensures .1),
-      (
-        left-all (a .mode) (a .repeats) (a .buf .now) (a .bytes .now) (a .ends .now) (a .ids .now) (a .rs .now) ok _ (put .0) _ (done .ensures .2),
-        told-all (a .mode) (a .repeats) (a .buf .now) (a .bytes .now) (a .ends .now) (a .ids .now) (a .rs .now) ok _ (put .1),
-      ),
-    )
+    let p = c .before .before .before .before .before .before .before .before .before .before .before in
+    let a = put-start p .args in
+    list-built (a .mode) (a .repeats) (put-start p .pre) (word-ids p) (p .put-list .ensures .leaves) (c .before .before .finish-list .ensures) (p .put-list .ensures .answers)
 
 pub build-singly-spec : {M : Type 1} → statement M
 build-singly-spec =
     tie.close
-    (tie.spec slots-for-requires cast-clear clear-requires put-all-requires finish-list-requires same-length same-length-2 same-length-3 returns)
+    (tie.spec
+    index-words-requires
+    clear-requires
+    slice-relend-prefix-slots
+    slice-aggregate-slots
+    put-list-requires
+    finish-list-requires
+    same-length
+    same-length-2
+    same-length-3
+    returns)

@@ -10,7 +10,8 @@ use Rattle.jhash.specs.NameHash.{hashOf}
 use Rattle.image.specs.Bytes.{word, le32, cat}
 use Rattle.image.specs.Tables.{Bucket, tableOf, start, order, firstEmpty, filled}
 use Rattle.image.specs.Image.{headSize, bucketBytes}
-use Rattle.image.specs.Stored.{between, wholeLength}
+use Rattle.image.specs.Stored.{between}
+use Rattle.image.specs.steps.EntryLength.{wholeLength}
 use Rattle.image.specs.declared.Mode.{Mode}
 use Rattle.taking.specs.steps.Working.{withLink}
 

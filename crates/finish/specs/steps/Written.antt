@@ -8,7 +8,7 @@ use lib.Dec.{eqb, leb}
 use Rattle.image.specs.Bytes.{le32}
 use Rattle.image.specs.Image.{headSize, headBytes, flagWord, backIn}
 use Rattle.image.specs.declared.Mode.{Mode}
-use Rattle.finish.specs.Finish.{finishedOf, noneAbove}
+use Rattle.finish.specs.Record.{finishedOf, noneAbove}
 use Rattle.taking.specs.steps.Working.{takenFrom}
 use Rattle.finish.specs.steps.Parting.{byTables}
 

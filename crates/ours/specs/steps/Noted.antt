@@ -8,7 +8,8 @@ use lib.Dec.{eqb}
 use Rattle.jhash.specs.NameHash.{hashOf}
 use Rattle.image.specs.Bytes.{word}
 use Rattle.image.specs.Head.{tableAt, bucketNumber}
-use Rattle.image.specs.Stored.{between, wholeLength}
+use Rattle.image.specs.Stored.{between}
+use Rattle.image.specs.steps.EntryLength.{wholeLength}
 use Rattle.image.specs.Tables.{tableOf, start}
 use Rattle.ours.specs.steps.Tests.{nameAt}
 

@@ -1,30 +1,29 @@
 -- `page::print_lines` meets its contract. Assumes nothing.
 use native.Mathlib.Omega.{arith}
-use Prim.Native.Nat.{_*_, _-_, _≤_}
+use Prim.Native.Nat.{_+_, _*_, _-_, _≤_}
 use mathlib.Core.Path.{_≡_, refl, sym, _∙_}
 use lib.ListN.{length}
 use lib.Seq.{sets}
 use borrow.Author.Needs.{needs}
-use Rattle.image.specs.Bytes.{cat, range}
 use Rattle.reader.specs.Naming.{nameGiven}
-use Rattle.page.specs.Page.{line, page}
+use Rattle.page.specs.Page.{lines}
 use Rattle.page.proofs.Pages.{lines-start, lines-turn, lines-end}
 use Rattle.page.proofs.print_lines.Statement.{statement}
 use Rattle.page.proofs.print_lines.Tie as tie
 
 abbrev Inv-loop : tie.InvT-loop
-Inv-loop out₀ image lines id₀ out id =
-    (id ≤ lines)
+Inv-loop out₀ image first count i₀ out i =
+    (i ≤ count)
     × (length out ≡ length out₀)
-    × (sets out (45 * id) (cat (line (nameGiven image)) (range id (lines - id))) ≡ sets out₀ 0 (page (nameGiven image) lines))
+    × (sets out (45 * i) (lines (nameGiven image) (first + i) (count - i)) ≡ sets out₀ 0 (lines (nameGiven image) first count))
 
 abbrev μ-loop : tie.MeasureT-loop
-μ-loop out₀ image lines id₀ out id = lines - id
+μ-loop out₀ image first count i₀ out i = count - i
 
 loop-holds : tie.Need-loop-holds Inv-loop μ-loop
 loop-holds c =
     let a = c .before .before .args in
-    (omega arith, refl, lines-start (nameGiven (a .image .now)) (a .out .now) (a .lines))
+    (omega arith, refl, lines-start (nameGiven (a .image .now)) (a .out .now) (a .first) (a .count))
 
 cast-print-line : tie.Need-cast-print-line Inv-loop μ-loop
 cast-print-line c = search needs
@@ -32,11 +31,14 @@ cast-print-line c = search needs
 mul-print-line : tie.Need-mul-print-line Inv-loop μ-loop
 mul-print-line c = omega arith
 
+add-print-line : tie.Need-add-print-line Inv-loop μ-loop
+add-print-line c = omega arith
+
 print-line-requires : tie.Need-print-line-requires Inv-loop μ-loop
 print-line-requires c κs = omega arith
 
-add-id : tie.Need-add-id Inv-loop μ-loop
-add-id c = omega arith
+add-i : tie.Need-add-i Inv-loop μ-loop
+add-i c = omega arith
 
 loop-less : tie.Need-loop-less Inv-loop μ-loop
 loop-less c = omega arith
@@ -49,7 +51,7 @@ loop-again c =
     let printed = c .before .before .print-line in (
       omega arith,
       printed .kept .0 ∙ l .inv .1,
-      lines-turn (nameGiven (a .image .now)) (l .out) (printed .last .0) (l .id) (a .lines) more (printed .ensures) ∙ l .inv .2,
+      lines-turn (nameGiven (a .image .now)) (l .out) (printed .last .0) (a .first) (l .i) (a .count) more (printed .ensures) ∙ l .inv .2,
     )
 
 same-length : tie.Need-same-length Inv-loop μ-loop
@@ -59,7 +61,7 @@ returns : tie.Need-returns Inv-loop μ-loop
 returns c =
     let a = c .before .before .before .before .args in
     let l = c .before .loop in
-    sym (lines-end (nameGiven (a .image .now)) (l .out) (l .id) (a .lines) (c .loop-test .left)) ∙ l .inv .2
+    sym (lines-end (nameGiven (a .image .now)) (l .out) (a .first) (l .i) (a .count) (c .loop-test .left)) ∙ l .inv .2
 
 pub print-lines-spec : {M : Type 1} → statement M
 print-lines-spec =
@@ -70,8 +72,9 @@ print-lines-spec =
     loop-holds
     cast-print-line
     mul-print-line
+    add-print-line
     print-line-requires
-    add-id
+    add-i
     loop-less
     loop-again
     same-length

@@ -7,7 +7,7 @@ use denote.Builtin.{u8}
 use denote.Slice.{sliceTy, ShrSlice, shr-slice-lawful}
 use Rattle.reader.specs.Slices.{slice}
 use Rattle.season.specs.Rule.{namePartOn}
-use Rattle.season.specs.steps.Saying.{partBy}
+use Rattle.season.specs.Saying.{partBy}
 use Rattle.season.proofs.WindowLaws.{parted}
 use Rattle.season.proofs.OverWindows.{keeps}
 use Rattle.season.proofs.part_by.Symbol as callee

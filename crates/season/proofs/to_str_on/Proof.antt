@@ -4,7 +4,7 @@ use contract.Running.{givenOf}
 use denote.Enum.Laws as EL
 use Rattle.season.specs.Rule.{namingOn}
 use Rattle.season.specs.Cases.{namedOnOf}
-use Rattle.season.specs.steps.Saying.{placeBy}
+use Rattle.season.specs.Saying.{placeBy}
 use Rattle.season.proofs.WindowLaws.{placed}
 use Rattle.season.proofs.OverWindows.{keeps}
 use Rattle.season.proofs.NamedOn as N

@@ -3,7 +3,7 @@ use mathlib.Core.Path.{_≡_, ap, _∙_}
 use contract.Running.{givenOf}
 use denote.Struct.Laws as LL
 use Rattle.season.specs.Rule.{namingOn}
-use Rattle.season.specs.steps.Saying.{placeBy}
+use Rattle.season.specs.Saying.{placeBy}
 use Rattle.season.proofs.WindowLaws.{placed}
 use Rattle.season.proofs.OverWindows.{keeps}
 use Rattle.season_c.specs.NameOnAnswer.{onAnswer}

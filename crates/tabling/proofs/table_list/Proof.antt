@@ -1,5 +1,5 @@
 -- `tabling::table_list` meets its contract. Assumes nothing.
-use Prim.Native.Nat.{ℕ, _+_, _*_, _≤_, _<_}
+use Prim.Native.Nat.{ℕ}
 use native.Mathlib.Omega.{arith}
 use mathlib.Core.Path.{_≡_, refl, sym, ap, _∙_}
 use mathlib.Core.Bool.{Bool, true, false, cond}
@@ -9,7 +9,7 @@ use Rattle.image.specs.Tables.{tableOf}
 use Rattle.image.specs.Zero.{hasZero}
 use Rattle.image.proofs.Bools.{not-both}
 use Rattle.joined.specs.Names.{names, nth}
-use Rattle.tabling.specs.steps.Parted.{at, zeroMark, tableOfName, tableIn}
+use Rattle.tabling.specs.steps.Parted.{at, tableOfName, tableIn}
 use Rattle.tabling.proofs.Tallies.{first-ext, sums-fit}
 use Rattle.tabling.proofs.Offsets.{offsets-small}
 use Rattle.tabling.proofs.WholeTables.{ends-in, some-at, whole-apart, whole-tables}

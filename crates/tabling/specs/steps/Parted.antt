@@ -1,8 +1,6 @@
--- The names parted by table, in list order within each table, as the code goes. No rule stands here: proofs/ joins it to the rules. The lent memory has 7 words
--- for each of n names, the last n of them the hashes in list order. Here the others are 2n heads of chains, then n times a hash, the number of the name that has
--- it and a link, in the order of the tables.
-use Prim.Native.Nat.{ℕ, zero, suc, _+_, _*_, _-_, _<_}
-use mathlib.Core.Path.{_≡_}
+-- The names by table, in list order within each table, as the code goes. No rule stands here: proofs/ joins it to the rules. The lent memory has 7 words for
+-- each of n names, the last n of them the hashes in list order; what the others are is in Tabled.
+use Prim.Native.Nat.{ℕ, zero, suc, _+_, _*_, _-_}
 use mathlib.Core.Bool.{cond}
 use mathlib.Core.List.{List}
 use lib.ListN.{getD}
@@ -19,16 +17,6 @@ at l i = getD l i 0
 -- 13 for a zero byte
 abbrev pub zeroMark : List ℕ → ℕ
 zeroMark name = cond (hasZero name) 13 0
-
--- the words of the p-th place: hash, number and link
-abbrev pub hashIn : ℕ → List ℕ → ℕ → ℕ
-hashIn n work p = at work (2 * n + 3 * p)
-
-abbrev pub numberIn : ℕ → List ℕ → ℕ → ℕ
-numberIn n work p = at work (2 * n + 3 * p + 1)
-
-abbrev pub linkOf : ℕ → List ℕ → ℕ → ℕ
-linkOf n work p = at work (2 * n + 3 * p + 2)
 
 -- the hash of the i-th name
 abbrev pub keptIn : ℕ → List ℕ → ℕ → ℕ
@@ -58,12 +46,6 @@ firstOf T n t = sumTo (λ (s : ℕ). countOfTable T s n) t
 -- the place of the i-th
 unfoldable pub placeInOrder : (ℕ → ℕ) → ℕ → ℕ → ℕ
 placeInOrder T n i = firstOf T n (T i) + countOfTable T (T i) i
-
--- each of n numbers has a place, and the numbers of one table rise
-pub record Ordered (T : ℕ → ℕ) (n : ℕ) (number : ℕ → ℕ) : Type 0 where
-  pub below : (p : ℕ) → p < n → number p < n
-  pub there : (i : ℕ) → i < n → (placeInOrder T n i < n) × (number (placeInOrder T n i) ≡ i)
-  pub rises : (p q : ℕ) → p < q → q < n → T (number p) ≡ T (number q) → number p < number q
 
 -- where the places of table t begin, by where each table ends
 abbrev pub firstIn : List ℕ → ℕ → ℕ

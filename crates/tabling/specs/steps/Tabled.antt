@@ -3,10 +3,9 @@
 -- tables, then the hashes in list order.
 use Prim.Native.Nat.{ℕ, zero, suc, _+_, _*_, _≤_, _<_}
 use mathlib.Core.Path.{_≡_}
-use mathlib.Core.Bool.{Bool, true, false, cond, _&&_}
+use mathlib.Core.Bool.{false}
 use mathlib.Core.List.{List, [], _∷_, _++_}
 use lib.ListN.{length, getD}
-use lib.Dec.{eqb}
 use Rattle.image.specs.Bytes.{same}
 use Rattle.image.specs.Tables.{Bucket, empty, filled}
 use Rattle.image.specs.Image.{headSize}
@@ -34,11 +33,6 @@ bucketIn work o k = record { hash = at work (o + 2 * k); at = at work (o + 2 * k
 abbrev pub Differ : List ℕ → List ℕ → ℕ → ℕ → Type 0
 Differ bytes ends a b =
     (i j : ℕ) → i < length ends → j < length ends → offsetOf ends i ≡ a → offsetOf ends j ≡ b → same (nth (names bytes ends) i) (nth (names bytes ends) j) ≡ false
-
--- does a search along these buckets meet one of this hash, before the first empty one, whose offset is told to be the same?
-unfoldable pub meets : (ℕ → Bucket) → ℕ → (ℕ → Bool) → List ℕ → Bool
-meets b h v [] = false
-meets b h v (k ∷ ks) = cond (eqb (b k .at) 0) false (cond (eqb (b k .hash) h && v (b k .at)) true (meets b h v ks))
 
 -- the c pairs from a place on fill the buckets from word o on
 abbrev pub Fills : ℕ → List ℕ → ℕ → ℕ → ℕ → Type 0

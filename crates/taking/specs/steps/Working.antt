@@ -1,18 +1,18 @@
 -- What taking entries into tables and back array leaves, as the code goes. No rule of 01 stands here: proofs of the crate finish show that all its
 -- steps together leave the image.
-use Prim.Native.Nat.{ℕ, zero, suc, _+_, _*_, _-_, _≤_}
-use mathlib.Core.Path.{_≡_}
-use mathlib.Core.Bool.{Bool, true, cond}
+use Prim.Native.Nat.{ℕ, zero, suc, _+_, _*_, _-_}
+use mathlib.Core.Bool.{cond}
 use mathlib.Core.List.{List, _++_}
-use lib.ListN.{getD, take, drop}
+use lib.ListN.{take, drop}
 use lib.Seq.{sets}
-use lib.Dec.{eqb, leb}
+use lib.Dec.{eqb}
 use Rattle.jhash.specs.NameHash.{hashOf}
 use Rattle.image.specs.Bytes.{word, le32}
 use Rattle.image.specs.Tables.{tableOf, start, order, firstEmpty}
 use Rattle.image.specs.declared.Mode.{Mode}
 use Rattle.image.specs.declared.Mode.the-variants.{Twoway, Oneway}
-use Rattle.image.specs.Stored.{between, wholeLength}
+use Rattle.image.specs.Stored.{between}
+use Rattle.image.specs.steps.EntryLength.{wholeLength}
 
 -- the bucket that takes an entry of hash h: its place in the buffer
 unfoldable pub bucketFor : List ℕ → ℕ → ℕ
@@ -39,25 +39,3 @@ takenFrom mode links end zero at buf = buf
 takenFrom mode links end (suc m) at buf =
     let n = wholeLength (between buf at end) in
     cond (eqb n 0) buf (takenFrom mode links end m (at + (8 + n)) (entryTaken mode links buf at n))
-
--- where the k-th entry from `from` on stands, the first being number 0
-unfoldable pub placeOf : List ℕ → ℕ → ℕ → ℕ → ℕ
-placeOf buf end from zero = from
-placeOf buf end from (suc k) =
-    let at = placeOf buf end from k in
-    at + (8 + wholeLength (between buf at end))
-
--- what a hash noted for the entry at the front of some bytes says: the entry is whole, and this is its name's hash
-pub record NotedFirst (bytes : List ℕ) (h : ℕ) : Type 0 where
-  pub some : wholeLength bytes ≡ 0 → ⊥
-  pub is : h ≡ hashOf (take (wholeLength bytes - 1) (drop 8 bytes))
-
--- the same of the k-th entry from `from` on and the k-th of the noted hashes; and that its table stands behind the entries
-pub record Noted (buf : List ℕ) (end from : ℕ) (hashes : List ℕ) (k : ℕ) : Type 0 where
-  pub first : NotedFirst (between buf (placeOf buf end from k) end) (getD hashes k 0)
-  pub apart : end ≤ word buf (24 + 8 * tableOf (getD hashes k 0))
-
--- does the back array, where there is one, stand behind the entries?
-abbrev pub linksApart : Mode → ℕ → ℕ → Bool
-linksApart Twoway links end = leb end links
-linksApart Oneway links end = true

@@ -1,7 +1,10 @@
 -- What put makes of the earlier entries, as the code goes. No rule of 02 stands here: proofs/ joins it to specs/Put.
 use Prim.Native.Nat.{ℕ}
-use mathlib.Core.Bool.{cond, not}
+use mathlib.Core.Bool.{Bool, cond, not}
 use mathlib.Core.List.{List}
+use lib.ListN.{getD}
+use lib.Dec.{eqb}
+use Rattle.image.specs.Bytes.{all}
 use Rattle.image.specs.Image.{holds}
 use Rattle.writer.specs.State.{State, refusesRepeats}
 use Rattle.writer.specs.Close.{recorded, consistent}
@@ -14,3 +17,7 @@ walkRefusal s name = cond (not (consistent s)) 4 (cond (holds name (recorded s))
 unfoldable pub earlierRefusal : State → List ℕ → ℕ
 unfolding walkRefusal
 earlierRefusal s name = cond (refusesRepeats (s .writer .repeats)) (walkRefusal s name) 0
+
+-- do two lists of counts agree at the 256 tables?
+abbrev pub sameCounts : List ℕ → List ℕ → Bool
+sameCounts a b = all (λ (t : ℕ). eqb (getD a t 0) (getD b t 0)) 0 256

@@ -21,18 +21,36 @@ pub struct Command {
     pub run: fn(Args) -> Outcome,
 }
 
-/// An option without a value.
+/// An option.
 pub struct Opt {
     pub long: &'static str,
     pub short: Option<u8>,
+    /// What the help calls its value, where it has one.
+    pub value: Option<&'static str>,
     pub text: &'static str,
+}
+
+impl Opt {
+    /// An option without a value.
+    pub const fn plain(long: &'static str, text: &'static str) -> Opt {
+        Opt { long, short: None, value: None, text }
+    }
+
+    /// An option with a value, and what the help calls that.
+    pub const fn with_value(long: &'static str, value: &'static str, text: &'static str) -> Opt {
+        Opt { long, short: None, value: Some(value), text }
+    }
 }
 
 /// Lines that end with a zero byte.
 pub const ZERO: Opt =
-    Opt { long: "--zero", short: Some(b'0'), text: "lines end with a zero byte, so a name may hold a line feed" };
+    Opt { short: Some(b'0'), ..Opt::plain("--zero", "lines end with a zero byte, so a name may hold a line feed") };
 /// A tab between id and name.
-pub const TAB: Opt = Opt { long: "--tab", short: None, text: "a tab stands between id and name, in place of a space" };
+pub const TAB: Opt = Opt::plain("--tab", "a tab stands between id and name, in place of a space");
+/// Lines of Windows.
+pub const WINDOWS: Opt = Opt::plain("--windows", "lines end with CR LF, and a byte order mark may come first");
+/// Every image of a bundle.
+pub const ALL: Opt = Opt::plain("--all", "ask every image of a bundle; the position of the image comes first");
 
 impl Command {
     pub fn help(&self) -> String {
@@ -42,15 +60,16 @@ impl Command {
         }
         for option in self.options {
             let short = option.short.map_or(String::new(), |letter| format!("-{}, ", letter as char));
-            let _ = writeln!(text, "  {:14} {}", format!("{short}{}", option.long), option.text);
+            let value = option.value.map_or(String::new(), |value| format!(" {value}"));
+            let _ = writeln!(text, "  {:18} {}", format!("{short}{}{value}", option.long), option.text);
         }
         text
     }
 }
 
-/// The options that were given, and the operands.
+/// The options that were given, with their values, and the operands.
 pub struct Args {
-    given: Vec<&'static str>,
+    given: Vec<(&'static str, OsString)>,
     operands: Vec<OsString>,
 }
 
@@ -59,14 +78,15 @@ impl Args {
     pub fn parse(command: &Command, words: Vec<OsString>) -> Result<Option<Args>, Failure> {
         let mut args = Args { given: Vec::new(), operands: Vec::new() };
         let mut words = words.into_iter();
-        for word in words.by_ref() {
+        while let Some(word) = words.next() {
             match word.as_bytes() {
                 b"--" => break,
                 b"--help" | b"-h" => return Ok(None),
-                [b'-', b'-', ..] => args.take(command, &word, |option| word == option.long)?,
+                [b'-', b'-', ..] => args.long(command, &word, &mut words)?,
                 [b'-', letters @ ..] if !letters.is_empty() => {
                     for letter in letters {
-                        args.take(command, &word, |option| option.short == Some(*letter))?;
+                        let option = find(command, &word, |option| option.short == Some(*letter))?;
+                        args.given.push((option.long, OsString::new()));
                     }
                 }
                 _ => args.operands.push(word),
@@ -81,17 +101,52 @@ impl Args {
         Err(Failure::new(format!("{what}: cqdb {} {}", command.name, command.usage)))
     }
 
-    fn take(&mut self, command: &Command, word: &OsStr, is: impl Fn(&Opt) -> bool) -> Result<(), Failure> {
-        let option = command.options.iter().find(|option| is(option)).ok_or_else(|| {
-            let (word, name) = (word.to_string_lossy(), command.name);
-            Failure::new(format!("no option {word}: 'cqdb {name} --help' lists them; '--' ends the options"))
-        })?;
-        self.given.push(option.long);
+    /// An option by its long name; its value follows as the next word, or in the same behind `=`.
+    fn long(
+        &mut self,
+        command: &Command,
+        word: &OsStr,
+        words: &mut impl Iterator<Item = OsString>,
+    ) -> Result<(), Failure> {
+        let bytes = word.as_bytes();
+        let (name, behind) = match bytes.iter().position(|byte| *byte == b'=') {
+            Some(at) => (&bytes[..at], Some(OsStr::from_bytes(&bytes[at + 1..]).to_owned())),
+            None => (bytes, None),
+        };
+        let option = find(command, word, |option| option.long.as_bytes() == name)?;
+        let value = match (option.value, behind) {
+            (None, None) => OsString::new(),
+            (None, Some(_)) => return Err(Failure::new(format!("{} has no value", option.long))),
+            (Some(_), Some(value)) => value,
+            (Some(what), None) => {
+                words.next().ok_or_else(|| Failure::new(format!("{} needs its {what}", option.long)))?
+            }
+        };
+        self.given.push((option.long, value));
         Ok(())
     }
 
     pub fn has(&self, option: &Opt) -> bool {
-        self.given.contains(&option.long)
+        self.value(option).is_some()
+    }
+
+    /// The value of an option that was given; of the last where it was given again.
+    pub fn value(&self, option: &Opt) -> Option<&OsStr> {
+        self.given.iter().rev().find(|(long, _)| *long == option.long).map(|(_, value)| value.as_os_str())
+    }
+
+    /// The path that is the value of an option.
+    pub fn path_of(&self, option: &Opt) -> Option<&Path> {
+        self.value(option).map(Path::new)
+    }
+
+    /// Fails where two options were given of which one alone can be meant.
+    pub fn not_both(&self, options: &[&Opt]) -> Result<(), Failure> {
+        let given: Vec<&str> = options.iter().filter(|option| self.has(option)).map(|option| option.long).collect();
+        match given.as_slice() {
+            [first, second, ..] => Err(Failure::new(format!("say {first} or {second}, not both"))),
+            _ => Ok(()),
+        }
     }
 
     /// The byte that ends a line.
@@ -132,4 +187,11 @@ impl Args {
     pub fn bytes_from(&self, at: usize) -> impl Iterator<Item = &[u8]> {
         self.operands[at..].iter().map(|word| word.as_bytes())
     }
+}
+
+fn find<'a>(command: &'a Command, word: &OsStr, is: impl Fn(&Opt) -> bool) -> Result<&'a Opt, Failure> {
+    command.options.iter().find(|option| is(option)).ok_or_else(|| {
+        let (word, name) = (word.to_string_lossy(), command.name);
+        Failure::new(format!("no option {word}: 'cqdb {name} --help' lists them; '--' ends the options"))
+    })
 }

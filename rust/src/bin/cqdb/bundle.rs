@@ -4,50 +4,78 @@ use std::path::Path;
 use cqdb::{Bundle, Refusal};
 
 use crate::args::{Args, Command};
-use crate::files;
+use crate::files::{self, Bytes};
+use crate::kind::Kind;
 use crate::lines;
 use crate::outcome::{self, Answer, Failure, Outcome, Output};
+use crate::replace::{Locked, Target, FORCE};
 
 pub const COMMAND: Command = Command {
     name: "bundle",
-    usage: "append BUNDLE IMAGE.. | list BUNDLE | extract BUNDLE POSITION IMAGE",
+    usage: "[OPTION].. append BUNDLE IMAGE.. | list BUNDLE | extract BUNDLE POSITION IMAGE",
     summary: "keep several images in a file",
     text: "
 A bundle holds images one behind the other; an empty file, or one that is not
-there yet, holds none. 'append' puts each IMAGE behind the last. 'list' prints a
-line for each image: its position from 0, its number of entries and its size.
-'extract' writes the image at a position to a file of its own; the exit status is
-1 where the bundle has no such position.
+there yet, holds none. 'append' puts each IMAGE behind the last, or to standard
+output where the BUNDLE is called -; runs side by side wait for each other.
+'list' prints a line for each image: its position from 0, its number of entries
+and its size. 'extract' writes the image at a position to a file of its own, or
+to standard output where it is called -; the exit status is 1 where the bundle
+has no such position. Other commands name the image at position 1 by BUNDLE:1.
 ",
-    options: &[],
+    options: &[FORCE],
     operands: (2, usize::MAX),
     run,
 };
 
 fn run(args: Args) -> Outcome {
-    let bundle = args.path(1);
     match (args.operand(0).and_then(|word| word.to_str()), args.count()) {
-        (Some("append"), 3..) => append(bundle, (2..args.count()).map(|at| args.path(at))),
-        (Some("list"), 2) => list(bundle),
-        (Some("extract"), 4) => extract(bundle, args.bytes(2), args.path(3)),
+        (Some("append"), 3..) => append(&args),
+        (Some("list"), 2) => list(args.path(1)),
+        (Some("extract"), 4) => extract(&args),
         _ => Err(Failure::new(format!("say: cqdb bundle {}", COMMAND.usage))),
     }
 }
 
 fn refused(path: &Path, refusal: Refusal) -> Failure {
-    Failure::new(format!("{}: {}", path.display(), files::refusal_in_words(refusal)))
+    Failure::new(format!("{}: {}", files::shown(path), files::refusal_in_words(refusal)))
 }
 
-fn append<'a>(path: &Path, images: impl Iterator<Item = &'a Path>) -> Outcome {
-    let mut file = if path.exists() { files::read(path)? } else { Vec::new() };
-    Bundle::new(&file).count().map_err(|refusal| refused(path, refusal))?;
-    for image in images {
-        Bundle::append(&mut file, &files::read(image)?).map_err(|refusal| refused(image, refusal))?;
+/// Puts images behind those of a bundle; standard output has none before.
+fn append(args: &Args) -> Outcome {
+    let path = args.path(1);
+    let images = (2..args.count()).map(|at| args.path(at));
+    let images = images.map(|image| Ok((image, files::read(image)?))).collect::<Result<Vec<_>, Failure>>()?;
+    if path == Path::new("-") {
+        let (file, _) = joined(path, &[], &images)?;
+        let mut out = Output::new();
+        out.bytes(&file)?;
+        return out.finish(Answer::Yes);
     }
-    files::replace(path, &file)?;
-    let images = Bundle::new(&file).count().map_err(|refusal| refused(path, refusal))?;
-    let images = outcome::count(images, "image", "images");
-    outcome::say(&format!("{}: {images}, {} bytes\n", path.display(), file.len()))
+    let locked = Locked::open_or_create(path)?;
+    let old = locked.bytes()?;
+    let before = Bundle::new(&old).count().map_err(|refusal| refused(path, refusal))?;
+    let (file, after) = joined(path, &old, &images)?;
+    let images = outcome::count(after, "image", "images");
+    locked.replace(&file, &format!("{}: {images}, {} bytes\n", path.display(), file.len()))?;
+    if before == 1 {
+        let shown = path.display();
+        outcome::tell(&format!("bundle: {shown} had one image and is a bundle now: {shown}:0 names that image"));
+    }
+    Ok(Answer::Yes)
+}
+
+/// The bundle with images behind its last, and how many it has then.
+fn joined(path: &Path, old: &[u8], images: &[(&Path, Bytes)]) -> Result<(Vec<u8>, u64), Failure> {
+    let mut file = Vec::new();
+    let length = old.len() + images.iter().map(|(_, image)| image.len()).sum::<usize>();
+    outcome::reserve(&mut file, length, || path.display().to_string())?;
+    file.extend_from_slice(old);
+    for (image, bytes) in images {
+        Bundle::append(&mut file, bytes).map_err(|refusal| refused(image, refusal))?;
+    }
+    let after = Bundle::new(&file).count().map_err(|refusal| refused(path, refusal))?;
+    Ok((file, after))
 }
 
 fn list(path: &Path) -> Outcome {
@@ -67,15 +95,13 @@ fn list(path: &Path) -> Outcome {
     out.finish(all)
 }
 
-fn extract(path: &Path, position: &[u8], image: &Path) -> Outcome {
+fn extract(args: &Args) -> Outcome {
+    let path = args.path(1);
+    let position = lines::id_of(args.bytes(2)).ok_or_else(|| Failure::new("the position is no decimal number"))?;
+    let target = Target::new(args, 3, Kind::Image)?;
     let file = files::read(path)?;
-    let position = lines::id_of(position).ok_or_else(|| Failure::new("the position is no decimal number"))?;
     match Bundle::new(&file).open(position.into()) {
-        Ok(db) => {
-            files::no_other_file(image)?;
-            files::replace(image, db.bytes())?;
-            Ok(Answer::Yes)
-        }
+        Ok(db) => target.replace(db.bytes(), "").map(|()| Answer::Yes),
         Err(Refusal::NoSuchImage) => {
             outcome::tell(&format!("bundle: {}", files::refusal_in_words(Refusal::NoSuchImage)));
             Ok(Answer::No)

@@ -2,8 +2,10 @@
 use cqdb::CQDB;
 
 use crate::args::{Args, Command};
-use crate::files;
+use crate::files::{self, Source};
 use crate::outcome::{Failure, Outcome, Output};
+use crate::progress::Progress;
+use crate::quadratic;
 
 pub const COMMAND: Command = Command {
     name: "check",
@@ -24,35 +26,40 @@ The exit status is 1 where an answer is no.
 };
 
 fn run(args: Args) -> Outcome {
-    let bytes = files::read(args.path(0))?;
+    let source = Source::open(args.path(0))?;
     let mut out = Output::new();
-    let db = match CQDB::new(&bytes) {
-        Ok(db) => db,
-        Err(error) => {
-            line(&mut out, Err(files::in_words(&error)), "it opens")?;
-            return out.finish(false);
-        }
-    };
-    let mut all = true;
-    let ours = if db.is_ours() { Ok(()) } else { Err("no list of puts makes these bytes".to_string()) };
-    let questions = [
-        ("it opens", Ok(())),
-        ("it is one of ours", ours),
-        ("readings agree", readings(&db)),
-        ("every name is home", homes(&db)),
-    ];
-    for (question, answer) in questions {
-        all &= answer.is_ok();
-        line(&mut out, answer, question)?;
-    }
+    let all = questions(&source, &mut out, COMMAND.name)?.is_some_and(|(_, all)| all);
     out.finish(all)
 }
 
-fn line(out: &mut Output, answer: Result<(), String>, question: &str) -> Result<(), Failure> {
+/// Prints a line for each question, and gives the image with the answer whether all were yes; none where it does not
+/// open.
+pub fn questions<'a>(source: &'a Source, out: &mut Output, command: &str) -> Result<Option<(CQDB<'a>, bool)>, Failure> {
+    let db = match source.opened()? {
+        Ok(db) => db,
+        Err(error) => {
+            line(out, &Err(files::in_words(&error)), "it opens")?;
+            return Ok(None);
+        }
+    };
+    line(out, &Ok(()), "it opens")?;
+    out.flush()?;
+    quadratic::tell_of(&db, command);
+    let ours = if db.is_ours() { Ok(()) } else { Err("no list of puts makes these bytes".to_string()) };
+    let mut all = line(out, &ours, "it is one of ours")?;
+    all &= line(out, &readings(&db), "readings agree")?;
+    out.flush()?;
+    all &= line(out, &homes(&db), "every name is home")?;
+    Ok(Some((db, all)))
+}
+
+/// Prints a question with its answer: yes, or no and why.
+pub fn line(out: &mut Output, answer: &Result<(), String>, question: &str) -> Result<bool, Failure> {
     match answer {
-        Ok(()) => out.text(&format!("yes  {question}")),
-        Err(why) => out.text(&format!("no   {question}: {why}")),
+        Ok(()) => out.text(&format!("yes  {question}"))?,
+        Err(why) => out.text(&format!("no   {question}: {why}"))?,
     }
+    Ok(answer.is_ok())
 }
 
 /// Why the readings do not agree.
@@ -66,8 +73,11 @@ fn readings(db: &CQDB) -> Result<(), String> {
 
 /// The first id that has a name and is not home.
 fn homes(db: &CQDB) -> Result<(), String> {
-    match (0..db.back_size()).find(|id| db.to_str(*id).is_some() && !db.home(*id)) {
-        None => Ok(()),
-        Some(id) => Err(format!("id {id} is not")),
-    }
+    let mut progress = Progress::new();
+    let away = (0..db.back_size()).find(|id| {
+        progress.at(u64::from(*id), "ids");
+        db.to_str(*id).is_some() && !db.home(*id)
+    });
+    progress.clear();
+    away.map_or(Ok(()), |id| Err(format!("id {id} is not")))
 }

@@ -1,38 +1,165 @@
-//! Files: read whole, and written beside and moved into place.
-use std::fs::{self, File, OpenOptions};
-use std::io::{self, Read, Write};
+//! Files that are read: mapped, or taken whole from a pipe.
+use std::ffi::OsStr;
+use std::fs::{self, File};
+use std::io::{self, Read};
+use std::ops::Deref;
+use std::os::unix::ffi::OsStrExt;
 use std::path::{Path, PathBuf};
-use std::process;
+use std::sync::atomic::{AtomicBool, Ordering};
 
-use cqdb::{Refusal, CQDB};
+use cqdb::{Bundle, Refusal, CQDB};
 
-use crate::outcome::{Failure, Outcome, Output};
+use crate::kind::{self, Images};
+use crate::lines;
+use crate::outcome::{self, Failure, Outcome, Output};
+use crate::system::Map;
 
-extern "C" {
-    fn signal(number: i32, handler: usize) -> usize;
+/// The bytes of a file.
+pub enum Bytes {
+    Mapped(Map),
+    Read(Vec<u8>),
 }
 
-/// A process that would exceed its limit of a file's size is ended by a signal, SIGXFSZ. With the signal ignored the write
-/// fails instead, so that it can be told and the half file removed.
-pub fn keep_running_at_a_size_limit() {
-    const SIGXFSZ: i32 = 25;
-    const SIG_IGN: usize = 1;
-    unsafe { signal(SIGXFSZ, SIG_IGN) };
+impl Deref for Bytes {
+    type Target = [u8];
+
+    fn deref(&self) -> &[u8] {
+        match self {
+            Bytes::Mapped(map) => map,
+            Bytes::Read(bytes) => bytes,
+        }
+    }
 }
 
-pub fn read(path: &Path) -> Result<Vec<u8>, Failure> {
-    fs::read(path).map_err(|error| Failure::new(format!("cannot read {}: {error}", path.display())))
+/// What messages call a file.
+pub fn shown(path: &Path) -> String {
+    if path == Path::new("-") {
+        "standard input".to_string()
+    } else {
+        path.display().to_string()
+    }
 }
 
-/// The image of a file's bytes.
-pub fn open<'a>(path: &Path, bytes: &'a [u8]) -> Result<CQDB<'a>, Failure> {
-    CQDB::new(bytes).map_err(|error| Failure::new(format!("{}: {}", path.display(), in_words(&error))))
+/// Standard input. It can be read by one part of a command.
+pub fn standard_input() -> Result<io::Stdin, Failure> {
+    static TAKEN: AtomicBool = AtomicBool::new(false);
+    if TAKEN.swap(true, Ordering::Relaxed) {
+        return Err(Failure::new("standard input is meant twice, and can be read once"));
+    }
+    Ok(io::stdin())
+}
+
+/// The bytes of a file, or of standard input where it is called `-`.
+pub fn read(path: &Path) -> Result<Bytes, Failure> {
+    if path == Path::new("-") {
+        return read_whole(standard_input()?, path).map(Bytes::Read);
+    }
+    bytes_of(&File::open(path).map_err(|error| cannot_read(path, error))?, path)
+}
+
+/// The bytes of an open file: mapped, unless it has no length, as a pipe has none.
+pub fn bytes_of(file: &File, path: &Path) -> Result<Bytes, Failure> {
+    let about = file.metadata().map_err(|error| cannot_read(path, error))?;
+    match about.len() {
+        length if about.is_file() && length > 0 => {
+            Map::new(file, length as usize).map(Bytes::Mapped).map_err(|error| cannot_read(path, error))
+        }
+        _ => read_whole(file, path).map(Bytes::Read),
+    }
+}
+
+pub fn cannot_read(path: &Path, error: io::Error) -> Failure {
+    Failure::new(format!("cannot read {}: {error}", shown(path)))
+}
+
+fn read_whole(mut from: impl Read, path: &Path) -> Result<Vec<u8>, Failure> {
+    const PIECE: usize = 1 << 16;
+    let mut bytes = Vec::new();
+    loop {
+        outcome::reserve(&mut bytes, PIECE, || shown(path))?;
+        let more = from.by_ref().take(PIECE as u64).read_to_end(&mut bytes);
+        if more.map_err(|error| cannot_read(path, error))? == 0 {
+            return Ok(bytes);
+        }
+    }
+}
+
+/// A file that images are asked for: all of it, or the image at a position of a bundle, as `BUNDLE:1` says.
+pub struct Source {
+    path: PathBuf,
+    position: Option<u64>,
+    bytes: Bytes,
+}
+
+impl Source {
+    pub fn open(path: &Path) -> Result<Source, Failure> {
+        let (path, position) = match position_of(path) {
+            Some((file, position)) if !path.exists() => (file, Some(position)),
+            _ => (path.to_path_buf(), None),
+        };
+        Ok(Source { bytes: read(&path)?, path, position })
+    }
+
+    /// What messages call the image.
+    pub fn name(&self) -> String {
+        match self.position {
+            Some(position) => format!("{}:{position}", shown(&self.path)),
+            None => shown(&self.path),
+        }
+    }
+
+    /// The image, or the error that opening it gives. A file of several images fails, since one of them is meant.
+    pub fn opened(&self) -> Result<io::Result<CQDB<'_>>, Failure> {
+        let path = shown(&self.path);
+        match (self.position, kind::images(&self.bytes)) {
+            (Some(position), _) => Ok(Bundle::new(&self.bytes).open(position).map_err(io::Error::from)),
+            (None, Images::One) => Ok(CQDB::new(&self.bytes)),
+            (None, Images::Several(images)) => Err(Failure::new(format!(
+                "{path} is a bundle of {images} images: {path}:0 to {path}:{} name them; id, name and list take --all",
+                images - 1
+            ))),
+            (None, Images::Broken) => Err(Failure::new(format!(
+                "{path} is a broken bundle: {path}:0 names its first image (refusal {})",
+                Refusal::BrokenBundle.number()
+            ))),
+        }
+    }
+
+    /// The image.
+    pub fn image(&self) -> Result<CQDB<'_>, Failure> {
+        self.opened()?.map_err(|error| Failure::new(format!("{}: {}", self.name(), in_words(&error))))
+    }
+
+    /// Every image of a bundle with its position, or the one image.
+    pub fn images(&self) -> Result<Vec<(u64, CQDB<'_>)>, Failure> {
+        if let Some(position) = self.position {
+            return Ok(vec![(position, self.image()?)]);
+        }
+        if kind::images(&self.bytes) == Images::One {
+            return Ok(vec![(0, self.image()?)]);
+        }
+        let opened = Bundle::new(&self.bytes).iter().zip(0..).map(|(image, position)| match image {
+            Ok(db) => Ok((position, db)),
+            Err(refusal) => {
+                Err(Failure::new(format!("{}:{position}: {}", shown(&self.path), refusal_in_words(refusal))))
+            }
+        });
+        opened.collect()
+    }
+}
+
+/// The parts of a path `FILE:POSITION`.
+fn position_of(path: &Path) -> Option<(PathBuf, u64)> {
+    let bytes = path.as_os_str().as_bytes();
+    let at = bytes.iter().rposition(|byte| *byte == b':')?;
+    let position = lines::id_of(&bytes[at + 1..])?;
+    Some((PathBuf::from(OsStr::from_bytes(&bytes[..at])), position.into()))
 }
 
 /// Opens the image of a file and prints what is asked of it.
 pub fn asked(path: &Path, ask: impl FnOnce(&CQDB, &mut Output) -> Outcome) -> Outcome {
-    let bytes = read(path)?;
-    let db = open(path, &bytes)?;
+    let source = Source::open(path)?;
+    let db = source.image()?;
     let mut out = Output::new();
     let answer = ask(&db, &mut out)?;
     out.finish(answer)
@@ -47,59 +174,15 @@ pub fn refusal_in_words(refusal: Refusal) -> String {
     format!("{refusal} (refusal {})", refusal.number())
 }
 
-/// Fails where another file than an image stands at an image's place, such as the list that it is made from: where the IMAGE of a
-/// command is left out, that list would be lost. An empty file may stand there.
-pub fn no_other_file(path: &Path) -> Result<(), Failure> {
-    let mut start = Vec::new();
-    if fs::metadata(path).is_ok_and(|about| about.is_file()) {
-        let file = File::open(path).and_then(|file| file.take(4).read_to_end(&mut start));
-        file.map_err(|error| Failure::new(format!("cannot read {}: {error}", path.display())))?;
-    }
-    if start.is_empty() || start == b"CQDB" {
-        return Ok(());
-    }
-    let what = "a file is there that is no image; remove it, or name another place";
-    Err(Failure::new(format!("cannot write {}: {what}", path.display())))
+/// A refusal as the reason why a command could not be carried out.
+pub fn refused(refusal: Refusal) -> Failure {
+    Failure::new(refusal_in_words(refusal))
 }
 
-/// Writes a file beside its place and moves it there, so that a reader sees the old file or the new one, never a part.
-/// Where that fails the old file stays.
-pub fn replace(path: &Path, bytes: &[u8]) -> Result<(), Failure> {
-    let failed = |error: io::Error| Failure::new(format!("cannot write {}: {error}", path.display()));
-    // What stands behind a symbolic link is replaced, not the link.
-    let place = fs::canonicalize(path).unwrap_or_else(|_| path.to_path_buf());
-    let before = fs::metadata(&place).ok();
-    if before.as_ref().is_some_and(|before| !before.is_file()) {
-        return Err(Failure::new(format!("cannot write {}: it is no regular file", path.display())));
-    }
-    let beside = beside(&place);
-    let file = OpenOptions::new().write(true).create_new(true).open(&beside).map_err(failed)?;
-    let moved = fill(file, bytes, before).and_then(|()| fs::rename(&beside, &place));
-    if let Err(error) = moved {
-        let _ = fs::remove_file(&beside);
-        return Err(failed(error));
-    }
-    // The move itself is on the disk once the folder is.
-    folder(&place).and_then(|folder| folder.sync_all()).map_err(failed)
-}
-
-fn beside(place: &Path) -> PathBuf {
-    let mut name = place.as_os_str().to_owned();
-    name.push(format!(".{}.new", process::id()));
-    name.into()
-}
-
-fn fill(mut file: File, bytes: &[u8], before: Option<fs::Metadata>) -> io::Result<()> {
-    if let Some(before) = before {
-        file.set_permissions(before.permissions())?;
-    }
-    file.write_all(bytes)?;
-    file.sync_all()
-}
-
-fn folder(place: &Path) -> io::Result<File> {
-    match place.parent() {
-        Some(parent) if !parent.as_os_str().is_empty() => File::open(parent),
-        _ => File::open("."),
+/// Is the place a symbolic link to nothing?
+pub fn dangling(path: &Path) -> Option<PathBuf> {
+    match path.exists() {
+        true => None,
+        false => fs::read_link(path).ok(),
     }
 }

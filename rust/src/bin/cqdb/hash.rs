@@ -1,8 +1,8 @@
 //! `cqdb hash`: the hash of names.
 use cqdb::jhash;
 
-use crate::args::{Args, Command, ZERO};
-use crate::outcome::{Answer, Failure, Outcome, Output};
+use crate::args::{Args, Command, WINDOWS, ZERO};
+use crate::outcome::{Answer, Outcome, Output};
 use crate::{files, questions};
 
 pub const COMMAND: Command = Command {
@@ -14,7 +14,7 @@ Prints a line for each NAME, or for each line of standard input: the hash that
 images use, as eight hexadecimal digits, a space and the name. Its last two
 digits are the number of the name's table.
 ",
-    options: &[ZERO],
+    options: &[WINDOWS, ZERO],
     operands: (0, usize::MAX),
     run,
 };
@@ -23,7 +23,7 @@ fn run(args: Args) -> Outcome {
     let mut out = Output::new();
     questions::rounds(&args, 0, |names| {
         names.iter().try_for_each(|name| {
-            let hash = jhash(name, 0).map_err(|refusal| Failure::new(files::refusal_in_words(refusal)))?;
+            let hash = jhash(name, 0).map_err(files::refused)?;
             out.line(&[format!("{hash:08x} ").as_bytes(), name], args.end())
         })?;
         out.flush()

@@ -1,9 +1,10 @@
 //! `cqdb id`: the ids of names.
-use cqdb::{Found, CQDB};
+use cqdb::CQDB;
 
-use crate::args::{Args, Command, TAB, ZERO};
+use crate::answers::{Row, Value, JSON, MISSING, QUIET, TSV};
+use crate::args::{Args, Command, ALL, TAB, WINDOWS, ZERO};
 use crate::outcome::{Failure, Outcome};
-use crate::questions::{self, Answers};
+use crate::questions::{self, Question, Said};
 use crate::{files, lines};
 
 pub const COMMAND: Command = Command {
@@ -11,25 +12,39 @@ pub const COMMAND: Command = Command {
     usage: "[OPTION].. IMAGE [NAME..]",
     summary: "print the ids of names",
     text: "
-Prints a line for each NAME that the image has: its id, a space and the name.
-Without a NAME, names are read from standard input, one to a line. Names that
-the image lacks are told on standard error, and the exit status is then 1. Up to
-512 names are looked up in one call.
+Prints a line for each NAME, in order: its id, a space and the name. Without a
+NAME, names are read from standard input, one to a line. A name that the image
+lacks has an empty id, or the text of --missing; it is told on standard error,
+and the exit status is then 1. Up to 512 names are looked up in one call.
+BUNDLE:1 is the second image of a bundle; --all asks every image.
 ",
-    options: &[TAB, ZERO],
+    options: &[ALL, JSON, MISSING, QUIET, TAB, TSV, WINDOWS, ZERO],
     operands: (1, usize::MAX),
     run,
 };
 
 fn run(args: Args) -> Outcome {
-    questions::put_to_image(&args, COMMAND.name, ids_of)
+    questions::put_to_image(&args, COMMAND.name, (0, 1), &Ids)
 }
 
-fn ids_of<'a>(db: &'a CQDB<'a>, names: &'a [&'a [u8]]) -> Result<Answers<'a>, Failure> {
-    let round = db.round(names).map_err(|refusal| Failure::new(files::refusal_in_words(refusal)))?;
-    let answer = |(name, (found, _)): (&&'a [u8], (Option<Found>, u32))| match found {
-        Some(found) => Ok((found.id, *name)),
-        None => Err(format!("no name {}", lines::shown(name))),
-    };
-    Ok(names.iter().zip(round.answers).map(answer).collect())
+struct Ids;
+
+impl Question for Ids {
+    const VALUE: Value = Value::Id;
+
+    fn ask<'a>(&self, db: &CQDB<'a>, words: &[&'a [u8]]) -> Result<Vec<Said<'a>>, Failure> {
+        // A single name is not copied to join it with others.
+        let answers = match words {
+            [name] => vec![db.lookup(name)],
+            _ => db.round(words).map_err(files::refused)?.answers,
+        };
+        let said = words.iter().zip(answers).map(|(name, (found, _))| match found {
+            Some(found) => Said::Found(Row { id: Some(found.id), name: Some(name) }),
+            None => {
+                let what = format!("no name {}{}", lines::shown(name), questions::hint(name));
+                Said::Lacks(Row { id: None, name: Some(name) }, what)
+            }
+        });
+        Ok(said.collect())
+    }
 }

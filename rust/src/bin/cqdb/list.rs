@@ -1,11 +1,13 @@
 //! `cqdb list`: all ids with their names.
 use cqdb::CQDB;
 
-use crate::args::{Args, Command, Opt, TAB, ZERO};
-use crate::files;
+use crate::answers::{Form, Row, Value, JSON, TSV};
+use crate::args::{Args, Command, Opt, ALL, TAB, ZERO};
+use crate::cdb::{self, CDB};
+use crate::files::Source;
 use crate::outcome::{Answer, Failure, Outcome, Output};
 
-const PUTS: Opt = Opt { long: "--puts", short: None, text: "every put in put order, of an image that is one of ours" };
+const PUTS: Opt = Opt::plain("--puts", "every put in put order, of an image that is one of ours");
 
 pub const COMMAND: Command = Command {
     name: "list",
@@ -14,46 +16,72 @@ pub const COMMAND: Command = Command {
     text: "
 Prints a line for each id that has a name: the id, a space and the name. That is
 the form that 'cqdb make' reads. A one-way image names no ids. With --puts every
-put is printed, also of a one-way image; 'cqdb make --repeats' makes the same
-image of these lines. An image that is not one of ours has no such list: the exit
-status is then 1.
+put is printed, also of a one-way image; 'cqdb make --repeats --renamed' makes the
+same image of these lines. An image that is not one of ours has no such list: the
+exit status is then 1. BUNDLE:1 is the second image of a bundle; --all lists every
+image.
 ",
-    options: &[PUTS, TAB, ZERO],
+    options: &[ALL, CDB, JSON, PUTS, TAB, TSV, ZERO],
     operands: (1, 1),
     run,
 };
 
 fn run(args: Args) -> Outcome {
-    files::asked(args.path(0), |db, out| if args.has(&PUTS) { puts(&args, db, out) } else { names(&args, db, out) })
+    args.not_both(&[&CDB, &JSON, &TSV, &TAB, &ZERO])?;
+    args.not_both(&[&CDB, &ALL])?;
+    let source = Source::open(args.path(0))?;
+    let images = if args.has(&ALL) { source.images()? } else { vec![(0, source.image()?)] };
+    let mut listing =
+        Listing { form: Form::new(&args, Value::Name)?, cdb: args.has(&CDB), out: Output::new(), name: source.name() };
+    let mut all = true;
+    for (position, db) in &images {
+        all &= if args.has(&PUTS) { listing.puts(*position, db)? } else { listing.names(*position, db)? };
+    }
+    if listing.cdb {
+        listing.out.bytes(b"\n")?;
+    }
+    listing.out.finish(Answer::from(all))
 }
 
-fn puts(args: &Args, db: &CQDB, out: &mut Output) -> Outcome {
-    let Some(puts) = db.puts() else {
-        out.tell(&format!("list: {} is not one of ours: it has no list of puts", args.path(0).display()))?;
-        return Ok(Answer::No);
-    };
-    puts.into_iter().try_for_each(|(name, id)| entry(out, args, id, name))?;
-    Ok(Answer::Yes)
+struct Listing<'a> {
+    form: Form<'a>,
+    cdb: bool,
+    out: Output,
+    name: String,
 }
 
-fn names(args: &Args, db: &CQDB, out: &mut Output) -> Outcome {
-    for id in 0..db.back_size() {
-        if let Some(name) = db.to_str(id) {
-            entry(out, args, id, name)?;
+impl Listing<'_> {
+    fn puts(&mut self, position: u64, db: &CQDB) -> Result<bool, Failure> {
+        let Some(puts) = db.puts() else {
+            self.out.tell(&format!("list: {} is not one of ours: it has no list of puts", self.name))?;
+            return Ok(false);
+        };
+        puts.into_iter().try_for_each(|(name, id)| self.entry(position, id, name))?;
+        Ok(true)
+    }
+
+    fn names(&mut self, position: u64, db: &CQDB) -> Result<bool, Failure> {
+        if names_none(db) {
+            self.out.tell(&format!("list: {} is one-way: it names no ids; --puts lists its entries", self.name))?;
+            return Ok(false);
         }
+        for id in 0..db.back_size() {
+            if let Some(name) = db.to_str(id) {
+                self.entry(position, id, name)?;
+            }
+        }
+        Ok(true)
     }
-    if db.back_size() == 0 && db.num() > 0 {
-        out.tell(&format!("list: {} is one-way: it names no ids; --puts lists its entries", args.path(0).display()))?;
-        return Ok(Answer::No);
+
+    fn entry(&mut self, position: u64, id: u32, name: &[u8]) -> Result<(), Failure> {
+        if self.cdb {
+            return cdb::print(&mut self.out, name, id);
+        }
+        self.form.print(&mut self.out, Some(position), Row { id: Some(id), name: Some(name) }, None)
     }
-    Ok(Answer::Yes)
 }
 
-/// A line of an id and its name. A name that holds the byte that ends a line would be read as two.
-pub fn entry(out: &mut Output, args: &Args, id: u32, name: &[u8]) -> Result<(), Failure> {
-    if name.contains(&args.end()) {
-        let what = if args.has(&ZERO) { "a zero byte: leave --zero out" } else { "a line feed: say --zero" };
-        return Err(Failure::new(format!("the name of id {id} has {what}")));
-    }
-    out.line(&[id.to_string().as_bytes(), &[args.between()], name], args.end())
+/// Has the image entries, and no array that names ids?
+pub fn names_none(db: &CQDB) -> bool {
+    db.back_size() == 0 && db.num() > 0
 }

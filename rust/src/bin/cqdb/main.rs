@@ -1,22 +1,40 @@
-//! `cqdb`: makes, asks and checks constant quark database images from a shell. Each command is a file of its own, over the
-//! crate's calls; COMMANDS lists them. The exit status is 0, 1 (not found, or no) or 2 (it could not be done).
+//! `cqdb`: makes, asks and checks constant quark database images from a shell. Each command is a file of its own, over
+//! the crate's calls; COMMANDS lists them. The exit status is 0, 1 (not found, or no) or 2 (it could not be done).
+mod answers;
 mod args;
 mod bundle;
+mod cdb;
 mod check;
+mod compare;
+mod completions;
+mod dates;
+mod diff;
 mod files;
 mod hash;
+mod home;
 mod id;
+mod ids;
+mod kind;
 mod lines;
 mod list;
 mod load;
 mod make;
+mod making;
 mod name;
+mod on;
+mod order;
 mod outcome;
 mod page;
+mod panel;
+mod preflight;
+mod problem;
 mod progress;
+mod quadratic;
 mod questions;
+mod replace;
 mod sheet;
 mod stats;
+mod system;
 
 use std::ffi::OsString;
 use std::io::Write;
@@ -28,19 +46,28 @@ use outcome::{Failure, Outcome};
 const COMMANDS: &[&Command] = &[
     &make::COMMAND,
     &id::COMMAND,
+    &ids::COMMAND,
     &name::COMMAND,
+    &on::COMMAND,
+    &panel::COMMAND,
+    &home::COMMAND,
     &list::COMMAND,
     &page::COMMAND,
     &check::COMMAND,
+    &preflight::COMMAND,
+    &diff::COMMAND,
     &stats::COMMAND,
     &bundle::COMMAND,
     &sheet::COMMAND,
+    &order::COMMAND,
     &load::COMMAND,
     &hash::COMMAND,
+    &completions::COMMAND,
 ];
 
 fn main() -> ExitCode {
-    files::keep_running_at_a_size_limit();
+    system::keep_running_at_a_size_limit();
+    system::tell_where_a_file_was_cut();
     let mut words = std::env::args_os().skip(1);
     let Some(first) = words.next() else {
         eprint!("{}", overview());
@@ -77,7 +104,7 @@ fn overview() -> String {
     let mut text = Vec::new();
     let _ = writeln!(text, "Constant quark database images: names to ids and ids to names.\n");
     for command in COMMANDS {
-        let _ = writeln!(text, "  cqdb {:6} {}", command.name, command.summary);
+        let _ = writeln!(text, "  cqdb {:11} {}", command.name, command.summary);
     }
     let _ = writeln!(text, "\n'cqdb COMMAND --help' says more. 'cqdb --version' names the versions.");
     let _ = writeln!(text, "Exit status: 0; 1 for not found, or no; 2 where it could not be done, with a message.");

@@ -1,39 +1,42 @@
 //! `cqdb name`: the names of ids.
-use cqdb::{BStr, CQDB};
+use cqdb::CQDB;
 
-use crate::args::{Args, Command, TAB, ZERO};
+use crate::answers::{Value, JSON, MISSING, QUIET, TSV};
+use crate::args::{Args, Command, ALL, TAB, WINDOWS, ZERO};
+use crate::files;
 use crate::outcome::{Failure, Outcome};
-use crate::questions::{self, Answers};
-use crate::{files, lines};
+use crate::questions::{self, Question, Said};
 
 pub const COMMAND: Command = Command {
     name: "name",
     usage: "[OPTION].. IMAGE [ID..]",
     summary: "print the names of ids",
     text: "
-Prints a line for each ID that has a name in the image: the id, a space and the
-name. Without an ID, ids are read from standard input, one to a line. Ids that
-have no name are told on standard error, and the exit status is then 1.
+Prints a line for each ID, in order: the id, a space and the name. Without an ID,
+ids are read from standard input, one to a line. An id that has no name has an
+empty one, or the text of --missing; it is told on standard error, and the exit
+status is then 1. A word that is no id is told too; the others are answered, and
+the exit status is 2. BUNDLE:1 is the second image of a bundle; --all asks every
+image.
 ",
-    options: &[TAB, ZERO],
+    options: &[ALL, JSON, MISSING, QUIET, TAB, TSV, WINDOWS, ZERO],
     operands: (1, usize::MAX),
     run,
 };
 
 fn run(args: Args) -> Outcome {
-    questions::put_to_image(&args, COMMAND.name, names_of)
+    questions::put_to_image(&args, COMMAND.name, (0, 1), &Names)
 }
 
-fn names_of<'a>(db: &'a CQDB<'a>, words: &'a [&'a [u8]]) -> Result<Answers<'a>, Failure> {
-    let ids = words.iter().map(|word| id_of(word)).collect::<Result<Vec<u32>, Failure>>()?;
-    let names = db.name_round(&ids).map_err(|refusal| Failure::new(files::refusal_in_words(refusal)))?;
-    let answer = |(id, name): (u32, Option<&'a BStr>)| match name {
-        Some(name) => Ok((id, &name[..])),
-        None => Err(format!("no name for id {id}")),
-    };
-    Ok(ids.into_iter().zip(names).map(answer).collect())
-}
+struct Names;
 
-fn id_of(word: &[u8]) -> Result<u32, Failure> {
-    lines::id_of(word).ok_or_else(|| Failure::new(format!("{} is no decimal id up to 4294967295", lines::shown(word))))
+impl Question for Names {
+    const VALUE: Value = Value::Name;
+
+    fn ask<'a>(&self, db: &CQDB<'a>, words: &[&'a [u8]]) -> Result<Vec<Said<'a>>, Failure> {
+        questions::names_of_ids(words, |ids| {
+            let names = db.name_round(ids).map_err(files::refused)?;
+            Ok(names.into_iter().map(|name| name.map(|name| &**name)).collect())
+        })
+    }
 }

@@ -1,5 +1,6 @@
 //! How a command ends, and what it prints.
 use std::io::{self, BufWriter, StdoutLock, Write};
+use std::mem::size_of;
 use std::process::ExitCode;
 
 /// The answer of a command that could be carried out.
@@ -56,6 +57,26 @@ pub fn tell(what: &str) {
 /// A number with the word for one or for several.
 pub fn count(number: u64, one: &str, several: &str) -> String {
     format!("{number} {}", if number == 1 { one } else { several })
+}
+
+/// Room for more elements of a list. A list that does not fit into memory is a failure, not the end of the process.
+pub fn reserve<T>(list: &mut Vec<T>, more: usize, what: impl FnOnce() -> String) -> Result<(), Failure> {
+    list.try_reserve(more).map_err(|_| out_of_memory(&what(), (list.len() + more) as u64 * size_of::<T>() as u64))
+}
+
+/// The failure of something that needs so many bytes.
+pub fn out_of_memory(what: &str, bytes: u64) -> Failure {
+    Failure::new(format!("not enough memory for {what}: {bytes} bytes"))
+}
+
+/// Says what is about to be done, so that it is not done where this cannot be said. A reader who is gone does not
+/// matter.
+pub fn announce(text: &str) -> Result<(), Failure> {
+    let mut out = Output::new();
+    match out.bytes(text.as_bytes()).and_then(|()| out.flush()) {
+        Err(Failure::ReaderGone) => Ok(()),
+        written => written,
+    }
 }
 
 /// Prints a text and ends well.

@@ -4,6 +4,7 @@ use cqdb::CQDB;
 use crate::args::{Args, Command};
 use crate::files;
 use crate::outcome::{Answer, Failure, Outcome, Output};
+use crate::quadratic;
 
 pub const COMMAND: Command = Command {
     name: "stats",
@@ -61,6 +62,8 @@ const WIDE: u64 = 50;
 
 /// The average search length with its three first decimals, and a bar for each length that some entry has.
 fn search_lengths(out: &mut Output, db: &CQDB) -> Result<(), Failure> {
+    out.flush()?;
+    quadratic::tell_of(db, COMMAND.name);
     let (average, lengths) = match db.average().and_then(|average| Ok((average, db.lengths()?))) {
         Ok(both) => both,
         Err(refusal) => return out.text(&format!("average   none: {}", files::refusal_in_words(refusal))),
@@ -73,7 +76,7 @@ fn search_lengths(out: &mut Output, db: &CQDB) -> Result<(), Failure> {
     for (place, entries) in lengths[..last].iter().enumerate() {
         let length = if place == 15 { "16+".to_string() } else { (place + 1).to_string() };
         let bar = "#".repeat((u64::from(*entries) * WIDE).div_ceil(most) as usize);
-        out.text(format!("length-{length:<3}{entries} {bar}").trim_end())?;
+        out.text(format!("length-{length:<2} {entries} {bar}").trim_end())?;
     }
     Ok(())
 }

@@ -6,7 +6,7 @@ use mathlib.Core.Path.{_≡_, refl, sym}
 use lib.ListN.{length}
 use Rattle.joined.specs.Names.{names, beginOf}
 use Rattle.joined.proofs.NameEnds.{placed}
-use Rattle.build.specs.steps.PutsAlong.{entriesListed}
+use Rattle.build.specs.steps.Steps.{entriesListed}
 use Rattle.joined.proofs.NameEnds.{begin-next}
 use Rattle.build.proofs.StoredAll.{Along, along-start, along-length, along-end, along-room, along-turn, area-stored, stored-links, behind-kept}
 use Rattle.build.proofs.stored.store_list.Statement.{statement}
@@ -23,10 +23,10 @@ loop-holds : tie.Need-loop-holds Inv-loop μ-loop
 loop-holds c =
     let s = c .before .before .before .before in
     let a = s .args in
-    (omega arith, refl, along-start (a .mode) (a .bytes .now) (a .ends .now) (a .ids .now) (a .buf .now) (a .at) (s .pre .2) (s .pre .3) (s .pre .5) (s .pre .6))
+    (omega arith, refl, along-start (a .mode) (a .bytes .now) (a .ends .now) (a .ids .now) (a .buf .now) (a .at) (s .pre .ids-long) (s .pre .within) (s .pre .at-is) (s .pre .cleared))
 
 mul-end : tie.Need-mul-end Inv-loop μ-loop
-mul-end c = omega (arith, c .loop-test .taken, c .before .before .before .before .before .before .pre .1)
+mul-end c = omega (arith, c .loop-test .taken, c .before .before .before .before .before .before .pre .few)
 
 shared-slice-read-end : tie.Need-shared-slice-read-end Inv-loop μ-loop
 shared-slice-read-end c = c .before .loop-test .taken
@@ -36,7 +36,7 @@ sub-name c =
     let s = c .before .before .before .before .before .before .before in
     let a = s .args in
     let l = c .before .before .loop in
-    let p = placed (length (a .bytes .now)) (a .ends .now) (l .i) (s .pre .0) (c .before .loop-test .taken) in
+    let p = placed (length (a .bytes .now)) (a .ends .now) (l .i) (s .pre .packed) (c .before .loop-test .taken) in
     omega (arith, p .rises, p .inside, l .inv .1)
 
 part-name-start : tie.Need-part-name-start Inv-loop μ-loop
@@ -44,7 +44,7 @@ part-name-start c =
     let s = c .before .before .before .before .before .before .before in
     let a = s .args in
     let l = c .before .before .loop in
-    let p = placed (length (a .bytes .now)) (a .ends .now) (l .i) (s .pre .0) (c .before .loop-test .taken) in
+    let p = placed (length (a .bytes .now)) (a .ends .now) (l .i) (s .pre .packed) (c .before .loop-test .taken) in
     omega (arith, p .rises, p .inside, l .inv .1)
 
 part-name-end : tie.Need-part-name-end Inv-loop μ-loop
@@ -52,21 +52,21 @@ part-name-end c =
     let s = c .before .before .before .before .before .before .before in
     let a = s .args in
     let l = c .before .before .loop in
-    let p = placed (length (a .bytes .now)) (a .ends .now) (l .i) (s .pre .0) (c .before .loop-test .taken) in
+    let p = placed (length (a .bytes .now)) (a .ends .now) (l .i) (s .pre .packed) (c .before .loop-test .taken) in
     omega (arith, p .rises, p .inside, l .inv .1)
 
 mul-id : tie.Need-mul-id Inv-loop μ-loop
-mul-id c = omega (arith, c .before .before .loop-test .taken, c .before .before .before .before .before .before .before .before .pre .1)
+mul-id c = omega (arith, c .before .before .loop-test .taken, c .before .before .before .before .before .before .before .before .pre .few)
 
 shared-slice-read-id : tie.Need-shared-slice-read-id Inv-loop μ-loop
-shared-slice-read-id c = omega (arith, c .before .before .before .loop-test .taken, c .before .before .before .before .before .before .before .before .before .pre .2)
+shared-slice-read-id c = omega (arith, c .before .before .before .loop-test .taken, c .before .before .before .before .before .before .before .before .before .pre .ids-long)
 
 store-requires : tie.Need-store-requires Inv-loop μ-loop
 store-requires c κs =
     let s = c .before .before .before .before .before .before .before .before .before .before in
     let a = s .args in
     let l = c .before .before .before .before .before .loop in
-    let room = along-room (a .mode) (a .bytes .now) (a .ends .now) (a .ids .now) (a .buf .now) (a .at) (s .pre .2) (s .pre .3) (s .pre .5) (s .pre .4) (l .buf) (l .i) (l .o) (l .start) (c .before .before .before .before .loop-test .taken) (l .inv .1) (l .inv .2) in
+    let room = along-room (a .mode) (a .bytes .now) (a .ends .now) (a .ids .now) (a .buf .now) (a .at) (s .pre .ids-long) (s .pre .within) (s .pre .at-is) (s .pre .small) (l .buf) (l .i) (l .o) (l .start) (c .before .before .before .before .loop-test .taken) (l .inv .1) (l .inv .2) in
     (room .entry, omega (arith, room .small))
 
 cast-store-link : tie.Need-cast-store-link Inv-loop μ-loop
@@ -74,7 +74,7 @@ cast-store-link c =
     let s = c .before .before .before .before .before .before .before .before .before .before .before .before .before .before in
     let a = s .args in
     let l = c .before .before .before .before .before .before .before .before .before .loop in
-    let room = along-room (a .mode) (a .bytes .now) (a .ends .now) (a .ids .now) (a .buf .now) (a .at) (s .pre .2) (s .pre .3) (s .pre .5) (s .pre .4) (l .buf) (l .i) (l .o) (l .start) (c .before .before .before .before .before .before .before .before .loop-test .taken) (l .inv .1) (l .inv .2) in
+    let room = along-room (a .mode) (a .bytes .now) (a .ends .now) (a .ids .now) (a .buf .now) (a .at) (s .pre .ids-long) (s .pre .within) (s .pre .at-is) (s .pre .small) (l .buf) (l .i) (l .o) (l .start) (c .before .before .before .before .before .before .before .before .loop-test .taken) (l .inv .1) (l .inv .2) in
     omega (arith, room .small)
 
 store-link-requires : tie.Need-store-link-requires Inv-loop μ-loop
@@ -82,7 +82,7 @@ store-link-requires c κs =
     let s = c .before .before .before .before .before .before .before .before .before .before .before .before .before .before in
     let a = s .args in
     let l = c .before .before .before .before .before .before .before .before .before .loop in
-    let room = along-room (a .mode) (a .bytes .now) (a .ends .now) (a .ids .now) (a .buf .now) (a .at) (s .pre .2) (s .pre .3) (s .pre .5) (s .pre .4) (l .buf) (l .i) (l .o) (l .start) (c .before .before .before .before .before .before .before .before .loop-test .taken) (l .inv .1) (l .inv .2) in
+    let room = along-room (a .mode) (a .bytes .now) (a .ends .now) (a .ids .now) (a .buf .now) (a .at) (s .pre .ids-long) (s .pre .within) (s .pre .at-is) (s .pre .small) (l .buf) (l .i) (l .o) (l .start) (c .before .before .before .before .before .before .before .before .loop-test .taken) (l .inv .1) (l .inv .2) in
     omega (arith, room .link, c .before .before .before .store .kept)
 
 add-o : tie.Need-add-o Inv-loop μ-loop
@@ -90,7 +90,7 @@ add-o c =
     let s = c .before .before .before .before .before .before .before .before .before .before .before .before .before .before .before .before .before in
     let a = s .args in
     let l = c .before .before .before .before .before .before .before .before .before .before .before .before .loop in
-    let room = along-room (a .mode) (a .bytes .now) (a .ends .now) (a .ids .now) (a .buf .now) (a .at) (s .pre .2) (s .pre .3) (s .pre .5) (s .pre .4) (l .buf) (l .i) (l .o) (l .start) (c .before .before .before .before .before .before .before .before .before .before .before .loop-test .taken) (l .inv .1) (l .inv .2) in
+    let room = along-room (a .mode) (a .bytes .now) (a .ends .now) (a .ids .now) (a .buf .now) (a .at) (s .pre .ids-long) (s .pre .within) (s .pre .at-is) (s .pre .small) (l .buf) (l .i) (l .o) (l .start) (c .before .before .before .before .before .before .before .before .before .before .before .loop-test .taken) (l .inv .1) (l .inv .2) in
     omega (arith, room .small)
 
 add-o-2 : tie.Need-add-o-2 Inv-loop μ-loop
@@ -98,11 +98,11 @@ add-o-2 c =
     let s = c .before .before .before .before .before .before .before .before .before .before .before .before .before .before .before .before .before in
     let a = s .args in
     let l = c .before .before .before .before .before .before .before .before .before .before .before .before .loop in
-    let room = along-room (a .mode) (a .bytes .now) (a .ends .now) (a .ids .now) (a .buf .now) (a .at) (s .pre .2) (s .pre .3) (s .pre .5) (s .pre .4) (l .buf) (l .i) (l .o) (l .start) (c .before .before .before .before .before .before .before .before .before .before .before .loop-test .taken) (l .inv .1) (l .inv .2) in
+    let room = along-room (a .mode) (a .bytes .now) (a .ends .now) (a .ids .now) (a .buf .now) (a .at) (s .pre .ids-long) (s .pre .within) (s .pre .at-is) (s .pre .small) (l .buf) (l .i) (l .o) (l .start) (c .before .before .before .before .before .before .before .before .before .before .before .loop-test .taken) (l .inv .1) (l .inv .2) in
     omega (arith, room .small)
 
 add-i : tie.Need-add-i Inv-loop μ-loop
-add-i c = omega (arith, c .before .before .before .before .before .before .before .before .before .before .before .loop-test .taken, c .before .before .before .before .before .before .before .before .before .before .before .before .before .before .before .before .before .pre .1)
+add-i c = omega (arith, c .before .before .before .before .before .before .before .before .before .before .before .loop-test .taken, c .before .before .before .before .before .before .before .before .before .before .before .before .before .before .before .before .before .pre .few)
 
 loop-less : tie.Need-loop-less Inv-loop μ-loop
 loop-less c = omega (arith, c .before .before .before .before .before .before .before .before .before .before .before .loop-test .taken)
@@ -115,7 +115,7 @@ loop-again c =
     let below = c .before .before .before .before .before .before .before .before .before .before .before .loop-test .taken in (
       omega (arith, below),
       sym (begin-next (a .ends .now) (l .i)),
-      along-turn (a .mode) (a .bytes .now) (a .ends .now) (a .ids .now) (a .buf .now) (a .at) (s .pre .2) (s .pre .3) (s .pre .5) (s .pre .4) (l .buf) (l .i) (l .o) (l .start) below (l .inv .1) (l .inv .2) _ _ (c .before .before .before .before .before .before .store .ensures) (c .before .before .store-link .ensures),
+      along-turn (a .mode) (a .bytes .now) (a .ends .now) (a .ids .now) (a .buf .now) (a .at) (s .pre .ids-long) (s .pre .within) (s .pre .at-is) (s .pre .small) (l .buf) (l .i) (l .o) (l .start) below (l .inv .1) (l .inv .2) _ _ (c .before .before .before .before .before .before .store .ensures) (c .before .before .store-link .ensures),
     )
 
 same-length : tie.Need-same-length Inv-loop μ-loop
@@ -123,7 +123,7 @@ same-length c =
     let s = c .before .before .before .before .before .before in
     let a = s .args in
     let l = c .before .loop in
-    along-length (a .mode) (a .bytes .now) (a .ends .now) (a .ids .now) (a .buf .now) (a .at) (s .pre .2) (s .pre .3) (s .pre .5) (l .buf) (l .i) (l .o) (l .inv .2)
+    along-length (a .mode) (a .bytes .now) (a .ends .now) (a .ids .now) (a .buf .now) (a .at) (s .pre .ids-long) (s .pre .within) (s .pre .at-is) (l .buf) (l .i) (l .o) (l .inv .2)
 
 returns : tie.Need-returns Inv-loop μ-loop
 returns c =
@@ -131,13 +131,13 @@ returns c =
     let a = s .args in
     let l = c .before .loop in
     let es = entriesListed (names (a .bytes .now) (a .ends .now)) (a .ids .now) in
-    let done = along-end (a .mode) (a .bytes .now) (a .ends .now) (a .ids .now) (a .buf .now) (a .at) (s .pre .2) (s .pre .3) (s .pre .5) (l .buf) (l .i) (l .o) (c .loop-test .left) (l .inv .2) in (
-      area-stored (a .mode) es (a .buf .now) (l .buf) done,
-      (
-        stored-links (a .mode) (a .bytes .now) (a .ends .now) (a .ids .now) (a .buf .now) (a .at) (s .pre .2) (s .pre .3) (s .pre .5) (l .buf) done,
-        (behind-kept (a .mode) es (a .buf .now) (l .buf) done, along-length (a .mode) (a .bytes .now) (a .ends .now) (a .ids .now) (a .buf .now) (a .at) (s .pre .2) (s .pre .3) (s .pre .5) (l .buf) (l .i) (l .o) (l .inv .2)),
-      ),
-    )
+    let done = along-end (a .mode) (a .bytes .now) (a .ends .now) (a .ids .now) (a .buf .now) (a .at) (s .pre .ids-long) (s .pre .within) (s .pre .at-is) (l .buf) (l .i) (l .o) (c .loop-test .left) (l .inv .2) in
+    record {
+      area = area-stored (a .mode) es (a .buf .now) (l .buf) done;
+      linked = stored-links (a .mode) (a .bytes .now) (a .ends .now) (a .ids .now) (a .buf .now) (a .at) (s .pre .ids-long) (s .pre .within) (s .pre .at-is) (l .buf) done;
+      behind = behind-kept (a .mode) es (a .buf .now) (l .buf) done;
+      long = along-length (a .mode) (a .bytes .now) (a .ends .now) (a .ids .now) (a .buf .now) (a .at) (s .pre .ids-long) (s .pre .within) (s .pre .at-is) (l .buf) (l .i) (l .o) (l .inv .2);
+    }
 
 pub store-list-spec : {M : Type 1} → statement M
 store-list-spec =

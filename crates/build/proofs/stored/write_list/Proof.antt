@@ -1,12 +1,12 @@
 -- `build::stored::write_list` meets its contract. Assumes nothing.
-use Prim.Native.Nat.{ℕ, _+_, _*_, _-_, _^_, _≤_, _<_}
+use Prim.Native.Nat.{ℕ, _+_, _*_, _-_, _^_, _<_}
 use native.Mathlib.Omega.{arith}
-use mathlib.Core.Path.{_≡_, refl, sym, ap, subst, _∙_}
+use mathlib.Core.Path.{_≡_, refl, sym, ap, _∙_}
 use lib.ListN.{length, getD, drop, replicate}
 use borrow.Author.Needs.{needs}
 use Rattle.image.specs.Image.{backIn, imageSize}
 use Rattle.joined.specs.Names.{names}
-use Rattle.build.specs.steps.PutsAlong.{entriesListed}
+use Rattle.build.specs.steps.Steps.{entriesListed}
 use Rattle.image.specs.Stored.{between}
 use Rattle.joined.proofs.NameEnds.{begin-later}
 use Rattle.build.proofs.ListWhole.{Numbers, numbers, zeros-between, zeros-behind, asked, left-image}
@@ -26,7 +26,7 @@ add-end : tie.Need-add-end
 add-end c =
     let s = c .before .before .before .before .before .before in
     let n = length (s .args .ends .now) in
-    omega (arith, s .pre .1, s .pre .4 .small, begin-later (s .args .ends .now) n (λ z. omega (arith, s .pre .1)))
+    omega (arith, s .pre .some, s .pre .fits .small, begin-later (s .args .ends .now) n (λ z. omega (arith, s .pre .some)))
 
 mul-end-2 : tie.Need-mul-end-2
 mul-end-2 c = search needs
@@ -35,7 +35,7 @@ add-end-2 : tie.Need-add-end-2
 add-end-2 c =
     let s = c .before .before .before .before .before .before in
     let n = length (s .args .ends .now) in
-    omega (arith, s .pre .1, s .pre .4 .small, begin-later (s .args .ends .now) n (λ z. omega (arith, s .pre .1)))
+    omega (arith, s .pre .some, s .pre .fits .small, begin-later (s .args .ends .now) n (λ z. omega (arith, s .pre .some)))
 
 largest-requires : tie.Need-largest-requires
 largest-requires c κs = search needs
@@ -63,14 +63,14 @@ Known c =
     let a = s .args in
     let n = length (a .ends .now) in
     let end = 2072 + getD (a .ends .now) (n - 1) 0 + 9 * n in
-    Numbers (a .mode) (a .buf .now) (a .bytes .now) (a .ends .now) (a .ids .now) (s .pre .0) (s .pre .3) (s .pre .4) (words c) end (c .back-in .result) (end + 16 * n)
+    Numbers (a .mode) (a .buf .now) (a .bytes .now) (a .ends .now) (a .ids .now) (s .pre .packed) (s .pre .ids-long) (s .pre .fits) (words c) end (c .back-in .result) (end + 16 * n)
     (end + 16 * n + 4 * c .back-in .result)
 
 known : (c : tie.After-back-in) → Known c
 known c =
     let s = c .before .before .before .before .before .before .before .before in
     let a = s .args in
-    numbers (a .mode) (a .buf .now) (a .bytes .now) (a .ends .now) (a .ids .now) (s .pre .0) (s .pre .3) (s .pre .4) (words c) (s .pre .1) (c .back-in .result)
+    numbers (a .mode) (a .buf .now) (a .bytes .now) (a .ends .now) (a .ids .now) (s .pre .packed) (s .pre .ids-long) (s .pre .fits) (words c) (s .pre .some) (c .back-in .result)
     (c .back-in .ensures ∙ ap (λ (m : ℕ). backIn (a .mode) (m + 1)) (c .before .largest .ensures))
 
 add-at : tie.Need-add-at
@@ -99,17 +99,18 @@ store-list-requires c κs =
     let a = s .args in
     let z = known (c .before .before .before .before .before) in
     let cleared = c .before .before .before .clear in
-    let same : length (cleared .last .0) ≡ length (a .buf .now) = cleared .kept .0 in (
-      s .pre .0,
-      s .pre .2,
-      s .pre .3,
-      omega (arith, z .within, z .size-is, same),
-      omega (arith, z .small, z .size-is),
-      z .at-is,
-      ap (between (cleared .last .0) _) (sym (z .size-is))
+    let same : length (cleared .last .0) ≡ length (a .buf .now) = cleared .kept .0 in
+    record {
+      packed = s .pre .packed;
+      few = s .pre .few;
+      ids-long = s .pre .ids-long;
+      within = omega (arith, z .within, z .size-is, same);
+      small = omega (arith, z .small, z .size-is);
+      at-is = z .at-is;
+      cleared = ap (between (cleared .last .0) _) (sym (z .size-is))
           ∙ zeros-between (a .buf .now) _ (4 * c .before .before .before .before .before .back-in .result) (z .within) (cleared .last .0) _ refl (cleared .ensures)
-          ∙ ap (λ (k : ℕ). replicate {A = ℕ} (4 * k) 0) (z .back-is),
-    )
+          ∙ ap (λ (k : ℕ). replicate {A = ℕ} (4 * k) 0) (z .back-is);
+    }
 
 cast-write-image-with : tie.Need-cast-write-image-with
 cast-write-image-with c = search needs
@@ -129,9 +130,9 @@ write-image-with-requires c κs =
     let stored = c .before .before .before .store-list in
     let same : length (cleared .last .0) ≡ length (a .buf .now) = cleared .kept .0 in
     let buf = stored .last .1 .1 .1 .1 .1 .0 in
-    asked (a .mode) (a .buf .now) (a .bytes .now) (a .ends .now) (a .ids .now) (s .pre .0) (s .pre .3) (s .pre .4) (words told) (a .counts .now) buf
-    (stored .ensures .1 .1 .1 ∙ same) (stored .ensures .0) (s .pre .6) (s .pre .5) _ (told .back-in .result) (z .end-is) (z .back-is) (a .words .now) (s .pre .7)
-    (ap (λ (k : ℕ). between buf k (imageSize (a .mode) (entriesListed (names (a .bytes .now) (a .ends .now)) (a .ids .now)))) (sym (z .at-is)) ∙ stored .ensures .1 .0)
+    asked (a .mode) (a .buf .now) (a .bytes .now) (a .ends .now) (a .ids .now) (s .pre .packed) (s .pre .ids-long) (s .pre .fits) (words told) (a .counts .now) buf
+    (stored .ensures .long ∙ same) (stored .ensures .area) (s .pre .counted) (s .pre .tables) _ (told .back-in .result) (z .end-is) (z .back-is) (a .words .now) (s .pre .tabled)
+    (ap (λ (k : ℕ). between buf k (imageSize (a .mode) (entriesListed (names (a .bytes .now) (a .ends .now)) (a .ids .now)))) (sym (z .at-is)) ∙ stored .ensures .linked)
 
 cast-result : tie.Need-cast-result
 cast-result c =
@@ -152,12 +153,13 @@ returns c =
     let done = c .before .before .write-image-with in
     let same : length (cleared .last .0) ≡ length (a .buf .now) = cleared .kept .0 in
     let buf = stored .last .1 .1 .1 .1 .1 .0 in
-    let behind = zeros-behind (a .buf .now) _ (4 * told .back-in .result) (z .within) (cleared .last .0) _ refl (cleared .ensures) in (
-      z .size-is,
-      left-image (a .mode) (a .buf .now) (a .bytes .now) (a .ends .now) (a .ids .now) (s .pre .0) (s .pre .3) (s .pre .4) (words told) (a .counts .now) buf
-          (stored .ensures .1 .1 .1 ∙ same) (stored .ensures .0) (s .pre .6) (s .pre .5) _ (told .back-in .result) (z .end-is) (z .back-is)
-          (stored .ensures .1 .1 .0 ∙ ap (λ (k : ℕ). drop k (cleared .last .0)) (sym (z .size-is)) ∙ behind ∙ ap (λ (k : ℕ). drop k (a .buf .now)) (z .size-is)) _ (done .ensures),
-    )
+    let behind = zeros-behind (a .buf .now) _ (4 * told .back-in .result) (z .within) (cleared .last .0) _ refl (cleared .ensures) in
+    record {
+      size = z .size-is;
+      leaves = left-image (a .mode) (a .buf .now) (a .bytes .now) (a .ends .now) (a .ids .now) (s .pre .packed) (s .pre .ids-long) (s .pre .fits) (words told) (a .counts .now) buf
+          (stored .ensures .long ∙ same) (stored .ensures .area) (s .pre .counted) (s .pre .tables) _ (told .back-in .result) (z .end-is) (z .back-is)
+          (stored .ensures .behind ∙ ap (λ (k : ℕ). drop k (cleared .last .0)) (sym (z .size-is)) ∙ behind ∙ ap (λ (k : ℕ). drop k (a .buf .now)) (z .size-is)) _ (done .ensures);
+    }
 
 pub write-list-spec : {M : Type 1} → statement M
 write-list-spec =

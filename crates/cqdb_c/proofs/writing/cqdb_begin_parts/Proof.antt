@@ -4,7 +4,7 @@ use lib.ListN.{length}
 use borrow.Author.Tests.{not-true, not-false}
 use Rattle.writer.specs.declared.Begun.{Begun}
 use Rattle.writer.specs.State.{begunOf}
-use Rattle.cqdb_c.specs.declared.record.Record.{Record}
+use Rattle.modes.specs.declared.record.Record.{Record}
 use Rattle.cqdb_c.specs.declared.writing.BeginAnswer.{BeginAnswer}
 use Rattle.cqdb_c.specs.Writing.{begunAnswer}
 use Rattle.cqdb_c.proofs.CCalls.{begin-unknown, begin-known}

@@ -4,7 +4,7 @@ use native.Mathlib.Omega.{arith}
 use Prim.Native.Nat.{ℕ, _≤_, _-_}
 use mathlib.Core.Path.{_≡_, refl}
 use mathlib.Core.Bool.{_&&_}
-use Rattle.finish.specs.Finish.{noneAbove}
+use Rattle.finish.specs.Record.{noneAbove}
 use Rattle.image.specs.Bytes.{all}
 use Rattle.image.proofs.All.{all-more, all-end}
 use lib.ListN.{getD}

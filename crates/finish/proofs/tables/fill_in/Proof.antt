@@ -6,7 +6,7 @@ use Rattle.finish.proofs.tables.fill_in.Statement.{statement}
 use Rattle.finish.proofs.tables.fill_in.Tie as tie
 use Rattle.finish.proofs.tables.fill_in.Reads as reads
 use Rattle.finish.proofs.tables.fill_in.Lts as lts
-use Rattle.taking.proofs.batch.take_entries.Reads as take-entries-reads
+use Rattle.taking.proofs.fill.take_singly.Reads as take-singly-reads
 use Rattle.finish.proofs.head.clear.Reads as clear-reads
 use Rattle.finish.proofs.tables.parts.Reads as parts-reads
 use Rattle.finish.proofs.tables.take_by_tables.Reads as take-by-tables-reads
@@ -40,8 +40,8 @@ returns c =
 clear-requires-2 : tie.Need-clear-requires-2
 clear-requires-2 c κs = search needs
 
-take-entries-requires : tie.Need-take-entries-requires
-take-entries-requires c κs = search needs
+take-singly-requires : tie.Need-take-singly-requires
+take-singly-requires c κs = search needs
 
 same-length-2 : tie.Need-same-length-2
 same-length-2 c = search needs
@@ -50,7 +50,7 @@ returns-2 : tie.Need-returns-2
 returns-2 c =
     let a = c .before .before .before .before .before .before .before .before .before .before .before .args in
     let of-clear = c .before .before .before .before .before .before .clear2 in
-    let of-take = c .before .before .take-entries in
+    let of-take = c .before .before .take-singly in
     let way = sym (c .before .before .before .before .before .before .before .before .before .parts .ensures) ∙ c .before .before .before .before .before .before .before .before .if1 .left in
     filled-singly (a .mode) (a .links) (a .end) (a .entries) (a .size) (a .counts .now) (a .buf .now) (of-clear .last .0) (of-take .last .1 .1 .0) way (of-clear .ensures) (of-take .ensures)
 
@@ -66,6 +66,6 @@ fill-in-spec =
     same-length
     returns
     clear-requires-2
-    take-entries-requires
+    take-singly-requires
     same-length-2
     returns-2)

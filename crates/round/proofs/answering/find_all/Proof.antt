@@ -80,16 +80,21 @@ find-done-requires c κs =
     let parted = c .before .before .before .before .before .before .before .pass in
     let first = s .args .live .now in
     let done = parted .last .1 .1 .1 .1 .1 .0 in (
-      s .pre .0,
-      s .pre .1,
-      omega (arith, l .inv .5, s .pre .2),
-      omega (arith, parted .kept, l .inv .3, l .inv .1, s .pre .3),
-      omega (arith, parted .kept, l .inv .4, l .inv .1, s .pre .3),
-      λ x h.
-          listed-small first (s .args .m) (length (s .args .ends .now)) (getD done x 0) (s .pre .5)
-          (listed-via first (l .live) (s .args .m) (l .q) (getD done x 0) (l .inv .7) (parted .ensures .1 .1 x h .0)),
-      λ x h. parted .ensures .1 .1 x h .1,
-      s .pre .6,
+      record {
+        stand = s .pre .0;
+        keyed = s .pre .6;
+        all-keyed = s .pre .1;
+        placed = omega (arith, l .inv .5, s .pre .2);
+        room = omega (arith, parted .kept, l .inv .3, l .inv .1, s .pre .3);
+        small = λ x h.
+            listed-small first (s .args .m) (length (s .args .ends .now)) (getD done x 0) (s .pre .5)
+            (listed-via first (l .live) (s .args .m) (l .q) (getD done x 0) (l .inv .7) (parted .ensures .1 .1 x h .0));
+      },
+      record {
+        few = omega (arith, l .inv .0);
+        room = omega (arith, parted .kept, l .inv .4, l .inv .1, s .pre .3);
+        each = λ x h. parted .ensures .1 .1 x h .1;
+      },
     )
 
 loop-less : tie.Need-loop-less Inv-loop μ-loop
@@ -113,25 +118,29 @@ loop-again c =
       omega (arith, parted .kept, l .inv .3),
       omega (arith, parted .kept, l .inv .4),
       omega (arith, found .kept, l .inv .5),
-      λ p h. found .ensures .1 .1 p h ∙ l .inv .6 p h,
+      λ p h. found .ensures .kept p h ∙ l .inv .6 p h,
       λ z h. listed-via first (l .live) (s .args .m) (l .q) (getD live z 0) (l .inv .7) (parted .ensures .1 .0 z h .0),
       λ z h. parted .ensures .1 .0 z h .1,
       λ x h.
           let i = getD first x 0 in
           next-right image xs (l .answers) after (l .live) live done (l .q) (parted .result) (l .q - parted .result) i
-          (found .ensures .1 .0 i) (parted .ensures .0 .1) (found .ensures .0) (l .inv .9 x h),
+          (found .ensures .stays i) (parted .ensures .0 .1) (found .ensures .stored) (l .inv .9 x h),
     )
 
 find-open-requires : tie.Need-find-open-requires Inv-loop μ-loop
 find-open-requires c κs =
     let s = c .before .before .before .before .before .before .before .before .before .before in
     let l = c .before .before .before .loop in (
-      s .pre .0,
-      s .pre .1,
-      omega (arith, l .inv .5, s .pre .2),
-      omega (arith, l .inv .1, l .inv .2, s .pre .4),
-      λ x h. listed-small (s .args .live .now) (s .args .m) (length (s .args .ends .now)) (getD (l .live) x 0) (s .pre .5) (l .inv .7 x h),
-      s .pre .6,
+      record {
+        stand = s .pre .0;
+        keyed = s .pre .6;
+        all-keyed = s .pre .1;
+        placed = omega (arith, l .inv .5, s .pre .2);
+        room = omega (arith, l .inv .1, l .inv .2, s .pre .4);
+        small = λ x h.
+            listed-small (s .args .live .now) (s .args .m) (length (s .args .ends .now)) (getD (l .live) x 0) (s .pre .5) (l .inv .7 x h);
+      },
+      record { few = omega (arith, l .inv .0); each = l .inv .8 },
     )
 
 same-length : tie.Need-same-length Inv-loop μ-loop
@@ -147,11 +156,11 @@ returns c =
     let found = c .before .before .find-open in
     let image = s .args .image .now in
     let xs = names (s .args .bytes .now) (s .args .ends .now) in
-    let after = found .last .1 .1 .1 .1 .1 .1 .0 in (
+    let after = found .last .1 .1 .1 .1 .1 .1 .1 .0 in (
       λ x h.
           let i = getD (s .args .live .now) x 0 in
-          last-right image xs (l .answers) after (l .live) (l .q) i (found .ensures .1 .0 i) (found .ensures .0) (l .inv .9 x h),
-      λ p h. found .ensures .1 .1 p h ∙ l .inv .6 p h,
+          last-right image xs (l .answers) after (l .live) (l .q) i (found .ensures .stays i) (found .ensures .stored) (l .inv .9 x h),
+      λ p h. found .ensures .kept p h ∙ l .inv .6 p h,
     )
 
 pub find-all-spec : {M : Type 1} → statement M

@@ -3,13 +3,14 @@ use Prim.Native.Nat.{_-_, _≤_}
 use native.Mathlib.Omega.{arith}
 use mathlib.Core.Path.{_≡_, refl}
 use lib.ListN.{length}
-use Rattle.round.proofs.Passes.{Finding, finding-begins, finding-turn}
+use Rattle.round.specs.steps.Searching.{Answered}
+use Rattle.round.proofs.Passes.{finding-begins, finding-turn, all-answered}
 use borrow.Author.Needs.{needs}
 use Rattle.round.proofs.answering.find_done.Statement.{statement}
 use Rattle.round.proofs.answering.find_done.Tie as tie
 
 abbrev Inv-loop : tie.InvT-loop
-Inv-loop image bytes ends keys list m offsets c answers₀ x₀ answers x = (x ≤ m) × (length answers ≡ length answers₀) × Finding image bytes ends list answers₀ answers x
+Inv-loop image bytes ends keys list m offsets c answers₀ x₀ answers x = (x ≤ m) × (length answers ≡ length answers₀) × Answered image bytes ends list answers₀ answers x
 
 abbrev μ-loop : tie.MeasureT-loop
 μ-loop image bytes ends keys list m offsets c answers₀ x₀ answers x = m - x
@@ -21,37 +22,37 @@ mul-i : tie.Need-mul-i Inv-loop μ-loop
 mul-i c = omega arith
 
 shared-slice-read-i : tie.Need-shared-slice-read-i Inv-loop μ-loop
-shared-slice-read-i c = omega (arith, c .before .before .before .before .before .before .before .before .before .before .pre .3)
+shared-slice-read-i c = omega (arith, c .before .before .before .before .before .before .before .before .before .before .pre .0 .room)
 
 cast-i : tie.Need-cast-i Inv-loop μ-loop
 cast-i c = omega (arith, c .shared-slice-known7 .given (c .before .before .loop .x))
 
 name-of-requires : tie.Need-name-of-requires Inv-loop μ-loop
-name-of-requires c κs = (c .before .before .before .before .before .before .before .before .before .before .pre .5 (c .before .before .loop .x) (omega arith), c .before .before .before .before .before .before .before .before .before .before .pre .0)
+name-of-requires c κs = (c .before .before .before .before .before .before .before .before .before .before .pre .0 .small (c .before .before .loop .x) (omega arith), c .before .before .before .before .before .before .before .before .before .before .pre .0 .stand)
 
 mul-put-decided : tie.Need-mul-put-decided Inv-loop μ-loop
-mul-put-decided c = omega (arith, c .before .before .before .before .before .before .before .before .before .before .before .pre .5 (c .before .before .before .loop .x) (omega arith), c .before .before .before .before .before .before .before .before .before .before .before .pre .2, c .before .before .before .loop .inv .1)
+mul-put-decided c = omega (arith, c .before .before .before .before .before .before .before .before .before .before .before .pre .0 .small (c .before .before .before .loop .x) (omega arith), c .before .before .before .before .before .before .before .before .before .before .before .pre .0 .placed, c .before .before .before .loop .inv .1)
 
 shared-slice-read-put-decided : tie.Need-shared-slice-read-put-decided Inv-loop μ-loop
-shared-slice-read-put-decided c = omega (arith, c .before .before .before .before .before .before .before .before .before .before .before .before .pre .5 (c .before .before .before .before .loop .x) (omega arith), c .before .before .before .before .before .before .before .before .before .before .before .before .pre .1)
+shared-slice-read-put-decided c = omega (arith, c .before .before .before .before .before .before .before .before .before .before .before .before .pre .0 .small (c .before .before .before .before .loop .x) (omega arith), c .before .before .before .before .before .before .before .before .before .before .before .before .pre .0 .all-keyed)
 
 mul-put-decided-2 : tie.Need-mul-put-decided-2 Inv-loop μ-loop
-mul-put-decided-2 c = omega (arith, c .before .before .before .before .before .before .before .before .before .before .before .before .pre .4)
+mul-put-decided-2 c = omega (arith, c .before .before .before .before .before .before .before .before .before .before .before .before .pre .1 .room)
 
 shared-slice-read-put-decided-2 : tie.Need-shared-slice-read-put-decided-2 Inv-loop μ-loop
-shared-slice-read-put-decided-2 c = omega (arith, c .before .before .before .before .before .before .before .before .before .before .before .before .before .pre .4)
+shared-slice-read-put-decided-2 c = omega (arith, c .before .before .before .before .before .before .before .before .before .before .before .before .before .pre .1 .room)
 
 mul-put-decided-3 : tie.Need-mul-put-decided-3 Inv-loop μ-loop
 mul-put-decided-3 c =
     let s = c .before .before .before .before .before .before .before .before .before .before .before .before .before .before in
     let l = c .before .before .before .before .before .before .loop in
-    omega (arith, s .pre .5 (l .x) (omega arith), s .pre .2, l .inv .1)
+    omega (arith, s .pre .0 .small (l .x) (omega arith), s .pre .0 .placed, l .inv .1)
 
 put-decided-requires : tie.Need-put-decided-requires Inv-loop μ-loop
 put-decided-requires c κs =
     let s = c .before .before .before .before .before .before .before .before .before .before .before .before .before .before in
     let l = c .before .before .before .before .before .before .loop in
-    (omega (arith, s .pre .5 (l .x) (omega arith), s .pre .2, l .inv .1), s .pre .6 (l .x) (omega arith))
+    (omega (arith, s .pre .0 .small (l .x) (omega arith), s .pre .0 .placed, l .inv .1), s .pre .1 .each (l .x) (omega arith), s .pre .1 .few)
 
 add-x : tie.Need-add-x Inv-loop μ-loop
 add-x c = omega arith
@@ -70,14 +71,14 @@ loop-again c =
       omega (arith, more),
       omega (arith, put .kept, l .inv .1),
       finding-turn (a .image .now) (a .bytes .now) (a .ends .now) (a .list .now) (a .answers .now) (a .keys .now) (l .answers) _ (name .result .now) (l .x) _
-          (s .pre .5 (l .x) (omega (arith, more))) (omega (arith, s .pre .2, l .inv .1)) (s .pre .7) (name .ensures) refl (put .ensures) (l .inv .2),
+          (s .pre .0 .small (l .x) (omega (arith, more))) (omega (arith, s .pre .0 .placed, l .inv .1)) (s .pre .0 .keyed) (name .ensures) refl (put .ensures) (l .inv .2),
     )
 
 same-length : tie.Need-same-length Inv-loop μ-loop
 same-length c = search needs
 
 returns : tie.Need-returns Inv-loop μ-loop
-returns c = let l = c .before .loop in (λ x h. l .inv .2 .passed x (omega arith), (l .inv .2 .stays, l .inv .2 .kept))
+returns c = let l = c .before .loop in all-answered _ _ _ _ _ _ (l .x) _ (c .loop-test .left) (l .inv .2)
 
 pub find-done-spec : {M : Type 1} → statement M
 find-done-spec =

@@ -1,10 +1,11 @@
 -- `round::answering::put_decided` meets its contract. Assumes nothing.
+use native.Mathlib.Omega.{arith}
 use mathlib.Core.Path.{sym, ap, _∙_}
 use lib.Seq.{sets}
 use Rattle.reader.specs.Lookup.{Lookup, ends, hit}
 use Rattle.reader.specs.Cases.{seenOf}
 use Rattle.round.specs.Round.{answerWords}
-use Rattle.round.proofs.Finds.{too-long, empty-decides, entry-decides}
+use Rattle.round.proofs.Finds.{too-long, empty-decides, entry-decides, rest-decides}
 use borrow.Author.Needs.{needs}
 use Rattle.round.proofs.answering.put_decided.Statement.{statement}
 use Rattle.round.proofs.answering.put_decided.Tie as tie
@@ -39,8 +40,8 @@ see-entry-requires c κs = search needs
 enum-told : tie.Need-enum-told
 enum-told c = search needs
 
-to-id-by-requires : tie.Need-to-id-by-requires
-to-id-by-requires c κs = search needs
+search-from-requires : tie.Need-search-from-requires
+search-from-requires c κs = omega (arith, c .before .before .before .before .before .before .before .before .before .pre .2)
 
 put-answer-requires : tie.Need-put-answer-requires
 put-answer-requires c κs = search needs
@@ -62,8 +63,13 @@ same-length-3 c = search needs
 
 returns-3 : tie.Need-returns-3
 returns-3 c =
-    let a = c .before .before .before .before .before .before .before .before .before .before .before .before .before .args in
-    c .before .before .put-answer .ensures .1 ∙ ap (λ (x : Lookup). sets (a .answers .now) (a .at) (answerWords x)) (c .before .before .before .to-id-by .ensures)
+    let s = c .before .before .before .before .before .before .before .before .before .before .before .before .before in
+    let a = s .args in
+    let seen = sym (ap seenOf (c .before .before .before .before .before .enum-told .given .1)) ∙ c .before .before .before .before .before .before .before .see-entry .ensures in
+    let short = c .before .before .before .before .before .before .before .before .before .if1 .left in
+    let some = c .before .before .before .before .before .before .before .before .if2 .left in
+    let answer = c .before .before .before .search-from .ensures ∙ rest-decides (a .image .now) (a .name .now) (a .h) (a .c) (a .offset) (s .pre .1) short some seen in
+    c .before .before .put-answer .ensures .1 ∙ ap (λ (x : Lookup). sets (a .answers .now) (a .at) (answerWords x)) answer
 
 same-length-4 : tie.Need-same-length-4
 same-length-4 c = search needs
@@ -102,7 +108,7 @@ put-decided-spec =
     returns-2
     see-entry-requires
     enum-told
-    to-id-by-requires
+    search-from-requires
     put-answer-requires
     enum-told-2
     put-words-requires-3

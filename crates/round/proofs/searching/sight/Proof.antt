@@ -1,107 +1,123 @@
 -- `round::searching::sight` meets its contract. Assumes nothing.
-use Prim.Native.Nat.{_+_, _%_, _/_, _<_}
+use Prim.Native.Nat.{_<_}
 use native.Mathlib.Omega.{arith}
-use native.Mathlib.Nat.{mod-lt}
-use mathlib.Core.Path.{refl}
 use Rattle.round.proofs.Sights.{goes-past, passed-on, decided-here}
 use borrow.Author.Needs.{needs}
 use Rattle.round.proofs.searching.sight.Statement.{statement}
 use Rattle.round.proofs.searching.sight.Tie as tie
 
-table-in-requires : tie.Need-table-in-requires
-table-in-requires c κs = search needs
+buckets-in-requires : tie.Need-buckets-in-requires
+buckets-in-requires c κs = search needs
 
 returns : tie.Need-returns
 returns c =
-    let a = c .before .before .before .before .args in
-    let t = c .before .before .table-in in (
-      (omega arith, λ e. goes-past (a .image .now) (a .h) (a .c) (t .result .n) (t .ensures .0) (λ some. t .ensures .1 some .3) (c .if1 .taken)),
+    let s = c .before .before .before in
+    let a = s .args in
+    let t = c .before .buckets-in in (
+      (
+        omega arith,
+        λ e.
+            goes-past (a .image .now) (a .h) (a .c) (t .result) (t .ensures .0) (λ some. let row = t .ensures .1 some in (row .read, row .number))
+            (c .if1 .taken) (s .pre .1),
+      ),
       λ z. absurd (omega arith),
     )
 
-add-k : tie.Need-add-k
-add-k c = search needs
+cast-t : tie.Need-cast-t
+cast-t c = search needs
 
-rem-k : tie.Need-rem-k
-rem-k c = search needs
+mul-word : tie.Need-mul-word
+mul-word c = search needs
 
-cast-at : tie.Need-cast-at
-cast-at c = search needs
+add-word : tie.Need-add-word
+add-word c = search needs
 
-cast-at-2 : tie.Need-cast-at-2
-cast-at-2 c =
-    let t = c .before .before .before .before .table-in in
-    let some : 0 < t .result .n = omega (arith, c .before .before .if1 .left) in
-    omega (arith, mod-lt (c .before .before .before .before .before .before .args .h / 256 + c .before .before .before .before .before .before .args .c) {m = t .result .n} some, t .ensures .1 some .4)
+word-requires : tie.Need-word-requires
+word-requires c κs = omega (arith, c .before .buckets-in .ensures .1 (omega (arith, c .if1 .left)) .head)
+
+cast-start : tie.Need-cast-start
+cast-start c = search needs
+
+bucket-after-requires : tie.Need-bucket-after-requires
+bucket-after-requires c κs = (omega (arith, c .before .if1 .left), omega (arith, c .before .before .before .before .pre .0))
+
+cast-k : tie.Need-cast-k
+cast-k c = search needs
 
 mul-at : tie.Need-mul-at
 mul-at c =
-    let t = c .before .before .before .before .table-in in
-    let some : 0 < t .result .n = omega (arith, c .before .before .if1 .left) in
-    omega (arith, mod-lt (c .before .before .before .before .before .before .args .h / 256 + c .before .before .before .before .before .before .args .c) {m = t .result .n} some, t .ensures .1 some .4)
+    let t = c .before .before .before .buckets-in in
+    let some : 0 < t .result = omega (arith, c .before .before .if1 .left) in
+    omega (arith, c .bucket-after .ensures .1, c .before .word .ensures, t .ensures .1 some .inside)
 
 add-at : tie.Need-add-at
 add-at c =
-    let t = c .before .before .before .before .table-in in
-    let some : 0 < t .result .n = omega (arith, c .before .before .if1 .left) in
-    omega (arith, mod-lt (c .before .before .before .before .before .before .args .h / 256 + c .before .before .before .before .before .before .args .c) {m = t .result .n} some, t .ensures .1 some .4)
+    let t = c .before .before .before .buckets-in in
+    let some : 0 < t .result = omega (arith, c .before .before .if1 .left) in
+    omega (arith, c .bucket-after .ensures .1, c .before .word .ensures, t .ensures .1 some .inside)
 
-add-word : tie.Need-add-word
-add-word c =
-    let t = c .before .before .before .before .table-in in
-    let some : 0 < t .result .n = omega (arith, c .before .before .if1 .left) in
-    omega (arith, mod-lt (c .before .before .before .before .before .before .args .h / 256 + c .before .before .before .before .before .before .args .c) {m = t .result .n} some, t .ensures .1 some .4)
-
-word-requires : tie.Need-word-requires
-word-requires c κs =
-    let t = c .before .before .before .before .table-in in
-    let some : 0 < t .result .n = omega (arith, c .before .before .if1 .left) in
-    omega (arith, mod-lt (c .before .before .before .before .before .before .args .h / 256 + c .before .before .before .before .before .before .args .c) {m = t .result .n} some, t .ensures .1 some .4)
+add-word-2 : tie.Need-add-word-2
+add-word-2 c =
+    let t = c .before .before .before .buckets-in in
+    let some : 0 < t .result = omega (arith, c .before .before .if1 .left) in
+    omega (arith, c .bucket-after .ensures .1, c .before .word .ensures, t .ensures .1 some .inside)
 
 word-requires-2 : tie.Need-word-requires-2
 word-requires-2 c κs =
-    let t = c .before .before .before .before .before .table-in in
-    let some : 0 < t .result .n = omega (arith, c .before .before .before .if1 .left) in
-    omega (arith, mod-lt (c .before .before .before .before .before .before .before .args .h / 256 + c .before .before .before .before .before .before .before .args .c) {m = t .result .n} some, t .ensures .1 some .4)
+    let t = c .before .before .before .buckets-in in
+    let some : 0 < t .result = omega (arith, c .before .before .if1 .left) in
+    omega (arith, c .bucket-after .ensures .1, c .before .word .ensures, t .ensures .1 some .inside)
+
+word-requires-3 : tie.Need-word-requires-3
+word-requires-3 c κs =
+    let t = c .before .before .before .before .buckets-in in
+    let some : 0 < t .result = omega (arith, c .before .before .before .if1 .left) in
+    omega (arith, c .before .bucket-after .ensures .1, c .before .before .word .ensures, t .ensures .1 some .inside)
 
 passed-requires : tie.Need-passed-requires
 passed-requires c κs = search needs
 
 returns-2 : tie.Need-returns-2
 returns-2 c =
-    let a = c .before .before .before .before .before .before .before .before .before .args in
-    let t = c .before .before .before .before .before .before .before .table-in in
-    let some : 0 < t .result .n = omega (arith, c .before .before .before .before .before .if1 .left) in
-    let more : a .c < t .result .n = omega (arith, c .before .before .before .before .before .if1 .left) in
-    let row = t .ensures .1 some in
+    let s = c .before .before .before .before .before .before .before .before in
+    let a = s .args in
+    let t = c .before .before .before .before .before .before .buckets-in in
+    let more : a .c < t .result = omega (arith, c .before .before .before .before .before .if1 .left) in
+    let row = t .ensures .1 (omega arith) in
     let image = a .image .now in
-    let k = (a .h / 256 + a .c) % t .result .n in
+    let start = c .before .before .before .before .word in
+    let k = c .before .before .before .bucket-after in
+    let entry = c .before .before .word2 in
+    let met = c .before .word3 in
     let p = c .passed in (
       (
         p .ensures .0,
         λ e.
-            passed-on image (a .h) (a .c) (t .result .at) (t .result .n) k (c .before .before .word .result) (c .before .word2 .result) (row .0) (row .1) (row .2) (row .3) more refl
-            (c .before .before .word .ensures) (c .before .word2 .ensures) (c .before .before .before .before .before .before .before .before .before .pre .1) (p .ensures .1 e .0) (p .ensures .1 e .1),
+            passed-on image (a .h) (a .c) (start .result) (t .result) (k .result) (entry .result) (met .result) (row .head) (row .read) (start .ensures)
+            (row .number) more (k .ensures .0) (entry .ensures) (met .ensures) (s .pre .1) (p .ensures .1 e .0) (p .ensures .1 e .1),
       ),
       λ z.
-          decided-here image (a .h) (a .c) (t .result .at) (t .result .n) k (c .before .before .word .result) (c .before .word2 .result) (row .0) (row .1) (row .2) (row .3) more refl
-          (c .before .before .word .ensures) (c .before .word2 .ensures) (c .before .before .before .before .before .before .before .before .before .pre .1) (p .ensures .2 z),
+          decided-here image (a .h) (a .c) (start .result) (t .result) (k .result) (entry .result) (met .result) (row .head) (row .read) (start .ensures)
+          (row .number) more (k .ensures .0) (entry .ensures) (met .ensures) (s .pre .1) (p .ensures .2 z),
     )
 
 pub sight-spec : {M : Type 1} → statement M
 sight-spec =
     tie.close
     (tie.spec
-    table-in-requires
+    buckets-in-requires
     returns
-    add-k
-    rem-k
-    cast-at
-    cast-at-2
-    mul-at
-    add-at
+    cast-t
+    mul-word
     add-word
     word-requires
+    cast-start
+    bucket-after-requires
+    cast-k
+    mul-at
+    add-at
+    add-word-2
     word-requires-2
+    word-requires-3
     passed-requires
     returns-2)

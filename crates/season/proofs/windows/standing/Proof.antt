@@ -52,7 +52,7 @@ use denote.Triple.Table.{entered, cited}
 use denote.Triple.Walked.{says, Stays, stay-dropped, walkOf, goes-dropped, Walks, ends-at, walked, walk-meets}
 use denote.Exit.{yes as stays-kept}
 use denote.Triple.Clauses.{ensured, lasts}
-use Rattle.season.specs.steps.Saying.{said}
+use Rattle.season.specs.Saying.{said}
 use Rattle.season.specs.steps.Fold.{stepped, folded}
 use Rattle.season.specs.declared.Date.{Date}
 use Rattle.season.specs.declared.Window.{Window}

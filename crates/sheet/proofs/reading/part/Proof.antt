@@ -1,7 +1,7 @@
 -- `sheet::reading::part` meets its contract. Assumes nothing.
 use native.Mathlib.Omega.{arith}
-use mathlib.Core.Path.{sym}
-use Rattle.sheet.proofs.Sections.{part-past, part-cut, part-by}
+use Rattle.reader.specs.Slices.{slice}
+use Rattle.sheet.proofs.Parts.{part-past, part-cut, part-whole}
 use borrow.Author.Needs.{needs}
 use Rattle.sheet.proofs.reading.part.Statement.{statement}
 use Rattle.sheet.proofs.reading.part.Tie as tie
@@ -24,7 +24,7 @@ part-result-end c = search needs
 returns : tie.Need-returns
 returns c =
     let a = c .before .before .before .args in
-    sym (part-past (a .file .now) (a .p) (omega arith))
+    part-past (slice (a .file)) (a .p) (omega arith)
 
 part-result-start-2 : tie.Need-part-result-start-2
 part-result-start-2 c = search needs
@@ -35,7 +35,7 @@ part-result-end-2 c = search needs
 returns-2 : tie.Need-returns-2
 returns-2 c =
     let a = c .before .before .before .before .args in
-    sym (part-cut (a .file .now) (a .p) (omega arith))
+    part-cut (slice (a .file)) (a .p) (omega arith) (omega arith)
 
 add-result : tie.Need-add-result
 add-result c = search needs
@@ -52,7 +52,7 @@ part-result-end-3 c = search needs
 returns-3 : tie.Need-returns-3
 returns-3 c =
     let a = c .before .before .before .before .args in
-    part-by (a .file .now) (a .p)
+    part-whole (slice (a .file)) (a .p) (omega arith)
 
 pub part-spec : {M : Type 1} → statement M
 part-spec =

@@ -1,7 +1,7 @@
 -- `tabling::parted::starts` meets its contract. The loop's invariant: the rows passed have the sums. Assumes nothing.
 use Prim.Native.Nat.{ℕ, _+_, _-_, _≤_, _<_}
 use native.Mathlib.Omega.{arith}
-use mathlib.Core.Path.{_≡_, refl, sym, _∙_}
+use mathlib.Core.Path.{_≡_, refl}
 use lib.ListN.{length, length-set}
 use borrow.Author.Needs.{needs}
 use Rattle.tabling.specs.steps.Parted.{at, sumTo}

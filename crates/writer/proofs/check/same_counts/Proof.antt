@@ -6,7 +6,7 @@ use mathlib.Core.Bool.{_&&_}
 use lib.ListN.{getD}
 use lib.Dec.{eqb}
 use Rattle.image.specs.Bytes.{all}
-use Rattle.image.specs.Tally.{sameCounts}
+use Rattle.writer.specs.steps.Earlier.{sameCounts}
 use Rattle.image.proofs.All.{all-more, all-end}
 use Rattle.writer.proofs.check.same_counts.Statement.{statement}
 use Rattle.writer.proofs.check.same_counts.Tie as tie

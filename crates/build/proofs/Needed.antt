@@ -1,0 +1,115 @@
+-- What a list needs is the size of the image of all its names, so a buffer of so many bytes refuses none for room. Assumes nothing.
+use Prim.Native.Nat.{ℕ, _+_, _*_, _≤_, _<_}
+use native.Mathlib.Omega.{arith}
+use mathlib.Core.Path.{_≡_, refl, ap}
+use mathlib.Core.Bool.{false, _||_}
+use mathlib.Core.List.{List, [], _∷_}
+use borrow.Author.Tests.{ltb-false}
+use lib.Dec.{ltb}
+use lib.ListN.{length, getD, length-append}
+use Rattle.image.specs.declared.Mode.{Mode}
+use Rattle.image.specs.declared.Mode.the-variants.{Twoway, Oneway}
+use Rattle.image.specs.Image.{headSize, backSize, backIn}
+use Rattle.image.proofs.Between.{length-between}
+use Rattle.image.proofs.Bools.{neither-first, neither-second}
+use Rattle.joined.specs.Names.{namesFrom, names, astray, joined}
+use Rattle.writer.specs.declared.Repeats.{Repeats}
+use Rattle.lists.specs.Calls.{putsSize, sizeOf, puts, WordIds}
+use Rattle.lists.specs.Demand3.{answersOf}
+use Rattle.lists.proofs.Room.{room, back-rises}
+use Rattle.build.specs.declared.needs.Needs.{Needs}
+use Rattle.build.specs.Build.{callsOf, listed}
+use Rattle.build.specs.steps.Capacity.{largestTo}
+use Rattle.build.specs.Needs.{atMost, idsBack, bytesNeeded, needed, wordsEach, NeedsHold}
+use Rattle.build.proofs.Largest.{largest-none, largest-cons}
+
+-- ---- the largest id
+
+pub no-back : (ids : List ℕ) → length ids ≡ 0 → 0 ≡ idsBack ids
+unfolding idsBack
+no-back [] e = refl
+no-back (id ∷ ids) e = absurd (omega arith)
+
+pub back-largest : (ids : List ℕ) → 0 < length ids → idsBack ids ≡ largestTo ids (length ids) + 1
+unfolding idsBack
+back-largest [] some = absurd (omega arith)
+back-largest (id ∷ []) some = omega (arith, largest-cons id [] 0, largest-none [])
+back-largest (id ∷ j ∷ ids) some = omega (arith, back-largest (j ∷ ids) (omega arith), largest-cons id (j ∷ ids) (length (j ∷ ids)))
+
+-- ---- the sums
+
+-- no more than the largest id plus 1 counts
+pub back-less : (mode : Mode) (n : ℕ) → backIn mode n ≤ n
+back-less Twoway n = omega arith
+back-less Oneway n = omega arith
+
+-- each sum is held at 2^64 − 1, and so is the whole
+pub whole-sum : (mode : Mode) (size : ℕ) (ids : List ℕ) (back each first r : ℕ) → back ≡ backIn mode (idsBack ids) → each ≡ atMost (25 * length ids)
+    → first ≡ atMost (2072 + 4 * back + each) → r ≡ atMost (first + size) → r ≡ bytesNeeded mode size ids
+unfolding bytesNeeded
+whole-sum mode size ids back each first r p q s t = omega arith
+
+pub needs-are : (mode : Mode) (size : ℕ) (ids : List ℕ) (b w : ℕ) → b ≡ bytesNeeded mode size ids → w ≡ atMost (wordsEach * length ids)
+    → _≡_ {A = Needs} (record { bytes = b; words = w }) (needed mode size ids)
+unfolding needed
+needs-are mode size ids b w p q = λ i. record { bytes = p i; words = q i }
+
+-- ---- the puts of the names
+
+-- the names that lie in the bytes from s on need no more than those, and 25 for each id
+puts-most : (bytes : List ℕ) (s : ℕ) (ends ids : List ℕ) → s ≤ length bytes → astray (length bytes) s ends ≡ false
+    → s + putsSize (puts (callsOf (namesFrom bytes s ends) ids)) ≤ length bytes + 25 * length ids
+unfolding namesFrom astray callsOf puts putsSize
+puts-most bytes s [] ids inside good = omega arith
+puts-most bytes s (e ∷ es) [] inside good = omega arith
+puts-most bytes s (e ∷ es) (id ∷ ids) inside good =
+    let size = length bytes in
+    let two = neither-first (ltb e s || ltb size e) (astray size e es) good in
+    let rises = ltb-false e s (neither-first (ltb e s) (ltb size e) two) in
+    let within = ltb-false size e (neither-second (ltb e s) (ltb size e) two) in
+    let later = puts-most bytes e es ids within (neither-second (ltb e s || ltb size e) (astray size e es) good) in
+    omega (arith, rises, length-between bytes s e rises within, later)
+
+back-most : (xs : List (List ℕ)) (ids : List ℕ) → backSize (puts (callsOf xs ids)) ≤ idsBack ids
+unfolding callsOf puts backSize idsBack
+back-most [] ids = omega arith
+back-most (x ∷ xs) [] = omega arith
+back-most (x ∷ xs) (id ∷ ids) = omega (arith, back-most xs ids)
+
+size-most : (mode : Mode) (bytes ends ids : List ℕ) → astray (length bytes) 0 ends ≡ false
+    → sizeOf mode (puts (listed bytes ends ids)) ≤ headSize + length bytes + 25 * length ids + 4 * backIn mode (idsBack ids)
+unfolding sizeOf names
+size-most mode bytes ends ids good =
+    omega (arith, puts-most bytes 0 ends ids (omega arith) good, back-rises mode (backSize (puts (listed bytes ends ids))) (idsBack ids) (back-most (names bytes ends) ids))
+
+none-refused : (mode : Mode) (repeats : Repeats) (buffer bytes ends ids : List ℕ) → astray (length bytes) 0 ends ≡ false
+    → WordIds mode (listed bytes ends ids) → bytesNeeded mode (length bytes) ids ≤ length buffer → bytesNeeded mode (length bytes) ids ≤ 4294967295
+    → (i : ℕ) → getD (answersOf mode repeats buffer (listed bytes ends ids)) i 0 ≡ 3 → ⊥
+unfolding bytesNeeded
+none-refused mode repeats buffer bytes ends ids good word within small =
+    let most = size-most mode bytes ends ids good in
+    room .none-refused mode repeats buffer (listed bytes ends ids) word (omega arith) (omega arith)
+
+-- ---- names that lie joined with nothing behind them
+
+puts-joined : (xs : List (List ℕ)) (ids : List ℕ) → length xs ≡ length ids → putsSize (puts (callsOf xs ids)) ≡ length (joined xs) + 25 * length ids
+unfolding callsOf puts putsSize joined
+puts-joined [] [] h = refl
+puts-joined [] (id ∷ ids) h = absurd (omega arith)
+puts-joined (x ∷ xs) [] h = absurd (omega arith)
+puts-joined (x ∷ xs) (id ∷ ids) h = omega (arith, puts-joined xs ids (omega arith), length-append x (joined xs))
+
+back-joined : (xs : List (List ℕ)) (ids : List ℕ) → length xs ≡ length ids → backSize (puts (callsOf xs ids)) ≡ idsBack ids
+unfolding callsOf puts backSize idsBack
+back-joined [] [] h = refl
+back-joined [] (id ∷ ids) h = absurd (omega arith)
+back-joined (x ∷ xs) [] h = absurd (omega arith)
+back-joined (x ∷ xs) (id ∷ ids) h = omega (arith, back-joined xs ids (omega arith))
+
+exact : (mode : Mode) (xs : List (List ℕ)) (ids : List ℕ) → length xs ≡ length ids
+    → bytesNeeded mode (length (joined xs)) ids ≡ atMost (sizeOf mode (puts (callsOf xs ids)))
+unfolding bytesNeeded sizeOf
+exact mode xs ids h = omega (arith, puts-joined xs ids h, ap (backIn mode) (back-joined xs ids h))
+
+pub needs-hold : NeedsHold
+needs-hold = record { none-refused = none-refused; exact = exact }

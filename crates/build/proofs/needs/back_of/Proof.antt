@@ -1,0 +1,32 @@
+-- `build::needs::back_of` meets its contract: the largest id plus 1 is the back size. Assumes nothing.
+use Prim.Native.Nat.{ℕ, _+_, _^_, _≤_}
+use native.Mathlib.Omega.{arith}
+use mathlib.Core.Path.{_≡_}
+use borrow.Author.Needs.{needs}
+use Rattle.build.specs.Needs.{idsBack}
+use Rattle.build.proofs.Needed.{no-back, back-largest}
+use Rattle.build.proofs.needs.back_of.Statement.{statement}
+use Rattle.build.proofs.needs.back_of.Tie as tie
+
+returns : tie.Need-returns
+returns c = (no-back (c .before .before .args .ids .now) (c .if1 .taken), omega arith)
+
+largest-requires : tie.Need-largest-requires
+largest-requires c κs = search needs
+
+cast-result : tie.Need-cast-result
+cast-result c = search needs
+
+add-result : tie.Need-add-result
+add-result c = search needs
+
+returns-2 : tie.Need-returns-2
+returns-2 c =
+    let ids = c .before .before .before .args .ids .now in
+    let top = c .largest .result in
+    let is : top + 1 ≡ idsBack ids = omega (arith, c .largest .ensures, back-largest ids (omega (arith, c .before .if1 .left))) in
+    let word : top + 1 ≤ 2 ^ 32 = omega arith in
+    (is, word)
+
+pub back-of-spec : {M : Type 1} → statement M
+back-of-spec = tie.close (tie.spec returns largest-requires cast-result add-result returns-2)

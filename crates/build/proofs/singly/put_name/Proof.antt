@@ -1,0 +1,51 @@
+-- `build::singly::put_name` meets its contract. Assumes nothing.
+use Prim.Native.Nat.{_<_}
+use native.Mathlib.Omega.{arith}
+use mathlib.Core.Path.{_∙_}
+use lib.ListN.{length}
+use borrow.Author.Needs.{needs}
+use Rattle.image.specs.Image.{Entry}
+use Rattle.writer.specs.State.{State, stateWith}
+use Rattle.writer.specs.Put.{entryOf}
+use Rattle.build.proofs.SinglePuts.{spare-refusal, spare-after}
+use Rattle.build.proofs.singly.put_name.Statement.{statement}
+use Rattle.build.proofs.singly.put_name.Tie as tie
+
+put-requires : tie.Need-put-requires
+put-requires c κs = search needs
+
+same-length : tie.Need-same-length
+same-length c = search needs
+
+returns : tie.Need-returns
+returns c =
+    let done = c .before .before .put .ensures in
+    record { answer = done .0; leaves = done .1; right = λ h. absurd (omega arith) }
+
+put-indexed-requires : tie.Need-put-indexed-requires
+put-indexed-requires c κs = search needs
+
+same-length-2 : tie.Need-same-length-2
+same-length-2 c = search needs
+
+same-length-3 : tie.Need-same-length-3
+same-length-3 c = search needs
+
+returns-2 : tie.Need-returns-2
+returns-2 c =
+    let s = c .before .before .before .before .before .before .before .before .before .before .before .before in
+    let a = s .args in
+    let before : State = stateWith (a .w) (a .counts .now) (a .buf .now) in
+    let e : Entry = entryOf (a .name .now) (a .id) in
+    let has : 0 < length (a .slots .now) = omega arith in
+    let right = s .pre .right has in
+    let spare = s .pre .spare has in
+    let done = c .before .before .before .before .put-indexed .ensures in
+    record {
+      answer = done .answer right ∙ spare-refusal before (a .slots .now) e spare;
+      leaves = done .leaves right ∙ spare-after before (a .slots .now) e spare;
+      right = λ h. done .right right;
+    }
+
+pub put-name-spec : {M : Type 1} → statement M
+put-name-spec = tie.close (tie.spec put-requires same-length returns put-indexed-requires same-length-2 same-length-3 returns-2)

@@ -1,0 +1,75 @@
+// What a list needs: the bytes of a buffer in which no put is refused for room, and the words of lent memory for the
+// fast way.
+ghost use mathlib.Core.Path.{_≡_};
+ghost use Prim.Native.Nat.{_+_, _*_, _≤_, _^_, min};
+ghost use Rattle.build.specs.Needs.{atMost, wordsEach, idsBack, bytesNeeded, needed};
+use super::capacity::largest;
+use image::Mode;
+
+// The words of lent memory for each name; `wordsEach` is the same number.
+const WORDS_EACH: u64 = 7;
+
+// How many bytes, and how many words of lent memory.
+pub struct Needs {
+    pub bytes: u64,
+    pub words: u64,
+}
+
+// A sum, 2^64 - 1 where it is more.
+fn sum(a: u64, b: u64) -> u64
+    ensures { λ r. ⌜ r ≡ atMost (a + b) ⌝ }
+{
+    if 18446744073709551615 - a < b {
+        return 18446744073709551615;
+    }
+    a + b
+}
+
+// 25 bytes for each of n names, beside the name itself: 9 in its entry and 16 in its table; 2^64 - 1 where it is more.
+fn bytes_each(n: u64) -> u64
+    ensures { λ r. ⌜ r ≡ atMost (25 * n) ⌝ }
+{
+    if 18446744073709551615 / 25 < n {
+        return 18446744073709551615;
+    }
+    25 * n
+}
+
+// The words of lent memory for n names, 2^64 - 1 where it is more.
+fn words_for(n: u64) -> u64
+    ensures { λ r. ⌜ r ≡ atMost (wordsEach * n) ⌝ }
+{
+    if 18446744073709551615 / WORDS_EACH < n {
+        return 18446744073709551615;
+    }
+    WORDS_EACH * n
+}
+
+// The largest id plus 1, 0 without any.
+fn back_of(ids: &[u32]) -> u64
+    ensures { λ r. ⌜ (r ≡ idsBack (now (ids .entry))) × (r ≤ 2 ^ 32) ⌝ }
+{
+    if ids.len() == 0 {
+        return 0;
+    }
+    largest(ids, ids.len()) as u64 + 1
+}
+
+// The bytes of the image of all names, which have `size` bytes together, 2^64 - 1 where it is more.
+fn bytes_for(mode: Mode, size: u64, ids: &[u32]) -> u64
+    ensures { λ r. ⌜ r ≡ bytesNeeded mode size (now (ids .entry)) ⌝ }
+{
+    let back = finish::size::back_in(mode, back_of(ids));
+    let entries = bytes_each(ids.len() as u64);
+    sum(sum(2072 + 4 * back, entries), size)
+}
+
+// What a list of names, which have `size` bytes together, with these ids needs.
+pub fn for_list(mode: Mode, size: u64, ids: &[u32]) -> Needs
+    ensures { λ r. ⌜ r ≡ needed mode size (now (ids .entry)) ⌝ }
+{
+    Needs {
+        bytes: bytes_for(mode, size, ids),
+        words: words_for(ids.len() as u64),
+    }
+}

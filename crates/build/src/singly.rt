@@ -1,0 +1,82 @@
+// The puts of a list, one by one: by an index in the scratch memory, which tells a duplicate in constant time, or by
+// the rule's own put, which with repeats off walks all earlier entries.
+ghost use Rattle.writer.specs.State.{stateWith};
+ghost use Rattle.writer.specs.Put.{entryOf};
+ghost use Rattle.build.specs.steps.Steps.{IndexWords, PutPre, PutPost, PutListPre, PutListPost};
+use index::put_indexed;
+use joined::name_of;
+use writer::CQDBWriter;
+use writer::PutAnswer;
+use writer::Repeats;
+
+// How many words of the scratch memory are the index of n names: two slots of two words a name, or what there is. 0
+// where there is less than a slot a name, and with repeats on, where no put looks for its name.
+pub(crate) fn index_words(repeats: Repeats, n: usize, words: usize) -> usize
+    ensures { λ r. ⌜ IndexWords n words r ⌝ }
+{
+    match repeats {
+        Repeats::On => 0,
+        Repeats::Off => {
+            if words / 2 < n {
+                return 0;
+            }
+            if words / 4 < n {
+                return words;
+            }
+            4 * n
+        }
+    }
+}
+
+// A put by the index if there are slots, otherwise the rule's own put.
+fn put_name(
+    w: CQDBWriter,
+    counts: &mut [u32; 256],
+    buf: &mut [u8],
+    slots: &mut [u32],
+    name: &[u8],
+    id: u32,
+) -> PutAnswer
+    requires { ⌜ PutPre (stateWith w (now counts) (now buf)) (now slots) ⌝ }
+    ensures { λ r. ⌜
+        PutPost (stateWith w (now (counts .entry)) (now (buf .entry))) (now (slots .entry))
+        (entryOf (now (name .entry)) id) (r .refusal)
+        (stateWith (r .writer) (now (counts .exit)) (now (buf .exit))) (now (slots .exit))
+        ⌝ }
+{
+    if slots.len() == 0 {
+        return writer::put(w, &mut *counts, &mut *buf, name, id);
+    }
+    put_indexed(w, &mut *counts, &mut *buf, &mut *slots, name, id)
+}
+
+// The puts of all names in their order, with the number of each put's refusal.
+pub(crate) fn put_list(
+    w: CQDBWriter,
+    counts: &mut [u32; 256],
+    buf: &mut [u8],
+    slots: &mut [u32],
+    bytes: &[u8],
+    ends: &[u64],
+    ids: &[u32],
+    refusals: &mut [u32],
+) -> CQDBWriter
+    requires { ⌜
+        PutListPre w (now counts) (now buf) (now slots) (now bytes) (now ends) (now ids) (now refusals)
+        ⌝ }
+    ensures { λ r. ⌜
+        PutListPost w (now (buf .entry)) (now (bytes .entry)) (now (ends .entry)) (now (ids .entry))
+        (now (refusals .entry)) (stateWith r (now (counts .exit)) (now (buf .exit))) (now (refusals .exit))
+        ⌝ }
+{
+    let mut after = w;
+    let mut i = 0;
+    while i < ends.len() {
+        let name = name_of(bytes, ends, i);
+        let answer = put_name(after, &mut *counts, &mut *buf, &mut *slots, name, ids[i]);
+        after = answer.writer;
+        refusals[i] = answer.refusal;
+        i += 1;
+    }
+    after
+}

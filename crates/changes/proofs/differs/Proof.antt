@@ -1,0 +1,130 @@
+-- `changes::differs` meets its contract. By the namings of the id in the two images. Assumes nothing.
+use native.Mathlib.Omega.{arith}
+use mathlib.Core.Path.{sym, ap, _∙_}
+use Rattle.reader.specs.Cases.{namingOf}
+use Rattle.reader.proofs.Namings.{named}
+use Rattle.changes.proofs.Namings.{both-named, name-gone, name-added, neither-named}
+use borrow.Author.Needs.{needs}
+use Rattle.changes.proofs.differs.Statement.{statement}
+use Rattle.changes.proofs.differs.Tie as tie
+
+to-str-requires : tie.Need-to-str-requires
+to-str-requires c κs = search needs
+
+enum-known-start : tie.Need-enum-known-start
+enum-known-start c = search needs
+
+to-str-requires-2 : tie.Need-to-str-requires-2
+to-str-requires-2 c κs = search needs
+
+enum-known-from : tie.Need-enum-known-from
+enum-known-from c = search needs
+
+add-same : tie.Need-add-same
+add-same c =
+    let a = c .before .before .before .before .before .before .before .before .before .before .args in
+    let p = c .before .before .before .before .before .start .given in
+    omega (arith, named (a .old .now) (a .id) (p .0 .0) (p .0 .1 .0) (sym (c .before .before .before .before .before .before .before .to-str .ensures) ∙ ap namingOf (p .1)))
+
+sub-same : tie.Need-sub-same
+sub-same c = search needs
+
+part-same-start : tie.Need-part-same-start
+part-same-start c = search needs
+
+part-same-end : tie.Need-part-same-end
+part-same-end c =
+    let a = c .before .before .before .before .before .before .before .before .before .before .args in
+    let p = c .before .before .before .before .before .start .given in
+    omega (arith, named (a .old .now) (a .id) (p .0 .0) (p .0 .1 .0) (sym (c .before .before .before .before .before .before .before .to-str .ensures) ∙ ap namingOf (p .1)))
+
+add-same-2 : tie.Need-add-same-2
+add-same-2 c =
+    let a = c .before .before .before .before .before .before .before .before .before .before .before .args in
+    let p = c .before .before .from .given in
+    omega (arith, named (a .new .now) (a .id) (p .0 .0) (p .0 .1 .0) (sym (c .before .before .before .before .to-str2 .ensures) ∙ ap namingOf (p .1)))
+
+sub-same-2 : tie.Need-sub-same-2
+sub-same-2 c = search needs
+
+part-same-start-2 : tie.Need-part-same-start-2
+part-same-start-2 c = search needs
+
+part-same-end-2 : tie.Need-part-same-end-2
+part-same-end-2 c =
+    let a = c .before .before .before .before .before .before .before .before .before .before .before .args in
+    let p = c .before .before .from .given in
+    omega (arith, named (a .new .now) (a .id) (p .0 .0) (p .0 .1 .0) (sym (c .before .before .before .before .to-str2 .ensures) ∙ ap namingOf (p .1)))
+
+same-requires : tie.Need-same-requires
+same-requires c κs = search needs
+
+enum-told : tie.Need-enum-told
+enum-told c = search needs
+
+enum-told-2 : tie.Need-enum-told-2
+enum-told-2 c = search needs
+
+to-str-requires-3 : tie.Need-to-str-requires-3
+to-str-requires-3 c κs = search needs
+
+enum-known-start-2 : tie.Need-enum-known-start-2
+enum-known-start-2 c = search needs
+
+enum-told-3 : tie.Need-enum-told-3
+enum-told-3 c = search needs
+
+returns : tie.Need-returns
+returns c =
+    let a = c .before .before .before .before .before .before .before .before .before .before .before .before .before .args in
+    let p = c .before .before .before .before .before .before .before .before .start .given in
+    let q = c .before .before .before .before .from .given in
+    both-named (a .old .now) (a .new .now) (a .id) (p .0 .0) (p .0 .1 .0) (q .0 .0) (q .0 .1 .0) _
+    (ap namingOf (sym (p .1)) ∙ c .before .before .before .before .before .before .before .before .before .before .to-str .ensures) (ap namingOf (sym (q .1)) ∙ c .before .before .before .before .before .before .to-str2 .ensures) (c .same .ensures)
+
+returns-2 : tie.Need-returns-2
+returns-2 c =
+    let a = c .before .before .before .before .before .before .before .before .before .args in
+    let p = c .before .before .before .before .start .given in
+    name-gone (a .old .now) (a .new .now) (a .id) (p .0 .0) (p .0 .1 .0)
+    (ap namingOf (sym (p .1)) ∙ c .before .before .before .before .before .before .to-str .ensures) (ap namingOf (sym (c .enum-told .given .1)) ∙ c .before .before .to-str2 .ensures)
+
+returns-3 : tie.Need-returns-3
+returns-3 c =
+    let a = c .before .before .before .before .before .before .before .before .before .args in
+    let q = c .before .start2 .given in
+    name-added (a .old .now) (a .new .now) (a .id) (q .0 .0) (q .0 .1 .0)
+    (ap namingOf (sym (c .before .before .before .before .enum-told2 .given .1)) ∙ c .before .before .before .before .before .before .to-str .ensures) (ap namingOf (sym (q .1)) ∙ c .before .before .before .to-str3 .ensures)
+
+returns-4 : tie.Need-returns-4
+returns-4 c =
+    let a = c .before .before .before .before .before .before .before .before .args in
+    neither-named (a .old .now) (a .new .now) (a .id)
+    (ap namingOf (sym (c .before .before .before .enum-told2 .given .1)) ∙ c .before .before .before .before .before .to-str .ensures) (ap namingOf (sym (c .enum-told3 .given .1)) ∙ c .before .before .to-str3 .ensures)
+
+pub differs-spec : {M : Type 1} → statement M
+differs-spec =
+    tie.close
+    (tie.spec
+    to-str-requires
+    enum-known-start
+    to-str-requires-2
+    enum-known-from
+    add-same
+    sub-same
+    part-same-start
+    part-same-end
+    add-same-2
+    sub-same-2
+    part-same-start-2
+    part-same-end-2
+    same-requires
+    enum-told
+    enum-told-2
+    to-str-requires-3
+    enum-known-start-2
+    enum-told-3
+    returns
+    returns-2
+    returns-3
+    returns-4)

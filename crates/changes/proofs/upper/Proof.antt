@@ -1,0 +1,40 @@
+-- `changes::upper` meets its contract. Assumes nothing.
+use Rattle.changes.proofs.Namings.{second-larger, first-larger}
+use borrow.Author.Needs.{needs}
+use Rattle.changes.proofs.upper.Statement.{statement}
+use Rattle.changes.proofs.upper.Tie as tie
+
+iter-requires : tie.Need-iter-requires
+iter-requires c κs = search needs
+
+size-hint-requires : tie.Need-size-hint-requires
+size-hint-requires c κs = search needs
+
+iter-requires-2 : tie.Need-iter-requires-2
+iter-requires-2 c κs = search needs
+
+size-hint-requires-2 : tie.Need-size-hint-requires-2
+size-hint-requires-2 c κs = search needs
+
+returns : tie.Need-returns
+returns c =
+    let a = c .before .before .before .before .before .before .before .args in
+    second-larger (a .old .now) (a .new .now) _ _ _ _ (c .before .before .before .before .iter .ensures) (c .before .before .iter2 .ensures)
+    (c .before .before .before .size-hint .ensures) (c .before .size-hint2 .ensures) (c .if1 .taken)
+
+returns-2 : tie.Need-returns-2
+returns-2 c =
+    let a = c .before .before .before .before .before .before .before .args in
+    first-larger (a .old .now) (a .new .now) _ _ _ _ (c .before .before .before .before .iter .ensures) (c .before .before .iter2 .ensures)
+    (c .before .before .before .size-hint .ensures) (c .before .size-hint2 .ensures) (c .if1 .left)
+
+pub upper-spec : {M : Type 1} → statement M
+upper-spec =
+    tie.close
+    (tie.spec
+    iter-requires
+    size-hint-requires
+    iter-requires-2
+    size-hint-requires-2
+    returns
+    returns-2)

@@ -1,0 +1,2 @@
+-- Laws for the exported calls.
+pub mod ShortNames

@@ -1,0 +1,39 @@
+-- A buffer that grows, as C has it. Assumes nothing.
+use Prim.Native.Nat.{ℕ, _≤_, _<_}
+use mathlib.Core.Path.{_≡_, refl, sym, ap, _∙_}
+use mathlib.Core.Bool.{Bool, true, false, cond}
+use mathlib.Core.List.{[]}
+use lib.Dec.{ltb}
+use Rattle.writer.specs.declared.CQDBWriter.{CQDBWriter}
+use Rattle.writer.specs.Grown.{withLength, grownRefusal, grownWriter}
+use Rattle.modes.specs.declared.record.Record.{Record}
+use Rattle.modes.specs.Modes.{known}
+use Rattle.modes.specs.Record.{writerOf, recordOf, Held, held}
+use Rattle.cqdb_c.specs.Grown.{grownNumber, recordGrown}
+use Rattle.modes.proofs.Records.{back-and-forth}
+
+-- a record that is none of 01's
+pub grown-unknown : (r : Record) (n : ℕ) → known (r .mode) (r .repeats) ≡ false → (2 ≡ grownNumber r n) × (r ≡ recordGrown r n)
+unfolding grownNumber recordGrown
+grown-unknown r n over = rw over (refl, refl)
+
+-- one of 01's: the writer's record v goes in, w comes back
+pub grown-known : (r : Record) (n : ℕ) (v w : CQDBWriter) (left : Record) (k : ℕ) → known (r .mode) (r .repeats) ≡ true → v ≡ writerOf r
+    → k ≡ grownRefusal v n → w ≡ grownWriter v n → left ≡ recordOf w → (k ≡ grownNumber r n) × (left ≡ recordGrown r n)
+unfolding grownNumber recordGrown
+grown-known r n v w left k fine is answer leaves back =
+    rw fine (
+      answer ∙ ap (λ (x : CQDBWriter). grownRefusal x n) is,
+      back ∙ ap recordOf (leaves ∙ ap (λ (x : CQDBWriter). grownWriter x n) is),
+    )
+
+-- a refusal changes nothing
+pub grown-refused : (r : Record) (n : ℕ) → (grownNumber r n ≡ 0 → ⊥) → recordGrown r n ≡ r
+unfolding grownNumber recordGrown
+grown-refused r n = go (known (r .mode) (r .repeats)) refl (ltb n (r .length))
+  where
+    go : (t : Bool) → known (r .mode) (r .repeats) ≡ t → (b : Bool) → (_≡_ {A = ℕ} (cond t (cond b 2 0) 2) 0 → ⊥)
+        → cond t (recordOf (cond b (writerOf r) (withLength (writerOf r) n))) r ≡ r
+    go true fine true refused = ap (λ (h : Held). h .writer) (back-and-forth (held r [] []) fine)
+    go true fine false refused = absurd (refused refl)
+    go false over b refused = refl

@@ -1,0 +1,38 @@
+-- `cqdb_c::writing::cqdb_grown_parts` meets its contract: what `grown` promises, put into the struct. Assumes nothing.
+use mathlib.Core.Path.{sym, _∙_}
+use borrow.Author.Tests.{not-true, not-false}
+use borrow.Author.Needs.{needs}
+use Rattle.cqdb_c.proofs.GrownCalls.{grown-unknown, grown-known}
+use Rattle.cqdb_c.proofs.writing.cqdb_grown_parts.Statement.{statement}
+use Rattle.cqdb_c.proofs.writing.cqdb_grown_parts.Tie as tie
+
+known-requires : tie.Need-known-requires
+known-requires c κs = search needs
+
+returns : tie.Need-returns
+returns c =
+    let a = c .before .before .args in
+    grown-unknown (a .w) (a .length) (sym (c .before .known .ensures) ∙ not-true _ (c .if1 .taken))
+
+writer-of-requires : tie.Need-writer-of-requires
+writer-of-requires c κs = search needs
+
+grown-requires : tie.Need-grown-requires
+grown-requires c κs = search needs
+
+record-of-requires : tie.Need-record-of-requires
+record-of-requires c κs = search needs
+
+returns-2 : tie.Need-returns-2
+returns-2 c =
+    let a = c .before .before .before .before .before .before .args in
+    let of-grown = c .before .before .grown in
+    let of-writer-of = c .before .before .before .writer-of in
+    let fine = sym (c .before .before .before .before .before .known .ensures) ∙ not-false _ (c .before .before .before .before .if1 .left) in
+    grown-known (a .w) (a .length) (of-writer-of .result) (of-grown .result .writer) (c .record-of .result) (of-grown .result .refusal)
+    fine (of-writer-of .ensures) (of-grown .ensures .0) (of-grown .ensures .1) (c .record-of .ensures)
+
+pub cqdb-grown-parts-spec : {M : Type 1} → statement M
+cqdb-grown-parts-spec =
+    tie.close
+    (tie.spec known-requires returns writer-of-requires grown-requires record-of-requires returns-2)

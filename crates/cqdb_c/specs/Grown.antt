@@ -1,0 +1,14 @@
+-- The exported call for a buffer that has grown: the rule's number, and the record that it leaves. A record with a
+-- mode or a repeats mode that is neither 0 nor 1 fits no buffer: refusal 2, and nothing changes. Assumes nothing.
+use Prim.Native.Nat.{ℕ}
+use mathlib.Core.Bool.{cond}
+use Rattle.writer.specs.Grown.{grownRefusal, grownWriter}
+use Rattle.modes.specs.declared.record.Record.{Record}
+use Rattle.modes.specs.Modes.{known}
+use Rattle.modes.specs.Record.{writerOf, recordOf}
+
+unfoldable pub grownNumber : Record → ℕ → ℕ
+grownNumber r n = cond (known (r .mode) (r .repeats)) (grownRefusal (writerOf r) n) 2
+
+unfoldable pub recordGrown : Record → ℕ → Record
+recordGrown r n = cond (known (r .mode) (r .repeats)) (recordOf (grownWriter (writerOf r) n)) r

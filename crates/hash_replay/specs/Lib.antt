@@ -1,2 +1,0 @@
--- What a line of the replay means.
-pub mod HashLines

@@ -1,0 +1,114 @@
+-- A probe of the slots matches a name exactly when an entry has it. Assumes nothing.
+use Prim.Native.Nat.{ℕ, _+_, _≤_, _<_, _^_}
+use native.Mathlib.Omega.{arith}
+use mathlib.Core.Path.{_≡_, refl, sym, ap, _∙_}
+use mathlib.Core.Bool.{Bool, true, false, cond, _&&_, _||_}
+use mathlib.Core.List.{List, [], _∷_, map}
+use borrow.Author.Tests.{eqb-false}
+use lib.Dec.{eqb}
+use lib.ListN.{length, getD}
+use Rattle.jhash.specs.NameHash.{hashOf}
+use Rattle.image.specs.Bytes.{same, cat}
+use Rattle.image.specs.Tables.{Bucket, empty, order, start, filled}
+use Rattle.image.specs.Image.{Entry, Placed, headSize, entryBytes, entrySize, placed, bucketOf, hasName, holds}
+use Rattle.image.proofs.At.{At}
+use Rattle.image.proofs.Bools.{not-both}
+use Rattle.image.proofs.Buckets.{filled-all}
+use Rattle.image.proofs.EntryAt.{Stands, standing, all-placed}
+use Rattle.image.proofs.Equal.{same-true}
+use Rattle.image.proofs.Every.{All, all-map, all-both, all-image}
+use Rattle.reader.specs.Lookup.{Hit, hit, pass}
+use Rattle.answers.proofs.EntrySeen.{seen-entry}
+use Rattle.answers.proofs.Table.{NotEmpty}
+use Rattle.answers.specs.steps.Matches.{matches}
+use Rattle.answers.proofs.Matching.{no-match}
+use Rattle.index.specs.steps.Probe.{isHit, hasNameAt}
+
+-- ---- names read where entries stand
+
+module _ (img name : List ℕ) (small : length img ≤ 4294967295) where
+  -- reading at its offset says whether the entry has the name
+  abbrev pub NameRead : Placed → Type 0
+  NameRead p = hasNameAt img name (p .at) ≡ same (p .entry .name) name
+
+  hit-is : (t : Bool) (x : Hit) → isHit (cond t (hit x) pass) ≡ t
+  hit-is true x = refl
+  hit-is false x = refl
+
+  one-decided : (p : Placed) → Stands img p × (p .entry .id < 2 ^ 32) → NameRead p
+  one-decided p w = ap isHit (seen-entry (p .entry) (w .0 .there) small name (w .1)) ∙ hit-is (same (p .entry .name) name) _
+
+  pub all-decided : (es : List Entry) → At img headSize (cat entryBytes es) → All (λ (e : Entry). e .id < 2 ^ 32) es → All NameRead (placed headSize es)
+  all-decided es stands ids =
+      all-map one-decided (placed headSize es)
+      (all-both (Stands img) (λ (p : Placed). p .entry .id < 2 ^ 32) (placed headSize es)
+      (standing img headSize es (omega arith) stands) (all-placed (λ (e : Entry). e .id < 2 ^ 32) headSize es ids))
+
+-- ---- entries and names
+
+module _ (name : List ℕ) (v : ℕ → Bool) where
+  abbrev pub Decides : Placed → Type 0
+  Decides p = v (p .at) ≡ same (p .entry .name) name
+
+  -- no entry of the name's hash has the name: none has it
+  holds-none : (o : ℕ) (es : List Entry) → All Decides (placed o es)
+      → All (λ (b : Bucket). b .hash ≡ hashOf name → v (b .at) ≡ false) (map bucketOf (placed o es)) → holds name es ≡ false
+  unfolding placed holds
+  holds-none o [] decided others = refl
+  holds-none o (e ∷ es) decided others = go (same (e .name) name) refl (holds-none (o + entrySize e) es (decided .1) (others .1))
+    where
+      go : (t : Bool) → same (e .name) name ≡ t → holds name es ≡ false → (t || holds name es) ≡ false
+      go true p rest = absurd (not-both (sym (others .0 (ap hashOf (same-true (e .name) name p))) ∙ decided .0 ∙ p))
+      go false p rest = rest
+
+  -- one has the name: an entry has it
+  has-one : (o : ℕ) (es : List Entry) → All (λ (p : Placed). same (p .entry .name) name ≡ true → holds name es ≡ true) (placed o es)
+  unfolding placed holds
+  has-one o [] = tt
+  has-one o (e ∷ es) = (
+    λ t. ap (λ (x : Bool). x || holds name es) t,
+    all-map (λ p later t. go (hasName name e) (later t)) (placed (o + entrySize e) es) (has-one (o + entrySize e) es),
+  )
+    where
+      go : (t : Bool) → holds name es ≡ true → (t || holds name es) ≡ true
+      go true h = refl
+      go false h = h
+
+  -- a probe with a match has passed a slot whose entry has the name
+  matches-some : (b : ℕ → Bucket) (h : ℕ) (X : Type 0) → ((k : ℕ) → NotEmpty (b k) → v (b k .at) ≡ true → X) → (ks : List ℕ) → matches b h v ks ≡ true → X
+  unfolding matches
+  matches-some b h X decided [] e = absurd (not-both e)
+  matches-some b h X decided (k ∷ ks) e = go (eqb (b k .at) 0) refl (eqb (b k .hash) h) (v (b k .at)) refl (matches-some b h X decided ks) e
+    where
+      go : (p : Bool) → eqb (b k .at) 0 ≡ p → (q t : Bool) → v (b k .at) ≡ t → (matches b h v ks ≡ true → X) → cond p false (cond (q && t) true (matches b h v ks)) ≡ true → X
+      go true p q t r rest e = absurd (not-both e)
+      go false p true true r rest e = decided k (eqb-false (b k .at) 0 p) r
+      go false p true false r rest e = rest e
+      go false p false t r rest e = rest e
+
+  module _ (m o : ℕ) (es : List Entry) (after : 0 < o) (room : length (map bucketOf (placed o es)) ≤ m) (decided : All Decides (placed o es)) where
+    abbrev slots : ℕ → Bucket
+    slots k = getD (filled m (map bucketOf (placed o es))) k empty
+
+    no-zero : (p : ℕ) (fs : List Entry) → 0 < p → All NotEmpty (map bucketOf (placed p fs))
+    unfolding placed
+    no-zero p [] h = tt
+    no-zero p (e ∷ fs) h = ((λ z. omega (arith, h, z)), no-zero (p + entrySize e) fs (omega arith))
+
+    pub all-occupied : All NotEmpty (map bucketOf (placed o es))
+    all-occupied = no-zero o es after
+
+    pub not-contained : 0 < m → matches slots (hashOf name) v (order m m (start (hashOf name) m)) ≡ false → holds name es ≡ false
+    not-contained some none =
+        holds-none o es decided (no-match (hashOf name) v m (map bucketOf (placed o es)) some room all-occupied none)
+
+    abbrev P : Bucket → Type 0
+    P b = NotEmpty b → v (b .at) ≡ true → holds name es ≡ true
+
+    pub contained : (ks : List ℕ) → matches slots (hashOf name) v ks ≡ true → holds name es ≡ true
+    contained ks e =
+        matches-some slots (hashOf name) (holds name es ≡ true)
+        (filled-all P m (map bucketOf (placed o es)) (λ full t. absurd (full refl))
+        (all-image P bucketOf (λ p w full t. w .1 (sym (w .0) ∙ t)) (placed o es)
+        (all-both Decides (λ (p : Placed). same (p .entry .name) name ≡ true → holds name es ≡ true) (placed o es) decided (has-one o es))))
+        ks e

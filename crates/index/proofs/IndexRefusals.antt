@@ -1,0 +1,102 @@
+-- What making an index comes to. Assumes nothing.
+use Prim.Native.Nat.{ℕ, _*_, _/_, _≤_, _<_}
+use native.Mathlib.Omega.{arith}
+use mathlib.Core.Path.{_≡_, refl, sym, ap, _∙_}
+use mathlib.Core.Bool.{_&&_}
+use mathlib.Core.List.{List, map}
+use borrow.Author.Tests.{eq-eqb, ne-eqb, lt-ltb, le-ltb}
+use lib.Dec.{eqb}
+use lib.ListN.{length, getD}
+use Rattle.image.specs.Tables.{empty, filled}
+use Rattle.image.specs.Image.{headSize, placed, bucketOf, backIn, backSize}
+use Rattle.image.specs.Stored.{whole}
+use Rattle.image.proofs.Bools.{first}
+use Rattle.writer.specs.declared.CQDBWriter.{CQDBWriter}
+use Rattle.writer.specs.State.{State, stateWith, finishedSize}
+use Rattle.writer.specs.Close.{entryArea, recorded, closeRefusal}
+use Rattle.writer.specs.State.{countsAgree}
+use Rattle.writer.proofs.Fits.{fitting, not-too-large}
+use Rattle.writer.proofs.Closes.{accepted}
+use Rattle.index.specs.Index.{slotCount, entryBuckets, Right, indexRefusal}
+use Rattle.index.specs.Promise.{Indexed}
+use Rattle.index.specs.steps.Fill.{FillPre, SlotsFilled}
+
+module _ (s : State) (words : List ℕ) (r : ℕ) (answer : r ≡ closeRefusal s) where
+  pub index-refused : (r ≡ 0 → ⊥) → Indexed s words r words
+  unfolding indexRefusal
+  index-refused n =
+      record {
+        answer = is;
+        refused = λ z. refl;
+        right = λ z. absurd (n z);
+        last = λ i h. refl;
+      }
+    where
+      is : r ≡ indexRefusal s words
+      is = rw (ne-eqb (closeRefusal s) 0 (λ z. n (answer ∙ z))) answer
+
+  module _ (none : r ≡ 0) where
+    closes : closeRefusal s ≡ 0
+    closes = sym answer ∙ none
+
+    pub index-full : slotCount words < s .writer .entries → Indexed s words 24 words
+    unfolding indexRefusal
+    index-full l =
+        record {
+          answer = is;
+          refused = λ z. refl;
+          right = λ z. absurd (omega (arith, z));
+          last = λ i h. refl;
+        }
+      where
+        is : 24 ≡ indexRefusal s words
+        is = rw (eq-eqb (closeRefusal s) 0 closes, lt-ltb (slotCount words) (s .writer .entries) l) refl
+
+    -- cleared, then filled with the entries
+    module _ (cleared words′ : List ℕ) (long : length cleared ≡ length words) (last : (i : ℕ) → 2 * slotCount words ≤ i → getD cleared i 0 ≡ getD words i 0)
+        (fills : SlotsFilled (s .buffer) (s .writer .end) (s .writer .entries) cleared words′) (room : s .writer .entries ≤ slotCount words) where
+      is-made : 0 ≡ indexRefusal s words
+      unfolding indexRefusal
+      is-made = rw (eq-eqb (closeRefusal s) 0 closes, le-ltb (slotCount words) (s .writer .entries) room) (sym closes)
+
+      same : slotCount words′ ≡ slotCount cleared
+      same = ap (λ (n : ℕ). n / 2) (fills .long)
+
+      is-right : length (s .counts) ≡ 256 → Right s words′
+      unfolding entryBuckets
+      is-right tables =
+          record {
+            closes = closes;
+            tables = tables;
+            room = omega (arith, room, same, long);
+            slots =
+                λ k h. fills .slots k (omega (arith, h, same))
+                ∙ ap (λ (m : ℕ). getD (filled m (map bucketOf (placed headSize (recorded s)))) k empty) (sym same);
+          }
+
+      pub index-made : Indexed s words 0 words′
+      index-made =
+          record {
+            answer = is-made;
+            refused = λ n. absurd (n refl);
+            right = λ z. is-right;
+            last = λ i h. fills .last i (omega (arith, h, long)) ∙ last i h;
+          }
+
+-- what filling asks for
+pub fillable : (w : CQDBWriter) (counts buf words : List ℕ) → closeRefusal (stateWith w counts buf) ≡ 0 → w .entries ≤ slotCount words
+    → ((i : ℕ) → i < 2 * slotCount words → getD words i 0 ≡ 0) → FillPre buf (w .end) (w .entries) words
+fillable w counts buf words closes room cleared =
+    let s = stateWith w counts buf in
+    let a = accepted s closes in
+    let f = fitting w counts buf (a .fit) in
+    record {
+      low = f .low;
+      inside = omega (arith, f .high, f .same-length);
+      small = omega (arith, not-too-large (w .length) (finishedSize w) (a .fine) .1);
+      entire =
+          first (whole (w .entries) (entryArea s)) (countsAgree counts (recorded s))
+          (first (whole (w .entries) (entryArea s) && countsAgree counts (recorded s)) (eqb (w .back) (backIn (w .mode) (backSize (recorded s)))) (a .all));
+      room = room;
+      cleared = cleared;
+    }

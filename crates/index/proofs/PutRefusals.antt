@@ -1,0 +1,73 @@
+-- What is due to a put by a right index, in the order of its checks. Assumes nothing.
+use Prim.Native.Nat.{ℕ, suc, _≤_, _<_}
+use native.Mathlib.Omega.{arith}
+use mathlib.Core.Path.{_≡_, refl, sym, ap, _∙_}
+use mathlib.Core.Bool.{Bool, true, false, cond, _&&_}
+use mathlib.Core.List.{List}
+use borrow.Author.Tests.{eq-eqb, ne-eqb, le-leb, lt-leb, eqb-true, eqb-false, leb-false}
+use lib.Dec.{eqb, leb}
+use Rattle.image.specs.Image.{Entry, holds}
+use Rattle.image.specs.Zero.{hasZero}
+use Rattle.writer.specs.State.{State, refusesRepeats, fits, finishedSize, tooLarge}
+use Rattle.writer.specs.Put.{writerAfter, putRefusal, appended}
+use Rattle.writer.specs.Close.{recorded, consistent}
+use Rattle.writer.specs.steps.Earlier.{walkRefusal, earlierRefusal}
+use Rattle.writer.proofs.Puts.{refuses-zero, refuses-earlier, refuses-full, accepts}
+use Rattle.index.specs.Index.{slotCount, indexedRefusal, afterIndexed}
+
+module _ (s : State) (words : List ℕ) (e : Entry) where
+  pub refusal-some : (k : ℕ) → suc k ≡ putRefusal s e → suc k ≡ indexedRefusal s words e
+  unfolding indexedRefusal
+  refusal-some k p = rw (sym p, ne-eqb (suc k) 0 (λ z. omega arith)) refl
+
+  pub refusal-full : 0 ≡ putRefusal s e → slotCount words ≤ s .writer .entries → 24 ≡ indexedRefusal s words e
+  unfolding indexedRefusal
+  refusal-full p l = rw (sym p, le-leb (slotCount words) (s .writer .entries) l) refl
+
+  pub refusal-none : 0 ≡ putRefusal s e → s .writer .entries < slotCount words → 0 ≡ indexedRefusal s words e
+  unfolding indexedRefusal
+  refusal-none p l = rw (sym p, lt-leb (slotCount words) (s .writer .entries) l) refl
+
+  pub kept-refused : (k : ℕ) → k ≡ indexedRefusal s words e → (k ≡ 0 → ⊥) → s ≡ afterIndexed s words e
+  unfolding afterIndexed
+  kept-refused k p n = rw (ne-eqb (indexedRefusal s words e) 0 (λ z. n (p ∙ z))) refl
+
+  pub left-accepted : 0 ≡ indexedRefusal s words e → appended s e ≡ afterIndexed s words e
+  unfolding afterIndexed
+  left-accepted p = rw (eq-eqb (indexedRefusal s words e) 0 (sym p)) refl
+
+  -- an accepted put by the index is an accepted put
+  pub none-refused : 0 ≡ indexedRefusal s words e → (putRefusal s e ≡ 0) × (s .writer .entries < slotCount words)
+  unfolding indexedRefusal
+  none-refused p = go (eqb (putRefusal s e) 0) refl (leb (slotCount words) (s .writer .entries)) refl p
+    where
+      go : (a : Bool) → eqb (putRefusal s e) 0 ≡ a → (b : Bool) → leb (slotCount words) (s .writer .entries) ≡ b → _≡_ {A = ℕ} 0 (cond (a && b) 24 (putRefusal s e))
+          → (putRefusal s e ≡ 0) × (s .writer .entries < slotCount words)
+      go true q true r z = absurd (omega arith)
+      go true q false r z = (eqb-true (putRefusal s e) 0 q, leb-false (slotCount words) (s .writer .entries) r)
+      go false q b r z = absurd (eqb-false (putRefusal s e) 0 q (sym z))
+
+  module _ (fitted : fits s ≡ true) (agrees : consistent s ≡ true) where
+    earlier : (b : Bool) → (holds (e .name) (recorded s) && refusesRepeats (s .writer .repeats)) ≡ b → earlierRefusal s (e .name) ≡ cond b 16 0
+    unfolding earlierRefusal walkRefusal
+    earlier b p = rw agrees (go (holds (e .name) (recorded s)) (refusesRepeats (s .writer .repeats)) p)
+      where
+        go : (h r : Bool) → (h && r) ≡ b → _≡_ {A = ℕ} (cond r (cond h 16 0) 0) (cond b 16 0)
+        go true true q = ap (λ (x : Bool). cond {A = ℕ} x 16 0) q
+        go true false q = ap (λ (x : Bool). cond {A = ℕ} x 16 0) q
+        go false true q = ap (λ (x : Bool). cond {A = ℕ} x 16 0) q
+        go false false q = ap (λ (x : Bool). cond {A = ℕ} x 16 0) q
+
+    pub refusal-zero : hasZero (e .name) ≡ true → 13 ≡ indexedRefusal s words e
+    refusal-zero z = refusal-some 12 (refuses-zero s e fitted z)
+
+    pub refusal-duplicate : hasZero (e .name) ≡ false → (holds (e .name) (recorded s) && refusesRepeats (s .writer .repeats)) ≡ true → 16 ≡ indexedRefusal s words e
+    refusal-duplicate z p = refusal-some 15 (refuses-earlier s e fitted z 16 (sym (earlier true p)) (λ n. omega arith))
+
+    pub refusal-large : hasZero (e .name) ≡ false → (holds (e .name) (recorded s) && refusesRepeats (s .writer .repeats)) ≡ false
+        → tooLarge (s .writer .length) (finishedSize (writerAfter (s .writer) e)) ≡ true → 3 ≡ indexedRefusal s words e
+    refusal-large z p t = refusal-some 2 (refuses-full s e fitted z (earlier false p) t)
+
+    pub put-accepts : hasZero (e .name) ≡ false → (holds (e .name) (recorded s) && refusesRepeats (s .writer .repeats)) ≡ false
+        → tooLarge (s .writer .length) (finishedSize (writerAfter (s .writer) e)) ≡ false → 0 ≡ putRefusal s e
+    put-accepts z p t = accepts s e fitted z (earlier false p) t

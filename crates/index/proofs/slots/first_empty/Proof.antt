@@ -1,0 +1,95 @@
+-- `index::slots::first_empty` meets its contract. The loop's invariant: the rest of the probe sequence gives the result of the whole. Assumes nothing.
+use native.Mathlib.Omega.{arith}
+use mathlib.Core.Path.{refl, _∙_}
+use mathlib.Core.Logic.{⊎-elim}
+use Rattle.image.proofs.Turns.{next-more, next-first}
+use Rattle.index.specs.Index.{slot}
+use Rattle.index.proofs.Probing.{never, Rest, rest-start, probe-none, rest-end, rest-empty, rest-next}
+use Rattle.index.proofs.slots.first_empty.Statement.{statement}
+use Rattle.index.proofs.slots.first_empty.Tie as tie
+
+abbrev Inv-loop : tie.InvT-loop
+Inv-loop slots m h k₀ left₀ k left = Rest m (slot slots) h never left k
+
+abbrev μ-loop : tie.MeasureT-loop
+μ-loop slots m h k₀ left₀ k left = left
+
+returns : tie.Need-returns Inv-loop μ-loop
+returns c = let a = c .before .args in probe-none (a .m) (slot (a .slots .now)) (a .h) never (c .if1 .taken)
+
+cast-k : tie.Need-cast-k Inv-loop μ-loop
+cast-k c = omega arith
+
+rem-k : tie.Need-rem-k Inv-loop μ-loop
+rem-k c = omega arith
+
+loop-holds : tie.Need-loop-holds Inv-loop μ-loop
+loop-holds c = let a = c .before .args in rest-start (a .m) (slot (a .slots .now)) (a .h) never (omega (arith, c .if1 .left))
+
+mul-if2 : tie.Need-mul-if2 Inv-loop μ-loop
+mul-if2 c = omega (arith, c .before .loop .inv .inside)
+
+add-if2 : tie.Need-add-if2 Inv-loop μ-loop
+add-if2 c = omega (arith, c .before .loop .inv .inside)
+
+mul-if2-2 : tie.Need-mul-if2-2 Inv-loop μ-loop
+mul-if2-2 c = omega (arith, c .before .loop .inv .inside)
+
+shared-slice-read-if2 : tie.Need-shared-slice-read-if2 Inv-loop μ-loop
+shared-slice-read-if2 c = omega (arith, c .before .before .loop .inv .inside)
+
+returns-2 : tie.Need-returns-2 Inv-loop μ-loop
+returns-2 c =
+    let a = c .before .before .before .before .before .args in
+    let l = c .before .before .before .loop in
+    rest-empty (a .m) (slot (a .slots .now)) (a .h) never (l .left) (l .k) (l .inv) (c .before .before .loop-test .taken) (c .if2 .taken)
+
+add-if3 : tie.Need-add-if3 Inv-loop μ-loop
+add-if3 c = omega (arith, c .before .before .before .loop .inv .inside)
+
+add-k : tie.Need-add-k Inv-loop μ-loop
+add-k c = omega (arith, c .before .before .before .before .loop .inv .inside)
+
+sub-left : tie.Need-sub-left Inv-loop μ-loop
+sub-left c = omega arith
+
+loop-less : tie.Need-loop-less Inv-loop μ-loop
+loop-less c = omega arith
+
+loop-again : tie.Need-loop-again Inv-loop μ-loop
+loop-again c =
+    let a = c .before .before .before .before .before .before .args in
+    let l = c .before .before .before .before .loop in
+    let again = rest-next (a .m) (slot (a .slots .now)) (a .h) never (l .left) (l .k) (l .inv) (c .before .before .before .loop-test .taken) (c .before .if2 .left) (λ e. refl) in
+    ⊎-elim
+    (λ w. again (c .if3 .k) (w .1 ∙ next-more (a .m) (l .k) (w .0 .taken)) (omega (arith, w .0 .taken, w .1)))
+    (λ w. again (c .if3 .k) (w .1 ∙ next-first (a .m) (l .k) (omega (arith, l .inv .inside, w .0 .left))) (omega (arith, l .inv .inside, w .1)))
+    (c .if3 .came)
+
+returns-3 : tie.Need-returns-3 Inv-loop μ-loop
+returns-3 c =
+    let a = c .before .before .before .args in
+    let l = c .before .loop in
+    rest-end (a .m) (slot (a .slots .now)) (a .h) never (l .left) (l .k) (l .inv) (omega (arith, c .loop-test .left))
+
+pub first-empty-spec : {M : Type 1} → statement M
+first-empty-spec =
+    tie.close
+    (tie.spec
+    Inv-loop
+    μ-loop
+    returns
+    cast-k
+    rem-k
+    loop-holds
+    mul-if2
+    add-if2
+    mul-if2-2
+    shared-slice-read-if2
+    returns-2
+    add-if3
+    add-k
+    sub-left
+    loop-less
+    loop-again
+    returns-3)

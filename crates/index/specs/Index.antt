@@ -1,0 +1,75 @@
+-- The index of the names that a buffer holds: slots in lent words, which a put probes where 02 (viii)'s put walks the
+-- earlier entries.
+use Prim.Native.Nat.{ℕ, _+_, _*_, _/_, _≤_, _<_}
+use mathlib.Core.Path.{_≡_}
+use mathlib.Core.Bool.{cond, _&&_}
+use mathlib.Core.List.{List, map}
+use lib.ListN.{length, getD, set}
+use lib.Dec.{eqb, ltb, leb}
+use Rattle.image.specs.Tables.{Bucket, empty, start, order, firstEmpty, filled}
+use Rattle.image.specs.Image.{Entry, headSize, placed, bucketOf}
+use Rattle.writer.specs.State.{State}
+use Rattle.writer.specs.Put.{putRefusal, appended}
+use Rattle.writer.specs.Close.{recorded, closeRefusal}
+
+-- the lent words are slots of two words each: a hash, then the offset of an entry; offset 0 marks an empty slot. An odd
+-- last word has no meaning
+abbrev pub slotCount : List ℕ → ℕ
+slotCount words = length words / 2
+
+abbrev pub slot : List ℕ → ℕ → Bucket
+slot words k = record { hash = getD words (2 * k) 0; at = getD words (2 * k + 1) 0 }
+
+-- hash and offset stored in slot k; inserted: in the first empty slot of the hash's probe sequence, which is that of the
+-- image's own tables
+abbrev pub slotStored : List ℕ → ℕ → ℕ → ℕ → List ℕ
+slotStored words k h at = set (set words (2 * k) h) (2 * k + 1) at
+
+abbrev pub firstEmptySlot : List ℕ → ℕ → ℕ
+firstEmptySlot words h =
+    firstEmpty (λ (k : ℕ). slot words k .at) (order (slotCount words) (slotCount words) (start h (slotCount words)))
+
+abbrev pub slotInserted : List ℕ → ℕ → ℕ → List ℕ
+slotInserted words h at = slotStored words (firstEmptySlot words h) h at
+
+-- what the slots are to contain: hash and offset of each entry of the buffer, in put order
+unfoldable pub entryBuckets : State → List Bucket
+entryBuckets s = map bucketOf (placed headSize (recorded s))
+
+-- the index is right: close would accept record and buffer, there are 256 counts, no entry is without a slot, and the slots
+-- are what inserting the entries in put order into empty ones leaves, by the rule of the image's own tables
+pub record Right (s : State) (words : List ℕ) : Type 0 where
+  pub closes : closeRefusal s ≡ 0
+  pub tables : length (s .counts) ≡ 256
+  pub room : s .writer .entries ≤ slotCount words
+  pub slots : (k : ℕ) → k < slotCount words → slot words k ≡ getD (filled (slotCount words) (entryBuckets s)) k empty
+
+-- a put by the index: put's refusal; where put would accept, 24 when every slot is taken
+unfoldable pub indexedRefusal : State → List ℕ → Entry → ℕ
+indexedRefusal s words e =
+    cond (eqb (putRefusal s e) 0 && leb (slotCount words) (s .writer .entries)) 24 (putRefusal s e)
+
+unfoldable pub afterIndexed : State → List ℕ → Entry → State
+afterIndexed s words e = cond (eqb (indexedRefusal s words e) 0) (appended s e) s
+
+-- making an index: close's refusal; where close would accept, 24 when there are more entries than slots
+unfoldable pub indexRefusal : State → List ℕ → ℕ
+indexRefusal s words =
+    cond (eqb (closeRefusal s) 0 && ltb (slotCount words) (s .writer .entries)) 24 (closeRefusal s)
+
+-- the state in a buffer that has grown: its record takes the new length, and nothing else of it changes
+unfoldable pub grown : State → List ℕ → State
+grown s buffer =
+    record {
+      writer =
+          record {
+            mode = s .writer .mode;
+            repeats = s .writer .repeats;
+            length = length buffer;
+            end = s .writer .end;
+            entries = s .writer .entries;
+            back = s .writer .back;
+          };
+      counts = s .counts;
+      buffer = buffer;
+    }

@@ -1,0 +1,27 @@
+-- What keeps an index right. A put by the index keeps it right, too, refused or accepted (`PutIndexed`).
+use Prim.Native.Nat.{ℕ, _≤_, _<_}
+use mathlib.Core.Path.{_≡_}
+use mathlib.Core.List.{List}
+use lib.ListN.{length, getD, take}
+use Rattle.image.specs.declared.Mode.{Mode}
+use Rattle.image.specs.Image.{headSize}
+use Rattle.writer.specs.declared.Repeats.{Repeats}
+use Rattle.writer.specs.State.{State, fresh}
+use Rattle.writer.specs.Close.{afterClose}
+use Rattle.index.specs.Index.{Right, grown}
+
+-- the numbers of a buffer are bytes
+abbrev pub Bytes : State → Type 0
+Bytes s = (i : ℕ) → getD (s .buffer) i 0 < 256
+
+pub record KeptRight : Type 0 where
+  -- cleared slots are a right index of a fresh record
+  pub fresh-right : (mode : Mode) (repeats : Repeats) (buffer words : List ℕ) → headSize ≤ length buffer
+      → ((i : ℕ) → getD words i 0 ≡ 0) → Right (fresh mode repeats buffer) words
+  -- a close keeps it right
+  pub close-right : (s : State) (words : List ℕ) → Bytes s
+      → Right s words → Right (afterClose s) words
+  -- so does a buffer that grows, where the bytes before the end of the entries are those of before
+  pub grown-right : (s : State) (words buffer : List ℕ) → Bytes s → length (s .buffer) ≤ length buffer
+      → take (s .writer .end) buffer ≡ take (s .writer .end) (s .buffer)
+      → Right s words → Right (grown s buffer) words

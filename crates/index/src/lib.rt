@@ -1,0 +1,177 @@
+// The index of the names that a buffer holds, in lent words, and a put that probes it: with repeats off it compares the name
+// with the entries of an equal hash alone, where `writer::put` walks all earlier ones.
+ghost use mathlib.Core.Path.{_≡_};
+ghost use Rattle.writer.specs.State.{stateWith};
+ghost use Rattle.writer.specs.Put.{entryOf};
+ghost use Rattle.index.specs.Promise.{PutIndexed, Indexed};
+ghost use Rattle.index.specs.steps.Decided.{FitsBuffer, Decided};
+ghost use Rattle.index.specs.steps.Fill.{FillPre, SlotsFilled};
+use image::entries::name_at;
+use image::entries::whole_length;
+use image::scratch::clear;
+use slots::first_empty;
+use slots::probe_for_put;
+use slots::store_slot;
+use writer::CQDBWriter;
+use writer::PutAnswer;
+use writer::record::after;
+use writer::record::size_with;
+use writer::record::too_large;
+
+mod slots; // slots.rt: slots probed and stored
+
+// Is the record of this buffer's length, and its end in it?
+fn fits_buffer(w: CQDBWriter, buf: &[u8]) -> bool
+    ensures { λ r. ⌜ FitsBuffer w (now (buf .entry)) r ⌝ }
+{
+    if w.length != buf.len() as u64 {
+        return false;
+    }
+    if w.end < 2072 {
+        return false;
+    }
+    if w.end > w.length {
+        return false;
+    }
+    true
+}
+
+// The refusal of a put, 0 where it is accepted, and then the hash of its name and the slot that it takes.
+struct Decision {
+    refusal: u32,
+    hash: u32,
+    slot: usize,
+}
+
+// A refused put.
+fn refused(refusal: u32) -> Decision
+    ensures { λ r. ⌜ r .refusal ≡ refusal ⌝ }
+{
+    Decision {
+        refusal,
+        hash: 0,
+        slot: 0,
+    }
+}
+
+// All checks of a put, with the bounds that its stores need: what is lent may be anything.
+fn decide(
+    w: CQDBWriter,
+    counts: &[u32; 256],
+    buf: &[u8],
+    slots: &[u32],
+    name: &[u8],
+    id: u32,
+) -> Decision
+    ensures { λ r. ⌜
+        Decided w (now (counts .entry)) (now (buf .entry)) (now (slots .entry)) (now (name .entry)) id
+        (r .refusal) (r .hash) (r .slot)
+        ⌝ }
+{
+    if !fits_buffer(w, buf) {
+        return refused(2);
+    }
+    if image::zero::has_zero(name) {
+        return refused(13);
+    }
+    let jhash::Hashed::Hash(h) = jhash::name_hash(name) else {
+        return refused(3);
+    };
+    let m = slots.len() / 2;
+    let end = w.end as usize;
+    let repeats = w.repeats;
+    let k = probe_for_put(repeats, &buf[..end], slots, m, h, name);
+    if m < k {
+        return refused(16);
+    }
+    if too_large(w.length, size_with(w, name.len(), id)) {
+        return refused(3);
+    }
+    if m <= w.entries as usize {
+        return refused(24);
+    }
+    if k == m {
+        return refused(24);
+    }
+    let t = (h % 256) as usize;
+    if counts[t] > 4294967294 {
+        return refused(2);
+    }
+    Decision {
+        refusal: 0,
+        hash: h,
+        slot: k,
+    }
+}
+
+// Appends an entry and stores its slot, or is refused and changes nothing. By a right index it does what put does.
+pub fn put_indexed(
+    w: CQDBWriter,
+    counts: &mut [u32; 256],
+    buf: &mut [u8],
+    slots: &mut [u32],
+    name: &[u8],
+    id: u32,
+) -> PutAnswer
+    ensures { λ r. ⌜
+        PutIndexed (stateWith w (now (counts .entry)) (now (buf .entry))) (now (slots .entry))
+        (entryOf (now (name .entry)) id) (r .refusal)
+        (stateWith (r .writer) (now (counts .exit)) (now (buf .exit))) (now (slots .exit))
+        ⌝ }
+{
+    let d = decide(w, &*counts, &*buf, &*slots, name, id);
+    let refusal = d.refusal;
+    if refusal != 0 {
+        return PutAnswer { refusal, writer: w };
+    }
+    let h = d.hash;
+    store_slot(&mut *slots, d.slot, h, w.end as u32);
+    image::entries::raise(&mut *counts, h);
+    writer::entry::store(&mut *buf, w.end as usize, name, id);
+    let writer = after(w, name.len(), id);
+    PutAnswer { refusal: 0, writer }
+}
+
+// Inserts the entries of the buffer into empty slots, in put order. Internal: the caller knows that the entries are whole and
+// that there is a slot for each.
+fn fill(buf: &[u8], end: usize, entries: u32, slots: &mut [u32])
+    requires { ⌜ FillPre (now buf) end entries (now slots) ⌝ }
+    ensures { λ _. ⌜ SlotsFilled (now (buf .entry)) end entries (now (slots .entry)) (now (slots .exit)) ⌝ }
+{
+    let m = slots.len() / 2;
+    let mut at = 2072;
+    let mut left = entries;
+    while left > 0 {
+        let n = whole_length(buf, at, end);
+        if n == 0 {
+            return;
+        }
+        let jhash::Hashed::Hash(h) = jhash::name_hash(name_at(buf, at, n)) else {
+            return;
+        };
+        let k = first_empty(&*slots, m, h);
+        store_slot(&mut *slots, k, h, at as u32);
+        at += 8 + n;
+        left -= 1;
+    }
+}
+
+// Makes the index of the entries in the buffer, or is refused and changes nothing: with close's refusals, and with 24 where
+// there are more entries than slots. For a fresh record every slot is empty.
+pub fn index(w: CQDBWriter, counts: &[u32; 256], buf: &[u8], slots: &mut [u32]) -> u32
+    ensures { λ r. ⌜
+        Indexed (stateWith w (now (counts .entry)) (now (buf .entry))) (now (slots .entry)) r (now (slots .exit))
+        ⌝ }
+{
+    let refusal = writer::close_refusal(w, counts, buf);
+    if refusal != 0 {
+        return refusal;
+    }
+    let m = slots.len() / 2;
+    if m < w.entries as usize {
+        return 24;
+    }
+    clear(&mut *slots, 2 * m);
+    fill(buf, w.end as usize, w.entries, &mut *slots);
+    0
+}

@@ -1,0 +1,198 @@
+-- The calls of the index as C has them: a mode or a repeats mode above 1 changes nothing; with modes of 01's and 02's, what the
+-- index's own calls promise. Assumes nothing.
+use Prim.Native.Nat.{ℕ}
+use native.Mathlib.Omega.{arith}
+use mathlib.Core.Path.{_≡_, refl, sym, ap, subst, _∙_}
+use mathlib.Core.Bool.{Bool, true, false}
+use mathlib.Core.List.{List}
+use lib.ListN.{length, getD, set, length-set}
+use lib.Seq.{getD-set-same, getD-set-other}
+use lib.Dec.{eqb}
+use borrow.Author.Tests.{eqb-true, eqb-false}
+use Rattle.image.specs.Image.{Entry, flagWord}
+use Rattle.image.proofs.Bools.{not-both}
+use Rattle.writer.specs.declared.CQDBWriter.{CQDBWriter}
+use Rattle.writer.specs.State.{State, stateWith}
+use Rattle.writer.specs.Put.{writerAfter, appended}
+use Rattle.writer.specs.Close.{afterClose}
+use Rattle.modes.specs.declared.record.Record.{Record}
+use Rattle.modes.specs.Modes.{repeatsWord}
+use Rattle.modes.specs.Record.{writerOf, recordOf, Held, held, knownIn, stateOf, heldOf}
+use Rattle.modes.proofs.Records.{back-and-forth, forth-and-back, held-known}
+use Rattle.index.specs.Index.{Right, grown}
+use Rattle.index.specs.Promise.{PutIndexed, Indexed}
+use Rattle.index.proofs.RightKept.{kept-right}
+use Rattle.index_c.specs.IndexC.{recordIn, RightHeld, putIndexedNumber, leftByPutIndexed, PutIndexedHeld, indexNumber, IndexedHeld, KeptRightHeld}
+
+-- 01's state with a right index, as C has it
+held-right : (s : State) (words : List ℕ) → Right s words → RightHeld (heldOf s) words
+held-right s words right =
+    record {
+      known = held-known s;
+      index = subst (λ (t : State). Right t words) (sym (forth-and-back s)) right;
+    }
+
+-- ---- the put
+
+pub put-unknown : (h : Held) (words : List ℕ) (e : Entry) → knownIn h ≡ false → PutIndexedHeld h words e 2 h words
+put-unknown h words e over =
+    record {
+      refused = λ n. (refl, refl);
+      accepted = λ z. absurd (omega (arith, z));
+      answer = λ right. absurd (not-both (sym over ∙ right .known));
+      leaves = λ right. absurd (not-both (sym over ∙ right .known));
+      right = λ right. right;
+    }
+
+module _ (h : Held) (words : List ℕ) (e : Entry) (v w' : CQDBWriter) (r : Record) (counts buffer words′ : List ℕ) (k : ℕ)
+    (fine : knownIn h ≡ true) (is : v ≡ writerOf (h .writer)) (back : r ≡ recordOf w')
+    (given : PutIndexed (stateWith v (h .counts) (h .buffer)) words e k (stateWith w' counts buffer) words′) where
+  p : PutIndexed (stateOf h) words e k (stateWith w' counts buffer) words′
+  p = subst (λ (w : CQDBWriter). PutIndexed (stateWith w (h .counts) (h .buffer)) words e k (stateWith w' counts buffer) words′) is given
+
+  is-held : held r counts buffer ≡ heldOf (stateWith w' counts buffer)
+  is-held = ap (λ (x : Record). held x counts buffer) back
+
+  answer-is : RightHeld h words → k ≡ putIndexedNumber h words e
+  unfolding putIndexedNumber
+  answer-is right = rw fine (p .answer (right .index))
+
+  leaves-is : RightHeld h words → held r counts buffer ≡ leftByPutIndexed h words e
+  unfolding leftByPutIndexed
+  leaves-is right = rw fine (is-held ∙ ap heldOf (p .leaves (right .index)))
+
+  right-is : RightHeld h words → RightHeld (held r counts buffer) words′
+  right-is right =
+      subst (λ (x : Held). RightHeld x words′) (sym is-held)
+      (held-right (stateWith w' counts buffer) words′ (p .right (right .index)))
+
+  put-known : PutIndexedHeld h words e k (held r counts buffer) words′
+  put-known =
+      record {
+        refused = λ n. (is-held ∙ ap heldOf (p .refused n .0) ∙ back-and-forth h fine, p .refused n .1);
+        accepted = λ z. (fine, is-held ∙ ap heldOf (p .accepted z .0), p .accepted z .1);
+        answer = answer-is;
+        leaves = leaves-is;
+        right = right-is;
+      }
+
+-- C's record, of which entries, back size and end are stored, is the record that the put hands back
+abbrev pub recordAfter : Record → CQDBWriter → Record
+recordAfter r w =
+    record {
+      mode = r .mode;
+      repeats = r .repeats;
+      entries = w .entries;
+      back = w .back;
+      length = r .length;
+      end = w .end;
+    }
+
+pub record-stored : (numbers sizes : List ℕ) (w : CQDBWriter) → length numbers ≡ 4 → length sizes ≡ 2
+    → recordIn (set (set numbers 2 (w .entries)) 3 (w .back)) (set sizes 1 (w .end)) ≡ recordAfter (recordIn numbers sizes) w
+record-stored numbers sizes w four two =
+    λ i. record {
+      mode = (other 0 (λ z. omega (arith, z)) (λ z. omega (arith, z))) i;
+      repeats = (other 1 (λ z. omega (arith, z)) (λ z. omega (arith, z))) i;
+      entries =
+          (getD-set-other (set numbers 2 (w .entries)) 3 2 (w .back) 0 (λ z. omega (arith, z))
+          ∙ getD-set-same numbers 2 (w .entries) 0 (omega (arith, four))) i;
+      back = getD-set-same (set numbers 2 (w .entries)) 3 (w .back) 0 (omega (arith, four, length-set numbers 2 (w .entries))) i;
+      length = getD-set-other sizes 1 0 (w .end) 0 (λ z. omega (arith, z)) i;
+      end = getD-set-same sizes 1 (w .end) 0 (omega (arith, two)) i;
+    }
+  where
+    other : (j : ℕ) → (j ≡ 2 → ⊥) → (j ≡ 3 → ⊥) → getD (set (set numbers 2 (w .entries)) 3 (w .back)) j 0 ≡ getD numbers j 0
+    other j x y = getD-set-other (set numbers 2 (w .entries)) 3 j (w .back) 0 y ∙ getD-set-other numbers 2 j (w .entries) 0 x
+
+module _ (h : Held) (words : List ℕ) (e : Entry) (v w' : CQDBWriter) (counts buffer words′ : List ℕ) (k : ℕ)
+    (fine : knownIn h ≡ true) (is : v ≡ writerOf (h .writer))
+    (given : PutIndexed (stateWith v (h .counts) (h .buffer)) words e k (stateWith w' counts buffer) words′) where
+  -- mode, choice and length stay
+  record Stay : Type 0 where
+    modes : w' .mode ≡ v .mode
+    choices : w' .repeats ≡ v .repeats
+    lengths : w' .length ≡ v .length
+
+  stay : Stay
+  unfolding appended writerAfter
+  stay = go (eqb k 0) refl
+    where
+      go : (b : Bool) → eqb k 0 ≡ b → Stay
+      go true x =
+          let t = given .accepted (eqb-true k 0 x) .0 in
+          record {
+            modes = ap (λ (s : State). s .writer .mode) t;
+            choices = ap (λ (s : State). s .writer .repeats) t;
+            lengths = ap (λ (s : State). s .writer .length) t;
+          }
+      go false x =
+          let t = given .refused (eqb-false k 0 x) .0 in
+          record {
+            modes = ap (λ (s : State). s .writer .mode) t;
+            choices = ap (λ (s : State). s .writer .repeats) t;
+            lengths = ap (λ (s : State). s .writer .length) t;
+          }
+
+  known-back : recordOf (writerOf (h .writer)) ≡ h .writer
+  known-back = ap (λ (x : Held). x .writer) (back-and-forth h fine)
+
+  after-is : recordAfter (h .writer) w' ≡ recordOf w'
+  after-is =
+      λ i. record {
+        mode = (sym (ap (λ (x : Record). x .mode) known-back) ∙ ap flagWord (sym (stay .modes ∙ ap (λ (w : CQDBWriter). w .mode) is))) i;
+        repeats = (sym (ap (λ (x : Record). x .repeats) known-back) ∙ ap repeatsWord (sym (stay .choices ∙ ap (λ (w : CQDBWriter). w .repeats) is))) i;
+        entries = w' .entries;
+        back = w' .back;
+        length = sym (stay .lengths ∙ ap (λ (w : CQDBWriter). w .length) is) i;
+        end = w' .end;
+      }
+
+  pub put-stored : (r : Record) → r ≡ recordAfter (h .writer) w' → PutIndexedHeld h words e k (held r counts buffer) words′
+  put-stored r back = put-known h words e v w' r counts buffer words′ k fine is (back ∙ after-is) given
+
+-- ---- making the index
+
+pub index-unknown : (h : Held) (words : List ℕ) → knownIn h ≡ false → IndexedHeld h words 2 words
+unfolding indexNumber
+index-unknown h words over =
+    record {
+      answer = is;
+      refused = λ n. refl;
+      right = λ z. absurd (omega (arith, z));
+      last = λ i l. refl;
+    }
+  where
+    is : 2 ≡ indexNumber h words
+    is = rw over refl
+
+module _ (h : Held) (words words′ : List ℕ) (v : CQDBWriter) (k : ℕ) (fine : knownIn h ≡ true) (is : v ≡ writerOf (h .writer))
+    (given : Indexed (stateWith v (h .counts) (h .buffer)) words k words′) where
+  q : Indexed (stateOf h) words k words′
+  q = subst (λ (w : CQDBWriter). Indexed (stateWith w (h .counts) (h .buffer)) words k words′) is given
+
+  number-is : k ≡ indexNumber h words
+  unfolding indexNumber
+  number-is = rw fine (q .answer)
+
+  pub index-known : IndexedHeld h words k words′
+  index-known =
+      record {
+        answer = number-is;
+        refused = q .refused;
+        right = λ z tables. record { known = fine; index = q .right z tables };
+        last = q .last;
+      }
+
+-- ---- an index stays right
+
+pub kept-right-held : KeptRightHeld
+kept-right-held =
+    record {
+      made = λ h words words′ tables p. p .right refl tables;
+      put = λ h h′ words words′ e refusal p right. p .right right;
+      closed = λ h words bytes right. held-right (afterClose (stateOf h)) words (kept-right .close-right (stateOf h) words bytes (right .index));
+      larger =
+          λ h words buffer bytes more same right. held-right (grown (stateOf h) buffer) words
+          (kept-right .grown-right (stateOf h) words buffer bytes more same (right .index));
+    }

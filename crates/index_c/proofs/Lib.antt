@@ -1,0 +1,2 @@
+-- Laws of the exported calls of the index.
+pub mod IndexCalls

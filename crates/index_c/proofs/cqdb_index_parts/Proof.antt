@@ -1,0 +1,38 @@
+-- `index_c::cqdb_index_parts` meets its contract: what `index` promises, of C's record. Assumes nothing.
+use mathlib.Core.Path.{sym, _∙_}
+use borrow.Author.Tests.{not-true, not-false}
+use Rattle.modes.specs.Record.{held}
+use Rattle.index_c.proofs.IndexCalls.{index-unknown, index-known}
+use borrow.Author.Needs.{needs}
+use Rattle.index_c.proofs.cqdb_index_parts.Statement.{statement}
+use Rattle.index_c.proofs.cqdb_index_parts.Tie as tie
+
+known-requires : tie.Need-known-requires
+known-requires c κs = search needs
+
+returns : tie.Need-returns
+returns c =
+    let a = c .before .before .before .before .args in
+    index-unknown (held (a .w) (a .counts .now) (a .buf .now)) (a .slots .now) (sym (c .before .known .ensures) ∙ not-true _ (c .if1 .taken))
+
+writer-of-requires : tie.Need-writer-of-requires
+writer-of-requires c κs = search needs
+
+index-requires : tie.Need-index-requires
+index-requires c κs = search needs
+
+same-length : tie.Need-same-length
+same-length c = search needs
+
+returns-2 : tie.Need-returns-2
+returns-2 c =
+    let a = c .before .before .before .before .before .before .before .before .before .args in
+    let made = c .before .before .index in
+    let writer = c .before .before .before .before .writer-of in
+    let fine = sym (c .before .before .before .before .before .before .known .ensures) ∙ not-false _ (c .before .before .before .before .before .if1 .left) in
+    index-known (held (a .w) (a .counts .now) (a .buf .now)) (a .slots .now) _ (writer .result) (made .result) fine (writer .ensures) (made .ensures)
+
+pub cqdb-index-parts-spec : {M : Type 1} → statement M
+cqdb-index-parts-spec =
+    tie.close
+    (tie.spec known-requires returns writer-of-requires index-requires same-length returns-2)

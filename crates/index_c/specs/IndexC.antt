@@ -1,0 +1,79 @@
+-- The index for C: h is what a call is lent (record, counts, buffer) with the words of the slots, h′ and words′ what it
+-- leaves. A record with a mode or a repeats mode that is neither 0 nor 1 fits no buffer: refusal 2, and nothing changes.
+use Prim.Native.Nat.{ℕ, _*_, _≤_}
+use mathlib.Core.Path.{_≡_}
+use mathlib.Core.Bool.{true, cond}
+use mathlib.Core.List.{List}
+use lib.ListN.{length, getD, take}
+use lib.Dec.{ltb}
+use Rattle.jhash.specs.NameHash.{hashOf}
+use Rattle.image.specs.Image.{Entry}
+use Rattle.writer.specs.Put.{appended}
+use Rattle.writer.specs.Close.{afterClose}
+use Rattle.modes.specs.declared.record.Record.{Record}
+use Rattle.modes.specs.Record.{Held, knownIn, stateOf, heldOf}
+use Rattle.index.specs.Index.{slotCount, slotInserted, Right, indexedRefusal, afterIndexed, indexRefusal, grown}
+use Rattle.index.specs.KeptRight.{Bytes}
+
+-- two slots a name, two words a slot; where that exceeds 64 bits, the largest number of 64 bits
+abbrev pub indexWords : ℕ → ℕ
+indexWords names = cond (ltb 18446744073709551615 (4 * names)) 18446744073709551615 (4 * names)
+
+-- the record in C's writer: mode, repeats, entries and back size; then the buffer's length and the end of the entries
+abbrev pub recordIn : List ℕ → List ℕ → Record
+recordIn numbers sizes =
+    record {
+      mode = getD numbers 0 0;
+      repeats = getD numbers 1 0;
+      entries = getD numbers 2 0;
+      back = getD numbers 3 0;
+      length = getD sizes 0 0;
+      end = getD sizes 1 0;
+    }
+
+-- the index is right for what is lent
+pub record RightHeld (h : Held) (words : List ℕ) : Type 0 where
+  pub known : knownIn h ≡ true
+  pub index : Right (stateOf h) words
+
+-- the rule of the put by an index: the refusal's number, 0 when accepted; and what it leaves
+unfoldable pub putIndexedNumber : Held → List ℕ → Entry → ℕ
+putIndexedNumber h words e = cond (knownIn h) (indexedRefusal (stateOf h) words e) 2
+
+unfoldable pub leftByPutIndexed : Held → List ℕ → Entry → Held
+leftByPutIndexed h words e = cond (knownIn h) (heldOf (afterIndexed (stateOf h) words e)) h
+
+pub record PutIndexedHeld (h : Held) (words : List ℕ) (e : Entry) (refusal : ℕ) (h′ : Held)
+    (words′ : List ℕ) : Type 0 where
+  -- whatever is lent, a refusal changes nothing, and an accepted put appends the entry and inserts its slot
+  pub refused : (refusal ≡ 0 → ⊥) → (h′ ≡ h) × (words′ ≡ words)
+  pub accepted : refusal ≡ 0
+      → (knownIn h ≡ true)
+      × (h′ ≡ heldOf (appended (stateOf h) e))
+      × (words′ ≡ slotInserted words (hashOf (e .name)) (h .writer .end))
+  -- by a right index, the rule's number and what it leaves, and the index is right again
+  pub answer : RightHeld h words → refusal ≡ putIndexedNumber h words e
+  pub leaves : RightHeld h words → h′ ≡ leftByPutIndexed h words e
+  pub right : RightHeld h words → RightHeld h′ words′
+
+-- making an index: the rule's number; a refusal changes nothing; 0 gives a right index, and keeps an odd last word
+unfoldable pub indexNumber : Held → List ℕ → ℕ
+indexNumber h words = cond (knownIn h) (indexRefusal (stateOf h) words) 2
+
+pub record IndexedHeld (h : Held) (words : List ℕ) (refusal : ℕ) (words′ : List ℕ) : Type 0 where
+  pub answer : refusal ≡ indexNumber h words
+  pub refused : (refusal ≡ 0 → ⊥) → words′ ≡ words
+  pub right : refusal ≡ 0 → length (h .counts) ≡ 256 → RightHeld h words′
+  pub last : (i : ℕ) → 2 * slotCount words ≤ i → getD words′ i 0 ≡ getD words i 0
+
+-- so an index is right that cqdb_index made, where since then only cqdb_put_indexed, cqdb_close and cqdb_grown were called
+pub record KeptRightHeld : Type 0 where
+  pub made : (h : Held) (words words′ : List ℕ) → length (h .counts) ≡ 256 → IndexedHeld h words 0 words′
+      → RightHeld h words′
+  pub put : (h h′ : Held) (words words′ : List ℕ) (e : Entry) (refusal : ℕ) → PutIndexedHeld h words e refusal h′ words′
+      → RightHeld h words → RightHeld h′ words′
+  pub closed : (h : Held) (words : List ℕ) → Bytes (stateOf h)
+      → RightHeld h words → RightHeld (heldOf (afterClose (stateOf h))) words
+  pub larger : (h : Held) (words buffer : List ℕ) → Bytes (stateOf h) → length (h .buffer) ≤ length buffer
+      → take (h .writer .end) buffer ≡ take (h .writer .end) (h .buffer)
+      → RightHeld h words → RightHeld (heldOf (grown (stateOf h) buffer)) words

@@ -1,0 +1,2 @@
+-- What the exported calls of the index promise.
+pub mod IndexC

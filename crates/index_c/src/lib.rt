@@ -1,0 +1,88 @@
+// The index for C: the 256 table counts, the buffer and the slots are lent. A record whose mode or repeats mode is neither 0
+// nor 1 is none of 01's and fits no buffer.
+ghost use mathlib.Core.Path.{_≡_};
+ghost use lib.ListN.{length};
+ghost use Rattle.writer.specs.Put.{entryOf};
+ghost use Rattle.modes.specs.Record.{held};
+ghost use Rattle.index_c.specs.IndexC.{indexWords, recordIn, PutIndexedHeld, IndexedHeld};
+use modes::known;
+use modes::record::Record;
+use modes::record::writer_of;
+
+// How many words to lend for an index of this many names: two slots a name, two words a slot; the largest number where that
+// is more than a size can be.
+#[no_mangle]
+pub extern "C" fn cqdb_index_words(names: usize) -> usize
+    ensures { λ r. ⌜ r ≡ indexWords names ⌝ }
+{
+    if names > 4611686018427387903 {
+        return 18446744073709551615;
+    }
+    4 * names
+}
+
+// Makes the index of the entries in the buffer. Gives 0, or refusal 2, 4 or 24, and nothing is written.
+#[no_mangle]
+pub extern "C" fn cqdb_index_parts(
+    w: Record,
+    counts: &[u32; 256],
+    buf: &[u8],
+    slots: &mut [u32],
+) -> u32
+    ensures { λ r. ⌜
+        IndexedHeld (held w (now (counts .entry)) (now (buf .entry))) (now (slots .entry)) r (now (slots .exit))
+        ⌝ }
+{
+    if !known(w.mode, w.repeats) {
+        return 2;
+    }
+    index::index(writer_of(w), counts, buf, &mut *slots)
+}
+
+// The record in C's writer: mode, repeats, entries and back size; then the buffer's length and the end of the entries.
+fn record_in(numbers: &[u32; 4], sizes: &[u64; 2]) -> Record
+    ensures { λ r. ⌜ r ≡ recordIn (now (numbers .entry)) (now (sizes .entry)) ⌝ }
+{
+    Record {
+        mode: numbers[0],
+        repeats: numbers[1],
+        entries: numbers[2],
+        back: numbers[3],
+        length: sizes[0],
+        end: sizes[1],
+    }
+}
+
+// Appends an entry, raises its count and stores its slot; or refusal 2, 13, 16, 3 or 24, and nothing changes. The record is
+// lent in place: by value, in and out, it costs 6 ns a put, since its words are stored one by one and loaded four at a time.
+#[no_mangle]
+pub extern "C" fn cqdb_put_indexed_parts(
+    numbers: &mut [u32; 4],
+    sizes: &mut [u64; 2],
+    counts: &mut [u32; 256],
+    buf: &mut [u8],
+    slots: &mut [u32],
+    name: &[u8],
+    id: u32,
+) -> u32
+    ensures { λ r. ⌜
+        (length (now (numbers .entry)) ≡ 4
+        → length (now (sizes .entry)) ≡ 2
+        → PutIndexedHeld
+        (held (recordIn (now (numbers .entry)) (now (sizes .entry))) (now (counts .entry)) (now (buf .entry)))
+        (now (slots .entry)) (entryOf (now (name .entry)) id) r
+        (held (recordIn (now (numbers .exit)) (now (sizes .exit))) (now (counts .exit)) (now (buf .exit)))
+        (now (slots .exit)))
+        ⌝ }
+{
+    let w = record_in(&*numbers, &*sizes);
+    if !known(w.mode, w.repeats) {
+        return 2;
+    }
+    let done = index::put_indexed(writer_of(w), &mut *counts, &mut *buf, &mut *slots, name, id);
+    let after = done.writer;
+    numbers[2] = after.entries;
+    numbers[3] = after.back;
+    sizes[1] = after.end;
+    done.refusal
+}

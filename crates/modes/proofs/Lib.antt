@@ -1,0 +1,2 @@
+-- Laws of C's writer record.
+pub mod Records

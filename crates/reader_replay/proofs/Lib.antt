@@ -1,2 +1,0 @@
--- Laws of the definitions, as the functions need them.
-pub mod Judging

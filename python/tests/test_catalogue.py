@@ -1,0 +1,163 @@
+"""Reading: names to ids and ids to names, from bytes and from files."""
+import os
+import pathlib
+import tempfile
+import threading
+import unittest
+
+import cqdb
+from tests.images import PRISMS, image_of, many, names_by_id
+
+
+class Reading(unittest.TestCase):
+    def test_each_name_gives_its_id_and_each_id_its_name(self) -> None:
+        for entries in (PRISMS, many(2_000)):
+            catalogue = cqdb.Catalogue(image_of(entries))
+            self.assertEqual(len(catalogue), len(entries))
+            for name, id in entries:
+                self.assertEqual(catalogue[name], id)
+                self.assertEqual(catalogue.name_bytes(id), name)
+                self.assertIn(name, catalogue)
+                self.assertIn(id, catalogue)
+
+    def test_rounds_are_the_single_answers(self) -> None:
+        entries = many(2_000)
+        catalogue = cqdb.Catalogue(image_of(entries))
+        asked = [name for name, _ in entries] + [b"nobody", b"", b"prism 7"]
+        self.assertEqual(catalogue.ids(asked), [catalogue.get(name) for name in asked])
+        ids = list(range(3_100)) + [4_294_967_295]
+        self.assertEqual(catalogue.names(ids), [catalogue.name(id) for id in ids])
+        self.assertEqual(catalogue.ids([]), [])
+        self.assertEqual(catalogue.names([]), [])
+        self.assertIsNone(catalogue.names([4_294_967_295])[0])
+
+    def test_iteration_passes_gaps(self) -> None:
+        for entries in (PRISMS, many(2_000), []):
+            image = image_of(entries)
+            catalogue = cqdb.Catalogue(image)
+            expected = names_by_id(image)
+            self.assertEqual(list(catalogue), sorted(expected))
+            self.assertEqual({id: name.encode("utf-8", "surrogateescape") for id, name in catalogue.items()}, expected)
+            self.assertEqual(catalogue.back_size, max(expected, default=-1) + 1)
+
+    def test_text_and_bytes(self) -> None:
+        catalogue = cqdb.Catalogue(image_of(PRISMS))
+        self.assertEqual(catalogue["Grüße"], 2)
+        self.assertEqual(catalogue.name(2), "Grüße")
+        self.assertEqual(catalogue.name(5), "mole \udcff")
+        self.assertEqual(catalogue["mole \udcff"], 5)
+        self.assertEqual(catalogue[bytearray(b"crane")], catalogue[memoryview(b"crane")])
+        strict = cqdb.Catalogue(image_of(PRISMS), errors="strict")
+        self.assertRaises(UnicodeDecodeError, strict.name, 5)
+        latin = cqdb.Catalogue(image_of([("Gr\xfc\xdfe".encode("latin-1"), 3)]), encoding="latin-1")
+        self.assertEqual((latin["Grüße"], latin.name(3)), (3, "Grüße"))
+        self.assertRaises(LookupError, cqdb.Catalogue, image_of([]), encoding="no such")
+
+    def test_what_is_not_there(self) -> None:
+        catalogue = cqdb.Catalogue(image_of(PRISMS))
+        with self.assertRaises(KeyError):
+            catalogue["nobody"]
+        self.assertEqual((catalogue.get("nobody"), catalogue.get("nobody", 7), catalogue.get("crane", 7)), (None, 7, 1))
+        self.assertIsNone(catalogue.name(3))
+        self.assertNotIn(3, catalogue)
+        self.assertNotIn(-1, catalogue)
+        self.assertNotIn(2**40, catalogue)
+
+    def test_other_types_are_refused(self) -> None:
+        catalogue = cqdb.Catalogue(image_of(PRISMS))
+        for wrong in (7, None, ["crane"]):
+            self.assertRaises(TypeError, catalogue.__getitem__, wrong)
+        for wrong in (-1, 2**32):
+            self.assertRaises(ValueError, catalogue.name, wrong)
+            self.assertRaises(ValueError, catalogue.names, [wrong])
+        self.assertRaises(TypeError, catalogue.name, "crane")
+        self.assertRaises(TypeError, catalogue.ids, "crane")
+        self.assertRaises(TypeError, cqdb.Catalogue, "text")
+        self.assertRaises(TypeError, cqdb.Catalogue, 4_096)
+
+    def test_a_one_way_image_names_no_id(self) -> None:
+        catalogue = cqdb.Catalogue(image_of(PRISMS, one_way=True))
+        self.assertEqual((catalogue["crane"], catalogue.name(1), list(catalogue), catalogue.back_size), (1, None, [], 0))
+
+    def test_a_closed_catalogue_says_so(self) -> None:
+        with cqdb.Catalogue(image_of(PRISMS)) as catalogue:
+            self.assertEqual(catalogue["crane"], 1)
+        for call in (lambda: catalogue["crane"], lambda: catalogue.name(1), lambda: list(catalogue), catalogue.check, catalogue.__enter__):
+            self.assertRaisesRegex(ValueError, "closed", call)
+        catalogue.close()
+        self.assertIn("closed", repr(catalogue))
+
+    def test_changes(self) -> None:
+        before, after = cqdb.Catalogue(image_of(many(900))), cqdb.Catalogue(image_of(many(900)[:-1] + [(b"mole", 2), (b"", 5_000)]))
+        last = many(900)[-1][1]
+        self.assertEqual(
+            list(before.changes(after)), [(2, None, "mole"), (last, "prism 899", None), (5_000, None, "")]
+        )
+        self.assertEqual([(id, new, old) for id, old, new in before.changes(after)], list(after.changes(before)))
+        self.assertEqual(list(before.changes(before)), [])
+
+
+class Files(unittest.TestCase):
+    def setUp(self) -> None:
+        folder = tempfile.TemporaryDirectory()
+        self.addCleanup(folder.cleanup)
+        self.path = pathlib.Path(folder.name) / "walls.cqdb"
+        self.path.write_bytes(image_of(PRISMS))
+
+    def test_a_mapped_file_answers_as_its_bytes(self) -> None:
+        for path in (self.path, str(self.path)):
+            with cqdb.Catalogue.open(path) as catalogue:
+                self.assertEqual(dict(catalogue.items()), dict(cqdb.Catalogue(self.path.read_bytes()).items()))
+                self.assertEqual(catalogue.name_bytes(5), b"mole \xff")
+                self.assertEqual(catalogue.ids(name for name, _ in PRISMS), [id for _, id in PRISMS])
+                self.assertTrue(catalogue.check())
+
+    def test_a_replaced_file_stays_as_it_was(self) -> None:
+        with cqdb.Catalogue.open(self.path) as before:
+            cqdb.Writer().write(self.path)
+            self.assertEqual((before["crane"], len(cqdb.Catalogue.open(self.path))), (1, 0))
+
+    def test_a_file_that_is_no_image_is_named(self) -> None:
+        for content, number in ((b"", 1), (bytes(2_071), 1), (bytes(2_072), 5), (image_of(PRISMS)[:2_071], 1)):
+            self.path.write_bytes(content)
+            with self.assertRaises(cqdb.CQDBError) as caught:
+                cqdb.Catalogue.open(self.path)
+            self.assertEqual((caught.exception.number, caught.exception.refusal), (number, cqdb.Refusal(number)))
+            self.assertTrue(str(caught.exception).startswith(str(self.path)), caught.exception)
+
+    def test_a_file_that_cannot_be_read(self) -> None:
+        self.assertRaises(FileNotFoundError, cqdb.Catalogue.open, self.path.with_name("other"))
+        self.assertRaises(IsADirectoryError, cqdb.Catalogue.open, self.path.parent)
+
+    def test_no_file_stays_open(self) -> None:
+        before = len(os.listdir("/proc/self/fd"))
+        for _ in range(50):
+            with cqdb.Catalogue.open(self.path) as catalogue:
+                self.assertEqual(catalogue["crane"], 1)
+        self.assertEqual(len(os.listdir("/proc/self/fd")), before)
+
+    def test_a_close_while_others_read(self) -> None:
+        self.path.write_bytes(image_of(many(2_000), repeats=True))
+        for _ in range(20):
+            catalogue = cqdb.Catalogue.open(self.path)
+            wrong = []
+
+            def read() -> None:
+                try:
+                    while True:
+                        if catalogue["prism 1999"] != 2_998 or catalogue.ids(["prism 3"] * 512)[511] != 4:
+                            wrong.append("another answer")
+                except ValueError:
+                    pass
+
+            threads = [threading.Thread(target=read) for _ in range(3)]
+            for thread in threads:
+                thread.start()
+            catalogue.close()
+            for thread in threads:
+                thread.join()
+            self.assertEqual(wrong, [])
+
+
+if __name__ == "__main__":
+    unittest.main()

@@ -1,0 +1,182 @@
+//! The forms in which answers are printed.
+use std::os::unix::ffi::OsStrExt;
+
+use crate::args::{Args, Opt, ALL, TAB};
+use crate::lines;
+use crate::outcome::{Failure, Output};
+
+pub const JSON: Opt = Opt::plain("--json", "an object of JSON for each answer, one to a line");
+pub const TSV: Opt =
+    Opt::plain("--tsv", "a tab between; tab, line feed, CR and backslash in a name are \\t \\n \\r \\\\");
+pub const QUIET: Opt =
+    Opt { short: Some(b'q'), ..Opt::plain("--quiet", "the bare value, and no messages on what is not found") };
+pub const MISSING: Opt =
+    Opt::with_value("--missing", "TEXT", "stands for a value that is not found, in place of nothing");
+
+/// An id and its name, as an image gives them.
+#[derive(Clone, Copy)]
+pub struct Row<'a> {
+    pub id: Option<u32>,
+    pub name: Option<&'a [u8]>,
+}
+
+/// Which part of a row is the value that was asked for.
+#[derive(Clone, Copy, PartialEq, Eq)]
+pub enum Value {
+    Id,
+    Name,
+}
+
+/// The form of all answers of a command.
+pub struct Form<'a> {
+    layout: Layout,
+    value: Value,
+    positions: bool,
+    missing: &'a [u8],
+    between: u8,
+    end: u8,
+}
+
+#[derive(Clone, Copy, PartialEq, Eq)]
+enum Layout {
+    Line,
+    Bare,
+    Tsv,
+    Json,
+}
+
+impl<'a> Form<'a> {
+    pub fn new(args: &'a Args, value: Value) -> Result<Form<'a>, Failure> {
+        args.not_both(&[&JSON, &TSV, &TAB])?;
+        args.not_both(&[&JSON, &TSV, &QUIET])?;
+        args.not_both(&[&JSON, &MISSING])?;
+        let layouts = [(&JSON, Layout::Json), (&TSV, Layout::Tsv), (&QUIET, Layout::Bare)];
+        let layout =
+            layouts.into_iter().find(|(option, _)| args.has(option)).map_or(Layout::Line, |(_, layout)| layout);
+        let (between, end) = match layout {
+            Layout::Tsv => (b'\t', b'\n'),
+            Layout::Json => (b' ', b'\n'),
+            _ => (args.between(), args.end()),
+        };
+        let missing = args.value(&MISSING).map_or(&b""[..], |text| text.as_bytes());
+        Ok(Form { layout, value, positions: args.has(&ALL), missing, between, end })
+    }
+
+    /// Prints the line of an answer. The position is that of the image in its bundle; `word` is the question where it
+    /// is no id. Names are not copied, since one may be as large as its image.
+    pub fn print(&self, out: &mut Output, position: Option<u64>, row: Row, word: Option<&[u8]>) -> Result<(), Failure> {
+        if self.layout == Layout::Json {
+            return self.json(out, position, row, word);
+        }
+        let (position, id) = (position.map(|number| number.to_string()), row.id.map(|id| id.to_string()));
+        let or_missing =
+            |number: &'_ Option<String>| number.as_deref().map(str::as_bytes).unwrap_or(self.missing).to_vec();
+        let (position, id) = (or_missing(&position), word.map_or_else(|| or_missing(&id), <[u8]>::to_vec));
+        let name = row.name.unwrap_or(self.missing);
+        let bare = self.layout == Layout::Bare;
+        let fields = [
+            (self.positions, &position[..]),
+            (!bare || self.value == Value::Id, &id[..]),
+            (!bare || self.value == Value::Name, name),
+        ];
+        let fields = fields.into_iter().filter(|(printed, _)| *printed).map(|(_, field)| field);
+        if self.layout != Layout::Tsv {
+            if let Some(field) = fields.clone().find(|field| field.contains(&self.end)) {
+                return Err(self.two_lines(row.id, field));
+            }
+        }
+        for (at, field) in fields.enumerate() {
+            if at > 0 {
+                out.bytes(&[self.between])?;
+            }
+            match self.layout {
+                Layout::Tsv => escaped(out, field)?,
+                _ => out.bytes(field)?,
+            }
+        }
+        out.bytes(&[self.end])
+    }
+
+    /// A name that holds the byte that ends a line would be read as two.
+    fn two_lines(&self, id: Option<u32>, field: &[u8]) -> Failure {
+        let whose = id.map_or(lines::shown(field), |id| format!("the name of id {id}"));
+        let what =
+            if self.end == 0 { "a zero byte: leave --zero out" } else { "a line feed: say --zero, --tsv or --json" };
+        Failure::new(format!("{whose} has {what}"))
+    }
+
+    fn json(&self, out: &mut Output, position: Option<u64>, row: Row, word: Option<&[u8]>) -> Result<(), Failure> {
+        let number = |number: Option<u64>| number.map_or("null".to_string(), |number| number.to_string());
+        out.bytes(b"{")?;
+        if self.positions {
+            out.bytes(format!("\"position\":{},", number(position)).as_bytes())?;
+        }
+        if let Some(word) = word {
+            out.bytes(b"\"question\":")?;
+            quoted(out, word)?;
+            out.bytes(b",")?;
+        }
+        out.bytes(format!("\"id\":{},\"name\":", number(row.id.map(u64::from))).as_bytes())?;
+        match row.name {
+            None => out.bytes(b"null")?,
+            Some(name) => {
+                quoted(out, name)?;
+                if std::str::from_utf8(name).is_err() {
+                    out.bytes(b",\"hex\":\"")?;
+                    name.iter().try_for_each(|byte| out.bytes(format!("{byte:02x}").as_bytes()))?;
+                    out.bytes(b"\"")?;
+                }
+            }
+        }
+        out.bytes(b"}\n")
+    }
+}
+
+/// Prints a name as a field of a table: one line, without a tab.
+fn escaped(out: &mut Output, field: &[u8]) -> Result<(), Failure> {
+    for part in field.split_inclusive(|byte| b"\t\n\r\\".contains(byte)) {
+        let (last, before) = part.split_last().expect("a part has its last byte");
+        match last {
+            b'\t' => out.line(&[before, b"\\"], b't')?,
+            b'\n' => out.line(&[before, b"\\"], b'n')?,
+            b'\r' => out.line(&[before, b"\\"], b'r')?,
+            b'\\' => out.line(&[before, b"\\"], b'\\')?,
+            _ => out.bytes(part)?,
+        }
+    }
+    Ok(())
+}
+
+/// Prints a text of JSON. Bytes that are no text are shown as the replacement character.
+fn quoted(out: &mut Output, bytes: &[u8]) -> Result<(), Failure> {
+    out.bytes(b"\"")?;
+    let mut rest = bytes;
+    while !rest.is_empty() {
+        let (text, behind) = match std::str::from_utf8(rest) {
+            Ok(text) => (text, rest.len()),
+            Err(error) => {
+                let end = error.valid_up_to();
+                let wrong = error.error_len().unwrap_or(rest.len() - end);
+                (std::str::from_utf8(&rest[..end]).unwrap_or(""), end + wrong)
+            }
+        };
+        text.chars().try_for_each(|letter| quoted_letter(out, letter))?;
+        if text.len() < behind {
+            out.bytes("\u{fffd}".as_bytes())?;
+        }
+        rest = &rest[behind..];
+    }
+    out.bytes(b"\"")
+}
+
+fn quoted_letter(out: &mut Output, letter: char) -> Result<(), Failure> {
+    match letter {
+        '"' => out.bytes(b"\\\""),
+        '\\' => out.bytes(b"\\\\"),
+        '\n' => out.bytes(b"\\n"),
+        '\r' => out.bytes(b"\\r"),
+        '\t' => out.bytes(b"\\t"),
+        letter if letter < ' ' => out.bytes(format!("\\u{:04x}", letter as u32).as_bytes()),
+        letter => out.bytes(letter.encode_utf8(&mut [0; 4]).as_bytes()),
+    }
+}

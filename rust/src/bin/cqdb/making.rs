@@ -1,0 +1,142 @@
+//! The image that grows while `cqdb make` reads its list.
+use std::collections::HashMap;
+
+use cqdb::{jhash, Flag, MemoryWriter, Refusal};
+
+use crate::args::{Args, Opt};
+use crate::files;
+use crate::lines;
+use crate::outcome::Failure;
+use crate::problem::{Problem, Size};
+use crate::quadratic;
+
+pub const ONE_WAY: Opt = Opt::plain("--one-way", "names to ids alone: the array that names ids is left out");
+pub const RENAMED: Opt = Opt::plain("--renamed", "take an id that was put before: its later name is meant");
+pub const REPEATS: Opt = Opt::plain("--repeats", "take a name that was put before, as of a renewed prism");
+pub const SPARSE: Opt = Opt::plain("--sparse", "an image with more than 64 MB for ids without a name is meant");
+
+/// The bytes of the back array that may be for ids without a name.
+const EMPTY: u64 = 64 << 20;
+/// The size of the largest image.
+const LIMIT: u64 = u32::MAX as u64;
+/// An entry has 9 bytes beside its name, and 16 in its table.
+const ENTRY: u64 = 9 + 16;
+const HEAD: u64 = 2_072;
+
+pub struct Making {
+    writer: MemoryWriter,
+    options: Options,
+    unit: &'static str,
+    /// The line of each put that was accepted.
+    lines: Vec<u64>,
+    /// The place of the first put of each id among them.
+    places: HashMap<u32, u32>,
+    /// How many puts have each hash, where names may repeat.
+    hashes: HashMap<u32, u32>,
+    /// The size of the image without its back array.
+    size: u64,
+    /// The largest id, and the line that put it first.
+    largest: Option<(u32, u64)>,
+}
+
+struct Options {
+    one_way: bool,
+    renamed: bool,
+    repeats: bool,
+    sparse: bool,
+}
+
+impl Making {
+    /// `unit` is what the list consists of, lines or records.
+    pub fn new(args: &Args, unit: &'static str) -> Making {
+        let options = Options {
+            one_way: args.has(&ONE_WAY),
+            renamed: args.has(&RENAMED),
+            repeats: args.has(&REPEATS),
+            sparse: args.has(&SPARSE),
+        };
+        let flag = if options.one_way { Flag::ONEWAY } else { Flag::NONE };
+        let writer = if options.repeats { MemoryWriter::with_repeats(flag) } else { MemoryWriter::with_flag(flag) };
+        Making {
+            writer,
+            options,
+            unit,
+            lines: Vec::new(),
+            places: HashMap::new(),
+            hashes: HashMap::new(),
+            size: HEAD,
+            largest: None,
+        }
+    }
+
+    /// The number of puts that were accepted.
+    pub fn entries(&self) -> u64 {
+        self.lines.len() as u64
+    }
+
+    /// Puts a name under an id.
+    pub fn put(&mut self, number: u64, id: u32, name: &[u8]) -> Result<(), Problem> {
+        match self.places.get(&id) {
+            Some(place) if !self.options.renamed => {
+                return Err(Problem::IdAgain { id, before: self.line(*place) });
+            }
+            _ => {}
+        }
+        let size = self.size + name.len() as u64 + ENTRY;
+        let largest = self.largest.filter(|(largest, _)| *largest >= id).unwrap_or((id, number));
+        let back = self.back(largest.0);
+        let room = self.lines.try_reserve(1).is_ok()
+            && self.places.try_reserve(1).is_ok()
+            && self.hashes.try_reserve(1).is_ok();
+        let put = if room { self.writer.put(name, id) } else { Err(Refusal::NoRoom) };
+        let whole = Size { bytes: size + back, largest: (back > 0).then_some(largest.0) };
+        put.map_err(|refusal| match refusal {
+            Refusal::NoRoom if whole.bytes > LIMIT => Problem::NoRoom(whole),
+            // The archive would take it.
+            Refusal::NoRoom => Problem::NoMemory(whole),
+            Refusal::Repeated => self.name_again(name),
+            refusal => Problem::Refused(refusal),
+        })?;
+        self.places.entry(id).or_insert(self.lines.len() as u32);
+        if self.options.repeats {
+            *self.hashes.entry(jhash(name, 0).unwrap_or(0)).or_default() += 1;
+        }
+        self.lines.push(number);
+        (self.size, self.largest) = (size, Some(largest));
+        Ok(())
+    }
+
+    fn name_again(&self, name: &[u8]) -> Problem {
+        match self.writer.place_of(name) {
+            Some(place) => Problem::NameAgain { name: lines::shown(name), before: self.line(place) },
+            None => Problem::Refused(Refusal::Repeated),
+        }
+    }
+
+    /// The line of an accepted put, in words.
+    fn line(&self, place: u32) -> String {
+        format!("{} {}", self.unit, self.lines[place as usize])
+    }
+
+    /// The bytes of the array that names the ids up to one.
+    fn back(&self, largest: u32) -> u64 {
+        if self.options.one_way {
+            0
+        } else {
+            4 * (u64::from(largest) + 1)
+        }
+    }
+
+    /// The line whose id leaves too many ids without a name, where that was not asked for.
+    pub fn sparse(&self) -> Option<(u64, Problem)> {
+        let (id, line) = self.largest.filter(|_| !self.options.sparse)?;
+        let empty = self.back(id).saturating_sub(4 * self.places.len() as u64);
+        (empty > EMPTY).then(|| (line, Problem::Sparse { id, size: self.size + self.back(id), empty }))
+    }
+
+    /// The finished image.
+    pub fn finish(self) -> Result<Vec<u8>, Failure> {
+        quadratic::tell("make", self.hashes.values().max().map_or(0, |most| u64::from(*most)));
+        self.writer.finish().map_err(files::refused)
+    }
+}

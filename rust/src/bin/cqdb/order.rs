@@ -1,0 +1,56 @@
+//! `cqdb order`: references before walls.
+use std::path::Path;
+
+use cqdb::{references_first, Order, Pair};
+
+use crate::args::{Args, Command, WINDOWS};
+use crate::check;
+use crate::lines::{self, Lines};
+use crate::outcome::{Failure, Outcome, Output};
+
+pub const COMMAND: Command = Command {
+    name: "order",
+    usage: "[OPTION].. PAIRS ROUND",
+    summary: "say whether a round sights references before walls",
+    text: "
+Prints a line: yes or no. PAIRS has a line for each pair, the id of a reference, a
+space and the id of a wall prism; ROUND has an id to a line, in the order in which
+they are sighted. A pair is kept where its wall prism is not sighted, or its
+reference is sighted before. The exit status is 1 where a pair is not kept; the
+first one is named.
+",
+    options: &[WINDOWS],
+    operands: (2, 2),
+    run,
+};
+
+fn run(args: Args) -> Outcome {
+    let (pairs, round) = (pairs(&args, args.path(0))?, lines::ids(&args, args.path(1))?);
+    let mut out = Output::new();
+    let kept = check::line(&mut out, &kept(&pairs, &round), QUESTION)?;
+    out.finish(kept)
+}
+
+/// The question whose answer `kept` gives.
+pub const QUESTION: &str = "the round keeps references before walls";
+
+/// The pairs of a file, one to a line.
+pub fn pairs(args: &Args, path: &Path) -> Result<Vec<Pair>, Failure> {
+    let pair = |line: &[u8]| {
+        let [reference, wall] = lines::fields(line)?;
+        Some(Pair { reference: lines::id_of(reference)?, wall: lines::id_of(wall)? })
+    };
+    let form = "the id of a reference, a space and the id of a wall prism";
+    Lines::open(Some(path.as_os_str()), b'\n')?.parsed(args, form, pair)
+}
+
+/// Why a round does not keep every pair.
+pub fn kept(pairs: &[Pair], round: &[u32]) -> Result<(), String> {
+    match references_first(pairs, round) {
+        Order::Yes => Ok(()),
+        Order::Fails { pair } => {
+            let Pair { reference, wall } = pairs[pair];
+            Err(format!("pair {}: wall {wall} is sighted, and reference {reference} is not sighted before", pair + 1))
+        }
+    }
+}
