@@ -10,21 +10,19 @@
    - Bytes and lists are lent as a pointer and a length. The pointer is valid for that many bytes or elements. Where the
      length is 0 it may be NULL, which is taken as no bytes.
    - `counts` points to 256 words, those of cqdb_lengths to 16, and `w` to a whole cqdb_writer.
-   - What a call writes (the buffer of cqdb_put, cqdb_close, cqdb_sheet_write, cqdb_bundle_append, cqdb_load and cqdb_build, the counts, the writer,
-     the slots of cqdb_index and cqdb_put_indexed, the output of cqdb_page and cqdb_page_part, the answers of cqdb_round and
-     cqdb_name_round, the refusals and the work of cqdb_build) overlaps nothing else that the same call is lent: no name, no list, no buffer, no counts and no image.
-     What a call only reads may overlap.
-   - Nobody else writes to what is lent while the call runs. That goes for the bytes of a mapped file (mmap) too: a program that
-     writes to the file in place changes them, and one that makes it shorter takes them away (SIGBUS). Replace an image by a
-     rename: who has mapped the old file then keeps its bytes.
+   - What a call writes (the buffer of cqdb_put, cqdb_put_indexed, cqdb_close, cqdb_sheet_write, cqdb_bundle_append, cqdb_load
+     and cqdb_build, the counts, the writer, the slots of cqdb_index and cqdb_put_indexed, the output of cqdb_page and
+     cqdb_page_part, the answers of cqdb_round and cqdb_name_round, the refusals and the work of cqdb_build) overlaps nothing
+     else that the same call is lent: no name, no list, no buffer, no counts and no image. What a call only reads may overlap.
+   - Nobody else writes to what is lent while the call runs. That goes for the bytes of a mapped file (mmap) too; see Files.
 
    Threads: any number of them may read one image at the same time, by all calls that take it as const. A buffer that is being
    written belongs to one thread.
 
    Files: an image may be a mapped file. One that is replaced, by a rename of a new file, stays mapped as it was. One that is
-   written in place while a call runs breaks what the caller owes: the call may give answers of neither image, or read outside. One
-   that is cut short ends the process at the first byte behind its new end, by the signal SIGBUS. So write a new file beside the
-   old one and rename it; examples/c/build_file.c does, and examples/c/ask_file.c maps one.
+   written in place while a call runs breaks what the caller owes: the call may give answers of neither image, or read outside.
+   One that is cut short ends the process at the first byte behind its new end, by the signal SIGBUS. So write a new file beside
+   the old one and rename it; examples/c/build_file.c does, and examples/c/ask_file.c maps one.
 
    What the calls cost. The times are examples, in ns on an AMD EPYC with names of 9 bytes and 4,096 entries; a second number is for
    100,000 entries. Lookups in images that exceed the processor's caches take up to 110. The stack is rounded up, in KB of 1,024
@@ -56,8 +54,8 @@
      grown                           12
      build_needs                     0.2 for each id
      build, 7 words for each name    13, 18 for each name                                            4
-     build, 3 words for each name    31, 49 for each name                                            41
-     build, no words, repeats on     27, 32 for each name                                            41
+     build, 3 words for each name    20, 38 for each name                                            41
+     build, no words, repeats on     23, 32 for each name                                            41
      build, no words, repeats off    as put                                                          41
      load                            130,000                                                         39
      bundle_count                    a step for each image
@@ -70,8 +68,8 @@
    cqdb_open may still accept it: names and ids may then give nothing, or each other's answers. See cqdb_put.
 
    What is proved is the archive. The declarations, structs and inline functions of this file are tested. The inline functions
-   only copy numbers (begin: where it is accepted), pass arguments on (rounds: four words for each place; put_indexed: the
-   writer's numbers in place) or take a C string's length. */
+   only copy numbers (begin: where it is accepted), pass arguments on (rounds: four words for each place; build: one number for
+   both lists; put_indexed: the writer's numbers in place), take a C string's length or give a refusal's text. */
 #ifndef CQDB_H
 #define CQDB_H
 
@@ -128,7 +126,7 @@ extern "C" {
 #define CQDB_SHEET_TOO_LARGE 21u /* sheet_write: a list has more than 65,535 ids, or the buffer is too short */
 #define CQDB_NO_SUCH_DATE 22u    /* name_on: a date, the one asked about or a window's, does not exist or is out of bounds */
 #define CQDB_NOT_BEFORE_END 23u  /* name_on: a window does not start before its end */
-#define CQDB_INDEX_FULL 24u      /* put_indexed, index: every slot is taken; index: more entries than slots */
+#define CQDB_INDEX_FULL 24u      /* put_indexed, index: every slot is taken, or there are more entries than slots */
 
 /* What a refusal's number means, in the words of the Rust crate and of the Python module. */
 static inline const char *cqdb_refusal_text(uint32_t refusal) {
@@ -205,7 +203,8 @@ typedef struct {
     uint32_t offset;
 } cqdb_id_answer;
 
-/* The id of a name and where its entry stands (those of its first put). Never refused: a damaged image or a name too long for a hash gives nothing. */
+/* The id of a name and where its entry stands (those of its first put). Never refused: a damaged image or a name too long for a
+   hash gives nothing. */
 cqdb_id_answer cqdb_to_id(const uint8_t *image, size_t len, const uint8_t *name, size_t name_len);
 
 /* The same of a name that is a C string. */
@@ -521,8 +520,8 @@ cqdb_build_answer cqdb_build_parts(uint32_t mode, uint32_t repeats, uint8_t *buf
    The words at work are scratch memory, lent for speed: how many there are, and what they hold, changes no answer, and what they
    hold afterwards is unspecified. What a list of n names costs, by the words and by the list:
    - 7n words, and room in the buffer for all names: linear. All tables are made first, then the image is written in one pass. Where
-     a name is refused, the names are put one by one instead. That is linear, too: 2.1 times the time of a list whose names are all
-     accepted at 4,096 names, 2.4 times at 100,000, when measured.
+     a name is refused, the names are put one by one instead. That is linear, too: when measured, 2.1 times the time of a list
+     whose names are all accepted at 4,096 names, 2.4 times at 100,000, some four times at 1,000,000.
    - 4n words: linear. Each put looks into an index of the names. There is an index from 2n words on, but the fuller it gets the
      more slots a put reads: with 2n words 100,000 names took 7 times as long as with 4n.
    - Fewer than 2n words: with repeats on linear, since no put looks for its name; with repeats off quadratic, since each put walks
@@ -564,8 +563,7 @@ typedef struct {
 /* A pair is kept in a round, a list of ids, when its wall prism does not occur, or its reference occurs before the wall
    prism's first occurrence. ok is 1 when each of the n pairs is kept; otherwise pair is the place, counted from 0, of the
    first that is not. A pair of an id with itself is kept only where that id does not occur. Never refused, and changes
-   nothing. For each pair the round is read once at most, up to
-   the first of its two ids: up to n x m steps. */
+   nothing. For each pair the round is read once at most, up to the first of its two ids: up to n x m steps. */
 cqdb_order_answer cqdb_references_first(const cqdb_pair *pairs, size_t n, const uint32_t *round, size_t m);
 
 /* The round sheet: a file of three sections in this order, references, wall prisms and retired prisms. Each is a 16-bit

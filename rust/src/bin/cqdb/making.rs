@@ -93,7 +93,7 @@ impl Making {
         put.map_err(|refusal| match refusal {
             Refusal::NoRoom if whole.bytes > LIMIT => Problem::NoRoom(whole),
             // The archive would take it.
-            Refusal::NoRoom => Problem::NoMemory(whole),
+            Refusal::NoRoom | Refusal::IndexFull => Problem::NoMemory(whole),
             Refusal::Repeated => self.name_again(name),
             refusal => Problem::Refused(refusal),
         })?;
