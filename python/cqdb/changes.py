@@ -3,8 +3,8 @@ from __future__ import annotations
 
 from typing import Iterator, NamedTuple, Optional, Tuple
 
-from cqdb.library import calls
-from cqdb.rounds import Image, id_rounds, name_round
+from cqdb.library import StrAnswer, calls
+from cqdb.rounds import Image
 
 
 class Change(NamedTuple):
@@ -16,9 +16,16 @@ class Change(NamedTuple):
 
 
 def changed(before: Image, after: Image) -> Iterator[Tuple[int, Optional[bytes], Optional[bytes]]]:
-    """Each id that has another name in the second image, with both names, in rising order."""
-    end = max(calls.cqdb_size_hint(image, len(image), 0) for image in (before, after))
-    for ids in id_rounds(end):
-        for number, old, new in zip(ids, name_round(before, ids), name_round(after, ids)):
-            if old != new:
-                yield number, old, new
+    """Each id that the two images name differently, with both names, in rising order. The library says which is the next."""
+    start = 0
+    while True:
+        change = calls.cqdb_next_change(before, len(before), after, len(after), start)
+        if not change.found:
+            return
+        yield change.id, _named(before, change.before), _named(after, change.after)
+        start = change.id + 1
+
+
+def _named(image: Image, answer: StrAnswer) -> Optional[bytes]:
+    """The name at a place of an image, or none."""
+    return image[answer.start : answer.start + answer.len] if answer.found else None

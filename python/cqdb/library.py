@@ -26,6 +26,10 @@ class StrAnswer(Structure):
     _fields_ = [("found", c_uint32), ("len", c_uint32), ("start", c_uint64)]
 
 
+class ChangeAnswer(Structure):
+    _fields_ = [("found", c_uint32), ("id", c_uint32), ("before", StrAnswer), ("after", StrAnswer)]
+
+
 class RoundAnswer(Structure):
     _fields_ = [("refusal", c_uint32), ("buckets", c_uint64)]
 
@@ -74,6 +78,7 @@ _FUNCTIONS: List[Tuple[str, Any, List[Any]]] = [
     ("cqdb_home", c_uint32, _LENT + [c_uint32]),
     ("cqdb_ours", c_uint32, _LENT),
     ("cqdb_readings_agree", c_uint32, _LENT),
+    ("cqdb_next_change", ChangeAnswer, _LENT + _LENT + [c_uint64]),
     ("cqdb_round_words", RoundAnswer, _LENT * 4),
     ("cqdb_name_round_words", c_uint32, _LENT * 3),
     ("cqdb_begin_parts", RecordAnswer, [c_uint32, c_uint32, c_void_p] + _LENT),

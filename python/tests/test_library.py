@@ -18,6 +18,7 @@ STRUCTS = {
     "cqdb_open_answer": library.OpenAnswer,
     "cqdb_id_answer": library.IdAnswer,
     "cqdb_str_answer": library.StrAnswer,
+    "cqdb_change_answer": library.ChangeAnswer,
     "cqdb_round_answer": library.RoundAnswer,
     "cqdb_record": library.Record,
     "cqdb_begin_answer": library.RecordAnswer,
@@ -26,7 +27,12 @@ STRUCTS = {
     "cqdb_build_answer": library.BuildAnswer,
     "cqdb_build_needs_answer": library.BuildNeeds,
 }
-TYPES = {ctypes.c_uint32: "uint32_t", ctypes.c_uint64: "uint64_t", library.Record: "cqdb_record"}
+TYPES = {
+    ctypes.c_uint32: "uint32_t",
+    ctypes.c_uint64: "uint64_t",
+    library.Record: "cqdb_record",
+    library.StrAnswer: "cqdb_str_answer",
+}
 
 
 class Header(unittest.TestCase):
