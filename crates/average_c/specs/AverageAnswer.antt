@@ -2,8 +2,8 @@
 use Prim.Native.Nat.{ℕ}
 use mathlib.Core.List.{List}
 use Rattle.jhash.specs.Outcome.{Outcome, value, refusal}
-use Rattle.average.specs.Average.{averaging}
-use Rattle.average.specs.declared.Mean.{Mean}
+use Rattle.search_length.specs.Average.{averaging}
+use Rattle.search_length.specs.declared.Mean.{Mean}
 use Rattle.average_c.specs.declared.AverageAnswer.{AverageAnswer}
 
 -- an average is accepted, 0, and its three numbers stand beside it; a refusal has its number, and 0 for the others

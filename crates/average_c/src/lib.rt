@@ -1,7 +1,7 @@
 // The average search length for C. Each function is a thin call of the proved function that bears the work.
-use average::Averaged;
+use search_length::Averaged;
 ghost use mathlib.Core.Path.{_≡_};
-ghost use Rattle.average.specs.Average.{averageRefusal, afterLengths};
+ghost use Rattle.search_length.specs.Average.{averageRefusal, afterLengths};
 ghost use Rattle.average_c.specs.AverageAnswer.{averageAnswer};
 
 // The refusal's number, 0 when accepted; the number of entries, quotient and remainder, 0 when refused.
@@ -18,7 +18,7 @@ pub struct AverageAnswer {
 pub extern "C" fn cqdb_average(image: &[u8]) -> AverageAnswer
     ensures { λ r. ⌜ r ≡ averageAnswer (now (image .entry)) ⌝ }
 {
-    let averaged = average::average(image);
+    let averaged = search_length::average(image);
     match averaged {
         Averaged::Given(m) => AverageAnswer {
             refusal: 0,
@@ -42,5 +42,5 @@ pub extern "C" fn cqdb_lengths(image: &[u8], counts: &mut [u32; 16]) -> u32
     ensures answer { λ r. ⌜ r ≡ averageRefusal (now (image .entry)) ⌝ }
     ensures leaves { λ r. ⌜ now (counts .exit) ≡ afterLengths (now (image .entry)) (now (counts .entry)) ⌝ }
 {
-    average::lengths(image, &mut *counts)
+    search_length::lengths(image, &mut *counts)
 }

@@ -17,10 +17,10 @@ use Rattle.image.specs.Zero.{hasZero}
 use Rattle.image.proofs.Between.{length-between}
 use Rattle.image.proofs.Bools.{neither-first, neither-second}
 use Rattle.image.proofs.Sizes.{entriesSize-append}
-use Rattle.joined.specs.Names.{namesFrom, names, astray, nth, beginOf}
-use Rattle.joined.proofs.NameEnds.{length-names}
-use Rattle.finish.specs.Finish.{standing}
-use Rattle.finish.specs.steps.Asked.{Standing}
+use Rattle.packed.specs.Names.{namesFrom, names, astray, nth, beginOf}
+use Rattle.packed.proofs.NameEnds.{length-names}
+use Rattle.serialize.specs.Finish.{standing}
+use Rattle.serialize.specs.steps.Asked.{Standing}
 use Rattle.writer.specs.declared.Repeats.{Repeats}
 use Rattle.writer.specs.declared.Repeats.the-variants.{Off, On}
 use Rattle.writer.specs.declared.CQDBWriter.{CQDBWriter}
@@ -37,11 +37,11 @@ use Rattle.lists.proofs.Recorded.{written-size, written-recorded}
 use Rattle.lists.proofs.ListPuts.{put-written, fresh-written}
 use Rattle.lists.proofs.ListCloses.{close-accepted, close-closed, closed-buffer}
 use Rattle.lists.proofs.Along.{list-answers, list-accepted, list-written}
-use Rattle.tabling.specs.steps.Parted.{at}
+use Rattle.bulk_tables.specs.steps.Parted.{at}
 use Rattle.build.specs.Build.{callsOf, listed}
 use Rattle.build.specs.steps.Capacity.{RoomForAll}
 use Rattle.build.specs.steps.Steps.{entriesListed}
-use Rattle.joined.proofs.NameEnds.{begin-later}
+use Rattle.packed.proofs.NameEnds.{begin-later}
 use Rattle.build.proofs.StoredAll.{length-listed}
 use Rattle.writer.proofs.Closes.{accepted as closable}
 

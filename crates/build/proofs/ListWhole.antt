@@ -11,17 +11,17 @@ use Rattle.image.specs.Stored.{between}
 use Rattle.image.specs.Image.{Entry, headSize, entryBytes, placed, count, links, backSize, backIn, entriesEnd, backSizeOf, imageSize, image}
 use Rattle.image.specs.declared.Mode.{Mode}
 use Rattle.image.proofs.Sizes.{backIn-twice}
-use Rattle.joined.specs.Names.{names, astray}
-use Rattle.joined.proofs.NameEnds.{length-names}
-use Rattle.finish.specs.Finish.{standing, finishedBuffer}
-use Rattle.finish.specs.Record.{finishedOf}
-use Rattle.finish.specs.steps.Asked.{Standing, TablesAtHand, LinksStand}
-use Rattle.tabling.specs.steps.Parted.{tableOfName, countOfTable}
-use Rattle.tabling.proofs.PairsOfTable.{table-count}
-use Rattle.tabling.proofs.Offsets.{names-short}
+use Rattle.packed.specs.Names.{names, astray}
+use Rattle.packed.proofs.NameEnds.{length-names}
+use Rattle.serialize.specs.Finish.{standing, finishedBuffer}
+use Rattle.serialize.specs.Record.{finishedOf}
+use Rattle.serialize.specs.steps.Asked.{Standing, TablesAtHand, LinksStand}
+use Rattle.bulk_tables.specs.steps.Parted.{tableOfName, countOfTable}
+use Rattle.bulk_tables.proofs.PairsOfTable.{table-count}
+use Rattle.bulk_tables.proofs.Offsets.{names-short}
 use Rattle.build.specs.steps.Capacity.{largestTo, RoomForAll}
 use Rattle.build.specs.steps.Steps.{entriesListed}
-use Rattle.joined.proofs.NameEnds.{begin-later}
+use Rattle.packed.proofs.NameEnds.{begin-later}
 use Rattle.build.proofs.Largest.{back-all}
 use Rattle.build.proofs.AllPut.{number-all, names-all, end-all, size-within, size-small, standing-all, stands-all}
 

@@ -12,7 +12,7 @@ use Rattle.image.specs.declared.Mode.the-variants.{Twoway, Oneway}
 use Rattle.image.specs.Image.{headSize, backSize, backIn}
 use Rattle.image.proofs.Between.{length-between}
 use Rattle.image.proofs.Bools.{neither-first, neither-second}
-use Rattle.joined.specs.Names.{namesFrom, names, astray, joined}
+use Rattle.packed.specs.Names.{namesFrom, names, astray, joined}
 use Rattle.writer.specs.declared.Repeats.{Repeats}
 use Rattle.lists.specs.Calls.{putsSize, sizeOf, puts, WordIds}
 use Rattle.lists.specs.Demand3.{answersOf}

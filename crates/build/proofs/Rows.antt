@@ -12,7 +12,7 @@ use Rattle.image.specs.Image.{headSize, backSize, holds}
 use Rattle.image.specs.declared.Mode.the-variants.{Twoway}
 use Rattle.image.specs.Zero.{hasZero}
 use Rattle.image.proofs.Every.{All, all-map}
-use Rattle.joined.specs.Names.{names, namesFrom, astray}
+use Rattle.packed.specs.Names.{names, namesFrom, astray}
 use Rattle.writer.specs.Close.{closedSize}
 use Rattle.lists.specs.Calls.{Call, acceptedFrom, dueFrom, accepted, due, putDue, putsSize, sizeOf, WordIds}
 use Rattle.lists.specs.Demand3.{answersOf, afterList, acceptedPuts}

@@ -13,8 +13,8 @@ use lib.ListN.{length, getD, set, take, drop, length-set, drop-of-length-le, tak
 use lib.Seq.{drop-cons, take-suc-set, drop-set-lt, getD-take, length-take-le}
 use Rattle.image.specs.declared.Mode.{Mode}
 use Rattle.image.specs.Image.{Entry}
-use Rattle.joined.specs.Names.{names, nth}
-use Rattle.joined.proofs.NameEnds.{length-names}
+use Rattle.packed.specs.Names.{names, nth}
+use Rattle.packed.proofs.NameEnds.{length-names}
 use Rattle.writer.specs.declared.Repeats.{Repeats}
 use Rattle.writer.specs.State.{State, fresh}
 use Rattle.writer.specs.Put.{putRefusal, writerAfter, appended, afterPut, entryOf}

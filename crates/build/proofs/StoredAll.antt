@@ -18,11 +18,11 @@ use Rattle.image.proofs.Between.{length-between}
 use Rattle.image.proofs.Every.{all-middle}
 use Rattle.image.proofs.EntryAt.{ids-below}
 use Rattle.taking.specs.steps.Working.{withLink}
-use Rattle.finish.proofs.Partial.{zeros-links}
-use Rattle.finish.proofs.OneMore.{links-more}
-use Rattle.finish.proofs.Turn.{store-in, nextOf, placed-more, next-at}
-use Rattle.joined.specs.Names.{names, nth, beginOf}
-use Rattle.joined.proofs.NameEnds.{length-names, nth-name}
+use Rattle.serialize.proofs.Partial.{zeros-links}
+use Rattle.serialize.proofs.OneMore.{links-more}
+use Rattle.serialize.proofs.Turn.{store-in, nextOf, placed-more, next-at}
+use Rattle.packed.specs.Names.{names, nth, beginOf}
+use Rattle.packed.proofs.NameEnds.{length-names, nth-name}
 use Rattle.writer.specs.Put.{entryOf}
 use Rattle.lists.specs.Calls.{puts}
 use Rattle.build.specs.Build.{callsOf}

@@ -10,7 +10,7 @@ use lib.ListN.{length, drop}
 use Rattle.jhash.specs.Outcome.{Outcome, value, refusal}
 use Rattle.image.specs.declared.Mode.{Mode}
 use Rattle.image.specs.Image.{headSize}
-use Rattle.joined.specs.Names.{astray}
+use Rattle.packed.specs.Names.{astray}
 use Rattle.writer.specs.declared.Repeats.{Repeats}
 use Rattle.writer.specs.State.{State, fits, finishedSize, tooLarge}
 use Rattle.writer.specs.Close.{closeRefusal, closedSize, consistent, afterClose}

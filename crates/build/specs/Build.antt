@@ -8,7 +8,7 @@ use lib.Dec.{ltb}
 use Rattle.jhash.specs.Outcome.{Outcome, value, refusal}
 use Rattle.image.specs.declared.Mode.{Mode}
 use Rattle.image.specs.Image.{headSize}
-use Rattle.joined.specs.Names.{names, astray}
+use Rattle.packed.specs.Names.{names, astray}
 use Rattle.writer.specs.declared.Repeats.{Repeats}
 use Rattle.writer.specs.Put.{entryOf}
 use Rattle.writer.specs.Close.{closedSize, afterClose}

@@ -7,7 +7,7 @@ use mathlib.Core.List.{List, [], _∷_}
 use lib.ListN.{length, getD}
 use Rattle.image.specs.declared.Mode.{Mode}
 use Rattle.image.specs.Image.{headSize, backIn}
-use Rattle.joined.specs.Names.{astray, joined}
+use Rattle.packed.specs.Names.{astray, joined}
 use Rattle.writer.specs.declared.Repeats.{Repeats}
 use Rattle.lists.specs.Calls.{sizeOf, puts, WordIds}
 use Rattle.lists.specs.Demand3.{answersOf}

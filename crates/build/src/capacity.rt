@@ -47,7 +47,7 @@ pub(crate) fn has_capacity(mode: Mode, ends: &[u64], ids: &[u32], room: usize, w
         return false;
     }
     let top = largest(ids, n) as u64 + 1;
-    let back = finish::size::back_in(mode, top);
+    let back = serialize::size::back_in(mode, top);
     if 4294967295 < back {
         return false;
     }

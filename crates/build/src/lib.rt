@@ -7,14 +7,14 @@ ghost use Rattle.writer.specs.Close.{closeRefusal};
 ghost use Rattle.build.specs.Build.{buildRefusal, building, bufferAfter, answersAfter, builtOf};
 ghost use Rattle.build.specs.steps.Capacity.{Capacity};
 ghost use Rattle.build.specs.steps.Steps.{ListPre, ListBuilt, Finished};
+use bulk_tables::table_list;
 use capacity::has_capacity;
 use image::Mode;
 use image::scratch::clear;
-use joined::astray;
+use packed::astray;
 use singly::index_words;
 use singly::put_list;
 use stored::write_list;
-use tabling::table_list;
 use writer::CQDBWriter;
 use writer::Repeats;
 

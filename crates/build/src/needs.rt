@@ -59,7 +59,7 @@ fn back_of(ids: &[u32]) -> u64
 fn bytes_for(mode: Mode, size: u64, ids: &[u32]) -> u64
     ensures { λ r. ⌜ r ≡ bytesNeeded mode size (now (ids .entry)) ⌝ }
 {
-    let back = finish::size::back_in(mode, back_of(ids));
+    let back = serialize::size::back_in(mode, back_of(ids));
     let entries = bytes_each(ids.len() as u64);
     sum(sum(2072 + 4 * back, entries), size)
 }

@@ -4,7 +4,7 @@ ghost use Rattle.writer.specs.State.{stateWith};
 ghost use Rattle.writer.specs.Put.{entryOf};
 ghost use Rattle.build.specs.steps.Steps.{IndexWords, PutPre, PutPost, PutListPre, PutListPost};
 use index::put_indexed;
-use joined::name_of;
+use packed::name_of;
 use writer::CQDBWriter;
 use writer::PutAnswer;
 use writer::Repeats;

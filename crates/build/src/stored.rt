@@ -72,11 +72,11 @@ pub(crate) fn write_list(
 {
     let n = ends.len();
     let end = 2072 + ends[n - 1] + 9 * (n as u64);
-    let back = finish::size::back_in(mode, largest(ids, n) as u64 + 1);
+    let back = serialize::size::back_in(mode, largest(ids, n) as u64 + 1);
     let at = end + 16 * (n as u64);
     let size = at + 4 * back;
-    finish::head::clear(&mut *buf, at as usize, size as usize);
+    serialize::head::clear(&mut *buf, at as usize, size as usize);
     store_list(mode, at as usize, bytes, ends, ids, &mut *buf);
-    finish::write_image_with(mode, end, n as u32, back as u32, counts, words, &mut *buf);
+    serialize::write_image_with(mode, end, n as u32, back as u32, counts, words, &mut *buf);
     size as u32
 }

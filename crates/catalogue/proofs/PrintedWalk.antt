@@ -12,7 +12,7 @@ use Rattle.image.specs.Zero.{hasZero}
 use Rattle.image.specs.Image.{Entry, headSize, backSize, holds, image}
 use Rattle.reader.specs.Naming.{Naming, place, unnamed, naming}
 use Rattle.reader.specs.IdWalk.{stepOf, step}
-use Rattle.answers.specs.Answer.{heldAt, nameGiven, ofId, lastName}
+use Rattle.lookup_laws.specs.Answer.{heldAt, nameGiven, ofId, lastName}
 use Rattle.writer.specs.declared.Repeats.the-variants.{Off}
 use Rattle.writer.specs.Put.{entryOf}
 use Rattle.lists.specs.Calls.{Call, putDue, acceptedFrom, accepted, putsSize, sizeOf}

@@ -7,7 +7,7 @@ use lib.ListN.{length, take, drop}
 use Rattle.image.specs.declared.Mode.the-variants.{Twoway}
 use Rattle.image.specs.Image.{Entry, headSize, image}
 use Rattle.reader.specs.IdWalk.{Step, item, done, step}
-use Rattle.answers.specs.Answer.{ofId, lastName}
+use Rattle.lookup_laws.specs.Answer.{ofId, lastName}
 use Rattle.writer.specs.Put.{entryOf}
 use Rattle.lists.specs.Calls.{sizeOf}
 use Rattle.catalogue.specs.Left.{putsOf}

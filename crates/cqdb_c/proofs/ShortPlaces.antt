@@ -5,7 +5,7 @@ use mathlib.Core.List.{List}
 use lib.ListN.{getD, take, drop, length-take}
 use Rattle.image.proofs.Zeros.{before-short}
 use Rattle.reader.specs.Naming.{Naming, place, unnamed, lengthIn, naming}
-use Rattle.agreement.specs.Panel.{cutAtZero, panel}
+use Rattle.consistency.specs.Panel.{cutAtZero, panel}
 use Rattle.reader.proofs.Lengths.{naming-small}
 
 -- in the panel's answer it is no longer than in naming's

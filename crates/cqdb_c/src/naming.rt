@@ -4,9 +4,9 @@ use reader::Named;
 ghost use mathlib.Core.Path.{_≡_};
 ghost use Prim.Native.Nat.{_<_};
 ghost use Rattle.reader.specs.Naming.{lengthIn, naming};
-ghost use Rattle.agreement.specs.Panel.{panel, readingsAgree};
+ghost use Rattle.consistency.specs.Panel.{panel, readingsAgree};
 ghost use Rattle.reader.specs.IdWalk.{upperHint};
-ghost use Rattle.agreement.specs.Home.{home};
+ghost use Rattle.consistency.specs.Home.{home};
 ghost use Rattle.reader.specs.Cases.{namingOf};
 ghost use Rattle.cqdb_c.specs.ReadAnswers.{placeAnswerOf, oneIf};
 
@@ -52,7 +52,7 @@ pub extern "C" fn cqdb_to_str(image: &[u8], id: u32) -> PlaceAnswer
 pub extern "C" fn cqdb_panel(image: &[u8], id: u32) -> PlaceAnswer
     ensures { λ r. ⌜ r ≡ placeAnswerOf (panel (now (image .entry)) id) ⌝ }
 {
-    place_answer(agreement::panel::panel_place(image, id))
+    place_answer(consistency::panel::panel_place(image, id))
 }
 
 // 1 when the panel's reading and the whole name agree on every id below back size, else 0.
@@ -60,7 +60,7 @@ pub extern "C" fn cqdb_panel(image: &[u8], id: u32) -> PlaceAnswer
 pub extern "C" fn cqdb_readings_agree(image: &[u8]) -> u32
     ensures { λ r. ⌜ r ≡ oneIf (readingsAgree (now (image .entry))) ⌝ }
 {
-    if agreement::readings_agree(image) {
+    if consistency::readings_agree(image) {
         1
     } else {
         0
@@ -80,5 +80,5 @@ pub extern "C" fn cqdb_size_hint(image: &[u8], next: u32) -> u32
 pub extern "C" fn cqdb_home(image: &[u8], id: u32) -> u32
     ensures { λ r. ⌜ r ≡ oneIf (home (now (image .entry)) id) ⌝ }
 {
-    if agreement::home(image, id) { 1 } else { 0 }
+    if consistency::home(image, id) { 1 } else { 0 }
 }

@@ -16,10 +16,10 @@ use Rattle.image.proofs.Bools.{not-both}
 use Rattle.image.proofs.Every.{All}
 use Rattle.image.proofs.Equal.{same-lengths}
 use Rattle.image.proofs.Sizes.{length-placed}
-use Rattle.answers.proofs.EntriesOf.{names-short}
-use Rattle.answers.proofs.Table.{NotEmpty}
-use Rattle.answers.specs.steps.Matches.{matches}
-use Rattle.answers.proofs.Matching.{matches-equal}
+use Rattle.lookup_laws.proofs.EntriesOf.{names-short}
+use Rattle.lookup_laws.proofs.Table.{NotEmpty}
+use Rattle.lookup_laws.specs.steps.Matches.{matches}
+use Rattle.lookup_laws.proofs.Matching.{matches-equal}
 use Rattle.writer.specs.State.{State}
 use Rattle.writer.specs.Close.{recorded}
 use Rattle.index.specs.Index.{slotCount, slot, entryBuckets, Right}

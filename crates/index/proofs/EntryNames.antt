@@ -18,10 +18,10 @@ use Rattle.image.proofs.EntryAt.{Stands, standing, all-placed}
 use Rattle.image.proofs.Equal.{same-true}
 use Rattle.image.proofs.Every.{All, all-map, all-both, all-image}
 use Rattle.reader.specs.Lookup.{Hit, hit, pass}
-use Rattle.answers.proofs.EntrySeen.{seen-entry}
-use Rattle.answers.proofs.Table.{NotEmpty}
-use Rattle.answers.specs.steps.Matches.{matches}
-use Rattle.answers.proofs.Matching.{no-match}
+use Rattle.lookup_laws.proofs.EntrySeen.{seen-entry}
+use Rattle.lookup_laws.proofs.Table.{NotEmpty}
+use Rattle.lookup_laws.specs.steps.Matches.{matches}
+use Rattle.lookup_laws.proofs.Matching.{no-match}
 use Rattle.index.specs.steps.Probe.{isHit, hasNameAt}
 
 -- ---- names read where entries stand

@@ -18,7 +18,7 @@ use Rattle.image.proofs.Buckets.{getD-empties}
 use Rattle.image.proofs.EntryWalk.{whole-rest, first-name, entries-rest}
 use Rattle.image.proofs.Every.{All}
 use Rattle.image.proofs.Sizes.{entriesSize-append, placed-append, length-placed}
-use Rattle.answers.proofs.Table.{NotEmpty}
+use Rattle.lookup_laws.proofs.Table.{NotEmpty}
 use Rattle.index.specs.Index.{slotCount, slot, slotStored}
 use Rattle.index.specs.steps.Probe.{probe}
 use Rattle.index.specs.steps.Fill.{SlotsFilled}

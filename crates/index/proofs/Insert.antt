@@ -16,10 +16,10 @@ use Rattle.image.proofs.Sizes.{length-filled, filled-more}
 use Rattle.image.proofs.Every.{All}
 use Rattle.image.proofs.Buckets.{length-order, firstEmpty-alike}
 use Rattle.reader.specs.Lookup.{Seen, pass, ends}
-use Rattle.answers.proofs.Scan.{used}
-use Rattle.answers.proofs.Order.{view}
-use Rattle.answers.proofs.SearchFilling.{Sees}
-use Rattle.answers.proofs.Table.{Apart, NotEmpty, filled-holds}
+use Rattle.lookup_laws.proofs.Scan.{used}
+use Rattle.lookup_laws.proofs.Order.{view}
+use Rattle.lookup_laws.proofs.SearchFilling.{Sees}
+use Rattle.lookup_laws.proofs.Table.{Apart, NotEmpty, filled-holds}
 use Rattle.index.specs.Index.{slot, slotStored}
 
 -- equal words make equal slots

@@ -15,7 +15,7 @@ use Rattle.image.proofs.Every.{All}
 use Rattle.reader.specs.Lookup as spec
 use Rattle.reader.specs.Cases.{seenOf}
 use Rattle.reader.specs.declared.Seen.{Seen}
-use Rattle.answers.specs.steps.Matches.{matches}
+use Rattle.lookup_laws.specs.steps.Matches.{matches}
 use Rattle.writer.specs.declared.Repeats.{Repeats}
 use Rattle.writer.specs.State.{refusesRepeats}
 use Rattle.index.specs.steps.Probe.{isHit, duplicateAt, probe}

@@ -17,7 +17,7 @@ use Rattle.image.proofs.Between.{drop-take}
 use Rattle.image.proofs.Bools.{first, second}
 use Rattle.image.proofs.Every.{All}
 use Rattle.image.proofs.Sizes.{backIn-twice}
-use Rattle.finish.proofs.WrittenImage.{area-kept, standing-end}
+use Rattle.serialize.proofs.WrittenImage.{area-kept, standing-end}
 use Rattle.writer.specs.State.{State, fits, finishedSize, tooLarge}
 use Rattle.writer.specs.Close.{entryArea, recorded, consistent, closeRefusal}
 use Rattle.writer.specs.State.{countsAgree}

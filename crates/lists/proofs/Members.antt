@@ -12,7 +12,7 @@ use Rattle.image.specs.Bytes.{keep, same}
 use Rattle.image.specs.Image.{Entry, hasId}
 use Rattle.image.proofs.Lists.{keep-yes, keep-cons}
 use Rattle.image.proofs.Equal.{same-self, same-true}
-use Rattle.answers.specs.Answer.{hasName, ofName, ofId, firstId, lastName}
+use Rattle.lookup_laws.specs.Answer.{hasName, ofName, ofId, firstId, lastName}
 use Rattle.writer.specs.Put.{entryOf}
 
 -- ---- an entry of a list

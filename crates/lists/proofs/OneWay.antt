@@ -5,7 +5,7 @@ use mathlib.Core.List.{List}
 use lib.ListN.{length}
 use Rattle.image.specs.declared.Mode.the-variants.{Oneway}
 use Rattle.image.specs.Image.{headSize}
-use Rattle.answers.specs.Answer.{firstId}
+use Rattle.lookup_laws.specs.Answer.{firstId}
 use Rattle.writer.specs.declared.Repeats.{Repeats}
 use Rattle.lists.specs.Calls.{Call, WordIds}
 use Rattle.lists.specs.Demand3.{acceptedPuts}

@@ -14,10 +14,10 @@ use Rattle.image.specs.Bytes.{word, keep, range, same}
 use Rattle.image.specs.Image.{Entry, Placed, headSize, entrySize, entriesSize, placed, hasId, placedOfId, lastFrom, link, backSize, backSizeOf, backOffset, imageSize, holds, image}
 use Rattle.image.specs.Head.{backOffsetAt}
 use Rattle.image.specs.Zero.{hasZero}
-use Rattle.answers.specs.Answer.{ofName, firstId, isNamed, ofId}
+use Rattle.lookup_laws.specs.Answer.{ofName, firstId, isNamed, ofId}
 use Rattle.image.proofs.At.{at-word}
 use Rattle.image.proofs.Parts.{link-at}
-use Rattle.answers.proofs.Opened.{backSizeAt-image, backOffsetAt-image}
+use Rattle.lookup_laws.proofs.Opened.{backSizeAt-image, backOffsetAt-image}
 use Rattle.writer.specs.declared.Repeats.{Repeats}
 use Rattle.lists.specs.Calls.{acceptedFrom, dueFrom, accepted, due, putDue, putsSize, sizeOf, WordIds}
 use Rattle.lists.proofs.Read.{namedIn, Read}

@@ -6,8 +6,8 @@ use mathlib.Core.Option.{Option, none}
 use Rattle.image.specs.declared.Mode.{Mode}
 use Rattle.image.specs.declared.Mode.the-variants.{Twoway, Oneway}
 use Rattle.image.specs.Image.{Entry}
-use Rattle.agreement.specs.Home.{home}
-use Rattle.answers.specs.Answer.{nameGiven, ofId, lastName, isNamed}
+use Rattle.consistency.specs.Home.{home}
+use Rattle.lookup_laws.specs.Answer.{nameGiven, ofId, lastName, isNamed}
 use Rattle.lists.specs.Demand3.{NamesAnswered}
 
 -- an id gives the name of its last entry; in a one-way image, none

@@ -11,15 +11,15 @@ use Rattle.image.specs.declared.Mode.the-variants.{Twoway, Oneway}
 use Rattle.image.specs.Image.{Entry, headSize, backSize, imageSize, image}
 use Rattle.reader.specs.Lookup.{Lookup, found, nothing, lookup}
 use Rattle.reader.specs.declared.Found.{Found}
-use Rattle.agreement.specs.Meets.{entriesMet, someMet}
+use Rattle.consistency.specs.Meets.{entriesMet, someMet}
 use Rattle.reader.specs.IdWalk.{stepOf, step}
-use Rattle.agreement.specs.Home.{homeBy, home}
-use Rattle.answers.specs.Answer.{foundId, heldAt, nameGiven, ofId, lastName, tablePuts}
+use Rattle.consistency.specs.Home.{homeBy, home}
+use Rattle.lookup_laws.specs.Answer.{foundId, heldAt, nameGiven, ofId, lastName, tablePuts}
 use Rattle.reader.specs.Cases.{reads}
-use Rattle.answers.proofs.Found.{lookup-long}
-use Rattle.answers.proofs.Images.{image-opens, name-gives, name-nothing, name-reads, found-reads, last-met, ids-fit, id-gives, id-nothing}
-use Rattle.answers.proofs.Named.{naming-oneway}
-use Rattle.answers.proofs.Walked.{part-given, step-given, home-given, hint-image}
+use Rattle.lookup_laws.proofs.Found.{lookup-long}
+use Rattle.lookup_laws.proofs.Images.{image-opens, name-gives, name-nothing, name-reads, found-reads, last-met, ids-fit, id-gives, id-nothing}
+use Rattle.lookup_laws.proofs.Named.{naming-oneway}
+use Rattle.lookup_laws.proofs.Walked.{part-given, step-given, home-given, hint-image}
 use Rattle.writer.specs.declared.Repeats.{Repeats}
 use Rattle.lists.specs.Calls.{Call, accepted, WordIds}
 use Rattle.lists.specs.Demand3.{imageOf, NamesAnswered}

@@ -16,9 +16,9 @@ use Rattle.image.specs.Zero.{hasZero}
 use Rattle.image.proofs.All.{all-true}
 use Rattle.image.proofs.Every.{All, all-keep, all-append}
 use Rattle.reader.specs.Naming.{Naming, place, unnamed, naming}
-use Rattle.agreement.specs.Panel.{agreeOn, readingsAgree}
-use Rattle.agreement.proofs.Panels.{agree-held, agree-unnamed}
-use Rattle.answers.specs.Answer.{heldAt, nameGiven, ofId, lastName}
+use Rattle.consistency.specs.Panel.{agreeOn, readingsAgree}
+use Rattle.consistency.proofs.Panels.{agree-held, agree-unnamed}
+use Rattle.lookup_laws.specs.Answer.{heldAt, nameGiven, ofId, lastName}
 use Rattle.writer.specs.declared.Repeats.{Repeats}
 use Rattle.lists.specs.Calls.{Call, put, close, acceptedOne, putDue, acceptedFrom, accepted, WordIds}
 use Rattle.lists.specs.Demand3.{imageOf}

@@ -13,7 +13,7 @@ use Rattle.image.specs.Image.{Entry, headSize, hasName, holds, image}
 use Rattle.image.proofs.Lists.{keep-nil, keep-yes, keep-no, keep-append}
 use Rattle.image.proofs.Equal.{same-true}
 use Rattle.image.proofs.Bools.{neither-first, neither-second}
-use Rattle.answers.specs.Answer.{ofName, firstId}
+use Rattle.lookup_laws.specs.Answer.{ofName, firstId}
 use Rattle.writer.specs.declared.Repeats.{Repeats}
 use Rattle.writer.specs.declared.Repeats.the-variants.{Off}
 use Rattle.lists.specs.Calls.{Call, put, close, putDue, acceptedFrom, accepted, WordIds}

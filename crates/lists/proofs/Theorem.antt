@@ -7,8 +7,8 @@ use Rattle.image.specs.declared.Mode.{Mode}
 use Rattle.image.specs.declared.Mode.the-variants.{Twoway}
 use Rattle.image.specs.Image.{headSize, imageSize, image}
 use Rattle.reader.specs.Lookup.{lookup}
-use Rattle.answers.specs.Answer.{foundOffset, firstId, lastName, isNamed}
-use Rattle.answers.proofs.Images.{name-stands, ids-fit}
+use Rattle.lookup_laws.specs.Answer.{foundOffset, firstId, lastName, isNamed}
+use Rattle.lookup_laws.proofs.Images.{name-stands, ids-fit}
 use Rattle.writer.specs.declared.Repeats.{Repeats}
 use Rattle.lists.specs.Calls.{Call, sizeOf, WordIds}
 use Rattle.lists.specs.Demand3.{acceptedPuts, imageOf, CallsAnswered, OneList, TwoLists, Demand3}

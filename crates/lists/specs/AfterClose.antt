@@ -12,8 +12,8 @@ use Rattle.image.specs.Image.{Entry, headSize, backSize, image}
 use Rattle.reader.specs.Slices.{Slice}
 use Rattle.reader.specs.Naming.{nameOr}
 use Rattle.reader.specs.IdWalk.{step, upperHint}
-use Rattle.agreement.specs.Home.{home}
-use Rattle.answers.specs.Answer.{stepGiven, ofId, lastName, homeIn}
+use Rattle.consistency.specs.Home.{home}
+use Rattle.lookup_laws.specs.Answer.{stepGiven, ofId, lastName, homeIn}
 use Rattle.writer.specs.declared.Repeats.{Repeats}
 use Rattle.writer.specs.Put.{entryOf}
 use Rattle.writer.specs.Close.{closing}

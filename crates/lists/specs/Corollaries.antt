@@ -9,8 +9,8 @@ use lib.ListN.{length}
 use Rattle.image.specs.declared.Mode.the-variants.{Twoway}
 use Rattle.image.specs.Image.{Entry, headSize, image}
 use Rattle.reader.specs.Lookup.{lookup}
-use Rattle.agreement.specs.Home.{home}
-use Rattle.answers.specs.Answer.{foundId, foundOffset, nameGiven, ofName, ofId, firstId, firstAt}
+use Rattle.consistency.specs.Home.{home}
+use Rattle.lookup_laws.specs.Answer.{foundId, foundOffset, nameGiven, ofName, ofId, firstId, firstAt}
 use Rattle.writer.specs.declared.Repeats.{Repeats}
 use Rattle.writer.specs.Close.{afterClose}
 use Rattle.lists.specs.Calls.{Call, puts}

@@ -14,7 +14,7 @@ use Rattle.image.specs.declared.Mode.the-variants.{Twoway}
 use Rattle.image.specs.Image.{Entry, headSize, image}
 use Rattle.reader.specs.Open.{opening}
 use Rattle.reader.specs.Lookup.{lookup}
-use Rattle.answers.specs.Answer.{foundId, nameGiven, ofName, ofId, tablePuts, firstId, lastName}
+use Rattle.lookup_laws.specs.Answer.{foundId, nameGiven, ofName, ofId, tablePuts, firstId, lastName}
 use Rattle.reader.specs.Cases.{reads}
 use Rattle.writer.specs.declared.Repeats.{Repeats}
 use Rattle.writer.specs.State.{State, fresh, beginning, countsBegun}

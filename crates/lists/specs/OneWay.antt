@@ -10,8 +10,8 @@ use Rattle.image.specs.Image.{headSize}
 use Rattle.reader.specs.Lookup.{lookup}
 use Rattle.reader.specs.Naming.{unnamed, naming}
 use Rattle.reader.specs.IdWalk.{done, step, upperHint}
-use Rattle.agreement.specs.Home.{home}
-use Rattle.answers.specs.Answer.{foundId, ofName}
+use Rattle.consistency.specs.Home.{home}
+use Rattle.lookup_laws.specs.Answer.{foundId, ofName}
 use Rattle.writer.specs.declared.Repeats.{Repeats}
 use Rattle.lists.specs.Calls.{Call, WordIds}
 use Rattle.lists.specs.Demand3.{acceptedPuts, imageOf, CallsAnswered, NamesAnswered}

@@ -14,8 +14,8 @@ pub use Rattle.image.specs.Bytes.{Each}
 use Rattle.image.specs.Head.{backSizeAt, backOffsetAt}
 use Rattle.reader.specs.Open.{opening}
 use Rattle.reader.specs.Lookup.{lookup}
-use Rattle.agreement.specs.Home.{home}
-use Rattle.answers.specs.Answer.{foundId, nameGiven}
+use Rattle.consistency.specs.Home.{home}
+use Rattle.lookup_laws.specs.Answer.{foundId, nameGiven}
 use Rattle.writer.specs.declared.Repeats.{Repeats}
 use Rattle.writer.specs.declared.Repeats.the-variants.{Off, On}
 use Rattle.writer.specs.Put.{entryOf}

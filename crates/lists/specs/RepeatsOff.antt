@@ -8,7 +8,7 @@ use lib.ListN.{length}
 use Rattle.image.specs.declared.Mode.{Mode}
 use Rattle.image.specs.Image.{Entry, headSize}
 use Rattle.reader.specs.Lookup.{lookup}
-use Rattle.answers.specs.Answer.{foundId, ofName}
+use Rattle.lookup_laws.specs.Answer.{foundId, ofName}
 use Rattle.writer.specs.declared.Repeats.{Repeats}
 use Rattle.writer.specs.declared.Repeats.the-variants.{Off}
 use Rattle.writer.specs.Put.{entryOf}

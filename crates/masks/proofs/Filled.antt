@@ -15,7 +15,7 @@ use Rattle.image.proofs.Buckets.{getD-empties}
 use Rattle.image.proofs.Every.{All}
 use Rattle.image.proofs.Sizes.{length-insert}
 use Rattle.image.proofs.Buckets.{length-order}
-use Rattle.answers.proofs.Order.{order-at, place-of}
+use Rattle.lookup_laws.proofs.Order.{order-at, place-of}
 use Rattle.masks.specs.steps.Masks.{above, Rising, ats, hide, masked, place, Right}
 use Rattle.masks.proofs.Above.{above-none, above-set, above-room, rising-less}
 use Rattle.masks.proofs.Masked.{hide-shows, hide-hides, getD-masked, length-masked, getD-ats, length-ats, masked-is}

@@ -86,7 +86,7 @@ fn names_as(tag: u32, id: u32, name: &[u8], image: &[u8]) -> bool {
 
 // Is the id home, or away?
 fn home_as(tag: u32, id: u32, image: &[u8]) -> bool {
-    if agreement::home(image, id) {
+    if consistency::home(image, id) {
         tag == tags::HOME
     } else {
         tag == tags::AWAY

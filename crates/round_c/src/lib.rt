@@ -1,10 +1,10 @@
 // A whole round for C, in both directions. The answers lie in words, four to an answer, as the structs of include/cqdb.h do.
-use round::Rounded;
+use batch::Rounded;
 ghost use mathlib.Core.Path.{_≡_};
 ghost use Prim.Native.Nat.{_/_};
 ghost use lib.ListN.{length};
-ghost use Rattle.round.specs.Round.{rounding, afterRound};
-ghost use Rattle.round.specs.NameRound.{nameRefusal, afterNames};
+ghost use Rattle.batch.specs.Round.{rounding, afterRound};
+ghost use Rattle.batch.specs.NameRound.{nameRefusal, afterNames};
 ghost use Rattle.round_c.specs.RoundAnswers.{roundAnswer};
 
 // The refusal's number, 0 when accepted; the buckets read over the different names, 0 when refused.
@@ -25,7 +25,7 @@ pub extern "C" fn cqdb_round_words(
     ensures answer { λ r. ⌜ r ≡ roundAnswer (rounding (now (image .entry)) (now (names .entry)) (now (ends .entry)) (length (now (answers .entry)) / 4)) ⌝ }
     ensures leaves { λ r. ⌜ now (answers .exit) ≡ afterRound (now (image .entry)) (now (names .entry)) (now (ends .entry)) (now (answers .entry)) ⌝ }
 {
-    let rounded = round::round(image, names, ends, &mut *answers);
+    let rounded = batch::round(image, names, ends, &mut *answers);
     match rounded {
         Rounded::Buckets(n) => RoundAnswer {
             refusal: 0,
@@ -44,5 +44,5 @@ pub extern "C" fn cqdb_name_round_words(image: &[u8], ids: &[u32], answers: &mut
     ensures answer { λ r. ⌜ r ≡ nameRefusal (now (ids .entry)) (length (now (answers .entry)) / 4) ⌝ }
     ensures leaves { λ _. ⌜ now (answers .exit) ≡ afterNames (now (image .entry)) (now (ids .entry)) (now (answers .entry)) ⌝ }
 {
-    round::name_round(image, ids, &mut *answers)
+    batch::name_round(image, ids, &mut *answers)
 }

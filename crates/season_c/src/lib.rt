@@ -1,11 +1,11 @@
 // Names with a season, for C.
-use season::Date;
-use season::NamedOn;
-use season::Standing;
-use season::Window;
+use validity::Date;
+use validity::NamedOn;
+use validity::Standing;
+use validity::Window;
 ghost use mathlib.Core.Path.{_≡_};
-ghost use Rattle.season.specs.Rule.{namingOn};
-ghost use Rattle.season.specs.Saying.{placeBy};
+ghost use Rattle.validity.specs.Rule.{namingOn};
+ghost use Rattle.validity.specs.Saying.{placeBy};
 ghost use Rattle.season_c.specs.NameOnAnswer.{onAnswer};
 
 // The refusal's number, 0 when accepted; 1 and the place of the name in the image, its length and its first byte's offset; or
@@ -22,7 +22,7 @@ pub struct OnAnswer {
 fn answer_by(image: &[u8], id: u32, date: Date, s: Standing) -> OnAnswer
     ensures { λ r. ⌜ r ≡ onAnswer (placeBy (now (image .entry)) id date s) ⌝ }
 {
-    match season::place_by(image, id, date, s) {
+    match validity::place_by(image, id, date, s) {
         NamedOn::Place { start, len } => OnAnswer {
             refusal: 0,
             found: 1,
@@ -53,6 +53,6 @@ pub extern "C" fn cqdb_name_on(image: &[u8], id: u32, date: Date, windows: &[Win
         image,
         id,
         date,
-        season::windows::standing(windows, id, date),
+        validity::windows::standing(windows, id, date),
     )
 }

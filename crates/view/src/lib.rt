@@ -6,7 +6,7 @@ ghost use Rattle.reader.specs.Lookup.{lookup};
 ghost use Rattle.reader.specs.Slices.{slice};
 ghost use Rattle.reader.specs.Naming.{naming, namePart};
 ghost use Rattle.reader.specs.IdWalk.{step};
-ghost use Rattle.agreement.specs.Home.{home};
+ghost use Rattle.consistency.specs.Home.{home};
 ghost use Rattle.reader.specs.Cases.{openedOf, lookupOf, namingOf, steppedOf};
 ghost use Rattle.view.specs.Num.{numOf};
 use reader::Iter;
@@ -83,7 +83,7 @@ impl<'a> CQDB<'a> {
     pub fn home(self, id: u32) -> bool
         ensures { λ r. ⌜ r ≡ home (now (self .entry .image)) id ⌝ }
     {
-        agreement::home(self.image, id)
+        consistency::home(self.image, id)
     }
 }
 

@@ -10,8 +10,8 @@ use borrow.Author.Tests.{eqb-true}
 use Rattle.image.specs.Image.{backIn, backSize}
 use Rattle.image.specs.Stored.{whole}
 use Rattle.image.proofs.Bools.{first, second}
-use Rattle.finish.specs.Finish.{finishedBuffer}
-use Rattle.finish.specs.steps.Asked.{Standing}
+use Rattle.serialize.specs.Finish.{finishedBuffer}
+use Rattle.serialize.specs.steps.Asked.{Standing}
 use Rattle.writer.specs.State.{stateWith, fits, finishedSize, tooLarge, countsAgree}
 use Rattle.writer.specs.Close.{entryArea, recorded, consistent, closed, afterClose}
 use Rattle.writer.specs.declared.CQDBWriter.{CQDBWriter}

@@ -19,7 +19,7 @@ use Rattle.image.specs.Stored.{whole}
 use Rattle.writer.specs.Close.{entryArea, recorded, closeRefusal, closedSize, closed, afterClose}
 use Rattle.writer.specs.Kept.{Kept}
 use Rattle.image.proofs.Between.{take-sets}
-use Rattle.finish.proofs.WrittenImage.{area-kept, standing-end}
+use Rattle.serialize.proofs.WrittenImage.{area-kept, standing-end}
 use Rattle.writer.proofs.Fits.{fitting}
 
 -- ---- runs of stores

@@ -14,7 +14,7 @@ use Rattle.writer.specs.declared.Begun.{Begun}
 use Rattle.writer.specs.declared.Begun.the-variants.{Fresh, Refused}
 -- the rules of the record that finishing has too: the finished size; no table count exceeds a number; table counts agree
 -- with entries
-pub use Rattle.finish.specs.Record.{finishedOf, noneAbove, countsAgree}
+pub use Rattle.serialize.specs.Record.{finishedOf, noneAbove, countsAgree}
 
 -- what a call is lent: the writer record, whose 256 table counts are lent apart, and the buffer
 pub record State : Type 0 where

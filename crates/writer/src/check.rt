@@ -38,7 +38,7 @@ pub(super) fn walk_refusal(w: CQDBWriter, counts: &[u32; 256], buf: &[u8], name:
         return 4;
     }
     let mode = w.mode;
-    if w.back as u64 != finish::size::back_in(mode, walked.back) {
+    if w.back as u64 != serialize::size::back_in(mode, walked.back) {
         return 4;
     }
     if walked.met { 16 } else { 0 }

@@ -186,7 +186,7 @@ pub fn close_refusal(w: CQDBWriter, counts: &[u32; 256], buf: &[u8]) -> u32
         return 2;
     }
     let mode = w.mode;
-    let size = finish::size::finished_size(mode, w.end, w.entries, w.back);
+    let size = serialize::size::finished_size(mode, w.end, w.entries, w.back);
     if record::too_large(w.length, size) {
         return 4;
     }
@@ -202,8 +202,8 @@ pub fn write_closed(w: CQDBWriter, counts: &[u32; 256], buf: &mut [u8]) -> u32
     ensures { λ r. ⌜ WriteClosedPost (stateWith w (now (counts .entry)) (now (buf .entry))) r (now (buf .exit)) ⌝ }
 {
     let mode = w.mode;
-    let size = finish::size::finished_size(mode, w.end, w.entries, w.back);
-    finish::write_image(mode, w.end, w.entries, w.back, counts, &mut *buf);
+    let size = serialize::size::finished_size(mode, w.end, w.entries, w.back);
+    serialize::write_image(mode, w.end, w.entries, w.back, counts, &mut *buf);
     size as u32
 }
 

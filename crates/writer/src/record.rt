@@ -19,7 +19,7 @@ pub(super) fn fits(w: CQDBWriter, counts: &[u32; 256], buf: &[u8]) -> bool
     if w.end > w.length {
         return false;
     }
-    finish::counts::none_above(counts, w.entries)
+    serialize::counts::none_above(counts, w.entries)
 }
 
 // Whether a size exceeds the buffer or 4,294,967,295.
@@ -45,7 +45,7 @@ pub fn size_with(w: CQDBWriter, n: usize, id: u32) -> u64
     ensures { λ r. ⌜ r ≡ finishedSize (writerWith w n id) ⌝ }
 {
     let mode = w.mode;
-    let back = finish::size::back_in(mode, raised(mode, w.back, id));
+    let back = serialize::size::back_in(mode, raised(mode, w.back, id));
     w.end + (n as u64 + 9) + 16 * (w.entries as u64 + 1) + 4 * back
 }
 

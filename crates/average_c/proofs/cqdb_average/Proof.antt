@@ -1,7 +1,7 @@
 -- `average_c::cqdb_average` meets its contract: what `average` promises of the answer, put into the struct. Assumes nothing.
 use mathlib.Core.Path.{sym, ap, _∙_}
 use borrow.Author.Needs.{needs}
-use Rattle.average.specs.Average.{averagedOf}
+use Rattle.search_length.specs.Average.{averagedOf}
 use Rattle.average_c.specs.AverageAnswer.{averageAnswerOf}
 use Rattle.average_c.proofs.cqdb_average.Statement.{statement}
 use Rattle.average_c.proofs.cqdb_average.Tie as tie

@@ -5,7 +5,7 @@ use mathlib.Core.Path.{_≡_, sym, ap, _∙_}
 use lib.ListN.{length, getD, length-replicate, getD-replicate}
 use lib.Seq.{length-take-le}
 use borrow.Author.Needs.{needs}
-use Rattle.joined.specs.Names.{names, nth}
+use Rattle.packed.specs.Names.{names, nth}
 use Rattle.image.specs.Bytes.{same}
 use Rattle.image.specs.Zero.{hasZero}
 use Rattle.build.proofs.Whole.{refusal-none, told-all, told-same, left-closed, built-made}

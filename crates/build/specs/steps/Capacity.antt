@@ -4,8 +4,8 @@ use mathlib.Core.List.{List}
 use lib.ListN.{length}
 use Rattle.image.specs.Image.{headSize, backIn}
 use Rattle.image.specs.declared.Mode.{Mode}
-use Rattle.joined.specs.Names.{beginOf}
-use Rattle.tabling.specs.steps.Parted.{at}
+use Rattle.packed.specs.Names.{beginOf}
+use Rattle.bulk_tables.specs.steps.Parted.{at}
 
 -- the largest of the first n ids, 0 without any
 unfoldable pub largestTo : List ℕ → ℕ → ℕ

@@ -9,9 +9,9 @@ use Rattle.image.specs.Bytes.{cat}
 use Rattle.image.specs.Stored.{between}
 use Rattle.image.specs.Image.{Entry, headSize, entryBytes, placed, links, entriesEnd, backSizeOf, imageSize, image}
 use Rattle.image.specs.declared.Mode.{Mode}
-use Rattle.joined.specs.Names.{names, astray}
-use Rattle.finish.specs.steps.Asked.{TablesAtHand}
-use Rattle.tabling.specs.steps.Parted.{tableOfName, countOfTable}
+use Rattle.packed.specs.Names.{names, astray}
+use Rattle.serialize.specs.steps.Asked.{TablesAtHand}
+use Rattle.bulk_tables.specs.steps.Parted.{tableOfName, countOfTable}
 use Rattle.build.specs.steps.Capacity.{RoomForAll}
 use Rattle.build.specs.steps.Steps.{entriesListed}
 

@@ -1,7 +1,7 @@
 -- `round_c::cqdb_round_words` meets its contract: what `round` promises of the answer, put into the struct. Assumes nothing.
 use mathlib.Core.Path.{sym, ap, _∙_}
 use borrow.Author.Needs.{needs}
-use Rattle.round.specs.Round.{roundedOf}
+use Rattle.batch.specs.Round.{roundedOf}
 use Rattle.round_c.specs.RoundAnswers.{roundAnswer}
 use Rattle.round_c.proofs.cqdb_round_words.Statement.{statement}
 use Rattle.round_c.proofs.cqdb_round_words.Tie as tie

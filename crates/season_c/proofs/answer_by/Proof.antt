@@ -3,15 +3,15 @@ use Prim.Native.Nat.{ℕ}
 use native.Mathlib.Omega.{arith}
 use mathlib.Core.Path.{sym, ap, _∙_}
 use Rattle.reader.proofs.Lengths.{named-small}
-use Rattle.season.specs.Cases.{namedOnOf}
-use Rattle.season.proofs.WindowTests.{named-so}
+use Rattle.validity.specs.Cases.{namedOnOf}
+use Rattle.validity.proofs.WindowTests.{named-so}
 use Rattle.season_c.specs.NameOnAnswer.{onAnswer}
 use borrow.Author.Needs.{needs}
 use Rattle.season_c.proofs.answer_by.Statement.{statement}
 use Rattle.season_c.proofs.answer_by.Tie as tie
 use Rattle.season_c.proofs.answer_by.Reads as reads
 use Rattle.season_c.proofs.answer_by.Lts as lts
-use Rattle.season.proofs.place_by.Reads as place-by-reads
+use Rattle.validity.proofs.place_by.Reads as place-by-reads
 
 place-by-requires : tie.Need-place-by-requires
 place-by-requires c κs = search needs

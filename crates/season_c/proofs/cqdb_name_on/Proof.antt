@@ -2,10 +2,10 @@
 use mathlib.Core.Path.{_≡_, ap, _∙_}
 use contract.Running.{givenOf}
 use denote.Struct.Laws as LL
-use Rattle.season.specs.Rule.{namingOn}
-use Rattle.season.specs.Saying.{placeBy}
-use Rattle.season.proofs.WindowLaws.{placed}
-use Rattle.season.proofs.OverWindows.{keeps}
+use Rattle.validity.specs.Rule.{namingOn}
+use Rattle.validity.specs.Saying.{placeBy}
+use Rattle.validity.proofs.WindowLaws.{placed}
+use Rattle.validity.proofs.OverWindows.{keeps}
 use Rattle.season_c.specs.NameOnAnswer.{onAnswer}
 use Rattle.season_c.proofs.OnAnswer as S
 use Rattle.season_c.proofs.OnAnswer.Laws as S′

@@ -4,7 +4,7 @@ use native.Mathlib.Omega.{arith}
 use lib.ListN.{length}
 use borrow.Author.Needs.{needs}
 use Rattle.image.proofs.Bools.{not-both}
-use Rattle.joined.proofs.NameEnds.{begin-later}
+use Rattle.packed.proofs.NameEnds.{begin-later}
 use Rattle.build.proofs.Largest.{largest-above}
 use Rattle.build.proofs.capacity.has_capacity.Statement.{statement}
 use Rattle.build.proofs.capacity.has_capacity.Tie as tie

@@ -5,8 +5,8 @@ use native.Mathlib.Omega.{arith}
 use mathlib.Core.Path.{_≡_, refl}
 use lib.ListN.{length}
 use borrow.Author.Needs.{needs}
-use Rattle.joined.specs.Names.{names}
-use Rattle.joined.proofs.NameEnds.{length-names}
+use Rattle.packed.specs.Names.{names}
+use Rattle.packed.proofs.NameEnds.{length-names}
 use Rattle.writer.specs.State.{stateWith}
 use Rattle.build.proofs.SinglePuts.{PutsBefore, puts-start, puts-turn, puts-end, answers-end}
 use Rattle.build.proofs.singly.put_list.Statement.{statement}

@@ -4,10 +4,10 @@ use Prim.Native.Nat.{_-_, _≤_}
 use native.Mathlib.Omega.{arith}
 use mathlib.Core.Path.{_≡_, refl, sym}
 use lib.ListN.{length}
-use Rattle.joined.specs.Names.{names, beginOf}
-use Rattle.joined.proofs.NameEnds.{placed}
+use Rattle.packed.specs.Names.{names, beginOf}
+use Rattle.packed.proofs.NameEnds.{placed}
 use Rattle.build.specs.steps.Steps.{entriesListed}
-use Rattle.joined.proofs.NameEnds.{begin-next}
+use Rattle.packed.proofs.NameEnds.{begin-next}
 use Rattle.build.proofs.StoredAll.{Along, along-start, along-length, along-end, along-room, along-turn, area-stored, stored-links, behind-kept}
 use Rattle.build.proofs.stored.store_list.Statement.{statement}
 use Rattle.build.proofs.stored.store_list.Tie as tie

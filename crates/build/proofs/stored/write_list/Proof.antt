@@ -5,10 +5,10 @@ use mathlib.Core.Path.{_≡_, refl, sym, ap, _∙_}
 use lib.ListN.{length, getD, drop, replicate}
 use borrow.Author.Needs.{needs}
 use Rattle.image.specs.Image.{backIn, imageSize}
-use Rattle.joined.specs.Names.{names}
+use Rattle.packed.specs.Names.{names}
 use Rattle.build.specs.steps.Steps.{entriesListed}
 use Rattle.image.specs.Stored.{between}
-use Rattle.joined.proofs.NameEnds.{begin-later}
+use Rattle.packed.proofs.NameEnds.{begin-later}
 use Rattle.build.proofs.ListWhole.{Numbers, numbers, zeros-between, zeros-behind, asked, left-image}
 use Rattle.build.proofs.stored.write_list.Statement.{statement}
 use Rattle.build.proofs.stored.write_list.Tie as tie

@@ -8,10 +8,10 @@ use denote.Builtin.{bool, u32}
 use denote.Plain.{bool-lawful}
 use denote.Ref.{now}
 use denote.Signature.{plain}
-use Rattle.agreement.specs.Home.{home}
-use Rattle.agreement.proofs.home as on-image
-use Rattle.agreement.proofs.home.Symbol as callee
-use Rattle.agreement.proofs.home.Met as kept
+use Rattle.consistency.specs.Home.{home}
+use Rattle.consistency.proofs.home as on-image
+use Rattle.consistency.proofs.home.Symbol as callee
+use Rattle.consistency.proofs.home.Met as kept
 use Rattle.view.proofs.OverView.{keeps₁, id-passed}
 use Rattle.view.proofs.CQDB.home as on-view
 use Rattle.view.proofs.CQDB.home.Key.{name as #view·home}

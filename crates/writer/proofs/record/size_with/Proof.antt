@@ -4,7 +4,7 @@ use Prim.Native.Nat.{ℕ, _+_, _*_}
 use mathlib.Core.Path.{_≡_, ap, _∙_}
 use Rattle.image.specs.Image.{backIn}
 use Rattle.writer.specs.Put.{raised, writerWith}
-use Rattle.finish.proofs.FinishSteps.{backIn-le}
+use Rattle.serialize.proofs.FinishSteps.{backIn-le}
 use Rattle.writer.proofs.Fits.{raised-le}
 use borrow.Author.Needs.{needs}
 use Rattle.writer.proofs.record.size_with.Statement.{statement}

@@ -1,0 +1,136 @@
+-- The different names of a round: none twice, the same names, and what their lookups read. Assumes nothing.
+use Prim.Native.Nat.{ℕ, zero, suc, _+_, _≤_, _<_}
+use native.Mathlib.Omega.{arith}
+use mathlib.Core.Path.{_≡_, refl, sym, ap, _∙_}
+use mathlib.Core.Bool.{Bool, true, false, _||_}
+use mathlib.Core.List.{List, [], _∷_, _++_}
+use lib.ListN.{length}
+use Rattle.image.specs.Bytes.{same}
+use Rattle.image.proofs.Bools.{not-both, neither-first, neither-second}
+use Rattle.image.proofs.Equal.{same-self, same-true, same-false}
+use Rattle.reader.specs.Lookup.{lookup}
+use Rattle.reader.specs.Cases.{reads}
+use Rattle.batch.specs.RoundNames.{among, newOnly, differentFrom, different, nth}
+use Rattle.batch.specs.Round.{bucketsOf}
+use Rattle.batch.specs.Theorem.{Distinct, OnceEach}
+
+-- ---- among
+
+among-append : (y : List ℕ) (xs zs : List (List ℕ)) → among y (xs ++ zs) ≡ (among y xs || among y zs)
+unfolding among
+among-append y [] zs = refl
+among-append y (x ∷ xs) zs = ap (λ (t : Bool). same x y || t) (among-append y xs zs) ∙ assoc (same x y) (among y xs) (among y zs)
+  where
+    assoc : (a b c : Bool) → (a || (b || c)) ≡ ((a || b) || c)
+    assoc true b c = refl
+    assoc false b c = refl
+
+among-last : (y x : List ℕ) (xs : List (List ℕ)) → among y (xs ++ x ∷ []) ≡ (among y xs || same x y)
+unfolding among
+among-last y x xs = among-append y xs (x ∷ []) ∙ ap (λ (t : Bool). among y xs || t) (or-false (same x y))
+  where
+    or-false : (t : Bool) → (t || false) ≡ t
+    or-false true = refl
+    or-false false = refl
+
+-- a name that is not among some and one more
+not-seen : (y x : List ℕ) (xs : List (List ℕ)) → among y (xs ++ x ∷ []) ≡ false → among y xs ≡ false
+not-seen y x xs e = neither-first (among y xs) (same x y) (sym (among-last y x xs) ∙ e)
+
+not-last : (y x : List ℕ) (xs : List (List ℕ)) → among y (xs ++ x ∷ []) ≡ false → x ≡ y → ⊥
+not-last y x xs e p =
+    not-both (sym (neither-second (among y xs) (same x y) (sym (among-last y x xs) ∙ e)) ∙ ap (λ (l : List ℕ). same l y) p ∙ same-self y)
+
+-- ---- none twice
+
+-- what is known of the different names behind some that were seen
+record Fresh (seen ys : List (List ℕ)) : Type 0 where
+  pub unseen : (i : ℕ) → i < length ys → among (nth ys i) seen ≡ false
+  pub no-two : Distinct ys
+
+fresh-one : (seen : List (List ℕ)) (x : List ℕ) (ys : List (List ℕ)) (t : Bool) → among x seen ≡ t → Fresh (seen ++ x ∷ []) ys → Fresh seen (newOnly t x ys)
+fresh-one seen x ys true e f = record { unseen = λ i h. not-seen (nth ys i) x seen (f .unseen i h); no-two = f .no-two }
+fresh-one seen x ys false e f = record { unseen = first; no-two = two }
+  where
+    first : (i : ℕ) → i < length (x ∷ ys) → among (nth (x ∷ ys) i) seen ≡ false
+    first zero h = e
+    first (suc i) h = let k : i < length ys = omega arith in not-seen (nth ys i) x seen (f .unseen i k)
+
+    two : Distinct (x ∷ ys)
+    two i zero h k p = omega arith
+    two zero (suc j) h k p = let l : j < length ys = omega arith in not-last (nth ys j) x seen (f .unseen j l) p
+    two (suc i) (suc j) h k p = f .no-two i j (omega arith) (omega arith) p
+
+fresh-from : (xs seen : List (List ℕ)) → Fresh seen (differentFrom seen xs)
+unfolding differentFrom
+fresh-from [] seen = record { unseen = λ i h. absurd (omega arith); no-two = λ i j h k p. omega arith }
+fresh-from (x ∷ xs) seen = fresh-one seen x (differentFrom (seen ++ x ∷ []) xs) (among x seen) refl (fresh-from xs (seen ++ x ∷ []))
+
+-- ---- the same names
+
+same-one : (a s r q : Bool) → (((a || s) || r) ≡ ((a || s) || q)) → (a || (s || r)) ≡ (a || (s || q))
+same-one true s r q e = refl
+same-one false true r q e = refl
+same-one false false r q e = e
+
+same-seen : (a s r q : Bool) → (s ≡ true → a ≡ true) → (((a || s) || r) ≡ ((a || s) || q)) → (a || r) ≡ (a || (s || q))
+same-seen true s r q h e = refl
+same-seen false true r q h e = absurd (not-both (h refl))
+same-seen false false r q h e = e
+
+module _ (x : List ℕ) where
+  kept-one : (seen : List (List ℕ)) (y : List ℕ) (ys rest : List (List ℕ)) (t : Bool) → among y seen ≡ t
+      → (among x (seen ++ y ∷ []) || among x rest) ≡ (among x (seen ++ y ∷ []) || among x ys)
+      → (among x seen || among x (newOnly t y rest)) ≡ (among x seen || (same y x || among x ys))
+  unfolding among
+  kept-one seen y ys rest true e h =
+      same-seen (among x seen) (same y x) (among x rest) (among x ys) (λ p. ap (λ (l : List ℕ). among l seen) (sym (same-true y x p)) ∙ e)
+      (sym (ap (λ (t : Bool). t || among x rest) (among-last x y seen)) ∙ h ∙ ap (λ (t : Bool). t || among x ys) (among-last x y seen))
+  kept-one seen y ys rest false e h =
+      same-one (among x seen) (same y x) (among x rest) (among x ys)
+      (sym (ap (λ (t : Bool). t || among x rest) (among-last x y seen)) ∙ h ∙ ap (λ (t : Bool). t || among x ys) (among-last x y seen))
+
+  kept-from : (ys seen : List (List ℕ)) → (among x seen || among x (differentFrom seen ys)) ≡ (among x seen || among x ys)
+  unfolding among differentFrom
+  kept-from [] seen = refl
+  kept-from (y ∷ ys) seen = kept-one seen y ys (differentFrom (seen ++ y ∷ []) ys) (among y seen) refl (kept-from ys (seen ++ y ∷ []))
+
+pub once-each : (xs : List (List ℕ)) → OnceEach xs
+unfolding different among
+once-each xs = record { no-two = fresh-from xs [] .no-two; same-names = λ x. kept-from x xs [] }
+
+-- ---- the buckets
+
+module _ (image : List ℕ) where
+  fewer-one : (x : List ℕ) (ys : List (List ℕ)) (n : ℕ) (t : Bool) → bucketsOf image ys ≤ n → bucketsOf image (newOnly t x ys) ≤ reads (lookup image x) + n
+  unfolding bucketsOf
+  fewer-one x ys n true h = omega arith
+  fewer-one x ys n false h = omega arith
+
+  fewer-from : (xs seen : List (List ℕ)) → bucketsOf image (differentFrom seen xs) ≤ bucketsOf image xs
+  unfolding bucketsOf differentFrom
+  fewer-from [] seen = omega arith
+  fewer-from (x ∷ xs) seen =
+      fewer-one x (differentFrom (seen ++ x ∷ []) xs) (bucketsOf image xs) (among x seen) (fewer-from xs (seen ++ x ∷ []))
+
+  pub not-above : (xs : List (List ℕ)) → bucketsOf image (different xs) ≤ bucketsOf image xs
+  unfolding different
+  not-above xs = fewer-from xs []
+
+-- with all names different, they are the different ones
+all-from : (xs seen : List (List ℕ)) → ((i : ℕ) → i < length xs → among (nth xs i) seen ≡ false) → Distinct xs → differentFrom seen xs ≡ xs
+unfolding differentFrom
+all-from [] seen new two = refl
+all-from (x ∷ xs) seen new two =
+    ap (λ (t : Bool). newOnly t x (differentFrom (seen ++ x ∷ []) xs)) (new 0 (omega arith))
+    ∙ ap (λ (l : List (List ℕ)). x ∷ l) (all-from xs (seen ++ x ∷ []) later (λ i j h k p. two (suc i) (suc j) (omega arith) (omega arith) p))
+  where
+    later : (i : ℕ) → i < length xs → among (nth xs i) (seen ++ x ∷ []) ≡ false
+    later i h =
+        among-last (nth xs i) x seen
+        ∙ ap (λ (t : Bool). t || same x (nth xs i)) (new (suc i) (omega arith))
+        ∙ same-false x (nth xs i) (λ p. two 0 (suc i) (omega arith) (omega arith) p)
+
+pub all-different : (image : List ℕ) (xs : List (List ℕ)) → Distinct xs → bucketsOf image (different xs) ≡ bucketsOf image xs
+unfolding different among
+all-different image xs two = ap (bucketsOf image) (all-from xs [] (λ i h. refl) two)

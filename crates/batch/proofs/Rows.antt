@@ -1,0 +1,31 @@
+-- The worked examples hold, computed by the checker; the lookup of A is 01's row. Assumes nothing.
+use Prim.Native.Nat.{_+_}
+use mathlib.Core.Path.{_≡_, refl, ap}
+use mathlib.Core.List.{[], _∷_, _++_}
+use Rattle.jhash.specs.Outcome.{value}
+use Rattle.image.specs.Bytes.{same, cat}
+use Rattle.reader.specs.Lookup.{Lookup, found, lookup}
+use Rattle.reader.specs.Naming.{naming}
+use Rattle.reader.specs.Cases.{reads}
+use Rattle.reader.specs.QuayReads.{own}
+use Rattle.reader.proofs.QuayReads.{reads-right}
+use Rattle.batch.specs.RoundNames.{namesFrom, names, astray, among, differentFrom, different}
+use Rattle.batch.specs.Round.{answerWords, roundWords, bucketsOf, rounding, afterRound}
+use Rattle.batch.specs.NameRound.{nameWords, nameRefusal, afterNames}
+use Rattle.batch.specs.Rows.{TwiceOnce, RowsHold}
+
+found-A : lookup own (65 ∷ []) ≡ found (record { id = 5; buckets = 1; offset = 2072 })
+found-A = reads-right .looked-up .1 .0
+
+twice : TwiceOnce
+unfolding rounding afterRound names namesFrom astray different differentFrom among same bucketsOf roundWords cat
+twice =
+    record {
+      gives = ap (λ (x : Lookup). value (reads x + 0)) found-A;
+      leaves = ap (λ (x : Lookup). answerWords x ++ (answerWords x ++ []) ++ 9 ∷ []) found-A;
+    }
+
+-- every row holds
+pub rows-hold : RowsHold
+unfolding rounding afterRound names namesFrom astray different differentFrom among same bucketsOf roundWords cat lookup nameWords nameRefusal afterNames naming
+rows-hold = record { gives = refl; leaves = refl; names-give = refl; names-leave = refl; twice = twice }

@@ -1,0 +1,56 @@
+-- `round::answering::put_answer` meets its contract. Assumes nothing.
+use mathlib.Core.Path.{sym, ap, _∙_}
+use lib.Seq.{sets}
+use Rattle.reader.specs.Cases.{reads, lookupOf}
+use Rattle.reader.specs.declared.ToId.{ToId}
+use Rattle.batch.specs.Round.{answerWords}
+use borrow.Author.Needs.{needs}
+use Rattle.batch.proofs.answering.put_answer.Statement.{statement}
+use Rattle.batch.proofs.answering.put_answer.Tie as tie
+
+enum-known-answer : tie.Need-enum-known-answer
+enum-known-answer c = search needs
+
+put-words-requires : tie.Need-put-words-requires
+put-words-requires c κs = search needs
+
+enum-known-answer-2 : tie.Need-enum-known-answer-2
+enum-known-answer-2 c = search needs
+
+put-words-requires-2 : tie.Need-put-words-requires-2
+put-words-requires-2 c κs = search needs
+
+same-length : tie.Need-same-length
+same-length c = search needs
+
+returns : tie.Need-returns
+returns c =
+    let a = c .before .before .before .before .before .before .before .before .args in
+    let is = c .before .before .before .before .before .answer .given .1 in (
+      ap (λ (x : ToId). reads (lookupOf x)) (sym is),
+      c .before .before .put-words .ensures ∙ ap (λ (x : ToId). sets (a .answers .now) (a .at) (answerWords (lookupOf x))) (sym is),
+    )
+
+same-length-2 : tie.Need-same-length-2
+same-length-2 c = search needs
+
+returns-2 : tie.Need-returns-2
+returns-2 c =
+    let a = c .before .before .before .before .before .before .before .before .args in
+    let is = c .before .before .before .before .before .answer2 .given .1 in (
+      ap (λ (x : ToId). reads (lookupOf x)) (sym is),
+      c .before .before .put-words2 .ensures ∙ ap (λ (x : ToId). sets (a .answers .now) (a .at) (answerWords (lookupOf x))) (sym is),
+    )
+
+pub put-answer-spec : {M : Type 1} → statement M
+put-answer-spec =
+    tie.close
+    (tie.spec
+    enum-known-answer
+    put-words-requires
+    enum-known-answer-2
+    put-words-requires-2
+    same-length
+    returns
+    same-length-2
+    returns-2)

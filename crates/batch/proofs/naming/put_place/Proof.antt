@@ -1,0 +1,67 @@
+-- `round::naming::put_place` meets its contract. Assumes nothing.
+use Prim.Native.Nat.{_<_}
+use native.Mathlib.Omega.{arith}
+use mathlib.Core.Path.{sym, ap, subst, _∙_}
+use lib.Seq.{sets}
+use Rattle.reader.specs.Cases.{namingOf}
+use Rattle.reader.specs.declared.Named.{Named}
+use Rattle.reader.specs.Naming.{lengthIn}
+use Rattle.batch.specs.NameRound.{placeWords}
+use borrow.Author.Needs.{needs}
+use Rattle.batch.proofs.naming.put_place.Statement.{statement}
+use Rattle.batch.proofs.naming.put_place.Tie as tie
+
+enum-known-named : tie.Need-enum-known-named
+enum-known-named c = search needs
+
+cast-low : tie.Need-cast-low
+cast-low c = search needs
+
+cast-high : tie.Need-cast-high
+cast-high c = search needs
+
+cast-put-words : tie.Need-cast-put-words
+cast-put-words c =
+    let small = subst (λ (x : Named). lengthIn (namingOf x) < 4294967296) (c .before .before .named .given .1) (c .before .before .before .before .before .pre .1) in
+    omega (arith, small)
+
+put-words-requires : tie.Need-put-words-requires
+put-words-requires c κs = search needs
+
+enum-told : tie.Need-enum-told
+enum-told c = search needs
+
+put-words-requires-2 : tie.Need-put-words-requires-2
+put-words-requires-2 c κs = search needs
+
+same-length : tie.Need-same-length
+same-length c = search needs
+
+returns : tie.Need-returns
+returns c =
+    let a = c .before .before .before .before .before .before .before .before .args in
+    c .before .before .put-words .ensures ∙ ap (λ (x : Named). sets (a .answers .now) (a .at) (placeWords (namingOf x))) (sym (c .before .before .before .before .before .named .given .1))
+
+same-length-2 : tie.Need-same-length-2
+same-length-2 c = search needs
+
+returns-2 : tie.Need-returns-2
+returns-2 c =
+    let a = c .before .before .before .before .before .before .before .args in
+    c .before .before .put-words2 .ensures ∙ ap (λ (x : Named). sets (a .answers .now) (a .at) (placeWords (namingOf x))) (sym (c .before .before .before .before .enum-told .given .1))
+
+pub put-place-spec : {M : Type 1} → statement M
+put-place-spec =
+    tie.close
+    (tie.spec
+    enum-known-named
+    cast-low
+    cast-high
+    cast-put-words
+    put-words-requires
+    enum-told
+    put-words-requires-2
+    same-length
+    returns
+    same-length-2
+    returns-2)

@@ -1,0 +1,163 @@
+-- Two different lists of puts in one direction never close to the same image; and the rule decides what is ours. Assumes nothing.
+use Prim.Native.Nat.{ℕ, zero, suc, _+_, _-_, _^_, _≤_, _<_}
+use native.Mathlib.Omega.{arith}
+use mathlib.Core.Path.{_≡_, refl, sym, ap, ap₂, _∙_}
+use mathlib.Core.Bool.{true, cond, not, _&&_}
+use mathlib.Core.List.{List, [], _∷_, _++_, append-assoc}
+use lib.ListN.{length, drop}
+use lib.Dec.{eqb, leb}
+use borrow.Author.Tests.{leb-true, le-leb, not-true}
+use Rattle.jhash.specs.Outcome.{Outcome}
+use Rattle.image.specs.Bytes.{word, le32, cat, same}
+use Rattle.image.specs.Image.{Entry, headSize, entryBytes, entriesSize, backSize, backSizeOf, backOffset, imageSize, flagWord, headWords, image}
+use Rattle.image.specs.Stored.{entriesIn, firstEntry, afterFirst}
+use Rattle.image.proofs.Area.{Bytes, bytes-drop, bytes-take, ids-words}
+use Rattle.image.proofs.At.{At, at-same, at-left, at-right, at-word}
+use Rattle.image.proofs.Bools.{first, second, both}
+use Rattle.image.proofs.Equal.{same-true, same-self}
+use Rattle.image.proofs.Every.{All}
+use Rattle.image.proofs.Parts.{head-at, entries-at}
+use Rattle.image.proofs.Words.{length-le32}
+use Rattle.reader.specs.Open.{opening}
+use Rattle.lookup_laws.proofs.Opened.{opening-image}
+use Rattle.lists.proofs.Parse.{AllWordly, first-entry, after-first}
+use Rattle.image.specs.declared.Mode.{Mode}
+use Rattle.image.specs.declared.Mode.the-variants.{Twoway, Oneway}
+use Rattle.image.specs.Zero.{hasZero}
+use Rattle.canonical.specs.steps.Made.{Storable, Made}
+use Rattle.canonical.specs.Ours.{counted, putsIn, modeIn, allFree, ours}
+
+-- entries are read back, whatever follows them
+parsed-front : (es : List Entry) (rest : List ℕ) → AllWordly es → entriesIn (length es) (cat entryBytes es ++ rest) ≡ es
+unfolding entriesIn cat
+parsed-front [] rest ok = refl
+parsed-front (e ∷ es) rest ok =
+    let tail : List ℕ = cat entryBytes es ++ rest in
+    ap (λ (l : List ℕ). firstEntry l ∷ entriesIn (length es) (afterFirst l)) (append-assoc (entryBytes e) (cat entryBytes es) rest)
+    ∙ ap₂ {C = List Entry} (λ (x : Entry) (xs : List Entry). x ∷ xs) (first-entry e tail (ok .0))
+    (ap (entriesIn (length es)) (after-first e tail (ok .0)) ∙ parsed-front es rest (ok .1))
+
+-- the flag word
+pub flag-image : (mode : Mode) (es : List Entry) → word (image mode es) 8 ≡ flagWord mode
+unfolding headWords
+flag-image mode es =
+    let a : At (image mode es) 0 (to-8 ++ le32 (flagWord mode) ++ le32 0x62445371 ++ le32 (backSizeOf mode es) ++ le32 (backOffset mode es)) = head-at mode es in
+    let b = at-left (to-8 ++ le32 (flagWord mode) ++ le32 0x62445371 ++ le32 (backSizeOf mode es)) (le32 (backOffset mode es)) a in
+    let c = at-left (to-8 ++ le32 (flagWord mode) ++ le32 0x62445371) (le32 (backSizeOf mode es)) b in
+    let d = at-left (to-8 ++ le32 (flagWord mode)) (le32 0x62445371) c in
+    at-word (flagWord mode) (at-same eight (at-right to-8 (le32 (flagWord mode)) d)) (small mode)
+  where
+    to-8 : List ℕ
+    to-8 = 67 ∷ 81 ∷ 68 ∷ 66 ∷ [] ++ le32 (imageSize mode es)
+
+    eight : 0 + length to-8 ≡ 8
+    eight = simp length-le32
+
+    small : (m : Mode) → flagWord m < 2 ^ 32
+    small Twoway = omega arith
+    small Oneway = omega arith
+
+-- names that are read from bytes are bytes
+pub names-bytes : (n : ℕ) (l : List ℕ) → Bytes l → All (λ (e : Entry). Bytes (e .name)) (entriesIn n l)
+unfolding entriesIn
+names-bytes zero l bytes = tt
+names-bytes (suc n) l bytes =
+    (bytes-take (word l 4 - 1) (drop 8 l) (bytes-drop 8 l bytes), names-bytes n (afterFirst l) (bytes-drop (8 + word l 4) l bytes))
+
+-- the ids are words
+abbrev pub WordIds : List Entry → Type 0
+WordIds es = All (λ (e : Entry). e .id < 2 ^ 32) es
+
+pub all-wordly : (es : List Entry) → WordIds es → entriesSize es < 2 ^ 32 → AllWordly es
+unfolding entriesSize
+all-wordly [] w s = tt
+all-wordly (e ∷ es) w s = (record { id-word = w .0; length-word = omega arith }, all-wordly es (w .1) (omega arith))
+
+module _ (mode : Mode) (es : List Entry) (ids : WordIds es) (fits : imageSize mode es ≤ 4294967295) where
+  -- the puts of an image are read back from it
+  pub puts-image : putsIn (image mode es) ≡ es
+  unfolding putsIn
+  puts-image =
+      let a : At (image mode es) headSize (cat entryBytes es) = entries-at mode es in
+      ap (λ (o : Outcome ℕ). entriesIn (counted o) (drop headSize (image mode es))) (opening-image mode es fits)
+      ∙ ap (entriesIn (length es)) (a .stands)
+      ∙ parsed-front es (a .post) (all-wordly es ids (omega arith))
+
+  pub flag-of-image : modeIn (image mode es) ≡ mode
+  flag-of-image = ap (λ (w : ℕ). cond (eqb w 0) Twoway Oneway) (flag-image mode es) ∙ go mode
+    where
+      go : (f : Mode) → cond (eqb (flagWord f) 0) Twoway Oneway ≡ f
+      go Twoway = refl
+      go Oneway = refl
+
+-- in a two-way image the size bounds the ids
+pub word-ids : (es : List Entry) (n : ℕ) → backSize es ≤ n → n ≤ 2 ^ 32 → WordIds es
+unfolding backSize
+word-ids [] n b h = tt
+word-ids (e ∷ es) n b h = (omega arith, word-ids es n (omega arith) h)
+
+pub image-injective : (mode : Mode) (es fs : List Entry) → WordIds es → WordIds fs → imageSize mode es ≤ 4294967295 → imageSize mode fs ≤ 4294967295
+    → image mode es ≡ image mode fs → es ≡ fs
+image-injective mode es fs ie if fe ff e = sym (puts-image mode es ie fe) ∙ ap putsIn e ∙ puts-image mode fs if ff
+
+pub two-way-injective : (es fs : List Entry) → imageSize Twoway es ≤ 4294967295 → imageSize Twoway fs ≤ 4294967295 → image Twoway es ≡ image Twoway fs → es ≡ fs
+two-way-injective es fs fe ff e =
+    image-injective Twoway es fs (word-ids es (2 ^ 32) (omega arith) (omega arith)) (word-ids fs (2 ^ 32) (omega arith) (omega arith)) fe ff e
+
+-- even the direction is told by the bytes
+pub direction-injective : (f g : Mode) (es fs : List Entry) → WordIds es → WordIds fs → imageSize f es ≤ 4294967295 → imageSize g fs ≤ 4294967295
+    → image f es ≡ image g fs → f ≡ g
+direction-injective f g es fs ie if fe ff e = sym (flag-of-image f es ie fe) ∙ ap modeIn e ∙ flag-of-image g fs if ff
+
+-- ---- the rule decides
+
+frees : (es : List Entry) → All Storable es → allFree es ≡ true
+unfolding allFree
+frees [] a = refl
+frees (e ∷ es) a = both (not (hasZero (e .name))) (allFree es) (ap not (a .0 .free)) (frees es (a .1))
+
+pub ids-of : (es : List Entry) → All Storable es → WordIds es
+ids-of [] a = tt
+ids-of (e ∷ es) a = (a .0 .id-word, ids-of es (a .1))
+
+storables : (es : List Entry) → allFree es ≡ true → WordIds es → All Storable es
+unfolding allFree
+storables [] f i = tt
+storables (e ∷ es) f i = (
+  record { free = not-true (hasZero (e .name)) (first (not (hasZero (e .name))) (allFree es) f); id-word = i .0 },
+  storables es (second (not (hasZero (e .name))) (allFree es) f) (i .1),
+)
+
+-- puts and direction of an image that puts make are read back
+pub made-puts : (img : List ℕ) (m : Made img) → putsIn img ≡ m .puts
+made-puts img m = ap putsIn (sym (m .is)) ∙ puts-image (m .mode) (m .puts) (ids-of (m .puts) (m .each)) (m .fits)
+
+pub made-mode : (img : List ℕ) (m : Made img) → modeIn img ≡ m .mode
+made-mode img m = ap modeIn (sym (m .is)) ∙ flag-of-image (m .mode) (m .puts) (ids-of (m .puts) (m .each)) (m .fits)
+
+pub ours-yes : (img : List ℕ) → Made img → ours img ≡ true
+unfolding ours
+ours-yes img m =
+    let p = made-puts img m in
+    let d = made-mode img m in
+    let i : image (modeIn img) (putsIn img) ≡ img = ap₂ image d p ∙ m .is in
+    let s : imageSize (modeIn img) (putsIn img) ≡ imageSize (m .mode) (m .puts) = ap₂ imageSize d p in
+    both (allFree (putsIn img) && leb (imageSize (modeIn img) (putsIn img)) 4294967295) (same (image (modeIn img) (putsIn img)) img)
+    (both (allFree (putsIn img)) (leb (imageSize (modeIn img) (putsIn img)) 4294967295) (ap allFree p ∙ frees (m .puts) (m .each))
+    (le-leb (imageSize (modeIn img) (putsIn img)) 4294967295 (rw s (m .fits))))
+    (ap (λ (l : List ℕ). same l img) i ∙ same-self img)
+
+pub ours-only : (img : List ℕ) → Bytes img → ours img ≡ true → Made img
+unfolding ours putsIn
+ours-only img bytes h =
+    let a = allFree (putsIn img) in
+    let b = leb (imageSize (modeIn img) (putsIn img)) 4294967295 in
+    let c = same (image (modeIn img) (putsIn img)) img in
+    let ab = first (a && b) c h in
+    record {
+      mode = modeIn img;
+      puts = putsIn img;
+      each = storables (putsIn img) (first a b ab) (ids-words (counted (opening img)) (drop headSize img) (bytes-drop headSize img bytes));
+      fits = leb-true (imageSize (modeIn img) (putsIn img)) 4294967295 (second a b ab);
+      is = same-true (image (modeIn img) (putsIn img)) img (second (a && b) c h);
+    }

@@ -1,0 +1,111 @@
+-- The worked examples hold, computed by the checker. Assumes nothing.
+use Prim.Native.Nat.{ℕ, zero, suc, _+_, _*_, _≤_, _<_}
+use native.Mathlib.Omega.{arith}
+use mathlib.Core.Path.{_≡_, refl, sym, ap, ap₂, _∙_}
+use mathlib.Core.Bool.{Bool, true, false, cond}
+use mathlib.Core.List.{List, [], _∷_, _++_, map}
+use lib.ListN.{length, replicate}
+use lib.Dec.{eqb, ltb, lit≤, lit<}
+use borrow.Author.Tests.{ltb-true}
+use Rattle.image.specs.Bytes.{word, le32, cat, keep, range, same}
+use Rattle.image.specs.Head.{backSizeAt, backOffsetAt}
+use Rattle.image.specs.Image.{headSize, imageSize, holds, entryBytes, entriesSize, placed, ofTable, bucketBytes, table, tableBytes, entriesBefore, tableOffset, tableRow, backSize, placedOfId, lastFrom, link, backOffset, headBytes, headWords, tableRows, tables, links, image}
+use Rattle.image.specs.Tables.{order, firstEmpty, insert, insertAll, filled}
+use Rattle.image.specs.Zero.{hasZero}
+use Rattle.image.specs.declared.Mode.the-variants.{Oneway}
+use Rattle.image.proofs.Every.{All, all-map}
+use Rattle.writer.proofs.Agree.{zeros}
+use Rattle.lists.specs.Calls.{acceptedFrom, accepted, putDue, putsSize, sizeOf, WordIds}
+use Rattle.lists.proofs.Along.{list-accepted}
+use Rattle.canonical.specs.Ours.{ours}
+use Rattle.jhash.specs.Word.{Bytes}
+use Rattle.canonical.specs.Rows.{Row, Holds, rows, Bare, bares}
+use Rattle.canonical.specs.steps.Tests.{endIn}
+use Rattle.canonical.proofs.ReadBack.{ours-yes, ours-only}
+use Rattle.canonical.proofs.Holds.{ours-checked}
+use Rattle.canonical.proofs.Theorem.{theorem}
+
+-- what is computed of a row: there is room for a head, ids are words, and these are the accepted puts
+abbrev Computed : Row → Type 0
+Computed r = (headSize ≤ r .bytes) × WordIds (r .mode) (r .calls) × (accepted (r .mode) (r .repeats) (r .bytes) (r .calls) ≡ r .puts)
+
+holds-in : (r : Row) → Computed r → Holds r
+holds-in r c buffer long =
+    let room : headSize ≤ length buffer = omega (arith, c .0) in
+    let of = theorem .of-list (r .mode) (r .repeats) buffer (r .calls) room (c .1) in (
+      of .is-ours,
+      of .read-back
+          ∙ list-accepted (r .mode) (r .repeats) buffer room (r .calls) (c .1)
+          ∙ ap (λ (n : ℕ). accepted (r .mode) (r .repeats) n (r .calls)) long
+          ∙ c .2,
+    )
+
+computed : All Computed rows
+unfolding accepted acceptedFrom putDue hasZero holds same sizeOf putsSize backSize
+computed = (
+  (lit≤ tt, tt, refl),
+  (
+    (lit≤ tt, (tt, tt), refl),
+    (
+      (lit≤ tt, (tt, (tt, (tt, (tt, (tt, tt))))), refl),
+      ((lit≤ tt, (tt, (tt, (tt, (tt, (tt, tt))))), refl), ((lit≤ tt, (lit< tt, (lit< tt, tt)), refl), ((lit≤ tt, (tt, tt), refl), tt))),
+    ),
+  ),
+)
+
+pub rows-hold : All Holds rows
+rows-hold = all-map holds-in rows computed
+
+-- ---- bytes without an entry: what is read of them is computed, not the decision
+
+-- the empty one-way image
+empty-image : image Oneway [] ≡ headBytes 2072 1 0 0 ++ replicate 2048 0
+unfolding le32 cat keep range entryBytes entriesSize placed ofTable bucketBytes table tableBytes entriesBefore tableOffset tableRow backSize placedOfId lastFrom link backOffset headBytes headWords tableRows tables links image order firstEmpty insert insertAll filled
+empty-image = refl
+
+empty-fits : imageSize Oneway [] ≤ 4294967295
+unfolding entriesSize
+empty-fits = lit≤ tt
+
+empty-ours : ours (headBytes 2072 1 0 0 ++ replicate 2048 0) ≡ true
+empty-ours =
+    ours-yes (headBytes 2072 1 0 0 ++ replicate 2048 0)
+    record { mode = Oneway; puts = []; each = tt; fits = empty-fits; is = empty-image }
+
+-- bytes that are looked at one by one, and bytes behind them
+bytes-behind : (l r : List ℕ) → All (λ (x : ℕ). x < 256) l → Bytes r → Bytes (l ++ r)
+bytes-behind [] r a b i = b i
+bytes-behind (x ∷ l) r a b zero = a .0
+bytes-behind (x ∷ l) r a b (suc i) = bytes-behind l r (a .1) b i
+
+head-bytes : All (λ (x : ℕ). x < 256) (headBytes 2072 0 0 2072)
+unfolding headBytes le32
+head-bytes =
+    let b : (x : ℕ) → ltb x 256 ≡ true → x < 256 = λ x h. ltb-true x 256 h in
+    (b _ refl, (b _ refl, (b _ refl, (b _ refl, (b _ refl, (b _ refl, (b _ refl, (b _ refl, (b _ refl, (b _ refl, (b _ refl, (b _ refl, (b _ refl, (b _ refl, (b _ refl, (b _ refl, (b _ refl, (b _ refl, (b _ refl, (b _ refl, (b _ refl, (b _ refl, (b _ refl, (b _ refl, tt))))))))))))))))))))))))
+
+-- a back offset without a back array
+no-array : backSizeAt (headBytes 2072 0 0 2072 ++ replicate 2048 0) ≡ 0
+unfolding word le32 headBytes
+no-array = refl
+
+an-offset : backOffsetAt (headBytes 2072 0 0 2072 ++ replicate 2048 0) ≡ 2072
+unfolding word le32 headBytes
+an-offset = refl
+
+offset-not : ours (headBytes 2072 0 0 2072 ++ replicate 2048 0) ≡ false
+offset-not = go (ours (headBytes 2072 0 0 2072 ++ replicate 2048 0)) refl
+  where
+    go : (r : Bool) → ours (headBytes 2072 0 0 2072 ++ replicate 2048 0) ≡ r → r ≡ false
+    go false e = refl
+    go true e =
+        let bytes = headBytes 2072 0 0 2072 ++ replicate 2048 0 in
+        let all : Bytes bytes = bytes-behind (headBytes 2072 0 0 2072) (replicate 2048 0) head-bytes (λ i. rw (zeros 2048 i) (lit< tt)) in
+        let made = ours-only bytes all e in
+        let said = ours-checked bytes made .back-offset in
+        let end = endIn bytes (length (made .puts)) + 16 * length (made .puts) in
+        let z : _≡_ {A = ℕ} 2072 0 = sym an-offset ∙ said ∙ ap (λ (b : ℕ). cond (eqb b 0) 0 end) no-array in
+        absurd (omega arith)
+
+pub bares-hold : map (λ (b : Bare). ours (b .bytes)) bares ≡ map (λ (b : Bare). b .answer) bares
+bares-hold = ap₂ (λ (x : Bool) (y : Bool). x ∷ y ∷ []) empty-ours offset-not

@@ -1,0 +1,232 @@
+-- What each test tells. Assumes nothing.
+use Prim.Native.Nat.{ℕ, zero, suc, _+_, _*_, _-_, _/_, _%_, _^_, _≤_, _<_}
+use native.Mathlib.Omega.{arith}
+use native.Mathlib.Decide.{decLt, ℕ-discrete}
+use mathlib.Core.Path.{_≡_, refl, sym, ap, _∙_}
+use mathlib.Core.Bool.{Bool, true, false, cond, not, _&&_, _||_}
+use mathlib.Core.List.{List, map-map}
+use lib.ListN.{length, getD, List·getD-eq-default}
+use lib.Dec.{eqb, ltb}
+use borrow.Author.Tests.{lt-ltb, ltb-false, eqb-true, eq-eqb, ne-eqb}
+use Rattle.jhash.specs.Outcome.{Outcome, value, refusal}
+use Rattle.image.specs.Bytes.{word, range, all}
+use Rattle.image.specs.Head.{tableAt, bucketNumber, backOffsetAt, tableLeaves, backLeaves}
+use Rattle.image.specs.Tables.{Bucket, empty, atOf, order}
+use Rattle.image.proofs.All.{all-each, all-true}
+use Rattle.image.proofs.Bools.{first, second, both, neither-first, neither-second}
+use Rattle.reader.specs.Open.{opening, hasLetters, someLeaves, halves}
+use Rattle.masks.specs.steps.Masks.{above, ats}
+use Rattle.canonical.specs.steps.InPlace.{bucketAt, bucketsAt}
+use Rattle.canonical.specs.steps.Tests.{clean, usedIn, tableRight, rowsRight, rowCounts, sayCounts, TablesInside}
+use Rattle.canonical.proofs.StandTogether.{getD-run, getD-bucketsAt, length-bucketsAt}
+
+-- ---- opening
+
+pub record Opens (img : List ℕ) : Type 0 where
+  pub long : 2072 ≤ length img
+  pub letters : hasLetters img ≡ true
+  pub order : word img 12 ≡ 0x62445371
+  pub tables : someLeaves img 0 256 ≡ false
+
+pub opens : (img : List ℕ) (n : ℕ) → opening img ≡ value n → Opens img
+unfolding opening
+opens img n e =
+    go (ltb (length img) 2072) refl (hasLetters img) refl (eqb (word img 12) 0x62445371) refl
+    (someLeaves img 0 256) refl (cond (ltb 0 (backOffsetAt img) && backLeaves img) (refusal 8) (value (halves img 0 256 % 2 ^ 32))) e
+  where
+    go : (a : Bool) → ltb (length img) 2072 ≡ a → (b : Bool) → hasLetters img ≡ b → (c : Bool) → eqb (word img 12) 0x62445371 ≡ c
+        → (d : Bool) → someLeaves img 0 256 ≡ d → (rest : Outcome ℕ)
+        → cond a (refusal 1) (cond (not b) (refusal 5) (cond (not c) (refusal 6) (cond d (refusal 7) rest))) ≡ value n → Opens img
+    go true p b q c r d s rest e = let z : _≡_ {A = ℕ} 0 1 = cc in absurd (omega arith)
+    go false p false q c r d s rest e = let z : _≡_ {A = ℕ} 0 1 = cc in absurd (omega arith)
+    go false p true q false r d s rest e = let z : _≡_ {A = ℕ} 0 1 = cc in absurd (omega arith)
+    go false p true q true r true s rest e = let z : _≡_ {A = ℕ} 0 1 = cc in absurd (omega arith)
+    go false p true q true r false s rest e =
+        record { long = ltb-false (length img) 2072 p; letters = q; order = eqb-true (word img 12) 0x62445371 r; tables = s }
+
+none-leaves : (img : List ℕ) (t m k : ℕ) → someLeaves img t m ≡ false → t ≤ k → k < t + m → 0 < tableAt img k
+    → tableAt img k + 8 * bucketNumber img k ≤ length img
+unfolding someLeaves
+none-leaves img t zero k e l h some = absurd (omega arith)
+none-leaves img t (suc m) k e l h some = elim (ℕ-discrete t k) [
+  | yes y ↦ go (rw y at e)
+  | no d ↦ none-leaves img (suc t) m k (neither-second (ltb 0 (tableAt img t) && tableLeaves img t) (someLeaves img (suc t) m) e) (omega arith) (omega arith) some
+]
+  where
+    go : ((ltb 0 (tableAt img k) && tableLeaves img k) || someLeaves img (suc k) m) ≡ false → tableAt img k + 8 * bucketNumber img k ≤ length img
+    go f =
+        let x = neither-first (ltb 0 (tableAt img k) && tableLeaves img k) (someLeaves img (suc k) m) f in
+        let y = sym (ap (λ (b : Bool). b && tableLeaves img k) (lt-ltb 0 (tableAt img k) some)) ∙ x in
+        ltb-false (length img) (tableAt img k + 8 * bucketNumber img k) y
+
+pub opened-inside : (img : List ℕ) (n : ℕ) → opening img ≡ value n → TablesInside img
+opened-inside img n e t h some = none-leaves img 0 256 t (opens img n e .tables) (omega arith) (omega arith) some
+
+-- ---- one table
+
+module _ (img : List ℕ) (o c : ℕ) where
+  used-is : above 1 (ats (bucketsAt img o (2 * c))) ≡ usedIn img o 0 (2 * c)
+  unfolding bucketsAt usedIn
+  used-is = ap (above 1) (map-map (λ (b : Bucket). b .at) (λ (k : ℕ). bucketAt img (o + 8 * k)) (range 0 (2 * c)))
+
+  abbrev Zeros : Type 0
+  Zeros = (k : ℕ) → atOf (bucketsAt img o (2 * c)) k ≡ 0 → getD (bucketsAt img o (2 * c)) k empty ≡ empty
+
+  pub table-told : tableRight img o c ≡ true → Zeros × (above 1 (ats (bucketsAt img o (2 * c))) ≡ c)
+  unfolding tableRight
+  table-told h =
+      let a = all (clean img o) 0 (2 * c) in
+      let b = eqb (usedIn img o 0 (2 * c)) c in
+      (λ k z. zero (first a b h) k z (decLt k (2 * c)), used-is ∙ eqb-true (usedIn img o 0 (2 * c)) c (second a b h))
+    where
+      either : (a h : ℕ) → (not (eqb a 0) || eqb h 0) ≡ true → a ≡ 0 → h ≡ 0
+      either a h t z = eqb-true h 0 (rw (eq-eqb a 0 z) at t)
+
+      zero : all (clean img o) 0 (2 * c) ≡ true → (k : ℕ) → atOf (bucketsAt img o (2 * c)) k ≡ 0 → Dec (k < 2 * c)
+          → getD (bucketsAt img o (2 * c)) k empty ≡ empty
+      zero t k z (no l) = List·getD-eq-default (bucketsAt img o (2 * c)) empty {n = k} (omega (arith, length-bucketsAt img o (2 * c)))
+      zero t k z (yes l) =
+          let e : 0 + k ≡ k = omega arith in
+          let t : clean img o k ≡ true = ap (clean img o) (sym e) ∙ all-each (clean img o) 0 (2 * c) k t l in
+          let g = getD-bucketsAt img o (2 * c) k l in
+          let a : word img (o + 8 * k + 4) ≡ 0 = sym (ap (λ (b : Bucket). b .at) g) ∙ z in
+          let b : word img (o + 8 * k) ≡ 0 = either (word img (o + 8 * k + 4)) (word img (o + 8 * k)) t a in
+          g ∙ two a b
+        where
+          two : word img (o + 8 * k + 4) ≡ 0 → word img (o + 8 * k) ≡ 0 → bucketAt img (o + 8 * k) ≡ empty
+          two a b = λ i. record { hash = b i; at = a i }
+
+  pub table-test : Zeros → above 1 (ats (bucketsAt img o (2 * c))) ≡ c → tableRight img o c ≡ true
+  unfolding tableRight
+  table-test z u =
+      both (all (clean img o) 0 (2 * c)) (eqb (usedIn img o 0 (2 * c)) c)
+      (all-true (clean img o) 0 (2 * c) (λ k l. let e : 0 + k ≡ k = omega arith in ap (clean img o) e ∙ each k l))
+      (eq-eqb (usedIn img o 0 (2 * c)) c (sym used-is ∙ u))
+    where
+      each : (k : ℕ) → k < 2 * c → clean img o k ≡ true
+      each k l =
+          let g = getD-bucketsAt img o (2 * c) k l in
+          elim (ℕ-discrete (word img (o + 8 * k + 4)) 0) [
+            | yes a ↦
+                let b : word img (o + 8 * k) ≡ 0 = sym (ap (λ (b : Bucket). b .hash) g) ∙ ap (λ (b : Bucket). b .hash) (z k (ap (λ (b : Bucket). b .at) g ∙ a)) in
+                rw (eq-eqb (word img (o + 8 * k + 4)) 0 a) (eq-eqb (word img (o + 8 * k)) 0 b)
+            | no d ↦ rw (ne-eqb (word img (o + 8 * k + 4)) 0 d)
+          ]
+
+-- ---- all rows, where the places of the tables are known
+
+-- what is told of table t
+pub record Row (img counts : List ℕ) (o t : ℕ) : Type 0 where
+  pub number : bucketNumber img t ≡ 2 * getD counts t 0
+  pub offset : tableAt img t ≡ cond (eqb (getD counts t 0) 0) 0 o
+  pub table : tableRight img o (getD counts t 0) ≡ true
+
+module _ (img counts : List ℕ) where
+  row-told : (o t m : ℕ) → rowsRight img counts o t (suc m) ≡ true → Row img counts o t × (rowsRight img counts (o + 16 * getD counts t 0) (suc t) m ≡ true)
+  unfolding rowsRight
+  row-told o t m h =
+      let k = getD counts t 0 in
+      let a = eqb (bucketNumber img t) (2 * k) in
+      let b = eqb (tableAt img t) (cond (eqb k 0) 0 o) in
+      let c = tableRight img o k in
+      let d = rowsRight img counts (o + 16 * k) (suc t) m in
+      let abc = first (a && b && c) d h in
+      let ab = first (a && b) c abc in (
+        record {
+          number = eqb-true (bucketNumber img t) (2 * k) (first a b ab);
+          offset = eqb-true (tableAt img t) (cond (eqb k 0) 0 o) (second a b ab);
+          table = second (a && b) c abc;
+        },
+        second (a && b && c) d h,
+      )
+
+  row-test : (o t m : ℕ) → Row img counts o t → rowsRight img counts (o + 16 * getD counts t 0) (suc t) m ≡ true → rowsRight img counts o t (suc m) ≡ true
+  unfolding rowsRight
+  row-test o t m r h =
+      let k = getD counts t 0 in
+      let a = eqb (bucketNumber img t) (2 * k) in
+      let b = eqb (tableAt img t) (cond (eqb k 0) 0 o) in
+      let c = tableRight img o k in
+      both (a && b && c) (rowsRight img counts (o + 16 * k) (suc t) m)
+      (both (a && b) c
+      (both a b (eq-eqb (bucketNumber img t) (2 * k) (r .number)) (eq-eqb (tableAt img t) (cond (eqb k 0) 0 o) (r .offset))) (r .table)) h
+
+  module _ (pos : ℕ → ℕ) (grow : (t : ℕ) → t < 256 → pos (suc t) ≡ pos t + 16 * getD counts t 0) where
+    pub rows-told : (t m : ℕ) → t + m ≤ 256 → rowsRight img counts (pos t) t m ≡ true → (i : ℕ) → i < m → Row img counts (pos (t + i)) (t + i)
+    rows-told t zero k h i l = absurd (omega arith)
+    rows-told t (suc m) k h i l =
+        let (r, rest) = row-told (pos t) t m h in
+        go i l r (rows-told (suc t) m (omega arith) (ap (λ (o : ℕ). rowsRight img counts o (suc t) m) (grow t (omega arith)) ∙ rest))
+      where
+        go : (i : ℕ) → i < suc m → Row img counts (pos t) t → ((j : ℕ) → j < m → Row img counts (pos (suc t + j)) (suc t + j))
+            → Row img counts (pos (t + i)) (t + i)
+        go zero l r rest = let z : t ≡ t + 0 = omega arith in rw z at r
+        go (suc j) l r rest = let z : suc t + j ≡ t + suc j = omega arith in rw z at (rest j (omega arith))
+
+    pub rows-test : (t m : ℕ) → t + m ≤ 256 → ((i : ℕ) → i < m → Row img counts (pos (t + i)) (t + i)) → rowsRight img counts (pos t) t m ≡ true
+    unfolding rowsRight
+    rows-test t zero k each = refl
+    rows-test t (suc m) k each =
+        let z : t + 0 ≡ t = omega arith in
+        row-test (pos t) t m (rw z at (each 0 (omega arith)))
+        (ap (λ (o : ℕ). rowsRight img counts o (suc t) m) (sym (grow t (omega arith))) ∙ rows-test (suc t) m (omega arith) (λ i l. shift i (each (suc i) (omega arith))))
+      where
+        shift : (i : ℕ) → Row img counts (pos (t + suc i)) (t + suc i) → Row img counts (pos (suc t + i)) (suc t + i)
+        shift i r = let z : t + suc i ≡ suc t + i = omega arith in rw z at r
+
+-- ---- the numbers of entries that the rows say
+
+-- rows by counts that agree
+rows-alike : (img a b : List ℕ) (o t m : ℕ) → t + m ≤ 256 → ((i : ℕ) → i < 256 → getD a i 0 ≡ getD b i 0) → rowsRight img a o t m ≡ rowsRight img b o t m
+unfolding rowsRight
+rows-alike img a b o t zero k e = refl
+rows-alike img a b o t (suc m) k e =
+    ap
+    (λ (x : ℕ). eqb (bucketNumber img t) (2 * x) && eqb (tableAt img t) (cond (eqb x 0) 0 o) && tableRight img o x && rowsRight img a (o + 16 * x) (suc t) m)
+    (e t (omega arith))
+    ∙ ap
+    (λ (r : Bool). eqb (bucketNumber img t) (2 * getD b t 0) && eqb (tableAt img t) (cond (eqb (getD b t 0) 0) 0 o) && tableRight img o (getD b t 0) && r)
+    (rows-alike img a b (o + 16 * getD b t 0) (suc t) m (omega arith) e)
+
+-- right rows say their counts
+rows-number : (img counts : List ℕ) (o t m : ℕ) → rowsRight img counts o t m ≡ true → (i : ℕ) → i < m → bucketNumber img (t + i) ≡ 2 * getD counts (t + i) 0
+rows-number img counts o t zero h i l = absurd (omega arith)
+rows-number img counts o t (suc m) h i l =
+    let (r, rest) = row-told img counts o t m h in
+    go i l (r .number) (rows-number img counts (o + 16 * getD counts t 0) (suc t) m rest)
+  where
+    go : (i : ℕ) → i < suc m → bucketNumber img t ≡ 2 * getD counts t 0
+        → ((j : ℕ) → j < m → bucketNumber img (suc t + j) ≡ 2 * getD counts (suc t + j) 0) → bucketNumber img (t + i) ≡ 2 * getD counts (t + i) 0
+    go zero l r rest = let z : t ≡ t + 0 = omega arith in rw z at r
+    go (suc j) l r rest = let z : suc t + j ≡ t + suc j = omega arith in rw z at (rest j (omega arith))
+
+module _ (img counts : List ℕ) where
+  abbrev Says : Type 0
+  Says = (t : ℕ) → t < 256 → bucketNumber img t ≡ 2 * getD counts t 0
+
+  said : sayCounts img counts ≡ true → Says
+  said h t l =
+      let e : 0 + t ≡ t = omega arith in
+      let y = all-each (λ (t : ℕ). eqb (bucketNumber img t) (2 * getD counts t 0)) 0 256 t h l in
+      eqb-true (bucketNumber img t) (2 * getD counts t 0) (rw e at y)
+
+  says : Says → sayCounts img counts ≡ true
+  says h =
+      all-true (λ (t : ℕ). eqb (bucketNumber img t) (2 * getD counts t 0)) 0 256
+      (λ t l. let e : 0 + t ≡ t = omega arith in rw e (eq-eqb (bucketNumber img t) (2 * getD counts t 0) (h t l)))
+
+  -- the counts that the rows say are these
+  same-counts : Says → (t : ℕ) → t < 256 → getD (rowCounts img) t 0 ≡ getD counts t 0
+  unfolding rowCounts
+  same-counts h t l = getD-run (λ (t : ℕ). bucketNumber img t / 2) 256 t 0 l ∙ let e = h t l in half (bucketNumber img t) (getD counts t 0) e
+    where
+      half : (x y : ℕ) → x ≡ 2 * y → x / 2 ≡ y
+      half x y e = omega arith
+
+  pub said-rows : (o : ℕ) → sayCounts img counts ≡ true → rowsRight img (rowCounts img) o 0 256 ≡ true → rowsRight img counts o 0 256 ≡ true
+  said-rows o s h = sym (rows-alike img (rowCounts img) counts o 0 256 (omega arith) (same-counts (said s))) ∙ h
+
+  pub rows-said : (o : ℕ) → rowsRight img counts o 0 256 ≡ true → (sayCounts img counts ≡ true) × (rowsRight img (rowCounts img) o 0 256 ≡ true)
+  rows-said o h =
+      let each : Says = λ t l. let e : 0 + t ≡ t = omega arith in rw e at (rows-number img counts o 0 256 h t l) in
+      (says each, rows-alike img (rowCounts img) counts o 0 256 (omega arith) (same-counts each) ∙ h)

@@ -1,0 +1,226 @@
+-- Where all tests hold, the image is ours. Assumes nothing.
+use Prim.Native.Nat.{ℕ, suc, _+_, _*_, _-_, _^_, _<_}
+use native.Mathlib.Omega.{arith}
+use native.Mathlib.Decide.{ℕ-discrete}
+use mathlib.Core.Path.{_≡_, sym, ap, ap₂, _∙_}
+use mathlib.Core.Bool.{Bool, true, cond, not}
+use mathlib.Core.List.{List, [], _∷_, _++_, map}
+use lib.ListN.{length, getD, drop, replicate, length-take, length-drop, length-map, length-replicate, take-append-drop}
+use lib.Dec.{eqb}
+use borrow.Author.Tests.{eq-eqb, ne-eqb, not-true}
+use Rattle.jhash.specs.NameHash.{hashOf}
+use Rattle.jhash.proofs.WordRead.{word-below}
+use Rattle.image.specs.Bytes.{word, cat, range}
+use Rattle.image.specs.Head.{tableAt, bucketNumber, backSizeAt, backOffsetAt}
+use Rattle.image.specs.Image.{Entry, Placed, headSize, entryBytes, entrySize, placed, ofTable, count, bucketOf, entriesBefore, tableOffset, flagWord, backSize, backIn, backSizeOf, backOffset, entriesEnd, imageSize}
+use Rattle.image.specs.Tables.{Bucket, empty, tableOf}
+use Rattle.image.specs.Tally.{tallied}
+use Rattle.image.proofs.Area.{Bytes, bytes-drop, bytes-take, whole-bytes, length-entriesIn, ids-words}
+use Rattle.image.proofs.At.{At}
+use Rattle.image.proofs.Bools.{first, second}
+use Rattle.image.proofs.EntryAt.{all-placed, ids-below}
+use Rattle.image.proofs.Every.{All, all-map, all-image}
+use Rattle.image.proofs.Sizes.{length-entries, before-suc}
+use Rattle.writer.proofs.Agree.{zeros, tallied-count}
+use Rattle.image.specs.declared.Mode.{Mode}
+use Rattle.image.specs.declared.Mode.the-variants.{Twoway, Oneway}
+use Rattle.masks.specs.steps.Masks.{place, Right}
+use Rattle.image.specs.Zero.{hasZero}
+use Rattle.canonical.specs.steps.Made.{Storable, Made}
+use Rattle.canonical.specs.Ours.{modeIn}
+use Rattle.canonical.specs.steps.InPlace.{bucketsAt}
+use Rattle.canonical.proofs.InPlace.{LinksIn, InPlace}
+use Rattle.canonical.specs.steps.Tests.{endIn, areaIn, entriesOf, tableRight, rowsRight, standsIn, entryRight, linksRight, Checked}
+use Rattle.canonical.proofs.StandTogether.{length-bucketsAt}
+use Rattle.canonical.proofs.Tests.{opens, table-told, Row, rows-told}
+use Rattle.canonical.proofs.Walks.{stands-told, entries-told, to-table, links-told}
+use Rattle.canonical.proofs.Sound.{in-place-image}
+
+-- the tally of entries
+pub counts-are : (es : List Entry) (t : ℕ) → t < 256 → getD (tallied (replicate 256 0) es) t 0 ≡ count t (placed headSize es)
+counts-are es t h =
+    tallied-count es (replicate 256 0) headSize t (omega (arith, length-replicate {A = ℕ} 256 0))
+    ∙ none (getD (replicate 256 0) t 0) (count t (placed headSize es)) (zeros 256 t)
+  where
+    none : (x y : ℕ) → x ≡ 0 → x + y ≡ y
+    none x y z = omega arith
+
+storable : (o : ℕ) (es : List Entry) → All (λ (p : Placed). not (hasZero (p .entry .name)) ≡ true) (placed o es) → All (λ (e : Entry). e .id < 2 ^ 32) es
+    → All Storable es
+unfolding placed
+storable o [] f i = tt
+storable o (e ∷ es) f i = (record { free = not-true (hasZero (e .name)) (f .0); id-word = i .0 }, storable (o + entrySize e) es (f .1) (i .1))
+
+links-of : (img : List ℕ) (es : List Entry) (f : Mode) (o b : ℕ) → o ≡ entriesEnd es + 16 * length es → b ≡ backIn f (backSize es)
+    → linksRight f img o b (placed headSize es) ≡ true → LinksIn f img es
+links-of img es Oneway o b p e h = tt
+links-of img es Twoway o b p e h =
+    links-told img (entriesEnd es + 16 * length es) (backSize es) (placed headSize es)
+    (all-placed (λ (x : Entry). x .id < backSize es) headSize es (ids-below es (backSize es) (omega arith)))
+    (sym (ap₂ (λ (x : ℕ) (y : ℕ). linksRight Twoway img x y (placed headSize es)) p e) ∙ h)
+
+module _ (img : List ℕ) (n : ℕ) (bytes : Bytes img) (c : Checked img n) where
+  es : List Entry
+  es = entriesOf img n
+
+  ps : List Placed
+  ps = placed headSize es
+
+  mode : Mode
+  mode = modeIn img
+
+  area-is : areaIn img n ≡ cat entryBytes es
+  unfolding es
+  area-is =
+      whole-bytes n (areaIn img n) (bytes-take (endIn img n - headSize) (drop headSize img) (bytes-drop headSize img bytes)) (c .wholes)
+
+  ends : endIn img n ≡ entriesEnd es
+  ends =
+      omega
+      (arith, ap length area-is, length-entries es, length-take (endIn img n - headSize) (drop headSize img), length-drop headSize img, c .room)
+
+  number : length es ≡ n
+  unfolding es
+  number = length-entriesIn n (areaIn img n)
+
+  backs : backSizeAt img ≡ backSizeOf mode es
+  unfolding es mode
+  backs = c .back-size
+
+  total : length img ≡ imageSize mode es
+  total = omega (arith, ends, number, backs, c .room)
+
+  flag : word img 8 ≡ flagWord mode
+  unfolding mode
+  flag =
+      elim (ℕ-discrete (word img 8) 0) [
+        | yes e ↦ e ∙ sym (ap (λ (b : Bool). flagWord (cond b Twoway Oneway)) (eq-eqb (word img 8) 0 e))
+        | no d ↦
+            let one : word img 8 ≡ 1 = omega (arith, c .flag) in
+            one ∙ sym (ap (λ (b : Bool). flagWord (cond b Twoway Oneway)) (ne-eqb (word img 8) 0 d))
+      ]
+
+  back-offset : backOffsetAt img ≡ backOffset mode es
+  unfolding backOffset
+  back-offset =
+      c .back-offset ∙ ap₂ (λ (b : ℕ) (o : ℕ). cond (eqb b 0) 0 o) backs (ap₂ (λ (x : ℕ) (y : ℕ). x + 16 * y) ends (sym number))
+
+  entries-there : At img headSize (cat entryBytes es)
+  entries-there = record {
+    post = drop (endIn img n - headSize) (drop headSize img);
+    stands =
+        sym (take-append-drop (endIn img n - headSize) (drop headSize img))
+        ∙ ap (λ (l : List ℕ). l ++ drop (endIn img n - headSize) (drop headSize img)) area-is;
+  }
+
+  -- ---- rows
+
+  tally : List ℕ
+  tally = tallied (replicate 256 0) es
+
+  tallies : (t : ℕ) → t < 256 → getD tally t 0 ≡ count t ps
+  unfolding tally ps
+  tallies t h = counts-are es t h
+
+  pos : ℕ → ℕ
+  pos t = entriesEnd es + 16 * entriesBefore t ps
+
+  grow : (t : ℕ) → t < 256 → pos (suc t) ≡ pos t + 16 * getD tally t 0
+  unfolding pos
+  grow t h = omega (arith, before-suc t ps, tallies t h)
+
+  pos-zero : pos 0 ≡ endIn img n
+  unfolding pos entriesBefore
+  pos-zero = omega (arith, ends)
+
+  row : (t : ℕ) → t < 256 → Row img tally (pos t) t
+  unfolding tally es
+  row t h =
+      let z : 0 + t ≡ t = omega arith in
+      rw z at (rows-told img tally pos grow 0 256 (omega arith) (ap (λ (o : ℕ). rowsRight img tally o 0 256) pos-zero ∙ c .rows) t h)
+
+  numbers : (t : ℕ) → t < 256 → bucketNumber img t ≡ 2 * count t ps
+  numbers t h = row t h .number ∙ ap (λ (k : ℕ). 2 * k) (tallies t h)
+
+  offset : (t : ℕ) → t < 256 → tableAt img t ≡ tableOffset (entriesEnd es) ps t
+  unfolding tableOffset pos
+  offset t h = row t h .offset ∙ ap (λ (k : ℕ). cond (eqb k 0) 0 (entriesEnd es + 16 * entriesBefore t ps)) (tallies t h)
+
+  right-there : (t : ℕ) → t < 256 → tableRight img (pos t) (count t ps) ≡ true
+  right-there t h = sym (ap (tableRight img (pos t)) (tallies t h)) ∙ row t h .table
+
+  -- ---- tables
+
+  -- the buckets that a search reads are those where the table belongs
+  table-read : (t : ℕ) → t < 256 → bucketsAt img (tableAt img t) (bucketNumber img t) ≡ bucketsAt img (pos t) (2 * count t ps)
+  unfolding bucketsAt range tableOffset pos
+  table-read t h =
+      ap₂ (bucketsAt img) (offset t h) (numbers t h)
+      ∙ elim (ℕ-discrete (count t ps) 0) [
+        | yes e ↦
+            ap (λ (k : ℕ). bucketsAt img (tableOffset (entriesEnd es) ps t) (2 * k)) e ∙ sym (ap (λ (k : ℕ). bucketsAt img (pos t) (2 * k)) e)
+        | no d ↦ ap (λ (b : Bool). bucketsAt img (cond b 0 (pos t)) (2 * count t ps)) (ne-eqb (count t ps) 0 d)
+      ]
+
+  tests : All (λ (p : Placed). entryRight img p ≡ true) ps
+  unfolding ps es
+  tests = entries-told img ps (c .entries)
+
+  abbrev Stands : ℕ → List Bucket → Bucket → Type 0
+  Stands k table b = getD table (place k table b) empty ≡ b
+
+  stand : (t : ℕ) → t < 256 → All (Stands (2 * count t ps) (bucketsAt img (pos t) (2 * count t ps))) (map bucketOf (ofTable t ps))
+  stand t h =
+      all-image (Stands (2 * count t ps) (bucketsAt img (pos t) (2 * count t ps))) bucketOf one (ofTable t ps)
+      (to-table (λ (p : Placed). entryRight img p ≡ true) t ps tests)
+    where
+      one : (p : Placed) → (entryRight img p ≡ true) × (tableOf (hashOf (p .entry .name)) ≡ t)
+          → Stands (2 * count t ps) (bucketsAt img (pos t) (2 * count t ps)) (bucketOf p)
+      one p (r, e) =
+          let s = second (not (hasZero (p .entry .name))) (standsIn img (hashOf (p .entry .name)) (p .at)) r in
+          let d = rw e at (stands-told img (bucketOf p) s) in
+          rw (table-read t h, numbers t h) at d
+
+  right : (t : ℕ) → t < 256 → Right (2 * count t ps) (bucketsAt img (pos t) (2 * count t ps)) (map bucketOf (ofTable t ps))
+  right t h =
+      record {
+        sized = length-bucketsAt img (pos t) (2 * count t ps);
+        zeros = table-told img (pos t) (count t ps) (right-there t h) .0;
+        used = table-told img (pos t) (count t ps) (right-there t h) .1 ∙ sym (length-map (ofTable t ps) bucketOf);
+        stand = stand t h;
+      }
+
+  -- ---- links
+
+  links-in : LinksIn mode img es
+  unfolding mode es ps
+  links-in = links-of img es (modeIn img) (endIn img n + 16 * n) (backSizeAt img) (omega (arith, ends, number)) (c .back-size) (c .links)
+
+  in-place : InPlace img mode es
+  unfolding ps pos
+  in-place = record {
+    letters = opens img n (c .opened) .letters;
+    size = c .size;
+    flag = flag;
+    order = opens img n (c .opened) .order;
+    back-size = backs;
+    back-offset = back-offset;
+    total = total;
+    rows = λ t h. (offset t h, numbers t h);
+    entries = entries-there;
+    tables = right;
+    linked = links-in;
+  }
+
+  pub checked-ours : Made img
+  unfolding es ps
+  checked-ours = record {
+    mode = mode;
+    puts = es;
+    each =
+        storable headSize es
+        (all-map (λ p r. first (not (hasZero (p .entry .name))) (standsIn img (hashOf (p .entry .name)) (p .at)) r) ps tests)
+        (ids-words n (areaIn img n) (bytes-take (endIn img n - headSize) (drop headSize img) (bytes-drop headSize img bytes)));
+    fits = omega (arith, total, c .size, word-below img 4 bytes);
+    is = in-place-image img mode es bytes in-place;
+  }

@@ -1,0 +1,212 @@
+-- What the walk over the entries tells. Assumes nothing.
+use Prim.Native.Nat.{ℕ, suc, _+_, _*_, _/_, _≤_, _<_}
+use native.Mathlib.Omega.{arith}
+use native.Mathlib.Nat.{mod-lt}
+use native.Mathlib.Decide.{ℕ-discrete}
+use mathlib.Core.Path.{_≡_, refl, sym, ap, ap₂, _∙_}
+use mathlib.Core.Bool.{Bool, true, false, cond, not, _&&_}
+use mathlib.Core.List.{List, [], _∷_, map}
+use lib.ListN.{length, getD}
+use lib.Dec.{eqb, ltb, leb}
+use borrow.Author.Tests.{eqb-true, eqb-false, eq-eqb, ne-eqb, leb-true, le-leb, not-true}
+use Rattle.jhash.specs.NameHash.{hashOf}
+use Rattle.image.specs.Bytes.{word, keep}
+use Rattle.image.specs.Head.{tableAt, bucketNumber}
+use Rattle.image.specs.Image.{Placed, inTable, ofTable}
+use Rattle.image.specs.Tables.{Bucket, empty, atOf, tableOf, start, order, firstEmpty}
+use Rattle.image.proofs.Bools.{not-both, first, second, both}
+use Rattle.image.proofs.Every.{All}
+use Rattle.image.proofs.Buckets.{length-order}
+use Rattle.lookup_laws.proofs.Order.{order-at}
+use Rattle.masks.specs.steps.Masks.{above, hide, masked, place, selves, Linked}
+use Rattle.masks.proofs.Masked.{getD-masked, place-in}
+use Rattle.masks.proofs.Filled.{first-below}
+use Rattle.canonical.specs.steps.InPlace.{bucketAt, bucketsAt, wordsAt}
+use Rattle.canonical.specs.steps.Tests.{hidden, slotIn, standsIn, entryRight, entriesRight, aheadIn, selvesIn}
+use Rattle.canonical.proofs.StandTogether.{getD-bucketsAt, length-bucketsAt, getD-wordsAt}
+
+-- ---- an entry in its table
+
+first-alike : (f g : ℕ → ℕ) (ks : List ℕ) → ((i : ℕ) → i < length ks → f (getD ks i 0) ≡ g (getD ks i 0)) → firstEmpty f ks ≡ firstEmpty g ks
+unfolding firstEmpty
+first-alike f g [] h = refl
+first-alike f g (k ∷ ks) h =
+    ap₂ (λ (x : ℕ) (r : ℕ). cond (eqb x 0) k r) (h 0 (omega arith)) (first-alike f g ks (λ i l. h (suc i) (omega arith)))
+
+hide-at : (a : ℕ) (b : Bucket) → hide a b .at ≡ hidden a (b .at)
+hide-at a b = go (ltb (b .at) a)
+  where
+    go : (t : Bool) → cond t b empty .at ≡ cond t (b .at) 0
+    go true = refl
+    go false = refl
+
+module _ (img : List ℕ) (b : Bucket) where
+  -- its table, as it is read
+  o : ℕ
+  o = tableAt img (tableOf (b .hash))
+
+  n : ℕ
+  n = bucketNumber img (tableOf (b .hash))
+
+  T : List Bucket
+  T = bucketsAt img (tableAt img (tableOf (b .hash))) (bucketNumber img (tableOf (b .hash)))
+
+  module _ (some : 0 < n) where
+    start-below : start (b .hash) n < n
+    start-below = mod-lt (b .hash / 256) some
+
+    in-order : (i : ℕ) → i < length (order n n (start (b .hash) n)) → getD (order n n (start (b .hash) n)) i 0 < n
+    in-order i h =
+        let k : i < n = rw (length-order n n (start (b .hash) n)) at h in
+        rw (order-at n n (start (b .hash) n) i start-below k) (mod-lt (start (b .hash) n + i) some)
+
+    place-below : place n T b < n
+    place-below = first-below (atOf (masked (b .at) T)) (order n n (start (b .hash) n)) n some in-order
+
+    slot-is : slotIn img (b .hash) (b .at) ≡ o + 8 * place n T b
+    unfolding slotIn o n T
+    slot-is =
+        ap (λ (k : ℕ). o + 8 * k)
+        (sym (first-alike (atOf (masked (b .at) T)) (λ (k : ℕ). hidden (b .at) (word img (o + 8 * k + 4))) (order n n (start (b .hash) n)) each))
+      where
+        one : (k : ℕ) → k < n → atOf (masked (b .at) T) k ≡ hidden (b .at) (word img (o + 8 * k + 4))
+        one k h =
+            ap (λ (x : Bucket). x .at) (getD-masked (b .at) T k ∙ ap (hide (b .at)) (getD-bucketsAt img o n k h)) ∙ hide-at (b .at) (bucketAt img (o + 8 * k))
+
+        each : (i : ℕ) → i < length (order n n (start (b .hash) n))
+            → atOf (masked (b .at) T) (getD (order n n (start (b .hash) n)) i 0) ≡ hidden (b .at) (word img (o + 8 * getD (order n n (start (b .hash) n)) i 0 + 4))
+        each i h = one (getD (order n n (start (b .hash) n)) i 0) (in-order i h)
+
+    read : getD T (place n T b) empty ≡ bucketAt img (slotIn img (b .hash) (b .at))
+    unfolding T o n
+    read = getD-bucketsAt img o n (place n T b) place-below ∙ ap (bucketAt img) (sym slot-is)
+
+  pub stands-told : standsIn img (b .hash) (b .at) ≡ true
+      → getD (bucketsAt img (tableAt img (tableOf (b .hash))) (bucketNumber img (tableOf (b .hash))))
+      (place (bucketNumber img (tableOf (b .hash))) (bucketsAt img (tableAt img (tableOf (b .hash))) (bucketNumber img (tableOf (b .hash)))) b) empty ≡ b
+  unfolding standsIn T o n
+  stands-told h =
+      let s = slotIn img (b .hash) (b .at) in
+      let p = not (eqb n 0) in
+      let q = eqb (word img s) (b .hash) in
+      let r = eqb (word img (s + 4)) (b .at) in
+      let pq = first (p && q) r h in
+      read (positive (first p q pq)) ∙ two (eqb-true (word img s) (b .hash) (second p q pq)) (eqb-true (word img (s + 4)) (b .at) (second (p && q) r h))
+    where
+      positive : not (eqb n 0) ≡ true → 0 < n
+      positive t =
+          let z = eqb-false n 0 (not-true (eqb n 0) t) in
+          elim (ℕ-discrete n 0) [
+            | yes e ↦ absurd (z e)
+            | no d ↦ omega arith
+          ]
+
+      two : word img (slotIn img (b .hash) (b .at)) ≡ b .hash → word img (slotIn img (b .hash) (b .at) + 4) ≡ b .at
+          → bucketAt img (slotIn img (b .hash) (b .at)) ≡ b
+      two e f = λ i. record { hash = e i; at = f i }
+
+  pub stands-test : 0 < b .at
+      → getD (bucketsAt img (tableAt img (tableOf (b .hash))) (bucketNumber img (tableOf (b .hash))))
+      (place (bucketNumber img (tableOf (b .hash))) (bucketsAt img (tableAt img (tableOf (b .hash))) (bucketNumber img (tableOf (b .hash)))) b) empty ≡ b
+      → standsIn img (b .hash) (b .at) ≡ true
+  unfolding standsIn T o n
+  stands-test pos e =
+      let s = slotIn img (b .hash) (b .at) in
+      let l = place-in n T b pos e in
+      let some : 0 < n = omega (arith, length-bucketsAt img o n) in
+      let f = sym (read some) ∙ e in
+      let p = not (eqb n 0) in
+      let q = eqb (word img s) (b .hash) in
+      let r = eqb (word img (s + 4)) (b .at) in
+      both (p && q) r (both p q (rw (ne-eqb n 0 (λ z. omega arith))) (eq-eqb (word img s) (b .hash) (ap (λ (x : Bucket). x .hash) f)))
+      (eq-eqb (word img (s + 4)) (b .at) (ap (λ (x : Bucket). x .at) f))
+
+-- ---- all entries
+
+pub entries-told : (img : List ℕ) (ps : List Placed) → entriesRight img ps ≡ true → All (λ (p : Placed). entryRight img p ≡ true) ps
+unfolding entriesRight
+entries-told img [] h = tt
+entries-told img (p ∷ ps) h =
+    (first (entryRight img p) (entriesRight img ps) h, entries-told img ps (second (entryRight img p) (entriesRight img ps) h))
+
+pub entries-test : (img : List ℕ) (ps : List Placed) → All (λ (p : Placed). entryRight img p ≡ true) ps → entriesRight img ps ≡ true
+unfolding entriesRight
+entries-test img [] a = refl
+entries-test img (p ∷ ps) a = both (entryRight img p) (entriesRight img ps) (a .0) (entries-test img ps (a .1))
+
+-- from all entries to those of a table, and back
+pub to-table : (P : Placed → Type 0) (t : ℕ) (ps : List Placed) → All P ps → All (λ (p : Placed). P p × (tableOf (hashOf (p .entry .name)) ≡ t)) (ofTable t ps)
+unfolding ofTable keep
+to-table P t [] a = tt
+to-table P t (p ∷ ps) a = go (inTable t p) refl (to-table P t ps (a .1))
+  where
+    go : (b : Bool) → inTable t p ≡ b → All (λ (p : Placed). P p × (tableOf (hashOf (p .entry .name)) ≡ t)) (keep (inTable t) ps)
+        → All (λ (p : Placed). P p × (tableOf (hashOf (p .entry .name)) ≡ t)) (cond b (p ∷ keep (inTable t) ps) (keep (inTable t) ps))
+    go true e rest = ((a .0, eqb-true (tableOf (hashOf (p .entry .name))) t e), rest)
+    go false e rest = rest
+
+pub from-tables : (Q : ℕ → Placed → Type 0) (ps : List Placed) → ((t : ℕ) → t < 256 → All (Q t) (ofTable t ps))
+    → All (λ (p : Placed). Q (tableOf (hashOf (p .entry .name))) p) ps
+unfolding ofTable keep
+from-tables Q [] each = tt
+from-tables Q (p ∷ ps) each =
+    (own (inTable h p) (eq-eqb h h refl) (each h (mod-lt (hashOf (p .entry .name)) (omega arith))), from-tables Q ps (λ t l. rest t (inTable t p) (each t l)))
+  where
+    h : ℕ
+    h = tableOf (hashOf (p .entry .name))
+
+    own : (b : Bool) → b ≡ true → All (Q h) (cond b (p ∷ keep (inTable h) ps) (keep (inTable h) ps)) → Q h p
+    own true e a = a .0
+    own false e a = absurd (not-both e)
+
+    rest : (t : ℕ) (b : Bool) → All (Q t) (cond b (p ∷ keep (inTable t) ps) (keep (inTable t) ps)) → All (Q t) (keep (inTable t) ps)
+    rest t true a = a .1
+    rest t false a = a
+
+pub all-unimage : {A B : Type 0} (Q : B → Type 0) (f : A → B) (xs : List A) → All Q (map f xs) → All (λ (x : A). Q (f x)) xs
+all-unimage Q f [] a = tt
+all-unimage Q f (x ∷ xs) a = (a .0, all-unimage Q f xs (a .1))
+
+-- ---- links
+
+module _ (img : List ℕ) (o n : ℕ) where
+  abbrev Id : Placed → Type 0
+  Id p = p .entry .id < n
+
+  selves-same : (ps : List Placed) → All Id ps → selves (wordsAt img o n) ps ≡ selvesIn img o ps
+  unfolding selves selvesIn
+  selves-same [] ids = refl
+  selves-same (p ∷ ps) ids =
+      ap₂ (λ (w : ℕ) (r : ℕ). cond (eqb w (p .at)) 1 0 + r) (getD-wordsAt img o n (p .entry .id) (ids .0)) (selves-same ps (ids .1))
+
+  ahead-told : (ps : List Placed) → All Id ps → aheadIn img o ps ≡ true → All (λ (p : Placed). p .at ≤ getD (wordsAt img o n) (p .entry .id) 0) ps
+  unfolding aheadIn
+  ahead-told [] ids h = tt
+  ahead-told (p ∷ ps) ids h =
+      let w = word img (o + 4 * p .entry .id) in
+      let e = getD-wordsAt img o n (p .entry .id) (ids .0) in
+      let l = leb-true (p .at) w (first (leb (p .at) w) (aheadIn img o ps) h) in
+      (omega arith, ahead-told ps (ids .1) (second (leb (p .at) w) (aheadIn img o ps) h))
+
+  ahead-test : (ps : List Placed) → All Id ps → All (λ (p : Placed). p .at ≤ getD (wordsAt img o n) (p .entry .id) 0) ps → aheadIn img o ps ≡ true
+  unfolding aheadIn
+  ahead-test [] ids a = refl
+  ahead-test (p ∷ ps) ids a =
+      let w = word img (o + 4 * p .entry .id) in
+      let e = getD-wordsAt img o n (p .entry .id) (ids .0) in
+      let l = a .0 in
+      both (leb (p .at) w) (aheadIn img o ps) (le-leb (p .at) w (omega arith)) (ahead-test ps (ids .1) (a .1))
+
+  pub links-told : (ps : List Placed) → All Id ps → (aheadIn img o ps && eqb (above 1 (wordsAt img o n)) (selvesIn img o ps)) ≡ true → Linked (wordsAt img o n) ps
+  links-told ps ids h =
+      let a = aheadIn img o ps in
+      let b = eqb (above 1 (wordsAt img o n)) (selvesIn img o ps) in
+      record {
+        ahead = ahead-told ps ids (first a b h);
+        used = eqb-true (above 1 (wordsAt img o n)) (selvesIn img o ps) (second a b h) ∙ sym (selves-same ps ids);
+      }
+
+  pub links-test : (ps : List Placed) → All Id ps → Linked (wordsAt img o n) ps → (aheadIn img o ps && eqb (above 1 (wordsAt img o n)) (selvesIn img o ps)) ≡ true
+  links-test ps ids k =
+      both (aheadIn img o ps) (eqb (above 1 (wordsAt img o n)) (selvesIn img o ps)) (ahead-test ps ids (k .ahead))
+      (eq-eqb (above 1 (wordsAt img o n)) (selvesIn img o ps) (k .used ∙ selves-same ps ids))

@@ -1,0 +1,25 @@
+// Whether an image agrees with itself, on every slice of bytes: whether an id's name leads back to it (the home check), and
+// whether the panel, which reads names as C strings, reads whole names. No call has a `requires`.
+ghost use mathlib.Core.Path.{_≡_};
+ghost use Rattle.consistency.specs.Home.{home};
+use meeting::meets;
+use reader::Named;
+use reader::to_str;
+
+mod meeting; // meeting.rt: the search of the home check, past an equal name
+pub mod panel; // panel.rt: panel, panel_place, readings_agree
+
+pub use panel::readings_agree;
+
+// Has the id a name, and has some entry that the search for that name meets this name and this id?
+pub fn home(image: &[u8], id: u32) -> bool
+    ensures { λ r. ⌜ r ≡ home (now (image .entry)) id ⌝ }
+{
+    match to_str(image, id) {
+        Named::Place { start, len } => {
+            let end = start + len;
+            meets(image, &image[start..end], id)
+        }
+        Named::Nothing => false,
+    }
+}

@@ -1,0 +1,53 @@
+// Names that lie joined in a buffer, by the list of their ends.
+ghost use mathlib.Core.Path.{_≡_};
+ghost use mathlib.Core.Bool.{false};
+ghost use mathlib.Core.List.{[]};
+ghost use Prim.Native.Nat.{_<_};
+ghost use lib.ListN.{length, getD};
+ghost use Rattle.packed.specs.Names.{names, astray, beginOf};
+ghost use Rattle.packed.specs.Keys.{key};
+use jhash::Hashed;
+
+// Do the ends fall or pass `size` bytes? Each is looked at, and none ends the loop, so the compiler makes no branch of it.
+pub fn astray(ends: &[u64], size: usize) -> bool
+    ensures { λ r. ⌜ r ≡ astray size 0 (now (ends .entry)) ⌝ }
+{
+    let mut bad = false;
+    let mut start: u64 = 0;
+    let mut i = 0;
+    while i < ends.len() {
+        let end = ends[i];
+        bad = bad | (end < start) | ((size as u64) < end);
+        start = end;
+        i += 1;
+    }
+    bad
+}
+
+// Where the i-th name begins: where the one before ends, the first at byte 0.
+fn begin_of(ends: &[u64], i: usize) -> u64
+    requires { ⌜ i < length (now ends) ⌝ }
+    ensures { λ r. ⌜ r ≡ beginOf (now (ends .entry)) i ⌝ }
+{
+    if i == 0 { 0 } else { ends[i - 1] }
+}
+
+// The i-th name, counted from 0.
+pub fn name_of<'a>(bytes: &'a [u8], ends: &[u64], i: usize) -> &'a [u8]
+    requires { ⌜ (i < length (now ends)) × (astray (length (now bytes)) 0 (now ends) ≡ false) ⌝ }
+    ensures { λ r. ⌜ now r ≡ getD (names (now (bytes .entry)) (now (ends .entry))) i [] ⌝ }
+{
+    let start = begin_of(ends, i) as usize;
+    let end = ends[i] as usize;
+    &bytes[start..end]
+}
+
+// The key of a name: its hash, 0 where it is too long to have one.
+pub fn key(name: &[u8]) -> u32
+    ensures { λ r. ⌜ r ≡ key (now (name .entry)) ⌝ }
+{
+    match jhash::name_hash(name) {
+        Hashed::Hash(h) => h,
+        Hashed::Refused => 0,
+    }
+}

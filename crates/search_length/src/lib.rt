@@ -1,0 +1,81 @@
+// The average search length (02 (x)): how many buckets are read when the name of each entry of an image is looked up, over
+// the number of entries; and how many entries have each length.
+ghost use mathlib.Core.Path.{_≡_};
+ghost use Rattle.reader.specs.Open.{opening};
+ghost use Rattle.canonical.specs.Ours.{counted};
+ghost use Rattle.search_length.specs.Average.{firstRefusal, averageRefusal, averaging, averagedOf, afterLengths};
+use reader::Opened;
+use walks::count_lengths;
+use walks::total;
+
+mod walks; // walks.rt: the search lengths of the entries
+
+// The number of entries, and the total of the search lengths divided by it: quotient and remainder.
+pub struct Mean {
+    pub entries: u32,
+    pub quotient: u64,
+    pub remainder: u64,
+}
+
+// What the call answers: the average, or the number of the refusal.
+pub enum Averaged {
+    Given(Mean),
+    Refused(u32),
+}
+
+// How many entries opening counts, 0 where it refuses.
+fn entries(image: &[u8]) -> u32
+    ensures { λ r. ⌜ r ≡ counted (opening (now (image .entry))) ⌝ }
+{
+    match reader::open(image) {
+        Opened::Num(n) => n,
+        Opened::Refused(k) => 0,
+    }
+}
+
+// The refusal of an image of n entries, 0 for none.
+fn first_refusal(own: bool, n: u32) -> u32
+    ensures { λ r. ⌜ r ≡ firstRefusal own n ⌝ }
+{
+    if !own {
+        return 17;
+    }
+    if n == 0 {
+        return 18;
+    }
+    0
+}
+
+// The average search length of an image that is ours and has entries.
+pub fn average(image: &[u8]) -> Averaged
+    ensures { λ r. ⌜ averagedOf r ≡ averaging (now (image .entry)) ⌝ }
+{
+    let n = entries(image);
+    let refusal = first_refusal(canonical::is_ours(image), n);
+    if refusal != 0 {
+        return Averaged::Refused(refusal);
+    }
+    let sum = total(image, n);
+    let count = n as u64;
+    Averaged::Given(Mean {
+        entries: n,
+        quotient: sum / count,
+        remainder: sum % count,
+    })
+}
+
+// How many entries are found after 1, 2, .. 15 and 16 or more buckets, into the lent list; or the number of the refusal, and the
+// list stays as it was.
+pub fn lengths(image: &[u8], counts: &mut [u32; 16]) -> u32
+    ensures answer { λ r. ⌜ r ≡ averageRefusal (now (image .entry)) ⌝ }
+    ensures leaves { λ r. ⌜ now (counts .exit) ≡ afterLengths (now (image .entry)) (now (counts .entry)) ⌝ }
+{
+    let n = entries(image);
+    let refusal = first_refusal(canonical::is_ours(image), n);
+    if refusal != 0 {
+        return refusal;
+    }
+    *counts = [0; 16];
+    count_lengths(image, n, &mut *counts);
+    0
+}

@@ -1,0 +1,85 @@
+-- `finish::write_front` meets its contract. Assumes nothing.
+use native.Mathlib.Omega.{arith}
+use Rattle.serialize.proofs.FinishSteps.{linksAt-le, headed-parts}
+use borrow.Author.Needs.{needs}
+use Rattle.serialize.proofs.write_front.Statement.{statement}
+use Rattle.serialize.proofs.write_front.Tie as tie
+use Rattle.serialize.proofs.write_front.Reads as reads
+use Rattle.serialize.proofs.write_front.Lts as lts
+use Rattle.serialize.proofs.head.write_head.Reads as write-head-reads
+use Rattle.serialize.proofs.head.write_rows.Reads as write-rows-reads
+use Rattle.serialize.proofs.size.back_at.Reads as back-at-reads
+use Rattle.serialize.proofs.size.back_in.Reads as back-in-reads
+use Rattle.serialize.proofs.size.finished_size.Reads as finished-size-reads
+use Rattle.image.proofs.flag_word.Reads as flag-word-reads
+
+finished-size-requires : tie.Need-finished-size-requires
+finished-size-requires c κs = search needs
+
+back-in-requires : tie.Need-back-in-requires
+back-in-requires c κs = search needs
+
+back-at-requires : tie.Need-back-at-requires
+back-at-requires c κs = search needs
+
+cast-write-head : tie.Need-cast-write-head
+cast-write-head c = search needs
+
+flag-word-requires : tie.Need-flag-word-requires
+flag-word-requires c κs = search needs
+
+cast-write-head-2 : tie.Need-cast-write-head-2
+cast-write-head-2 c = search needs
+
+cast-write-head-3 : tie.Need-cast-write-head-3
+cast-write-head-3 c =
+    let start = c .before .before .before .before .before .before in
+    let a = start .args in
+    omega (arith, c .before .before .back-at .ensures, linksAt-le (a .mode) (a .end) (a .entries) (a .back), start .pre)
+
+write-head-requires : tie.Need-write-head-requires
+write-head-requires c κs = search needs
+
+cast-write-rows : tie.Need-cast-write-rows
+cast-write-rows c = search needs
+
+write-rows-requires : tie.Need-write-rows-requires
+write-rows-requires c κs = search needs
+
+same-length : tie.Need-same-length
+same-length c = search needs
+
+returns : tie.Need-returns
+returns c =
+    let rows = c .before .before in
+    let head = rows .before .before .before .before in
+    let sized = head .before .before .before .before .before in
+    let a = sized .before .before .args in
+    let of-write-rows = rows .write-rows in
+    let of-write-head = head .write-head in
+    let of-flag-word = head .before .flag-word in
+    let of-back-at = head .before .before .before .back-at in
+    let of-back-in = head .before .before .before .before .back-in in
+    let of-finished-size = sized .finished-size in
+    headed-parts (a .mode) (a .end) (a .entries) (a .back) (a .counts .now) (a .buf .now)
+    (of-write-head .last .0) (of-write-rows .last .0)
+    (of-finished-size .result) (of-flag-word .result) (of-back-in .result) (of-back-at .result)
+    (of-finished-size .ensures) (of-flag-word .ensures) (of-back-in .ensures) (of-back-at .ensures)
+    (of-write-head .ensures) (of-write-rows .ensures)
+
+pub write-front-spec : {M : Type 1} → statement M
+write-front-spec =
+    tie.close
+    (tie.spec
+    finished-size-requires
+    back-in-requires
+    back-at-requires
+    cast-write-head
+    flag-word-requires
+    cast-write-head-2
+    cast-write-head-3
+    write-head-requires
+    cast-write-rows
+    write-rows-requires
+    same-length
+    returns)

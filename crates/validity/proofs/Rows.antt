@@ -1,0 +1,17 @@
+-- The worked examples hold, computed by the checker. Assumes nothing.
+use mathlib.Core.Path.{_≡_, refl}
+use mathlib.Core.List.{map}
+use Rattle.validity.specs.Calendar.{leap, oneOf, monthLength, isDate, isEnd, earlier}
+use Rattle.validity.specs.Rule.{someWindow, undated, turned, holdsDate, inSeason}
+use Rattle.validity.specs.Rows.{Month, months, Day, days, Row, seasonRows}
+
+-- every row holds
+pub record Computed : Type 0 where
+  pub the-months : map (λ (m : Month). monthLength (m .year) (m .month)) months ≡ map (λ (m : Month). m .length) months
+  pub the-days : map (λ (d : Day). isDate (d .day)) days ≡ map (λ (d : Day). d .exists) days
+  pub the-ends : map (λ (d : Day). isEnd (d .day)) days ≡ map (λ (d : Day). d .ends) days
+  pub the-names : map (λ (r : Row). inSeason (r .naming) 5 (r .day) (r .windows)) seasonRows ≡ map (λ (r : Row). r .answer) seasonRows
+
+pub rows-hold : Computed
+unfolding inSeason someWindow undated turned holdsDate isEnd isDate earlier monthLength oneOf leap
+rows-hold = record { the-months = refl; the-days = refl; the-ends = refl; the-names = refl }

@@ -1,0 +1,98 @@
+-- `season::place_by` meets its contract, by the date and the cases of what the windows say.
+use mathlib.Core.Path.{sym, ap, _∙_}
+use borrow.Author.Tests.{not-true, not-false}
+use Rattle.jhash.specs.Outcome.{value}
+use Rattle.reader.specs.Cases.{namingOf}
+use Rattle.validity.proofs.WindowTests.{no-date, by-saying}
+use borrow.Author.Needs.{needs}
+use Rattle.validity.proofs.place_by.Statement.{statement}
+use Rattle.validity.proofs.place_by.Tie as tie
+use Rattle.validity.proofs.place_by.Reads as reads
+use Rattle.validity.proofs.place_by.Lts as lts
+use Rattle.reader.proofs.to_str.Reads as to-str-reads
+use Rattle.validity.proofs.calendar.is_date.Reads as is-date-reads
+
+is-date-requires : tie.Need-is-date-requires
+is-date-requires c κs = search needs
+
+returns : tie.Need-returns
+returns c =
+    let a = c .before .before .before .args in
+    no-date (a .image .now) (a .id) (a .date) (a .s) (sym (c .before .is-date .ensures) ∙ not-true _ (c .if1 .taken))
+
+enum-told : tie.Need-enum-told
+enum-told c = search needs
+
+enum-told-2 : tie.Need-enum-told-2
+enum-told-2 c = search needs
+
+to-str-requires : tie.Need-to-str-requires
+to-str-requires c κs = search needs
+
+enum-known-start : tie.Need-enum-known-start
+enum-known-start c = search needs
+
+enum-told-3 : tie.Need-enum-told-3
+enum-told-3 c = search needs
+
+enum-told-4 : tie.Need-enum-told-4
+enum-told-4 c = search needs
+
+enum-told-5 : tie.Need-enum-told-5
+enum-told-5 c = search needs
+
+returns-2 : tie.Need-returns-2
+returns-2 c =
+    let dated = c .before .before in
+    let a = dated .before .before .before .args in
+    by-saying (a .image .now) (a .id) (a .date) (a .s) _ (sym (dated .before .is-date .ensures) ∙ not-false _ (dated .if1 .left))
+    (c .enum-told .given .1)
+
+returns-3 : tie.Need-returns-3
+returns-3 c =
+    let dated = c .before .before .before .before .before .before in
+    let a = dated .before .before .before .args in
+    ap value (ap namingOf (sym (c .before .start .given .1)) ∙ c .before .before .before .to-str .ensures)
+    ∙ by-saying (a .image .now) (a .id) (a .date) (a .s) _ (sym (dated .before .is-date .ensures) ∙ not-false _ (dated .if1 .left))
+    (c .before .before .before .before .enum-told2 .given .1)
+
+returns-4 : tie.Need-returns-4
+returns-4 c =
+    let dated = c .before .before .before .before .before in
+    let a = dated .before .before .before .args in
+    ap value (ap namingOf (sym (c .enum-told3 .given .1)) ∙ c .before .before .to-str .ensures)
+    ∙ by-saying (a .image .now) (a .id) (a .date) (a .s) _ (sym (dated .before .is-date .ensures) ∙ not-false _ (dated .if1 .left))
+    (c .before .before .before .enum-told2 .given .1)
+
+returns-5 : tie.Need-returns-5
+returns-5 c =
+    let dated = c .before .before in
+    let a = dated .before .before .before .args in
+    by-saying (a .image .now) (a .id) (a .date) (a .s) _ (sym (dated .before .is-date .ensures) ∙ not-false _ (dated .if1 .left))
+    (c .enum-told4 .given .1)
+
+returns-6 : tie.Need-returns-6
+returns-6 c =
+    let dated = c .before .before in
+    let a = dated .before .before .before .args in
+    by-saying (a .image .now) (a .id) (a .date) (a .s) _ (sym (dated .before .is-date .ensures) ∙ not-false _ (dated .if1 .left))
+    (c .enum-told5 .given .1)
+
+pub place-by-spec : {M : Type 1} → statement M
+place-by-spec =
+    tie.close
+    (tie.spec
+    is-date-requires
+    returns
+    enum-told
+    enum-told-2
+    to-str-requires
+    enum-known-start
+    enum-told-3
+    enum-told-4
+    enum-told-5
+    returns-2
+    returns-3
+    returns-4
+    returns-5
+    returns-6)
