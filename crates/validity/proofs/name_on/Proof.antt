@@ -12,7 +12,7 @@ use Rattle.validity.proofs.WindowLaws.{parted}
 use Rattle.validity.proofs.OverWindows.{keeps}
 use Rattle.validity.proofs.part_by.Symbol as callee
 use Rattle.validity.proofs.part_by.Met as kept
-use Rattle.validity.proofs.name_on.Key.{name as #season·name-on}
+use Rattle.validity.proofs.name_on.Key.{name as #validity·name-on}
 use Rattle.validity.proofs.name_on.Statement as stated
 use Rattle.validity.proofs.name_on.Code as code
 
@@ -24,5 +24,5 @@ name-on-spec 𝓤 H 𝓜 𝓖 𝓡 =
     (λ κ x id date ws r e. e ∙ parted (slice x) id date ws)
     callee.name (sliceTy (tyRef (named 0) imm (tyInt w8)))
     (λ κ r u is. shr-slice-lawful 𝓤 H (𝓖 .A) (givenOf 𝓤 H 𝓜 𝓖) (named 0) κ u8 .typed r (u ∷ []) is .0)
-    𝓤 H 𝓜 𝓖 𝓡 code.env #season·name-on callee.routine code.calls-season·windows·standing code.calls-season·part-by
+    𝓤 H 𝓜 𝓖 𝓡 code.env #validity·name-on callee.routine code.calls-validity·windows·standing code.calls-validity·part-by
     (code.unfolded 𝓤 H 𝓜 𝓡) (kept.met 𝓤 H 𝓜 𝓖 𝓡)

@@ -11,7 +11,7 @@ use Rattle.validity.proofs.NamedOn as N
 use Rattle.validity.proofs.NamedOn.Laws as N′
 use Rattle.validity.proofs.place_by.Symbol as callee
 use Rattle.validity.proofs.place_by.Met as kept
-use Rattle.validity.proofs.to_str_on.Key.{name as #season·to-str-on}
+use Rattle.validity.proofs.to_str_on.Key.{name as #validity·to-str-on}
 use Rattle.validity.proofs.to_str_on.Statement as stated
 use Rattle.validity.proofs.to_str_on.Code as code
 
@@ -21,5 +21,5 @@ to-str-on-spec 𝓤 H 𝓜 𝓖 𝓡 =
     keeps (λ _. N.the-row) (λ κ x id date s r. namedOnOf r ≡ placeBy (x .now) id date s) (λ κ x id date ws r. namedOnOf r ≡ namingOn (x .now) id date ws)
     (λ κ x id date ws r e. e ∙ placed (x .now) id date ws)
     callee.name N′.mir (λ κ r u is. EL.lawful N.the-type N′.the-laws 𝓤 H (𝓖 .A) (givenOf 𝓤 H 𝓜 𝓖) tt .typed r _ is .0)
-    𝓤 H 𝓜 𝓖 𝓡 code.env #season·to-str-on callee.routine code.calls-season·windows·standing code.calls-season·place-by
+    𝓤 H 𝓜 𝓖 𝓡 code.env #validity·to-str-on callee.routine code.calls-validity·windows·standing code.calls-validity·place-by
     (code.unfolded 𝓤 H 𝓜 𝓡) (kept.met 𝓤 H 𝓜 𝓖 𝓡)

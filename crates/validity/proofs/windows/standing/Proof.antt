@@ -67,7 +67,7 @@ use Rattle.validity.proofs.Standing as S
 use Rattle.validity.proofs.Standing.Laws as S′
 use Rattle.validity.proofs.windows.step as step
 use Rattle.validity.proofs.windows.step.Symbol as step-def
-use Rattle.validity.proofs.windows.step.Symbol.{name as #season·step}
+use Rattle.validity.proofs.windows.step.Symbol.{name as #validity·step}
 use Rattle.validity.proofs.windows.step.Met as step-thm
 use Rattle.validity.proofs.windows.standing.Key.{name as #this}
 use Rattle.validity.proofs.windows.standing as this
@@ -180,7 +180,7 @@ module _ {M : Type 1} (𝓤 : URA M) (H : Heap 𝓤) (A : Atoms 𝓤) (W : Given
   Nearer-wf : WellFounded Nearer
   Nearer-wf = InvImage·wf (λ (i : Upto). n - i .0) (Nat·lt-wfRel .wf)
 
-  module _ (𝓣 : Tables 𝓤 H) (known : Triple 𝓤 (𝓣 .C #season·step) (Step 𝓤 H A mem run)) (l₀ l₁ l₂ l₃ l₄ l₅ l₆ l₇ l₈ l₉ : ℕ) where
+  module _ (𝓣 : Tables 𝓤 H) (known : Triple 𝓤 (𝓣 .C #validity·step) (Step 𝓤 H A mem run)) (l₀ l₁ l₂ l₃ l₄ l₅ l₆ l₇ l₈ l₉ : ℕ) where
     abbrev C : Calls 𝓤 H
     C = 𝓣 .C
 
@@ -309,7 +309,7 @@ module _ {M : Type 1} (𝓤 : URA M) (H : Heap 𝓤) (A : Atoms 𝓤) (W : Given
     looped = first ! $ blocks ! $ loops ! 𝓣 Nearer Nearer-wf At turns start
 
   -- the body: s = Standing::Away, i = 0, and the loop
-  walk : (𝓣 : Tables 𝓤 H) → Triple 𝓤 (𝓣 .C #season·step) (Step 𝓤 H A mem run)
+  walk : (𝓣 : Tables 𝓤 H) → Triple 𝓤 (𝓣 .C #validity·step) (Step 𝓤 H A mem run)
       → ent 𝓤 (onEntry 𝓤 H A this.signature (κ, tt) (q, tt) (x, (id, (date, tt))) at)
       (WpFn 𝓤 H (𝓣 .C) (𝓣 .Λ) code.function (sliceVal (x .ptr) n ∷ vint w32 id ∷ D′.lowered date ∷ []) Post)
   walk 𝓣 known =
@@ -328,7 +328,7 @@ module _ {M : Type 1} (𝓤 : URA M) (H : Heap 𝓤) (A : Atoms 𝓤) (W : Given
       looped 𝓣 known l₀ l₁ l₂ l₃ l₄ l₅ l₆ l₇ l₈ l₉))))))))))
 
 module _ {M : Type 1} (𝓤 : URA M) (H : Heap 𝓤) (A : Atoms 𝓤) (W : Given 𝓤 H A) (mem : Memory → SProp 𝓤) (run : Routine → Fun 𝓤)
-    (𝓣 : Tables 𝓤 H) (known : Triple 𝓤 (𝓣 .C #season·step) (Step 𝓤 H A mem run)) where
+    (𝓣 : Tables 𝓤 H) (known : Triple 𝓤 (𝓣 .C #validity·step) (Step 𝓤 H A mem run)) where
   walks : Walks 𝓤 H A this.ended stayed (WpFn 𝓤 H (𝓣 .C) (𝓣 .Λ) code.function) (this.clauses 𝓤 H A mem run)
   walks =
       walked 𝓤 H A this.ended stayed (this.clauses 𝓤 H A mem run) (WpFn 𝓤 H (𝓣 .C) (𝓣 .Λ) code.function)
@@ -356,4 +356,4 @@ standing-spec 𝓤 H 𝓜 𝓖 𝓡 =
     (tables 𝓤 H 𝓜 𝓡 code.env .C) (tables 𝓤 H 𝓜 𝓡 code.env .Λ) #this code.function (code.unfolded 𝓤 H 𝓜 𝓡)
     (meets 𝓤 H (𝓖 .A) (givenOf 𝓤 H 𝓜 𝓖) (𝓜 .mem) (𝓡 .run) (tablesOf 𝓤 H 𝓜 (tables 𝓤 H 𝓜 𝓡 code.env))
     (cited 𝓤 H (Step 𝓤 H (𝓖 .A) (𝓜 .mem) (𝓡 .run)) 𝓜 𝓡 code.env
-    #season·step step-def.routine code.calls-season·windows·step (step-thm.met 𝓤 H 𝓜 𝓖 𝓡)))
+    #validity·step step-def.routine code.calls-validity·windows·step (step-thm.met 𝓤 H 𝓜 𝓖 𝓡)))
