@@ -5,7 +5,7 @@ use mathlib.Core.List.{List, _++_}
 use lib.ListN.{take, drop}
 use Rattle.jhash.specs.Outcome.{value}
 use Rattle.bundle.specs.Append.{appending, afterAppend}
-use Rattle.bundle.specs.Bundles.{Accepts}
+use Rattle.bundle.specs.theorems.Bundles.{Accepts}
 use Rattle.bundle.proofs.Appends.{passed, was-accepted, writes, file-joined, whole-counts}
 use Rattle.bundle.proofs.Holding.{holds-count}
 use Rattle.bundle.proofs.Growing.{grown}

@@ -11,7 +11,7 @@ use Rattle.jhash.proofs.ValueOrRefusal.{no-value, same-value}
 use Rattle.image.proofs.Between.{word-same, between-same}
 use Rattle.bundle.specs.FileWalk.{Place, sizeAt, placeFrom, placeOfImage}
 use Rattle.bundle.specs.Opening.{imagePart}
-use Rattle.bundle.specs.Bundles.{Exact, imageEnd, HoldsImages}
+use Rattle.bundle.specs.theorems.Bundles.{Exact, imageEnd, HoldsImages}
 use Rattle.bundle.proofs.FileSteps.{Begins, Met, ended, broke, began, met}
 use Rattle.bundle.proofs.FileWalks.{place-ended, place-broke, place-here, place-next}
 use Rattle.bundle.proofs.ImagePlaces.{stands}

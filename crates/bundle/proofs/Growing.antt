@@ -17,7 +17,7 @@ use Rattle.reader.specs.Open.{opening}
 use Rattle.bundle.specs.FileWalk.{Place, sizeAt, placeFrom, placeOfImage}
 use Rattle.bundle.specs.Opening.{imagePart, imageOr, withNum, openIn, openingAt}
 use Rattle.bundle.specs.Append.{unfit}
-use Rattle.bundle.specs.Bundles.{HoldsImages, Grown}
+use Rattle.bundle.specs.theorems.Bundles.{HoldsImages, Grown}
 use Rattle.bundle.proofs.FileSteps.{Begins}
 use Rattle.bundle.proofs.FileWalks.{place-ended, place-here, place-next}
 use Rattle.bundle.proofs.Agreeing.{place-same, part-same, past, exact}

@@ -8,7 +8,7 @@ use lib.ListN.{length}
 use Rattle.jhash.specs.Outcome.{value, refusal}
 use Rattle.jhash.proofs.ValueOrRefusal.{no-value, same-value, same-refusal}
 use Rattle.bundle.specs.FileWalk.{Place, sizeAt, placeFrom, placeOfImage, countFrom, counting}
-use Rattle.bundle.specs.Bundles.{HoldsImages}
+use Rattle.bundle.specs.theorems.Bundles.{HoldsImages}
 use Rattle.bundle.proofs.FileSteps.{Begins, Met, ended, broke, began, met}
 use Rattle.bundle.proofs.FileWalks.{place-ended, place-broke, place-here, place-next, count-ended, count-broke, count-next, count-over}
 

@@ -18,7 +18,7 @@ use Rattle.bundle.specs.FileWalk.{placeOfImage}
 use Rattle.bundle.specs.Opening.{imageOr, imageAt}
 use Rattle.bundle.specs.Append.{isValue, wholeFile, unfit, appendRefusal, afterAppend}
 use Rattle.bundle.specs.AppendList.{File, bytes, emptyFile, appendTo, sizeAfter, afterOne, afterAll, keptIf, acceptedImages, backToBack, nthImage}
-use Rattle.bundle.specs.Bundles.{HoldsImages, Grown, Accepts, left}
+use Rattle.bundle.specs.theorems.Bundles.{HoldsImages, Grown, Accepts, left}
 use Rattle.bundle.proofs.FileWalks.{place-ended}
 use Rattle.bundle.proofs.ImagePlaces.{for-good}
 use Rattle.bundle.proofs.Holding.{count-holds}

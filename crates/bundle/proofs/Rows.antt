@@ -4,7 +4,7 @@ use mathlib.Core.List.{map}
 use Rattle.image.specs.Bytes.{word, le32}
 use Rattle.bundle.specs.FileWalk.{fileStep, placeFrom, placeOfImage, countFrom, counting}
 use Rattle.bundle.specs.Append.{appendRefusal, appending}
-use Rattle.bundle.specs.Rows.{Walk, Count, Append, sized, blank, walks, countings, appends}
+use Rattle.bundle.specs.examples.Rows.{Walk, Count, Append, sized, blank, walks, countings, appends}
 
 -- every row holds
 pub record Rows : Type 0 where

@@ -19,7 +19,7 @@ use Rattle.bundle.specs.FileWalk.{Place, placeOfImage}
 use Rattle.bundle.specs.Opening.{imagePart, imageOr, partOrNone}
 use Rattle.bundle.specs.Append.{unfit}
 use Rattle.bundle.specs.AppendList.{bytes, emptyFile, acceptedImages}
-use Rattle.bundle.specs.Bundles.{imageEnd, left, Bundles}
+use Rattle.bundle.specs.theorems.Bundles.{imageEnd, left, Bundles}
 use Rattle.bundle.proofs.ImagePlaces.{opens-alone, for-good}
 use Rattle.bundle.proofs.Holding.{count-holds, count-broken, holds-count, broken-count}
 use Rattle.bundle.proofs.Agreeing.{place-same, exact}

@@ -22,16 +22,20 @@ wholeFile file = isValue (counting file)
 abbrev pub unfit : List ℕ → Bool
 unfit image = ltb (length image) headSize || not (eqb (word image 4) (length image))
 
--- "Append walks the whole file, gives 10 also for a file number above the buffer's length, a new image under 2,072 bytes or whose size word isn't its
--- length, then 3 when the joined length exceeds the buffer." The file is the first n bytes of the buffer. 0: no refusal
+-- "Append walks the whole file, gives 10 also for a file number above the buffer's length, a new image under 2,072
+-- bytes or whose size word isn't its length, then 3 when the joined length exceeds the buffer." The file is the first
+-- n bytes of the buffer. 0: no refusal
 unfoldable pub appendRefusal : List ℕ → ℕ → List ℕ → ℕ
 appendRefusal buf n image =
-    cond (ltb (length buf) n || not (wholeFile (take n buf)) || unfit image) 10 (cond (ltb (length buf) (n + length image)) 3 0)
+    cond (ltb (length buf) n || not (wholeFile (take n buf)) || unfit image) 10
+    (cond (ltb (length buf) (n + length image)) 3 0)
 
 -- "gives the joined length"
 unfoldable pub appending : List ℕ → ℕ → List ℕ → Outcome ℕ
-appending buf n image = cond (eqb (appendRefusal buf n image) 0) (value (n + length image)) (refusal (appendRefusal buf n image))
+appending buf n image =
+    cond (eqb (appendRefusal buf n image) 0) (value (n + length image)) (refusal (appendRefusal buf n image))
 
--- "an accepted append writes the image's bytes right after the file's, changes no other byte"; a refused one changes none
+-- "an accepted append writes the image's bytes right after the file's, changes no other byte"; a refused one changes
+-- none
 unfoldable pub afterAppend : List ℕ → ℕ → List ℕ → List ℕ
 afterAppend buf n image = cond (eqb (appendRefusal buf n image) 0) (sets buf n image) buf

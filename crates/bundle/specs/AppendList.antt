@@ -18,7 +18,8 @@ bytes f = take (f .size) (f .buffer)
 abbrev pub emptyFile : List ℕ → File
 emptyFile buf = record { buffer = buf; size = 0 }
 
--- the answer of an append to a file, and the file that it leaves: the joined length, or the length before where it is refused
+-- the answer of an append to a file, and the file that it leaves: the joined length, or the length before where it is
+-- refused
 abbrev pub appendTo : File → List ℕ → Outcome ℕ
 appendTo f image = appending (f .buffer) (f .size) image
 
@@ -27,7 +28,8 @@ sizeAfter n (value m) = m
 sizeAfter n (refusal k) = n
 
 unfoldable pub afterOne : File → List ℕ → File
-afterOne f image = record { buffer = afterAppend (f .buffer) (f .size) image; size = sizeAfter (f .size) (appendTo f image) }
+afterOne f image =
+    record { buffer = afterAppend (f .buffer) (f .size) image; size = sizeAfter (f .size) (appendTo f image) }
 
 -- the file after a list of appends
 unfoldable pub afterAll : File → List (List ℕ) → File

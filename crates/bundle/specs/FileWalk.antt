@@ -1,4 +1,5 @@
--- Several walls in a file: 02 (i). "A bundle holds images back to back; each size word says where the next begins, and an empty file has none."
+-- Several walls in a file: 02 (i). "A bundle holds images back to back; each size word says where the next begins,
+-- and an empty file has none."
 use Prim.Native.Nat.{ℕ, zero, suc, _+_, _/_}
 use mathlib.Core.Bool.{Bool, cond, _||_}
 use mathlib.Core.List.{List}
@@ -21,12 +22,13 @@ sizeAt file at = word file (at + 4)
 abbrev pub breaks : List ℕ → ℕ → Bool
 breaks file at = ltb (length file) (at + 8) || ltb (sizeAt file at) headSize || ltb (length file) (at + sizeAt file at)
 
--- a step of the walk, at a place: what is given at "exactly the file's end, where no image begins"; 10 where the walk breaks off; what is given where
--- an image begins
+-- a step of the walk, at a place: what is given at "exactly the file's end, where no image begins"; 10 where the walk
+-- breaks off; what is given where an image begins
 unfoldable pub fileStep : {A : Type 0} → List ℕ → ℕ → Outcome A → Outcome A → Outcome A
 fileStep file at end image = cond (eqb at (length file)) end (cond (breaks file at) (refusal 10) image)
 
--- the image at a position, counted from 0, of those from a place on; 11 where the walk comes to the file's end "at or before the position"
+-- the image at a position, counted from 0, of those from a place on; 11 where the walk comes to the file's end "at or
+-- before the position"
 unfoldable pub placeFrom : List ℕ → ℕ → ℕ → Outcome Place
 unfolding fileStep
 placeFrom file at zero = fileStep file at (refusal 11) (value (record { start = at; size = sizeAt file at }))

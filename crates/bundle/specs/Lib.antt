@@ -4,5 +4,5 @@ pub mod Opening
 pub mod Append
 pub mod Cases
 pub mod AppendList
-pub mod Bundles
-pub mod Rows
+pub mod theorems
+pub mod examples

@@ -19,7 +19,8 @@ imageOr file (refusal k) = refusal k
 abbrev pub imageAt : List ℕ → ℕ → Outcome (List ℕ)
 imageAt file position = imageOr file (placeOfImage file position)
 
--- as a returned part: of the lent file's own bytes those from where the image begins; empty where there is no image at the position
+-- as a returned part: of the lent file's own bytes those from where the image begins; empty where there is no image
+-- at the position
 abbrev pub partOrNone : slices.Slice → Outcome Place → slices.Slice
 partOrNone file (value p) = slices.part file (p .start) (p .size)
 partOrNone file (refusal k) = slices.part file 0 0

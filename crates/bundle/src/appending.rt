@@ -49,8 +49,9 @@ fn append_refusal(buf: &[u8], end: usize, image: &[u8]) -> u32
     0
 }
 
-// Writes the image's bytes right after the file's and gives the joined length, or is refused and changes nothing: 10 where the
-// file is longer than the buffer or its walk breaks off, or the image is unfit; then 3 where the buffer has no room.
+// Writes the image's bytes right after the file's and gives the joined length, or is refused and changes nothing: 10
+// where the file is longer than the buffer or its walk breaks off, or the image is unfit; then 3 where the buffer has
+// no room.
 pub fn append(buf: &mut [u8], end: usize, image: &[u8]) -> Appended
     ensures answer { λ r. ⌜ appendedOf r ≡ appending (now (buf .entry)) end (now (image .entry)) ⌝ }
     ensures leaves { λ r. ⌜ now (buf .exit) ≡ afterAppend (now (buf .entry)) end (now (image .entry)) ⌝ }

@@ -1,5 +1,6 @@
-// Several walls in a file: a bundle holds images back to back, and each size word says where the next begins. Open one by its
-// position, append one, count them. No call has a `requires`; each answers what 02 (i) fixes for the bytes that it is lent.
+// Several walls in a file: a bundle holds images back to back, and each size word says where the next begins. Open
+// one by its position, append one, count them. No call has a `requires`; each answers what 02 (i) fixes for the bytes
+// that it is lent.
 pub mod walking; // walking.rt: place, part, open, count
 pub mod appending; // appending.rt: append
 

@@ -17,7 +17,10 @@ use reader::Opened;
 // The size of the image that begins at `at`; 0 where the walk breaks off there.
 fn size_at(file: &[u8], at: usize) -> usize
     requires { ⌜ at ≤ length (now file) ⌝ }
-    ensures { λ r. ⌜ (r ≡ cond (breaks (now (file .entry)) at) 0 (sizeAt (now (file .entry)) at)) × (at + r ≤ length (now (file .entry))) ⌝ }
+    ensures { λ r. ⌜
+        (r ≡ cond (breaks (now (file .entry)) at) 0 (sizeAt (now (file .entry)) at))
+        × (at + r ≤ length (now (file .entry)))
+        ⌝ }
 {
     if file.len() - at < 8 {
         return 0;
@@ -52,7 +55,8 @@ pub fn place(file: &[u8], position: usize) -> Placed
     Placed::Refused(11)
 }
 
-// The part of the lent file that is the image at a position, exactly the size word's bytes; empty where the walk is refused.
+// The part of the lent file that is the image at a position, exactly the size word's bytes; empty where the walk is
+// refused.
 pub fn part<'a>(file: &'a [u8], position: usize) -> &'a [u8]
     ensures { λ r. ⌜ slice r ≡ returnedPart (slice (file .entry)) position ⌝ }
 {
@@ -62,8 +66,8 @@ pub fn part<'a>(file: &'a [u8], position: usize) -> &'a [u8]
     }
 }
 
-// The number of associations of the image at a position, and where it stands; or why it is refused: 10 or 11 by the walk, then
-// 5, 6, 7 or 8 by the checks of opening, on the image's own bytes alone.
+// The number of associations of the image at a position, and where it stands; or why it is refused: 10 or 11 by the
+// walk, then 5, 6, 7 or 8 by the checks of opening, on the image's own bytes alone.
 pub fn open(file: &[u8], position: usize) -> OpenedAt
     ensures { λ r. ⌜ openedAtOf r ≡ openingAt (now (file .entry)) position ⌝ }
 {

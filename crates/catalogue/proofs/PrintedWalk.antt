@@ -19,7 +19,7 @@ use Rattle.lists.specs.Calls.{Call, putDue, acceptedFrom, accepted, putsSize, s
 use Rattle.lists.proofs.Theorem.{one-list}
 use Rattle.lines.specs.Lines.{withByte, linesOf, leadingDigits, numberFrom, parseLine, lineCalls, linesCalls, inputCalls}
 use Rattle.catalogue.specs.Left.{putsOf}
-use Rattle.catalogue.specs.Printed.{itemBy, items, namedBy, itemsOf, example, repeatedLines, Demonstration}
+use Rattle.catalogue.specs.theorems.Printed.{itemBy, items, namedBy, itemsOf, example, repeatedLines, Demonstration}
 
 -- one step, by what naming answers
 item-named : (img : List ℕ) (n : ℕ) (x : Naming) (rest : List Entry) → itemBy img (stepOf n x) rest ≡ namedBy n (heldAt img x) rest

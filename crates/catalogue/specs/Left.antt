@@ -1,5 +1,5 @@
--- What reading leaves. No contract can name the bytes that are read: these say that there is an input, and that what the program leaves is what the
--- rule of 01, "Examples from the quay", leaves of that input.
+-- What reading leaves. No contract can name the bytes that are read: these say that there is an input, and that what
+-- the program leaves is what the rule of 01, "Examples from the quay", leaves of that input.
 use Prim.Native.Nat.{ℕ}
 use mathlib.Core.Path.{_≡_}
 use mathlib.Core.List.{List}
@@ -11,8 +11,8 @@ use Rattle.writer.specs.State.{State}
 use Rattle.lists.specs.Calls.{accepted, sizeOf}
 use Rattle.lines.specs.Lines.{inputCalls, afterInput}
 
--- the puts of an input that are accepted two-way in a buffer of n bytes, in their order; the demonstration program begins without the repeats mode
--- (02 (viii)), so a line with a name that was put before is skipped
+-- the puts of an input that are accepted two-way in a buffer of n bytes, in their order; the demonstration program
+-- begins without the repeats mode (02 (viii)), so a line with a name that was put before is skipped
 unfoldable pub putsOf : ℕ → List ℕ → List Entry
 putsOf n input = accepted Twoway Off n (inputCalls input)
 

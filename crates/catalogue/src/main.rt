@@ -1,5 +1,5 @@
-// Reads lines (decimal id, space, name), puts them two-way in 65,536 bytes, with repeats off, and prints entries and size,
-// then the walk as id and name.
+// Reads lines (decimal id, space, name), puts them two-way in 65,536 bytes, with repeats off, and prints entries and
+// size, then the walk as id and name.
 ghost use Prim.Native.Nat.{_≤_};
 ghost use lib.ListN.{length};
 ghost use Rattle.writer.specs.State.{stateWith};
@@ -14,8 +14,8 @@ use writer::CQDBWriter;
 use writer::Closed;
 use writer::Repeats;
 
-// Puts the lines of standard input, read piece by piece. A proved loop has to end, and nothing says that an input does: it
-// counts its turns down from a number that no run uses up.
+// Puts the lines of standard input, read piece by piece. A proved loop has to end, and nothing says that an input
+// does: it counts its turns down from a number that no run uses up.
 fn put_input(
     w: CQDBWriter,
     counts: &mut [u32; 256],
@@ -23,7 +23,11 @@ fn put_input(
     room: &mut [u8],
     piece: &mut [u8],
 ) -> CQDBWriter
-    ensures { λ r. ⌜ (w .length ≤ length (now (room .entry)) → Left (stateWith w (now (counts .entry)) (now (buf .entry))) (stateWith r (now (counts .exit)) (now (buf .exit)))) ⌝ }
+    ensures { λ r. ⌜
+        (w .length ≤ length (now (room .entry))
+        → Left (stateWith w (now (counts .entry)) (now (buf .entry)))
+        (stateWith r (now (counts .exit)) (now (buf .exit))))
+        ⌝ }
 {
     let mut t = Intake { writer: w, have: 0 };
     let mut turns = u64::MAX;
@@ -44,10 +48,13 @@ struct Image {
     size: u32,
 }
 
-// Builds the image of the lines of standard input in a lent buffer. Where the buffer takes a head, neither begin nor close
-// refuses.
+// Builds the image of the lines of standard input in a lent buffer. Where the buffer takes a head, neither begin nor
+// close refuses.
 fn build(counts: &mut [u32; 256], buf: &mut [u8], room: &mut [u8], piece: &mut [u8]) -> Image
-    ensures { λ r. ⌜ (headSize ≤ length (now (buf .entry)) → length (now (buf .entry)) ≤ length (now (room .entry)) → Built (length (now (buf .entry))) (r .entries) (r .size) (now (buf .exit))) ⌝ }
+    ensures { λ r. ⌜
+        (headSize ≤ length (now (buf .entry)) → length (now (buf .entry)) ≤ length (now (room .entry))
+        → Built (length (now (buf .entry))) (r .entries) (r .size) (now (buf .exit)))
+        ⌝ }
 {
     let writer::Begun::Fresh(fresh) = writer::begin(Mode::Twoway, Repeats::Off, &mut *counts, &*buf)
     else {
@@ -96,8 +103,8 @@ fn print_walk(image: &[u8]) {
     }
 }
 
-// Entries and size, then the walk of the image, which is the buffer's first bytes. It asks for what it is handed to be the
-// image of some input, in 65,536 bytes.
+// Entries and size, then the walk of the image, which is the buffer's first bytes. It asks for what it is handed to
+// be the image of some input, in 65,536 bytes.
 fn print_image(entries: u32, size: u32, buf: &[u8])
     requires { ⌜ Built 65536 entries size (now buf) ⌝ }
 {

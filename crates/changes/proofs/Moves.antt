@@ -14,7 +14,7 @@ use Rattle.reader.specs.Lookup.{Lookup, found, nothing, lookup}
 use Rattle.reader.specs.declared.Found.{Found}
 use Rattle.reader.proofs.FoundAt.{found-stands}
 use Rattle.changes.specs.Moves.{otherId, movedName, moved}
-use Rattle.changes.specs.Theorem.{MovesTo}
+use Rattle.changes.specs.theorems.Theorem.{MovesTo}
 use Rattle.changes.proofs.Search.{none-some}
 
 -- ---- the cases of the code

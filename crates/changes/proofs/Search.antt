@@ -11,7 +11,7 @@ use Rattle.image.specs.Bytes.{keep, range}
 use Rattle.image.proofs.Lists.{keep-yes, keep-no}
 use Rattle.reader.specs.Naming.{Naming, naming}
 use Rattle.changes.specs.Changes.{upper, differs, firstAmong, firstChange, Change, changed, unchanged, changeAt, nextChange}
-use Rattle.changes.specs.Theorem.{calls}
+use Rattle.changes.specs.theorems.Theorem.{calls}
 
 pub none-some : {A : Type 0} {P : Type 0} (x : A) → none ≡ some x → P
 none-some x e = let z : _≡_ {A = ℕ} 0 1 = cc in absurd (omega arith)

@@ -1,4 +1,4 @@
--- What is proved of changes and moved names (`specs/Theorem`). Assumes nothing.
+-- What is proved of changes and moved names (`specs/theorems/Theorem`). Assumes nothing.
 use Prim.Native.Nat.{ℕ, zero, suc, _+_, _-_, _≤_, _<_}
 use native.Mathlib.Omega.{arith}
 use native.Mathlib.Decide.{decLt}
@@ -9,7 +9,7 @@ use mathlib.Core.List.{List}
 use mathlib.Core.Option.{Option, none, some}
 use Rattle.reader.specs.Naming.{nameGiven}
 use Rattle.changes.specs.Changes.{upper, differs, firstAmong, firstChange, unchanged, changeAt, nextChange}
-use Rattle.changes.specs.Theorem.{First, exchanged, Compared}
+use Rattle.changes.specs.theorems.Theorem.{First, exchanged, Compared}
 use Rattle.changes.proofs.Namings.{alike-exactly, differs-exactly, differs-sym, upper-sym, none-above}
 use Rattle.changes.proofs.Search as search
 use Rattle.changes.proofs.Moves.{moved-exactly}

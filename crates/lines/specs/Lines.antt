@@ -1,4 +1,5 @@
--- The lines of an input, and the puts that they ask for: 01, "Examples from the quay", the paragraph on the demonstration program.
+-- The lines of an input, and the puts that they ask for: 01, "Examples from the quay", the paragraph on the
+-- demonstration program.
 use Prim.Native.Nat.{ℕ, suc, _+_, _*_, _-_}
 use mathlib.Core.Bool.{Bool, cond, _&&_}
 use mathlib.Core.List.{List, [], _∷_, _++_}
@@ -15,7 +16,8 @@ unfoldable pub withByte : ℕ → List (List ℕ) → List (List ℕ)
 withByte b [] = (b ∷ []) ∷ []
 withByte b (l ∷ ls) = (b ∷ l) ∷ ls
 
--- the lines of an input: each ends at its line feed (10), which is no part of it, or at the input's end. After a final line feed there is no line
+-- the lines of an input: each ends at its line feed (10), which is no part of it, or at the input's end. After a
+-- final line feed there is no line
 unfoldable pub linesOf : List ℕ → List (List ℕ)
 linesOf [] = []
 linesOf (b ∷ bs) = cond (eqb b 10) ([] ∷ linesOf bs) (withByte b (linesOf bs))
@@ -42,10 +44,12 @@ pub data Form : Type 0 where
   entry : ℕ → ℕ → Form
   other : Form
 
--- decimal id, space (32), name. The id has 1 to 10 digits and is at most 4294967295; the name is the rest, spaces included, and may be empty
+-- decimal id, space (32), name. The id has 1 to 10 digits and is at most 4294967295; the name is the rest, spaces
+-- included, and may be empty
 abbrev pub formWith : List ℕ → ℕ → Form
 formWith line n =
-    cond (leb 1 n && leb n 10 && eqb (getD line n 0) 32 && leb (decimal (take n line)) 4294967295) (entry (decimal (take n line)) (n + 1)) other
+    cond (leb 1 n && leb n 10 && eqb (getD line n 0) 32 && leb (decimal (take n line)) 4294967295)
+    (entry (decimal (take n line)) (n + 1)) other
 
 unfoldable pub parseLine : List ℕ → Form
 parseLine line = formWith line (leadingDigits line)
@@ -73,7 +77,8 @@ unfoldable pub inputCalls : List ℕ → List Call
 unfolding linesOf linesCalls
 inputCalls input = linesCalls (linesOf input)
 
--- what a line leaves of a writer record and its buffer: a line whose put is refused is skipped, since a refused put leaves all as it was
+-- what a line leaves of a writer record and its buffer: a line whose put is refused is skipped, since a refused put
+-- leaves all as it was
 unfoldable pub afterPutLine : State → List ℕ → State
 unfolding lineCalls
 afterPutLine s line = after s (lineCalls line)

@@ -1,5 +1,5 @@
-// Lines put one after the other, of an input that comes in pieces. The line at hand is gathered in a lent room; one that
-// fills the room is dropped.
+// Lines put one after the other, of an input that comes in pieces. The line at hand is gathered in a lent room; one
+// that fills the room is dropped.
 ghost use mathlib.Core.Path.{_≡_};
 ghost use lib.ListN.{set};
 ghost use Rattle.writer.specs.State.{stateWith};
@@ -12,7 +12,10 @@ use writer::CQDBWriter;
 
 // Puts what a line says; a line of another form, or whose put is refused, is skipped.
 pub fn put_line(w: CQDBWriter, counts: &mut [u32; 256], buf: &mut [u8], line: &[u8]) -> CQDBWriter
-    ensures { λ r. ⌜ stateWith r (now (counts .exit)) (now (buf .exit)) ≡ afterPutLine (stateWith w (now (counts .entry)) (now (buf .entry))) (now (line .entry)) ⌝ }
+    ensures { λ r. ⌜
+        stateWith r (now (counts .exit)) (now (buf .exit))
+        ≡ afterPutLine (stateWith w (now (counts .entry)) (now (buf .entry))) (now (line .entry))
+        ⌝ }
 {
     match parse_line(line) {
         Line::Entry { id, name } => {
@@ -37,7 +40,10 @@ fn gather(have: usize, room: &mut [u8], b: u8) -> usize
 
 // The line at hand has ended.
 fn end_line(t: Intake, counts: &mut [u32; 256], buf: &mut [u8], room: &[u8]) -> Intake
-    ensures { λ r. ⌜ gathering r (now (counts .exit)) (now (buf .exit)) (now (room .entry)) ≡ lineEnded (gathering t (now (counts .entry)) (now (buf .entry)) (now (room .entry))) ⌝ }
+    ensures { λ r. ⌜
+        gathering r (now (counts .exit)) (now (buf .exit)) (now (room .entry))
+        ≡ lineEnded (gathering t (now (counts .entry)) (now (buf .entry)) (now (room .entry)))
+        ⌝ }
 {
     let have = t.have;
     let w = t.writer;
@@ -53,7 +59,10 @@ fn end_line(t: Intake, counts: &mut [u32; 256], buf: &mut [u8], room: &[u8]) -> 
 
 // The next byte of an input.
 fn take_byte(t: Intake, counts: &mut [u32; 256], buf: &mut [u8], room: &mut [u8], b: u8) -> Intake
-    ensures { λ r. ⌜ gathering r (now (counts .exit)) (now (buf .exit)) (now (room .exit)) ≡ takeByte (gathering t (now (counts .entry)) (now (buf .entry)) (now (room .entry))) b ⌝ }
+    ensures { λ r. ⌜
+        gathering r (now (counts .exit)) (now (buf .exit)) (now (room .exit))
+        ≡ takeByte (gathering t (now (counts .entry)) (now (buf .entry)) (now (room .entry))) b
+        ⌝ }
 {
     if b == b'\n' {
         return end_line(t, counts, buf, &*room);
@@ -71,7 +80,10 @@ pub fn take_piece(
     room: &mut [u8],
     piece: &[u8],
 ) -> Intake
-    ensures { λ r. ⌜ gathering r (now (counts .exit)) (now (buf .exit)) (now (room .exit)) ≡ takePiece (gathering t (now (counts .entry)) (now (buf .entry)) (now (room .entry))) (now (piece .entry)) ⌝ }
+    ensures { λ r. ⌜
+        gathering r (now (counts .exit)) (now (buf .exit)) (now (room .exit))
+        ≡ takePiece (gathering t (now (counts .entry)) (now (buf .entry)) (now (room .entry))) (now (piece .entry))
+        ⌝ }
 {
     let mut after = t;
     let mut i = 0;
@@ -84,7 +96,10 @@ pub fn take_piece(
 
 // The input's end, which ends the last line, too.
 pub fn end_input(t: Intake, counts: &mut [u32; 256], buf: &mut [u8], room: &[u8]) -> CQDBWriter
-    ensures { λ r. ⌜ stateWith r (now (counts .exit)) (now (buf .exit)) ≡ inputEnded (gathering t (now (counts .entry)) (now (buf .entry)) (now (room .entry))) ⌝ }
+    ensures { λ r. ⌜
+        stateWith r (now (counts .exit)) (now (buf .exit))
+        ≡ inputEnded (gathering t (now (counts .entry)) (now (buf .entry)) (now (room .entry)))
+        ⌝ }
 {
     let last = end_line(t, counts, buf, room);
     last.writer

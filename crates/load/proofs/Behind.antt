@@ -15,7 +15,7 @@ use Rattle.lists.specs.Calls.{after, accepted}
 use Rattle.lists.specs.Demand3.{afterList}
 use Rattle.lists.proofs.Along.{two-way, list-written}
 use Rattle.load.specs.States.{loadEntry}
-use Rattle.load.specs.Rebuilt.{firstPuts, roomFor}
+use Rattle.load.specs.theorems.Rebuilt.{firstPuts, roomFor}
 use Rattle.load.proofs.Entered.{entry-bytes, first-bytes, accepted-first, after-next}
 
 -- bytes that are the same from a place on are the same from every later one

@@ -20,7 +20,7 @@ use Rattle.lists.proofs.Along.{two-way, after-append, accepted-append, list-wri
 use Rattle.lists.proofs.RepeatsOff.{putAll-append}
 use Rattle.load.specs.States.{stateAfter, loadEntry}
 use Rattle.load.specs.Load.{putFrom}
-use Rattle.load.specs.Rebuilt.{firstEntries, firstPuts, roomFor}
+use Rattle.load.specs.theorems.Rebuilt.{firstEntries, firstPuts, roomFor}
 use Rattle.load.proofs.StateNames.{name-free, nine-bytes}
 use Rattle.load.proofs.PutTurns.{put-accepted, put-refused}
 

@@ -5,8 +5,8 @@ use mathlib.Core.Path.{_≡_, refl, ap, _∙_}
 use Rattle.jhash.specs.Outcome.{value}
 use Rattle.image.specs.Image.{headSize}
 use Rattle.load.specs.States.{stateAfter, stateName}
-use Rattle.load.specs.Rebuilt.{roomFor}
-use Rattle.load.specs.Rows.{Row, Takes, Rows}
+use Rattle.load.specs.theorems.Rebuilt.{roomFor}
+use Rattle.load.specs.examples.Rows.{Row, Takes, Rows}
 use Rattle.load.proofs.Theorem.{loaded, rebuilt}
 
 row-holds : (r : Row) → headSize ≤ r .bytes → roomFor (r .bytes) ≡ r .entries → headSize + 38 * roomFor (r .bytes) ≡ r .size → Takes r

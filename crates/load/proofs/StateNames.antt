@@ -9,7 +9,7 @@ use lib.Dec.{eqb, ltb}
 use borrow.Author.Tests.{lt-ltb, le-ltb, ltb-true, ltb-false, ne-eqb}
 use Rattle.image.specs.Zero.{hasZero}
 use Rattle.load.specs.States.{stateAfter, hexDigit, stateName}
-use Rattle.load.specs.Rebuilt.{hexFrom}
+use Rattle.load.specs.theorems.Rebuilt.{hexFrom}
 
 pub nine-bytes : (s : ℕ) → length (stateName s) ≡ 9
 unfolding stateName

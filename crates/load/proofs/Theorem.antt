@@ -25,7 +25,7 @@ use Rattle.lists.proofs.Along.{two-way, list-accepted, list-written, begin-acce
 use Rattle.lists.proofs.Theorem.{one-list, calls-answered}
 use Rattle.load.specs.States.{loadEntry}
 use Rattle.load.specs.Load.{loadPut, loading, afterLoad}
-use Rattle.load.specs.Rebuilt.{firstEntries, firstPuts, roomFor, Load, Rebuilt}
+use Rattle.load.specs.theorems.Rebuilt.{firstEntries, firstPuts, roomFor, Load, Rebuilt}
 use Rattle.load.proofs.StateNames.{nine-bytes, state-word, digits-read}
 use Rattle.load.proofs.Begun.{accepted-load}
 use Rattle.load.proofs.Entered.{first-size, first-number, accepted-first, stops-at, reached}

@@ -30,7 +30,8 @@ loadPut seed buffer = putFrom seed 4096 0 (fresh Twoway On buffer)
 -- "the number of accepted entries is given", which the record has counted; "a buffer too short to begin gives 1"
 unfoldable pub loading : ℕ → List ℕ → Outcome ℕ
 loading seed buffer =
-    cond (eqb (beginRefusal (length buffer)) 0) (value (loadPut seed buffer .writer .entries)) (refusal (beginRefusal (length buffer)))
+    cond (eqb (beginRefusal (length buffer)) 0) (value (loadPut seed buffer .writer .entries))
+    (refusal (beginRefusal (length buffer)))
 
 -- "then closed"; a refusal changes no byte
 unfoldable pub afterLoad : ℕ → List ℕ → List ℕ

@@ -18,7 +18,10 @@ pub enum Loaded {
 
 // Puts the entries of a seed until 4,096 are accepted or one is refused.
 fn put_entries(w: CQDBWriter, counts: &mut [u32; 256], buf: &mut [u8], seed: u32) -> CQDBWriter
-    ensures { λ r. ⌜ stateWith r (now (counts .exit)) (now (buf .exit)) ≡ putFrom seed 4096 0 (stateWith w (now (counts .entry)) (now (buf .entry))) ⌝ }
+    ensures { λ r. ⌜
+        stateWith r (now (counts .exit)) (now (buf .exit))
+        ≡ putFrom seed 4096 0 (stateWith w (now (counts .entry)) (now (buf .entry)))
+        ⌝ }
 {
     let mut after = w;
     let mut state = seed;

@@ -5,7 +5,8 @@ use Rattle.jhash.specs.Outcome.{Outcome, value, refusal}
 use Rattle.load.specs.Load.{loading}
 use Rattle.load_c.specs.declared.LoadAnswer.{LoadAnswer}
 
--- a load is accepted, 0, and the number of its entries stands beside it; a refusal has its number, and 0 for the entries
+-- a load is accepted, 0, and the number of its entries stands beside it; a refusal has its number, and 0 for the
+-- entries
 abbrev pub loadAnswerOf : Outcome ℕ → LoadAnswer
 loadAnswerOf (value n) = record { refusal = 0; accepted = n }
 loadAnswerOf (refusal k) = record { refusal = k; accepted = 0 }

@@ -2,7 +2,7 @@
 use mathlib.Core.Path.{_≡_, refl}
 use mathlib.Core.List.{map}
 use Rattle.order.specs.Rule.{occurs, before, kept, orderedFrom, ordered}
-use Rattle.order.specs.Rows.{Row, orderRows}
+use Rattle.order.specs.examples.Rows.{Row, orderRows}
 
 -- every row holds
 pub rows-hold : map (λ (r : Row). ordered (r .pairs) (r .round)) orderRows ≡ map (λ (r : Row). r .answer) orderRows

@@ -1,4 +1,4 @@
--- The theorem `references-first`: the sentences of 02 (xii), and what a caller asks next (`specs/ReferencesFirst`). Assumes nothing.
+-- The theorem `references-first`: the sentences of 02 (xii), and what a caller asks next (`specs/theorems/ReferencesFirst`). Assumes nothing.
 use mathlib.Core.Path.{_≡_, refl, sym, ap, subst, _∙_}
 use mathlib.Core.Logic.{_↔_}
 use Prim.Native.Nat.{ℕ, zero, suc}
@@ -9,7 +9,7 @@ use mathlib.Core.List.{List, [], _∷_, _++_}
 use mathlib.Core.Option.{some}
 use Rattle.order.specs.Rule.{occurs, kept, allKept, failsAt, ordered}
 use Rattle.order.specs.Places.{At, Occurs, PairKept, AllKept, FailsFirst}
-use Rattle.order.specs.ReferencesFirst.{ReferencesFirst, twice}
+use Rattle.order.specs.theorems.ReferencesFirst.{ReferencesFirst, twice}
 use Rattle.order.specs.declared.Pair.{Pair}
 use Rattle.order.proofs.PairLaws.{at-wall, at-reference, at-other}
 use Rattle.order.proofs.Places.{nothing-there, stands, same, yes-from, place-is, place-from}

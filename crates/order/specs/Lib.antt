@@ -2,5 +2,5 @@
 pub mod Rule
 pub mod Cases
 pub mod Places
-pub mod ReferencesFirst
-pub mod Rows
+pub mod theorems
+pub mod examples

@@ -1,4 +1,5 @@
--- References before walls: 02 (xii). "A lent list of pair records says that a reference must be sighted before a wall prism." A round is a list of ids.
+-- References before walls: 02 (xii). "A lent list of pair records says that a reference must be sighted before a wall
+-- prism." A round is a list of ids.
 use Prim.Native.Nat.{ℕ, suc}
 use mathlib.Core.Bool.{Bool, true, false, cond}
 use mathlib.Core.List.{List, [], _∷_}

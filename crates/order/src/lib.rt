@@ -1,5 +1,5 @@
-// References before walls: whether a round, a list of ids, has the reference of each lent pair before the first occurrence
-// of its wall prism.
+// References before walls: whether a round, a list of ids, has the reference of each lent pair before the first
+// occurrence of its wall prism.
 ghost use mathlib.Core.Path.{_≡_};
 ghost use Rattle.order.specs.Rule.{kept, ordered};
 ghost use Rattle.order.specs.Cases.{verdictOf};
@@ -17,8 +17,8 @@ pub enum Order {
     Fails { pair: usize },
 }
 
-// Does the reference occur before the wall prism's first occurrence, if the wall prism occurs? One look at each id of the
-// round, up to the first that is one of the two.
+// Does the reference occur before the wall prism's first occurrence, if the wall prism occurs? One look at each id of
+// the round, up to the first that is one of the two.
 pub fn keeps(p: Pair, round: &[u32]) -> bool
     ensures { λ r. ⌜ r ≡ kept p (now (round .entry)) ⌝ }
 {

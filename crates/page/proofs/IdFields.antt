@@ -7,7 +7,7 @@ use mathlib.Core.List.{List, [], _∷_, _++_}
 use lib.Dec.{eqb}
 use borrow.Author.Tests.{ne-eqb, eqb-true}
 use Rattle.page.specs.Page.{places, idField}
-use Rattle.page.specs.PrintedPage.{readFrom}
+use Rattle.page.specs.theorems.PrintedPage.{readFrom}
 
 read-append : (v : ℕ) (xs ys : List ℕ) → readFrom v (xs ++ ys) ≡ readFrom (readFrom v xs) ys
 unfolding readFrom

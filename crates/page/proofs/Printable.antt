@@ -12,7 +12,7 @@ use borrow.Author.Tests.{leb-true}
 use Rattle.image.proofs.Every.{All, all-map, all-append}
 use Rattle.image.specs.Bytes.{cat, range}
 use Rattle.page.specs.Page.{places, idField, shown, nameField, line}
-use Rattle.page.specs.PrintedPage.{Plain}
+use Rattle.page.specs.theorems.PrintedPage.{Plain}
 
 -- of one element, and of equal elements
 pub all-at : (P : ℕ → Type 0) (xs : List ℕ) (i : ℕ) → All P xs → i < length xs → P (getD xs i 0)

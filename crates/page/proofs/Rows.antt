@@ -7,8 +7,8 @@ use mathlib.Core.Option.{none}
 use lib.ListN.{length, getD}
 use Rattle.image.specs.Bytes.{cat, range}
 use Rattle.page.specs.Page.{places, idField, nameField, line, page}
-use Rattle.page.specs.Ascii.{bytesOf}
-use Rattle.page.specs.Rows.{Row, pageRows, Leaf, leaves}
+use Rattle.page.specs.examples.Ascii.{bytesOf}
+use Rattle.page.specs.examples.Rows.{Row, pageRows, Leaf, leaves}
 
 -- a text and a line feed
 abbrev ended : String → List ℕ

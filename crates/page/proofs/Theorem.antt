@@ -1,4 +1,4 @@
--- The theorem `printed-page` (`specs/PrintedPage`). Assumes nothing.
+-- The theorem `printed-page` (`specs/theorems/PrintedPage`). Assumes nothing.
 use Prim.Native.Nat.{ℕ, _+_, _*_, _-_, _^_, _≤_, _<_, min}
 use native.Mathlib.Omega.{arith}
 use native.Mathlib.Nat.{zero-add}
@@ -20,7 +20,7 @@ use Rattle.reader.specs.Naming.{nameGiven}
 use Rattle.reader.specs.IdWalk.{upperHint}
 use Rattle.page.specs.Page.{idField, nameField, line, lines, page}
 use Rattle.page.specs.Call.{pageOf, pageLength, printing, afterPage, partOf}
-use Rattle.page.specs.PrintedPage.{PrintedPage, Plain, readFrom}
+use Rattle.page.specs.theorems.PrintedPage.{PrintedPage, Plain, readFrom}
 use Rattle.page.proofs.Fields.{length-number, length-field, length-line}
 use Rattle.page.proofs.Pages.{length-page, lines-split, behind-part}
 use Rattle.page.proofs.Printable.{all-at, front, plain-front, printable-lines}

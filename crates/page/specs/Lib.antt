@@ -1,6 +1,5 @@
 -- What a page is, what the call gives and leaves, and what is proved of it.
 pub mod Page
 pub mod Call
-pub mod PrintedPage
-pub mod Ascii
-pub mod Rows
+pub mod theorems
+pub mod examples

@@ -1,5 +1,6 @@
--- A printed catalogue: 02 (iii). "The page is a function of the naming rule and the back size": `name` gives an id's name, or none.
--- Bytes: 10 is a line feed, 32 a space, 43 a plus sign, 45 a hyphen, 46 a full stop, and 48 to 57 are the digits.
+-- A printed catalogue: 02 (iii). "The page is a function of the naming rule and the back size": `name` gives an id's
+-- name, or none. Bytes: 10 is a line feed, 32 a space, 43 a plus sign, 45 a hyphen, 46 a full stop, and 48 to 57 are
+-- the digits.
 use Prim.Native.Nat.{ℕ, zero, suc, _+_, _-_, _/_, _%_}
 use mathlib.Core.Bool.{cond, _&&_}
 use mathlib.Core.List.{List, [], _∷_, _++_, map}
@@ -21,7 +22,8 @@ idField id = places 9 (id / 10) ++ ((48 + id % 10) ∷ [])
 abbrev pub shown : ℕ → ℕ
 shown b = cond (leb 32 b && leb b 126) b 46
 
--- "32 bytes of name, a plus sign if the name was longer, else a space": "shorter names are padded with spaces, unnamed ids have 32 hyphens"
+-- "32 bytes of name, a plus sign if the name was longer, else a space": "shorter names are padded with spaces,
+-- unnamed ids have 32 hyphens"
 unfoldable pub nameField : Option (List ℕ) → List ℕ
 nameField (some name) =
     map shown (take 32 name) ++ replicate (32 - length name) 32 ++ (cond (ltb 32 (length name)) 43 32 ∷ [])

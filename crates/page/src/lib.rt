@@ -30,7 +30,9 @@ pub fn page_length(image: &[u8]) -> u64
 fn print_lines(out: &mut [u8], image: &[u8], first: u32, count: u32)
     requires room { ⌜ 45 * count ≤ length (now out) ⌝ }
     requires ids { ⌜ first + count < 4294967296 ⌝ }
-    ensures { λ _. ⌜ now (out .exit) ≡ sets (now (out .entry)) 0 (lines (nameGiven (now (image .entry))) first count) ⌝ }
+    ensures { λ _. ⌜
+        now (out .exit) ≡ sets (now (out .entry)) 0 (lines (nameGiven (now (image .entry))) first count)
+        ⌝ }
 {
     let mut i: u32 = 0;
     while i < count {
@@ -43,7 +45,9 @@ fn print_lines(out: &mut [u8], image: &[u8], first: u32, count: u32)
 fn print_front(out: &mut [u8], image: &[u8], first: u32, count: u32) -> Printed
     requires { ⌜ first + count < 4294967296 ⌝ }
     ensures answer { λ r. ⌜ printedOf r ≡ printingLines count (length (now (out .entry))) ⌝ }
-    ensures bytes { λ r. ⌜ now (out .exit) ≡ afterLines (nameGiven (now (image .entry))) first count (now (out .entry)) ⌝ }
+    ensures bytes { λ r. ⌜
+        now (out .exit) ≡ afterLines (nameGiven (now (image .entry))) first count (now (out .entry))
+        ⌝ }
 {
     let length = 45 * (count as u64);
     if (out.len() as u64) < length {
@@ -78,7 +82,9 @@ fn ids_below(size: u32, first: u32, count: u32) -> u32
 
 // The part of the page with the lines of `count` ids from `first` on, of those below back size. Refused as the page is.
 pub fn page_part(image: &[u8], first: u32, count: u32, out: &mut [u8]) -> Printed
-    ensures answer { λ r. ⌜ printedOf r ≡ partPrinting (now (image .entry)) first count (length (now (out .entry))) ⌝ }
+    ensures answer { λ r. ⌜
+        printedOf r ≡ partPrinting (now (image .entry)) first count (length (now (out .entry)))
+        ⌝ }
     ensures bytes { λ r. ⌜ now (out .exit) ≡ afterPart (now (image .entry)) first count (now (out .entry)) ⌝ }
 {
     let size = size_hint(image, Iter { next: 0 });

@@ -105,7 +105,9 @@ fn print_name(out: &mut [u8], at: usize, name: &[u8])
 // The name of an id, or 32 hyphens, from `at` on, and the sign behind it.
 fn print_field(out: &mut [u8], at: usize, image: &[u8], id: u32)
     requires { ⌜ at + 33 ≤ length (now out) ⌝ }
-    ensures { λ _. ⌜ now (out .exit) ≡ sets (now (out .entry)) at (nameField (nameGiven (now (image .entry)) id)) ⌝ }
+    ensures { λ _. ⌜
+        now (out .exit) ≡ sets (now (out .entry)) at (nameField (nameGiven (now (image .entry)) id))
+        ⌝ }
 {
     match to_str(image, id) {
         Named::Place { start, len } => print_name(&mut *out, at, &image[start..start + len]),

@@ -46,7 +46,8 @@ pub extern "C" fn cqdb_page(image: &[u8], out: &mut [u8]) -> PageAnswer
     answer(printed)
 }
 
-// The part of the page with the lines of `count` ids from `first` on, of those below back size; or refusal 12, as for the page.
+// The part of the page with the lines of `count` ids from `first` on, of those below back size; or refusal 12, as for
+// the page.
 #[no_mangle]
 pub extern "C" fn cqdb_page_part(image: &[u8], first: u32, count: u32, out: &mut [u8]) -> PageAnswer
     ensures answer { λ r. ⌜ r ≡ partAnswer (now (image .entry)) first count (length (now (out .entry))) ⌝ }

@@ -41,8 +41,8 @@ pub(super) fn number(text: &[u8]) -> u64 {
     v
 }
 
-// Two digits for each byte, written from the start of `out` on, and how many bytes that were; more than `out` has for a text of
-// another form or one that is too long.
+// Two digits for each byte, written from the start of `out` on, and how many bytes that were; more than `out` has for
+// a text of another form or one that is too long.
 pub(super) fn decode(text: &[u8], out: &mut [u8]) -> usize {
     let n = text.len() / 2;
     if text.len() % 2 != 0 {

@@ -1,8 +1,9 @@
 // Replays stored answers of lookup3 and of the original library, and counts which of them the proved libraries give.
 //
-// A line of the input is a tag of four letters and up to three words: numbers have eight hexadecimal digits, bytes two each,
-// and a missing name is the empty one. A line that begins with #, and an empty one, is skipped. A line whose stored answer is
-// not the one that was given is printed; the input has one such line on purpose for each kind of line that has an answer.
+// A line of the input is a tag of four letters and up to three words: numbers have eight hexadecimal digits, bytes
+// two each, and a missing name is the empty one. A line that begins with #, and an empty one, is skipped. A line
+// whose stored answer is not the one that was given is printed; the input has one such line on purpose for each kind
+// of line that has an answer.
 //
 // The name hash (main.rt):
 //     hash 00000001 460423ad 68    the hash of the name with this start value
@@ -49,8 +50,8 @@ use verdict::Counts;
 use verdict::Verdict;
 use verdict::equal_if;
 
-// What the lines so far left: the length of the image that is read and the id before which the walk stands; the writer record, the
-// size of the image that close made last, and how many of its bytes have been compared.
+// What the lines so far left: the length of the image that is read and the id before which the walk stands; the
+// writer record, the size of the image that close made last, and how many of its bytes have been compared.
 struct State {
     len: usize,
     next: u32,

@@ -42,7 +42,8 @@ fn begin(s: State, mode: Mode, n: usize, counts: &mut [u32; 256], buf: &[u8]) ->
     }
 }
 
-// A put, into as many bytes of the buffer as the record is for. It is to give this number: its refusal's, 0 where it is accepted.
+// A put, into as many bytes of the buffer as the record is for. It is to give this number: its refusal's, 0 where it
+// is accepted.
 fn put(s: State, due: u32, id: u32, name: &[u8], counts: &mut [u32; 256], buf: &mut [u8]) -> Step {
     let w = s.writer;
     let n = w.length as usize;

@@ -1,6 +1,6 @@
-// Rotates 131,072 words by each amount from 0 to 31 and prints a line for each amount: the amount, how many answers were
-// not lookup3's own `rot` (two shifts joined), and the sum of the answers. `jhash` is asked with an amount that the compiler
-// does not know, so its table is read; and once more with 32 more, which has to give the same.
+// Rotates 131,072 words by each amount from 0 to 31 and prints a line for each amount: the amount, how many answers
+// were not lookup3's own `rot` (two shifts joined), and the sum of the answers. `jhash` is asked with an amount that
+// the compiler does not know, so its table is read; and once more with 32 more, which has to give the same.
 use libc::STDOUT_FILENO;
 
 const WORDS: u32 = 131072;

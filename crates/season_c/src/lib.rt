@@ -8,8 +8,8 @@ ghost use Rattle.validity.specs.Rule.{namingOn};
 ghost use Rattle.validity.specs.Saying.{placeBy};
 ghost use Rattle.season_c.specs.NameOnAnswer.{onAnswer};
 
-// The refusal's number, 0 when accepted; 1 and the place of the name in the image, its length and its first byte's offset; or
-// zeros. The length is below 2^32, since it is an entry's length word minus 1.
+// The refusal's number, 0 when accepted; 1 and the place of the name in the image, its length and its first byte's
+// offset; or zeros. The length is below 2^32, since it is an entry's length word minus 1.
 #[repr(C)]
 pub struct OnAnswer {
     pub refusal: u32,

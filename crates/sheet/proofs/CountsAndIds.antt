@@ -10,7 +10,7 @@ use Rattle.image.specs.Bytes.{word, le32, cat}
 use Rattle.image.proofs.Words.{word-drop, word-le32, length-le32, le32-bytes}
 use Rattle.image.proofs.Lists.{length-cat}
 use Rattle.sheet.specs.Format.{countAt, countBytes, ids, idBytes}
-use Rattle.sheet.specs.RoundSheet.{Below}
+use Rattle.sheet.specs.theorems.RoundSheet.{Below}
 
 -- a byte, or the 0 past the end
 byte-below : (s : List ℕ) (i : ℕ) → Below 256 s → getD s i 0 < 256

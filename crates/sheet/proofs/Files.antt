@@ -13,7 +13,7 @@ use Rattle.jhash.specs.Outcome.{Outcome, value, refusal}
 use Rattle.jhash.proofs.ValueOrRefusal.{no-value}
 use Rattle.sheet.specs.Format.{Lists, sheetBytes}
 use Rattle.sheet.specs.SheetReading.{partEnd, andThen, sections, nothingLeft, readSheet, listsOf, readLists}
-use Rattle.sheet.specs.RoundSheet.{Below, Fits}
+use Rattle.sheet.specs.theorems.RoundSheet.{Below, Fits}
 use Rattle.sheet.specs.declared.Sheet.{Sheet}
 use Rattle.sheet.proofs.Sheets.{Lie, Three, three-or-short, sheet-reads, lists-read, sheet-ends, front-again}
 

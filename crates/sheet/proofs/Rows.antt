@@ -4,7 +4,7 @@ use Rattle.image.specs.Bytes.{word, le32, cat}
 use Rattle.sheet.specs.Format.{countAt, countBytes, ids, idBytes, sectionBytes, sheetBytes}
 use Rattle.sheet.specs.SheetReading.{sectionAt, sections, readSheet, readLists}
 use Rattle.sheet.specs.SheetWriting.{writing, afterWriting}
-use Rattle.sheet.specs.Rows.{Answers}
+use Rattle.sheet.specs.examples.Rows.{Answers}
 
 -- every row holds
 pub rows-hold : Answers

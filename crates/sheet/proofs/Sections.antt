@@ -13,7 +13,7 @@ use Rattle.jhash.specs.Outcome.{value, refusal}
 use Rattle.jhash.proofs.ValueOrRefusal.{no-value}
 use Rattle.sheet.specs.Format.{countAt, countBytes, ids, idBytes, sectionBytes}
 use Rattle.sheet.specs.SheetReading.{partEnd, partOf, idsIn, sectionAt}
-use Rattle.sheet.specs.RoundSheet.{Below, Holdable, HoldsIds}
+use Rattle.sheet.specs.theorems.RoundSheet.{Below, Holdable, HoldsIds}
 use Rattle.sheet.specs.declared.Place.{Place}
 use Rattle.sheet.proofs.CountsAndIds.{below-drop, below-take, length-countBytes, count-back, count-below, count-drop, count-bytes}
 use Rattle.sheet.proofs.CountsAndIds.{length-ids, length-idBytes, ids-below, ids-back, bytes-back}

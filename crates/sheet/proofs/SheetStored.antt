@@ -16,7 +16,7 @@ use Rattle.image.proofs.Stores.{sets-then}
 use Rattle.jhash.specs.Outcome.{Outcome, value, refusal}
 use Rattle.sheet.specs.Format.{countBytes, idBytes, sectionBytes, Lists, sheetBytes}
 use Rattle.sheet.specs.SheetWriting.{passes, tooLong, writing, leftByWriter, afterWriting}
-use Rattle.sheet.specs.RoundSheet.{Fits}
+use Rattle.sheet.specs.theorems.RoundSheet.{Fits}
 use Rattle.sheet.proofs.CountsAndIds.{length-countBytes}
 use Rattle.sheet.proofs.Sections.{length-section}
 

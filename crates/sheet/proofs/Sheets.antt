@@ -9,7 +9,7 @@ use lib.Seq.{take-add}
 use Rattle.jhash.specs.Outcome.{Outcome, value, refusal}
 use Rattle.sheet.specs.Format.{sectionBytes, Lists, sheetBytes}
 use Rattle.sheet.specs.SheetReading.{partEnd, partOf, idsIn, sectionAt, andThen, sections, listsOf}
-use Rattle.sheet.specs.RoundSheet.{Below, Fits}
+use Rattle.sheet.specs.theorems.RoundSheet.{Below, Fits}
 use Rattle.sheet.specs.declared.Place.{Place}
 use Rattle.sheet.specs.declared.Sheet.{Sheet}
 use Rattle.sheet.proofs.Sections.{Lies, FoundAt, found-or-short, length-section, ids-of, section-reads, part-reads, holdable, bytes-again}

@@ -1,4 +1,4 @@
--- The theorem `round-sheet`: the sentences of 02 (xi) (`specs/RoundSheet`). Assumes nothing.
+-- The theorem `round-sheet`: the sentences of 02 (xi) (`specs/theorems/RoundSheet`). Assumes nothing.
 use Prim.Native.Nat.{ℕ, _≤_}
 use native.Mathlib.Omega.{arith}
 use mathlib.Core.Path.{_≡_, sym, ap, subst, _∙_}
@@ -9,7 +9,7 @@ use Rattle.jhash.specs.Outcome.{Outcome, value, refusal}
 use Rattle.sheet.specs.Format.{Lists, sheetBytes}
 use Rattle.sheet.specs.SheetReading.{partEnd, readSheet, listsOf, readLists}
 use Rattle.sheet.specs.SheetWriting.{writing, afterWriting}
-use Rattle.sheet.specs.RoundSheet.{Below, Fits, PartsPlaced, HoldsIds, GoesOn, BreaksOff, OneOfThree, RoundSheet}
+use Rattle.sheet.specs.theorems.RoundSheet.{Below, Fits, PartsPlaced, HoldsIds, GoesOn, BreaksOff, OneOfThree, RoundSheet}
 use Rattle.sheet.specs.declared.Sheet.{Sheet}
 use Rattle.sheet.proofs.Sections.{part-holds}
 use Rattle.sheet.proofs.Sheets.{sized, lists-fit, file-again}

@@ -1,4 +1,5 @@
--- The round sheet as bytes: 02 (xi). "The station gets its round as a file of three sections in fixed order: references, wall prisms, retired prisms."
+-- The round sheet as bytes: 02 (xi). "The station gets its round as a file of three sections in fixed order:
+-- references, wall prisms, retired prisms."
 use Prim.Native.Nat.{ℕ, zero, suc, _+_, _*_, _/_, _%_}
 use mathlib.Core.List.{List, [], _∷_, _++_}
 use lib.ListN.{length, getD, drop}

@@ -3,5 +3,5 @@ pub mod Format
 pub mod SheetReading
 pub mod SheetWriting
 pub mod Cases
-pub mod RoundSheet
-pub mod Rows
+pub mod theorems
+pub mod examples

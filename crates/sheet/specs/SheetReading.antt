@@ -1,4 +1,5 @@
--- The reader: 02 (xi). "The reader gives, for each section, the part of the file that holds its ids"; "a section may be empty".
+-- The reader: 02 (xi). "The reader gives, for each section, the part of the file that holds its ids"; "a section may
+-- be empty".
 use Prim.Native.Nat.{ℕ, _+_, _*_, _/_}
 use mathlib.Core.Bool.{cond}
 use mathlib.Core.List.{List}
@@ -27,7 +28,8 @@ idsIn part = ids (length part / 4) part
 unfoldable pub sectionAt : List ℕ → ℕ → Outcome Place
 sectionAt file o =
     cond (ltb (length file) (o + 2)) (refusal 19)
-    (cond (ltb (length file) (o + 2 + 4 * countAt file o)) (refusal 19) (value (record { start = o + 2; count = countAt file o })))
+    (cond (ltb (length file) (o + 2 + 4 * countAt file o)) (refusal 19)
+    (value (record { start = o + 2; count = countAt file o })))
 
 -- what is done with a value; a refusal stays
 abbrev pub andThen : {A B : Type 0} → Outcome A → (A → Outcome B) → Outcome B

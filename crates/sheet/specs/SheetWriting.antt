@@ -18,7 +18,8 @@ passes xs = ltb 65535 (length xs)
 abbrev pub tooLong : Lists → Bool
 tooLong l = passes (l .references) || passes (l .walls) || passes (l .retired)
 
--- "the writer gives 21 when a list passes 65,535 or the buffer is too short"; otherwise the length. A buffer of `room` bytes
+-- "the writer gives 21 when a list passes 65,535 or the buffer is too short"; otherwise the length. A buffer of
+-- `room` bytes
 unfoldable pub writing : ℕ → Lists → Outcome ℕ
 writing room l = cond (tooLong l || ltb room (length (sheetBytes l))) (refusal 21) (value (length (sheetBytes l)))
 

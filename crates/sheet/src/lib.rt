@@ -1,5 +1,5 @@
-// The round sheet: a file of three sections in fixed order, references, wall prisms and retired prisms. Each is a 16-bit count
-// and that many 32-bit ids, little-endian.
+// The round sheet: a file of three sections in fixed order, references, wall prisms and retired prisms. Each is a
+// 16-bit count and that many 32-bit ids, little-endian.
 pub mod reading; // reading.rt: read, part, section, id_at
 pub mod writing; // writing.rt: write
 

@@ -37,8 +37,15 @@ fn put_section(buf: &mut [u8], at: usize, ids: &[u32]) -> usize
 
 // Writes the three sections from the buffer's front, and gives the length.
 pub fn write(buf: &mut [u8], references: &[u32], walls: &[u32], retired: &[u32]) -> Written
-    ensures answer { λ r. ⌜ writtenOf r ≡ writing (length (now (buf .entry))) (lent (now (references .entry)) (now (walls .entry)) (now (retired .entry))) ⌝ }
-    ensures leaves { λ r. ⌜ now (buf .exit) ≡ afterWriting (now (buf .entry)) (lent (now (references .entry)) (now (walls .entry)) (now (retired .entry))) ⌝ }
+    ensures answer { λ r. ⌜
+        writtenOf r ≡ writing (length (now (buf .entry)))
+        (lent (now (references .entry)) (now (walls .entry)) (now (retired .entry)))
+        ⌝ }
+    ensures leaves { λ r. ⌜
+        now (buf .exit)
+        ≡ afterWriting (now (buf .entry))
+        (lent (now (references .entry)) (now (walls .entry)) (now (retired .entry)))
+        ⌝ }
 {
     let n = references.len();
     let m = walls.len();

@@ -8,8 +8,8 @@ ghost use Rattle.sheet.specs.SheetReading.{readSheet};
 ghost use Rattle.sheet.specs.SheetWriting.{lent, writing, afterWriting};
 ghost use Rattle.sheet_c.specs.SheetAnswers.{sheetAnswer, lengthAnswer, partsAnswer, noSheet};
 
-// The refusal's number, 0 when the file was accepted; then, for references, wall prisms and retired prisms, the number of ids
-// and the offset of the first one's bytes, all 0 when refused.
+// The refusal's number, 0 when the file was accepted; then, for references, wall prisms and retired prisms, the
+// number of ids and the offset of the first one's bytes, all 0 when refused.
 #[repr(C)]
 pub struct SheetAnswer {
     pub refusal: u32,
@@ -69,8 +69,16 @@ pub extern "C" fn cqdb_sheet_write(
     walls: &[u32],
     retired: &[u32],
 ) -> LengthAnswer
-    ensures answer { λ r. ⌜ r ≡ lengthAnswer (writing (length (now (buf .entry))) (lent (now (references .entry)) (now (walls .entry)) (now (retired .entry)))) ⌝ }
-    ensures leaves { λ r. ⌜ now (buf .exit) ≡ afterWriting (now (buf .entry)) (lent (now (references .entry)) (now (walls .entry)) (now (retired .entry))) ⌝ }
+    ensures answer { λ r. ⌜
+        r ≡ lengthAnswer
+        (writing (length (now (buf .entry)))
+        (lent (now (references .entry)) (now (walls .entry)) (now (retired .entry))))
+        ⌝ }
+    ensures leaves { λ r. ⌜
+        now (buf .exit)
+        ≡ afterWriting (now (buf .entry))
+        (lent (now (references .entry)) (now (walls .entry)) (now (retired .entry)))
+        ⌝ }
 {
     let written = sheet::write(&mut *buf, references, walls, retired);
     match written {

@@ -3,7 +3,7 @@ use mathlib.Core.Path.{_≡_, refl}
 use mathlib.Core.List.{map}
 use Rattle.validity.specs.Calendar.{leap, oneOf, monthLength, isDate, isEnd, earlier}
 use Rattle.validity.specs.Rule.{someWindow, undated, turned, holdsDate, inSeason}
-use Rattle.validity.specs.Rows.{Month, months, Day, days, Row, seasonRows}
+use Rattle.validity.specs.examples.Rows.{Month, months, Day, days, Row, seasonRows}
 
 -- every row holds
 pub record Computed : Type 0 where

@@ -1,4 +1,4 @@
--- The theorem `seasons`: the sentences of 02 (xiv) (`specs/Seasons`). Assumes nothing.
+-- The theorem `seasons`: the sentences of 02 (xiv) (`specs/theorems/Seasons`). Assumes nothing.
 use mathlib.Core.Path.{_≡_, refl, sym, ap, _∙_}
 use mathlib.Core.Logic.{_↔_, _⊎_, inl, inr}
 use Prim.Native.Nat.{ℕ, zero, suc}
@@ -13,7 +13,7 @@ use Rattle.reader.specs.Naming.{Naming, place, unnamed, naming}
 use Rattle.reader.proofs.Namings.{never}
 use Rattle.validity.specs.Calendar.{isDate, isEnd, earlier}
 use Rattle.validity.specs.Rule.{someWindow, undated, turned, holdsDate, inSeason, namingOn}
-use Rattle.validity.specs.Seasons.{SomeAt, Accepted, Seasons}
+use Rattle.validity.specs.theorems.Seasons.{SomeAt, Accepted, Seasons}
 use Rattle.validity.specs.declared.Date.{Date}
 use Rattle.validity.specs.declared.Window.{Window}
 use Rattle.validity.proofs.Months.{no-month, month-lengths}

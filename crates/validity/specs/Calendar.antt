@@ -14,7 +14,8 @@ unfoldable pub oneOf : List ℕ → ℕ → Bool
 oneOf [] m = false
 oneOf (x ∷ xs) m = cond (eqb m x) true (oneOf xs m)
 
--- "month lengths run from 28 to 31": the months of 31 days, of 30 days, and February; another number is no month, and has no day
+-- "month lengths run from 28 to 31": the months of 31 days, of 30 days, and February; another number is no month, and
+-- has no day
 unfoldable pub monthLength : ℕ → ℕ → ℕ
 monthLength year month =
     cond (oneOf (1 ∷ 3 ∷ 5 ∷ 7 ∷ 8 ∷ 10 ∷ 12 ∷ []) month) 31

@@ -4,5 +4,5 @@ pub mod Rule
 pub mod Saying
 pub mod steps
 pub mod Cases
-pub mod Seasons
-pub mod Rows
+pub mod theorems
+pub mod examples

@@ -27,8 +27,9 @@ turned w = not (earlier (w .first) (w .end))
 unfoldable pub holdsDate : ℕ → Date → Window → Bool
 holdsDate id date w = eqb (w .id) id && not (earlier date (w .first)) && earlier date (w .end)
 
--- of an id that the naming rule gives n: "gives its name exactly when it has one and some window of that id holds the date, else nothing"; 22 "first [for]
--- the one asked about and then those of the windows in list order; after these a window that doesn't start before its end gives 23"
+-- of an id that the naming rule gives n: "gives its name exactly when it has one and some window of that id holds the
+-- date, else nothing"; 22 "first [for] the one asked about and then those of the windows in list order; after these a
+-- window that doesn't start before its end gives 23"
 unfoldable pub inSeason : Naming → ℕ → Date → List Window → Outcome Naming
 inSeason n id date windows =
     cond (not (isDate date)) (refusal 22)

@@ -1,5 +1,5 @@
 -- What the windows alone say of an id on a date, and what is answered where they say it: the rule in two parts, for a
--- call that asks the windows first. Both together are the rule (`in-two-parts` of specs/Seasons).
+-- call that asks the windows first. Both together are the rule (`in-two-parts` of specs/theorems/Seasons).
 use Prim.Native.Nat.{ℕ}
 use mathlib.Core.Bool.{cond, not}
 use mathlib.Core.List.{List}

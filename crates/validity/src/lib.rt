@@ -27,8 +27,8 @@ pub struct Window {
     pub end: Date,
 }
 
-// What windows say of an id on a date, each case stronger than those before it: no window of the id holds the date; one does;
-// a window does not start before its end; a window has a date that does not exist or is out of bounds.
+// What windows say of an id on a date, each case stronger than those before it: no window of the id holds the date;
+// one does; a window does not start before its end; a window has a date that does not exist or is out of bounds.
 pub enum Standing {
     Away,
     Holds,
@@ -61,7 +61,8 @@ pub fn place_by(image: &[u8], id: u32, date: Date, s: Standing) -> NamedOn
     }
 }
 
-// The part of the lent image that is an id's name on a date, where the windows say s; empty if it has none, or is refused.
+// The part of the lent image that is an id's name on a date, where the windows say s; empty if it has none, or is
+// refused.
 fn part_by<'a>(image: &'a [u8], id: u32, date: Date, s: Standing) -> &'a [u8]
     ensures { λ r. ⌜ slice r ≡ partBy (slice (image .entry)) id date s ⌝ }
 {
@@ -76,8 +77,8 @@ fn part_by<'a>(image: &'a [u8], id: u32, date: Date, s: Standing) -> &'a [u8]
     }
 }
 
-// The place of an id's name on a date, or nothing; or refusal 22 for a date that does not exist or is out of bounds, the one
-// asked about or a window's, and after that 23 for a window that does not start before its end.
+// The place of an id's name on a date, or nothing; or refusal 22 for a date that does not exist or is out of bounds,
+// the one asked about or a window's, and after that 23 for a window that does not start before its end.
 pub fn to_str_on(image: &[u8], id: u32, date: Date, windows: &[Window]) -> NamedOn
     ensures { λ r. ⌜ namedOnOf r ≡ namingOn (now (image .entry)) id date (now (windows .entry)) ⌝ }
 {

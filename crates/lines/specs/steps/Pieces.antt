@@ -1,5 +1,5 @@
--- An input that comes in pieces, as the code takes it. No rule of 01 stands here: proofs/WholeInput shows that pieces of any sizes leave what specs/Lines
--- says that the whole input leaves.
+-- An input that comes in pieces, as the code takes it. No rule of 01 stands here: proofs/WholeInput shows that pieces
+-- of any sizes leave what specs/Lines says that the whole input leaves.
 use Prim.Native.Nat.{ℕ, _+_, _≤_}
 use mathlib.Core.Path.{_≡_}
 use mathlib.Core.Bool.{cond}
@@ -10,8 +10,8 @@ use Rattle.writer.specs.State.{State, stateWith}
 use Rattle.lines.specs.declared.Intake.{Intake}
 use Rattle.lines.specs.Lines.{afterPutLine, afterInput}
 
--- what is kept between the pieces: the writer record and its buffer, the room in which the line at hand is gathered, and how many of its bytes have come,
--- or the room's length where the line fills it or is longer
+-- what is kept between the pieces: the writer record and its buffer, the room in which the line at hand is gathered,
+-- and how many of its bytes have come, or the room's length where the line fills it or is longer
 pub record Gathering : Type 0 where
   pub state : State
   pub room : List ℕ
@@ -25,7 +25,8 @@ gathering t counts buffer room = record { state = stateWith (t .writer) counts b
 abbrev pub started : State → List ℕ → Gathering
 started s room = record { state = s; room = room; have = 0 }
 
--- one byte more of the line at hand: it is stored and counted while there is room (`set` past the end of a list changes nothing)
+-- one byte more of the line at hand: it is stored and counted while there is room (`set` past the end of a list
+-- changes nothing)
 abbrev pub haveAfter : List ℕ → ℕ → ℕ
 haveAfter room have = cond (ltb have (length room)) (have + 1) have
 
@@ -66,7 +67,8 @@ inputEnded g = lineEnded g .state
 
 -- what holds of every input
 pub record AnyPieces : Type 0 where
-  -- in whatever pieces it comes, they leave what the rule of 01 leaves of the whole, where the room for a line is no shorter than the buffer
+  -- in whatever pieces it comes, they leave what the rule of 01 leaves of the whole, where the room for a line is no
+  -- shorter than the buffer
   pub whole : (s : State) (room : List ℕ) (ps : List (List ℕ)) → s .writer .length ≤ length room
       → inputEnded (takePieces (started s room) ps) ≡ afterInput s (wholeInput ps)
   -- by the rule itself, an input that is cut at a line feed is put part by part

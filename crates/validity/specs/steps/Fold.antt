@@ -1,4 +1,5 @@
--- How one pass finds what the windows say: what each says, and the stronger of two. `folded-is-said` (proofs/WindowLaws) joins it to the rule.
+-- How one pass finds what the windows say: what each says, and the stronger of two. `folded-is-said`
+-- (proofs/WindowLaws) joins it to the rule.
 use Prim.Native.Nat.{ℕ}
 use mathlib.Core.Bool.{cond}
 use mathlib.Core.List.{List, [], _∷_}

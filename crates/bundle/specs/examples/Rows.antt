@@ -1,5 +1,5 @@
--- Worked examples of 02 (i): files and positions, appends, and what is answered. The images are bytes of which only the size word is not 0, since a walk
--- looks at nothing else.
+-- Worked examples of 02 (i): files and positions, appends, and what is answered. The images are bytes of which only
+-- the size word is not 0, since a walk looks at nothing else.
 use Prim.Native.Nat.{ℕ, _+_, _-_}
 use mathlib.Core.List.{List, [], _∷_, _++_}
 use lib.ListN.{replicate}

@@ -40,10 +40,13 @@ repeatedLines = 48 ∷ 32 ∷ 65 ∷ 10 ∷ 49 ∷ 32 ∷ 65 ∷ 10 ∷ 50 ∷ 3
 
 pub record Demonstration : Type 0 where
   -- the walk of an input's image, however many steps are taken
-  pub walk : (n : ℕ) (input : List ℕ) (m : ℕ) → headSize ≤ n → items (image Twoway (putsOf n input)) 0 m ≡ itemsOf (putsOf n input) 0 m
+  pub walk : (n : ℕ) (input : List ℕ) (m : ℕ) → headSize ≤ n
+      → items (image Twoway (putsOf n input)) 0 m ≡ itemsOf (putsOf n input) 0 m
   -- 02 (viii): it begins without the repeats mode, so the second line of `0 A`, `1 A`, `2 B` is skipped
   pub repeated-puts : putsOf 65536 repeatedLines ≡ entryOf (65 ∷ []) 0 ∷ entryOf (66 ∷ []) 2 ∷ []
-  -- from the example it prints the lines `3 2166` and `0 C`: its entries, its size, and the walk, which ends at the second step
+  -- from the example it prints the lines `3 2166` and `0 C`: its entries, its size, and the walk, which ends at the
+  -- second step
   pub example-entries : length (putsOf 65536 example) ≡ 3
   pub example-size : sizeOf Twoway (putsOf 65536 example) ≡ 2166
-  pub example-walk : (m : ℕ) → items (image Twoway (putsOf 65536 example)) 0 (suc (suc m)) ≡ entryOf (67 ∷ []) 0 ∷ []
+  pub example-walk : (m : ℕ)
+      → items (image Twoway (putsOf 65536 example)) 0 (suc (suc m)) ≡ entryOf (67 ∷ []) 0 ∷ []

@@ -1,4 +1,5 @@
--- What is proved of names with a season (`seasons` in proofs/Theorem): the sentences of 02 (xiv). For all images, ids, dates and lists of windows.
+-- What is proved of names with a season (`seasons` in proofs/Theorem): the sentences of 02 (xiv). For all images,
+-- ids, dates and lists of windows.
 use Prim.Native.Nat.{ℕ, _≤_, _<_}
 use mathlib.Core.Path.{_≡_}
 use mathlib.Core.Logic.{_↔_, _⊎_}
@@ -18,14 +19,16 @@ use Rattle.validity.specs.declared.Window.{Window}
 abbrev pub SomeAt : (Window → Bool) → List Window → Type 0
 SomeAt test windows = (k : ℕ) × (w : Window) × (getElem? windows k ≡ some w) × (test w ≡ true)
 
--- nothing is refused: the date asked about and all dates of the windows exist within the bounds, and every window starts before its end
+-- nothing is refused: the date asked about and all dates of the windows exist within the bounds, and every window
+-- starts before its end
 abbrev pub Accepted : Date → List Window → Type 0
 Accepted date windows =
     (isDate date ≡ true) × (someWindow undated windows ≡ false) × (someWindow turned windows ≡ false)
 
 pub record Seasons : Type 0 where
   -- "month lengths run from 28 to 31"; another number than 1 to 12 is no month, and has no day
-  pub month-lengths : (year month : ℕ) → 1 ≤ month → month ≤ 12 → (28 ≤ monthLength year month) × (monthLength year month ≤ 31)
+  pub month-lengths : (year month : ℕ) → 1 ≤ month → month ≤ 12
+      → (28 ≤ monthLength year month) × (monthLength year month ≤ 31)
   pub no-other-month : (year month : ℕ) → (month < 1) ⊎ (12 < month) → monthLength year month ≡ 0
   -- the order of dates is strict and total
   pub irreflexive : (a : Date) → earlier a a ≡ false
@@ -36,23 +39,29 @@ pub record Seasons : Type 0 where
       → (someWindow test windows ≡ true) ↔ SomeAt test windows
   -- a "window of that id holds the date": the first date included, "the end date not included"
   pub holds-exactly : (id : ℕ) (date : Date) (w : Window)
-      → (holdsDate id date w ≡ true) ↔ ((w .id ≡ id) × (earlier date (w .first) ≡ false) × (earlier date (w .end) ≡ true))
-  -- "gives its name exactly when it has one and some window of that id holds the date": a name on a date is the name of the naming rule
+      → (holdsDate id date w ≡ true)
+      ↔ ((w .id ≡ id) × (earlier date (w .first) ≡ false) × (earlier date (w .end) ≡ true))
+  -- "gives its name exactly when it has one and some window of that id holds the date": a name on a date is the name
+  -- of the naming rule
   pub named-exactly : (image : List ℕ) (id : ℕ) (date : Date) (windows : List Window) (start length : ℕ)
       → (namingOn image id date windows ≡ value (place start length))
       ↔ (Accepted date windows × (naming image id ≡ place start length)
       × (someWindow (holdsDate id date) windows ≡ true))
-  -- 22 for "a date that doesn't exist or lies outside these bounds", the one asked about or a window's; "after these" 23
+  -- 22 for "a date that doesn't exist or lies outside these bounds", the one asked about or a window's; "after these"
+  -- 23
   pub gives-22 : (image : List ℕ) (id : ℕ) (date : Date) (windows : List Window)
-      → (namingOn image id date windows ≡ refusal 22) ↔ ((isDate date ≡ false) ⊎ (someWindow undated windows ≡ true))
+      → (namingOn image id date windows ≡ refusal 22)
+      ↔ ((isDate date ≡ false) ⊎ (someWindow undated windows ≡ true))
   pub gives-23 : (image : List ℕ) (id : ℕ) (date : Date) (windows : List Window)
       → (namingOn image id date windows ≡ refusal 23)
       ↔ ((isDate date ≡ true) × (someWindow undated windows ≡ false) × (someWindow turned windows ≡ true))
   -- what the windows say, and what is answered where they say it, are the rule in two parts
   pub in-two-parts : (image : List ℕ) (id : ℕ) (date : Date) (windows : List Window)
       → placeBy image id date (said id date windows) ≡ namingOn image id date windows
-  -- "adding a window whose dates exist within these bounds, the first before the end, never removes a name on any date", at any place of the list
-  pub adding : (image : List ℕ) (id : ℕ) (date : Date) (before after : List Window) (w : Window) (start length : ℕ)
+  -- "adding a window whose dates exist within these bounds, the first before the end, never removes a name on any
+  -- date", at any place of the list
+  pub adding : (image : List ℕ) (id : ℕ) (date : Date) (before after : List Window) (w : Window)
+      (start length : ℕ)
       → isDate (w .first) ≡ true → isEnd (w .end) ≡ true → earlier (w .first) (w .end) ≡ true
       → namingOn image id date (before ++ after) ≡ value (place start length)
       → namingOn image id date (before ++ w ∷ after) ≡ value (place start length)

@@ -20,9 +20,11 @@ abbrev pub months : List Month
 months =
     -- a common year: 365 days
     month 2023 1 31 ∷ month 2023 2 28 ∷ month 2023 3 31 ∷ month 2023 4 30 ∷ month 2023 5 31 ∷ month 2023 6 30
-    ∷ month 2023 7 31 ∷ month 2023 8 31 ∷ month 2023 9 30 ∷ month 2023 10 31 ∷ month 2023 11 30 ∷ month 2023 12 31
+    ∷ month 2023 7 31 ∷ month 2023 8 31 ∷ month 2023 9 30 ∷ month 2023 10 31 ∷ month 2023 11 30
+    ∷ month 2023 12 31
     -- February by the 4, 100 and 400 rule
-    ∷ month 1900 2 28 ∷ month 1904 2 29 ∷ month 2000 2 29 ∷ month 2024 2 29 ∷ month 2100 2 28 ∷ month 2196 2 29
+    ∷ month 1900 2 28 ∷ month 1904 2 29 ∷ month 2000 2 29 ∷ month 2024 2 29 ∷ month 2100 2 28
+    ∷ month 2196 2 29
     -- no months
     ∷ month 2023 0 0 ∷ month 2023 13 0 ∷ month 2023 255 0
     ∷ []
@@ -43,7 +45,8 @@ abbrev pub days : List Day
 days =
     -- the first and the last, and those beside them
     day (date 1899 12 31) false false ∷ day (date 1900 1 1) true true ∷ day (date 2199 12 31) true true
-    ∷ day (date 2200 1 1) false true ∷ day (date 2200 1 2) false false ∷ day (date 2200 2 1) false false ∷ day (date 2201 1 1) false false
+    ∷ day (date 2200 1 1) false true ∷ day (date 2200 1 2) false false ∷ day (date 2200 2 1) false false
+    ∷ day (date 2201 1 1) false false
     -- 29 February
     ∷ day (date 1900 2 29) false false ∷ day (date 2000 2 29) true true ∷ day (date 2023 2 29) false false
     ∷ day (date 2024 2 29) true true ∷ day (date 2024 2 30) false false ∷ day (date 2100 2 29) false false
@@ -73,7 +76,8 @@ quay = place 2080 4
 abbrev spring : Window
 spring = window 5 (date 2024 3 1) (date 2024 6 1)
 
--- the same months of the id 6; June; a window with its dates exchanged; one of no day; and one with a date that does not exist
+-- the same months of the id 6; June; a window with its dates exchanged; one of no day; and one with a date that does
+-- not exist
 abbrev of-six : Window
 of-six = window 6 (date 2024 3 1) (date 2024 6 1)
 
@@ -102,7 +106,8 @@ seasonRows =
     ∷ row quay (date 2024 4 1) (of-six ∷ spring ∷ []) (value quay)
     ∷ row quay (date 2024 4 1) [] (value unnamed)
     ∷ row unnamed (date 2024 4 1) (spring ∷ []) (value unnamed)
-    -- 22 for the date asked about; for a window's, also of another id and of an id without a name; before a 23 that stands in front
+    -- 22 for the date asked about; for a window's, also of another id and of an id without a name; before a 23 that
+    -- stands in front
     ∷ row quay (date 2024 2 30) [] (refusal 22)
     ∷ row quay (date 2200 1 1) (spring ∷ []) (refusal 22)
     ∷ row quay (date 2024 4 1) (spring ∷ no-day ∷ []) (refusal 22)

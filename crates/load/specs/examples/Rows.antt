@@ -1,4 +1,5 @@
--- Worked examples of the load: how many entries buffers of some lengths take, whatever the seed, and the first name of seed 0.
+-- Worked examples of the load: how many entries buffers of some lengths take, whatever the seed, and the first name
+-- of seed 0.
 use Prim.Native.Nat.{ℕ}
 use mathlib.Core.Path.{_≡_}
 use mathlib.Core.List.{List, [], _∷_}

@@ -1,4 +1,5 @@
--- What is proved of the load (`rebuilt` in proofs/Theorem): 02 (xiii), for all seeds and buffers. That the states of a seed do not repeat is not claimed.
+-- What is proved of the load (`rebuilt` in proofs/Theorem): 02 (xiii), for all seeds and buffers. That the states of
+-- a seed do not repeat is not claimed.
 use Prim.Native.Nat.{ℕ, zero, suc, _+_, _*_, _-_, _/_, _^_, _≤_, _<_, min}
 use mathlib.Core.Path.{_≡_}
 use mathlib.Core.Bool.{cond}
@@ -26,7 +27,8 @@ unfoldable pub firstPuts : ℕ → ℕ → List Call
 unfolding firstEntries putAll
 firstPuts seed n = putAll (firstEntries seed n)
 
--- how many entries a buffer of n bytes has room for: each takes 38 bytes of the image, 34 by 01's formula with a name of 9 bytes and 4 in the back array
+-- how many entries a buffer of n bytes has room for: each takes 38 bytes of the image, 34 by 01's formula with a name
+-- of 9 bytes and 4 in the back array
 abbrev pub roomFor : ℕ → ℕ
 roomFor n = min 4096 ((n - headSize) / 38)
 
@@ -38,7 +40,8 @@ hexFrom v (b ∷ bs) = hexFrom (v * 16 + cond (ltb b 58) (b - 48) (b - 55)) bs
 -- a load in a buffer in which a writer can begin; k is the number of its accepted entries
 pub record Load (seed : ℕ) (buffer : List ℕ) (k : ℕ) : Type 0 where
   pub given : loading seed buffer ≡ value k
-  -- it is a list of calls as in demand 3, the puts of the first k entries, all accepted, and a close; so all of demand 3 holds of it
+  -- it is a list of calls as in demand 3, the puts of the first k entries, all accepted, and a close; so all of
+  -- demand 3 holds of it
   pub listed : loadPut seed buffer ≡ afterList Twoway On buffer (firstPuts seed k)
   pub all-accepted : acceptedPuts Twoway On buffer (firstPuts seed k) ≡ firstEntries seed k
   pub demand3 : OneList On buffer (firstPuts seed k)
@@ -55,7 +58,8 @@ pub record Rebuilt : Type 0 where
   pub digits-read : (s : ℕ) → s < 2 ^ 32 → hexFrom 0 (drop 1 (stateName s)) ≡ s
   pub nine-bytes : (s : ℕ) → length (stateName s) ≡ 9
   -- the number of accepted entries follows from the buffer's length alone, whatever the seed
-  pub loaded : (seed : ℕ) (buffer : List ℕ) → headSize ≤ length buffer → Load seed buffer (roomFor (length buffer))
+  pub loaded : (seed : ℕ) (buffer : List ℕ) → headSize ≤ length buffer
+      → Load seed buffer (roomFor (length buffer))
   -- with 157,720 bytes or more all 4,096 are accepted, and the size is then 157,720
   pub all-loaded : (seed : ℕ) (buffer : List ℕ) → 157720 ≤ length buffer → Load seed buffer 4096
   pub full-size : headSize + 38 * 4096 ≡ 157720

@@ -3,7 +3,7 @@ use Prim.Native.Nat.{ℕ}
 use Prim.Native.String.{String}
 use mathlib.Core.List.{List, [], _∷_}
 use mathlib.Core.Option.{Option, none, some}
-use Rattle.page.specs.Ascii.{bytesOf}
+use Rattle.page.specs.examples.Ascii.{bytesOf}
 
 -- an id, its name or none, and its line
 pub record Row : Type 0 where
@@ -33,7 +33,8 @@ pageRows =
     ∷ row 32 (text "abcdefghijklmnopqrstuvwxyz012345") "        32 abcdefghijklmnopqrstuvwxyz012345 "
     ∷ row 33 (text "abcdefghijklmnopqrstuvwxyz0123456") "        33 abcdefghijklmnopqrstuvwxyz012345+"
     -- bytes 31, 32, 126, 127, 128 and 255, and a line feed
-    ∷ row 5 (some (31 ∷ 32 ∷ 126 ∷ 127 ∷ 128 ∷ 255 ∷ 10 ∷ [])) "         5 . ~....                          "
+    ∷ row 5 (some (31 ∷ 32 ∷ 126 ∷ 127 ∷ 128 ∷ 255 ∷ 10 ∷ []))
+    "         5 . ~....                          "
     ∷ []
 
 -- the names of the ids from 0 on, and the page's lines

@@ -1,5 +1,5 @@
--- What is proved of bundles (`bundles` in proofs/Theorem): the sentences of 02 (i), and what a caller asks next. For all files, buffers, numbers and
--- images.
+-- What is proved of bundles (`bundles` in proofs/Theorem): the sentences of 02 (i), and what a caller asks next. For
+-- all files, buffers, numbers and images.
 use Prim.Native.Nat.{ℕ, suc, _+_, _^_, _≤_, _<_}
 use mathlib.Core.Path.{_≡_}
 use mathlib.Core.Logic.{_↔_}
@@ -34,10 +34,12 @@ pub record HoldsImages (file : List ℕ) (from n : ℕ) : Type 0 where
 -- a file before and after an accepted append of an image
 pub record Grown (old new image : List ℕ) : Type 1 where
   -- every earlier position opens to the same part, byte for byte
-  pub earlier : (k : ℕ) (p : Place) → placeOfImage old k ≡ value p → (placeOfImage new k ≡ value p) × (imagePart new p ≡ imagePart old p)
+  pub earlier : (k : ℕ) (p : Place) → placeOfImage old k ≡ value p
+      → (placeOfImage new k ≡ value p) × (imagePart new p ≡ imagePart old p)
   pub opens : (k : ℕ) (p : Place) → placeOfImage old k ≡ value p → openingAt new k ≡ openingAt old k
   -- "every name and id in the earlier images must be answered as before": so is whatever is asked of the part alone
-  pub asked : {A : Type 0} (ask : List ℕ → A) (k : ℕ) (p : Place) → placeOfImage old k ≡ value p → ask (imagePart new p) ≡ ask (imagePart old p)
+  pub asked : {A : Type 0} (ask : List ℕ → A) (k : ℕ) (p : Place) → placeOfImage old k ≡ value p
+      → ask (imagePart new p) ≡ ask (imagePart old p)
   -- the position after the last is the appended image, which opens as it does alone; and no image follows it
   pub images : ℕ
   pub held : HoldsImages old 0 images
@@ -46,7 +48,8 @@ pub record Grown (old new image : List ℕ) : Type 1 where
   pub last-opens : openingAt new images ≡ withNum (record { start = length old; size = length image }) (opening image)
   pub one-more : HoldsImages new 0 (suc images)
 
--- an accepted append: "writes the image's bytes right after the file's, changes no other byte and gives the joined length"
+-- an accepted append: "writes the image's bytes right after the file's, changes no other byte and gives the joined
+-- length"
 pub record Accepts (buf : List ℕ) (n : ℕ) (image : List ℕ) (m : ℕ) : Type 1 where
   pub joined-length : m ≡ n + length image
   pub in-buffer : m ≤ length buf
@@ -61,26 +64,38 @@ left buf images = afterAll (emptyFile buf) images
 pub record Bundles : Type 1 where
   pub exact : (file : List ℕ) (k : ℕ) (p : Place) → placeOfImage file k ≡ value p → Exact file p
   -- the returned part is that image; it is empty exactly where the walk is refused
-  pub returned : (file : Slice) (k : ℕ) (image : List ℕ) → (imageAt (file .bytes) k ≡ value image) → returnedPart file k .bytes ≡ image
-  pub nothing-returned : (file : Slice) (k : ℕ) → (length (returnedPart file k .bytes) ≡ 0) ↔ ((r : ℕ) × (placeOfImage (file .bytes) k ≡ refusal r))
+  pub returned : (file : Slice) (k : ℕ) (image : List ℕ) → (imageAt (file .bytes) k ≡ value image)
+      → returnedPart file k .bytes ≡ image
+  pub nothing-returned : (file : Slice) (k : ℕ)
+      → (length (returnedPart file k .bytes) ≡ 0) ↔ ((r : ℕ) × (placeOfImage (file .bytes) k ≡ refusal r))
   -- "walks from the front only as far as the position": what follows the image is not looked at
-  pub only-as-far : (a b : List ℕ) (k : ℕ) (p : Place) → placeOfImage a k ≡ value p → take (imageEnd p) a ≡ take (imageEnd p) b → placeOfImage b k ≡ value p
+  pub only-as-far : (a b : List ℕ) (k : ℕ) (p : Place) → placeOfImage a k ≡ value p
+      → take (imageEnd p) a ≡ take (imageEnd p) b → placeOfImage b k ≡ value p
   -- a position behind a broken place or behind the end is refused as that place is
-  pub for-good : (file : List ℕ) (j d r : ℕ) → placeOfImage file j ≡ refusal r → placeOfImage file (j + d) ≡ refusal r
+  pub for-good : (file : List ℕ) (j d r : ℕ) → placeOfImage file j ≡ refusal r
+      → placeOfImage file (j + d) ≡ refusal r
   -- the count is that of the positions that have an image; 10 exactly when some position gives 10
   pub counted : (file : List ℕ) (n : ℕ) → (counting file ≡ value n) ↔ HoldsImages file 0 n
-  pub not-counted : (file : List ℕ) → (counting file ≡ refusal 10) ↔ ((k : ℕ) × (placeOfImage file k ≡ refusal 10))
+  pub not-counted : (file : List ℕ)
+      → (counting file ≡ refusal 10) ↔ ((k : ℕ) × (placeOfImage file k ≡ refusal 10))
   -- appends
-  pub accepts : (buf : List ℕ) (n : ℕ) (image : List ℕ) (m : ℕ) → appending buf n image ≡ value m → Accepts buf n image m
-  pub refuses : (buf : List ℕ) (n : ℕ) (image : List ℕ) (r : ℕ) → appending buf n image ≡ refusal r → afterAppend buf n image ≡ buf
+  pub accepts : (buf : List ℕ) (n : ℕ) (image : List ℕ) (m : ℕ) → appending buf n image ≡ value m
+      → Accepts buf n image m
+  pub refuses : (buf : List ℕ) (n : ℕ) (image : List ℕ) (r : ℕ) → appending buf n image ≡ refusal r
+      → afterAppend buf n image ≡ buf
   -- an image of 2^32 bytes or more is turned down, since no size word says so much
-  pub too-large : (image : List ℕ) → ((i : ℕ) → getD image i 0 < 256) → 2 ^ 32 ≤ length image → unfit image ≡ true
+  pub too-large : (image : List ℕ) → ((i : ℕ) → getD image i 0 < 256) → 2 ^ 32 ≤ length image
+      → unfit image ≡ true
   -- lists of appends: the file is the accepted images back to back, and position k has the k-th of them
-  pub back-to-back : (buf : List ℕ) (images : List (List ℕ)) → bytes (left buf images) ≡ backToBack (acceptedImages (emptyFile buf) images)
-  pub position : (buf : List ℕ) (images : List (List ℕ)) (k : ℕ) → imageAt (bytes (left buf images)) k ≡ nthImage (acceptedImages (emptyFile buf) images) k
+  pub back-to-back : (buf : List ℕ) (images : List (List ℕ))
+      → bytes (left buf images) ≡ backToBack (acceptedImages (emptyFile buf) images)
+  pub position : (buf : List ℕ) (images : List (List ℕ)) (k : ℕ)
+      → imageAt (bytes (left buf images)) k ≡ nthImage (acceptedImages (emptyFile buf) images) k
   -- and opens as it does alone
-  pub position-opens : (buf : List ℕ) (images : List (List ℕ)) (k : ℕ) (image : List ℕ) → nthImage (acceptedImages (emptyFile buf) images) k ≡ value image
-      → (p : Place) × (placeOfImage (bytes (left buf images)) k ≡ value p) × (openingAt (bytes (left buf images)) k ≡ withNum p (opening image))
+  pub position-opens : (buf : List ℕ) (images : List (List ℕ)) (k : ℕ) (image : List ℕ)
+      → nthImage (acceptedImages (emptyFile buf) images) k ≡ value image
+      → (p : Place) × (placeOfImage (bytes (left buf images)) k ≡ value p)
+      × (openingAt (bytes (left buf images)) k ≡ withNum p (opening image))
   -- which of them are accepted: the image and the buffer's room alone decide
   pub decided : (buf : List ℕ) (images : List (List ℕ)) (image : List ℕ)
       → appendRefusal (left buf images .buffer) (left buf images .size) image

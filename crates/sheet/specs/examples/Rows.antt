@@ -31,7 +31,8 @@ readRows =
     -- a count of 256 and no id: the count's second byte counts 256
     ∷ reads (0 ∷ 1 ∷ 0 ∷ 0 ∷ 0 ∷ 0 ∷ []) (refusal 19)
     -- all three sections, and the largest id
-    ∷ reads (1 ∷ 0 ∷ 7 ∷ 0 ∷ 0 ∷ 0 ∷ 2 ∷ 0 ∷ 8 ∷ 0 ∷ 0 ∷ 0 ∷ 9 ∷ 0 ∷ 0 ∷ 0 ∷ 1 ∷ 0 ∷ 255 ∷ 255 ∷ 255 ∷ 255 ∷ [])
+    ∷ reads (1 ∷ 0 ∷ 7 ∷ 0 ∷ 0 ∷ 0 ∷ 2 ∷ 0 ∷ 8 ∷ 0 ∷ 0 ∷ 0 ∷ 9 ∷ 0 ∷ 0 ∷ 0 ∷ 1 ∷ 0
+    ∷ 255 ∷ 255 ∷ 255 ∷ 255 ∷ [])
     (value (lent (7 ∷ []) (8 ∷ 9 ∷ []) (4294967295 ∷ [])))
     ∷ []
 
@@ -49,8 +50,10 @@ abbrev pub writeRows : List WriteRow
 writeRows =
     -- no ids: one byte short, exactly full, a byte to spare
     writes (9 ∷ 9 ∷ 9 ∷ 9 ∷ 9 ∷ []) (lent [] [] []) (refusal 21) (9 ∷ 9 ∷ 9 ∷ 9 ∷ 9 ∷ [])
-    ∷ writes (9 ∷ 9 ∷ 9 ∷ 9 ∷ 9 ∷ 9 ∷ []) (lent [] [] []) (value 6) (0 ∷ 0 ∷ 0 ∷ 0 ∷ 0 ∷ 0 ∷ [])
-    ∷ writes (9 ∷ 9 ∷ 9 ∷ 9 ∷ 9 ∷ 9 ∷ 9 ∷ []) (lent [] [] []) (value 6) (0 ∷ 0 ∷ 0 ∷ 0 ∷ 0 ∷ 0 ∷ 9 ∷ [])
+    ∷ writes (9 ∷ 9 ∷ 9 ∷ 9 ∷ 9 ∷ 9 ∷ []) (lent [] [] []) (value 6)
+    (0 ∷ 0 ∷ 0 ∷ 0 ∷ 0 ∷ 0 ∷ [])
+    ∷ writes (9 ∷ 9 ∷ 9 ∷ 9 ∷ 9 ∷ 9 ∷ 9 ∷ []) (lent [] [] []) (value 6)
+    (0 ∷ 0 ∷ 0 ∷ 0 ∷ 0 ∷ 0 ∷ 9 ∷ [])
     -- an id in each of two sections
     ∷ writes (9 ∷ 9 ∷ 9 ∷ 9 ∷ 9 ∷ 9 ∷ 9 ∷ 9 ∷ 9 ∷ 9 ∷ 9 ∷ 9 ∷ 9 ∷ 9 ∷ 9 ∷ [])
     (lent (0x04030201 ∷ []) [] (4294967295 ∷ [])) (value 14)
@@ -60,5 +63,7 @@ writeRows =
 -- what the rows say
 pub record Answers : Type 0 where
   pub reads : map (λ (r : ReadRow). readLists (r .file)) readRows ≡ map (λ (r : ReadRow). r .lists) readRows
-  pub gives : map (λ (r : WriteRow). writing (length (r .buffer)) (r .lists)) writeRows ≡ map (λ (r : WriteRow). r .gives) writeRows
-  pub leaves : map (λ (r : WriteRow). afterWriting (r .buffer) (r .lists)) writeRows ≡ map (λ (r : WriteRow). r .leaves) writeRows
+  pub gives : map (λ (r : WriteRow). writing (length (r .buffer)) (r .lists)) writeRows
+      ≡ map (λ (r : WriteRow). r .gives) writeRows
+  pub leaves : map (λ (r : WriteRow). afterWriting (r .buffer) (r .lists)) writeRows
+      ≡ map (λ (r : WriteRow). r .leaves) writeRows

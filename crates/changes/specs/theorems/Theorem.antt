@@ -23,7 +23,8 @@ pub record First (old new : List ℕ) (from k : ℕ) : Type 0 where
 -- the ids that m calls answer at most, each call from behind the id that the one before it answered
 unfoldable pub calls : List ℕ → List ℕ → ℕ → ℕ → List ℕ
 calls old new from zero = []
-calls old new from (suc m) = elim (firstChange old new from) [ some id ↦ id ∷ calls old new (id + 1) m | none ↦ [] ]
+calls old new from (suc m) =
+    elim (firstChange old new from) [ some id ↦ id ∷ calls old new (id + 1) m | none ↦ [] ]
 
 -- an answer with the images exchanged
 abbrev pub exchanged : Change → Change
@@ -49,7 +50,8 @@ pub record Compared : Type 0 where
   pub alike-exactly : (old new : List ℕ) (id : ℕ)
       → (differs old new id ≡ false) ↔ (nameGiven old id ≡ nameGiven new id)
   -- the id of an answer is the first that differs; where none is answered, no id from there on differs, however large
-  pub first-exactly : (old new : List ℕ) (from k : ℕ) → (firstChange old new from ≡ some k) ↔ First old new from k
+  pub first-exactly : (old new : List ℕ) (from k : ℕ)
+      → (firstChange old new from ≡ some k) ↔ First old new from k
   pub none-exactly : (old new : List ℕ) (from : ℕ)
       → (firstChange old new from ≡ none) ↔ ((id : ℕ) → from ≤ id → nameGiven old id ≡ nameGiven new id)
   -- at the upper bound and above it both name nothing
@@ -63,4 +65,5 @@ pub record Compared : Type 0 where
   -- "swapping the images swaps the answers"
   pub swaps : (old new : List ℕ) (from : ℕ) → nextChange new old from ≡ exchanged (nextChange old new from)
   -- "this id's old name is now another id's name (looked up in the new image), with that id"
-  pub moved-exactly : (old new : List ℕ) (id other : ℕ) → (moved old new id ≡ some other) ↔ MovesTo old new id other
+  pub moved-exactly : (old new : List ℕ) (id other : ℕ)
+      → (moved old new id ≡ some other) ↔ MovesTo old new id other
