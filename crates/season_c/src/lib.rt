@@ -1,11 +1,11 @@
 // Names with a season, for C.
 use validity::Date;
 use validity::NamedOn;
-use validity::Standing;
 use validity::Window;
+use validity::WindowState;
 ghost use mathlib.Core.Path.{_≡_};
 ghost use Rattle.validity.specs.Rule.{namingOn};
-ghost use Rattle.validity.specs.Saying.{placeBy};
+ghost use Rattle.validity.specs.Windows.{placeBy};
 ghost use Rattle.season_c.specs.NameOnAnswer.{onAnswer};
 
 // The refusal's number, 0 when accepted; 1 and the place of the name in the image, its length and its first byte's
@@ -19,7 +19,7 @@ pub struct OnAnswer {
 }
 
 // The place of an id's name on a date as C has it, where the windows say s.
-fn answer_by(image: &[u8], id: u32, date: Date, s: Standing) -> OnAnswer
+fn answer_by(image: &[u8], id: u32, date: Date, s: WindowState) -> OnAnswer
     ensures { λ r. ⌜ r ≡ onAnswer (placeBy (now (image .entry)) id date s) ⌝ }
 {
     match validity::place_by(image, id, date, s) {
@@ -53,6 +53,6 @@ pub extern "C" fn cqdb_name_on(image: &[u8], id: u32, date: Date, windows: &[Win
         image,
         id,
         date,
-        validity::windows::standing(windows, id, date),
+        validity::windows::window_state(windows, id, date),
     )
 }

@@ -9,7 +9,7 @@ use mathlib.Core.List.{List, [], _∷_}
 use types.Run.{OneOf, hit, miss}
 use mir.Val.{hasKey}
 use borrow.Author.Tests.{ne-eqb}
-use lib.Dec.{T as Holds, eqb}
+use lib.Dec.{T as Active, eqb}
 use Rattle.validity.specs.Calendar.{leap, oneOf, monthLength}
 
 module _ (year : ℕ) where
@@ -91,8 +91,8 @@ hit-or-miss : (ks : List ℕ) (m : ℕ) → OneOf ks m ⊎ (¬ OneOf ks m)
 hit-or-miss ks m = go (hasKey ks m) refl
   where
     go : (t : Bool) → hasKey ks m ≡ t → OneOf ks m ⊎ (¬ OneOf ks m)
-    go true e = inl (hit ks m (subst Holds (sym e) tt))
-    go false e = inr (miss ks m (subst (λ (b : Bool). Holds (not b)) (sym e) tt))
+    go true e = inl (hit ks m (subst Active (sym e) tt))
+    go false e = inr (miss ks m (subst (λ (b : Bool). Active (not b)) (sym e) tt))
 
 within : (year m : ℕ) (k : ℕ) → k ≡ monthLength year m → 28 ≤ k → k ≤ 31 → (28 ≤ monthLength year m) × (monthLength year m ≤ 31)
 within year m k e low high = (omega arith, omega arith)

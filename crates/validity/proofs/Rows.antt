@@ -2,7 +2,7 @@
 use mathlib.Core.Path.{_≡_, refl}
 use mathlib.Core.List.{map}
 use Rattle.validity.specs.Calendar.{leap, oneOf, monthLength, isDate, isEnd, earlier}
-use Rattle.validity.specs.Rule.{someWindow, undated, turned, holdsDate, inSeason}
+use Rattle.validity.specs.Rule.{someWindow, invalidDates, inverted, holdsDate, inSeason}
 use Rattle.validity.specs.examples.Rows.{Month, months, Day, days, Row, seasonRows}
 
 -- every row holds
@@ -13,5 +13,5 @@ pub record Computed : Type 0 where
   pub the-names : map (λ (r : Row). inSeason (r .naming) 5 (r .day) (r .windows)) seasonRows ≡ map (λ (r : Row). r .answer) seasonRows
 
 pub rows-hold : Computed
-unfolding inSeason someWindow undated turned holdsDate isEnd isDate earlier monthLength oneOf leap
+unfolding inSeason someWindow invalidDates inverted holdsDate isEnd isDate earlier monthLength oneOf leap
 rows-hold = record { the-months = refl; the-days = refl; the-ends = refl; the-names = refl }

@@ -12,7 +12,7 @@ use Rattle.jhash.specs.Outcome.{Outcome, value, refusal}
 use Rattle.reader.specs.Naming.{Naming, place, unnamed, naming}
 use Rattle.reader.proofs.Namings.{never}
 use Rattle.validity.specs.Calendar.{isDate, isEnd, earlier}
-use Rattle.validity.specs.Rule.{someWindow, undated, turned, holdsDate, inSeason, namingOn}
+use Rattle.validity.specs.Rule.{someWindow, invalidDates, inverted, holdsDate, inSeason, namingOn}
 use Rattle.validity.specs.theorems.Seasons.{SomeAt, Accepted, Seasons}
 use Rattle.validity.specs.declared.Date.{Date}
 use Rattle.validity.specs.declared.Window.{Window}
@@ -100,7 +100,7 @@ holds-exactly id date w = (to, from)
         → (eqb (w .id) id && not (earlier date (w .first)) && earlier date (w .end)) ≡ true
     from (i, p, q) = λ k. eq-eqb (w .id) id i k && not (p k) && q k
 
--- ---- the answer, by the four tests: the date exists; some window is undated, is turned, holds the date
+-- ---- the answer, by the four tests: the date exists; some window is invalidDates, is inverted, holds the date
 module _ (n : Naming) where
   abbrev by : Bool → Bool → Bool → Bool → Outcome Naming
   by t a b c = cond (not t) (refusal 22) (cond a (refusal 22) (cond b (refusal 23) (value (cond c n unnamed))))
@@ -145,10 +145,10 @@ module _ (image : List ℕ) (id : ℕ) (date : Date) (ws : List Window) where
   t = isDate date
 
   abbrev a : Bool
-  a = someWindow undated ws
+  a = someWindow invalidDates ws
 
   abbrev b : Bool
-  b = someWindow turned ws
+  b = someWindow inverted ws
 
   abbrev c : Bool
   c = someWindow (holdsDate id date) ws
@@ -172,13 +172,13 @@ module _ (image : List ℕ) (id : ℕ) (date : Date) (ws : List Window) where
 adding : (image : List ℕ) (id : ℕ) (date : Date) (before after : List Window) (w : Window) (s l : ℕ)
     → isDate (w .first) ≡ true → isEnd (w .end) ≡ true → earlier (w .first) (w .end) ≡ true
     → namingOn image id date (before ++ after) ≡ value (place s l) → namingOn image id date (before ++ w ∷ after) ≡ value (place s l)
-unfolding undated turned
+unfolding invalidDates inverted
 adding image id date before after w s l first end starts e =
     let so = named-exactly image id date (before ++ after) s l .0 e in
-    let dated : undated w ≡ false = λ i. not (first i) || not (end i) in
-    let straight : turned w ≡ false = λ i. not (starts i) in
+    let dated : invalidDates w ≡ false = λ i. not (first i) || not (end i) in
+    let straight : inverted w ≡ false = λ i. not (starts i) in
     named-exactly image id date (before ++ w ∷ after) s l .1 (
-      (so .0 .0, none-added undated w after before dated (so .0 .1), none-added turned w after before straight (so .0 .2)),
+      (so .0 .0, none-added invalidDates w after before dated (so .0 .1), none-added inverted w after before straight (so .0 .2)),
       so .1,
       some-added (holdsDate id date) w after before (so .2),
     )

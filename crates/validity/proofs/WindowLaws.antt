@@ -9,19 +9,19 @@ use Rattle.jhash.specs.Outcome.{Outcome, value, refusal}
 use Rattle.reader.specs.Slices.{Slice, part}
 use Rattle.reader.specs.Naming.{Naming, unnamed, naming, partOr}
 use Rattle.validity.specs.Calendar.{isDate}
-use Rattle.validity.specs.Rule.{someWindow, undated, turned, holdsDate, inSeason, namingOn, namedIn, namePartOn}
-use Rattle.validity.specs.steps.Fold.{told, stronger, stepped, folded}
-use Rattle.validity.specs.Saying.{said, answerBy, placeBy, partBy}
+use Rattle.validity.specs.Rule.{someWindow, invalidDates, inverted, holdsDate, inSeason, namingOn, namedIn, namePartOn}
+use Rattle.validity.specs.steps.Fold.{stateOf, stronger, stepped, folded}
+use Rattle.validity.specs.Windows.{windowState, answerBy, placeBy, partBy}
 use Rattle.validity.specs.declared.Date.{Date}
 use Rattle.validity.specs.declared.Window.{Window}
-use Rattle.validity.specs.declared.Standing.{Standing}
-use Rattle.validity.specs.declared.Standing.the-variants.{Away, Holds, Turned, Undated}
+use Rattle.validity.specs.declared.WindowState.{WindowState}
+use Rattle.validity.specs.declared.WindowState.the-variants.{Inactive, Active, Inverted, InvalidDate}
 
--- what is said where some window is undated, some turned, some holds
-abbrev form : Bool → Bool → Bool → Standing
-form a b c = cond a Undated (cond b Turned (cond c Holds Away))
+-- the state where some window has an invalid date, some is inverted, some is active
+abbrev form : Bool → Bool → Bool → WindowState
+form a b c = cond a InvalidDate (cond b Inverted (cond c Active Inactive))
 
--- the stronger of two sayings is said by all windows of both
+-- the stronger of two states is the state of all windows of both
 joined : (a b c d e f : Bool) → stronger (form a b c) (form d e f) ≡ form (a || d) (b || e) (c || f)
 joined true b c true e f = refl
 joined true b c false true f = refl
@@ -50,25 +50,25 @@ module _ (id : ℕ) (date : Date) where
   none-more false = refl
 
   folded-form : (a b c : Bool) (ws : List Window)
-      → folded id date (form a b c) ws ≡ form (a || someWindow undated ws) (b || someWindow turned ws) (c || someWindow (holdsDate id date) ws)
-  unfolding folded someWindow told
+      → folded id date (form a b c) ws ≡ form (a || someWindow invalidDates ws) (b || someWindow inverted ws) (c || someWindow (holdsDate id date) ws)
+  unfolding folded someWindow stateOf
   folded-form a b c [] = λ i. form (none-more a i) (none-more b i) (none-more c i)
   folded-form a b c (w ∷ ws) =
-      ap (λ (s : Standing). folded id date s ws) (stepped-form w)
-      ∙ folded-form (a || undated w) (b || turned w) (c || holdsDate id date w) ws
-      ∙ (λ i. form (or-assoc a (undated w) (someWindow undated ws) i) (or-assoc b (turned w) (someWindow turned ws) i)
+      ap (λ (s : WindowState). folded id date s ws) (stepped-form w)
+      ∙ folded-form (a || invalidDates w) (b || inverted w) (c || holdsDate id date w) ws
+      ∙ (λ i. form (or-assoc a (invalidDates w) (someWindow invalidDates ws) i) (or-assoc b (inverted w) (someWindow inverted ws) i)
       (or-assoc c (holdsDate id date w) (someWindow (holdsDate id date) ws) i))
     where
-      stepped-form : (w : Window) → stepped id date (form a b c) w ≡ form (a || undated w) (b || turned w) (c || holdsDate id date w)
-      stepped-form w = joined a b c (undated w) (turned w) (holdsDate id date w)
+      stepped-form : (w : Window) → stepped id date (form a b c) w ≡ form (a || invalidDates w) (b || inverted w) (c || holdsDate id date w)
+      stepped-form w = joined a b c (invalidDates w) (inverted w) (holdsDate id date w)
 
   -- one pass computes the rule
-  pub folded-is-said : (ws : List Window) → folded id date Away ws ≡ said id date ws
-  unfolding said
-  folded-is-said ws = folded-form false false false ws
+  pub folded-is-state : (ws : List Window) → folded id date Inactive ws ≡ windowState id date ws
+  unfolding windowState
+  folded-is-state ws = folded-form false false false ws
 
   -- ---- the windows from the place i on; d stands behind the last
-  module _ (s : Standing) (ws : List Window) (d : Window) (i : ℕ) where
+  module _ (s : WindowState) (ws : List Window) (d : Window) (i : ℕ) where
     pub folded-end : length ws ≤ i → folded id date s (drop i ws) ≡ s
     unfolding folded
     folded-end h = ap (folded id date s) (drop-of-length-le ws h)
@@ -77,13 +77,13 @@ module _ (id : ℕ) (date : Date) where
     unfolding folded
     folded-on h = ap (folded id date s) (drop-cons ws i d h)
 
--- ---- what is answered by what is said is the rule's answer
+-- ---- the answer by the state is the rule's answer
 module _ (image : List ℕ) (id : ℕ) (date : Date) (ws : List Window) where
-  pub placed : placeBy image id date (said id date ws) ≡ namingOn image id date ws
-  unfolding said inSeason
+  pub placed : placeBy image id date (windowState id date ws) ≡ namingOn image id date ws
+  unfolding windowState inSeason
   placed =
       ap (λ (x : Outcome Naming). cond (not (isDate date)) (refusal 22) x)
-      (by-form (someWindow undated ws) (someWindow turned ws) (someWindow (holdsDate id date) ws))
+      (by-form (someWindow invalidDates ws) (someWindow inverted ws) (someWindow (holdsDate id date) ws))
     where
       by-form : (a b c : Bool) → answerBy (form a b c) (naming image id)
           ≡ cond a (refusal 22) (cond b (refusal 23) (value (cond c (naming image id) unnamed)))
@@ -92,5 +92,5 @@ module _ (image : List ℕ) (id : ℕ) (date : Date) (ws : List Window) where
       by-form false false true = refl
       by-form false false false = refl
 
-pub parted : (image : Slice) (id : ℕ) (date : Date) (ws : List Window) → partBy image id date (said id date ws) ≡ namePartOn image id date ws
+pub parted : (image : Slice) (id : ℕ) (date : Date) (ws : List Window) → partBy image id date (windowState id date ws) ≡ namePartOn image id date ws
 parted image id date ws = ap (λ (x : Outcome Naming). partOr image (part image 0 0) (namedIn x)) (placed (image .bytes) id date ws)

@@ -11,25 +11,25 @@ use Rattle.reader.specs.Slices.{Slice, part}
 use Rattle.reader.specs.Naming.{Naming, place, unnamed, naming, partOr}
 use Rattle.reader.proofs.Namings.{never}
 use Rattle.validity.specs.Calendar.{isDate, isEnd, earlier}
-use Rattle.validity.specs.Rule.{undated, turned, holdsDate, namedIn}
-use Rattle.validity.specs.steps.Fold.{told, rank, stronger}
-use Rattle.validity.specs.Saying.{answerBy, placeBy, partBy}
+use Rattle.validity.specs.Rule.{invalidDates, inverted, holdsDate, namedIn}
+use Rattle.validity.specs.steps.Fold.{stateOf, rank, stronger}
+use Rattle.validity.specs.Windows.{answerBy, placeBy, partBy}
 use Rattle.validity.specs.declared.Date.{Date}
 use Rattle.validity.specs.declared.Window.{Window}
-use Rattle.validity.specs.declared.Standing.{Standing}
-use Rattle.validity.specs.declared.Standing.the-variants.{Away, Holds, Turned, Undated}
+use Rattle.validity.specs.declared.WindowState.{WindowState}
+use Rattle.validity.specs.declared.WindowState.the-variants.{Inactive, Active, Inverted, InvalidDate}
 
 -- f, e: first and end date exist; b: first before end; i: the id's; p: the date is before the first; q: before the end
-pub told-by : (id : ℕ) (date : Date) (w : Window) (f e b i p q : Bool)
+pub state-of-by : (id : ℕ) (date : Date) (w : Window) (f e b i p q : Bool)
     → isDate (w .first) ≡ f → isEnd (w .end) ≡ e → earlier (w .first) (w .end) ≡ b → eqb (w .id) id ≡ i
     → earlier date (w .first) ≡ p → earlier date (w .end) ≡ q
-    → cond (not f || not e) Undated (cond (not b) Turned (cond (i && not p && q) Holds Away)) ≡ told id date w
-unfolding told undated turned holdsDate
-told-by id date w f e b i p q ef ee eb ei ep eq =
-    sym (λ k. cond (not (ef k) || not (ee k)) Undated (cond (not (eb k)) Turned (cond (ei k && not (ep k) && eq k) Holds Away)))
+    → cond (not f || not e) InvalidDate (cond (not b) Inverted (cond (i && not p && q) Active Inactive)) ≡ stateOf id date w
+unfolding stateOf invalidDates inverted holdsDate
+state-of-by id date w f e b i p q ef ee eb ei ep eq =
+    sym (λ k. cond (not (ef k) || not (ee k)) InvalidDate (cond (not (eb k)) Inverted (cond (ei k && not (ep k) && eq k) Active Inactive)))
 
 -- the stronger of s and t, where m and n are their ranks
-module _ (s t u : Standing) (e : t ≡ u) (m n : ℕ) (es : m ≡ rank s) (et : n ≡ rank t) where
+module _ (s t u : WindowState) (e : t ≡ u) (m n : ℕ) (es : m ≡ rank s) (et : n ≡ rank t) where
   ranks : ltb m n ≡ ltb (rank s) (rank u)
   ranks = λ i. ltb (es i) ((et ∙ ap rank e) i)
 
@@ -39,13 +39,13 @@ module _ (s t u : Standing) (e : t ≡ u) (m n : ℕ) (es : m ≡ rank s) (et : 
   pub stronger-old : n ≤ m → s ≡ stronger s u
   stronger-old h = ap (λ (b : Bool). cond b u s) (sym (le-ltb m n h) ∙ ranks)
 
-module _ (image : List ℕ) (id : ℕ) (date : Date) (s : Standing) where
+module _ (image : List ℕ) (id : ℕ) (date : Date) (s : WindowState) where
   pub no-date : isDate date ≡ false → refusal 22 ≡ placeBy image id date s
   no-date e = ap (λ (t : Bool). cond (not t) (refusal 22) (answerBy s (naming image id))) (sym e)
 
-  pub by-saying : (t : Standing) → isDate date ≡ true → s ≡ t → answerBy t (naming image id) ≡ placeBy image id date s
-  by-saying t e q =
-      ap (λ (u : Standing). answerBy u (naming image id)) (sym q)
+  pub by-state : (t : WindowState) → isDate date ≡ true → s ≡ t → answerBy t (naming image id) ≡ placeBy image id date s
+  by-state t e q =
+      ap (λ (u : WindowState). answerBy u (naming image id)) (sym q)
       ∙ ap (λ (b : Bool). cond (not b) (refusal 22) (answerBy s (naming image id))) (sym e)
 
   -- a place on a date is the place of the naming rule
@@ -55,23 +55,23 @@ module _ (image : List ℕ) (id : ℕ) (date : Date) (s : Standing) where
       refused : (k : ℕ) → _≡_ {A = Outcome Naming} (refusal k) (value (place p n)) → naming image id ≡ place p n
       refused k e = let z : _≡_ {A = ℕ} 0 1 = cc in absurd (omega arith)
 
-      by-case : (t : Standing) → answerBy t (naming image id) ≡ value (place p n) → naming image id ≡ place p n
-      by-case Away e = let u : unnamed ≡ place p n = cc in never p n u
-      by-case Holds e = cc
-      by-case Turned e = refused 23 e
-      by-case Undated e = refused 22 e
+      by-case : (t : WindowState) → answerBy t (naming image id) ≡ value (place p n) → naming image id ≡ place p n
+      by-case Inactive e = let u : unnamed ≡ place p n = cc in never p n u
+      by-case Active e = cc
+      by-case Inverted e = refused 23 e
+      by-case InvalidDate e = refused 22 e
 
       dated : (t : Bool) → cond (not t) (refusal 22) (answerBy s (naming image id)) ≡ value (place p n) → naming image id ≡ place p n
       dated true e = by-case s e
       dated false e = refused 22 e
 
 -- the same of the part
-module _ (image : Slice) (id : ℕ) (date : Date) (s : Standing) where
+module _ (image : Slice) (id : ℕ) (date : Date) (s : WindowState) where
   abbrev part-of : Outcome Naming → Slice
   part-of x = partOr image (part image 0 0) (namedIn x)
 
   pub no-date-part : isDate date ≡ false → part image 0 0 ≡ partBy image id date s
   no-date-part e = ap part-of (no-date (image .bytes) id date s e)
 
-  pub by-saying-part : (t : Standing) → isDate date ≡ true → s ≡ t → part-of (answerBy t (naming (image .bytes) id)) ≡ partBy image id date s
-  by-saying-part t e q = ap part-of (by-saying (image .bytes) id date s t e q)
+  pub by-state-part : (t : WindowState) → isDate date ≡ true → s ≡ t → part-of (answerBy t (naming (image .bytes) id)) ≡ partBy image id date s
+  by-state-part t e q = ap part-of (by-state (image .bytes) id date s t e q)

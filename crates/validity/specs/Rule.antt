@@ -16,12 +16,12 @@ someWindow test [] = false
 someWindow test (w ∷ ws) = test w || someWindow test ws
 
 -- "a date that doesn't exist or lies outside these bounds", of a window: its first date, or its end date
-unfoldable pub undated : Window → Bool
-undated w = not (isDate (w .first)) || not (isEnd (w .end))
+unfoldable pub invalidDates : Window → Bool
+invalidDates w = not (isDate (w .first)) || not (isEnd (w .end))
 
 -- "a window that doesn't start before its end"
-unfoldable pub turned : Window → Bool
-turned w = not (earlier (w .first) (w .end))
+unfoldable pub inverted : Window → Bool
+inverted w = not (earlier (w .first) (w .end))
 
 -- a "window of that id holds the date": the first date included, "the end date not included"
 unfoldable pub holdsDate : ℕ → Date → Window → Bool
@@ -33,8 +33,8 @@ holdsDate id date w = eqb (w .id) id && not (earlier date (w .first)) && earlier
 unfoldable pub inSeason : Naming → ℕ → Date → List Window → Outcome Naming
 inSeason n id date windows =
     cond (not (isDate date)) (refusal 22)
-    (cond (someWindow undated windows) (refusal 22)
-    (cond (someWindow turned windows) (refusal 23)
+    (cond (someWindow invalidDates windows) (refusal 22)
+    (cond (someWindow inverted windows) (refusal 23)
     (value (cond (someWindow (holdsDate id date) windows) n unnamed))))
 
 -- "naming an id on a date", in an image

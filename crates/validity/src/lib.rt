@@ -3,13 +3,13 @@ ghost use mathlib.Core.Path.{_≡_};
 ghost use Rattle.reader.specs.Slices.{slice};
 ghost use Rattle.validity.specs.Rule.{namingOn, namePartOn};
 ghost use Rattle.validity.specs.Cases.{namedOnOf};
-ghost use Rattle.validity.specs.Saying.{placeBy, partBy};
+ghost use Rattle.validity.specs.Windows.{placeBy, partBy};
 use calendar::is_date;
 use reader::Named;
-use windows::standing;
+use windows::window_state;
 
 mod calendar; // calendar.rt: months, dates, and their order
-pub mod windows; // windows.rt: standing, what the windows say of an id on a date
+pub mod windows; // windows.rt: window_state, what the windows say of an id on a date
 
 // Year, month and day, whether such a day exists or not.
 #[repr(C)]
@@ -29,11 +29,11 @@ pub struct Window {
 
 // What windows say of an id on a date, each case stronger than those before it: no window of the id holds the date;
 // one does; a window does not start before its end; a window has a date that does not exist or is out of bounds.
-pub enum Standing {
-    Away,
-    Holds,
-    Turned,
-    Undated,
+pub enum WindowState {
+    Inactive,
+    Active,
+    Inverted,
+    InvalidDate,
 }
 
 // What naming an id on a date answers: the place of the name in the image, or nothing, or the number of the refusal.
@@ -44,36 +44,36 @@ pub enum NamedOn {
 }
 
 // The place of an id's name on a date, where the windows say s.
-pub fn place_by(image: &[u8], id: u32, date: Date, s: Standing) -> NamedOn
+pub fn place_by(image: &[u8], id: u32, date: Date, s: WindowState) -> NamedOn
     ensures { λ r. ⌜ namedOnOf r ≡ placeBy (now (image .entry)) id date s ⌝ }
 {
     if !is_date(date) {
         return NamedOn::Refused(22);
     }
     match s {
-        Standing::Away => NamedOn::Nothing,
-        Standing::Holds => match reader::to_str(image, id) {
+        WindowState::Inactive => NamedOn::Nothing,
+        WindowState::Active => match reader::to_str(image, id) {
             Named::Place { start, len } => NamedOn::Place { start, len },
             Named::Nothing => NamedOn::Nothing,
         },
-        Standing::Turned => NamedOn::Refused(23),
-        Standing::Undated => NamedOn::Refused(22),
+        WindowState::Inverted => NamedOn::Refused(23),
+        WindowState::InvalidDate => NamedOn::Refused(22),
     }
 }
 
 // The part of the lent image that is an id's name on a date, where the windows say s; empty if it has none, or is
 // refused.
-fn part_by<'a>(image: &'a [u8], id: u32, date: Date, s: Standing) -> &'a [u8]
+fn part_by<'a>(image: &'a [u8], id: u32, date: Date, s: WindowState) -> &'a [u8]
     ensures { λ r. ⌜ slice r ≡ partBy (slice (image .entry)) id date s ⌝ }
 {
     if !is_date(date) {
         return &image[0..0];
     }
     match s {
-        Standing::Away => &image[0..0],
-        Standing::Holds => reader::name(image, id),
-        Standing::Turned => &image[0..0],
-        Standing::Undated => &image[0..0],
+        WindowState::Inactive => &image[0..0],
+        WindowState::Active => reader::name(image, id),
+        WindowState::Inverted => &image[0..0],
+        WindowState::InvalidDate => &image[0..0],
     }
 }
 
@@ -82,12 +82,12 @@ fn part_by<'a>(image: &'a [u8], id: u32, date: Date, s: Standing) -> &'a [u8]
 pub fn to_str_on(image: &[u8], id: u32, date: Date, windows: &[Window]) -> NamedOn
     ensures { λ r. ⌜ namedOnOf r ≡ namingOn (now (image .entry)) id date (now (windows .entry)) ⌝ }
 {
-    place_by(image, id, date, standing(windows, id, date))
+    place_by(image, id, date, window_state(windows, id, date))
 }
 
 // The part of the lent image that is an id's name on a date; empty if it has none, or is refused.
 pub fn name_on<'a>(image: &'a [u8], id: u32, date: Date, windows: &[Window]) -> &'a [u8]
     ensures { λ r. ⌜ slice r ≡ namePartOn (slice (image .entry)) id date (now (windows .entry)) ⌝ }
 {
-    part_by(image, id, date, standing(windows, id, date))
+    part_by(image, id, date, window_state(windows, id, date))
 }

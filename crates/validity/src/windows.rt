@@ -1,58 +1,58 @@
 // What windows say of an id on a date.
 ghost use mathlib.Core.Path.{_≡_};
-ghost use Rattle.validity.specs.Saying.{said};
-ghost use Rattle.validity.specs.steps.Fold.{told, rank, stepped};
+ghost use Rattle.validity.specs.Windows.{windowState};
+ghost use Rattle.validity.specs.steps.Fold.{stateOf, rank, stepped};
 use super::Date;
-use super::Standing;
 use super::Window;
+use super::WindowState;
 use super::calendar::earlier;
 use super::calendar::is_date;
 use super::calendar::is_end;
 
 // What one window says.
-fn tell(w: Window, id: u32, date: Date) -> Standing
-    ensures { λ r. ⌜ r ≡ told id date w ⌝ }
+fn state_of(w: Window, id: u32, date: Date) -> WindowState
+    ensures { λ r. ⌜ r ≡ stateOf id date w ⌝ }
 {
     let first = w.first;
     let end = w.end;
     if !is_date(first) {
-        return Standing::Undated;
+        return WindowState::InvalidDate;
     }
     if !is_end(end) {
-        return Standing::Undated;
+        return WindowState::InvalidDate;
     }
     if !earlier(first, end) {
-        return Standing::Turned;
+        return WindowState::Inverted;
     }
     if w.id != id {
-        return Standing::Away;
+        return WindowState::Inactive;
     }
     if earlier(date, first) {
-        return Standing::Away;
+        return WindowState::Inactive;
     }
     if earlier(date, end) {
-        return Standing::Holds;
+        return WindowState::Active;
     }
-    Standing::Away
+    WindowState::Inactive
 }
 
 // How strong a case is.
-fn rank(s: Standing) -> u8
+fn rank(s: WindowState) -> u8
     ensures { λ r. ⌜ r ≡ rank s ⌝ }
 {
     match s {
-        Standing::Away => 0,
-        Standing::Holds => 1,
-        Standing::Turned => 2,
-        Standing::Undated => 3,
+        WindowState::Inactive => 0,
+        WindowState::Active => 1,
+        WindowState::Inverted => 2,
+        WindowState::InvalidDate => 3,
     }
 }
 
 // One window more: the stronger of what the windows before it say and what it says.
-fn step(s: Standing, w: Window, id: u32, date: Date) -> Standing
+fn step(s: WindowState, w: Window, id: u32, date: Date) -> WindowState
     ensures { λ r. ⌜ r ≡ stepped id date s w ⌝ }
 {
-    let t = tell(w, id, date);
+    let t = state_of(w, id, date);
     if rank(s) < rank(t) {
         return t;
     }
@@ -60,10 +60,10 @@ fn step(s: Standing, w: Window, id: u32, date: Date) -> Standing
 }
 
 // What all windows say, in one pass.
-pub fn standing(windows: &[Window], id: u32, date: Date) -> Standing
-    ensures { λ r. ⌜ r ≡ said id date (now (windows .entry)) ⌝ }
+pub fn window_state(windows: &[Window], id: u32, date: Date) -> WindowState
+    ensures { λ r. ⌜ r ≡ windowState id date (now (windows .entry)) ⌝ }
 {
-    let mut s = Standing::Away;
+    let mut s = WindowState::Inactive;
     let mut i = 0;
     while i < windows.len() {
         s = step(s, windows[i], id, date);

@@ -1,8 +1,8 @@
--- `season::part_by` meets its contract, by the date and the cases of what the windows say.
+-- `validity::part_by` meets its contract, by the date and the cases of what the windows say.
 use mathlib.Core.Path.{sym, _∙_}
 use borrow.Author.Tests.{not-true, not-false}
 use Rattle.reader.specs.Slices.{slice}
-use Rattle.validity.proofs.WindowTests.{no-date-part, by-saying-part}
+use Rattle.validity.proofs.WindowTests.{no-date-part, by-state-part}
 use borrow.Author.Needs.{needs}
 use Rattle.validity.proofs.part_by.Statement.{statement}
 use Rattle.validity.proofs.part_by.Tie as tie
@@ -74,28 +74,28 @@ returns-2 : tie.Need-returns-2
 returns-2 c =
     let dated = c .before .before .before in
     let a = dated .before .before .before .args in
-    by-saying-part (slice (a .image)) (a .id) (a .date) (a .s) _ (sym (dated .before .is-date .ensures) ∙ not-false _ (dated .if1 .left))
+    by-state-part (slice (a .image)) (a .id) (a .date) (a .s) _ (sym (dated .before .is-date .ensures) ∙ not-false _ (dated .if1 .left))
     (c .before .enum-told .given .1)
 
 returns-3 : tie.Need-returns-3
 returns-3 c =
     let dated = c .before .before .before in
     let a = dated .before .before .before .args in
-    c .name .ensures ∙ by-saying-part (slice (a .image)) (a .id) (a .date) (a .s) _ (sym (dated .before .is-date .ensures) ∙ not-false _ (dated .if1 .left))
+    c .name .ensures ∙ by-state-part (slice (a .image)) (a .id) (a .date) (a .s) _ (sym (dated .before .is-date .ensures) ∙ not-false _ (dated .if1 .left))
     (c .before .enum-told2 .given .1)
 
 returns-4 : tie.Need-returns-4
 returns-4 c =
     let dated = c .before .before .before in
     let a = dated .before .before .before .args in
-    by-saying-part (slice (a .image)) (a .id) (a .date) (a .s) _ (sym (dated .before .is-date .ensures) ∙ not-false _ (dated .if1 .left))
+    by-state-part (slice (a .image)) (a .id) (a .date) (a .s) _ (sym (dated .before .is-date .ensures) ∙ not-false _ (dated .if1 .left))
     (c .before .enum-told3 .given .1)
 
 returns-5 : tie.Need-returns-5
 returns-5 c =
     let dated = c .before .before .before in
     let a = dated .before .before .before .args in
-    by-saying-part (slice (a .image)) (a .id) (a .date) (a .s) _ (sym (dated .before .is-date .ensures) ∙ not-false _ (dated .if1 .left))
+    by-state-part (slice (a .image)) (a .id) (a .date) (a .s) _ (sym (dated .before .is-date .ensures) ∙ not-false _ (dated .if1 .left))
     (c .before .enum-told4 .given .1)
 
 pub part-by-spec : {M : Type 1} → statement M

@@ -1,9 +1,9 @@
--- `season::place_by` meets its contract, by the date and the cases of what the windows say.
+-- `validity::place_by` meets its contract, by the date and the cases of what the windows say.
 use mathlib.Core.Path.{sym, ap, _∙_}
 use borrow.Author.Tests.{not-true, not-false}
 use Rattle.jhash.specs.Outcome.{value}
 use Rattle.reader.specs.Cases.{namingOf}
-use Rattle.validity.proofs.WindowTests.{no-date, by-saying}
+use Rattle.validity.proofs.WindowTests.{no-date, by-state}
 use borrow.Author.Needs.{needs}
 use Rattle.validity.proofs.place_by.Statement.{statement}
 use Rattle.validity.proofs.place_by.Tie as tie
@@ -45,7 +45,7 @@ returns-2 : tie.Need-returns-2
 returns-2 c =
     let dated = c .before .before in
     let a = dated .before .before .before .args in
-    by-saying (a .image .now) (a .id) (a .date) (a .s) _ (sym (dated .before .is-date .ensures) ∙ not-false _ (dated .if1 .left))
+    by-state (a .image .now) (a .id) (a .date) (a .s) _ (sym (dated .before .is-date .ensures) ∙ not-false _ (dated .if1 .left))
     (c .enum-told .given .1)
 
 returns-3 : tie.Need-returns-3
@@ -53,7 +53,7 @@ returns-3 c =
     let dated = c .before .before .before .before .before .before in
     let a = dated .before .before .before .args in
     ap value (ap namingOf (sym (c .before .start .given .1)) ∙ c .before .before .before .to-str .ensures)
-    ∙ by-saying (a .image .now) (a .id) (a .date) (a .s) _ (sym (dated .before .is-date .ensures) ∙ not-false _ (dated .if1 .left))
+    ∙ by-state (a .image .now) (a .id) (a .date) (a .s) _ (sym (dated .before .is-date .ensures) ∙ not-false _ (dated .if1 .left))
     (c .before .before .before .before .enum-told2 .given .1)
 
 returns-4 : tie.Need-returns-4
@@ -61,21 +61,21 @@ returns-4 c =
     let dated = c .before .before .before .before .before in
     let a = dated .before .before .before .args in
     ap value (ap namingOf (sym (c .enum-told3 .given .1)) ∙ c .before .before .to-str .ensures)
-    ∙ by-saying (a .image .now) (a .id) (a .date) (a .s) _ (sym (dated .before .is-date .ensures) ∙ not-false _ (dated .if1 .left))
+    ∙ by-state (a .image .now) (a .id) (a .date) (a .s) _ (sym (dated .before .is-date .ensures) ∙ not-false _ (dated .if1 .left))
     (c .before .before .before .enum-told2 .given .1)
 
 returns-5 : tie.Need-returns-5
 returns-5 c =
     let dated = c .before .before in
     let a = dated .before .before .before .args in
-    by-saying (a .image .now) (a .id) (a .date) (a .s) _ (sym (dated .before .is-date .ensures) ∙ not-false _ (dated .if1 .left))
+    by-state (a .image .now) (a .id) (a .date) (a .s) _ (sym (dated .before .is-date .ensures) ∙ not-false _ (dated .if1 .left))
     (c .enum-told4 .given .1)
 
 returns-6 : tie.Need-returns-6
 returns-6 c =
     let dated = c .before .before in
     let a = dated .before .before .before .args in
-    by-saying (a .image .now) (a .id) (a .date) (a .s) _ (sym (dated .before .is-date .ensures) ∙ not-false _ (dated .if1 .left))
+    by-state (a .image .now) (a .id) (a .date) (a .s) _ (sym (dated .before .is-date .ensures) ∙ not-false _ (dated .if1 .left))
     (c .enum-told5 .given .1)
 
 pub place-by-spec : {M : Type 1} → statement M

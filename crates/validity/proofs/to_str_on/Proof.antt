@@ -1,10 +1,10 @@
--- `season::to_str_on` meets its contract: a thin call of `place_by` on what the windows say.
+-- `validity::to_str_on` meets its contract: a thin call of `place_by` on what the windows say.
 use mathlib.Core.Path.{_≡_, _∙_}
 use contract.Running.{givenOf}
 use denote.Enum.Laws as EL
 use Rattle.validity.specs.Rule.{namingOn}
 use Rattle.validity.specs.Cases.{namedOnOf}
-use Rattle.validity.specs.Saying.{placeBy}
+use Rattle.validity.specs.Windows.{placeBy}
 use Rattle.validity.proofs.WindowLaws.{placed}
 use Rattle.validity.proofs.OverWindows.{keeps}
 use Rattle.validity.proofs.NamedOn as N
@@ -21,5 +21,5 @@ to-str-on-spec 𝓤 H 𝓜 𝓖 𝓡 =
     keeps (λ _. N.the-row) (λ κ x id date s r. namedOnOf r ≡ placeBy (x .now) id date s) (λ κ x id date ws r. namedOnOf r ≡ namingOn (x .now) id date ws)
     (λ κ x id date ws r e. e ∙ placed (x .now) id date ws)
     callee.name N′.mir (λ κ r u is. EL.lawful N.the-type N′.the-laws 𝓤 H (𝓖 .A) (givenOf 𝓤 H 𝓜 𝓖) tt .typed r _ is .0)
-    𝓤 H 𝓜 𝓖 𝓡 code.env #validity·to-str-on callee.routine code.calls-validity·windows·standing code.calls-validity·place-by
+    𝓤 H 𝓜 𝓖 𝓡 code.env #validity·to-str-on callee.routine code.calls-validity·windows·window-state code.calls-validity·place-by
     (code.unfolded 𝓤 H 𝓜 𝓡) (kept.met 𝓤 H 𝓜 𝓖 𝓡)

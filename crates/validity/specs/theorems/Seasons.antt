@@ -10,8 +10,8 @@ use lib.ListN.{getElem?}
 use Rattle.jhash.specs.Outcome.{value, refusal}
 use Rattle.reader.specs.Naming.{place, naming}
 use Rattle.validity.specs.Calendar.{monthLength, isDate, isEnd, earlier}
-use Rattle.validity.specs.Rule.{someWindow, undated, turned, holdsDate, namingOn}
-use Rattle.validity.specs.Saying.{said, placeBy}
+use Rattle.validity.specs.Rule.{someWindow, invalidDates, inverted, holdsDate, namingOn}
+use Rattle.validity.specs.Windows.{windowState, placeBy}
 use Rattle.validity.specs.declared.Date.{Date}
 use Rattle.validity.specs.declared.Window.{Window}
 
@@ -23,7 +23,7 @@ SomeAt test windows = (k : ℕ) × (w : Window) × (getElem? windows k ≡ some 
 -- starts before its end
 abbrev pub Accepted : Date → List Window → Type 0
 Accepted date windows =
-    (isDate date ≡ true) × (someWindow undated windows ≡ false) × (someWindow turned windows ≡ false)
+    (isDate date ≡ true) × (someWindow invalidDates windows ≡ false) × (someWindow inverted windows ≡ false)
 
 pub record Seasons : Type 0 where
   -- "month lengths run from 28 to 31"; another number than 1 to 12 is no month, and has no day
@@ -51,13 +51,13 @@ pub record Seasons : Type 0 where
   -- 23
   pub gives-22 : (image : List ℕ) (id : ℕ) (date : Date) (windows : List Window)
       → (namingOn image id date windows ≡ refusal 22)
-      ↔ ((isDate date ≡ false) ⊎ (someWindow undated windows ≡ true))
+      ↔ ((isDate date ≡ false) ⊎ (someWindow invalidDates windows ≡ true))
   pub gives-23 : (image : List ℕ) (id : ℕ) (date : Date) (windows : List Window)
       → (namingOn image id date windows ≡ refusal 23)
-      ↔ ((isDate date ≡ true) × (someWindow undated windows ≡ false) × (someWindow turned windows ≡ true))
+      ↔ ((isDate date ≡ true) × (someWindow invalidDates windows ≡ false) × (someWindow inverted windows ≡ true))
   -- what the windows say, and what is answered where they say it, are the rule in two parts
   pub in-two-parts : (image : List ℕ) (id : ℕ) (date : Date) (windows : List Window)
-      → placeBy image id date (said id date windows) ≡ namingOn image id date windows
+      → placeBy image id date (windowState id date windows) ≡ namingOn image id date windows
   -- "adding a window whose dates exist within these bounds, the first before the end, never removes a name on any
   -- date", at any place of the list
   pub adding : (image : List ℕ) (id : ℕ) (date : Date) (before after : List Window) (w : Window)

@@ -1,4 +1,4 @@
--- `season::calendar::earlier` meets its contract, by the tests that led to each return.
+-- `validity::calendar::earlier` meets its contract, by the tests that led to each return.
 use mathlib.Core.Path.{sym}
 use Rattle.validity.proofs.Dates.{by-year, by-month, by-day}
 use Rattle.validity.proofs.calendar.earlier.Statement.{statement}

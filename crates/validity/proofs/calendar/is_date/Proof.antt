@@ -1,4 +1,4 @@
--- `season::calendar::is_date` meets its contract, by the tests that led to each return.
+-- `validity::calendar::is_date` meets its contract, by the tests that led to each return.
 use mathlib.Core.Path.{ap, _∙_}
 use lib.Dec.{leb}
 use borrow.Author.Tests.{le-leb, lt-leb}

@@ -1,4 +1,4 @@
--- `season::calendar::is_end` meets its contract, by the tests that led to each return.
+-- `validity::calendar::is_end` meets its contract, by the tests that led to each return.
 use mathlib.Core.Path.{sym, _∙_}
 use borrow.Author.Tests.{eq-eqb, ne-eqb}
 use Rattle.validity.specs.Calendar.{isEnd}

@@ -1,4 +1,4 @@
--- `season::calendar::leap` meets its contract, by the tests that led to each return.
+-- `validity::calendar::leap` meets its contract, by the tests that led to each return.
 use borrow.Author.Tests.{eq-eqb, ne-eqb}
 use Rattle.validity.specs.Calendar.{leap}
 use Rattle.validity.proofs.calendar.leap.Statement.{statement}

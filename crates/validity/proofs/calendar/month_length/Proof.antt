@@ -1,4 +1,4 @@
--- `season::calendar::month_length` meets its contract, by the arms of its match.
+-- `validity::calendar::month_length` meets its contract, by the arms of its match.
 use mathlib.Core.Path.{sym, _∙_}
 use mathlib.Core.Logic.{inl, inr}
 use Rattle.validity.proofs.Months.{months-30, months-31, july-august, leap-february, february, no-month, seven-eight, above-12}

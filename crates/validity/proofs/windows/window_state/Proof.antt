@@ -1,4 +1,4 @@
--- `season::windows::standing` meets its contract. No function over a `&[Window]` is covered, so its MIR is walked by hand. A turn of the loop reads a
+-- `validity::windows::window_state` meets its contract. No function over a `&[Window]` is covered, so its MIR is walked by hand. A turn of the loop reads a
 -- window out of the slice and calls `step` on it and what the windows before it say; all else that is reasoned is in `proofs/WindowLaws`. The loop's
 -- invariant is `Upto`: the fold from what is known, over the windows from i on, is what all windows say. What the plain parameters own is made
 -- anew for each call, so nothing is kept of them.
@@ -52,28 +52,28 @@ use denote.Triple.Table.{entered, cited}
 use denote.Triple.Walked.{says, Stays, stay-dropped, walkOf, goes-dropped, Walks, ends-at, walked, walk-meets}
 use denote.Exit.{yes as stays-kept}
 use denote.Triple.Clauses.{ensured, lasts}
-use Rattle.validity.specs.Saying.{said}
+use Rattle.validity.specs.Windows.{windowState}
 use Rattle.validity.specs.steps.Fold.{stepped, folded}
 use Rattle.validity.specs.declared.Date.{Date}
 use Rattle.validity.specs.declared.Window.{Window}
-use Rattle.validity.specs.declared.Standing.{Standing}
-use Rattle.validity.specs.declared.Standing.the-variants.{Away}
-use Rattle.validity.proofs.WindowLaws.{folded-is-said, folded-end, folded-on}
+use Rattle.validity.specs.declared.WindowState.{WindowState}
+use Rattle.validity.specs.declared.WindowState.the-variants.{Inactive}
+use Rattle.validity.proofs.WindowLaws.{folded-is-state, folded-end, folded-on}
 use Rattle.validity.proofs.Date as D
 use Rattle.validity.proofs.Date.Laws as D′
 use Rattle.validity.proofs.Window as P
 use Rattle.validity.proofs.Window.Laws as P′
-use Rattle.validity.proofs.Standing as S
-use Rattle.validity.proofs.Standing.Laws as S′
+use Rattle.validity.proofs.WindowState as S
+use Rattle.validity.proofs.WindowState.Laws as S′
 use Rattle.validity.proofs.windows.step as step
 use Rattle.validity.proofs.windows.step.Symbol as step-def
 use Rattle.validity.proofs.windows.step.Symbol.{name as #validity·step}
 use Rattle.validity.proofs.windows.step.Met as step-thm
-use Rattle.validity.proofs.windows.standing.Key.{name as #this}
-use Rattle.validity.proofs.windows.standing as this
-use Rattle.validity.proofs.windows.standing.Statement as stated
-use Rattle.validity.proofs.windows.standing.Code as code
-use Rattle.validity.proofs.windows.standing.Code.Mir as body
+use Rattle.validity.proofs.windows.window_state.Key.{name as #this}
+use Rattle.validity.proofs.windows.window_state as this
+use Rattle.validity.proofs.windows.window_state.Statement as stated
+use Rattle.validity.proofs.windows.window_state.Code as code
+use Rattle.validity.proofs.windows.window_state.Code.Mir as body
 
 -- nothing is kept of the parameters
 abbrev stayed : Stays (this.ended .signature .params) (this.ended .kept)
@@ -140,7 +140,7 @@ module _ {M : Type 1} (𝓤 : URA M) (H : Heap 𝓤) (A : Atoms 𝓤) (W : Given
   abbrev Had : List (Item 𝓤)
   Had = ‵ (flft κ q) ∷ ‵ Own ∷ []
 
-  exits : (s : Standing) (v : Val) → Is S.the-row s (v ∷ []) → s ≡ said id date windows → ent 𝓤 (⋆ 𝓤 H A Had) (Post v)
+  exits : (s : WindowState) (v : Val) → Is S.the-row s (v ∷ []) → s ≡ windowState id date windows → ent 𝓤 (⋆ 𝓤 H A Had) (Post v)
   exits s v is e =
       qed W Had ∵
       suffices ! _ (ends-at 𝓤 H A this.ended stayed (this.clauses 𝓤 H A mem run) W bound v s (tt, (tt, (tt, tt))) (tt, (tt, (tt, tt)))) $
@@ -150,7 +150,7 @@ module _ {M : Type 1} (𝓤 : URA M) (H : Heap 𝓤) (A : Atoms 𝓤) (W : Given
       owned ! S.the-row (Is S.the-row) (EL.makes S.the-type S′.the-plain 𝓤 H A) s _ is $ done !
 
   -- ---- the call of `step` on what is known, s with the machine value v, and the window w
-  module _ (s : Standing) (v : Val) (w : Window) where
+  module _ (s : WindowState) (v : Val) (w : Window) where
     abbrev passed : Vals step.signature tt
     passed = (v ∷ [], (window-vals w, (vint w32 id ∷ [], (date-vals date, tt))))
 
@@ -161,18 +161,18 @@ module _ {M : Type 1} (𝓤 : URA M) (H : Heap 𝓤) (A : Atoms 𝓤) (W : Given
     asked = qed W (raw (onEntry 𝓤 H A step.signature tt tt (s, (w, (id, (date, tt)))) passed) ∷ []) ∵ frame ! $ done !
 
     -- all that `step` leaves for the answer r
-    abbrev Told : Standing → SProp 𝓤
+    abbrev Told : WindowState → SProp 𝓤
     Told r = ensured 𝓤 H A step.ended (step.clauses 𝓤 H A mem run) tt (s, (w, (id, (date, tt)))) tt r
 
     -- of it, the clause alone
-    step-said : (r : Standing) → ent 𝓤 (Told r) (fact 𝓤 (r ≡ stepped id date s w))
-    step-said r = exE 𝓤 _ (λ ws. snd∗ 𝓤 (sem 𝓤 H A (lasts step.ended tt (s, (w, (id, (date, tt)))) ws)) (fact 𝓤 (r ≡ stepped id date s w)))
+    step-state : (r : WindowState) → ent 𝓤 (Told r) (fact 𝓤 (r ≡ stepped id date s w))
+    step-state r = exE 𝓤 _ (λ ws. snd∗ 𝓤 (sem 𝓤 H A (lasts step.ended tt (s, (w, (id, (date, tt)))) ws)) (fact 𝓤 (r ≡ stepped id date s w)))
 
   -- ---- the loop: its variables i, and s with its machine value, with what is known of them, and what is left to do
   abbrev Upto : Type 0
   Upto =
-      (i : ℕ) × (s : Standing) × (v : Val)
-      × (Is S.the-row s (v ∷ []) × ((i ≤ n) × (folded id date s (drop i windows) ≡ said id date windows)))
+      (i : ℕ) × (s : WindowState) × (v : Val)
+      × (Is S.the-row s (v ∷ []) × ((i ≤ n) × (folded id date s (drop i windows) ≡ windowState id date windows)))
 
   abbrev Nearer : Upto → Upto → Type 0
   Nearer j i = n - j .0 < n - i .0
@@ -269,9 +269,9 @@ module _ {M : Type 1} (𝓤 : URA M) (H : Heap 𝓤) (A : Atoms 𝓤) (W : Given
         calls-at ! (fmOf 𝓤 H (W .laws) 𝓣) (Step 𝓤 H A mem run) known (to (i .1) (i .2) w)
         (and-then ! (load ! (from ! (stop !)) (look ! 13 refl)) (and-then ! (load ! (from ! (stop !)) (look ! 3 refl))
         (and-then ! (load ! (from ! (stop !)) (look ! 17 refl)) (and-then ! (load ! (from ! (stop !)) (look ! 15 refl)) (no-more !))))) (λ u.
-        use1 W (later (some (λ (r : Standing). (‵ ftrue ⊛ ‵ (S.the-row .own r (u ∷ []))) ⊛ raw (Told (i .1) (i .2) w r)))) (id⊢ 𝓤 _) $
+        use1 W (later (some (λ (r : WindowState). (‵ ftrue ⊛ ‵ (S.the-row .own r (u ∷ []))) ⊛ raw (Told (i .1) (i .2) w r)))) (id⊢ 𝓤 _) $
         await ! tt $ pick ! (λ r.
-        split ! $ move ! (1 ∷ []) $ use1 W (raw (fact 𝓤 (r ≡ stepped id date (i .1) w))) (step-said (i .1) (i .2) w r) $
+        split ! $ move ! (1 ∷ []) $ use1 W (raw (fact 𝓤 (r ≡ stepped id date (i .1) w))) (step-state (i .1) (i .2) w r) $
         heard ! (r ≡ stepped id date (i .1) w) (λ e.
         split ! $ drops ! $ facts ! S.the-row (Is S.the-row) (shows 𝓤 H A S.the-row) r (u ∷ []) (λ is.
         -- its answer is the new s, and i += 1: [what the slice owns; the token; _9; …]
@@ -290,25 +290,25 @@ module _ {M : Type 1} (𝓤 : URA M) (H : Heap 𝓤) (A : Atoms 𝓤) (W : Given
         next-fits : i .0 + 1 < 2 ^ 64
         next-fits = omega (arith, less, room .0)
 
-        on : (r : Standing) → r ≡ stepped id date (i .1) w → folded id date r (drop (i .0 + 1) windows) ≡ said id date windows
+        on : (r : WindowState) → r ≡ stepped id date (i .1) w → folded id date r (drop (i .0 + 1) windows) ≡ windowState id date windows
         on r e =
             ap (λ (j : ℕ). folded id date r (drop j windows)) (add-one (i .0))
-            ∙ ap (λ (t : Standing). folded id date t (drop (suc (i .0)) windows)) e
+            ∙ ap (λ (t : WindowState). folded id date t (drop (suc (i .0)) windows)) e
             ∙ sym (folded-on id date (i .1) windows none (i .0) less) ∙ i .3 .1 .1
 
-        next : (r : Standing) (u : Val) → Is S.the-row r (u ∷ []) → r ≡ stepped id date (i .1) w → Upto
+        next : (r : WindowState) (u : Val) → Is S.the-row r (u ∷ []) → r ≡ stepped id date (i .1) w → Upto
         next r u is e = (i .0 + 1, r, u, (is, (add-one-le less, on r e)))
 
     turns : (i : Upto) → Sq W (At i) (runs C Λ En body.turn-1 (anyQ (Turn i)))
     turns i = elim (decLt (i .0) n) [ yes less ↦ more i less | no over ↦ ends i (omega (arith, over)) ]
 
     abbrev start : Upto
-    start = (0, Away, S′.lowered Away, (EL.owes S.the-type S′.the-laws Away tt, (zero-le, folded-is-said id date windows)))
+    start = (0, Inactive, S′.lowered Inactive, (EL.owes S.the-type S′.the-laws Inactive tt, (zero-le, folded-is-state id date windows)))
 
     looped : Sq W (At start) (runs C Λ En body.t-3 (atRet En Post))
     looped = first ! $ blocks ! $ loops ! 𝓣 Nearer Nearer-wf At turns start
 
-  -- the body: s = Standing::Away, i = 0, and the loop
+  -- the body: s = WindowState::Inactive, i = 0, and the loop
   walk : (𝓣 : Tables 𝓤 H) → Triple 𝓤 (𝓣 .C #validity·step) (Step 𝓤 H A mem run)
       → ent 𝓤 (onEntry 𝓤 H A this.signature (κ, tt) (q, tt) (x, (id, (date, tt))) at)
       (WpFn 𝓤 H (𝓣 .C) (𝓣 .Λ) code.function (sliceVal (x .ptr) n ∷ vint w32 id ∷ D′.lowered date ∷ []) Post)
@@ -323,7 +323,7 @@ module _ {M : Type 1} (𝓤 : URA M) (H : Heap 𝓤) (A : Atoms 𝓤) (W : Given
       pass1 ! (init ! 14 refl (tt, record { fits = gid })) $
       pass1 ! (init ! 12 refl (LL.lawful D.the-type D′.the-laws 𝓤 H A W .typed date _ gd .0)) $ pass0 ! $
       assigns ! (agg ! (and-then ! (lit ! tt) (no-more !))) (from ! (stop !))
-      (init ! 10 refl (EL.lawful S.the-type S′.the-laws 𝓤 H A W tt .typed Away _ (EL.owes S.the-type S′.the-laws Away tt) .0)) $
+      (init ! 10 refl (EL.lawful S.the-type S′.the-laws 𝓤 H A W tt .typed Inactive _ (EL.owes S.the-type S′.the-laws Inactive tt) .0)) $
       assigns ! (of-opd ! (lit ! tt)) (from ! (stop !)) (init ! 8 refl (tt, record { fits = lit< tt })) $
       looped 𝓣 known l₀ l₁ l₂ l₃ l₄ l₅ l₆ l₇ l₈ l₉))))))))))
 
@@ -349,9 +349,9 @@ module _ {M : Type 1} (𝓤 : URA M) (H : Heap 𝓤) (A : Atoms 𝓤) (W : Given
       )
       (this.clauses 𝓤 H A mem run) (WpFn 𝓤 H (𝓣 .C) (𝓣 .Λ) code.function) (WpFn-mono 𝓤 H (W .laws) 𝓣 code.function) walks
 
-pub standing-spec : {M : Type 1} → stated.statement M
+pub window-state-spec : {M : Type 1} → stated.statement M
 unfolding code.routine tablesOf
-standing-spec 𝓤 H 𝓜 𝓖 𝓡 =
+window-state-spec 𝓤 H 𝓜 𝓖 𝓡 =
     entered 𝓤 H (tripleOf 𝓤 H (𝓖 .A) this.signature (this.spec 𝓤 H (𝓖 .A) (𝓜 .mem) (𝓡 .run)))
     (tables 𝓤 H 𝓜 𝓡 code.env .C) (tables 𝓤 H 𝓜 𝓡 code.env .Λ) #this code.function (code.unfolded 𝓤 H 𝓜 𝓡)
     (meets 𝓤 H (𝓖 .A) (givenOf 𝓤 H 𝓜 𝓖) (𝓜 .mem) (𝓡 .run) (tablesOf 𝓤 H 𝓜 (tables 𝓤 H 𝓜 𝓡 code.env))
