@@ -1,2 +1,0 @@
--- Laws for the exported calls.
-pub mod ShortNames

@@ -1,0 +1,2 @@
+-- Laws for the exports.
+pub mod ShortNames

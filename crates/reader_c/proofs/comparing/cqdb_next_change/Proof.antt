@@ -1,0 +1,66 @@
+-- `reader_c::comparing::cqdb_next_change` meets its contract. The lengths fit their 32 bits. Assumes nothing.
+use Prim.Native.Nat.{ℕ}
+use native.Mathlib.Omega.{arith}
+use mathlib.Core.Path.{sym, ap, _∙_}
+use Rattle.reader.specs.Cases.{namingOf}
+use Rattle.changes.specs.Cases.{changeOf}
+use Rattle.reader_c.specs.declared.comparing.NameAnswer.{NameAnswer}
+use Rattle.reader_c.specs.declared.comparing.ChangeAnswer.{ChangeAnswer}
+use Rattle.reader_c.specs.ChangeAnswers.{changeAnswer}
+use Rattle.reader_c.proofs.ShortNames.{change-short}
+use borrow.Author.Needs.{needs}
+use Rattle.reader_c.proofs.comparing.cqdb_next_change.Statement.{statement}
+use Rattle.reader_c.proofs.comparing.cqdb_next_change.Tie as tie
+
+next-change-requires : tie.Need-next-change-requires
+next-change-requires c κs = search needs
+
+enum-known-id : tie.Need-enum-known-id
+enum-known-id c = search needs
+
+name-answer-requires : tie.Need-name-answer-requires
+name-answer-requires c κs =
+    let a = c .before .before .before .before .before .before .args in
+    let at = c .before .id .given in
+    change-short (a .old .now) (a .new .now) (λ (i : ℕ). omega (arith, c .before .before .before .before .before .shared-slice-known .given i))
+    (λ (i : ℕ). omega (arith, c .before .before .before .before .shared-slice-known2 .given i)) (a .from) (at .0 .0) (namingOf (at .0 .1 .0)) (namingOf (at .0 .1 .1 .0))
+    (ap changeOf (sym (at .1)) ∙ c .before .before .before .next-change .ensures) .0
+
+name-answer-requires-2 : tie.Need-name-answer-requires-2
+name-answer-requires-2 c κs =
+    let a = c .before .before .before .before .before .before .before .args in
+    let at = c .before .before .id .given in
+    change-short (a .old .now) (a .new .now) (λ (i : ℕ). omega (arith, c .before .before .before .before .before .before .shared-slice-known .given i))
+    (λ (i : ℕ). omega (arith, c .before .before .before .before .before .shared-slice-known2 .given i)) (a .from) (at .0 .0) (namingOf (at .0 .1 .0)) (namingOf (at .0 .1 .1 .0))
+    (ap changeOf (sym (at .1)) ∙ c .before .before .before .before .next-change .ensures) .1
+
+enum-told : tie.Need-enum-told
+enum-told c = search needs
+
+name-answer-requires-3 : tie.Need-name-answer-requires-3
+name-answer-requires-3 c κs = search needs
+
+returns : tie.Need-returns
+returns c =
+    let at = c .before .before .before .id .given in
+    (λ i. record { found = 1; id = at .0 .0; before = c .before .name-answer .ensures i; after = c .name-answer2 .ensures i })
+    ∙ ap changeAnswer (ap changeOf (sym (at .1)) ∙ c .before .before .before .before .before .next-change .ensures)
+
+returns-2 : tie.Need-returns-2
+returns-2 c =
+    let none = c .name-answer3 .ensures in
+    (λ i. record { found = 0; id = 0; before = none i; after = none i })
+    ∙ ap changeAnswer (ap changeOf (sym (c .before .enum-told .given .1)) ∙ c .before .before .before .next-change .ensures)
+
+pub cqdb-next-change-spec : {M : Type 1} → statement M
+cqdb-next-change-spec =
+    tie.close
+    (tie.spec
+    next-change-requires
+    enum-known-id
+    name-answer-requires
+    name-answer-requires-2
+    enum-told
+    name-answer-requires-3
+    returns
+    returns-2)

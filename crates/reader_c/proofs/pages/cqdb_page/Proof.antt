@@ -1,0 +1,23 @@
+-- `reader_c::pages::cqdb_page` meets its contract: what `page` promises of the answer, put into the struct. Assumes nothing.
+use mathlib.Core.Path.{ap, _∙_}
+use borrow.Author.Needs.{needs}
+use Rattle.reader_c.specs.PageAnswer.{pageAnswerOf}
+use Rattle.reader_c.proofs.pages.cqdb_page.Statement.{statement}
+use Rattle.reader_c.proofs.pages.cqdb_page.Tie as tie
+
+page-requires : tie.Need-page-requires
+page-requires c κs = search needs
+
+answer-requires : tie.Need-answer-requires
+answer-requires c κs = search needs
+
+same-length : tie.Need-same-length
+same-length c = search needs
+
+returns : tie.Need-returns
+returns c =
+    let printed = c .before .before .before .page in
+    (c .answer .ensures ∙ ap pageAnswerOf (printed .ensures .0), printed .ensures .1)
+
+pub cqdb-page-spec : {M : Type 1} → statement M
+cqdb-page-spec = tie.close (tie.spec page-requires answer-requires same-length returns)
