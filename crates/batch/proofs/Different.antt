@@ -6,7 +6,7 @@ use mathlib.Core.Bool.{Bool, true, false, _||_}
 use mathlib.Core.List.{List, [], _∷_, _++_}
 use lib.ListN.{length}
 use Rattle.image.specs.Bytes.{same}
-use Rattle.image.proofs.Bools.{not-both, neither-first, neither-second}
+use Rattle.image.proofs.Bools.{false-not-true, or-false-first, or-false-second}
 use Rattle.image.proofs.Equal.{same-self, same-true, same-false}
 use Rattle.reader.specs.Lookup.{lookup}
 use Rattle.reader.specs.Cases.{reads}
@@ -35,11 +35,11 @@ among-last y x xs = among-append y xs (x ∷ []) ∙ ap (λ (t : Bool). among y 
 
 -- a name that is not among some and one more
 not-seen : (y x : List ℕ) (xs : List (List ℕ)) → among y (xs ++ x ∷ []) ≡ false → among y xs ≡ false
-not-seen y x xs e = neither-first (among y xs) (same x y) (sym (among-last y x xs) ∙ e)
+not-seen y x xs e = or-false-first (among y xs) (same x y) (sym (among-last y x xs) ∙ e)
 
 not-last : (y x : List ℕ) (xs : List (List ℕ)) → among y (xs ++ x ∷ []) ≡ false → x ≡ y → ⊥
 not-last y x xs e p =
-    not-both (sym (neither-second (among y xs) (same x y) (sym (among-last y x xs) ∙ e)) ∙ ap (λ (l : List ℕ). same l y) p ∙ same-self y)
+    false-not-true (sym (or-false-second (among y xs) (same x y) (sym (among-last y x xs) ∙ e)) ∙ ap (λ (l : List ℕ). same l y) p ∙ same-self y)
 
 -- ---- none twice
 
@@ -75,7 +75,7 @@ same-one false false r q e = e
 
 same-seen : (a s r q : Bool) → (s ≡ true → a ≡ true) → (((a || s) || r) ≡ ((a || s) || q)) → (a || r) ≡ (a || (s || q))
 same-seen true s r q h e = refl
-same-seen false true r q h e = absurd (not-both (h refl))
+same-seen false true r q h e = absurd (false-not-true (h refl))
 same-seen false false r q h e = e
 
 module _ (x : List ℕ) where

@@ -7,7 +7,7 @@ use mathlib.Core.List.{List, map}
 use borrow.Author.Tests.{le-ltb, le-leb, lt-leb, eq-eqb, ne-eqb}
 use lib.ListN.{length, getD, take, drop, length-take, drop-of-length-le}
 use lib.Seq.{drop-cons, getD-take}
-use Rattle.reader.specs.Lookup.{Lookup, found, nothing, Seen, pass, ends, seeEntry, decide, lookupHash, lookupBy, lookup}
+use Rattle.reader.specs.Lookup.{Lookup, found, nothing, Probe, pass, ends, probeEntry, decide, lookupHash, lookupBy, lookup}
 use Rattle.reader.specs.steps.Resume.{searchFrom, lookupFrom}
 use Rattle.reader.specs.Cases.{reads}
 use Rattle.reader.proofs.Searches.{lookup-with, lookup-own, from-by}
@@ -68,18 +68,18 @@ module _ (image name : List ℕ) (h c e : ℕ) (decided : Decided image h c e) w
 
   pub empty-decides : length name < 4294967295 → e ≡ 0 → nothing c ≡ lookupBy image name h
   empty-decides short z =
-      ap (λ (t : Bool). decide (cond t ends (seeEntry image name e)) c (searchFrom image name h c)) (sym (eq-eqb e 0 z))
+      ap (λ (t : Bool). decide (cond t ends (probeEntry image name e)) c (searchFrom image name h c)) (sym (eq-eqb e 0 z))
       ∙ decided .by-entry name ∙ own-lookup short
 
-  pub entry-decides : length name < 4294967295 → (e ≡ 0 → ⊥) → (s : Seen) → s ≡ seeEntry image name e
+  pub entry-decides : length name < 4294967295 → (e ≡ 0 → ⊥) → (s : Probe) → s ≡ probeEntry image name e
       → decide s c (searchFrom image name h c) ≡ lookupBy image name h
   entry-decides short z s seen =
-      ap (λ (v : Seen). decide v c (searchFrom image name h c)) seen
-      ∙ ap (λ (t : Bool). decide (cond t ends (seeEntry image name e)) c (searchFrom image name h c)) (sym (ne-eqb e 0 z))
+      ap (λ (v : Probe). decide v c (searchFrom image name h c)) seen
+      ∙ ap (λ (t : Bool). decide (cond t ends (probeEntry image name e)) c (searchFrom image name h c)) (sym (ne-eqb e 0 z))
       ∙ decided .by-entry name ∙ own-lookup short
 
   -- an entry with another name: what is left of the lookup decides
-  pub rest-decides : length name < 4294967295 → (e ≡ 0 → ⊥) → pass ≡ seeEntry image name e → lookupFrom image name h c ≡ lookupBy image name h
+  pub rest-decides : length name < 4294967295 → (e ≡ 0 → ⊥) → pass ≡ probeEntry image name e → lookupFrom image name h c ≡ lookupBy image name h
   rest-decides short z seen =
       sym (from-by image name h c false false (le-ltb (length image) 2072 (decided .head)) (lt-leb 4294967295 (length name) short))
       ∙ entry-decides short z pass seen

@@ -7,15 +7,15 @@ use Rattle.image.specs.Bytes.{same, cat}
 use Rattle.reader.specs.Lookup.{Lookup, found, lookup}
 use Rattle.reader.specs.Naming.{naming}
 use Rattle.reader.specs.Cases.{reads}
-use Rattle.reader.specs.QuayReads.{own}
-use Rattle.reader.proofs.QuayReads.{reads-right}
+use Rattle.reader.specs.examples.Reads.{ownImage}
+use Rattle.reader.proofs.ExampleReads.{reads-hold}
 use Rattle.batch.specs.RoundNames.{namesFrom, names, astray, among, differentFrom, different}
 use Rattle.batch.specs.Round.{answerWords, roundWords, bucketsOf, rounding, afterRound}
 use Rattle.batch.specs.NameRound.{nameWords, nameRefusal, afterNames}
 use Rattle.batch.specs.Rows.{TwiceOnce, RowsHold}
 
-found-A : lookup own (65 ∷ []) ≡ found (record { id = 5; buckets = 1; offset = 2072 })
-found-A = reads-right .looked-up .1 .0
+found-A : lookup ownImage (65 ∷ []) ≡ found (record { id = 5; buckets = 1; offset = 2072 })
+found-A = reads-hold .looked-up .1 .0
 
 twice : TwiceOnce
 unfolding rounding afterRound names namesFrom astray different differentFrom among same bucketsOf roundWords cat

@@ -12,27 +12,27 @@ use lib.ListN.{length}
 use Rattle.image.specs.Bytes.{word}
 use Rattle.image.specs.Tables.{tableOf, next}
 use Rattle.image.specs.Head.{tableAt, bucketNumber}
-use Rattle.image.proofs.Bools.{not-both, neither-first, neither-second}
-use Rattle.reader.specs.Lookup.{Seen, pass, ends, seeEntry, see, decide, unsearched, lookupHash}
-use Rattle.reader.specs.steps.Resume.{rest, bucketAfter, searchFrom}
-use Rattle.reader.proofs.Searches.{see-by, rest-seen, from-over, from-read, from-start}
+use Rattle.image.proofs.Bools.{false-not-true, or-false-first, or-false-second}
+use Rattle.reader.specs.Lookup.{Probe, pass, ends, probeEntry, probeBucket, decide, unsearched, lookupHash}
+use Rattle.reader.specs.steps.Resume.{searchRest, bucketAfter, searchFrom}
+use Rattle.reader.proofs.Searches.{probe-bucket-by, rest-step, from-over, from-read, from-start}
 use Rattle.batch.specs.steps.Searching.{Goes, seenAt, Decided}
 
 -- ---- whether a bucket is passed
 
 left-one : (a b : Bool) → (a || b) ≡ true → b ≡ false → a ≡ true
 left-one true b t f = refl
-left-one false b t f = absurd (not-both (sym f ∙ t))
+left-one false b t f = absurd (false-not-true (sym f ∙ t))
 
 module _ (met h entry : ℕ) where
   pub has-hash : (eqb met h || eqb entry 0) ≡ true → 0 < entry → met ≡ h
   has-hash t some = eqb-true met h (left-one (eqb met h) (eqb entry 0) t (ne-eqb entry 0 (λ z. omega arith)))
 
   pub other-hash : (eqb met h || eqb entry 0) ≡ false → met ≡ h → ⊥
-  other-hash t = eqb-false met h (neither-first (eqb met h) (eqb entry 0) t)
+  other-hash t = eqb-false met h (or-false-first (eqb met h) (eqb entry 0) t)
 
   pub not-empty : (eqb met h || eqb entry 0) ≡ false → 0 < entry
-  not-empty t = let z : entry ≡ 0 → ⊥ = eqb-false entry 0 (neither-second (eqb met h) (eqb entry 0) t) in omega arith
+  not-empty t = let z : entry ≡ 0 → ⊥ = eqb-false entry 0 (or-false-second (eqb met h) (eqb entry 0) t) in omega arith
 
 -- ---- where a search stands
 
@@ -68,20 +68,20 @@ module _ (image : List ℕ) (h c at n k entry met : ℕ) (head : 2072 ≤ length
   hash = em ∙ ap (word image) place
 
   -- what is left after this bucket
-  left-then : (name : List ℕ) → rest image name h o size (next size b) (size - c - 1) ≡ searchFrom image name h (c + 1)
+  left-then : (name : List ℕ) → searchRest image name h o size (next size b) (size - c - 1) ≡ searchFrom image name h (c + 1)
   left-then name =
       let x : h / 256 + c + 1 ≡ h / 256 + (c + 1) = omega arith in
       let e : next size b ≡ bucketAfter h size (c + 1) = mod-add-mod (h / 256 + c) size 1 ∙ ap (λ (v : ℕ). v % size) x in
       let f : size - c - 1 ≡ size - (c + 1) = omega arith in
-      (λ i. rest image name h o size (e i) (f i)) ∙ from-read image name h (c + 1) o size read refl refl
+      (λ i. searchRest image name h o size (e i) (f i)) ∙ from-read image name h (c + 1) o size read refl refl
 
-  turn : (name : List ℕ) → decide (see image name h (o + 8 * b)) (c + 1) (searchFrom image name h (c + 1)) ≡ lookupHash image name h
+  turn : (name : List ℕ) → decide (probeBucket image name h (o + 8 * b)) (c + 1) (searchFrom image name h (c + 1)) ≡ lookupHash image name h
   turn name =
       let some : 0 < size - c = omega (arith, en, more) in
       let all : size - c ≤ size = omega arith in
       let r : c + 1 ≡ size - (size - c - 1) = omega (arith, en, more) in
-      (λ i. decide (see image name h (o + 8 * b)) (r i) (sym (left-then name) i))
-      ∙ rest-seen image name h o size b (size - c) (see image name h (o + 8 * b)) some all refl
+      (λ i. decide (probeBucket image name h (o + 8 * b)) (r i) (sym (left-then name) i))
+      ∙ rest-step image name h o size b (size - c) (probeBucket image name h (o + 8 * b)) some all refl
       ∙ from-read image name h c o size read refl refl
       ∙ before head name
 
@@ -89,25 +89,25 @@ module _ (image : List ℕ) (h c at n k entry met : ℕ) (head : 2072 ≤ length
   pub passed-on : (met ≡ h → ⊥) → 0 < entry → Goes image h (c + 1)
   passed-on other some head' name =
       let apart : eqb (word image (o + 8 * b)) h ≡ false = ne-eqb (word image (o + 8 * b)) h (λ e. other (hash ∙ e)) in
-      let seen : pass ≡ see image name h (o + 8 * b) = see-by image name entry h (o + 8 * b) false false offset (ne-eqb entry 0 (λ z. omega arith)) apart in
-      ap (λ (s : Seen). decide s (c + 1) (searchFrom image name h (c + 1))) seen ∙ turn name
+      let seen : pass ≡ probeBucket image name h (o + 8 * b) = probe-bucket-by image name entry h (o + 8 * b) false false offset (ne-eqb entry 0 (λ z. omega arith)) apart in
+      ap (λ (s : Probe). decide s (c + 1) (searchFrom image name h (c + 1))) seen ∙ turn name
 
   -- an empty bucket, or one with the hash
-  shown : (0 < entry → met ≡ h) → (name : List ℕ) → seenAt image name entry ≡ see image name h (o + 8 * b)
+  shown : (0 < entry → met ≡ h) → (name : List ℕ) → seenAt image name entry ≡ probeBucket image name h (o + 8 * b)
   shown same name =
       elim (ℕ-discrete entry 0) [
-        | yes z ↦ ap by-offset (eq-eqb entry 0 z) ∙ see-by image name entry h (o + 8 * b) true _ offset (eq-eqb entry 0 z) refl
+        | yes z ↦ ap by-offset (eq-eqb entry 0 z) ∙ probe-bucket-by image name entry h (o + 8 * b) true _ offset (eq-eqb entry 0 z) refl
         | no z ↦
             ap by-offset (ne-eqb entry 0 z)
-            ∙ see-by image name entry h (o + 8 * b) false true offset (ne-eqb entry 0 z) (eq-eqb (word image (o + 8 * b)) h (sym hash ∙ same (omega arith)))
+            ∙ probe-bucket-by image name entry h (o + 8 * b) false true offset (ne-eqb entry 0 z) (eq-eqb (word image (o + 8 * b)) h (sym hash ∙ same (omega arith)))
       ]
     where
-      by-offset : Bool → Seen
-      by-offset t = cond t ends (seeEntry image name entry)
+      by-offset : Bool → Probe
+      by-offset t = cond t ends (probeEntry image name entry)
 
   pub decided-here : (0 < entry → met ≡ h) → Decided image h (c + 1) entry
   decided-here same =
       record {
         head = head;
-        by-entry = λ name. ap (λ (s : Seen). decide s (c + 1) (searchFrom image name h (c + 1))) (shown same name) ∙ turn name;
+        by-entry = λ name. ap (λ (s : Probe). decide s (c + 1) (searchFrom image name h (c + 1))) (shown same name) ∙ turn name;
       }

@@ -10,7 +10,7 @@ use lib.Dec.{ltb}
 use lib.ListN.{length, getD, take, drop, length-take, length-drop, drop-of-length-le, take-append-drop}
 use lib.Seq.{drop-cons, take-suc, take-add, getD-take, getD-drop, ext-getD}
 use Rattle.jhash.specs.Outcome.{Outcome, value, refusal}
-use Rattle.image.specs.Bytes.{same, cat, keep, range}
+use Rattle.image.specs.Bytes.{same, cat, filter, range}
 use Rattle.image.proofs.Equal.{same-self, same-false}
 use Rattle.reader.specs.Lookup.{lookup}
 use Rattle.batch.specs.RoundNames.{names, astray, among, newOnly, differentFrom, different, nth}
@@ -67,26 +67,26 @@ module _ (xs : List (List ℕ)) (equals : List ℕ) (told : Told xs (length xs) 
       among-none (nth xs i) (take i xs)
       (λ j k e. told i h .none z j (omega (arith, length-take i xs)) (sym (getD-take i xs j [] (omega (arith, length-take i xs))) ∙ e))
 
-  news-from : (m i : ℕ) → i + m ≡ length xs → map (nth xs) (keep (isNew equals) (range i m)) ≡ differentFrom (take i xs) (drop i xs)
-  unfolding differentFrom keep range
+  news-from : (m i : ℕ) → i + m ≡ length xs → map (nth xs) (filter (isNew equals) (range i m)) ≡ differentFrom (take i xs) (drop i xs)
+  unfolding differentFrom filter range
   news-from zero i e = sym (ap (differentFrom (take i xs)) (drop-of-length-le xs {i = i} (omega arith)))
   news-from (suc m) i e =
       let h : i < length xs = omega arith in
-      let rest = map (nth xs) (keep (isNew equals) (range (suc i) m)) in
+      let rest = map (nth xs) (filter (isNew equals) (range (suc i) m)) in
       by rest (ℕ-discrete (getD equals i 0) 0) h
       ∙ ap (newOnly (among (nth xs i) (take i xs)) (nth xs i))
       (news-from m (suc i) (omega arith) ∙ ap (λ (seen : List (List ℕ)). differentFrom seen (drop (suc i) xs)) (take-suc xs i [] h))
       ∙ sym (ap (differentFrom (take i xs)) (drop-cons xs i [] h))
     where
       by : (rest : List (List ℕ)) → Dec (getD equals i 0 ≡ 0) → i < length xs
-          → map (nth xs) (cond (isNew equals i) (i ∷ keep (isNew equals) (range (suc i) m)) (keep (isNew equals) (range (suc i) m)))
-          ≡ newOnly (among (nth xs i) (take i xs)) (nth xs i) (map (nth xs) (keep (isNew equals) (range (suc i) m)))
+          → map (nth xs) (cond (isNew equals i) (i ∷ filter (isNew equals) (range (suc i) m)) (filter (isNew equals) (range (suc i) m)))
+          ≡ newOnly (among (nth xs i) (take i xs)) (nth xs i) (map (nth xs) (filter (isNew equals) (range (suc i) m)))
       by rest (yes z) h =
-          ap (λ (t : Bool). map (nth xs) (cond t (i ∷ keep (isNew equals) (range (suc i) m)) (keep (isNew equals) (range (suc i) m)))) (eq-eqb (getD equals i 0) 0 z)
-          ∙ sym (ap (λ (t : Bool). newOnly t (nth xs i) (map (nth xs) (keep (isNew equals) (range (suc i) m)))) (unrepeated i h z))
+          ap (λ (t : Bool). map (nth xs) (cond t (i ∷ filter (isNew equals) (range (suc i) m)) (filter (isNew equals) (range (suc i) m)))) (eq-eqb (getD equals i 0) 0 z)
+          ∙ sym (ap (λ (t : Bool). newOnly t (nth xs i) (map (nth xs) (filter (isNew equals) (range (suc i) m)))) (unrepeated i h z))
       by rest (no z) h =
-          ap (λ (t : Bool). map (nth xs) (cond t (i ∷ keep (isNew equals) (range (suc i) m)) (keep (isNew equals) (range (suc i) m)))) (ne-eqb (getD equals i 0) 0 z)
-          ∙ sym (ap (λ (t : Bool). newOnly t (nth xs i) (map (nth xs) (keep (isNew equals) (range (suc i) m)))) (repeated i h (omega arith)))
+          ap (λ (t : Bool). map (nth xs) (cond t (i ∷ filter (isNew equals) (range (suc i) m)) (filter (isNew equals) (range (suc i) m)))) (ne-eqb (getD equals i 0) 0 z)
+          ∙ sym (ap (λ (t : Bool). newOnly t (nth xs i) (map (nth xs) (filter (isNew equals) (range (suc i) m)))) (repeated i h (omega arith)))
 
   pub news-different : map (nth xs) (news equals (length xs)) ≡ different xs
   unfolding news different

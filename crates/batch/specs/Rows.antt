@@ -4,7 +4,7 @@ use mathlib.Core.Path.{_≡_}
 use mathlib.Core.List.{List, [], _∷_, map}
 use lib.ListN.{length, replicate}
 use Rattle.jhash.specs.Outcome.{Outcome, value, refusal}
-use Rattle.reader.specs.QuayReads.{own}
+use Rattle.reader.specs.examples.Reads.{ownImage}
 use Rattle.batch.specs.Round.{rounding, afterRound}
 use Rattle.batch.specs.NameRound.{nameRefusal, afterNames}
 
@@ -55,8 +55,8 @@ namingRows =
 
 -- A twice on an image that holds A under 5 in a table of one bucket: both places have the answer, and its bucket counts once
 pub record TwiceOnce : Type 0 where
-  pub gives : rounding own (65 ∷ 65 ∷ []) (1 ∷ 2 ∷ []) 2 ≡ value 1
-  pub leaves : afterRound own (65 ∷ 65 ∷ []) (1 ∷ 2 ∷ []) (nines 9) ≡ 1 ∷ 5 ∷ 1 ∷ 2072 ∷ 1 ∷ 5 ∷ 1 ∷ 2072 ∷ 9 ∷ []
+  pub gives : rounding ownImage (65 ∷ 65 ∷ []) (1 ∷ 2 ∷ []) 2 ≡ value 1
+  pub leaves : afterRound ownImage (65 ∷ 65 ∷ []) (1 ∷ 2 ∷ []) (nines 9) ≡ 1 ∷ 5 ∷ 1 ∷ 2072 ∷ 1 ∷ 5 ∷ 1 ∷ 2072 ∷ 9 ∷ []
 
 -- what the rows say
 pub record RowsHold : Type 0 where

@@ -13,10 +13,10 @@ ghost use Rattle.batch.specs.steps.Telling.{Keys, Has, Kept, Begun};
 ghost use Rattle.batch.specs.steps.Searching.{Decided, Right, Listing, AllDecided, AllGo, Answered};
 use super::searching::pass;
 use packed::name_of;
-use reader::Seen;
+use reader::Probe;
 use reader::ToId;
+use reader::lookup::probe_entry;
 use reader::lookup::search_from;
-use reader::lookup::see_entry;
 
 // How many buckets the passes read for each name.
 const PASSES: u32 = 5;
@@ -91,14 +91,14 @@ fn put_decided(
         put_words(&mut *answers, at, 0, 0, c, 0);
         return;
     }
-    match see_entry(image, name, offset) {
-        Seen::Pass => {
+    match probe_entry(image, name, offset) {
+        Probe::Pass => {
             put_answer(&mut *answers, at, search_from(image, name, h, c));
         }
-        Seen::Ends => {
+        Probe::Ends => {
             put_words(&mut *answers, at, 0, 0, c, 0);
         }
-        Seen::Hit(hit) => {
+        Probe::Hit(hit) => {
             put_words(&mut *answers, at, 1, hit.id, c, hit.offset);
         }
     }

@@ -11,11 +11,11 @@ use lib.Seq.{drop-drop}
 use Rattle.image.specs.declared.Mode.{Mode}
 use Rattle.image.specs.declared.Mode.the-variants.{Twoway, Oneway}
 use Rattle.image.specs.Bytes.{same, cat}
-use Rattle.image.specs.Image.{Entry, headSize, entryBytes, entrySize, entriesSize, entriesEnd, placed, count, backSize, backIn, backSizeOf, imageSize, image, hasName, holds}
+use Rattle.image.specs.Image.{Entry, headSize, entryBytes, entrySize, entriesSize, entriesEnd, placed, count, backSize, backIn, backSizeOf, imageSize, image, hasName, containsName}
 use Rattle.image.specs.Stored.{between}
 use Rattle.image.specs.Zero.{hasZero}
 use Rattle.image.proofs.Between.{length-between}
-use Rattle.image.proofs.Bools.{neither-first, neither-second}
+use Rattle.image.proofs.Bools.{or-false-first, or-false-second}
 use Rattle.image.proofs.Sizes.{entriesSize-append}
 use Rattle.packed.specs.Names.{namesFrom, names, astray, nth, beginOf}
 use Rattle.packed.proofs.NameEnds.{length-names}
@@ -33,10 +33,10 @@ use Rattle.lists.specs.Calls.{Call, put, after, acceptedAfter, dueFrom, accepte
 use Rattle.lists.specs.Demand3.{answersOf, afterList, acceptedPuts}
 use Rattle.lists.proofs.ListWritten.{Written}
 use Rattle.lists.proofs.Appended.{entriesSize-snoc, sizeOf-is}
-use Rattle.lists.proofs.Recorded.{written-size, written-recorded}
+use Rattle.lists.proofs.WrittenRecord.{written-size, written-recorded}
 use Rattle.lists.proofs.ListPuts.{put-written, fresh-written}
 use Rattle.lists.proofs.ListCloses.{close-accepted, close-closed, closed-buffer}
-use Rattle.lists.proofs.Along.{list-answers, list-accepted, list-written}
+use Rattle.lists.proofs.CallLists.{list-answers, list-accepted, list-written}
 use Rattle.bulk_tables.specs.steps.Parted.{at}
 use Rattle.build.specs.Build.{callsOf, listed}
 use Rattle.build.specs.steps.Capacity.{RoomForAll}
@@ -84,10 +84,10 @@ entries-size bytes s [] ids good many = omega arith
 entries-size bytes s (e ∷ es) [] good many = absurd (omega arith)
 entries-size bytes s (e ∷ es) (id ∷ ids) good many =
     let size = length bytes in
-    let two = neither-first (ltb e s || ltb size e) (astray size e es) good in
-    let rises = ltb-false e s (neither-first (ltb e s) (ltb size e) two) in
-    let inside = ltb-false size e (neither-second (ltb e s) (ltb size e) two) in
-    let later = entries-size bytes e es ids (neither-second (ltb e s || ltb size e) (astray size e es) good) (omega arith) in
+    let two = or-false-first (ltb e s || ltb size e) (astray size e es) good in
+    let rises = ltb-false e s (or-false-first (ltb e s) (ltb size e) two) in
+    let inside = ltb-false size e (or-false-second (ltb e s) (ltb size e) two) in
+    let later = entries-size bytes e es ids (or-false-second (ltb e s || ltb size e) (astray size e es) good) (omega arith) in
     omega (arith, rises, length-between bytes s e rises inside, later)
 
 module _ (bytes ends ids : List ℕ) (good : astray (length bytes) 0 ends ≡ false) (many : length ends ≤ length ids) where
@@ -124,15 +124,15 @@ module _ (mode : Mode) (buffer bytes ends ids : List ℕ) (good : astray (length
 
 -- ---- a name among the entries and one more
 
-holds-more : (name : List ℕ) (es : List Entry) (e : Entry) → holds name (es ++ (e ∷ [])) ≡ (holds name es || same (e .name) name)
-unfolding holds
+holds-more : (name : List ℕ) (es : List Entry) (e : Entry) → containsName name (es ++ (e ∷ [])) ≡ (containsName name es || same (e .name) name)
+unfolding containsName
 holds-more name [] e = or-false (same (e .name) name)
   where
     or-false : (a : Bool) → (a || false) ≡ a
     or-false true = refl
     or-false false = refl
 holds-more name (x ∷ es) e =
-    ap (λ (t : Bool). hasName name x || t) (holds-more name es e) ∙ assoc (hasName name x) (holds name es) (same (e .name) name)
+    ap (λ (t : Bool). hasName name x || t) (holds-more name es e) ∙ assoc (hasName name x) (containsName name es) (same (e .name) name)
   where
     assoc : (p q r : Bool) → (p || (q || r)) ≡ ((p || q) || r)
     assoc true q r = refl
@@ -179,7 +179,7 @@ record Free (mode : Mode) (repeats : Repeats) (n : ℕ) (es : List Entry) (xs : 
   small : imageSize mode (es ++ entriesListed xs ids) ≤ 4294967295
   words : (i : ℕ) → i < length xs → getD ids i 0 < 2 ^ 32
   zeros : (i : ℕ) → i < length xs → hasZero (nth xs i) ≡ false
-  new : refusesRepeats repeats ≡ true → (i : ℕ) → i < length xs → holds (nth xs i) es ≡ false
+  new : refusesRepeats repeats ≡ true → (i : ℕ) → i < length xs → containsName (nth xs i) es ≡ false
   apart : refusesRepeats repeats ≡ true → (i j : ℕ) → j < i → i < length xs → same (nth xs j) (nth xs i) ≡ false
 
 module _ (mode : Mode) (repeats : Repeats) (n : ℕ) where
@@ -202,12 +202,12 @@ module _ (mode : Mode) (repeats : Repeats) (n : ℕ) where
         ap₂ {C = Bool} (λ (a b : Bool). a || b) (le-ltb n (sizeOf mode next) (omega (arith, is, front, whole, f .within)))
         (le-ltb 4294967295 (sizeOf mode next) (omega (arith, is, front, whole, f .small)))
 
-    free-new : (holds x es && refusesRepeats repeats) ≡ false
+    free-new : (containsName x es && refusesRepeats repeats) ≡ false
     free-new = go repeats (f .new)
       where
-        go : (r : Repeats) → (refusesRepeats r ≡ true → (i : ℕ) → i < length (x ∷ xs) → holds (nth (x ∷ xs) i) es ≡ false) → (holds x es && refusesRepeats r) ≡ false
+        go : (r : Repeats) → (refusesRepeats r ≡ true → (i : ℕ) → i < length (x ∷ xs) → containsName (nth (x ∷ xs) i) es ≡ false) → (containsName x es && refusesRepeats r) ≡ false
         go Off h = ap (λ (b : Bool). b && true) (h refl 0 (omega arith))
-        go On h = none (holds x es)
+        go On h = none (containsName x es)
           where
             none : (b : Bool) → (b && false) ≡ false
             none true = refl
@@ -215,7 +215,7 @@ module _ (mode : Mode) (repeats : Repeats) (n : ℕ) where
 
     free-due : putDue mode repeats n es e ≡ 0
     unfolding putDue
-    free-due = decided (hasZero x) (holds x es && refusesRepeats repeats) (tooLarge n (sizeOf mode next)) (f .zeros 0 (omega arith)) free-new free-room
+    free-due = decided (hasZero x) (containsName x es && refusesRepeats repeats) (tooLarge n (sizeOf mode next)) (f .zeros 0 (omega arith)) free-new free-room
       where
         decided : (z h t : Bool) → z ≡ false → h ≡ false → t ≡ false → _≡_ {A = ℕ} (cond z 13 (cond h 16 (cond t 3 0))) 0
         decided z h t p q r = rw (p, q, r) refl
@@ -291,7 +291,7 @@ module _ (mode : Mode) (repeats : Repeats) (buffer bytes ends ids : List ℕ) (g
   cs = listed bytes ends ids
 
   free-all : Free mode repeats n [] xs ids
-  unfolding holds
+  unfolding containsName
   free-all =
       let all = length-names bytes ends in
       record {

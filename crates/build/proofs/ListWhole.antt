@@ -8,7 +8,7 @@ use lib.ListN.{length, getD, take, drop, replicate, length-append, length-replic
 use lib.Seq.{sets, sets-eq, take-at, drop-at, length-take-le}
 use Rattle.image.specs.Bytes.{cat}
 use Rattle.image.specs.Stored.{between}
-use Rattle.image.specs.Image.{Entry, headSize, entryBytes, placed, count, links, backSize, backIn, entriesEnd, backSizeOf, imageSize, image}
+use Rattle.image.specs.Image.{Entry, headSize, entryBytes, placed, count, backWords, backSize, backIn, entriesEnd, backSizeOf, imageSize, image}
 use Rattle.image.specs.declared.Mode.{Mode}
 use Rattle.image.proofs.Sizes.{backIn-twice}
 use Rattle.packed.specs.Names.{names, astray}
@@ -129,7 +129,7 @@ module _ (mode : Mode) (buffer bytes ends ids : List ℕ) (good : astray (length
     pub asked : (end back : ℕ) → end ≡ entriesEnd (entriesListed (names bytes ends) ids) → back ≡ backSizeOf mode (entriesListed (names bytes ends) ids)
         → (table-words : List ℕ) → ((qs : List Entry) → map (λ (e : Entry). e .name) qs ≡ names bytes ends → TablesAtHand table-words qs)
         → between buf (entriesEnd (entriesListed (names bytes ends) ids) + 16 * length ends) (imageSize mode (entriesListed (names bytes ends) ids))
-        ≡ links (placed headSize (entriesListed (names bytes ends) ids)) (backSizeOf mode (entriesListed (names bytes ends) ids))
+        ≡ backWords (placed headSize (entriesListed (names bytes ends) ids)) (backSizeOf mode (entriesListed (names bytes ends) ids))
         → Standing mode end (length ends) back counts buf
         × TablesAtHand table-words (standing buf end (length ends))
         × LinksStand mode end (length ends) back buf
@@ -140,7 +140,7 @@ module _ (mode : Mode) (buffer bytes ends ids : List ℕ) (good : astray (length
           told (standing buf (entriesEnd es) (length ends)) (ap (map (λ (e : Entry). e .name)) is-standing ∙ names-all bytes ends ids good many),
           ap (between buf (entriesEnd es + 16 * length ends)) finished-is
               ∙ linked
-              ∙ ap₂ (λ (qs : List Entry) (k : ℕ). links (placed headSize qs) k) (sym is-standing) (sym (backIn-twice mode (backSize es))),
+              ∙ ap₂ (λ (qs : List Entry) (k : ℕ). backWords (placed headSize qs) k) (sym is-standing) (sym (backIn-twice mode (backSize es))),
         ))
 
     pub left-image : (end back : ℕ) → end ≡ entriesEnd (entriesListed (names bytes ends) ids) → back ≡ backSizeOf mode (entriesListed (names bytes ends) ids)

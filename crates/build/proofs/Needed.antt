@@ -11,12 +11,12 @@ use Rattle.image.specs.declared.Mode.{Mode}
 use Rattle.image.specs.declared.Mode.the-variants.{Twoway, Oneway}
 use Rattle.image.specs.Image.{headSize, backSize, backIn}
 use Rattle.image.proofs.Between.{length-between}
-use Rattle.image.proofs.Bools.{neither-first, neither-second}
+use Rattle.image.proofs.Bools.{or-false-first, or-false-second}
 use Rattle.packed.specs.Names.{namesFrom, names, astray, joined}
 use Rattle.writer.specs.declared.Repeats.{Repeats}
 use Rattle.lists.specs.Calls.{putsSize, sizeOf, puts, WordIds}
 use Rattle.lists.specs.Demand3.{answersOf}
-use Rattle.lists.proofs.Room.{room, back-rises}
+use Rattle.lists.proofs.Capacity.{capacity, back-rises}
 use Rattle.build.specs.declared.needs.Needs.{Needs}
 use Rattle.build.specs.Build.{callsOf, listed}
 use Rattle.build.specs.steps.Capacity.{largestTo}
@@ -64,10 +64,10 @@ puts-most bytes s [] ids inside good = omega arith
 puts-most bytes s (e ∷ es) [] inside good = omega arith
 puts-most bytes s (e ∷ es) (id ∷ ids) inside good =
     let size = length bytes in
-    let two = neither-first (ltb e s || ltb size e) (astray size e es) good in
-    let rises = ltb-false e s (neither-first (ltb e s) (ltb size e) two) in
-    let within = ltb-false size e (neither-second (ltb e s) (ltb size e) two) in
-    let later = puts-most bytes e es ids within (neither-second (ltb e s || ltb size e) (astray size e es) good) in
+    let two = or-false-first (ltb e s || ltb size e) (astray size e es) good in
+    let rises = ltb-false e s (or-false-first (ltb e s) (ltb size e) two) in
+    let within = ltb-false size e (or-false-second (ltb e s) (ltb size e) two) in
+    let later = puts-most bytes e es ids within (or-false-second (ltb e s || ltb size e) (astray size e es) good) in
     omega (arith, rises, length-between bytes s e rises within, later)
 
 back-most : (xs : List (List ℕ)) (ids : List ℕ) → backSize (puts (callsOf xs ids)) ≤ idsBack ids
@@ -88,7 +88,7 @@ none-refused : (mode : Mode) (repeats : Repeats) (buffer bytes ends ids : List �
 unfolding bytesNeeded
 none-refused mode repeats buffer bytes ends ids good word within small =
     let most = size-most mode bytes ends ids good in
-    room .none-refused mode repeats buffer (listed bytes ends ids) word (omega arith) (omega arith)
+    capacity .none-refused mode repeats buffer (listed bytes ends ids) word (omega arith) (omega arith)
 
 -- ---- names that lie joined with nothing behind them
 

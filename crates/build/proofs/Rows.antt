@@ -8,10 +8,10 @@ use lib.ListN.{length, drop, drop-of-length-le}
 use lib.Dec.{ltb, lit≤}
 use Rattle.jhash.specs.Outcome.{Outcome, value, refusal}
 use Rattle.image.specs.Bytes.{same}
-use Rattle.image.specs.Image.{headSize, backSize, holds}
+use Rattle.image.specs.Image.{headSize, backSize, containsName}
 use Rattle.image.specs.declared.Mode.the-variants.{Twoway}
 use Rattle.image.specs.Zero.{hasZero}
-use Rattle.image.proofs.Every.{All, all-map}
+use Rattle.image.proofs.AllOfList.{All, all-map}
 use Rattle.packed.specs.Names.{names, namesFrom, astray}
 use Rattle.writer.specs.Close.{closedSize}
 use Rattle.lists.specs.Calls.{Call, acceptedFrom, dueFrom, accepted, due, putDue, putsSize, sizeOf, WordIds}
@@ -54,7 +54,7 @@ holds-in r c buffer places long many =
     )
 
 computed : All Computed buildRows
-unfolding accepted acceptedFrom due dueFrom putDue hasZero holds same sizeOf putsSize backSize names namesFrom astray callsOf buildRefusal
+unfolding accepted acceptedFrom due dueFrom putDue hasZero containsName same sizeOf putsSize backSize names namesFrom astray callsOf buildRefusal
 computed = (
   (lit≤ tt, refl, (tt, (tt, (tt, (tt, tt)))), refl, refl, refl),
   (

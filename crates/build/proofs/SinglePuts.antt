@@ -23,7 +23,7 @@ use Rattle.lists.specs.Calls.{Call, put, after, answers, accepted, WordIds}
 use Rattle.lists.specs.Demand3.{answersOf, afterList, acceptedPuts}
 use Rattle.lists.proofs.ListWritten.{Written}
 use Rattle.lists.proofs.ListCloses.{close-accepted}
-use Rattle.lists.proofs.Along.{list-accepted, list-written}
+use Rattle.lists.proofs.CallLists.{list-accepted, list-written}
 use Rattle.index.specs.Index.{slotCount, Right, indexedRefusal, afterIndexed}
 use Rattle.build.specs.declared.Made.{Made}
 use Rattle.build.specs.declared.Built.the-variants.{Image}

@@ -10,12 +10,12 @@ use Rattle.image.specs.declared.Mode.{Mode}
 use Rattle.image.specs.declared.Mode.the-variants.{Twoway, Oneway}
 use Rattle.image.specs.Bytes.{le32, cat, range}
 use Rattle.image.specs.Stored.{between}
-use Rattle.image.specs.Image.{Entry, Placed, headSize, entryBytes, entrySize, entriesSize, placed, backSize, links, backIn, entriesEnd, backSizeOf, imageSize}
+use Rattle.image.specs.Image.{Entry, Placed, headSize, entryBytes, entrySize, entriesSize, placed, backSize, backWords, backIn, entriesEnd, backSizeOf, imageSize}
 use Rattle.image.proofs.Words.{length-le32}
 use Rattle.image.proofs.Lists.{cat-append}
-use Rattle.image.proofs.Sizes.{length-entryBytes, length-entries, entriesSize-append, length-links}
+use Rattle.image.proofs.Sizes.{length-entryBytes, length-entries, entriesSize-append, length-backWords}
 use Rattle.image.proofs.Between.{length-between}
-use Rattle.image.proofs.Every.{all-middle}
+use Rattle.image.proofs.AllOfList.{all-middle}
 use Rattle.image.proofs.EntryAt.{ids-below}
 use Rattle.taking.specs.steps.Working.{withLink}
 use Rattle.serialize.proofs.Partial.{zeros-links}
@@ -87,7 +87,7 @@ pub record Storing (mode : Mode) (es qs : List Entry) (buf₀ buf : List ℕ) : 
   pub gap : List ℕ
   pub long : length head ≡ headSize
   pub left : headSize + entriesSize qs + length gap ≡ entriesEnd es + 16 * length es
-  pub is : buf ≡ head ++ cat entryBytes qs ++ gap ++ links (placed headSize qs) (backSizeOf mode es) ++ drop (imageSize mode es) buf₀
+  pub is : buf ≡ head ++ cat entryBytes qs ++ gap ++ backWords (placed headSize qs) (backSizeOf mode es) ++ drop (imageSize mode es) buf₀
 
 pub storing-start : (mode : Mode) (es : List Entry) (buf : List ℕ) (at : ℕ) → at ≡ entriesEnd es + 16 * length es → imageSize mode es ≤ length buf
     → between buf at (imageSize mode es) ≡ replicate (4 * backSizeOf mode es) 0 → Storing mode es [] buf buf
@@ -95,8 +95,8 @@ unfolding cat placed entriesSize
 storing-start mode es buf at e fits cleared =
     let n = backSizeOf mode es in
     let size = imageSize mode es in
-    let none : between buf at size ≡ links [] n =
-    cleared ∙ sym (zeros-links n ∙ ap (λ (k : ℕ). replicate k 0) (length-links [] n)) in
+    let none : between buf at size ≡ backWords [] n =
+    cleared ∙ sym (zeros-links n ∙ ap (λ (k : ℕ). replicate k 0) (length-backWords [] n)) in
     record {
       head = take headSize buf;
       gap = between buf headSize at;
@@ -117,10 +117,10 @@ pub storing-length : (mode : Mode) (es qs : List Entry) (buf₀ buf : List ℕ) 
     → length buf ≡ length buf₀
 storing-length mode es qs buf₀ buf s fits =
     let F = s .head ++ cat entryBytes qs ++ s .gap in
-    let L = links (placed headSize qs) (backSizeOf mode es) in
+    let L = backWords (placed headSize qs) (backSizeOf mode es) in
     let T = drop (imageSize mode es) buf₀ in
     omega
-    (arith, ap length (s .is), length-append (F ++ L) T, length-append F L, front-long mode es qs buf₀ buf s, length-links (placed headSize qs) (backSizeOf mode es), length-drop (imageSize mode es) buf₀)
+    (arith, ap length (s .is), length-append (F ++ L) T, length-append F L, front-long mode es qs buf₀ buf s, length-backWords (placed headSize qs) (backSizeOf mode es), length-drop (imageSize mode es) buf₀)
 
 -- ---- when all are stored
 
@@ -128,38 +128,38 @@ module _ (mode : Mode) (es : List Entry) (buf₀ buf : List ℕ) (s : Storing mo
   pub area-stored : between buf headSize (entriesEnd es) ≡ cat entryBytes es
   area-stored =
       let E = cat entryBytes es in
-      let L = links (placed headSize es) (backSizeOf mode es) in
+      let L = backWords (placed headSize es) (backSizeOf mode es) in
       let T = drop (imageSize mode es) buf₀ in
       ap (λ (l : List ℕ). between l headSize (entriesEnd es))
       (s .is ∙ append-assoc (s .head ++ E ++ s .gap) L T ∙ append-assoc (s .head ++ E) (s .gap) (L ++ T))
       ∙ between-part (s .head) E (s .gap ++ (L ++ T)) headSize (entriesEnd es) (s .long) (omega (arith, length-entries es))
 
   pub links-stored : (at : ℕ) → at ≡ entriesEnd es + 16 * length es
-      → between buf at (imageSize mode es) ≡ links (placed headSize es) (backSizeOf mode es)
+      → between buf at (imageSize mode es) ≡ backWords (placed headSize es) (backSizeOf mode es)
   links-stored at e =
       let F = s .head ++ cat entryBytes es ++ s .gap in
-      let L = links (placed headSize es) (backSizeOf mode es) in
+      let L = backWords (placed headSize es) (backSizeOf mode es) in
       ap (λ (l : List ℕ). between l at (imageSize mode es)) (s .is)
       ∙ between-part F L (drop (imageSize mode es) buf₀) at (imageSize mode es) (front-long mode es es buf₀ buf s ∙ sym e)
-      (omega (arith, length-links (placed headSize es) (backSizeOf mode es)))
+      (omega (arith, length-backWords (placed headSize es) (backSizeOf mode es)))
 
   pub behind-kept : drop (imageSize mode es) buf ≡ drop (imageSize mode es) buf₀
   behind-kept =
       let F = s .head ++ cat entryBytes es ++ s .gap in
-      let L = links (placed headSize es) (backSizeOf mode es) in
+      let L = backWords (placed headSize es) (backSizeOf mode es) in
       ap (drop (imageSize mode es)) (s .is)
       ∙ drop-at (F ++ L) (drop (imageSize mode es) buf₀) (imageSize mode es)
-      (omega (arith, length-append F L, front-long mode es es buf₀ buf s, length-links (placed headSize es) (backSizeOf mode es)))
+      (omega (arith, length-append F L, front-long mode es es buf₀ buf s, length-backWords (placed headSize es) (backSizeOf mode es)))
 
 -- ---- one entry more
 
 -- the link of an entry, behind what stands before the back array at `at`
 linked-at : (mode : Mode) (n at : ℕ) (rs : List Placed) (p : Placed) (front tail : List ℕ) → length front ≡ at → p .entry .id < n
-    → withLink mode (front ++ links rs (backIn mode n) ++ tail) at (p .entry .id) (p .at) ≡ front ++ links (rs ++ p ∷ []) (backIn mode n) ++ tail
-unfolding links range cat
+    → withLink mode (front ++ backWords rs (backIn mode n) ++ tail) at (p .entry .id) (p .at) ≡ front ++ backWords (rs ++ p ∷ []) (backIn mode n) ++ tail
+unfolding backWords range cat
 linked-at Twoway n at rs p front tail e h =
     let i = p .entry .id in
-    store-in front (links rs n) tail (le32 (p .at)) (at + 4 * i) (4 * i) (omega arith) (omega (arith, length-links rs n, length-le32 (p .at)))
+    store-in front (backWords rs n) tail (le32 (p .at)) (at + 4 * i) (4 * i) (omega arith) (omega (arith, length-backWords rs n, length-le32 (p .at)))
     ∙ ap (λ (l : List ℕ). front ++ l ++ tail) (links-more rs p n h)
 linked-at Oneway n at rs p front tail e h = refl
 
@@ -193,7 +193,7 @@ module _ (mode : Mode) (es qs rest : List Entry) (e : Entry) (split : es ≡ qs 
       let H = s .head in
       let E = cat entryBytes qs in
       let n = backSizeOf mode es in
-      let L = links (placed headSize qs) n in
+      let L = backWords (placed headSize qs) n in
       let T = drop (imageSize mode es) buf₀ in
       let gap = drop (length v) (s .gap) in
       let F = H ++ cat entryBytes (qs ++ e ∷ []) ++ gap in
@@ -217,7 +217,7 @@ module _ (mode : Mode) (es qs rest : List Entry) (e : Entry) (split : es ≡ qs 
         is =
             q ∙ ap₂ (λ (l : List ℕ) (k : ℕ). withLink mode l at (e .id) k) one eo
             ∙ linked-at mode (backSize es) at (placed headSize qs) (nextOf qs e) F T front id-below
-            ∙ ap (λ (l : List Placed). F ++ links l n ++ T) (sym (placed-more qs e));
+            ∙ ap (λ (l : List Placed). F ++ backWords l n ++ T) (sym (placed-more qs e));
       }
 
 -- ---- a turn of a list of names and ids
@@ -310,7 +310,7 @@ module _ (mode : Mode) (bytes ends ids buf₀ : List ℕ) (at : ℕ) (many : len
 
   pub stored-links : (b : List ℕ) → Storing mode (entriesListed (names bytes ends) ids) (entriesListed (names bytes ends) ids) buf₀ b
       → between b at (imageSize mode (entriesListed (names bytes ends) ids))
-      ≡ links (placed headSize (entriesListed (names bytes ends) ids)) (backSizeOf mode (entriesListed (names bytes ends) ids))
+      ≡ backWords (placed headSize (entriesListed (names bytes ends) ids)) (backSizeOf mode (entriesListed (names bytes ends) ids))
   stored-links b s = links-stored mode (entriesListed (names bytes ends) ids) buf₀ b s at begins-all
 
   -- the name of turn i begins at `start`

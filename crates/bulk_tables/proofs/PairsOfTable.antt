@@ -13,7 +13,7 @@ use Rattle.jhash.specs.NameHash.{hashOf}
 use Rattle.image.specs.Tables.{Bucket, tableOf}
 use Rattle.image.specs.Image.{Entry, Placed, headSize, entriesSize, placed, inTable, ofTable, count, bucketOf, entriesBefore}
 use Rattle.image.specs.Stored.{between}
-use Rattle.image.proofs.Lists.{keep-yes, keep-no}
+use Rattle.image.proofs.Lists.{filter-yes, filter-no}
 use Rattle.image.proofs.Sizes.{entriesSize-append, placed-append, ofTable-append, count-nil}
 use Rattle.packed.specs.Names.{names, astray, beginOf, nth}
 use Rattle.packed.specs.Keys.{key}
@@ -97,12 +97,12 @@ module _ (bytes ends : List ℕ) (straight : astray (length bytes) 0 ends ≡ fa
 
     table-own : (t i : ℕ) → i < n → T i ≡ t → ofTable t (upTo (suc i)) ≡ ofTable t (upTo i) ++ (ith i ∷ [])
     unfolding ofTable
-    table-own t i h e = table-more t i (ith i ∷ []) h (keep-yes (inTable t) (ith i) [] (eq-eqb (tableOf (hashOf (ith i .entry .name))) t (ap tableOf (sym (its-hash i h)) ∙ e)))
+    table-own t i h e = table-more t i (ith i ∷ []) h (filter-yes (inTable t) (ith i) [] (eq-eqb (tableOf (hashOf (ith i .entry .name))) t (ap tableOf (sym (its-hash i h)) ∙ e)))
 
     table-other : (t i : ℕ) → i < n → (T i ≡ t → ⊥) → ofTable t (upTo (suc i)) ≡ ofTable t (upTo i)
     unfolding ofTable
     table-other t i h e =
-        table-more t i [] h (keep-no (inTable t) (ith i) [] (ne-eqb (tableOf (hashOf (ith i .entry .name))) t (λ z. e (ap tableOf (its-hash i h) ∙ z))))
+        table-more t i [] h (filter-no (inTable t) (ith i) [] (ne-eqb (tableOf (hashOf (ith i .entry .name))) t (λ z. e (ap tableOf (its-hash i h) ∙ z))))
         ∙ append-nil (ofTable t (upTo i))
 
     counted : (t i : ℕ) → i ≤ n → countOfTable T t i ≡ count t (upTo i)

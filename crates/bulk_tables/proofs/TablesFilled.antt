@@ -10,14 +10,14 @@ use mathlib.Core.List.{List, [], _∷_, _++_}
 use borrow.Author.Tests.{ne-eqb}
 use lib.ListN.{length, getD, set, length-set, length-append}
 use lib.Seq.{getD-set-same, getD-set-other}
-use Rattle.image.specs.Tables.{Bucket, empty, atOf, start, order, firstEmpty, insert, insertAll, filled}
+use Rattle.image.specs.Tables.{Bucket, empty, atOf, start, probeSequence, firstEmpty, insert, insertAll, filled}
 use Rattle.image.proofs.Sizes.{length-filled, filled-more}
-use Rattle.image.proofs.Every.{All, all-append, all-middle}
-use Rattle.image.proofs.Buckets.{getD-empties, firstEmpty-alike}
-use Rattle.lookup_laws.proofs.Table.{NotEmpty}
+use Rattle.image.proofs.AllOfList.{All, all-append, all-middle}
+use Rattle.image.proofs.Buckets.{getD-empties, firstEmpty-ext}
+use Rattle.lookup_laws.proofs.TableContents.{NotEmpty}
 use Rattle.bulk_tables.specs.steps.Parted.{at, firstIn}
-use Rattle.lookup_laws.specs.steps.Matches.{matches}
-use Rattle.lookup_laws.proofs.Matching.{matches-equal, no-match}
+use Rattle.lookup_laws.specs.steps.HasMatch.{hasMatch}
+use Rattle.lookup_laws.proofs.Matching.{hasMatch-equal, no-match}
 use Rattle.bulk_tables.specs.steps.Tabled.{pairIn, pairsIn, bucketIn, Differ, Fills, Apart}
 use Rattle.bulk_tables.proofs.Twins.{twin, twin-false, twin-differ}
 
@@ -139,19 +139,19 @@ module _ (different : Bool) (bytes ends work₀ : List ℕ) (first c : ℕ) wher
     below = mod-lt (h / 256) (omega arith)
 
     -- no pair of this hash that is in the table is of the same name
-    later : (matches (bucketIn work o) h (twin bytes ends offset) (order m m (start h m)) ≡ false)
+    later : (hasMatch (bucketIn work o) h (twin bytes ends offset) (probeSequence m m (start h m)) ≡ false)
         → (j : ℕ) → j < i → pairIn n work₀ (first + j) .hash ≡ h → Differ bytes ends (pairIn n work₀ (first + j) .at) offset
     later none j k e =
         let v = twin bytes ends offset in
         let others =
         no-match h v m (pairs i) (omega arith) (omega (arith, length-pairs n work₀ first i))
         (pairs-all n work₀ first NotEmpty i (λ l r z. omega (arith, full (first + l) (omega arith) (omega arith))))
-        (sym (matches-equal (bucketIn work o) (λ (k : ℕ). getD (filled m (pairs i)) k empty) h v m (s .buckets) m (start h m) below) ∙ none) in
+        (sym (hasMatch-equal (bucketIn work o) (λ (k : ℕ). getD (filled m (pairs i)) k empty) h v m (s .buckets) m (start h m) below) ∙ none) in
         twin-differ bytes ends offset (pairIn n work₀ (first + j) .at)
         (pairs-each n work₀ first (λ (x : Bucket). x .hash ≡ h → v (x .at) ≡ false) i others j k e)
 
     abbrev Met : Type 0
-    Met = different ≡ true → (v : ℕ → Bool) → ((a : ℕ) → Differ bytes ends a offset → v a ≡ false) → matches (bucketIn work o) h v (order m m (start h m)) ≡ false
+    Met = different ≡ true → (v : ℕ → Bool) → ((a : ℕ) → Differ bytes ends a offset → v a ≡ false) → hasMatch (bucketIn work o) h v (probeSequence m m (start h m)) ≡ false
 
     apart-more : Met → different ≡ true → Apart bytes ends work₀ first (i + 1)
     apart-more none d p q from less to e =
@@ -168,7 +168,7 @@ module _ (different : Bool) (bytes ends work₀ : List ℕ) (first c : ℕ) wher
             let found = later (none d (twin bytes ends offset) (twin-false bytes ends offset)) j (omega arith) hash in
             λ x y a b f g. found x y a b (f ∙ ap (λ (t : ℕ). pairIn n work₀ t .at) (sym here)) (g ∙ ap (λ (t : ℕ). pairIn n work₀ t .at) z ∙ sym own-offset)
 
-    module _ (k : ℕ) (free : k < m) (is : k ≡ firstEmpty (λ (j : ℕ). bucketIn work o j .at) (order m m (start h m))) where
+    module _ (k : ℕ) (free : k < m) (is : k ≡ firstEmpty (λ (j : ℕ). bucketIn work o j .at) (probeSequence m m (start h m))) where
       abbrev once : List ℕ
       once = set work (o + 2 * k) h
 
@@ -182,10 +182,10 @@ module _ (different : Bool) (bytes ends work₀ : List ℕ) (first c : ℕ) wher
       abbrev table : List Bucket
       table = filled m (pairs i)
 
-      place : firstEmpty (atOf table) (order m m (start (b .hash) m)) ≡ k
+      place : firstEmpty (atOf table) (probeSequence m m (start (b .hash) m)) ≡ k
       place =
-          ap (λ (x : ℕ). firstEmpty (atOf table) (order m m (start x m))) (sym own-hash)
-          ∙ sym (firstEmpty-alike (λ (j : ℕ). bucketIn work o j .at) (atOf table) m (λ j l. ap (λ (x : Bucket). x .at) (s .buckets j l)) m (start h m) below)
+          ap (λ (x : ℕ). firstEmpty (atOf table) (probeSequence m m (start x m))) (sym own-hash)
+          ∙ sym (firstEmpty-ext (λ (j : ℕ). bucketIn work o j .at) (atOf table) m (λ j l. ap (λ (x : Bucket). x .at) (s .buckets j l)) m (start h m) below)
           ∙ sym is
 
       table-more : filled m (pairs (i + 1)) ≡ set table k b

@@ -8,8 +8,8 @@ use borrow.Author.Tests.{eq-eqb, eqb-true}
 use lib.Dec.{eqb}
 use lib.ListN.{length}
 use Rattle.image.specs.Bytes.{same, all}
-use Rattle.image.proofs.All.{all-each, all-true}
-use Rattle.image.proofs.Bools.{not-both}
+use Rattle.image.proofs.AllOfRange.{all-each, all-true}
+use Rattle.image.proofs.Bools.{false-not-true}
 use Rattle.packed.specs.Names.{names, nth}
 use Rattle.bulk_tables.specs.steps.Tabled.{offsetOf, Differ}
 
@@ -49,7 +49,7 @@ module _ (bytes ends : List ℕ) (offset : ℕ) where
     where
       falls : (b : Bool) → not b ≡ false → b ≡ true
       falls true z = refl
-      falls false z = absurd (not-both (sym z))
+      falls false z = absurd (false-not-true (sym z))
 
       zero-first : (m : ℕ) → 0 + m ≡ m
       zero-first m = omega arith
@@ -58,7 +58,7 @@ module _ (bytes ends : List ℕ) (offset : ℕ) where
       here i j z = rw (zero-first i, zero-first j) at z
 
       told-of : (x y s : Bool) → x ≡ true → y ≡ true → not (x && (y && s)) ≡ true → s ≡ false
-      told-of true true true a b z = absurd (not-both z)
+      told-of true true true a b z = absurd (false-not-true z)
       told-of true true false a b z = refl
-      told-of true false s a b z = absurd (not-both b)
-      told-of false y s a b z = absurd (not-both a)
+      told-of true false s a b z = absurd (false-not-true b)
+      told-of false y s a b z = absurd (false-not-true a)

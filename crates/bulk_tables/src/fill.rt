@@ -4,10 +4,10 @@ ghost use mathlib.Core.Path.{_≡_};
 ghost use mathlib.Core.Bool.{Bool, true, false};
 ghost use Prim.Native.Nat.{ℕ, _+_, _*_, _-_, _≤_, _<_};
 ghost use lib.ListN.{length};
-ghost use Rattle.image.specs.Tables.{start, order, firstEmpty};
+ghost use Rattle.image.specs.Tables.{start, probeSequence, firstEmpty};
 ghost use Rattle.packed.specs.Names.{astray};
 ghost use Rattle.bulk_tables.specs.steps.Parted.{at, firstIn};
-ghost use Rattle.lookup_laws.specs.steps.Matches.{matches};
+ghost use Rattle.lookup_laws.specs.steps.HasMatch.{hasMatch};
 ghost use Rattle.bulk_tables.specs.steps.Tabled.{offsetOf, pairIn, bucketIn, Differ, Fills, Apart};
 use super::apart::differ;
 
@@ -24,8 +24,8 @@ fn bucket_for(
     offset: u32,
 ) -> usize
     requires { ⌜ (astray (length (now bytes)) 0 (now ends) ≡ false) × (0 < length (now ends)) × (length (now ends) ≤ 171798691) × ((k : ℕ) → k ≤ length (now ends) → offsetOf (now ends) k ≤ 4294967295) × (0 < m) × (o + 2 * m ≤ length (now work)) ⌝ }
-    ensures first { λ r. ⌜ (r < m → r ≡ firstEmpty (λ (k : ℕ). bucketIn (now (work .entry)) o k .at) (order m m (start h m))) ⌝ }
-    ensures apart { λ r. ⌜ (r < m → different ≡ true → (v : ℕ → Bool) → ((a : ℕ) → Differ (now (bytes .entry)) (now (ends .entry)) a offset → v a ≡ false) → matches (bucketIn (now (work .entry)) o) h v (order m m (start h m)) ≡ false) ⌝ }
+    ensures first { λ r. ⌜ (r < m → r ≡ firstEmpty (λ (k : ℕ). bucketIn (now (work .entry)) o k .at) (probeSequence m m (start h m))) ⌝ }
+    ensures apart { λ r. ⌜ (r < m → different ≡ true → (v : ℕ → Bool) → ((a : ℕ) → Differ (now (bytes .entry)) (now (ends .entry)) a offset → v a ≡ false) → hasMatch (bucketIn (now (work .entry)) o) h v (probeSequence m m (start h m)) ≡ false) ⌝ }
 {
     let mut k = (h / 256) as usize % m;
     let mut left = m;

@@ -10,7 +10,7 @@ use lib.ListN.{length, take, drop, length-append}
 use lib.Seq.{sets, sets-eq, length-take-le, take-at}
 use Rattle.jhash.specs.Outcome.{Outcome, value, refusal}
 use Rattle.jhash.proofs.ValueOrRefusal.{no-value, same-value}
-use Rattle.image.proofs.Bools.{not-both}
+use Rattle.image.proofs.Bools.{false-not-true}
 use Rattle.bundle.specs.FileWalk.{counting}
 use Rattle.bundle.specs.Append.{isValue, wholeFile, unfit, appendRefusal, appending, afterAppend}
 
@@ -112,4 +112,4 @@ whole-counts file e = go (counting file) refl e
   where
     go : (o : Outcome ℕ) → counting file ≡ o → isValue o ≡ true → (n : ℕ) × (counting file ≡ value n)
     go (value n) q z = (n, q)
-    go (refusal k) q z = absurd (not-both z)
+    go (refusal k) q z = absurd (false-not-true z)

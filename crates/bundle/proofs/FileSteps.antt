@@ -9,7 +9,7 @@ use borrow.Author.Tests.{lt-ltb, le-ltb, eq-eqb, ne-eqb, ltb-false}
 use lib.Dec.{ltb}
 use lib.ListN.{length}
 use Rattle.jhash.specs.Outcome.{Outcome, refusal}
-use Rattle.image.proofs.Bools.{neither-first, neither-second}
+use Rattle.image.proofs.Bools.{or-false-first, or-false-second}
 use Rattle.bundle.specs.FileWalk.{sizeAt, breaks, fileStep}
 
 -- an image begins at the place: its size word is there, is at least 2,072, and does not lead past the file's end
@@ -29,11 +29,11 @@ module _ (file : List ℕ) (at : ℕ) where
       let short = ltb (length file) (at + 8) in
       let small = ltb (sizeAt file at) 2072 in
       let past = ltb (length file) (at + sizeAt file at) in
-      let two = neither-first (short || small) past e in
+      let two = or-false-first (short || small) past e in
       record {
-        head = ltb-false (length file) (at + 8) (neither-first short small two);
-        large = ltb-false (sizeAt file at) 2072 (neither-second short small two);
-        inside = ltb-false (length file) (at + sizeAt file at) (neither-second (short || small) past e);
+        head = ltb-false (length file) (at + 8) (or-false-first short small two);
+        large = ltb-false (sizeAt file at) 2072 (or-false-second short small two);
+        inside = ltb-false (length file) (at + sizeAt file at) (or-false-second (short || small) past e);
       }
 
   begins-unbroken : Begins file at → breaks file at ≡ false

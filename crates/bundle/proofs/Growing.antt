@@ -11,7 +11,7 @@ use lib.ListN.{length, take, length-append}
 use lib.Seq.{take-length, take-append-seam, drop-append-seam}
 use Rattle.jhash.specs.Outcome.{value, refusal}
 use Rattle.image.specs.Bytes.{word}
-use Rattle.image.proofs.Bools.{neither-first, neither-second}
+use Rattle.image.proofs.Bools.{or-false-first, or-false-second}
 use Rattle.image.proofs.Words.{word-drop}
 use Rattle.reader.specs.Open.{opening}
 use Rattle.bundle.specs.FileWalk.{Place, sizeAt, placeFrom, placeOfImage}
@@ -27,8 +27,8 @@ pub fit : (image : List ℕ) → unfit image ≡ false → (2072 ≤ length imag
 fit image e =
     let short = ltb (length image) 2072 in
     let other = not (eqb (word image 4) (length image)) in (
-      ltb-false (length image) 2072 (neither-first short other e),
-      eqb-true (word image 4) (length image) (not-false (eqb (word image 4) (length image)) (neither-second short other e)),
+      ltb-false (length image) 2072 (or-false-first short other e),
+      eqb-true (word image 4) (length image) (not-false (eqb (word image 4) (length image)) (or-false-second short other e)),
     )
 
 module _ (old image : List ℕ) (n : ℕ) (holds : HoldsImages old 0 n) (fine : unfit image ≡ false) where

@@ -9,7 +9,7 @@ use Rattle.jhash.specs.Outcome.{Outcome, value, refusal}
 use Rattle.jhash.proofs.ValueOrRefusal.{no-value, same-value}
 use Rattle.bundle.specs.FileWalk.{Place, sizeAt, placeFrom, placeOfImage}
 use Rattle.reader.specs.Open.{opening}
-use Rattle.reader.specs.Slices.{Slice, part}
+use Rattle.reader.specs.Slices.{Slice, subslice}
 use Rattle.bundle.specs.Opening.{partOrNone, returnedPart, imageOr, withNum, openIn, openingAt}
 use Rattle.bundle.proofs.FileSteps.{Begins, Met, ended, broke, began, met}
 use Rattle.bundle.proofs.FileWalks.{place-ended, place-broke, place-here, place-next}
@@ -56,12 +56,12 @@ module _ (file : List ℕ) (k start size : ℕ) (e : placeOfImage file k ≡ val
 -- the part that is returned, by its start and end; and an empty one
 module _ (file : Slice) (k : ℕ) where
   pub part-there : (start size : ℕ) → placeOfImage (file .bytes) k ≡ value (record { start = start; size = size })
-      → part file start (start + size - start) ≡ returnedPart file k
+      → subslice file start (start + size - start) ≡ returnedPart file k
   part-there start size e =
       let d : start + size - start ≡ size = omega arith in
-      ap (part file start) d ∙ ap (partOrNone file) (sym e)
+      ap (subslice file start) d ∙ ap (partOrNone file) (sym e)
 
-  pub no-part : (n : ℕ) → placeOfImage (file .bytes) k ≡ refusal n → part file 0 0 ≡ returnedPart file k
+  pub no-part : (n : ℕ) → placeOfImage (file .bytes) k ≡ refusal n → subslice file 0 0 ≡ returnedPart file k
   no-part n e = ap (partOrNone file) (sym e)
 
 -- opening: by the walk, then by the checks of opening on the cut part

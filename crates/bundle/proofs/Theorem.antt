@@ -9,7 +9,7 @@ use mathlib.Core.List.{List}
 use borrow.Author.Tests.{ne-eqb}
 use lib.Dec.{ltb}
 use lib.ListN.{length, take, length-take}
-use Rattle.jhash.specs.Word.{Bytes}
+use Rattle.jhash.specs.Word.{AllBytes}
 use Rattle.jhash.proofs.ValueOrRefusal.{no-value, same-value}
 use Rattle.jhash.proofs.WordRead.{word-below}
 use Rattle.image.specs.Bytes.{word}
@@ -32,7 +32,7 @@ reaches : (a b : List ℕ) (e : ℕ) → take e a ≡ take e b → e ≤ length 
 reaches a b e same h = omega (arith, length-take e a, length-take e b, ap length same)
 
 -- no size word says so much
-too-large : (image : List ℕ) → Bytes image → 2 ^ 32 ≤ length image → unfit image ≡ true
+too-large : (image : List ℕ) → AllBytes image → 2 ^ 32 ≤ length image → unfit image ≡ true
 too-large image bytes h =
     let n : word image 4 ≡ length image → ⊥ = λ e. omega (arith, word-below image 4 bytes, h, e) in
     ap (λ (b : Bool). ltb (length image) 2072 || not b) (ne-eqb (word image 4) (length image) n) ∙ or-true (ltb (length image) 2072)

@@ -13,8 +13,8 @@ use Rattle.image.specs.Head.{backSizeAt}
 use Rattle.image.specs.Image.{backSize, backIn}
 use Rattle.image.specs.Stored.{whole, entriesIn, between}
 use Rattle.image.specs.Tally.{tallied}
-use Rattle.image.proofs.Area.{Bytes}
-use Rattle.image.proofs.Bools.{not-both, first, second, both}
+use Rattle.image.proofs.EntryArea.{AllBytes}
+use Rattle.image.proofs.Bools.{false-not-true, and-first, and-second, and-both}
 use Rattle.reader.specs.Open.{opening}
 use Rattle.image.specs.declared.Mode.the-variants.{Twoway, Oneway}
 use Rattle.canonical.specs.steps.Made.{Made}
@@ -44,10 +44,10 @@ record Five (a b c d e : Bool) : Type 0 where
   last : e ≡ true
 
 five-told : (a b c d e : Bool) → five a b c d e ≡ true → Five a b c d e
-five-told false b c d e h = absurd (not-both h)
-five-told true false c d e h = absurd (not-both h)
-five-told true true false d e h = absurd (not-both h)
-five-told true true true false e h = absurd (not-both h)
+five-told false b c d e h = absurd (false-not-true h)
+five-told true false c d e h = absurd (false-not-true h)
+five-told true true false d e h = absurd (false-not-true h)
+five-told true true true false e h = absurd (false-not-true h)
 five-told true true true true e h = record { fst = refl; snd = refl; third = refl; fourth = refl; last = h }
 
 -- ---- the tests behind the head, in the code's order
@@ -132,10 +132,10 @@ module _ (img : List ℕ) (n end back : ℕ) where
       let f = five-told (rowsRight img (rowCounts img) end 0 256) (w && e) (sayCounts img tally) (eqb back b)
       (linksRight (modeIn img) img (end + 16 * n) back (placedFrom img end n 2072)) (body-is img n end back ∙ h) in
       record {
-        wholes = first w e (f .snd);
+        wholes = and-first w e (f .snd);
         backs = eqb-true back b (f .fourth);
         rows = said-rows img tally end (f .third) (f .fst);
-        entries = second w e (f .snd);
+        entries = and-second w e (f .snd);
         links = f .last;
       }
 
@@ -148,7 +148,7 @@ module _ (img : List ℕ) (n end back : ℕ) where
       let l = linksRight (modeIn img) img (end + 16 * n) back (placedFrom img end n 2072) in
       let r = rows-said img tally end (t .rows) in
       sym (body-is img n end back)
-      ∙ all-five (rowsRight img (rowCounts img) end 0 256) (w && e) (sayCounts img tally) (eqb back b) l (r .1) (both w e (t .wholes) (t .entries)) (r .0)
+      ∙ all-five (rowsRight img (rowCounts img) end 0 256) (w && e) (sayCounts img tally) (eqb back b) l (r .1) (and-both w e (t .wholes) (t .entries)) (r .0)
       (eq-eqb back b (t .backs)) (t .links)
     where
       all-five : (a b c d e : Bool) → a ≡ true → b ≡ true → c ≡ true → d ≡ true → e ≡ true → five a b c d e ≡ true
@@ -156,7 +156,7 @@ module _ (img : List ℕ) (n end back : ℕ) where
 
 -- ---- the head, and the answer
 
-pub not-opened : (img : List ℕ) (o : Outcome ℕ) → o ≡ opening img → ((n : ℕ) → o ≡ value n → ⊥) → Bytes img → false ≡ ours img
+pub not-opened : (img : List ℕ) (o : Outcome ℕ) → o ≡ opening img → ((n : ℕ) → o ≡ value n → ⊥) → AllBytes img → false ≡ ours img
 not-opened img o e d bytes = go (ours img) refl
   where
     go : (r : Bool) → ours img ≡ r → false ≡ r
@@ -165,13 +165,13 @@ not-opened img o e d bytes = go (ours img) refl
         let y : Made img = ours-only img bytes q in
         absurd (d (length (y .puts)) (e ∙ ours-checked img y .opened))
 
-pub never-opened : (img : List ℕ) (k : ℕ) → opening img ≡ refusal k → Bytes img → false ≡ ours img
+pub never-opened : (img : List ℕ) (k : ℕ) → opening img ≡ refusal k → AllBytes img → false ≡ ours img
 never-opened img k e bytes = not-opened img (opening img) refl (λ n f. differ n (sym e ∙ f)) bytes
   where
     differ : (n : ℕ) → refusal k ≡ value n → ⊥
     differ n f = let z : _≡_ {A = ℕ} 0 1 = cc in omega arith
 
-module _ (img : List ℕ) (bytes : Bytes img) (n : ℕ) (o : Outcome ℕ) (eo : o ≡ opening img) (is : o ≡ value n) where
+module _ (img : List ℕ) (bytes : AllBytes img) (n : ℕ) (o : Outcome ℕ) (eo : o ≡ opening img) (is : o ≡ value n) where
   -- an image that is ours passes all tests
   pub passes : Made img → Checked img n
   passes y =
@@ -230,5 +230,5 @@ module _ (img : List ℕ) (bytes : Bytes img) (n : ℕ) (o : Outcome ℕ) (eo : 
             }))
         go false e =
             refuse
-            (λ c. not-both (e ∙ body-test img n (endIn img n) (backSizeAt img)
+            (λ c. false-not-true (e ∙ body-test img n (endIn img n) (backSizeAt img)
             record { wholes = c .wholes; backs = c .back-size; rows = c .rows; entries = c .entries; links = c .links }))

@@ -6,19 +6,19 @@ use mathlib.Core.Bool.{false, and-false}
 use mathlib.Core.List.{List, [], _∷_, _++_, append-assoc, append-nil}
 use lib.ListN.{length}
 use borrow.Author.Tests.{le-ltb}
-use Rattle.image.specs.Image.{Entry, headSize, backSize, imageSize, image, holds}
+use Rattle.image.specs.Image.{Entry, headSize, backSize, imageSize, image, containsName}
 use Rattle.image.specs.Zero.{hasZero}
 use Rattle.image.specs.declared.Mode.{Mode}
 use Rattle.image.specs.declared.Mode.the-variants.{Twoway, Oneway}
-use Rattle.image.proofs.Every.{All}
+use Rattle.image.proofs.AllOfList.{All}
 use Rattle.image.proofs.Sizes.{length-image}
 use Rattle.writer.specs.declared.Repeats.{Repeats}
 use Rattle.writer.specs.declared.Repeats.the-variants.{On}
 use Rattle.lists.specs.Calls.{Call, put, acceptedOne, putsSize, sizeOf, putDue, acceptedFrom, accepted, WordIds}
 use Rattle.lists.specs.Demand3.{acceptedPuts, imageOf}
-use Rattle.lists.specs.RepeatsOff.{putAll}
+use Rattle.lists.specs.theorems.RepeatsOff.{putAll}
 use Rattle.lists.proofs.Appended.{sizeOf-is}
-use Rattle.lists.proofs.Along.{list-written, list-accepted}
+use Rattle.lists.proofs.CallLists.{list-written, list-accepted}
 use Rattle.lists.proofs.OneMoreClose.{list-image, list-below}
 use Rattle.lists.proofs.Readings.{accepted-free}
 use Rattle.canonical.specs.steps.Made.{Storable, Made}
@@ -87,7 +87,7 @@ sizeOf-more Oneway xs ys = omega (arith, putsSize-more xs ys)
 none-due : (mode : Mode) (n : ℕ) (done : List Entry) (e : Entry) → hasZero (e .name) ≡ false → sizeOf mode (done ++ (e ∷ [])) ≤ n
     → sizeOf mode (done ++ (e ∷ [])) ≤ 4294967295 → putDue mode On n done e ≡ 0
 unfolding putDue
-none-due mode n done e free h k = rw (free, and-false (holds (e .name) done), le-ltb n (sizeOf mode (done ++ (e ∷ []))) h, le-ltb 4294967295 (sizeOf mode (done ++ (e ∷ []))) k)
+none-due mode n done e free h k = rw (free, and-false (containsName (e .name) done), le-ltb n (sizeOf mode (done ++ (e ∷ []))) h, le-ltb 4294967295 (sizeOf mode (done ++ (e ∷ []))) k)
 
 all-accepted : (mode : Mode) (n : ℕ) (done es : List Entry) → All Storable es → sizeOf mode (done ++ es) ≤ n → sizeOf mode (done ++ es) ≤ 4294967295
     → acceptedFrom mode On n done (putAll es) ≡ done ++ es

@@ -7,15 +7,15 @@ use lib.ListN.{length, getD, length-map}
 use lib.Seq.{ext-getD}
 use Rattle.jhash.proofs.Outcomes.{hashOf-below}
 use Rattle.image.specs.Bytes.{word, le32}
-use Rattle.image.specs.Image.{Entry, Placed, headSize, placed, inTable, ofTable, count, bucketOf, bucketBytes, table, entriesBefore, hasId, placedOfId, lastFrom, link, backSizeOf, entriesEnd, imageSize, image}
+use Rattle.image.specs.Image.{Entry, Placed, headSize, placed, inTable, ofTable, count, bucketOf, bucketBytes, table, entriesBefore, hasId, placedOfId, lastFrom, backWord, backSizeOf, entriesEnd, imageSize, image}
 use Rattle.image.specs.Tables.{Bucket, empty}
 use Rattle.image.proofs.At.{at-left, at-word, at-second}
 use Rattle.image.proofs.Buckets.{filled-all}
-use Rattle.image.proofs.EntryAt.{Stands, entry-fits, all-stand, all-placed, ids-below}
-use Rattle.image.proofs.Every.{All, all-keep, all-image}
-use Rattle.image.proofs.Parts.{tableAt-image, bucketNumber-image, bucket-at, link-at, entries-at}
+use Rattle.image.proofs.EntryAt.{EntryAt, entry-fits, all-entries-at, all-placed, ids-below}
+use Rattle.image.proofs.AllOfList.{All, all-filter, all-image}
+use Rattle.image.proofs.Parts.{tableAt-image, bucketNumber-image, bucket-at, backWord-at, entries-at}
 use Rattle.image.proofs.Sizes.{length-image, length-table}
-use Rattle.lookup_laws.proofs.Opened.{letters-image, magic-image, size-image, backSizeAt-image, backOffsetAt-image}
+use Rattle.lookup_laws.proofs.ImageOpening.{letters-image, magic-image, size-image, backSizeAt-image, backOffsetAt-image}
 use Rattle.canonical.proofs.ReadBack.{flag-image}
 use Rattle.image.specs.declared.Mode.{Mode}
 use Rattle.image.specs.declared.Mode.the-variants.{Twoway, Oneway}
@@ -29,16 +29,16 @@ use Rattle.canonical.proofs.StandTogether.{getD-bucketsAt, length-bucke
 use Rattle.canonical.proofs.Rises.{rises, rises-table}
 
 -- every link is a word
-last-below : (img : List ℕ) → length img ≤ 4294967295 → (o : ℕ) (ps : List Placed) → o < 2 ^ 32 → All (Stands img) ps → lastFrom o ps < 2 ^ 32
+last-below : (img : List ℕ) → length img ≤ 4294967295 → (o : ℕ) (ps : List Placed) → o < 2 ^ 32 → All (EntryAt img) ps → lastFrom o ps < 2 ^ 32
 unfolding lastFrom
 last-below img small o [] h a = h
 last-below img small o (p ∷ ps) h a = last-below img small (p .at) ps (omega (arith, entry-fits (p .entry) (a .0 .there))) (a .1)
 
-link-below : (mode : Mode) (es : List Entry) → imageSize mode es ≤ 4294967295 → (i : ℕ) → link (placed headSize es) i < 2 ^ 32
-unfolding link placedOfId
+link-below : (mode : Mode) (es : List Entry) → imageSize mode es ≤ 4294967295 → (i : ℕ) → backWord (placed headSize es) i < 2 ^ 32
+unfolding backWord placedOfId
 link-below mode es fits i =
     last-below (image mode es) (omega (arith, length-image mode es)) 0 (placedOfId i (placed headSize es)) (omega arith)
-    (all-keep (Stands (image mode es)) (λ (p : Placed). hasId i (p .entry)) (placed headSize es) (all-stand mode es))
+    (all-filter (EntryAt (image mode es)) (λ (p : Placed). hasId i (p .entry)) (placed headSize es) (all-entries-at mode es))
 
 module _ (mode : Mode) (es : List Entry) (fits : imageSize mode es ≤ 4294967295) where
   ps : List Placed
@@ -56,7 +56,7 @@ module _ (mode : Mode) (es : List Entry) (fits : imageSize mode es ≤ 429496729
   bucket-words t =
       filled-all Words (2 * count t ps) (map bucketOf (ofTable t ps)) (omega arith)
       (all-image Words bucketOf (λ p s. (hashOf-below (p .entry .name), omega (arith, length-image mode es, entry-fits (p .entry) (s .there))))
-      (ofTable t ps) (all-keep (Stands (image mode es)) (inTable t) (placed headSize es) (all-stand mode es)))
+      (ofTable t ps) (all-filter (EntryAt (image mode es)) (inTable t) (placed headSize es) (all-entries-at mode es)))
 
   start-of : ℕ → ℕ
   start-of t = entriesEnd es + 16 * entriesBefore t ps
@@ -100,7 +100,7 @@ module _ (mode : Mode) (es : List Entry) (fits : imageSize mode es ≤ 429496729
           right-linked (wordsAt (image Twoway es) o n) (placed headSize es) (rising-less 1 headSize (offsets (placed headSize es)) (omega arith) (rises headSize es))
           (rw (length-wordsAt (image Twoway es) o n) (all-placed (λ (e : Entry). e .id < n) headSize es (ids-below es n (omega arith))))
           (λ i l. let m : i < n = rw (length-wordsAt (image Twoway es) o n) at l in
-          getD-wordsAt (image Twoway es) o n i m ∙ at-word (link (placed headSize es) i) (link-at Twoway es h i m) (link-below Twoway es h i))
+          getD-wordsAt (image Twoway es) o n i m ∙ at-word (backWord (placed headSize es) i) (backWord-at Twoway es h i m) (link-below Twoway es h i))
         where
           o : ℕ
           o = entriesEnd es + 16 * length es

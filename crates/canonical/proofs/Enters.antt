@@ -12,7 +12,7 @@ use Rattle.image.specs.Stored.{whole, entriesIn, between}
 use Rattle.image.specs.steps.EntryLength.{wholeLength}
 use Rattle.image.specs.Tally.{raisedCounts, tallied}
 use Rattle.image.proofs.Between.{Front, front, entry-room}
-use Rattle.image.proofs.EntryWalk.{Rest, walk-start, walk-turn, walk-broken, walk-end}
+use Rattle.image.proofs.EntryWalk.{Rest, walk-start, walk-step, walk-broken, walk-end}
 use Rattle.canonical.specs.steps.Tests.{nameAt, nameRight, entriesRight, placedFrom}
 use Rattle.canonical.proofs.Steps.{walk-right, walk-wrong, walk-none}
 
@@ -55,7 +55,7 @@ module _ (img : List ℕ) (end entries : ℕ) (counts₀ : List ℕ) (k : end �
           → Enter img end entries counts₀ (at + (8 + n)) (left - 1) (max back (id + 1)) counts′
       enter-turn r h id counts′ q y eh small idsmall ei ec =
           record {
-            rest = walk-turn img end entries counts₀ at left back counts k (e .rest) some n h id (nameAt img at n) counts′ there small idsmall refl eh ei ec;
+            rest = walk-step img end entries counts₀ at left back counts k (e .rest) some n h id (nameAt img at n) counts′ there small idsmall refl eh ei ec;
             right-same = walk-right img at end n left (e .rest .inside) k there some r Right q y (e .right-same);
           }
 

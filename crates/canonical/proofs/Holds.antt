@@ -16,12 +16,12 @@ use Rattle.image.specs.Stored.{whole, entriesIn}
 use Rattle.image.specs.Tables.{Bucket, empty, tableOf}
 use Rattle.image.specs.Tally.{tallied}
 use Rattle.image.proofs.At.{At, at-take}
-use Rattle.image.proofs.Bools.{both}
-use Rattle.image.proofs.EntryAt.{Stands, all-stand, all-placed, ids-below}
-use Rattle.image.proofs.Every.{All, all-map, all-both}
+use Rattle.image.proofs.Bools.{and-both}
+use Rattle.image.proofs.EntryAt.{EntryAt, all-entries-at, all-placed, ids-below}
+use Rattle.image.proofs.AllOfList.{All, all-map, all-both}
 use Rattle.image.proofs.Parts.{entries-at}
 use Rattle.image.proofs.Sizes.{length-entries, before-suc}
-use Rattle.lookup_laws.proofs.Opened.{opening-image}
+use Rattle.lookup_laws.proofs.ImageOpening.{opening-image}
 use Rattle.lists.proofs.Parse.{parsed, parsed-whole}
 use Rattle.image.specs.declared.Mode.{Mode}
 use Rattle.image.specs.declared.Mode.the-variants.{Twoway, Oneway}
@@ -165,13 +165,13 @@ module _ (mode : Mode) (es : List Entry) (each : All Storable es) (fits : imageS
   tests =
       entries-test img ps
       (all-map one ps
-      (all-both (λ (p : Placed). not (hasZero (p .entry .name)) ≡ true) (λ (p : Placed). Stands img p × There (tableOf (hashOf (p .entry .name))) p) ps
+      (all-both (λ (p : Placed). not (hasZero (p .entry .name)) ≡ true) (λ (p : Placed). EntryAt img p × There (tableOf (hashOf (p .entry .name))) p) ps
       (all-placed (λ (e : Entry). not (hasZero (e .name)) ≡ true) headSize es (frees es each))
-      (all-both (Stands img) (λ (p : Placed). There (tableOf (hashOf (p .entry .name))) p) ps (all-stand mode es) (from-tables There ps there))))
+      (all-both (EntryAt img) (λ (p : Placed). There (tableOf (hashOf (p .entry .name))) p) ps (all-entries-at mode es) (from-tables There ps there))))
     where
-      one : (p : Placed) → (not (hasZero (p .entry .name)) ≡ true) × (Stands img p × There (tableOf (hashOf (p .entry .name))) p) → entryRight img p ≡ true
+      one : (p : Placed) → (not (hasZero (p .entry .name)) ≡ true) × (EntryAt img p × There (tableOf (hashOf (p .entry .name))) p) → entryRight img p ≡ true
       one p (f, st) =
-          both (not (hasZero (p .entry .name))) (standsIn img (hashOf (p .entry .name)) (p .at)) f (stands-test img (bucketOf p) (st .0 .after) (st .1))
+          and-both (not (hasZero (p .entry .name))) (standsIn img (hashOf (p .entry .name)) (p .at)) f (stands-test img (bucketOf p) (st .0 .after) (st .1))
 
   -- ---- all
 

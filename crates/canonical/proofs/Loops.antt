@@ -10,7 +10,7 @@ use lib.Dec.{eqb, leb}
 use borrow.Author.Tests.{eq-eqb, ne-eqb}
 use Rattle.image.specs.Bytes.{word, range, all}
 use Rattle.image.specs.Head.{tableAt, bucketNumber}
-use Rattle.image.proofs.All.{all-turn, all-more, all-end}
+use Rattle.image.proofs.AllOfRange.{all-step, all-more, all-end}
 use Rattle.masks.specs.steps.Masks.{bit, above}
 use Rattle.canonical.specs.steps.InPlace.{wordsAt}
 use Rattle.canonical.specs.steps.Tests.{clean, usedIn, tableRight, rowsRight, rowCounts, TablesInside}
@@ -52,10 +52,10 @@ module _ (f : ℕ → ℕ) where
 
 module _ (f : ℕ → Bool) where
   all-next : (t n : ℕ) (x : Bool) → t < n → f t ≡ true → all f t (n - t) ≡ x → all f (t + 1) (n - (t + 1)) ≡ x
-  all-next t n x h y e = sym (all-turn f t n h ∙ ap (λ (b : Bool). b && all f (t + 1) (n - (t + 1))) y) ∙ e
+  all-next t n x h y e = sym (all-step f t n h ∙ ap (λ (b : Bool). b && all f (t + 1) (n - (t + 1))) y) ∙ e
 
   all-stop : (t n : ℕ) (x : Bool) → t < n → f t ≡ false → all f t (n - t) ≡ x → false ≡ x
-  all-stop t n x h y e = sym (all-turn f t n h ∙ ap (λ (b : Bool). b && all f (t + 1) (n - (t + 1))) y) ∙ e
+  all-stop t n x h y e = sym (all-step f t n h ∙ ap (λ (b : Bool). b && all f (t + 1) (n - (t + 1))) y) ∙ e
 
 pub record Buckets (img : List ℕ) (o n k : ℕ) (tidy : Bool) (used : ℕ) : Type 0 where
   pub inside : k ≤ n

@@ -14,7 +14,7 @@ use Rattle.image.specs.Bytes.{word}
 use Rattle.image.specs.Head.{tableAt, bucketNumber}
 use Rattle.image.specs.Stored.{between}
 use Rattle.image.specs.steps.EntryLength.{wholeLength}
-use Rattle.image.specs.Tables.{tableOf, start, next, order, firstEmpty}
+use Rattle.image.specs.Tables.{tableOf, start, next, probeSequence, firstEmpty}
 use Rattle.image.proofs.Between.{entry-room}
 use Rattle.canonical.specs.steps.Noted.{firstPlace, NotedFrom, Notes}
 use Rattle.canonical.specs.steps.Tests.{hidden, standsIn, nameAt}
@@ -24,13 +24,13 @@ use Rattle.canonical.proofs.Steps.{stands-none, stands-other, stands-la
 
 -- where an entry's own offset stands in it, the search ends there
 first-bucket : (img : List ℕ) (o n k at : ℕ) → 0 < n → word img (o + 8 * k + 4) ≡ at
-    → k ≡ firstEmpty (λ (i : ℕ). hidden at (word img (o + 8 * i + 4))) (order n n k)
-unfolding firstEmpty order
+    → k ≡ firstEmpty (λ (i : ℕ). hidden at (word img (o + 8 * i + 4))) (probeSequence n n k)
+unfolding firstEmpty probeSequence
 first-bucket img o n k at p e =
     let s : n ≡ suc (n - 1) = omega arith in
     sym
-    (ap (λ (m : ℕ). firstEmpty (λ (i : ℕ). hidden at (word img (o + 8 * i + 4))) (order n m k)) s
-    ∙ ap (λ (b : Bool). cond b k (firstEmpty (λ (i : ℕ). hidden at (word img (o + 8 * i + 4))) (order n (n - 1) (next n k)))) free)
+    (ap (λ (m : ℕ). firstEmpty (λ (i : ℕ). hidden at (word img (o + 8 * i + 4))) (probeSequence n m k)) s
+    ∙ ap (λ (b : Bool). cond b k (firstEmpty (λ (i : ℕ). hidden at (word img (o + 8 * i + 4))) (probeSequence n (n - 1) (next n k)))) free)
   where
     free : eqb (hidden at (word img (o + 8 * k + 4))) 0 ≡ true
     free =

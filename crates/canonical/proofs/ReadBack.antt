@@ -11,16 +11,16 @@ use Rattle.jhash.specs.Outcome.{Outcome}
 use Rattle.image.specs.Bytes.{word, le32, cat, same}
 use Rattle.image.specs.Image.{Entry, headSize, entryBytes, entriesSize, backSize, backSizeOf, backOffset, imageSize, flagWord, headWords, image}
 use Rattle.image.specs.Stored.{entriesIn, firstEntry, afterFirst}
-use Rattle.image.proofs.Area.{Bytes, bytes-drop, bytes-take, ids-words}
+use Rattle.image.proofs.EntryArea.{AllBytes, bytes-drop, bytes-take, ids-words}
 use Rattle.image.proofs.At.{At, at-same, at-left, at-right, at-word}
-use Rattle.image.proofs.Bools.{first, second, both}
+use Rattle.image.proofs.Bools.{and-first, and-second, and-both}
 use Rattle.image.proofs.Equal.{same-true, same-self}
-use Rattle.image.proofs.Every.{All}
+use Rattle.image.proofs.AllOfList.{All}
 use Rattle.image.proofs.Parts.{head-at, entries-at}
 use Rattle.image.proofs.Words.{length-le32}
 use Rattle.reader.specs.Open.{opening}
-use Rattle.lookup_laws.proofs.Opened.{opening-image}
-use Rattle.lists.proofs.Parse.{AllWordly, first-entry, after-first}
+use Rattle.lookup_laws.proofs.ImageOpening.{opening-image}
+use Rattle.lists.proofs.Parse.{AllWordSized, first-entry, after-first}
 use Rattle.image.specs.declared.Mode.{Mode}
 use Rattle.image.specs.declared.Mode.the-variants.{Twoway, Oneway}
 use Rattle.image.specs.Zero.{hasZero}
@@ -28,7 +28,7 @@ use Rattle.canonical.specs.steps.Made.{Storable, Made}
 use Rattle.canonical.specs.Ours.{counted, putsIn, modeIn, allFree, ours}
 
 -- entries are read back, whatever follows them
-parsed-front : (es : List Entry) (rest : List ℕ) → AllWordly es → entriesIn (length es) (cat entryBytes es ++ rest) ≡ es
+parsed-front : (es : List Entry) (rest : List ℕ) → AllWordSized es → entriesIn (length es) (cat entryBytes es ++ rest) ≡ es
 unfolding entriesIn cat
 parsed-front [] rest ok = refl
 parsed-front (e ∷ es) rest ok =
@@ -58,7 +58,7 @@ flag-image mode es =
     small Oneway = omega arith
 
 -- names that are read from bytes are bytes
-pub names-bytes : (n : ℕ) (l : List ℕ) → Bytes l → All (λ (e : Entry). Bytes (e .name)) (entriesIn n l)
+pub names-bytes : (n : ℕ) (l : List ℕ) → AllBytes l → All (λ (e : Entry). AllBytes (e .name)) (entriesIn n l)
 unfolding entriesIn
 names-bytes zero l bytes = tt
 names-bytes (suc n) l bytes =
@@ -68,7 +68,7 @@ names-bytes (suc n) l bytes =
 abbrev pub WordIds : List Entry → Type 0
 WordIds es = All (λ (e : Entry). e .id < 2 ^ 32) es
 
-pub all-wordly : (es : List Entry) → WordIds es → entriesSize es < 2 ^ 32 → AllWordly es
+pub all-wordly : (es : List Entry) → WordIds es → entriesSize es < 2 ^ 32 → AllWordSized es
 unfolding entriesSize
 all-wordly [] w s = tt
 all-wordly (e ∷ es) w s = (record { id-word = w .0; length-word = omega arith }, all-wordly es (w .1) (omega arith))
@@ -114,7 +114,7 @@ direction-injective f g es fs ie if fe ff e = sym (flag-of-image f es ie fe) ∙
 frees : (es : List Entry) → All Storable es → allFree es ≡ true
 unfolding allFree
 frees [] a = refl
-frees (e ∷ es) a = both (not (hasZero (e .name))) (allFree es) (ap not (a .0 .free)) (frees es (a .1))
+frees (e ∷ es) a = and-both (not (hasZero (e .name))) (allFree es) (ap not (a .0 .free)) (frees es (a .1))
 
 pub ids-of : (es : List Entry) → All Storable es → WordIds es
 ids-of [] a = tt
@@ -124,8 +124,8 @@ storables : (es : List Entry) → allFree es ≡ true → WordIds es → All Sto
 unfolding allFree
 storables [] f i = tt
 storables (e ∷ es) f i = (
-  record { free = not-true (hasZero (e .name)) (first (not (hasZero (e .name))) (allFree es) f); id-word = i .0 },
-  storables es (second (not (hasZero (e .name))) (allFree es) f) (i .1),
+  record { free = not-true (hasZero (e .name)) (and-first (not (hasZero (e .name))) (allFree es) f); id-word = i .0 },
+  storables es (and-second (not (hasZero (e .name))) (allFree es) f) (i .1),
 )
 
 -- puts and direction of an image that puts make are read back
@@ -142,22 +142,22 @@ ours-yes img m =
     let d = made-mode img m in
     let i : image (modeIn img) (putsIn img) ≡ img = ap₂ image d p ∙ m .is in
     let s : imageSize (modeIn img) (putsIn img) ≡ imageSize (m .mode) (m .puts) = ap₂ imageSize d p in
-    both (allFree (putsIn img) && leb (imageSize (modeIn img) (putsIn img)) 4294967295) (same (image (modeIn img) (putsIn img)) img)
-    (both (allFree (putsIn img)) (leb (imageSize (modeIn img) (putsIn img)) 4294967295) (ap allFree p ∙ frees (m .puts) (m .each))
+    and-both (allFree (putsIn img) && leb (imageSize (modeIn img) (putsIn img)) 4294967295) (same (image (modeIn img) (putsIn img)) img)
+    (and-both (allFree (putsIn img)) (leb (imageSize (modeIn img) (putsIn img)) 4294967295) (ap allFree p ∙ frees (m .puts) (m .each))
     (le-leb (imageSize (modeIn img) (putsIn img)) 4294967295 (rw s (m .fits))))
     (ap (λ (l : List ℕ). same l img) i ∙ same-self img)
 
-pub ours-only : (img : List ℕ) → Bytes img → ours img ≡ true → Made img
+pub ours-only : (img : List ℕ) → AllBytes img → ours img ≡ true → Made img
 unfolding ours putsIn
 ours-only img bytes h =
     let a = allFree (putsIn img) in
     let b = leb (imageSize (modeIn img) (putsIn img)) 4294967295 in
     let c = same (image (modeIn img) (putsIn img)) img in
-    let ab = first (a && b) c h in
+    let ab = and-first (a && b) c h in
     record {
       mode = modeIn img;
       puts = putsIn img;
-      each = storables (putsIn img) (first a b ab) (ids-words (counted (opening img)) (drop headSize img) (bytes-drop headSize img bytes));
-      fits = leb-true (imageSize (modeIn img) (putsIn img)) 4294967295 (second a b ab);
-      is = same-true (image (modeIn img) (putsIn img)) img (second (a && b) c h);
+      each = storables (putsIn img) (and-first a b ab) (ids-words (counted (opening img)) (drop headSize img) (bytes-drop headSize img bytes));
+      fits = leb-true (imageSize (modeIn img) (putsIn img)) 4294967295 (and-second a b ab);
+      is = same-true (image (modeIn img) (putsIn img)) img (and-second (a && b) c h);
     }

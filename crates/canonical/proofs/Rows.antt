@@ -7,18 +7,18 @@ use mathlib.Core.List.{List, [], _∷_, _++_, map}
 use lib.ListN.{length, replicate}
 use lib.Dec.{eqb, ltb, lit≤, lit<}
 use borrow.Author.Tests.{ltb-true}
-use Rattle.image.specs.Bytes.{word, le32, cat, keep, range, same}
+use Rattle.image.specs.Bytes.{word, le32, cat, filter, range, same}
 use Rattle.image.specs.Head.{backSizeAt, backOffsetAt}
-use Rattle.image.specs.Image.{headSize, imageSize, holds, entryBytes, entriesSize, placed, ofTable, bucketBytes, table, tableBytes, entriesBefore, tableOffset, tableRow, backSize, placedOfId, lastFrom, link, backOffset, headBytes, headWords, tableRows, tables, links, image}
-use Rattle.image.specs.Tables.{order, firstEmpty, insert, insertAll, filled}
+use Rattle.image.specs.Image.{headSize, imageSize, containsName, entryBytes, entriesSize, placed, ofTable, bucketBytes, table, tableBytes, entriesBefore, tableOffset, tableRow, backSize, placedOfId, lastFrom, backWord, backOffset, headBytes, headWords, tableRows, tables, backWords, image}
+use Rattle.image.specs.Tables.{probeSequence, firstEmpty, insert, insertAll, filled}
 use Rattle.image.specs.Zero.{hasZero}
 use Rattle.image.specs.declared.Mode.the-variants.{Oneway}
-use Rattle.image.proofs.Every.{All, all-map}
+use Rattle.image.proofs.AllOfList.{All, all-map}
 use Rattle.writer.proofs.Agree.{zeros}
 use Rattle.lists.specs.Calls.{acceptedFrom, accepted, putDue, putsSize, sizeOf, WordIds}
-use Rattle.lists.proofs.Along.{list-accepted}
+use Rattle.lists.proofs.CallLists.{list-accepted}
 use Rattle.canonical.specs.Ours.{ours}
-use Rattle.jhash.specs.Word.{Bytes}
+use Rattle.jhash.specs.Word.{AllBytes}
 use Rattle.canonical.specs.Rows.{Row, Holds, rows, Bare, bares}
 use Rattle.canonical.specs.steps.Tests.{endIn}
 use Rattle.canonical.proofs.ReadBack.{ours-yes, ours-only}
@@ -41,7 +41,7 @@ holds-in r c buffer long =
     )
 
 computed : All Computed rows
-unfolding accepted acceptedFrom putDue hasZero holds same sizeOf putsSize backSize
+unfolding accepted acceptedFrom putDue hasZero containsName same sizeOf putsSize backSize
 computed = (
   (lit≤ tt, tt, refl),
   (
@@ -60,7 +60,7 @@ rows-hold = all-map holds-in rows computed
 
 -- the empty one-way image
 empty-image : image Oneway [] ≡ headBytes 2072 1 0 0 ++ replicate 2048 0
-unfolding le32 cat keep range entryBytes entriesSize placed ofTable bucketBytes table tableBytes entriesBefore tableOffset tableRow backSize placedOfId lastFrom link backOffset headBytes headWords tableRows tables links image order firstEmpty insert insertAll filled
+unfolding le32 cat filter range entryBytes entriesSize placed ofTable bucketBytes table tableBytes entriesBefore tableOffset tableRow backSize placedOfId lastFrom backWord backOffset headBytes headWords tableRows tables backWords image probeSequence firstEmpty insert insertAll filled
 empty-image = refl
 
 empty-fits : imageSize Oneway [] ≤ 4294967295
@@ -73,7 +73,7 @@ empty-ours =
     record { mode = Oneway; puts = []; each = tt; fits = empty-fits; is = empty-image }
 
 -- bytes that are looked at one by one, and bytes behind them
-bytes-behind : (l r : List ℕ) → All (λ (x : ℕ). x < 256) l → Bytes r → Bytes (l ++ r)
+bytes-behind : (l r : List ℕ) → All (λ (x : ℕ). x < 256) l → AllBytes r → AllBytes (l ++ r)
 bytes-behind [] r a b i = b i
 bytes-behind (x ∷ l) r a b zero = a .0
 bytes-behind (x ∷ l) r a b (suc i) = bytes-behind l r (a .1) b i
@@ -100,7 +100,7 @@ offset-not = go (ours (headBytes 2072 0 0 2072 ++ replicate 2048 0)) refl
     go false e = refl
     go true e =
         let bytes = headBytes 2072 0 0 2072 ++ replicate 2048 0 in
-        let all : Bytes bytes = bytes-behind (headBytes 2072 0 0 2072) (replicate 2048 0) head-bytes (λ i. rw (zeros 2048 i) (lit< tt)) in
+        let all : AllBytes bytes = bytes-behind (headBytes 2072 0 0 2072) (replicate 2048 0) head-bytes (λ i. rw (zeros 2048 i) (lit< tt)) in
         let made = ours-only bytes all e in
         let said = ours-checked bytes made .back-offset in
         let end = endIn bytes (length (made .puts)) + 16 * length (made .puts) in

@@ -8,11 +8,11 @@ use lib.Dec.{eqb}
 use lib.ListN.{length, getD, drop, length-append}
 use borrow.Author.Tests.{eqb-true}
 use Rattle.image.specs.Bytes.{word, le32, cat, range}
-use Rattle.image.specs.Image.{Entry, Placed, headSize, entryBytes, placed, ofTable, count, bucketOf, bucketBytes, table, tableBytes, entriesBefore, tableOffset, tableRow, tableRows, tables, link, links, flagWord, backSizeOf, backOffset, entriesEnd, imageSize, headWords, image}
+use Rattle.image.specs.Image.{Entry, Placed, headSize, entryBytes, placed, ofTable, count, bucketOf, bucketBytes, table, tableBytes, entriesBefore, tableOffset, tableRow, tableRows, tables, backWord, backWords, flagWord, backSizeOf, backOffset, entriesEnd, imageSize, headWords, image}
 use Rattle.image.specs.Tables.{Bucket, empty}
-use Rattle.image.proofs.Area.{Bytes}
+use Rattle.image.proofs.EntryArea.{AllBytes}
 use Rattle.image.proofs.At.{At, at-same, at-equal}
-use Rattle.image.proofs.Bools.{first, second}
+use Rattle.image.proofs.Bools.{and-first, and-second}
 use Rattle.image.proofs.Lists.{length-range, getD-range}
 use Rattle.image.proofs.Parts.{before-most}
 use Rattle.image.proofs.Sizes.{length-entries, length-placed, length-bucketBytes, length-table, length-tableBytes, length-tables, length-headWords, length-tableRow, length-tableRows, length-image}
@@ -42,15 +42,15 @@ front-letters (a ∷ b ∷ c ∷ d ∷ l) k h =
     let q = eqb b 81 in
     let r = eqb c 68 in
     let s = eqb d 66 in
-    let pqr = first (p && q && r) s h in
-    let pq = first (p && q) r pqr in
-    let ea = eqb-true a 67 (first p q pq) in
-    let eb = eqb-true b 81 (second p q pq) in
-    let ec = eqb-true c 68 (second (p && q) r pqr) in
-    let ed = eqb-true d 66 (second (p && q && r) s h) in
+    let pqr = and-first (p && q && r) s h in
+    let pq = and-first (p && q) r pqr in
+    let ea = eqb-true a 67 (and-first p q pq) in
+    let eb = eqb-true b 81 (and-second p q pq) in
+    let ec = eqb-true c 68 (and-second (p && q) r pqr) in
+    let ed = eqb-true d 66 (and-second (p && q && r) s h) in
     cc
 
-module _ (img : List ℕ) (mode : Mode) (es : List Entry) (bytes : Bytes img) (ip : InPlace img mode es) where
+module _ (img : List ℕ) (mode : Mode) (es : List Entry) (bytes : AllBytes img) (ip : InPlace img mode es) where
   ps : List Placed
   ps = placed headSize es
 
@@ -147,25 +147,25 @@ module _ (img : List ℕ) (mode : Mode) (es : List Entry) (bytes : Bytes img) (i
 
   -- ---- the links
 
-  all-links : At img (entriesEnd es + 16 * length es) (links ps (backSizeOf mode es))
-  unfolding links ps cat range
+  all-links : At img (entriesEnd es + 16 * length es) (backWords ps (backSizeOf mode es))
+  unfolding backWords ps cat range
   all-links = go mode (ip .total) (ip .linked)
     where
       go : (f : Mode) → length img ≡ imageSize f es → LinksIn f img es
-          → At img (entriesEnd es + 16 * length es) (cat (λ (i : ℕ). le32 (link (placed headSize es) i)) (range 0 (backSizeOf f es)))
+          → At img (entriesEnd es + 16 * length es) (cat (λ (i : ℕ). le32 (backWord (placed headSize es) i)) (range 0 (backSizeOf f es)))
       go Oneway e k = at-nothing img (entriesEnd es + 16 * length es)
       go Twoway e k =
-          at-parts (λ (i : ℕ). le32 (link (placed headSize es) i)) 4 (λ i. length-le32 (link (placed headSize es) i)) o (range 0 (backSizeOf Twoway es)) 0 each
+          at-parts (λ (i : ℕ). le32 (backWord (placed headSize es) i)) 4 (λ i. length-le32 (backWord (placed headSize es) i)) o (range 0 (backSizeOf Twoway es)) 0 each
         where
           o : ℕ
           o = entriesEnd es + 16 * length es
 
-          each : (i : ℕ) → i < length (range 0 (backSizeOf Twoway es)) → At img (o + 4 * i) (le32 (link (placed headSize es) (getD (range 0 (backSizeOf Twoway es)) i 0)))
+          each : (i : ℕ) → i < length (range 0 (backSizeOf Twoway es)) → At img (o + 4 * i) (le32 (backWord (placed headSize es) (getD (range 0 (backSizeOf Twoway es)) i 0)))
           each i h =
               let m : i < backSizeOf Twoway es = rw (length-range 0 (backSizeOf Twoway es)) at h in
               let z : 0 + i ≡ i = omega arith in
-              at-equal (ap (λ (j : ℕ). le32 (link (placed headSize es) j)) (sym (getD-range 0 (backSizeOf Twoway es) i m ∙ z)))
-              (at-le32 img (o + 4 * i) (link (placed headSize es) i) bytes (omega (arith, e))
+              at-equal (ap (λ (j : ℕ). le32 (backWord (placed headSize es) j)) (sym (getD-range 0 (backSizeOf Twoway es) i m ∙ z)))
+              (at-le32 img (o + 4 * i) (backWord (placed headSize es) i) bytes (omega (arith, e))
               (sym (linked-right (wordsAt img o (backSizeOf Twoway es)) (placed headSize es) (rising-less 1 headSize (offsets (placed headSize es)) (omega arith) (rises headSize es)) k i
               (rw (length-wordsAt img o (backSizeOf Twoway es)) m)
               ∙ getD-wordsAt img o (backSizeOf Twoway es) i m)))
@@ -198,7 +198,7 @@ module _ (img : List ℕ) (mode : Mode) (es : List Entry) (bytes : Bytes img) (i
       T = tables ps
 
       L : List ℕ
-      L = links ps (backSizeOf mode es)
+      L = backWords ps (backSizeOf mode es)
 
       l1 : 0 + length H ≡ 24
       l1 = omega (arith, length-headWords mode es)

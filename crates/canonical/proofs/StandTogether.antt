@@ -7,7 +7,7 @@ use lib.ListN.{length, getD, drop, length-append, length-drop, length-map}
 use lib.Seq.{drop-append-seam, drop-drop}
 use Rattle.image.specs.Bytes.{word, le32, cat, range}
 use Rattle.image.specs.Tables.{empty}
-use Rattle.image.proofs.Area.{Bytes, bytes-drop, front-word}
+use Rattle.image.proofs.EntryArea.{AllBytes, bytes-drop, front-word}
 use Rattle.image.proofs.At.{At, at-same}
 use Rattle.image.proofs.Lists.{length-range, getD-range}
 use Rattle.image.proofs.Words.{word-drop, length-le32}
@@ -61,7 +61,7 @@ at-parts {A} {img} f size sized o (x ∷ xs) d each =
 
 -- ---- words
 
-pub at-le32 : (img : List ℕ) (o w : ℕ) → Bytes img → o + 4 ≤ length img → word img o ≡ w → At img o (le32 w)
+pub at-le32 : (img : List ℕ) (o w : ℕ) → AllBytes img → o + 4 ≤ length img → word img o ≡ w → At img o (le32 w)
 at-le32 img o w bytes h e = record {
   post = drop 4 (drop o img);
   stands =
@@ -70,7 +70,7 @@ at-le32 img o w bytes h e = record {
       ∙ ap (λ (k : ℕ). le32 k ++ drop 4 (drop o img)) (word-drop img o 0 ∙ ap (word img) z ∙ e);
 }
 
-pub at-two : (img : List ℕ) (o v w : ℕ) → Bytes img → o + 8 ≤ length img → word img o ≡ v → word img (o + 4) ≡ w → At img o (le32 v ++ le32 w)
+pub at-two : (img : List ℕ) (o v w : ℕ) → AllBytes img → o + 8 ≤ length img → word img o ≡ v → word img (o + 4) ≡ w → At img o (le32 v ++ le32 w)
 at-two img o v w bytes h e f =
     at-join (le32 v) (le32 w) (at-le32 img o v bytes (omega arith) e)
     (at-same (ap (λ (n : ℕ). o + n) (sym (length-le32 v))) (at-le32 img (o + 4) w bytes (omega arith) f))

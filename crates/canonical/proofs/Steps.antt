@@ -12,9 +12,9 @@ use Rattle.image.specs.Bytes.{word}
 use Rattle.image.specs.Image.{Placed, entrySize, placed}
 use Rattle.image.specs.Stored.{firstEntry, afterFirst, whole, entriesIn, between}
 use Rattle.image.specs.steps.EntryLength.{wholeLength}
-use Rattle.image.specs.Tables.{order, firstEmpty}
+use Rattle.image.specs.Tables.{probeSequence, firstEmpty}
 use Rattle.image.proofs.Between.{Front, not-whole, length-between}
-use Rattle.image.proofs.Bools.{not-both}
+use Rattle.image.proofs.Bools.{false-not-true}
 use Rattle.image.proofs.EntryWalk.{whole-rest, first-id, first-name, entries-rest}
 use Rattle.image.specs.Zero.{hasZero}
 use Rattle.canonical.specs.steps.Tests.{hidden, slotIn, standsIn, entryRight, entriesRight, aheadIn, selvesIn, nameAt, placedFrom, nameRight}
@@ -35,12 +35,12 @@ module _ (img : List ℕ) (h at : ℕ) where
       ap (λ (b : Bool). not b && eqb (word img s) h && eqb (word img (s + 4)) at) (sym (eq-eqb (word img (28 + 8 * (h % 256))) 0 (sym e ∙ z)))
 
   module _ (o n k w : ℕ) (eo : o ≡ word img (24 + 8 * (h % 256))) (en : n ≡ word img (28 + 8 * (h % 256))) (nz : n ≡ 0 → ⊥)
-      (ek : k ≡ firstEmpty (λ (i : ℕ). hidden at (word img (o + 8 * i + 4))) (order n n (h / 256 % n))) (ew : w ≡ word img (o + 8 * k)) where
+      (ek : k ≡ firstEmpty (λ (i : ℕ). hidden at (word img (o + 8 * i + 4))) (probeSequence n n (h / 256 % n))) (ew : w ≡ word img (o + 8 * k)) where
     slot-is : o + 8 * k ≡ slotIn img h at
     unfolding slotIn
     slot-is =
         ap₂ (λ (x : ℕ) (y : ℕ). x + 8 * y) eo
-        (ek ∙ ap₂ (λ (x : ℕ) (y : ℕ). firstEmpty (λ (i : ℕ). hidden at (word img (x + 8 * i + 4))) (order y y (h / 256 % y))) eo en)
+        (ek ∙ ap₂ (λ (x : ℕ) (y : ℕ). firstEmpty (λ (i : ℕ). hidden at (word img (x + 8 * i + 4))) (probeSequence y y (h / 256 % y))) eo en)
 
     some : not (eqb (word img (28 + 8 * (h % 256))) 0) ≡ true
     some = rw (ne-eqb (word img (28 + 8 * (h % 256))) 0 (λ z. nz (en ∙ z)))
@@ -81,7 +81,7 @@ unfolding whole
 whole-broken img at end left n p e z h =
     let s : left ≡ suc (left - 1) = omega arith in
     let b = not-whole (between img at end) (sym z ∙ e) in
-    not-both (sym (ap (λ (m : ℕ). whole m (between img at end)) s ∙ ap (λ (t : Bool). t && whole (left - 1) (afterFirst (between img at end))) b) ∙ h)
+    false-not-true (sym (ap (λ (m : ℕ). whole m (between img at end)) s ∙ ap (λ (t : Bool). t && whole (left - 1) (afterFirst (between img at end))) b) ∙ h)
 
 module _ (img : List ℕ) (at end n left : ℕ) (h : at ≤ end) (k : end ≤ length img) (f : Front (between img at end) n) (p : 0 < left) where
   pub walk-inside : at + (8 + n) ≤ end

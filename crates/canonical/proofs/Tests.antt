@@ -11,9 +11,9 @@ use borrow.Author.Tests.{lt-ltb, ltb-false, eqb-true, eq-eqb, ne-eqb}
 use Rattle.jhash.specs.Outcome.{Outcome, value, refusal}
 use Rattle.image.specs.Bytes.{word, range, all}
 use Rattle.image.specs.Head.{tableAt, bucketNumber, backOffsetAt, tableLeaves, backLeaves}
-use Rattle.image.specs.Tables.{Bucket, empty, atOf, order}
-use Rattle.image.proofs.All.{all-each, all-true}
-use Rattle.image.proofs.Bools.{first, second, both, neither-first, neither-second}
+use Rattle.image.specs.Tables.{Bucket, empty, atOf, probeSequence}
+use Rattle.image.proofs.AllOfRange.{all-each, all-true}
+use Rattle.image.proofs.Bools.{and-first, and-second, and-both, or-false-first, or-false-second}
 use Rattle.reader.specs.Open.{opening, hasLetters, someLeaves, halves}
 use Rattle.masks.specs.steps.Masks.{above, ats}
 use Rattle.canonical.specs.steps.InPlace.{bucketAt, bucketsAt}
@@ -50,12 +50,12 @@ unfolding someLeaves
 none-leaves img t zero k e l h some = absurd (omega arith)
 none-leaves img t (suc m) k e l h some = elim (ℕ-discrete t k) [
   | yes y ↦ go (rw y at e)
-  | no d ↦ none-leaves img (suc t) m k (neither-second (ltb 0 (tableAt img t) && tableLeaves img t) (someLeaves img (suc t) m) e) (omega arith) (omega arith) some
+  | no d ↦ none-leaves img (suc t) m k (or-false-second (ltb 0 (tableAt img t) && tableLeaves img t) (someLeaves img (suc t) m) e) (omega arith) (omega arith) some
 ]
   where
     go : ((ltb 0 (tableAt img k) && tableLeaves img k) || someLeaves img (suc k) m) ≡ false → tableAt img k + 8 * bucketNumber img k ≤ length img
     go f =
-        let x = neither-first (ltb 0 (tableAt img k) && tableLeaves img k) (someLeaves img (suc k) m) f in
+        let x = or-false-first (ltb 0 (tableAt img k) && tableLeaves img k) (someLeaves img (suc k) m) f in
         let y = sym (ap (λ (b : Bool). b && tableLeaves img k) (lt-ltb 0 (tableAt img k) some)) ∙ x in
         ltb-false (length img) (tableAt img k + 8 * bucketNumber img k) y
 
@@ -77,7 +77,7 @@ module _ (img : List ℕ) (o c : ℕ) where
   table-told h =
       let a = all (clean img o) 0 (2 * c) in
       let b = eqb (usedIn img o 0 (2 * c)) c in
-      (λ k z. zero (first a b h) k z (decLt k (2 * c)), used-is ∙ eqb-true (usedIn img o 0 (2 * c)) c (second a b h))
+      (λ k z. zero (and-first a b h) k z (decLt k (2 * c)), used-is ∙ eqb-true (usedIn img o 0 (2 * c)) c (and-second a b h))
     where
       either : (a h : ℕ) → (not (eqb a 0) || eqb h 0) ≡ true → a ≡ 0 → h ≡ 0
       either a h t z = eqb-true h 0 (rw (eq-eqb a 0 z) at t)
@@ -99,7 +99,7 @@ module _ (img : List ℕ) (o c : ℕ) where
   pub table-test : Zeros → above 1 (ats (bucketsAt img o (2 * c))) ≡ c → tableRight img o c ≡ true
   unfolding tableRight
   table-test z u =
-      both (all (clean img o) 0 (2 * c)) (eqb (usedIn img o 0 (2 * c)) c)
+      and-both (all (clean img o) 0 (2 * c)) (eqb (usedIn img o 0 (2 * c)) c)
       (all-true (clean img o) 0 (2 * c) (λ k l. let e : 0 + k ≡ k = omega arith in ap (clean img o) e ∙ each k l))
       (eq-eqb (usedIn img o 0 (2 * c)) c (sym used-is ∙ u))
     where
@@ -130,14 +130,14 @@ module _ (img counts : List ℕ) where
       let b = eqb (tableAt img t) (cond (eqb k 0) 0 o) in
       let c = tableRight img o k in
       let d = rowsRight img counts (o + 16 * k) (suc t) m in
-      let abc = first (a && b && c) d h in
-      let ab = first (a && b) c abc in (
+      let abc = and-first (a && b && c) d h in
+      let ab = and-first (a && b) c abc in (
         record {
-          number = eqb-true (bucketNumber img t) (2 * k) (first a b ab);
-          offset = eqb-true (tableAt img t) (cond (eqb k 0) 0 o) (second a b ab);
-          table = second (a && b) c abc;
+          number = eqb-true (bucketNumber img t) (2 * k) (and-first a b ab);
+          offset = eqb-true (tableAt img t) (cond (eqb k 0) 0 o) (and-second a b ab);
+          table = and-second (a && b) c abc;
         },
-        second (a && b && c) d h,
+        and-second (a && b && c) d h,
       )
 
   row-test : (o t m : ℕ) → Row img counts o t → rowsRight img counts (o + 16 * getD counts t 0) (suc t) m ≡ true → rowsRight img counts o t (suc m) ≡ true
@@ -147,9 +147,9 @@ module _ (img counts : List ℕ) where
       let a = eqb (bucketNumber img t) (2 * k) in
       let b = eqb (tableAt img t) (cond (eqb k 0) 0 o) in
       let c = tableRight img o k in
-      both (a && b && c) (rowsRight img counts (o + 16 * k) (suc t) m)
-      (both (a && b) c
-      (both a b (eq-eqb (bucketNumber img t) (2 * k) (r .number)) (eq-eqb (tableAt img t) (cond (eqb k 0) 0 o) (r .offset))) (r .table)) h
+      and-both (a && b && c) (rowsRight img counts (o + 16 * k) (suc t) m)
+      (and-both (a && b) c
+      (and-both a b (eq-eqb (bucketNumber img t) (2 * k) (r .number)) (eq-eqb (tableAt img t) (cond (eqb k 0) 0 o) (r .offset))) (r .table)) h
 
   module _ (pos : ℕ → ℕ) (grow : (t : ℕ) → t < 256 → pos (suc t) ≡ pos t + 16 * getD counts t 0) where
     pub rows-told : (t m : ℕ) → t + m ≤ 256 → rowsRight img counts (pos t) t m ≡ true → (i : ℕ) → i < m → Row img counts (pos (t + i)) (t + i)

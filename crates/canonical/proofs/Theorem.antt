@@ -10,10 +10,10 @@ use Rattle.image.specs.Bytes.{word}
 use Rattle.image.specs.Image.{Entry, headSize}
 use Rattle.image.specs.declared.Mode.{Mode}
 use Rattle.image.specs.declared.Mode.the-variants.{Twoway, Oneway}
-use Rattle.image.proofs.Area.{Bytes, bytes-drop, bytes-take}
+use Rattle.image.proofs.EntryArea.{AllBytes, bytes-drop, bytes-take}
 use Rattle.image.proofs.Equal.{same-self}
-use Rattle.image.proofs.Every.{All, all-map, all-both}
-use Rattle.image.proofs.Lists.{keep-append, keep-yes}
+use Rattle.image.proofs.AllOfList.{All, all-map, all-both}
+use Rattle.image.proofs.Lists.{filter-append, filter-yes}
 use Rattle.reader.specs.Lookup.{lookup}
 use Rattle.reader.specs.Open.{opening}
 use Rattle.consistency.specs.Panel.{readingsAgree}
@@ -22,9 +22,9 @@ use Rattle.lookup_laws.specs.Answer.{foundId, nameGiven, hasName, ofName, first
 use Rattle.writer.specs.declared.Repeats.the-variants.{On}
 use Rattle.lists.specs.Calls.{WordIds}
 use Rattle.lists.specs.Demand3.{imageOf}
-use Rattle.lists.specs.RepeatsOff.{putAll}
-use Rattle.lists.proofs.Read.{Read}
-use Rattle.lists.proofs.Reading.{list-read}
+use Rattle.lists.specs.theorems.RepeatsOff.{putAll}
+use Rattle.lists.proofs.ImageRead.{Read}
+use Rattle.lists.proofs.ReadingAnswered.{list-read}
 use Rattle.lists.proofs.Readings.{readings}
 use Rattle.canonical.specs.steps.Made.{Storable, Made}
 use Rattle.canonical.specs.Ours.{Ours, counted, putsIn, modeIn, ours}
@@ -48,7 +48,7 @@ names-first done (e ∷ es) = (own, rw (append-assoc done (e ∷ []) es) at (nam
     own =
         let test = hasName (e .name) in
         let s = first-some (ofName (e .name) done) (ofName (e .name) es) e in
-        (s .0, ap firstId (keep-append test done (e ∷ es) ∙ ap (λ (l : List Entry). ofName (e .name) done ++ l) (keep-yes test e es (same-self (e .name)))) ∙ s .1)
+        (s .0, ap firstId (filter-append test done (e ∷ es) ∙ ap (λ (l : List Entry). ofName (e .name) done ++ l) (filter-yes test e es (same-self (e .name)))) ∙ s .1)
 
 -- ---- an image that is ours, and longer bytes
 
@@ -99,7 +99,7 @@ module _ (img : List ℕ) (m : Made img) where
   made-found : All (λ (e : Entry). (id : ℕ) × (foundId (lookup img (e .name)) ≡ some id)) (m .puts)
   made-found = all-map (λ e f. (f .0, read .names .name-gives (e .name) ∙ f .1)) (m .puts) (names-first [] (m .puts))
 
-module _ (img : List ℕ) (bytes : Bytes img) (yes : ours img ≡ true) where
+module _ (img : List ℕ) (bytes : AllBytes img) (yes : ours img ≡ true) where
   made : Made img
   made = ours-only img bytes yes
 
@@ -133,7 +133,7 @@ module _ (img : List ℕ) (bytes : Bytes img) (yes : ours img ≡ true) where
           absurd (omega arith)
       cut k h false e = e
 
-      alone : (more : List ℕ) → Bytes (img ++ more) → (more ≡ [] → ⊥) → (r : Bool) → ours (img ++ more) ≡ r → ours (img ++ more) ≡ false
+      alone : (more : List ℕ) → AllBytes (img ++ more) → (more ≡ [] → ⊥) → (r : Bool) → ours (img ++ more) ≡ r → ours (img ++ more) ≡ false
       alone more b d true e = absurd (d (made-alone img more made (ours-only (img ++ more) b e)))
       alone more b d false e = e
 
@@ -145,21 +145,21 @@ ours-made img o =
     rw (o .closes) at (list-made (o .mode) On (o .buffer) (o .room) (putAll (o .puts)) (words (o .mode) (o .puts) each))
 
 -- the names of an image of bytes are bytes
-named-in-bytes : (img : List ℕ) → Bytes img → All (λ (e : Entry). Bytes (e .name)) (putsIn img)
+named-in-bytes : (img : List ℕ) → AllBytes img → All (λ (e : Entry). AllBytes (e .name)) (putsIn img)
 unfolding putsIn
 named-in-bytes img bytes = names-bytes (counted (opening img)) (drop headSize img) (bytes-drop headSize img bytes)
 
-made-ours : (img : List ℕ) → Bytes img → Made img → Ours img
+made-ours : (img : List ℕ) → AllBytes img → Made img → Ours img
 made-ours img bytes m =
-    let names : All (λ (e : Entry). Bytes (e .name)) (m .puts) = rw (made-puts img m) at (named-in-bytes img bytes) in
+    let names : All (λ (e : Entry). AllBytes (e .name)) (m .puts) = rw (made-puts img m) at (named-in-bytes img bytes) in
     record {
       mode = m .mode;
       buffer = img;
       room = made-room img m img (omega arith);
       puts = m .puts;
       each =
-          all-map (λ (e : Entry) (p : Storable e × Bytes (e .name)). record { bytes = p .1; free = p .0 .free; id-word = p .0 .id-word }) (m .puts)
-          (all-both Storable (λ (e : Entry). Bytes (e .name)) (m .puts) (m .each) names);
+          all-map (λ (e : Entry) (p : Storable e × AllBytes (e .name)). record { bytes = p .1; free = p .0 .free; id-word = p .0 .id-word }) (m .puts)
+          (all-both Storable (λ (e : Entry). AllBytes (e .name)) (m .puts) (m .each) names);
       closes = made-closes img m img (omega arith);
     }
 

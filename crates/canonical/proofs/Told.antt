@@ -15,11 +15,11 @@ use Rattle.image.specs.Head.{tableAt, bucketNumber, backSizeAt, backOffsetAt}
 use Rattle.image.specs.Image.{Entry, Placed, headSize, entryBytes, entrySize, placed, ofTable, count, bucketOf, entriesBefore, tableOffset, flagWord, backSize, backIn, backSizeOf, backOffset, entriesEnd, imageSize}
 use Rattle.image.specs.Tables.{Bucket, empty, tableOf}
 use Rattle.image.specs.Tally.{tallied}
-use Rattle.image.proofs.Area.{Bytes, bytes-drop, bytes-take, whole-bytes, length-entriesIn, ids-words}
+use Rattle.image.proofs.EntryArea.{AllBytes, bytes-drop, bytes-take, whole-bytes, length-entriesIn, ids-words}
 use Rattle.image.proofs.At.{At}
-use Rattle.image.proofs.Bools.{first, second}
+use Rattle.image.proofs.Bools.{and-first, and-second}
 use Rattle.image.proofs.EntryAt.{all-placed, ids-below}
-use Rattle.image.proofs.Every.{All, all-map, all-image}
+use Rattle.image.proofs.AllOfList.{All, all-map, all-image}
 use Rattle.image.proofs.Sizes.{length-entries, before-suc}
 use Rattle.writer.proofs.Agree.{zeros, tallied-count}
 use Rattle.image.specs.declared.Mode.{Mode}
@@ -59,7 +59,7 @@ links-of img es Twoway o b p e h =
     (all-placed (λ (x : Entry). x .id < backSize es) headSize es (ids-below es (backSize es) (omega arith)))
     (sym (ap₂ (λ (x : ℕ) (y : ℕ). linksRight Twoway img x y (placed headSize es)) p e) ∙ h)
 
-module _ (img : List ℕ) (n : ℕ) (bytes : Bytes img) (c : Checked img n) where
+module _ (img : List ℕ) (n : ℕ) (bytes : AllBytes img) (c : Checked img n) where
   es : List Entry
   es = entriesOf img n
 
@@ -177,7 +177,7 @@ module _ (img : List ℕ) (n : ℕ) (bytes : Bytes img) (c : Checked img n) wher
       one : (p : Placed) → (entryRight img p ≡ true) × (tableOf (hashOf (p .entry .name)) ≡ t)
           → Stands (2 * count t ps) (bucketsAt img (pos t) (2 * count t ps)) (bucketOf p)
       one p (r, e) =
-          let s = second (not (hasZero (p .entry .name))) (standsIn img (hashOf (p .entry .name)) (p .at)) r in
+          let s = and-second (not (hasZero (p .entry .name))) (standsIn img (hashOf (p .entry .name)) (p .at)) r in
           let d = rw e at (stands-told img (bucketOf p) s) in
           rw (table-read t h, numbers t h) at d
 
@@ -219,7 +219,7 @@ module _ (img : List ℕ) (n : ℕ) (bytes : Bytes img) (c : Checked img n) wher
     puts = es;
     each =
         storable headSize es
-        (all-map (λ p r. first (not (hasZero (p .entry .name))) (standsIn img (hashOf (p .entry .name)) (p .at)) r) ps tests)
+        (all-map (λ p r. and-first (not (hasZero (p .entry .name))) (standsIn img (hashOf (p .entry .name)) (p .at)) r) ps tests)
         (ids-words n (areaIn img n) (bytes-take (endIn img n - headSize) (drop headSize img) (bytes-drop headSize img bytes)));
     fits = omega (arith, total, c .size, word-below img 4 bytes);
     is = in-place-image img mode es bytes in-place;

@@ -10,14 +10,14 @@ use lib.ListN.{length, getD}
 use lib.Dec.{eqb, ltb, leb}
 use borrow.Author.Tests.{eqb-true, eqb-false, eq-eqb, ne-eqb, leb-true, le-leb, not-true}
 use Rattle.jhash.specs.NameHash.{hashOf}
-use Rattle.image.specs.Bytes.{word, keep}
+use Rattle.image.specs.Bytes.{word, filter}
 use Rattle.image.specs.Head.{tableAt, bucketNumber}
 use Rattle.image.specs.Image.{Placed, inTable, ofTable}
-use Rattle.image.specs.Tables.{Bucket, empty, atOf, tableOf, start, order, firstEmpty}
-use Rattle.image.proofs.Bools.{not-both, first, second, both}
-use Rattle.image.proofs.Every.{All}
-use Rattle.image.proofs.Buckets.{length-order}
-use Rattle.lookup_laws.proofs.Order.{order-at}
+use Rattle.image.specs.Tables.{Bucket, empty, atOf, tableOf, start, probeSequence, firstEmpty}
+use Rattle.image.proofs.Bools.{false-not-true, and-first, and-second, and-both}
+use Rattle.image.proofs.AllOfList.{All}
+use Rattle.image.proofs.Buckets.{length-probeSequence}
+use Rattle.lookup_laws.proofs.ProbeSequence.{probeSequence-at}
 use Rattle.masks.specs.steps.Masks.{above, hide, masked, place, selves, Linked}
 use Rattle.masks.proofs.Masked.{getD-masked, place-in}
 use Rattle.masks.proofs.Filled.{first-below}
@@ -55,27 +55,27 @@ module _ (img : List ℕ) (b : Bucket) where
     start-below : start (b .hash) n < n
     start-below = mod-lt (b .hash / 256) some
 
-    in-order : (i : ℕ) → i < length (order n n (start (b .hash) n)) → getD (order n n (start (b .hash) n)) i 0 < n
+    in-order : (i : ℕ) → i < length (probeSequence n n (start (b .hash) n)) → getD (probeSequence n n (start (b .hash) n)) i 0 < n
     in-order i h =
-        let k : i < n = rw (length-order n n (start (b .hash) n)) at h in
-        rw (order-at n n (start (b .hash) n) i start-below k) (mod-lt (start (b .hash) n + i) some)
+        let k : i < n = rw (length-probeSequence n n (start (b .hash) n)) at h in
+        rw (probeSequence-at n n (start (b .hash) n) i start-below k) (mod-lt (start (b .hash) n + i) some)
 
     place-below : place n T b < n
-    place-below = first-below (atOf (masked (b .at) T)) (order n n (start (b .hash) n)) n some in-order
+    place-below = first-below (atOf (masked (b .at) T)) (probeSequence n n (start (b .hash) n)) n some in-order
 
     slot-is : slotIn img (b .hash) (b .at) ≡ o + 8 * place n T b
     unfolding slotIn o n T
     slot-is =
         ap (λ (k : ℕ). o + 8 * k)
-        (sym (first-alike (atOf (masked (b .at) T)) (λ (k : ℕ). hidden (b .at) (word img (o + 8 * k + 4))) (order n n (start (b .hash) n)) each))
+        (sym (first-alike (atOf (masked (b .at) T)) (λ (k : ℕ). hidden (b .at) (word img (o + 8 * k + 4))) (probeSequence n n (start (b .hash) n)) each))
       where
         one : (k : ℕ) → k < n → atOf (masked (b .at) T) k ≡ hidden (b .at) (word img (o + 8 * k + 4))
         one k h =
             ap (λ (x : Bucket). x .at) (getD-masked (b .at) T k ∙ ap (hide (b .at)) (getD-bucketsAt img o n k h)) ∙ hide-at (b .at) (bucketAt img (o + 8 * k))
 
-        each : (i : ℕ) → i < length (order n n (start (b .hash) n))
-            → atOf (masked (b .at) T) (getD (order n n (start (b .hash) n)) i 0) ≡ hidden (b .at) (word img (o + 8 * getD (order n n (start (b .hash) n)) i 0 + 4))
-        each i h = one (getD (order n n (start (b .hash) n)) i 0) (in-order i h)
+        each : (i : ℕ) → i < length (probeSequence n n (start (b .hash) n))
+            → atOf (masked (b .at) T) (getD (probeSequence n n (start (b .hash) n)) i 0) ≡ hidden (b .at) (word img (o + 8 * getD (probeSequence n n (start (b .hash) n)) i 0 + 4))
+        each i h = one (getD (probeSequence n n (start (b .hash) n)) i 0) (in-order i h)
 
     read : getD T (place n T b) empty ≡ bucketAt img (slotIn img (b .hash) (b .at))
     unfolding T o n
@@ -90,8 +90,8 @@ module _ (img : List ℕ) (b : Bucket) where
       let p = not (eqb n 0) in
       let q = eqb (word img s) (b .hash) in
       let r = eqb (word img (s + 4)) (b .at) in
-      let pq = first (p && q) r h in
-      read (positive (first p q pq)) ∙ two (eqb-true (word img s) (b .hash) (second p q pq)) (eqb-true (word img (s + 4)) (b .at) (second (p && q) r h))
+      let pq = and-first (p && q) r h in
+      read (positive (and-first p q pq)) ∙ two (eqb-true (word img s) (b .hash) (and-second p q pq)) (eqb-true (word img (s + 4)) (b .at) (and-second (p && q) r h))
     where
       positive : not (eqb n 0) ≡ true → 0 < n
       positive t =
@@ -118,7 +118,7 @@ module _ (img : List ℕ) (b : Bucket) where
       let p = not (eqb n 0) in
       let q = eqb (word img s) (b .hash) in
       let r = eqb (word img (s + 4)) (b .at) in
-      both (p && q) r (both p q (rw (ne-eqb n 0 (λ z. omega arith))) (eq-eqb (word img s) (b .hash) (ap (λ (x : Bucket). x .hash) f)))
+      and-both (p && q) r (and-both p q (rw (ne-eqb n 0 (λ z. omega arith))) (eq-eqb (word img s) (b .hash) (ap (λ (x : Bucket). x .hash) f)))
       (eq-eqb (word img (s + 4)) (b .at) (ap (λ (x : Bucket). x .at) f))
 
 -- ---- all entries
@@ -127,27 +127,27 @@ pub entries-told : (img : List ℕ) (ps : List Placed) → entriesRight img ps �
 unfolding entriesRight
 entries-told img [] h = tt
 entries-told img (p ∷ ps) h =
-    (first (entryRight img p) (entriesRight img ps) h, entries-told img ps (second (entryRight img p) (entriesRight img ps) h))
+    (and-first (entryRight img p) (entriesRight img ps) h, entries-told img ps (and-second (entryRight img p) (entriesRight img ps) h))
 
 pub entries-test : (img : List ℕ) (ps : List Placed) → All (λ (p : Placed). entryRight img p ≡ true) ps → entriesRight img ps ≡ true
 unfolding entriesRight
 entries-test img [] a = refl
-entries-test img (p ∷ ps) a = both (entryRight img p) (entriesRight img ps) (a .0) (entries-test img ps (a .1))
+entries-test img (p ∷ ps) a = and-both (entryRight img p) (entriesRight img ps) (a .0) (entries-test img ps (a .1))
 
 -- from all entries to those of a table, and back
 pub to-table : (P : Placed → Type 0) (t : ℕ) (ps : List Placed) → All P ps → All (λ (p : Placed). P p × (tableOf (hashOf (p .entry .name)) ≡ t)) (ofTable t ps)
-unfolding ofTable keep
+unfolding ofTable filter
 to-table P t [] a = tt
 to-table P t (p ∷ ps) a = go (inTable t p) refl (to-table P t ps (a .1))
   where
-    go : (b : Bool) → inTable t p ≡ b → All (λ (p : Placed). P p × (tableOf (hashOf (p .entry .name)) ≡ t)) (keep (inTable t) ps)
-        → All (λ (p : Placed). P p × (tableOf (hashOf (p .entry .name)) ≡ t)) (cond b (p ∷ keep (inTable t) ps) (keep (inTable t) ps))
+    go : (b : Bool) → inTable t p ≡ b → All (λ (p : Placed). P p × (tableOf (hashOf (p .entry .name)) ≡ t)) (filter (inTable t) ps)
+        → All (λ (p : Placed). P p × (tableOf (hashOf (p .entry .name)) ≡ t)) (cond b (p ∷ filter (inTable t) ps) (filter (inTable t) ps))
     go true e rest = ((a .0, eqb-true (tableOf (hashOf (p .entry .name))) t e), rest)
     go false e rest = rest
 
 pub from-tables : (Q : ℕ → Placed → Type 0) (ps : List Placed) → ((t : ℕ) → t < 256 → All (Q t) (ofTable t ps))
     → All (λ (p : Placed). Q (tableOf (hashOf (p .entry .name))) p) ps
-unfolding ofTable keep
+unfolding ofTable filter
 from-tables Q [] each = tt
 from-tables Q (p ∷ ps) each =
     (own (inTable h p) (eq-eqb h h refl) (each h (mod-lt (hashOf (p .entry .name)) (omega arith))), from-tables Q ps (λ t l. rest t (inTable t p) (each t l)))
@@ -155,11 +155,11 @@ from-tables Q (p ∷ ps) each =
     h : ℕ
     h = tableOf (hashOf (p .entry .name))
 
-    own : (b : Bool) → b ≡ true → All (Q h) (cond b (p ∷ keep (inTable h) ps) (keep (inTable h) ps)) → Q h p
+    own : (b : Bool) → b ≡ true → All (Q h) (cond b (p ∷ filter (inTable h) ps) (filter (inTable h) ps)) → Q h p
     own true e a = a .0
-    own false e a = absurd (not-both e)
+    own false e a = absurd (false-not-true e)
 
-    rest : (t : ℕ) (b : Bool) → All (Q t) (cond b (p ∷ keep (inTable t) ps) (keep (inTable t) ps)) → All (Q t) (keep (inTable t) ps)
+    rest : (t : ℕ) (b : Bool) → All (Q t) (cond b (p ∷ filter (inTable t) ps) (filter (inTable t) ps)) → All (Q t) (filter (inTable t) ps)
     rest t true a = a .1
     rest t false a = a
 
@@ -185,8 +185,8 @@ module _ (img : List ℕ) (o n : ℕ) where
   ahead-told (p ∷ ps) ids h =
       let w = word img (o + 4 * p .entry .id) in
       let e = getD-wordsAt img o n (p .entry .id) (ids .0) in
-      let l = leb-true (p .at) w (first (leb (p .at) w) (aheadIn img o ps) h) in
-      (omega arith, ahead-told ps (ids .1) (second (leb (p .at) w) (aheadIn img o ps) h))
+      let l = leb-true (p .at) w (and-first (leb (p .at) w) (aheadIn img o ps) h) in
+      (omega arith, ahead-told ps (ids .1) (and-second (leb (p .at) w) (aheadIn img o ps) h))
 
   ahead-test : (ps : List Placed) → All Id ps → All (λ (p : Placed). p .at ≤ getD (wordsAt img o n) (p .entry .id) 0) ps → aheadIn img o ps ≡ true
   unfolding aheadIn
@@ -195,18 +195,18 @@ module _ (img : List ℕ) (o n : ℕ) where
       let w = word img (o + 4 * p .entry .id) in
       let e = getD-wordsAt img o n (p .entry .id) (ids .0) in
       let l = a .0 in
-      both (leb (p .at) w) (aheadIn img o ps) (le-leb (p .at) w (omega arith)) (ahead-test ps (ids .1) (a .1))
+      and-both (leb (p .at) w) (aheadIn img o ps) (le-leb (p .at) w (omega arith)) (ahead-test ps (ids .1) (a .1))
 
   pub links-told : (ps : List Placed) → All Id ps → (aheadIn img o ps && eqb (above 1 (wordsAt img o n)) (selvesIn img o ps)) ≡ true → Linked (wordsAt img o n) ps
   links-told ps ids h =
       let a = aheadIn img o ps in
       let b = eqb (above 1 (wordsAt img o n)) (selvesIn img o ps) in
       record {
-        ahead = ahead-told ps ids (first a b h);
-        used = eqb-true (above 1 (wordsAt img o n)) (selvesIn img o ps) (second a b h) ∙ sym (selves-same ps ids);
+        ahead = ahead-told ps ids (and-first a b h);
+        used = eqb-true (above 1 (wordsAt img o n)) (selvesIn img o ps) (and-second a b h) ∙ sym (selves-same ps ids);
       }
 
   pub links-test : (ps : List Placed) → All Id ps → Linked (wordsAt img o n) ps → (aheadIn img o ps && eqb (above 1 (wordsAt img o n)) (selvesIn img o ps)) ≡ true
   links-test ps ids k =
-      both (aheadIn img o ps) (eqb (above 1 (wordsAt img o n)) (selvesIn img o ps)) (ahead-test ps ids (k .ahead))
+      and-both (aheadIn img o ps) (eqb (above 1 (wordsAt img o n)) (selvesIn img o ps)) (ahead-test ps ids (k .ahead))
       (eq-eqb (above 1 (wordsAt img o n)) (selvesIn img o ps) (k .used ∙ selves-same ps ids))

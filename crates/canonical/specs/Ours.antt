@@ -6,7 +6,7 @@ use mathlib.Core.List.{List, [], _∷_}
 use lib.ListN.{length, drop}
 use lib.Dec.{eqb, leb}
 use Rattle.jhash.specs.Outcome.{Outcome, value, refusal}
-use Rattle.jhash.specs.Word.{Bytes}
+use Rattle.jhash.specs.Word.{AllBytes}
 use Rattle.image.specs.Bytes.{word, same, Each}
 use Rattle.image.specs.Image.{Entry, headSize, imageSize, image}
 use Rattle.image.specs.Stored.{entriesIn}
@@ -16,11 +16,11 @@ use Rattle.image.specs.declared.Mode.the-variants.{Twoway, Oneway}
 use Rattle.reader.specs.Open.{opening}
 use Rattle.writer.specs.declared.Repeats.the-variants.{On}
 use Rattle.lists.specs.Demand3.{imageOf}
-use Rattle.lists.specs.RepeatsOff.{putAll}
+use Rattle.lists.specs.theorems.RepeatsOff.{putAll}
 
 -- a put that a writer can be given and accepts: its name is a string of bytes, none of them zero, its id is a word
 pub record Puttable (e : Entry) : Type 0 where
-  pub bytes : Bytes (e .name)
+  pub bytes : AllBytes (e .name)
   pub free : hasZero (e .name) ≡ false
   pub id-word : e .id < 2 ^ 32
 

@@ -6,7 +6,7 @@ use mathlib.Core.Bool.{true, false}
 use mathlib.Core.List.{List, [], _++_}
 use mathlib.Core.Option.{some}
 use lib.ListN.{length, take}
-use Rattle.jhash.specs.Word.{Bytes}
+use Rattle.jhash.specs.Word.{AllBytes}
 use Rattle.jhash.specs.Outcome.{value}
 use Rattle.image.specs.Bytes.{Each}
 use Rattle.image.specs.Image.{Entry, headSize}
@@ -20,7 +20,7 @@ use Rattle.writer.specs.declared.Repeats.{Repeats}
 use Rattle.writer.specs.declared.Repeats.the-variants.{On}
 use Rattle.lists.specs.Calls.{Call, WordIds}
 use Rattle.lists.specs.Demand3.{acceptedPuts, imageOf}
-use Rattle.lists.specs.RepeatsOff.{putAll}
+use Rattle.lists.specs.theorems.RepeatsOff.{putAll}
 use Rattle.canonical.specs.Ours.{Ours, putsIn, modeIn, ours}
 
 -- ---- an image that is ours
@@ -38,7 +38,7 @@ pub record IsOurs (img : List ℕ) : Type 0 where
   pub made : (buffer : List ℕ) → length img ≤ length buffer
       → (acceptedPuts (modeIn img) On buffer (putAll (putsIn img)) ≡ putsIn img) × (imageOf (modeIn img) On buffer (putAll (putsIn img)) ≡ img)
   -- with one byte or more behind it, or missing at its end, it is not ours
-  pub alone : (more : List ℕ) → Bytes (img ++ more) → (more ≡ [] → ⊥) → ours (img ++ more) ≡ false
+  pub alone : (more : List ℕ) → AllBytes (img ++ more) → (more ≡ [] → ⊥) → ours (img ++ more) ≡ false
   pub cut : (k : ℕ) → k < length img → ours (take k img) ≡ false
 
 -- ---- the image of a list of calls, which may hold refused puts and closes, with either choice of 02 (viii)
@@ -51,8 +51,8 @@ pub record OfList (mode : Mode) (repeats : Repeats) (buffer : List ℕ) (cs : Li
 
 pub record Theorem : Type 0 where
   -- a yes exactly when the bytes are the image of some list of puts
-  pub exactly : (img : List ℕ) → Bytes img → (ours img ≡ true) ↔ Ours img
-  pub holds : (img : List ℕ) → Bytes img → ours img ≡ true → IsOurs img
+  pub exactly : (img : List ℕ) → AllBytes img → (ours img ≡ true) ↔ Ours img
+  pub holds : (img : List ℕ) → AllBytes img → ours img ≡ true → IsOurs img
   pub of-list : (mode : Mode) (repeats : Repeats) (buffer : List ℕ) (cs : List Call) → headSize ≤ length buffer → WordIds mode cs
       → OfList mode repeats buffer cs
   -- two different lists of accepted puts in a given direction never close to the same image, whatever their buffers and their choices of 02 (viii)

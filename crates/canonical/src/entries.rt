@@ -7,7 +7,7 @@ ghost use lib.ListN.{length, getD};
 ghost use Rattle.image.specs.Bytes.{word};
 ghost use Rattle.image.specs.Image.{backSize};
 ghost use Rattle.image.specs.Stored.{whole, entriesIn, between};
-ghost use Rattle.image.specs.Tables.{order, firstEmpty};
+ghost use Rattle.image.specs.Tables.{probeSequence, firstEmpty};
 ghost use Rattle.image.specs.Tally.{tallied};
 ghost use Rattle.jhash.specs.NameHash.{hashOf};
 ghost use Rattle.canonical.specs.steps.Noted.{firstPlace};
@@ -32,7 +32,7 @@ fn hide(at: u32, w: u32) -> u32
 // The first of the n buckets at o, from bucket k on, that no entry before `at` has; bucket 0 where there is none.
 fn first_free(image: &[u8], o: usize, n: usize, k: usize, at: u32) -> usize
     requires { ⌜ (k < n) × (o < 4294967296) × (n < 4294967296) ⌝ }
-    ensures { λ r. ⌜ (r ≡ firstEmpty (λ (i : ℕ). hidden at (word (now (image .entry)) (o + 8 * i + 4))) (order n n k)) × (r < n) ⌝ }
+    ensures { λ r. ⌜ (r ≡ firstEmpty (λ (i : ℕ). hidden at (word (now (image .entry)) (o + 8 * i + 4))) (probeSequence n n k)) × (r < n) ⌝ }
 {
     let mut i = k;
     let mut left = n;

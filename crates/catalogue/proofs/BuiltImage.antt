@@ -14,7 +14,7 @@ use Rattle.writer.specs.declared.CQDBWriter.{CQDBWriter}
 use Rattle.lists.specs.Calls.{after}
 use Rattle.image.proofs.Sizes.{length-image}
 use Rattle.lists.proofs.Appended.{sizeOf-is}
-use Rattle.lists.proofs.Along.{two-way, list-begins, list-counts, list-written}
+use Rattle.lists.proofs.CallLists.{two-way, list-begins, list-counts, list-written}
 use Rattle.lists.proofs.OneMoreClose.{list-gives, list-formula, list-image}
 use Rattle.lines.specs.Lines.{inputCalls, afterInput}
 use Rattle.catalogue.specs.Left.{putsOf, Left, Built}

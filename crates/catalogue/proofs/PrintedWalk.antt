@@ -6,13 +6,13 @@ use mathlib.Core.List.{List, [], _∷_}
 use mathlib.Core.Option.{Option}
 use lib.ListN.{length, replicate, length-replicate}
 use lib.Dec.{lit≤}
-use Rattle.image.specs.Bytes.{keep, same}
+use Rattle.image.specs.Bytes.{filter, same}
 use Rattle.image.specs.declared.Mode.the-variants.{Twoway}
 use Rattle.image.specs.Zero.{hasZero}
-use Rattle.image.specs.Image.{Entry, headSize, backSize, holds, image}
+use Rattle.image.specs.Image.{Entry, headSize, backSize, containsName, image}
 use Rattle.reader.specs.Naming.{Naming, place, unnamed, naming}
 use Rattle.reader.specs.IdWalk.{stepOf, step}
-use Rattle.lookup_laws.specs.Answer.{heldAt, nameGiven, ofId, lastName}
+use Rattle.lookup_laws.specs.Answer.{bytesAt, nameGiven, ofId, lastName}
 use Rattle.writer.specs.declared.Repeats.the-variants.{Off}
 use Rattle.writer.specs.Put.{entryOf}
 use Rattle.lists.specs.Calls.{Call, putDue, acceptedFrom, accepted, putsSize, sizeOf}
@@ -22,7 +22,7 @@ use Rattle.catalogue.specs.Left.{putsOf}
 use Rattle.catalogue.specs.theorems.Printed.{itemBy, items, namedBy, itemsOf, example, repeatedLines, Demonstration}
 
 -- one step, by what naming answers
-item-named : (img : List ℕ) (n : ℕ) (x : Naming) (rest : List Entry) → itemBy img (stepOf n x) rest ≡ namedBy n (heldAt img x) rest
+item-named : (img : List ℕ) (n : ℕ) (x : Naming) (rest : List Entry) → itemBy img (stepOf n x) rest ≡ namedBy n (bytesAt img x) rest
 item-named img n (place s l) rest = refl
 item-named img n unnamed rest = refl
 
@@ -57,11 +57,11 @@ puts : List Entry
 puts = entryOf (65 ∷ []) 0 ∷ entryOf (66 ∷ []) 3 ∷ entryOf (67 ∷ []) 0 ∷ []
 
 example-puts : putsOf 65536 example ≡ puts
-unfolding puts putsOf inputCalls linesOf withByte linesCalls lineCalls parseLine leadingDigits numberFrom accepted acceptedFrom putDue hasZero holds same sizeOf putsSize backSize
+unfolding puts putsOf inputCalls linesOf withByte linesCalls lineCalls parseLine leadingDigits numberFrom accepted acceptedFrom putDue hasZero containsName same sizeOf putsSize backSize
 example-puts = refl
 
 repeated-puts : putsOf 65536 repeatedLines ≡ entryOf (65 ∷ []) 0 ∷ entryOf (66 ∷ []) 2 ∷ []
-unfolding putsOf inputCalls linesOf withByte linesCalls lineCalls parseLine leadingDigits numberFrom accepted acceptedFrom putDue hasZero holds same sizeOf putsSize backSize
+unfolding putsOf inputCalls linesOf withByte linesCalls lineCalls parseLine leadingDigits numberFrom accepted acceptedFrom putDue hasZero containsName same sizeOf putsSize backSize
 repeated-puts = refl
 
 example-size : sizeOf Twoway puts ≡ 2166
@@ -69,7 +69,7 @@ unfolding puts sizeOf putsSize backSize
 example-size = refl
 
 example-walk : (m : ℕ) → itemsOf puts 0 (suc (suc m)) ≡ entryOf (67 ∷ []) 0 ∷ []
-unfolding puts itemsOf ofId keep
+unfolding puts itemsOf ofId filter
 example-walk m = refl
 
 pub demonstration : Demonstration

@@ -9,10 +9,10 @@ use mathlib.Core.Option.{Option, none, some}
 use borrow.Author.Tests.{eq-eqb, ne-eqb, eqb-false}
 use lib.Dec.{eqb}
 use lib.ListN.{take, drop}
-use Rattle.reader.specs.Naming.{Naming, place, unnamed, naming, heldAt, nameGiven}
+use Rattle.reader.specs.Naming.{Naming, place, unnamed, naming, bytesAt, nameGiven}
 use Rattle.reader.specs.Lookup.{Lookup, found, nothing, lookup}
 use Rattle.reader.specs.declared.Found.{Found}
-use Rattle.reader.proofs.FoundAt.{found-stands}
+use Rattle.reader.proofs.FoundAt.{found-at-offset}
 use Rattle.changes.specs.Moves.{otherId, movedName, moved}
 use Rattle.changes.specs.theorems.Theorem.{MovesTo}
 use Rattle.changes.proofs.Search.{none-some}
@@ -32,10 +32,10 @@ pub moved-named : (old new : List ℕ) (id s n : ℕ) (x : Option ℕ) → place
     → x ≡ otherId id (lookup new (take (s + n - s) (drop s old))) → x ≡ moved old new id
 moved-named old new id s n x e h =
     let k : s + n - s ≡ n = omega arith in
-    h ∙ ap (λ (l : ℕ). otherId id (lookup new (take l (drop s old)))) k ∙ ap (λ (a : Naming). movedName new id (heldAt old a)) e
+    h ∙ ap (λ (l : ℕ). otherId id (lookup new (take l (drop s old)))) k ∙ ap (λ (a : Naming). movedName new id (bytesAt old a)) e
 
 pub moved-unnamed : (old new : List ℕ) (id : ℕ) → unnamed ≡ naming old id → none ≡ moved old new id
-moved-unnamed old new id e = ap (λ (a : Naming). movedName new id (heldAt old a)) e
+moved-unnamed old new id e = ap (λ (a : Naming). movedName new id (bytesAt old a)) e
 
 -- ---- what an answer is
 
@@ -43,7 +43,7 @@ module _ (old new : List ℕ) (id other : ℕ) where
   moves-to : (name : List ℕ) (f : Found) → nameGiven old id ≡ some name → lookup new name ≡ found f → (f .id ≡ id → ⊥) → f .id ≡ other
       → MovesTo old new id other
   moves-to name f g l n e =
-      let s = found-stands new name f l in
+      let s = found-at-offset new name f l in
       record {
         name = name;
         at = f;

@@ -11,18 +11,18 @@ use lib.Dec.{leb}
 use lib.ListN.{take, drop}
 use Rattle.image.specs.Bytes.{word, same}
 use Rattle.image.specs.Head.{backSizeAt, backOffsetAt}
-use Rattle.image.proofs.Bools.{not-both}
+use Rattle.image.proofs.Bools.{false-not-true}
 use Rattle.image.proofs.Equal.{same-self, same-true}
-use Rattle.reader.specs.Naming.{Naming, place, unnamed, noBack, namingAt, naming, heldAt, nameGiven}
+use Rattle.reader.specs.Naming.{Naming, place, unnamed, noBack, namingAt, naming, bytesAt, nameGiven}
 use Rattle.reader.specs.IdWalk.{upperHint}
 use Rattle.changes.specs.Changes.{upper, sameNames, differs}
 
 -- ---- the test by the two namings
 
 differs-by : (old new : List ℕ) (id : ℕ) (a b : Naming) → a ≡ naming old id → b ≡ naming new id
-    → not (sameNames (heldAt old a) (heldAt new b)) ≡ differs old new id
+    → not (sameNames (bytesAt old a) (bytesAt new b)) ≡ differs old new id
 unfolding differs
-differs-by old new id a b e f = λ i. not (sameNames (heldAt old (e i)) (heldAt new (f i)))
+differs-by old new id a b e f = λ i. not (sameNames (bytesAt old (e i)) (bytesAt new (f i)))
 
 -- two names: their bytes decide
 pub both-named : (old new : List ℕ) (id s n t m : ℕ) (r : Bool) → place s n ≡ naming old id → place t m ≡ naming new id
@@ -53,8 +53,8 @@ equal-same a b e = ap (sameNames a) (sym e) ∙ same-names-self a
 
 same-equal : (a b : Option (List ℕ)) → sameNames a b ≡ true → a ≡ b
 same-equal none none e = refl
-same-equal none (some b) e = absurd (not-both e)
-same-equal (some a) none e = absurd (not-both e)
+same-equal none (some b) e = absurd (false-not-true e)
+same-equal (some a) none e = absurd (false-not-true e)
 same-equal (some a) (some b) e = ap some (same-true a b e)
 
 pub alike-exactly : (old new : List ℕ) (id : ℕ) → (differs old new id ≡ false) ↔ (nameGiven old id ≡ nameGiven new id)
@@ -63,7 +63,7 @@ alike-exactly old new id =
     ((λ e. same-equal (nameGiven old id) (nameGiven new id) (not-false _ e)), (λ e. ap not (equal-same (nameGiven old id) (nameGiven new id) e)))
 
 pub differs-exactly : (old new : List ℕ) (id : ℕ) → (differs old new id ≡ true) ↔ ¬ (nameGiven old id ≡ nameGiven new id)
-differs-exactly old new id = ((λ e q. not-both (sym (alike-exactly old new id .1 q) ∙ e)), (λ h. go h (differs old new id) refl))
+differs-exactly old new id = ((λ e q. false-not-true (sym (alike-exactly old new id .1 q) ∙ e)), (λ h. go h (differs old new id) refl))
   where
     go : ¬ (nameGiven old id ≡ nameGiven new id) → (t : Bool) → differs old new id ≡ t → t ≡ true
     go h true e = refl
@@ -76,8 +76,8 @@ same-names-sym a b = go (sameNames a b) (sameNames b a) refl refl
     go : (s t : Bool) → sameNames a b ≡ s → sameNames b a ≡ t → s ≡ t
     go true true p q = refl
     go false false p q = refl
-    go true false p q = absurd (not-both (sym q ∙ equal-same b a (sym (same-equal a b p))))
-    go false true p q = absurd (not-both (sym p ∙ equal-same a b (sym (same-equal b a q))))
+    go true false p q = absurd (false-not-true (sym q ∙ equal-same b a (sym (same-equal a b p))))
+    go false true p q = absurd (false-not-true (sym p ∙ equal-same a b (sym (same-equal b a q))))
 
 pub differs-sym : (old new : List ℕ) (id : ℕ) → differs new old id ≡ differs old new id
 unfolding differs
@@ -118,4 +118,4 @@ above image id h = go (noBack image) h
 
 pub none-above : (old new : List ℕ) (id : ℕ) → upper old new ≤ id → (nameGiven old id ≡ none) × (nameGiven new id ≡ none)
 unfolding upper
-none-above old new id h = (ap (heldAt old) (above old id (omega (arith, h))), ap (heldAt new) (above new id (omega (arith, h))))
+none-above old new id h = (ap (bytesAt old) (above old id (omega (arith, h))), ap (bytesAt new) (above new id (omega (arith, h))))

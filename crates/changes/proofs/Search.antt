@@ -7,8 +7,8 @@ use mathlib.Core.Path.{_≡_, refl, sym, ap, _∙_}
 use mathlib.Core.Bool.{Bool, true, false}
 use mathlib.Core.List.{List, [], _∷_}
 use mathlib.Core.Option.{Option, none, some}
-use Rattle.image.specs.Bytes.{keep, range}
-use Rattle.image.proofs.Lists.{keep-yes, keep-no}
+use Rattle.image.specs.Bytes.{filter, range}
+use Rattle.image.proofs.Lists.{filter-yes, filter-no}
 use Rattle.reader.specs.Naming.{Naming, naming}
 use Rattle.changes.specs.Changes.{upper, differs, firstAmong, firstChange, Change, changed, unchanged, changeAt, nextChange}
 use Rattle.changes.specs.theorems.Theorem.{calls}
@@ -123,19 +123,19 @@ module _ (old new : List ℕ) where
 
   -- the ids that differ, of m ids from `from` on
   abbrev kept : ℕ → ℕ → List ℕ
-  kept from m = keep (differs old new) (range from m)
+  kept from m = filter (differs old new) (range from m)
 
   kept-yes : (from m : ℕ) → differs old new from ≡ true → kept from (suc m) ≡ from ∷ kept (from + 1) m
   unfolding range
   kept-yes from m d =
-      keep-yes (differs old new) from (range (suc from) m) d ∙ ap (λ (k : ℕ). from ∷ kept k m) (sym (add-one from))
+      filter-yes (differs old new) from (range (suc from) m) d ∙ ap (λ (k : ℕ). from ∷ kept k m) (sym (add-one from))
 
   kept-no : (from m : ℕ) → differs old new from ≡ false → kept from (suc m) ≡ kept (from + 1) m
   unfolding range
-  kept-no from m d = keep-no (differs old new) from (range (suc from) m) d ∙ ap (λ (k : ℕ). kept k m) (sym (add-one from))
+  kept-no from m d = filter-no (differs old new) from (range (suc from) m) d ∙ ap (λ (k : ℕ). kept k m) (sym (add-one from))
 
   kept-none : (m from : ℕ) → ((i : ℕ) → from ≤ i → i < from + m → differs old new i ≡ false) → kept from m ≡ []
-  unfolding range keep
+  unfolding range filter
   kept-none zero from h = refl
   kept-none (suc m) from h =
       kept-no from m (h from (omega arith) (omega arith)) ∙ kept-none m (from + 1) (λ i p q. h i (omega arith) (omega arith))
@@ -162,7 +162,7 @@ module _ (old new : List ℕ) where
       ]
 
   pub lists-changes : (m from : ℕ) → upper old new - from ≤ m → calls old new from m ≡ kept from (upper old new - from)
-  unfolding calls range keep
+  unfolding calls range filter
   lists-changes zero from h =
       let e : 0 ≡ upper old new - from = omega arith in
       ap (kept from) e

@@ -8,52 +8,52 @@ use mathlib.Core.List.{List, [], _∷_}
 use lib.Dec.{ltb, leb}
 use lib.ListN.{length, take, drop}
 use Rattle.jhash.specs.NameHash.{hashOf}
-use Rattle.image.specs.Tables.{tableOf, start, order}
+use Rattle.image.specs.Tables.{tableOf, start, probeSequence}
 use Rattle.image.specs.Head.{tableAt, bucketNumber}
-use Rattle.image.proofs.Bools.{not-both}
-use Rattle.reader.specs.Lookup.{Lookup, nothing, Seen, pass, ends, hit, see, decide, probe, searchTable, unsearched, lookupHash, lookup}
-use Rattle.consistency.specs.Meets.{Met, met, over, meet, meetAlong, metIn, metHash, entriesMet, firstMet, someMet, readsMet}
+use Rattle.image.proofs.Bools.{false-not-true}
+use Rattle.reader.specs.Lookup.{Lookup, nothing, Probe, pass, ends, hit, probeBucket, decide, searchAlong, searchTable, unsearched, lookupHash, lookup}
+use Rattle.consistency.specs.Matches.{Matches, matched, ended, addMatch, matchesAlong, matchesIn, matchesByHash, matchesOf, firstMatch, anyMatch, matchReads}
 use Rattle.reader.specs.Naming.{Naming, place, unnamed, naming}
 use Rattle.consistency.specs.Home.{homeBy, home}
-use Rattle.consistency.specs.Homes.{finds, homeByFirst, Homes}
-use Rattle.image.proofs.Buckets.{length-order}
+use Rattle.consistency.specs.theorems.Homes.{finds, homeByFirst, Homes}
+use Rattle.image.proofs.Buckets.{length-probeSequence}
 
 -- ---- the first of them
 
-decide-first : (s : Seen) (r : ℕ) (rest : Met) → decide s r (firstMet rest) ≡ firstMet (meet s r rest)
+decide-first : (s : Probe) (r : ℕ) (rest : Matches) → decide s r (firstMatch rest) ≡ firstMatch (addMatch s r rest)
 decide-first pass r rest = refl
 decide-first ends r rest = refl
 decide-first (hit h) r rest = refl
 
-probe-first : (look : ℕ → Seen) (ks : List ℕ) (r : ℕ) → probe look ks r ≡ firstMet (meetAlong look ks r)
-unfolding probe meetAlong
+probe-first : (look : ℕ → Probe) (ks : List ℕ) (r : ℕ) → searchAlong look ks r ≡ firstMatch (matchesAlong look ks r)
+unfolding searchAlong matchesAlong
 probe-first look [] r = refl
-probe-first look (k ∷ ks) r = ap (decide (look k) (r + 1)) (probe-first look ks (r + 1)) ∙ decide-first (look k) (r + 1) (meetAlong look ks (r + 1))
+probe-first look (k ∷ ks) r = ap (decide (look k) (r + 1)) (probe-first look ks (r + 1)) ∙ decide-first (look k) (r + 1) (matchesAlong look ks (r + 1))
 
-search-first : (image name : List ℕ) (h o n : ℕ) → searchTable image name h o n ≡ firstMet (metIn image name h o n)
-unfolding searchTable metIn
-search-first image name h o n = probe-first (λ (k : ℕ). see image name h (o + 8 * k)) (order n n (start h n)) 0
+search-first : (image name : List ℕ) (h o n : ℕ) → searchTable image name h o n ≡ firstMatch (matchesIn image name h o n)
+unfolding searchTable matchesIn
+search-first image name h o n = probe-first (λ (k : ℕ). probeBucket image name h (o + 8 * k)) (probeSequence n n (start h n)) 0
 
-unless-first : (b : Bool) (l : Lookup) (m : Met) → l ≡ firstMet m → cond b (nothing 0) l ≡ firstMet (cond b (over 0) m)
+unless-first : (b : Bool) (l : Lookup) (m : Matches) → l ≡ firstMatch m → cond b (nothing 0) l ≡ firstMatch (cond b (ended 0) m)
 unless-first true l m e = refl
 unless-first false l m e = e
 
-pub lookup-first : (image name : List ℕ) → lookup image name ≡ firstMet (entriesMet image name)
-unfolding lookup lookupHash entriesMet metHash
+pub lookup-first : (image name : List ℕ) → lookup image name ≡ firstMatch (matchesOf image name)
+unfolding lookup lookupHash matchesOf matchesByHash
 lookup-first image name =
     let h = hashOf name in
     let t = tableOf h in
     unless-first (ltb (length image) 2072) (cond (leb 4294967295 (length name)) (nothing 0) (lookupHash image name h))
-    (cond (leb 4294967295 (length name)) (over 0) (metHash image name h))
-    (unless-first (leb 4294967295 (length name)) (lookupHash image name h) (metHash image name h)
+    (cond (leb 4294967295 (length name)) (ended 0) (matchesByHash image name h))
+    (unless-first (leb 4294967295 (length name)) (lookupHash image name h) (matchesByHash image name h)
     (unless-first (unsearched image t) (searchTable image name h (tableAt image t) (bucketNumber image t))
-    (metIn image name h (tableAt image t) (bucketNumber image t)) (search-first image name h (tableAt image t) (bucketNumber image t))))
+    (matchesIn image name h (tableAt image t) (bucketNumber image t)) (search-first image name h (tableAt image t) (bucketNumber image t))))
 
 -- ---- who was home is home
 
-finds-some : (id : ℕ) (m : Met) → finds id (firstMet m) ≡ true → someMet id m ≡ true
-finds-some id (met f rest) e = ap (λ (b : Bool). b || someMet id rest) e
-finds-some id (over r) e = absurd (not-both e)
+finds-some : (id : ℕ) (m : Matches) → finds id (firstMatch m) ≡ true → anyMatch id m ≡ true
+finds-some id (matched f rest) e = ap (λ (b : Bool). b || anyMatch id rest) e
+finds-some id (ended r) e = absurd (false-not-true e)
 
 still-home : (image : List ℕ) (id : ℕ) → homeByFirst image id (naming image id) ≡ true → home image id ≡ true
 unfolding home
@@ -62,29 +62,29 @@ still-home image id = go (naming image id)
     go : (p : Naming) → homeByFirst image id p ≡ true → homeBy image id p ≡ true
     go (place s n) e =
         let name = take n (drop s image) in
-        finds-some id (entriesMet image name) (sym (ap (finds id) (lookup-first image name)) ∙ e)
-    go unnamed e = absurd (not-both e)
+        finds-some id (matchesOf image name) (sym (ap (finds id) (lookup-first image name)) ∙ e)
+    go unnamed e = absurd (false-not-true e)
 
 -- ---- how many buckets the search reads
 
-reads-along : (look : ℕ → Seen) (ks : List ℕ) (r : ℕ) → readsMet (meetAlong look ks r) ≤ r + length ks
-unfolding meetAlong
+reads-along : (look : ℕ → Probe) (ks : List ℕ) (r : ℕ) → matchReads (matchesAlong look ks r) ≤ r + length ks
+unfolding matchesAlong
 reads-along look [] r = omega arith
 reads-along look (k ∷ ks) r = seen (look k) (reads-along look ks (r + 1))
   where
-    seen : (s : Seen) → readsMet (meetAlong look ks (r + 1)) ≤ r + 1 + length ks
-        → readsMet (meet s (r + 1) (meetAlong look ks (r + 1))) ≤ r + suc (length ks)
+    seen : (s : Probe) → matchReads (matchesAlong look ks (r + 1)) ≤ r + 1 + length ks
+        → matchReads (addMatch s (r + 1) (matchesAlong look ks (r + 1))) ≤ r + suc (length ks)
     seen pass h = omega arith
     seen ends h = omega arith
     seen (hit x) h = omega arith
 
-one-pass : (image name : List ℕ) → readsMet (entriesMet image name) ≤ bucketNumber image (tableOf (hashOf name))
-unfolding entriesMet metHash metIn
+one-pass : (image name : List ℕ) → matchReads (matchesOf image name) ≤ bucketNumber image (tableOf (hashOf name))
+unfolding matchesOf matchesByHash matchesIn
 one-pass image name =
-    either (ltb (length image) 2072) (cond (leb 4294967295 (length name)) (over 0) (metHash image name (hashOf name)))
-    (either (leb 4294967295 (length name)) (metHash image name (hashOf name))
-    (either (unsearched image t) (metIn image name (hashOf name) (tableAt image t) n)
-    (omega (arith, reads-along look (order n n (start (hashOf name) n)) 0, length-order n n (start (hashOf name) n)))))
+    either (ltb (length image) 2072) (cond (leb 4294967295 (length name)) (ended 0) (matchesByHash image name (hashOf name)))
+    (either (leb 4294967295 (length name)) (matchesByHash image name (hashOf name))
+    (either (unsearched image t) (matchesIn image name (hashOf name) (tableAt image t) n)
+    (omega (arith, reads-along look (probeSequence n n (start (hashOf name) n)) 0, length-probeSequence n n (start (hashOf name) n)))))
   where
     t : ℕ
     t = tableOf (hashOf name)
@@ -92,10 +92,10 @@ one-pass image name =
     n : ℕ
     n = bucketNumber image t
 
-    look : ℕ → Seen
-    look k = see image name (hashOf name) (tableAt image t + 8 * k)
+    look : ℕ → Probe
+    look k = probeBucket image name (hashOf name) (tableAt image t + 8 * k)
 
-    either : (b : Bool) (m : Met) → readsMet m ≤ n → readsMet (cond b (over 0) m) ≤ n
+    either : (b : Bool) (m : Matches) → matchReads m ≤ n → matchReads (cond b (ended 0) m) ≤ n
     either true m h = zero-le
     either false m h = h
 

@@ -9,7 +9,7 @@ use lib.Seq.{take-take}
 use Rattle.image.specs.Bytes.{same, all}
 use Rattle.image.specs.Head.{backSizeAt}
 use Rattle.image.specs.Zero.{hasZero, beforeZero}
-use Rattle.image.proofs.All.{all-true, all-turn}
+use Rattle.image.proofs.AllOfRange.{all-true, all-step}
 use Rattle.image.proofs.Zeros.{before-front, before-short, before-free, before-longest, before-all, before-less, readings-same}
 use Rattle.reader.specs.Naming.{Naming, place, unnamed, noBack, naming}
 use Rattle.consistency.specs.Panel.{cutAtZero, panel, reading, LongestFront, PanelReads, agreeOn, readingsAgree}
@@ -23,9 +23,9 @@ module _ (image : List ℕ) (id : ℕ) where
     unfolding panel
     panel-named k h = ap (place s) h ∙ ap (cutAtZero image) e
 
-    pub agree-held : (z : Bool) → z ≡ hasZero (take n (drop s image)) → not z ≡ agreeOn image id
+    pub agree-named : (z : Bool) → z ≡ hasZero (take n (drop s image)) → not z ≡ agreeOn image id
     unfolding panel
-    agree-held z h =
+    agree-named z h =
         let name = take n (drop s image) in
         let k = length (beforeZero name) in
         let short : k ≤ n = omega (arith, before-short name, length-take n (drop s image)) in
@@ -40,18 +40,18 @@ module _ (image : List ℕ) (id : ℕ) where
     name-long inside = omega (arith, length-take n (drop s image), length-drop s image)
 
     module _ (inside : s + n ≤ length image) (r : ℕ) (er : r ≡ length (beforeZero (take n (drop s image)))) where
-      pub look-agrees : r ≡ n → id + 1 ≡ cond (agreeOn image id) (id + 1) 0
-      look-agrees h = go (hasZero (take n (drop s image))) refl
+      pub agree-step-same : r ≡ n → id + 1 ≡ cond (agreeOn image id) (id + 1) 0
+      agree-step-same h = go (hasZero (take n (drop s image))) refl
         where
           go : (z : Bool) → hasZero (take n (drop s image)) ≡ z → id + 1 ≡ cond (agreeOn image id) (id + 1) 0
           go true q = let less = before-less (take n (drop s image)) q in let long = name-long inside in absurd (omega arith)
-          go false q = ap (λ (t : Bool). cond t (id + 1) 0) (agree-held false (sym q))
+          go false q = ap (λ (t : Bool). cond t (id + 1) 0) (agree-named false (sym q))
 
-      pub look-differs : (r ≡ n → ⊥) → 0 ≡ cond (agreeOn image id) (id + 1) 0
-      look-differs h = go (hasZero (take n (drop s image))) refl
+      pub agree-step-differs : (r ≡ n → ⊥) → 0 ≡ cond (agreeOn image id) (id + 1) 0
+      agree-step-differs h = go (hasZero (take n (drop s image))) refl
         where
           go : (z : Bool) → hasZero (take n (drop s image)) ≡ z → 0 ≡ cond (agreeOn image id) (id + 1) 0
-          go true q = ap (λ (t : Bool). cond t (id + 1) 0) (agree-held true (sym q))
+          go true q = ap (λ (t : Bool). cond t (id + 1) 0) (agree-named true (sym q))
           go false q = absurd (h (er ∙ before-all (take n (drop s image)) q ∙ name-long inside))
 
   -- one that has none
@@ -109,23 +109,23 @@ agree-without image h = all-true (agreeOn image) 0 (backSizeAt image) (λ i p. s
 
 module _ (image : List ℕ) (n id : ℕ) (less : id < n) where
   pub disagree : agreeOn image id ≡ false → all (agreeOn image) id (n - id) ≡ false
-  disagree h = all-turn (agreeOn image) id n less ∙ ap (λ (b : Bool). b && all (agreeOn image) (id + 1) (n - (id + 1))) h
+  disagree h = all-step (agreeOn image) id n less ∙ ap (λ (b : Bool). b && all (agreeOn image) (id + 1) (n - (id + 1))) h
 
   pub agree-further : agreeOn image id ≡ true → all (agreeOn image) (id + 1) (n - (id + 1)) ≡ all (agreeOn image) id (n - id)
-  agree-further h = sym (all-turn (agreeOn image) id n less ∙ ap (λ (b : Bool). b && all (agreeOn image) (id + 1) (n - (id + 1))) h)
+  agree-further h = sym (all-step (agreeOn image) id n less ∙ ap (λ (b : Bool). b && all (agreeOn image) (id + 1) (n - (id + 1))) h)
 
 -- a look at an id gives the next id exactly where both readings agree on it, else 0
-pub looked-off : (b : Bool) (id next : ℕ) → next ≡ cond b (id + 1) 0 → next ≡ 0 → b ≡ false
-looked-off true id next e h = absurd (omega arith)
-looked-off false id next e h = refl
+pub agree-step-zero : (b : Bool) (id next : ℕ) → next ≡ cond b (id + 1) 0 → next ≡ 0 → b ≡ false
+agree-step-zero true id next e h = absurd (omega arith)
+agree-step-zero false id next e h = refl
 
-pub looked-on : (b : Bool) (id next : ℕ) → next ≡ cond b (id + 1) 0 → (next ≡ 0 → ⊥) → b ≡ true
-looked-on true id next e h = refl
-looked-on false id next e h = absurd (h e)
+pub agree-step-nonzero : (b : Bool) (id next : ℕ) → next ≡ cond b (id + 1) 0 → (next ≡ 0 → ⊥) → b ≡ true
+agree-step-nonzero true id next e h = refl
+agree-step-nonzero false id next e h = absurd (h e)
 
-pub looked-next : (b : Bool) (id next : ℕ) → next ≡ cond b (id + 1) 0 → (next ≡ 0 → ⊥) → next ≡ id + 1
-looked-next true id next e h = e
-looked-next false id next e h = absurd (h e)
+pub agree-step-next : (b : Bool) (id next : ℕ) → next ≡ cond b (id + 1) 0 → (next ≡ 0 → ⊥) → next ≡ id + 1
+agree-step-next true id next e h = e
+agree-step-next false id next e h = absurd (h e)
 
 -- what the hint at id 0 leaves to look at
 pub agree-hinted : (image : List ℕ) (n : ℕ) → n ≡ upperHint image 0 → all (agreeOn image) 0 n ≡ readingsAgree image

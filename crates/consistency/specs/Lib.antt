@@ -1,5 +1,5 @@
 -- Whether an image agrees with itself: whether an id's name leads back to it, and whether the panel reads whole names.
-pub mod Meets
+pub mod Matches
 pub mod Home
-pub mod Homes
 pub mod Panel
+pub mod theorems

@@ -7,8 +7,8 @@ use lib.ListN.{length, take, drop}
 use Rattle.image.specs.Bytes.{same, all}
 use Rattle.image.specs.Head.{backSizeAt}
 use Rattle.image.specs.Zero.{hasZero, beforeZero}
-use Rattle.reader.specs.Slices.{Slice, part}
-use Rattle.reader.specs.Naming.{Naming, place, unnamed, naming, partOr}
+use Rattle.reader.specs.Slices.{Slice, subslice}
+use Rattle.reader.specs.Naming.{Naming, place, unnamed, naming, sliceOr}
 
 -- the panel reads names as C strings: the name up to its first zero byte or else its end
 abbrev pub cutAtZero : List ℕ → Naming → Naming
@@ -20,8 +20,8 @@ unfoldable pub panel : List ℕ → ℕ → Naming
 panel image id = cutAtZero image (naming image id)
 
 -- as a returned part of the lent image, empty if nothing
-abbrev pub panelPart : Slice → ℕ → Slice
-panelPart image id = partOr image (part image 0 0) (panel (image .bytes) id)
+abbrev pub panelSlice : Slice → ℕ → Slice
+panelSlice image id = sliceOr image (subslice image 0 0) (panel (image .bytes) id)
 
 -- the bytes of a reading: those at its place, none where there is no name
 abbrev pub reading : List ℕ → Naming → List ℕ

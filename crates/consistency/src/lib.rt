@@ -2,11 +2,11 @@
 // whether the panel, which reads names as C strings, reads whole names. No call has a `requires`.
 ghost use mathlib.Core.Path.{_≡_};
 ghost use Rattle.consistency.specs.Home.{home};
-use meeting::meets;
+use matching::has_match;
 use reader::Named;
 use reader::to_str;
 
-mod meeting; // meeting.rt: the search of the home check, past an equal name
+mod matching; // matching.rt: the search of the home check, past an equal name
 pub mod panel; // panel.rt: panel, panel_place, readings_agree
 
 pub use panel::readings_agree;
@@ -18,7 +18,7 @@ pub fn home(image: &[u8], id: u32) -> bool
     match to_str(image, id) {
         Named::Place { start, len } => {
             let end = start + len;
-            meets(image, &image[start..end], id)
+            has_match(image, &image[start..end], id)
         }
         Named::Nothing => false,
     }

@@ -5,7 +5,7 @@ ghost use Prim.Native.Nat.{_+_, _<_, _≤_};
 ghost use lib.ListN.{length, take, drop};
 ghost use Rattle.image.specs.Zero.{beforeZero};
 ghost use Rattle.reader.specs.Slices.{slice};
-ghost use Rattle.consistency.specs.Panel.{panel, panelPart, agreeOn, readingsAgree};
+ghost use Rattle.consistency.specs.Panel.{panel, panelSlice, agreeOn, readingsAgree};
 ghost use Rattle.reader.specs.Cases.{namingOf};
 use image::zero::length_before_zero;
 use reader::Named;
@@ -14,7 +14,7 @@ use reader::id_walk::size_hint;
 use reader::to_str;
 
 // How many bytes of the name at `start` the panel shows: those before its first zero byte.
-fn shown(image: &[u8], start: usize, len: usize) -> usize
+fn shown_length(image: &[u8], start: usize, len: usize) -> usize
     requires { ⌜ start + len ≤ length (now image) ⌝ }
     ensures { λ r. ⌜ r ≡ length (beforeZero (take len (drop start (now (image .entry))))) ⌝ }
 {
@@ -28,7 +28,7 @@ pub fn panel_place(image: &[u8], id: u32) -> Named
     match to_str(image, id) {
         Named::Place { start, len } => Named::Place {
             start,
-            len: shown(image, start, len),
+            len: shown_length(image, start, len),
         },
         Named::Nothing => Named::Nothing,
     }
@@ -36,7 +36,7 @@ pub fn panel_place(image: &[u8], id: u32) -> Named
 
 // The part of the lent image that is an id's name up to its first zero byte, empty if it has none.
 pub fn panel<'a>(image: &'a [u8], id: u32) -> &'a [u8]
-    ensures { λ r. ⌜ slice r ≡ panelPart (slice (image .entry)) id ⌝ }
+    ensures { λ r. ⌜ slice r ≡ panelSlice (slice (image .entry)) id ⌝ }
 {
     match panel_place(image, id) {
         Named::Place { start, len } => &image[start..start + len],
@@ -45,14 +45,14 @@ pub fn panel<'a>(image: &'a [u8], id: u32) -> &'a [u8]
 }
 
 // The id to look at after this one, or 0 where both readings differ on this one. On an id without a name they agree.
-fn after_look(image: &[u8], id: u32) -> u32
+fn agree_step(image: &[u8], id: u32) -> u32
     requires { ⌜ id < 4294967295 ⌝ }
     ensures { λ r. ⌜ r ≡ cond (agreeOn (now (image .entry)) id) (id + 1) 0 ⌝ }
 {
     let next = id + 1;
     match to_str(image, id) {
         Named::Place { start, len } => {
-            if shown(image, start, len) == len {
+            if shown_length(image, start, len) == len {
                 next
             } else {
                 0
@@ -69,7 +69,7 @@ pub fn readings_agree(image: &[u8]) -> bool
     let n = size_hint(image, iter());
     let mut id = 0;
     while id < n {
-        let next = after_look(image, id);
+        let next = agree_step(image, id);
         if next == 0 {
             return false;
         }

@@ -10,7 +10,7 @@ use borrow.Author.Tests.{le-leb, lt-leb, eq-eqb, ne-eqb}
 use Rattle.image.specs.Bytes.{word}
 use Rattle.image.specs.Stored.{firstWhole, between}
 use Rattle.image.specs.steps.EntryLength.{wholeLength}
-use Rattle.image.proofs.Area.{whole-first}
+use Rattle.image.proofs.EntryArea.{whole-first}
 
 pub length-between : (buf : List ℕ) (at end : ℕ) → at ≤ end → end ≤ length buf → length (between buf at end) ≡ end - at
 length-between buf at end h k = simp (length-take, length-drop) (omega arith)

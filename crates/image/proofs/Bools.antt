@@ -4,34 +4,34 @@ use native.Mathlib.Omega.{arith}
 use mathlib.Core.Path.{_≡_, refl, sym}
 use mathlib.Core.Bool.{Bool, true, false, _&&_, _||_}
 
-pub not-both : false ≡ true → ⊥
-not-both z = let y : _≡_ {A = ℕ} 0 1 = cc in omega arith
+pub false-not-true : false ≡ true → ⊥
+false-not-true z = let y : _≡_ {A = ℕ} 0 1 = cc in omega arith
 
-pub first : (a b : Bool) → (a && b) ≡ true → a ≡ true
-first true b h = refl
-first false b h = absurd (not-both h)
+pub and-first : (a b : Bool) → (a && b) ≡ true → a ≡ true
+and-first true b h = refl
+and-first false b h = absurd (false-not-true h)
 
-pub second : (a b : Bool) → (a && b) ≡ true → b ≡ true
-second true b h = h
-second false b h = absurd (not-both h)
+pub and-second : (a b : Bool) → (a && b) ≡ true → b ≡ true
+and-second true b h = h
+and-second false b h = absurd (false-not-true h)
 
-pub both : (a b : Bool) → a ≡ true → b ≡ true → (a && b) ≡ true
-both a b p q = cc
+pub and-both : (a b : Bool) → a ≡ true → b ≡ true → (a && b) ≡ true
+and-both a b p q = cc
 
-pub neither-first : (a b : Bool) → (a || b) ≡ false → a ≡ false
-neither-first true b h = h
-neither-first false b h = refl
+pub or-false-first : (a b : Bool) → (a || b) ≡ false → a ≡ false
+or-false-first true b h = h
+or-false-first false b h = refl
 
-pub neither-second : (a b : Bool) → (a || b) ≡ false → b ≡ false
-neither-second true b h = let z : true ≡ false = h in absurd (not-both (sym z))
-neither-second false b h = h
+pub or-false-second : (a b : Bool) → (a || b) ≡ false → b ≡ false
+or-false-second true b h = let z : true ≡ false = h in absurd (false-not-true (sym z))
+or-false-second false b h = h
 
 -- three tests in a row: the first or the second fails, or the third decides
-pub first-fails : (a b c : Bool) → a ≡ false → false ≡ (a && b && c)
-first-fails a b c p = rw p
+pub and3-first-fails : (a b c : Bool) → a ≡ false → false ≡ (a && b && c)
+and3-first-fails a b c p = rw p
 
-pub second-fails : (a b c : Bool) → a ≡ true → b ≡ false → false ≡ (a && b && c)
-second-fails a b c p q = rw (p, q)
+pub and3-second-fails : (a b c : Bool) → a ≡ true → b ≡ false → false ≡ (a && b && c)
+and3-second-fails a b c p q = rw (p, q)
 
-pub third-decides : (a b c x : Bool) → a ≡ true → b ≡ true → x ≡ c → x ≡ (a && b && c)
-third-decides a b c x p q r = rw (p, q) r
+pub and3-third : (a b c x : Bool) → a ≡ true → b ≡ true → x ≡ c → x ≡ (a && b && c)
+and3-third a b c x p q r = rw (p, q) r

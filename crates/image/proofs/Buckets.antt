@@ -7,26 +7,26 @@ use native.Mathlib.Omega.{arith}
 use native.Mathlib.Nat.{mod-lt}
 use lib.ListN.{length, getD, set, replicate}
 use lib.Seq.{getD-set-same, getD-set-other, set-out}
-use Rattle.image.specs.Tables.{Bucket, empty, atOf, start, next, order, firstEmpty, insert, insertAll, filled}
-use Rattle.image.proofs.Every.{All}
+use Rattle.image.specs.Tables.{Bucket, empty, atOf, start, next, probeSequence, firstEmpty, insert, insertAll, filled}
+use Rattle.image.proofs.AllOfList.{All}
 
 -- a search of m steps meets m buckets
-pub length-order : (n m k : ℕ) → length (order n m k) ≡ m
-unfolding order
-length-order n zero k = refl
-length-order n (suc m) k = ap suc (length-order n m (next n k))
+pub length-probeSequence : (n m k : ℕ) → length (probeSequence n m k) ≡ m
+unfolding probeSequence
+length-probeSequence n zero k = refl
+length-probeSequence n (suc m) k = ap suc (length-probeSequence n m (next n k))
 
 -- the first of them, and the rest
-pub order-turn : (n left k : ℕ) → 0 < left → order n left k ≡ k ∷ order n (left - 1) (next n k)
-unfolding order
-order-turn n left k h = let e : left ≡ suc (left - 1) = omega arith in ap (λ (m : ℕ). order n m k) e
+pub probeSequence-step : (n left k : ℕ) → 0 < left → probeSequence n left k ≡ k ∷ probeSequence n (left - 1) (next n k)
+unfolding probeSequence
+probeSequence-step n left k h = let e : left ≡ suc (left - 1) = omega arith in ap (λ (m : ℕ). probeSequence n m k) e
 
 -- searches that see the same in each bucket find the same
-pub firstEmpty-alike : (f g : ℕ → ℕ) (n : ℕ) → ((k : ℕ) → k < n → f k ≡ g k) → (m k : ℕ) → k < n → firstEmpty f (order n m k) ≡ firstEmpty g (order n m k)
-unfolding firstEmpty order
-firstEmpty-alike f g n alike zero k h = refl
-firstEmpty-alike f g n alike (suc m) k h =
-    rw (alike k h, firstEmpty-alike f g n alike m (next n k) (mod-lt (k + 1) (omega arith)))
+pub firstEmpty-ext : (f g : ℕ → ℕ) (n : ℕ) → ((k : ℕ) → k < n → f k ≡ g k) → (m k : ℕ) → k < n → firstEmpty f (probeSequence n m k) ≡ firstEmpty g (probeSequence n m k)
+unfolding firstEmpty probeSequence
+firstEmpty-ext f g n alike zero k h = refl
+firstEmpty-ext f g n alike (suc m) k h =
+    rw (alike k h, firstEmpty-ext f g n alike m (next n k) (mod-lt (k + 1) (omega arith)))
 
 pub getD-empties : (n k : ℕ) → getD (replicate n empty) k empty ≡ empty
 getD-empties zero k = refl
@@ -48,7 +48,7 @@ module _ (P : Bucket → Type 0) where
   insertAll-all n table [] all each = all
   insertAll-all n table (b ∷ bs) all each =
       insertAll-all n (insert n table b) bs
-      (set-all table (firstEmpty (atOf table) (order n n (start (b .hash) n))) b all (each .0))
+      (set-all table (firstEmpty (atOf table) (probeSequence n n (start (b .hash) n))) b all (each .0))
       (each .1)
 
   pub filled-all : (n : ℕ) (bs : List Bucket) → P empty → All P bs → (k : ℕ) → P (getD (filled n bs) k empty)

@@ -10,7 +10,7 @@ use Rattle.image.specs.declared.Mode.{Mode}
 use Rattle.image.proofs.Words.{length-le32}
 use Rattle.image.proofs.Lists.{cat-cons}
 use Rattle.image.proofs.Sizes.{length-entryBytes}
-use Rattle.image.proofs.Every.{All}
+use Rattle.image.proofs.AllOfList.{All}
 use Rattle.image.proofs.At.{At, at-same, at-equal, at-left, at-right, at-fits, at-take, at-word, at-second}
 use Rattle.image.proofs.Parts.{placedIn, entries-at}
 
@@ -47,22 +47,22 @@ module _ {img : List ℕ} {o : ℕ} (e : Entry) (a : At img o (entryBytes e)) wh
 
 -- ---- every entry of an image
 
-pub record Stands (img : List ℕ) (p : Placed) : Type 0 where
+pub record EntryAt (img : List ℕ) (p : Placed) : Type 0 where
   pub there : At img (p .at) (entryBytes (p .entry))
   pub after : 0 < p .at
 
-pub standing : (img : List ℕ) (o : ℕ) (es : List Entry) → 0 < o → At img o (cat entryBytes es) → All (Stands img) (placed o es)
+pub placed-at : (img : List ℕ) (o : ℕ) (es : List Entry) → 0 < o → At img o (cat entryBytes es) → All (EntryAt img) (placed o es)
 unfolding placed
-standing img o [] h a = tt
-standing img o (e ∷ es) h a =
+placed-at img o [] h a = tt
+placed-at img o (e ∷ es) h a =
     let b : At img o (entryBytes e ++ cat entryBytes es) = at-equal (cat-cons entryBytes e es) a in (
       record { there = at-left (entryBytes e) (cat entryBytes es) b; after = h },
-      standing img (o + entrySize e) es (omega arith)
+      placed-at img (o + entrySize e) es (omega arith)
           (at-same (ap (λ (n : ℕ). o + n) (length-entryBytes e)) (at-right (entryBytes e) (cat entryBytes es) b)),
     )
 
-pub all-stand : (mode : Mode) (es : List Entry) → All (Stands (image mode es)) (placedIn es)
-all-stand mode es = standing (image mode es) headSize es (omega arith) (entries-at mode es)
+pub all-entries-at : (mode : Mode) (es : List Entry) → All (EntryAt (image mode es)) (placedIn es)
+all-entries-at mode es = placed-at (image mode es) headSize es (omega arith) (entries-at mode es)
 
 -- what holds of the entries holds of them where they stand
 pub all-placed : (Q : Entry → Type 0) (o : ℕ) (es : List Entry) → All Q es → All (λ (p : Placed). Q (p .entry)) (placed o es)

@@ -12,7 +12,7 @@ use borrow.Author.Tests.{eq-eqb, ne-eqb}
 use Rattle.jhash.specs.NameHash.{hashOf}
 use Rattle.image.specs.Bytes.{word, same}
 use Rattle.image.specs.Tables.{tableOf}
-use Rattle.image.specs.Image.{Entry, backSize, hasName, holds}
+use Rattle.image.specs.Image.{Entry, backSize, hasName, containsName}
 use Rattle.image.specs.Stored.{firstWhole, firstEntry, afterFirst, whole, entriesIn, between}
 use Rattle.image.specs.steps.EntryLength.{wholeLength}
 use Rattle.image.specs.Tally.{tallied, raisedCounts, countsAfter}
@@ -101,12 +101,12 @@ module _ (buf : List ℕ) (at end n m : ℕ) (h : at ≤ end) (k : end ≤ lengt
       ∙ ap (λ (l : List ℕ). firstEntry (between buf at end) ∷ entriesIn m l) after-first
 
 -- one turn
-pub walk-turn : (buf : List ℕ) (end entries : ℕ) (counts₀ : List ℕ) (at left back : ℕ) (counts : List ℕ) → end ≤ length buf
+pub walk-step : (buf : List ℕ) (end entries : ℕ) (counts₀ : List ℕ) (at left back : ℕ) (counts : List ℕ) → end ≤ length buf
     → Rest buf end entries counts₀ at left back counts → 0 < left
     → (n h id : ℕ) (name counts′ : List ℕ) → Front (between buf at end) n → n < 4294967296 → id < 4294967296
     → name ≡ take (n - 1) (drop (at + 8) buf) → h ≡ hashOf name → id ≡ word buf at → counts′ ≡ raisedCounts counts h
     → Rest buf end entries counts₀ (at + (8 + n)) (left - 1) (max back (id + 1)) counts′
-walk-turn buf end entries counts₀ at left back counts k r some n h id name counts′ f small idsmall en eh ei ec =
+walk-step buf end entries counts₀ at left back counts k r some n h id name counts′ f small idsmall en eh ei ec =
     let m = left - 1 in
     let l : left ≡ suc m = omega arith in
     let a = r .inside in
@@ -135,16 +135,16 @@ walk-turn buf end entries counts₀ at left back counts k r some n h id name cou
         → getD counts′ t 0 + (left - 1) ≤ entries
     small-count t p q = let e = ap (λ (c : List ℕ). getD c t 0) ec in omega arith
 
--- ---- whether a name is met
+-- ---- whether a name is found
 
--- met so far, or to be met among the entries from `at` on
-abbrev pub MetRest : List ℕ → ℕ → ℕ → List ℕ → ℕ → ℕ → Bool → Type 0
-MetRest buf end entries sought at left met =
-    (met || holds sought (entriesIn left (between buf at end))) ≡ holds sought (entriesIn entries (between buf 2072 end))
+-- found so far, or to be found among the entries from `at` on
+abbrev pub ContainsRest : List ℕ → ℕ → ℕ → List ℕ → ℕ → ℕ → Bool → Type 0
+ContainsRest buf end entries sought at left so-far =
+    (so-far || containsName sought (entriesIn left (between buf at end))) ≡ containsName sought (entriesIn entries (between buf 2072 end))
 
-holds-cons : (name : List ℕ) (e : Entry) (es : List Entry) → holds name (e ∷ es) ≡ (hasName name e || holds name es)
-unfolding holds
-holds-cons name e es = refl
+containsName-cons : (name : List ℕ) (e : Entry) (es : List Entry) → containsName name (e ∷ es) ≡ (hasName name e || containsName name es)
+unfolding containsName
+containsName-cons name e es = refl
 
 -- a name of another hash is another name
 pub other-hash : (name sought : List ℕ) (h want : ℕ) → length name < 4294967295 → h ≡ hashOf name → (length sought < 4294967295 → want ≡ hashOf sought)
@@ -153,29 +153,29 @@ other-hash name sought h want short is wants differ =
     same-false name sought (λ e. differ (is ∙ ap hashOf e ∙ sym (wants (omega (arith, short, ap length e)))))
 
 -- one turn: b says whether the name of the entry at `at` is the one that is sought
-pub met-turn : (buf : List ℕ) (end entries : ℕ) (sought : List ℕ) (at left : ℕ) (met : Bool) → end ≤ length buf → at ≤ end → 0 < left
-    → MetRest buf end entries sought at left met → (n : ℕ) (name : List ℕ) (b : Bool) → Front (between buf at end) n
+pub contains-step : (buf : List ℕ) (end entries : ℕ) (sought : List ℕ) (at left : ℕ) (so-far : Bool) → end ≤ length buf → at ≤ end → 0 < left
+    → ContainsRest buf end entries sought at left so-far → (n : ℕ) (name : List ℕ) (b : Bool) → Front (between buf at end) n
     → name ≡ take (n - 1) (drop (at + 8) buf) → b ≡ same name sought
-    → MetRest buf end entries sought (at + (8 + n)) (left - 1) (met || b)
-met-turn buf end entries sought at left met k a some m n name b f en eb =
+    → ContainsRest buf end entries sought (at + (8 + n)) (left - 1) (so-far || b)
+contains-step buf end entries sought at left so-far k a some m n name b f en eb =
     let later = entriesIn (left - 1) (between buf (at + (8 + n)) end) in
     let first = firstEntry (between buf at end) in
     let l : left ≡ suc (left - 1) = omega arith in
     let es : entriesIn left (between buf at end) ≡ first ∷ later =
     ap (λ (q : ℕ). entriesIn q (between buf at end)) l ∙ entries-rest buf at end n (left - 1) a k f in
     let h : b ≡ hasName sought first = eb ∙ ap (λ (q : List ℕ). same q sought) (en ∙ sym (first-name buf at end n (left - 1) a k f)) in
-    or-assoc met b (holds sought later)
-    ∙ ap (λ (q : Bool). met || (q || holds sought later)) h
-    ∙ ap (λ (q : Bool). met || q) (sym (holds-cons sought first later) ∙ ap (holds sought) (sym es))
+    or-assoc so-far b (containsName sought later)
+    ∙ ap (λ (q : Bool). so-far || (q || containsName sought later)) h
+    ∙ ap (λ (q : Bool). so-far || q) (sym (containsName-cons sought first later) ∙ ap (containsName sought) (sym es))
     ∙ m
 
 -- no entry is left
-pub met-end : (buf : List ℕ) (end entries : ℕ) (sought : List ℕ) (at left : ℕ) (met : Bool) → left ≡ 0 → MetRest buf end entries sought at left met
-    → met ≡ holds sought (entriesIn entries (between buf 2072 end))
-unfolding holds entriesIn
-met-end buf end entries sought at left met z m =
-    sym (or-false met)
-    ∙ ap (λ (q : ℕ). met || holds sought (entriesIn q (between buf at end))) (sym z)
+pub contains-end : (buf : List ℕ) (end entries : ℕ) (sought : List ℕ) (at left : ℕ) (so-far : Bool) → left ≡ 0 → ContainsRest buf end entries sought at left so-far
+    → so-far ≡ containsName sought (entriesIn entries (between buf 2072 end))
+unfolding containsName entriesIn
+contains-end buf end entries sought at left so-far z m =
+    sym (or-false so-far)
+    ∙ ap (λ (q : ℕ). so-far || containsName sought (entriesIn q (between buf at end))) (sym z)
     ∙ m
 
 -- a broken entry

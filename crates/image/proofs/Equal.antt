@@ -10,7 +10,7 @@ use borrow.Author.Tests.{eq-eqb, ne-eqb, eqb-true}
 use lib.Dec.{eqb}
 use lib.ListN.{length, getD, drop, drop-of-length-le}
 use lib.Seq.{drop-cons}
-use Rattle.jhash.specs.Word.{Bytes}
+use Rattle.jhash.specs.Word.{AllBytes}
 use Rattle.jhash.proofs.WordRead.{word-of, word-below}
 use Rattle.image.specs.Bytes.{word, le32, same}
 use Rattle.image.proofs.Words.{le32-bytes}
@@ -74,7 +74,7 @@ byte s i k = getD s (i + k) 0
 of-bytes : (s : List ℕ) (i : ℕ) → getD s i 0 + byte s i 1 * 256 + byte s i 2 * 65536 + byte s i 3 * 16777216 ≡ word s i
 of-bytes s i = word-of s i (getD s i 0) (byte s i 1) (byte s i 2) (byte s i 3) refl refl refl refl
 
-bytes-of : (s : List ℕ) (i : ℕ) → Bytes s → le32 (word s i) ≡ getD s i 0 ∷ byte s i 1 ∷ byte s i 2 ∷ byte s i 3 ∷ []
+bytes-of : (s : List ℕ) (i : ℕ) → AllBytes s → le32 (word s i) ≡ getD s i 0 ∷ byte s i 1 ∷ byte s i 2 ∷ byte s i 3 ∷ []
 bytes-of s i h =
     ap le32 (sym (of-bytes s i)) ∙ le32-bytes (getD s i 0) (byte s i 1) (byte s i 2) (byte s i 3) (h i) (h (i + 1)) (h (i + 2)) (h (i + 3))
 
@@ -116,7 +116,7 @@ module _ (a b : List ℕ) (i : ℕ) (p : i + 4 ≤ length a) (q : i + 4 ≤ leng
           ∙ of-bytes b i
 
   -- the same word
-  pub same-word : Bytes a → Bytes b → word a i ≡ word b i → same (drop i a) (drop i b) ≡ rest
+  pub same-word : AllBytes a → AllBytes b → word a i ≡ word b i → same (drop i a) (drop i b) ≡ rest
   same-word ha hb e =
       let l = sym (bytes-of a i ha) ∙ ap le32 e ∙ bytes-of b i hb in
       four ∙ all (getD a i 0) (byte a i 1) (byte a i 2) (byte a i 3) (getD b i 0) (byte b i 1) (byte b i 2) (byte b i 3) rest l
@@ -134,7 +134,7 @@ module _ (a b : List ℕ) (i : ℕ) (p : i + 4 ≤ length a) (q : i + 4 ≤ leng
 abbrev pub word8 : List ℕ → ℕ → ℕ
 word8 s i = word s i + word s (i + 4) * 4294967296
 
-module _ (a b : List ℕ) (i : ℕ) (p : i + 8 ≤ length a) (q : i + 8 ≤ length b) (ha : Bytes a) (hb : Bytes b) where
+module _ (a b : List ℕ) (i : ℕ) (p : i + 8 ≤ length a) (q : i + 8 ≤ length b) (ha : AllBytes a) (hb : AllBytes b) where
   -- one word equal: the next decides
   then : word a i ≡ word b i → same (drop i a) (drop i b) ≡ same (drop (i + 4) a) (drop (i + 4) b)
   then e = same-word a b i (omega arith) (omega arith) ha hb e

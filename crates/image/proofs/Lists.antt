@@ -6,7 +6,7 @@ use mathlib.Core.Path.{_≡_, refl, sym, ap, _∙_}
 use mathlib.Core.Bool.{Bool, true, false, cond}
 use mathlib.Core.List.{List, [], _∷_, _++_, append-assoc, append-nil}
 use lib.ListN.{length, getD, length-append}
-use Rattle.image.specs.Bytes.{cat, keep, range}
+use Rattle.image.specs.Bytes.{cat, filter, range}
 
 module _ {A : Type 0} (f : A → List ℕ) where
   pub cat-cons : (x : A) (xs : List A) → cat f (x ∷ xs) ≡ f x ++ cat f xs
@@ -38,36 +38,36 @@ cat-ext f g h [] = refl
 cat-ext f g h (x ∷ xs) = ap (λ (l : List ℕ). l ++ cat f xs) (h x) ∙ ap (λ (l : List ℕ). g x ++ l) (cat-ext f g h xs)
 
 -- parts of the same lengths one by one
-pub length-cat-alike : {A : Type 0} (f g : A → List ℕ) → ((x : A) → length (f x) ≡ length (g x)) → (xs : List A) → length (cat f xs) ≡ length (cat g xs)
+pub length-cat-const : {A : Type 0} (f g : A → List ℕ) → ((x : A) → length (f x) ≡ length (g x)) → (xs : List A) → length (cat f xs) ≡ length (cat g xs)
 unfolding cat
-length-cat-alike f g h [] = refl
-length-cat-alike f g h (x ∷ xs) =
+length-cat-const f g h [] = refl
+length-cat-const f g h (x ∷ xs) =
     omega
-    (arith, length-append (f x) (cat f xs), length-append (g x) (cat g xs), h x, length-cat-alike f g h xs)
+    (arith, length-append (f x) (cat f xs), length-append (g x) (cat g xs), h x, length-cat-const f g h xs)
 
 module _ {A : Type 0} (test : A → Bool) where
-  pub keep-nil : keep test [] ≡ []
-  unfolding keep
-  keep-nil = refl
+  pub filter-nil : filter test [] ≡ []
+  unfolding filter
+  filter-nil = refl
 
-  pub keep-cons : (x : A) (xs : List A) → keep test (x ∷ xs) ≡ cond (test x) (x ∷ keep test xs) (keep test xs)
-  unfolding keep
-  keep-cons x xs = refl
+  pub filter-cons : (x : A) (xs : List A) → filter test (x ∷ xs) ≡ cond (test x) (x ∷ filter test xs) (filter test xs)
+  unfolding filter
+  filter-cons x xs = refl
 
-  pub keep-yes : (x : A) (xs : List A) → test x ≡ true → keep test (x ∷ xs) ≡ x ∷ keep test xs
-  unfolding keep
-  keep-yes x xs h = rw h
+  pub filter-yes : (x : A) (xs : List A) → test x ≡ true → filter test (x ∷ xs) ≡ x ∷ filter test xs
+  unfolding filter
+  filter-yes x xs h = rw h
 
-  pub keep-no : (x : A) (xs : List A) → test x ≡ false → keep test (x ∷ xs) ≡ keep test xs
-  unfolding keep
-  keep-no x xs h = rw h
+  pub filter-no : (x : A) (xs : List A) → test x ≡ false → filter test (x ∷ xs) ≡ filter test xs
+  unfolding filter
+  filter-no x xs h = rw h
 
-  pub keep-append : (xs ys : List A) → keep test (xs ++ ys) ≡ keep test xs ++ keep test ys
-  unfolding keep
-  keep-append [] ys = refl
-  keep-append (x ∷ xs) ys = go (keep-append xs ys) (test x)
+  pub filter-append : (xs ys : List A) → filter test (xs ++ ys) ≡ filter test xs ++ filter test ys
+  unfolding filter
+  filter-append [] ys = refl
+  filter-append (x ∷ xs) ys = go (filter-append xs ys) (test x)
     where
-      go : keep test (xs ++ ys) ≡ keep test xs ++ keep test ys → (b : Bool) → cond b (x ∷ keep test (xs ++ ys)) (keep test (xs ++ ys)) ≡ cond b (x ∷ keep test xs) (keep test xs) ++ keep test ys
+      go : filter test (xs ++ ys) ≡ filter test xs ++ filter test ys → (b : Bool) → cond b (x ∷ filter test (xs ++ ys)) (filter test (xs ++ ys)) ≡ cond b (x ∷ filter test xs) (filter test xs) ++ filter test ys
       go ih true = ap (λ (l : List A). x ∷ l) ih
       go ih false = ih
 

@@ -9,10 +9,10 @@ use lib.ListN.{length, getD, length-append}
 use Rattle.image.specs.Bytes.{word, le32, cat, range}
 use Rattle.image.specs.Tables.{Bucket, empty}
 use Rattle.image.specs.Image.{Entry, Placed, headSize, entryBytes, placed, count, bucketBytes, table, tableBytes, entriesBefore}
-use Rattle.image.specs.Image.{tableOffset, tableRow, tableRows, tables, link, links, backSizeOf, entriesEnd, imageSize, headWords, image}
+use Rattle.image.specs.Image.{tableOffset, tableRow, tableRows, tables, backWord, backWords, backSizeOf, entriesEnd, imageSize, headWords, image}
 use Rattle.image.specs.declared.Mode.{Mode}
 use Rattle.image.proofs.Words.{length-le32}
-use Rattle.image.proofs.Lists.{length-cat, length-cat-alike, length-range, range-at, getD-range}
+use Rattle.image.proofs.Lists.{length-cat, length-cat-const, length-range, range-at, getD-range}
 use Rattle.image.proofs.Sizes.{length-entries, length-placed, length-bucketBytes, length-table, before-suc, before-all, length-tables-to, length-tables}
 use Rattle.image.proofs.Sizes.{length-headWords, length-tableRow, length-tableRows, length-tableBytes}
 use Rattle.image.proofs.At.{At, at-whole, at-same, at-equal, at-left, at-right, at-word, at-second, at-after, at-part}
@@ -54,7 +54,7 @@ module _ (mode : Mode) (es : List Entry) where
   T = tables (placedIn es)
 
   L : List ℕ
-  L = links (placedIn es) (backSizeOf mode es)
+  L = backWords (placedIn es) (backSizeOf mode es)
 
   whole : At (image mode es) 0 (H ++ R ++ E ++ T ++ L)
   unfolding image H R E T L
@@ -82,7 +82,7 @@ module _ (mode : Mode) (es : List Entry) where
       sum : length H + length R + length E ≡ entriesEnd es
       sum = omega (arith, length-headWords mode es, length-tableRows (entriesEnd es) (placedIn es), length-entries es)
 
-  pub links-at : At (image mode es) (entriesEnd es + 16 * length es) (links (placedIn es) (backSizeOf mode es))
+  pub links-at : At (image mode es) (entriesEnd es + 16 * length es) (backWords (placedIn es) (backSizeOf mode es))
   unfolding H R E T L
   links-at = at-same sum (five-5 H R E T L whole)
     where
@@ -150,7 +150,7 @@ module _ (ps : List Placed) (of : ℕ → List Bucket) (sized : (t : ℕ) → le
   length-bucketsOf t = omega (arith, length-cat bucketBytes 8 length-bucketBytes (of t), sized t, length-tableBytes ps t)
 
   pub length-tablesOf-to : (t : ℕ) → length (cat (bucketsOf of) (range 0 t)) ≡ 16 * entriesBefore t ps
-  length-tablesOf-to t = length-cat-alike (bucketsOf of) (tableBytes ps) length-bucketsOf (range 0 t) ∙ length-tables-to t ps
+  length-tablesOf-to t = length-cat-const (bucketsOf of) (tableBytes ps) length-bucketsOf (range 0 t) ∙ length-tables-to t ps
 
   pub length-tablesOf : length (cat (bucketsOf of) (range 0 256)) ≡ 16 * length ps
   length-tablesOf = length-tablesOf-to 256 ∙ ap (λ (n : ℕ). 16 * n) (before-all ps)
@@ -187,10 +187,10 @@ module _ (mode : Mode) (es : List Entry) (fits : imageSize mode es ≤ 429496729
       bucket-of (placedIn es) (λ (t : ℕ). table t (placedIn es)) (λ t. length-table t (placedIn es)) (entriesEnd es) (tables-at mode es)
 
   -- the back links
-  pub link-at : (i : ℕ) → i < backSizeOf mode es → At (image mode es) (entriesEnd es + 16 * length es + 4 * i) (le32 (link (placedIn es) i))
-  unfolding links
-  link-at i h =
+  pub backWord-at : (i : ℕ) → i < backSizeOf mode es → At (image mode es) (entriesEnd es + 16 * length es + 4 * i) (le32 (backWord (placedIn es) i))
+  unfolding backWords
+  backWord-at i h =
       let e : 0 + i ≡ i = omega arith in
-      at-equal (ap (λ (k : ℕ). le32 (link (placedIn es) k)) (getD-range 0 (backSizeOf mode es) i h ∙ e))
-      (at-part (λ (k : ℕ). le32 (link (placedIn es) k)) 4 (λ k. length-le32 (link (placedIn es) k)) (entriesEnd es + 16 * length es)
+      at-equal (ap (λ (k : ℕ). le32 (backWord (placedIn es) k)) (getD-range 0 (backSizeOf mode es) i h ∙ e))
+      (at-part (λ (k : ℕ). le32 (backWord (placedIn es) k)) 4 (λ k. length-le32 (backWord (placedIn es) k)) (entriesEnd es + 16 * length es)
       (range 0 (backSizeOf mode es)) i 0 (links-at mode es) (rw (length-range 0 (backSizeOf mode es)) h))

@@ -9,14 +9,14 @@ use lib.ListN.{length, replicate, length-append, length-set, length-replicate}
 use lib.Dec.{eqb, ltb, lit<}
 use borrow.Author.Tests.{lt-ltb, le-ltb, ltb-true, ltb-false, eqb-true, eqb-false}
 use Rattle.jhash.specs.NameHash.{hashOf}
-use Rattle.image.specs.Bytes.{le32, cat, keep, range}
+use Rattle.image.specs.Bytes.{le32, cat, filter, range}
 use Rattle.image.specs.Tables.{Bucket, empty, tableOf, insert, insertAll, filled}
 use Rattle.image.specs.Image.{Entry, Placed, headSize, entryBytes, entrySize, entriesSize, placed, inTable, ofTable, count, bucketOf, bucketBytes}
-use Rattle.image.specs.Image.{table, tableBytes, entriesBefore, tableRow, tableRows, tables, link, links, backIn, backSizeOf, imageSize, headBytes, headWords, flagWord, backOffset, image}
+use Rattle.image.specs.Image.{table, tableBytes, entriesBefore, tableRow, tableRows, tables, backWord, backWords, backIn, backSizeOf, imageSize, headBytes, headWords, flagWord, backOffset, image}
 use Rattle.image.specs.declared.Mode.{Mode}
 use Rattle.image.specs.declared.Mode.the-variants.{Twoway, Oneway}
 use Rattle.image.proofs.Words.{length-le32}
-use Rattle.image.proofs.Lists.{cat-append, length-cat, keep-append, length-range, range-more}
+use Rattle.image.proofs.Lists.{cat-append, length-cat, filter-append, length-range, range-more}
 
 -- ---- entries
 
@@ -91,20 +91,20 @@ length-tableBytes ps t = omega (arith, length-cat bucketBytes 8 length-bucketByt
 -- ---- how many entries a table has, and those before it
 
 pub count-nil : (t : ℕ) → count t [] ≡ 0
-unfolding ofTable keep
+unfolding ofTable filter
 count-nil t = refl
 
 pub count-cons : (t : ℕ) (p : Placed) (ps : List Placed) → count t (p ∷ ps) ≡ cond (inTable t p) 1 0 + count t ps
-unfolding ofTable keep
+unfolding ofTable filter
 count-cons t p ps = go (inTable t p)
   where
-    go : (b : Bool) → length (cond b (p ∷ keep (inTable t) ps) (keep (inTable t) ps)) ≡ cond b 1 0 + length (keep (inTable t) ps)
+    go : (b : Bool) → length (cond b (p ∷ filter (inTable t) ps) (filter (inTable t) ps)) ≡ cond b 1 0 + length (filter (inTable t) ps)
     go true = omega arith
     go false = omega arith
 
 pub ofTable-append : (t : ℕ) (ps qs : List Placed) → ofTable t (ps ++ qs) ≡ ofTable t ps ++ ofTable t qs
 unfolding ofTable
-ofTable-append t ps qs = keep-append (inTable t) ps qs
+ofTable-append t ps qs = filter-append (inTable t) ps qs
 
 pub count-append : (t : ℕ) (ps qs : List Placed) → count t (ps ++ qs) ≡ count t ps + count t qs
 count-append t ps qs = ap length (ofTable-append t ps qs) ∙ length-append (ofTable t ps) (ofTable t qs)
@@ -203,10 +203,10 @@ unfolding tableRows
 length-tableRows end ps =
     length-cat (tableRow end ps) 8 (length-tableRow end ps) (range 0 256) ∙ ap (λ (n : ℕ). 8 * n) (length-range 0 256)
 
-pub length-links : (ps : List Placed) (n : ℕ) → length (links ps n) ≡ 4 * n
-unfolding links
-length-links ps n =
-    length-cat (λ (i : ℕ). le32 (link ps i)) 4 (λ i. length-le32 (link ps i)) (range 0 n) ∙ ap (λ (k : ℕ). 4 * k) (length-range 0 n)
+pub length-backWords : (ps : List Placed) (n : ℕ) → length (backWords ps n) ≡ 4 * n
+unfolding backWords
+length-backWords ps n =
+    length-cat (λ (i : ℕ). le32 (backWord ps i)) 4 (λ i. length-le32 (backWord ps i)) (range 0 n) ∙ ap (λ (k : ℕ). 4 * k) (length-range 0 n)
 
 pub length-image : (mode : Mode) (es : List Entry) → length (image mode es) ≡ imageSize mode es
 unfolding image
@@ -214,7 +214,7 @@ length-image mode es =
     let ps = placed headSize es in
     simp length-append
     (omega
-    (arith, length-headWords mode es, length-tableRows (headSize + entriesSize es) ps, length-entries es, length-tables ps, length-placed headSize es, length-links ps (backSizeOf mode es)))
+    (arith, length-headWords mode es, length-tableRows (headSize + entriesSize es) ps, length-entries es, length-tables ps, length-placed headSize es, length-backWords ps (backSizeOf mode es)))
 
 -- the back size in an image is that of its mode
 pub backIn-twice : (mode : Mode) (n : ℕ) → backIn mode (backIn mode n) ≡ backIn mode n

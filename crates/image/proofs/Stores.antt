@@ -21,9 +21,9 @@ module _ {A : Type 0} where
   sets-then xs ys l i j e = ap (λ (k : ℕ). sets (sets l i xs) k ys) e ∙ sets-append xs ys l i
 
   -- one element of a copy
-  pub sets-turn : (src l : List A) (i j : ℕ) (d : A) → j < length src
+  pub sets-step : (src l : List A) (i j : ℕ) (d : A) → j < length src
       → sets (set l (i + j) (getD src j d)) (i + (j + 1)) (drop (j + 1) src) ≡ sets l (i + j) (drop j src)
-  sets-turn src l i j d h =
+  sets-step src l i j d h =
       let e : i + (j + 1) ≡ suc (i + j) = omega arith in
       let f : j + 1 ≡ suc j = omega arith in
       ap (λ (k : ℕ). sets (set l (i + j) (getD src j d)) k (drop (j + 1) src)) e

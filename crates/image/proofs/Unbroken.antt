@@ -9,7 +9,7 @@ use borrow.Author.Tests.{lt-ltb, le-ltb, eq-eqb, ne-eqb, ltb-false, eqb-false}
 use lib.Dec.{eqb, ltb}
 use lib.ListN.{length}
 use Rattle.image.specs.Bytes.{word}
-use Rattle.image.proofs.Bools.{neither-first, neither-second}
+use Rattle.image.proofs.Bools.{or-false-first, or-false-second}
 use Rattle.image.specs.Stored.{broken}
 
 -- the cases of `broken`, for a length word w
@@ -50,12 +50,12 @@ unbroken image at e =
     let short = ltb (length image) (at + 8) in
     let none = eqb (word image (at + 4)) 0 in
     let end = at + 8 + (word image (at + 4) - 1) in
-    let first = neither-first (short || none) (ltb (length image) end) e in
-    let z = eqb-false (word image (at + 4)) 0 (neither-second short none first) in
+    let first = or-false-first (short || none) (ltb (length image) end) e in
+    let z = eqb-false (word image (at + 4)) 0 (or-false-second short none first) in
     record {
-      head = ltb-false (length image) (at + 8) (neither-first short none first);
+      head = ltb-false (length image) (at + 8) (or-false-first short none first);
       long = positive (word image (at + 4)) z;
-      name = ltb-false (length image) end (neither-second (short || none) (ltb (length image) end) e);
+      name = ltb-false (length image) end (or-false-second (short || none) (ltb (length image) end) e);
     }
   where
     positive : (w : ℕ) → (w ≡ 0 → ⊥) → 1 ≤ w

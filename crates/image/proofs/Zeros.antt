@@ -11,7 +11,7 @@ use lib.ListN.{length, getD, take, drop, drop-of-length-le, take-append-drop, le
 use lib.Seq.{drop-cons, drop-drop, take-add, take-all}
 use Rattle.image.specs.Bytes.{same}
 use Rattle.image.specs.Zero.{hasZero, beforeZero}
-use Rattle.image.proofs.Bools.{not-both}
+use Rattle.image.proofs.Bools.{false-not-true}
 
 -- nothing is left
 pub zero-none : (s : List ℕ) (i : ℕ) → length s ≤ i → hasZero (drop i s) ≡ false
@@ -135,10 +135,10 @@ zero-overlap s j i p h = go (hasZero (take j s)) (hasZero (drop j s)) (hasZero (
     go : (a b c d t : Bool) → d ≡ t → t ≡ (a || b) → b ≡ (c || d) → b ≡ t
     go a true c d true ed et eb = refl
     go a false c d false ed et eb = refl
-    go true true c d false ed et eb = absurd (not-both et)
-    go false true c d false ed et eb = absurd (not-both et)
-    go a false true d true ed et eb = absurd (not-both eb)
-    go a false false d true ed et eb = absurd (not-both (eb ∙ ed))
+    go true true c d false ed et eb = absurd (false-not-true et)
+    go false true c d false ed et eb = absurd (false-not-true et)
+    go a false true d true ed et eb = absurd (false-not-true eb)
+    go a false false d true ed et eb = absurd (false-not-true (eb ∙ ed))
 
 -- a name of k to 2 k bytes: its first k and its last k
 pub zero-ends : (s : List ℕ) (k : ℕ) (a b : Bool) → k ≤ length s → length s ≤ k + k → a ≡ hasZero (take k s) → b ≡ hasZero (take k (drop (length s - k) s))
@@ -194,7 +194,7 @@ before-longest (x ∷ xs) (suc k) p h = go (eqb x 0) h (before-longest xs k (ome
   where
     go : (t : Bool) → (t || hasZero (take k xs)) ≡ false → (hasZero (take k xs) ≡ false → k ≤ length (beforeZero xs))
         → suc k ≤ length (cond t [] (x ∷ beforeZero xs))
-    go true e rest = absurd (not-both (sym e))
+    go true e rest = absurd (false-not-true (sym e))
     go false e rest = let l = rest e in omega arith
 
 -- both readings of a name agree exactly where it has no zero byte
@@ -215,12 +215,12 @@ before-all (x ∷ xs) h = go (eqb x 0) h (before-all xs)
   where
     go : (t : Bool) → (t || hasZero xs) ≡ false → (hasZero xs ≡ false → length (beforeZero xs) ≡ length xs)
         → length (cond t [] (x ∷ beforeZero xs)) ≡ length (x ∷ xs)
-    go true e rest = absurd (not-both (sym e))
+    go true e rest = absurd (false-not-true (sym e))
     go false e rest = ap suc (rest e)
 
 pub before-less : (s : List ℕ) → hasZero s ≡ true → length (beforeZero s) < length s
 unfolding beforeZero hasZero
-before-less [] h = absurd (not-both h)
+before-less [] h = absurd (false-not-true h)
 before-less (x ∷ xs) h = go (eqb x 0) h (before-less xs)
   where
     go : (t : Bool) → (t || hasZero xs) ≡ true → (hasZero xs ≡ true → length (beforeZero xs) < length xs)

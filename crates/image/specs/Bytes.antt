@@ -16,9 +16,9 @@ cat f [] = []
 cat f (x ∷ xs) = f x ++ cat f xs
 
 -- the elements for which a test holds, in their order
-unfoldable pub keep : {A : Type 0} → (A → Bool) → List A → List A
-keep test [] = []
-keep test (x ∷ xs) = cond (test x) (x ∷ keep test xs) (keep test xs)
+unfoldable pub filter : {A : Type 0} → (A → Bool) → List A → List A
+filter test [] = []
+filter test (x ∷ xs) = cond (test x) (x ∷ filter test xs) (filter test xs)
 
 -- the n numbers from s on
 unfoldable pub range : ℕ → ℕ → List ℕ

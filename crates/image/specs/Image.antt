@@ -5,7 +5,7 @@ use mathlib.Core.List.{List, [], _∷_, _++_, map}
 use lib.ListN.{length}
 use lib.Dec.{eqb}
 use Rattle.jhash.specs.NameHash.{hashOf}
-use Rattle.image.specs.Bytes.{le32, cat, keep, range, same}
+use Rattle.image.specs.Bytes.{le32, cat, filter, range, same}
 use Rattle.image.specs.Tables.{Bucket, tableOf, filled}
 use Rattle.image.specs.declared.Mode.{Mode}
 use Rattle.image.specs.declared.Mode.the-variants.{Twoway, Oneway}
@@ -45,8 +45,8 @@ abbrev pub inTable : ℕ → Placed → Bool
 inTable t p = eqb (tableOf (hashOf (p .entry .name))) t
 
 unfoldable pub ofTable : ℕ → List Placed → List Placed
-unfolding keep
-ofTable t ps = keep (inTable t) ps
+unfolding filter
+ofTable t ps = filter (inTable t) ps
 
 abbrev pub count : ℕ → List Placed → ℕ
 count t ps = length (ofTable t ps)
@@ -90,12 +90,12 @@ hasId i e = eqb (e .id) i
 abbrev pub hasName : List ℕ → Entry → Bool
 hasName name e = same (e .name) name
 
-unfoldable pub holds : List ℕ → List Entry → Bool
-holds name [] = false
-holds name (e ∷ es) = hasName name e || holds name es
+unfoldable pub containsName : List ℕ → List Entry → Bool
+containsName name [] = false
+containsName name (e ∷ es) = hasName name e || containsName name es
 
 unfoldable pub placedOfId : ℕ → List Placed → List Placed
-placedOfId i ps = keep (λ (p : Placed). hasId i (p .entry)) ps
+placedOfId i ps = filter (λ (p : Placed). hasId i (p .entry)) ps
 
 -- the offset of the last entry of a list, or o without one
 unfoldable pub lastFrom : ℕ → List Placed → ℕ
@@ -103,8 +103,8 @@ lastFrom o [] = o
 lastFrom o (p ∷ ps) = lastFrom (p .at) ps
 
 -- the offset of an id's last entry, 0 if it has none
-unfoldable pub link : List Placed → ℕ → ℕ
-link ps i = lastFrom 0 (placedOfId i ps)
+unfoldable pub backWord : List Placed → ℕ → ℕ
+backWord ps i = lastFrom 0 (placedOfId i ps)
 
 -- what depends on the mode: the flag word, and the back size, which is 0 in a one-way image
 abbrev pub flagWord : Mode → ℕ
@@ -149,8 +149,8 @@ unfoldable pub tables : List Placed → List ℕ
 tables ps = cat (tableBytes ps) (range 0 256)
 
 -- the back array: for each id below back size the offset of its last entry
-unfoldable pub links : List Placed → ℕ → List ℕ
-links ps n = cat (λ (i : ℕ). le32 (link ps i)) (range 0 n)
+unfoldable pub backWords : List Placed → ℕ → List ℕ
+backWords ps n = cat (λ (i : ℕ). le32 (backWord ps i)) (range 0 n)
 
 -- the image that entries close to
 unfoldable pub image : Mode → List Entry → List ℕ
@@ -160,4 +160,4 @@ image mode es =
     ++ tableRows (entriesEnd es) ps
     ++ cat entryBytes es
     ++ tables ps
-    ++ links ps (backSizeOf mode es)
+    ++ backWords ps (backSizeOf mode es)

@@ -18,9 +18,9 @@ abbrev pub next : ℕ → ℕ → ℕ
 next n k = (k + 1) % n
 
 -- the m buckets that a search among n meets from bucket k on, in its order
-unfoldable pub order : ℕ → ℕ → ℕ → List ℕ
-order n zero k = []
-order n (suc m) k = k ∷ order n m (next n k)
+unfoldable pub probeSequence : ℕ → ℕ → ℕ → List ℕ
+probeSequence n zero k = []
+probeSequence n (suc m) k = k ∷ probeSequence n m (next n k)
 
 -- 01, "The image record": a bucket is the hash, then the entry's offset; offset 0 marks it empty
 pub record Bucket : Type 0 where
@@ -42,7 +42,7 @@ atOf table k = getD table k empty .at
 
 -- a table of n buckets takes an entry into the first empty bucket of the search
 unfoldable pub insert : ℕ → List Bucket → Bucket → List Bucket
-insert n table b = set table (firstEmpty (atOf table) (order n n (start (b .hash) n))) b
+insert n table b = set table (firstEmpty (atOf table) (probeSequence n n (start (b .hash) n))) b
 
 -- and entries in their order
 unfoldable pub insertAll : ℕ → List Bucket → List Bucket → List Bucket

@@ -7,7 +7,7 @@ ghost use lib.ListN.{length, getD, take, drop};
 ghost use Rattle.jhash.specs.NameHash.{hashOf};
 ghost use Rattle.image.specs.Bytes.{same};
 ghost use Rattle.image.specs.Tables.{tableOf};
-ghost use Rattle.image.specs.Image.{backSize, holds};
+ghost use Rattle.image.specs.Image.{backSize, containsName};
 ghost use Rattle.image.specs.Stored.{broken, whole, entriesIn, between};
 ghost use Rattle.image.specs.steps.EntryLength.{wholeLength};
 ghost use Rattle.image.specs.Tally.{raisedCounts, tallied};
@@ -55,7 +55,7 @@ pub fn raise(counts: &mut [u32; 256], h: u32)
 pub struct Walked {
     pub whole: bool,
     pub back: u64,
-    pub met: bool,
+    pub contains: bool,
 }
 
 // The length word of the entry at `at`, 0 where it is not whole before `end`.
@@ -115,13 +115,13 @@ pub fn walk(buf: &[u8], end: usize, entries: u32, counts: &mut [u32; 256], sough
     requires { ⌜ (2072 ≤ end) × (end ≤ length (now buf)) × ((t : ℕ) → getD (now counts) t 0 ≡ 0) ⌝ }
     ensures whole { λ r. ⌜ r .whole ≡ whole entries (between (now (buf .entry)) 2072 end) ⌝ }
     ensures back { λ r. ⌜ (r .whole ≡ true → r .back ≡ backSize (entriesIn entries (between (now (buf .entry)) 2072 end))) ⌝ }
-    ensures met { λ r. ⌜ (r .whole ≡ true → r .met ≡ holds (now (sought .entry)) (entriesIn entries (between (now (buf .entry)) 2072 end))) ⌝ }
+    ensures contains { λ r. ⌜ (r .whole ≡ true → r .contains ≡ containsName (now (sought .entry)) (entriesIn entries (between (now (buf .entry)) 2072 end))) ⌝ }
     ensures counts { λ r. ⌜ (r .whole ≡ true → now (counts .exit) ≡ tallied (now (counts .entry)) (entriesIn entries (between (now (buf .entry)) 2072 end))) ⌝ }
 {
     let mut at = 2072;
     let mut left = entries;
     let mut back: u64 = 0;
-    let mut met = false;
+    let mut contains = false;
     let want = sought_hash(sought);
     while left > 0 {
         let n = whole_length(buf, at, end);
@@ -129,7 +129,7 @@ pub fn walk(buf: &[u8], end: usize, entries: u32, counts: &mut [u32; 256], sough
             return Walked {
                 whole: false,
                 back: 0,
-                met: false,
+                contains: false,
             };
         }
         let name = name_at(buf, at, n);
@@ -138,17 +138,17 @@ pub fn walk(buf: &[u8], end: usize, entries: u32, counts: &mut [u32; 256], sough
             return Walked {
                 whole: false,
                 back: 0,
-                met: false,
+                contains: false,
             };
         };
         raise(&mut *counts, h);
-        met = met | is_sought(name, h, sought, want);
+        contains = contains | is_sought(name, h, sought, want);
         at += 8 + n;
         left -= 1;
     }
     Walked {
         whole: at == end,
         back,
-        met,
+        contains,
     }
 }

@@ -9,17 +9,17 @@ use mathlib.Core.List.{List, [], _∷_, map}
 use mathlib.Core.Logic.{_⊎_, inl, inr}
 use lib.ListN.{length, getD, take, length-take, length-map}
 use Rattle.jhash.specs.NameHash.{hashOf}
-use Rattle.image.specs.Tables.{Bucket, empty, start, order, firstEmpty, filled}
-use Rattle.image.specs.Image.{Entry, headSize, placed, bucketOf, holds}
-use Rattle.image.proofs.Area.{Bytes}
-use Rattle.image.proofs.Bools.{not-both}
-use Rattle.image.proofs.Every.{All}
+use Rattle.image.specs.Tables.{Bucket, empty, start, probeSequence, firstEmpty, filled}
+use Rattle.image.specs.Image.{Entry, headSize, placed, bucketOf, containsName}
+use Rattle.image.proofs.EntryArea.{AllBytes}
+use Rattle.image.proofs.Bools.{false-not-true}
+use Rattle.image.proofs.AllOfList.{All}
 use Rattle.image.proofs.Equal.{same-lengths}
 use Rattle.image.proofs.Sizes.{length-placed}
 use Rattle.lookup_laws.proofs.EntriesOf.{names-short}
-use Rattle.lookup_laws.proofs.Table.{NotEmpty}
-use Rattle.lookup_laws.specs.steps.Matches.{matches}
-use Rattle.lookup_laws.proofs.Matching.{matches-equal}
+use Rattle.lookup_laws.proofs.TableContents.{NotEmpty}
+use Rattle.lookup_laws.specs.steps.HasMatch.{hasMatch}
+use Rattle.lookup_laws.proofs.Matching.{hasMatch-equal}
 use Rattle.writer.specs.State.{State}
 use Rattle.writer.specs.Close.{recorded}
 use Rattle.index.specs.Index.{slotCount, slot, entryBuckets, Right}
@@ -30,13 +30,13 @@ use Rattle.index.proofs.Probing.{order-below, Matched, EmptyFound, None
 use Rattle.index.proofs.Insert.{some-free}
 
 -- no entry, no name; and no name is longer than all entries
-holds-empty : (name : List ℕ) (es : List Entry) → length es ≡ 0 → holds name es ≡ false
-unfolding holds
+holds-empty : (name : List ℕ) (es : List Entry) → length es ≡ 0 → containsName name es ≡ false
+unfolding containsName
 holds-empty name [] z = refl
 holds-empty name (e ∷ es) z = absurd (omega arith)
 
-holds-longer : (name : List ℕ) (es : List Entry) → All (λ (e : Entry). length (e .name) < length name) es → holds name es ≡ false
-unfolding holds
+holds-longer : (name : List ℕ) (es : List Entry) → All (λ (e : Entry). length (e .name) < length name) es → containsName name es ≡ false
+unfolding containsName
 holds-longer name [] all = refl
 holds-longer name (e ∷ es) all = rw (same-lengths (e .name) name (λ z. omega (arith, all .0, z))) (holds-longer name es (all .1))
 
@@ -44,8 +44,8 @@ pub all-equal : (P Q : ℕ → Type 0) (m : ℕ) → ((k : ℕ) → k < m → P 
 all-equal P Q m f [] below all = tt
 all-equal P Q m f (k ∷ ks) below all = (f k (below .0) (all .0), all-equal P Q m f ks (below .1) (all .1))
 
-module _ (s : State) (words : List ℕ) (bytes : Bytes (s .buffer)) (right : Right s words) where
-  pub long-absent : (name : List ℕ) → 4294967295 ≤ length name → holds name (recorded s) ≡ false
+module _ (s : State) (words : List ℕ) (bytes : AllBytes (s .buffer)) (right : Right s words) where
+  pub long-absent : (name : List ℕ) → 4294967295 ≤ length name → containsName name (recorded s) ≡ false
   long-absent name h =
       holds-longer name (recorded s) (names-short (length name) (recorded s) (omega (arith, end-small s bytes (right .closes), ends s bytes (right .closes))))
 
@@ -75,20 +75,20 @@ module _ (s : State) (words : List ℕ) (bytes : Bytes (s .buffer)) (right : Rig
     h = hashOf name
 
     ks : List ℕ
-    ks = order m m (start h m)
+    ks = probeSequence m m (start h m)
 
     table : ℕ → Bucket
     table k = getD (filled m (entryBuckets s)) k empty
 
     -- the result r of the probe
     pub record ProbeResult (r : ℕ) : Type 0 where
-      pub found : slotCount words < r → holds name (recorded s) ≡ true
-      pub absent : r ≤ slotCount words → holds name (recorded s) ≡ false
-      pub free : r < slotCount words → r ≡ firstEmpty (λ (k : ℕ). slot words k .at) (order (slotCount words) (slotCount words) (start (hashOf name) (slotCount words)))
+      pub found : slotCount words < r → containsName name (recorded s) ≡ true
+      pub absent : r ≤ slotCount words → containsName name (recorded s) ≡ false
+      pub free : r < slotCount words → r ≡ firstEmpty (λ (k : ℕ). slot words k .at) (probeSequence (slotCount words) (slotCount words) (start (hashOf name) (slotCount words)))
       pub full : r ≡ slotCount words → slotCount words ≤ s .writer .entries
 
     r : ℕ
-    r = probe (slotCount words) (slot words) (hashOf name) (hasNameAt (take (s .writer .end) (s .buffer)) name) (order (slotCount words) (slotCount words) (start (hashOf name) (slotCount words)))
+    r = probe (slotCount words) (slot words) (hashOf name) (hasNameAt (take (s .writer .end) (s .buffer)) name) (probeSequence (slotCount words) (slotCount words) (start (hashOf name) (slotCount words)))
 
     none : slotCount words ≡ 0 → ProbeResult r
     unfolding r
@@ -106,9 +106,9 @@ module _ (s : State) (words : List ℕ) (bytes : Bytes (s .buffer)) (right : Rig
       unfolding m h
       below = mod-lt (h / 256) some
 
-      equal : matches (slot words) h v ks ≡ matches table h v ks
+      equal : hasMatch (slot words) h v ks ≡ hasMatch table h v ks
       unfolding m ks table
-      equal = matches-equal (slot words) table h v m (right .slots) m (start h m) below
+      equal = hasMatch-equal (slot words) table h v m (right .slots) m (start h m) below
 
       most : Dec (s .writer .entries ≡ m) → All (λ (k : ℕ). NotEmpty (slot words k)) ks → m ≤ s .writer .entries
       unfolding m ks table entryBuckets
@@ -119,7 +119,7 @@ module _ (s : State) (words : List ℕ) (bytes : Bytes (s .buffer)) (right : Rig
           (all-occupied name v m headSize (recorded s) (omega arith) room decided)
           (all-equal (λ (k : ℕ). NotEmpty (slot words k)) (λ (k : ℕ). NotEmpty (table k)) m (λ k l n z. n (ap (λ (b : Bucket). b .at) (right .slots k l) ∙ z)) ks (order-below m m (start h m) below) full))
 
-      every-taken : All (λ (k : ℕ). NotEmpty (slot words k)) (order (slotCount words) (slotCount words) (start (hashOf name) (slotCount words))) → slotCount words ≤ s .writer .entries
+      every-taken : All (λ (k : ℕ). NotEmpty (slot words k)) (probeSequence (slotCount words) (slotCount words) (start (hashOf name) (slotCount words))) → slotCount words ≤ s .writer .entries
       unfolding m h ks
       every-taken full = most (ℕ-discrete (s .writer .entries) m) full
 
@@ -147,7 +147,7 @@ module _ (s : State) (words : List ℕ) (bytes : Bytes (s .buffer)) (right : Rig
             full = λ l. every-taken (o .full);
           }
 
-    pub probe-contains : ProbeResult (probe (slotCount words) (slot words) (hashOf name) (hasNameAt (take (s .writer .end) (s .buffer)) name) (order (slotCount words) (slotCount words) (start (hashOf name) (slotCount words))))
+    pub probe-contains : ProbeResult (probe (slotCount words) (slot words) (hashOf name) (hasNameAt (take (s .writer .end) (s .buffer)) name) (probeSequence (slotCount words) (slotCount words) (start (hashOf name) (slotCount words))))
     unfolding m v h ks r
     probe-contains = go (ℕ-discrete (slotCount words) 0)
       where
@@ -158,9 +158,9 @@ module _ (s : State) (words : List ℕ) (bytes : Bytes (s .buffer)) (right : Rig
     -- ---- for either choice of repeats
 
     pub record PutProbe (t : Bool) (r : ℕ) : Type 0 where
-      pub found : slotCount words < r → (holds name (recorded s) && t) ≡ true
-      pub absent : r ≤ slotCount words → (holds name (recorded s) && t) ≡ false
-      pub free : r < slotCount words → r ≡ firstEmpty (λ (k : ℕ). slot words k .at) (order (slotCount words) (slotCount words) (start (hashOf name) (slotCount words)))
+      pub found : slotCount words < r → (containsName name (recorded s) && t) ≡ true
+      pub absent : r ≤ slotCount words → (containsName name (recorded s) && t) ≡ false
+      pub free : r < slotCount words → r ≡ firstEmpty (λ (k : ℕ). slot words k .at) (probeSequence (slotCount words) (slotCount words) (start (hashOf name) (slotCount words)))
       pub full : r ≡ slotCount words → slotCount words ≤ s .writer .entries
 
     off : ProbeResult r → PutProbe true r
@@ -173,7 +173,7 @@ module _ (s : State) (words : List ℕ) (bytes : Bytes (s .buffer)) (right : Rig
         }
 
     q : ℕ
-    q = probe (slotCount words) (slot words) (hashOf name) (λ (a : ℕ). false) (order (slotCount words) (slotCount words) (start (hashOf name) (slotCount words)))
+    q = probe (slotCount words) (slot words) (hashOf name) (λ (a : ℕ). false) (probeSequence (slotCount words) (slotCount words) (start (hashOf name) (slotCount words)))
 
     on-none : slotCount words ≡ 0 → PutProbe false q
     unfolding q
@@ -181,7 +181,7 @@ module _ (s : State) (words : List ℕ) (bytes : Bytes (s .buffer)) (right : Rig
         let e : 0 ≡ q = probe-none (slotCount words) (slot words) (hashOf name) (λ (a : ℕ). false) z in
         record {
           found = λ l. absurd (omega (arith, l, e));
-          absent = λ l. and-false (holds name (recorded s));
+          absent = λ l. and-false (containsName name (recorded s));
           free = λ l. absurd (omega (arith, l, z));
           full = λ l. omega (arith, z);
         }
@@ -189,28 +189,28 @@ module _ (s : State) (words : List ℕ) (bytes : Bytes (s .buffer)) (right : Rig
     on-some : 0 < slotCount words → PutProbe false q
     unfolding q
     on-some some =
-        by-slots (outcome (slotCount words) (slot words) (hashOf name) (λ (a : ℕ). false) (order (slotCount words) (slotCount words) (start (hashOf name) (slotCount words))) (order-below (slotCount words) (slotCount words) (start (hashOf name) (slotCount words)) (mod-lt (hashOf name / 256) some)))
+        by-slots (outcome (slotCount words) (slot words) (hashOf name) (λ (a : ℕ). false) (probeSequence (slotCount words) (slotCount words) (start (hashOf name) (slotCount words))) (order-below (slotCount words) (slotCount words) (start (hashOf name) (slotCount words)) (mod-lt (hashOf name / 256) some)))
       where
-        by-slots : Matched (slotCount words) (slot words) (hashOf name) (λ (a : ℕ). false) (order (slotCount words) (slotCount words) (start (hashOf name) (slotCount words)))
-            ⊎ (EmptyFound (slotCount words) (slot words) (hashOf name) (λ (a : ℕ). false) (order (slotCount words) (slotCount words) (start (hashOf name) (slotCount words)))
-            ⊎ NoneEmpty (slotCount words) (slot words) (hashOf name) (λ (a : ℕ). false) (order (slotCount words) (slotCount words) (start (hashOf name) (slotCount words)))) → PutProbe false q
-        by-slots (inl o) = absurd (not-both (sym (never-matches (slot words) (hashOf name) (order (slotCount words) (slotCount words) (start (hashOf name) (slotCount words)))) ∙ o .matching))
+        by-slots : Matched (slotCount words) (slot words) (hashOf name) (λ (a : ℕ). false) (probeSequence (slotCount words) (slotCount words) (start (hashOf name) (slotCount words)))
+            ⊎ (EmptyFound (slotCount words) (slot words) (hashOf name) (λ (a : ℕ). false) (probeSequence (slotCount words) (slotCount words) (start (hashOf name) (slotCount words)))
+            ⊎ NoneEmpty (slotCount words) (slot words) (hashOf name) (λ (a : ℕ). false) (probeSequence (slotCount words) (slotCount words) (start (hashOf name) (slotCount words)))) → PutProbe false q
+        by-slots (inl o) = absurd (false-not-true (sym (never-matches (slot words) (hashOf name) (probeSequence (slotCount words) (slotCount words) (start (hashOf name) (slotCount words)))) ∙ o .matching))
         by-slots (inr (inl o)) =
             record {
               found = λ l. absurd (omega (arith, l, o .below));
-              absent = λ l. and-false (holds name (recorded s));
+              absent = λ l. and-false (containsName name (recorded s));
               free = λ l. o .is;
               full = λ l. absurd (omega (arith, l, o .below));
             }
         by-slots (inr (inr o)) =
             record {
               found = λ l. absurd (omega (arith, l, o .is));
-              absent = λ l. and-false (holds name (recorded s));
+              absent = λ l. and-false (containsName name (recorded s));
               free = λ l. absurd (omega (arith, l, o .is));
               full = λ l. every-taken some (o .full);
             }
 
-    pub put-probe : (t : Bool) → PutProbe t (probe (slotCount words) (slot words) (hashOf name) (duplicateAt t (take (s .writer .end) (s .buffer)) name) (order (slotCount words) (slotCount words) (start (hashOf name) (slotCount words))))
+    pub put-probe : (t : Bool) → PutProbe t (probe (slotCount words) (slot words) (hashOf name) (duplicateAt t (take (s .writer .end) (s .buffer)) name) (probeSequence (slotCount words) (slotCount words) (start (hashOf name) (slotCount words))))
     unfolding r q
     put-probe true = off probe-contains
     put-probe false = choose (ℕ-discrete (slotCount words) 0)

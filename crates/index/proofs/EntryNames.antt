@@ -9,18 +9,18 @@ use lib.Dec.{eqb}
 use lib.ListN.{length, getD}
 use Rattle.jhash.specs.NameHash.{hashOf}
 use Rattle.image.specs.Bytes.{same, cat}
-use Rattle.image.specs.Tables.{Bucket, empty, order, start, filled}
-use Rattle.image.specs.Image.{Entry, Placed, headSize, entryBytes, entrySize, placed, bucketOf, hasName, holds}
+use Rattle.image.specs.Tables.{Bucket, empty, probeSequence, start, filled}
+use Rattle.image.specs.Image.{Entry, Placed, headSize, entryBytes, entrySize, placed, bucketOf, hasName, containsName}
 use Rattle.image.proofs.At.{At}
-use Rattle.image.proofs.Bools.{not-both}
+use Rattle.image.proofs.Bools.{false-not-true}
 use Rattle.image.proofs.Buckets.{filled-all}
-use Rattle.image.proofs.EntryAt.{Stands, standing, all-placed}
+use Rattle.image.proofs.EntryAt.{EntryAt, placed-at, all-placed}
 use Rattle.image.proofs.Equal.{same-true}
-use Rattle.image.proofs.Every.{All, all-map, all-both, all-image}
+use Rattle.image.proofs.AllOfList.{All, all-map, all-both, all-image}
 use Rattle.reader.specs.Lookup.{Hit, hit, pass}
-use Rattle.lookup_laws.proofs.EntrySeen.{seen-entry}
-use Rattle.lookup_laws.proofs.Table.{NotEmpty}
-use Rattle.lookup_laws.specs.steps.Matches.{matches}
+use Rattle.lookup_laws.proofs.EntryProbe.{probe-entry-at}
+use Rattle.lookup_laws.proofs.TableContents.{NotEmpty}
+use Rattle.lookup_laws.specs.steps.HasMatch.{hasMatch}
 use Rattle.lookup_laws.proofs.Matching.{no-match}
 use Rattle.index.specs.steps.Probe.{isHit, hasNameAt}
 
@@ -35,14 +35,14 @@ module _ (img name : List ℕ) (small : length img ≤ 4294967295) where
   hit-is true x = refl
   hit-is false x = refl
 
-  one-decided : (p : Placed) → Stands img p × (p .entry .id < 2 ^ 32) → NameRead p
-  one-decided p w = ap isHit (seen-entry (p .entry) (w .0 .there) small name (w .1)) ∙ hit-is (same (p .entry .name) name) _
+  one-decided : (p : Placed) → EntryAt img p × (p .entry .id < 2 ^ 32) → NameRead p
+  one-decided p w = ap isHit (probe-entry-at (p .entry) (w .0 .there) small name (w .1)) ∙ hit-is (same (p .entry .name) name) _
 
   pub all-decided : (es : List Entry) → At img headSize (cat entryBytes es) → All (λ (e : Entry). e .id < 2 ^ 32) es → All NameRead (placed headSize es)
   all-decided es stands ids =
       all-map one-decided (placed headSize es)
-      (all-both (Stands img) (λ (p : Placed). p .entry .id < 2 ^ 32) (placed headSize es)
-      (standing img headSize es (omega arith) stands) (all-placed (λ (e : Entry). e .id < 2 ^ 32) headSize es ids))
+      (all-both (EntryAt img) (λ (p : Placed). p .entry .id < 2 ^ 32) (placed headSize es)
+      (placed-at img headSize es (omega arith) stands) (all-placed (λ (e : Entry). e .id < 2 ^ 32) headSize es ids))
 
 -- ---- entries and names
 
@@ -52,36 +52,36 @@ module _ (name : List ℕ) (v : ℕ → Bool) where
 
   -- no entry of the name's hash has the name: none has it
   holds-none : (o : ℕ) (es : List Entry) → All Decides (placed o es)
-      → All (λ (b : Bucket). b .hash ≡ hashOf name → v (b .at) ≡ false) (map bucketOf (placed o es)) → holds name es ≡ false
-  unfolding placed holds
+      → All (λ (b : Bucket). b .hash ≡ hashOf name → v (b .at) ≡ false) (map bucketOf (placed o es)) → containsName name es ≡ false
+  unfolding placed containsName
   holds-none o [] decided others = refl
   holds-none o (e ∷ es) decided others = go (same (e .name) name) refl (holds-none (o + entrySize e) es (decided .1) (others .1))
     where
-      go : (t : Bool) → same (e .name) name ≡ t → holds name es ≡ false → (t || holds name es) ≡ false
-      go true p rest = absurd (not-both (sym (others .0 (ap hashOf (same-true (e .name) name p))) ∙ decided .0 ∙ p))
+      go : (t : Bool) → same (e .name) name ≡ t → containsName name es ≡ false → (t || containsName name es) ≡ false
+      go true p rest = absurd (false-not-true (sym (others .0 (ap hashOf (same-true (e .name) name p))) ∙ decided .0 ∙ p))
       go false p rest = rest
 
   -- one has the name: an entry has it
-  has-one : (o : ℕ) (es : List Entry) → All (λ (p : Placed). same (p .entry .name) name ≡ true → holds name es ≡ true) (placed o es)
-  unfolding placed holds
+  has-one : (o : ℕ) (es : List Entry) → All (λ (p : Placed). same (p .entry .name) name ≡ true → containsName name es ≡ true) (placed o es)
+  unfolding placed containsName
   has-one o [] = tt
   has-one o (e ∷ es) = (
-    λ t. ap (λ (x : Bool). x || holds name es) t,
+    λ t. ap (λ (x : Bool). x || containsName name es) t,
     all-map (λ p later t. go (hasName name e) (later t)) (placed (o + entrySize e) es) (has-one (o + entrySize e) es),
   )
     where
-      go : (t : Bool) → holds name es ≡ true → (t || holds name es) ≡ true
+      go : (t : Bool) → containsName name es ≡ true → (t || containsName name es) ≡ true
       go true h = refl
       go false h = h
 
   -- a probe with a match has passed a slot whose entry has the name
-  matches-some : (b : ℕ → Bucket) (h : ℕ) (X : Type 0) → ((k : ℕ) → NotEmpty (b k) → v (b k .at) ≡ true → X) → (ks : List ℕ) → matches b h v ks ≡ true → X
-  unfolding matches
-  matches-some b h X decided [] e = absurd (not-both e)
+  matches-some : (b : ℕ → Bucket) (h : ℕ) (X : Type 0) → ((k : ℕ) → NotEmpty (b k) → v (b k .at) ≡ true → X) → (ks : List ℕ) → hasMatch b h v ks ≡ true → X
+  unfolding hasMatch
+  matches-some b h X decided [] e = absurd (false-not-true e)
   matches-some b h X decided (k ∷ ks) e = go (eqb (b k .at) 0) refl (eqb (b k .hash) h) (v (b k .at)) refl (matches-some b h X decided ks) e
     where
-      go : (p : Bool) → eqb (b k .at) 0 ≡ p → (q t : Bool) → v (b k .at) ≡ t → (matches b h v ks ≡ true → X) → cond p false (cond (q && t) true (matches b h v ks)) ≡ true → X
-      go true p q t r rest e = absurd (not-both e)
+      go : (p : Bool) → eqb (b k .at) 0 ≡ p → (q t : Bool) → v (b k .at) ≡ t → (hasMatch b h v ks ≡ true → X) → cond p false (cond (q && t) true (hasMatch b h v ks)) ≡ true → X
+      go true p q t r rest e = absurd (false-not-true e)
       go false p true true r rest e = decided k (eqb-false (b k .at) 0 p) r
       go false p true false r rest e = rest e
       go false p false t r rest e = rest e
@@ -98,17 +98,17 @@ module _ (name : List ℕ) (v : ℕ → Bool) where
     pub all-occupied : All NotEmpty (map bucketOf (placed o es))
     all-occupied = no-zero o es after
 
-    pub not-contained : 0 < m → matches slots (hashOf name) v (order m m (start (hashOf name) m)) ≡ false → holds name es ≡ false
+    pub not-contained : 0 < m → hasMatch slots (hashOf name) v (probeSequence m m (start (hashOf name) m)) ≡ false → containsName name es ≡ false
     not-contained some none =
         holds-none o es decided (no-match (hashOf name) v m (map bucketOf (placed o es)) some room all-occupied none)
 
     abbrev P : Bucket → Type 0
-    P b = NotEmpty b → v (b .at) ≡ true → holds name es ≡ true
+    P b = NotEmpty b → v (b .at) ≡ true → containsName name es ≡ true
 
-    pub contained : (ks : List ℕ) → matches slots (hashOf name) v ks ≡ true → holds name es ≡ true
+    pub contained : (ks : List ℕ) → hasMatch slots (hashOf name) v ks ≡ true → containsName name es ≡ true
     contained ks e =
-        matches-some slots (hashOf name) (holds name es ≡ true)
+        matches-some slots (hashOf name) (containsName name es ≡ true)
         (filled-all P m (map bucketOf (placed o es)) (λ full t. absurd (full refl))
         (all-image P bucketOf (λ p w full t. w .1 (sym (w .0) ∙ t)) (placed o es)
-        (all-both Decides (λ (p : Placed). same (p .entry .name) name ≡ true → holds name es ≡ true) (placed o es) decided (has-one o es))))
+        (all-both Decides (λ (p : Placed). same (p .entry .name) name ≡ true → containsName name es ≡ true) (placed o es) decided (has-one o es))))
         ks e

@@ -8,17 +8,17 @@ use mathlib.Core.List.{List, [], _∷_, _++_, map, map-append, append-assoc, app
 use mathlib.Core.Logic.{_⊎_, inl, inr}
 use lib.ListN.{length, getD, take, drop, length-append, length-map}
 use Rattle.jhash.specs.NameHash.{hashOf}
-use Rattle.image.specs.Tables.{Bucket, empty, start, order, firstEmpty, insertAll, filled}
+use Rattle.image.specs.Tables.{Bucket, empty, start, probeSequence, firstEmpty, insertAll, filled}
 use Rattle.image.specs.Image.{Entry, headSize, entrySize, entriesSize, placed, bucketOf}
 use Rattle.image.specs.Stored.{firstEntry, afterFirst, whole, entriesIn, between}
 use Rattle.image.specs.steps.EntryLength.{wholeLength}
 use Rattle.image.proofs.Between.{Front, front, not-whole, length-between}
-use Rattle.image.proofs.Bools.{not-both}
+use Rattle.image.proofs.Bools.{false-not-true}
 use Rattle.image.proofs.Buckets.{getD-empties}
 use Rattle.image.proofs.EntryWalk.{whole-rest, first-name, entries-rest}
-use Rattle.image.proofs.Every.{All}
+use Rattle.image.proofs.AllOfList.{All}
 use Rattle.image.proofs.Sizes.{entriesSize-append, placed-append, length-placed}
-use Rattle.lookup_laws.proofs.Table.{NotEmpty}
+use Rattle.lookup_laws.proofs.TableContents.{NotEmpty}
 use Rattle.index.specs.Index.{slotCount, slot, slotStored}
 use Rattle.index.specs.steps.Probe.{probe}
 use Rattle.index.specs.steps.Fill.{SlotsFilled}
@@ -49,24 +49,24 @@ buckets-occupied o (e ∷ es) h = ((λ z. omega (arith, h, z)), buckets-occupied
 -- fewer entries than slots: the probe ends at the first empty one
 module _ (words : List ℕ) (m : ℕ) (es : List Entry) (fewer : length es < m) (slots : (k : ℕ) → k < m → slot words k ≡ getD (filled m (bucketsOf es)) k empty) (h : ℕ) where
   ks : List ℕ
-  ks = order m m (start h m)
+  ks = probeSequence m m (start h m)
 
   below : start h m < m
   below = mod-lt (h / 256) (omega arith)
 
-  free : EmptyFound m (slot words) h never (order m m (start h m))
+  free : EmptyFound m (slot words) h never (probeSequence m m (start h m))
   unfolding ks
   free = go (outcome m (slot words) h never ks (order-below m m (start h m) below))
     where
       go : Matched m (slot words) h never ks ⊎ (EmptyFound m (slot words) h never ks ⊎ NoneEmpty m (slot words) h never ks) → EmptyFound m (slot words) h never ks
-      go (inl o) = absurd (not-both (sym (never-matches (slot words) h ks) ∙ o .matching))
+      go (inl o) = absurd (false-not-true (sym (never-matches (slot words) h ks) ∙ o .matching))
       go (inr (inl o)) = o
       go (inr (inr o)) =
           absurd
           (some-free m (bucketsOf es) (start h m) below (omega (arith, fewer, length-buckets es)) (buckets-occupied headSize es (omega arith))
           (all-equal (λ (k : ℕ). NotEmpty (slot words k)) (λ (k : ℕ). NotEmpty (getD (filled m (bucketsOf es)) k empty)) m (λ k l n z. n (ap (λ (b : Bucket). b .at) (slots k l) ∙ z)) ks (order-below m m (start h m) below) (o .full)))
 
-  pub first-empty-is : (r : ℕ) → r ≡ probe m (slot words) h never (order m m (start h m)) → (r < m) × (r ≡ firstEmpty (λ (k : ℕ). slot words k .at) (order m m (start h m)))
+  pub first-empty-is : (r : ℕ) → r ≡ probe m (slot words) h never (probeSequence m m (start h m)) → (r < m) × (r ≡ firstEmpty (λ (k : ℕ). slot words k .at) (probeSequence m m (start h m)))
   first-empty-is r e = (omega (arith, e, free .below), e ∙ free .is)
 
 -- ---- entry by entry
@@ -107,7 +107,7 @@ module _ (buf : List ℕ) (end entries : ℕ) (words₀ : List ℕ) where
     unfolding whole
     not-broken n e z =
         let l : left ≡ suc (left - 1) = omega arith in
-        not-both
+        false-not-true
         (sym (ap (λ (b : Bool). b && whole (left - 1) (afterFirst (between buf at end))) (not-whole (between buf at end) (sym z ∙ e)))
         ∙ sym (ap (λ (q : ℕ). whole q (between buf at end)) l)
         ∙ f .entire)
@@ -133,7 +133,7 @@ module _ (buf : List ℕ) (end entries : ℕ) (words₀ : List ℕ) where
       fewer room = omega (arith, room, f .number, more)
 
       module _ (room : entries ≤ slotCount words₀) (k : ℕ) (free : k < slotCount words₀)
-          (is-first : k ≡ firstEmpty (λ (j : ℕ). slot words j .at) (order (slotCount words₀) (slotCount words₀) (start h (slotCount words₀)))) where
+          (is-first : k ≡ firstEmpty (λ (j : ℕ). slot words j .at) (probeSequence (slotCount words₀) (slotCount words₀) (start h (slotCount words₀)))) where
         pub filling-turn : (at′ : ℕ) → at′ ≡ at + (8 + n) → at′ ≤ end → Filling at′ (left - 1) (slotStored words k h at)
         unfolding first entriesSize
         filling-turn at′ ea high′ =

@@ -10,7 +10,7 @@ use lib.ListN.{length, getD}
 use Rattle.image.specs.Tables.{empty, filled}
 use Rattle.image.specs.Image.{headSize, placed, bucketOf, backIn, backSize}
 use Rattle.image.specs.Stored.{whole}
-use Rattle.image.proofs.Bools.{first}
+use Rattle.image.proofs.Bools.{and-first}
 use Rattle.writer.specs.declared.CQDBWriter.{CQDBWriter}
 use Rattle.writer.specs.State.{State, stateWith, finishedSize}
 use Rattle.writer.specs.Close.{entryArea, recorded, closeRefusal}
@@ -95,8 +95,8 @@ fillable w counts buf words closes room cleared =
       inside = omega (arith, f .high, f .same-length);
       small = omega (arith, not-too-large (w .length) (finishedSize w) (a .fine) .1);
       entire =
-          first (whole (w .entries) (entryArea s)) (countsAgree counts (recorded s))
-          (first (whole (w .entries) (entryArea s) && countsAgree counts (recorded s)) (eqb (w .back) (backIn (w .mode) (backSize (recorded s)))) (a .all));
+          and-first (whole (w .entries) (entryArea s)) (countsAgree counts (recorded s))
+          (and-first (whole (w .entries) (entryArea s) && countsAgree counts (recorded s)) (eqb (w .back) (backIn (w .mode) (backSize (recorded s)))) (a .all));
       room = room;
       cleared = cleared;
     }

@@ -11,15 +11,15 @@ use borrow.Author.Tests.{eq-eqb, ne-eqb}
 use lib.Dec.{eqb}
 use lib.ListN.{length, getD, set, length-set}
 use lib.Seq.{getD-set-same, getD-set-other}
-use Rattle.image.specs.Tables.{Bucket, empty, atOf, start, order, firstEmpty, insert, filled}
+use Rattle.image.specs.Tables.{Bucket, empty, atOf, start, probeSequence, firstEmpty, insert, filled}
 use Rattle.image.proofs.Sizes.{length-filled, filled-more}
-use Rattle.image.proofs.Every.{All}
-use Rattle.image.proofs.Buckets.{length-order, firstEmpty-alike}
-use Rattle.reader.specs.Lookup.{Seen, pass, ends}
+use Rattle.image.proofs.AllOfList.{All}
+use Rattle.image.proofs.Buckets.{length-probeSequence, firstEmpty-ext}
+use Rattle.reader.specs.Lookup.{Probe, pass, ends}
 use Rattle.lookup_laws.proofs.Scan.{used}
-use Rattle.lookup_laws.proofs.Order.{view}
-use Rattle.lookup_laws.proofs.SearchFilling.{Sees}
-use Rattle.lookup_laws.proofs.Table.{Apart, NotEmpty, filled-holds}
+use Rattle.lookup_laws.proofs.ProbeSequence.{view}
+use Rattle.lookup_laws.proofs.SearchFilling.{EndsAtEmpty}
+use Rattle.lookup_laws.proofs.TableContents.{OtherStart, NotEmpty, filled-used}
 use Rattle.index.specs.Index.{slot, slotStored}
 
 -- equal words make equal slots
@@ -36,17 +36,17 @@ stored-other words k h at i x y = getD-set-other (set words (2 * k) h) (2 * k + 
 -- ---- fewer entries than slots leave one free
 
 module _ (m : ℕ) (bs : List Bucket) (s₀ : ℕ) (inside : s₀ < m) (room : length bs < m) (full : All NotEmpty bs) where
-  looked : Bucket → Seen
+  looked : Bucket → Probe
   looked b = cond (eqb (b .at) 0) ends pass
 
-  sees : Sees looked
+  sees : EndsAtEmpty looked
   unfolding looked
   sees = record {
     empties = λ b e. ap (λ (t : Bool). cond t ends pass) (eq-eqb (b .at) 0 e);
     takes = λ b e. rw (ne-eqb (b .at) 0 e) tt;
   }
 
-  apart : Apart looked m s₀
+  apart : OtherStart looked m s₀
   unfolding looked
   apart b some = inr (ap (λ (t : Bool). cond t ends pass) (ne-eqb (b .at) 0 some))
 
@@ -55,26 +55,26 @@ module _ (m : ℕ) (bs : List Bucket) (s₀ : ℕ) (inside : s₀ < m) (room : l
   used-all [] all = refl
   used-all (k ∷ ks) all = rw (ne-eqb (getD (filled m bs) k empty .at) 0 (all .0)) (ap suc (used-all ks (all .1)))
 
-  pub some-free : All (λ (k : ℕ). NotEmpty (getD (filled m bs) k empty)) (order m m s₀) → ⊥
+  pub some-free : All (λ (k : ℕ). NotEmpty (getD (filled m bs) k empty)) (probeSequence m m s₀) → ⊥
   unfolding view
   some-free all =
-      let taken-slots = filled-holds looked sees m s₀ inside apart bs (omega arith) full in
-      let every = used-all (order m m s₀) all in
-      let long = length-order m m s₀ in
+      let taken-slots = filled-used looked sees m s₀ inside apart bs (omega arith) full in
+      let every = used-all (probeSequence m m s₀) all in
+      let long = length-probeSequence m m s₀ in
       let clash : length bs ≡ m = sym taken-slots ∙ every ∙ long in
       omega (arith, clash, room)
 
 -- ---- one entry more
 
 module _ (words : List ℕ) (bs : List Bucket) (m : ℕ) (long : 2 * m ≤ length words) (slots : (k : ℕ) → k < m → slot words k ≡ getD (filled m bs) k empty)
-    (b : Bucket) (k : ℕ) (free : k < m) (is : k ≡ firstEmpty (λ (j : ℕ). slot words j .at) (order m m (start (b .hash) m))) where
+    (b : Bucket) (k : ℕ) (free : k < m) (is : k ≡ firstEmpty (λ (j : ℕ). slot words j .at) (probeSequence m m (start (b .hash) m))) where
   table : List Bucket
   table = filled m bs
 
-  place : firstEmpty (atOf table) (order m m (start (b .hash) m)) ≡ k
+  place : firstEmpty (atOf table) (probeSequence m m (start (b .hash) m)) ≡ k
   unfolding table
   place =
-      sym (firstEmpty-alike (λ (j : ℕ). slot words j .at) (atOf table) m (λ j l. ap (λ (x : Bucket). x .at) (slots j l)) m (start (b .hash) m) (mod-lt (b .hash / 256) (omega arith)))
+      sym (firstEmpty-ext (λ (j : ℕ). slot words j .at) (atOf table) m (λ j l. ap (λ (x : Bucket). x .at) (slots j l)) m (start (b .hash) m) (mod-lt (b .hash / 256) (omega arith)))
       ∙ sym is
 
   more : filled m (bs ++ (b ∷ [])) ≡ set table k b

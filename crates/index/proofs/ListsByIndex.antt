@@ -10,7 +10,7 @@ use lib.Dec.{eqb, leb}
 use lib.ListN.{length, length-append}
 use Rattle.jhash.specs.NameHash.{hashOf}
 use Rattle.image.specs.declared.Mode.{Mode}
-use Rattle.image.specs.Image.{Entry, headSize, holds}
+use Rattle.image.specs.Image.{Entry, headSize, containsName}
 use Rattle.image.specs.Zero.{hasZero}
 use Rattle.writer.specs.declared.Repeats.{Repeats}
 use Rattle.writer.specs.State.{State, fresh, refusesRepeats, tooLarge}
@@ -21,8 +21,8 @@ use Rattle.lists.specs.Demand3.{afterList, imageOf}
 use Rattle.lists.proofs.ListWritten.{Written}
 use Rattle.lists.proofs.ListPuts.{put-due, appended-written, fresh-written}
 use Rattle.lists.proofs.ListCloses.{close-accepted, close-written}
-use Rattle.lists.proofs.Recorded.{written-recorded}
-use Rattle.lists.proofs.Along.{list-answers, list-accepted}
+use Rattle.lists.proofs.WrittenRecord.{written-recorded}
+use Rattle.lists.proofs.CallLists.{list-answers, list-accepted}
 use Rattle.index.specs.Index.{slotCount, firstEmptySlot, Right, indexedRefusal}
 use Rattle.index.specs.Promise.{PutIndexed}
 use Rattle.index.specs.ListsByIndex.{Run, dueToIndexed, dueIndexed, withoutFull, notFull, RunByIndex, ListsByIndex}
@@ -33,7 +33,7 @@ use Rattle.index.proofs.RightAfterPut.{right-by}
 
 due-below : (mode : Mode) (repeats : Repeats) (n : ℕ) (es : List Entry) (c : Call) → dueTo mode repeats n es c < 24
 unfolding putDue
-due-below mode repeats n es (put e) = go (hasZero (e .name)) (holds (e .name) es && refusesRepeats repeats) (tooLarge n (sizeOf mode (es ++ (e ∷ []))))
+due-below mode repeats n es (put e) = go (hasZero (e .name)) (containsName (e .name) es && refusesRepeats repeats) (tooLarge n (sizeOf mode (es ++ (e ∷ []))))
   where
     go : (z d t : Bool) → cond {A = ℕ} z 13 (cond d 16 (cond t 3 0)) < 24
     go true d t = omega arith

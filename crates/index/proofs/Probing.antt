@@ -9,24 +9,24 @@ use mathlib.Core.List.{List, [], _∷_}
 use mathlib.Core.Logic.{_⊎_, inl, inr}
 use borrow.Author.Tests.{eq-eqb, ne-eqb, eqb-false}
 use lib.Dec.{eqb}
-use Rattle.image.specs.Tables.{Bucket, start, next, order, firstEmpty}
-use Rattle.image.proofs.Buckets.{order-turn}
-use Rattle.image.proofs.Every.{All}
+use Rattle.image.specs.Tables.{Bucket, start, next, probeSequence, firstEmpty}
+use Rattle.image.proofs.Buckets.{probeSequence-step}
+use Rattle.image.proofs.AllOfList.{All}
 use Rattle.reader.specs.Lookup as spec
-use Rattle.reader.specs.Cases.{seenOf}
-use Rattle.reader.specs.declared.Seen.{Seen}
-use Rattle.lookup_laws.specs.steps.Matches.{matches}
+use Rattle.reader.specs.Cases.{probeOf}
+use Rattle.reader.specs.declared.Probe.{Probe}
+use Rattle.lookup_laws.specs.steps.HasMatch.{hasMatch}
 use Rattle.writer.specs.declared.Repeats.{Repeats}
 use Rattle.writer.specs.State.{refusesRepeats}
 use Rattle.index.specs.steps.Probe.{isHit, duplicateAt, probe}
 
 -- the code's result as a truth value
-pub has-name-by : (r x : Seen) (y : spec.Seen) → seenOf r ≡ y → r ≡ x → isHit (seenOf x) ≡ isHit y
-has-name-by r x y e p = ap (λ (z : Seen). isHit (seenOf z)) (sym p) ∙ ap isHit e
+pub has-name-by : (r x : Probe) (y : spec.Probe) → probeOf r ≡ y → r ≡ x → isHit (probeOf x) ≡ isHit y
+has-name-by r x y e p = ap (λ (z : Probe). isHit (probeOf z)) (sym p) ∙ ap isHit e
 
 -- the slots of a probe sequence are slots
-pub order-below : (m n k : ℕ) → k < m → All (λ (i : ℕ). i < m) (order m n k)
-unfolding order
+pub order-below : (m n k : ℕ) → k < m → All (λ (i : ℕ). i < m) (probeSequence m n k)
+unfolding probeSequence
 order-below m zero k h = tt
 order-below m (suc n) k h = (h, order-below m n (next m k) (mod-lt (k + 1) (omega arith)))
 
@@ -34,36 +34,36 @@ module _ (m : ℕ) (b : ℕ → Bucket) (h : ℕ) (v : ℕ → Bool) where
   -- the rest of the probe sequence, `left` slots from slot k on, gives the result of the whole
   pub record Rest (left k : ℕ) : Type 0 where
     pub inside : k < m
-    pub rest : probe m b h v (order m left k) ≡ probe m b h v (order m m (start h m))
+    pub rest : probe m b h v (probeSequence m left k) ≡ probe m b h v (probeSequence m m (start h m))
 
   pub rest-start : 0 < m → Rest m (start h m)
   rest-start some = record { inside = mod-lt (h / 256) some; rest = refl }
 
-  pub probe-none : m ≡ 0 → 0 ≡ probe m b h v (order m m (start h m))
-  unfolding probe order
-  probe-none z = sym (ap (λ (n : ℕ). probe m b h v (order m n (start h m))) z ∙ z)
+  pub probe-none : m ≡ 0 → 0 ≡ probe m b h v (probeSequence m m (start h m))
+  unfolding probe probeSequence
+  probe-none z = sym (ap (λ (n : ℕ). probe m b h v (probeSequence m n (start h m))) z ∙ z)
 
-  pub rest-end : (left k : ℕ) → Rest left k → left ≡ 0 → m ≡ probe m b h v (order m m (start h m))
-  unfolding probe order
-  rest-end left k s z = ap (λ (n : ℕ). probe m b h v (order m n k)) (sym z) ∙ s .rest
+  pub rest-end : (left k : ℕ) → Rest left k → left ≡ 0 → m ≡ probe m b h v (probeSequence m m (start h m))
+  unfolding probe probeSequence
+  rest-end left k s z = ap (λ (n : ℕ). probe m b h v (probeSequence m n k)) (sym z) ∙ s .rest
 
   module _ (left k : ℕ) (s : Rest left k) (more : 0 < left) where
     later : List ℕ
-    later = order m (left - 1) (next m k)
+    later = probeSequence m (left - 1) (next m k)
 
-    turn : cond (eqb (b k .at) 0) k (cond (eqb (b k .hash) h && v (b k .at)) (m + 1) (probe m b h v later)) ≡ probe m b h v (order m m (start h m))
+    turn : cond (eqb (b k .at) 0) k (cond (eqb (b k .hash) h && v (b k .at)) (m + 1) (probe m b h v later)) ≡ probe m b h v (probeSequence m m (start h m))
     unfolding probe later
-    turn = sym (ap (probe m b h v) (order-turn m left k more)) ∙ s .rest
+    turn = sym (ap (probe m b h v) (probeSequence-step m left k more)) ∙ s .rest
 
-    pub rest-empty : b k .at ≡ 0 → k ≡ probe m b h v (order m m (start h m))
+    pub rest-empty : b k .at ≡ 0 → k ≡ probe m b h v (probeSequence m m (start h m))
     rest-empty z =
         sym (ap (λ (t : Bool). cond t k (cond (eqb (b k .hash) h && v (b k .at)) (m + 1) (probe m b h v later))) (eq-eqb (b k .at) 0 z)) ∙ turn
 
-    passed : (b k .at ≡ 0 → ⊥) → cond (eqb (b k .hash) h && v (b k .at)) (m + 1) (probe m b h v later) ≡ probe m b h v (order m m (start h m))
+    passed : (b k .at ≡ 0 → ⊥) → cond (eqb (b k .hash) h && v (b k .at)) (m + 1) (probe m b h v later) ≡ probe m b h v (probeSequence m m (start h m))
     passed full =
         sym (ap (λ (t : Bool). cond t k (cond (eqb (b k .hash) h && v (b k .at)) (m + 1) (probe m b h v later))) (ne-eqb (b k .at) 0 full)) ∙ turn
 
-    pub rest-match : (b k .at ≡ 0 → ⊥) → b k .hash ≡ h → v (b k .at) ≡ true → m + 1 ≡ probe m b h v (order m m (start h m))
+    pub rest-match : (b k .at ≡ 0 → ⊥) → b k .hash ≡ h → v (b k .at) ≡ true → m + 1 ≡ probe m b h v (probeSequence m m (start h m))
     rest-match full e t =
         sym (ap (λ (x : Bool). cond (x && v (b k .at)) (m + 1) (probe m b h v later)) (eq-eqb (b k .hash) h e) ∙ ap (λ (x : Bool). cond x (m + 1) (probe m b h v later)) t)
         ∙ passed full
@@ -74,7 +74,7 @@ module _ (m : ℕ) (b : ℕ → Bucket) (h : ℕ) (v : ℕ → Bool) where
         record {
           inside = below;
           rest =
-              ap (λ (i : ℕ). probe m b h v (order m (left - 1) i)) e
+              ap (λ (i : ℕ). probe m b h v (probeSequence m (left - 1) i)) e
               ∙ sym (ap (λ (x : Bool). cond x (m + 1) (probe m b h v later)) (no-match (ℕ-discrete (b k .hash) h)))
               ∙ passed full;
         }
@@ -87,20 +87,20 @@ module _ (m : ℕ) (b : ℕ → Bucket) (h : ℕ) (v : ℕ → Bool) where
 
   pub record Matched (ks : List ℕ) : Type 0 where
     pub is : probe m b h v ks ≡ m + 1
-    pub matching : matches b h v ks ≡ true
+    pub matching : hasMatch b h v ks ≡ true
 
   pub record EmptyFound (ks : List ℕ) : Type 0 where
     pub below : probe m b h v ks < m
-    pub matching : matches b h v ks ≡ false
+    pub matching : hasMatch b h v ks ≡ false
     pub is : probe m b h v ks ≡ firstEmpty (λ (k : ℕ). b k .at) ks
 
   pub record NoneEmpty (ks : List ℕ) : Type 0 where
     pub is : probe m b h v ks ≡ m
-    pub matching : matches b h v ks ≡ false
+    pub matching : hasMatch b h v ks ≡ false
     pub full : All (λ (k : ℕ). b k .at ≡ 0 → ⊥) ks
 
   pub outcome : (ks : List ℕ) → All (λ (k : ℕ). k < m) ks → Matched ks ⊎ (EmptyFound ks ⊎ NoneEmpty ks)
-  unfolding probe matches firstEmpty
+  unfolding probe hasMatch firstEmpty
   outcome [] all = inr (inr (record { is = refl; matching = refl; full = tt }))
   outcome (k ∷ ks) all = go (eqb (b k .at) 0) refl (eqb (b k .hash) h && v (b k .at)) refl (outcome ks (all .1))
     where
@@ -112,11 +112,11 @@ module _ (m : ℕ) (b : ℕ → Bucket) (h : ℕ) (v : ℕ → Bool) where
       go false p false q (inr (inr r)) = inr (inr (record { is = rw (p, q) (r .is); matching = rw (p, q) (r .matching); full = (eqb-false (b k .at) 0 p, r .full) }))
 
   -- a result below m is the first empty slot
-  pub probe-first : (r : ℕ) → r ≡ probe m b h v (order m m (start h m)) → r < m → r ≡ firstEmpty (λ (k : ℕ). b k .at) (order m m (start h m))
-  probe-first r e l = go (outcome (order m m (start h m)) (order-below m m (start h m) (mod-lt (h / 256) (omega arith))))
+  pub probe-first : (r : ℕ) → r ≡ probe m b h v (probeSequence m m (start h m)) → r < m → r ≡ firstEmpty (λ (k : ℕ). b k .at) (probeSequence m m (start h m))
+  probe-first r e l = go (outcome (probeSequence m m (start h m)) (order-below m m (start h m) (mod-lt (h / 256) (omega arith))))
     where
-      go : Matched (order m m (start h m)) ⊎ (EmptyFound (order m m (start h m)) ⊎ NoneEmpty (order m m (start h m)))
-          → r ≡ firstEmpty (λ (k : ℕ). b k .at) (order m m (start h m))
+      go : Matched (probeSequence m m (start h m)) ⊎ (EmptyFound (probeSequence m m (start h m)) ⊎ NoneEmpty (probeSequence m m (start h m)))
+          → r ≡ firstEmpty (λ (k : ℕ). b k .at) (probeSequence m m (start h m))
       go (inl o) = absurd (omega (arith, e, l, o .is))
       go (inr (inl o)) = e ∙ o .is
       go (inr (inr o)) = absurd (omega (arith, e, l, o .is))
@@ -126,12 +126,12 @@ module _ (m : ℕ) (b : ℕ → Bucket) (h : ℕ) (v : ℕ → Bool) where
 abbrev pub never : ℕ → Bool
 never a = false
 
-pub never-matches : (b : ℕ → Bucket) (h : ℕ) (ks : List ℕ) → matches b h never ks ≡ false
-unfolding matches
+pub never-matches : (b : ℕ → Bucket) (h : ℕ) (ks : List ℕ) → hasMatch b h never ks ≡ false
+unfolding hasMatch
 never-matches b h [] = refl
 never-matches b h (k ∷ ks) = go (eqb (b k .at) 0) (eqb (b k .hash) h) (never-matches b h ks)
   where
-    go : (p q : Bool) → matches b h never ks ≡ false → cond p false (cond (q && false) true (matches b h never ks)) ≡ false
+    go : (p q : Bool) → hasMatch b h never ks ≡ false → cond p false (cond (q && false) true (hasMatch b h never ks)) ≡ false
     go true q rest = refl
     go false true rest = rest
     go false false rest = rest

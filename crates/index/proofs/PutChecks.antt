@@ -6,10 +6,10 @@ use mathlib.Core.Bool.{Bool, true, false, _&&_}
 use mathlib.Core.List.{List}
 use lib.ListN.{length, getD, take}
 use Rattle.jhash.specs.NameHash.{hashOf}
-use Rattle.image.specs.Tables.{tableOf, start, order}
+use Rattle.image.specs.Tables.{tableOf, start, probeSequence}
 use Rattle.image.specs.Zero.{hasZero}
-use Rattle.image.proofs.Area.{Bytes}
-use Rattle.image.proofs.Bools.{not-both}
+use Rattle.image.proofs.EntryArea.{AllBytes}
+use Rattle.image.proofs.Bools.{false-not-true}
 use Rattle.writer.specs.declared.CQDBWriter.{CQDBWriter}
 use Rattle.writer.specs.State.{State, stateWith, refusesRepeats, fits, finishedSize, tooLarge}
 use Rattle.writer.specs.Put.{entryOf, writerWith, writerAfter}
@@ -45,28 +45,28 @@ module _ (w : CQDBWriter) (counts buf words name : List ℕ) (id : ℕ) where
   refused-with r h k n e due = record { bounds = λ z. absurd (omega (arith, e, z)); rule = λ right. e ∙ due right }
 
   pub unfit : false ≡ fits (stateWith w counts buf) → Refuses 2
-  unfit fails right = absurd (not-both (fails ∙ accepted s (right .closes) .fit))
+  unfit fails right = absurd (false-not-true (fails ∙ accepted s (right .closes) .fit))
 
   pub zero-byte : hasZero name ≡ true → Refuses 13
   zero-byte z right =
       let a = accepted s (right .closes) in
       refusal-zero s words (entryOf name id) (a .fit) (a .all) z
 
-  module _ (bytes : Bytes buf) (free : hasZero name ≡ false) where
+  module _ (bytes : AllBytes buf) (free : hasZero name ≡ false) where
     pub too-long : 4294967295 ≤ length name → Refuses 3
     too-long l right =
         let a = accepted s (right .closes) in
         refusal-large s words (entryOf name id) (a .fit) (a .all) free (ap (λ (b : Bool). b && refusesRepeats (w .repeats)) (long-absent s words bytes right name l)) (long-name w name id l)
 
     module _ (img : List ℕ) (h r : ℕ) (before : img ≡ take (w .end) buf) (eh : h ≡ hashOf name)
-        (er : r ≡ probe (slotCount words) (slot words) h (duplicateAt (refusesRepeats (w .repeats)) img name) (order (slotCount words) (slotCount words) (start h (slotCount words)))) where
+        (er : r ≡ probe (slotCount words) (slot words) h (duplicateAt (refusesRepeats (w .repeats)) img name) (probeSequence (slotCount words) (slotCount words) (start h (slotCount words)))) where
       result-of : (right : Right (stateWith w counts buf) words) → PutProbe s words bytes right name (refusesRepeats (w .repeats)) r
       result-of right =
           subst (PutProbe s words bytes right name (refusesRepeats (w .repeats)))
           (sym
           (er
-          ∙ ap (λ (x : ℕ). probe (slotCount words) (slot words) x (duplicateAt (refusesRepeats (w .repeats)) img name) (order (slotCount words) (slotCount words) (start x (slotCount words)))) eh
-          ∙ ap (λ (b : List ℕ). probe (slotCount words) (slot words) (hashOf name) (duplicateAt (refusesRepeats (w .repeats)) b name) (order (slotCount words) (slotCount words) (start (hashOf name) (slotCount words)))) before))
+          ∙ ap (λ (x : ℕ). probe (slotCount words) (slot words) x (duplicateAt (refusesRepeats (w .repeats)) img name) (probeSequence (slotCount words) (slotCount words) (start x (slotCount words)))) eh
+          ∙ ap (λ (b : List ℕ). probe (slotCount words) (slot words) (hashOf name) (duplicateAt (refusesRepeats (w .repeats)) b name) (probeSequence (slotCount words) (slotCount words) (start (hashOf name) (slotCount words)))) before))
           (put-probe s words bytes right name (refusesRepeats (w .repeats)))
 
       -- whatever is lent, a slot below their number is the first empty one

@@ -7,7 +7,7 @@ use lib.Seq.{sets}
 use Rattle.jhash.specs.NameHash.{hashOf}
 use Rattle.image.specs.Image.{entryBytes}
 use Rattle.image.specs.Tally.{raisedCounts}
-use Rattle.image.proofs.Area.{Bytes}
+use Rattle.image.proofs.EntryArea.{AllBytes}
 use Rattle.writer.specs.declared.CQDBWriter.{CQDBWriter}
 use Rattle.writer.specs.State.{State, stateWith}
 use Rattle.writer.specs.Put.{entryOf, writerWith, appended}
@@ -30,7 +30,7 @@ module _ (w : CQDBWriter) (counts buf words name : List ℕ) (id d : ℕ)
         right = λ right. right;
       }
 
-  module _ (z : d ≡ 0) (h k : ℕ) (v : CQDBWriter) (counts′ buf′ words′ : List ℕ) (bytes : Bytes buf) (word : id < 2 ^ 32)
+  module _ (z : d ≡ 0) (h k : ℕ) (v : CQDBWriter) (counts′ buf′ words′ : List ℕ) (bytes : AllBytes buf) (word : id < 2 ^ 32)
       (bounds : InBounds w counts buf words name id h k) (ev : v ≡ writerWith w (length name) id) (ec : counts′ ≡ raisedCounts counts h)
       (eb : buf′ ≡ sets buf (w .end) (entryBytes (entryOf name id))) (ew : words′ ≡ slotStored words k h (w .end)) where
     answer-is : Right (stateWith w counts buf) words → 0 ≡ indexedRefusal (stateWith w counts buf) words (entryOf name id)

@@ -6,7 +6,7 @@ use mathlib.Core.Bool.{Bool, true, false, cond, _&&_}
 use mathlib.Core.List.{List}
 use borrow.Author.Tests.{eq-eqb, ne-eqb, le-leb, lt-leb, eqb-true, eqb-false, leb-false}
 use lib.Dec.{eqb, leb}
-use Rattle.image.specs.Image.{Entry, holds}
+use Rattle.image.specs.Image.{Entry, containsName}
 use Rattle.image.specs.Zero.{hasZero}
 use Rattle.writer.specs.State.{State, refusesRepeats, fits, finishedSize, tooLarge}
 use Rattle.writer.specs.Put.{writerAfter, putRefusal, appended}
@@ -48,9 +48,9 @@ module _ (s : State) (words : List ℕ) (e : Entry) where
       go false q b r z = absurd (eqb-false (putRefusal s e) 0 q (sym z))
 
   module _ (fitted : fits s ≡ true) (agrees : consistent s ≡ true) where
-    earlier : (b : Bool) → (holds (e .name) (recorded s) && refusesRepeats (s .writer .repeats)) ≡ b → earlierRefusal s (e .name) ≡ cond b 16 0
+    earlier : (b : Bool) → (containsName (e .name) (recorded s) && refusesRepeats (s .writer .repeats)) ≡ b → earlierRefusal s (e .name) ≡ cond b 16 0
     unfolding earlierRefusal walkRefusal
-    earlier b p = rw agrees (go (holds (e .name) (recorded s)) (refusesRepeats (s .writer .repeats)) p)
+    earlier b p = rw agrees (go (containsName (e .name) (recorded s)) (refusesRepeats (s .writer .repeats)) p)
       where
         go : (h r : Bool) → (h && r) ≡ b → _≡_ {A = ℕ} (cond r (cond h 16 0) 0) (cond b 16 0)
         go true true q = ap (λ (x : Bool). cond {A = ℕ} x 16 0) q
@@ -61,13 +61,13 @@ module _ (s : State) (words : List ℕ) (e : Entry) where
     pub refusal-zero : hasZero (e .name) ≡ true → 13 ≡ indexedRefusal s words e
     refusal-zero z = refusal-some 12 (refuses-zero s e fitted z)
 
-    pub refusal-duplicate : hasZero (e .name) ≡ false → (holds (e .name) (recorded s) && refusesRepeats (s .writer .repeats)) ≡ true → 16 ≡ indexedRefusal s words e
+    pub refusal-duplicate : hasZero (e .name) ≡ false → (containsName (e .name) (recorded s) && refusesRepeats (s .writer .repeats)) ≡ true → 16 ≡ indexedRefusal s words e
     refusal-duplicate z p = refusal-some 15 (refuses-earlier s e fitted z 16 (sym (earlier true p)) (λ n. omega arith))
 
-    pub refusal-large : hasZero (e .name) ≡ false → (holds (e .name) (recorded s) && refusesRepeats (s .writer .repeats)) ≡ false
+    pub refusal-large : hasZero (e .name) ≡ false → (containsName (e .name) (recorded s) && refusesRepeats (s .writer .repeats)) ≡ false
         → tooLarge (s .writer .length) (finishedSize (writerAfter (s .writer) e)) ≡ true → 3 ≡ indexedRefusal s words e
     refusal-large z p t = refusal-some 2 (refuses-full s e fitted z (earlier false p) t)
 
-    pub put-accepts : hasZero (e .name) ≡ false → (holds (e .name) (recorded s) && refusesRepeats (s .writer .repeats)) ≡ false
+    pub put-accepts : hasZero (e .name) ≡ false → (containsName (e .name) (recorded s) && refusesRepeats (s .writer .repeats)) ≡ false
         → tooLarge (s .writer .length) (finishedSize (writerAfter (s .writer) e)) ≡ false → 0 ≡ putRefusal s e
     put-accepts z p t = accepts s e fitted z (earlier false p) t

@@ -9,7 +9,7 @@ use Rattle.image.specs.declared.Mode.{Mode}
 use Rattle.image.specs.declared.Mode.the-variants.{Twoway, Oneway}
 use Rattle.image.specs.Tables.{Bucket, empty, filled}
 use Rattle.image.specs.Image.{Entry, headSize, entriesSize, placed, bucketOf}
-use Rattle.image.proofs.Area.{Bytes}
+use Rattle.image.proofs.EntryArea.{AllBytes}
 use Rattle.image.proofs.Sizes.{placed-append}
 use Rattle.writer.specs.State.{State}
 use Rattle.writer.specs.Put.{putRefusal, writerAfter, appended}
@@ -18,7 +18,7 @@ use Rattle.lists.specs.Calls.{put, WordId}
 use Rattle.lists.proofs.ListWritten.{Written}
 use Rattle.lists.proofs.ListPuts.{put-due, appended-written}
 use Rattle.lists.proofs.ListCloses.{close-accepted}
-use Rattle.lists.proofs.Recorded.{written-recorded}
+use Rattle.lists.proofs.WrittenRecord.{written-recorded}
 use Rattle.index.specs.Index.{slotCount, slot, slotStored, firstEmptySlot, entryBuckets, Right}
 use Rattle.lists.proofs.Closable.{written, ends}
 use Rattle.index.proofs.Insert.{slots-more, length-stored}
@@ -43,7 +43,7 @@ right-by s t words right closes tables number same =
       slots = λ k h. right .slots k h ∙ ap (λ (es : List Entry). getD (filled (slotCount words) (map bucketOf (placed headSize es))) k empty) (sym same);
     }
 
-module _ (s : State) (words : List ℕ) (bytes : Bytes (s .buffer)) (right : Right s words) (e : Entry) (word : e .id < 2 ^ 32)
+module _ (s : State) (words : List ℕ) (bytes : AllBytes (s .buffer)) (right : Right s words) (e : Entry) (word : e .id < 2 ^ 32)
     (due : putRefusal s e ≡ 0) (room : s .writer .entries < slotCount words) where
   was : Written (s .writer .mode) (s .writer .repeats) (s .writer .length) (recorded s) s
   was = written s bytes (right .closes) (right .tables)

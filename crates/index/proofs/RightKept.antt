@@ -7,7 +7,7 @@ use lib.ListN.{length, getD, take, drop}
 use Rattle.image.specs.declared.Mode.{Mode}
 use Rattle.image.specs.Tables.{empty, insertAll, filled}
 use Rattle.image.specs.Image.{Entry, headSize, entriesSize, placed, bucketOf}
-use Rattle.image.proofs.Area.{Bytes}
+use Rattle.image.proofs.EntryArea.{AllBytes}
 use Rattle.image.proofs.Between.{between-same}
 use Rattle.image.proofs.Buckets.{getD-empties}
 use Rattle.writer.specs.declared.Repeats.{Repeats}
@@ -16,7 +16,7 @@ use Rattle.writer.specs.Close.{recorded, afterClose}
 use Rattle.lists.proofs.ListWritten.{Written}
 use Rattle.lists.proofs.ListPuts.{fresh-written}
 use Rattle.lists.proofs.ListCloses.{close-accepted, close-written}
-use Rattle.lists.proofs.Recorded.{written-recorded}
+use Rattle.lists.proofs.WrittenRecord.{written-recorded}
 use Rattle.index.specs.Index.{slotCount, slot, entryBuckets, Right, grown}
 use Rattle.lists.proofs.Closable.{written}
 use Rattle.index.specs.KeptRight.{KeptRight}
@@ -38,7 +38,7 @@ right-fresh mode repeats buffer words room clear =
           ∙ ap (λ (es : List Entry). getD (filled (slotCount words) (map bucketOf (placed headSize es))) k empty) (sym none);
     }
 
-module _ (s : State) (words : List ℕ) (bytes : Bytes (s .buffer)) (right : Right s words) where
+module _ (s : State) (words : List ℕ) (bytes : AllBytes (s .buffer)) (right : Right s words) where
   was : Written (s .writer .mode) (s .writer .repeats) (s .writer .length) (recorded s) s
   was = written s bytes (right .closes) (right .tables)
 

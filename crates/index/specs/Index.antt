@@ -6,7 +6,7 @@ use mathlib.Core.Bool.{cond, _&&_}
 use mathlib.Core.List.{List, map}
 use lib.ListN.{length, getD, set}
 use lib.Dec.{eqb, ltb, leb}
-use Rattle.image.specs.Tables.{Bucket, empty, start, order, firstEmpty, filled}
+use Rattle.image.specs.Tables.{Bucket, empty, start, probeSequence, firstEmpty, filled}
 use Rattle.image.specs.Image.{Entry, headSize, placed, bucketOf}
 use Rattle.writer.specs.State.{State}
 use Rattle.writer.specs.Put.{putRefusal, appended}
@@ -27,7 +27,7 @@ slotStored words k h at = set (set words (2 * k) h) (2 * k + 1) at
 
 abbrev pub firstEmptySlot : List ℕ → ℕ → ℕ
 firstEmptySlot words h =
-    firstEmpty (λ (k : ℕ). slot words k .at) (order (slotCount words) (slotCount words) (start h (slotCount words)))
+    firstEmpty (λ (k : ℕ). slot words k .at) (probeSequence (slotCount words) (slotCount words) (start h (slotCount words)))
 
 abbrev pub slotInserted : List ℕ → ℕ → ℕ → List ℕ
 slotInserted words h at = slotStored words (firstEmptySlot words h) h at

@@ -3,22 +3,22 @@ ghost use mathlib.Core.Path.{_≡_};
 ghost use mathlib.Core.Bool.{false};
 ghost use Prim.Native.Nat.{ℕ, _*_, _≤_, _<_};
 ghost use lib.ListN.{length};
-ghost use Rattle.image.specs.Tables.{start, order};
+ghost use Rattle.image.specs.Tables.{start, probeSequence};
 ghost use Rattle.writer.specs.State.{refusesRepeats};
 ghost use Rattle.index.specs.Index.{slotCount, slot, slotStored};
 ghost use Rattle.index.specs.steps.Probe.{hasNameAt, duplicateAt, probe};
-use reader::Seen;
-use reader::lookup::see_entry;
+use reader::Probe;
+use reader::lookup::probe_entry;
 use writer::Repeats;
 
 // Has the entry at an offset this name?
 fn has_name(bytes: &[u8], name: &[u8], at: u32) -> bool
     ensures { λ r. ⌜ r ≡ hasNameAt (now (bytes .entry)) (now (name .entry)) at ⌝ }
 {
-    match see_entry(bytes, name, at) {
-        Seen::Pass => false,
-        Seen::Ends => false,
-        Seen::Hit(_) => true,
+    match probe_entry(bytes, name, at) {
+        Probe::Pass => false,
+        Probe::Ends => false,
+        Probe::Hit(_) => true,
     }
 }
 
@@ -28,7 +28,7 @@ fn probe(bytes: &[u8], slots: &[u32], m: usize, h: u32, name: &[u8]) -> usize
     requires { ⌜ 2 * m ≤ length (now slots) ⌝ }
     ensures { λ r. ⌜
         r ≡ probe m (slot (now (slots .entry))) h
-        (hasNameAt (now (bytes .entry)) (now (name .entry))) (order m m (start h m))
+        (hasNameAt (now (bytes .entry)) (now (name .entry))) (probeSequence m m (start h m))
         ⌝ }
 {
     if m == 0 {
@@ -55,7 +55,7 @@ fn probe(bytes: &[u8], slots: &[u32], m: usize, h: u32, name: &[u8]) -> usize
 // The first empty slot of the probe sequence of a hash; m where every slot is taken.
 pub(super) fn first_empty(slots: &[u32], m: usize, h: u32) -> usize
     requires { ⌜ 2 * m ≤ length (now slots) ⌝ }
-    ensures { λ r. ⌜ r ≡ probe m (slot (now (slots .entry))) h (λ (a : ℕ). false) (order m m (start h m)) ⌝ }
+    ensures { λ r. ⌜ r ≡ probe m (slot (now (slots .entry))) h (λ (a : ℕ). false) (probeSequence m m (start h m)) ⌝ }
 {
     if m == 0 {
         return 0;
@@ -84,7 +84,7 @@ pub(super) fn probe_for_put(
     requires { ⌜ 2 * m ≤ length (now slots) ⌝ }
     ensures { λ r. ⌜
         r ≡ probe m (slot (now (slots .entry))) h
-        (duplicateAt (refusesRepeats repeats) (now (bytes .entry)) (now (name .entry))) (order m m (start h m))
+        (duplicateAt (refusesRepeats repeats) (now (bytes .entry)) (now (name .entry))) (probeSequence m m (start h m))
         ⌝ }
 {
     match repeats {

@@ -10,7 +10,7 @@ use lib.Seq.{getD-set-same, getD-set-other}
 use lib.Dec.{eqb}
 use borrow.Author.Tests.{eqb-true, eqb-false}
 use Rattle.image.specs.Image.{Entry, flagWord}
-use Rattle.image.proofs.Bools.{not-both}
+use Rattle.image.proofs.Bools.{false-not-true}
 use Rattle.writer.specs.declared.CQDBWriter.{CQDBWriter}
 use Rattle.writer.specs.State.{State, stateWith}
 use Rattle.writer.specs.Put.{writerAfter, appended}
@@ -39,8 +39,8 @@ put-unknown h words e over =
     record {
       refused = λ n. (refl, refl);
       accepted = λ z. absurd (omega (arith, z));
-      answer = λ right. absurd (not-both (sym over ∙ right .known));
-      leaves = λ right. absurd (not-both (sym over ∙ right .known));
+      answer = λ right. absurd (false-not-true (sym over ∙ right .known));
+      leaves = λ right. absurd (false-not-true (sym over ∙ right .known));
       right = λ right. right;
     }
 

@@ -10,7 +10,7 @@ use borrow.Author.Tests.{lt-ltb, le-ltb}
 use lib.ListN.{length, getD, drop, length-append, length-drop}
 use lib.Seq.{drop-append-le}
 use Rattle.jhash.specs.Word.{word}
-use Rattle.jhash.specs.Lookup3.{plus, added, mix, final, rest, hashRest, initial, hashlittle}
+use Rattle.jhash.specs.Lookup3.{plus, added, mix, final, hashBlocks, hashRest, initial, hashlittle}
 use Rattle.jhash.specs.NameHash.{nameHash}
 use Rattle.jhash.specs.declared.Words.{Words}
 
@@ -30,19 +30,19 @@ unfolding added
 added-zero w l = λ i. plus w (word-zero l 0 i) (word-zero l 4 i) (word-zero l 8 i)
 
 -- a block more, where more than 12 bytes remain, and the end, where not
-rest-more : (n : ℕ) (w : Words) (l : List ℕ) → 12 < length l → rest (suc n) w l ≡ rest n (mix (added w l)) (drop 12 l)
-unfolding rest
+rest-more : (n : ℕ) (w : Words) (l : List ℕ) → 12 < length l → hashBlocks (suc n) w l ≡ hashBlocks n (mix (added w l)) (drop 12 l)
+unfolding hashBlocks
 rest-more n w l h =
-    ap (λ (t : Bool). elim t [ true ↦ rest n (mix (added w l)) (drop 12 l) | false ↦ final (added w l) ]) (lt-ltb 12 (length l) h)
+    ap (λ (t : Bool). elim t [ true ↦ hashBlocks n (mix (added w l)) (drop 12 l) | false ↦ final (added w l) ]) (lt-ltb 12 (length l) h)
 
-rest-last : (n : ℕ) (w : Words) (l : List ℕ) → length l ≤ 12 → rest n w l ≡ final (added w l)
-unfolding rest
+rest-last : (n : ℕ) (w : Words) (l : List ℕ) → length l ≤ 12 → hashBlocks n w l ≡ final (added w l)
+unfolding hashBlocks
 rest-last zero w l h = refl
 rest-last (suc n) w l h =
-    ap (λ (t : Bool). elim t [ true ↦ rest n (mix (added w l)) (drop 12 l) | false ↦ final (added w l) ]) (le-ltb 12 (length l) h)
+    ap (λ (t : Bool). elim t [ true ↦ hashBlocks n (mix (added w l)) (drop 12 l) | false ↦ final (added w l) ]) (le-ltb 12 (length l) h)
 
 -- every bound that is large enough gives the same
-enough : (n m : ℕ) (w : Words) (l : List ℕ) → length l ≤ n → length l ≤ m → rest n w l ≡ rest m w l
+enough : (n m : ℕ) (w : Words) (l : List ℕ) → length l ≤ n → length l ≤ m → hashBlocks n w l ≡ hashBlocks m w l
 enough zero m w l h k = rest-last zero w l (omega arith) ∙ sym (rest-last m w l (omega arith))
 enough (suc n) zero w l h k = rest-last (suc n) w l (omega arith) ∙ sym (rest-last zero w l (omega arith))
 enough (suc n) (suc m) w l h k =
@@ -55,14 +55,14 @@ enough (suc n) (suc m) w l h k =
     ]
 
 without-zero : (n : ℕ) (w : Words) (t : List ℕ) → 12 ≤ length t
-    → rest n (mix (added w (t ++ 0 ∷ []))) (drop 12 (t ++ 0 ∷ [])) ≡ rest n (mix (added w t)) (drop 12 t ++ 0 ∷ [])
+    → hashBlocks n (mix (added w (t ++ 0 ∷ []))) (drop 12 (t ++ 0 ∷ [])) ≡ hashBlocks n (mix (added w t)) (drop 12 t ++ 0 ∷ [])
 without-zero n w t h = rw (added-zero, drop-append-le 12 t (0 ∷ []) h)
 
 -- one turn
-pub turn : (w : Words) (t : List ℕ) → 12 ≤ length t
+pub block-step : (w : Words) (t : List ℕ) → 12 ≤ length t
     → hashRest (mix (added w t)) (drop 12 t ++ 0 ∷ []) ≡ hashRest w (t ++ 0 ∷ [])
 unfolding hashRest
-turn w t h =
+block-step w t h =
     let n : ℕ = length t in
     let k : length (drop 12 t ++ 0 ∷ []) ≤ n = simp (length-append, length-drop) (omega arith) in
     sym
@@ -72,9 +72,9 @@ turn w t h =
     ∙ enough n (length (drop 12 t ++ 0 ∷ [])) (mix (added w t)) (drop 12 t ++ 0 ∷ []) k (omega arith))
 
 -- the end
-pub last : (w : Words) (t : List ℕ) → length t < 12 → final (added w t) ≡ hashRest w (t ++ 0 ∷ [])
+pub last-block : (w : Words) (t : List ℕ) → length t < 12 → final (added w t) ≡ hashRest w (t ++ 0 ∷ [])
 unfolding hashRest
-last w t h = sym (rest-last (length (t ++ 0 ∷ [])) w (t ++ 0 ∷ []) (simp length-append (omega arith)) ∙ ap final (added-zero w t))
+last-block w t h = sym (rest-last (length (t ++ 0 ∷ [])) w (t ++ 0 ∷ []) (simp length-append (omega arith)) ∙ ap final (added-zero w t))
 
 -- the words and the bytes that the hash of a name begins with
 begin : (l : List ℕ) (start : ℕ) → 0 < length l → hashlittle l start ≡ hashRest (initial (length l) start) l

@@ -7,7 +7,7 @@ use Prim.Native.Nat.{ℕ, _+_, _<_}
 use borrow.Author.Tests.{leb-true, leb-false}
 use lib.Dec.{leb}
 use lib.ListN.{length}
-use Rattle.jhash.specs.Lookup3.{alike, initialWord, initial, hashRest}
+use Rattle.jhash.specs.Lookup3.{equalWords, initialWord, initial, hashRest}
 use Rattle.jhash.specs.Outcome.{value, refusal}
 use Rattle.jhash.specs.NameHash.{hashOutcome}
 use Rattle.jhash.proofs.Blocks.{name-begin}
@@ -20,9 +20,9 @@ module _ (name : List ℕ) (start : ℕ) (long : Bool) (tested : long ≡ leb 42
   pub short : long ≡ false → length name < 4294967295
   short p = leb-false 4294967295 (length name) (sym tested ∙ p)
 
-  pub hashes : long ≡ false → (x h : ℕ) → x ≡ initialWord (length name + 1) start → h ≡ hashRest (alike x) (name ++ 0 ∷ [])
+  pub hashes : long ≡ false → (x h : ℕ) → x ≡ initialWord (length name + 1) start → h ≡ hashRest (equalWords x) (name ++ 0 ∷ [])
       → value h ≡ hashOutcome name start
   unfolding initial
   hashes p x h xe he =
-      ap value (he ∙ ap (λ (y : ℕ). hashRest (alike y) (name ++ 0 ∷ [])) xe ∙ sym (name-begin name start))
+      ap value (he ∙ ap (λ (y : ℕ). hashRest (equalWords y) (name ++ 0 ∷ [])) xe ∙ sym (name-begin name start))
       ∙ sym (short-answer name start (short p))

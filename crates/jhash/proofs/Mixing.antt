@@ -3,7 +3,7 @@ use mathlib.Core.Path.{_≡_, refl, _∙_}
 use mathlib.Core.List.{List}
 use Prim.Native.Nat.{ℕ}
 use Rattle.jhash.specs.Word.{word}
-use Rattle.jhash.specs.Lookup3.{plus, added, mix, finished, final}
+use Rattle.jhash.specs.Lookup3.{plus, added, mix, finalWord, final}
 use Rattle.jhash.specs.steps.Rounds.{mixRound, finalStep}
 use Rattle.jhash.specs.declared.Words.{Words}
 
@@ -17,12 +17,12 @@ pub six-rounds : (w : Words) {w₁ w₂ w₃ w₄ w₅ w₆ : Words} → w₁ �
 six-rounds w e₁ e₂ e₃ e₄ e₅ e₆ = cc (six w)
 
 -- seven steps in a row are its final
-seven : (w w₆ : Words) → w₆ ≡ finalStep (finalStep (finalStep (finalStep (finalStep (finalStep w 14) 11) 25) 16) 4) 14 → finished (w₆ .c) (w₆ .b) 24 ≡ final w
+seven : (w w₆ : Words) → w₆ ≡ finalStep (finalStep (finalStep (finalStep (finalStep (finalStep w 14) 11) 25) 16) 4) 14 → finalWord (w₆ .c) (w₆ .b) 24 ≡ final w
 unfolding finalStep final
 seven w w₆ e = rw e
 
 pub seven-steps : (w : Words) {w₁ w₂ w₃ w₄ w₅ w₆ : Words} {c : ℕ} → w₁ ≡ finalStep w 14 → w₂ ≡ finalStep w₁ 11 → w₃ ≡ finalStep w₂ 25 → w₄ ≡ finalStep w₃ 16
-    → w₅ ≡ finalStep w₄ 4 → w₆ ≡ finalStep w₅ 14 → c ≡ finished (w₆ .c) (w₆ .b) 24 → c ≡ final w
+    → w₅ ≡ finalStep w₄ 4 → w₆ ≡ finalStep w₅ 14 → c ≡ finalWord (w₆ .c) (w₆ .b) 24 → c ≡ final w
 seven-steps w {w₆ = w₆} e₁ e₂ e₃ e₄ e₅ e₆ e = e ∙ seven w w₆ (cc)
 
 -- three words of a list added are its first 12 bytes added

@@ -9,7 +9,7 @@ use native.Mathlib.Decide.{decLt}
 use borrow.Author.Tests.{lt-ltb, le-ltb}
 use lib.Dec.{ltb}
 use lib.ListN.{length, drop}
-use Rattle.jhash.specs.Lookup3.{added, mix, final, rest, hashRest, initial}
+use Rattle.jhash.specs.Lookup3.{added, mix, final, hashBlocks, hashRest, initial}
 use Rattle.jhash.specs.Outcome.{value, refusal}
 use Rattle.jhash.specs.NameHash.{nameHash, hashOf, outcome, hashOutcome}
 use Rattle.jhash.specs.declared.Words.{Words}
@@ -26,11 +26,11 @@ final-below : (w : Words) → final w < 2 ^ 32
 unfolding final
 final-below w = omega arith
 
-rest-below : (n : ℕ) (w : Words) (l : List ℕ) → rest n w l < 2 ^ 32
-unfolding rest
+rest-below : (n : ℕ) (w : Words) (l : List ℕ) → hashBlocks n w l < 2 ^ 32
+unfolding hashBlocks
 rest-below zero w l = final-below (added w l)
 rest-below (suc n) w l =
-    elim (ltb 12 (length l)) as (λ b. elim b [ true ↦ rest n (mix (added w l)) (drop 12 l) | false ↦ final (added w l) ] < 2 ^ 32) [
+    elim (ltb 12 (length l)) as (λ b. elim b [ true ↦ hashBlocks n (mix (added w l)) (drop 12 l) | false ↦ final (added w l) ] < 2 ^ 32) [
       | true ↦ rest-below n (mix (added w l)) (drop 12 l)
       | false ↦ final-below (added w l)
     ]
@@ -56,9 +56,9 @@ long-answer name start h = simp (le-ltb (length name) 4294967295 h)
 -- ---- for a caller that matches on the answer `r` of `jhash`; `promise` is what `jhash` ensures
 
 -- the answer is a hash: it is that of the name, which is short enough
-pub told-hash : (name : List ℕ) (start : ℕ) (r : Hashed) (h : ℕ) → outcome r ≡ hashOutcome name start → r ≡ Hash h
+pub result-hash : (name : List ℕ) (start : ℕ) (r : Hashed) (h : ℕ) → outcome r ≡ hashOutcome name start → r ≡ Hash h
     → (length name < 4294967295) × (h ≡ nameHash name start)
-told-hash name start r h promise is =
+result-hash name start r h promise is =
     elim (decLt (length name) 4294967295) [
       | yes short ↦
           let e : value h ≡ value (nameHash name start) = ap outcome (sym is) ∙ promise ∙ short-answer name start short in
@@ -70,15 +70,15 @@ told-hash name start r h promise is =
     ]
 
 -- the same with the start value of images
-pub told-image-hash : (name : List ℕ) (r : Hashed) (h : ℕ) → outcome r ≡ hashOutcome name 0 → r ≡ Hash h
+pub result-name-hash : (name : List ℕ) (r : Hashed) (h : ℕ) → outcome r ≡ hashOutcome name 0 → r ≡ Hash h
     → (length name < 4294967295) × (h ≡ hashOf name)
 unfolding hashOf
-told-image-hash name r h promise is = told-hash name 0 r h promise is
+result-name-hash name r h promise is = result-hash name 0 r h promise is
 
 -- the answer is a refusal: the name is too long
-pub told-refused : (name : List ℕ) (start : ℕ) (r : Hashed) → outcome r ≡ hashOutcome name start → r ≡ Refused
+pub result-refused : (name : List ℕ) (start : ℕ) (r : Hashed) → outcome r ≡ hashOutcome name start → r ≡ Refused
     → 4294967295 ≤ length name
-told-refused name start r promise is =
+result-refused name start r promise is =
     elim (decLt (length name) 4294967295) [
       | yes short ↦
           let e : refusal 9 ≡ value (nameHash name start) = ap outcome (sym is) ∙ promise ∙ short-answer name start short in

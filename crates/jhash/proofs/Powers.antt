@@ -18,6 +18,6 @@ entry i (suc n) zero h = ap (λ (m : ℕ). 2 ^ m) (sym (add-zero i))
 entry i (suc n) (suc k) h = entry (suc i) n k (le-of-suc-le-suc h) ∙ ap (λ (m : ℕ). 2 ^ m) (suc-add i k ∙ sym (add-suc i k))
 
 -- the test is that a table equals the list of the 32 powers; then it has 2 ^ k at each place k
-pub entry-right : (table : List ℕ) → table ≡ powersFrom 0 32 → (k : ℕ) → getD table (k % 32) 0 ≡ 2 ^ (k % 32)
-entry-right table right k =
+pub power-at : (table : List ℕ) → table ≡ powersFrom 0 32 → (k : ℕ) → getD table (k % 32) 0 ≡ 2 ^ (k % 32)
+power-at table right k =
     ap (λ (l : List ℕ). getD l (k % 32) 0) right ∙ entry 0 32 (k % 32) (omega arith) ∙ ap (λ (m : ℕ). 2 ^ m) (zero-add (k % 32))

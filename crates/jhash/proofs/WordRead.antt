@@ -4,7 +4,7 @@ use native.Mathlib.Omega.{arith}
 use mathlib.Core.Path.{_≡_, ap}
 use mathlib.Core.List.{List}
 use lib.ListN.{length, getD, List·getD-eq-default}
-use Rattle.jhash.specs.Word.{Bytes, word}
+use Rattle.jhash.specs.Word.{AllBytes, word}
 
 -- past the end stand zeros
 pub word-past : (s : List ℕ) (o : ℕ) → length s ≤ o → word s o ≡ 0
@@ -30,6 +30,6 @@ unfolding word
 word-short s o a b c h p q r = omega (arith, List·getD-eq-default s 0 {n = o + 3} h)
 
 -- the words of a slice of bytes are below 2^32
-pub word-below : (s : List ℕ) (o : ℕ) → Bytes s → word s o < 2 ^ 32
+pub word-below : (s : List ℕ) (o : ℕ) → AllBytes s → word s o < 2 ^ 32
 unfolding word
 word-below s o h = omega (arith, h o, h (o + 1), h (o + 2), h (o + 3))

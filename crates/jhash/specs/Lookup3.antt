@@ -50,31 +50,31 @@ mix w =
     record { a = a₄; b = add32 b₃ a₄; c = c₄ }
 
 -- A finishing step on (p, q) xors p with q, then takes q rotated by k from p.
-abbrev pub finished : ℕ → ℕ → ℕ → ℕ
-finished p q k = sub32 (bitXor p q) (rotl32 q k)
+abbrev pub finalWord : ℕ → ℕ → ℕ → ℕ
+finalWord p q k = sub32 (bitXor p q) (rotl32 q k)
 
 -- lookup3's `final`: steps on (c, b), (a, c), (b, a), (c, b), (a, c), (b, a), (c, b). The answer is c.
 unfoldable pub final : Words → ℕ
 final w =
-    let c₁ : ℕ = finished (w .c) (w .b) 14 in
-    let a₁ : ℕ = finished (w .a) c₁ 11 in
-    let b₁ : ℕ = finished (w .b) a₁ 25 in
-    let c₂ : ℕ = finished c₁ b₁ 16 in
-    let a₂ : ℕ = finished a₁ c₂ 4 in
-    let b₂ : ℕ = finished b₁ a₂ 14 in
-    finished c₂ b₂ 24
+    let c₁ : ℕ = finalWord (w .c) (w .b) 14 in
+    let a₁ : ℕ = finalWord (w .a) c₁ 11 in
+    let b₁ : ℕ = finalWord (w .b) a₁ 25 in
+    let c₂ : ℕ = finalWord c₁ b₁ 16 in
+    let a₂ : ℕ = finalWord a₁ c₂ 4 in
+    let b₂ : ℕ = finalWord b₁ a₂ 14 in
+    finalWord c₂ b₂ 24
 
 -- While more than 12 bytes remain, they are added in blocks of 12, each followed by mixing; the last 1 to 12 are
 -- added without mixing, and the words are finished. n bounds the number of blocks.
-unfoldable pub rest : ℕ → Words → List ℕ → ℕ
+unfoldable pub hashBlocks : ℕ → Words → List ℕ → ℕ
 unfolding added mix final
-rest zero w l = final (added w l)
-rest (suc n) w l =
-    elim (ltb 12 (length l)) [ true ↦ rest n (mix (added w l)) (drop 12 l) | false ↦ final (added w l) ]
+hashBlocks zero w l = final (added w l)
+hashBlocks (suc n) w l =
+    elim (ltb 12 (length l)) [ true ↦ hashBlocks n (mix (added w l)) (drop 12 l) | false ↦ final (added w l) ]
 
 -- Three equal words.
-abbrev pub alike : ℕ → Words
-alike x = record { a = x; b = x; c = x }
+abbrev pub equalWords : ℕ → Words
+equalWords x = record { a = x; b = x; c = x }
 
 -- What each of the three words begins with when n bytes are hashed.
 abbrev pub initialWord : ℕ → ℕ → ℕ
@@ -82,12 +82,12 @@ initialWord n start = (0xdeadbeef + n + start) % 2 ^ 32
 
 -- The three equal words that hashing n bytes begins with.
 unfoldable pub initial : ℕ → ℕ → Words
-initial n start = alike (initialWord n start)
+initial n start = equalWords (initialWord n start)
 
 -- All of it from three words on.
 unfoldable pub hashRest : Words → List ℕ → ℕ
-unfolding rest
-hashRest w l = rest (length l) w l
+unfolding hashBlocks
+hashRest w l = hashBlocks (length l) w l
 
 -- The hash of a list of bytes. Of no bytes at all it is c as it begins: lookup3 neither mixes nor finishes there.
 unfoldable pub hashlittle : List ℕ → ℕ → ℕ

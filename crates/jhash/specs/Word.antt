@@ -4,8 +4,8 @@ use mathlib.Core.List.{List}
 use lib.ListN.{getD}
 
 -- the elements of a lent slice are bytes: each is below 256
-abbrev pub Bytes : List ℕ → Type 0
-Bytes s = (k : ℕ) → getD s k 0 < 256
+abbrev pub AllBytes : List ℕ → Type 0
+AllBytes s = (k : ℕ) → getD s k 0 < 256
 
 -- all words are 32-bit unsigned, little-endian: the word that stands at offset o of a byte string. Past its end stand zeros
 unfoldable pub word : List ℕ → ℕ → ℕ

@@ -4,7 +4,7 @@ ghost use Prim.Native.Nat.{_+_, _*_, _/_, _%_, _^_, _<_, _≤_};
 ghost use lib.Dec.{leb};
 ghost use mathlib.Core.List.{[], _∷_, _++_};
 ghost use lib.ListN.{length};
-ghost use Rattle.jhash.specs.Lookup3.{sub32, rotl32, plus, added, mix, finished, final, alike, initialWord, hashRest};
+ghost use Rattle.jhash.specs.Lookup3.{sub32, rotl32, plus, added, mix, finalWord, final, equalWords, initialWord, hashRest};
 ghost use Rattle.jhash.specs.steps.Rounds.{mixRound, finalStep};
 ghost use Rattle.jhash.specs.NameHash.{outcome, hashOutcome};
 use word::word;
@@ -119,7 +119,7 @@ fn jhash_mix(w: Words) -> Words
 // The word that a finishing step changes.
 fn final_word(w: Words, k: u32) -> u32
     requires { ⌜ (0 < k) × (k < 32) ⌝ }
-    ensures { λ r. ⌜ r ≡ finished (w .c) (w .b) k ⌝ }
+    ensures { λ r. ⌜ r ≡ finalWord (w .c) (w .b) k ⌝ }
 {
     minus(w.c ^ w.b, rotate_left(w.b, k))
 }
@@ -181,7 +181,7 @@ fn added_tail(w: Words, s: &[u8]) -> Words
 
 // The hash of the name and its zero byte; all three words begin with x.
 fn hash_from(name: &[u8], x: u32) -> u32
-    ensures { λ r. ⌜ r ≡ hashRest (alike x) (now (name .entry) ++ 0 ∷ []) ⌝ }
+    ensures { λ r. ⌜ r ≡ hashRest (equalWords x) (now (name .entry) ++ 0 ∷ []) ⌝ }
 {
     let mut words = Words { a: x, b: x, c: x };
     // The whole name as a part: place and length are read one by one, and the compiler then hands them in as two numbers

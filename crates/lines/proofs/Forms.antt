@@ -8,7 +8,7 @@ use mathlib.Core.List.{List}
 use lib.ListN.{length, getD, take, List·getD-eq-default}
 use lib.Dec.{eqb, leb}
 use borrow.Author.Tests.{leb-true, eqb-true}
-use Rattle.image.proofs.Bools.{first, second}
+use Rattle.image.proofs.Bools.{and-first, and-second}
 use Rattle.lines.specs.Lines.{leadingDigits, decimal, entry, other, formWith, parseLine}
 
 -- a line's form by its four tests, n being the digits in front
@@ -55,8 +55,8 @@ named line id at e = go (a && b && c && d) refl e
     go : (t : Bool) → (a && b && c && d) ≡ t → cond t (entry (decimal (take n line)) (n + 1)) other ≡ entry id at → Named line at
     go false p e = never id at e
     go true p e =
-        let abc = first (a && b && c) d p in
-        let few = leb-true n 10 (second a b (first (a && b) c abc)) in
-        let in-line = space-inside line n (eqb-true (getD line n 0) 32 (second (a && b) c abc)) in
+        let abc = and-first (a && b && c) d p in
+        let few = leb-true n 10 (and-second a b (and-first (a && b) c abc)) in
+        let in-line = space-inside line n (eqb-true (getD line n 0) 32 (and-second (a && b) c abc)) in
         let same : n + 1 ≡ at = cc in
         record { inside = omega arith; low = omega arith }

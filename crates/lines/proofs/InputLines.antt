@@ -7,7 +7,7 @@ use lib.Dec.{eqb}
 use borrow.Author.Tests.{eqb-true}
 use Rattle.writer.specs.State.{State}
 use Rattle.lists.specs.Calls.{after}
-use Rattle.lists.proofs.Along.{after-append}
+use Rattle.lists.proofs.CallLists.{after-append}
 use Rattle.lines.specs.Lines.{withByte, linesOf, leadingDigits, parseLine, lineCalls, linesCalls, inputCalls, afterPutLine, afterInput}
 
 -- bytes without a line feed

@@ -17,11 +17,11 @@ use Rattle.writer.specs.Put.{afterPut}
 use Rattle.writer.specs.Close.{closing, closedSize, afterClose}
 use Rattle.lists.specs.Calls.{Call, put, close, after, acceptedOne, putDue, dueTo, acceptedFrom, accepted}
 use Rattle.lists.specs.Demand3.{afterList, acceptedPuts, imageOf}
-use Rattle.lists.specs.AfterClose.{AfterClose, CloseReadable}
+use Rattle.lists.specs.theorems.AfterClose.{AfterClose, CloseReadable}
 use Rattle.lists.proofs.ListWritten.{Written}
 use Rattle.lists.proofs.ListPuts.{put-due}
 use Rattle.lists.proofs.ListCloses.{close-written}
-use Rattle.lists.proofs.Along.{two-way, after-append, accepted-after-close, list-accepted, list-written}
+use Rattle.lists.proofs.CallLists.{two-way, after-append, accepted-after-close, list-accepted, list-written}
 use Rattle.lists.proofs.OneMoreClose.{list-gives, list-twice}
 use Rattle.lists.proofs.Theorem.{calls-imaged, list-answered}
 

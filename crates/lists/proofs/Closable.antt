@@ -10,12 +10,12 @@ use borrow.Author.Tests.{eqb-true}
 use Rattle.image.specs.Bytes.{cat}
 use Rattle.image.specs.Image.{Entry, headSize, entryBytes, entriesSize, placed, count, backSize, backIn}
 use Rattle.image.specs.Stored.{whole}
-use Rattle.image.proofs.All.{all-each}
+use Rattle.image.proofs.AllOfRange.{all-each}
 use Rattle.image.proofs.At.{At}
-use Rattle.image.proofs.Area.{Bytes, bytes-take, bytes-drop, ids-words, length-entriesIn}
+use Rattle.image.proofs.EntryArea.{AllBytes, bytes-take, bytes-drop, ids-words, length-entriesIn}
 use Rattle.image.proofs.Between.{drop-take}
-use Rattle.image.proofs.Bools.{first, second}
-use Rattle.image.proofs.Every.{All}
+use Rattle.image.proofs.Bools.{and-first, and-second}
+use Rattle.image.proofs.AllOfList.{All}
 use Rattle.image.proofs.Sizes.{backIn-twice}
 use Rattle.serialize.proofs.WrittenImage.{area-kept, standing-end}
 use Rattle.writer.specs.State.{State, fits, finishedSize, tooLarge}
@@ -30,7 +30,7 @@ unfolding backSize
 backs-words [] all = omega arith
 backs-words (e ∷ es) all = omega (arith, all .0, backs-words es (all .1))
 
-module _ (s : State) (bytes : Bytes (s .buffer)) (closes : closeRefusal s ≡ 0) where
+module _ (s : State) (bytes : AllBytes (s .buffer)) (closes : closeRefusal s ≡ 0) where
   a : Accepted s
   a = accepted s closes
 
@@ -39,18 +39,18 @@ module _ (s : State) (bytes : Bytes (s .buffer)) (closes : closeRefusal s ≡ 0)
 
   entire : whole (s .writer .entries) (entryArea s) ≡ true
   entire =
-      first (whole (s .writer .entries) (entryArea s)) (countsAgree (s .counts) (recorded s))
-      (first (whole (s .writer .entries) (entryArea s) && countsAgree (s .counts) (recorded s)) (eqb (s .writer .back) (backIn (s .writer .mode) (backSize (recorded s)))) (a .all))
+      and-first (whole (s .writer .entries) (entryArea s)) (countsAgree (s .counts) (recorded s))
+      (and-first (whole (s .writer .entries) (entryArea s) && countsAgree (s .counts) (recorded s)) (eqb (s .writer .back) (backIn (s .writer .mode) (backSize (recorded s)))) (a .all))
 
   agree : countsAgree (s .counts) (recorded s) ≡ true
   agree =
-      second (whole (s .writer .entries) (entryArea s)) (countsAgree (s .counts) (recorded s))
-      (first (whole (s .writer .entries) (entryArea s) && countsAgree (s .counts) (recorded s)) (eqb (s .writer .back) (backIn (s .writer .mode) (backSize (recorded s)))) (a .all))
+      and-second (whole (s .writer .entries) (entryArea s)) (countsAgree (s .counts) (recorded s))
+      (and-first (whole (s .writer .entries) (entryArea s) && countsAgree (s .counts) (recorded s)) (eqb (s .writer .back) (backIn (s .writer .mode) (backSize (recorded s)))) (a .all))
 
   back-is : s .writer .back ≡ backIn (s .writer .mode) (backSize (recorded s))
   back-is =
       eqb-true (s .writer .back) (backIn (s .writer .mode) (backSize (recorded s)))
-      (second (whole (s .writer .entries) (entryArea s) && countsAgree (s .counts) (recorded s)) (eqb (s .writer .back) (backIn (s .writer .mode) (backSize (recorded s)))) (a .all))
+      (and-second (whole (s .writer .entries) (entryArea s) && countsAgree (s .counts) (recorded s)) (eqb (s .writer .back) (backIn (s .writer .mode) (backSize (recorded s)))) (a .all))
 
   pub area-is : entryArea s ≡ cat entryBytes (recorded s)
   area-is = area-kept (s .writer .end) (s .writer .entries) (s .buffer) bytes entire

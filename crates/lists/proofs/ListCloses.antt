@@ -9,13 +9,13 @@ use lib.Seq.{drop-at, take-at}
 use borrow.Author.Tests.{le-ltb}
 use Rattle.image.specs.declared.Mode.{Mode}
 use Rattle.image.specs.Bytes.{cat}
-use Rattle.image.specs.Image.{Entry, headSize, entryBytes, entriesSize, entriesEnd, placed, backSizeOf, imageSize, headWords, tableRows, tables, links, image}
+use Rattle.image.specs.Image.{Entry, headSize, entryBytes, entriesSize, entriesEnd, placed, backSizeOf, imageSize, headWords, tableRows, tables, backWords, image}
 use Rattle.image.proofs.Sizes.{length-entries, length-headWords, length-tableRows, length-image}
 use Rattle.writer.specs.declared.Repeats.{Repeats}
 use Rattle.writer.specs.State.{State, fits, finishedSize, tooLarge}
 use Rattle.writer.specs.Close.{consistent, closeRefusal, closedSize, closed, afterClose}
 use Rattle.lists.proofs.ListWritten.{Written}
-use Rattle.lists.proofs.Recorded.{written-fits, written-recorded, written-size, written-consistent}
+use Rattle.lists.proofs.WrittenRecord.{written-fits, written-recorded, written-size, written-consistent}
 
 -- ---- the entries in an image
 
@@ -23,7 +23,7 @@ use Rattle.lists.proofs.Recorded.{written-fits, written-recorded, writt
 image-split : (mode : Mode) (es : List Entry) (rest : List ℕ)
     → image mode es ++ rest
     ≡ (headWords mode es ++ tableRows (entriesEnd es) (placed headSize es))
-    ++ (cat entryBytes es ++ (tables (placed headSize es) ++ links (placed headSize es) (backSizeOf mode es) ++ rest))
+    ++ (cat entryBytes es ++ (tables (placed headSize es) ++ backWords (placed headSize es) (backSizeOf mode es) ++ rest))
 unfolding image
 image-split mode es rest = simp append-assoc
 
@@ -33,7 +33,7 @@ head-length mode es =
 
 pub area-in-image : (mode : Mode) (es : List Entry) (rest : List ℕ) → take (entriesSize es) (drop headSize (image mode es ++ rest)) ≡ cat entryBytes es
 area-in-image mode es rest =
-    let after : List ℕ = tables (placed headSize es) ++ links (placed headSize es) (backSizeOf mode es) ++ rest in
+    let after : List ℕ = tables (placed headSize es) ++ backWords (placed headSize es) (backSizeOf mode es) ++ rest in
     let head : List ℕ = headWords mode es ++ tableRows (entriesEnd es) (placed headSize es) in
     ap (λ (l : List ℕ). take (entriesSize es) (drop headSize l)) (image-split mode es rest)
     ∙ ap (take (entriesSize es)) (drop-at head (cat entryBytes es ++ after) headSize (head-length mode es))

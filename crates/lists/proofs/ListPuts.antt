@@ -15,7 +15,7 @@ use Rattle.image.specs.declared.Mode.{Mode}
 use Rattle.image.specs.declared.Mode.the-variants.{Twoway, Oneway}
 use Rattle.image.specs.Bytes.{cat}
 use Rattle.image.specs.Tables.{tableOf}
-use Rattle.image.specs.Image.{Entry, headSize, entryBytes, entrySize, entriesSize, placed, count, ofTable, backSize, backIn, imageSize, holds}
+use Rattle.image.specs.Image.{Entry, headSize, entryBytes, entrySize, entriesSize, placed, count, ofTable, backSize, backIn, imageSize, containsName}
 use Rattle.image.specs.Zero.{hasZero}
 use Rattle.writer.specs.declared.Repeats.{Repeats}
 use Rattle.writer.specs.declared.Repeats.the-variants.{Off, On}
@@ -28,7 +28,7 @@ use Rattle.lists.proofs.ListWritten.{Written}
 use Rattle.image.proofs.Lists.{cat-append}
 use Rattle.image.proofs.Sizes.{length-entryBytes, length-entries, backIn-twice}
 use Rattle.lists.proofs.Appended.{entriesSize-snoc, backSize-snoc, sizeOf-is, count-same, count-other}
-use Rattle.lists.proofs.Recorded.{written-fits, written-recorded, written-consistent}
+use Rattle.lists.proofs.WrittenRecord.{written-fits, written-recorded, written-consistent}
 
 -- ---- what the mode changes
 
@@ -55,12 +55,12 @@ module _ (mode : Mode) (repeats : Repeats) (n : ℕ) (es : List Entry) (s : Stat
   unfolding putRefusal putDue
   put-due =
       let zero = hasZero (e .name) in
-      let held = holds (e .name) (recorded s) in
+      let held = containsName (e .name) (recorded s) in
       let full = tooLarge (s .writer .length) (finishedSize (writerAfter (s .writer) e)) in
       checked (fits s) zero (consistent s) held (refusesRepeats (s .writer .repeats)) full (written-fits mode repeats n es s w) (written-consistent mode repeats n es s w)
-      ∙ ap (λ (l : List Entry). cond zero 13 (cond (holds (e .name) l && refusesRepeats (s .writer .repeats)) 16 (cond full 3 0))) (written-recorded mode repeats n es s w)
-      ∙ ap (λ (r : Repeats). cond zero 13 (cond (holds (e .name) es && refusesRepeats r) 16 (cond full 3 0))) (w .repeats-is)
-      ∙ ap₂ (λ (room size : ℕ). cond zero 13 (cond (holds (e .name) es && refusesRepeats repeats) 16 (cond (tooLarge room size) 3 0))) (w .length-is) finished-then
+      ∙ ap (λ (l : List Entry). cond zero 13 (cond (containsName (e .name) l && refusesRepeats (s .writer .repeats)) 16 (cond full 3 0))) (written-recorded mode repeats n es s w)
+      ∙ ap (λ (r : Repeats). cond zero 13 (cond (containsName (e .name) es && refusesRepeats r) 16 (cond full 3 0))) (w .repeats-is)
+      ∙ ap₂ (λ (capacity size : ℕ). cond zero 13 (cond (containsName (e .name) es && refusesRepeats repeats) 16 (cond (tooLarge capacity size) 3 0))) (w .length-is) finished-then
     where
       checked : (f z c h r t : Bool) → f ≡ true → c ≡ true
           → _≡_ {A = ℕ} (cond (not f) 2 (cond z 13 (cond (not c && r) 4 (cond (h && r) 16 (cond t 3 0))))) (cond z 13 (cond (h && r) 16 (cond t 3 0)))
@@ -71,11 +71,11 @@ module _ (mode : Mode) (repeats : Repeats) (n : ℕ) (es : List Entry) (s : Stat
 -- bytes stored where an area ends make it longer
 stored-after : (o E : ℕ) (l area vs : List ℕ) → length area ≡ E → take E (drop o l) ≡ area → o + E + length vs ≤ length l
     → take (E + length vs) (drop o (sets l (o + E) vs)) ≡ area ++ vs
-stored-after o E l area vs size stands room =
+stored-after o E l area vs size stands capacity =
     let D : List ℕ = drop (o + E + length vs) l in
     let front : take (o + E) l ≡ take o l ++ area = take-add o E l ∙ ap (λ (m : List ℕ). take o l ++ m) stands in
     let now : sets l (o + E) vs ≡ take o l ++ ((area ++ vs) ++ D) =
-    sets-eq vs l (o + E) room ∙ ap (λ (m : List ℕ). m ++ vs ++ D) front ∙ simp append-assoc in
+    sets-eq vs l (o + E) capacity ∙ ap (λ (m : List ℕ). m ++ vs ++ D) front ∙ simp append-assoc in
     let cut : drop o (sets l (o + E) vs) ≡ (area ++ vs) ++ D =
     ap (drop o) now ∙ drop-at (take o l) ((area ++ vs) ++ D) o (length-take-le o l (omega arith)) in
     let whole : length (area ++ vs) ≡ E + length vs = omega (arith, length-append area vs) in
@@ -94,12 +94,12 @@ due-free mode repeats n es e due = go (hasZero (e .name)) refl _ due
     go false p rest d = p
 
 pub due-new : (mode : Mode) (repeats : Repeats) (n : ℕ) (es : List Entry) (e : Entry) → putDue mode repeats n es e ≡ 0
-    → (holds (e .name) es && refusesRepeats repeats) ≡ false
+    → (containsName (e .name) es && refusesRepeats repeats) ≡ false
 unfolding putDue
-due-new mode repeats n es e due = go (hasZero (e .name)) (holds (e .name) es && refusesRepeats repeats) refl _ due
+due-new mode repeats n es e due = go (hasZero (e .name)) (containsName (e .name) es && refusesRepeats repeats) refl _ due
   where
     held : Bool
-    held = holds (e .name) es && refusesRepeats repeats
+    held = containsName (e .name) es && refusesRepeats repeats
 
     go : (z b : Bool) → held ≡ b → (rest : ℕ) → _≡_ {A = ℕ} (cond z 13 (cond b 16 rest)) 0 → held ≡ false
     go true b p rest d = absurd (omega arith)
@@ -109,7 +109,7 @@ due-new mode repeats n es e due = go (hasZero (e .name)) (holds (e .name) es && 
 pub due-room : (mode : Mode) (repeats : Repeats) (n : ℕ) (es : List Entry) (e : Entry) → putDue mode repeats n es e ≡ 0
     → (imageSize mode (es ++ (e ∷ [])) ≤ n) × (imageSize mode (es ++ (e ∷ [])) ≤ 4294967295)
 unfolding putDue
-due-room mode repeats n es e due = go (hasZero (e .name)) (holds (e .name) es && refusesRepeats repeats) (ltb n size) refl (ltb 4294967295 size) refl due
+due-room mode repeats n es e due = go (hasZero (e .name)) (containsName (e .name) es && refusesRepeats repeats) (ltb n size) refl (ltb 4294967295 size) refl due
   where
     size : ℕ
     size = sizeOf mode (es ++ (e ∷ []))
@@ -128,7 +128,7 @@ due-room mode repeats n es e due = go (hasZero (e .name)) (holds (e .name) es &&
 pub due-either : (mode : Mode) (n : ℕ) (es : List Entry) (e : Entry) → putDue mode Off n es e ≡ 0 → (repeats : Repeats) → putDue mode repeats n es e ≡ 0
 unfolding putDue
 due-either mode n es e due Off = due
-due-either mode n es e due On = go (hasZero (e .name)) (holds (e .name) es) _ due
+due-either mode n es e due On = go (hasZero (e .name)) (containsName (e .name) es) _ due
   where
     go : (z h : Bool) (rest : ℕ) → _≡_ {A = ℕ} (cond z 13 (cond (h && true) 16 rest)) 0 → _≡_ {A = ℕ} (cond z 13 (cond (h && false) 16 rest)) 0
     go true h rest d = d
@@ -139,7 +139,7 @@ due-either mode n es e due On = go (hasZero (e .name)) (holds (e .name) es) _ du
 pub due-number : (mode : Mode) (repeats : Repeats) (n : ℕ) (es : List Entry) (e : Entry)
     → (putDue mode repeats n es e ≡ 0) ⊎ ((putDue mode repeats n es e ≡ 13) ⊎ ((putDue mode repeats n es e ≡ 16) ⊎ (putDue mode repeats n es e ≡ 3)))
 unfolding putDue
-due-number mode repeats n es e = go (hasZero (e .name)) (holds (e .name) es && refusesRepeats repeats) (tooLarge n (sizeOf mode (es ++ (e ∷ []))))
+due-number mode repeats n es e = go (hasZero (e .name)) (containsName (e .name) es && refusesRepeats repeats) (tooLarge n (sizeOf mode (es ++ (e ∷ []))))
   where
     Due : ℕ → Type 0
     Due k = (k ≡ 0) ⊎ ((k ≡ 13) ⊎ ((k ≡ 16) ⊎ (k ≡ 3)))
@@ -158,12 +158,12 @@ ids-then : (mode : Mode) (es : List Entry) (e : Entry) → WordId mode (put e) �
 ids-then Twoway es e word h small = omega arith
 ids-then Oneway es e word h small = omega (arith, backSize-snoc es e)
 
-module _ (mode : Mode) (repeats : Repeats) (n : ℕ) (es : List Entry) (s : State) (w : Written mode repeats n es s) (e : Entry) (room : putDue mode repeats n es e ≡ 0) where
+module _ (mode : Mode) (repeats : Repeats) (n : ℕ) (es : List Entry) (s : State) (w : Written mode repeats n es s) (e : Entry) (capacity : putDue mode repeats n es e ≡ 0) where
   within-then : imageSize mode (es ++ (e ∷ [])) ≤ n
-  within-then = due-room mode repeats n es e room .0
+  within-then = due-room mode repeats n es e capacity .0
 
   below-then : imageSize mode (es ++ (e ∷ [])) ≤ 4294967295
-  below-then = due-room mode repeats n es e room .1
+  below-then = due-room mode repeats n es e capacity .1
 
   -- the entries' area after appending is the old area and the entry's bytes
   pub area-then : take (entriesSize es + entrySize e) (drop headSize (sets (s .buffer) (s .writer .end) (entryBytes e))) ≡ cat entryBytes es ++ entryBytes e
@@ -237,8 +237,8 @@ module _ (mode : Mode) (repeats : Repeats) (n : ℕ) (es : List Entry) (s : Stat
 -- ---- a fresh record
 
 pub fresh-written : (mode : Mode) (repeats : Repeats) (buffer : List ℕ) → headSize ≤ length buffer → Written mode repeats (length buffer) [] (fresh mode repeats buffer)
-unfolding fresh entriesSize placed ofTable backSize cat Rattle.image.specs.Bytes.keep
-fresh-written mode repeats buffer room =
+unfolding fresh entriesSize placed ofTable backSize cat Rattle.image.specs.Bytes.filter
+fresh-written mode repeats buffer capacity =
     record {
       mode-is = refl;
       repeats-is = refl;

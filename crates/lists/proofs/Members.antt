@@ -8,9 +8,9 @@ use mathlib.Core.List.{List, [], _∷_}
 use mathlib.Core.Option.{Option, some}
 use lib.ListN.{length}
 use borrow.Author.Tests.{eq-eqb, eqb-true}
-use Rattle.image.specs.Bytes.{keep, same}
+use Rattle.image.specs.Bytes.{filter, same}
 use Rattle.image.specs.Image.{Entry, hasId}
-use Rattle.image.proofs.Lists.{keep-yes, keep-cons}
+use Rattle.image.proofs.Lists.{filter-yes, filter-cons}
 use Rattle.image.proofs.Equal.{same-self, same-true}
 use Rattle.lookup_laws.specs.Answer.{hasName, ofName, ofId, firstId, lastName}
 use Rattle.writer.specs.Put.{entryOf}
@@ -22,21 +22,21 @@ In e [] = ⊥
 In e (x ∷ xs) = (x ≡ e) ⊎ In e xs
 
 module _ (test : Entry → Bool) (e : Entry) where
-  kept : (xs : List Entry) → In e xs → test e ≡ true → In e (keep test xs)
+  kept : (xs : List Entry) → In e xs → test e ≡ true → In e (filter test xs)
   kept [] m h = absurd m
-  kept (x ∷ xs) (inl p) h = rw (keep-yes test x xs (ap test p ∙ h)) (inl p)
-  kept (x ∷ xs) (inr m) h = rw (keep-cons test x xs) (go (test x) (kept xs m h))
+  kept (x ∷ xs) (inl p) h = rw (filter-yes test x xs (ap test p ∙ h)) (inl p)
+  kept (x ∷ xs) (inr m) h = rw (filter-cons test x xs) (go (test x) (kept xs m h))
     where
-      go : (b : Bool) → In e (keep test xs) → In e (cond b (x ∷ keep test xs) (keep test xs))
+      go : (b : Bool) → In e (filter test xs) → In e (cond b (x ∷ filter test xs) (filter test xs))
       go true k = inr k
       go false k = k
 
-  kept-from : (xs : List Entry) → In e (keep test xs) → In e xs × (test e ≡ true)
-  unfolding keep
+  kept-from : (xs : List Entry) → In e (filter test xs) → In e xs × (test e ≡ true)
+  unfolding filter
   kept-from [] m = absurd m
   kept-from (x ∷ xs) m = go (test x) refl (kept-from xs) m
     where
-      go : (b : Bool) → test x ≡ b → (In e (keep test xs) → In e xs × (test e ≡ true)) → In e (cond b (x ∷ keep test xs) (keep test xs))
+      go : (b : Bool) → test x ≡ b → (In e (filter test xs) → In e xs × (test e ≡ true)) → In e (cond b (x ∷ filter test xs) (filter test xs))
           → In e (x ∷ xs) × (test e ≡ true)
       go true t rest (inl p) = (inl p, sym (ap test p) ∙ t)
       go true t rest (inr k) = (inr (rest k .0), rest k .1)
@@ -71,26 +71,26 @@ module _ (es : List Entry) (name : List ℕ) (id : ℕ) where
   pub named-first : lastName (ofId id es) ≡ some name → (first : ℕ) × (firstId (ofName name es) ≡ some first)
   unfolding ofName ofId
   named-first h =
-      let m = last-in (keep (hasId id) es) name h in
+      let m = last-in (filter (hasId id) es) name h in
       let there = kept-from (hasId id) (m .0) es (m .1) in
-      in-first (m .0) (keep (hasName name) es) (kept (hasName name) (m .0) es (there .0) (ap (λ (l : List ℕ). same l name) (m .2) ∙ same-self name))
+      in-first (m .0) (filter (hasName name) es) (kept (hasName name) (m .0) es (there .0) (ap (λ (l : List ℕ). same l name) (m .2) ∙ same-self name))
 
   -- where an id was put at most once, the entry by which a name gives it names it
   pub first-last : length (ofId id es) ≤ 1 → firstId (ofName name es) ≡ some id → lastName (ofId id es) ≡ some name
   unfolding ofName ofId
   first-last one h =
-      let m = first-in (keep (hasName name) es) id h in
+      let m = first-in (filter (hasName name) es) id h in
       let there = kept-from (hasName name) (m .0) es (m .1) in
-      let single = only-one (m .0) (keep (hasId id) es) (kept (hasId id) (m .0) es (there .0) (eq-eqb (m .0 .id) id (m .2))) one in
+      let single = only-one (m .0) (filter (hasId id) es) (kept (hasId id) (m .0) es (there .0) (eq-eqb (m .0 .id) id (m .2))) one in
       ap lastName single ∙ ap {B = Option (List ℕ)} (λ (l : List ℕ). some l) (same-true (m .0 .name) name (there .1))
 
   pub last-first : length (ofName name es) ≤ 1 → lastName (ofId id es) ≡ some name → firstId (ofName name es) ≡ some id
   unfolding ofName ofId
   last-first one h =
-      let m = last-in (keep (hasId id) es) name h in
+      let m = last-in (filter (hasId id) es) name h in
       let there = kept-from (hasId id) (m .0) es (m .1) in
       let single =
-      only-one (m .0) (keep (hasName name) es)
+      only-one (m .0) (filter (hasName name) es)
       (kept (hasName name) (m .0) es (there .0) (ap (λ (l : List ℕ). same l name) (m .2) ∙ same-self name)) one in
       ap firstId single ∙ ap {B = Option ℕ} (λ (i : ℕ). some i) (eqb-true (m .0 .id) id (there .1))
 
@@ -98,7 +98,7 @@ module _ (es : List Entry) (name : List ℕ) (id : ℕ) where
   pub only-entry : length (ofName name es) ≤ 1 → firstId (ofName name es) ≡ some id → ofName name es ≡ entryOf name id ∷ []
   unfolding ofName
   only-entry one h =
-      let m = first-in (keep (hasName name) es) id h in
+      let m = first-in (filter (hasName name) es) id h in
       let there = kept-from (hasName name) (m .0) es (m .1) in
       let named = same-true (m .0 .name) name (there .1) in
-      only-one (m .0) (keep (hasName name) es) (m .1) one ∙ ap {B = List Entry} (λ (y : Entry). y ∷ []) (λ i. record { name = named i; id = m .2 i })
+      only-one (m .0) (filter (hasName name) es) (m .1) one ∙ ap {B = List Entry} (λ (y : Entry). y ∷ []) (λ i. record { name = named i; id = m .2 i })

@@ -14,9 +14,9 @@ use Rattle.lists.specs.Calls.{Call, put, close, acceptedFrom, accepted, 
 use Rattle.lists.specs.Demand3.{afterList}
 use Rattle.lists.proofs.ListWritten.{Written}
 use Rattle.lists.proofs.Appended.{sizeOf-is}
-use Rattle.lists.proofs.Recorded.{written-size}
+use Rattle.lists.proofs.WrittenRecord.{written-size}
 use Rattle.lists.proofs.ListCloses.{close-accepted, close-image, close-again}
-use Rattle.lists.proofs.Along.{list-written}
+use Rattle.lists.proofs.CallLists.{list-written}
 
 module _ (mode : Mode) (repeats : Repeats) (buffer : List ℕ) (room : headSize ≤ length buffer) (cs : List Call) (word : WordIds mode cs) where
   -- what the list leaves, and the puts that were accepted

@@ -9,9 +9,9 @@ use Rattle.lookup_laws.specs.Answer.{firstId}
 use Rattle.writer.specs.declared.Repeats.{Repeats}
 use Rattle.lists.specs.Calls.{Call, WordIds}
 use Rattle.lists.specs.Demand3.{acceptedPuts}
-use Rattle.lists.specs.OneWay.{OneWayList, OneWay}
-use Rattle.lists.proofs.Along.{list-accepted}
-use Rattle.lists.proofs.Reading.{one-way-unanswered, list-read}
+use Rattle.lists.specs.theorems.OneWay.{OneWayList, OneWay}
+use Rattle.lists.proofs.CallLists.{list-accepted}
+use Rattle.lists.proofs.ReadingAnswered.{one-way-unanswered, list-read}
 use Rattle.lists.proofs.Theorem.{calls-imaged, calls-below, calls-answered}
 
 module _ (repeats : Repeats) (buffer : List ℕ) (cs : List Call) (room : headSize ≤ length buffer) (word : WordIds Oneway cs) where

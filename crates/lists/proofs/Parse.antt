@@ -13,14 +13,14 @@ use Rattle.image.proofs.Words.{word-le32, word-drop}
 use Rattle.image.specs.Stored.{firstEntry, afterFirst, firstWhole, whole, entriesIn}
 
 -- an entry whose id and length word are words
-pub record Wordly (e : Entry) : Type 0 where
+pub record WordSized (e : Entry) : Type 0 where
   pub id-word : e .id < 2 ^ 32
   pub length-word : length (e .name) + 1 < 2 ^ 32
 
 -- each of a list of entries is such
-abbrev pub AllWordly : List Entry → Type 0
-AllWordly [] = Unit {0}
-AllWordly (e ∷ es) = Wordly e × AllWordly es
+abbrev pub AllWordSized : List Entry → Type 0
+AllWordSized [] = Unit {0}
+AllWordSized (e ∷ es) = WordSized e × AllWordSized es
 
 -- two words and what follows them
 module _ (i k : ℕ) (tail : List ℕ) (hi : i < 2 ^ 32) (hk : k < 2 ^ 32) where
@@ -48,7 +48,7 @@ laid : (e : Entry) (rest : List ℕ) → entryBytes e ++ rest ≡ le32 (e .id) +
 unfolding entryBytes
 laid e rest = simp append-assoc
 
-module _ (e : Entry) (rest : List ℕ) (ok : Wordly e) where
+module _ (e : Entry) (rest : List ℕ) (ok : WordSized e) where
   laid-id : word (entryBytes e ++ rest) 0 ≡ e .id
   laid-id = rw laid (first-word (e .id) (length (e .name) + 1) (e .name ++ (0 ∷ rest)) (ok .id-word) (ok .length-word))
 
@@ -92,14 +92,14 @@ module _ (e : Entry) (rest : List ℕ) (ok : Wordly e) where
       (le-leb 8 (length (entryBytes e ++ rest)) (omega (arith, laid-size)), le-leb 1 (word (entryBytes e ++ rest) 4) (omega (arith, laid-length)), le-leb (8 + word (entryBytes e ++ rest) 4) (length (entryBytes e ++ rest)) (omega (arith, laid-size, laid-length)), eq-eqb (getD (entryBytes e ++ rest) (7 + word (entryBytes e ++ rest) 4) 0) 0 last-byte)
 
 -- what was written is read back
-pub parsed : (es : List Entry) → AllWordly es → entriesIn (length es) (cat entryBytes es) ≡ es
+pub parsed : (es : List Entry) → AllWordSized es → entriesIn (length es) (cat entryBytes es) ≡ es
 unfolding entriesIn cat
 parsed [] ok = refl
 parsed (e ∷ es) ok =
     ap₂ {C = List Entry} (λ (x : Entry) (xs : List Entry). x ∷ xs) (first-entry e (cat entryBytes es) (ok .0))
     (ap (entriesIn (length es)) (after-first e (cat entryBytes es) (ok .0)) ∙ parsed es (ok .1))
 
-pub parsed-whole : (es : List Entry) → AllWordly es → whole (length es) (cat entryBytes es) ≡ true
+pub parsed-whole : (es : List Entry) → AllWordSized es → whole (length es) (cat entryBytes es) ≡ true
 unfolding whole cat
 parsed-whole [] ok = refl
 parsed-whole (e ∷ es) ok =

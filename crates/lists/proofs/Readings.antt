@@ -13,20 +13,20 @@ use Rattle.image.specs.declared.Mode.the-variants.{Twoway, Oneway}
 use Rattle.image.specs.Image.{Entry, headSize}
 use Rattle.image.specs.Head.{backSizeAt}
 use Rattle.image.specs.Zero.{hasZero}
-use Rattle.image.proofs.All.{all-true}
-use Rattle.image.proofs.Every.{All, all-keep, all-append}
+use Rattle.image.proofs.AllOfRange.{all-true}
+use Rattle.image.proofs.AllOfList.{All, all-filter, all-append}
 use Rattle.reader.specs.Naming.{Naming, place, unnamed, naming}
 use Rattle.consistency.specs.Panel.{agreeOn, readingsAgree}
-use Rattle.consistency.proofs.Panels.{agree-held, agree-unnamed}
-use Rattle.lookup_laws.specs.Answer.{heldAt, nameGiven, ofId, lastName}
+use Rattle.consistency.proofs.Panels.{agree-named, agree-unnamed}
+use Rattle.lookup_laws.specs.Answer.{bytesAt, nameGiven, ofId, lastName}
 use Rattle.writer.specs.declared.Repeats.{Repeats}
 use Rattle.lists.specs.Calls.{Call, put, close, acceptedOne, putDue, acceptedFrom, accepted, WordIds}
 use Rattle.lists.specs.Demand3.{imageOf}
-use Rattle.lists.specs.Readings.{Readings}
-use Rattle.lists.proofs.Read.{namedIn, Read}
+use Rattle.lists.specs.theorems.Readings.{Readings}
+use Rattle.lists.proofs.ImageRead.{namedIn, Read}
 use Rattle.lists.proofs.ListPuts.{due-free}
-use Rattle.lists.proofs.Along.{two-way}
-use Rattle.lists.proofs.Reading.{list-read}
+use Rattle.lists.proofs.CallLists.{two-way}
+use Rattle.lists.proofs.ReadingAnswered.{list-read}
 
 abbrev Free : Entry → Type 0
 Free e = hasZero (e .name) ≡ false
@@ -57,7 +57,7 @@ last-free (e ∷ f ∷ es) name all p = last-free (f ∷ es) name (all .1) p
 
 named-free : (mode : Mode) (es : List Entry) (id : ℕ) (name : List ℕ) → All Free es → namedIn mode es id ≡ some name → hasZero name ≡ false
 unfolding ofId
-named-free Twoway es id name all e = last-free (ofId id es) name (all-keep Free _ es all) e
+named-free Twoway es id name all e = last-free (ofId id es) name (all-filter Free _ es all) e
 named-free Oneway es id name all e = absurd (let z : _≡_ {A = ℕ} 0 1 = cc in omega arith)
 
 -- an id agrees where the name that it gives has no zero byte
@@ -68,8 +68,8 @@ agrees img id given e free = go (naming img id) refl
     go : (x : Naming) → naming img id ≡ x → agreeOn img id ≡ true
     go (place s n) p =
         let name = take n (drop s img) in
-        let held : given ≡ some name = sym e ∙ ap (heldAt img) p in
-        sym (agree-held img id s n (sym p) (hasZero name) refl) ∙ ap not (free name held)
+        let held : given ≡ some name = sym e ∙ ap (bytesAt img) p in
+        sym (agree-named img id s n (sym p) (hasZero name) refl) ∙ ap not (free name held)
     go unnamed p = sym (agree-unnamed img id (sym p))
 
 image-agrees : (mode : Mode) (es : List Entry) (img : List ℕ) → Read mode es img → All Free es → readingsAgree img ≡ true

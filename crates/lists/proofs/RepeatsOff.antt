@@ -8,50 +8,50 @@ use lib.ListN.{length, length-append}
 use lib.Dec.{eqb}
 use borrow.Author.Tests.{eqb-true}
 use Rattle.image.specs.declared.Mode.{Mode}
-use Rattle.image.specs.Bytes.{keep}
-use Rattle.image.specs.Image.{Entry, headSize, hasName, holds, image}
-use Rattle.image.proofs.Lists.{keep-nil, keep-yes, keep-no, keep-append}
+use Rattle.image.specs.Bytes.{filter}
+use Rattle.image.specs.Image.{Entry, headSize, hasName, containsName, image}
+use Rattle.image.proofs.Lists.{filter-nil, filter-yes, filter-no, filter-append}
 use Rattle.image.proofs.Equal.{same-true}
-use Rattle.image.proofs.Bools.{neither-first, neither-second}
+use Rattle.image.proofs.Bools.{or-false-first, or-false-second}
 use Rattle.lookup_laws.specs.Answer.{ofName, firstId}
 use Rattle.writer.specs.declared.Repeats.{Repeats}
 use Rattle.writer.specs.declared.Repeats.the-variants.{Off}
 use Rattle.lists.specs.Calls.{Call, put, close, putDue, acceptedFrom, accepted, WordIds}
 use Rattle.lists.specs.Demand3.{acceptedPuts, imageOf}
-use Rattle.lists.specs.RepeatsOff.{putAll, ListOff, RepeatsOff}
+use Rattle.lists.specs.theorems.RepeatsOff.{putAll, ListOff, RepeatsOff}
 use Rattle.lists.proofs.ListPuts.{due-new, due-either}
 use Rattle.lists.proofs.Members.{only-entry}
-use Rattle.lists.proofs.Along.{list-accepted, list-written}
-use Rattle.lists.proofs.Again.{again, again-accepted, again-there, words-again}
-use Rattle.lists.proofs.Reading.{list-read}
+use Rattle.lists.proofs.CallLists.{list-accepted, list-written}
+use Rattle.lists.proofs.PutsAgain.{again, again-accepted, again-there, words-again}
+use Rattle.lists.proofs.ReadingAnswered.{list-read}
 use Rattle.lists.proofs.Theorem.{calls-imaged}
 
 -- ---- each name once
 
-none-named : (name : List ℕ) (es : List Entry) → holds name es ≡ false → ofName name es ≡ []
-unfolding holds ofName
-none-named name [] h = keep-nil (hasName name)
+none-named : (name : List ℕ) (es : List Entry) → containsName name es ≡ false → ofName name es ≡ []
+unfolding containsName ofName
+none-named name [] h = filter-nil (hasName name)
 none-named name (e ∷ es) h =
-    keep-no (hasName name) e es (neither-first (hasName name e) (holds name es) h)
-    ∙ none-named name es (neither-second (hasName name e) (holds name es) h)
+    filter-no (hasName name) e es (or-false-first (hasName name e) (containsName name es) h)
+    ∙ none-named name es (or-false-second (hasName name e) (containsName name es) h)
 
 -- one put more of a name that is new
-one-more : (name : List ℕ) (es : List Entry) (e : Entry) → holds (e .name) es ≡ false → length (ofName name es) ≤ 1 → length (ofName name (es ++ (e ∷ []))) ≤ 1
+one-more : (name : List ℕ) (es : List Entry) (e : Entry) → containsName (e .name) es ≡ false → length (ofName name es) ≤ 1 → length (ofName name (es ++ (e ∷ []))) ≤ 1
 unfolding ofName
 one-more name es e new once = go (hasName name e) refl
   where
-    split : ofName name (es ++ (e ∷ [])) ≡ ofName name es ++ keep (hasName name) (e ∷ [])
-    split = keep-append (hasName name) es (e ∷ [])
+    split : ofName name (es ++ (e ∷ [])) ≡ ofName name es ++ filter (hasName name) (e ∷ [])
+    split = filter-append (hasName name) es (e ∷ [])
 
-    long : length (ofName name (es ++ (e ∷ []))) ≡ length (ofName name es) + length (keep (hasName name) (e ∷ []))
-    long = ap length split ∙ length-append (ofName name es) (keep (hasName name) (e ∷ []))
+    long : length (ofName name (es ++ (e ∷ []))) ≡ length (ofName name es) + length (filter (hasName name) (e ∷ []))
+    long = ap length split ∙ length-append (ofName name es) (filter (hasName name) (e ∷ []))
 
     go : (b : Bool) → hasName name e ≡ b → length (ofName name (es ++ (e ∷ []))) ≤ 1
     go true h =
         let same-name = same-true (e .name) name h in
         let none : ofName name es ≡ [] = ap (λ (l : List ℕ). ofName l es) (sym same-name) ∙ none-named (e .name) es new in
-        omega (arith, long, ap length none, ap length (keep-yes (hasName name) e [] h), ap length (keep-nil (hasName name)))
-    go false h = omega (arith, long, ap length (keep-no (hasName name) e [] h), ap length (keep-nil (hasName name)))
+        omega (arith, long, ap length none, ap length (filter-yes (hasName name) e [] h), ap length (filter-nil (hasName name)))
+    go false h = omega (arith, long, ap length (filter-no (hasName name) e [] h), ap length (filter-nil (hasName name)))
 
 module _ (mode : Mode) (n : ℕ) where
   once-from : (name : List ℕ) (es : List Entry) (cs : List Call) → length (ofName name es) ≤ 1 → length (ofName name (acceptedFrom mode Off n es cs)) ≤ 1
@@ -62,12 +62,12 @@ module _ (mode : Mode) (n : ℕ) where
     where
       go : (b : Bool) → eqb (putDue mode Off n es e) 0 ≡ b → length (ofName name (es ++ cond b (e ∷ []) [])) ≤ 1
       go true d =
-          one-more name es e (sym (and-true (holds (e .name) es)) ∙ due-new mode Off n es e (eqb-true (putDue mode Off n es e) 0 d)) once
+          one-more name es e (sym (and-true (containsName (e .name) es)) ∙ due-new mode Off n es e (eqb-true (putDue mode Off n es e) 0 d)) once
       go false d = rw (append-nil es) once
 
   once : (name : List ℕ) (cs : List Call) → length (ofName name (accepted mode Off n cs)) ≤ 1
   unfolding accepted ofName
-  once name cs = once-from name [] cs (omega (arith, ap length (keep-nil (hasName name))))
+  once name cs = once-from name [] cs (omega (arith, ap length (filter-nil (hasName name))))
 
   -- ---- the accepted puts, put again with either choice
 

@@ -8,16 +8,16 @@ use Rattle.image.specs.declared.Mode.the-variants.{Twoway}
 use Rattle.image.specs.Image.{headSize, imageSize, image}
 use Rattle.reader.specs.Lookup.{lookup}
 use Rattle.lookup_laws.specs.Answer.{foundOffset, firstId, lastName, isNamed}
-use Rattle.lookup_laws.proofs.Images.{name-stands, ids-fit}
+use Rattle.lookup_laws.proofs.ImageAnswers.{name-stands, ids-fit}
 use Rattle.writer.specs.declared.Repeats.{Repeats}
 use Rattle.lists.specs.Calls.{Call, sizeOf, WordIds}
 use Rattle.lists.specs.Demand3.{acceptedPuts, imageOf, CallsAnswered, OneList, TwoLists, Demand3}
-use Rattle.lists.specs.Corollaries.{Together, Corollaries}
-use Rattle.lists.specs.AfterClose.{Answered}
+use Rattle.lists.specs.theorems.Corollaries.{Together, Corollaries}
+use Rattle.lists.specs.theorems.AfterClose.{ReadingAnswered}
 use Rattle.lists.proofs.Members.{named-first, first-last, last-first}
-use Rattle.lists.proofs.Along.{two-way, list-begins, list-counts, list-answers, list-permitted, list-accepted}
+use Rattle.lists.proofs.CallLists.{two-way, list-begins, list-counts, list-answers, list-permitted, list-accepted}
 use Rattle.lists.proofs.OneMoreClose.{list-gives, list-formula, list-image, list-below, list-twice, none-accepted}
-use Rattle.lists.proofs.Reading.{two-way-answered}
+use Rattle.lists.proofs.ReadingAnswered.{two-way-answered}
 
 -- ---- in either mode
 
@@ -46,7 +46,7 @@ module _ (mode : Mode) (repeats : Repeats) (buffer : List ℕ) (cs : List Call) 
 
 module _ (repeats : Repeats) (buffer : List ℕ) (cs : List Call) (room : headSize ≤ length buffer) where
   -- each reading call answers by the accepted puts
-  pub list-answered : Answered (acceptedPuts Twoway repeats buffer cs) (imageOf Twoway repeats buffer cs)
+  pub list-answered : ReadingAnswered (acceptedPuts Twoway repeats buffer cs) (imageOf Twoway repeats buffer cs)
   list-answered =
       rw (calls-imaged Twoway repeats buffer cs room (two-way cs))
       (two-way-answered (acceptedPuts Twoway repeats buffer cs) (calls-below Twoway repeats buffer cs room (two-way cs)))

@@ -9,7 +9,7 @@ use lib.ListN.{length}
 use lib.Dec.{eqb}
 use Rattle.image.specs.declared.Mode.{Mode}
 use Rattle.image.specs.declared.Mode.the-variants.{Twoway, Oneway}
-use Rattle.image.specs.Image.{Entry, backSize, backIn, holds}
+use Rattle.image.specs.Image.{Entry, backSize, backIn, containsName}
 use Rattle.image.specs.Zero.{hasZero}
 use Rattle.writer.specs.declared.Repeats.{Repeats}
 use Rattle.writer.specs.State.{State, refusesRepeats, tooLarge}
@@ -64,7 +64,7 @@ sizeOf mode es = 2072 + putsSize es + 4 * backIn mode (backSize es)
 unfoldable pub putDue : Mode → Repeats → ℕ → List Entry → Entry → ℕ
 putDue mode repeats n es e =
     cond (hasZero (e .name)) 13
-    (cond (holds (e .name) es && refusesRepeats repeats) 16
+    (cond (containsName (e .name) es && refusesRepeats repeats) 16
     (cond (tooLarge n (sizeOf mode (es ++ (e ∷ [])))) 3 0))
 
 -- the refusal that is due to a call: none to a close

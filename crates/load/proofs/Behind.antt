@@ -13,7 +13,7 @@ use Rattle.writer.specs.Put.{afterPut}
 use Rattle.writer.proofs.Kept.{put-keeps-behind}
 use Rattle.lists.specs.Calls.{after, accepted}
 use Rattle.lists.specs.Demand3.{afterList}
-use Rattle.lists.proofs.Along.{two-way, list-written}
+use Rattle.lists.proofs.CallLists.{two-way, list-written}
 use Rattle.load.specs.States.{loadEntry}
 use Rattle.load.specs.theorems.Rebuilt.{firstPuts, roomFor}
 use Rattle.load.proofs.Entered.{entry-bytes, first-bytes, accepted-first, after-next}

@@ -8,7 +8,7 @@ use mathlib.Core.List.{List, [], _∷_, _++_}
 use lib.ListN.{length, length-append}
 use borrow.Author.Tests.{lt-ltb, le-ltb}
 use Rattle.image.specs.declared.Mode.the-variants.{Twoway}
-use Rattle.image.specs.Image.{Entry, headSize, entrySize, entriesSize, backSize, holds}
+use Rattle.image.specs.Image.{Entry, headSize, entrySize, entriesSize, backSize, containsName}
 use Rattle.writer.specs.declared.Repeats.the-variants.{On}
 use Rattle.writer.specs.State.{fresh, tooLarge}
 use Rattle.writer.specs.Put.{putRefusal, afterPut}
@@ -16,7 +16,7 @@ use Rattle.lists.specs.Calls.{put, after, putDue, accepted, acceptedAfter, acce
 use Rattle.lists.specs.Demand3.{afterList}
 use Rattle.lists.proofs.Appended.{entriesSize-snoc, backSize-snoc, sizeOf-is}
 use Rattle.lists.proofs.ListPuts.{put-due}
-use Rattle.lists.proofs.Along.{two-way, after-append, accepted-append, list-written}
+use Rattle.lists.proofs.CallLists.{two-way, after-append, accepted-append, list-written}
 use Rattle.lists.proofs.RepeatsOff.{putAll-append}
 use Rattle.load.specs.States.{stateAfter, loadEntry}
 use Rattle.load.specs.Load.{putFrom}
@@ -55,7 +55,7 @@ module _ (seed : ℕ) where
 next-due : (n seed k : ℕ) → putDue Twoway On n (firstEntries seed k) (loadEntry seed k) ≡ cond (tooLarge n (headSize + 38 * suc k)) 3 0
 unfolding putDue firstEntries loadEntry
 next-due n seed k =
-    rw (name-free (stateAfter seed (suc k)), and-false (holds (loadEntry seed k .name) (firstEntries seed k)), first-size seed (suc k))
+    rw (name-free (stateAfter seed (suc k)), and-false (containsName (loadEntry seed k .name) (firstEntries seed k)), first-size seed (suc k))
 
 pub due-none : (n seed k : ℕ) → headSize + 38 * suc k ≤ n → k < 4096 → putDue Twoway On n (firstEntries seed k) (loadEntry seed k) ≡ 0
 due-none n seed k room few =

@@ -21,7 +21,7 @@ use Rattle.lists.specs.Demand3.{afterList, acceptedPuts, imageOf}
 use Rattle.lists.proofs.ListWritten.{Written}
 use Rattle.lists.proofs.Appended.{sizeOf-is}
 use Rattle.lists.proofs.ListCloses.{close-closed, closed-buffer}
-use Rattle.lists.proofs.Along.{two-way, list-accepted, list-written, begin-accepts}
+use Rattle.lists.proofs.CallLists.{two-way, list-accepted, list-written, begin-accepts}
 use Rattle.lists.proofs.Theorem.{one-list, calls-answered}
 use Rattle.load.specs.States.{loadEntry}
 use Rattle.load.specs.Load.{loadPut, loading, afterLoad}

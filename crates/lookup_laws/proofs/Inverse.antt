@@ -9,33 +9,33 @@ use Prim.Native.Nat.{ℕ, _≤_}
 use native.Mathlib.Omega.{arith}
 use borrow.Author.Tests.{eq-eqb, eqb-true}
 use lib.ListN.{length}
-use Rattle.image.specs.Bytes.{keep, same}
+use Rattle.image.specs.Bytes.{filter, same}
 use Rattle.image.specs.Image.{Entry, hasId, imageSize, image}
 use Rattle.image.specs.declared.Mode.the-variants.{Twoway}
-use Rattle.image.proofs.Lists.{keep-nil, keep-yes, keep-no}
+use Rattle.image.proofs.Lists.{filter-nil, filter-yes, filter-no}
 use Rattle.reader.specs.Lookup.{lookup}
 use Rattle.lookup_laws.specs.Answer.{foundId, nameGiven, hasName, ofName, ofId, firstId, lastName}
 use Rattle.image.proofs.Equal.{same-self, same-true}
-use Rattle.lookup_laws.proofs.Images.{name-gives, id-gives, ids-fit}
+use Rattle.lookup_laws.proofs.ImageAnswers.{name-gives, id-gives, ids-fit}
 
 -- two tests in either order
 module _ {A : Type 0} (f g : A → Bool) where
-  keep-swap : (xs : List A) → keep f (keep g xs) ≡ keep g (keep f xs)
-  unfolding keep
+  keep-swap : (xs : List A) → filter f (filter g xs) ≡ filter g (filter f xs)
+  unfolding filter
   keep-swap [] = refl
   keep-swap (x ∷ xs) = go (f x) refl (g x) refl (keep-swap xs)
     where
-      go : (s : Bool) → f x ≡ s → (t : Bool) → g x ≡ t → keep f (keep g xs) ≡ keep g (keep f xs)
-          → keep f (cond t (x ∷ keep g xs) (keep g xs)) ≡ keep g (cond s (x ∷ keep f xs) (keep f xs))
-      go true p true q ih = keep-yes f x (keep g xs) p ∙ ap (λ (l : List A). x ∷ l) ih ∙ sym (keep-yes g x (keep f xs) q)
-      go true p false q ih = ih ∙ sym (keep-no g x (keep f xs) q)
-      go false p true q ih = keep-no f x (keep g xs) p ∙ ih
+      go : (s : Bool) → f x ≡ s → (t : Bool) → g x ≡ t → filter f (filter g xs) ≡ filter g (filter f xs)
+          → filter f (cond t (x ∷ filter g xs) (filter g xs)) ≡ filter g (cond s (x ∷ filter f xs) (filter f xs))
+      go true p true q ih = filter-yes f x (filter g xs) p ∙ ap (λ (l : List A). x ∷ l) ih ∙ sym (filter-yes g x (filter f xs) q)
+      go true p false q ih = ih ∙ sym (filter-no g x (filter f xs) q)
+      go false p true q ih = filter-no f x (filter g xs) p ∙ ih
       go false p false q ih = ih
 
 -- where at most one stands, and one passes, it is that one
 module _ {A : Type 0} (f : A → Bool) where
-  keep-one : (e : A) (xs : List A) → length xs ≤ 1 → keep f xs ≡ e ∷ [] → (xs ≡ e ∷ []) × (f e ≡ true)
-  unfolding keep
+  keep-one : (e : A) (xs : List A) → length xs ≤ 1 → filter f xs ≡ e ∷ [] → (xs ≡ e ∷ []) × (f e ≡ true)
+  unfolding filter
   keep-one e [] h q = let z : _≡_ {A = ℕ} 0 1 = cc in absurd (omega arith)
   keep-one e (x ∷ []) h q = go (f x) refl q
     where
@@ -47,7 +47,7 @@ module _ {A : Type 0} (f : A → Bool) where
 -- ---- on the entries
 
 -- the entries of an id that have a name are those of the name that have the id
-swapped : (name : List ℕ) (id : ℕ) (es : List Entry) → keep (hasId id) (ofName name es) ≡ keep (hasName name) (ofId id es)
+swapped : (name : List ℕ) (id : ℕ) (es : List Entry) → filter (hasId id) (ofName name es) ≡ filter (hasName name) (ofId id es)
 unfolding ofName ofId
 swapped name id es = keep-swap (hasId id) (hasName name) es
 
@@ -56,11 +56,11 @@ module _ (es : List Entry) (names : (name : List ℕ) → length (ofName name es
   first-last [] e h q = let z : _≡_ {A = ℕ} 0 1 = cc in absurd (omega arith)
   first-last (x ∷ []) e h q =
       let i : x .id ≡ id = cc in
-      let k : keep (hasName name) (ofId id es) ≡ x ∷ [] =
+      let k : filter (hasName name) (ofId id es) ≡ x ∷ [] =
       sym (swapped name id es)
-      ∙ ap (keep (hasId id)) e
-      ∙ keep-yes (hasId id) x [] (eq-eqb (x .id) id i)
-      ∙ ap (λ (l : List Entry). x ∷ l) (keep-nil (hasId id)) in
+      ∙ ap (filter (hasId id)) e
+      ∙ filter-yes (hasId id) x [] (eq-eqb (x .id) id i)
+      ∙ ap (λ (l : List Entry). x ∷ l) (filter-nil (hasId id)) in
       let one = keep-one (hasName name) x (ofId id es) (ids id) k in
       ap lastName (one .0) ∙ ap {B = Option (List ℕ)} some (same-true (x .name) name (one .1))
   first-last (x ∷ y ∷ xs) e h q = absurd (omega arith)
@@ -70,11 +70,11 @@ module _ (es : List Entry) (names : (name : List ℕ) → length (ofName name es
   last-first (x ∷ []) e h q =
       let i : x .name ≡ name = cc in
       let t : same (x .name) name ≡ true = ap (λ (l : List ℕ). same l name) i ∙ same-self name in
-      let k : keep (hasId id) (ofName name es) ≡ x ∷ [] =
+      let k : filter (hasId id) (ofName name es) ≡ x ∷ [] =
       swapped name id es
-      ∙ ap (keep (hasName name)) e
-      ∙ keep-yes (hasName name) x [] t
-      ∙ ap (λ (l : List Entry). x ∷ l) (keep-nil (hasName name)) in
+      ∙ ap (filter (hasName name)) e
+      ∙ filter-yes (hasName name) x [] t
+      ∙ ap (λ (l : List Entry). x ∷ l) (filter-nil (hasName name)) in
       let one = keep-one (hasId id) x (ofName name es) (names name) k in
       ap firstId (one .0) ∙ ap {B = Option ℕ} some (eqb-true (x .id) id (one .1))
   last-first (x ∷ y ∷ xs) e h q = absurd (omega arith)

@@ -1,16 +1,15 @@
 -- The laws of answers on images.
 pub mod Scan
-pub mod Order
+pub mod ProbeSequence
 pub mod SearchFilling
-pub mod Table
-pub mod Searched
+pub mod TableContents
+pub mod TableSearch
 pub mod Matching
-pub mod Opened
-pub mod EntrySeen
+pub mod ImageOpening
+pub mod EntryProbe
 pub mod EntriesOf
-pub mod Found
-pub mod Named
-pub mod Images
-pub mod Walked
+pub mod ImageLookup
+pub mod ImageNaming
+pub mod ImageAnswers
+pub mod ImageWalk
 pub mod Inverse
-pub mod Small

@@ -8,24 +8,24 @@ use mathlib.Core.List.{List, [], _∷_, _++_, map}
 use borrow.Author.Tests.{eq-eqb, ne-eqb}
 use lib.Dec.{eqb}
 use lib.ListN.{length, getD}
-use Rattle.image.specs.Tables.{Bucket, empty, start, next, order, filled}
-use Rattle.image.proofs.Bools.{not-both}
-use Rattle.image.proofs.Every.{All, all-map}
-use Rattle.reader.specs.Lookup.{Hit, Seen, pass, ends, hit}
-use Rattle.lookup_laws.specs.steps.Matches.{matches}
-use Rattle.lookup_laws.proofs.Scan.{Taken, hits, hitOf, metHits, meet-scan, scan-hits}
+use Rattle.image.specs.Tables.{Bucket, empty, start, next, probeSequence, filled}
+use Rattle.image.proofs.Bools.{false-not-true}
+use Rattle.image.proofs.AllOfList.{All, all-map}
+use Rattle.reader.specs.Lookup.{Hit, Probe, pass, ends, hit}
+use Rattle.lookup_laws.specs.steps.HasMatch.{hasMatch}
+use Rattle.lookup_laws.proofs.Scan.{Taken, hits, hitOf, matchHits, matches-scan, scan-hits}
 use Rattle.lookup_laws.proofs.SearchFilling.{hitsIn}
-use Rattle.lookup_laws.proofs.Table.{NotEmpty}
-use Rattle.lookup_laws.proofs.Searched.{look, searched}
+use Rattle.lookup_laws.proofs.TableContents.{NotEmpty}
+use Rattle.lookup_laws.proofs.TableSearch.{probeWith, searched}
 
 -- ---- searches of equal buckets
 
-pub matches-equal : (b d : ℕ → Bucket) (h : ℕ) (v : ℕ → Bool) (n : ℕ) → ((k : ℕ) → k < n → b k ≡ d k) → (m k : ℕ) → k < n
-    → matches b h v (order n m k) ≡ matches d h v (order n m k)
-unfolding matches order
-matches-equal b d h v n equal zero k l = refl
-matches-equal b d h v n equal (suc m) k l =
-    rw (equal k l, matches-equal b d h v n equal m (next n k) (mod-lt (k + 1) (omega arith)))
+pub hasMatch-equal : (b d : ℕ → Bucket) (h : ℕ) (v : ℕ → Bool) (n : ℕ) → ((k : ℕ) → k < n → b k ≡ d k) → (m k : ℕ) → k < n
+    → hasMatch b h v (probeSequence n m k) ≡ hasMatch d h v (probeSequence n m k)
+unfolding hasMatch probeSequence
+hasMatch-equal b d h v n equal zero k l = refl
+hasMatch-equal b d h v n equal (suc m) k l =
+    rw (equal k l, hasMatch-equal b d h v n equal m (next n k) (mod-lt (k + 1) (omega arith)))
 
 -- ---- no match
 
@@ -33,27 +33,27 @@ module _ (h : ℕ) (v : ℕ → Bool) where
   abbrev hitAt : ℕ → Hit
   hitAt o = record { id = 0; offset = o }
 
-  abbrev verdict : ℕ → Seen
-  verdict o = cond (v o) (hit (hitAt o)) pass
+  abbrev probeOfEntry : ℕ → Probe
+  probeOfEntry o = cond (v o) (hit (hitAt o)) pass
 
   -- a search without a match has no hit
-  no-hit : (b : ℕ → Bucket) (ks : List ℕ) → matches b h v ks ≡ false → hits (map (λ (k : ℕ). look h verdict (b k)) ks) ≡ []
-  unfolding matches
+  no-hit : (b : ℕ → Bucket) (ks : List ℕ) → hasMatch b h v ks ≡ false → hits (map (λ (k : ℕ). probeWith h probeOfEntry (b k)) ks) ≡ []
+  unfolding hasMatch
   no-hit b [] e = refl
   no-hit b (k ∷ ks) e = go (eqb (b k .at) 0) (eqb (b k .hash) h) (v (b k .at)) (no-hit b ks) e
     where
-      w : List Seen
-      w = map (λ (j : ℕ). look h verdict (b j)) ks
+      w : List Probe
+      w = map (λ (j : ℕ). probeWith h probeOfEntry (b j)) ks
 
-      go : (p q t : Bool) → (matches b h v ks ≡ false → hits w ≡ []) → cond p false (cond (q && t) true (matches b h v ks)) ≡ false
+      go : (p q t : Bool) → (hasMatch b h v ks ≡ false → hits w ≡ []) → cond p false (cond (q && t) true (hasMatch b h v ks)) ≡ false
           → hits (cond p ends (cond q (cond t (hit (hitAt (b k .at))) pass) pass) ∷ w) ≡ []
       go true q t rest e = refl
-      go false true true rest e = absurd (not-both (sym e))
+      go false true true rest e = absurd (false-not-true (sym e))
       go false true false rest e = rest e
       go false false t rest e = rest e
 
   -- an entry has a verdict
-  taken : (b : Bucket) → NotEmpty b → Taken (look h verdict b)
+  taken : (b : Bucket) → NotEmpty b → Taken (probeWith h probeOfEntry b)
   taken b full = rw (ne-eqb (b .at) 0 full) (go (eqb (b .hash) h) (v (b .at)))
     where
       go : (q t : Bool) → Taken (cond q (cond t (hit (hitAt (b .at))) pass) pass)
@@ -69,27 +69,27 @@ module _ (h : ℕ) (v : ℕ → Bool) where
   no-cons e = let z : _≡_ {A = ℕ} 1 0 = cc (ap length e) in absurd (omega arith)
 
   -- entries without a hit are others
-  others : (bs : List Bucket) → All NotEmpty bs → hitsIn (map (look h verdict) bs) ≡ [] → All Other bs
+  others : (bs : List Bucket) → All NotEmpty bs → hitsIn (map (probeWith h probeOfEntry) bs) ≡ [] → All Other bs
   others [] full e = tt
   others (b ∷ bs) full e = go (eqb (b .hash) h) refl (v (b .at)) refl (rw (ne-eqb (b .at) 0 (full .0)) at e) (others bs (full .1))
     where
-      w : List Seen
-      w = map (look h verdict) bs
+      w : List Probe
+      w = map (probeWith h probeOfEntry) bs
 
       go : (q : Bool) → eqb (b .hash) h ≡ q → (t : Bool) → v (b .at) ≡ t → hitOf (cond q (cond t (hit (hitAt (b .at))) pass) pass) ++ hitsIn w ≡ []
           → (hitsIn w ≡ [] → All Other bs) → Other b × All Other bs
       go true p true r e rest = no-cons e
       go true p false r e rest = (λ z. r, rest e)
-      go false p t r e rest = (λ z. absurd (not-both (sym p ∙ eq-eqb (b .hash) h z)), rest e)
+      go false p t r e rest = (λ z. absurd (false-not-true (sym p ∙ eq-eqb (b .hash) h z)), rest e)
 
   pub no-match : (m : ℕ) (bs : List Bucket) → 0 < m → length bs ≤ m → All NotEmpty bs
-      → matches (λ (k : ℕ). getD (filled m bs) k empty) h v (order m m (start h m)) ≡ false → All Other bs
+      → hasMatch (λ (k : ℕ). getD (filled m bs) k empty) h v (probeSequence m m (start h m)) ≡ false → All Other bs
   no-match m bs some room full e =
-      let found = searched m h verdict bs some room (all-map taken bs full) in
+      let found = searched m h probeOfEntry bs some room (all-map taken bs full) in
       let b : ℕ → Bucket = λ k. getD (filled m bs) k empty in
-      let ks = order m m (start h m) in
+      let ks = probeSequence m m (start h m) in
       others bs full
       (sym (found .meets)
-      ∙ ap metHits (meet-scan (λ (k : ℕ). look h verdict (b k)) ks 0)
-      ∙ scan-hits (map (λ (k : ℕ). look h verdict (b k)) ks) 0
+      ∙ ap matchHits (matches-scan (λ (k : ℕ). probeWith h probeOfEntry (b k)) ks 0)
+      ∙ scan-hits (map (λ (k : ℕ). probeWith h probeOfEntry (b k)) ks) 0
       ∙ no-hit b ks e)

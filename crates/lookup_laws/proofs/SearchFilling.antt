@@ -9,20 +9,20 @@ use native.Mathlib.Omega.{arith}
 use borrow.Author.Tests.{eqb-true, eqb-false}
 use lib.Dec.{eqb}
 use lib.ListN.{length, getD, set}
-use Rattle.image.specs.Tables.{Bucket, empty, atOf, start, order, firstEmpty, insert}
-use Rattle.reader.specs.Lookup.{Hit, Seen, pass, ends, hit}
+use Rattle.image.specs.Tables.{Bucket, empty, atOf, start, probeSequence, firstEmpty, insert}
+use Rattle.reader.specs.Lookup.{Hit, Probe, pass, ends, hit}
 use Rattle.lookup_laws.proofs.Scan.{hits, used, Good, Clear, Taken, hitOf, idx, idx-empty}
-use Rattle.image.proofs.Buckets.{length-order}
-use Rattle.lookup_laws.proofs.Order.{order-at, place-of, view, view-length, view-at, view-set}
+use Rattle.image.proofs.Buckets.{length-probeSequence}
+use Rattle.lookup_laws.proofs.ProbeSequence.{probeSequence-at, place-of, view, view-length, view-at, view-set}
 
 -- the hits of a list of entries
-abbrev pub hitsIn : List Seen → List Hit
+abbrev pub hitsIn : List Probe → List Hit
 hitsIn [] = []
 hitsIn (x ∷ w) = hitOf x ++ hitsIn w
 
 -- ---- an empty table
 
-module _ (g : ℕ → Seen) (all : (k : ℕ) → g k ≡ ends) where
+module _ (g : ℕ → Probe) (all : (k : ℕ) → g k ≡ ends) where
   pub ends-used : (ks : List ℕ) → used (map g ks) ≡ 0
   ends-used [] = refl
   ends-used (k ∷ ks) = rw (all k) (ends-used ks)
@@ -41,24 +41,24 @@ module _ (g : ℕ → Seen) (all : (k : ℕ) → g k ≡ ends) where
 
 -- ---- the bucket that an entry takes
 
-idx-taken : (x : Seen) (w : List Seen) → Taken x → idx (x ∷ w) ≡ suc (idx w)
+idx-taken : (x : Probe) (w : List Probe) → Taken x → idx (x ∷ w) ≡ suc (idx w)
 idx-taken pass w t = refl
 idx-taken ends w t = absurd t
 idx-taken (hit told) w t = refl
 
 -- what a search sees: an empty bucket ends it, and no other does
-pub record Sees (f : Bucket → Seen) : Type 0 where
+pub record EndsAtEmpty (f : Bucket → Probe) : Type 0 where
   pub empties : (b : Bucket) → b .at ≡ 0 → f b ≡ ends
   pub takes : (b : Bucket) → (b .at ≡ 0 → ⊥) → Taken (f b)
 
-module _ (f : Bucket → Seen) (sees : Sees f) where
+module _ (f : Bucket → Probe) (sees : EndsAtEmpty f) where
   firstEmpty-place : (table : List Bucket) (ks : List ℕ) → idx (map (λ (k : ℕ). f (getD table k empty)) ks) < length ks
       → firstEmpty (atOf table) ks ≡ getD ks (idx (map (λ (k : ℕ). f (getD table k empty)) ks)) 0
   unfolding firstEmpty
   firstEmpty-place table [] h = absurd (omega arith)
   firstEmpty-place table (k ∷ ks) h = go (eqb (atOf table k) 0) refl (firstEmpty-place table ks)
     where
-      w : List Seen
+      w : List Probe
       w = map (λ (k : ℕ). f (getD table k empty)) ks
 
       go : (t : Bool) → eqb (atOf table k) 0 ≡ t → (idx w < length ks → firstEmpty (atOf table) ks ≡ getD ks (idx w) 0)
@@ -72,11 +72,11 @@ module _ (f : Bucket → Seen) (sees : Sees f) where
   module _ (n : ℕ) (table : List Bucket) (sized : length table ≡ n) (b : Bucket) where
     -- with room, the search from the entry's own start has a first empty bucket
     own-place : start (b .hash) n < n → idx (view n f table (start (b .hash) n)) < n
-        → firstEmpty (atOf table) (order n n (start (b .hash) n)) ≡ (start (b .hash) n + idx (view n f table (start (b .hash) n))) % n
+        → firstEmpty (atOf table) (probeSequence n n (start (b .hash) n)) ≡ (start (b .hash) n + idx (view n f table (start (b .hash) n))) % n
     unfolding view
     own-place hs hi =
         let s = start (b .hash) n in
-        firstEmpty-place table (order n n s) (rw (length-order n n s) hi) ∙ order-at n n s (idx (view n f table s)) hs hi
+        firstEmpty-place table (probeSequence n n s) (rw (length-probeSequence n n s) hi) ∙ probeSequence-at n n s (idx (view n f table s)) hs hi
 
     pub own-step : start (b .hash) n < n → idx (view n f table (start (b .hash) n)) < n
         → view n f (insert n table b) (start (b .hash) n)
@@ -91,7 +91,7 @@ module _ (f : Bucket → Seen) (sees : Sees f) where
         → (j : ℕ) × (getD (view n f table s) j pass ≡ ends) × (view n f (insert n table b) s ≡ set (view n f table s) j (f b))
     unfolding insert
     any-step hs hi s h =
-        go (firstEmpty (atOf table) (order n n s₀)) (place-of n s (firstEmpty (atOf table) (order n n s₀)) h (rw (own-place hs hi) (mod-lt (s₀ + i) (omega arith))))
+        go (firstEmpty (atOf table) (probeSequence n n s₀)) (place-of n s (firstEmpty (atOf table) (probeSequence n n s₀)) h (rw (own-place hs hi) (mod-lt (s₀ + i) (omega arith))))
         (rw (own-place hs hi) was)
       where
         s₀ : ℕ

@@ -5,13 +5,13 @@ use mathlib.Core.List.{List, [], _∷_}
 use mathlib.Core.Option.{Option, none, some}
 use lib.ListN.{take, drop}
 use Rattle.jhash.specs.NameHash.{hashOf}
-use Rattle.image.specs.Bytes.{keep}
+use Rattle.image.specs.Bytes.{filter}
 use Rattle.image.specs.Tables.{tableOf}
 use Rattle.image.specs.Image.{Entry, headSize, entrySize, placed, count, hasId}
 use Rattle.reader.specs.Lookup.{Lookup, found, nothing}
 use Rattle.reader.specs.IdWalk.{Step, item, done}
 -- an id gives a name when naming it answers a place that holds exactly that name's bytes
-pub use Rattle.reader.specs.Naming.{heldAt, nameGiven}
+pub use Rattle.reader.specs.Naming.{bytesAt, nameGiven}
 pub use Rattle.image.specs.Image.{hasName}
 
 -- a name gives an id when its lookup finds the id
@@ -31,10 +31,10 @@ stepGiven image done = none
 
 -- the entries of a name and of an id, in put order
 unfoldable pub ofName : List ℕ → List Entry → List Entry
-ofName name es = keep (hasName name) es
+ofName name es = filter (hasName name) es
 
 unfoldable pub ofId : ℕ → List Entry → List Entry
-ofId id es = keep (hasId id) es
+ofId id es = filter (hasId id) es
 
 -- a name's table has those entries whose name hash modulo 256 is that of the name
 unfoldable pub tablePuts : List ℕ → List Entry → ℕ

@@ -10,12 +10,12 @@ use lib.ListN.{length, getD, set, replicate, length-replicate}
 use lib.Seq.{getD-set-same, getD-set-other}
 use lib.Dec.{eqb}
 use borrow.Author.Tests.{eqb-true, eqb-false}
-use Rattle.image.specs.Tables.{Bucket, empty, atOf, start, order, firstEmpty, insert, insertAll, filled}
+use Rattle.image.specs.Tables.{Bucket, empty, atOf, start, probeSequence, firstEmpty, insert, insertAll, filled}
 use Rattle.image.proofs.Buckets.{getD-empties}
-use Rattle.image.proofs.Every.{All}
+use Rattle.image.proofs.AllOfList.{All}
 use Rattle.image.proofs.Sizes.{length-insert}
-use Rattle.image.proofs.Buckets.{length-order}
-use Rattle.lookup_laws.proofs.Order.{order-at, place-of}
+use Rattle.image.proofs.Buckets.{length-probeSequence}
+use Rattle.lookup_laws.proofs.ProbeSequence.{probeSequence-at, place-of}
 use Rattle.masks.specs.steps.Masks.{above, Rising, ats, hide, masked, place, Right}
 use Rattle.masks.proofs.Above.{above-none, above-set, above-room, rising-less}
 use Rattle.masks.proofs.Masked.{hide-shows, hide-hides, getD-masked, length-masked, getD-ats, length-ats, masked-is}
@@ -58,7 +58,7 @@ pub record Taken (n : ℕ) (table : List Bucket) (m a : ℕ) : Type 0 where
 
 module _ (n : ℕ) (table : List Bucket) (m a : ℕ) (b : Bucket) (t : Taken n table m a) (room : m < n) (pos : 0 < a) (le : a ≤ b .at) where
   slot : ℕ
-  slot = firstEmpty (atOf table) (order n n (start (b .hash) n))
+  slot = firstEmpty (atOf table) (probeSequence n n (start (b .hash) n))
 
   start-below : start (b .hash) n < n
   start-below = mod-lt (b .hash / 256) (omega arith)
@@ -66,9 +66,9 @@ module _ (n : ℕ) (table : List Bucket) (m a : ℕ) (b : Bucket) (t : Taken n t
   slot-in : slot < n
   unfolding slot
   slot-in =
-      first-below (atOf table) (order n n (start (b .hash) n)) n (omega arith)
-      (λ i h. let k : i < n = rw (length-order n n (start (b .hash) n)) at h in
-      rw (order-at n n (start (b .hash) n) i start-below k) (mod-lt (start (b .hash) n + i) (omega arith)))
+      first-below (atOf table) (probeSequence n n (start (b .hash) n)) n (omega arith)
+      (λ i h. let k : i < n = rw (length-probeSequence n n (start (b .hash) n)) at h in
+      rw (probeSequence-at n n (start (b .hash) n) i start-below k) (mod-lt (start (b .hash) n + i) (omega arith)))
 
   slot-empty : atOf table slot ≡ 0
   unfolding slot
@@ -76,8 +76,8 @@ module _ (n : ℕ) (table : List Bucket) (m a : ℕ) (b : Bucket) (t : Taken n t
       let (j, h, z) = above-room (ats table) (omega (arith, t .used, t .sized, length-ats table)) in
       let k : j < n = omega (arith, length-ats table, t .sized) in
       let (i, l, e) = place-of n (start (b .hash) n) j start-below k in
-      first-found (atOf table) (order n n (start (b .hash) n)) i (rw (length-order n n (start (b .hash) n)) l)
-      (ap (atOf table) (order-at n n (start (b .hash) n) i start-below l ∙ e) ∙ sym (getD-ats table j) ∙ z)
+      first-found (atOf table) (probeSequence n n (start (b .hash) n)) i (rw (length-probeSequence n n (start (b .hash) n)) l)
+      (ap (atOf table) (probeSequence-at n n (start (b .hash) n) i start-below l ∙ e) ∙ sym (getD-ats table j) ∙ z)
 
   there : slot < length table
   there = rw (t .sized) slot-in
@@ -94,9 +94,9 @@ module _ (n : ℕ) (table : List Bucket) (m a : ℕ) (b : Bucket) (t : Taken n t
   unfolding insert slot
   ats-insert = ats-set table slot b
 
-  slot-of : (l : List Bucket) → l ≡ table → firstEmpty (atOf l) (order n n (start (b .hash) n)) ≡ slot
+  slot-of : (l : List Bucket) → l ≡ table → firstEmpty (atOf l) (probeSequence n n (start (b .hash) n)) ≡ slot
   unfolding slot
-  slot-of l e = ap (λ (l : List Bucket). firstEmpty (atOf l) (order n n (start (b .hash) n))) e
+  slot-of l e = ap (λ (l : List Bucket). firstEmpty (atOf l) (probeSequence n n (start (b .hash) n))) e
 
   pub hidden : (c : ℕ) → c ≤ b .at → masked c (insert n table b) ≡ masked c table
   hidden c h =

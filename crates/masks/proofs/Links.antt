@@ -9,9 +9,9 @@ use mathlib.Core.List.{List, [], _∷_, map}
 use lib.ListN.{length, getD, List·getD-eq-default}
 use lib.Dec.{eqb, leb}
 use borrow.Author.Tests.{eq-eqb, ne-eqb, le-leb, lt-leb}
-use Rattle.image.specs.Bytes.{keep}
-use Rattle.image.specs.Image.{Placed, placedOfId, lastFrom, link}
-use Rattle.image.proofs.Every.{All}
+use Rattle.image.specs.Bytes.{filter}
+use Rattle.image.specs.Image.{Placed, placedOfId, lastFrom, backWord}
+use Rattle.image.proofs.AllOfList.{All}
 use Rattle.masks.specs.steps.Masks.{above, Rising, selves, Linked}
 use Rattle.masks.proofs.Above.{above-in, above-only, above-mono, above-same, above-one, above-none}
 
@@ -24,15 +24,15 @@ abbrev after : ℕ → ℕ → List Placed → ℕ
 after i x ps = lastFrom x (placedOfId i ps)
 
 after-own : (i x : ℕ) (p : Placed) (ps : List Placed) → p .entry .id ≡ i → after i x (p ∷ ps) ≡ after i (p .at) ps
-unfolding placedOfId keep lastFrom
+unfolding placedOfId filter lastFrom
 after-own i x p ps e = rw (eq-eqb (p .entry .id) i e)
 
 after-other : (i x : ℕ) (p : Placed) (ps : List Placed) → (p .entry .id ≡ i → ⊥) → after i x (p ∷ ps) ≡ after i x ps
-unfolding placedOfId keep lastFrom
+unfolding placedOfId filter lastFrom
 after-other i x p ps d = rw (ne-eqb (p .entry .id) i d)
 
 after-none : (i x : ℕ) → after i x [] ≡ x
-unfolding placedOfId keep lastFrom
+unfolding placedOfId filter lastFrom
 after-none i x = refl
 
 self-yes : (l : List ℕ) (p : Placed) (ps : List Placed) → getD l (p .entry .id) 0 ≡ p .at → selves l (p ∷ ps) ≡ 1 + selves l ps
@@ -130,8 +130,8 @@ module _ (l : List ℕ) where
             ]
       ]
 
-pub linked-right : (l : List ℕ) (ps : List Placed) → Rising 1 (offsets ps) → Linked l ps → (i : ℕ) → i < length l → link ps i ≡ getD l i 0
-unfolding link
+pub linked-right : (l : List ℕ) (ps : List Placed) → Rising 1 (offsets ps) → Linked l ps → (i : ℕ) → i < length l → backWord ps i ≡ getD l i 0
+unfolding backWord
 linked-right l ps r k i h =
     after-from l 1 ps (omega arith) r (k .ahead) (k .used) i 0 h
     ∙ elim (decLt (getD l i 0) 1) [
@@ -226,8 +226,8 @@ module _ (l : List ℕ) where
           omega (arith, self-no l q ps d)
 
 pub right-linked : (l : List ℕ) (ps : List Placed) → Rising 1 (offsets ps) → All (λ (p : Placed). p .entry .id < length l) ps
-    → ((i : ℕ) → i < length l → getD l i 0 ≡ link ps i) → Linked l ps
-unfolding link
+    → ((i : ℕ) → i < length l → getD l i 0 ≡ backWord ps i) → Linked l ps
+unfolding backWord
 right-linked l ps r ids is =
     let (ahead, used) = linked-from l 1 ps (λ (i : ℕ). 0) (omega arith) r ids (λ i. omega arith) is in
     record { ahead = ahead; used = used }

@@ -9,9 +9,9 @@ use lib.ListN.{length, getD, set, replicate, length-set, length-replicate, lengt
 use lib.Seq.{ext-getD, getD-set-same, getD-set-other}
 use lib.Dec.{ltb}
 use borrow.Author.Tests.{lt-ltb, le-ltb}
-use Rattle.image.specs.Tables.{Bucket, empty, atOf, start, order, firstEmpty, insert, insertAll, filled}
+use Rattle.image.specs.Tables.{Bucket, empty, atOf, start, probeSequence, firstEmpty, insert, insertAll, filled}
 use Rattle.image.proofs.Buckets.{getD-empties}
-use Rattle.image.proofs.Every.{All}
+use Rattle.image.proofs.AllOfList.{All}
 use Rattle.masks.specs.steps.Masks.{above, Rising, ats, hide, masked, place, Right}
 use Rattle.masks.proofs.Above.{above-in, above-only}
 
@@ -103,7 +103,7 @@ module _ (n : ℕ) (table : List Bucket) (b : Bucket) (pos : 0 < b .at) (stands 
     pub step : insert n (masked a table) b ≡ masked (suc (b .at)) table
     unfolding insert
     step =
-        ap (λ (l : List Bucket). set l (firstEmpty (atOf l) (order n n (start (b .hash) n))) b) same-mask
+        ap (λ (l : List Bucket). set l (firstEmpty (atOf l) (probeSequence n n (start (b .hash) n))) b) same-mask
         ∙ sym (masked-is (suc (b .at)) table (set (masked (b .at) table) (place n table b) b)
         (length-set (masked (b .at) table) (place n table b) b ∙ length-masked (b .at) table) each)
       where

@@ -8,7 +8,7 @@ use borrow.Author.Tests.{leb-true, eqb-true, eqb-false}
 use Rattle.image.specs.declared.Mode.{Mode}
 use Rattle.image.specs.declared.Mode.the-variants.{Twoway, Oneway}
 use Rattle.image.specs.Image.{flagWord}
-use Rattle.image.proofs.Bools.{first, second}
+use Rattle.image.proofs.Bools.{and-first, and-second}
 use Rattle.writer.specs.declared.Repeats.{Repeats}
 use Rattle.writer.specs.declared.Repeats.the-variants.{Off, On}
 use Rattle.writer.specs.State.{State, stateWith}
@@ -41,8 +41,8 @@ back-and-forth h fine =
     (record { mode = m; repeats = r; entries = w .entries; back = w .back; length = w .length; end = w .end })
     (h .counts)
     (h .buffer))
-    (mode-word (w .mode) (leb-true (w .mode) 1 (first (leb (w .mode) 1) (leb (w .repeats) 1) fine)))
-    (repeats-word (w .repeats) (leb-true (w .repeats) 1 (second (leb (w .mode) 1) (leb (w .repeats) 1) fine)))
+    (mode-word (w .mode) (leb-true (w .mode) 1 (and-first (leb (w .mode) 1) (leb (w .repeats) 1) fine)))
+    (repeats-word (w .repeats) (leb-true (w .repeats) 1 (and-second (leb (w .mode) 1) (leb (w .repeats) 1) fine)))
 
 -- the other way round: 01's record, as C has it, is one of 01's and stands for itself
 pub held-known : (s : State) → knownIn (heldOf s) ≡ true

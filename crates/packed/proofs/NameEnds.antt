@@ -10,7 +10,7 @@ use borrow.Author.Tests.{ltb-false, ne-eqb}
 use lib.Dec.{ltb, eqb}
 use lib.ListN.{length, getD, drop, drop-of-length-le}
 use lib.Seq.{drop-cons}
-use Rattle.image.proofs.Bools.{neither-first, neither-second}
+use Rattle.image.proofs.Bools.{or-false-first, or-false-second}
 use Rattle.image.specs.Stored.{between}
 use Rattle.packed.specs.Names.{namesFrom, names, astray}
 use Rattle.packed.specs.Names.{beginOf, nth}
@@ -56,14 +56,14 @@ placed-from : (size s : ℕ) (ends : List ℕ) (i : ℕ) → astray size s ends 
 unfolding astray
 placed-from size s [] i f h = absurd (omega arith)
 placed-from size s (e ∷ es) zero f h =
-    let two = neither-first (ltb e s || ltb size e) (astray size e es) f in
-    record { rises = ltb-false e s (neither-first (ltb e s) (ltb size e) two); inside = ltb-false size e (neither-second (ltb e s) (ltb size e) two) }
+    let two = or-false-first (ltb e s || ltb size e) (astray size e es) f in
+    record { rises = ltb-false e s (or-false-first (ltb e s) (ltb size e) two); inside = ltb-false size e (or-false-second (ltb e s) (ltb size e) two) }
 placed-from size s (e ∷ es) (suc zero) f h =
     let k : 0 < length es = omega arith in
-    placed-from size e es 0 (neither-second (ltb e s || ltb size e) (astray size e es) f) k
+    placed-from size e es 0 (or-false-second (ltb e s || ltb size e) (astray size e es) f) k
 placed-from size s (e ∷ es) (suc (suc i)) f h =
     let k : suc i < length es = omega arith in
-    placed-from size e es (suc i) (neither-second (ltb e s || ltb size e) (astray size e es) f) k
+    placed-from size e es (suc i) (or-false-second (ltb e s || ltb size e) (astray size e es) f) k
 
 pub placed : (size : ℕ) (ends : List ℕ) (i : ℕ) → astray size 0 ends ≡ false → i < length ends → Placed size (beginOf ends i) (getD ends i 0)
 placed size ends i f h =

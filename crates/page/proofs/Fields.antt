@@ -10,7 +10,7 @@ use lib.ListN.{length, set, take, drop, replicate, length-append, length-take, l
 use lib.Seq.{sets, take-all}
 use lib.Dec.{eqb, ltb}
 use Rattle.image.proofs.Stores.{sets-then}
-use Rattle.reader.specs.Naming.{Naming, place, unnamed, naming, heldAt, nameGiven}
+use Rattle.reader.specs.Naming.{Naming, place, unnamed, naming, bytesAt, nameGiven}
 use Rattle.page.specs.Page.{places, idField, shown, nameField, line}
 use Rattle.page.proofs.PageStores.{last-first, sets-over, drop-replicate}
 
@@ -101,7 +101,7 @@ pub field-named : (image out : List ℕ) (id at s n : ℕ) → place s n ≡ nam
 field-named image out id at s n e =
     let k : s + n - s ≡ n = omega arith in
     ap (λ (m : ℕ). sets out at (nameField (some (take m (drop s image))))) k
-    ∙ ap (λ (p : Naming). sets out at (nameField (heldAt image p))) e
+    ∙ ap (λ (p : Naming). sets out at (nameField (bytesAt image p))) e
 
 pub field-unnamed : (image out out₁ : List ℕ) (id at : ℕ) → unnamed ≡ naming image id → out₁ ≡ sets out at (replicate 32 45)
     → set out₁ (at + 32) 32 ≡ sets out at (nameField (nameGiven image id))
@@ -109,7 +109,7 @@ unfolding nameField
 field-unnamed image out out₁ id at e e₁ =
     ap (λ (l : List ℕ). set l (at + 32) 32) e₁
     ∙ sets-then (replicate 32 45) (32 ∷ []) out at (at + 32) (omega (arith, length-replicate {A = ℕ} 32 45))
-    ∙ ap (λ (p : Naming). sets out at (nameField (heldAt image p))) e
+    ∙ ap (λ (p : Naming). sets out at (nameField (bytesAt image p))) e
 
 -- ---- the line
 

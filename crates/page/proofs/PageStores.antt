@@ -5,7 +5,7 @@ use mathlib.Core.Path.{_≡_, refl, sym, ap, _∙_}
 use mathlib.Core.List.{List, [], _∷_, _++_, map}
 use lib.ListN.{length, getD, set, drop, replicate, List·getD-map, length-map, drop-of-length-le}
 use lib.Seq.{sets, set-comm, set-set}
-use Rattle.image.proofs.Stores.{sets-append, sets-turn}
+use Rattle.image.proofs.Stores.{sets-append, sets-step}
 
 module _ {A : Type 0} where
   -- a store behind a run, made before it
@@ -60,7 +60,7 @@ pub map-turn : (f : ℕ → ℕ) (src l : List ℕ) (i j b : ℕ) → j < length
     → sets (set l (i + j) b) (i + (j + 1)) (drop (j + 1) (map f src)) ≡ sets l (i + j) (drop j (map f src))
 map-turn f src l i j b h e =
     ap (λ (x : ℕ). sets (set l (i + j) x) (i + (j + 1)) (drop (j + 1) (map f src))) (e ∙ sym (List·getD-map f src j 0))
-    ∙ sets-turn (map f src) l i j (f 0) (omega (arith, length-map src f))
+    ∙ sets-step (map f src) l i j (f 0) (omega (arith, length-map src f))
 
 -- nothing is left of them
 pub map-end : (f : ℕ → ℕ) (src l : List ℕ) (i j : ℕ) → length src ≤ j → sets l i (drop j (map f src)) ≡ l

@@ -9,7 +9,7 @@ use mathlib.Core.Option.{Option, none, some}
 use lib.ListN.{length, getD, take, replicate}
 use lib.Dec.{eqb, ltb, leb}
 use borrow.Author.Tests.{leb-true}
-use Rattle.image.proofs.Every.{All, all-map, all-append}
+use Rattle.image.proofs.AllOfList.{All, all-map, all-append}
 use Rattle.image.specs.Bytes.{cat, range}
 use Rattle.page.specs.Page.{places, idField, shown, nameField, line}
 use Rattle.page.specs.theorems.PrintedPage.{Plain}

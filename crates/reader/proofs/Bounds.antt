@@ -8,22 +8,22 @@ use mathlib.Core.List.{List, [], _∷_}
 use lib.Dec.{ltb, leb}
 use lib.ListN.{length, getD}
 use Rattle.jhash.specs.NameHash.{hashOf}
-use Rattle.image.specs.Tables.{tableOf, start, next, order}
-use Rattle.image.proofs.Bools.{not-both}
-use Rattle.image.proofs.Buckets.{length-order}
+use Rattle.image.specs.Tables.{tableOf, start, next, probeSequence}
+use Rattle.image.proofs.Bools.{false-not-true}
+use Rattle.image.proofs.Buckets.{length-probeSequence}
 use Rattle.image.specs.Head.{tableAt, bucketNumber}
-use Rattle.reader.specs.Lookup.{Lookup, nothing, Seen, pass, ends, hit, see, decide, probe, searchTable, unsearched, lookupHash, lookup}
+use Rattle.reader.specs.Lookup.{Lookup, nothing, Probe, pass, ends, hit, probeBucket, decide, searchAlong, searchTable, unsearched, lookupHash, lookup}
 use Rattle.reader.specs.Cases.{reads}
-use Rattle.reader.specs.Bounds.{Bounds}
+use Rattle.reader.specs.theorems.Bounds.{Bounds}
 
 -- ---- how many buckets are read
 
-pub probe-reads : (look : ℕ → Seen) (ks : List ℕ) (r : ℕ) → reads (probe look ks r) ≤ r + length ks
-unfolding probe
-probe-reads look [] r = omega arith
-probe-reads look (k ∷ ks) r = decided (look k) (probe-reads look ks (r + 1))
+pub searchAlong-reads : (look : ℕ → Probe) (ks : List ℕ) (r : ℕ) → reads (searchAlong look ks r) ≤ r + length ks
+unfolding searchAlong
+searchAlong-reads look [] r = omega arith
+searchAlong-reads look (k ∷ ks) r = decided (look k) (searchAlong-reads look ks (r + 1))
   where
-    decided : (s : Seen) → reads (probe look ks (r + 1)) ≤ r + 1 + length ks → reads (decide s (r + 1) (probe look ks (r + 1))) ≤ r + suc (length ks)
+    decided : (s : Probe) → reads (searchAlong look ks (r + 1)) ≤ r + 1 + length ks → reads (decide s (r + 1) (searchAlong look ks (r + 1))) ≤ r + suc (length ks)
     decided pass h = omega arith
     decided ends h = omega arith
     decided (hit x) h = omega arith
@@ -31,7 +31,7 @@ probe-reads look (k ∷ ks) r = decided (look k) (probe-reads look ks (r + 1))
 pub search-reads : (image name : List ℕ) (h o n : ℕ) → reads (searchTable image name h o n) ≤ n
 unfolding searchTable
 search-reads image name h o n =
-    omega (arith, probe-reads (λ (k : ℕ). see image name h (o + 8 * k)) (order n n (start h n)) 0, length-order n n (start h n))
+    omega (arith, searchAlong-reads (λ (k : ℕ). probeBucket image name h (o + 8 * k)) (probeSequence n n (start h n)) 0, length-probeSequence n n (start h n))
 
 -- at most n, where n is the number of buckets of the name's table; and none where nothing is searched
 pub lookup-reads : (image name : List ℕ) → reads (lookup image name) ≤ bucketNumber image (tableOf (hashOf name))
@@ -66,23 +66,23 @@ lookup-unsearched image name e =
     either true b c x e = refl
     either false true c x e = refl
     either false false true x e = refl
-    either false false false x e = absurd (not-both e)
+    either false false false x e = absurd (false-not-true e)
 
 -- ---- where they lie
 
 -- each bucket of a search is one of the table's
-pub order-below : (n m k i : ℕ) → k < n → i < m → getD (order n m k) i 0 < n
-unfolding order
-order-below n zero k i h l = absurd (omega arith)
-order-below n (suc m) k zero h l = h
-order-below n (suc m) k (suc i) h l = order-below n m (next n k) i (mod-lt (k + 1) {m = n} (omega arith)) (omega arith)
+pub probeSequence-below : (n m k i : ℕ) → k < n → i < m → getD (probeSequence n m k) i 0 < n
+unfolding probeSequence
+probeSequence-below n zero k i h l = absurd (omega arith)
+probeSequence-below n (suc m) k zero h l = h
+probeSequence-below n (suc m) k (suc i) h l = probeSequence-below n m (next n k) i (mod-lt (k + 1) {m = n} (omega arith)) (omega arith)
 
 -- the i-th bucket that the search for a hash meets in a table that does not leave the image
 pub bucket-inside : (image : List ℕ) (h o n i : ℕ) → o + 8 * n ≤ length image → i < n
-    → o + 8 * getD (order n n (start h n)) i 0 + 8 ≤ length image
+    → o + 8 * getD (probeSequence n n (start h n)) i 0 + 8 ≤ length image
 bucket-inside image h o n i fits l =
-    let b = order-below n n (start h n) i (mod-lt (h / 256) {m = n} (omega arith)) l in
-    inside (getD (order n n (start h n)) i 0) b
+    let b = probeSequence-below n n (start h n) i (mod-lt (h / 256) {m = n} (omega arith)) l in
+    inside (getD (probeSequence n n (start h n)) i 0) b
   where
     inside : (k : ℕ) → k < n → o + 8 * k + 8 ≤ length image
     inside k b = omega arith

@@ -10,16 +10,16 @@ use lib.Dec.{eqb, ltb, leb}
 use lib.ListN.{length, getD}
 use Rattle.jhash.specs.NameHash.{hashOf}
 use Rattle.image.specs.Bytes.{word, same}
-use Rattle.image.specs.Tables.{tableOf, start, order}
+use Rattle.image.specs.Tables.{tableOf, start, probeSequence}
 use Rattle.image.specs.Head.{tableAt, bucketNumber, tableLeaves}
 use Rattle.image.specs.Stored.{nameOf, broken}
-use Rattle.image.proofs.Bools.{neither-first, neither-second}
+use Rattle.image.proofs.Bools.{or-false-first, or-false-second}
 use Rattle.image.proofs.Equal.{same-true}
-use Rattle.reader.specs.Lookup.{found, nothing, Hit, hitAt, Seen, pass, ends, hit, seeEntry, see, decide, probe, searchTable, unsearched, lookupHash, lookup}
+use Rattle.reader.specs.Lookup.{found, nothing, Hit, hitAt, Probe, pass, ends, hit, probeEntry, probeBucket, decide, searchAlong, searchTable, unsearched, lookupHash, lookup}
 use Rattle.reader.specs.declared.Found.{Found}
-use Rattle.reader.specs.FoundAt.{bucketRead, StandsIn, FoundAt, FoundStands}
-use Rattle.image.proofs.Buckets.{length-order}
-use Rattle.reader.proofs.Bounds.{order-below}
+use Rattle.reader.specs.theorems.FoundAt.{bucketRead, FoundInTable, FoundAt, FoundAtOffset}
+use Rattle.image.proofs.Buckets.{length-probeSequence}
+use Rattle.reader.proofs.Bounds.{probeSequence-below}
 
 -- ---- no two of these are the same
 
@@ -41,8 +41,8 @@ record Sighted (image name : List ℕ) (h b : ℕ) (t : Hit) : Type 0 where
   pub name-there : nameOf image (word image (b + 4)) ≡ name
   pub id-there : word image (word image (b + 4)) ≡ t .id
 
-sighted : (image name : List ℕ) (h b : ℕ) (t : Hit) → see image name h b ≡ hit t → Sighted image name h b t
-unfolding see seeEntry
+sighted : (image name : List ℕ) (h b : ℕ) (t : Hit) → probeBucket image name h b ≡ hit t → Sighted image name h b t
+unfolding probeBucket probeEntry
 sighted image name h b t e = by-offset (eqb at 0) e
   where
     at : ℕ
@@ -61,32 +61,32 @@ sighted image name h b t e = by-offset (eqb at 0) e
     by-entry true p q e = ends-no-hit t e
     by-entry false p q e = by-name (same (nameOf image at) name) refl q p e
 
-    by-hash : (s : Bool) → eqb (word image b) h ≡ s → cond s (seeEntry image name at) pass ≡ hit t → Sighted image name h b t
+    by-hash : (s : Bool) → eqb (word image b) h ≡ s → cond s (probeEntry image name at) pass ≡ hit t → Sighted image name h b t
     by-hash true p e = by-entry (broken image at) refl (eqb-true (word image b) h p) e
     by-hash false p e = pass-no-hit t e
 
-    by-offset : (z : Bool) → cond z ends (cond (eqb (word image b) h) (seeEntry image name at) pass) ≡ hit t → Sighted image name h b t
+    by-offset : (z : Bool) → cond z ends (cond (eqb (word image b) h) (probeEntry image name at) pass) ≡ hit t → Sighted image name h b t
     by-offset true e = ends-no-hit t e
     by-offset false e = by-hash (eqb (word image b) h) refl e
 
 -- ---- the bucket that decides a search
 
-record Decides (look : ℕ → Seen) (ks : List ℕ) (r : ℕ) (f : Found) : Type 0 where
+record Decides (look : ℕ → Probe) (ks : List ℕ) (r : ℕ) (f : Found) : Type 0 where
   pub place : ℕ
   pub among : place < length ks
   pub read : f .buckets ≡ r + place + 1
   pub seen : look (getD ks place 0) ≡ hit (record { id = f .id; offset = f .offset })
 
-decides : (look : ℕ → Seen) (ks : List ℕ) (r : ℕ) (f : Found) → probe look ks r ≡ found f → Decides look ks r f
-unfolding probe
+decides : (look : ℕ → Probe) (ks : List ℕ) (r : ℕ) (f : Found) → searchAlong look ks r ≡ found f → Decides look ks r f
+unfolding searchAlong
 decides look [] r f e = not-found r f e
 decides look (k ∷ ks) r f e = by-seen (look k) refl (λ g. decides look ks (r + 1) f g) e
   where
     later : Decides look ks (r + 1) f → Decides look (k ∷ ks) r f
     later d = record { place = suc (d .place); among = omega (arith, d .among); read = omega (arith, d .read); seen = d .seen }
 
-    by-seen : (s : Seen) → look k ≡ s → (probe look ks (r + 1) ≡ found f → Decides look ks (r + 1) f)
-        → decide s (r + 1) (probe look ks (r + 1)) ≡ found f → Decides look (k ∷ ks) r f
+    by-seen : (s : Probe) → look k ≡ s → (searchAlong look ks (r + 1) ≡ found f → Decides look ks (r + 1) f)
+        → decide s (r + 1) (searchAlong look ks (r + 1)) ≡ found f → Decides look (k ∷ ks) r f
     by-seen pass p rest e = later (rest e)
     by-seen ends p rest e = not-found (r + 1) f e
     by-seen (hit t) p rest e =
@@ -98,17 +98,17 @@ decides look (k ∷ ks) r f e = by-seen (look k) refl (λ g. decides look ks (r 
 -- ---- the search in the name's table, and the lookup
 
 module _ (image name : List ℕ) (f : Found) where
-  in-search : (o n : ℕ) → 0 < n → o + 8 * n ≤ length image → searchTable image name (hashOf name) o n ≡ found f → StandsIn image name f o n
+  in-search : (o n : ℕ) → 0 < n → o + 8 * n ≤ length image → searchTable image name (hashOf name) o n ≡ found f → FoundInTable image name f o n
   unfolding searchTable
   in-search o n some-bucket fits e =
-      let ks = order n n (start (hashOf name) n) in
-      let d = decides (λ (k : ℕ). see image name (hashOf name) (o + 8 * k)) ks 0 f e in
+      let ks = probeSequence n n (start (hashOf name) n) in
+      let d = decides (λ (k : ℕ). probeBucket image name (hashOf name) (o + 8 * k)) ks 0 f e in
       let i : d .place ≡ f .buckets - 1 = omega (arith, d .read) in
-      let below : d .place < n = omega (arith, d .among, length-order n n (start (hashOf name) n)) in
+      let below : d .place < n = omega (arith, d .among, length-probeSequence n n (start (hashOf name) n)) in
       let s = sighted image name (hashOf name) (o + 8 * bucketRead name n (f .buckets)) (record { id = f .id; offset = f .offset })
-      (ap (λ (k : ℕ). see image name (hashOf name) (o + 8 * getD ks k 0)) (sym i) ∙ d .seen) in
+      (ap (λ (k : ℕ). probeBucket image name (hashOf name) (o + 8 * getD ks k 0)) (sym i) ∙ d .seen) in
       record {
-        in-table = rw i at (order-below n n (start (hashOf name) n) (d .place) (mod-lt (hashOf name / 256) {m = n} some-bucket) below);
+        in-table = rw i at (probeSequence-below n n (start (hashOf name) n) (d .place) (mod-lt (hashOf name / 256) {m = n} some-bucket) below);
         inside = fits;
         hash = s .hash;
         offset = s .offset;
@@ -133,8 +133,8 @@ module _ (image name : List ℕ) (f : Found) where
       by-row : (b : Bool) → unsearched image t ≡ b → cond b (nothing 0) (searchTable image name (hashOf name) o n) ≡ found f → FoundAt image name f
       by-row true p e = not-found 0 f e
       by-row false p e =
-          let some-bucket = eqb-false n 0 (neither-second (eqb o 0) (eqb n 0) (neither-first (eqb o 0 || eqb n 0) (tableLeaves image t) p)) in
-          let fits = ltb-false (length image) (o + 8 * n) (neither-second (eqb o 0 || eqb n 0) (tableLeaves image t) p) in
+          let some-bucket = eqb-false n 0 (or-false-second (eqb o 0) (eqb n 0) (or-false-first (eqb o 0 || eqb n 0) (tableLeaves image t) p)) in
+          let fits = ltb-false (length image) (o + 8 * n) (or-false-second (eqb o 0 || eqb n 0) (tableLeaves image t) p) in
           in-search o n (omega arith) fits e
 
       by-length : (b : Bool) → cond b (nothing 0) (lookupHash image name (hashOf name)) ≡ found f → FoundAt image name f
@@ -146,5 +146,5 @@ module _ (image name : List ℕ) (f : Found) where
       by-image true e = not-found 0 f e
       by-image false e = by-length (leb 4294967295 (length name)) e
 
-pub found-stands : FoundStands
-found-stands = found-at
+pub found-at-offset : FoundAtOffset
+found-at-offset = found-at

@@ -12,8 +12,8 @@ use lib.ListN.{replicate}
 use Rattle.image.specs.Bytes.{range}
 use Rattle.image.specs.Head.{backSizeAt}
 use Rattle.reader.specs.Naming.{Naming, place, unnamed, noBack, naming}
-use Rattle.reader.specs.IdWalk.{Step, done, stepOf, step, upperHint, standsAfter, steps}
-use Rattle.reader.specs.Walks.{First, Ends, Walks}
+use Rattle.reader.specs.IdWalk.{Step, done, stepOf, step, upperHint, nextAfter, steps}
+use Rattle.reader.specs.theorems.Walks.{FirstUnnamed, Ends, Walks}
 use Rattle.reader.proofs.Namings.{named, never, hint-back}
 
 -- ---- one step
@@ -22,11 +22,11 @@ step-unnamed : (image : List ℕ) (n : ℕ) → naming image n ≡ unnamed → s
 unfolding step
 step-unnamed image n e = ap (stepOf n) e
 
-step-named : (image : List ℕ) (n : ℕ) → (naming image n ≡ unnamed → ⊥) → standsAfter n (step image n) ≡ n + 1
+step-named : (image : List ℕ) (n : ℕ) → (naming image n ≡ unnamed → ⊥) → nextAfter n (step image n) ≡ n + 1
 unfolding step
 step-named image n h = go (naming image n) refl
   where
-    go : (m : Naming) → naming image n ≡ m → standsAfter n (stepOf n m) ≡ n + 1
+    go : (m : Naming) → naming image n ≡ m → nextAfter n (stepOf n m) ≡ n + 1
     go (place s l) e = refl
     go unnamed e = absurd (h e)
 
@@ -37,7 +37,7 @@ pub stays-ended : (image : List ℕ) (n : ℕ) → step image n ≡ done → (m 
 unfolding steps
 stays-ended image n e zero = refl
 stays-ended image n e (suc m) =
-    ap (λ (s : Step). s ∷ steps image (standsAfter n s) m) e ∙ ap (λ (l : List Step). done ∷ l) (stays-ended image n e m)
+    ap (λ (s : Step). s ∷ steps image (nextAfter n s) m) e ∙ ap (λ (l : List Step). done ∷ l) (stays-ended image n e m)
 
 -- ---- what it lists
 
@@ -60,7 +60,7 @@ listed image (suc j) n r h =
     ∙ ap (λ (k : ℕ). map (step image) (range k j) ++ steps image (n + suc j) r) (add-one n))
 
 -- the walk from id 0: each id up to the first without a name in turn, with the place of its name, and from then on the end
-pub walk-lists : (image : List ℕ) (k : ℕ) → First image 0 k → (r : ℕ) → steps image 0 (k + r) ≡ map (step image) (range 0 k) ++ replicate r done
+pub walk-lists : (image : List ℕ) (k : ℕ) → FirstUnnamed image 0 k → (r : ℕ) → steps image 0 (k + r) ≡ map (step image) (range 0 k) ++ replicate r done
 walk-lists image k first r =
     let e : 0 + k ≡ k = omega arith in
     listed image k 0 r (λ i p q. first .each i p (omega arith))
@@ -99,7 +99,7 @@ pub ends : (image : List ℕ) → Ends image
 ends image = ends-from image (backSizeAt image) 0 (omega arith) (λ i q. absurd (omega arith))
 
 -- the upper hint is no less than the ids that are still to come
-pub hint-holds : (image : List ℕ) (n k : ℕ) → First image n k → k - n ≤ upperHint image n
+pub hint-holds : (image : List ℕ) (n k : ℕ) → FirstUnnamed image n k → k - n ≤ upperHint image n
 hint-holds image n k first = elim (decLt n k) [
   | yes p ↦
       let q : k - 1 < k = omega arith in

@@ -1,10 +1,10 @@
 -- Laws of reading. `Bounds`, `FoundAt` and `IdWalks` say of the rules what users ask besides the answers; `QuayReads` has 01's rows about reading.
 pub mod Opens
 pub mod Searches
-pub mod Near
+pub mod EarlyMiss
 pub mod Namings
 pub mod Lengths
 pub mod IdWalks
 pub mod Bounds
 pub mod FoundAt
-pub mod QuayReads
+pub mod ExampleReads

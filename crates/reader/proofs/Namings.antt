@@ -8,11 +8,11 @@ use borrow.Author.Tests.{ltb-false, leb-false}
 use lib.Dec.{eqb, ltb, leb}
 use lib.ListN.{length}
 use Rattle.image.specs.Bytes.{word}
-use Rattle.image.proofs.Bools.{neither-first, neither-second}
+use Rattle.image.proofs.Bools.{or-false-first, or-false-second}
 use Rattle.image.specs.Head.{backSizeAt, backOffsetAt, backLeaves}
 use Rattle.image.specs.Stored.{broken}
-use Rattle.reader.specs.Slices.{Slice, part}
-use Rattle.reader.specs.Naming.{Naming, place, unnamed, noBack, namingAt, naming, partOr}
+use Rattle.reader.specs.Slices.{Slice, subslice}
+use Rattle.reader.specs.Naming.{Naming, place, unnamed, noBack, namingAt, naming, sliceOr}
 use Rattle.reader.specs.IdWalk.{upperHint}
 use Rattle.image.proofs.Unbroken.{unbroken}
 
@@ -26,13 +26,13 @@ back image e =
     let short = ltb (length image) 2072 in
     let none = eqb (backOffsetAt image) 0 in
     record {
-      head = ltb-false (length image) 2072 (neither-first short none (neither-first (short || none) (backLeaves image) e));
-      array = ltb-false (length image) (backOffsetAt image + 4 * backSizeAt image) (neither-second (short || none) (backLeaves image) e);
+      head = ltb-false (length image) 2072 (or-false-first short none (or-false-first (short || none) (backLeaves image) e));
+      array = ltb-false (length image) (backOffsetAt image + 4 * backSizeAt image) (or-false-second (short || none) (backLeaves image) e);
     }
 
 -- the entry's offset, read by way of the back offset o
-pub link : (image : List ℕ) (id o at : ℕ) → o ≡ backOffsetAt image → at ≡ word image (o + 4 * id) → at ≡ word image (backOffsetAt image + 4 * id)
-link image id o at e f = f ∙ ap (λ (k : ℕ). word image (k + 4 * id)) e
+pub back-word : (image : List ℕ) (id o at : ℕ) → o ≡ backOffsetAt image → at ≡ word image (o + 4 * id) → at ≡ word image (backOffsetAt image + 4 * id)
+back-word image id o at e f = f ∙ ap (λ (k : ℕ). word image (k + 4 * id)) e
 
 -- naming by its four tests, for an entry at `at`
 module _ (image : List ℕ) (id at : ℕ) where
@@ -68,7 +68,7 @@ named image id s n e = backed (noBack image) refl e
         → cond t unnamed (place (at + 8) (word image (at + 4) - 1)) ≡ place s n → HasPlace image id s n
     placed true p a l e = never s n e
     placed false p a l e =
-        let w = unbroken image at (neither-second (eqb at 0) (broken image at) p) in
+        let w = unbroken image at (or-false-second (eqb at 0) (broken image at) p) in
         let es : at + 8 ≡ s = cc in
         let en : word image (at + 4) - 1 ≡ n = cc in
         record { array = a; below = l; inside = omega (arith, w .name) }
@@ -82,13 +82,13 @@ named image id s n e = backed (noBack image) refl e
     backed false p e = below (leb (backSizeAt image) id) refl p e
 
 -- the part of the image that a reading x gives, by its start and end
-pub named-part : (image other : Slice) (x : Naming) (s n : ℕ) → place s n ≡ x → part image s (s + n - s) ≡ partOr image other x
-named-part image other x s n e =
+pub named-slice : (image other : Slice) (x : Naming) (s n : ℕ) → place s n ≡ x → subslice image s (s + n - s) ≡ sliceOr image other x
+named-slice image other x s n e =
     let k : s + n - s ≡ n = omega arith in
-    ap (part image s) k ∙ ap (partOr image other) e
+    ap (subslice image s) k ∙ ap (sliceOr image other) e
 
-pub no-part : (image other : Slice) (x : Naming) → unnamed ≡ x → other ≡ partOr image other x
-no-part image other x e = ap (partOr image other) e
+pub no-slice : (image other : Slice) (x : Naming) → unnamed ≡ x → other ≡ sliceOr image other x
+no-slice image other x e = ap (sliceOr image other) e
 
 -- the upper hint, for a back size w
 pub hint-none : (image : List ℕ) (n : ℕ) → noBack image ≡ true → 0 ≡ upperHint image n

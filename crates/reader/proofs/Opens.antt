@@ -25,14 +25,14 @@ leaves-more : (image : List ℕ) (t k : ℕ) → someLeaves image t (suc k) ≡ 
 unfolding someLeaves
 leaves-more image t k = refl
 
-pub halves-turn : (image : List ℕ) (t m : ℕ) → t < m → halves image t (m - t) ≡ bucketNumber image t / 2 + halves image (t + 1) (m - (t + 1))
-halves-turn image t m h =
+pub halves-step : (image : List ℕ) (t m : ℕ) → t < m → halves image t (m - t) ≡ bucketNumber image t / 2 + halves image (t + 1) (m - (t + 1))
+halves-step image t m h =
     ap (halves image t) (left-one t m h) ∙ halves-more image t (m - (t + 1))
     ∙ ap (λ (k : ℕ). bucketNumber image t / 2 + halves image k (m - (t + 1))) (sym (add-one t))
 
-pub leaves-turn : (image : List ℕ) (t m : ℕ) → t < m
+pub leaves-step : (image : List ℕ) (t m : ℕ) → t < m
     → someLeaves image t (m - t) ≡ (ltb 0 (tableAt image t) && tableLeaves image t) || someLeaves image (t + 1) (m - (t + 1))
-leaves-turn image t m h =
+leaves-step image t m h =
     ap (someLeaves image t) (left-one t m h) ∙ leaves-more image t (m - (t + 1))
     ∙ ap (λ (k : ℕ). (ltb 0 (tableAt image t) && tableLeaves image t) || someLeaves image k (m - (t + 1))) (sym (add-one t))
 
@@ -44,7 +44,7 @@ leaves-join image t m a n b r x h ea en er e =
     (ap (λ (c : Bool). (b || c) || someLeaves image (t + 1) (m - (t + 1)))
     (er ∙ (λ i. ltb 0 (ea i) && ltb (length image) (ea i + 8 * en i))))
     ∙ or-assoc b (ltb 0 (tableAt image t) && tableLeaves image t) (someLeaves image (t + 1) (m - (t + 1)))
-    ∙ ap (λ (c : Bool). b || c) (sym (leaves-turn image t m h))
+    ∙ ap (λ (c : Bool). b || c) (sym (leaves-step image t m h))
     ∙ e
 
 -- a table that ends in the image changes nothing
@@ -52,7 +52,7 @@ pub leaves-pass : (image : List ℕ) (t m a n : ℕ) → t < m → a ≡ tableAt
     → someLeaves image (t + 1) (m - (t + 1)) ≡ someLeaves image t (m - t)
 leaves-pass image t m a n h ea en l =
     sym
-    (leaves-turn image t m h
+    (leaves-step image t m h
     ∙ ap (λ (c : Bool). (ltb 0 (tableAt image t) && c) || someLeaves image (t + 1) (m - (t + 1)))
     ((λ i. ltb (length image) (sym ea i + 8 * sym en i)) ∙ le-ltb (length image) (a + 8 * n) l)
     ∙ ap (λ (c : Bool). c || someLeaves image (t + 1) (m - (t + 1))) (and-false (ltb 0 (tableAt image t))))
@@ -67,8 +67,8 @@ unfolding someLeaves
 leaves-none image t = refl
 
 -- a sum modulo 2^32 takes one more, and at its end is the whole
-pub sum-turn : (k half r rest now all : ℕ) → (k + now) % 2 ^ 32 ≡ all % 2 ^ 32 → now ≡ half + rest → r ≡ (k + half) % 2 ^ 32 → (r + rest) % 2 ^ 32 ≡ all % 2 ^ 32
-sum-turn k half r rest now all e f g = omega arith
+pub sum-step : (k half r rest now all : ℕ) → (k + now) % 2 ^ 32 ≡ all % 2 ^ 32 → now ≡ half + rest → r ≡ (k + half) % 2 ^ 32 → (r + rest) % 2 ^ 32 ≡ all % 2 ^ 32
+sum-step k half r rest now all e f g = omega arith
 
 pub sum-end : (k now all : ℕ) → k < 2 ^ 32 → (k + now) % 2 ^ 32 ≡ all % 2 ^ 32 → now ≡ 0 → k ≡ all % 2 ^ 32
 sum-end k now all l e f = omega arith

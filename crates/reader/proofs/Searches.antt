@@ -10,66 +10,66 @@ use lib.Dec.{eqb, ltb, leb}
 use lib.ListN.{length, take, drop}
 use Rattle.jhash.specs.NameHash.{hashOf}
 use Rattle.image.specs.Bytes.{word, same}
-use Rattle.image.specs.Tables.{tableOf, start, next, order}
+use Rattle.image.specs.Tables.{tableOf, start, next, probeSequence}
 use Rattle.image.specs.Head.{tableAt, bucketNumber}
 use Rattle.image.specs.Stored.{nameOf, broken}
-use Rattle.reader.specs.Lookup.{Lookup, nothing, Seen, pass, ends, hit, hitAt, seeEntry, see, decide, probe, unsearched, searchTable, lookupHash, lookupBy, lookup}
-use Rattle.reader.specs.steps.Resume.{rest, bucketAfter, searchFrom, lookupFrom}
+use Rattle.reader.specs.Lookup.{Lookup, nothing, Probe, pass, ends, hit, hitAt, probeEntry, probeBucket, decide, searchAlong, unsearched, searchTable, lookupHash, lookupBy, lookup}
+use Rattle.reader.specs.steps.Resume.{searchRest, bucketAfter, searchFrom, lookupFrom}
 
 -- ---- what is seen in an entry and in a bucket
 
 -- the part of the image that is compared with the name, for a length word w
-pub name-part : (image : List ℕ) (at w : ℕ) → w ≡ word image (at + 4) → take (at + 8 + (w - 1) - (at + 8)) (drop (at + 8) image) ≡ nameOf image at
-name-part image at w e =
+pub name-slice : (image : List ℕ) (at w : ℕ) → w ≡ word image (at + 4) → take (at + 8 + (w - 1) - (at + 8)) (drop (at + 8) image) ≡ nameOf image at
+name-slice image at w e =
     let f : at + 8 + (w - 1) - (at + 8) ≡ w - 1 = omega arith in
     ap (λ (k : ℕ). take k (drop (at + 8) image)) (f ∙ ap (λ (k : ℕ). k - 1) e)
 
 module _ (image name : List ℕ) (at : ℕ) where
-  pub see-entry-by : (x s : Bool) → broken image at ≡ x → same (nameOf image at) name ≡ s
-      → cond x ends (cond s (hit (hitAt image at)) pass) ≡ seeEntry image name at
-  unfolding seeEntry
-  see-entry-by x s ex es = sym (λ i. cond (ex i) ends (cond (es i) (hit (hitAt image at)) pass))
+  pub probe-entry-by : (x s : Bool) → broken image at ≡ x → same (nameOf image at) name ≡ s
+      → cond x ends (cond s (hit (hitAt image at)) pass) ≡ probeEntry image name at
+  unfolding probeEntry
+  probe-entry-by x s ex es = sym (λ i. cond (ex i) ends (cond (es i) (hit (hitAt image at)) pass))
 
   -- for the bucket at b with this entry
-  pub see-by : (h b : ℕ) (z e : Bool) → at ≡ word image (b + 4) → eqb at 0 ≡ z → eqb (word image b) h ≡ e
-      → cond z ends (cond e (seeEntry image name at) pass) ≡ see image name h b
-  unfolding see
-  see-by h b z e ea ez ee =
-      sym (λ i. cond (ez i) ends (cond (ee i) (seeEntry image name at) pass))
-      ∙ ap (λ (k : ℕ). cond (eqb k 0) ends (cond (eqb (word image b) h) (seeEntry image name k) pass)) ea
+  pub probe-bucket-by : (h b : ℕ) (z e : Bool) → at ≡ word image (b + 4) → eqb at 0 ≡ z → eqb (word image b) h ≡ e
+      → cond z ends (cond e (probeEntry image name at) pass) ≡ probeBucket image name h b
+  unfolding probeBucket
+  probe-bucket-by h b z e ea ez ee =
+      sym (λ i. cond (ez i) ends (cond (ee i) (probeEntry image name at) pass))
+      ∙ ap (λ (k : ℕ). cond (eqb k 0) ends (cond (eqb (word image b) h) (probeEntry image name k) pass)) ea
 
 -- ---- the search
 
 module _ (image name : List ℕ) (h o n : ℕ) where
-  pub rest-start : rest image name h o n (start h n) n ≡ searchTable image name h o n
+  pub rest-start : searchRest image name h o n (start h n) n ≡ searchTable image name h o n
   unfolding searchTable
   rest-start =
       let e : n - n ≡ 0 = omega arith in
-      ap (probe (λ (j : ℕ). see image name h (o + 8 * j)) (order n n (start h n))) e
+      ap (searchAlong (λ (j : ℕ). probeBucket image name h (o + 8 * j)) (probeSequence n n (start h n))) e
 
-  over : (k r : ℕ) → probe (λ (j : ℕ). see image name h (o + 8 * j)) (order n 0 k) r ≡ nothing r
-  unfolding probe order
+  over : (k r : ℕ) → searchAlong (λ (j : ℕ). probeBucket image name h (o + 8 * j)) (probeSequence n 0 k) r ≡ nothing r
+  unfolding searchAlong probeSequence
   over k r = refl
 
-  more : (m k r : ℕ) → probe (λ (j : ℕ). see image name h (o + 8 * j)) (order n (suc m) k) r
-      ≡ decide (see image name h (o + 8 * k)) (r + 1) (probe (λ (j : ℕ). see image name h (o + 8 * j)) (order n m (next n k)) (r + 1))
-  unfolding probe order
+  more : (m k r : ℕ) → searchAlong (λ (j : ℕ). probeBucket image name h (o + 8 * j)) (probeSequence n (suc m) k) r
+      ≡ decide (probeBucket image name h (o + 8 * k)) (r + 1) (searchAlong (λ (j : ℕ). probeBucket image name h (o + 8 * j)) (probeSequence n m (next n k)) (r + 1))
+  unfolding searchAlong probeSequence
   more m k r = refl
 
-  pub rest-over : (k m : ℕ) → m ≤ 0 → nothing (n - m) ≡ rest image name h o n k m
+  pub rest-over : (k m : ℕ) → m ≤ 0 → nothing (n - m) ≡ searchRest image name h o n k m
   rest-over k m l =
       let e : m ≡ 0 = omega arith in
-      sym (ap (λ (i : ℕ). probe (λ (j : ℕ). see image name h (o + 8 * j)) (order n i k) (n - m)) e ∙ over k (n - m))
+      sym (ap (λ (i : ℕ). searchAlong (λ (j : ℕ). probeBucket image name h (o + 8 * j)) (probeSequence n i k) (n - m)) e ∙ over k (n - m))
 
   -- a turn, by what is seen
-  pub rest-seen : (k m : ℕ) (seen : Seen) → 0 < m → m ≤ n → seen ≡ see image name h (o + 8 * k)
-      → decide seen (n - (m - 1)) (rest image name h o n (next n k) (m - 1)) ≡ rest image name h o n k m
-  rest-seen k m seen l f e =
+  pub rest-step : (k m : ℕ) (seen : Probe) → 0 < m → m ≤ n → seen ≡ probeBucket image name h (o + 8 * k)
+      → decide seen (n - (m - 1)) (searchRest image name h o n (next n k) (m - 1)) ≡ searchRest image name h o n k m
+  rest-step k m seen l f e =
       let p : m ≡ suc (m - 1) = omega arith in
       let r : n - (m - 1) ≡ n - m + 1 = omega arith in
-      ap (λ (s : Seen). decide s (n - (m - 1)) (rest image name h o n (next n k) (m - 1))) e
-      ∙ ap (λ (i : ℕ). decide (see image name h (o + 8 * k)) i (probe (λ (j : ℕ). see image name h (o + 8 * j)) (order n (m - 1) (next n k)) i)) r
-      ∙ sym (ap (λ (i : ℕ). probe (λ (j : ℕ). see image name h (o + 8 * j)) (order n i k) (n - m)) p ∙ more (m - 1) k (n - m))
+      ap (λ (s : Probe). decide s (n - (m - 1)) (searchRest image name h o n (next n k) (m - 1))) e
+      ∙ ap (λ (i : ℕ). decide (probeBucket image name h (o + 8 * k)) i (searchAlong (λ (j : ℕ). probeBucket image name h (o + 8 * j)) (probeSequence n (m - 1) (next n k)) i)) r
+      ∙ sym (ap (λ (i : ℕ). searchAlong (λ (j : ℕ). probeBucket image name h (o + 8 * j)) (probeSequence n i k) (n - m)) p ∙ more (m - 1) k (n - m))
 
 -- ---- the table of a hash
 
@@ -143,9 +143,9 @@ unfolding searchFrom
 from-unread image name h c e = rw e
 
 pub from-read : (image name : List ℕ) (h c at n : ℕ) → unsearched image (tableOf h) ≡ false → at ≡ tableAt image (tableOf h) → n ≡ bucketNumber image (tableOf h)
-    → rest image name h at n (bucketAfter h n c) (n - c) ≡ searchFrom image name h c
+    → searchRest image name h at n (bucketAfter h n c) (n - c) ≡ searchFrom image name h c
 unfolding searchFrom
-from-read image name h c at n e ea en = rw e (λ i. rest image name h (ea i) (en i) (bucketAfter h (en i) c) (en i - c))
+from-read image name h c at n e ea en = rw e (λ i. searchRest image name h (ea i) (en i) (bucketAfter h (en i) c) (en i - c))
 
 -- after all of a table's n buckets, 0 where none is read
 pub from-over : (image name : List ℕ) (h c n : ℕ) → (n ≡ 0 → unsearched image (tableOf h) ≡ true)
@@ -168,11 +168,11 @@ module _ (image name : List ℕ) (h : ℕ) where
   abbrev size : ℕ
   size = bucketNumber image (tableOf h)
 
-  all-left : rest image name h o size (bucketAfter h size 0) (size - 0) ≡ searchTable image name h o size
+  all-left : searchRest image name h o size (bucketAfter h size 0) (size - 0) ≡ searchTable image name h o size
   all-left =
       let x : h / 256 + 0 ≡ h / 256 = omega arith in
       let f : size - 0 ≡ size = omega arith in
-      (λ i. rest image name h o size (x i % size) (f i)) ∙ rest-start image name h o size
+      (λ i. searchRest image name h o size (x i % size) (f i)) ∙ rest-start image name h o size
 
   pub from-start : searchFrom image name h 0 ≡ lookupHash image name h
   from-start = go (unsearched image (tableOf h)) refl

@@ -9,8 +9,8 @@ use Rattle.reader.specs.declared.Opened.{Opened}
 use Rattle.reader.specs.declared.Opened.the-variants.{Num, Refused}
 use Rattle.reader.specs.declared.ToId.{ToId}
 use Rattle.reader.specs.declared.ToId.the-variants as toid
-use Rattle.reader.specs.declared.Seen.{Seen}
-use Rattle.reader.specs.declared.Seen.the-variants.{Pass, Ends, Hit}
+use Rattle.reader.specs.declared.Probe.{Probe}
+use Rattle.reader.specs.declared.Probe.the-variants.{Pass, Ends, Hit}
 use Rattle.reader.specs.declared.Named.{Named}
 use Rattle.reader.specs.declared.Named.the-variants as named
 use Rattle.reader.specs.declared.Stepped.{Stepped}
@@ -32,10 +32,10 @@ reads (found f) = f .buckets
 reads (nothing n) = n
 
 -- what is seen in a bucket
-abbrev pub seenOf : Seen → spec.Seen
-seenOf Pass = spec.pass
-seenOf Ends = spec.ends
-seenOf (Hit h) = spec.hit (record { id = h .id; offset = h .offset })
+abbrev pub probeOf : Probe → spec.Probe
+probeOf Pass = spec.pass
+probeOf Ends = spec.ends
+probeOf (Hit h) = spec.hit (record { id = h .id; offset = h .offset })
 
 -- the place of the name, or nothing
 abbrev pub namingOf : Named → Naming

@@ -23,11 +23,11 @@ unfoldable pub upperHint : List ℕ → ℕ → ℕ
 upperHint image n = cond (noBack image) 0 (backSizeAt image - n)
 
 -- where a walk that stood before id n stands after a step: before the id that the step names; at the end it stays
-abbrev pub standsAfter : ℕ → Step → ℕ
-standsAfter n (item id s l next) = next
-standsAfter n done = n
+abbrev pub nextAfter : ℕ → Step → ℕ
+nextAfter n (item id s l next) = next
+nextAfter n done = n
 
 -- the first m steps of a walk that stands before id n
 unfoldable pub steps : List ℕ → ℕ → ℕ → List Step
 steps image n zero = []
-steps image n (suc m) = step image n ∷ steps image (standsAfter n (step image n)) m
+steps image n (suc m) = step image n ∷ steps image (nextAfter n (step image n)) m

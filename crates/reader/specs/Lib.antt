@@ -5,8 +5,6 @@ pub mod Slices
 pub mod Naming
 pub mod IdWalk
 pub mod Cases
-pub mod FoundAt
-pub mod Bounds
-pub mod Walks
-pub mod QuayReads
+pub mod theorems
+pub mod examples
 pub mod steps

@@ -6,7 +6,7 @@ use lib.ListN.{length}
 use lib.Dec.{eqb, ltb, leb}
 use Rattle.jhash.specs.NameHash.{hashOf}
 use Rattle.image.specs.Bytes.{word, same}
-use Rattle.image.specs.Tables.{tableOf, start, order}
+use Rattle.image.specs.Tables.{tableOf, start, probeSequence}
 use Rattle.image.specs.Image.{headSize}
 use Rattle.image.specs.Head.{tableAt, bucketNumber, tableLeaves}
 use Rattle.image.specs.Stored.{nameOf, broken}
@@ -27,36 +27,36 @@ abbrev pub hitAt : List ℕ → ℕ → Hit
 hitAt image at = record { id = word image at; offset = at }
 
 -- what a search sees in a bucket: it passes it, or ends with nothing, or with what an entry tells
-pub data Seen : Type 0 where
-  pass : Seen
-  ends : Seen
-  hit : Hit → Seen
+pub data Probe : Type 0 where
+  pass : Probe
+  ends : Probe
+  hit : Hit → Probe
 
 -- a broken entry ends with nothing; an equal name ends with what the entry tells; another name is passed
-unfoldable pub seeEntry : List ℕ → List ℕ → ℕ → Seen
-seeEntry image name at =
+unfoldable pub probeEntry : List ℕ → List ℕ → ℕ → Probe
+probeEntry image name at =
     cond (broken image at) ends (cond (same (nameOf image at) name) (hit (hitAt image at)) pass)
 
 -- an empty bucket ends with nothing; a bucket with another hash is passed
-unfoldable pub see : List ℕ → List ℕ → ℕ → ℕ → Seen
-see image name h b =
+unfoldable pub probeBucket : List ℕ → List ℕ → ℕ → ℕ → Probe
+probeBucket image name h b =
     cond (eqb (word image (b + 4)) 0) ends
-    (cond (eqb (word image b) h) (seeEntry image name (word image (b + 4))) pass)
+    (cond (eqb (word image b) h) (probeEntry image name (word image (b + 4))) pass)
 
 -- one more bucket was read: what was seen decides, or the search goes on
-abbrev pub decide : Seen → ℕ → Lookup → Lookup
+abbrev pub decide : Probe → ℕ → Lookup → Lookup
 decide pass reads rest = rest
 decide ends reads rest = nothing reads
 decide (hit h) reads rest = found (record { id = h .id; buckets = reads; offset = h .offset })
 
 -- the search along a list of buckets, `reads` being those read before. After the last the answer is nothing
-unfoldable pub probe : (ℕ → Seen) → List ℕ → ℕ → Lookup
-probe look [] reads = nothing reads
-probe look (k ∷ ks) reads = decide (look k) (reads + 1) (probe look ks (reads + 1))
+unfoldable pub searchAlong : (ℕ → Probe) → List ℕ → ℕ → Lookup
+searchAlong look [] reads = nothing reads
+searchAlong look (k ∷ ks) reads = decide (look k) (reads + 1) (searchAlong look ks (reads + 1))
 
 -- the search in a table of n buckets at offset o
 unfoldable pub searchTable : List ℕ → List ℕ → ℕ → ℕ → ℕ → Lookup
-searchTable image name h o n = probe (λ (k : ℕ). see image name h (o + 8 * k)) (order n n (start h n)) 0
+searchTable image name h o n = searchAlong (λ (k : ℕ). probeBucket image name h (o + 8 * k)) (probeSequence n n (start h n)) 0
 
 -- nothing after 0 reads: a table with offset 0, bucket number 0 or an end past the image
 abbrev pub unsearched : List ℕ → ℕ → Bool

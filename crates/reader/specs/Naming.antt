@@ -9,7 +9,7 @@ use Rattle.image.specs.Bytes.{word}
 use Rattle.image.specs.Image.{headSize}
 use Rattle.image.specs.Head.{backSizeAt, backOffsetAt, backLeaves}
 use Rattle.image.specs.Stored.{broken}
-use Rattle.reader.specs.Slices.{Slice, part}
+use Rattle.reader.specs.Slices.{Slice, subslice}
 
 -- the answer: the place of the name, its first byte's offset and its length; or nothing
 pub data Naming : Type 0 where
@@ -37,22 +37,22 @@ naming image id =
     (cond (leb (backSizeAt image) id) unnamed (namingAt image (word image (backOffsetAt image + 4 * id))))
 
 -- the part of the lent image that is the name, or another slice when there is none
-abbrev pub partOr : Slice → Slice → Naming → Slice
-partOr image other (place s n) = part image s n
-partOr image other unnamed = other
+abbrev pub sliceOr : Slice → Slice → Naming → Slice
+sliceOr image other (place s n) = subslice image s n
+sliceOr image other unnamed = other
 
 -- a second call returns the part, empty if nothing
-abbrev pub namePart : Slice → ℕ → Slice
-namePart image id = partOr image (part image 0 0) (naming (image .bytes) id)
+abbrev pub nameSlice : Slice → ℕ → Slice
+nameSlice image id = sliceOr image (subslice image 0 0) (naming (image .bytes) id)
 
 -- name or stand-in
 abbrev pub nameOr : Slice → ℕ → Slice → Slice
-nameOr image id other = partOr image other (naming (image .bytes) id)
+nameOr image id other = sliceOr image other (naming (image .bytes) id)
 
 -- 01, "Whole lists": an id gives a name when naming it answers a place that holds exactly that name's bytes
-abbrev pub heldAt : List ℕ → Naming → Option (List ℕ)
-heldAt image (place s n) = some (take n (drop s image))
-heldAt image unnamed = none
+abbrev pub bytesAt : List ℕ → Naming → Option (List ℕ)
+bytesAt image (place s n) = some (take n (drop s image))
+bytesAt image unnamed = none
 
 abbrev pub nameGiven : List ℕ → ℕ → Option (List ℕ)
-nameGiven image id = heldAt image (naming image id)
+nameGiven image id = bytesAt image (naming image id)

@@ -14,5 +14,5 @@ abbrev pub slice : RefT (List ℕ) → Slice
 slice r = record { at = r .ptr; bytes = r .now }
 
 -- its n bytes from s on
-abbrev pub part : Slice → ℕ → ℕ → Slice
-part x s n = record { at = (x .at .0, s + x .at .1); bytes = take n (drop s (x .bytes)) }
+abbrev pub subslice : Slice → ℕ → ℕ → Slice
+subslice x s n = record { at = (x .at .0, s + x .at .1); bytes = take n (drop s (x .bytes)) }

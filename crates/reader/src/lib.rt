@@ -1,5 +1,5 @@
 // Reading: open, look up, name, walk, on every slice of bytes. No call of a user has a `requires`, and each answers what 01
-// fixes for the bytes that it is lent, whether an open accepted them or not. The steps of a search (`start`, `see`,
+// fixes for the bytes that it is lent, whether an open accepted them or not. The steps of a search (`start`, `probe_bucket`,
 // `next_bucket`, `table_of`) are leaves for the crate `agreement`, whose search goes on past an equal name.
 pub mod start; // start.rt: the bucket that a search begins with
 pub mod opening; // opening.rt: open
@@ -49,7 +49,7 @@ pub struct Hit {
 }
 
 // What a search sees in a bucket: it passes it, or ends with nothing, or with an entry that has the name.
-pub enum Seen {
+pub enum Probe {
     Pass,
     Ends,
     Hit(Hit),

@@ -6,13 +6,13 @@ ghost use mathlib.Core.List.{List};
 ghost use lib.ListN.{length};
 ghost use Rattle.image.specs.Tables.{tableOf, start, next};
 ghost use Rattle.image.specs.Head.{tableAt, bucketNumber};
-ghost use Rattle.reader.specs.Lookup.{nothing, seeEntry, see, unsearched, searchTable, lookupHash, lookup};
-ghost use Rattle.reader.specs.Cases.{seenOf, lookupOf};
-ghost use Rattle.reader.specs.steps.Resume.{rest, bucketAfter, lookupFrom};
+ghost use Rattle.reader.specs.Lookup.{nothing, probeEntry, probeBucket, unsearched, searchTable, lookupHash, lookup};
+ghost use Rattle.reader.specs.Cases.{probeOf, lookupOf};
+ghost use Rattle.reader.specs.steps.Resume.{searchRest, bucketAfter, lookupFrom};
 use super::Found;
 use super::HEAD_SIZE;
 use super::Hit;
-use super::Seen;
+use super::Probe;
 use super::Table;
 use super::ToId;
 use super::start::start;
@@ -22,37 +22,37 @@ use jhash::Hashed;
 use jhash::word::word;
 
 // What a search for a name sees in the entry at `at`.
-pub fn see_entry(image: &[u8], name: &[u8], at: u32) -> Seen
-    ensures { λ r. ⌜ seenOf r ≡ seeEntry (now (image .entry)) (now (name .entry)) at ⌝ }
+pub fn probe_entry(image: &[u8], name: &[u8], at: u32) -> Probe
+    ensures { λ r. ⌜ probeOf r ≡ probeEntry (now (image .entry)) (now (name .entry)) at ⌝ }
 {
     if broken(image, at) {
-        return Seen::Ends;
+        return Probe::Ends;
     }
     let entry = at as usize;
     let start = entry + 8;
     let end = start + (word(image, entry + 4) as usize - 1);
     if same(&image[start..end], name) {
-        return Seen::Hit(Hit {
+        return Probe::Hit(Hit {
             id: word(image, entry),
             offset: at,
         });
     }
-    Seen::Pass
+    Probe::Pass
 }
 
 // What a search for a name with the hash h sees in the bucket at `at`.
-pub fn see(image: &[u8], name: &[u8], h: u32, at: usize) -> Seen
+pub fn probe_bucket(image: &[u8], name: &[u8], h: u32, at: usize) -> Probe
     requires { ⌜ at + 8 ≤ length (now image) ⌝ }
-    ensures { λ r. ⌜ seenOf r ≡ see (now (image .entry)) (now (name .entry)) h at ⌝ }
+    ensures { λ r. ⌜ probeOf r ≡ probeBucket (now (image .entry)) (now (name .entry)) h at ⌝ }
 {
     let entry = word(image, at + 4);
     if entry == 0 {
-        return Seen::Ends;
+        return Probe::Ends;
     }
     if word(image, at) != h {
-        return Seen::Pass;
+        return Probe::Pass;
     }
-    see_entry(image, name, entry)
+    probe_entry(image, name, entry)
 }
 
 // The bucket after k: by one, from the last to the first.
@@ -87,7 +87,7 @@ fn first_zero(x: u32, y: u32, z: u32) -> u32
 // Of the first three buckets of a search, from bucket k on, the number of the first empty one, if neither of the first two has
 // the hash h: there the search ends with nothing, whatever the name. Else 0, which tells nothing. Half of a table's buckets
 // are empty, so a branch on each is often mispredicted; here one branch, on the smallest of three offsets, decides.
-fn near_empty(image: &[u8], h: u32, at: u32, n: u32, k: u32) -> u32
+fn early_miss(image: &[u8], h: u32, at: u32, n: u32, k: u32) -> u32
     requires { ⌜ (k ≡ start h n) × (k < n) × (at + 8 * n ≤ length (now image)) ⌝ }
     ensures { λ r. ⌜ (0 < r → (name : List ℕ) → searchTable (now (image .entry)) name h at n ≡ nothing r) ⌝ }
 {
@@ -112,19 +112,19 @@ fn near_empty(image: &[u8], h: u32, at: u32, n: u32, k: u32) -> u32
 // from the last to the first.
 fn search_rest(image: &[u8], name: &[u8], h: u32, at: u32, n: u32, first: u32, m: u32) -> ToId
     requires { ⌜ (first < n) × (m ≤ n) × (at + 8 * n ≤ length (now image)) ⌝ }
-    ensures { λ r. ⌜ lookupOf r ≡ rest (now (image .entry)) (now (name .entry)) h at n first m ⌝ }
+    ensures { λ r. ⌜ lookupOf r ≡ searchRest (now (image .entry)) (now (name .entry)) h at n first m ⌝ }
 {
     let mut k = first;
     let mut left = m;
     while 0 < left {
         left -= 1;
         let read = n - left;
-        match see(image, name, h, at as usize + 8 * (k as usize)) {
-            Seen::Pass => {}
-            Seen::Ends => {
+        match probe_bucket(image, name, h, at as usize + 8 * (k as usize)) {
+            Probe::Pass => {}
+            Probe::Ends => {
                 return ToId::Nothing { buckets: read };
             }
-            Seen::Hit(hit) => {
+            Probe::Hit(hit) => {
                 return ToId::Found(Found {
                     id: hit.id,
                     buckets: read,
@@ -144,7 +144,7 @@ fn search(image: &[u8], name: &[u8], h: u32, at: u32, n: u32) -> ToId
     ensures { λ r. ⌜ lookupOf r ≡ searchTable (now (image .entry)) (now (name .entry)) h at n ⌝ }
 {
     let k = start(h, n);
-    let ended_after = near_empty(image, h, at, n, k);
+    let ended_after = early_miss(image, h, at, n, k);
     if ended_after != 0 {
         return ToId::Nothing {
             buckets: ended_after,

@@ -1,7 +1,7 @@
 // Naming an id (reference `to_str`).
 ghost use mathlib.Core.Path.{_≡_};
 ghost use Rattle.reader.specs.Slices.{slice};
-ghost use Rattle.reader.specs.Naming.{noBack, naming, namePart, nameOr};
+ghost use Rattle.reader.specs.Naming.{noBack, naming, nameSlice, nameOr};
 ghost use Rattle.reader.specs.Cases.{namingOf};
 use super::HEAD_SIZE;
 use super::Named;
@@ -48,7 +48,7 @@ pub fn to_str(image: &[u8], id: u32) -> Named
 
 // The part of the lent image that is an id's name, empty if it has none.
 pub fn name<'a>(image: &'a [u8], id: u32) -> &'a [u8]
-    ensures { λ r. ⌜ slice r ≡ namePart (slice (image .entry)) id ⌝ }
+    ensures { λ r. ⌜ slice r ≡ nameSlice (slice (image .entry)) id ⌝ }
 {
     match to_str(image, id) {
         Named::Place { start, len } => &image[start..start + len],

@@ -31,17 +31,17 @@ fn has_letters(image: &[u8]) -> bool
 
 // The room behind a table at `at` with n buckets, in an image of `size` bytes: the size minus the table's end, modulo 2^64. No
 // end reaches 2^36, so below 2^63 it is a true difference, and the table ends in the image.
-fn room(size: usize, at: u32, n: u32) -> u64
+fn slack(size: usize, at: u32, n: u32) -> u64
     ensures { λ r. ⌜ (r < 2 ^ 63 → at + 8 * n ≤ size) ⌝ }
 {
     std::num::wrapping_sub_u64(size as u64, at as u64 + 8 * (n as u64))
 }
 
 // One room more, of such a table. A join by `|` is never below what it joins, so no room exceeds it.
-fn with_room(rooms: u64, size: usize, at: u32, n: u32) -> u64
+fn with_slack(rooms: u64, size: usize, at: u32, n: u32) -> u64
     ensures { λ r. ⌜ (r < 2 ^ 63 → (rooms < 2 ^ 63) × (at + 8 * n ≤ size)) ⌝ }
 {
-    rooms | room(size, at, n)
+    rooms | slack(size, at, n)
 }
 
 // One table more.
@@ -50,7 +50,7 @@ fn with_table(all: Tables, size: usize, at: u32, n: u32) -> Tables
 {
     Tables {
         num: std::num::wrapping_add_u32(all.num, n / 2),
-        rooms: with_room(all.rooms, size, at, n),
+        rooms: with_slack(all.rooms, size, at, n),
     }
 }
 

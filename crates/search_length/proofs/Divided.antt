@@ -11,8 +11,8 @@ use borrow.Author.Tests.{eq-eqb, ne-eqb}
 use Rattle.jhash.specs.Outcome.{Outcome, value, refusal}
 use Rattle.image.specs.Image.{headSize}
 use Rattle.image.specs.Stored.{entriesIn}
-use Rattle.image.proofs.Area.{length-entriesIn}
-use Rattle.image.proofs.Bools.{not-both}
+use Rattle.image.proofs.EntryArea.{length-entriesIn}
+use Rattle.image.proofs.Bools.{false-not-true}
 use Rattle.reader.specs.Open.{opening}
 use Rattle.canonical.specs.Ours.{ours, counted, putsIn}
 use Rattle.search_length.specs.SearchLengths.{totalOf, lengthsFrom}
@@ -30,7 +30,7 @@ first-zero true n e = go (eqb n 0) refl e
         above : (k : ℕ) → eqb k 0 ≡ false → 0 < k
         above k h = elim (decLt 0 k) [
           | yes p ↦ p
-          | no p ↦ let z : k ≡ 0 = omega arith in absurd (not-both (sym (sym (eq-eqb k 0 z) ∙ h)))
+          | no p ↦ let z : k ≡ 0 = omega arith in absurd (false-not-true (sym (sym (eq-eqb k 0 z) ∙ h)))
         ]
 first-zero false n e = absurd (omega arith)
 

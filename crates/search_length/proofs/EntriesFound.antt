@@ -10,15 +10,15 @@ use lib.Dec.{ltb, leb}
 use Rattle.jhash.specs.NameHash.{hashOf}
 use Rattle.image.specs.Head.{tableAt, bucketNumber}
 use Rattle.image.specs.Image.{Entry, headSize, backSize}
-use Rattle.image.specs.Tables.{tableOf, start, order}
-use Rattle.jhash.specs.Word.{Bytes}
-use Rattle.image.proofs.Every.{All, all-map}
+use Rattle.image.specs.Tables.{tableOf, start, probeSequence}
+use Rattle.jhash.specs.Word.{AllBytes}
+use Rattle.image.proofs.AllOfList.{All, all-map}
 use Rattle.reader.specs.Cases.{reads}
-use Rattle.reader.specs.Lookup.{Lookup, found, nothing, Seen, pass, ends, hit, see, decide, probe, searchTable, unsearched, lookupHash, lookup}
+use Rattle.reader.specs.Lookup.{Lookup, found, nothing, Probe, pass, ends, hit, probeBucket, decide, searchAlong, searchTable, unsearched, lookupHash, lookup}
 use Rattle.reader.specs.declared.Found.{Found}
 use Rattle.reader.proofs.FoundAt.{not-found}
 use Rattle.lookup_laws.specs.Answer.{foundId, tablePuts}
-use Rattle.lookup_laws.proofs.Images.{found-reads}
+use Rattle.lookup_laws.proofs.ImageAnswers.{found-reads}
 use Rattle.canonical.specs.steps.Made.{Made}
 use Rattle.canonical.specs.Ours.{ours, putsIn}
 use Rattle.canonical.proofs.ReadBack.{ids-of, made-puts, ours-only}
@@ -27,12 +27,12 @@ use Rattle.search_length.specs.SearchLengths.{searchLength}
 
 -- ---- what is found was read
 
-probe-some : (look : ℕ → Seen) (ks : List ℕ) (r : ℕ) (f : Found) → probe look ks r ≡ found f → r < f .buckets
-unfolding probe
+probe-some : (look : ℕ → Probe) (ks : List ℕ) (r : ℕ) (f : Found) → searchAlong look ks r ≡ found f → r < f .buckets
+unfolding searchAlong
 probe-some look [] r f e = not-found r f e
 probe-some look (k ∷ ks) r f e = go (look k) (λ q. probe-some look ks (r + 1) f q) e
   where
-    go : (s : Seen) → (probe look ks (r + 1) ≡ found f → r + 1 < f .buckets) → decide s (r + 1) (probe look ks (r + 1)) ≡ found f → r < f .buckets
+    go : (s : Probe) → (searchAlong look ks (r + 1) ≡ found f → r + 1 < f .buckets) → decide s (r + 1) (searchAlong look ks (r + 1)) ≡ found f → r < f .buckets
     go pass later e = omega (arith, later e)
     go ends later e = not-found (r + 1) f e
     go (hit h) later e = let z : r + 1 ≡ f .buckets = cc in omega arith
@@ -42,7 +42,7 @@ unfolding lookup lookupHash searchTable
 lookup-some img name f e = by-size (ltb (length img) headSize) e
   where
     searched : Lookup
-    searched = probe (λ (k : ℕ). see img name (hashOf name) (tableAt img (tableOf (hashOf name)) + 8 * k)) (order (bucketNumber img (tableOf (hashOf name))) (bucketNumber img (tableOf (hashOf name))) (start (hashOf name) (bucketNumber img (tableOf (hashOf name))))) 0
+    searched = searchAlong (λ (k : ℕ). probeBucket img name (hashOf name) (tableAt img (tableOf (hashOf name)) + 8 * k)) (probeSequence (bucketNumber img (tableOf (hashOf name))) (bucketNumber img (tableOf (hashOf name))) (start (hashOf name) (bucketNumber img (tableOf (hashOf name))))) 0
 
     by-table : (t : Bool) → cond t (nothing 0) searched ≡ found f → 0 < f .buckets
     by-table true q = not-found 0 f q
@@ -67,7 +67,7 @@ backs (e ∷ es) a = omega (arith, a .0, backs es (a .1))
 abbrev pub Bounded : List ℕ → List Entry → Entry → Type 0
 Bounded img all e = (1 ≤ searchLength img e) × (searchLength img e ≤ tablePuts (e .name) all)
 
-module _ (img : List ℕ) (bytes : Bytes img) (own : ours img ≡ true) where
+module _ (img : List ℕ) (bytes : AllBytes img) (own : ours img ≡ true) where
   made : Made img
   made = ours-only img bytes own
 

@@ -9,15 +9,15 @@ use lib.Dec.{eqb, lit≤, lit<}
 use Rattle.jhash.specs.NameHash.{hashOf}
 use Rattle.jhash.specs.Outcome.{Outcome, value}
 use Rattle.jhash.proofs.Vectors.{hash-A, hash-I, hash-Q}
-use Rattle.image.specs.Bytes.{word, le32, cat, keep, range, same}
-use Rattle.image.specs.Image.{Entry, Placed, headSize, entrySize, entriesEnd, backSizeOf, bucketOf, imageSize, entryBytes, entriesSize, placed, ofTable, bucketBytes, table, tableBytes, entriesBefore, tableOffset, tableRow, backSize, placedOfId, lastFrom, link, backOffset, headBytes, headWords, tableRows, tables, links, image}
-use Rattle.image.specs.Tables.{Bucket, tableOf, order, firstEmpty, insert, insertAll, filled}
+use Rattle.image.specs.Bytes.{word, le32, cat, filter, range, same}
+use Rattle.image.specs.Image.{Entry, Placed, headSize, entrySize, entriesEnd, backSizeOf, bucketOf, imageSize, entryBytes, entriesSize, placed, ofTable, bucketBytes, table, tableBytes, entriesBefore, tableOffset, tableRow, backSize, placedOfId, lastFrom, backWord, backOffset, headBytes, headWords, tableRows, tables, backWords, image}
+use Rattle.image.specs.Tables.{Bucket, tableOf, probeSequence, firstEmpty, insert, insertAll, filled}
 use Rattle.image.specs.Stored.{entriesIn}
 use Rattle.image.specs.Zero.{hasZero}
 use Rattle.image.specs.declared.Mode.{Mode}
 use Rattle.image.specs.declared.Mode.the-variants.{Twoway, Oneway}
-use Rattle.image.proofs.Every.{All}
-use Rattle.reader.specs.Lookup.{Lookup, seeEntry, see, probe, searchTable, lookupHash, lookupBy}
+use Rattle.image.proofs.AllOfList.{All}
+use Rattle.reader.specs.Lookup.{Lookup, probeEntry, probeBucket, searchAlong, searchTable, lookupHash, lookupBy}
 use Rattle.reader.specs.Cases.{reads}
 use Rattle.reader.proofs.Searches.{lookup-own}
 use Rattle.reader.specs.Open.{opening}
@@ -106,7 +106,7 @@ module _ (mode : Mode) (e₁ e₂ : Entry) (h₁ h₂ : ℕ) (is₁ : hashOf (e�
       ++ cat (λ (t : ℕ). le32 (cond (eqb (length (kept h₁ h₂ t)) 0) 0 (entriesEnd es + 16 * before t)) ++ le32 (2 * length (kept h₁ h₂ t))) (range 0 256)
       ++ cat entryBytes es
       ++ cat (λ (t : ℕ). cat bucketBytes (filled (2 * length (kept h₁ h₂ t)) (buckets h₁ h₂ t))) (range 0 256)
-      ++ links (p₁ ∷ p₂ ∷ []) (backSizeOf mode es)
+      ++ backWords (p₁ ∷ p₂ ∷ []) (backSizeOf mode es)
 
   bytes-are : image mode es ≡ bytes
   unfolding image placed tableRows tableRow tableOffset tables tableBytes table bytes
@@ -116,7 +116,7 @@ module _ (mode : Mode) (e₁ e₂ : Entry) (h₁ h₂ : ℕ) (is₁ : hashOf (e�
       ++ cat (λ (t : ℕ). le32 (cond (eqb (length (entries-of t i)) 0) 0 (entriesEnd es + 16 * before-is t i)) ++ le32 (2 * length (entries-of t i))) (range 0 256)
       ++ cat entryBytes es
       ++ cat (λ (t : ℕ). cat bucketBytes (filled (2 * length (entries-of t i)) (buckets-of t i))) (range 0 256)
-      ++ links (p₁ ∷ p₂ ∷ []) (backSizeOf mode es)
+      ++ backWords (p₁ ∷ p₂ ∷ []) (backSizeOf mode es)
 
   total-of : totalOf (image mode es) es ≡ reads (lookupBy bytes (e₁ .name) h₁) + (reads (lookupBy bytes (e₂ .name) h₂) + 0)
   unfolding totalOf
@@ -126,16 +126,16 @@ module _ (mode : Mode) (e₁ e₂ : Entry) (h₁ h₂ : ℕ) (is₁ : hashOf (e�
       (sym (lookup-own bytes (e₂ .name) h₂ (λ s. sym is₂)))
 
 crowded : totalOf (image Twoway (letter 73 0 ∷ letter 81 1 ∷ [])) (letter 73 0 ∷ letter 81 1 ∷ []) ≡ 3
-unfolding word le32 cat range same entryBytes entriesSize bucketBytes backSize placedOfId lastFrom link backOffset headBytes headWords links order firstEmpty insert insertAll filled seeEntry see probe searchTable lookupHash lookupBy before bytes
+unfolding word le32 cat range same entryBytes entriesSize bucketBytes backSize placedOfId lastFrom backWord backOffset headBytes headWords backWords probeSequence firstEmpty insert insertAll filled probeEntry probeBucket searchAlong searchTable lookupHash lookupBy before bytes
 crowded = total-of Twoway (letter 73 0) (letter 81 1) 0xcae4bcb3 0x27d3a0b3 hash-I hash-Q
 
 repeated : totalOf (image Oneway (letter 65 5 ∷ letter 65 9 ∷ [])) (letter 65 5 ∷ letter 65 9 ∷ []) ≡ 2
-unfolding word le32 cat range same entryBytes entriesSize bucketBytes backSize placedOfId lastFrom link backOffset headBytes headWords links order firstEmpty insert insertAll filled seeEntry see probe searchTable lookupHash lookupBy before bytes
+unfolding word le32 cat range same entryBytes entriesSize bucketBytes backSize placedOfId lastFrom backWord backOffset headBytes headWords backWords probeSequence firstEmpty insert insertAll filled probeEntry probeBucket searchAlong searchTable lookupHash lookupBy before bytes
 repeated = total-of Oneway (letter 65 5) (letter 65 9) 0x89284101 0x89284101 hash-A hash-A
 
 -- no bytes are no image
 nothing : ours [] ≡ false
-unfolding word le32 cat keep range same entryBytes entriesSize placed ofTable bucketBytes table tableBytes entriesBefore tableOffset tableRow backSize placedOfId lastFrom link backOffset headBytes headWords tableRows tables links image order firstEmpty insert insertAll filled entriesIn hasZero opening putsIn allFree ours
+unfolding word le32 cat filter range same entryBytes entriesSize placed ofTable bucketBytes table tableBytes entriesBefore tableOffset tableRow backSize placedOfId lastFrom backWord backOffset headBytes headWords tableRows tables backWords image probeSequence firstEmpty insert insertAll filled entriesIn hasZero opening putsIn allFree ours
 nothing = refl
 
 pub rows-hold : All Averages averageRows

@@ -10,12 +10,12 @@ use lib.Dec.{eqb}
 use borrow.Author.Tests.{ne-eqb, eqb-true}
 use Rattle.jhash.specs.NameHash.{hashOf}
 use Rattle.jhash.specs.Outcome.{Outcome, value, refusal}
-use Rattle.image.specs.Bytes.{keep}
+use Rattle.image.specs.Bytes.{filter}
 use Rattle.image.specs.Image.{Entry, headSize, entrySize, placed}
 use Rattle.image.specs.Image as image
 use Rattle.image.specs.Tables.{tableOf}
-use Rattle.jhash.specs.Word.{Bytes}
-use Rattle.image.proofs.Every.{All}
+use Rattle.jhash.specs.Word.{AllBytes}
+use Rattle.image.proofs.AllOfList.{All}
 use Rattle.lookup_laws.specs.Answer.{tablePuts}
 use Rattle.canonical.specs.Ours.{ours, putsIn}
 use Rattle.search_length.specs.SearchLengths.{searchLength, totalOf}
@@ -46,14 +46,14 @@ total-each img (f ∷ before) e behind = omega (arith, total-each img before e b
 -- ---- table by table
 
 -- a table's number of puts, with or without their places
-places-kept : (t o : ℕ) (es : List Entry) → length (keep (image.inTable t) (placed o es)) ≡ length (keep (nameInTable t) es)
-unfolding keep placed
+places-kept : (t o : ℕ) (es : List Entry) → length (filter (image.inTable t) (placed o es)) ≡ length (filter (nameInTable t) es)
+unfolding filter placed
 places-kept t o [] = refl
 places-kept t o (e ∷ es) = go (eqb (tableOf (hashOf (e .name))) t) (places-kept t (o + entrySize e) es)
   where
-    go : (b : Bool) → length (keep (image.inTable t) (placed (o + entrySize e) es)) ≡ length (keep (nameInTable t) es)
-        → length (cond b (record { entry = e; at = o } ∷ keep (image.inTable t) (placed (o + entrySize e) es)) (keep (image.inTable t) (placed (o + entrySize e) es)))
-        ≡ length (cond b (e ∷ keep (nameInTable t) es) (keep (nameInTable t) es))
+    go : (b : Bool) → length (filter (image.inTable t) (placed (o + entrySize e) es)) ≡ length (filter (nameInTable t) es)
+        → length (cond b (record { entry = e; at = o } ∷ filter (image.inTable t) (placed (o + entrySize e) es)) (filter (image.inTable t) (placed (o + entrySize e) es)))
+        ≡ length (cond b (e ∷ filter (nameInTable t) es) (filter (nameInTable t) es))
     go true h = omega arith
     go false h = h
 
@@ -61,20 +61,20 @@ puts-kept : (name : List ℕ) (es : List Entry) → tablePuts name es ≡ length
 unfolding tablePuts image.ofTable entriesOfTable
 puts-kept name es = places-kept (tableOf (hashOf name)) headSize es
 
-table-most : (img : List ℕ) (t : ℕ) (all es : List Entry) → All (Bounded img all) es → totalOf img (keep (nameInTable t) es) ≤ length (keep (nameInTable t) es) * length (entriesOfTable t all)
-unfolding totalOf keep
+table-most : (img : List ℕ) (t : ℕ) (all es : List Entry) → All (Bounded img all) es → totalOf img (filter (nameInTable t) es) ≤ length (filter (nameInTable t) es) * length (entriesOfTable t all)
+unfolding totalOf filter
 table-most img t all [] b = omega arith
 table-most img t all (e ∷ es) b = go (eqb (tableOf (hashOf (e .name))) t) refl (table-most img t all es (b .1))
   where
     rest : List Entry
-    rest = keep (nameInTable t) es
+    rest = filter (nameInTable t) es
 
-    go : (q : Bool) → eqb (tableOf (hashOf (e .name))) t ≡ q → totalOf img (keep (nameInTable t) es) ≤ length (keep (nameInTable t) es) * length (entriesOfTable t all)
-        → totalOf img (cond q (e ∷ keep (nameInTable t) es) (keep (nameInTable t) es)) ≤ length (cond q (e ∷ keep (nameInTable t) es) (keep (nameInTable t) es)) * length (entriesOfTable t all)
+    go : (q : Bool) → eqb (tableOf (hashOf (e .name))) t ≡ q → totalOf img (filter (nameInTable t) es) ≤ length (filter (nameInTable t) es) * length (entriesOfTable t all)
+        → totalOf img (cond q (e ∷ filter (nameInTable t) es) (filter (nameInTable t) es)) ≤ length (cond q (e ∷ filter (nameInTable t) es) (filter (nameInTable t) es)) * length (entriesOfTable t all)
     go true q h =
         let same : tableOf (hashOf (e .name)) ≡ t = eqb-true _ _ q in
         let puts : tablePuts (e .name) all ≡ length (entriesOfTable t all) = puts-kept (e .name) all ∙ ap (λ (k : ℕ). length (entriesOfTable k all)) same in
-        one (searchLength img e) (totalOf img (keep (nameInTable t) es)) (length (keep (nameInTable t) es)) (length (entriesOfTable t all)) (omega (arith, b .0 .1, puts)) h
+        one (searchLength img e) (totalOf img (filter (nameInTable t) es)) (length (filter (nameInTable t) es)) (length (entriesOfTable t all)) (omega (arith, b .0 .1, puts)) h
       where
         one : (a s l n : ℕ) → a ≤ n → s ≤ l * n → a + s ≤ suc l * n
         one a s l n p q = omega (arith, suc-mul l n)
@@ -86,7 +86,7 @@ none : sum (replicate {A = ℕ} 16 0) ≡ 0
 unfolding sum
 none = refl
 
-searched : (img : List ℕ) → Bytes img → ours img ≡ true → Searched img
+searched : (img : List ℕ) → AllBytes img → ours img ≡ true → Searched img
 unfolding total lengthsOf entriesOfTable
 searched img bytes own =
     let es = putsIn img in

@@ -7,10 +7,10 @@ use lib.ListN.{length, getD}
 use lib.Dec.{eqb}
 use Rattle.jhash.specs.NameHash.{hashOf}
 use Rattle.jhash.specs.Outcome.{value, refusal}
-use Rattle.image.specs.Bytes.{keep}
+use Rattle.image.specs.Bytes.{filter}
 use Rattle.image.specs.Image.{Entry}
 use Rattle.image.specs.Tables.{tableOf}
-use Rattle.jhash.specs.Word.{Bytes}
+use Rattle.jhash.specs.Word.{AllBytes}
 use Rattle.lookup_laws.specs.Answer.{tablePuts}
 use Rattle.canonical.specs.Ours.{ours, putsIn}
 use Rattle.search_length.specs.SearchLengths.{searchLength, totalOf, inBin}
@@ -22,7 +22,7 @@ abbrev pub nameInTable : ℕ → Entry → Bool
 nameInTable t e = eqb (tableOf (hashOf (e .name))) t
 
 unfoldable pub entriesOfTable : ℕ → List Entry → List Entry
-entriesOfTable t es = keep (nameInTable t) es
+entriesOfTable t es = filter (nameInTable t) es
 
 -- demand 3's bound of a found name, for each of some entries: as many buckets as the name's table has puts
 unfoldable pub boundOf : List Entry → List Entry → ℕ
@@ -56,7 +56,7 @@ pub record AverageSearch : Type 0 where
   -- each entry adds its own length, whatever stands before and behind it: a repeated name counts each time
   pub each-time : (img : List ℕ) (before : List Entry) (e : Entry) (behind : List Entry)
       → totalOf img (before ++ e ∷ behind) ≡ searchLength img e + totalOf img (before ++ behind)
-  pub searched : (img : List ℕ) → Bytes img → ours img ≡ true → Searched img
+  pub searched : (img : List ℕ) → AllBytes img → ours img ≡ true → Searched img
   -- the list of the histogram: where refused, as it was
   pub filled : (img counts : List ℕ) → averageRefusal img ≡ 0 → afterLengths img counts ≡ lengthsOf img
   pub kept : (img counts : List ℕ) → (averageRefusal img ≡ 0 → ⊥) → afterLengths img counts ≡ counts

@@ -12,7 +12,7 @@ use Rattle.image.proofs.Words.{length-le32}
 use Rattle.image.proofs.Lists.{cat-cons, length-cat}
 use Rattle.image.proofs.Sizes.{length-placed, length-tables}
 use Rattle.image.proofs.Stores.{sets-then}
-use Rattle.image.proofs.Area.{length-entriesIn}
+use Rattle.image.proofs.EntryArea.{length-entriesIn}
 use Rattle.image.proofs.Parts.{placedIn}
 use Rattle.serialize.specs.Finish.{standing}
 use Rattle.serialize.specs.steps.Asked.{TablesAtHand}

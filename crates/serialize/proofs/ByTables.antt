@@ -14,13 +14,13 @@ use Rattle.jhash.specs.NameHash.{hashOf}
 use Rattle.image.specs.Bytes.{word, cat, range}
 use Rattle.image.specs.Tables.{tableOf}
 use Rattle.image.specs.Image.{Entry, Placed, headSize, entryBytes, entriesSize, placed, count, bucketOf, bucketBytes}
-use Rattle.image.specs.Image.{entriesBefore, links, backSizeOf, backOffset, entriesEnd, imageSize, headWords, tableRows}
+use Rattle.image.specs.Image.{entriesBefore, backWords, backSizeOf, backOffset, entriesEnd, imageSize, headWords, tableRows}
 use Rattle.image.specs.Stored.{between}
 use Rattle.image.specs.steps.EntryLength.{wholeLength}
 use Rattle.image.specs.declared.Mode.{Mode}
 use Rattle.image.proofs.Sizes.{length-placed, placed-append, count-nil, count-append, length-bucketBytes, length-headWords, length-tableRows, before-suc}
 use Rattle.image.proofs.Stores.{sets-whole}
-use Rattle.image.proofs.Every.{All}
+use Rattle.image.proofs.AllOfList.{All}
 use Rattle.image.proofs.At.{At, at-same, at-right}
 use Rattle.image.proofs.Parts.{placedIn, before-most}
 use Rattle.image.proofs.EntryAt.{id-word}
@@ -97,7 +97,7 @@ module _ (counts : List ℕ) (end : ℕ) (ps : List Placed) (tallies : Counts co
 -- the image of the entries es whose tables have the pairs of the entries qs
 unfoldable pub halfway : Mode → List Entry → List ℕ → List Entry → List ℕ → List ℕ
 halfway mode es X qs tail =
-    upToEntries mode es ++ cat (roomWith (placedIn es) X (placedIn qs)) (range 0 256) ++ links (placedIn qs) (backSizeOf mode es) ++ tail
+    upToEntries mode es ++ cat (roomWith (placedIn es) X (placedIn qs)) (range 0 256) ++ backWords (placedIn qs) (backSizeOf mode es) ++ tail
 
 module _ (mode : Mode) (es : List Entry) (X tail : List ℕ) (long : length X ≡ 16 * length (placedIn es)) where
   ps : List Placed
@@ -138,7 +138,7 @@ module _ (mode : Mode) (es : List Entry) (X tail : List ℕ) (long : length X �
     unfolding B halfway at
     from-here =
         let R = cat (roomWith (placedIn es) X (placedIn qs)) (range 0 256) in
-        let L = links (placedIn qs) (backSizeOf mode es) in
+        let L = backWords (placedIn qs) (backSizeOf mode es) in
         let U = upToEntries mode es in
         entries-after es (e ∷ rest) qs (rw (append-assoc (U ++ R) L tail, append-assoc U R (L ++ tail)) (entries-in mode es (R ++ (L ++ tail)))) split
 
@@ -155,12 +155,12 @@ module _ (mode : Mode) (es : List Entry) (X tail : List ℕ) (long : length X �
     place-there = next .each (tableOf (hashOf (e .name))) (own-below mode es qs rest e tail split fits ids)
 
     with-pair : withPair places B (hashOf (e .name)) at
-        ≡ upToEntries mode es ++ cat (roomWith ps X (rs ++ p ∷ [])) (range 0 256) ++ links rs (backSizeOf mode es) ++ tail
+        ≡ upToEntries mode es ++ cat (roomWith ps X (rs ++ p ∷ [])) (range 0 256) ++ backWords rs (backSizeOf mode es) ++ tail
     unfolding withPair B halfway bucketBytes at u rs p ps
     with-pair =
         let U = upToEntries mode es in
         let R = cat (roomWith (placedIn es) X (placedIn qs)) (range 0 256) in
-        let L = links (placedIn qs) (backSizeOf mode es) in
+        let L = backWords (placedIn qs) (backSizeOf mode es) in
         let b = bucketBytes (bucketOf (nextOf qs e)) in
         let v = tableOf (hashOf (e .name)) in
         let j = 16 * entriesBefore v (placedIn es) + 8 * count v (placedIn qs) in
@@ -177,7 +177,7 @@ module _ (mode : Mode) (es : List Entry) (X tail : List ℕ) (long : length X �
         ≡ halfway mode es X (qs ++ e ∷ []) tail
     unfolding parted B halfway at rs p ps
     half-turn =
-        let L = links (placedIn qs) (backSizeOf mode es) in
+        let L = backWords (placedIn qs) (backSizeOf mode es) in
         let F = upToEntries mode es ++ cat (roomWith (placedIn es) X (placedIn qs ++ nextOf qs e ∷ [])) (range 0 256) in
         let o = backOffset mode es in
         let size : length F ≡ entriesEnd es + 16 * length es =
@@ -190,7 +190,7 @@ module _ (mode : Mode) (es : List Entry) (X tail : List ℕ) (long : length X �
         ∙ ap (λ (i : ℕ). withLink mode (F ++ L ++ tail) o i at)
         (id-word e (entry-there at e rest from-here) (id-small mode es qs rest e tail split fits ids))
         ∙ linked mode es (placedIn qs) (nextOf qs e) F tail size (id-below mode es qs rest e tail split fits ids)
-        ∙ ap (λ (l : List Placed). upToEntries mode es ++ cat (roomWith (placedIn es) X l) (range 0 256) ++ links l (backSizeOf mode es) ++ tail)
+        ∙ ap (λ (l : List Placed). upToEntries mode es ++ cat (roomWith (placedIn es) X l) (range 0 256) ++ backWords l (backSizeOf mode es) ++ tail)
         (sym (placed-more qs e))
 
     pub half-places : Places (entriesEnd es) (placedIn es) (placedIn (qs ++ e ∷ []))

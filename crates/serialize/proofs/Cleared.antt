@@ -8,10 +8,10 @@ use lib.ListN.{length, take, drop, replicate, length-append, length-drop, length
 use lib.Seq.{sets, sets-eq, take-add, drop-drop}
 use lib.Dec.{eqb}
 use Rattle.image.specs.Bytes.{cat}
-use Rattle.image.specs.Image.{Entry, headSize, entryBytes, placed, flagWord, backIn, backSize, backSizeOf, entriesEnd, imageSize, backOffset, headBytes, headWords, tableRows, links}
+use Rattle.image.specs.Image.{Entry, headSize, entryBytes, placed, flagWord, backIn, backSize, backSizeOf, entriesEnd, imageSize, backOffset, headBytes, headWords, tableRows, backWords}
 use Rattle.image.specs.declared.Mode.{Mode}
 use Rattle.image.specs.declared.Mode.the-variants.{Twoway, Oneway}
-use Rattle.image.proofs.Sizes.{length-placed, length-headWords, length-tableRows, length-links, backIn-twice}
+use Rattle.image.proofs.Sizes.{length-placed, length-headWords, length-tableRows, length-backWords, backIn-twice}
 use Rattle.image.proofs.Stores.{sets-then, sets-right-at}
 use Rattle.image.proofs.Parts.{placedIn}
 use Rattle.serialize.specs.Record.{finishedOf}
@@ -92,7 +92,7 @@ module _ (mode : Mode) (end entries back : ℕ) (counts buf : List ℕ) (es : Li
   rows-told : rowsFrom counts end 0 256 ≡ tableRows (entriesEnd es) (placedIn es)
   rows-told = ap (λ (o : ℕ). rowsFrom counts o 0 256) (tells .ends) ∙ rows-image counts (entriesEnd es) (placedIn es) (tells .tallies)
 
-  zeros-told : replicate (size - end) 0 ≡ tablesWith (placedIn es) [] ++ links [] (backSizeOf mode es)
+  zeros-told : replicate (size - end) 0 ≡ tablesWith (placedIn es) [] ++ backWords [] (backSizeOf mode es)
   zeros-told =
       zeros-both (placedIn es) (backSizeOf mode es) (size - end)
       (omega (arith, told-back, tells .number, length-placed headSize es))
@@ -118,17 +118,17 @@ module _ (mode : Mode) (end entries back : ℕ) (counts buf : List ℕ) (es : Li
   cleared-partial =
       behind-stored (replicate (size - end) 0) size (length-replicate (size - end) 0) (omega arith) (omega arith)
       ∙ ap (λ (l : List ℕ). upToEntries mode es ++ l ++ drop size buf) zeros-told
-      ∙ ap (λ (l : List ℕ). l ++ drop size buf) (sym (append-assoc (upToEntries mode es) (tablesWith (placedIn es) []) (links [] (backSizeOf mode es))))
+      ∙ ap (λ (l : List ℕ). l ++ drop size buf) (sym (append-assoc (upToEntries mode es) (tablesWith (placedIn es) []) (backWords [] (backSizeOf mode es))))
 
   -- the back array alone cleared: what stands in the tables' rooms is whatever stood there
-  zeros-back : replicate (size - (end + 16 * entries)) 0 ≡ links [] (backSizeOf mode es)
+  zeros-back : replicate (size - (end + 16 * entries)) 0 ≡ backWords [] (backSizeOf mode es)
   zeros-back =
       let n = backSizeOf mode es in
-      let long : size - (end + 16 * entries) ≡ length (links [] n) = omega (arith, told-back, length-links [] n) in
+      let long : size - (end + 16 * entries) ≡ length (backWords [] n) = omega (arith, told-back, length-backWords [] n) in
       ap (λ (k : ℕ). replicate k 0) long ∙ sym (zeros-links n)
 
   pub back-cleared : zeroed (headed mode end entries back counts buf) (end + 16 * entries) size
-      ≡ upToEntries mode es ++ between buf end (end + 16 * entries) ++ links [] (backSizeOf mode es) ++ drop size buf
+      ≡ upToEntries mode es ++ between buf end (end + 16 * entries) ++ backWords [] (backSizeOf mode es) ++ drop size buf
   unfolding headed zeroed upToEntries
   back-cleared =
       let h = headBytes size (flagWord mode) (backIn mode back) (linksAt mode end entries back) in

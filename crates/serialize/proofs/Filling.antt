@@ -11,14 +11,14 @@ use lib.Seq.{sets, sets-eq, length-sets, length-take-le, getD-set-same, getD-set
 use lib.Dec.{leb}
 use borrow.Author.Tests.{le-leb, lt-leb, leb-true}
 use Rattle.image.specs.Bytes.{word, le32, cat}
-use Rattle.image.specs.Tables.{Bucket, empty, start, order, firstEmpty, atOf, insert, insertAll, filled}
+use Rattle.image.specs.Tables.{Bucket, empty, start, probeSequence, firstEmpty, atOf, insert, insertAll, filled}
 use Rattle.image.specs.Image.{bucketBytes}
-use Rattle.image.proofs.Bools.{first, second}
+use Rattle.image.proofs.Bools.{and-first, and-second}
 use Rattle.image.proofs.Lists.{length-cat}
 use Rattle.image.proofs.Sizes.{length-bucketBytes, length-filled, filled-more}
 use Rattle.image.proofs.Stores.{sets-whole, sets-part}
-use Rattle.image.proofs.Every.{All, all-append}
-use Rattle.image.proofs.Buckets.{filled-all, firstEmpty-alike}
+use Rattle.image.proofs.AllOfList.{All, all-append}
+use Rattle.image.proofs.Buckets.{filled-all, firstEmpty-ext}
 use Rattle.image.proofs.At.{At, at-whole, at-same, at-equal, at-left, at-right, at-word, at-second, at-part}
 use Rattle.serialize.specs.steps.Parting.{pairsAt, pairsListed, inserted, copied, withTable}
 use Rattle.serialize.proofs.Partial.{zeros-buckets}
@@ -105,16 +105,16 @@ module _ (buf T-buf : List ℕ) (T : List Bucket) (o n : ℕ) (long : length T �
       let B = sets buf o (cat bucketBytes T) in
       let s = start h n in
       let below : s < n = mod-lt (h / 256) some in
-      let j = firstEmpty (atOf T) (order n n s) in
+      let j = firstEmpty (atOf T) (probeSequence n n s) in
       let jn : j < n = firstEmpty-below (atOf T) n n s below in
       let b = pairOf h at in
       e
-      ∙ ap (λ (l : List ℕ). sets l (o + 8 * firstEmpty (λ (k : ℕ). word l (o + 8 * k + 4)) (order n n s)) (bucketBytes b)) is
-      ∙ ap (λ (k : ℕ). sets B (o + 8 * k) (bucketBytes b)) (firstEmpty-alike (λ (k : ℕ). word B (o + 8 * k + 4)) (atOf T) n seen n s below)
+      ∙ ap (λ (l : List ℕ). sets l (o + 8 * firstEmpty (λ (k : ℕ). word l (o + 8 * k + 4)) (probeSequence n n s)) (bucketBytes b)) is
+      ∙ ap (λ (k : ℕ). sets B (o + 8 * k) (bucketBytes b)) (firstEmpty-ext (λ (k : ℕ). word B (o + 8 * k + 4)) (atOf T) n seen n s below)
       ∙ sets-within buf (cat bucketBytes T) (bucketBytes b) o (8 * j) (o + 8 * j) refl (omega (arith, size, length-bucketBytes b)) (omega (arith, size))
       ∙ ap (sets buf o) (sets-part bucketBytes 8 length-bucketBytes T j b (rw long jn))
 
-pub inserted-at : (buf buf′ : List ℕ) (o n h at k : ℕ) → k ≡ firstEmpty (λ (i : ℕ). word buf (o + 8 * i + 4)) (order n n (h / 256 % n))
+pub inserted-at : (buf buf′ : List ℕ) (o n h at k : ℕ) → k ≡ firstEmpty (λ (i : ℕ). word buf (o + 8 * i + 4)) (probeSequence n n (h / 256 % n))
     → buf′ ≡ sets buf (o + 8 * k) (le32 h ++ le32 at) → buf′ ≡ inserted buf o n h at
 unfolding inserted
 inserted-at buf buf′ o n h at k e p = p ∙ ap (λ (i : ℕ). sets buf (o + 8 * i) (le32 h ++ le32 at)) e
@@ -209,7 +209,7 @@ module _ (buf : List ℕ) (o c : ℕ) where
   pub copied-room : copied buf o c ≡ true → (o + 16 * c ≤ length buf) × (c ≤ 4608)
   copied-room h =
       let a : Bool = leb (o + 16 * c) (length buf) in
-      (leb-true (o + 16 * c) (length buf) (first a (leb c 4608) h), leb-true c 4608 (second a (leb c 4608) h))
+      (leb-true (o + 16 * c) (length buf) (and-first a (leb c 4608) h), leb-true c 4608 (and-second a (leb c 4608) h))
 
   pub table-none : copied buf o c ≡ false → buf ≡ withTable buf o c
   unfolding withTable

@@ -9,7 +9,7 @@ use lib.Dec.{eqb}
 use borrow.Author.Tests.{eqb-true}
 use Rattle.image.specs.Bytes.{le32, cat, range}
 use Rattle.image.specs.Image.{Entry, Placed, headSize, placed, count, entriesBefore, tableOffset, tableRow, tableRows}
-use Rattle.image.proofs.All.{all-each}
+use Rattle.image.proofs.AllOfRange.{all-each}
 use Rattle.image.proofs.Sizes.{before-suc}
 use Rattle.serialize.specs.Record.{countsAgree}
 use Rattle.serialize.specs.steps.Written.{rowsFrom}

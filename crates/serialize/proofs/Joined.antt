@@ -9,8 +9,8 @@ use lib.ListN.{getD}
 use lib.Dec.{leb}
 use lib.Bits.{bitOr}
 use borrow.Author.Tests.{le-leb}
-use Rattle.image.proofs.All.{all-true}
-use Rattle.image.proofs.Joins.{le-or-l, le-or-r}
+use Rattle.image.proofs.AllOfRange.{all-true}
+use Rattle.image.proofs.BitOr.{le-or-l, le-or-r}
 use Rattle.serialize.specs.Record.{noneAbove}
 
 module _ (counts : List ℕ) where

@@ -10,11 +10,11 @@ use lib.Seq.{sets}
 use lib.Dec.{eqb, lit<}
 use borrow.Author.Tests.{eq-eqb, ne-eqb}
 use Rattle.jhash.specs.NameHash.{hashOf}
-use Rattle.image.specs.Bytes.{le32, cat, keep, range}
-use Rattle.image.specs.Tables.{tableOf, start, next, order, firstEmpty, atOf, insert, filled}
-use Rattle.image.specs.Image.{Placed, inTable, ofTable, count, bucketOf, bucketBytes, entriesBefore, hasId, placedOfId, lastFrom, link, links}
+use Rattle.image.specs.Bytes.{le32, cat, filter, range}
+use Rattle.image.specs.Tables.{tableOf, start, next, probeSequence, firstEmpty, atOf, insert, filled}
+use Rattle.image.specs.Image.{Placed, inTable, ofTable, count, bucketOf, bucketBytes, entriesBefore, hasId, placedOfId, lastFrom, backWord, backWords}
 use Rattle.image.proofs.Words.{length-le32}
-use Rattle.image.proofs.Lists.{length-cat, keep-yes, keep-no, keep-append, length-range}
+use Rattle.image.proofs.Lists.{length-cat, filter-yes, filter-no, filter-append, length-range}
 use Rattle.image.proofs.Sizes.{ofTable-append, filled-more, length-bucketBytes}
 use Rattle.image.proofs.Stores.{sets-part, sets-run}
 use Rattle.image.proofs.Parts.{bucketsOf, length-tablesOf-to}
@@ -23,12 +23,12 @@ use Rattle.serialize.proofs.Partial.{tableWith, tablesWith, length-tabl
 -- ---- the first empty bucket of a search
 
 -- it is one of the buckets
-pub firstEmpty-below : (f : ℕ → ℕ) (n m k : ℕ) → k < n → firstEmpty f (order n m k) < n
-unfolding firstEmpty order
+pub firstEmpty-below : (f : ℕ → ℕ) (n m k : ℕ) → k < n → firstEmpty f (probeSequence n m k) < n
+unfolding firstEmpty probeSequence
 firstEmpty-below f n zero k h = omega arith
 firstEmpty-below f n (suc m) k h = go (eqb (f k) 0) (firstEmpty-below f n m (next n k) (mod-lt (k + 1) (omega arith)))
   where
-    go : (b : Bool) → firstEmpty f (order n m (next n k)) < n → cond b k (firstEmpty f (order n m (next n k))) < n
+    go : (b : Bool) → firstEmpty f (probeSequence n m (next n k)) < n → cond b k (firstEmpty f (probeSequence n m (next n k))) < n
     go true i = h
     go false i = i
 
@@ -41,7 +41,7 @@ ownTable p = tableOf (hashOf (p .entry .name))
 unfoldable pub place : List Placed → List Placed → Placed → ℕ
 place ps rs p =
     let n = 2 * count (ownTable p) ps in
-    firstEmpty (atOf (tableWith ps rs (ownTable p))) (order n n (start (hashOf (p .entry .name)) n))
+    firstEmpty (atOf (tableWith ps rs (ownTable p))) (probeSequence n n (start (hashOf (p .entry .name)) n))
 
 module _ (ps rs : List Placed) (p : Placed) where
   own : ℕ
@@ -55,13 +55,13 @@ module _ (ps rs : List Placed) (p : Placed) where
   table-other t h =
       let no : inTable t p ≡ false = ne-eqb (tableOf (hashOf (p .entry .name))) t (λ z. h (sym z)) in
       sym (ap (λ (l : List Placed). filled (2 * count t ps) (map bucketOf l))
-      (one-more t [] (keep-no (inTable t) p [] no) ∙ append-nil (ofTable t rs)))
+      (one-more t [] (filter-no (inTable t) p [] no) ∙ append-nil (ofTable t rs)))
 
   table-own : tableWith ps (rs ++ p ∷ []) own ≡ insert (2 * count own ps) (tableWith ps rs own) (bucketOf p)
   unfolding tableWith ofTable own
   table-own =
       let yes : inTable own p ≡ true = eq-eqb own own refl in
-      ap (λ (l : List Placed). filled (2 * count own ps) (map bucketOf l)) (one-more own (p ∷ []) (keep-yes (inTable own) p [] yes))
+      ap (λ (l : List Placed). filled (2 * count own ps) (map bucketOf l)) (one-more own (p ∷ []) (filter-yes (inTable own) p [] yes))
       ∙ ap (filled (2 * count own ps)) (map-append bucketOf (ofTable own rs) (p ∷ []))
       ∙ filled-more (2 * count own ps) (map bucketOf (ofTable own rs)) (bucketOf p)
 
@@ -111,26 +111,26 @@ last-more o (q ∷ ps) p = last-more (q .at) ps p
 module _ (rs : List Placed) (p : Placed) where
   id-more : (i : ℕ) (k : List Placed) → placedOfId i (p ∷ []) ≡ k → placedOfId i (rs ++ p ∷ []) ≡ placedOfId i rs ++ k
   unfolding placedOfId
-  id-more i k e = keep-append (λ (q : Placed). hasId i (q .entry)) rs (p ∷ []) ∙ ap (λ (l : List Placed). placedOfId i rs ++ l) e
+  id-more i k e = filter-append (λ (q : Placed). hasId i (q .entry)) rs (p ∷ []) ∙ ap (λ (l : List Placed). placedOfId i rs ++ l) e
 
-  link-other : (i : ℕ) → (i ≡ p .entry .id → ⊥) → link rs i ≡ link (rs ++ p ∷ []) i
-  unfolding link placedOfId keep
+  link-other : (i : ℕ) → (i ≡ p .entry .id → ⊥) → backWord rs i ≡ backWord (rs ++ p ∷ []) i
+  unfolding backWord placedOfId filter
   link-other i h =
       let no : hasId i (p .entry) ≡ false = ne-eqb (p .entry .id) i (λ z. h (sym z)) in
-      sym (ap (lastFrom 0) (id-more i [] (keep-no (λ (q : Placed). hasId i (q .entry)) p [] no) ∙ append-nil (placedOfId i rs)))
+      sym (ap (lastFrom 0) (id-more i [] (filter-no (λ (q : Placed). hasId i (q .entry)) p [] no) ∙ append-nil (placedOfId i rs)))
 
-  link-own : link (rs ++ p ∷ []) (p .entry .id) ≡ p .at
-  unfolding link placedOfId keep
+  link-own : backWord (rs ++ p ∷ []) (p .entry .id) ≡ p .at
+  unfolding backWord placedOfId filter
   link-own =
       let i = p .entry .id in
-      ap (lastFrom 0) (id-more i (p ∷ []) (keep-yes (λ (q : Placed). hasId i (q .entry)) p [] (eq-eqb i i refl))) ∙ last-more 0 (placedOfId i rs) p
+      ap (lastFrom 0) (id-more i (p ∷ []) (filter-yes (λ (q : Placed). hasId i (q .entry)) p [] (eq-eqb i i refl))) ∙ last-more 0 (placedOfId i rs) p
 
-  pub links-more : (n : ℕ) → p .entry .id < n → sets (links rs n) (4 * p .entry .id) (le32 (p .at)) ≡ links (rs ++ p ∷ []) n
-  unfolding links
+  pub links-more : (n : ℕ) → p .entry .id < n → sets (backWords rs n) (4 * p .entry .id) (le32 (p .at)) ≡ backWords (rs ++ p ∷ []) n
+  unfolding backWords
   links-more n h =
       let i = p .entry .id in
-      sets-run (λ (j : ℕ). le32 (link rs j)) (λ (j : ℕ). le32 (link (rs ++ p ∷ []) j)) (le32 (p .at)) n i 0 (4 * i) h
-      (omega (arith, length-cat (λ (j : ℕ). le32 (link rs j)) 4 (λ j. length-le32 (link rs j)) (range 0 i), length-range 0 i))
-      (omega (arith, length-le32 (p .at), length-le32 (link rs i)))
-      (over (link rs i) (p .at) ∙ ap le32 (sym link-own))
+      sets-run (λ (j : ℕ). le32 (backWord rs j)) (λ (j : ℕ). le32 (backWord (rs ++ p ∷ []) j)) (le32 (p .at)) n i 0 (4 * i) h
+      (omega (arith, length-cat (λ (j : ℕ). le32 (backWord rs j)) 4 (λ j. length-le32 (backWord rs j)) (range 0 i), length-range 0 i))
+      (omega (arith, length-le32 (p .at), length-le32 (backWord rs i)))
+      (over (backWord rs i) (p .at) ∙ ap le32 (sym link-own))
       (λ j k. ap le32 (link-other j k))

@@ -5,13 +5,13 @@ use native.Mathlib.Omega.{arith}
 use mathlib.Core.Path.{_≡_, refl, sym, ap, ap₂, _∙_}
 use mathlib.Core.List.{List, [], _∷_, _++_, map}
 use lib.ListN.{length, replicate, length-append, replicate-append-replicate}
-use Rattle.image.specs.Bytes.{le32, cat, keep, range}
+use Rattle.image.specs.Bytes.{le32, cat, filter, range}
 use Rattle.image.specs.Tables.{Bucket, empty, filled, insertAll}
 use Rattle.image.specs.Image.{Entry, Placed, headSize, entryBytes, entriesSize, ofTable, count, bucketOf, bucketBytes, table, tableBytes, tables}
-use Rattle.image.specs.Image.{tableRows, placedOfId, lastFrom, link, links, backSizeOf, entriesEnd, headWords, image}
+use Rattle.image.specs.Image.{tableRows, placedOfId, lastFrom, backWord, backWords, backSizeOf, entriesEnd, headWords, image}
 use Rattle.image.specs.declared.Mode.{Mode}
 use Rattle.image.proofs.Lists.{cat-append}
-use Rattle.image.proofs.Sizes.{length-entries, length-filled, length-headWords, length-tableRows, length-links}
+use Rattle.image.proofs.Sizes.{length-entries, length-filled, length-headWords, length-tableRows, length-backWords}
 use Rattle.image.proofs.At.{At, at-same, at-equal, at-right}
 use Rattle.image.proofs.Parts.{placedIn, five-2, five-3, five-4, bucketsOf, length-tablesOf}
 
@@ -43,7 +43,7 @@ length-upToEntries mode es =
 -- the image of the entries es whose tables and back array have taken the entries qs
 unfoldable pub partial : Mode → List Entry → List Entry → List ℕ
 unfolding upToEntries
-partial mode es qs = upToEntries mode es ++ tablesWith (placedIn es) (placedIn qs) ++ links (placedIn qs) (backSizeOf mode es)
+partial mode es qs = upToEntries mode es ++ tablesWith (placedIn es) (placedIn qs) ++ backWords (placedIn qs) (backSizeOf mode es)
 
 -- ---- where its parts stand, whatever follows it
 
@@ -64,7 +64,7 @@ module _ (mode : Mode) (es qs : List Entry) (tail : List ℕ) where
   T = tablesWith (placedIn es) (placedIn qs)
 
   L : List ℕ
-  L = links (placedIn qs) (backSizeOf mode es)
+  L = backWords (placedIn qs) (backSizeOf mode es)
 
   whole : At B 0 (H ++ R ++ E ++ T ++ L)
   unfolding B H R E T L partial upToEntries
@@ -127,16 +127,16 @@ zeros-buckets zero = refl
 zeros-buckets (suc n) = zeros-append (bucketBytes empty) (cat bucketBytes (replicate n empty)) refl (zeros-buckets n)
 
 zeros-tables : (ps : List Placed) → Zeros (tablesWith ps [])
-unfolding tablesWith tableWith ofTable keep filled insertAll
+unfolding tablesWith tableWith ofTable filter filled insertAll
 zeros-tables ps = zeros-cat (bucketsOf (tableWith ps [])) (λ t. zeros-buckets (2 * count t ps)) (range 0 256)
 
-pub zeros-links : (n : ℕ) → Zeros (links [] n)
-unfolding links link placedOfId keep lastFrom le32
-zeros-links n = zeros-cat (λ (i : ℕ). le32 (link [] i)) (λ i. refl) (range 0 n)
+pub zeros-links : (n : ℕ) → Zeros (backWords [] n)
+unfolding backWords backWord placedOfId filter lastFrom le32
+zeros-links n = zeros-cat (λ (i : ℕ). le32 (backWord [] i)) (λ i. refl) (range 0 n)
 
-pub zeros-both : (ps : List Placed) (n m : ℕ) → m ≡ 16 * length ps + 4 * n → replicate m 0 ≡ tablesWith ps [] ++ links [] n
+pub zeros-both : (ps : List Placed) (n m : ℕ) → m ≡ 16 * length ps + 4 * n → replicate m 0 ≡ tablesWith ps [] ++ backWords [] n
 zeros-both ps n m e =
     let T = tablesWith ps [] in
-    let L = links [] n in
-    let size : m ≡ length (T ++ L) = omega (arith, length-append T L, length-tablesWith ps [], length-links [] n) in
+    let L = backWords [] n in
+    let size : m ≡ length (T ++ L) = omega (arith, length-append T L, length-tablesWith ps [], length-backWords [] n) in
     ap (λ (k : ℕ). replicate k 0) size ∙ sym (zeros-append T L (zeros-tables ps) (zeros-links n))

@@ -7,15 +7,15 @@ use mathlib.Core.List.{List, [], _∷_, _++_, map, map-append, append-nil, appen
 use lib.ListN.{length, getD, take, drop, length-append, length-drop, length-map}
 use lib.Seq.{sets, sets-eq, take-add, take-all, take-suc, length-take-le, drop-drop}
 use borrow.Author.Tests.{eq-eqb, ne-eqb}
-use Rattle.image.specs.Bytes.{word, le32, cat, keep, range}
+use Rattle.image.specs.Bytes.{word, le32, cat, filter, range}
 use Rattle.image.specs.Tables.{Bucket, empty}
 use Rattle.image.specs.Image.{Placed, inTable, ofTable, count, bucketOf, bucketBytes, entriesBefore}
-use Rattle.image.proofs.Lists.{cat-append, cat-ext, length-cat, keep-yes, keep-no, range-at, run-more}
+use Rattle.image.proofs.Lists.{cat-append, cat-ext, length-cat, filter-yes, filter-no, range-at, run-more}
 use Rattle.image.proofs.Sizes.{ofTable-append, length-bucketBytes, before-all}
 use Rattle.image.proofs.Stores.{sets-right-at, sets-run}
 use Rattle.image.proofs.Parts.{before-most}
 use Rattle.image.proofs.At.{At, at-same, at-equal, at-left, at-after, at-part, at-word, at-second}
-use Rattle.image.proofs.Every.{All}
+use Rattle.image.proofs.AllOfList.{All}
 use Rattle.serialize.specs.steps.Parting.{pairsAt}
 use Rattle.serialize.proofs.OneMore.{ownTable}
 
@@ -86,7 +86,7 @@ length-pairsOf rs t =
     length-cat bucketBytes 8 length-bucketBytes (map bucketOf (ofTable t rs)) ∙ ap (λ (n : ℕ). 8 * n) (length-map (ofTable t rs) bucketOf)
 
 pub rooms-none : (ps : List Placed) (X : List ℕ) → length X ≡ 16 * length ps → cat (roomWith ps X []) (range 0 256) ≡ X
-unfolding roomWith pairsOf ofTable keep cat
+unfolding roomWith pairsOf ofTable filter cat
 rooms-none ps X h = cat-ext (roomWith ps X []) (room ps X) (λ t. refl) (range 0 256) ∙ rooms-all ps X h
 
 module _ (ps : List Placed) (X : List ℕ) (long : length X ≡ 16 * length ps) (rs : List Placed) where
@@ -108,16 +108,16 @@ module _ (ps : List Placed) (X : List ℕ) (long : length X ≡ 16 * length ps) 
 
   module _ (p : Placed) where
     ofTable-own : ofTable (ownTable p) (rs ++ p ∷ []) ≡ ofTable (ownTable p) rs ++ p ∷ []
-    unfolding ofTable keep
+    unfolding ofTable filter
     ofTable-own =
         ofTable-append (ownTable p) rs (p ∷ [])
-        ∙ ap (λ (l : List Placed). ofTable (ownTable p) rs ++ l) (keep-yes (inTable (ownTable p)) p [] (eq-eqb (ownTable p) (ownTable p) refl))
+        ∙ ap (λ (l : List Placed). ofTable (ownTable p) rs ++ l) (filter-yes (inTable (ownTable p)) p [] (eq-eqb (ownTable p) (ownTable p) refl))
 
     ofTable-other : (t : ℕ) → (t ≡ ownTable p → ⊥) → ofTable t (rs ++ p ∷ []) ≡ ofTable t rs
-    unfolding ofTable keep
+    unfolding ofTable filter
     ofTable-other t h =
         ofTable-append t rs (p ∷ [])
-        ∙ ap (λ (l : List Placed). ofTable t rs ++ l) (keep-no (inTable t) p [] (ne-eqb (ownTable p) t (λ z. h (sym z))))
+        ∙ ap (λ (l : List Placed). ofTable t rs ++ l) (filter-no (inTable t) p [] (ne-eqb (ownTable p) t (λ z. h (sym z))))
         ∙ append-nil (ofTable t rs)
 
     pub count-own : count (ownTable p) (rs ++ p ∷ []) ≡ count (ownTable p) rs + 1

@@ -13,14 +13,14 @@ use Rattle.jhash.proofs.Outcomes.{hashOf-below}
 use Rattle.image.specs.Bytes.{cat, range}
 use Rattle.image.specs.Tables.{Bucket, filled}
 use Rattle.image.specs.Image.{Entry, Placed, headSize, entriesSize, placed, inTable, ofTable, count, bucketOf, bucketBytes, table, tableBytes, tables}
-use Rattle.image.specs.Image.{entriesBefore, links, backSizeOf, backOffset, entriesEnd, imageSize, image}
+use Rattle.image.specs.Image.{entriesBefore, backWords, backSizeOf, backOffset, entriesEnd, imageSize, image}
 use Rattle.image.specs.declared.Mode.{Mode}
-use Rattle.image.proofs.All.{all-each}
-use Rattle.image.proofs.Bools.{both}
+use Rattle.image.proofs.AllOfRange.{all-each}
+use Rattle.image.proofs.Bools.{and-both}
 use Rattle.image.proofs.Lists.{cat-ext, cat-run}
 use Rattle.image.proofs.Sizes.{length-placed, length-tableBytes, before-suc}
 use Rattle.image.proofs.Stores.{sets-whole}
-use Rattle.image.proofs.Every.{All, all-keep, all-image}
+use Rattle.image.proofs.AllOfList.{All, all-filter, all-image}
 use Rattle.image.proofs.At.{At, at-same, at-equal, at-left, at-right}
 use Rattle.image.proofs.Parts.{placedIn, before-most}
 use Rattle.serialize.specs.Record.{noneAbove}
@@ -37,22 +37,22 @@ filling ps X t i = cond (ltb i t) (tableBytes ps i) (roomWith ps X ps i)
 
 unfoldable pub filledTo : Mode → List Entry → List ℕ → ℕ → List ℕ → List ℕ
 filledTo mode es X t tail =
-    upToEntries mode es ++ cat (filling (placedIn es) X t) (range 0 256) ++ links (placedIn es) (backSizeOf mode es) ++ tail
+    upToEntries mode es ++ cat (filling (placedIn es) X t) (range 0 256) ++ backWords (placedIn es) (backSizeOf mode es) ++ tail
 
 module _ (mode : Mode) (es : List Entry) (X tail : List ℕ) (long : length X ≡ 16 * length (placedIn es)) where
   pub filled-first : halfway mode es X es tail ≡ filledTo mode es X 0 tail
   unfolding halfway filledTo filling
   filled-first =
       let ps = placedIn es in
-      ap (λ (l : List ℕ). upToEntries mode es ++ l ++ links ps (backSizeOf mode es) ++ tail)
+      ap (λ (l : List ℕ). upToEntries mode es ++ l ++ backWords ps (backSizeOf mode es) ++ tail)
       (cat-ext (roomWith ps X ps) (filling ps X 0)
       (λ i. sym (ap (λ (b : Bool). cond b (tableBytes ps i) (roomWith ps X ps i)) (le-ltb i 0 (omega arith)))) (range 0 256))
 
-  pub filled-last : filledTo mode es X 256 tail ≡ upToEntries mode es ++ tables (placedIn es) ++ links (placedIn es) (backSizeOf mode es) ++ tail
+  pub filled-last : filledTo mode es X 256 tail ≡ upToEntries mode es ++ tables (placedIn es) ++ backWords (placedIn es) (backSizeOf mode es) ++ tail
   unfolding filledTo filling tables
   filled-last =
       let ps = placedIn es in
-      ap (λ (l : List ℕ). upToEntries mode es ++ l ++ links ps (backSizeOf mode es) ++ tail)
+      ap (λ (l : List ℕ). upToEntries mode es ++ l ++ backWords ps (backSizeOf mode es) ++ tail)
       (cat-run (filling ps X 256) (tableBytes ps) 0 256
       (λ i h. ap (λ (b : Bool). cond b (tableBytes ps (0 + i)) (roomWith ps X ps (0 + i))) (lt-ltb (0 + i) 256 (omega arith))))
 
@@ -90,7 +90,7 @@ module _ (mode : Mode) (es : List Entry) (X tail : List ℕ) (long : length X �
     pairs-there =
         let U = upToEntries mode es in
         let R = cat (filling (placedIn es) X t) (range 0 256) in
-        let L = links (placedIn es) (backSizeOf mode es) in
+        let L = backWords (placedIn es) (backSizeOf mode es) in
         let n : 0 + length U ≡ entriesEnd es = omega (arith, length-upToEntries mode es) in
         let start : At (U ++ R ++ L ++ tail) 0 (U ++ R ++ L) = record { post = tail; stands = refl } in
         at-left (pairsOf (placedIn es) t) _
@@ -101,7 +101,7 @@ module _ (mode : Mode) (es : List Entry) (X tail : List ℕ) (long : length X �
     unfolding bs ps ofTable
     words =
         all-image Words bucketOf (λ q h. (hashOf-below (q .entry .name), omega arith)) (ofTable t (placedIn es))
-        (all-keep (λ (q : Placed). q .at ≤ entriesEnd es) (inTable t) (placedIn es) (offsets headSize (entriesEnd es) es (omega arith)))
+        (all-filter (λ (q : Placed). q .at ≤ entriesEnd es) (inTable t) (placedIn es) (offsets headSize (entriesEnd es) es (omega arith)))
 
     pairs-read-there : pairsAt B o (count t ps) ≡ bs
     unfolding bs
@@ -137,7 +137,7 @@ module _ (mode : Mode) (es : List Entry) (X tail : List ℕ) (long : length X �
     table-turn few =
         let U = upToEntries mode es in
         let R = cat (filling (placedIn es) X t) (range 0 256) in
-        let L = links (placedIn es) (backSizeOf mode es) in
+        let L = backWords (placedIn es) (backSizeOf mode es) in
         let c = count t (placedIn es) in
         let v = tableBytes (placedIn es) t in
         let j = 16 * entriesBefore t (placedIn es) in
@@ -147,7 +147,7 @@ module _ (mode : Mode) (es : List Entry) (X tail : List ℕ) (long : length X �
         omega (arith, length-append (U ++ R ++ L) tail, length-append (U ++ R) L) in
         let most = before-most (placedIn es) t below in
         let yes : copied B o c ≡ true =
-        both (leb (o + 16 * c) (length B)) (leb c 4608) (le-leb (o + 16 * c) (length B) (omega (arith, length-placed headSize es))) (le-leb c 4608 few) in
+        and-both (leb (o + 16 * c) (length B)) (leb c 4608) (le-leb (o + 16 * c) (length B) (omega (arith, length-placed headSize es))) (le-leb c 4608 few) in
         ap (λ (b : Bool). cond b (sets B o (cat bucketBytes (filled (2 * c) (pairsAt B o c)))) B) yes
         ∙ ap (λ (l : List Bucket). sets B o (cat bucketBytes (filled (2 * c) l))) pairs-read-there
         ∙ ap (λ (l : List ℕ). sets l o v) (append-assoc (U ++ R) L tail)
@@ -187,12 +187,12 @@ counts-few counts ps most h tallies t k =
 
 pub by-tables-image : (mode : Mode) (es : List Entry) (X tail counts : List ℕ) → length X ≡ 16 * length (placedIn es) → imageSize mode es ≤ 4294967295
     → All (λ (x : Entry). x .id < 2 ^ 32) es → Counts counts (placedIn es) → ((t : ℕ) → t < 256 → count t (placedIn es) ≤ 4608)
-    → byTables mode (backOffset mode es) (entriesEnd es) (length es) counts (upToEntries mode es ++ X ++ links [] (backSizeOf mode es) ++ tail)
+    → byTables mode (backOffset mode es) (entriesEnd es) (length es) counts (upToEntries mode es ++ X ++ backWords [] (backSizeOf mode es) ++ tail)
     ≡ image mode es ++ tail
 unfolding byTables halfway placed entriesSize entriesBefore image upToEntries
 by-tables-image mode es X tail counts long fits ids tallies few =
     let U = upToEntries mode es in
-    let L = links [] (backSizeOf mode es) in
+    let L = backWords [] (backSizeOf mode es) in
     let end = entriesEnd es in
     let o = backOffset mode es in
     let places = sets (replicate 256 0) 0 (roomsFrom counts end 0 256) in

@@ -11,17 +11,17 @@ use lib.Dec.{eqb, lit<}
 use borrow.Author.Tests.{eq-eqb, ne-eqb}
 use Rattle.jhash.specs.NameHash.{hashOf}
 use Rattle.image.specs.Bytes.{word, le32, cat, range}
-use Rattle.image.specs.Tables.{Bucket, empty, tableOf, start, order, firstEmpty, atOf}
+use Rattle.image.specs.Tables.{Bucket, empty, tableOf, start, probeSequence, firstEmpty, atOf}
 use Rattle.image.specs.Image.{Entry, Placed, headSize, entryBytes, entrySize, entriesSize, placed, inTable, ofTable, count, bucketOf, bucketBytes}
-use Rattle.image.specs.Image.{entriesBefore, tableOffset, backSize, links, backSizeOf, backOffset, entriesEnd, imageSize}
+use Rattle.image.specs.Image.{entriesBefore, tableOffset, backSize, backWords, backSizeOf, backOffset, entriesEnd, imageSize}
 use Rattle.image.specs.declared.Mode.{Mode}
 use Rattle.image.specs.declared.Mode.the-variants.{Twoway, Oneway}
 use Rattle.image.proofs.Words.{length-le32}
 use Rattle.image.proofs.Lists.{cat-cons}
-use Rattle.image.proofs.Sizes.{length-entries, length-entryBytes, entriesSize-append, length-placed, placed-append, count-append, count-cons, length-bucketBytes, length-links}
+use Rattle.image.proofs.Sizes.{length-entries, length-entryBytes, entriesSize-append, length-placed, placed-append, count-append, count-cons, length-bucketBytes, length-backWords}
 use Rattle.image.proofs.Stores.{sets-left, sets-right-at}
-use Rattle.image.proofs.Every.{All, all-middle, all-keep, all-image}
-use Rattle.image.proofs.Buckets.{filled-all, firstEmpty-alike}
+use Rattle.image.proofs.AllOfList.{All, all-middle, all-filter, all-image}
+use Rattle.image.proofs.Buckets.{filled-all, firstEmpty-ext}
 use Rattle.image.proofs.At.{At, at-equal, at-left, at-take, at-word, at-second}
 use Rattle.image.proofs.Parts.{placedIn, before-most, offset-word, number-word, bucket-of}
 use Rattle.image.proofs.EntryAt.{id-word, length-word, name-bytes, ids-below}
@@ -89,16 +89,16 @@ store-in a b c vs i j e h =
 -- the link of an entry, behind what stands before the back array
 pub linked : (mode : Mode) (es : List Entry) (rs : List Placed) (p : Placed) (front tail : List ℕ) → length front ≡ entriesEnd es + 16 * length es
     → p .entry .id < backSize es
-    → withLink mode (front ++ links rs (backSizeOf mode es) ++ tail) (backOffset mode es) (p .entry .id) (p .at)
-    ≡ front ++ links (rs ++ p ∷ []) (backSizeOf mode es) ++ tail
-unfolding backOffset links range cat
+    → withLink mode (front ++ backWords rs (backSizeOf mode es) ++ tail) (backOffset mode es) (p .entry .id) (p .at)
+    ≡ front ++ backWords (rs ++ p ∷ []) (backSizeOf mode es) ++ tail
+unfolding backOffset backWords range cat
 linked Twoway es rs p front tail n h =
     let i = p .entry .id in
     let size = backSize es in
-    ap (λ (b : Bool). sets (front ++ links rs size ++ tail) (cond b 0 (entriesEnd es + 16 * length es) + 4 * i) (le32 (p .at)))
+    ap (λ (b : Bool). sets (front ++ backWords rs size ++ tail) (cond b 0 (entriesEnd es + 16 * length es) + 4 * i) (le32 (p .at)))
     (ne-eqb size 0 (λ z. omega arith))
-    ∙ store-in front (links rs size) tail (le32 (p .at)) (entriesEnd es + 16 * length es + 4 * i) (4 * i) (omega arith)
-    (omega (arith, length-links rs size, length-le32 (p .at)))
+    ∙ store-in front (backWords rs size) tail (le32 (p .at)) (entriesEnd es + 16 * length es + 4 * i) (4 * i) (omega arith)
+    (omega (arith, length-backWords rs size, length-le32 (p .at)))
     ∙ ap (λ (l : List ℕ). front ++ l ++ tail) (links-more rs p size h)
 linked Oneway es rs p front tail n h = refl
 
@@ -221,7 +221,7 @@ module _ (mode : Mode) (es qs rest : List Entry) (e : Entry) (tail : List ℕ) (
   offset-small k =
       filled-all (λ (b : Bucket). b .at < 2 ^ 32) (2 * count u ps) (map bucketOf (ofTable u rs)) (omega arith)
       (all-image (λ (b : Bucket). b .at < 2 ^ 32) bucketOf (λ q h. omega (arith, sizes)) (ofTable u rs)
-      (all-keep (λ (q : Placed). q .at ≤ entriesEnd es) (inTable u) rs (offsets headSize (entriesEnd es) qs (omega (arith, sizes))))) k
+      (all-filter (λ (q : Placed). q .at ≤ entriesEnd es) (inTable u) rs (offsets headSize (entriesEnd es) qs (omega (arith, sizes))))) k
 
   bucket-there : (k : ℕ) → k < 2 * count u ps → word B (entriesEnd es + 16 * entriesBefore u ps + 8 * k + 4) ≡ atOf (tableWith ps rs u) k
   unfolding B ps rs bucketBytes tablesWith
@@ -238,10 +238,10 @@ module _ (mode : Mode) (es qs rest : List Entry) (e : Entry) (tail : List ℕ) (
       let o = entriesEnd es + 16 * entriesBefore u ps in
       let n = 2 * count u ps in
       let h = hashOf (e .name) in
-      ap (λ (k : ℕ). k + 8 * firstEmpty (λ (i : ℕ). word B (k + 8 * i + 4)) (order (word B (28 + 8 * u)) (word B (28 + 8 * u)) (start h (word B (28 + 8 * u))))) table-there
-      ∙ ap (λ (m : ℕ). o + 8 * firstEmpty (λ (i : ℕ). word B (o + 8 * i + 4)) (order m m (start h m))) number-there
+      ap (λ (k : ℕ). k + 8 * firstEmpty (λ (i : ℕ). word B (k + 8 * i + 4)) (probeSequence (word B (28 + 8 * u)) (word B (28 + 8 * u)) (start h (word B (28 + 8 * u))))) table-there
+      ∙ ap (λ (m : ℕ). o + 8 * firstEmpty (λ (i : ℕ). word B (o + 8 * i + 4)) (probeSequence m m (start h m))) number-there
       ∙ ap (λ (k : ℕ). o + 8 * k)
-      (firstEmpty-alike (λ (i : ℕ). word B (o + 8 * i + 4)) (atOf (tableWith ps rs u)) n bucket-there n (start h n)
+      (firstEmpty-ext (λ (i : ℕ). word B (o + 8 * i + 4)) (atOf (tableWith ps rs u)) n bucket-there n (start h n)
       (mod-lt (h / 256) (let s = some-there in omega arith)))
 
   -- ---- the buffer with its bucket, and with its link
@@ -249,7 +249,7 @@ module _ (mode : Mode) (es qs rest : List Entry) (e : Entry) (tail : List ℕ) (
   U : List ℕ
   U = upToEntries mode es
 
-  with-bucket : withBucket B (hashOf (e .name)) (headSize + entriesSize qs) ≡ U ++ tablesWith ps (rs ++ p ∷ []) ++ links rs (backSizeOf mode es) ++ tail
+  with-bucket : withBucket B (hashOf (e .name)) (headSize + entriesSize qs) ≡ U ++ tablesWith ps (rs ++ p ∷ []) ++ backWords rs (backSizeOf mode es) ++ tail
   unfolding withBucket bucketBytes partial B U ps rs u p
   with-bucket =
       let h = hashOf (e .name) in
@@ -264,9 +264,9 @@ module _ (mode : Mode) (es qs rest : List Entry) (e : Entry) (tail : List ℕ) (
           omega (arith, length-bucketBytes (bucketOf p), length-tablesWith ps rs, before-most ps u u-below, place-below ps rs p some-there)
 
       bucket-stored : sets B (entriesEnd es + 16 * entriesBefore u ps + 8 * place ps rs p) (bucketBytes (bucketOf p))
-          ≡ U ++ tablesWith ps (rs ++ p ∷ []) ++ links rs (backSizeOf mode es) ++ tail
+          ≡ U ++ tablesWith ps (rs ++ p ∷ []) ++ backWords rs (backSizeOf mode es) ++ tail
       bucket-stored =
-          let L = links rs (backSizeOf mode es) in
+          let L = backWords rs (backSizeOf mode es) in
           let o = entriesEnd es + 16 * entriesBefore u ps + 8 * place ps rs p in
           let j = 16 * entriesBefore u ps + 8 * place ps rs p in
           ap (λ (l : List ℕ). sets l o (bucketBytes (bucketOf p))) (append-assoc (U ++ tablesWith ps rs) L tail)
@@ -279,7 +279,7 @@ module _ (mode : Mode) (es qs rest : List Entry) (e : Entry) (tail : List ℕ) (
   unfolding entryTaken partial B ps rs p U
   turn =
       let at = headSize + entriesSize qs in
-      let L = links rs (backSizeOf mode es) in
+      let L = backWords rs (backSizeOf mode es) in
       let F = U ++ tablesWith ps (rs ++ p ∷ []) in
       let n : length F ≡ entriesEnd es + 16 * length es =
       length-append U (tablesWith ps (rs ++ p ∷ [])) ∙ sum (length U) (length (tablesWith ps (rs ++ p ∷ []))) (length-upToEntries mode es) (length-tablesWith ps (rs ++ p ∷ [])) in
@@ -287,7 +287,7 @@ module _ (mode : Mode) (es qs rest : List Entry) (e : Entry) (tail : List ℕ) (
       ∙ ap (λ (l : List ℕ). withLink mode l (backOffset mode es) (word B at) at) with-bucket
       ∙ ap (λ (i : ℕ). withLink mode (F ++ L ++ tail) (backOffset mode es) i at) (id-word e here id-small)
       ∙ linked mode es rs p F tail n id-below
-      ∙ ap (λ (l : List Placed). U ++ tablesWith ps l ++ links l (backSizeOf mode es) ++ tail) (sym (placed-more qs e))
+      ∙ ap (λ (l : List Placed). U ++ tablesWith ps l ++ backWords l (backSizeOf mode es) ++ tail) (sym (placed-more qs e))
     where
       sum : (a b : ℕ) → a ≡ entriesEnd es → b ≡ 16 * length (placedIn es) → a + b ≡ entriesEnd es + 16 * length es
       sum a b h k = omega (arith, length-placed headSize es)

@@ -9,15 +9,15 @@ use lib.Seq.{sets}
 use lib.Dec.{eqb, leb}
 use borrow.Author.Tests.{ne-eqb}
 use Rattle.image.specs.Bytes.{le32, cat}
-use Rattle.image.specs.Image.{Entry, headSize, entryBytes, entriesSize, tables, links, backSizeOf, backOffset, entriesEnd, imageSize, image}
+use Rattle.image.specs.Image.{Entry, headSize, entryBytes, entriesSize, tables, backWords, backSizeOf, backOffset, entriesEnd, imageSize, image}
 use Rattle.image.specs.declared.Mode.{Mode}
 use Rattle.image.proofs.Words.{length-le32}
 use Rattle.image.proofs.Lists.{length-cat}
 use Rattle.image.proofs.Sizes.{length-entries, length-placed}
 use Rattle.image.proofs.Between.{length-between}
 use Rattle.image.proofs.Parts.{placedIn}
-use Rattle.image.proofs.Bools.{second}
-use Rattle.image.proofs.Every.{All}
+use Rattle.image.proofs.Bools.{and-second}
+use Rattle.image.proofs.AllOfList.{All}
 use Rattle.serialize.specs.Finish.{standing, finishedBuffer}
 use Rattle.serialize.specs.Record.{finishedOf, noneAbove}
 use Rattle.serialize.specs.steps.Asked.{Standing, TablesAtHand, LinksStand}
@@ -25,7 +25,7 @@ use Rattle.image.specs.Stored.{whole, between}
 use Rattle.taking.specs.steps.Working.{entryTaken, takenFrom}
 use Rattle.serialize.specs.steps.Parting.{byTables}
 use Rattle.serialize.specs.steps.Written.{linksAt, headed, zeroed, parts, filledIn, written}
-use Rattle.image.proofs.Area.{Bytes, bytes-drop, bytes-take, length-entriesIn, whole-bytes, ids-words}
+use Rattle.image.proofs.EntryArea.{AllBytes, bytes-drop, bytes-take, length-entriesIn, whole-bytes, ids-words}
 use Rattle.serialize.proofs.HeadRows.{counts-agree}
 use Rattle.serialize.proofs.Partial.{upToEntries, partial, partial-all}
 use Rattle.serialize.proofs.Cleared.{Tells, told-back, told-size, told-links, cleared-partial, tables-stored, back-cleared}
@@ -59,8 +59,8 @@ module _ (mode : Mode) (es : List Entry) (tail : List ℕ) (small : imageSize mo
 -- ---- what is asked for before the image is written
 
 -- whole entries
-module _ (end entries : ℕ) (buf : List ℕ) (bytes : Bytes buf) (entire : whole entries (between buf headSize end) ≡ true) where
-  area-bytes : Bytes (between buf headSize end)
+module _ (end entries : ℕ) (buf : List ℕ) (bytes : AllBytes buf) (entire : whole entries (between buf headSize end) ≡ true) where
+  area-bytes : AllBytes (between buf headSize end)
   area-bytes = bytes-take (end - headSize) (drop headSize buf) (bytes-drop headSize buf bytes)
 
   -- the bytes of the entries are kept
@@ -81,7 +81,7 @@ module _ (end entries : ℕ) (buf : List ℕ) (bytes : Bytes buf) (entire : whol
       omega arith
 
 -- and the numbers that belong to them
-module _ (mode : Mode) (end entries back : ℕ) (counts buf : List ℕ) (bytes : Bytes buf) (asked : Standing mode end entries back counts buf) where
+module _ (mode : Mode) (end entries back : ℕ) (counts buf : List ℕ) (bytes : AllBytes buf) (asked : Standing mode end entries back counts buf) where
   es : List Entry
   es = standing buf end entries
 
@@ -130,7 +130,7 @@ module _ (mode : Mode) (end entries back : ℕ) (counts buf : List ℕ) (bytes :
   written-by-tables few =
       let tail = drop (finishedOf mode end entries back) buf in
       let X = between buf end (end + 16 * entries) in
-      let Z = upToEntries mode es ++ X ++ links [] (backSizeOf mode es) ++ tail in
+      let Z = upToEntries mode es ++ X ++ backWords [] (backSizeOf mode es) ++ tail in
       let long : length X ≡ 16 * length (placedIn es) =
       length-between buf end (end + 16 * entries) (omega arith) (omega (arith, asked .room))
       ∙ same end entries (sym in-number ∙ sym (length-placed headSize es)) in
@@ -140,7 +140,7 @@ module _ (mode : Mode) (end entries back : ℕ) (counts buf : List ℕ) (bytes :
       ∙ ap (λ (n : ℕ). byTables mode (backOffset mode es) (entriesEnd es) n counts Z) (sym in-number)
       ∙ by-tables-image mode es X tail counts long image-small
       (standing-ids end entries buf bytes (asked .entire)) (tells .tallies)
-      (counts-few counts (placedIn es) 4608 (second (leb 1024 entries) (noneAbove counts 4608) few) (tells .tallies))
+      (counts-few counts (placedIn es) 4608 (and-second (leb 1024 entries) (noneAbove counts 4608) few) (tells .tallies))
     where
       same : (a n : ℕ) {m : ℕ} → n ≡ m → a + 16 * n - a ≡ 16 * m
       same a n e = omega arith
@@ -170,4 +170,4 @@ module _ (mode : Mode) (end entries back : ℕ) (counts buf : List ℕ) (bytes :
       ∙ ap (λ (l : List ℕ). sets l end (cat le32 words)) front
       ∙ tables-stored mode end entries back counts buf es tells (cat le32 words) long
       ∙ ap₂ (λ (t l : List ℕ). U ++ t ++ l ++ tail) at-hand linked
-      ∙ ap (λ (n : ℕ). U ++ tables (placedIn es) ++ links (placedIn es) n ++ tail) (told-back mode end entries back counts buf es tells)
+      ∙ ap (λ (n : ℕ). U ++ tables (placedIn es) ++ backWords (placedIn es) n ++ tail) (told-back mode end entries back counts buf es tells)

@@ -7,7 +7,7 @@ ghost use Prim.Native.Nat.{ℕ, _+_, _*_, _<_, _≤_};
 ghost use lib.ListN.{length};
 ghost use lib.Seq.{sets};
 ghost use Rattle.image.specs.Bytes.{word, le32, cat};
-ghost use Rattle.image.specs.Tables.{order, firstEmpty, filled};
+ghost use Rattle.image.specs.Tables.{probeSequence, firstEmpty, filled};
 ghost use Rattle.image.specs.Image.{bucketBytes};
 ghost use Rattle.serialize.specs.steps.Written.{parts, filledIn};
 ghost use Rattle.serialize.specs.steps.Parting.{roomsFrom, withPair, moved, hashAt, parted, partedFrom, pairsAt, pairsListed, inserted, copied, withTable, tablesFrom, byTables};
@@ -116,7 +116,7 @@ fn part_entries(
 // that no read is tested, as in `first_empty`, which is asked of any place.
 fn empty_bucket(buf: &[u8], o: usize, n: usize, k: usize) -> usize
     requires { ⌜ (k < n) × (o + 8 * n ≤ length (now buf)) ⌝ }
-    ensures { λ r. ⌜ (r ≡ firstEmpty (λ (i : ℕ). word (now (buf .entry)) (o + 8 * i + 4)) (order n n k)) × (r < n) ⌝ }
+    ensures { λ r. ⌜ (r ≡ firstEmpty (λ (i : ℕ). word (now (buf .entry)) (o + 8 * i + 4)) (probeSequence n n k)) × (r < n) ⌝ }
 {
     let mut i = k;
     let mut left = n;

@@ -8,7 +8,7 @@ use borrow.Author.Tests.{lt-ltb, le-ltb}
 use lib.ListN.{length, take, drop, length-drop}
 use lib.Seq.{take-all}
 use Rattle.jhash.specs.Outcome.{value, refusal}
-use Rattle.reader.specs.Slices.{Slice, part}
+use Rattle.reader.specs.Slices.{Slice, subslice}
 use Rattle.sheet.specs.SheetReading.{partOf, partAt, readSheet, sectionOf, partOrNone, sectionPart, cutPart}
 use Rattle.sheet.specs.declared.Place.{Place}
 use Rattle.sheet.specs.declared.Sheet.{Sheet}
@@ -23,21 +23,21 @@ module _ (file : Slice) (p : Place) where
   size = length (file .bytes)
 
   abbrev by : Bool → Slice
-  by past = cond past (part file 0 0) (partAt file p)
+  by past = cond past (subslice file 0 0) (partAt file p)
 
-  pub part-past : size < p .start → part file 0 0 ≡ cutPart file p
+  pub part-past : size < p .start → subslice file 0 0 ≡ cutPart file p
   part-past h = ap by (sym (lt-ltb size (p .start) h))
 
   -- a place that starts in the file, or at its end
   pub part-inside : p .start ≤ size → partAt file p ≡ cutPart file p
   part-inside h = ap by (sym (le-ltb size (p .start) h))
 
-  pub part-whole : p .start ≤ size → part file (p .start) (p .start + 4 * p .count - p .start) ≡ cutPart file p
+  pub part-whole : p .start ≤ size → subslice file (p .start) (p .start + 4 * p .count - p .start) ≡ cutPart file p
   part-whole h =
       let e : p .start + 4 * p .count - p .start ≡ 4 * p .count = omega arith in
-      ap (part file (p .start)) e ∙ part-inside h
+      ap (subslice file (p .start)) e ∙ part-inside h
 
-  pub part-cut : p .start ≤ size → size - p .start < 4 * p .count → part file (p .start) (size - p .start) ≡ cutPart file p
+  pub part-cut : p .start ≤ size → size - p .start < 4 * p .count → subslice file (p .start) (size - p .start) ≡ cutPart file p
   part-cut h k =
       ap (λ (l : List ℕ). record { at = partAt file p .at; bytes = l }) same ∙ part-inside h
     where
@@ -64,5 +64,5 @@ module _ (file : Slice) (which : Which) where
   section-there s e =
       sym (part-inside file (sectionOf s which) (section-starts (file .bytes) which s e)) ∙ ap (partOrNone file which) (sym e)
 
-  pub no-section : (n : ℕ) → readSheet (file .bytes) ≡ refusal n → part file 0 0 ≡ sectionPart file which
+  pub no-section : (n : ℕ) → readSheet (file .bytes) ≡ refusal n → subslice file 0 0 ≡ sectionPart file which
   no-section n e = ap (partOrNone file which) (sym e)

@@ -5,24 +5,24 @@ use mathlib.Core.Path.{_≡_, sym, ap, _∙_}
 use mathlib.Core.Bool.{Bool, cond}
 use mathlib.Core.List.{List, _∷_}
 use borrow.Author.Tests.{eq-eqb, ne-eqb}
-use Rattle.image.specs.Tables.{next, order, firstEmpty}
-use Rattle.image.proofs.Buckets.{order-turn}
+use Rattle.image.specs.Tables.{next, probeSequence, firstEmpty}
+use Rattle.image.proofs.Buckets.{probeSequence-step}
 
-pub empty-here : (at : ℕ → ℕ) (n left i x : ℕ) → 0 < left → at i ≡ 0 → firstEmpty at (order n left i) ≡ x → i ≡ x
+pub empty-here : (at : ℕ → ℕ) (n left i x : ℕ) → 0 < left → at i ≡ 0 → firstEmpty at (probeSequence n left i) ≡ x → i ≡ x
 unfolding firstEmpty
 empty-here at n left i x h z p =
     sym
-    (sym p ∙ ap (λ (l : List ℕ). firstEmpty at l) (order-turn n left i h)
-    ∙ ap (λ (b : Bool). cond b i (firstEmpty at (order n (left - 1) (next n i)))) (eq-eqb (at i) 0 z))
+    (sym p ∙ ap (λ (l : List ℕ). firstEmpty at l) (probeSequence-step n left i h)
+    ∙ ap (λ (b : Bool). cond b i (firstEmpty at (probeSequence n (left - 1) (next n i)))) (eq-eqb (at i) 0 z))
 
-pub empty-later : (at : ℕ → ℕ) (n left i x : ℕ) → 0 < left → (at i ≡ 0 → ⊥) → firstEmpty at (order n left i) ≡ x
-    → firstEmpty at (order n (left - 1) (next n i)) ≡ x
+pub empty-later : (at : ℕ → ℕ) (n left i x : ℕ) → 0 < left → (at i ≡ 0 → ⊥) → firstEmpty at (probeSequence n left i) ≡ x
+    → firstEmpty at (probeSequence n (left - 1) (next n i)) ≡ x
 unfolding firstEmpty
 empty-later at n left i x h z p =
-    sym (ap (λ (b : Bool). cond b i (firstEmpty at (order n (left - 1) (next n i)))) (ne-eqb (at i) 0 z))
-    ∙ sym (ap (λ (l : List ℕ). firstEmpty at l) (order-turn n left i h))
+    sym (ap (λ (b : Bool). cond b i (firstEmpty at (probeSequence n (left - 1) (next n i)))) (ne-eqb (at i) 0 z))
+    ∙ sym (ap (λ (l : List ℕ). firstEmpty at l) (probeSequence-step n left i h))
     ∙ p
 
-pub empty-none : (at : ℕ → ℕ) (n i x : ℕ) → firstEmpty at (order n 0 i) ≡ x → 0 ≡ x
-unfolding firstEmpty order
+pub empty-none : (at : ℕ → ℕ) (n i x : ℕ) → firstEmpty at (probeSequence n 0 i) ≡ x → 0 ≡ x
+unfolding firstEmpty probeSequence
 empty-none at n i x p = p

@@ -11,7 +11,7 @@ use lib.Dec.{eqb}
 use borrow.Author.Tests.{eq-eqb, ne-eqb}
 use Rattle.jhash.specs.NameHash.{hashOf}
 use Rattle.image.specs.Bytes.{word, le32}
-use Rattle.image.specs.Tables.{order, firstEmpty}
+use Rattle.image.specs.Tables.{probeSequence, firstEmpty}
 use Rattle.image.specs.declared.Mode.{Mode}
 use Rattle.image.proofs.Words.{length-le32}
 use Rattle.image.proofs.Stores.{sets-then}
@@ -29,15 +29,15 @@ module _ (buf : List ℕ) (h at : ℕ) where
   bucket-none n e z = rw (eq-eqb (word buf (28 + 8 * (h % 256))) 0 (sym e ∙ z))
 
   pub bucket-stored : (o n k : ℕ) (b1 b2 : List ℕ) → o ≡ word buf (24 + 8 * (h % 256)) → n ≡ word buf (28 + 8 * (h % 256)) → (n ≡ 0 → ⊥)
-      → k ≡ firstEmpty (λ (i : ℕ). word buf (o + 8 * i + 4)) (order n n (h / 256 % n))
+      → k ≡ firstEmpty (λ (i : ℕ). word buf (o + 8 * i + 4)) (probeSequence n n (h / 256 % n))
       → b1 ≡ sets buf (o + 8 * k) (le32 h) → b2 ≡ sets b1 (o + 8 * k + 4) (le32 at) → b2 ≡ withBucket buf h at
   unfolding withBucket bucketFor
   bucket-stored o n k b1 b2 eo en nz ek p q =
       let o′ = word buf (24 + 8 * (h % 256)) in
       let n′ = word buf (28 + 8 * (h % 256)) in
-      let s : ℕ = o′ + 8 * firstEmpty (λ (i : ℕ). word buf (o′ + 8 * i + 4)) (order n′ n′ (h / 256 % n′)) in
-      let ek′ : k ≡ firstEmpty (λ (i : ℕ). word buf (o′ + 8 * i + 4)) (order n′ n′ (h / 256 % n′)) =
-      ek ∙ ap₂ (λ (x : ℕ) (y : ℕ). firstEmpty (λ (i : ℕ). word buf (x + 8 * i + 4)) (order y y (h / 256 % y))) eo en in
+      let s : ℕ = o′ + 8 * firstEmpty (λ (i : ℕ). word buf (o′ + 8 * i + 4)) (probeSequence n′ n′ (h / 256 % n′)) in
+      let ek′ : k ≡ firstEmpty (λ (i : ℕ). word buf (o′ + 8 * i + 4)) (probeSequence n′ n′ (h / 256 % n′)) =
+      ek ∙ ap₂ (λ (x : ℕ) (y : ℕ). firstEmpty (λ (i : ℕ). word buf (x + 8 * i + 4)) (probeSequence y y (h / 256 % y))) eo en in
       let es : o + 8 * k ≡ s = ap₂ (λ (x : ℕ) (y : ℕ). x + 8 * y) eo ek′ in
       let both : b2 ≡ sets buf (o + 8 * k) (le32 h ++ le32 at) =
       q ∙ ap (λ (l : List ℕ). sets l (o + 8 * k + 4) (le32 at)) p

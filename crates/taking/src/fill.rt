@@ -3,14 +3,14 @@ ghost use mathlib.Core.Path.{_≡_};
 ghost use Prim.Native.Nat.{ℕ, _+_, _*_, _<_, _≤_};
 ghost use lib.ListN.{length};
 ghost use Rattle.image.specs.Bytes.{word};
-ghost use Rattle.image.specs.Tables.{tableOf, order, firstEmpty};
+ghost use Rattle.image.specs.Tables.{tableOf, probeSequence, firstEmpty};
 ghost use Rattle.taking.specs.steps.Working.{withBucket, withLink, entryTaken, takenFrom};
 use image::Mode;
 
 // The first empty of the n buckets at o, from bucket k on; bucket 0 where none is empty.
 fn first_empty(buf: &[u8], o: usize, n: usize, k: usize) -> usize
     requires { ⌜ (k < n) × (o < 4294967296) × (n < 4294967296) ⌝ }
-    ensures { λ r. ⌜ (r ≡ firstEmpty (λ (i : ℕ). word (now (buf .entry)) (o + 8 * i + 4)) (order n n k)) × (r < n) ⌝ }
+    ensures { λ r. ⌜ (r ≡ firstEmpty (λ (i : ℕ). word (now (buf .entry)) (o + 8 * i + 4)) (probeSequence n n k)) × (r < n) ⌝ }
 {
     let mut i = k;
     let mut left = n;

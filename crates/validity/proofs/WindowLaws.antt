@@ -6,8 +6,8 @@ use mathlib.Core.List.{List, [], _∷_}
 use lib.ListN.{length, getD, drop, drop-of-length-le}
 use lib.Seq.{drop-cons}
 use Rattle.jhash.specs.Outcome.{Outcome, value, refusal}
-use Rattle.reader.specs.Slices.{Slice, part}
-use Rattle.reader.specs.Naming.{Naming, unnamed, naming, partOr}
+use Rattle.reader.specs.Slices.{Slice, subslice}
+use Rattle.reader.specs.Naming.{Naming, unnamed, naming, sliceOr}
 use Rattle.validity.specs.Calendar.{isDate}
 use Rattle.validity.specs.Rule.{someWindow, invalidDates, inverted, holdsDate, inSeason, namingOn, namedIn, namePartOn}
 use Rattle.validity.specs.steps.Fold.{stateOf, stronger, stepped, folded}
@@ -93,4 +93,4 @@ module _ (image : List ℕ) (id : ℕ) (date : Date) (ws : List Window) where
       by-form false false false = refl
 
 pub parted : (image : Slice) (id : ℕ) (date : Date) (ws : List Window) → partBy image id date (windowState id date ws) ≡ namePartOn image id date ws
-parted image id date ws = ap (λ (x : Outcome Naming). partOr image (part image 0 0) (namedIn x)) (placed (image .bytes) id date ws)
+parted image id date ws = ap (λ (x : Outcome Naming). sliceOr image (subslice image 0 0) (namedIn x)) (placed (image .bytes) id date ws)

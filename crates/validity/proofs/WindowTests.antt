@@ -7,8 +7,8 @@ use mathlib.Core.List.{List}
 use lib.Dec.{eqb, ltb}
 use borrow.Author.Tests.{lt-ltb, le-ltb}
 use Rattle.jhash.specs.Outcome.{Outcome, value, refusal}
-use Rattle.reader.specs.Slices.{Slice, part}
-use Rattle.reader.specs.Naming.{Naming, place, unnamed, naming, partOr}
+use Rattle.reader.specs.Slices.{Slice, subslice}
+use Rattle.reader.specs.Naming.{Naming, place, unnamed, naming, sliceOr}
 use Rattle.reader.proofs.Namings.{never}
 use Rattle.validity.specs.Calendar.{isDate, isEnd, earlier}
 use Rattle.validity.specs.Rule.{invalidDates, inverted, holdsDate, namedIn}
@@ -68,9 +68,9 @@ module _ (image : List ℕ) (id : ℕ) (date : Date) (s : WindowState) where
 -- the same of the part
 module _ (image : Slice) (id : ℕ) (date : Date) (s : WindowState) where
   abbrev part-of : Outcome Naming → Slice
-  part-of x = partOr image (part image 0 0) (namedIn x)
+  part-of x = sliceOr image (subslice image 0 0) (namedIn x)
 
-  pub no-date-part : isDate date ≡ false → part image 0 0 ≡ partBy image id date s
+  pub no-date-part : isDate date ≡ false → subslice image 0 0 ≡ partBy image id date s
   no-date-part e = ap part-of (no-date (image .bytes) id date s e)
 
   pub by-state-part : (t : WindowState) → isDate date ≡ true → s ≡ t → part-of (answerBy t (naming (image .bytes) id)) ≡ partBy image id date s

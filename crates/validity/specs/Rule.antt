@@ -4,8 +4,8 @@ use mathlib.Core.Bool.{Bool, false, cond, not, _&&_, _||_}
 use mathlib.Core.List.{List, [], _∷_}
 use lib.Dec.{eqb}
 use Rattle.jhash.specs.Outcome.{Outcome, value, refusal}
-use Rattle.reader.specs.Slices.{Slice, part}
-use Rattle.reader.specs.Naming.{Naming, unnamed, naming, partOr}
+use Rattle.reader.specs.Slices.{Slice, subslice}
+use Rattle.reader.specs.Naming.{Naming, unnamed, naming, sliceOr}
 use Rattle.validity.specs.Calendar.{isDate, isEnd, earlier}
 use Rattle.validity.specs.declared.Date.{Date}
 use Rattle.validity.specs.declared.Window.{Window}
@@ -48,4 +48,4 @@ namedIn (refusal k) = unnamed
 
 -- the same as a returned part, empty if nothing or refused
 abbrev pub namePartOn : Slice → ℕ → Date → List Window → Slice
-namePartOn image id date windows = partOr image (part image 0 0) (namedIn (namingOn (image .bytes) id date windows))
+namePartOn image id date windows = sliceOr image (subslice image 0 0) (namedIn (namingOn (image .bytes) id date windows))

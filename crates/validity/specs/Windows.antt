@@ -4,8 +4,8 @@ use Prim.Native.Nat.{ℕ}
 use mathlib.Core.Bool.{cond, not}
 use mathlib.Core.List.{List}
 use Rattle.jhash.specs.Outcome.{Outcome, value, refusal}
-use Rattle.reader.specs.Slices.{Slice, part}
-use Rattle.reader.specs.Naming.{Naming, unnamed, naming, partOr}
+use Rattle.reader.specs.Slices.{Slice, subslice}
+use Rattle.reader.specs.Naming.{Naming, unnamed, naming, sliceOr}
 use Rattle.validity.specs.Calendar.{isDate}
 use Rattle.validity.specs.Rule.{someWindow, invalidDates, inverted, holdsDate, namedIn}
 use Rattle.validity.specs.declared.Date.{Date}
@@ -31,4 +31,4 @@ abbrev pub placeBy : List ℕ → ℕ → Date → WindowState → Outcome Namin
 placeBy image id date s = cond (not (isDate date)) (refusal 22) (answerBy s (naming image id))
 
 abbrev pub partBy : Slice → ℕ → Date → WindowState → Slice
-partBy image id date s = partOr image (part image 0 0) (namedIn (placeBy (image .bytes) id date s))
+partBy image id date s = sliceOr image (subslice image 0 0) (namedIn (placeBy (image .bytes) id date s))

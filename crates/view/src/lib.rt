@@ -4,7 +4,7 @@ ghost use mathlib.Core.Path.{_≡_};
 ghost use Rattle.reader.specs.Open.{opening};
 ghost use Rattle.reader.specs.Lookup.{lookup};
 ghost use Rattle.reader.specs.Slices.{slice};
-ghost use Rattle.reader.specs.Naming.{naming, namePart};
+ghost use Rattle.reader.specs.Naming.{naming, nameSlice};
 ghost use Rattle.reader.specs.IdWalk.{step};
 ghost use Rattle.consistency.specs.Home.{home};
 ghost use Rattle.reader.specs.Cases.{openedOf, lookupOf, namingOf, steppedOf};
@@ -67,7 +67,7 @@ impl<'a> CQDB<'a> {
 
     // The part of the slice that is an id's name, empty if it has none. It lives as long as the slice, and may outlive the view.
     pub fn name(self, id: u32) -> &'a [u8]
-        ensures { λ r. ⌜ slice r ≡ namePart (slice (self .entry .image)) id ⌝ }
+        ensures { λ r. ⌜ slice r ≡ nameSlice (slice (self .entry .image)) id ⌝ }
     {
         reader::name(self.image, id)
     }
@@ -90,7 +90,7 @@ impl<'a> CQDB<'a> {
 // The part of an image that is an id's name, empty if it has none, by a view that is made for it. Its parameters are plain, so
 // that the borrow checker covers whoever calls it.
 pub fn name_of<'a>(image: &'a [u8], id: u32) -> &'a [u8]
-    ensures { λ r. ⌜ slice r ≡ namePart (slice (image .entry)) id ⌝ }
+    ensures { λ r. ⌜ slice r ≡ nameSlice (slice (image .entry)) id ⌝ }
 {
     CQDB::new(image).name(id)
 }

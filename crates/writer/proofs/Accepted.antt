@@ -9,7 +9,7 @@ use lib.Dec.{eqb}
 use borrow.Author.Tests.{eqb-true}
 use Rattle.image.specs.Image.{backIn, backSize}
 use Rattle.image.specs.Stored.{whole}
-use Rattle.image.proofs.Bools.{first, second}
+use Rattle.image.proofs.Bools.{and-first, and-second}
 use Rattle.serialize.specs.Finish.{finishedBuffer}
 use Rattle.serialize.specs.steps.Asked.{Standing}
 use Rattle.writer.specs.State.{stateWith, fits, finishedSize, tooLarge, countsAgree}
@@ -26,14 +26,14 @@ module _ (w : CQDBWriter) (counts buf : List ℕ) (fit : fits (stateWith w count
       let a : Bool = whole (w .entries) (entryArea s) in
       let b : Bool = countsAgree counts (recorded s) in
       let c : Bool = eqb (w .back) (backIn (w .mode) (backSize (recorded s))) in
-      let ab : (a && b) ≡ true = first (a && b) c all in
+      let ab : (a && b) ≡ true = and-first (a && b) c all in
       let l = not-too-large (w .length) (finishedSize w) fine in
       let f = fitting w counts buf fit in
       record {
         low = f .low;
-        entire = first a b ab;
-        agree = second a b ab;
-        backs = eqb-true (w .back) (backIn (w .mode) (backSize (recorded s))) (second (a && b) c all);
+        entire = and-first a b ab;
+        agree = and-second a b ab;
+        backs = eqb-true (w .back) (backIn (w .mode) (backSize (recorded s))) (and-second (a && b) c all);
         room = omega (arith, l .0, f .same-length);
         small = l .1;
       }

@@ -14,7 +14,7 @@ use Rattle.image.specs.Tables.{tableOf}
 use Rattle.image.specs.Image.{Entry, Placed, headSize, entrySize, placed, count}
 use Rattle.image.proofs.EntryWalk.{tallied-cons}
 use Rattle.image.proofs.Sizes.{count-nil, count-cons}
-use Rattle.image.proofs.All.{all-ext}
+use Rattle.image.proofs.AllOfRange.{all-ext}
 use Rattle.writer.specs.State.{countsAgree}
 use Rattle.image.specs.Tally.{tallied, raisedCounts}
 use Rattle.writer.specs.steps.Earlier.{sameCounts}

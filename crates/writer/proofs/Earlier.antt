@@ -6,10 +6,10 @@ use mathlib.Core.List.{List}
 use lib.ListN.{replicate}
 use lib.Dec.{eqb}
 use borrow.Author.Tests.{eq-eqb, ne-eqb}
-use Rattle.image.specs.Image.{backSize, backIn, holds}
+use Rattle.image.specs.Image.{backSize, backIn, containsName}
 use Rattle.image.specs.Stored.{whole}
 use Rattle.image.specs.Tally.{tallied}
-use Rattle.image.proofs.Bools.{first-fails, second-fails, third-decides}
+use Rattle.image.proofs.Bools.{and3-first-fails, and3-second-fails, and3-third}
 use Rattle.writer.specs.declared.CQDBWriter.{CQDBWriter}
 use Rattle.writer.specs.State.{State, stateWith, refusesRepeats, countsAgree}
 use Rattle.writer.specs.Close.{entryArea, recorded, consistent}
@@ -26,7 +26,7 @@ module _ (s : State) (name : List ℕ) where
   -- close asks no more than whether it is not 4
   pub not-four : (r : ℕ) → r ≡ walkRefusal s name → not (eqb r 4) ≡ consistent s
   unfolding walkRefusal
-  not-four r e = ap (λ (k : ℕ). not (eqb k 4)) e ∙ go (consistent s) (holds name (recorded s))
+  not-four r e = ap (λ (k : ℕ). not (eqb k 4)) e ∙ go (consistent s) (containsName name (recorded s))
     where
       go : (a b : Bool) → not (eqb (cond (not a) 4 (cond b 16 0)) 4) ≡ a
       go true true = refl
@@ -42,7 +42,7 @@ module _ (w : CQDBWriter) (counts buf name : List ℕ) (b : Bool) (is-whole : b 
   backs = eqb (w .back) (backIn (w .mode) (backSize (recorded s)))
 
   pub not-whole : b ≡ false → 4 ≡ walkRefusal (stateWith w counts buf) name
-  not-whole no-more = fails s name (first-fails (whole (w .entries) (entryArea s)) (countsAgree counts (recorded s)) backs (sym is-whole ∙ no-more))
+  not-whole no-more = fails s name (and3-first-fails (whole (w .entries) (entryArea s)) (countsAgree counts (recorded s)) backs (sym is-whole ∙ no-more))
 
   module _ (yes-whole : b ≡ true) (tally : List ℕ) (tells : tally ≡ tallied (replicate 256 0) (recorded s)) (d : Bool) (is-same : d ≡ sameCounts counts tally) where
     agree : d ≡ countsAgree counts (recorded s)
@@ -50,18 +50,18 @@ module _ (w : CQDBWriter) (counts buf name : List ℕ) (b : Bool) (is-whole : b 
 
     pub other-counts : d ≡ false → 4 ≡ walkRefusal (stateWith w counts buf) name
     other-counts differ =
-        fails s name (second-fails (whole (w .entries) (entryArea s)) (countsAgree counts (recorded s)) backs (sym is-whole ∙ yes-whole) (sym agree ∙ differ))
+        fails s name (and3-second-fails (whole (w .entries) (entryArea s)) (countsAgree counts (recorded s)) backs (sym is-whole ∙ yes-whole) (sym agree ∙ differ))
 
     module _ (yes-same : d ≡ true) (k n : ℕ) (is-back : k ≡ backSize (recorded s)) (is-in : n ≡ backIn (w .mode) k) where
       by-back : (x : Bool) → x ≡ eqb (w .back) n → x ≡ consistent s
       by-back x e =
-          third-decides (whole (w .entries) (entryArea s)) (countsAgree counts (recorded s)) backs x (sym is-whole ∙ yes-whole) (sym agree ∙ yes-same)
+          and3-third (whole (w .entries) (entryArea s)) (countsAgree counts (recorded s)) backs x (sym is-whole ∙ yes-whole) (sym agree ∙ yes-same)
           (e ∙ ap (eqb (w .back)) (is-in ∙ ap (backIn (w .mode)) is-back))
 
       pub other-back : (w .back ≡ n → ⊥) → 4 ≡ walkRefusal (stateWith w counts buf) name
       other-back differ = fails s name (by-back false (sym (ne-eqb (w .back) n differ)))
 
-      pub by-name : w .back ≡ n → (m : Bool) → m ≡ holds name (recorded s) → cond m 16 0 ≡ walkRefusal (stateWith w counts buf) name
+      pub by-name : w .back ≡ n → (m : Bool) → m ≡ containsName name (recorded s) → cond m 16 0 ≡ walkRefusal (stateWith w counts buf) name
       unfolding walkRefusal
       by-name equal m met =
           let all = by-back true (sym (eq-eqb (w .back) n equal)) in
@@ -77,10 +77,10 @@ earlier-by s name b e = rw e refl
 
 -- what the rule says of the earlier entries before it goes on is the one number, and it goes on where that is 0
 pub in-order : (s : State) (name : List ℕ) (rest : ℕ)
-    → cond (not (consistent s) && refusesRepeats (s .writer .repeats)) 4 (cond (holds name (recorded s) && refusesRepeats (s .writer .repeats)) 16 rest)
+    → cond (not (consistent s) && refusesRepeats (s .writer .repeats)) 4 (cond (containsName name (recorded s) && refusesRepeats (s .writer .repeats)) 16 rest)
     ≡ cond (eqb (earlierRefusal s name) 0) rest (earlierRefusal s name)
 unfolding earlierRefusal
-in-order s name rest = go (consistent s) (holds name (recorded s)) (refusesRepeats (s .writer .repeats))
+in-order s name rest = go (consistent s) (containsName name (recorded s)) (refusesRepeats (s .writer .repeats))
   where
     number : Bool → Bool → Bool → ℕ
     number a h r = cond r (cond (not a) 4 (cond h 16 0)) 0

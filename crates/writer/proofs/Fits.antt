@@ -10,7 +10,7 @@ use borrow.Author.Tests.{eq-eqb, ne-eqb, le-leb, lt-leb, eqb-true, leb-true, ltb
 use Rattle.image.specs.Image.{headSize, backIn}
 use Rattle.image.specs.declared.Mode.{Mode}
 use Rattle.image.specs.declared.Mode.the-variants.{Twoway, Oneway}
-use Rattle.image.proofs.Bools.{first, second, neither-first, neither-second}
+use Rattle.image.proofs.Bools.{and-first, and-second, or-false-first, or-false-second}
 use Rattle.writer.specs.State.{stateWith, noneAbove, fits, tooLarge}
 use Rattle.writer.specs.Put.{raised}
 use Rattle.writer.specs.declared.CQDBWriter.{CQDBWriter}
@@ -49,21 +49,21 @@ fitting w counts buf h =
     let b = leb headSize (w .end) in
     let c = leb (w .end) (w .length) in
     let d = noneAbove counts (w .entries) in
-    let abc = first (a && b && c) d h in
-    let ab = first (a && b) c abc in
+    let abc = and-first (a && b && c) d h in
+    let ab = and-first (a && b) c abc in
     record {
-      same-length = eqb-true (w .length) (length buf) (first a b ab);
-      low = leb-true headSize (w .end) (second a b ab);
-      high = leb-true (w .end) (w .length) (second (a && b) c abc);
-      none = second (a && b && c) d h;
+      same-length = eqb-true (w .length) (length buf) (and-first a b ab);
+      low = leb-true headSize (w .end) (and-second a b ab);
+      high = leb-true (w .end) (w .length) (and-second (a && b) c abc);
+      none = and-second (a && b && c) d h;
     }
 
 -- ---- sizes
 
 pub not-too-large : (room size : ℕ) → tooLarge room size ≡ false → (size ≤ room) × (size ≤ 4294967295)
 not-too-large room size h = (
-  ltb-false room size (neither-first (ltb room size) (ltb 4294967295 size) h),
-  ltb-false 4294967295 size (neither-second (ltb room size) (ltb 4294967295 size) h),
+  ltb-false room size (or-false-first (ltb room size) (ltb 4294967295 size) h),
+  ltb-false 4294967295 size (or-false-second (ltb room size) (ltb 4294967295 size) h),
 )
 
 pub raised-le : (mode : Mode) (back id : ℕ) → raised mode back id ≤ max back (id + 1)

@@ -17,7 +17,7 @@ use Rattle.image.specs.Zero.{hasZero}
 use Rattle.image.specs.Tally.{raisedCounts, countsAfter}
 use Rattle.writer.specs.Put.{entryOf, writerWith, writerAfter, putRefusal, appended, afterPut}
 use Rattle.writer.specs.declared.CQDBWriter.{CQDBWriter}
-use Rattle.image.proofs.All.{all-each}
+use Rattle.image.proofs.AllOfRange.{all-each}
 use Rattle.writer.specs.steps.Earlier.{earlierRefusal}
 use Rattle.writer.proofs.Fits.{fitting, not-too-large}
 use Rattle.writer.proofs.Earlier.{in-order}

@@ -5,7 +5,7 @@ use mathlib.Core.List.{List}
 use lib.ListN.{length}
 use lib.Seq.{sets}
 use lib.Dec.{eqb}
-use Rattle.image.specs.Image.{Entry, entryBytes, holds}
+use Rattle.image.specs.Image.{Entry, entryBytes, containsName}
 use Rattle.image.specs.Tally.{countsAfter}
 use Rattle.image.specs.Zero.{hasZero}
 use Rattle.image.specs.declared.Mode.{Mode}
@@ -45,7 +45,7 @@ abbrev pub walkFails : State → Bool
 walkFails s = not (consistent s) && refusesRepeats (s .writer .repeats)
 
 abbrev pub repeated : State → List ℕ → Bool
-repeated s name = holds name (recorded s) && refusesRepeats (s .writer .repeats)
+repeated s name = containsName name (recorded s) && refusesRepeats (s .writer .repeats)
 
 -- 2 when the record doesn't fit the buffer; then 13 for a zero byte in the name (02 (v)); with repeats off, 4 when the walk fails, otherwise 16 when it
 -- meets an equal name (02 (viii)); then 3 when the finished size, all after this put, exceeds the buffer or 4,294,967,295. 0: no refusal

@@ -41,7 +41,7 @@ pub(super) fn walk_refusal(w: CQDBWriter, counts: &[u32; 256], buf: &[u8], name:
     if w.back as u64 != serialize::size::back_in(mode, walked.back) {
         return 4;
     }
-    if walked.met { 16 } else { 0 }
+    if walked.contains { 16 } else { 0 }
 }
 
 // Whether the entries are whole and have the record's counts and back size. No name is sought: the empty one stands in.

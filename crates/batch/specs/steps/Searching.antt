@@ -8,7 +8,7 @@ use lib.Dec.{eqb}
 use Rattle.image.specs.Tables.{tableOf}
 use Rattle.image.specs.Image.{headSize}
 use Rattle.image.specs.Head.{tableAt, bucketNumber}
-use Rattle.reader.specs.Lookup.{Seen, ends, seeEntry, decide, unsearched, lookupHash, lookup}
+use Rattle.reader.specs.Lookup.{Probe, ends, probeEntry, decide, unsearched, lookupHash, lookup}
 use Rattle.reader.specs.steps.Resume.{searchFrom}
 use Rattle.batch.specs.RoundNames.{names, astray, nth}
 use Rattle.batch.specs.Round.{answerWords}
@@ -27,8 +27,8 @@ abbrev pub Goes : List ℕ → ℕ → ℕ → Type 0
 Goes image h c = headSize ≤ length image → (name : List ℕ) → searchFrom image name h c ≡ lookupHash image name h
 
 -- what the deciding bucket shows: nothing where its offset is 0
-abbrev pub seenAt : List ℕ → List ℕ → ℕ → Seen
-seenAt image name e = cond (eqb e 0) ends (seeEntry image name e)
+abbrev pub seenAt : List ℕ → List ℕ → ℕ → Probe
+seenAt image name e = cond (eqb e 0) ends (probeEntry image name e)
 
 -- the c-th bucket of the search for the hash h has this offset. It decides, unless the entry there has another name:
 -- then the search goes on

@@ -6,7 +6,7 @@ use mathlib.Core.List.{List}
 use lib.ListN.{length, getD}
 use lib.Dec.{eqb}
 unfoldable pub use Rattle.packed.specs.Keys.{key}
-use Rattle.image.specs.Bytes.{keep, range}
+use Rattle.image.specs.Bytes.{filter, range}
 use Rattle.batch.specs.RoundNames.{nth}
 
 -- a list that begins with the names' keys
@@ -48,7 +48,7 @@ abbrev pub isNew : List ℕ → ℕ → Bool
 isNew equals i = eqb (getD equals i 0) 0
 
 unfoldable pub news : List ℕ → ℕ → List ℕ
-news equals n = keep (isNew equals) (range 0 n)
+news equals n = filter (isNew equals) (range 0 n)
 
 -- a place holds these words
 abbrev pub Has : List ℕ → ℕ → List ℕ → Type 0

@@ -7,7 +7,7 @@ use mathlib.Core.List.{List, _++_, map}
 use lib.ListN.{length, getD, drop, replicate}
 use Rattle.image.specs.Bytes.{cat}
 use Rattle.image.specs.Stored.{between}
-use Rattle.image.specs.Image.{Entry, headSize, entryBytes, placed, links, entriesEnd, backSizeOf, imageSize, image}
+use Rattle.image.specs.Image.{Entry, headSize, entryBytes, placed, backWords, entriesEnd, backSizeOf, imageSize, image}
 use Rattle.image.specs.declared.Mode.{Mode}
 use Rattle.packed.specs.Names.{names, astray}
 use Rattle.serialize.specs.steps.Asked.{TablesAtHand}
@@ -35,7 +35,7 @@ pub record StoreListPost (mode : Mode) (at : ℕ) (bytes ends ids buf bufThen : 
   pub area : between bufThen headSize (entriesEnd (entriesOf bytes ends ids))
       ≡ cat entryBytes (entriesOf bytes ends ids)
   pub linked : between bufThen at (imageSize mode (entriesOf bytes ends ids))
-      ≡ links (placed headSize (entriesOf bytes ends ids)) (backSizeOf mode (entriesOf bytes ends ids))
+      ≡ backWords (placed headSize (entriesOf bytes ends ids)) (backSizeOf mode (entriesOf bytes ends ids))
   pub behind : drop (imageSize mode (entriesOf bytes ends ids)) bufThen
       ≡ drop (imageSize mode (entriesOf bytes ends ids)) buf
   pub long : length bufThen ≡ length buf

@@ -7,7 +7,7 @@ use lib.ListN.{length, length-replicate}
 use borrow.Author.Needs.{needs}
 use Rattle.image.specs.Tables.{tableOf}
 use Rattle.image.specs.Zero.{hasZero}
-use Rattle.image.proofs.Bools.{not-both}
+use Rattle.image.proofs.Bools.{false-not-true}
 use Rattle.packed.specs.Names.{names, nth}
 use Rattle.bulk_tables.specs.steps.Parted.{at, tableOfName, tableIn}
 use Rattle.bulk_tables.proofs.Tallies.{first-ext, sums-fit}
@@ -30,7 +30,7 @@ same-length-2 c = search needs
 returns : tie.Need-returns
 returns c =
     let h = c .before .before .before .before .before .hash-all .ensures in
-    (λ e. absurd (not-both e), (λ e. absurd (not-both e), (λ e. absurd (not-both e), (h .1 .0, (h .1 .1 .0 .1, h .1 .1 .1 .0 .0, h .1 .1 .1 .0 .1)))))
+    (λ e. absurd (false-not-true e), (λ e. absurd (false-not-true e), (λ e. absurd (false-not-true e), (h .1 .0, (h .1 .1 .0 .1, h .1 .1 .1 .0 .0, h .1 .1 .1 .0 .1)))))
 
 starts-requires : tie.Need-starts-requires
 starts-requires c κs =

@@ -6,7 +6,7 @@ use mathlib.Core.Path.{sym, ap, _∙_}
 use mathlib.Core.List.{List}
 use lib.Dec.{eqb}
 use Rattle.image.specs.Stored.{whole, between}
-use Rattle.image.proofs.Bools.{first}
+use Rattle.image.proofs.Bools.{and-first}
 use Rattle.writer.proofs.Agree.{zeros}
 use Rattle.canonical.specs.steps.Tests.{sayCounts, entriesRight, placedFrom, linksInPlace}
 use Rattle.canonical.proofs.Bodies.{body-rows, body-entries, body-said, body-back, body-oneway, body-links}
@@ -101,7 +101,7 @@ links-right-requires c κs =
     let p = c .before .before .before .before .before .before .before .before .before .before .before .before .before .before .before .pre in
     let found = c .before .before .before .before .before .before .before .before .before .before .entries-right in
     let yw = sym (found .ensures .0) ∙ not-false _ (c .before .before .before .before .before .before .before .before .if2 .left) in
-    let w = first (whole (a .n) (between (a .image .now) 2072 (a .end))) (entriesRight (a .image .now) (placedFrom (a .image .now) (a .end) (a .n) 2072)) yw in
+    let w = and-first (whole (a .n) (between (a .image .now) 2072 (a .end))) (entriesRight (a .image .now) (placedFrom (a .image .now) (a .end) (a .n) 2072)) yw in
     (p .0, p .1, p .2, omega (arith, c .wide .ensures .1, p .2), p .3, w)
 
 returns-6 : tie.Need-returns-6

@@ -11,7 +11,7 @@ use Rattle.image.specs.Bytes.{word, range, all}
 use Rattle.image.specs.Head.{tableAt, bucketNumber, backSizeAt, backOffsetAt}
 use Rattle.image.specs.Image.{Entry, Placed, headSize, placed, backSize, backIn}
 use Rattle.image.specs.Stored.{whole, entriesIn, between}
-use Rattle.image.specs.Tables.{tableOf, start, order, firstEmpty}
+use Rattle.image.specs.Tables.{tableOf, start, probeSequence, firstEmpty}
 use Rattle.image.specs.Tally.{tallied}
 use Rattle.image.specs.Zero.{hasZero}
 use Rattle.image.specs.declared.Mode.{Mode}
@@ -84,7 +84,7 @@ unfoldable pub slotIn : List ℕ → ℕ → ℕ → ℕ
 slotIn img h at =
     let o = tableAt img (tableOf h) in
     let n = bucketNumber img (tableOf h) in
-    o + 8 * firstEmpty (λ (k : ℕ). hidden at (word img (o + 8 * k + 4))) (order n n (start h n))
+    o + 8 * firstEmpty (λ (k : ℕ). hidden at (word img (o + 8 * k + 4))) (probeSequence n n (start h n))
 
 unfoldable pub standsIn : List ℕ → ℕ → ℕ → Bool
 standsIn img h at =

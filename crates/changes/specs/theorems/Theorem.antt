@@ -5,7 +5,7 @@ use mathlib.Core.Logic.{_↔_}
 use mathlib.Core.Bool.{true, false}
 use mathlib.Core.List.{List, [], _∷_}
 use mathlib.Core.Option.{Option, none, some}
-use Rattle.image.specs.Bytes.{keep, range, word}
+use Rattle.image.specs.Bytes.{filter, range, word}
 use Rattle.image.specs.Stored.{nameOf, broken}
 use Rattle.reader.specs.Naming.{nameGiven}
 use Rattle.reader.specs.Lookup.{found, lookup}
@@ -59,7 +59,7 @@ pub record Compared : Type 0 where
       → (nameGiven old id ≡ none) × (nameGiven new id ≡ none)
   -- "Repeated calls list every change once, in rising order": as many calls as there are ids list those that differ
   pub lists-changes : (old new : List ℕ) (from m : ℕ) → upper old new - from ≤ m
-      → calls old new from m ≡ keep (differs old new) (range from (upper old new - from))
+      → calls old new from m ≡ filter (differs old new) (range from (upper old new - from))
   -- "equal images have none"
   pub none-equal : (image : List ℕ) (from : ℕ) → nextChange image image from ≡ unchanged
   -- "swapping the images swaps the answers"

@@ -7,7 +7,7 @@ use lib.ListN.{length, getD, length-take}
 use Rattle.jhash.specs.NameHash.{hashOf}
 use borrow.Author.Tests.{not-true, not-false}
 use Rattle.image.specs.Zero.{hasZero}
-use Rattle.jhash.proofs.Outcomes.{told-refused, told-image-hash}
+use Rattle.jhash.proofs.Outcomes.{result-refused, result-name-hash}
 use Rattle.writer.specs.State.{tooLarge, finishedSize}
 use Rattle.writer.specs.Put.{writerWith}
 use Rattle.writer.proofs.Fits.{not-too-large}
@@ -62,7 +62,7 @@ returns-3 c =
     let bytes : (i : ℕ) → getD (a .buf .now) i 0 < 256 = λ i. omega (arith, c .before .before .before .before .before .before .before .before .before .before .shared-slice-known .given i) in
     let free : hasZero (a .name .now) ≡ false = sym (c .before .before .before .before .before .has-zero .ensures) ∙ c .before .before .before .before .if2 .left in
     refused-with (a .w) (a .counts .now) (a .buf .now) (a .slots .now) (a .name .now) (a .id) (c .refused3 .result .refusal) (c .refused3 .result .hash) (c .refused3 .result .slot) 2 (c .refused3 .ensures)
-    (too-long (a .w) (a .counts .now) (a .buf .now) (a .slots .now) (a .name .now) (a .id) bytes free (told-refused (a .name .now) 0 (c .before .before .before .name-hash .result) (c .before .before .before .name-hash .ensures) (c .before .enum-told .given .1)))
+    (too-long (a .w) (a .counts .now) (a .buf .now) (a .slots .now) (a .name .now) (a .id) bytes free (result-refused (a .name .now) 0 (c .before .before .before .name-hash .result) (c .before .before .before .name-hash .ensures) (c .before .enum-told .given .1)))
 
 slice-aggregate-probe-for-put : tie.Need-slice-aggregate-probe-for-put
 slice-aggregate-probe-for-put c =
@@ -93,7 +93,7 @@ h p = p .before .before .before .h .given .0 .0
 
 hashed : (p : tie.After-probe-for-put) → (length (start p .args .name .now) < 4294967295) × (h p ≡ hashOf (start p .args .name .now))
 hashed p =
-    told-image-hash (start p .args .name .now) (p .before .before .before .before .before .name-hash .result) (h p) (p .before .before .before .before .before .name-hash .ensures) (p .before .before .before .h .given .1)
+    result-name-hash (start p .args .name .now) (p .before .before .before .before .before .name-hash .result) (h p) (p .before .before .before .before .before .name-hash .ensures) (p .before .before .before .h .given .1)
 
 refused-requires-4 : tie.Need-refused-requires-4
 refused-requires-4 c κs = search needs

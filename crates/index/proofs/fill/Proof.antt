@@ -4,7 +4,7 @@ use native.Mathlib.Omega.{arith}
 use mathlib.Core.Path.{refl, sym, subst}
 use lib.ListN.{length}
 use denote.Ref.{now}
-use Rattle.jhash.proofs.Outcomes.{told-refused, told-image-hash}
+use Rattle.jhash.proofs.Outcomes.{result-refused, result-name-hash}
 use Rattle.image.proofs.Between.{entry-room}
 use Rattle.index.proofs.FillSlots.{Filling, filling-start, not-broken, fewer, ends-before, filling-turn, filling-end, first-empty-is}
 use borrow.Author.Needs.{needs}
@@ -70,7 +70,7 @@ returns-2 c =
     let told = c .before .before .before .before .before .whole-length .ensures in
     absurd
     (omega
-    (arith, told-refused (now (named .result)) 0 (c .before .before .name-hash .result) (c .before .before .name-hash .ensures) (c .enum-told .given .1), named .ensures .1, told .1))
+    (arith, result-refused (now (named .result)) 0 (c .before .before .name-hash .result) (c .before .before .name-hash .ensures) (c .enum-told .given .1), named .ensures .1, told .1))
 
 first-empty-requires : tie.Need-first-empty-requires Inv-loop μ-loop
 first-empty-requires c κs =
@@ -91,7 +91,7 @@ store-slot-requires c κs =
     let named = c .before .before .before .before .before .before .before .name-at in
     let hashed = c .before .before .before .before .before .before .name-hash in
     let h = c .before .before .before .before .h .given in
-    let hash = told-image-hash (now (named .result)) (hashed .result) (h .0 .0) (hashed .ensures) (h .1) .1 in
+    let hash = result-name-hash (now (named .result)) (hashed .result) (h .0 .0) (hashed .ensures) (h .1) .1 in
     let few = fewer (a .buf .now) (a .end) (a .entries) (a .slots .now) (l .at) (l .left) (l .slots) (l .inv) more (s .pre .inside) n is (now (named .result)) (named .ensures .0) (named .ensures .1) (h .0 .0) hash (s .pre .room) in
     let k = c .before .first-empty in
     let free = first-empty-is (l .slots) (length (a .slots .now) / 2) (l .inv .done) few (l .inv .slots) (h .0 .0) (k .result) (k .ensures) in
@@ -124,7 +124,7 @@ loop-again c =
     let named = c .before .before .before .before .before .before .before .before .before .before .name-at in
     let hashed = c .before .before .before .before .before .before .before .before .before .name-hash in
     let h = c .before .before .before .before .before .before .before .h .given in
-    let hash = told-image-hash (now (named .result)) (hashed .result) (h .0 .0) (hashed .ensures) (h .1) .1 in
+    let hash = result-name-hash (now (named .result)) (hashed .result) (h .0 .0) (hashed .ensures) (h .1) .1 in
     let few = fewer (a .buf .now) (a .end) (a .entries) (a .slots .now) (l .at) (l .left) (l .slots) (l .inv) more (s .pre .inside) n is (now (named .result)) (named .ensures .0) (named .ensures .1) (h .0 .0) hash (s .pre .room) in
     let k = c .before .before .before .before .first-empty in
     let free = first-empty-is (l .slots) (length (a .slots .now) / 2) (l .inv .done) few (l .inv .slots) (h .0 .0) (k .result) (k .ensures) in

@@ -4,16 +4,16 @@ use mathlib.Core.Bool.{Bool, true, false, cond, _&&_}
 use mathlib.Core.List.{List, [], _∷_}
 use lib.Dec.{eqb}
 use Rattle.image.specs.Tables.{Bucket}
-use Rattle.reader.specs.Lookup.{Seen, pass, ends, hit, seeEntry}
+use Rattle.reader.specs.Lookup.{Probe, pass, ends, hit, probeEntry}
 
 -- has the entry at an offset this name?
-abbrev pub isHit : Seen → Bool
+abbrev pub isHit : Probe → Bool
 isHit pass = false
 isHit ends = false
 isHit (hit found) = true
 
 abbrev pub hasNameAt : List ℕ → List ℕ → ℕ → Bool
-hasNameAt bytes name at = isHit (seeEntry bytes name at)
+hasNameAt bytes name at = isHit (probeEntry bytes name at)
 
 -- is it a duplicate, where repeats are refused?
 abbrev pub duplicateAt : Bool → List ℕ → List ℕ → ℕ → Bool

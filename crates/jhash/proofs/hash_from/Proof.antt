@@ -8,14 +8,14 @@ use Prim.Native.Nat.{ℕ, _-_}
 use lib.ListN.{length, drop, length-take, length-drop}
 use lib.Seq.{take-all}
 use denote.Ref.{now}
-use Rattle.jhash.specs.Lookup3.{added, mix, final, alike, hashRest}
+use Rattle.jhash.specs.Lookup3.{added, mix, final, equalWords, hashRest}
 use Rattle.jhash.specs.declared.Words.{Words}
-use Rattle.jhash.proofs.Blocks.{turn, last}
+use Rattle.jhash.proofs.Blocks.{block-step, last-block}
 use Rattle.jhash.proofs.hash_from.Statement.{statement}
 use Rattle.jhash.proofs.hash_from.Tie as tie
 
 abbrev Inv-loop : tie.InvT-loop
-Inv-loop name x words₀ n t₀ words t = hashRest words (t ++ 0 ∷ []) ≡ hashRest (alike x) (name ++ 0 ∷ [])
+Inv-loop name x words₀ n t₀ words t = hashRest words (t ++ 0 ∷ []) ≡ hashRest (equalWords x) (name ++ 0 ∷ [])
 
 abbrev μ-loop : tie.MeasureT-loop
 μ-loop name x words₀ n t₀ words t = length t
@@ -32,7 +32,7 @@ part-t-end c = search needs
 loop-holds : tie.Need-loop-holds Inv-loop μ-loop
 loop-holds c =
     let name : List ℕ = now (c .before .before .args .name) in
-    ap (λ (t : List ℕ). hashRest (alike (c .before .before .args .x)) (t ++ 0 ∷ [])) (take-all (length name - 0) name (omega arith))
+    ap (λ (t : List ℕ). hashRest (equalWords (c .before .before .args .x)) (t ++ 0 ∷ [])) (take-all (length name - 0) name (omega arith))
 
 added-block-requires : tie.Need-added-block-requires Inv-loop μ-loop
 added-block-requires c κs = search needs
@@ -58,7 +58,7 @@ loop-again c =
     let w : Words = c .before .before .before .before .loop .words in
     let e : c .before .jhash-mix .result ≡ mix (added w t) = c .before .jhash-mix .ensures ∙ ap mix (c .before .before .added-block .ensures) in
     rw (take-all (length t - 12) (drop 12 t) (simp length-drop (omega arith)), e)
-    (turn w t (c .before .before .before .loop-test .taken) ∙ c .before .before .before .before .loop .inv)
+    (block-step w t (c .before .before .before .loop-test .taken) ∙ c .before .before .before .before .loop .inv)
 
 added-tail-requires : tie.Need-added-tail-requires Inv-loop μ-loop
 added-tail-requires c κs = search needs
@@ -70,7 +70,7 @@ returns : tie.Need-returns Inv-loop μ-loop
 returns c =
     let t : List ℕ = c .before .before .before .loop .t .now in
     let w : Words = c .before .before .before .loop .words in
-    c .jhash-final .ensures ∙ ap final (c .before .added-tail .ensures) ∙ last w t (c .before .before .loop-test .left)
+    c .jhash-final .ensures ∙ ap final (c .before .added-tail .ensures) ∙ last-block w t (c .before .before .loop-test .left)
     ∙ c .before .before .before .loop .inv
 
 pub hash-from-spec : {M : Type 1} → statement M

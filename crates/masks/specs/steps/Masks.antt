@@ -7,7 +7,7 @@ use mathlib.Core.List.{List, [], _∷_, map}
 use lib.ListN.{length, getD}
 use lib.Dec.{eqb, ltb, leb}
 use Rattle.image.specs.Image.{Placed}
-use Rattle.image.specs.Tables.{Bucket, empty, atOf, start, order, firstEmpty}
+use Rattle.image.specs.Tables.{Bucket, empty, atOf, start, probeSequence, firstEmpty}
 use Rattle.image.specs.Bytes.{Each}
 
 -- how many numbers of a list are a or more
@@ -36,7 +36,7 @@ masked a table = map (hide a) table
 
 -- the bucket that the put of b took: the first of its search that no earlier entry has
 abbrev pub place : ℕ → List Bucket → Bucket → ℕ
-place n table b = firstEmpty (atOf (masked (b .at) table)) (order n n (start (b .hash) n))
+place n table b = firstEmpty (atOf (masked (b .at) table)) (probeSequence n n (start (b .hash) n))
 
 -- a table of n buckets in which each of these entries stands where its put took a bucket, and nothing else stands
 pub record Right (n : ℕ) (table bs : List Bucket) : Type 0 where

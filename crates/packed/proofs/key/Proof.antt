@@ -1,6 +1,6 @@
 -- `joined::key` meets its contract. Assumes nothing.
 use mathlib.Core.Path.{sym, _∙_}
-use Rattle.jhash.proofs.Outcomes.{told-image-hash, told-refused}
+use Rattle.jhash.proofs.Outcomes.{result-name-hash, result-refused}
 use Rattle.packed.proofs.Keys.{key-short, key-long}
 use borrow.Author.Needs.{needs}
 use Rattle.packed.proofs.key.Statement.{statement}
@@ -19,14 +19,14 @@ returns : tie.Need-returns
 returns c =
     let name = c .before .before .before .before .before .args .name .now in
     let of-hash = c .before .before .before .name-hash in
-    let told = told-image-hash name (of-hash .result) (c .before .h .given .0 .0) (of-hash .ensures) (c .before .h .given .1) in
+    let told = result-name-hash name (of-hash .result) (c .before .h .given .0 .0) (of-hash .ensures) (c .before .h .given .1) in
     told .1 ∙ sym (key-short name (told .0))
 
 returns-2 : tie.Need-returns-2
 returns-2 c =
     let name = c .before .before .before .before .args .name .now in
     let of-hash = c .before .before .name-hash in
-    sym (key-long name (told-refused name 0 (of-hash .result) (of-hash .ensures) (c .enum-told .given .1)))
+    sym (key-long name (result-refused name 0 (of-hash .result) (of-hash .ensures) (c .enum-told .given .1)))
 
 pub key-spec : {M : Type 1} → statement M
 key-spec = tie.close (tie.spec name-hash-requires enum-known-h enum-told returns returns-2)

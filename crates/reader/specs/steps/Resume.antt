@@ -4,14 +4,14 @@ use mathlib.Core.Bool.{cond}
 use mathlib.Core.List.{List}
 use lib.ListN.{length}
 use lib.Dec.{ltb, leb}
-use Rattle.image.specs.Tables.{tableOf, order}
+use Rattle.image.specs.Tables.{tableOf, probeSequence}
 use Rattle.image.specs.Image.{headSize}
 use Rattle.image.specs.Head.{tableAt, bucketNumber}
-use Rattle.reader.specs.Lookup.{Lookup, nothing, see, probe, unsearched}
+use Rattle.reader.specs.Lookup.{Lookup, nothing, probeBucket, searchAlong, unsearched}
 
 -- what is left of the search in the table of n buckets at o, before bucket k and with m buckets left
-abbrev pub rest : List ℕ → List ℕ → ℕ → ℕ → ℕ → ℕ → ℕ → Lookup
-rest image name h o n k m = probe (λ (j : ℕ). see image name h (o + 8 * j)) (order n m k) (n - m)
+abbrev pub searchRest : List ℕ → List ℕ → ℕ → ℕ → ℕ → ℕ → ℕ → Lookup
+searchRest image name h o n k m = searchAlong (λ (j : ℕ). probeBucket image name h (o + 8 * j)) (probeSequence n m k) (n - m)
 
 -- the bucket that a search in a table of n buckets reads after c others
 abbrev pub bucketAfter : ℕ → ℕ → ℕ → ℕ
@@ -22,7 +22,7 @@ unfoldable pub searchFrom : List ℕ → List ℕ → ℕ → ℕ → Lookup
 searchFrom image name h c =
     let o = tableAt image (tableOf h) in
     let n = bucketNumber image (tableOf h) in
-    cond (unsearched image (tableOf h)) (nothing 0) (rest image name h o n (bucketAfter h n c) (n - c))
+    cond (unsearched image (tableOf h)) (nothing 0) (searchRest image name h o n (bucketAfter h n c) (n - c))
 
 -- what is left of the lookup by a hash h (`lookupBy`) after c buckets
 unfoldable pub lookupFrom : List ℕ → List ℕ → ℕ → ℕ → Lookup

@@ -6,7 +6,7 @@ use mathlib.Core.Bool.{true}
 use mathlib.Core.List.{List}
 use lib.ListN.{length}
 use Rattle.image.specs.Bytes.{le32, cat}
-use Rattle.image.specs.Image.{Entry, headSize, backSize, backIn, placed, tables, links}
+use Rattle.image.specs.Image.{Entry, headSize, backSize, backIn, placed, tables, backWords}
 use Rattle.image.specs.Stored.{whole, between}
 use Rattle.image.specs.declared.Mode.{Mode}
 use Rattle.serialize.specs.Record.{finishedOf, countsAgree}
@@ -30,4 +30,4 @@ TablesAtHand words es = cat le32 words ≡ tables (placed headSize es)
 abbrev pub LinksStand : Mode → ℕ → ℕ → ℕ → List ℕ → Type 0
 LinksStand mode end entries back buf =
     between buf (end + 16 * entries) (finishedOf mode end entries back)
-    ≡ links (placed headSize (standing buf end entries)) (backIn mode back)
+    ≡ backWords (placed headSize (standing buf end entries)) (backIn mode back)

@@ -8,7 +8,7 @@ use lib.Seq.{sets}
 use lib.Dec.{eqb, leb}
 use Rattle.jhash.specs.NameHash.{hashOf}
 use Rattle.image.specs.Bytes.{word, le32, cat}
-use Rattle.image.specs.Tables.{Bucket, tableOf, start, order, firstEmpty, filled}
+use Rattle.image.specs.Tables.{Bucket, tableOf, start, probeSequence, firstEmpty, filled}
 use Rattle.image.specs.Image.{headSize, bucketBytes}
 use Rattle.image.specs.Stored.{between}
 use Rattle.image.specs.steps.EntryLength.{wholeLength}
@@ -55,7 +55,7 @@ pairsListed hashes offsets (suc c) = pairsListed hashes offsets c ++ (record { h
 -- a pair stored in the first empty bucket of its search among the n buckets at o
 unfoldable pub inserted : List ℕ → ℕ → ℕ → ℕ → ℕ → List ℕ
 inserted buf o n h at =
-    sets buf (o + 8 * firstEmpty (λ (k : ℕ). word buf (o + 8 * k + 4)) (order n n (start h n))) (le32 h ++ le32 at)
+    sets buf (o + 8 * firstEmpty (λ (k : ℕ). word buf (o + 8 * k + 4)) (probeSequence n n (start h n))) (le32 h ++ le32 at)
 
 -- does the room of a table of c entries at o lie in the buffer, and is the copy large enough for its pairs?
 abbrev pub copied : List ℕ → ℕ → ℕ → Bool

@@ -8,7 +8,7 @@ use lib.Seq.{sets}
 use lib.Dec.{eqb}
 use Rattle.jhash.specs.NameHash.{hashOf}
 use Rattle.image.specs.Bytes.{word, le32}
-use Rattle.image.specs.Tables.{tableOf, start, order, firstEmpty}
+use Rattle.image.specs.Tables.{tableOf, start, probeSequence, firstEmpty}
 use Rattle.image.specs.declared.Mode.{Mode}
 use Rattle.image.specs.declared.Mode.the-variants.{Twoway, Oneway}
 use Rattle.image.specs.Stored.{between}
@@ -19,7 +19,7 @@ unfoldable pub bucketFor : List ℕ → ℕ → ℕ
 bucketFor buf h =
     let o = word buf (24 + 8 * tableOf h) in
     let n = word buf (28 + 8 * tableOf h) in
-    o + 8 * firstEmpty (λ (k : ℕ). word buf (o + 8 * k + 4)) (order n n (start h n))
+    o + 8 * firstEmpty (λ (k : ℕ). word buf (o + 8 * k + 4)) (probeSequence n n (start h n))
 
 -- an entry of hash h at `at` stored in its table, and its link under its id
 unfoldable pub withBucket : List ℕ → ℕ → ℕ → List ℕ

@@ -34,7 +34,7 @@ use denote.Triple.Spec.{tripleOf}
 use denote.Triple.Table.{entered, cited}
 use denote.Triple.Walked.{says, needs}
 use Rattle.reader.specs.Slices.{slice}
-use Rattle.reader.specs.Naming.{namePart}
+use Rattle.reader.specs.Naming.{nameSlice}
 use Rattle.view.specs.declared.CQDB.{CQDB}
 use Rattle.view.proofs.OverView.{OfTy, passes}
 use Rattle.view.proofs.CQDB as T
@@ -129,10 +129,10 @@ module _ {M : Type 1} (𝓤 : URA M) (H : Heap 𝓤) (𝓜 : Model 𝓤 H) (𝓖
       -- what it promises of the view's slice it promises of s
       module _ (e : r .image ≡ s) where
         same : (x : RefT (List ℕ)) → ent 𝓤 (ensured 𝓤 H A name.ended (name.clauses 𝓤 H A (𝓜 .mem) (𝓡 .run)) κs (r, (i, tt)) tt x) (ensured 𝓤 H A name-of.ended (name-of.clauses 𝓤 H A (𝓜 .mem) (𝓡 .run)) κs (s, (i, tt)) tt x)
-        same x = exE 𝓤 _ (λ ws. needs 𝓤 (slice x ≡ namePart (slice (r .image)) i) (sem 𝓤 H A (lasts name.ended κs (r, (i, tt)) ws)) (λ named.
+        same x = exE 𝓤 _ (λ ws. needs 𝓤 (slice x ≡ nameSlice (slice (r .image)) i) (sem 𝓤 H A (lasts name.ended κs (r, (i, tt)) ws)) (λ named.
             qed W (‵ (lasts name.ended κs (r, (i, tt)) ws) ∷ []) ∵
-            show ! (λ (us : Lasts name-of.ended κs (s, (i, tt))). sep 𝓤 (sem 𝓤 H A (lasts name-of.ended κs (s, (i, tt)) us)) (fact 𝓤 (slice x ≡ namePart (slice s) i))) ws $
-            says ! (named ∙ ap (λ (z : RefT (List ℕ)). namePart (slice z) i) e) $ done !))
+            show ! (λ (us : Lasts name-of.ended κs (s, (i, tt))). sep 𝓤 (sem 𝓤 H A (lasts name-of.ended κs (s, (i, tt)) us)) (fact 𝓤 (slice x ≡ nameSlice (slice s) i))) ws $
+            says ! (named ∙ ap (λ (z : RefT (List ℕ)). nameSlice (slice z) i) e) $ done !))
 
         leaves : (u′ : Val) → ent 𝓤 (Name .post to-name u′) (H .⇛ (sep 𝓤 (NameOf .post y u′) (fact 𝓤 (OfTy NameTy u′))))
         leaves = passes 𝓤 H A W Tokens (ShrSlice (named 0) (κs .0) u8) NameTy (λ x u′ is. shr-slice-lawful 𝓤 H A W (named 0) (κs .0) u8 .typed x (u′ ∷ []) is .0) _ _ same

@@ -1,7 +1,7 @@
 -- `writer::append` meets its contract. Assumes nothing.
 use mathlib.Core.Path.{sym, _∙_}
-use Rattle.image.proofs.Bools.{not-both}
-use Rattle.jhash.proofs.Outcomes.{told-refused, told-image-hash}
+use Rattle.image.proofs.Bools.{false-not-true}
+use Rattle.jhash.proofs.Outcomes.{result-refused, result-name-hash}
 use Rattle.writer.specs.State.{stateWith}
 use Rattle.writer.specs.Put.{entryOf}
 use Rattle.writer.proofs.Puts.{passed, long-name}
@@ -23,15 +23,15 @@ returns c =
     let a = c .before .before .before .before .before .args in
     let s = stateWith (a .w) (a .counts .now) (a .buf .now) in
     let went = passed s (entryOf (a .name .now) (a .id)) (c .before .before .before .before .before .pre) in
-    let long = told-refused (a .name .now) 0 (c .before .before .name-hash .result) (c .before .before .name-hash .ensures) (c .enum-told .given .1) in
-    absurd (not-both (sym (went .roomy) ∙ long-name (a .w) (a .name .now) (a .id) long))
+    let long = result-refused (a .name .now) 0 (c .before .before .name-hash .result) (c .before .before .name-hash .ensures) (c .enum-told .given .1) in
+    absurd (false-not-true (sym (went .roomy) ∙ long-name (a .w) (a .name .now) (a .id) long))
 
 append-by-requires : tie.Need-append-by-requires
 append-by-requires c κs =
     let s = c .before .before .before .before .before .before .before .before in
     let hashed = c .before .before .before .before .before .name-hash in
     let h = c .before .before .before .h in
-    (s .pre, told-image-hash (s .args .name .now) (hashed .result) (h .given .0 .0) (hashed .ensures) (h .given .1) .1)
+    (s .pre, result-name-hash (s .args .name .now) (hashed .result) (h .given .0 .0) (hashed .ensures) (h .given .1) .1)
 
 same-length : tie.Need-same-length
 same-length c = search needs

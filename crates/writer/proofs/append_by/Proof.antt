@@ -4,7 +4,7 @@ use native.Mathlib.Omega.{arith}
 use native.Mathlib.Decide.{decLt}
 use mathlib.Core.Path.{sym, _∙_}
 use lib.ListN.{length}
-use Rattle.image.proofs.Bools.{not-both}
+use Rattle.image.proofs.Bools.{false-not-true}
 use Rattle.writer.specs.State.{stateWith}
 use Rattle.writer.specs.Put.{entryOf, writerAfter}
 use Rattle.writer.proofs.Puts.{passed, long-name, count-small, entry-fits, size-small, appended-parts}
@@ -28,7 +28,7 @@ store-requires c κs =
     let went = passed (stateWith (a .w) (a .counts .now) (a .buf .now)) (entryOf (a .name .now) (a .id)) (s .pre .0) in
     let short : length (a .name .now) < 4294967295 = elim (decLt (length (a .name .now)) 4294967295) [
       | yes p ↦ p
-      | no p ↦ absurd (not-both (sym (went .roomy) ∙ long-name (a .w) (a .name .now) (a .id) (omega arith)))
+      | no p ↦ absurd (false-not-true (sym (went .roomy) ∙ long-name (a .w) (a .name .now) (a .id) (omega arith)))
     ] in
     (entry-fits (a .w) (a .counts .now) (a .buf .now) (length (a .name .now)) (a .id) (went .fitted) (went .roomy), short)
 

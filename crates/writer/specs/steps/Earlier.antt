@@ -5,13 +5,13 @@ use mathlib.Core.List.{List}
 use lib.ListN.{getD}
 use lib.Dec.{eqb}
 use Rattle.image.specs.Bytes.{all}
-use Rattle.image.specs.Image.{holds}
+use Rattle.image.specs.Image.{containsName}
 use Rattle.writer.specs.State.{State, refusesRepeats}
 use Rattle.writer.specs.Close.{recorded, consistent}
 
 -- what a walk over them gives: 4 where it fails close's checks, otherwise 16 where it meets the name, 0 for neither
 unfoldable pub walkRefusal : State → List ℕ → ℕ
-walkRefusal s name = cond (not (consistent s)) 4 (cond (holds name (recorded s)) 16 0)
+walkRefusal s name = cond (not (consistent s)) 4 (cond (containsName name (recorded s)) 16 0)
 
 -- with repeats on there is no walk
 unfoldable pub earlierRefusal : State → List ℕ → ℕ

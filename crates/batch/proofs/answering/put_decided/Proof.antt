@@ -3,7 +3,7 @@ use native.Mathlib.Omega.{arith}
 use mathlib.Core.Path.{sym, ap, _∙_}
 use lib.Seq.{sets}
 use Rattle.reader.specs.Lookup.{Lookup, ends, hit}
-use Rattle.reader.specs.Cases.{seenOf}
+use Rattle.reader.specs.Cases.{probeOf}
 use Rattle.batch.specs.Round.{answerWords}
 use Rattle.batch.proofs.Finds.{too-long, empty-decides, entry-decides, rest-decides}
 use borrow.Author.Needs.{needs}
@@ -34,8 +34,8 @@ returns-2 c =
     let answer = empty-decides (a .image .now) (a .name .now) (a .h) (a .c) (a .offset) (c .before .before .before .before .before .before .before .before .before .pre .1) (c .before .before .before .before .before .if1 .left) (c .before .before .before .before .if2 .taken) in
     c .before .before .put-words2 .ensures ∙ ap (λ (x : Lookup). sets (a .answers .now) (a .at) (answerWords x)) answer
 
-see-entry-requires : tie.Need-see-entry-requires
-see-entry-requires c κs = search needs
+probe-entry-requires : tie.Need-probe-entry-requires
+probe-entry-requires c κs = search needs
 
 enum-told : tie.Need-enum-told
 enum-told c = search needs
@@ -65,7 +65,7 @@ returns-3 : tie.Need-returns-3
 returns-3 c =
     let s = c .before .before .before .before .before .before .before .before .before .before .before .before .before in
     let a = s .args in
-    let seen = sym (ap seenOf (c .before .before .before .before .before .enum-told .given .1)) ∙ c .before .before .before .before .before .before .before .see-entry .ensures in
+    let seen = sym (ap probeOf (c .before .before .before .before .before .enum-told .given .1)) ∙ c .before .before .before .before .before .before .before .probe-entry .ensures in
     let short = c .before .before .before .before .before .before .before .before .before .if1 .left in
     let some = c .before .before .before .before .before .before .before .before .if2 .left in
     let answer = c .before .before .before .search-from .ensures ∙ rest-decides (a .image .now) (a .name .now) (a .h) (a .c) (a .offset) (s .pre .1) short some seen in
@@ -77,7 +77,7 @@ same-length-4 c = search needs
 returns-4 : tie.Need-returns-4
 returns-4 c =
     let a = c .before .before .before .before .before .before .before .before .before .before .before .before .args in
-    let seen = sym (ap seenOf (c .before .before .before .before .enum-told2 .given .1)) ∙ c .before .before .before .before .before .before .see-entry .ensures in
+    let seen = sym (ap probeOf (c .before .before .before .before .enum-told2 .given .1)) ∙ c .before .before .before .before .before .before .probe-entry .ensures in
     let answer = entry-decides (a .image .now) (a .name .now) (a .h) (a .c) (a .offset) (c .before .before .before .before .before .before .before .before .before .before .before .before .pre .1) (c .before .before .before .before .before .before .before .before .if1 .left) (c .before .before .before .before .before .before .before .if2 .left) ends seen in
     c .before .before .put-words3 .ensures ∙ ap (λ (x : Lookup). sets (a .answers .now) (a .at) (answerWords x)) answer
 
@@ -88,7 +88,7 @@ returns-5 : tie.Need-returns-5
 returns-5 c =
     let a = c .before .before .before .before .before .before .before .before .before .before .before .before .before .args in
     let told = c .before .before .before .before .before .hit .given .0 .0 in
-    let seen = sym (ap seenOf (c .before .before .before .before .before .hit .given .1)) ∙ c .before .before .before .before .before .before .before .see-entry .ensures in
+    let seen = sym (ap probeOf (c .before .before .before .before .before .hit .given .1)) ∙ c .before .before .before .before .before .before .before .probe-entry .ensures in
     let pre = c .before .before .before .before .before .before .before .before .before .before .before .before .before .pre in
     let short = c .before .before .before .before .before .before .before .before .before .if1 .left in
     let some = c .before .before .before .before .before .before .before .before .if2 .left in
@@ -106,7 +106,7 @@ put-decided-spec =
     put-words-requires-2
     same-length-2
     returns-2
-    see-entry-requires
+    probe-entry-requires
     enum-told
     search-from-requires
     put-answer-requires

@@ -6,7 +6,7 @@ use mathlib.Core.List.{List}
 use lib.ListN.{length}
 use Rattle.image.specs.Bytes.{same}
 use Rattle.image.proofs.Equal.{same-true, same-self}
-use Rattle.image.proofs.Bools.{not-both}
+use Rattle.image.proofs.Bools.{false-not-true}
 use Rattle.batch.specs.RoundNames.{names, nth}
 use Rattle.packed.proofs.NameEnds.{length-names}
 use Rattle.batch.proofs.Tells.{Walked, walk-start, walk-step, walk-end, walk-found}
@@ -77,7 +77,7 @@ loop-again c =
     let small : q - 1 < length (s .args .ends .now) = omega (arith, of-loop .inv .below, s .pre .1) in
     let x = nth (xs s) (s .args .i) in
     walk-step (xs s) (s .args .keys .now) (s .args .i) (s .pre .4) (inside s) q _ (omega arith) (of-loop .inv)
-    (λ e. not-both (sym (c .before .if1 .left) ∙ c .before .before .equal-names .ensures ∙ ap (λ (l : List ℕ). same l x) e ∙ same-self x)) (s .pre .5 (q - 1) small)
+    (λ e. false-not-true (sym (c .before .if1 .left) ∙ c .before .before .equal-names .ensures ∙ ap (λ (l : List ℕ). same l x) e ∙ same-self x)) (s .pre .5 (q - 1) small)
 
 returns-2 : tie.Need-returns-2 Inv-loop μ-loop
 returns-2 c =

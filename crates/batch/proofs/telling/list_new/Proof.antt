@@ -4,7 +4,7 @@ use native.Mathlib.Omega.{arith}
 use mathlib.Core.Path.{_≡_, refl, sym, _∙_}
 use mathlib.Core.List.{_++_}
 use lib.ListN.{length, take, length-set}
-use Rattle.image.specs.Bytes.{keep, range}
+use Rattle.image.specs.Bytes.{filter, range}
 use Rattle.batch.specs.steps.Telling.{isNew, news}
 use Rattle.batch.proofs.News.{news-start, news-turn, news-end}
 use borrow.Author.Needs.{needs}
@@ -13,7 +13,7 @@ use Rattle.batch.proofs.telling.list_new.Tie as tie
 
 abbrev Inv-loop : tie.InvT-loop
 Inv-loop equals n list₀ m₀ i₀ list m i =
-    (m ≤ i) × (i ≤ n) × (length list ≡ length list₀) × (take m list ++ keep (isNew equals) (range i (n - i)) ≡ news equals n)
+    (m ≤ i) × (i ≤ n) × (length list ≡ length list₀) × (take m list ++ filter (isNew equals) (range i (n - i)) ≡ news equals n)
 
 abbrev μ-loop : tie.MeasureT-loop
 μ-loop equals n list₀ m₀ i₀ list m i = n - i

@@ -3,23 +3,23 @@ use Prim.Native.Nat.{_+_}
 use native.Mathlib.Omega.{arith}
 use lib.ListN.{length}
 use borrow.Author.Needs.{needs}
-use Rattle.image.proofs.Bools.{not-both}
+use Rattle.image.proofs.Bools.{false-not-true}
 use Rattle.packed.proofs.NameEnds.{begin-later}
 use Rattle.build.proofs.Largest.{largest-above}
 use Rattle.build.proofs.capacity.has_capacity.Statement.{statement}
 use Rattle.build.proofs.capacity.has_capacity.Tie as tie
 
 returns : tie.Need-returns
-returns c = λ e. absurd (not-both e)
+returns c = λ e. absurd (false-not-true e)
 
 returns-2 : tie.Need-returns-2
-returns-2 c = λ e. absurd (not-both e)
+returns-2 c = λ e. absurd (false-not-true e)
 
 mul-if3 : tie.Need-mul-if3
 mul-if3 c = omega arith
 
 returns-3 : tie.Need-returns-3
-returns-3 c = λ e. absurd (not-both e)
+returns-3 c = λ e. absurd (false-not-true e)
 
 sub-last : tie.Need-sub-last
 sub-last c = omega (arith, c .before .before .if1 .left)
@@ -31,7 +31,7 @@ shared-slice-read-last : tie.Need-shared-slice-read-last
 shared-slice-read-last c = omega (arith, c .before .before .before .if1 .left)
 
 returns-4 : tie.Need-returns-4
-returns-4 c = λ e. absurd (not-both e)
+returns-4 c = λ e. absurd (false-not-true e)
 
 largest-requires : tie.Need-largest-requires
 largest-requires c κs = c .before .before .before .before .before .before .before .pre
@@ -46,7 +46,7 @@ back-in-requires : tie.Need-back-in-requires
 back-in-requires c κs = search needs
 
 returns-5 : tie.Need-returns-5
-returns-5 c = λ e. absurd (not-both e)
+returns-5 c = λ e. absurd (false-not-true e)
 
 add-size : tie.Need-add-size
 add-size c = omega (arith, c .if5 .left, c .before .before .before .if4 .left, c .before .before .before .before .before .before .if2 .left)
@@ -64,10 +64,10 @@ add-size-3 : tie.Need-add-size-3
 add-size-3 c = omega (arith, c .if5 .left, c .before .before .before .if4 .left, c .before .before .before .before .before .before .if2 .left)
 
 returns-6 : tie.Need-returns-6
-returns-6 c = λ e. absurd (not-both e)
+returns-6 c = λ e. absurd (false-not-true e)
 
 returns-7 : tie.Need-returns-7
-returns-7 c = λ e. absurd (not-both e)
+returns-7 c = λ e. absurd (false-not-true e)
 
 returns-8 : tie.Need-returns-8
 returns-8 c = λ e. (let s = c .before .before .before .before .before .before .before .before .before .before .before .before in

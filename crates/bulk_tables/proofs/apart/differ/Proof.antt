@@ -4,7 +4,7 @@ use mathlib.Core.Path.{sym, ap₂, _∙_}
 use borrow.Author.Needs.{needs}
 use borrow.Author.Tests.{not-true}
 use Rattle.image.specs.Bytes.{same}
-use Rattle.image.proofs.Bools.{not-both}
+use Rattle.image.proofs.Bools.{false-not-true}
 use Rattle.bulk_tables.proofs.Offsets.{differ-found}
 use Rattle.bulk_tables.proofs.apart.differ.Statement.{statement}
 use Rattle.bulk_tables.proofs.apart.differ.Tie as tie
@@ -19,13 +19,13 @@ offset-of-requires : tie.Need-offset-of-requires
 offset-of-requires c κs = search needs
 
 returns : tie.Need-returns
-returns c = λ e. absurd (not-both e)
+returns c = λ e. absurd (false-not-true e)
 
 offset-of-requires-2 : tie.Need-offset-of-requires-2
 offset-of-requires-2 c κs = search needs
 
 returns-2 : tie.Need-returns-2
-returns-2 c = λ e. absurd (not-both e)
+returns-2 c = λ e. absurd (false-not-true e)
 
 name-of-requires : tie.Need-name-of-requires
 name-of-requires c κs = search needs

@@ -5,8 +5,8 @@ use mathlib.Core.Path.{_≡_, sym, _∙_}
 use mathlib.Core.Bool.{true}
 use mathlib.Core.Logic.{⊎-elim}
 use borrow.Author.Tests.{not-false}
-use Rattle.image.proofs.Bools.{not-both}
-use Rattle.image.proofs.Turns.{next-more, next-first}
+use Rattle.image.proofs.Bools.{false-not-true}
+use Rattle.image.proofs.ProbeStep.{next-inside, next-wraps}
 use Rattle.bulk_tables.specs.steps.Tabled.{bucketIn, Differ}
 use Rattle.bulk_tables.proofs.Searching.{Ahead, ahead-start, ahead-turn, found, none-met}
 use Rattle.bulk_tables.proofs.fill.bucket_for.Statement.{statement}
@@ -99,13 +99,13 @@ loop-again c =
     let D : ℕ → Type 0 = λ (x : ℕ). Differ (a .bytes .now) (a .ends .now) x (a .offset) in
     let other : b (l .k) .hash ≡ a .h → a .different ≡ true → D (b (l .k) .at) = λ e d.
     ⊎-elim
-    (λ w. ⊎-elim (λ v. v .1 .ensures (not-false _ (v .2 .left))) (λ v. absurd (not-both (sym (v .left) ∙ d))) (w .1 .came))
+    (λ w. ⊎-elim (λ v. v .1 .ensures (not-false _ (v .2 .left))) (λ v. absurd (false-not-true (sym (v .left) ∙ d))) (w .1 .came))
     (λ w. absurd (w .left e))
     (c .before .if2 .came) in
     let again = ahead-turn b (a .different) D (a .h) (a .m) (l .left) (l .k) (l .inv) (test .loop-test .taken) (c .before .before .before .if1 .left) other in
     ⊎-elim
-    (λ w. again (c .if5 .k) (w .1 ∙ next-more (a .m) (l .k) (w .0 .taken)) (omega (arith, w .0 .taken, w .1)))
-    (λ w. again (c .if5 .k) (w .1 ∙ next-first (a .m) (l .k) (omega (arith, l .inv .inside, w .0 .left))) (omega (arith, s .pre .4, w .1)))
+    (λ w. again (c .if5 .k) (w .1 ∙ next-inside (a .m) (l .k) (w .0 .taken)) (omega (arith, w .0 .taken, w .1)))
+    (λ w. again (c .if5 .k) (w .1 ∙ next-wraps (a .m) (l .k) (omega (arith, l .inv .inside, w .0 .left))) (omega (arith, s .pre .4, w .1)))
     (c .if5 .came)
 
 returns-3 : tie.Need-returns-3 Inv-loop μ-loop

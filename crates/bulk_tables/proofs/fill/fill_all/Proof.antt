@@ -5,7 +5,7 @@ use mathlib.Core.Path.{_≡_, refl, _∙_}
 use mathlib.Core.Bool.{true}
 use lib.ListN.{length}
 use borrow.Author.Tests.{not-false}
-use Rattle.image.proofs.Bools.{not-both}
+use Rattle.image.proofs.Bools.{false-not-true}
 use Rattle.bulk_tables.proofs.TablesFilled.{AllFilling, all-start, all-turn, fits, within}
 use Rattle.bulk_tables.proofs.fill.fill_all.Statement.{statement}
 use Rattle.bulk_tables.proofs.fill.fill_all.Tie as tie
@@ -67,8 +67,8 @@ returns c =
     let here = fits (a .different) (a .bytes .now) (a .ends .now) (a .work .now) (a .tables .now) (s .pre .5) (l .t) (l .first) (l .work) i inside _ refl in
     let ends-in = within (a .different) (a .bytes .now) (a .ends .now) (a .work .now) (a .tables .now) (s .pre .5) (l .t) (l .first) (l .work) i inside _ refl in
     let kept = c .before .before .before .fill-table .ensures .1 .1 in (
-      λ e. absurd (not-both e),
-      (λ e. absurd (not-both e), (λ w h. kept .1 w (omega (arith, here, ends-in)) ∙ i .rest w (omega (arith, i .low)), kept .2 ∙ i .long)),
+      λ e. absurd (false-not-true e),
+      (λ e. absurd (false-not-true e), (λ w h. kept .1 w (omega (arith, here, ends-in)) ∙ i .rest w (omega (arith, i .low)), kept .2 ∙ i .long)),
     )
 
 add-t : tie.Need-add-t Inv-loop μ-loop

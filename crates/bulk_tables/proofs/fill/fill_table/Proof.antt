@@ -3,7 +3,7 @@ use Prim.Native.Nat.{ℕ, _*_, _-_, _≤_, _<_}
 use native.Mathlib.Omega.{arith}
 use mathlib.Core.Path.{_≡_, refl, subst}
 use lib.ListN.{length-set}
-use Rattle.image.proofs.Bools.{not-both}
+use Rattle.image.proofs.Bools.{false-not-true}
 use Rattle.bulk_tables.proofs.TablesFilled.{Filling, filling-start, filling-turn, filling-fills, filling-apart}
 use Rattle.bulk_tables.proofs.fill.fill_table.Statement.{statement}
 use Rattle.bulk_tables.proofs.fill.fill_table.Tie as tie
@@ -70,7 +70,7 @@ same-length c = c .before .before .before .before .before .before .loop .inv .1 
 returns : tie.Need-returns Inv-loop μ-loop
 returns c =
     let i = c .before .before .before .before .before .before .loop .inv .1 in
-    (λ e. absurd (not-both e), (λ e. absurd (not-both e), (i .before, i .after, i .long)))
+    (λ e. absurd (false-not-true e), (λ e. absurd (false-not-true e), (i .before, i .after, i .long)))
 
 mul-work : tie.Need-mul-work Inv-loop μ-loop
 mul-work c = let s = c .before .before .before .before .before .before .before .before .before .before in omega (arith, s .pre .2, s .pre .5, c .if1 .left)

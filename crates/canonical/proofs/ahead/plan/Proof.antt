@@ -2,7 +2,7 @@
 use borrow.Author.Needs.{needs}
 use native.Mathlib.Omega.{arith}
 use Prim.Native.Nat.{_+_, _-_, _≤_}
-use Rattle.jhash.proofs.Outcomes.{told-refused, told-image-hash}
+use Rattle.jhash.proofs.Outcomes.{result-refused, result-name-hash}
 use Rattle.image.proofs.Between.{entry-room}
 use Rattle.canonical.proofs.NotedEntries.{Planned, plan-start, plan-turn, plan-broken, plan-all}
 use Rattle.canonical.proofs.ahead.plan.Statement.{statement}
@@ -55,7 +55,7 @@ returns-2 : tie.Need-returns-2 Inv-loop μ-loop
 returns-2 c =
     let hashed = c .before .before .name-hash in
     let name = c .before .before .before .name-at in
-    absurd (omega (arith, told-refused (name .result .now) 0 (hashed .result) (hashed .ensures) (c .enum-told .given .1), name .ensures .1, c .before .before .before .before .before .whole-length .ensures .1))
+    absurd (omega (arith, result-refused (name .result .now) 0 (hashed .result) (hashed .ensures) (c .enum-told .given .1), name .ensures .1, c .before .before .before .before .before .whole-length .ensures .1))
 
 first-place-requires : tie.Need-first-place-requires Inv-loop μ-loop
 first-place-requires c κs = search needs
@@ -99,7 +99,7 @@ loop-again c =
     let hashed = c .before .before .before .before .name-hash in
     let h = c .before .before .h .given .0 .0 in
     let name = c .before .before .before .before .before .name-at in
-    let told = told-image-hash (name .result .now) (hashed .result) h (hashed .ensures) (c .before .before .h .given .1) in
+    let told = result-name-hash (name .result .now) (hashed .result) h (hashed .ensures) (c .before .before .h .given .1) in
     plan-turn (a .image .now) (a .end) (a .from) (l .hashes) (l .places) (l .at) (l .i) (l .inv) (p .1) (w .result) (w .ensures .0) (c .before .before .before .before .before .before .if1 .left) (c .before .before .before .before .before .before .before .before .loop-test .taken)
     h (c .first-place .result) (name .result .now) (name .ensures .0) (told .1) (c .first-place .ensures)
 

@@ -7,7 +7,7 @@ use mathlib.Core.Path.{_≡_, refl}
 use mathlib.Core.Bool.{true}
 use lib.ListN.{getD}
 use Rattle.image.specs.Tables.{tableOf}
-use Rattle.image.proofs.Bools.{not-both}
+use Rattle.image.proofs.Bools.{false-not-true}
 use Rattle.canonical.specs.steps.Noted.{Notes}
 use Rattle.canonical.proofs.Enters.{Enter, enter-start, enter-broken, enter-room, enter-wrong, enter-turn, enter-end}
 use Rattle.canonical.proofs.NotedEntries.{notes-start, notes-hash, notes-place, notes-word, notes-next}
@@ -43,7 +43,7 @@ returns c =
     let l = c .before .before .before .before .before .before .before .loop in
     let some = c .before .before .before .before .before .before .loop-test .taken in
     let w = c .before .whole-length in
-    (enter-broken (a .image .now) (a .end) (a .entries) (a .counts .now) (p .1) (l .at) (l .left) (l .back) (l .counts) (l .inv .0) some (w .result) (w .ensures .0) (c .if1 .taken), (λ z. absurd (not-both z), λ z. absurd (not-both z)))
+    (enter-broken (a .image .now) (a .end) (a .entries) (a .counts .now) (p .1) (l .at) (l .left) (l .back) (l .counts) (l .inv .0) some (w .result) (w .ensures .0) (c .if1 .taken), (λ z. absurd (false-not-true z), λ z. absurd (false-not-true z)))
 
 sub-i : tie.Need-sub-i Inv-loop μ-loop
 sub-i c = let seen = c .before .before .ahead in omega (arith, seen .ensures .0, seen .ensures .1)
@@ -92,7 +92,7 @@ returns-2 c =
     let w = c .before .before .before .whole-length in
     let entry = c .before .entry-right in (
       enter-wrong (a .image .now) (a .end) (a .entries) (a .counts .now) (p .1) (l .at) (l .left) (l .back) (l .counts) (l .inv .0) some (w .result) (w .ensures .0) (c .before .before .if1 .left) (entry .result) (entry .ensures) (not-true _ (c .if2 .taken)),
-      (λ z. absurd (not-both z), λ z. absurd (not-both z)),
+      (λ z. absurd (false-not-true z), λ z. absurd (false-not-true z)),
     )
 
 raise-requires : tie.Need-raise-requires Inv-loop μ-loop

@@ -7,7 +7,7 @@ use mathlib.Core.Bool.{true}
 use Rattle.image.specs.Bytes.{word}
 use Rattle.image.specs.Stored.{whole, between}
 use Rattle.image.proofs.Between.{Front, front}
-use Rattle.image.proofs.Bools.{not-both}
+use Rattle.image.proofs.Bools.{false-not-true}
 use Rattle.canonical.specs.steps.Tests.{aheadIn, selvesIn}
 use Rattle.canonical.specs.steps.Tests.{placedFrom}
 use Rattle.canonical.proofs.Steps.{whole-broken, walk-inside, walk-whole, ahead-next, ahead-stop, selves-next, ahead-none, selves-none}
@@ -88,7 +88,7 @@ returns-2 c =
     let get-u322 = c .before .before .get-u322 in
     let wide2 = c .before .wide2 in (
       ahead-stop (a .image .now) (l .at) (a .end) (whole-length .result) (l .left) (l .inv .0) (pre .1) (known (c .before .before .before .before .before)) (test .taken) (a .o) (get-u322 .result) (linked (c .before .before)) _ (omega (arith, wide2 .ensures .0, c .if2 .taken)) (l .inv .3),
-      λ z. absurd (not-both z),
+      λ z. absurd (false-not-true z),
     )
 
 cast-match-of : tie.Need-cast-match-of Inv-loop μ-loop

@@ -2,9 +2,9 @@
 use native.Mathlib.Omega.{arith}
 use mathlib.Core.Path.{sym, ap, _∙_}
 use Rattle.reader.specs.Cases.{namingOf}
-use Rattle.reader.specs.Slices.{slice, part}
+use Rattle.reader.specs.Slices.{slice, subslice}
 use Rattle.consistency.specs.Panel.{panel}
-use Rattle.reader.proofs.Namings.{named-part, no-part}
+use Rattle.reader.proofs.Namings.{named-slice, no-slice}
 use Rattle.consistency.proofs.Panels.{panel-inside}
 use borrow.Author.Needs.{needs}
 use Rattle.consistency.proofs.panel.panel.Statement.{statement}
@@ -53,14 +53,14 @@ returns c =
     let a = c .before .before .before .before .before .before .args in
     let of-start = c .before .before .start .given in
     let image = slice (a .image) in
-    named-part image (part image 0 0) (panel (a .image .now) (a .id)) (of-start .0 .0) (of-start .0 .1 .0)
+    named-slice image (subslice image 0 0) (panel (a .image .now) (a .id)) (of-start .0 .0) (of-start .0 .1 .0)
     (ap namingOf (sym (of-start .1)) ∙ c .before .before .before .before .panel-place .ensures)
 
 returns-2 : tie.Need-returns-2
 returns-2 c =
     let a = c .before .before .before .before .before .args in
     let image = slice (a .image) in
-    no-part image (part image 0 0) (panel (a .image .now) (a .id)) (ap namingOf (sym (c .before .enum-told .given .1)) ∙ c .before .before .before .panel-place .ensures)
+    no-slice image (subslice image 0 0) (panel (a .image .now) (a .id)) (ap namingOf (sym (c .before .enum-told .given .1)) ∙ c .before .before .before .panel-place .ensures)
 
 pub panel-spec : {M : Type 1} → statement M
 panel-spec =

@@ -13,8 +13,8 @@ to-str-requires c κs = search needs
 enum-known-start : tie.Need-enum-known-start
 enum-known-start c = search needs
 
-shown-requires : tie.Need-shown-requires
-shown-requires c κs =
+shown-length-requires : tie.Need-shown-length-requires
+shown-length-requires c κs =
     let a = c .before .before .before .before .before .args in
     let place = c .before .start .given in
     named (a .image .now) (a .id) (place .0 .0) (place .0 .1 .0) (sym (c .before .before .before .to-str .ensures) ∙ ap namingOf (place .1)) .inside
@@ -27,7 +27,7 @@ returns c =
     let a = c .before .before .before .before .before .before .args in
     let place = c .before .before .start .given in
     let told = ap namingOf (sym (place .1)) ∙ c .before .before .before .before .to-str .ensures in
-    panel-named (a .image .now) (a .id) (place .0 .0) (place .0 .1 .0) told (c .shown .result) (c .shown .ensures)
+    panel-named (a .image .now) (a .id) (place .0 .0) (place .0 .1 .0) told (c .shown-length .result) (c .shown-length .ensures)
 
 returns-2 : tie.Need-returns-2
 returns-2 c =
@@ -40,7 +40,7 @@ panel-place-spec =
     (tie.spec
     to-str-requires
     enum-known-start
-    shown-requires
+    shown-length-requires
     enum-told
     returns
     returns-2)

@@ -6,7 +6,7 @@ use borrow.Author.Needs.{needs}
 use Rattle.image.specs.Bytes.{all}
 use Rattle.consistency.specs.Panel.{agreeOn, readingsAgree}
 use Rattle.reader.specs.IdWalk.{upperHint}
-use Rattle.consistency.proofs.Panels.{disagree, agree-further, agree-hinted, agree-none, looked-on, looked-off, looked-next}
+use Rattle.consistency.proofs.Panels.{disagree, agree-further, agree-hinted, agree-none, agree-step-nonzero, agree-step-zero, agree-step-next}
 use Rattle.consistency.proofs.panel.readings_agree.Statement.{statement}
 use Rattle.consistency.proofs.panel.readings_agree.Tie as tie
 
@@ -30,8 +30,8 @@ loop-holds c =
     let hint = c .size-hint .ensures ∙ ap (upperHint image) (c .before .iter .ensures) in
     (omega arith, ap (all (agreeOn image) 0) whole ∙ agree-hinted image n hint)
 
-after-look-requires : tie.Need-after-look-requires Inv-loop μ-loop
-after-look-requires c κs = search needs
+agree-step-requires : tie.Need-agree-step-requires Inv-loop μ-loop
+agree-step-requires c κs = search needs
 
 returns : tie.Need-returns Inv-loop μ-loop
 returns c =
@@ -39,17 +39,17 @@ returns c =
     let of-loop = c .before .before .before .loop in
     let n = c .before .before .before .before .size-hint .result in
     let less = c .before .before .loop-test .taken in
-    let look = c .before .after-look in
-    let no = looked-off (agreeOn image (of-loop .id)) (of-loop .id) (look .result) (look .ensures) (c .if1 .taken) in
+    let look = c .before .agree-step in
+    let no = agree-step-zero (agreeOn image (of-loop .id)) (of-loop .id) (look .result) (look .ensures) (c .if1 .taken) in
     sym (disagree image n (of-loop .id) less no) ∙ of-loop .inv .1
 
 loop-less : tie.Need-loop-less Inv-loop μ-loop
 loop-less c =
     let image = c .before .before .before .before .before .before .before .args .image .now in
     let of-loop = c .before .before .before .loop in
-    let look = c .before .after-look in
+    let look = c .before .agree-step in
     let less = c .before .before .loop-test .taken in
-    let next = looked-next (agreeOn image (of-loop .id)) (of-loop .id) (look .result) (look .ensures) (c .if1 .left) in
+    let next = agree-step-next (agreeOn image (of-loop .id)) (of-loop .id) (look .result) (look .ensures) (c .if1 .left) in
     omega arith
 
 loop-again : tie.Need-loop-again Inv-loop μ-loop
@@ -58,9 +58,9 @@ loop-again c =
     let of-loop = c .before .before .before .loop in
     let n = c .before .before .before .before .size-hint .result in
     let less = c .before .before .loop-test .taken in
-    let look = c .before .after-look in
-    let yes = looked-on (agreeOn image (of-loop .id)) (of-loop .id) (look .result) (look .ensures) (c .if1 .left) in
-    let next = looked-next (agreeOn image (of-loop .id)) (of-loop .id) (look .result) (look .ensures) (c .if1 .left) in
+    let look = c .before .agree-step in
+    let yes = agree-step-nonzero (agreeOn image (of-loop .id)) (of-loop .id) (look .result) (look .ensures) (c .if1 .left) in
+    let next = agree-step-next (agreeOn image (of-loop .id)) (of-loop .id) (look .result) (look .ensures) (c .if1 .left) in
     (omega arith, ap (λ (k : ℕ). all (agreeOn image) k (n - k)) next ∙ agree-further image n (of-loop .id) less yes ∙ of-loop .inv .1)
 
 returns-2 : tie.Need-returns-2 Inv-loop μ-loop
@@ -80,7 +80,7 @@ readings-agree-spec =
     iter-requires
     size-hint-requires
     loop-holds
-    after-look-requires
+    agree-step-requires
     returns
     loop-less
     loop-again

@@ -1,16 +1,16 @@
 -- `image::entries::walk` meets its contract. Assumes nothing.
 use Rattle.image.specs.Tables.{tableOf}
-use Rattle.jhash.proofs.Outcomes.{told-refused, told-image-hash}
+use Rattle.jhash.proofs.Outcomes.{result-refused, result-name-hash}
 use borrow.Author.Needs.{needs}
 use Prim.Native.Nat.{_+_}
 use mathlib.Core.Path.{sym, _∙_}
-use Rattle.image.proofs.Bools.{not-both}
+use Rattle.image.proofs.Bools.{false-not-true}
 use Rattle.image.specs.Stored.{between}
 use Rattle.image.proofs.Between.{Front, front, entry-room}
 use native.Mathlib.Omega.{arith}
 use Prim.Native.Nat.{_<_, _≤_}
 use mathlib.Core.Path.{_≡_, refl}
-use Rattle.image.proofs.EntryWalk.{Rest, MetRest, walk-start, walk-turn, walk-broken, walk-end, met-turn, met-end}
+use Rattle.image.proofs.EntryWalk.{Rest, ContainsRest, walk-start, walk-step, walk-broken, walk-end, contains-step, contains-end}
 use Rattle.image.proofs.entries.walk.Statement.{statement}
 use Rattle.image.proofs.entries.walk.Tie as tie
 use Rattle.image.proofs.entries.walk.Reads as reads
@@ -24,11 +24,11 @@ use Rattle.image.proofs.entries.larger.Reads as larger-reads
 use Rattle.image.proofs.entries.raise.Reads as raise-reads
 
 abbrev Inv-loop : tie.InvT-loop
-Inv-loop buf end entries counts₀ sought at₀ left₀ back₀ met₀ want counts at left back met =
-    Rest buf end entries counts₀ at left back counts × MetRest buf end entries sought at left met
+Inv-loop buf end entries counts₀ sought at₀ left₀ back₀ met₀ want counts at left back contains =
+    Rest buf end entries counts₀ at left back counts × ContainsRest buf end entries sought at left contains
 
 abbrev μ-loop : tie.MeasureT-loop
-μ-loop buf end entries counts₀ sought at₀ left₀ back₀ met₀ want counts at left back met = left
+μ-loop buf end entries counts₀ sought at₀ left₀ back₀ met₀ want counts at left back contains = left
 
 -- what the entry's length word says, where it is not 0
 known : (c : tie.Else1 Inv-loop μ-loop)
@@ -62,7 +62,7 @@ returns c =
     let a = c .before .before .before .before .before .before .before .args in
     let of-loop = c .before .before .before .loop in (
       walk-broken (a .buf .now) (a .end) (a .entries) (a .counts .now) (of-loop .at) (of-loop .left) (of-loop .back) (of-loop .counts) (of-loop .inv .0) (c .before .before .loop-test .taken) (sym (c .if1 .taken) ∙ c .before .whole-length .ensures .0),
-      ((λ z. absurd (not-both z)), ((λ z. absurd (not-both z)), (λ z. absurd (not-both z)))),
+      ((λ z. absurd (false-not-true z)), ((λ z. absurd (false-not-true z)), (λ z. absurd (false-not-true z)))),
     )
 
 name-at-requires : tie.Need-name-at-requires Inv-loop μ-loop
@@ -96,7 +96,7 @@ returns-2 c =
     let hashed = c .before .before .name-hash in
     let name = c .before .before .before .before .before .name-at in
     let n = c .before .before .before .before .before .before .before .whole-length in
-    absurd (omega (arith, told-refused (name .result .now) 0 (hashed .result) (hashed .ensures) (c .enum-told .given .1), name .ensures .1, n .ensures .1))
+    absurd (omega (arith, result-refused (name .result .now) 0 (hashed .result) (hashed .ensures) (c .enum-told .given .1), name .ensures .1, n .ensures .1))
 
 raise-requires : tie.Need-raise-requires Inv-loop μ-loop
 raise-requires c κs =
@@ -110,7 +110,7 @@ is-sought-requires : tie.Need-is-sought-requires Inv-loop μ-loop
 is-sought-requires c κs =
     let hashed = c .before .before .before .before .before .name-hash in
     let h = c .before .before .before .h .given in
-    let told = told-image-hash (c .before .before .before .before .before .before .before .before .name-at .result .now) (hashed .result) (h .0 .0) (hashed .ensures) (h .1) in
+    let told = result-name-hash (c .before .before .before .before .before .before .before .before .name-at .result .now) (hashed .result) (h .0 .0) (hashed .ensures) (h .1) in
     (told .0, told .1, c .before .before .before .before .before .before .before .before .before .before .before .before .before .sought-hash .ensures)
 
 add-at : tie.Need-add-at Inv-loop μ-loop
@@ -148,11 +148,11 @@ loop-again c =
     let f = known (c .before .before .before .before .before .before .before .before .before .before) in
     let of-name-at = c .before .before .before .before .before .before .before .before .before .name-at in
     let name = of-name-at .result .now in
-    let told = told-image-hash name (of-name-hash .result) (of-h .given .0 .0) (of-name-hash .ensures) (of-h .given .1) in
+    let told = result-name-hash name (of-name-hash .result) (of-h .given .0 .0) (of-name-hash .ensures) (of-h .given .1) in
     let small : of-word .result < 4294967296 = omega (arith, of-word .ok) in
-    let t = walk-turn (a .buf .now) (a .end) (a .entries) (a .counts .now) (of-loop .at) (of-loop .left) (of-loop .back) (of-loop .counts) (start-pre .1) (of-loop .inv .0) some
+    let t = walk-step (a .buf .now) (a .end) (a .entries) (a .counts .now) (of-loop .at) (of-loop .left) (of-loop .back) (of-loop .counts) (start-pre .1) (of-loop .inv .0) some
     (of-whole-length .result) (of-h .given .0 .0) (of-word .result) name (of-raise .last .0) f (of-whole-length .ensures .1) small (of-name-at .ensures .0) (told .1) (of-word .ensures) (of-raise .ensures) in
-    let m = met-turn (a .buf .now) (a .end) (a .entries) (a .sought .now) (of-loop .at) (of-loop .left) (of-loop .met) (start-pre .1) (of-loop .inv .0 .inside) some (of-loop .inv .1)
+    let m = contains-step (a .buf .now) (a .end) (a .entries) (a .sought .now) (of-loop .at) (of-loop .left) (of-loop .contains) (start-pre .1) (of-loop .inv .0 .inside) some (of-loop .inv .1)
     (of-whole-length .result) name (c .is-sought .result) f (of-name-at .ensures .0) (c .is-sought .ensures) in
     (rw (of-larger .ensures) t, m)
 
@@ -163,7 +163,7 @@ returns-3 c =
     let of-loop = c .before .loop in
     let z : of-loop .left ≡ 0 = omega arith in
     let e = walk-end (a .buf .now) (a .end) (a .entries) (a .counts .now) (of-loop .at) (of-loop .back) (of-loop .counts) (start-pre .1) (rw z at (of-loop .inv .0)) in
-    let m = met-end (a .buf .now) (a .end) (a .entries) (a .sought .now) (of-loop .at) (of-loop .left) (of-loop .met) z (of-loop .inv .1) in
+    let m = contains-end (a .buf .now) (a .end) (a .entries) (a .sought .now) (of-loop .at) (of-loop .left) (of-loop .contains) z (of-loop .inv .1) in
     (e .0, ((λ w. e .1), ((λ w. m), (λ w. e .2))))
 
 pub walk-spec : {M : Type 1} → statement M

@@ -3,7 +3,7 @@ use native.Mathlib.Nat.{add-zero}
 use mathlib.Core.List.{[]}
 use lib.ListN.{drop-of-length-le, length-set}
 use mathlib.Core.Path.{_∙_}
-use Rattle.image.proofs.Stores.{sets-turn}
+use Rattle.image.proofs.Stores.{sets-step}
 use native.Mathlib.Omega.{arith}
 use Prim.Native.Nat.{_+_, _≤_, _-_}
 use mathlib.Core.Path.{_≡_, refl}
@@ -41,7 +41,7 @@ loop-again : tie.Need-loop-again Inv-loop μ-loop
 loop-again c =
     let a = c .before .before .before .args in
     let i = c .before .before .loop in
-    (omega arith, simp length-set (i .inv .1), sets-turn (a .src .now) (i .buf) (a .at) (i .j) 0 (omega arith) ∙ i .inv .2)
+    (omega arith, simp length-set (i .inv .1), sets-step (a .src .now) (i .buf) (a .at) (i .j) 0 (omega arith) ∙ i .inv .2)
 
 same-length : tie.Need-same-length Inv-loop μ-loop
 same-length c = search needs

@@ -4,7 +4,7 @@ use native.Mathlib.Omega.{arith}
 use mathlib.Core.Path.{_≡_, sym, _∙_}
 use lib.ListN.{length, drop}
 use Rattle.image.specs.Zero.{hasZero}
-use Rattle.image.proofs.Bools.{neither-first, neither-second}
+use Rattle.image.proofs.Bools.{or-false-first, or-false-second}
 use Rattle.image.proofs.Zeros.{zero-at-an-end, none-in-first, zero-in-front, none-in-front, zero-last, zero-overlap}
 use borrow.Author.Needs.{needs}
 use Rattle.image.proofs.zero.has_zero.Statement.{statement}
@@ -43,7 +43,7 @@ loop-holds c =
     let name = c .before .before .before .before .before .args .name .now in
     let first = c .before .before .zero-in-eight in
     let last = c .before .zero-in-eight2 in
-    let none = sym (first .ensures) ∙ neither-first (first .result) (last .result) (c .if2 .left) in
+    let none = sym (first .ensures) ∙ or-false-first (first .result) (last .result) (c .if2 .left) in
     (omega arith, none-in-first name 8 none)
 
 zero-in-eight-requires-3 : tie.Need-zero-in-eight-requires-3 Inv-loop μ-loop
@@ -75,7 +75,7 @@ returns-4 c =
     let of-loop = c .before .loop in
     let first = c .before .before .before .before .zero-in-eight in
     let last = c .before .before .before .zero-in-eight2 in
-    let none = sym (last .ensures) ∙ neither-second (first .result) (last .result) (c .before .before .if2 .left) in
+    let none = sym (last .ensures) ∙ or-false-second (first .result) (last .result) (c .before .before .if2 .left) in
     sym (sym (zero-last name 8 (omega arith)) ∙ none)
     ∙ zero-overlap name (length name - 8) (of-loop .i) (omega arith) (of-loop .inv .1)
 

@@ -2,7 +2,7 @@
 use native.Mathlib.Omega.{arith}
 use mathlib.Core.Path.{refl, _∙_}
 use mathlib.Core.Logic.{⊎-elim}
-use Rattle.image.proofs.Turns.{next-more, next-first}
+use Rattle.image.proofs.ProbeStep.{next-inside, next-wraps}
 use Rattle.index.specs.Index.{slot}
 use Rattle.index.proofs.Probing.{never, Rest, rest-start, probe-none, rest-end, rest-empty, rest-next}
 use Rattle.index.proofs.slots.first_empty.Statement.{statement}
@@ -62,8 +62,8 @@ loop-again c =
     let l = c .before .before .before .before .loop in
     let again = rest-next (a .m) (slot (a .slots .now)) (a .h) never (l .left) (l .k) (l .inv) (c .before .before .before .loop-test .taken) (c .before .if2 .left) (λ e. refl) in
     ⊎-elim
-    (λ w. again (c .if3 .k) (w .1 ∙ next-more (a .m) (l .k) (w .0 .taken)) (omega (arith, w .0 .taken, w .1)))
-    (λ w. again (c .if3 .k) (w .1 ∙ next-first (a .m) (l .k) (omega (arith, l .inv .inside, w .0 .left))) (omega (arith, l .inv .inside, w .1)))
+    (λ w. again (c .if3 .k) (w .1 ∙ next-inside (a .m) (l .k) (w .0 .taken)) (omega (arith, w .0 .taken, w .1)))
+    (λ w. again (c .if3 .k) (w .1 ∙ next-wraps (a .m) (l .k) (omega (arith, l .inv .inside, w .0 .left))) (omega (arith, l .inv .inside, w .1)))
     (c .if3 .came)
 
 returns-3 : tie.Need-returns-3 Inv-loop μ-loop

@@ -3,7 +3,7 @@ use native.Mathlib.Omega.{arith}
 use mathlib.Core.Path.{_≡_, sym, _∙_}
 use mathlib.Core.Bool.{false}
 use mathlib.Core.Logic.{⊎-elim}
-use Rattle.image.proofs.Turns.{next-more, next-first}
+use Rattle.image.proofs.ProbeStep.{next-inside, next-wraps}
 use Rattle.index.specs.Index.{slot}
 use Rattle.index.specs.steps.Probe.{hasNameAt}
 use Rattle.index.proofs.Probing.{Rest, rest-start, probe-none, rest-end, rest-empty, rest-match, rest-next}
@@ -100,8 +100,8 @@ loop-again c =
     (c .before .if3 .came) in
     let again = rest-next (a .m) b (a .h) v (l .left) (l .k) (l .inv) (c .before .before .before .before .before .loop-test .taken) (c .before .before .before .if2 .left) other in
     ⊎-elim
-    (λ w. again (c .if5 .k) (w .1 ∙ next-more (a .m) (l .k) (w .0 .taken)) (omega (arith, w .0 .taken, w .1)))
-    (λ w. again (c .if5 .k) (w .1 ∙ next-first (a .m) (l .k) (omega (arith, l .inv .inside, w .0 .left))) (omega (arith, l .inv .inside, w .1)))
+    (λ w. again (c .if5 .k) (w .1 ∙ next-inside (a .m) (l .k) (w .0 .taken)) (omega (arith, w .0 .taken, w .1)))
+    (λ w. again (c .if5 .k) (w .1 ∙ next-wraps (a .m) (l .k) (omega (arith, l .inv .inside, w .0 .left))) (omega (arith, l .inv .inside, w .1)))
     (c .if5 .came)
 
 returns-4 : tie.Need-returns-4 Inv-loop μ-loop

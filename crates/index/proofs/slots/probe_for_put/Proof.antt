@@ -1,6 +1,6 @@
 -- `index::slots::probe_for_put` meets its contract. Assumes nothing.
 use mathlib.Core.Path.{_∙_}
-use Rattle.image.specs.Tables.{start, order}
+use Rattle.image.specs.Tables.{start, probeSequence}
 use Rattle.index.specs.Index.{slot}
 use Rattle.index.specs.steps.Probe.{probe}
 use Rattle.index.proofs.Probing.{probe-by}
@@ -23,12 +23,12 @@ first-empty-requires c κs = search needs
 returns : tie.Need-returns
 returns c =
     let a = c .before .before .before .before .before .before .args in
-    c .probe .ensures ∙ probe-by (a .m) (slot (a .slots .now)) (a .h) (a .bytes .now) (a .name .now) (order (a .m) (a .m) (start (a .h) (a .m))) (a .repeats) _ (c .before .enum-told .given .1)
+    c .probe .ensures ∙ probe-by (a .m) (slot (a .slots .now)) (a .h) (a .bytes .now) (a .name .now) (probeSequence (a .m) (a .m) (start (a .h) (a .m))) (a .repeats) _ (c .before .enum-told .given .1)
 
 returns-2 : tie.Need-returns-2
 returns-2 c =
     let a = c .before .before .before .before .before .before .args in
-    c .first-empty .ensures ∙ probe-by (a .m) (slot (a .slots .now)) (a .h) (a .bytes .now) (a .name .now) (order (a .m) (a .m) (start (a .h) (a .m))) (a .repeats) _ (c .before .enum-told2 .given .1)
+    c .first-empty .ensures ∙ probe-by (a .m) (slot (a .slots .now)) (a .h) (a .bytes .now) (a .name .now) (probeSequence (a .m) (a .m) (start (a .h) (a .m))) (a .repeats) _ (c .before .enum-told2 .given .1)
 
 pub probe-for-put-spec : {M : Type 1} → statement M
 probe-for-put-spec =

@@ -3,7 +3,7 @@ use Prim.Native.Nat.{ℕ}
 use native.Mathlib.Omega.{arith}
 use mathlib.Core.Path.{sym, ap, _∙_}
 use Rattle.reader.specs.Lookup.{Lookup}
-use Rattle.reader.specs.steps.Resume.{rest}
+use Rattle.reader.specs.steps.Resume.{searchRest}
 use Rattle.reader.proofs.Searches.{rest-start}
 use borrow.Author.Needs.{needs}
 use Rattle.reader.proofs.lookup.search.Statement.{statement}
@@ -12,12 +12,12 @@ use Rattle.reader.proofs.lookup.search.Tie as tie
 start-requires : tie.Need-start-requires
 start-requires c κs = search needs
 
-near-empty-requires : tie.Need-near-empty-requires
-near-empty-requires c κs = (c .start .ensures .0, c .start .ensures .1, c .before .before .before .pre .1)
+early-miss-requires : tie.Need-early-miss-requires
+early-miss-requires c κs = (c .start .ensures .0, c .start .ensures .1, c .before .before .before .pre .1)
 
 -- an empty bucket near the start decides
 returns : tie.Need-returns
-returns c = sym (c .before .near-empty .ensures (omega arith) (c .before .before .before .before .before .args .name .now))
+returns c = sym (c .before .early-miss .ensures (omega arith) (c .before .before .before .before .before .args .name .now))
 
 search-rest-requires : tie.Need-search-rest-requires
 search-rest-requires c κs = (c .before .before .start .ensures .1, omega arith, c .before .before .before .before .before .pre .1)
@@ -26,8 +26,8 @@ returns-2 : tie.Need-returns-2
 returns-2 c =
     let of-start = c .before .before .before in
     let a = of-start .before .before .before .args in
-    let left-from : ℕ → Lookup = λ (k : ℕ). rest (a .image .now) (a .name .now) (a .h) (a .at) (a .n) k (a .n) in
+    let left-from : ℕ → Lookup = λ (k : ℕ). searchRest (a .image .now) (a .name .now) (a .h) (a .at) (a .n) k (a .n) in
     c .search-rest .ensures ∙ ap left-from (of-start .start .ensures .0) ∙ rest-start (a .image .now) (a .name .now) (a .h) (a .at) (a .n)
 
 pub search-spec : {M : Type 1} → statement M
-search-spec = tie.close (tie.spec start-requires near-empty-requires returns search-rest-requires returns-2)
+search-spec = tie.close (tie.spec start-requires early-miss-requires returns search-rest-requires returns-2)

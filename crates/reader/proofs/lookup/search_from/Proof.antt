@@ -6,7 +6,7 @@ use mathlib.Core.Bool.{true, false}
 use borrow.Author.Tests.{lt-ltb, le-ltb, le-leb, lt-leb}
 use lib.ListN.{length}
 use Rattle.reader.specs.Lookup.{Lookup}
-use Rattle.reader.specs.steps.Resume.{rest}
+use Rattle.reader.specs.steps.Resume.{searchRest}
 use Rattle.reader.proofs.Searches.{from-by, from-over, from-read}
 use borrow.Author.Needs.{needs}
 use Rattle.reader.proofs.lookup.search_from.Statement.{statement}
@@ -56,7 +56,7 @@ returns-4 c =
     let table = t .table-of .result in
     let some : 0 < table .n = omega (arith, c .before .before .if3 .left) in
     let row = t .table-of .ensures .1 some in
-    let left-from : ℕ → Lookup = λ (k : ℕ). rest (a .image .now) (a .name .now) (a .h) (table .at) (table .n) k (table .n - a .c) in
+    let left-from : ℕ → Lookup = λ (k : ℕ). searchRest (a .image .now) (a .name .now) (a .h) (table .at) (table .n) k (table .n - a .c) in
     c .search-rest .ensures ∙ ap left-from (c .before .bucket-after .ensures .0)
     ∙ from-read (a .image .now) (a .name .now) (a .h) (a .c) (table .at) (table .n) (row .0) (row .1) (row .2)
     ∙ from-by (a .image .now) (a .name .now) (a .h) (a .c) false false (le-ltb (length (a .image .now)) 2072 (t .before .before .if1 .left))

@@ -9,7 +9,7 @@ use lib.ListN.{length, take}
 use lib.Seq.{take-all}
 use Rattle.jhash.specs.NameHash.{outcome, hashOutcome}
 use Rattle.jhash.specs.declared.Hashed.{Hashed}
-use Rattle.jhash.proofs.Outcomes.{told-image-hash, told-refused}
+use Rattle.jhash.proofs.Outcomes.{result-name-hash, result-refused}
 use Rattle.reader.specs.Lookup.{lookupHash}
 use Rattle.reader.proofs.Searches.{lookup-by}
 use borrow.Author.Needs.{needs}
@@ -71,7 +71,7 @@ returns-2 c =
     let of-h = c .before .before .h in
     let of-if1 = c .before .before .before .before .before .if1 in
     let h = of-h .given .0 .0 in
-    let told = told-image-hash name (of-hash .result) h (of-name name (of-hash .result) (of-hash .ensures)) (of-h .given .1) in
+    let told = result-name-hash name (of-hash .result) h (of-name name (of-hash .result) (of-hash .ensures)) (of-h .given .1) in
     c .to-id-hashed .ensures
     ∙ ap (λ (l : List ℕ). lookupHash l (take (length name - 0) name) h) (whole image)
     ∙ ap (λ (l : List ℕ). lookupHash image l h) (whole name)
@@ -87,7 +87,7 @@ returns-3 c =
     let of-hash = c .before .before .name-hash in
     lookup-by image name false true (le-ltb (length image) 2072 (of-if1 .left))
     (le-leb 4294967295 (length name)
-    (told-refused name 0 (of-hash .result) (of-name name (of-hash .result) (of-hash .ensures)) (c .enum-told .given .1)))
+    (result-refused name 0 (of-hash .result) (of-name name (of-hash .result) (of-hash .ensures)) (c .enum-told .given .1)))
 
 pub to-id-spec : {M : Type 1} → statement M
 to-id-spec =

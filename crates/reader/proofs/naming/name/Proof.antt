@@ -1,9 +1,9 @@
 -- `reader::naming::name` meets its contract. Assumes nothing.
 use native.Mathlib.Omega.{arith}
 use mathlib.Core.Path.{sym, ap, _∙_}
-use Rattle.reader.specs.Slices.{slice, part}
+use Rattle.reader.specs.Slices.{slice, subslice}
 use Rattle.reader.specs.Cases.{namingOf}
-use Rattle.reader.proofs.Namings.{named, named-part, no-part}
+use Rattle.reader.proofs.Namings.{named, named-slice, no-slice}
 use borrow.Author.Needs.{needs}
 use Rattle.reader.proofs.naming.name.Statement.{statement}
 use Rattle.reader.proofs.naming.name.Tie as tie
@@ -52,14 +52,14 @@ returns c =
     let of-start = c .before .before .start in
     let of-to-str = c .before .before .before .before .to-str in
     let image = slice (a .image) in
-    named-part image (part image 0 0) _ (of-start .given .0 .0) (of-start .given .0 .1 .0) (ap namingOf (sym (of-start .given .1)) ∙ of-to-str .ensures)
+    named-slice image (subslice image 0 0) _ (of-start .given .0 .0) (of-start .given .0 .1 .0) (ap namingOf (sym (of-start .given .1)) ∙ of-to-str .ensures)
 
 returns-2 : tie.Need-returns-2
 returns-2 c =
     let a = c .before .before .before .before .before .args in
     let of-to-str = c .before .before .before .to-str in
     let image = slice (a .image) in
-    no-part image (part image 0 0) _ (ap namingOf (sym (c .before .enum-told .given .1)) ∙ of-to-str .ensures)
+    no-slice image (subslice image 0 0) _ (ap namingOf (sym (c .before .enum-told .given .1)) ∙ of-to-str .ensures)
 
 pub name-spec : {M : Type 1} → statement M
 name-spec =

@@ -3,7 +3,7 @@ use native.Mathlib.Omega.{arith}
 use mathlib.Core.Path.{sym, ap, _∙_}
 use Rattle.reader.specs.Slices.{slice}
 use Rattle.reader.specs.Cases.{namingOf}
-use Rattle.reader.proofs.Namings.{named, named-part, no-part}
+use Rattle.reader.proofs.Namings.{named, named-slice, no-slice}
 use borrow.Author.Needs.{needs}
 use Rattle.reader.proofs.naming.name_or.Statement.{statement}
 use Rattle.reader.proofs.naming.name_or.Tie as tie
@@ -42,14 +42,14 @@ returns c =
     let a = c .before .before .before .before .before .before .before .args in
     let of-start = c .before .before .start in
     let of-to-str = c .before .before .before .before .to-str in
-    named-part (slice (a .image)) (slice (a .stand-in)) _ (of-start .given .0 .0) (of-start .given .0 .1 .0)
+    named-slice (slice (a .image)) (slice (a .stand-in)) _ (of-start .given .0 .0) (of-start .given .0 .1 .0)
     (ap namingOf (sym (of-start .given .1)) ∙ of-to-str .ensures)
 
 returns-2 : tie.Need-returns-2
 returns-2 c =
     let a = c .before .before .before .before .before .args in
     let of-to-str = c .before .before .to-str in
-    no-part (slice (a .image)) (slice (a .stand-in)) _ (ap namingOf (sym (c .enum-told .given .1)) ∙ of-to-str .ensures)
+    no-slice (slice (a .image)) (slice (a .stand-in)) _ (ap namingOf (sym (c .enum-told .given .1)) ∙ of-to-str .ensures)
 
 pub name-or-spec : {M : Type 1} → statement M
 name-or-spec =

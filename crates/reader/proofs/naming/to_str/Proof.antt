@@ -10,7 +10,7 @@ use Rattle.image.specs.Bytes.{word}
 use Rattle.image.specs.Stored.{broken}
 use Rattle.reader.specs.Naming.{place, unnamed, naming}
 use Rattle.image.proofs.Unbroken.{unbroken}
-use Rattle.reader.proofs.Namings.{back, link, naming-by}
+use Rattle.reader.proofs.Namings.{back, back-word, naming-by}
 use borrow.Author.Needs.{needs}
 use Rattle.reader.proofs.naming.to_str.Statement.{statement}
 use Rattle.reader.proofs.naming.to_str.Tie as tie
@@ -32,7 +32,7 @@ module _ (c : tie.After-word3) where
       let of-no-back = c .before .before .before .before .before .no-back in
       let of-word2 = c .before .word2 in
       naming-by image-of id-of at false false z x
-      (link image-of id-of (of-word2 .result) at (of-word2 .ensures) (c .word3 .ensures))
+      (back-word image-of id-of (of-word2 .result) at (of-word2 .ensures) (c .word3 .ensures))
       (sym (of-no-back .ensures) ∙ c .before .before .before .before .if1 .left)
       (lt-leb (word image-of 16) id-of (omega (arith, c .before .before .before .word .ensures)))
       ez ex

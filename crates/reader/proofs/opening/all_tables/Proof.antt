@@ -6,7 +6,7 @@ use native.Mathlib.Nat.{zero-add}
 use mathlib.Core.Path.{_≡_, refl, sym, ap, _∙_}
 use Rattle.image.specs.Head.{bucketNumber}
 use Rattle.reader.specs.Open.{someLeaves, halves}
-use Rattle.reader.proofs.Opens.{halves-turn, halves-none, leaves-pass, leaves-none, sum-turn, sum-end}
+use Rattle.reader.proofs.Opens.{halves-step, halves-none, leaves-pass, leaves-none, sum-step, sum-end}
 use borrow.Author.Needs.{needs}
 use Rattle.reader.proofs.opening.all_tables.Statement.{statement}
 use Rattle.reader.proofs.opening.all_tables.Tie as tie
@@ -61,8 +61,8 @@ loop-again c =
     let h = of-loop-test .taken in (
       omega arith,
       omega (arith, c .with-table .ensures .0),
-      sum-turn (of-loop .all .num) (bucketNumber image t / 2) (c .with-table .result .num) (halves image (t + 1) (256 - (t + 1)))
-          (halves image t (256 - t)) (halves image 0 256) (inv .2) (halves-turn image t 256 h)
+      sum-step (of-loop .all .num) (bucketNumber image t / 2) (c .with-table .result .num) (halves image (t + 1) (256 - (t + 1)))
+          (halves image t (256 - t)) (halves image 0 256) (inv .2) (halves-step image t 256 h)
           (c .with-table .ensures .0 ∙ ap (λ (n : ℕ). (of-loop .all .num + n / 2) % 2 ^ 32) (c .before .word2 .ensures)),
       λ k.
           let told = c .with-table .ensures .1 k in

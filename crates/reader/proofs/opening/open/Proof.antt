@@ -9,7 +9,7 @@ use lib.Dec.{ltb}
 use lib.ListN.{length}
 use Rattle.jhash.specs.Outcome.{value, refusal}
 use Rattle.image.specs.Bytes.{word}
-use Rattle.image.proofs.Bools.{both}
+use Rattle.image.proofs.Bools.{and-both}
 use Rattle.image.specs.Head.{backOffsetAt, backLeaves}
 use Rattle.reader.specs.Open.{halves, opening}
 use Rattle.reader.proofs.Opens.{opening-by}
@@ -96,7 +96,7 @@ returns-5 c =
     let passed4 = c .before .before .before .before in
     let image = image-of passed4 in
     passed passed4 true
-    (both (ltb 0 (word image 20)) (backLeaves image)
+    (and-both (ltb 0 (word image 20)) (backLeaves image)
     (lt-ltb 0 (word image 20) (omega (arith, c .before .before .before .word2 .ensures)))
     (sym (c .before .back-leaves .ensures) ∙ c .if6 .taken))
 

@@ -6,7 +6,7 @@ use mathlib.Core.Path.{_≡_, refl}
 use mathlib.Core.Bool.{_&&_}
 use Rattle.serialize.specs.Record.{noneAbove}
 use Rattle.image.specs.Bytes.{all}
-use Rattle.image.proofs.All.{all-more, all-end}
+use Rattle.image.proofs.AllOfRange.{all-more, all-end}
 use lib.ListN.{getD}
 use lib.Dec.{leb}
 use Rattle.serialize.proofs.counts.each_below.Statement.{statement}

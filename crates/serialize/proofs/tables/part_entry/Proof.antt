@@ -3,7 +3,7 @@ use native.Mathlib.Omega.{arith}
 use Prim.Native.Nat.{_+_, _-_}
 use mathlib.Core.Path.{refl}
 use lib.ListN.{take, drop, length-take}
-use Rattle.jhash.proofs.Outcomes.{told-refused, told-image-hash}
+use Rattle.jhash.proofs.Outcomes.{result-refused, result-name-hash}
 use Rattle.serialize.proofs.Parting.{parted-parts}
 use borrow.Author.Needs.{needs}
 use Rattle.serialize.proofs.tables.part_entry.Statement.{statement}
@@ -52,7 +52,7 @@ returns : tie.Need-returns
 returns c =
     let a = c .before .before .before .before .before .before .before .before .args in
     let start-pre = c .before .before .before .before .before .before .before .before .pre in
-    let long = told-refused (take (a .at + 7 + a .n - (a .at + 8)) (drop (a .at + 8) (a .buf .now))) 0 (c .before .before .name-hash .result) (c .before .before .name-hash .ensures) (c .enum-told .given .1) in
+    let long = result-refused (take (a .at + 7 + a .n - (a .at + 8)) (drop (a .at + 8) (a .buf .now))) 0 (c .before .before .name-hash .result) (c .before .before .name-hash .ensures) (c .enum-told .given .1) in
     let l = simp length-take at long in
     let s = start-pre .2 in
     absurd (omega arith)
@@ -80,7 +80,7 @@ returns-2 c =
     let of-name-hash = c .before .before .before .before .before .before .before .before .before .before .before .before .name-hash in
     let of-hashed = c .before .before .before .before .before .before .before .before .before .before .hashed in
     let of-note-pair = c .before .before .before .before .before .before .note-pair in
-    let told = told-image-hash name (of-name-hash .result) (of-hashed .given .0 .0) (of-name-hash .ensures) (of-hashed .given .1) in
+    let told = result-name-hash name (of-name-hash .result) (of-hashed .given .0 .0) (of-name-hash .ensures) (of-hashed .given .1) in
     parted-parts (a .mode) (a .links) (a .places .now) (a .buf .now) (a .at) (a .n) (of-get-u32 .result) (of-hashed .given .0 .0) name (of-note-pair .last .1 .0) (of-note-pair .last .0) (c .before .before .store-link .last .1 .0)
     (c .before .before .before .before .before .before .before .before .before .before .before .before .before .before .before .before .before .before .pre .1) refl (told .1) (of-get-u32 .ensures) (of-note-pair .ensures) (c .before .before .store-link .ensures)
 

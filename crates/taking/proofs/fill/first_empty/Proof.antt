@@ -5,8 +5,8 @@ use Prim.Native.Nat.{ℕ, _+_, _*_, _<_, _≤_, _-_}
 use mathlib.Core.Path.{_≡_, refl, sym, _∙_}
 use mathlib.Core.Logic.{⊎-elim}
 use Rattle.image.specs.Bytes.{word}
-use Rattle.image.specs.Tables.{next, order, firstEmpty}
-use Rattle.image.proofs.Turns.{next-more, next-first}
+use Rattle.image.specs.Tables.{next, probeSequence, firstEmpty}
+use Rattle.image.proofs.ProbeStep.{next-inside, next-wraps}
 use Rattle.taking.proofs.Empties.{empty-here, empty-later, empty-none}
 use Rattle.taking.proofs.fill.first_empty.Statement.{statement}
 use Rattle.taking.proofs.fill.first_empty.Tie as tie
@@ -15,7 +15,7 @@ use Rattle.taking.proofs.fill.first_empty.Lts as lts
 use Rattle.image.proofs.get_u32.Reads as get-u32-reads
 
 abbrev Inv-loop : tie.InvT-loop
-Inv-loop buf o n k i₀ left₀ i left = (i < n) × (left ≤ n) × (firstEmpty (λ (j : ℕ). word buf (o + 8 * j + 4)) (order n left i) ≡ firstEmpty (λ (j : ℕ). word buf (o + 8 * j + 4)) (order n n k))
+Inv-loop buf o n k i₀ left₀ i left = (i < n) × (left ≤ n) × (firstEmpty (λ (j : ℕ). word buf (o + 8 * j + 4)) (probeSequence n left i) ≡ firstEmpty (λ (j : ℕ). word buf (o + 8 * j + 4)) (probeSequence n n k))
 
 abbrev μ-loop : tie.MeasureT-loop
 μ-loop buf o n k i₀ left₀ i left = left
@@ -60,8 +60,8 @@ loop-again c =
     let of-loop-test = c .before .before .before .loop-test in
     let later = empty-later (λ (j : ℕ). word (a .buf .now) (a .o + 8 * j + 4)) (a .n) (i .left) (i .i) _ (of-loop-test .taken) (λ z. c .before .if1 .left (c .before .before .get-u32 .ensures ∙ z)) (i .inv .2) in
     ⊎-elim
-    (λ w. let e : c .if2 .i ≡ next (a .n) (i .i) = w .1 ∙ next-more (a .n) (i .i) (w .0 .taken) in (omega (arith, w .0 .taken, w .1), omega arith, rw e later))
-    (λ w. let e : c .if2 .i ≡ next (a .n) (i .i) = w .1 ∙ next-first (a .n) (i .i) (omega (arith, i .inv .0, w .0 .left)) in (omega (arith, w .1), omega arith, rw e later))
+    (λ w. let e : c .if2 .i ≡ next (a .n) (i .i) = w .1 ∙ next-inside (a .n) (i .i) (w .0 .taken) in (omega (arith, w .0 .taken, w .1), omega arith, rw e later))
+    (λ w. let e : c .if2 .i ≡ next (a .n) (i .i) = w .1 ∙ next-wraps (a .n) (i .i) (omega (arith, i .inv .0, w .0 .left)) in (omega (arith, w .1), omega arith, rw e later))
     (c .if2 .came)
 
 returns-2 : tie.Need-returns-2 Inv-loop μ-loop

@@ -1,6 +1,6 @@
 -- `taking::fill::take_entry` meets its contract. Assumes nothing.
 use native.Mathlib.Omega.{arith}
-use Rattle.jhash.proofs.Outcomes.{told-refused, told-image-hash}
+use Rattle.jhash.proofs.Outcomes.{result-refused, result-name-hash}
 use Rattle.taking.proofs.Taking.{taken-parts}
 use borrow.Author.Needs.{needs}
 use Rattle.taking.proofs.fill.take_entry.Statement.{statement}
@@ -28,7 +28,7 @@ returns : tie.Need-returns
 returns c =
     let hashed = c .before .before .name-hash in
     let name = c .before .before .before .name-at in
-    absurd (omega (arith, told-refused (name .result .now) 0 (hashed .result) (hashed .ensures) (c .enum-told .given .1), name .ensures .1, c .before .before .before .before .before .before .before .before .pre .2))
+    absurd (omega (arith, result-refused (name .result .now) 0 (hashed .result) (hashed .ensures) (c .enum-told .given .1), name .ensures .1, c .before .before .before .before .before .before .before .before .pre .2))
 
 cast-store-bucket : tie.Need-cast-store-bucket
 cast-store-bucket c = search needs
@@ -54,7 +54,7 @@ returns-2 c =
     let h = c .before .before .before .before .before .before .before .before .before .hashed .given in
     let bucket = c .before .before .before .before .before .before .store-bucket in
     let link = c .before .before .store-link in
-    let told = told-image-hash (name .result .now) (hashed .result) (h .0 .0) (hashed .ensures) (h .1) in
+    let told = result-name-hash (name .result .now) (hashed .result) (h .0 .0) (hashed .ensures) (h .1) in
     taken-parts (a .mode) (a .links) (a .buf .now) (a .at) (a .n) (id .result) (h .0 .0) (name .result .now) (bucket .last .0) (link .last .1 .0)
     (name .ensures .0) (told .1) (id .ensures) (bucket .ensures) (link .ensures)
 

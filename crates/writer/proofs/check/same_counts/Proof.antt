@@ -7,7 +7,7 @@ use lib.ListN.{getD}
 use lib.Dec.{eqb}
 use Rattle.image.specs.Bytes.{all}
 use Rattle.writer.specs.steps.Earlier.{sameCounts}
-use Rattle.image.proofs.All.{all-more, all-end}
+use Rattle.image.proofs.AllOfRange.{all-more, all-end}
 use Rattle.writer.proofs.check.same_counts.Statement.{statement}
 use Rattle.writer.proofs.check.same_counts.Tie as tie
 
