@@ -22,8 +22,8 @@ imageAt file position = imageOr file (placeOfImage file position)
 -- as a returned part: of the lent file's own bytes those from where the image begins; empty where there is no image
 -- at the position
 abbrev pub partOrNone : slices.Slice → Outcome Place → slices.Slice
-partOrNone file (value p) = slices.part file (p .start) (p .size)
-partOrNone file (refusal k) = slices.part file 0 0
+partOrNone file (value p) = slices.subslice file (p .start) (p .size)
+partOrNone file (refusal k) = slices.subslice file 0 0
 
 abbrev pub returnedPart : slices.Slice → ℕ → slices.Slice
 returnedPart file position = partOrNone file (placeOfImage (file .bytes) position)

@@ -60,11 +60,11 @@ sectionOf s Retired = s .retired
 -- "the part of the file that holds its ids", as a returned part: of the lent file's own bytes those from the place's
 -- start on; empty where the file is refused
 abbrev pub partAt : slices.Slice → Place → slices.Slice
-partAt file p = slices.part file (p .start) (4 * p .count)
+partAt file p = slices.subslice file (p .start) (4 * p .count)
 
 abbrev pub partOrNone : slices.Slice → Which → Outcome Sheet → slices.Slice
 partOrNone file which (value s) = partAt file (sectionOf s which)
-partOrNone file which (refusal n) = slices.part file 0 0
+partOrNone file which (refusal n) = slices.subslice file 0 0
 
 abbrev pub sectionPart : slices.Slice → Which → slices.Slice
 sectionPart file which = partOrNone file which (readSheet (file .bytes))
@@ -72,7 +72,7 @@ sectionPart file which = partOrNone file which (readSheet (file .bytes))
 -- the part at any place, also one that no reader gave: what of it lies past the end is left out; empty where it starts
 -- past the end
 abbrev pub cutPart : slices.Slice → Place → slices.Slice
-cutPart file p = cond (ltb (length (file .bytes)) (p .start)) (slices.part file 0 0) (partAt file p)
+cutPart file p = cond (ltb (length (file .bytes)) (p .start)) (slices.subslice file 0 0) (partAt file p)
 
 -- the three lists that a file reads as
 abbrev pub listsOf : List ℕ → Sheet → Lists
