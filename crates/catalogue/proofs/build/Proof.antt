@@ -45,12 +45,42 @@ same-length-3 c = search needs
 same-length-4 : tie.Need-same-length-4
 same-length-4 c = search needs
 
+abbrev after-put-input : tie.After-close → tie.After-put-input
+after-put-input c = c .before .before .before .before .before .before .before .before .before
+
+abbrev after-begin : tie.After-buf → tie.After-begin
+after-begin c = c .before .before .before .before .before .before .before .before .before
+
+abbrev after-begin-from-slice-known4 : tie.After-slice-known4 → tie.After-begin
+after-begin-from-slice-known4 c = after-begin (c .before)
+
+abbrev after-begin-from-close-arg2 : tie.After-close-arg2 → tie.After-begin
+after-begin-from-close-arg2 c = after-begin-from-slice-known4 (c .before .before .before .before .before .before)
+
+abbrev after-fresh : tie.After-room → tie.After-fresh
+after-fresh c = c .before .before .before .before .before .before .before .before .before
+
+abbrev after-fresh-from-close-arg2 : tie.After-close-arg2 → tie.After-fresh
+after-fresh-from-close-arg2 c = after-fresh (c .before .before .before .before .before)
+
+abbrev start : tie.After-known-told → tie.Start
+start c = c .before .before .before .before .before .before .before .before .before
+
+abbrev start-from-put-input-arg : tie.After-put-input-arg → tie.Start
+start-from-put-input-arg c = start (c .before)
+
+abbrev start-from-slice-known4 : tie.After-slice-known4 → tie.Start
+start-from-slice-known4 c = start-from-put-input-arg (c .before .before .before .before .before .before)
+
+abbrev start-from-close-arg2 : tie.After-close-arg2 → tie.Start
+start-from-close-arg2 c = start-from-slice-known4 (c .before .before .before .before .before .before)
+
 returns-2 : tie.Need-returns-2
 returns-2 c =
-    let a = c .before .before .before .before .before .before .before .before .before .before .before .before .before .before .before .before .before .before .before .before .before .before .before .before .before .before .before .args in
-    let b = c .before .before .before .before .before .before .before .before .before .before .before .before .before .before .before .before .before .before .before .before .before .begin in
-    let of-fresh = c .before .before .before .before .before .before .before .before .before .before .before .before .before .before .before .before .before .before .before .fresh in
-    let of-put-input = c .before .before .before .before .before .before .before .before .before .before .before .before .before .put-input in
+    let a = start-from-close-arg2 (c .before .before .before .before .before) .args in
+    let b = after-begin-from-close-arg2 (c .before .before .before .before .before) .begin in
+    let of-fresh = after-fresh-from-close-arg2 (c .before .before .before .before .before) .fresh in
+    let of-put-input = after-put-input (c .before .before .before .before) .put-input in
     let of-close = c .before .before .before .before .close in
     let w = of-fresh .given in
     λ big enough.
@@ -68,10 +98,10 @@ same-length-7 c = search needs
 
 returns-3 : tie.Need-returns-3
 returns-3 c =
-    let a = c .before .before .before .before .before .before .before .before .before .before .before .before .before .before .before .before .before .before .before .before .before .before .before .before .before .before .before .before .args in
-    let b = c .before .before .before .before .before .before .before .before .before .before .before .before .before .before .before .before .before .before .before .before .before .before .begin in
-    let of-fresh = c .before .before .before .before .before .before .before .before .before .before .before .before .before .before .before .before .before .before .before .before .fresh in
-    let of-put-input = c .before .before .before .before .before .before .before .before .before .before .before .before .before .before .put-input in
+    let a = start-from-close-arg2 (c .before .before .before .before .before .before) .args in
+    let b = after-begin-from-close-arg2 (c .before .before .before .before .before .before) .begin in
+    let of-fresh = after-fresh-from-close-arg2 (c .before .before .before .before .before .before) .fresh in
+    let of-put-input = after-put-input (c .before .before .before .before .before) .put-input in
     let of-close = c .before .before .before .before .before .close in
     let w = of-fresh .given in
     λ big enough.

@@ -29,10 +29,16 @@ build-requires c κs = search needs
 slice-aggregate-print-image : tie.Need-slice-aggregate-print-image
 slice-aggregate-print-image c = search needs
 
+abbrev after-large-buffer2 : tie.After-piece2 → tie.After-large-buffer2
+after-large-buffer2 c = c .before .before .before .before .before .before .before .before .before
+
+abbrev after-large-buffer : tie.After-room2 → tie.After-large-buffer
+after-large-buffer c = c .before .before .before .before .before .before .before .before .before
+
 print-image-requires : tie.Need-print-image-requires
 print-image-requires c κs =
-    let of-large-buffer = c .before .before .before .before .before .before .before .before .before .before .before .large-buffer in
-    let of-large-buffer2 = c .before .before .before .before .before .before .before .before .before .before .large-buffer2 in
+    let of-large-buffer = after-large-buffer (c .before .before) .large-buffer in
+    let of-large-buffer2 = after-large-buffer2 (c .before) .large-buffer2 in
     let b = c .before .before .before .before .build in
     built-in 65536 (b .result .entries) (b .result .size) (of-large-buffer .result) (of-large-buffer2 .result) (b .last .1 .0)
     (of-large-buffer .ensures) (of-large-buffer2 .ensures) (lit≤ tt) (b .ensures)

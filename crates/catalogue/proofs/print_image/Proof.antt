@@ -24,10 +24,13 @@ slice-aggregate-write-all-2 c = search needs
 write-all-requires-2 : tie.Need-write-all-requires-2
 write-all-requires-2 c κs = search needs
 
+abbrev start : tie.After-print-walk-arg → tie.Start
+start c = c .before .before .before .before .before .before .before .before
+
 slice-aggregate-print-walk : tie.Need-slice-aggregate-print-walk
 slice-aggregate-print-walk c =
-    let a = c .before .before .before .before .before .before .before .before .args in
-    sym (length-take-le (a .size) (a .buf .now) (built-inside 65536 (a .entries) (a .size) (a .buf .now) (c .before .before .before .before .before .before .before .before .pre)))
+    let a = start c .args in
+    sym (length-take-le (a .size) (a .buf .now) (built-inside 65536 (a .entries) (a .size) (a .buf .now) (start c .pre)))
 
 print-walk-requires : tie.Need-print-walk-requires
 print-walk-requires c κs = search needs

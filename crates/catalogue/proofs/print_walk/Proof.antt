@@ -35,9 +35,12 @@ returns c = tt
 cast-print-line : tie.Need-cast-print-line Inv-loop μ-loop
 cast-print-line c = search needs
 
+abbrev start : tie.After-known-told Inv-loop μ-loop → tie.Start Inv-loop μ-loop
+start c = c .before .before .before .before .before .before .before
+
 add-print-line : tie.Need-add-print-line Inv-loop μ-loop
 add-print-line c =
-    let a = c .before .before .before .before .before .before .before .args in
+    let a = start c .args in
     let of-loop = c .before .before .before .before .loop in
     let of-next = c .before .before .before .next in
     let g = c .before .id .given in
@@ -53,7 +56,7 @@ part-print-line-start c = search needs
 
 part-print-line-end : tie.Need-part-print-line-end Inv-loop μ-loop
 part-print-line-end c =
-    let a = c .before .before .before .before .before .before .before .args in
+    let a = start c .args in
     let of-loop = c .before .before .before .before .loop in
     let of-next = c .before .before .before .next in
     let g = c .before .id .given in

@@ -44,9 +44,21 @@ sub-turns c = omega arith
 loop-less : tie.Need-loop-less Inv-loop μ-loop
 loop-less c = omega arith
 
+abbrev at-loop : tie.After-slice-known7 Inv-loop μ-loop → tie.At-loop Inv-loop μ-loop
+at-loop c = c .before .before .before .before .before .before .before
+
+abbrev at-loop-from-take-piece-arg : tie.After-take-piece-arg Inv-loop μ-loop → tie.At-loop Inv-loop μ-loop
+at-loop-from-take-piece-arg c = c .before .before .before .before .before .before .before .before .before
+
+abbrev at-loop-from-take-piece-arg3 : tie.After-take-piece-arg3 Inv-loop μ-loop → tie.At-loop Inv-loop μ-loop
+at-loop-from-take-piece-arg3 c = at-loop-from-take-piece-arg (c .before .before)
+
+abbrev start : tie.After-end-input Inv-loop μ-loop → tie.Start Inv-loop μ-loop
+start c = c .before .before .before .before .before .before .before .before .before
+
 loop-again : tie.Need-loop-again Inv-loop μ-loop
 loop-again c =
-    let at = c .before .before .before .before .before .before .before .before .before .before .before .before .before .before .before .before .before .loop in (
+    let at = at-loop-from-take-piece-arg3 (c .before .before .before .before .before .before) .loop in (
       more-taken _ (gathering (at .t) (at .counts) (at .buf) (at .room)) _ _ (at .inv .0) (c .before .before .before .before .take-piece .ensures),
       search needs,
       search needs,
@@ -64,13 +76,13 @@ same-length-2 c = search needs
 
 same-length-3 : tie.Need-same-length-3 Inv-loop μ-loop
 same-length-3 c =
-    let kept = c .before .before .before .before .before .before .before .loop .inv .3 in
+    let kept = at-loop c .loop .inv .3 in
     ⊎-elim (λ w. ap length (w .1) ∙ kept) (λ w. let e = ap length (w .8) in let g = w .3 .given in omega arith) (c .before .before .before .before .before .before .loop-test .came)
 
 returns : tie.Need-returns Inv-loop μ-loop
 returns c =
-    let at = c .before .before .before .before .before .before .before .loop in
-    let a = c .before .before .before .before .before .before .before .before .before .before .before .args in
+    let at = at-loop c .loop in
+    let a = start (c .before .before) .args in
     taken-left (stateWith (a .w) (a .counts .now) (a .buf .now)) _ (a .room .now) (gathering (at .t) (at .counts) (at .buf) (at .room)) (at .inv .0) (c .before .before .end-input .ensures)
 
 pub put-input-spec : {M : Type 1} → statement M

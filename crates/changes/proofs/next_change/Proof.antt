@@ -51,9 +51,12 @@ to-str-requires-2 : tie.Need-to-str-requires-2 Inv-loop μ-loop
 to-str-requires-2 c κs =
     search needs
 
+abbrev start : tie.After-to-str Inv-loop μ-loop → tie.Start Inv-loop μ-loop
+start c = c .before .before .before .before .before .before .before .before .before
+
 returns-2 : tie.Need-returns-2 Inv-loop μ-loop
 returns-2 c =
-    let a = c .before .before .before .before .before .before .before .before .before .before .args in
+    let a = start (c .before) .args in
     let l = c .before .before .before .before .before .loop in
     answers-change (a .old .now) (a .new .now) (a .from) (l .id) _ _ (c .before .to-str .ensures) (c .to-str2 .ensures)
     (sym (ends-here (a .old .now) (a .new .now) (l .id) _ (c .before .before .before .before .loop-test .taken) (sym (c .before .before .before .differs .ensures) ∙ c .before .before .if2 .taken))

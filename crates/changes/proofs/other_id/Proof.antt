@@ -12,16 +12,19 @@ to-id-requires c κs = search needs
 enum-known-f : tie.Need-enum-known-f
 enum-known-f c = search needs
 
+abbrev start : tie.After-struct-known → tie.Start
+start c = c .before .before .before .before .before .before .before
+
 returns : tie.Need-returns
 returns c =
-    same-id (c .before .before .before .before .before .before .before .before .args .id) _ _ (ap lookupOf (sym (c .before .before .before .f .given .1)) ∙ c .before .before .before .before .before .to-id .ensures) (c .if1 .taken)
+    same-id (start (c .before) .args .id) _ _ (ap lookupOf (sym (c .before .before .before .f .given .1)) ∙ c .before .before .before .before .before .to-id .ensures) (c .if1 .taken)
 
 enum-known-buckets : tie.Need-enum-known-buckets
 enum-known-buckets c = search needs
 
 returns-2 : tie.Need-returns-2
 returns-2 c =
-    another-id (c .before .before .before .before .before .before .before .before .args .id) _ _ (ap lookupOf (sym (c .before .before .before .f .given .1)) ∙ c .before .before .before .before .before .to-id .ensures) (c .if1 .left)
+    another-id (start (c .before) .args .id) _ _ (ap lookupOf (sym (c .before .before .before .f .given .1)) ∙ c .before .before .before .before .before .to-id .ensures) (c .if1 .left)
 
 returns-3 : tie.Need-returns-3
 returns-3 c =

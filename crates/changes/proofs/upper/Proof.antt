@@ -16,15 +16,18 @@ iter-requires-2 c κs = search needs
 size-hint-requires-2 : tie.Need-size-hint-requires-2
 size-hint-requires-2 c κs = search needs
 
+abbrev start : tie.After-size-hint2 → tie.Start
+start c = c .before .before .before .before .before .before
+
 returns : tie.Need-returns
 returns c =
-    let a = c .before .before .before .before .before .before .before .args in
+    let a = start (c .before) .args in
     second-larger (a .old .now) (a .new .now) _ _ _ _ (c .before .before .before .before .iter .ensures) (c .before .before .iter2 .ensures)
     (c .before .before .before .size-hint .ensures) (c .before .size-hint2 .ensures) (c .if1 .taken)
 
 returns-2 : tie.Need-returns-2
 returns-2 c =
-    let a = c .before .before .before .before .before .before .before .args in
+    let a = start (c .before) .args in
     first-larger (a .old .now) (a .new .now) _ _ _ _ (c .before .before .before .before .iter .ensures) (c .before .before .iter2 .ensures)
     (c .before .before .before .size-hint .ensures) (c .before .size-hint2 .ensures) (c .if1 .left)
 

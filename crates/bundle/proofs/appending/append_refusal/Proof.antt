@@ -45,9 +45,12 @@ returns-3 c =
 sub-if4 : tie.Need-sub-if4
 sub-if4 c = search needs
 
+abbrev start : tie.Else3 → tie.Start
+start c = c .before .before .before .before .before .before .before .before
+
 returns-4 : tie.Need-returns-4
 returns-4 c =
-    let a = c .before .before .before .before .before .before .before .before .before .args in
+    let a = start (c .before) .args in
     let buf = a .buf .now in
     let image = a .image .now in
     let w = c .before .before .before .before .whole in
@@ -58,7 +61,7 @@ returns-4 c =
 
 returns-5 : tie.Need-returns-5
 returns-5 c =
-    let a = c .before .before .before .before .before .before .before .before .before .args in
+    let a = start (c .before) .args in
     let buf = a .buf .now in
     let image = a .image .now in
     let w = c .before .before .before .before .whole in

@@ -47,20 +47,26 @@ enum-known-k c = search needs
 enum-known-k-2 : tie.Need-enum-known-k-2
 enum-known-k-2 c = search needs
 
+abbrev after-place : tie.After-open → tie.After-place
+after-place c = c .before .before .before .before .before
+
+abbrev start : tie.After-open → tie.Start
+start c = after-place c .before .before
+
 returns : tie.Need-returns
 returns c =
-    let a = c .before .before .before .before .before .before .before .before .before .before .args in
+    let a = start (c .before .before .before) .args in
     let of-start = c .before .before .before .before .before .before .start .given in
-    let of-place = c .before .before .before .before .before .before .before .before .place in
+    let of-place = after-place (c .before .before .before) .place in
     let of-num = c .before .num .given in
     opened-there (a .file .now) (a .position) (of-start .0 .0) (of-start .0 .1 .0) (value (of-num .0 .0))
     (sym (of-place .ensures) ∙ ap placedOf (of-start .1)) (ap openedOf (sym (of-num .1)) ∙ c .before .before .before .«open» .ensures)
 
 returns-2 : tie.Need-returns-2
 returns-2 c =
-    let a = c .before .before .before .before .before .before .before .before .before .before .args in
+    let a = start (c .before .before .before) .args in
     let of-start = c .before .before .before .before .before .before .start .given in
-    let of-place = c .before .before .before .before .before .before .before .before .place in
+    let of-place = after-place (c .before .before .before) .place in
     let of-k = c .before .k .given in
     opened-there (a .file .now) (a .position) (of-start .0 .0) (of-start .0 .1 .0) (refusal (of-k .0 .0))
     (sym (of-place .ensures) ∙ ap placedOf (of-start .1)) (ap openedOf (sym (of-k .1)) ∙ c .before .before .before .«open» .ensures)

@@ -38,9 +38,18 @@ returns-3 c =
 shared-slice-read-if4 : tie.Need-shared-slice-read-if4
 shared-slice-read-if4 c = search needs
 
+abbrev start : tie.After-shared-slice-known2 → tie.Start
+start c = c .before .before .before .before .before .before
+
+abbrev else1 : tie.After-number → tie.Else1
+else1 c = c .before .before .before .before .before .before
+
+abbrev after-leading-digits : tie.After-number → tie.After-leading-digits
+after-leading-digits c = else1 c .before
+
 returns-4 : tie.Need-returns-4
 returns-4 c =
-    let a = c .before .before .before .before .before .before .before .args in
+    let a = start (c .before) .args in
     let of-leading-digits = c .before .before .before .before .before .leading-digits in
     let of-if1 = c .before .before .before .before .if1 in
     let of-if2 = c .before .before .before .if2 in
@@ -51,13 +60,13 @@ returns-4 c =
 
 slice-aggregate-number : tie.Need-slice-aggregate-number
 slice-aggregate-number c =
-    let a = c .before .before .before .before .before .before .before .before .args in
+    let a = start (c .before .before) .args in
     let of-leading-digits = c .before .before .before .before .before .before .leading-digits in
     sym (length-take-le (of-leading-digits .result) (a .line .now) (of-leading-digits .ensures .1))
 
 number-requires : tie.Need-number-requires
 number-requires c κs =
-    let a = c .before .before .before .before .before .before .before .before .args in
+    let a = start (c .before .before) .args in
     let of-leading-digits = c .before .before .before .before .before .before .leading-digits in
     let of-if2 = c .before .before .before .before .if2 in
     let e = length-take-le (of-leading-digits .result) (a .line .now) (of-leading-digits .ensures .1) in
@@ -66,9 +75,9 @@ number-requires c κs =
 
 returns-5 : tie.Need-returns-5
 returns-5 c =
-    let a = c .before .before .before .before .before .before .before .before .before .before .args in
-    let of-leading-digits = c .before .before .before .before .before .before .before .before .leading-digits in
-    let of-if1 = c .before .before .before .before .before .before .before .if1 in
+    let a = start (c .before .before .before .before) .args in
+    let of-leading-digits = after-leading-digits (c .before) .leading-digits in
+    let of-if1 = else1 (c .before) .if1 in
     let of-if2 = c .before .before .before .before .before .before .if2 in
     let of-if4 = c .before .before .before .if4 in
     let n = of-leading-digits .result in
@@ -84,9 +93,9 @@ add-t5 c = search needs
 
 returns-6 : tie.Need-returns-6
 returns-6 c =
-    let a = c .before .before .before .before .before .before .before .before .before .before .args in
-    let of-leading-digits = c .before .before .before .before .before .before .before .before .leading-digits in
-    let of-if1 = c .before .before .before .before .before .before .before .if1 in
+    let a = start (c .before .before .before .before) .args in
+    let of-leading-digits = after-leading-digits (c .before) .leading-digits in
+    let of-if1 = else1 (c .before) .if1 in
     let of-if2 = c .before .before .before .before .before .before .if2 in
     let of-if4 = c .before .before .before .if4 in
     let n = of-leading-digits .result in

@@ -27,9 +27,12 @@ put-line-requires c κs = search needs
 same-length : tie.Need-same-length
 same-length c = search needs
 
+abbrev start : tie.After-buf → tie.Start
+start c = c .before .before .before .before .before .before .before .before .before
+
 returns-2 : tie.Need-returns-2
 returns-2 c =
-    let a = c .before .before .before .before .before .before .before .before .before .before .args in
+    let a = start (c .before) .args in
     let of-if1 = c .before .before .before .before .before .before .if1 in
     ended-put (stateWith (a .t .writer) (a .counts .now) (a .buf .now)) (a .room .now) (a .t .have) _ (of-if1 .left) (c .before .before .put-line .ensures)
 

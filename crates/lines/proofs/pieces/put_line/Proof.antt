@@ -16,9 +16,18 @@ parse-line-requires c κs = search needs
 enum-known-id : tie.Need-enum-known-id
 enum-known-id c = search needs
 
+abbrev after-parse-line : tie.After-slice-known2 → tie.After-parse-line
+after-parse-line c = c .before .before .before .before .before .before .before .before .before
+
+abbrev after-id : tie.After-result → tie.After-id
+after-id c = c .before .before .before .before .before .before .before .before
+
+abbrev start : tie.After-put-arg2 → tie.Start
+start c = c .before .before .before .before .before .before .before .before
+
 sub-put : tie.Need-sub-put
 sub-put c =
-    let a = c .before .before .before .before .before .before .before .before .args in
+    let a = start c .args in
     let of-parse-line = c .before .before .before .before .before .parse-line in
     let of-id = c .before .before .before .id in
     let n = named (a .line .now) (of-id .given .0 .0) (of-id .given .0 .1 .0) (sym (of-parse-line .ensures) ∙ ap formOf (of-id .given .1)) in
@@ -27,7 +36,7 @@ sub-put c =
 
 part-put-start : tie.Need-part-put-start
 part-put-start c =
-    let a = c .before .before .before .before .before .before .before .before .args in
+    let a = start c .args in
     let of-parse-line = c .before .before .before .before .before .parse-line in
     let of-id = c .before .before .before .id in
     let n = named (a .line .now) (of-id .given .0 .0) (of-id .given .0 .1 .0) (sym (of-parse-line .ensures) ∙ ap formOf (of-id .given .1)) in
@@ -48,11 +57,11 @@ same-length c = search needs
 
 returns : tie.Need-returns
 returns c =
-    let a = c .before .before .before .before .before .before .before .before .before .before .before .before .before .args in
-    let of-id = c .before .before .before .before .before .before .before .before .id in
+    let a = start (c .before .before .before .before .before) .args in
+    let of-id = after-id c .id in
     c .before .before .before .put .ensures .1
     ∙ put-part (stateWith (a .w) (a .counts .now) (a .buf .now)) (a .line .now) (of-id .given .0 .0) (of-id .given .0 .1 .0)
-    (sym (c .before .before .before .before .before .before .before .before .before .before .parse-line .ensures) ∙ ap formOf (of-id .given .1))
+    (sym (after-parse-line (c .before) .parse-line .ensures) ∙ ap formOf (of-id .given .1))
 
 returns-2 : tie.Need-returns-2
 returns-2 c =

@@ -34,10 +34,16 @@ add-i c = omega arith
 loop-less : tie.Need-loop-less Inv-loop μ-loop
 loop-less c = omega arith
 
+abbrev at-loop : tie.After-room Inv-loop μ-loop → tie.At-loop Inv-loop μ-loop
+at-loop c = c .before .before .before .before .before .before .before .before .before
+
+abbrev start : tie.After-shared-slice-known2 Inv-loop μ-loop → tie.Start Inv-loop μ-loop
+start c = c .before .before .before .before .before .before .before .before .before
+
 loop-again : tie.Need-loop-again Inv-loop μ-loop
 loop-again c =
-    let at = c .before .before .before .before .before .before .before .before .before .before .loop in
-    let piece = c .before .before .before .before .before .before .before .before .before .before .before .before .before .before .args .piece .now in (
+    let at = at-loop (c .before) .loop in
+    let piece = start (c .before .before .before .before .before) .args .piece .now in (
       omega arith,
       ap (λ (g : Gathering). takePiece g (drop (at .i + 1) piece)) (c .before .before .before .before .take-byte .ensures)
           ∙ sym (piece-turn (gathering (at .after) (at .counts) (at .buf) (at .room)) piece (at .i) (c .before .before .before .before .before .before .before .before .before .loop-test .taken))

@@ -14,9 +14,12 @@ to-str-requires c κs = search needs
 enum-known-start : tie.Need-enum-known-start
 enum-known-start c = search needs
 
+abbrev start : tie.After-print-name-arg → tie.Start
+start c = c .before .before .before .before .before .before .before
+
 add-print-name : tie.Need-add-print-name
 add-print-name c =
-    let a = c .before .before .before .before .before .before .before .args in
+    let a = start c .args in
     let place = c .before .before .start .given in
     let is = sym (c .before .before .before .before .to-str .ensures) ∙ ap namingOf (place .1) in
     omega (arith, named (a .image .now) (a .id) (place .0 .0) (place .0 .1 .0) is)
@@ -29,7 +32,7 @@ part-print-name-start c = search needs
 
 part-print-name-end : tie.Need-part-print-name-end
 part-print-name-end c =
-    let a = c .before .before .before .before .before .before .before .args in
+    let a = start c .args in
     let place = c .before .before .start .given in
     let is = sym (c .before .before .before .before .to-str .ensures) ∙ ap namingOf (place .1) in
     omega (arith, named (a .image .now) (a .id) (place .0 .0) (place .0 .1 .0) is)
@@ -54,7 +57,7 @@ same-length c = search needs
 
 returns : tie.Need-returns
 returns c =
-    let a = c .before .before .before .before .before .before .before .before .before .before .before .args in
+    let a = start (c .before .before .before .before) .args in
     let place = c .before .before .before .before .before .before .start .given in
     let to-str = c .before .before .before .before .before .before .before .before .to-str in
     c .before .before .print-name .ensures

@@ -25,21 +25,24 @@ print-field-requires c κs = simp length-set (omega (arith, c .before .before .b
 add-out-2 : tie.Need-add-out-2
 add-out-2 c = search needs
 
+abbrev start : tie.After-out2 → tie.Start
+start c = c .before .before .before .before .before .before .before .before .before
+
 slice-write-out-2 : tie.Need-slice-write-out-2
 slice-write-out-2 c =
     let number = c .before .before .before .before .before .before .print-number in
-    let w = length-set (number .last .0) (c .before .before .before .before .before .before .before .before .before .before .args .at + 10) 32 in
+    let w = length-set (number .last .0) (start (c .before) .args .at + 10) 32 in
     omega (arith, c .before .before .print-field .kept, number .kept)
 
 same-length : tie.Need-same-length
 same-length c =
     let number = c .before .before .before .before .before .before .print-number in
-    let w = length-set (number .last .0) (c .before .before .before .before .before .before .before .before .before .before .args .at + 10) 32 in
+    let w = length-set (number .last .0) (start (c .before) .args .at + 10) 32 in
     simp length-set (omega (arith, c .before .before .print-field .kept, number .kept))
 
 returns : tie.Need-returns
 returns c =
-    let a = c .before .before .before .before .before .before .before .before .before .before .args in
+    let a = start (c .before) .args in
     let number = c .before .before .before .before .before .before .print-number in
     let field = c .before .before .print-field in
     line-printed (a .image .now) (a .out .now) (number .last .0) (field .last .0) (a .id) (a .at) (number .ensures) (field .ensures)

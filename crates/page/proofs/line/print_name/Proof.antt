@@ -12,16 +12,22 @@ repeat-requires c κs = search needs
 kept-requires : tie.Need-kept-requires
 kept-requires c κs = search needs
 
+abbrev after-repeat : tie.After-mark → tie.After-repeat
+after-repeat c = c .before .before .before .before .before .before .before .before .before
+
+abbrev start : tie.After-show-all-arg2 → tie.Start
+start c = c .before .before .before .before .before .before .before .before .before
+
 slice-aggregate-show-all : tie.Need-slice-aggregate-show-all
 slice-aggregate-show-all c =
     let kept = c .before .before .kept in
-    let name = c .before .before .before .before .before .before .before .before .before .args .name .now in
+    let name = start c .args .name .now in
     omega (arith, length-take (kept .result) name, kept .ensures)
 
 show-all-requires : tie.Need-show-all-requires
 show-all-requires c κs =
     let kept = c .before .before .kept in
-    let name = c .before .before .before .before .before .before .before .before .before .args .name .now in
+    let name = start c .args .name .now in
     omega (arith, length-take (kept .result) name, kept .ensures, c .before .before .before .before .before .repeat .kept)
 
 mark-requires : tie.Need-mark-requires
@@ -35,13 +41,13 @@ slice-write-out c = search needs
 
 same-length : tie.Need-same-length
 same-length c =
-    let spaces = c .before .before .before .before .before .before .before .before .before .repeat in
+    let spaces = after-repeat c .repeat in
     simp length-set (omega (arith, c .before .before .before .show-all .kept, spaces .kept))
 
 returns : tie.Need-returns
 returns c =
-    let a = c .before .before .before .before .before .before .before .before .before .before .before .before .before .args in
-    let spaces = c .before .before .before .before .before .before .before .before .before .repeat in
+    let a = start (c .before .before .before .before) .args in
+    let spaces = after-repeat c .repeat in
     let kept = c .before .before .before .before .before .before .kept in
     let shown = c .before .before .before .show-all in
     name-printed (a .name .now) (a .out .now) (spaces .last .0) (shown .last .0) (a .at) (kept .result) (c .mark .result)

@@ -40,16 +40,25 @@ returns-2 c =
     let n = le-ltb 65535 (length (lists s .references)) (omega (arith, c .before .if1 .left)) in
     refused s (writing-by (length (buf s)) (lists s) false true _ _ n (lt-ltb 65535 (length (lists s .walls)) (omega (arith, c .if2 .taken))) refl refl)
 
+abbrev after-put-section : tie.After-buf3 → tie.After-put-section
+after-put-section c = c .before .before .before .before .before .before .before .before .before
+
+abbrev start-from-else2 : tie.Else2 → tie.Start
+start-from-else2 c = c .before .before .before .before .before .before
+
+abbrev else4 : tie.After-put-section-arg3 → tie.Else4
+else4 c = c .before .before .before .before .before .before .before .before .before
+
 returns-3 : tie.Need-returns-3
 returns-3 c =
-    let s = c .before .before .before .before .before .before .before in
+    let s = start-from-else2 (c .before) in
     let n = le-ltb 65535 (length (lists s .references)) (omega (arith, c .before .before .if1 .left)) in
     let m = le-ltb 65535 (length (lists s .walls)) (omega (arith, c .before .if2 .left)) in
     refused s (writing-by (length (buf s)) (lists s) false false true _ n m (lt-ltb 65535 (length (lists s .retired)) (omega (arith, c .if3 .taken))) refl)
 
 -- no list passes 65,535: the buffer decides
 abbrev start : tie.Else3 → tie.Start
-start c = c .before .before .before .before .before .before .before
+start c = start-from-else2 (c .before)
 
 by-room : (c : tie.Else3) (d : Bool) → ltb (length (buf (start c))) (length (sheetBytes (lists (start c)))) ≡ d
     → cond d (refusal 21) (value (length (sheetBytes (lists (start c))))) ≡ writing (length (buf (start c))) (lists (start c))
@@ -91,12 +100,12 @@ same-length c = search needs
 
 returns-5 : tie.Need-returns-5
 returns-5 c =
-    let at = c .before .before .before .before .before .before .before .before .before .before .before .before in
+    let at = else4 (c .before .before .before) in
     let s = at .before .before .before .before .before .before .before .before in
     let l = lists s in
     let room : length (sheetBytes l) ≤ length (buf s) = omega (arith, sized l, at .if4 .left) in
     let e = by-room (at .before) false (le-ltb (length (buf s)) (length (sheetBytes l)) room) in
-    let first = c .before .before .before .before .before .before .before .before .before .before .put-section in
+    let first = after-put-section (c .before) .put-section in
     let second = c .before .before .before .before .before .before .put-section2 in
     let third = c .before .before .put-section3 in (
       ap value (sym (sized l)) ∙ e,
