@@ -1,7 +1,7 @@
 // Writing: all puts and the close, names of 9 bytes, into a slice of exactly the image's size. Neither side clears its slice
 // between the repetitions. Then what the check of the 256 counts costs by itself.
+use crate::archive::{self, Joined, Record};
 use crate::names::Names;
-use crate::ours::{self, Joined, Record};
 use crate::table::{self, best, least};
 use cqdb::CQDBWriter;
 use std::hint::black_box;
@@ -15,11 +15,11 @@ pub fn image_size(n: usize, length: usize) -> usize {
 /// Our image of these names, by single puts with repeats on, in a buffer of its size.
 pub fn build(names: &[&str], buf: &mut [u8]) {
     let mut counts = [0; 256];
-    let mut record = ours::begin(0, 1, &mut counts, buf).record;
+    let mut record = archive::begin(0, 1, &mut counts, buf).record;
     for (id, name) in names.iter().enumerate() {
-        record = ours::put(record, &mut counts, buf, name.as_bytes(), id as u32).record;
+        record = archive::put(record, &mut counts, buf, name.as_bytes(), id as u32).record;
     }
-    let closed = ours::close(record, &counts, buf);
+    let closed = archive::close(record, &counts, buf);
     assert_eq!((closed.refusal, closed.size as usize), (0, buf.len()));
 }
 
@@ -55,7 +55,7 @@ fn whole_list(n: usize, repetitions: usize) {
     let size = image_size(n, 9);
     let (mut a, mut b) = (vec![0u8; size], vec![0u8; size]);
     let mut one_call = || {
-        let answer = ours::build(0, 0, black_box(&mut a), list, &mut refusals, &mut work);
+        let answer = archive::build(0, 0, black_box(&mut a), list, &mut refusals, &mut work);
         assert_eq!((answer.refusal, answer.size as usize, answer.accepted as usize), (0, size, n));
     };
     let times = best(repetitions, n, &mut one_call, || build_rust(&names, black_box(&mut b)));
@@ -72,7 +72,7 @@ fn refused_name(n: usize, repetitions: usize) {
     let ids: Vec<u32> = (0..n as u32).collect();
     let buffers = || (vec![0; n], vec![0; 7 * n], vec![0u8; image_size(n, 9)]);
     let one_call = |names: &[u8], accepted: usize, (refusals, work, buf): &mut (Vec<u32>, Vec<u32>, Vec<u8>)| {
-        let answer = ours::build(0, 0, black_box(buf), Joined { names, ends: &ends, ids: &ids }, refusals, work);
+        let answer = archive::build(0, 0, black_box(buf), Joined { names, ends: &ends, ids: &ids }, refusals, work);
         assert_eq!((answer.refusal, answer.accepted as usize), (0, accepted));
     };
     let (mut a, mut b) = (buffers(), buffers());
@@ -85,12 +85,12 @@ fn refused_name(n: usize, repetitions: usize) {
 fn count_check() {
     let mut counts = [0; 256];
     let mut buf = vec![0u8; 4096];
-    let fresh = ours::begin(0, 1, &mut counts, &buf).record;
+    let fresh = archive::begin(0, 1, &mut counts, &buf).record;
     let mut refused = |record: Record, refusal: u32| {
         let calls = 10_000;
         least(500, calls, || {
             for _ in 0..calls {
-                let answer = ours::close(black_box(record), &counts, &mut buf);
+                let answer = archive::close(black_box(record), &counts, &mut buf);
                 assert_eq!(answer.refusal, refusal);
             }
         })

@@ -1,7 +1,8 @@
 // Changes: all ids that two images name differently, beside two walks by the Rust that compare the names of each id. The images have
-// every id from 0 on, so that its walks end at the last one. Alike, and with one name of 100 changed.
+// every id from 0 on, so that its walks end at the last one. Alike, and with one name of 100 changed. And whether names and ids of an
+// image are one to one, beside a walk by the Rust that looks up each name; it does not check that the image is canonical.
+use crate::archive;
 use crate::names::{mixed, Names};
-use crate::ours;
 use crate::reading::image;
 use crate::table::{self, best};
 use cqdb::CQDB;
@@ -10,7 +11,7 @@ use std::hint::black_box;
 fn by_calls(old: &[u8], new: &[u8]) -> usize {
     let (mut changes, mut from) = (0, 0);
     loop {
-        let answer = ours::next_change(old, new, from);
+        let answer = archive::next_change(old, new, from);
         if answer.found == 0 {
             return changes;
         }
@@ -26,6 +27,17 @@ fn by_walks(old: &CQDB, new: &CQDB) -> usize {
         .count()
 }
 
+fn one_to_one(n: usize, image: &[u8], repetitions: usize) {
+    let db = CQDB::new(image).expect("an image");
+    let ours = || assert_eq!(archive::one_to_one(black_box(image)).ok, 1);
+    let by_walk = |db: &CQDB| {
+        let steps = db.iter().map(|step| step.expect("a name"));
+        steps.filter(|(id, name)| std::str::from_utf8(name).is_ok_and(|name| db.to_id(name) == Some(*id))).count()
+    };
+    let rust = || assert_eq!(by_walk(black_box(&db)), n);
+    table::row(&format!("one to one, an entry of {n}"), best(repetitions, n, ours, rust), None);
+}
+
 pub fn run() {
     for (n, repetitions) in [(4_096, 400), (1_000_000, 9)] {
         let (first, other) = (Names::new('n', 9, mixed(n)), Names::new('m', 9, mixed(n)));
@@ -38,5 +50,6 @@ pub fn run() {
             let rust = || assert_eq!(by_walks(black_box(&before), black_box(&after)), changes);
             table::row(&format!("changes of {n} ids, {what}, an id"), best(repetitions, n, ours, rust), None);
         }
+        one_to_one(n, &old, repetitions);
     }
 }

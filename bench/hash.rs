@@ -4,7 +4,7 @@ mod rust;
 #[path = "../target/oracle/src/hash.rs"]
 mod rust_again;
 
-use crate::ours;
+use crate::archive;
 use crate::table::{self, best, least};
 use std::hint::black_box;
 
@@ -31,7 +31,7 @@ pub fn run() {
         let names: [Vec<u8>; NAMES] = std::array::from_fn(|k| (0..size).map(|i| (i * 37) as u8 ^ k as u8).collect());
         let closed: [Vec<u8>; NAMES] = std::array::from_fn(|k| names[k].iter().copied().chain([0]).collect());
         let calls = 3_000_000 / (size + 16) / NAMES * NAMES;
-        let ours = || all(calls, &names, |n| ours::hash(n, 0).hash);
+        let ours = || all(calls, &names, |n| archive::hash(n, 0).hash);
         // The Rust's `jhash`, compiled by itself and called, as its `put` does. In its `to_id` the compiler inlines it, with the
         // length known to be the name's plus 1: the second row.
         let jhash: fn(&[u8], u32, u32) -> u32 = black_box(rust::jhash);

@@ -1,6 +1,6 @@
 // Loads (02 (xiii)): the load of a seed beside the Rust's puts of the same names; and bundles of 64 loads of different seeds: opening
 // the last one, and the append of the last one, each beside a copy of as many bytes.
-use crate::ours;
+use crate::archive;
 use crate::table::{self, best};
 use cqdb::CQDBWriter;
 use std::fmt::Write;
@@ -12,7 +12,7 @@ const SIZE: usize = 157_720;
 const LOADS: usize = 64;
 
 fn load(seed: u32, buf: &mut [u8]) {
-    let answer = ours::load(seed, buf);
+    let answer = archive::load(seed, buf);
     assert_eq!((answer.refusal, answer.accepted as usize), (0, ENTRIES));
 }
 
@@ -41,12 +41,12 @@ fn bundles() {
     let mut end = 0;
     for seed in 0..LOADS as u32 {
         load(seed, &mut image);
-        end = ours::bundle_append(&mut buf, end, &image).length;
+        end = archive::bundle_append(&mut buf, end, &image).length;
     }
     assert_eq!(end as usize, buf.len());
     let file = buf.clone();
     let mut copy = vec![0u8; file.len()];
-    let open = || assert_eq!(ours::bundle_open(black_box(&file), LOADS as u64 - 1).num as usize, ENTRIES);
+    let open = || assert_eq!(archive::bundle_open(black_box(&file), LOADS as u64 - 1).num as usize, ENTRIES);
     let copy_file = || black_box(&mut copy[..]).copy_from_slice(black_box(&file));
     table::row(
         &format!("open the last of {LOADS} loads, beside a copy of the file"),
@@ -54,7 +54,7 @@ fn bundles() {
         None,
     );
     let before = (file.len() - SIZE) as u64;
-    let append = || assert_eq!(ours::bundle_append(black_box(&mut buf), before, black_box(&image)).length, end);
+    let append = || assert_eq!(archive::bundle_append(black_box(&mut buf), before, black_box(&image)).length, end);
     let mut place = vec![0u8; SIZE];
     let copy_image = || black_box(&mut place[..]).copy_from_slice(black_box(&image));
     let what = format!("append a load to {} others, beside a copy of it", LOADS - 1);

@@ -1,16 +1,16 @@
 // The benchmarks: ours and the Rust's release build, or a copy for bundles, in one run and one table. The two take turns, and each
 // time is the best of several repetitions.   main [PART]
+#[path = "../tests/compare/archive.rs"]
+mod archive;
 mod average;
 mod building;
 mod bundle;
+mod canonical;
 mod changes;
 mod drop_in;
 mod hash;
 mod load;
 mod names;
-mod origin;
-#[path = "../tests/compare/ours.rs"]
-mod ours;
 mod page;
 mod reading;
 mod repeats;
@@ -25,7 +25,7 @@ const PARTS: [(&str, fn()); 12] = [
     ("page", page::run),
     ("bundle", bundle::run),
     ("load", load::run),
-    ("origin", origin::run),
+    ("canonical", canonical::run),
     ("round", round::run),
     ("average", average::run),
     ("changes", changes::run),

@@ -1,6 +1,6 @@
 // The printed catalogue of an image: ours in one call; the Rust's names, each printed by one `write!` of the same format.
+use crate::archive;
 use crate::names::Names;
-use crate::ours;
 use crate::reading::image;
 use crate::table::{self, best};
 use cqdb::CQDB;
@@ -28,7 +28,7 @@ pub fn run() {
         let mut page = vec![0; 45 * n];
         let mut text = String::with_capacity(45 * n);
         let mut shown = String::with_capacity(32);
-        let ours = || assert_eq!(ours::page(black_box(&image), &mut page).length, 45 * n as u64);
+        let ours = || assert_eq!(archive::page(black_box(&image), &mut page).length, 45 * n as u64);
         let rust = || {
             text.clear();
             for id in 0..n as u32 {

@@ -1,6 +1,6 @@
 // Reading: open, hits, misses and namings on an image that the Rust wrote, in an order that jumps about.
+use crate::archive;
 use crate::names::{mixed, Names};
-use crate::ours;
 use crate::table::{self, best};
 use cqdb::{CQDBWriter, CQDB};
 use std::hint::black_box;
@@ -28,7 +28,7 @@ fn each<T>(items: impl IntoIterator<Item = T>, mut call: impl FnMut(T) -> usize)
 
 fn opening(image: &[u8], n: usize) {
     let calls = 1000;
-    let ours = || each(0..calls, |_| ours::open(black_box(image)).num as usize);
+    let ours = || each(0..calls, |_| archive::open(black_box(image)).num as usize);
     let rust = || each(0..calls, |_| CQDB::new(black_box(image)).map_or(0, |db| db.num() as usize));
     table::row(&format!("open, {n} entries"), best(2000, calls, ours, rust), None);
 }
@@ -36,7 +36,7 @@ fn opening(image: &[u8], n: usize) {
 // A lookup adds its id, or 0 for nothing.
 fn lookups(what: &str, image: &[u8], names: &[&str], repetitions: usize) {
     let db = CQDB::new(image).expect("an image");
-    let ours = || each(names, |name| ours::to_id(image, name.as_bytes()).id as usize);
+    let ours = || each(names, |name| archive::to_id(image, name.as_bytes()).id as usize);
     let rust = || each(names, |name| black_box(&db).to_id(name).unwrap_or(0) as usize);
     let what = format!("{what}, {} entries, {} bytes", names.len(), names[0].len());
     table::row(&what, best(repetitions, names.len(), ours, rust), None);
@@ -50,7 +50,7 @@ fn placed(name: Place) -> usize {
 }
 
 fn own_place(image: &[u8], id: u32) -> Place {
-    let answer = ours::to_str(image, id);
+    let answer = archive::to_str(image, id);
     (answer.found == 1).then(|| (image.as_ptr().wrapping_add(answer.start as usize), answer.len as usize))
 }
 

@@ -1,9 +1,9 @@
 // Single puts with repeats off, which walk all earlier entries: the time of a whole list of different names of 9 bytes; and what
 // an entry that is visited costs beside the hash of its name. For the latter one more name is put into the full buffer: the put
 // walks all entries and is refused with 3.
+use crate::archive::{self, Counts, Record};
 use crate::building::image_size;
 use crate::names::Names;
-use crate::ours::{self, Counts, Record};
 use crate::table::least;
 use std::hint::black_box;
 
@@ -30,16 +30,16 @@ fn thread_time() -> f64 {
 
 // begin and all puts; no close.
 fn puts(names: &[&str], repeats: u32, counts: &mut Counts, buf: &mut [u8]) -> Record {
-    let mut record = ours::begin(0, repeats, counts, buf).record;
+    let mut record = archive::begin(0, repeats, counts, buf).record;
     for (id, name) in names.iter().enumerate() {
-        record = ours::put(record, counts, buf, name.as_bytes(), id as u32).record;
+        record = archive::put(record, counts, buf, name.as_bytes(), id as u32).record;
     }
     assert_eq!(record.entries as usize, names.len());
     record
 }
 
 fn hashes(names: &[&str]) {
-    let sum = names.iter().fold(0u32, |sum, name| sum ^ ours::hash(name.as_bytes(), 0).hash);
+    let sum = names.iter().fold(0u32, |sum, name| sum ^ archive::hash(name.as_bytes(), 0).hash);
     black_box(sum);
 }
 
@@ -57,7 +57,7 @@ fn list(n: usize, repetitions: usize) {
     let record = puts(&names, 0, &mut counts, &mut buf);
     let absent = "q".repeat(LENGTH);
     let visited = least(3_000, n, || {
-        let answer = ours::put(record, &mut counts, &mut buf, black_box(absent.as_bytes()), 0);
+        let answer = archive::put(record, &mut counts, &mut buf, black_box(absent.as_bytes()), 0);
         assert_eq!(answer.refusal, 3);
     });
     let hash = least(3_000, n, || hashes(black_box(&names)));

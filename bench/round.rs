@@ -1,7 +1,7 @@
 // A whole round of 512 in one call: names in and ids out, all found or none, beside the Rust's loop of `to_id` and our own single calls; ids in
 // and names out beside the Rust's loop of `to_str`. The rounds of a run take turns, so that a large image is not read from the cache.
+use crate::archive::{self, IdAnswer, StrAnswer};
 use crate::names::Names;
-use crate::ours::{self, IdAnswer, StrAnswer};
 use crate::reading::image;
 use crate::table::{self, best, least};
 use cqdb::CQDB;
@@ -33,7 +33,7 @@ fn names_in(image: &[u8], n: usize, count: usize, repetitions: usize, letter: ch
     let mut ids = [0u32; NAMES];
     let round = || {
         for text in &texts {
-            black_box(ours::round(image, text.as_bytes(), &ends, &mut answers));
+            black_box(archive::round(image, text.as_bytes(), &ends, &mut answers));
         }
     };
     let rust = || {
@@ -49,7 +49,7 @@ fn names_in(image: &[u8], n: usize, count: usize, repetitions: usize, letter: ch
     let single = least(repetitions, count * NAMES, || {
         for list in &lists {
             for (place, name) in places.iter_mut().zip(list) {
-                *place = ours::to_id(image, name.as_bytes());
+                *place = archive::to_id(image, name.as_bytes());
             }
             black_box(&places);
         }
@@ -70,7 +70,7 @@ fn ids_in(image: &[u8], n: usize, count: usize, repetitions: usize) {
     let mut places = vec![(0usize, 0usize); NAMES];
     let round = || {
         for list in &lists {
-            black_box(ours::name_round(image, list, &mut answers));
+            black_box(archive::name_round(image, list, &mut answers));
         }
     };
     let rust = || {

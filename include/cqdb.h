@@ -42,7 +42,8 @@
      name_round                      1.2 for each id
      readings_agree                  3 for each id below the back size
      page, page_part                 7 for each line
-     ours                            13, 18 for each entry                                           6
+     canonical                       13, 18 for each entry                                           6
+     one_to_one                      as average                                                      6
      average, lengths                25, 86 for each entry                                           6
      begin                           16
      put, repeats on                 22
@@ -68,8 +69,8 @@
    cqdb_open may still accept it: names and ids may then give nothing, or each other's answers. See cqdb_put.
 
    What is proved is the archive. The declarations, structs and inline functions of this file are tested. The inline functions
-   only copy numbers (begin: where it is accepted), pass arguments on (rounds: four words for each place; build: one number for
-   both lists; put_indexed: the writer's numbers in place), take a C string's length or give a refusal's text. */
+   only copy numbers, pass arguments on (rounds: four words for each place; build: one number for both lists; begin and
+   put_indexed: the writer's numbers in place) or take a C string's length; and cqdb_refusal_text gives a number's text. */
 #ifndef CQDB_H
 #define CQDB_H
 
@@ -119,7 +120,7 @@ extern "C" {
 #define CQDB_ROUND_UNFIT 14u     /* round, name_round, build: ends that fall or pass the names; rounds: or more than 512 names or ids */
 #define CQDB_ANSWERS_TOO_FEW 15u /* round, name_round, build: fewer answer places than names or ids; build: or fewer ids */
 #define CQDB_REPEATED 16u        /* put, put_indexed: repeats are off, and an earlier entry has this name */
-#define CQDB_NOT_OURS 17u        /* average, lengths: the bytes are not the image that some list of puts closes to */
+#define CQDB_NOT_CANONICAL 17u   /* average, lengths, one_to_one: the bytes are not the image that some list of puts closes to */
 #define CQDB_NO_ENTRIES 18u      /* average, lengths: the image has no entry */
 #define CQDB_TOO_FEW_BYTES 19u   /* sheet_read: the file ends before its third section does */
 #define CQDB_LEFT_OVER_BYTES 20u /* sheet_read: bytes follow the third section */
@@ -148,7 +149,7 @@ static inline const char *cqdb_refusal_text(uint32_t refusal) {
     case CQDB_ROUND_UNFIT: return "the round has too many names or ids, or ends that do not fit its names";
     case CQDB_ANSWERS_TOO_FEW: return "the answer list is shorter than the round";
     case CQDB_REPEATED: return "the writer already holds this name, and repeats are off";
-    case CQDB_NOT_OURS: return "the image is none that a list of puts makes";
+    case CQDB_NOT_CANONICAL: return "the image is not canonical: no list of puts makes it";
     case CQDB_NO_ENTRIES: return "the image has no entry";
     case CQDB_TOO_FEW_BYTES: return "invalid round sheet, too few bytes";
     case CQDB_LEFT_OVER_BYTES: return "invalid round sheet, left-over bytes";
@@ -243,10 +244,33 @@ uint32_t cqdb_home(const uint8_t *image, size_t len, uint32_t id);
 /* 1 when these bytes are the image that some list of puts closes to, one-way or two-way, repeats allowed, names free of zero
    bytes, with no byte after it; else 0. It is 1 for the image of every list of calls from a begin: the first `size` bytes of
    the buffer after the close, lent with exactly that length. Two different lists of accepted puts in one direction never
-   make the same image, so images that are ours can be compared by their bytes: their puts, in put order, stand one after the
+   make the same image, so canonical images can be compared by their bytes: their puts, in put order, stand one after the
    other from 2,072 on, as many as cqdb_open's num. Lent the image alone, changes nothing, and takes time linear in len apart
    from the probing. */
-uint32_t cqdb_ours(const uint8_t *image, size_t len);
+uint32_t cqdb_canonical(const uint8_t *image, size_t len);
+
+/* Names and ids one to one. Where a name was put under two ids, or two names under one id, a report may show a prism under a name
+   that is not its own, though each lookup gives what its rule says. */
+
+/* refusal is 0 when the image was accepted. ok is 1 when names and ids are one to one, else 0: then offset is that of the first
+   entry, in put order, that fails, and kind is CQDB_OTHER_ID or CQDB_OTHER_NAME. kind and offset are 0 where ok is 1; where the
+   call was refused, all else is 0. At image + offset stand the entry's id, the length of its name plus 1 and the name. */
+typedef struct {
+    uint32_t refusal;
+    uint32_t ok;
+    uint32_t kind;
+    uint32_t offset;
+} cqdb_one_to_one_answer;
+
+#define CQDB_OTHER_ID 1u   /* cqdb_to_id of the entry's name finds another id than the entry's */
+#define CQDB_OTHER_NAME 2u /* it finds the entry's id, and cqdb_to_str of that id gives another name than the entry's */
+
+/* Are names and ids one to one? ok is 1 exactly when for every entry cqdb_to_id of its name finds its id and, in a two-way image,
+   cqdb_to_str of its id gives its name; a one-way image names no ids, so there the first is enough. An image without entries is
+   one to one, and an entry that was put twice, with the same name and id, does not fail. Refusal: 17 where cqdb_canonical gives
+   0. Lent the image alone, and changes nothing. The call asks cqdb_canonical and then looks up each entry's name and id, up to
+   the first entry that fails. */
+cqdb_one_to_one_answer cqdb_one_to_one(const uint8_t *image, size_t len);
 
 /* Search lengths, to compare lists of names. The search length of an entry is the number of buckets that are read when its name
    is looked up; each entry counts, so a repeated name counts each time. */
@@ -260,8 +284,8 @@ typedef struct {
     uint64_t remainder;
 } cqdb_average_answer;
 
-/* The average search length of an image. Refusals, the first that applies: 17 where cqdb_ours gives 0, 18 where the image has
-   no entry. The call asks cqdb_ours and then looks up each name. */
+/* The average search length of an image. Refusals, the first that applies: 17 where cqdb_canonical gives 0, 18 where the image has
+   no entry. The call asks cqdb_canonical and then looks up each name. */
 cqdb_average_answer cqdb_average(const uint8_t *image, size_t len);
 
 /* How many entries have each search length: counts[0] to counts[14] for the lengths 1 to 15, and counts[15] for 16 and more.
@@ -316,9 +340,14 @@ typedef struct {
 #define CQDB_REPEATS_OFF 0u
 #define CQDB_REPEATS_ON 1u
 
+/* The writer begins with four words and two sizes; elsewhere this line does not compile. */
+typedef char cqdb_writer_in_place[offsetof(cqdb_writer, back) == 12 && offsetof(cqdb_writer, length) == 16 &&
+                                  offsetof(cqdb_writer, end) == 24 ? 1 : -1];
+
 /* The archive exports cqdb_begin_parts, cqdb_put_parts, cqdb_close_parts and cqdb_grown_parts; cqdb_begin, cqdb_put,
-   cqdb_close and cqdb_grown below call them, and programs in other languages may. They take the writer in two parts: a
-   cqdb_record by value, and the counts, which are lent and changed in place. */
+   cqdb_close and cqdb_grown below call them, and programs in other languages may. They take the writer in parts. The counts
+   are lent. Begin takes the record in place: the words mode, repeats, entries and back, and the sizes length and end. The
+   others take it by value, as a cqdb_record. */
 typedef struct {
     uint32_t mode;
     uint32_t repeats;
@@ -327,12 +356,6 @@ typedef struct {
     uint64_t length;
     uint64_t end;
 } cqdb_record;
-
-/* The fresh record; zeros where refused. */
-typedef struct {
-    uint32_t refusal;
-    cqdb_record record;
-} cqdb_begin_answer;
 
 /* The record to go on with; where refused, the one that was given. */
 typedef struct {
@@ -347,8 +370,9 @@ typedef struct {
     cqdb_record record;
 } cqdb_close_parts_answer;
 
-CQDB_LENGTH_ALONE(4)
-cqdb_begin_answer cqdb_begin_parts(uint32_t mode, uint32_t repeats, uint32_t *counts, const uint8_t *buf, size_t len);
+CQDB_LENGTH_ALONE(6)
+uint32_t cqdb_begin_parts(uint32_t mode, uint32_t repeats, uint32_t *numbers, uint64_t *sizes, uint32_t *counts,
+                          const uint8_t *buf, size_t len);
 cqdb_put_answer cqdb_put_parts(cqdb_record record, uint32_t *counts, uint8_t *buf, size_t len,
                                const uint8_t *name, size_t name_len, uint32_t id);
 cqdb_close_parts_answer cqdb_close_parts(cqdb_record record, const uint32_t *counts, uint8_t *buf, size_t len);
@@ -377,11 +401,7 @@ static inline void cqdb_keep(cqdb_writer *w, cqdb_record r) {
 /* Begins with the choice that `repeats` names: what cqdb_begin and cqdb_begin_repeats do. */
 CQDB_LENGTH_ALONE(4) CQDB_INLINED
 static inline uint32_t cqdb_begin_with(cqdb_writer *w, uint32_t mode, uint32_t repeats, const uint8_t *buf, size_t len) {
-    cqdb_begin_answer a = cqdb_begin_parts(mode, repeats, w->counts, buf, len);
-    if (a.refusal == 0) {
-        cqdb_keep(w, a.record);
-    }
-    return a.refusal;
+    return cqdb_begin_parts(mode, repeats, (uint32_t *)w, (uint64_t *)w + 2, w->counts, buf, len);
 }
 
 /* Makes *w, whatever it held, a fresh writer for the buffer: the mode, repeats off, the buffer's length, end 2,072,
@@ -463,14 +483,10 @@ static inline cqdb_close_answer cqdb_close(const cqdb_writer *w, uint8_t *buf, s
 size_t cqdb_index_words(size_t names);
 
 /* The archive exports cqdb_index_parts and cqdb_put_indexed_parts, which cqdb_index and cqdb_put_indexed call. The second takes the
-   record in place: the words mode, repeats, entries and back, and the sizes length and end. */
+   record in place, as cqdb_begin_parts does. */
 uint32_t cqdb_index_parts(cqdb_record record, const uint32_t *counts, const uint8_t *buf, size_t len, uint32_t *slots, size_t n);
 uint32_t cqdb_put_indexed_parts(uint32_t *numbers, uint64_t *sizes, uint32_t *counts, uint8_t *buf, size_t len,
                                 uint32_t *slots, size_t n, const uint8_t *name, size_t name_len, uint32_t id);
-
-/* The writer begins with these four words and two sizes; elsewhere this line does not compile. */
-typedef char cqdb_writer_in_place[offsetof(cqdb_writer, back) == 12 && offsetof(cqdb_writer, length) == 16 &&
-                                  offsetof(cqdb_writer, end) == 24 ? 1 : -1];
 
 /* Makes the n words at slots the index of the entries in the buffer, whatever they held; of a fresh writer, by clearing them. Changes
    nothing else. Gives 0, or the first refusal that applies, and then the words stay as they were: 2 and 4 as cqdb_close gives

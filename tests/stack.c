@@ -32,7 +32,8 @@ static void panel(void) { kept = cqdb_panel(image, size, 77).start; }
 static void readings_agree(void) { kept = cqdb_readings_agree(image, size); }
 static void size_hint(void) { kept = cqdb_size_hint(image, size, 0); }
 static void home(void) { kept = cqdb_home(image, size, 77); }
-static void ours(void) { kept = cqdb_ours(image, size); }
+static void canonical(void) { kept = cqdb_canonical(image, size); }
+static void one_to_one(void) { kept = cqdb_one_to_one(image, size).ok; }
 static void average(void) { kept = cqdb_average(image, size).quotient; }
 static void lengths(void) { kept = cqdb_lengths(image, size, counts); }
 static void page_length(void) { kept = cqdb_page_length(image, size); }
@@ -77,7 +78,7 @@ static const struct {
     const char *name;
     void (*call)(void);
 } calls[] = {{"version_number", version_number}, {"page_length", page_length}, {"hash", hash}, {"open", open_}, {"to_id", to_id}, {"to_str", to_str}, {"panel", panel}, {"readings_agree", readings_agree},
-             {"size_hint", size_hint}, {"home", home}, {"ours", ours}, {"average", average}, {"lengths", lengths}, {"page", print}, {"page_part", page_part}, {"grown", grown},
+             {"size_hint", size_hint}, {"home", home}, {"canonical", canonical}, {"one_to_one", one_to_one}, {"average", average}, {"lengths", lengths}, {"page", print}, {"page_part", page_part}, {"grown", grown},
              {"build_needs", build_needs},
              {"round", round_}, {"name_round", name_round}, {"begin", begin}, {"put, repeats on", put_on}, {"put, repeats off", put_off},
              {"index", index_}, {"put_indexed", put_indexed}, {"index_words", index_words}, {"close", close_}, {"build, 7 words for each name", build_7}, {"build, 3 words for each name", build_3},

@@ -47,7 +47,7 @@ int main(void) {
     expect(cqdb_average(buf, size).refusal == CQDB_NO_ENTRIES, "an empty image");
     expect(cqdb_lengths(buf, size, counts) == CQDB_NO_ENTRIES && counts[0] == 0x07070707u, "the counts stay");
     cqdb_average_answer a = cqdb_average(buf, size + 1);
-    expect(a.refusal == CQDB_NOT_OURS && a.entries == 0 && a.quotient == 0 && a.remainder == 0, "a byte behind it");
+    expect(a.refusal == CQDB_NOT_CANONICAL && a.entries == 0 && a.quotient == 0 && a.remainder == 0, "a byte behind it");
 
     cqdb_begin_repeats(&w, CQDB_TWOWAY, buf, sizeof buf);
     for (uint32_t id = 0; id < 5; id++) {

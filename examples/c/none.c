@@ -47,9 +47,10 @@ static void check_images(void) {
     expect(cqdb_put(&w, NULL, 0, NULL, 0, 0) == CQDB_UNFIT, "put");
     expect(cqdb_close(&w, NULL, 0).refusal == CQDB_UNFIT, "close");
     uint32_t counts[16] = {7};
-    expect(cqdb_ours(NULL, 0) == 0, "ours");
-    expect(cqdb_average(NULL, 0).refusal == CQDB_NOT_OURS, "average");
-    expect(cqdb_lengths(NULL, 0, counts) == CQDB_NOT_OURS && counts[0] == 7, "lengths");
+    expect(cqdb_canonical(NULL, 0) == 0, "canonical");
+    expect(cqdb_one_to_one(NULL, 0).refusal == CQDB_NOT_CANONICAL, "one_to_one");
+    expect(cqdb_average(NULL, 0).refusal == CQDB_NOT_CANONICAL, "average");
+    expect(cqdb_lengths(NULL, 0, counts) == CQDB_NOT_CANONICAL && counts[0] == 7, "lengths");
     expect(cqdb_round(NULL, 0, NULL, 0, NULL, 0, NULL, 0).refusal == 0, "a round of no names");
     expect(cqdb_name_round(NULL, 0, NULL, 0, NULL, 0) == 0, "a round of no ids");
     cqdb_date date = {2024, 2, 29};

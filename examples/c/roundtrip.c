@@ -114,7 +114,7 @@ static void check_refused(cqdb_writer *w, uint8_t *buf, size_t len) {
     expect(cqdb_begin(w, CQDB_TWOWAY, buf, 2071) == CQDB_TOO_SHORT, "begin: a buffer of 2,071 bytes");
     expect(cqdb_begin(w, 2, buf, len) == CQDB_UNFIT, "begin: a mode that is neither 0 nor 1");
     expect(cqdb_begin_repeats(w, 2, buf, len) == CQDB_UNFIT, "begin with repeats: the same");
-    expect(cqdb_begin_parts(CQDB_TWOWAY, 2, w->counts, buf, len).refusal == CQDB_UNFIT, "begin: repeats neither off nor on");
+    expect(cqdb_begin_with(w, CQDB_TWOWAY, 2, buf, len) == CQDB_UNFIT, "begin: repeats neither off nor on");
     expect(cqdb_put(w, buf, len - 1, bytes("E"), 1, 5) == CQDB_UNFIT, "put: another buffer's writer");
     expect(cqdb_put(w, buf, len, bytes("E"), 1, UINT32_MAX) == CQDB_NO_ROOM, "put: no room for 2^32 ids");
     expect(cqdb_put(w, buf, len, bytes("E\0F"), 3, 5) == CQDB_ZERO_BYTE, "put: a zero byte in the name");

@@ -17,8 +17,21 @@ What is proved is the library; this module is tested. docs/FORMAT.md of the repo
 from cqdb.build import Built, build
 from cqdb.catalogue import Catalogue, Check
 from cqdb.changes import Change
+from cqdb.one_to_one import Mismatch, OneToOne
 from cqdb.refusal import CQDBError, Refusal
 from cqdb.version import __version__
 from cqdb.writer import Writer
 
-__all__ = ["Built", "CQDBError", "Catalogue", "Change", "Check", "Refusal", "Writer", "__version__", "build"]
+__all__ = [
+    "Built",
+    "CQDBError",
+    "Catalogue",
+    "Change",
+    "Check",
+    "Mismatch",
+    "OneToOne",
+    "Refusal",
+    "Writer",
+    "__version__",
+    "build",
+]

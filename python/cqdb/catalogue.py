@@ -12,6 +12,7 @@ from typing import Iterable, Iterator, List, Optional, Tuple, TypeVar, Union
 from cqdb.changes import Change, changed
 from cqdb.library import calls
 from cqdb.names import Name, Text, id_number
+from cqdb.one_to_one import OneToOne, first_mismatch
 from cqdb.refusal import accept
 from cqdb.rounds import ROUND, Image, id_round, id_rounds, name_round, place_round
 
@@ -22,12 +23,14 @@ Default = TypeVar("Default")
 class Check:
     """Can an image be relied on? It is true where each answer is yes."""
 
-    ours: bool
+    canonical: bool
     """Some list of puts makes exactly these bytes."""
     readings_agree: bool
     """No name has a zero byte, so a C string shows all of it."""
     every_name_home: bool
     """The search for each id's name meets that id."""
+    one_to_one: bool
+    """Each entry's name has its id, and its id has its name; Catalogue.one_to_one says which entry fails."""
 
     def __bool__(self) -> bool:
         return all(astuple(self))
@@ -224,17 +227,37 @@ class Catalogue:
         for id, before, after in changed(self._lent(), other._lent()):
             yield Change(id, self._decoded(before), other._decoded(after))
 
+    def one_to_one(self) -> OneToOne:
+        """Are names and ids one to one? They are where the name of every entry has its id and, in a two-way image, its id has its
+        name. CQDBError where the image is not canonical, which no list of puts makes (17).
+
+        >>> bool(_example().one_to_one())
+        True
+        >>> from cqdb import Writer
+        >>> writer = Writer()
+        >>> writer.put("crane", 0)
+        >>> writer.put("mole", 0)
+        >>> Catalogue(writer.close()).one_to_one()
+        OneToOne(kind=<Mismatch.OTHER_NAME: 2>, offset=2072, id=0, name='crane')
+        """
+        found = first_mismatch(self._lent())
+        if found is None:
+            return OneToOne()
+        kind, offset, id, name = found
+        return OneToOne(kind, offset, id, self._text.decode(name))
+
     def check(self) -> Check:
         """Says of each question whether the image can be relied on.
 
         >>> _example().check()
-        Check(ours=True, readings_agree=True, every_name_home=True)
+        Check(canonical=True, readings_agree=True, every_name_home=True, one_to_one=True)
         """
         image = self._lent()
         return Check(
-            ours=calls.cqdb_ours(image, len(image)) == 1,
+            canonical=calls.cqdb_canonical(image, len(image)) == 1,
             readings_agree=calls.cqdb_readings_agree(image, len(image)) == 1,
             every_name_home=all(calls.cqdb_home(image, len(image), id) == 1 for id in self),
+            one_to_one=calls.cqdb_one_to_one(image, len(image)).ok == 1,
         )
 
 

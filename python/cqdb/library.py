@@ -30,6 +30,10 @@ class ChangeAnswer(Structure):
     _fields_ = [("found", c_uint32), ("id", c_uint32), ("before", StrAnswer), ("after", StrAnswer)]
 
 
+class OneToOneAnswer(Structure):
+    _fields_ = [("refusal", c_uint32), ("ok", c_uint32), ("kind", c_uint32), ("offset", c_uint32)]
+
+
 class RoundAnswer(Structure):
     _fields_ = [("refusal", c_uint32), ("buckets", c_uint64)]
 
@@ -48,7 +52,7 @@ class Record(Structure):
 
 
 class RecordAnswer(Structure):
-    """What begin and put answer."""
+    """What put and grown answer."""
 
     _fields_ = [("refusal", c_uint32), ("record", Record)]
 
@@ -76,12 +80,13 @@ _FUNCTIONS: List[Tuple[str, Any, List[Any]]] = [
     ("cqdb_to_str", StrAnswer, _LENT + [c_uint32]),
     ("cqdb_size_hint", c_uint32, _LENT + [c_uint32]),
     ("cqdb_home", c_uint32, _LENT + [c_uint32]),
-    ("cqdb_ours", c_uint32, _LENT),
+    ("cqdb_canonical", c_uint32, _LENT),
+    ("cqdb_one_to_one", OneToOneAnswer, _LENT),
     ("cqdb_readings_agree", c_uint32, _LENT),
     ("cqdb_next_change", ChangeAnswer, _LENT + _LENT + [c_uint64]),
     ("cqdb_round_words", RoundAnswer, _LENT * 4),
     ("cqdb_name_round_words", c_uint32, _LENT * 3),
-    ("cqdb_begin_parts", RecordAnswer, [c_uint32, c_uint32, c_void_p] + _LENT),
+    ("cqdb_begin_parts", c_uint32, [c_uint32, c_uint32, c_void_p, c_void_p, c_void_p] + _LENT),
     ("cqdb_put_parts", RecordAnswer, [Record, c_void_p] + _LENT + _LENT + [c_uint32]),
     ("cqdb_close_parts", CloseAnswer, [Record, c_void_p] + _LENT),
     ("cqdb_grown_parts", RecordAnswer, [Record, c_uint64]),

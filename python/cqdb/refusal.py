@@ -37,7 +37,7 @@ class Refusal(enum.IntEnum):
     ROUND_UNFIT = 14, "the round has too many names or ids, or ends that do not fit its names"
     ANSWERS_TOO_FEW = 15, "the answer list is shorter than the round"
     REPEATED = 16, "the writer already holds this name, and repeats are off"
-    NOT_OURS = 17, "the image is none that a list of puts makes"
+    NOT_CANONICAL = 17, "the image is not canonical: no list of puts makes it"
     NO_ENTRIES = 18, "the image has no entry"
     TOO_FEW_BYTES = 19, "invalid round sheet, too few bytes"
     LEFT_OVER_BYTES = 20, "invalid round sheet, left-over bytes"

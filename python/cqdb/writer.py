@@ -36,9 +36,13 @@ class Writer:
         self._lock = threading.Lock()
         self._counts = Counts()
         self._buffer = zeros(FIRST_LENGTH)
-        answer = calls.cqdb_begin_parts(int(one_way), int(repeats), self._counts, self._buffer, FIRST_LENGTH)
-        accept(answer.refusal)
-        self._record: Record = answer.record
+        self._record = Record()
+        numbers, sizes = ctypes.byref(self._record), ctypes.byref(self._record, Record.length.offset)
+        accept(
+            calls.cqdb_begin_parts(
+                int(one_way), int(repeats), numbers, sizes, self._counts, self._buffer, FIRST_LENGTH
+            )
+        )
 
     def __len__(self) -> int:
         """The number of names that were put."""

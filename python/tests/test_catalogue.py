@@ -53,6 +53,37 @@ class Reading(unittest.TestCase):
         self.assertEqual((latin["Grüße"], latin.name(3)), (3, "Grüße"))
         self.assertRaises(LookupError, cqdb.Catalogue, image_of([]), encoding="no such")
 
+    def test_one_to_one(self) -> None:
+        for entries in ([], PRISMS, many(2_000), PRISMS + PRISMS):
+            for one_way in (False, True):
+                catalogue = cqdb.Catalogue(image_of(entries, one_way=one_way, repeats=True))
+                self.assertEqual((catalogue.one_to_one(), bool(catalogue.check())), (cqdb.OneToOne(), True))
+                self.assertTrue(catalogue.one_to_one())
+
+    def test_the_first_entry_that_is_not_one_to_one(self) -> None:
+        end = 2_072 + sum(len(name) + 9 for name, _ in PRISMS)
+        cases = [
+            (PRISMS + [(b"crane", 9)], cqdb.Mismatch.OTHER_ID, end, 9, "crane"),
+            (PRISMS + [(b"pier", 5)], cqdb.Mismatch.OTHER_NAME, end - 28, 5, "mole \udcff"),
+            ([(b"a", 1), (b"a", 2), (b"b", 2)], cqdb.Mismatch.OTHER_ID, 2_082, 2, "a"),
+        ]
+        for entries, kind, offset, id, name in cases:
+            catalogue = cqdb.Catalogue(image_of(entries, repeats=True))
+            self.assertEqual(catalogue.one_to_one(), cqdb.OneToOne(kind, offset, id, name))
+            self.assertFalse(catalogue.one_to_one())
+            self.assertFalse(catalogue.check().one_to_one)
+        with tempfile.TemporaryDirectory() as folder:
+            path = pathlib.Path(folder, "image")
+            path.write_bytes(image_of(cases[1][0], repeats=True))
+            with cqdb.Catalogue.open(path) as mapped:
+                self.assertEqual(mapped.one_to_one().name, "mole \udcff")
+
+    def test_one_to_one_of_an_image_that_is_not_canonical(self) -> None:
+        catalogue = cqdb.Catalogue(image_of(PRISMS) + b"behind")
+        with self.assertRaises(cqdb.CQDBError) as raised:
+            catalogue.one_to_one()
+        self.assertEqual(raised.exception.refusal, cqdb.Refusal.NOT_CANONICAL)
+
     def test_what_is_not_there(self) -> None:
         catalogue = cqdb.Catalogue(image_of(PRISMS))
         with self.assertRaises(KeyError):

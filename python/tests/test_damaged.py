@@ -58,7 +58,7 @@ class Damaged(unittest.TestCase):
             changed[at] ^= 0x41
             if ask_all(self, bytes(changed)):
                 opened += 1
-                self.assertFalse(cqdb.Catalogue(changed).check().ours, at)
+                self.assertFalse(cqdb.Catalogue(changed).check().canonical, at)
         self.assertGreater(opened, 50)
 
     def test_words_changed_at_random(self) -> None:
@@ -76,14 +76,17 @@ class Damaged(unittest.TestCase):
 
     def test_bytes_behind_an_image_do_not_matter_to_reading(self) -> None:
         catalogue = cqdb.Catalogue(image_of(PRISMS) + b"behind")
-        self.assertEqual((catalogue["quay"], catalogue.name(700), catalogue.check().ours), (700, "quay", False))
+        self.assertEqual((catalogue["quay"], catalogue.name(700), catalogue.check().canonical), (700, "quay", False))
 
     def test_a_name_with_a_zero_byte_is_noticed(self) -> None:
         image = image_of(PRISMS)
         at = image.index(b"crane")
         catalogue = cqdb.Catalogue(image[:at] + b"cr\0ne" + image[at + 5 :])
         self.assertEqual(catalogue.name(1), "cr\0ne")
-        self.assertEqual(catalogue.check(), cqdb.Check(ours=False, readings_agree=False, every_name_home=False))
+        self.assertEqual(
+            catalogue.check(),
+            cqdb.Check(canonical=False, readings_agree=False, every_name_home=False, one_to_one=False),
+        )
 
 
 if __name__ == "__main__":

@@ -19,9 +19,9 @@ STRUCTS = {
     "cqdb_id_answer": library.IdAnswer,
     "cqdb_str_answer": library.StrAnswer,
     "cqdb_change_answer": library.ChangeAnswer,
+    "cqdb_one_to_one_answer": library.OneToOneAnswer,
     "cqdb_round_answer": library.RoundAnswer,
     "cqdb_record": library.Record,
-    "cqdb_begin_answer": library.RecordAnswer,
     "cqdb_put_answer": library.RecordAnswer,
     "cqdb_close_parts_answer": library.CloseAnswer,
     "cqdb_build_answer": library.BuildAnswer,
@@ -50,10 +50,10 @@ class Header(unittest.TestCase):
             assert found is not None, name
             given = [] if found.group(2) == "void" else found.group(2).split(",")
             kinds = ["pointer" if "*" in part else part.split()[0] for part in given]
-            ours = {ctypes.c_void_p: "pointer", ctypes.c_size_t: "size_t", **TYPES}
+            declared = {ctypes.c_void_p: "pointer", ctypes.c_size_t: "size_t", **TYPES}
             # c_size_t and c_uint64 are one type of ctypes on x86-64
             words = [kind.replace("uint64_t", "size_t") for kind in kinds]
-            self.assertEqual([ours[kind].replace("uint64_t", "size_t") for kind in arguments], words, name)
+            self.assertEqual([declared[kind].replace("uint64_t", "size_t") for kind in arguments], words, name)
             self.assertTrue(found.group(1) == TYPES.get(result) or STRUCTS.get(found.group(1)) is result, name)
 
 

@@ -46,7 +46,7 @@ pub struct Record {
     pub end: u64,
 }
 
-/// What begin, put and grown answer.
+/// What put and grown answer, and [`begin`].
 #[repr(C)]
 #[derive(Clone, Copy, Debug, PartialEq, Eq)]
 pub struct RecordAnswer {
@@ -200,6 +200,17 @@ pub struct AverageAnswer {
     pub remainder: u64,
 }
 
+/// ok is 1 where names and ids are one to one; otherwise the offset of the first entry that fails, and its kind: 1 another id, 2
+/// another name.
+#[repr(C)]
+#[derive(Clone, Copy, Debug, PartialEq, Eq)]
+pub struct OneToOneAnswer {
+    pub refusal: u32,
+    pub ok: u32,
+    pub kind: u32,
+    pub offset: u32,
+}
+
 /// size is the image's, and accepted the number of accepted puts.
 #[repr(C)]
 #[derive(Clone, Copy, Debug, PartialEq, Eq)]
@@ -238,7 +249,8 @@ extern "C" {
     fn cqdb_readings_agree(image: *const u8, len: usize) -> u32;
     fn cqdb_size_hint(image: *const u8, len: usize, next: u32) -> u32;
     fn cqdb_home(image: *const u8, len: usize, id: u32) -> u32;
-    fn cqdb_ours(image: *const u8, len: usize) -> u32;
+    fn cqdb_canonical(image: *const u8, len: usize) -> u32;
+    fn cqdb_one_to_one(image: *const u8, len: usize) -> OneToOneAnswer;
     fn cqdb_page_length(image: *const u8, len: usize) -> u64;
     fn cqdb_page(image: *const u8, len: usize, out: *mut u8, out_len: usize) -> PageAnswer;
     fn cqdb_page_part(image: *const u8, len: usize, first: u32, count: u32, out: *mut u8, out_len: usize)
@@ -261,7 +273,15 @@ extern "C" {
         answers: *mut u32,
         words: usize,
     ) -> u32;
-    fn cqdb_begin_parts(mode: u32, repeats: u32, counts: *mut u32, buf: *const u8, len: usize) -> RecordAnswer;
+    fn cqdb_begin_parts(
+        mode: u32,
+        repeats: u32,
+        numbers: *mut u32,
+        sizes: *mut u64,
+        counts: *mut u32,
+        buf: *const u8,
+        len: usize,
+    ) -> u32;
     fn cqdb_put_parts(
         record: Record,
         counts: *mut u32,
@@ -399,9 +419,15 @@ pub fn home(image: &[u8], id: u32) -> u32 {
 }
 
 /// 1 when the bytes are the image that some list of puts closes to, with no byte after it, else 0.
-pub fn ours(image: &[u8]) -> u32 {
+pub fn canonical(image: &[u8]) -> u32 {
     // SAFETY: the image is lent with its length, and is only read.
-    unsafe { cqdb_ours(image.as_ptr(), image.len()) }
+    unsafe { cqdb_canonical(image.as_ptr(), image.len()) }
+}
+
+/// Whether names and ids are one to one, or the first entry that fails; or the refusal.
+pub fn one_to_one(image: &[u8]) -> OneToOneAnswer {
+    // SAFETY: the image is lent with its length, and is only read.
+    unsafe { cqdb_one_to_one(image.as_ptr(), image.len()) }
 }
 
 /// The length of the printed catalogue.
@@ -442,10 +468,25 @@ pub fn name_round(image: &[u8], ids: &[u32], answers: &mut [StrAnswer]) -> u32 {
     unsafe { cqdb_name_round_words(image.as_ptr(), image.len(), ids.as_ptr(), ids.len(), words, count) }
 }
 
-/// A fresh record, or the refusal.
+/// A fresh record; or the refusal, with a record of zeros.
 pub fn begin(mode: u32, repeats: u32, counts: &mut Counts, buf: &[u8]) -> RecordAnswer {
-    // SAFETY: the counts are 256 words of their own, which are written; the buffer is lent for its length and is not touched.
-    unsafe { cqdb_begin_parts(mode, repeats, counts.as_mut_ptr(), buf.as_ptr(), buf.len()) }
+    let mut record = Record { mode: 0, repeats: 0, entries: 0, back: 0, length: 0, end: 0 };
+    let refusal = begin_in(mode, repeats, &mut record, counts, buf);
+    RecordAnswer { refusal, record }
+}
+
+/// Makes a record and its counts fresh; or the refusal, and both stay as they were.
+pub fn begin_in(mode: u32, repeats: u32, record: &mut Record, counts: &mut Counts, buf: &[u8]) -> u32 {
+    let (numbers, sizes) = in_place(record);
+    // SAFETY: the record and the counts, 256 words, are `&mut`, so they overlap nothing; the buffer is lent for its length and is not touched.
+    unsafe { cqdb_begin_parts(mode, repeats, numbers, sizes, counts.as_mut_ptr(), buf.as_ptr(), buf.len()) }
+}
+
+/// A record as the archive takes it in place: four words, mode to back, and two of 64 bits, length and end.
+fn in_place(record: &mut Record) -> (*mut u32, *mut u64) {
+    let record: *mut Record = record;
+    // SAFETY: the pointer is that of a record, and a place of it is taken, not read.
+    (record.cast(), unsafe { std::ptr::addr_of_mut!((*record).length) })
 }
 
 /// One put.
@@ -491,14 +532,11 @@ pub fn put_indexed(
     id: u32,
 ) -> u32 {
     let (buf, len, slots, n) = (buf.as_mut_ptr(), buf.len(), slots.as_mut_ptr(), slots.len());
-    let record: *mut Record = record;
-    // SAFETY: a record is four words, mode to back, and two of 64 bits, length and end, as the archive takes them in place. The counts
-    // are 256 words; buffer, slots and name are lent with their lengths. All but the name are `&mut`, so nothing that is written overlaps.
-    unsafe {
-        let sizes = std::ptr::addr_of_mut!((*record).length);
-        let (counts, name, name_len) = (counts.as_mut_ptr(), name.as_ptr(), name.len());
-        cqdb_put_indexed_parts(record.cast(), sizes, counts, buf, len, slots, n, name, name_len, id)
-    }
+    let (numbers, sizes) = in_place(record);
+    let (counts, name, name_len) = (counts.as_mut_ptr(), name.as_ptr(), name.len());
+    // SAFETY: the record is lent in place, the counts are 256 words; buffer, slots and name are lent with their lengths. All but the name are
+    // `&mut`, so nothing that is written overlaps.
+    unsafe { cqdb_put_indexed_parts(numbers, sizes, counts, buf, len, slots, n, name, name_len, id) }
 }
 
 /// Whether every pair is kept in a round, or the place of the first that is not.

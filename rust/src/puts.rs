@@ -1,4 +1,4 @@
-//! The puts of an image that is ours, read back.
+//! The puts of a canonical image, read back.
 use std::iter::FusedIterator;
 
 use crate::name::BStr;
@@ -25,7 +25,7 @@ pub struct Puts<'a> {
 }
 
 impl<'a> Puts<'a> {
-    // The image is ours, and has `num` entries: they stand one after the other behind the head.
+    // The image is canonical, and has `num` entries: they stand one after the other behind the head.
     pub(crate) fn new(image: &'a [u8], num: u32) -> Self {
         Puts { entries: &image[HEAD..], left: num }
     }

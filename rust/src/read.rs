@@ -5,6 +5,7 @@ use std::{fmt, io};
 use crate::archive::{self, Date, StrAnswer, Window};
 use crate::average::Average;
 use crate::name::BStr;
+use crate::one_to_one::OneToOne;
 use crate::page::Page;
 use crate::puts::Puts;
 use crate::refusal::{self, Refusal};
@@ -135,18 +136,40 @@ impl<'a> CQDB<'a> {
     /// Are these bytes the image that some list of puts closes to, one-way or two-way, repeats allowed, with no byte after it?
     /// Every image that a writer of this crate makes is. Two different lists of puts in one direction never make
     /// the same image, so owners may compare images by their bytes. The time is linear in the bytes apart from the probing.
-    pub fn is_ours(&self) -> bool {
-        archive::ours(self.image) == 1
+    pub fn is_canonical(&self) -> bool {
+        archive::canonical(self.image) == 1
     }
 
-    /// The puts of an image that is ours, in put order; nothing where it is not, which is asked first.
+    /// The puts of a canonical image, in put order; nothing where it is not canonical, which is asked first.
     pub fn puts(&self) -> Option<Puts<'a>> {
-        self.is_ours().then(|| Puts::new(self.image, self.num))
+        self.is_canonical().then(|| Puts::new(self.image, self.num))
+    }
+
+    /// Are names and ids one to one? They are where the name of every entry finds its id and, in a two-way image, its id gives its
+    /// name; otherwise the answer is the first entry, in put order, that fails. Refused with [`Refusal::NotCanonical`] where
+    /// [`CQDB::is_canonical`] says no.
+    ///
+    /// ```
+    /// use cqdb::{BStr, MemoryWriter, Mismatch, OneToOne, CQDB};
+    ///
+    /// # fn main() -> std::io::Result<()> {
+    /// let mut writer = MemoryWriter::new();
+    /// writer.put("crane", 0)?;
+    /// writer.put("mole", 0)?;
+    /// let image = writer.finish()?;
+    /// let first = OneToOne::Fails { kind: Mismatch::OtherName, offset: 2_072, id: 0, name: BStr::new("crane") };
+    /// assert_eq!(CQDB::new(&image)?.one_to_one()?, first);
+    /// # Ok(())
+    /// # }
+    /// ```
+    pub fn one_to_one(&self) -> Result<OneToOne<'a>, Refusal> {
+        let answer = archive::one_to_one(self.image);
+        refusal::or(answer.refusal, OneToOne::new(self.image, answer))
     }
 
     /// The average search length, to compare lists of names: how many buckets are read when the name of each entry is looked up,
-    /// over the number of entries. A repeated name counts each time. Refused with [`Refusal::NotOurs`] where
-    /// [`CQDB::is_ours`] says no, then with [`Refusal::NoEntries`].
+    /// over the number of entries. A repeated name counts each time. Refused with [`Refusal::NotCanonical`] where
+    /// [`CQDB::is_canonical`] says no, then with [`Refusal::NoEntries`].
     ///
     /// ```
     /// # fn main() -> std::io::Result<()> {

@@ -63,7 +63,7 @@ refusals! {
     /// The writer already holds this name, and repeats were not [asked for](crate::CQDBWriter::with_repeats).
     Repeated = 16, "the writer already holds this name, and repeats are off";
     /// The bytes are not the image that some list of puts closes to.
-    NotOurs = 17, "the image is none that a list of puts makes";
+    NotCanonical = 17, "the image is not canonical: no list of puts makes it";
     /// The image has no entry.
     NoEntries = 18, "the image has no entry";
     /// The round sheet has too few bytes.

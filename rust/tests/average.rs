@@ -48,6 +48,6 @@ fn refusals() {
     // 17 comes before 18: an empty image with a byte behind it.
     let longer = [&empty[..], &[0]].concat();
     let db = CQDB::new(&longer).unwrap();
-    assert_eq!((db.average(), db.lengths()), (Err(Refusal::NotOurs), Err(Refusal::NotOurs)));
-    assert_eq!((Refusal::NotOurs.number(), Refusal::NoEntries.number()), (17, 18));
+    assert_eq!((db.average(), db.lengths()), (Err(Refusal::NotCanonical), Err(Refusal::NotCanonical)));
+    assert_eq!((Refusal::NotCanonical.number(), Refusal::NoEntries.number()), (17, 18));
 }

@@ -85,12 +85,13 @@ fn lists_of_puts() {
     bytes.push(0);
     folder.write("longer", bytes);
     let ran = folder.cqdb(&["list", "--puts", "longer"]).gives(1).prints("");
-    ran.tells("cqdb: list: longer is not one of ours: it has no list of puts\n");
+    ran.tells("cqdb: list: longer is not canonical: it has no list of puts\n");
     folder.cqdb(&["check", "longer"]).gives(1).prints(
         "yes  it opens\n\
-         no   it is one of ours: no list of puts makes these bytes\n\
+         no   it is canonical: no list of puts makes these bytes\n\
          yes  readings agree\n\
-         yes  every name is home\n",
+         yes  every name is home\n\
+         no   one name for one id: the image is not canonical: no list of puts makes it (refusal 17)\n",
     );
 }
 
@@ -153,7 +154,7 @@ fn search_lengths() {
     let text = String::from_utf8(folder.cqdb(&["stats", "crowded"]).gives(0).out).unwrap();
     assert!(text.contains("\nlength-1  1 ") && text.contains("\nlength-15 1 "), "{text}");
     assert!(text.ends_with(&format!("\nlength-16+ 5 {}\n", "#".repeat(50))), "{text}");
-    // Without entries, and not one of ours.
+    // Without entries, and not canonical.
     folder.cqdb(&["make", "empty"]).gives(0);
     let text = String::from_utf8(folder.cqdb(&["stats", "empty"]).gives(0).out).unwrap();
     assert!(text.ends_with("(refusal 18)\n") && text.contains("average   none: "), "{text}");
@@ -165,10 +166,20 @@ fn search_lengths() {
 #[test]
 fn checks() {
     let folder = folder();
-    for image in ["walls", "one-way"] {
-        let ran = folder.cqdb(&["check", image]).gives(0);
-        let text = String::from_utf8(ran.out).unwrap();
-        assert!(text.lines().count() == 4 && text.lines().all(|line| line.starts_with("yes  ")), "{text}");
+    let yes = "yes  it opens\nyes  it is canonical\nyes  readings agree\nyes  every name is home\n";
+    let fifth = |line: &str| format!("{yes}{line}\n");
+    folder.image("distinct", "0 north wall\n1 crane\n4 mole\n");
+    folder.cqdb(&["make", "empty"]).gives(0);
+    for image in ["distinct", "one-way", "empty"] {
+        folder.cqdb(&["check", image]).gives(0).prints(fifth("yes  one name for one id")).tells("");
+    }
+    // Two names for id 4; then two ids for crane, the first of which is put last.
+    let no = "no   one name for one id: id 4 was put with the name \"mole\", and has the name \"pier\"";
+    folder.cqdb(&["check", "walls"]).gives(1).prints(fifth(no)).tells("");
+    let no = "no   one name for one id: \"crane\" was put with id 2, and has id 9";
+    for way in [&["make", "--repeats"][..], &["make", "--repeats", "--one-way"][..]] {
+        folder.with("9 crane\n2 crane\n", &[way, &["renewed"]].concat()).gives(0);
+        folder.cqdb(&["check", "renewed"]).gives(1).prints(fifth(no)).tells("");
     }
     // A zero byte in the name of id 0, whose entry is the first: it is no longer found under its hash either.
     let mut bytes = folder.read("walls");

@@ -34,7 +34,7 @@ fn asked(folder: &Folder) -> Ran {
 
 const LINES: [&str; 8] = [
     "it opens",
-    "it is one of ours",
+    "it is canonical",
     "readings agree",
     "every name is home",
     "one name for one id",
@@ -75,11 +75,11 @@ fn it_does_not_open() {
 }
 
 #[test]
-fn it_is_not_one_of_ours() {
+fn it_is_not_canonical() {
     let folder = folder();
     folder.write("image", [&folder.read("old")[..], b"\0"].concat());
-    let entries = "the entries of an image that is not one of ours cannot be listed";
-    says(&folder, &[(1, "no list of puts makes these bytes"), (4, entries)]);
+    let refused = "the image is not canonical: no list of puts makes it (refusal 17)";
+    says(&folder, &[(1, "no list of puts makes these bytes"), (4, refused)]);
 }
 
 /// A byte of the name of id 14 becomes zero: the readings part, and the name is not found under its hash.
@@ -92,7 +92,7 @@ fn a_zero_byte_in_a_name() {
     folder.write("image", &bytes);
     let text = String::from_utf8(asked(&folder).gives(1).out).unwrap();
     for line in [
-        "no   it is one of ours: no list of puts makes these bytes\n",
+        "no   it is canonical: no list of puts makes these bytes\n",
         "no   readings agree: the name of id 14 has a zero byte\n",
         "no   every name is home: id 14 is not\n",
         "no   ids of the sheet name the same prisms as before, and their names have not moved: \
@@ -119,12 +119,14 @@ fn two_names_for_an_id_or_two_ids_for_a_name() {
     let folder = folder();
     folder.with(format!("{LIST}15 crane\n"), &["make", "--renamed", "image"]).gives(0);
     let moved = (7, "id 15 was \"north wall 2\" and is \"crane\"");
-    says(&folder, &[(4, "\"north wall 2\" has id 15, whose name is \"crane\""), moved]);
+    says(&folder, &[(4, "id 15 was put with the name \"north wall 2\", and has the name \"crane\""), moved]);
     folder.with(format!("{LIST}16 north wall 2\n"), &["make", "--repeats", "image"]).gives(0);
-    says(&folder, &[(4, "id 16 has the name \"north wall 2\", which has id 15")]);
+    says(&folder, &[(4, "\"north wall 2\" was put with id 16, and has id 15")]);
+    // A one-way image names no ids: its names have their ids, and its sheet has no name.
     folder.with(LIST, &["make", "--one-way", "image"]).gives(0);
-    let text = String::from_utf8(asked(&folder).gives(1).out).unwrap();
-    assert!(text.contains("no   one name for one id: \"reference east pier\" has id 0, which has no name\n"), "{text}");
+    says(&folder, &[(5, "id 0 has none")]);
+    folder.with(format!("{LIST}16 north wall 2\n"), &["make", "--one-way", "--repeats", "image"]).gives(0);
+    says(&folder, &[(4, "\"north wall 2\" was put with id 16, and has id 15"), (5, "id 0 has none")]);
 }
 
 #[test]

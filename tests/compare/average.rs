@@ -1,48 +1,24 @@
 // The average search length and its histogram through the archive, held to 02 (x) told once more in plain Rust: on images of random
-// puts, repeated names among them, on damaged copies, on loads, and on images that are not ours.   average [IMAGES]
+// puts, repeated names among them, on damaged copies, on loads, and on images that are not canonical.   average [IMAGES]
+mod archive;
 mod damage;
-mod ours;
+mod made;
 mod plain;
 mod rules;
 mod seed;
 mod tally;
 
-use ours::AverageAnswer;
-use plain::{Put, HEAD};
+use archive::AverageAnswer;
+use made::made;
+use plain::Put;
 use rules::word;
 use seed::Random;
 use tally::Tally;
 
 const IMAGES: usize = 20_000;
 
-// The puts that an image would have, read one after the other: half as many as its tables have buckets.
-fn puts(image: &[u8]) -> Option<Vec<Put>> {
-    let buckets: u64 = (0..256).map(|t| rules::table(image, t).1).sum();
-    let (mut rest, mut puts) = (&image[HEAD..], Vec::new());
-    for _ in 0..buckets / 2 {
-        let head = rest.get(..8)?;
-        let length = (word(head, 4) as usize).checked_sub(1)?;
-        let name = rest.get(8..8 + length)?;
-        puts.push((name.to_vec(), word(head, 0)));
-        rest = rest.get(9 + length..)?;
-    }
-    Some(puts)
-}
-
-// 02 (ix): the image of these puts is the bytes, and no name has a zero byte. An id that the bytes have no room for is not tried.
-fn made(image: &[u8]) -> Option<Vec<Put>> {
-    if image.len() < HEAD {
-        return None;
-    }
-    let puts = puts(image)?;
-    let oneway = word(image, 8) == 1;
-    let roomy = oneway || puts.iter().all(|put| (put.1 as usize) < image.len() / 4);
-    let free = puts.iter().all(|put| !put.0.contains(&0));
-    (roomy && free && plain::image(oneway, &puts) == image).then_some(puts)
-}
-
-// 01, "Looking up a name": how many buckets are read until the first that has the name's hash and an entry with the name. In an
-// image of ours there is one.
+// 01, "Looking up a name": how many buckets are read until the first that has the name's hash and an entry with the name. In a
+// canonical image there is one.
 fn search_length(image: &[u8], name: &[u8]) -> u64 {
     let h = plain::hash(name);
     let (offset, n) = rules::table(image, h as usize % 256);
@@ -87,10 +63,10 @@ struct Run {
 impl Run {
     fn hold(&mut self, random: &mut Random, image: &[u8]) {
         let (wanted, counts) = rule(image);
-        self.tally.rule(ours::average(image), wanted, || format!("an image of {} bytes", image.len()));
+        self.tally.rule(archive::average(image), wanted, || format!("an image of {} bytes", image.len()));
         let before = [(); 16].map(|()| random.word());
         let mut after = before;
-        let refusal = ours::lengths(image, &mut after);
+        let refusal = archive::lengths(image, &mut after);
         self.tally.rule(refusal, wanted.refusal, || format!("the counts of {} bytes", image.len()));
         self.tally.rule(after, counts.unwrap_or(before), || format!("the counts of {} bytes", image.len()));
         self.images += 1;
@@ -123,7 +99,7 @@ fn repeats(puts: &[Put]) -> u64 {
     names.windows(2).filter(|two| two[0] == two[1]).count() as u64
 }
 
-// An image, and some copies of it that are not ours.
+// An image, and some copies of it that are not canonical.
 fn image(run: &mut Run, random: &mut Random, puts: &[Put]) {
     let image = plain::image(random.once_in(3), puts);
     run.repeated += repeats(puts);
@@ -139,9 +115,9 @@ fn image(run: &mut Run, random: &mut Random, puts: &[Put]) {
 fn loads(run: &mut Run, random: &mut Random) {
     for (seed, more) in [(0, 1_577), (1, 1_779), (u32::MAX, 1_599)] {
         let mut load = vec![0; 157_720];
-        ours::load(seed, &mut load);
+        archive::load(seed, &mut load);
         let known = AverageAnswer { refusal: 0, entries: 4_096, quotient: 1, remainder: more };
-        run.tally.rule(ours::average(&load), known, || format!("the load of seed {seed}"));
+        run.tally.rule(archive::average(&load), known, || format!("the load of seed {seed}"));
         run.hold(random, &load);
     }
 }

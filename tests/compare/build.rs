@@ -6,15 +6,15 @@
 mod original {
     pub type Put = (Vec<u8>, u32);
 }
+mod archive;
 mod names;
-mod ours;
 mod rules;
 mod seed;
 mod tally;
 
+use archive::{BuildAnswer, Joined};
 use names::Names;
 use original::Put;
-use ours::{BuildAnswer, Joined};
 use rules::HEAD;
 use seed::Random;
 use tally::Tally;
@@ -56,21 +56,21 @@ struct Left {
 // "begin, the puts in order, and one close", by single calls. Places behind the last name keep their content.
 fn single(mode: u32, repeats: u32, mut buf: Vec<u8>, puts: &[Put], mut answers: Vec<u32>) -> Left {
     let mut counts = [7; 256];
-    let begun = ours::begin(mode, repeats, &mut counts, &buf);
+    let begun = archive::begin(mode, repeats, &mut counts, &buf);
     assert_eq!(begun.refusal, 0, "the buffer has 2,072 bytes");
     let mut record = begun.record;
     for ((name, id), place) in puts.iter().zip(&mut answers) {
-        let put = ours::put(record, &mut counts, &mut buf, name, *id);
+        let put = archive::put(record, &mut counts, &mut buf, name, *id);
         *place = put.refusal;
         record = put.record;
     }
-    let closed = ours::close(record, &counts, &mut buf);
+    let closed = archive::close(record, &counts, &mut buf);
     let answer = BuildAnswer { refusal: closed.refusal, size: closed.size, accepted: record.entries };
     Left { answer, answers, buf }
 }
 
 fn built(mode: u32, repeats: u32, mut buf: Vec<u8>, list: Joined<'_>, mut answers: Vec<u32>, work: &mut [u32]) -> Left {
-    let answer = ours::build(mode, repeats, &mut buf, list, &mut answers, work);
+    let answer = archive::build(mode, repeats, &mut buf, list, &mut answers, work);
     Left { answer, answers, buf }
 }
 
@@ -147,11 +147,11 @@ fn accepted_list(random: &mut Random, names: &Names, tally: &mut Tally) -> usize
     lent.names = &names;
     let ids = [&list.ids[..], &answers[..random.below(answers.len() + 1)]].concat();
     lent.ids = &ids;
-    let ours = built(mode, repeats, buf.clone(), lent, answers.clone(), &mut work);
+    let given = built(mode, repeats, buf.clone(), lent, answers.clone(), &mut work);
     let wanted = single(mode, repeats, buf, &puts, answers);
-    tally.rule(ours.answer, wanted.answer, || format!("answer, mode {mode}, repeats {repeats}, {much} words, {puts:?}"));
-    tally.rule(&ours.answers, &wanted.answers, || format!("answers, mode {mode}, repeats {repeats}, {much} words, {puts:?}"));
-    tally.rule(ours.buf == wanted.buf, true, || format!("buffer, mode {mode}, repeats {repeats}, {much} words, {puts:?}"));
+    tally.rule(given.answer, wanted.answer, || format!("answer, mode {mode}, repeats {repeats}, {much} words, {puts:?}"));
+    tally.rule(&given.answers, &wanted.answers, || format!("answers, mode {mode}, repeats {repeats}, {much} words, {puts:?}"));
+    tally.rule(given.buf == wanted.buf, true, || format!("buffer, mode {mode}, repeats {repeats}, {much} words, {puts:?}"));
     n
 }
 
@@ -195,9 +195,9 @@ fn refused_list(random: &mut Random, names: &Names, tally: &mut Tally) {
     }
     let (buf, answers, work) = (random.bytes(len), words(random, places), words(random, 7 * n));
     let mut after = work.clone();
-    let ours = built(mode, repeats, buf.clone(), list.joined(), answers.clone(), &mut after);
+    let given = built(mode, repeats, buf.clone(), list.joined(), answers.clone(), &mut after);
     let answer = BuildAnswer { refusal: due, size: 0, accepted: 0 };
-    tally.rule(ours, Left { answer, answers, buf }, || format!("refused list, {n} names"));
+    tally.rule(given, Left { answer, answers, buf }, || format!("refused list, {n} names"));
     tally.rule(after == work, true, || format!("lent memory of a refused list, {n} names"));
 }
 
@@ -220,11 +220,11 @@ fn large(random: &mut Random, tally: &mut Tally) {
     // room for the accepted names alone, and for all
     for room in [whole(0, &fresh), whole(0, &puts)] {
         let buf = vec![9; room];
-        let ours = built(0, 0, buf.clone(), list.joined(), vec![1; puts.len()], &mut work);
+        let given = built(0, 0, buf.clone(), list.joined(), vec![1; puts.len()], &mut work);
         let wanted = single(0, 1, buf, &fresh, vec![0; fresh.len()]);
-        tally.rule(ours.answer, wanted.answer, || "a million names".into());
-        tally.rule(ours.answers == due, true, || "the answers of a million names".into());
-        tally.rule(ours.buf == wanted.buf, true, || "the image of a million names".into());
+        tally.rule(given.answer, wanted.answer, || "a million names".into());
+        tally.rule(given.answers == due, true, || "the answers of a million names".into());
+        tally.rule(given.buf == wanted.buf, true, || "the image of a million names".into());
     }
 }
 

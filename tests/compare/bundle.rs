@@ -1,12 +1,12 @@
 // Several walls in a file, through the archive, held to 02 (i) written a second time in plain Rust: whole and damaged files, every
 // position before, at and behind a break, the count, and appends into buffers that are exact, a byte short or longer.
 // bundle [FILES]
-mod ours;
+mod archive;
 mod rules;
 mod seed;
 mod tally;
 
-use ours::{BundleAppendAnswer, BundleCountAnswer, BundleOpenAnswer};
+use archive::{BundleAppendAnswer, BundleCountAnswer, BundleOpenAnswer};
 use rules::{word, HEAD};
 use seed::Random;
 use tally::Tally;
@@ -89,15 +89,15 @@ fn put_word(bytes: &mut [u8], at: usize, value: u32) {
 fn image(random: &mut Random) -> Vec<u8> {
     let mut buf = vec![0; HEAD + 600];
     let mut counts = [0; 256];
-    let mut record = ours::begin(u32::from(random.once_in(3)), 1, &mut counts, &buf).record;
+    let mut record = archive::begin(u32::from(random.once_in(3)), 1, &mut counts, &buf).record;
     for id in 0..random.below(9) as u32 {
         let n = random.below(20);
         let name: Vec<u8> = random.bytes(n).into_iter().map(|b| b.max(1)).collect();
-        let put = ours::put(record, &mut counts, &mut buf, &name, id);
+        let put = archive::put(record, &mut counts, &mut buf, &name, id);
         assert_eq!(put.refusal, 0, "a put with room");
         record = put.record;
     }
-    let size = ours::close(record, &counts, &mut buf).size;
+    let size = archive::close(record, &counts, &mut buf).size;
     buf.truncate(size as usize);
     match random.below(16) {
         0 => buf[random.below(4)] ^= 1,
@@ -174,12 +174,12 @@ impl Run {
     fn positions(&mut self, file: &File) {
         let last = file.starts.len() as u64 + 2;
         for position in (0..=last).chain([1 << 32, u64::MAX]) {
-            let answer = ours::bundle_open(&file.bytes, position);
+            let answer = archive::bundle_open(&file.bytes, position);
             let rule = open(&file.bytes, position);
             self.tally.rule(answer, rule, || format!("position {position} of {} bytes", file.bytes.len()));
             self.opened[answer.refusal as usize] += 1;
         }
-        let answer = ours::bundle_count(&file.bytes);
+        let answer = archive::bundle_count(&file.bytes);
         self.tally.rule(answer, count(&file.bytes), || format!("the count of {} bytes", file.bytes.len()));
         self.counted[answer.refusal as usize] += 1;
     }
@@ -190,7 +190,7 @@ impl Run {
         let mut buf = file.to_vec();
         buf.resize(room, filling);
         let mut wanted = buf.clone();
-        let answer = ours::bundle_append(&mut buf, file_len, image);
+        let answer = archive::bundle_append(&mut buf, file_len, image);
         let rule = append(&mut wanted, file_len, image);
         self.tally.rule(answer, rule, || format!("append to {file_len} of {room} bytes"));
         self.tally.rule(buf == wanted, true, || format!("the buffer after an append to {file_len} of {room} bytes"));
@@ -205,27 +205,27 @@ impl Run {
     fn grown(&mut self, old: &[u8], new: &[u8], image: &[u8]) {
         let images = count(old).images;
         for position in 0..images {
-            let (before, after) = (ours::bundle_open(old, position), ours::bundle_open(new, position));
+            let (before, after) = (archive::bundle_open(old, position), archive::bundle_open(new, position));
             self.tally.rule(after, before, || format!("position {position} after an append"));
             let (before, after) = (part(old, position), part(new, position));
             self.tally.rule(!after.is_empty() && after == before, true, || {
                 format!("the bytes of position {position} after an append")
             });
             for id in 0..3 {
-                let named = ours::named(before, id);
-                self.tally.rule(ours::to_str(after, id), ours::to_str(before, id), || format!("id {id} after an append"));
-                self.tally.rule(ours::home(after, id), ours::home(before, id), || format!("home of {id} after an append"));
+                let named = archive::named(before, id);
+                self.tally.rule(archive::to_str(after, id), archive::to_str(before, id), || format!("id {id} after an append"));
+                self.tally.rule(archive::home(after, id), archive::home(before, id), || format!("home of {id} after an append"));
                 let name = named.unwrap_or(b"nobody");
-                let (found, now) = (ours::to_id(before, name), ours::to_id(after, name));
+                let (found, now) = (archive::to_id(before, name), archive::to_id(after, name));
                 self.tally.rule(now, found, || format!("the name of id {id} after an append"));
             }
             self.kept += 1;
         }
-        let (last, alone) = (ours::bundle_open(new, images), ours::open(image));
+        let (last, alone) = (archive::bundle_open(new, images), archive::open(image));
         self.tally.rule((last.refusal, last.num), (alone.refusal, alone.num), || "the appended image".into());
         let place = if last.refusal == 0 { (old.len() as u64, image.len() as u64) } else { (0, 0) };
         self.tally.rule((last.start, last.size), place, || "the place of the appended image".into());
-        self.tally.rule(ours::bundle_count(new).images, images + 1, || "the count after an append".into());
+        self.tally.rule(archive::bundle_count(new).images, images + 1, || "the count after an append".into());
     }
 
     fn appends(&mut self, random: &mut Random, file: &[u8], pool: &[Vec<u8>]) {

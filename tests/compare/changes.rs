@@ -1,14 +1,14 @@
 // Two images compared through the archive, held to the rule told once more in plain Rust: both images are named id by id, and an old
 // name is looked up in the new image. Pairs of an image and its changed list, of damaged copies, of images that have nothing to do
 // with each other, and of any bytes.   changes [PAIRS]
+mod archive;
 mod damage;
-mod ours;
 mod plain;
 mod rules;
 mod seed;
 mod tally;
 
-use ours::{ChangeAnswer, MovedAnswer, StrAnswer};
+use archive::{ChangeAnswer, MovedAnswer, StrAnswer};
 use plain::Put;
 use seed::Random;
 use tally::Tally;
@@ -67,9 +67,9 @@ impl Run {
         let ids = changed(old, new);
         let mut from = 0;
         for wanted in ids.iter().map(|&id| Some(id)).chain([None]) {
-            let given = ours::next_change(old, new, from);
+            let given = archive::next_change(old, new, from);
             self.tally.rule(given, answer(old, new, wanted), || format!("from {from}"));
-            let back = ours::next_change(new, old, from);
+            let back = archive::next_change(new, old, from);
             self.tally.rule(back, answer(new, old, wanted), || format!("from {from}, the images exchanged"));
             from = wanted.map_or(from, |id| u64::from(id) + 1);
         }
@@ -77,10 +77,10 @@ impl Run {
             [upper(old, new), random.below(upper(old, new) as usize + 2) as u64, 1 << 32, u64::MAX, random.next()]
         {
             let wanted = ids.iter().copied().find(|&id| u64::from(id) >= from);
-            self.tally.rule(ours::next_change(old, new, from), answer(old, new, wanted), || format!("from {from}"));
+            self.tally.rule(archive::next_change(old, new, from), answer(old, new, wanted), || format!("from {from}"));
         }
         for id in ids.iter().copied().take(40).chain([0, random.below(20) as u32, u32::MAX, random.word()]) {
-            let given = ours::moved(old, new, id);
+            let given = archive::moved(old, new, id);
             self.tally.rule(given, moved(old, new, id), || format!("where the name of {id} went"));
             self.moved += u64::from(given.found);
         }

@@ -1,9 +1,9 @@
 // The gaps between the Rust and document 01 that docs/DIFFERENCES.md lists, tried on both. Each case runs the Rust in a process
 // of its own with limits on time and memory, since some never end and some want more memory than there is.   gaps [CASE]
-mod ours;
+mod archive;
 
+use archive::Record;
 use cqdb::{CQDBWriter, Flag, CQDB};
-use ours::Record;
 use std::io::{Cursor, Seek, SeekFrom, Write};
 use std::process::Command;
 
@@ -12,7 +12,7 @@ struct Case {
     seconds: u32,
     /// What the Rust does, and what is answered here.
     rust: fn() -> String,
-    ours: fn() -> String,
+    archive: fn() -> String,
     want: (&'static str, &'static str),
 }
 
@@ -22,23 +22,23 @@ const NO_MEMORY: &str = "aborted for want of memory";
 const MEMORY: u64 = 6 << 30;
 
 const CASES: [Case; 12] = [
-    Case { name: "full table", seconds: 3, rust: full_table_rust, ours: full_table, want: (NEVER, "nothing, 1 read") },
-    Case { name: "id 4294967294", seconds: 3, rust: || put_rust(0xffff_fffe), ours: || put(0xffff_fffe), want: (NEVER, "3") },
-    Case { name: "id 4294967295", seconds: 3, rust: || put_rust(0xffff_ffff), ours: || put(0xffff_ffff), want: (NEVER, "3") },
-    Case { name: "id 2147483646", seconds: 60, rust: || put_rust(0x7fff_fffe), ours: || put(0x7fff_fffe), want: (NO_MEMORY, "3") },
-    Case { name: "size 4294967296", seconds: 120, rust: || long_rust(4_294_965_199), ours: || long(4_294_965_199), want: ("size word 0, length word 4294965200", "3") },
-    Case { name: "name of 4294967295 bytes", seconds: 120, rust: || long_rust(4_294_967_295), ours: || long(4_294_967_295), want: ("size word 2096, length word 0", "3") },
-    Case { name: "no room for the close", seconds: 3, rust: || room_rust(2100, b""), ours: || room(2100, b""), want: ("put accepted, no head", "3, no byte changed") },
-    Case { name: "no room for the entry", seconds: 3, rust: || room_rust(2081, b"A"), ours: || room(2081, b"A"), want: ("put in error, 9 bytes changed", "3, no byte changed") },
-    Case { name: "buffer of 2071 bytes", seconds: 3, rust: short_rust, ours: short, want: ("accepted", "1") },
-    Case { name: "flag word 2", seconds: 3, rust: flag_rust, ours: flag, want: ("flag word 2", "2") },
-    Case { name: "name with a zero byte", seconds: 3, rust: zero_byte_rust, ours: zero_byte, want: ("a name of 3 bytes", "13") },
-    Case { name: "name twice", seconds: 3, rust: twice_rust, ours: twice, want: ("A finds 5, 9 gives A", "off 16, on 0") },
+    Case { name: "full table", seconds: 3, rust: full_table_rust, archive: full_table, want: (NEVER, "nothing, 1 read") },
+    Case { name: "id 4294967294", seconds: 3, rust: || put_rust(0xffff_fffe), archive: || put(0xffff_fffe), want: (NEVER, "3") },
+    Case { name: "id 4294967295", seconds: 3, rust: || put_rust(0xffff_ffff), archive: || put(0xffff_ffff), want: (NEVER, "3") },
+    Case { name: "id 2147483646", seconds: 60, rust: || put_rust(0x7fff_fffe), archive: || put(0x7fff_fffe), want: (NO_MEMORY, "3") },
+    Case { name: "size 4294967296", seconds: 120, rust: || long_rust(4_294_965_199), archive: || long(4_294_965_199), want: ("size word 0, length word 4294965200", "3") },
+    Case { name: "name of 4294967295 bytes", seconds: 120, rust: || long_rust(4_294_967_295), archive: || long(4_294_967_295), want: ("size word 2096, length word 0", "3") },
+    Case { name: "no room for the close", seconds: 3, rust: || room_rust(2100, b""), archive: || room(2100, b""), want: ("put accepted, no head", "3, no byte changed") },
+    Case { name: "no room for the entry", seconds: 3, rust: || room_rust(2081, b"A"), archive: || room(2081, b"A"), want: ("put in error, 9 bytes changed", "3, no byte changed") },
+    Case { name: "buffer of 2071 bytes", seconds: 3, rust: short_rust, archive: short, want: ("accepted", "1") },
+    Case { name: "flag word 2", seconds: 3, rust: flag_rust, archive: flag, want: ("flag word 2", "2") },
+    Case { name: "name with a zero byte", seconds: 3, rust: zero_byte_rust, archive: zero_byte, want: ("a name of 3 bytes", "13") },
+    Case { name: "name twice", seconds: 3, rust: twice_rust, archive: twice, want: ("A finds 5, 9 gives A", "off 16, on 0") },
 ];
 
 // The table of the name A has one bucket, which another hash has taken (C12).
 fn full_image() -> Vec<u8> {
-    let t = ours::hash(b"A", 0).hash as usize % 256;
+    let t = archive::hash(b"A", 0).hash as usize % 256;
     let mut image = vec![0; 2080];
     image[..4].copy_from_slice(b"CQDB");
     image[12..16].copy_from_slice(&0x6244_5371u32.to_le_bytes());
@@ -54,7 +54,7 @@ fn full_table_rust() -> String {
 }
 
 fn full_table() -> String {
-    let answer = ours::to_id(&full_image(), b"A");
+    let answer = archive::to_id(&full_image(), b"A");
     format!("{}, {} read", if answer.found == 1 { "found" } else { "nothing" }, answer.buckets)
 }
 
@@ -70,8 +70,8 @@ fn put(id: u32) -> String {
 fn refusal(mode: u32, length: usize, name: &[u8], id: u32) -> String {
     let mut buf = vec![0; length];
     let mut counts = [0; 256];
-    let record: Record = ours::begin(mode, 1, &mut counts, &buf).record;
-    ours::put(record, &mut counts, &mut buf, name, id).refusal.to_string()
+    let record: Record = archive::begin(mode, 1, &mut counts, &buf).record;
+    archive::put(record, &mut counts, &mut buf, name, id).refusal.to_string()
 }
 
 // A stream that keeps its first bytes and forgets the others.
@@ -135,8 +135,8 @@ fn room_rust(length: usize, name: &[u8]) -> String {
 fn room(length: usize, name: &[u8]) -> String {
     let mut buf = vec![0xa5; length];
     let mut counts = [0; 256];
-    let record = ours::begin(0, 1, &mut counts, &buf).record;
-    let refusal = ours::put(record, &mut counts, &mut buf, name, 0).refusal;
+    let record = archive::begin(0, 1, &mut counts, &buf).record;
+    let refusal = archive::put(record, &mut counts, &mut buf, name, 0).refusal;
     format!("{refusal}, {}", if buf.iter().all(|&b| b == 0xa5) { "no byte changed" } else { "bytes changed" })
 }
 
@@ -147,7 +147,7 @@ fn short_rust() -> String {
 }
 
 fn short() -> String {
-    ours::begin(0, 1, &mut [0; 256], &[0; 2071]).refusal.to_string()
+    archive::begin(0, 1, &mut [0; 256], &[0; 2071]).refusal.to_string()
 }
 
 fn flag_rust() -> String {
@@ -157,7 +157,7 @@ fn flag_rust() -> String {
 }
 
 fn flag() -> String {
-    ours::begin(2, 1, &mut [0; 256], &[0; 2072]).refusal.to_string()
+    archive::begin(2, 1, &mut [0; 256], &[0; 2072]).refusal.to_string()
 }
 
 fn zero_byte_rust() -> String {
@@ -191,9 +191,9 @@ fn twice() -> String {
     let second = |repeats: u32| {
         let mut buf = vec![0; 3000];
         let mut counts = [0; 256];
-        let record = ours::begin(0, repeats, &mut counts, &buf).record;
-        let record = ours::put(record, &mut counts, &mut buf, b"A", 5).record;
-        ours::put(record, &mut counts, &mut buf, b"A", 9).refusal
+        let record = archive::begin(0, repeats, &mut counts, &buf).record;
+        let record = archive::put(record, &mut counts, &mut buf, b"A", 5).record;
+        archive::put(record, &mut counts, &mut buf, b"A", 9).refusal
     };
     format!("off {}, on {}", second(0), second(1))
 }
@@ -218,10 +218,10 @@ fn main() {
     }
     let mut failed = 0;
     for case in &CASES {
-        let (rust, ours) = (apart(case), (case.ours)());
-        let as_listed = (rust.as_str(), ours.as_str()) == case.want;
+        let (rust, here) = (apart(case), (case.archive)());
+        let as_listed = (rust.as_str(), here.as_str()) == case.want;
         failed += i32::from(!as_listed);
-        println!("gaps: {}: the Rust: {rust}; here: {ours}{}", case.name, if as_listed { "" } else { "   NOT AS LISTED" });
+        println!("gaps: {}: the Rust: {rust}; here: {here}{}", case.name, if as_listed { "" } else { "   NOT AS LISTED" });
     }
     println!("gaps: {} tried, {failed} not as listed", CASES.len());
     std::process::exit(i32::from(failed > 0));

@@ -1,10 +1,10 @@
 // The name hash, compared live: the archive's `cqdb_hash`, the Rust's `jhash` and lookup3's `hashlittle` on the same names.
-mod ours;
+mod archive;
 #[path = "../../target/oracle/src/hash.rs"]
 mod rust;
 mod seed;
 
-use ours::HashAnswer;
+use archive::HashAnswer;
 use seed::Random;
 
 extern "C" {
@@ -34,7 +34,7 @@ fn byte(kind: usize, x: u64) -> u8 {
 fn agree(closed: &[u8], start: u32) -> bool {
     let name = &closed[..closed.len() - 1];
     let want = HashAnswer { refusal: 0, hash: c(closed, start) };
-    ours::hash(name, start) == want && rust::jhash(name, closed.len() as u32, start) == want.hash
+    archive::hash(name, start) == want && rust::jhash(name, closed.len() as u32, start) == want.hash
 }
 
 // Names of every length, of several kinds of bytes, at every alignment of a word, with several start values.
@@ -64,7 +64,7 @@ fn names(random: &mut Random) -> (usize, usize) {
 fn limit() -> (usize, usize) {
     let closed = vec![0u8; LIMIT];
     let accepted = agree(&closed, 0);
-    let refused = ours::hash(&closed, 0) == HashAnswer { refusal: 9, hash: 0 };
+    let refused = archive::hash(&closed, 0) == HashAnswer { refusal: 9, hash: 0 };
     if !accepted || !refused {
         println!("hash: at the limit: {} bytes agree: {accepted}; {LIMIT} bytes are refused with 9: {refused}", LIMIT - 1);
     }

@@ -1,9 +1,9 @@
 // The home check, compared live with the rule of 02 (vi): images with renewed prisms, three and more ids to a name; the same
 // with full tables; and damaged copies of both.   homes [COPIES]
+mod archive;
 mod damage;
 mod names;
 mod original;
-mod ours;
 mod rules;
 mod seed;
 mod tally;
@@ -71,13 +71,13 @@ struct Run {
 impl Run {
     fn ask(&mut self, image: &[u8], ids: u32) {
         for id in (0..ids).chain([u32::MAX]) {
-            let ours = ours::home(image, id);
-            self.tally.rule(ours, u32::from(rules::home(image, id)), || format!("home {id}"));
-            let Some(name) = ours::named(image, id) else { continue };
-            let found = ours::found_id(image, name);
-            self.tally.rule(ours >= u32::from(found == Some(id)), true, || format!("{id} was home"));
-            self.renewed += u64::from(ours == 1 && found != Some(id));
-            self.away += u64::from(ours == 0);
+            let given = archive::home(image, id);
+            self.tally.rule(given, u32::from(rules::home(image, id)), || format!("home {id}"));
+            let Some(name) = archive::named(image, id) else { continue };
+            let found = archive::found_id(image, name);
+            self.tally.rule(given >= u32::from(found == Some(id)), true, || format!("{id} was home"));
+            self.renewed += u64::from(given == 1 && found != Some(id));
+            self.away += u64::from(given == 0);
         }
     }
 
@@ -85,7 +85,8 @@ impl Run {
     fn all_home(&mut self, image: &[u8], puts: &[Put]) {
         let last: HashMap<u32, &[u8]> = puts.iter().map(|(name, id)| (*id, &name[..])).collect();
         for (id, name) in last {
-            self.tally.rule((ours::named(image, id), ours::home(image, id)), (Some(name), 1), || format!("home {id}"));
+            self.tally
+                .rule((archive::named(image, id), archive::home(image, id)), (Some(name), 1), || format!("home {id}"));
         }
     }
 }

@@ -3,17 +3,17 @@
 // stands in a heap block of exactly its length, so that valgrind reports a read or write outside it. A refusal changes no byte,
 // reading changes none, and every place in an answer lies in what was lent.
 // hostile [CALLS | too-much]
+mod archive;
 mod damage;
 mod names;
 mod original;
-mod ours;
 mod rules;
 mod seed;
 mod spoil;
 mod tally;
 mod writing;
 
-use ours::{Counts, Date, IdAnswer, Pair, StrAnswer, Window};
+use archive::{Counts, Date, IdAnswer, Pair, Record, StrAnswer, Window};
 use rules::HEAD;
 use seed::Random;
 use tally::Tally;
@@ -45,31 +45,32 @@ fn exact(bytes: &[u8]) -> Box<[u8]> {
 
 impl Run {
     fn read(&mut self, random: &mut Random, image: &[u8], names: &[Box<[u8]>]) {
-        let refusal = ours::open(image).refusal;
+        let refusal = archive::open(image).refusal;
         self.tally.rule([0, 1, 5, 6, 7, 8].contains(&refusal), true, || format!("opening gave {refusal}"));
         self.refused += u64::from(refusal > 0);
         for name in names {
-            let answer = ours::to_id(image, name);
+            let answer = archive::to_id(image, name);
             self.tally.rule(answer.found <= 1, true, || format!("{answer:?}"));
         }
         let back = if image.len() < HEAD { 0 } else { rules::back_size(image) as u32 };
         let ids = [0, 1, back.wrapping_sub(1), back, random.word(), u32::MAX, random.below(20) as u32];
         for id in ids {
-            let answer = ours::to_str(image, id);
+            let answer = archive::to_str(image, id);
             self.tally.rule(answer.start + u64::from(answer.len) <= image.len() as u64, true, || format!("{answer:?}"));
-            let panel = ours::panel(image, id);
+            let panel = archive::panel(image, id);
             self.tally.rule((panel.found, panel.start), (answer.found, answer.start), || format!("{panel:?}"));
             self.tally.rule(panel.len <= answer.len, true, || format!("{panel:?}"));
-            let home = ours::home(image, id);
+            let home = archive::home(image, id);
             self.tally.rule(home <= answer.found, true, || format!("home gave {home}"));
-            ours::size_hint(image, id);
+            archive::size_hint(image, id);
         }
-        let agree = ours::readings_agree(image);
+        let agree = archive::readings_agree(image);
         self.tally.rule(agree <= 1, true, || format!("the check of both readings gave {agree}"));
-        let one_of_ours = ours::ours(image);
-        self.tally.rule(one_of_ours <= u32::from(refusal == 0), true, || format!("one of ours gave {one_of_ours}"));
+        let is_canonical = archive::canonical(image);
+        self.tally.rule(is_canonical <= u32::from(refusal == 0), true, || format!("canonical gave {is_canonical}"));
         self.calls += 3 + names.len() as u64 + 4 * ids.len() as u64;
-        self.average(random, image, one_of_ours);
+        self.one_to_one(image, is_canonical);
+        self.average(random, image, is_canonical);
         self.page(random, image);
         self.whole_round(random, image, names, &ids);
     }
@@ -92,7 +93,7 @@ impl Run {
         let before: Box<[IdAnswer]> =
             vec![IdAnswer { found: random.word(), id: 7, buckets: random.word(), offset: 9 }; places].into();
         let mut answers = before.clone();
-        let answer = ours::round(image, &bytes, &ends, &mut answers);
+        let answer = archive::round(image, &bytes, &ends, &mut answers);
         let kept = if answer.refusal > 0 { 0 } else { n };
         self.tally.rule([0, 14, 15].contains(&answer.refusal), true, || format!("{answer:?} of {n} names"));
         self.tally.rule(answers[kept..] == before[kept..], true, || format!("the places behind {kept} of {n} names"));
@@ -101,7 +102,7 @@ impl Run {
         let before: Box<[StrAnswer]> =
             vec![StrAnswer { found: random.word(), len: random.word(), start: random.next() }; places].into();
         let mut named = before.clone();
-        let refusal = ours::name_round(image, &asked, &mut named);
+        let refusal = archive::name_round(image, &asked, &mut named);
         let kept = if refusal > 0 { 0 } else { n };
         self.tally.rule([0, 14, 15].contains(&refusal), true, || format!("{refusal} of {n} ids"));
         self.tally.rule(named[kept..] == before[kept..], true, || format!("the places behind {kept} of {n} ids"));
@@ -111,17 +112,32 @@ impl Run {
         self.calls += 2;
     }
 
-    // The average search length and its counts: refused where the image is not ours, and then no count is changed.
-    fn average(&mut self, random: &mut Random, image: &[u8], one_of_ours: u32) {
-        let answer = ours::average(image);
-        let fits = match answer.refusal {
-            0 => one_of_ours == 1 && answer.remainder < u64::from(answer.entries) && answer.quotient > 0,
-            k => k == 18 - (1 - one_of_ours) && (answer.entries, answer.quotient, answer.remainder) == (0, 0, 0),
+    // Whether names and ids are one to one: refused where the image is not canonical; the entry that fails lies in the image.
+    fn one_to_one(&mut self, image: &[u8], is_canonical: u32) {
+        let answer = archive::one_to_one(image);
+        let entry = answer.offset as usize;
+        let fits = match (answer.refusal, answer.ok, answer.kind) {
+            (0, 1, 0) | (17, 0, 0) => entry == 0,
+            (0, 0, 1 | 2) => entry >= HEAD && entry + 9 <= image.len(),
+            _ => false,
         };
-        self.tally.rule(fits, true, || format!("{answer:?} of an image that ours gave {one_of_ours}"));
+        self.tally.rule(fits, true, || format!("{answer:?}"));
+        self.tally.rule(answer.refusal == 0, is_canonical == 1, || format!("{answer:?} of {is_canonical}"));
+        self.refused += u64::from(answer.refusal > 0);
+        self.calls += 1;
+    }
+
+    // The average search length and its counts: refused where the image is not canonical, and then no count is changed.
+    fn average(&mut self, random: &mut Random, image: &[u8], is_canonical: u32) {
+        let answer = archive::average(image);
+        let fits = match answer.refusal {
+            0 => is_canonical == 1 && answer.remainder < u64::from(answer.entries) && answer.quotient > 0,
+            k => k == 18 - (1 - is_canonical) && (answer.entries, answer.quotient, answer.remainder) == (0, 0, 0),
+        };
+        self.tally.rule(fits, true, || format!("{answer:?} of an image that canonical gave {is_canonical}"));
         let before: Box<[u32; 16]> = Box::new([random.word(); 16]);
         let mut counts = before.clone();
-        let refusal = ours::lengths(image, &mut counts);
+        let refusal = archive::lengths(image, &mut counts);
         let due = if refusal == 0 { counts.iter().map(|&count| u64::from(count)).sum() } else { 0 };
         self.tally.rule((refusal, due), (answer.refusal, u64::from(answer.entries)), || "the sum of the counts".into());
         self.tally.rule(refusal == 0 || counts == before, true, || "the counts of a refused call".into());
@@ -131,12 +147,12 @@ impl Run {
 
     // The page, in an output of its length, of a little more, or of less, where it is refused.
     fn page(&mut self, random: &mut Random, image: &[u8]) {
-        let length = ours::page_length(image) as usize;
+        let length = archive::page_length(image) as usize;
         let less = random.below(length + 1);
         let room = random.pick(&[length, length + 1, length + 46, length.saturating_sub(1), less]);
         let mut out = exact(&random.bytes(room));
         let before = out.clone();
-        let answer = ours::page(image, &mut out);
+        let answer = archive::page(image, &mut out);
         let printed = if answer.refusal > 0 { 0 } else { length };
         self.refused += u64::from(answer.refusal > 0);
         let wanted = if room < length { (12, 0) } else { (0, length as u64) };
@@ -161,13 +177,13 @@ impl Run {
         let mut counts: Box<Counts> = Box::new(s.counts);
         let name = if random.once_in(2) { names[random.below(names.len())].clone() } else { exact(&names::any(random)) };
         let id = random.pick(&[0, 9, s.record.back, 0xffff_fffe, 0xffff_ffff]);
-        let answer = ours::put(s.record, &mut counts, &mut buf, &name, id);
+        let answer = archive::put(s.record, &mut counts, &mut buf, &name, id);
         if answer.refusal > 0 {
             self.unchanged((answer.record, &counts, &buf), s, "a refused put");
             self.repeated += u64::from(answer.refusal == 16);
         }
         let after = State { record: answer.record, counts: *counts, buf: buf.to_vec() };
-        let answer = ours::close(after.record, &counts, &mut buf);
+        let answer = archive::close(after.record, &counts, &mut buf);
         if answer.refusal > 0 {
             self.unchanged((answer.record, &counts, &buf), &after, "a refused close");
         } else {
@@ -186,7 +202,7 @@ impl Run {
         let pairs: Box<[Pair]> = (0..random.below(7)).map(|_| Pair { reference: id(random), wall: id(random) }).collect();
         let round: Box<[u32]> = (0..random.below(40)).map(|_| id(random)).collect();
         let before = (pairs.clone(), round.clone());
-        let answer = ours::references_first(&pairs, &round);
+        let answer = archive::references_first(&pairs, &round);
         let in_list = if answer.ok == 1 { answer.pair == 0 } else { answer.ok == 0 && answer.pair < pairs.len() as u64 };
         self.tally.rule(in_list, true, || format!("{answer:?} of {} pairs", pairs.len()));
         self.tally.rule((pairs, round) == before, true, || "pairs and a round that were read".into());
@@ -204,7 +220,7 @@ impl Run {
         let room = random.pick(&[0, length - 1, length, length + 1, length + more]);
         let before = random.bytes(room);
         let mut buf = exact(&before);
-        let answer = ours::sheet_write(&mut buf, lent);
+        let answer = archive::sheet_write(&mut buf, lent);
         let due = if room < length { (21, 0) } else { (0, length) };
         self.tally.rule((answer.refusal, answer.length as usize), due, || format!("{answer:?} in {room} bytes"));
         self.tally.bytes(&buf[due.1..], &before[due.1..], || "the bytes behind a sheet".into());
@@ -217,7 +233,7 @@ impl Run {
         let n = if random.once_in(2) { file.len() } else { random.below(file.len() + 3) };
         file.resize(n, 0);
         let (file, before) = (exact(&file), file);
-        let answer = ours::sheet_read(&file);
+        let answer = archive::sheet_read(&file);
         let inside = (0..3).all(|s| answer.starts[s] + 4 * u64::from(answer.counts[s]) <= n as u64);
         let zeros = answer.counts == [0; 3] && answer.starts == [0; 3];
         let so = if answer.refusal == 0 { inside } else { [19, 20].contains(&answer.refusal) && zeros };
@@ -238,13 +254,13 @@ impl Run {
         }
         let file = exact(&file);
         for position in [0, 1, 2, 3, random.next()] {
-            let answer = ours::bundle_open(&file, position);
+            let answer = archive::bundle_open(&file, position);
             let inside = answer.start + answer.size <= file.len() as u64
                 && (answer.refusal == 0) == (answer.size >= HEAD as u64);
             self.tally.rule(inside, true, || format!("{answer:?}"));
             self.refused += u64::from(answer.refusal > 0);
         }
-        let counted = ours::bundle_count(&file);
+        let counted = archive::bundle_count(&file);
         self.tally.rule(counted.images <= (file.len() / HEAD) as u64, true, || format!("{counted:?}"));
         let image = exact(&images[random.below(images.len())]);
         let room = (file.len() + image.len() + random.below(3)).saturating_sub(1);
@@ -252,7 +268,7 @@ impl Run {
         before.resize(room, 7);
         let mut buf = exact(&before);
         let end = random.pick(&[file.len(), file.len(), file.len(), 0, room, room + 1, usize::MAX]);
-        let answer = ours::bundle_append(&mut buf, end as u64, &image);
+        let answer = archive::bundle_append(&mut buf, end as u64, &image);
         if answer.refusal > 0 {
             self.refused += 1;
             self.tally.bytes(&buf, &before, || "the buffer after a refused append".into());
@@ -270,7 +286,7 @@ impl Run {
         let room = random.pick(&[0, 2_071, 2_072, 2_109, 2_110, any, any, any]);
         let before = random.bytes(room);
         let mut buf = exact(&before);
-        let answer = ours::load(random.word(), &mut buf);
+        let answer = archive::load(random.word(), &mut buf);
         let entries = room.saturating_sub(HEAD) / 38;
         let (size, due) = if room < HEAD { (0, (1, 0)) } else { (HEAD + 38 * entries, (0, entries as u32)) };
         self.tally.rule((answer.refusal, answer.accepted), due, || format!("{answer:?} in {room} bytes"));
@@ -298,15 +314,15 @@ impl Run {
         let first = random.bytes(room);
         let (ends, mut buf, mut answers) = (ends.into_boxed_slice(), exact(&first), before.clone());
         let (mode, repeats) = (random.pick(&[0, 0, 1, 2]), random.pick(&[0, 0, 1, 2]));
-        let joined = ours::Joined { names: &names, ends: &ends, ids: &ids };
-        let answer = ours::build(mode, repeats, &mut buf, joined, &mut answers, &mut work);
+        let joined = archive::Joined { names: &names, ends: &ends, ids: &ids };
+        let answer = archive::build(mode, repeats, &mut buf, joined, &mut answers, &mut work);
         self.tally.rule([0, 1, 2, 14, 15].contains(&answer.refusal), true, || format!("{answer:?}"));
         if answer.refusal > 0 {
             self.tally.rule(answers == before, true, || "the answers of a refused list".into());
             self.tally.bytes(&buf, &first, || "the buffer of a refused list".into());
         } else {
             let size = answer.size as usize;
-            self.tally.rule(ours::open(&buf[..size]).num, answer.accepted, || format!("{answer:?}"));
+            self.tally.rule(archive::open(&buf[..size]).num, answer.accepted, || format!("{answer:?}"));
             self.tally.bytes(&buf[size..], &first[size..], || "the bytes behind a list's image".into());
         }
         self.refused += u64::from(answer.refusal > 0);
@@ -316,17 +332,17 @@ impl Run {
     }
 
     // What a list needs, by the rule; in a heap block of exactly so many bytes none of its puts is refused with 3.
-    fn needs(&mut self, random: &mut Random, mode: u32, list: ours::Joined<'_>) {
+    fn needs(&mut self, random: &mut Random, mode: u32, list: archive::Joined<'_>) {
         let back = if mode == 0 { list.ids.iter().map(|&id| u64::from(id) + 1).max().unwrap_or(0) } else { 0 };
         let due = (HEAD + list.names.len() + 25 * list.ids.len()) as u64 + 4 * back;
-        let needs = ours::build_needs(mode, list.names.len(), list.ids);
+        let needs = archive::build_needs(mode, list.names.len(), list.ids);
         self.tally.rule(needs.bytes, due, || format!("{needs:?} for {list:?}"));
         let long = random.pick(&[usize::MAX, usize::MAX - 2_072, usize::MAX / 2]);
-        let most = ours::build_needs(mode, long, list.ids).bytes;
+        let most = archive::build_needs(mode, long, list.ids).bytes;
         self.tally.rule(u128::from(most), u128::from(u64::MAX).min(long as u128 + u128::from(due) - list.names.len() as u128), || format!("{most} for {long} bytes"));
         let (mut buf, mut answers) = (exact(&random.bytes(due as usize)), vec![0; list.ends.len()].into_boxed_slice());
         let mut work = vec![random.word(); random.pick(&[0, needs.words as usize])].into_boxed_slice();
-        let answer = ours::build(mode, random.pick(&[0, 1]), &mut buf, list, &mut answers, &mut work);
+        let answer = archive::build(mode, random.pick(&[0, 1]), &mut buf, list, &mut answers, &mut work);
         self.tally.rule(answers.contains(&3), false, || format!("{answer:?} and {answers:?} in {due} bytes"));
         self.refused += u64::from(answer.refusal > 0);
         self.calls += 3;
@@ -335,9 +351,9 @@ impl Run {
     // A longer buffer, or a shorter one, for any record: refused with 2 where it is shorter or mode or repeats is no choice.
     fn grow(&mut self, random: &mut Random, s: &State) {
         let length = random.pick(&[0, 2_072, s.record.length, s.record.length.wrapping_add(1), s.record.length.wrapping_sub(1), u64::MAX]);
-        let grown = ours::grown(s.record, length);
+        let grown = archive::grown(s.record, length);
         let fine = s.record.mode <= 1 && s.record.repeats <= 1 && s.record.length <= length;
-        let due = if fine { (0, ours::Record { length, ..s.record }) } else { (2, s.record) };
+        let due = if fine { (0, archive::Record { length, ..s.record }) } else { (2, s.record) };
         self.tally.rule((grown.refusal, grown.record), due, || format!("{grown:?} for {length} bytes"));
         self.refused += u64::from(grown.refusal > 0);
         self.calls += 1;
@@ -352,14 +368,14 @@ impl Run {
         let mut slots = before.clone();
         let name = if random.once_in(2) { names[random.below(names.len())].clone() } else { exact(&names::any(random)) };
         let id = random.pick(&[0, 9, s.record.back, 0xffff_fffe, 0xffff_ffff]);
-        let refusal = ours::put_indexed(&mut record, &mut counts, &mut buf, &mut slots, &name, id);
+        let refusal = archive::put_indexed(&mut record, &mut counts, &mut buf, &mut slots, &name, id);
         self.tally.rule([0, 2, 3, 13, 16, 24].contains(&refusal), true, || format!("a put by an index gave {refusal}"));
         if refusal > 0 {
             self.unchanged((*record, &counts, &buf), s, "a refused put by an index");
             self.tally.rule(&slots, &before, || "the slots after a refused put".into());
         }
         let before = slots.clone();
-        let refusal = ours::index(*record, &counts, &buf, &mut slots);
+        let refusal = archive::index(*record, &counts, &buf, &mut slots);
         self.tally.rule([0, 2, 4, 24].contains(&refusal), true, || format!("an index gave {refusal}"));
         self.tally.rule(refusal == 0 || slots == before, true, || "the slots after a refused index".into());
         self.refused += u64::from(refusal > 0);
@@ -387,8 +403,8 @@ impl Run {
         let before = windows.clone();
         let asked = if random.once_in(3) { date(random) } else { good(3) };
         let id = random.pick(&[0, 1, 2, 3, u32::MAX]);
-        let answer = ours::name_on(&image, id, asked, &windows);
-        let named = ours::to_str(&image, id);
+        let answer = archive::name_on(&image, id, asked, &windows);
+        let named = archive::to_str(&image, id);
         let place = (answer.found, answer.len, answer.start);
         let so = match answer.refusal {
             0 if answer.found == 1 => {
@@ -409,18 +425,18 @@ impl Run {
     fn changes(&mut self, random: &mut Random, bytes: (&[u8], &[u8])) {
         let (old, new) = (exact(bytes.0), exact(bytes.1));
         let from = random.pick(&[0, 0, 1, 3, u64::from(u32::MAX), 1 << 32, u64::MAX]);
-        let answer = ours::next_change(&old, &new, from);
-        let named = (ours::named(&old, answer.id), ours::named(&new, answer.id));
+        let answer = archive::next_change(&old, &new, from);
+        let named = (archive::named(&old, answer.id), archive::named(&new, answer.id));
         let so = match answer.found {
             0 => (answer.id, answer.before.found, answer.after.found) == (0, 0, 0),
             _ => {
-                let places = (ours::to_str(&old, answer.id), ours::to_str(&new, answer.id));
+                let places = (archive::to_str(&old, answer.id), archive::to_str(&new, answer.id));
                 (answer.before, answer.after) == places && named.0 != named.1 && u64::from(answer.id) >= from
             }
         };
         self.tally.rule(so, true, || format!("{answer:?} from {from}"));
-        let moved = ours::moved(&old, &new, answer.id);
-        let other = named.0.and_then(|name| ours::found_id(&new, name)).filter(|&id| id != answer.id);
+        let moved = archive::moved(&old, &new, answer.id);
+        let other = named.0.and_then(|name| archive::found_id(&new, name)).filter(|&id| id != answer.id);
         self.tally.rule((moved.found == 1).then_some(moved.id), other, || format!("{moved:?} of {}", answer.id));
         self.tally.bytes(&old, bytes.0, || "an old image that was compared".into());
         self.tally.bytes(&new, bytes.1, || "a new image that was compared".into());
@@ -428,7 +444,7 @@ impl Run {
         self.pairs += 1;
     }
 
-    fn unchanged(&mut self, (record, counts, buf): (ours::Record, &Counts, &[u8]), s: &State, what: &str) {
+    fn unchanged(&mut self, (record, counts, buf): (archive::Record, &Counts, &[u8]), s: &State, what: &str) {
         self.refused += 1;
         self.tally.rule(record, s.record, || format!("the record after {what}"));
         self.tally.rule(*counts == s.counts, true, || format!("the counts after {what}"));
@@ -443,17 +459,20 @@ impl Run {
         let mut counts: Box<Counts> = Box::new([random.word(); 256]);
         let before = counts.clone();
         let repeats = random.pick(&[0, 0, 0, 0, 1, 1, 1, 2]);
-        let begun = ours::begin(mode, repeats, &mut counts, &buf);
+        let (a, b, c, d) = (random.word(), random.word(), random.word(), random.word());
+        let old = Record { mode: a, repeats: b, entries: c, back: d, length: random.next(), end: random.next() };
+        let mut record = Box::new(old);
+        let refusal = archive::begin_in(mode, repeats, &mut record, &mut counts, &buf);
         self.calls += 1;
-        if begun.refusal > 0 {
+        if refusal > 0 {
             self.refused += 1;
-            self.tally.rule(counts, before, || "the counts after a refused begin".into());
+            self.tally.rule((*record, counts), (old, before), || "the writer after a refused begin".into());
             return None;
         }
-        let mut s = State { record: begun.record, counts: *counts, buf: buf.into_vec() };
+        let mut s = State { record: *record, counts: *counts, buf: buf.into_vec() };
         for i in 0..random.below(12) as u32 {
             let name = names::any(random);
-            s.record = ours::put(s.record, &mut s.counts, &mut s.buf, &name, i + random.below(3) as u32).record;
+            s.record = archive::put(s.record, &mut s.counts, &mut s.buf, &name, i + random.below(3) as u32).record;
             self.calls += 1;
         }
         Some(s)
@@ -468,7 +487,7 @@ fn round(run: &mut Run, random: &mut Random) {
         None => vec![exact(b"")],
     };
     let mut closed = state.clone();
-    let size = ours::close(closed.record, &closed.counts, &mut closed.buf).size as usize;
+    let size = archive::close(closed.record, &closed.counts, &mut closed.buf).size as usize;
     let mut images = vec![closed.buf[..size].to_vec(); 8];
     for kind in 0..damage::KINDS {
         let copy = damage::copy(random, &closed.buf[..size], kind);
@@ -507,7 +526,7 @@ fn lend_too_much() {
     let name = exact(&[7; 40]);
     // SAFETY: none: this breaks what is owed, on purpose. It runs under valgrind alone, which reports the byte.
     let more = unsafe { std::slice::from_raw_parts(name.as_ptr(), 41) };
-    println!("hostile: the hash of one byte too much is {:x}", ours::hash(more, 0).hash);
+    println!("hostile: the hash of one byte too much is {:x}", archive::hash(more, 0).hash);
 }
 
 fn main() {

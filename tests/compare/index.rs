@@ -3,12 +3,12 @@
 // record, the counts, every byte of the buffer and every word of the slots are compared; the slots with an insertion told once more
 // in plain Rust. Then slots of any words, and records that do not fit: nothing outside what is lent changes, each call ends, a refusal
 // changes nothing, and an accepted put leaves exactly its entry and its slot.   index [PUTS]
-mod ours;
+mod archive;
 mod plain;
 mod seed;
 mod tally;
 
-use ours::{Counts, Record};
+use archive::{Counts, Record};
 use plain::{Put, HEAD};
 use seed::Random;
 use std::collections::HashMap;
@@ -78,7 +78,7 @@ struct Indexed {
 impl Indexed {
     fn put(&mut self, name: &[u8], id: u32) -> u32 {
         let Writer { record, counts, .. } = &mut self.writer;
-        ours::put_indexed(record, counts, self.buf.inner(), self.slots.inner(), name, id)
+        archive::put_indexed(record, counts, self.buf.inner(), self.slots.inner(), name, id)
     }
 
     fn same(&self, other: &Indexed) -> bool {
@@ -138,8 +138,8 @@ impl Run {
         let (mut counts, mut buf) = (p.counts, if full { p.buf.clone() } else { vec![] });
         // By a full index the put without one is tried on a copy: 24 comes where it is accepted.
         let answer = match full {
-            true => ours::put(p.record, &mut counts, &mut buf, name, id),
-            false => ours::put(p.record, &mut p.counts, &mut p.buf, name, id),
+            true => archive::put(p.record, &mut counts, &mut buf, name, id),
+            false => archive::put(p.record, &mut p.counts, &mut p.buf, name, id),
         };
         let due = if full && answer.refusal == 0 { 24 } else { answer.refusal };
         self.tally.rule(refusal, due, || format!("a put of {name:?} under {id} by {m} slots, {} taken", p.entries.len()));
@@ -168,8 +168,8 @@ impl Run {
     }
 
     fn close(&mut self, p: &mut Pair) -> usize {
-        let due = ours::close(p.record, &p.counts, &mut p.buf);
-        let closed = ours::close(p.by.writer.record, &p.by.writer.counts, p.by.buf.inner());
+        let due = archive::close(p.record, &p.counts, &mut p.buf);
+        let closed = archive::close(p.by.writer.record, &p.by.writer.counts, p.by.buf.inner());
         self.tally.rule((closed.refusal, closed.size), (0, due.size), || "a close by the index".into());
         self.beside(p);
         self.closes += 1;
@@ -182,8 +182,8 @@ impl Run {
         p.by.buf.grow(&more);
         p.buf.extend(&more);
         let length = p.buf.len() as u64;
-        p.record = ours::grown(p.record, length).record;
-        p.by.writer.record = ours::grown(p.by.writer.record, length).record;
+        p.record = archive::grown(p.record, length).record;
+        p.by.writer.record = archive::grown(p.by.writer.record, length).record;
         self.beside(p);
         self.growths += 1;
     }
@@ -192,7 +192,7 @@ impl Run {
     fn index(&mut self, p: &mut Pair, random: &mut Random, words: usize, keep: bool) {
         let noise: Vec<u32> = (0..words).map(|_| random.word()).collect();
         let mut slots = Lent::new(&noise, MARKS);
-        let refusal = ours::index(p.by.writer.record, &p.by.writer.counts, p.by.buf.seen(), slots.inner());
+        let refusal = archive::index(p.by.writer.record, &p.by.writer.counts, p.by.buf.seen(), slots.inner());
         let due = if words / 2 < p.entries.len() { 24 } else { 0 };
         self.tally.rule(refusal, due, || format!("an index of {} entries in {words} words", p.entries.len()));
         let left = match due {
@@ -218,11 +218,11 @@ impl Run {
         let words = random.pick(&[0, 1, n, 2 * n, 2 * n + 1, 2 * n + 3, 4 * n, 4 * n, 8 * n + 2]);
         let buf = random.bytes(room);
         let mut counts = [9; 256];
-        let record = ours::begin(mode, repeats, &mut counts, &buf).record;
+        let record = archive::begin(mode, repeats, &mut counts, &buf).record;
         let slots = Lent::new(&vec![random.word(); words], MARKS);
         let by = Indexed { writer: Writer::new(record, counts), buf: Lent::new(&buf, MARK), slots };
         let mut p = Pair { by, record, counts, buf, accepted: vec![], entries: vec![] };
-        let cleared = ours::index(record, &counts, p.by.buf.seen(), p.by.slots.inner());
+        let cleared = archive::index(record, &counts, p.by.buf.seen(), p.by.slots.inner());
         self.tally.rule(cleared, 0, || "the index of a fresh record".into());
         let empty = p.by.slots.seen()[..words / 2 * 2].iter().all(|w| *w == 0);
         self.tally.rule(empty && p.by.guarded(), true, || "the slots of a fresh record".into());
@@ -275,7 +275,7 @@ impl Run {
             self.tally.rule(s.same(&before), true, || format!("what a put by wild slots refused with {refusal} leaves"));
         }
         let before = s.clone();
-        let refusal = ours::index(s.writer.record, &s.writer.counts, s.buf.seen(), s.slots.inner());
+        let refusal = archive::index(s.writer.record, &s.writer.counts, s.buf.seen(), s.slots.inner());
         self.tally.rule([0, 2, 4, 24].contains(&refusal), true, || format!("an index over wild slots gave {refusal}"));
         self.tally.rule(s.guarded() && s.writer == before.writer && s.buf.all == before.buf.all, true, || "what an index leaves".into());
         if refusal > 0 {
@@ -304,12 +304,12 @@ fn wild_state(random: &mut Random, names: &Names) -> Indexed {
     let room = HEAD + random.below(600);
     let mut buf = random.bytes(room);
     let mut counts = [0; 256];
-    let mut record = ours::begin(random.below(2) as u32, random.below(2) as u32, &mut counts, &buf).record;
+    let mut record = archive::begin(random.below(2) as u32, random.below(2) as u32, &mut counts, &buf).record;
     let mut some = vec![0, 1, HEAD as u32, u32::MAX, room as u32 - 1];
     for id in 0..random.below(8) as u32 {
         let name = names.any(random);
         some.extend([record.end as u32, record.end as u32 + 1, plain::hash(&name)]);
-        record = ours::put(record, &mut counts, &mut buf, &name, id).record;
+        record = archive::put(record, &mut counts, &mut buf, &name, id).record;
     }
     let words = random.below(40);
     let thin = random.once_in(2);

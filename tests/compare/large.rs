@@ -1,7 +1,7 @@
 // Large images, compared live: the same puts through the archive and the Rust; every byte of the image, every name and seven
 // times as many absent ones, every id, and the walk.   large [ENTRIES..]
+mod archive;
 mod original;
-mod ours;
 mod seed;
 mod tally;
 
@@ -18,13 +18,13 @@ fn puts(random: &mut Random, n: usize) -> Vec<Put> {
 
 fn build(tally: &mut Tally, puts: &[Put], buf: &mut [u8]) -> usize {
     let mut counts = [0; 256];
-    let mut record = ours::begin(0, 1, &mut counts, buf).record;
+    let mut record = archive::begin(0, 1, &mut counts, buf).record;
     for (name, id) in puts {
-        let answer = ours::put(record, &mut counts, buf, name, *id);
+        let answer = archive::put(record, &mut counts, buf, name, *id);
         tally.rule(answer.refusal, 0, || "a put".into());
         record = answer.record;
     }
-    let closed = ours::close(record, &counts, buf);
+    let closed = archive::close(record, &counts, buf);
     tally.rule(closed.refusal, 0, || "the close".into());
     closed.size as usize
 }
@@ -36,16 +36,16 @@ fn compare(tally: &mut Tally, random: &mut Random, n: usize) {
     let size = build(tally, &puts, &mut buf);
     tally.rust(buf[..size] == theirs[..], true, || format!("image of {n} puts"));
     let db = original::open(&theirs).expect("an image of the Rust");
-    tally.rust(ours::open(&theirs).num, db.num(), || "num".into());
+    tally.rust(archive::open(&theirs).num, db.num(), || "num".into());
     for i in 0..8 * n {
         let name = format!("{i:09x}");
-        tally.rust(ours::found_id(&theirs, name.as_bytes()), db.to_id(&name), || format!("name {name}"));
+        tally.rust(archive::found_id(&theirs, name.as_bytes()), db.to_id(&name), || format!("name {name}"));
     }
     for id in 0..n as u32 + 2 {
-        tally.rust(ours::named(&theirs, id), db.to_str(id).map(|name| &**name), || format!("id {id}"));
+        tally.rust(archive::named(&theirs, id), db.to_str(id).map(|name| &**name), || format!("id {id}"));
     }
     for (id, name) in db.iter().map(|item| item.expect("an item")) {
-        tally.rust(ours::named(&theirs, id), Some(&**name), || format!("step {id} of the walk"));
+        tally.rust(archive::named(&theirs, id), Some(&**name), || format!("step {id} of the walk"));
     }
 }
 

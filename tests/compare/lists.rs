@@ -4,16 +4,16 @@
 // The last image is compared with the Rust's of the accepted puts and with first and last puts, passes the check of both
 // readings, and every two lists are compared with each other. With repeats off no name is accepted twice, and the accepted
 // puts alone, with repeats on, make the same image.   lists [PAIRS]
+mod archive;
 mod names;
 mod original;
-mod ours;
 mod rules;
 mod seed;
 mod tally;
 
+use archive::{CloseAnswer, Counts, Record};
 use names::Names;
 use original::Put;
-use ours::{CloseAnswer, Counts, Record};
 use seed::Random;
 use std::collections::HashSet;
 use tally::Tally;
@@ -87,7 +87,7 @@ impl Run {
             (false, false, true) => (3, 3),
             (false, false, false) => (0, 0),
         };
-        let answer = ours::put(lent.record, &mut lent.counts, &mut lent.buf, &put.0, put.1);
+        let answer = archive::put(lent.record, &mut lent.counts, &mut lent.buf, &put.0, put.1);
         self.puts[kind] += 1;
         self.tally.rule(answer.refusal, want, || format!("put of {} bytes, id {}, to size {size}", put.0.len(), put.1));
         lent.record = answer.record;
@@ -99,7 +99,7 @@ impl Run {
     // No close is refused; its size follows from the accepted puts.
     fn close(&mut self, lent: &mut Lent, accepted: &[Put]) -> usize {
         let size = finished_size(accepted.iter()) as u32;
-        let answer = ours::close(lent.record, &lent.counts, &mut lent.buf);
+        let answer = archive::close(lent.record, &lent.counts, &mut lent.buf);
         let want = CloseAnswer { refusal: 0, size, record: lent.record };
         self.closes += 1;
         self.tally.rule(answer, want, || format!("close of {} puts", accepted.len()));
@@ -111,7 +111,7 @@ impl Run {
     fn list(&mut self, random: &mut Random, repeats: u32, length: usize, calls: &[Call]) -> Left {
         let buf = random.bytes(length);
         let mut counts = [random.word(); 256];
-        let begun = ours::begin(0, repeats, &mut counts, &buf);
+        let begun = archive::begin(0, repeats, &mut counts, &buf);
         self.tally.rule(begun.refusal, 0, || format!("begin in {length} bytes"));
         let mut lent = Lent { record: begun.record, counts, buf };
         let mut accepted = Vec::new();
@@ -142,21 +142,21 @@ impl Run {
     }
 
     fn opens(&mut self, left: &Left) {
-        let ours = ours::open(&left.image);
-        self.tally.rule((ours.refusal, ours.num as usize), (0, left.accepted.len()), || "opening".into());
-        self.tally.rule(ours::readings_agree(&left.image), 1, || format!("the check of both readings after {:?}", left.accepted));
+        let given = archive::open(&left.image);
+        self.tally.rule((given.refusal, given.num as usize), (0, left.accepted.len()), || "opening".into());
+        self.tally.rule(archive::readings_agree(&left.image), 1, || format!("the check of both readings after {:?}", left.accepted));
     }
 
     // The first accepted put of a name; nothing exactly when there is none; and the bounds of the search.
     fn name(&mut self, left: &Left, name: &[u8]) {
-        let ours = ours::to_id(&left.image, name);
-        let found = (ours.found == 1).then_some(ours.id);
+        let given = archive::to_id(&left.image, name);
+        let found = (given.found == 1).then_some(given.id);
         self.tally.rule(found, first_id(&left.accepted, name), || format!("name {name:02x?}"));
         let puts = left.accepted.iter().filter(|put| table(&put.0) == table(name)).count() as u32;
         let most = if found.is_some() { puts } else { puts + 1 };
-        self.tally.rule(ours.buckets <= most, true, || format!("{} buckets for {puts} puts, {name:02x?}", ours.buckets));
-        self.tally.rule(ours.buckets, rules::to_id(&left.image, name).buckets, || format!("buckets for {name:02x?}"));
-        self.tally.rule(ours.offset, first_place(&left.accepted, name), || format!("offset for {name:02x?}"));
+        self.tally.rule(given.buckets <= most, true, || format!("{} buckets for {puts} puts, {name:02x?}", given.buckets));
+        self.tally.rule(given.buckets, rules::to_id(&left.image, name).buckets, || format!("buckets for {name:02x?}"));
+        self.tally.rule(given.offset, first_place(&left.accepted, name), || format!("offset for {name:02x?}"));
         if let (Ok(db), Ok(text)) = (original::open(&left.image), std::str::from_utf8(name)) {
             self.tally.rust(found, db.to_id(text), || format!("name {text:?}"));
         }
@@ -165,17 +165,17 @@ impl Run {
     // The last accepted put of an id; nothing exactly when there is none. Its name, looked up, gives that name's first id; and
     // an id is home exactly when it has a name (02 (vi)).
     fn id(&mut self, left: &Left, id: u32) {
-        let ours = ours::named(&left.image, id);
+        let given = archive::named(&left.image, id);
         let want = last_name(&left.accepted, id);
-        self.tally.rule(ours, want, || format!("id {id}"));
-        if let Some(name) = ours {
-            self.tally.rule(ours::panel(&left.image, id), ours::to_str(&left.image, id), || format!("the panel's reading of {id}"));
+        self.tally.rule(given, want, || format!("id {id}"));
+        if let Some(name) = given {
+            self.tally.rule(archive::panel(&left.image, id), archive::to_str(&left.image, id), || format!("the panel's reading of {id}"));
             let first = first_id(&left.accepted, name);
-            self.tally.rule(ours::found_id(&left.image, name), first, || format!("the name of {id}"));
+            self.tally.rule(archive::found_id(&left.image, name), first, || format!("the name of {id}"));
         }
-        self.tally.rule(ours::home(&left.image, id), u32::from(want.is_some()), || format!("home {id}"));
+        self.tally.rule(archive::home(&left.image, id), u32::from(want.is_some()), || format!("home {id}"));
         if let Ok(db) = original::open(&left.image) {
-            self.tally.rust(ours, db.to_str(id).map(|name| &**name), || format!("id {id}"));
+            self.tally.rust(given, db.to_str(id).map(|name| &**name), || format!("id {id}"));
         }
     }
 
@@ -185,7 +185,7 @@ impl Run {
             let of = |left: &Left| -> Vec<u32> { left.accepted.iter().filter(|put| put.0 == *name).map(|put| put.1).collect() };
             if of(a) == of(b) {
                 self.alike[0] += u64::from(!of(a).is_empty());
-                let (x, y) = (ours::found_id(&a.image, name), ours::found_id(&b.image, name));
+                let (x, y) = (archive::found_id(&a.image, name), archive::found_id(&b.image, name));
                 self.tally.rule(x, y, || format!("two lists and the name {name:02x?}"));
             }
         }
@@ -193,7 +193,7 @@ impl Run {
             let of = |left: &Left| -> Vec<Vec<u8>> { left.accepted.iter().filter(|put| put.1 == id).map(|put| put.0.clone()).collect() };
             if of(a) == of(b) {
                 self.alike[1] += u64::from(!of(a).is_empty());
-                let (x, y) = (ours::named(&a.image, id), ours::named(&b.image, id));
+                let (x, y) = (archive::named(&a.image, id), archive::named(&b.image, id));
                 self.tally.rule(x, y, || format!("two lists and the id {id}"));
             }
         }
@@ -202,8 +202,8 @@ impl Run {
     // A name too long for a hash reads no bucket. Nothing touches its bytes.
     fn too_long(&mut self, left: &Left) {
         let name = vec![0u8; u32::MAX as usize];
-        let ours = ours::to_id(&left.image, &name);
-        self.tally.rule((ours.found, ours.buckets, ours.offset), (0, 0, 0), || "a name too long for a hash".into());
+        let given = archive::to_id(&left.image, &name);
+        self.tally.rule((given.found, given.buckets, given.offset), (0, 0, 0), || "a name too long for a hash".into());
     }
 }
 

@@ -1,12 +1,12 @@
 // The load of a seed through the archive, held to 02 (xiii) told once more in plain Rust, its image included: in buffers with room for
 // all entries, exactly and by one byte too little, for some, for none, and too short to begin. Every byte of the buffer
 // afterwards is compared.   load [SEEDS]
-mod ours;
+mod archive;
 mod plain;
 mod seed;
 mod tally;
 
-use ours::LoadAnswer;
+use archive::LoadAnswer;
 use plain::{Put, HEAD};
 use seed::Random;
 use tally::Tally;
@@ -54,7 +54,7 @@ impl Run {
     fn load(&mut self, random: &mut Random, seed: u32, room: usize) {
         let before = random.bytes(room);
         let mut buf = before.clone();
-        let answer = ours::load(seed, &mut buf);
+        let answer = archive::load(seed, &mut buf);
         let puts = accepted(seed, room);
         let (wanted, front) = if room < HEAD {
             (LoadAnswer { refusal: 1, accepted: 0 }, Vec::new())
@@ -87,7 +87,7 @@ fn examples(run: &mut Run) {
         [(157_720, 0, 4_096, 157_720_u32), (157_719, 0, 4_095, 157_682), (2_072, 0, 0, 2_072), (2_071, 1, 0, 0)]
     {
         let mut buf = vec![0; room];
-        let answer = ours::load(0, &mut buf);
+        let answer = archive::load(0, &mut buf);
         run.tally.rule(answer, LoadAnswer { refusal, accepted }, || format!("seed 0 in {room} bytes"));
         run.tally.bytes(&buf[4..8], &size.to_le_bytes(), || format!("the size word in {room} bytes"));
     }

@@ -1,7 +1,7 @@
 // The load of a seed beside the image that the unchanged Rust makes of the same puts, in every byte; and what both read from it.
 // loads [SEEDS]
+mod archive;
 mod original;
-mod ours;
 mod seed;
 mod tally;
 
@@ -26,7 +26,7 @@ fn puts(seed: u32, n: usize) -> Vec<Put> {
 fn load(tally: &mut Tally, random: &mut Random, seed: u32, n: usize) {
     let more = random.below(38);
     let mut buf = random.bytes(2_072 + 38 * n + more);
-    let answer = ours::load(seed, &mut buf);
+    let answer = archive::load(seed, &mut buf);
     tally.rust((answer.refusal, answer.accepted), (0, n as u32), || format!("seed {seed} with room for {n}"));
     let image = &buf[..2_072 + 38 * n];
     let puts = puts(seed, n);
@@ -37,8 +37,9 @@ fn load(tally: &mut Tally, random: &mut Random, seed: u32, n: usize) {
     for _ in 0..20.min(n) {
         let (name, id) = &puts[random.below(n)];
         let text = std::str::from_utf8(name).expect("digits");
-        tally.rust(ours::found_id(image, name), db.to_id(text), || format!("the id of {text} of seed {seed}"));
-        tally.rust(ours::named(image, *id), db.to_str(*id).map(|name| &**name), || format!("id {id} of seed {seed}"));
+        tally.rust(archive::found_id(image, name), db.to_id(text), || format!("the id of {text} of seed {seed}"));
+        tally
+            .rust(archive::named(image, *id), db.to_str(*id).map(|name| &**name), || format!("id {id} of seed {seed}"));
     }
 }
 

@@ -1,10 +1,10 @@
 // References before walls through the archive, held to 02 (xii) told once more in plain Rust. First every list of up to two pairs
 // in every round of up to five ids, all from three ids; then random ones, in which most ids repeat.   order [ROUNDS]
-mod ours;
+mod archive;
 mod seed;
 mod tally;
 
-use ours::{OrderAnswer, Pair};
+use archive::{OrderAnswer, Pair};
 use seed::Random;
 use tally::Tally;
 
@@ -35,7 +35,7 @@ struct Run {
 impl Run {
     fn ask(&mut self, pairs: &[Pair], round: &[u32]) -> OrderAnswer {
         self.calls += 1;
-        ours::references_first(pairs, round)
+        archive::references_first(pairs, round)
     }
 
     fn hold(&mut self, pairs: &[Pair], round: &[u32]) -> OrderAnswer {

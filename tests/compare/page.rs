@@ -1,15 +1,15 @@
 // The printed catalogue through the archive, held to 02 (iii) told once more in plain Rust: on images of random puts and on
 // damaged copies of them, and on a sparse image with all ids up to the largest.   page [IMAGES | long]
 // With `long` more than 1,000,000,000 lines are printed.
+mod archive;
 mod damage;
 mod mapped;
-mod ours;
 mod rules;
 mod seed;
 mod tally;
 
+use archive::PageAnswer;
 use mapped::Mapped;
-use ours::PageAnswer;
 use rules::HEAD;
 use seed::Random;
 use tally::Tally;
@@ -55,7 +55,7 @@ struct Run {
 impl Run {
     // One output buffer: what is given, and every byte afterwards.
     fn print(&mut self, image: &[u8], page: &[u8], before: Vec<u8>) {
-        self.call(page, before, |out| ours::page(image, out));
+        self.call(page, before, |out| archive::page(image, out));
     }
 
     // Some ids from one on, which may be behind the last: a part of the page.
@@ -67,7 +67,7 @@ impl Run {
         let part = &page[start * LINE..end * LINE];
         for room in [part.len() + random.below(50), part.len().saturating_sub(1)] {
             let before = random.bytes(room);
-            self.call(part, before, |out| ours::page_part(image, first as u32, count as u32, out));
+            self.call(part, before, |out| archive::page_part(image, first as u32, count as u32, out));
         }
     }
 
@@ -86,7 +86,7 @@ impl Run {
     // Buffers of exactly the page's length, longer, and shorter.
     fn hold(&mut self, random: &mut Random, image: &[u8]) {
         let page = rule(image);
-        self.tally.rule(ours::page_length(image), page.len() as u64, || "the length of a page".into());
+        self.tally.rule(archive::page_length(image), page.len() as u64, || "the length of a page".into());
         let more = 1 + random.below(100);
         let less = random.below(page.len() + 1);
         for room in [page.len(), page.len() + more, page.len().saturating_sub(1), less] {
@@ -123,12 +123,12 @@ fn image(mode: u32, puts: &[Put]) -> Vec<u8> {
     let largest = puts.iter().map(|put| put.1 as usize + 1).max().unwrap_or(0);
     let mut buf = vec![0; HEAD + puts.iter().map(|put| put.0.len() + 25).sum::<usize>() + 4 * largest];
     let mut counts = [0; 256];
-    let mut record = ours::begin(mode, 1, &mut counts, &buf).record;
+    let mut record = archive::begin(mode, 1, &mut counts, &buf).record;
     for (name, id) in puts {
         let free: Vec<u8> = name.iter().map(|&b| b.max(1)).collect();
-        record = ours::put(record, &mut counts, &mut buf, &free, *id).record;
+        record = archive::put(record, &mut counts, &mut buf, &free, *id).record;
     }
-    let closed = ours::close(record, &counts, &mut buf);
+    let closed = archive::close(record, &counts, &mut buf);
     assert_eq!(closed.refusal, 0, "there is room for all puts");
     buf.truncate(closed.size as usize);
     let mut at = HEAD;
@@ -192,7 +192,7 @@ fn sparse(back: u32, puts: &[Put]) -> Mapped {
 // The largest back size there is: its length takes 38 bits, and no usual output has room. With back offset 0 there is no line.
 fn largest(run: &mut Run) {
     let mut image = sparse(u32::MAX, &[]);
-    run.tally.rule(ours::page_length(&image), 193_273_528_275, || "the length of the largest page".into());
+    run.tally.rule(archive::page_length(&image), 193_273_528_275, || "the length of the largest page".into());
     run.print(&image, &[0; 100], vec![7; 99]);
     store(&mut image, 20, 0);
     run.print(&image, &[], Vec::new());
@@ -209,7 +209,7 @@ fn long(run: &mut Run, random: &mut Random) {
     let window = LINE * kept;
     let length = LINE * last as usize;
     let mut out = Mapped::window(window, length.div_ceil(window));
-    let answer = ours::page(&image, &mut out[..length]);
+    let answer = archive::page(&image, &mut out[..length]);
     run.tally.rule(answer, PageAnswer { refusal: 0, length: length as u64 }, || "the longest page".into());
     for id in last - kept as u32..last {
         let at = LINE * id as usize;

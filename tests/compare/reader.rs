@@ -1,17 +1,17 @@
 // Reading, compared live: the archive, the Rust (where it ends) and 01's rules read the same images, which the Rust made, and
 // damaged copies of them.   reader [COPIES]
+mod archive;
 mod damage;
 mod names;
 mod original;
-mod ours;
 mod rules;
 mod seed;
 mod tally;
 
+use archive::{IdAnswer, OpenAnswer, StrAnswer};
 use cqdb::CQDB;
 use names::Names;
 use original::Put;
-use ours::{IdAnswer, OpenAnswer, StrAnswer};
 use seed::Random;
 use tally::Tally;
 
@@ -50,7 +50,7 @@ fn questions(names: &Names, random: &mut Random, image: &[u8], puts: &[Put]) -> 
 
 impl Run {
     fn opening(&mut self, image: &[u8], db: &Result<CQDB, u32>) {
-        let ours = ours::open(image);
+        let given = archive::open(image);
         let theirs = match db {
             Ok(db) => OpenAnswer { refusal: 0, num: db.num() },
             Err(n) => OpenAnswer { refusal: *n, num: 0 },
@@ -59,75 +59,75 @@ impl Run {
             Ok(num) => OpenAnswer { refusal: 0, num },
             Err(refusal) => OpenAnswer { refusal, num: 0 },
         };
-        self.refusals[ours.refusal.min(8) as usize] += 1;
-        self.tally.rust(ours, theirs, || "opening".into());
-        self.tally.rule(ours, rule, || "opening".into());
+        self.refusals[given.refusal.min(8) as usize] += 1;
+        self.tally.rust(given, theirs, || "opening".into());
+        self.tally.rule(given, rule, || "opening".into());
     }
 
     fn lookup(&mut self, image: &[u8], db: Option<&CQDB>, name: &[u8]) {
-        let ours = ours::to_id(image, name);
+        let given = archive::to_id(image, name);
         let rule = rules::to_id(image, name);
         let (found, id) = rule.id.map_or((0, 0), |id| (1, id));
         let want = IdAnswer { found, id, buckets: rule.buckets, offset: rule.offset };
-        self.tally.rule(ours, want, || format!("lookup of {name:02x?}"));
+        self.tally.rule(given, want, || format!("lookup of {name:02x?}"));
         let (Some(db), Ok(text)) = (db, std::str::from_utf8(name)) else { return };
         if rule.unending {
             self.unending += 1;
         } else {
-            let ours = (ours.found == 1).then_some(ours.id);
-            self.tally.rust(ours, db.to_id(text), || format!("lookup of {text:?}"));
+            let given = (given.found == 1).then_some(given.id);
+            self.tally.rust(given, db.to_id(text), || format!("lookup of {text:?}"));
         }
     }
 
     fn naming(&mut self, image: &[u8], db: Option<&CQDB>, id: u32) {
-        let ours = ours::to_str(image, id);
+        let given = archive::to_str(image, id);
         let want = match rules::to_str(image, id) {
             Some((start, len)) => StrAnswer { found: 1, len: len as u32, start: start as u64 },
             None => StrAnswer { found: 0, len: 0, start: 0 },
         };
-        self.tally.rule(ours, want, || format!("naming {id}"));
+        self.tally.rule(given, want, || format!("naming {id}"));
         if let Some(db) = db {
-            let ours = (ours.found == 1).then_some((ours.start as usize, ours.len as usize));
-            self.tally.rust(ours, original::place(db, image, id), || format!("naming {id}"));
+            let given = (given.found == 1).then_some((given.start as usize, given.len as usize));
+            self.tally.rust(given, original::place(db, image, id), || format!("naming {id}"));
         }
     }
 
     // The Rust has no panel's reading. It is asked for the name, which is cut at its first zero byte.
     fn panel(&mut self, image: &[u8], db: Option<&CQDB>, id: u32) {
-        let ours = ours::panel(image, id);
+        let given = archive::panel(image, id);
         let want = match rules::panel(image, id) {
             Some((start, len)) => StrAnswer { found: 1, len: len as u32, start: start as u64 },
             None => StrAnswer { found: 0, len: 0, start: 0 },
         };
-        self.tally.rule(ours, want, || format!("the panel's reading of {id}"));
-        self.cut += u64::from(ours.found == 1 && ours.len < ours::to_str(image, id).len);
+        self.tally.rule(given, want, || format!("the panel's reading of {id}"));
+        self.cut += u64::from(given.found == 1 && given.len < archive::to_str(image, id).len);
         if let Some(db) = db {
-            let ours = (ours.found == 1).then(|| &image[ours.start as usize..][..ours.len as usize]);
+            let given = (given.found == 1).then(|| &image[given.start as usize..][..given.len as usize]);
             let theirs = db.to_str(id).map(|name| name.split(|&b| b == 0).next().expect("a first part"));
-            self.tally.rust(ours, theirs, || format!("the panel's reading of {id}"));
+            self.tally.rust(given, theirs, || format!("the panel's reading of {id}"));
         }
     }
 
     // The check of both readings, over all ids below back size.
     fn readings(&mut self, image: &[u8]) {
-        let ours = ours::readings_agree(image);
-        self.agree[usize::from(ours == 1)] += 1;
-        self.tally.rule(ours, u32::from(rules::readings_agree(image)), || "the check of both readings".into());
+        let given = archive::readings_agree(image);
+        self.agree[usize::from(given == 1)] += 1;
+        self.tally.rule(given, u32::from(rules::readings_agree(image)), || "the check of both readings".into());
     }
 
     // The Rust has no home check. It is asked for the name, and for that name's id: an id that is found is home, and where
     // nothing is found, none is. Where another id is found, the rules alone decide (02 (vi)).
     fn home(&mut self, image: &[u8], db: Option<&CQDB>, id: u32) {
-        let ours = ours::home(image, id);
-        self.tally.rule(ours, u32::from(rules::home(image, id)), || format!("home {id}"));
+        let given = archive::home(image, id);
+        self.tally.rule(given, u32::from(rules::home(image, id)), || format!("home {id}"));
         let Some(db) = db else { return };
         let text = match db.to_str(id) {
             Some(name) => std::str::from_utf8(name).ok().filter(|text| !rules::to_id(image, text.as_bytes()).unending),
-            None => return self.tally.rust(ours, 0, || format!("home {id}")),
+            None => return self.tally.rust(given, 0, || format!("home {id}")),
         };
         match text.map(|text| db.to_id(text)) {
-            Some(Some(found)) if found == id => self.tally.rust(ours, 1, || format!("home {id}")),
-            Some(None) => self.tally.rust(ours, 0, || format!("home {id}")),
+            Some(Some(found)) if found == id => self.tally.rust(given, 1, || format!("home {id}")),
+            Some(None) => self.tally.rust(given, 0, || format!("home {id}")),
             _ => {}
         }
     }
@@ -136,15 +136,15 @@ impl Run {
     fn walk(&mut self, image: &[u8], db: Option<&CQDB>) {
         let mut theirs = db.map(|db| db.iter());
         for next in 0.. {
-            let hint = ours::size_hint(image, next);
-            let name = ours::named(image, next);
+            let hint = archive::size_hint(image, next);
+            let name = archive::named(image, next);
             self.tally.rule(hint, rules::upper_hint(image, next), || format!("hint before {next}"));
             if let Some(iter) = &mut theirs {
                 self.tally.rust((0, Some(hint as usize)), iter.size_hint(), || format!("hint before {next}"));
                 let step = iter.next().map(|item| item.expect("an item"));
                 let step = step.map(|(id, name)| (id, original::place_of(image, name)));
-                let ours = name.map(|name| (next, original::place_of(image, name)));
-                self.tally.rust(ours, step, || format!("step {next} of a walk"));
+                let given = name.map(|name| (next, original::place_of(image, name)));
+                self.tally.rust(given, step, || format!("step {next} of a walk"));
             }
             if name.is_none() {
                 let again = theirs.and_then(|mut iter| iter.next());
@@ -165,7 +165,7 @@ impl Run {
             self.panel(image, db.as_ref(), id);
             self.home(image, db.as_ref(), id);
             let hint = rules::upper_hint(image, id);
-            self.tally.rule(ours::size_hint(image, id), hint, || format!("hint before {id}"));
+            self.tally.rule(archive::size_hint(image, id), hint, || format!("hint before {id}"));
         }
         self.readings(image);
         self.walk(image, db.as_ref());

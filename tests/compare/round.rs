@@ -1,17 +1,17 @@
 // A whole round through the archive, held to 02 (vii) told once more in plain Rust: names in and ids out, ids in and names out; on
 // images of random puts and on damaged copies of them, with repeated and empty names, 0 to 513 names, ends that fall, stand still
 // and pass the bytes, answer lists that are too short or longer; and names of 4,294,967,295 bytes.   round [ROUNDS]
+mod archive;
 mod damage;
 mod mapped;
-mod ours;
 mod rules;
 mod seed;
 mod tally;
 
 use std::collections::HashSet;
 
+use archive::{IdAnswer, RoundAnswer, StrAnswer};
 use mapped::Mapped;
-use ours::{IdAnswer, RoundAnswer, StrAnswer};
 use rules::HEAD;
 use seed::Random;
 use tally::Tally;
@@ -93,7 +93,7 @@ impl Run {
             .map(|_| IdAnswer { found: random.word(), id: random.word(), buckets: random.word(), offset: random.word() })
             .collect();
         let (mut given, mut wanted) = (before.clone(), before);
-        let answer = ours::round(image, bytes, ends, &mut given);
+        let answer = archive::round(image, bytes, ends, &mut given);
         let ruled = rule(image, bytes, ends, &mut wanted);
         self.rounds += 1;
         self.refused14 += u64::from(ruled.refusal == 14);
@@ -114,7 +114,7 @@ impl Run {
         let before: Vec<StrAnswer> =
             (0..places).map(|_| StrAnswer { found: random.word(), len: random.word(), start: random.next() }).collect();
         let (mut given, mut wanted) = (before.clone(), before);
-        let answer = ours::name_round(image, ids, &mut given);
+        let answer = archive::name_round(image, ids, &mut given);
         let ruled = name_rule(image, ids, &mut wanted);
         self.name_rounds += 1;
         self.tally.rule(answer, ruled, || format!("{} ids, {places} places", ids.len()));
@@ -133,11 +133,11 @@ fn image(puts: &[Put], mode: u32) -> Vec<u8> {
     let largest = puts.iter().map(|put| put.1 as usize + 1).max().unwrap_or(0);
     let mut buf = vec![0; HEAD + puts.iter().map(|put| put.0.len() + 25).sum::<usize>() + 4 * largest];
     let mut counts = [0; 256];
-    let mut record = ours::begin(mode, 1, &mut counts, &buf).record;
+    let mut record = archive::begin(mode, 1, &mut counts, &buf).record;
     for (name, id) in puts {
-        record = ours::put(record, &mut counts, &mut buf, name, *id).record;
+        record = archive::put(record, &mut counts, &mut buf, name, *id).record;
     }
-    let closed = ours::close(record, &counts, &mut buf);
+    let closed = archive::close(record, &counts, &mut buf);
     assert_eq!(closed.refusal, 0, "there is room for all puts");
     buf.truncate(closed.size as usize);
     buf

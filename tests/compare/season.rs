@@ -1,15 +1,15 @@
 // Names with a season through the archive, held to 02 (xiv) told once more in plain Rust. Its calendar counts days: a date exists
 // when some day has it, and the order of dates is that of their days. First every date of 1899-12-01 to 2200-02-01 and every
 // month 0 to 13 with every day 0 to 32 of ten years; then random lists of windows.   season [LISTS]
+mod archive;
 mod damage;
-mod ours;
 mod rules;
 mod seed;
 mod tally;
 
 use std::collections::HashMap;
 
-use ours::{Date, OnAnswer, Window};
+use archive::{Date, OnAnswer, Window};
 use rules::HEAD;
 use seed::Random;
 use tally::Tally;
@@ -92,7 +92,7 @@ struct Run {
 
 impl Run {
     fn hold(&mut self, image: &[u8], id: u32, asked: Date, windows: &[Window]) -> OnAnswer {
-        let answer = ours::name_on(image, id, asked, windows);
+        let answer = archive::name_on(image, id, asked, windows);
         let wanted = self.calendar.rule(image, id, asked, windows);
         self.tally.rule(answer, wanted, || format!("id {id} on {asked:?} by {windows:?}"));
         self.answers[if answer.refusal > 0 { answer.refusal as usize - 20 } else { 1 - answer.found as usize }] += 1;
@@ -182,12 +182,12 @@ fn window(random: &mut Random, center: i64, span: usize, odd: usize) -> Window {
 fn image(random: &mut Random) -> Vec<u8> {
     let mut buf = vec![0; HEAD + 400];
     let mut counts = [0; 256];
-    let mut record = ours::begin(u32::from(random.once_in(20)), 1, &mut counts, &buf).record;
+    let mut record = archive::begin(u32::from(random.once_in(20)), 1, &mut counts, &buf).record;
     for id in (0..4).filter(|_| !random.once_in(5)).collect::<Vec<u32>>() {
         let name: Vec<u8> = (0..random.below(30)).map(|_| 1 + random.below(255) as u8).collect();
-        record = ours::put(record, &mut counts, &mut buf, &name, id).record;
+        record = archive::put(record, &mut counts, &mut buf, &name, id).record;
     }
-    let size = ours::close(record, &counts, &mut buf).size as usize;
+    let size = archive::close(record, &counts, &mut buf).size as usize;
     buf.truncate(size);
     let kind = random.below(3 * damage::KINDS);
     if kind < damage::KINDS {

@@ -1,10 +1,10 @@
 // The round sheet through the archive, held to 02 (xi) told once more in plain Rust. First every file of up to 6 bytes from five
 // bytes and of up to 14 from two; then lists of 0, 1, 65,535 and 65,536 ids; then random lists and files.   sheet [ROUNDS]
-mod ours;
+mod archive;
 mod seed;
 mod tally;
 
-use ours::{SheetAnswer, SheetLengthAnswer};
+use archive::{SheetAnswer, SheetLengthAnswer};
 use seed::Random;
 use tally::Tally;
 
@@ -79,7 +79,7 @@ struct Run {
 
 impl Run {
     fn read(&mut self, file: &[u8]) {
-        let answer = ours::sheet_read(file);
+        let answer = archive::sheet_read(file);
         self.tally.rule(answer, read_answer(file), || {
             format!("reading {} bytes: {:?}", file.len(), &file[..file.len().min(24)])
         });
@@ -88,14 +88,14 @@ impl Run {
 
     // What is given, and every byte of the buffer.
     fn write(&mut self, lists: &Lists, buf: &[u8]) -> Vec<u8> {
-        let (mut ours, mut due) = (buf.to_vec(), buf.to_vec());
-        let answer = ours::sheet_write(&mut ours, [&lists[0], &lists[1], &lists[2]]);
+        let (mut given, mut due) = (buf.to_vec(), buf.to_vec());
+        let answer = archive::sheet_write(&mut given, [&lists[0], &lists[1], &lists[2]]);
         let lengths = || format!("{:?} ids in {} bytes", lists.each_ref().map(Vec::len), buf.len());
         self.tally.rule(answer, write_answer(&mut due, lists), lengths);
-        self.tally.bytes(&ours, &due, lengths);
+        self.tally.bytes(&given, &due, lengths);
         self.written[usize::from(answer.refusal > 0)] += 1;
-        ours.truncate(answer.length as usize);
-        ours
+        given.truncate(answer.length as usize);
+        given
     }
 
     // A file that reads is what the writer makes of its lists, in a buffer of its length, and a byte fewer is too short.

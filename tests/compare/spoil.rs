@@ -1,6 +1,6 @@
 // Writer records, table counts and buffers that no call leaves: each is a small change of one that a call left.
+use crate::archive::Counts;
 use crate::original::Put;
-use crate::ours::Counts;
 use crate::rules::{word, HEAD};
 use crate::seed::Random;
 use crate::writing::{self, State};

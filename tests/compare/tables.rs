@@ -1,14 +1,14 @@
 // Close by tables, compared live: lists of 1,023 entries and more, whose image must be the Rust's for the same puts, byte for
 // byte, also where one table has more or fewer entries than close copies at once, after a second close, and after more puts
 // over the tables of the first.   tables [LISTS]
+mod archive;
 mod original;
-mod ours;
 mod rules;
 mod seed;
 mod tally;
 
+use archive::{Counts, Record};
 use original::Put;
-use ours::{Counts, Record};
 use seed::Random;
 use tally::Tally;
 
@@ -45,7 +45,7 @@ struct Writing {
 impl Writing {
     fn puts(&mut self, tally: &mut Tally, puts: &[Put]) {
         for (name, id) in puts {
-            let answer = ours::put(self.record, &mut self.counts, &mut self.buf, name, *id);
+            let answer = archive::put(self.record, &mut self.counts, &mut self.buf, name, *id);
             tally.rule(answer.refusal, 0, || "a put".into());
             self.record = answer.record;
         }
@@ -55,7 +55,7 @@ impl Writing {
     fn close(&mut self, tally: &mut Tally, oneway: bool, puts: &[Put], what: &str) {
         let theirs = original::image(oneway, puts);
         let behind = self.buf[theirs.len()..].to_vec();
-        let closed = ours::close(self.record, &self.counts, &mut self.buf);
+        let closed = archive::close(self.record, &self.counts, &mut self.buf);
         tally.rust((closed.refusal, closed.size as usize), (0, theirs.len()), || format!("{what}: the answer"));
         tally.bytes(&self.buf[..theirs.len()], &theirs, || format!("{what}: the image"));
         tally.rule(self.buf[theirs.len()..] == behind, true, || format!("{what}: the bytes behind it"));
@@ -68,7 +68,7 @@ fn compare(tally: &mut Tally, random: &mut Random, oneway: bool, puts: &[Put], w
     let spare = random.below(50);
     let buf = random.bytes(size + spare);
     let mut counts = [0; 256];
-    let record = ours::begin(oneway as u32, 1, &mut counts, &buf).record;
+    let record = archive::begin(oneway as u32, 1, &mut counts, &buf).record;
     let mut writing = Writing { record, counts, buf };
     let (first, last) = puts.split_at(puts.len() - MORE);
     writing.puts(tally, first);

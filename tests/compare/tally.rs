@@ -14,31 +14,31 @@ pub struct Tally {
 }
 
 impl Tally {
-    /// Compares an answer of ours with the Rust's.
-    pub fn rust<T: PartialEq + Debug>(&mut self, ours: T, theirs: T, what: impl FnOnce() -> String) {
+    /// Compares an answer of the archive with the Rust's.
+    pub fn rust<T: PartialEq + Debug>(&mut self, given: T, theirs: T, what: impl FnOnce() -> String) {
         self.rust += 1;
-        self.equal("the Rust", ours, theirs, what);
+        self.equal("the Rust", given, theirs, what);
     }
 
-    /// Compares an answer of ours with that of the rules.
-    pub fn rule<T: PartialEq + Debug>(&mut self, ours: T, rules: T, what: impl FnOnce() -> String) {
+    /// Compares an answer of the archive with that of the rules.
+    pub fn rule<T: PartialEq + Debug>(&mut self, given: T, rules: T, what: impl FnOnce() -> String) {
         self.rule += 1;
-        self.equal("the rules", ours, rules, what);
+        self.equal("the rules", given, rules, what);
     }
 
     /// Compares byte strings, and prints the first difference alone.
-    pub fn bytes(&mut self, ours: &[u8], theirs: &[u8], what: impl FnOnce() -> String) {
-        if ours != theirs {
-            let i = (0..).find(|&i| ours.get(i) != theirs.get(i)).expect("the first difference");
-            self.equal("wanted", (ours.len(), i, ours.get(i)), (theirs.len(), i, theirs.get(i)), what);
+    pub fn bytes(&mut self, given: &[u8], theirs: &[u8], what: impl FnOnce() -> String) {
+        if given != theirs {
+            let i = (0..).find(|&i| given.get(i) != theirs.get(i)).expect("the first difference");
+            self.equal("wanted", (given.len(), i, given.get(i)), (theirs.len(), i, theirs.get(i)), what);
         }
     }
 
-    fn equal<T: PartialEq + Debug>(&mut self, whose: &str, ours: T, theirs: T, what: impl FnOnce() -> String) {
-        if ours != theirs {
+    fn equal<T: PartialEq + Debug>(&mut self, whose: &str, given: T, theirs: T, what: impl FnOnce() -> String) {
+        if given != theirs {
             self.different += 1;
             if self.different <= SHOWN {
-                println!("different: {}: ours {ours:?}, {whose} {theirs:?}", what());
+                println!("different: {}: the archive {given:?}, {whose} {theirs:?}", what());
             }
         }
     }

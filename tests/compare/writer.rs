@@ -1,18 +1,18 @@
 // Writing, compared live: lists of puts in both modes, with repeats off and on, whose image must be the Rust's for the accepted
 // puts, byte for byte; and records, buffers and entries that do not go together, compared with the rules of 01 and 02.
 //   writer [LISTS]
+mod archive;
 mod names;
 mod original;
-mod ours;
 mod rules;
 mod seed;
 mod spoil;
 mod tally;
 mod writing;
 
+use archive::{CloseAnswer, Record};
 use names::Names;
 use original::Put;
-use ours::{CloseAnswer, Record, RecordAnswer};
 use rules::HEAD;
 use seed::Random;
 use tally::Tally;
@@ -33,29 +33,37 @@ struct Run {
 }
 
 impl Run {
-    fn state(&mut self, ours: &State, want: &State, what: impl Fn() -> String) {
-        self.tally.rule(ours.record, want.record, || format!("record after {}", what()));
-        self.tally.rule(ours.counts == want.counts, true, || format!("counts after {}", what()));
-        self.tally.bytes(&ours.buf, &want.buf, || format!("buffer after {}", what()));
+    fn state(&mut self, given: &State, want: &State, what: impl Fn() -> String) {
+        self.tally.rule(given.record, want.record, || format!("record after {}", what()));
+        self.tally.rule(given.counts == want.counts, true, || format!("counts after {}", what()));
+        self.tally.bytes(&given.buf, &want.buf, || format!("buffer after {}", what()));
     }
 
-    // A begin on bytes and counts of any content.
+    // A begin on bytes, counts and a record of any content.
     fn begin(&mut self, random: &mut Random, (mode, repeats): (u32, u32), length: usize) -> Option<State> {
         let buf = random.bytes(length);
         let before = [random.word(); 256];
         let mut counts = before;
-        let answer = ours::begin(mode, repeats, &mut counts, &buf);
-        self.begins[answer.refusal.min(16) as usize] += 1;
+        let old = Record {
+            mode: random.word(),
+            repeats: random.word(),
+            entries: random.word(),
+            back: random.word(),
+            length: random.next(),
+            end: random.next(),
+        };
+        let mut left = old;
+        let answer = archive::begin_in(mode, repeats, &mut left, &mut counts, &buf);
+        self.begins[answer.min(16) as usize] += 1;
         let what = || format!("begin in {length} bytes");
         match writing::begin(mode, repeats, length) {
             Ok(record) => {
-                self.tally.rule(answer, RecordAnswer { refusal: 0, record }, what);
+                self.tally.rule((answer, left), (0, record), what);
                 self.tally.rule(counts, [0; 256], what);
                 Some(State { record, counts, buf })
             }
             Err(refusal) => {
-                let record = Record { mode: 0, repeats: 0, entries: 0, back: 0, length: 0, end: 0 };
-                self.tally.rule(answer, RecordAnswer { refusal, record }, what);
+                self.tally.rule((answer, left), (refusal, old), what);
                 self.tally.rule(counts, before, what);
                 None
             }
@@ -67,7 +75,7 @@ impl Run {
         let rule = writing::put(s, name, id);
         let refusal = rule.as_ref().err().copied().unwrap_or(0);
         let want = rule.unwrap_or_else(|_| s.clone());
-        let answer = ours::put(s.record, &mut s.counts, &mut s.buf, name, id);
+        let answer = archive::put(s.record, &mut s.counts, &mut s.buf, name, id);
         let what = || format!("put of {} bytes, id {id}, on {:?}", name.len(), s.record);
         self.puts[refusal as usize] += 1;
         self.tally.rule(answer.refusal, refusal, what);
@@ -81,7 +89,7 @@ impl Run {
     fn close(&mut self, s: &mut State, in_slice: bool) -> Option<u32> {
         let rule = writing::close(s);
         let mut want = s.clone();
-        let answer = ours::close(s.record, &s.counts, &mut s.buf);
+        let answer = archive::close(s.record, &s.counts, &mut s.buf);
         let (refusal, size) = match &rule {
             Ok((size, puts)) => {
                 let image = self.image(&want, puts, *size as usize, in_slice);
@@ -186,11 +194,11 @@ fn with_large_ids(random: &mut Random, mut puts: Vec<Put>) -> Vec<Put> {
 fn limits(run: &mut Run) {
     let mut counts = [0; 256];
     let mut room = vec![0u8; (1 << 32) + 5000];
-    let fresh = ours::begin(0, 1, &mut counts, &room).record;
+    let fresh = archive::begin(0, 1, &mut counts, &room).record;
     let oneway = Record { mode: 1, ..fresh };
     let mut put = |record: Record, name: &[u8], id: u32, refusal: u32| {
         let mut counts = [0; 256];
-        let answer = ours::put(record, &mut counts, &mut room, name, id);
+        let answer = archive::put(record, &mut counts, &mut room, name, id);
         run.tally.rule(answer.refusal, refusal, || format!("put of {} bytes, id {id}, on {record:?}", name.len()));
         if refusal > 0 {
             run.tally.rule((answer.record, counts), (record, [0; 256]), || "a refused put".into());
@@ -229,9 +237,9 @@ fn limits(run: &mut Run) {
     put(oneway, &long[..u32::MAX as usize - 1], 0, 3);
     drop(long);
     // An entry of that id, with a two-way record that has its count and back size: only the limit forbids its close.
-    let entry = ours::put(oneway, &mut counts, &mut room, b"A", 1_073_741_299).record;
+    let entry = archive::put(oneway, &mut counts, &mut room, b"A", 1_073_741_299).record;
     let record = Record { mode: 0, back: 1_073_741_300, ..entry };
-    let answer = ours::close(record, &counts, &mut room);
+    let answer = archive::close(record, &counts, &mut room);
     run.tally.rule(answer, CloseAnswer { refusal: 4, size: 0, record }, || "a close above the limit".into());
 }
 

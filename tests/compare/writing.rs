@@ -1,8 +1,8 @@
 // The rules for writing of 01, 02 (v) and 02 (viii), written a second time, straight from their paragraphs: the record, what
 // fits, the refusals of put and close, and what they leave. All sums have 128 bits. The rules share no line with the product.
 #![allow(dead_code)]
+use crate::archive::{Counts, Record};
 use crate::original::Put;
-use crate::ours::{Counts, Record};
 use crate::rules::{hash, HEAD};
 
 /// The record, its table counts, and the buffer: what a call is lent and leaves.

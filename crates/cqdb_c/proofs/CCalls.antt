@@ -19,21 +19,37 @@ use Rattle.modes.specs.declared.record.Record.{Record}
 use Rattle.modes.specs.Modes.{known, modeOf, repeatsOf}
 use Rattle.modes.specs.Record.{writerOf, recordOf, Held, held, knownIn, stateOf, heldOf}
 use Rattle.modes.proofs.Records.{back-and-forth}
-use Rattle.cqdb_c.specs.Writing.{notBegun, begunAnswer, beginAnswer, countsLeft, putNumber, leftByPut, closingHeld, refusalIn, sizeIn, leftByClose}
+use Rattle.cqdb_c.specs.Writing.{Lent, lent, numbersOf, sizesOf, beginningHeld, numberIn, lentIn, leftByBegin, putNumber, leftByPut, closingHeld, refusalIn, sizeIn, leftByClose}
 
 -- begin with a mode or a repeats mode above 1
-pub begin-unknown : (mode repeats n : ℕ) (counts : List ℕ) → known mode repeats ≡ false
-    → (notBegun 2 ≡ beginAnswer mode repeats n) × (counts ≡ countsLeft mode repeats n counts)
-unfolding beginAnswer countsLeft
-begin-unknown mode repeats n counts over = rw over (refl, refl)
+pub begin-unknown : (mode repeats n : ℕ) (l : Lent) → known mode repeats ≡ false
+    → (2 ≡ numberIn (beginningHeld mode repeats n)) × (l ≡ leftByBegin mode repeats n l)
+unfolding beginningHeld leftByBegin
+begin-unknown mode repeats n l over = rw over (refl, refl)
+
+-- what the code leaves where the writer's begin answers b and leaves the counts after
+abbrev pub stored : Outcome CQDBWriter → Lent → List ℕ → Lent
+stored (value w) l after = lent (numbersOf (recordOf w)) (sizesOf (recordOf w)) after
+stored (refusal k) l after = lent (l .numbers) (l .sizes) after
 
 -- begin with known ones: b is what the writer's begin answers, and after the counts that it leaves
-pub begin-known : (mode repeats n : ℕ) (counts after : List ℕ) (m : Mode) (r : Repeats) (b : Outcome CQDBWriter) →
-    known mode repeats ≡ true → m ≡ modeOf mode → r ≡ repeatsOf repeats → b ≡ beginning m r n → after ≡ countsBegun n counts →
-    (begunAnswer b ≡ beginAnswer mode repeats n) × (after ≡ countsLeft mode repeats n counts)
-unfolding beginAnswer countsLeft
-begin-known mode repeats n counts after m r b fine f g e left =
-    rw fine (ap begunAnswer (e ∙ ap₂ (λ (x : Mode) (y : Repeats). beginning x y n) f g), left)
+pub begin-known : (mode repeats n : ℕ) (l : Lent) (after : List ℕ) (m : Mode) (r : Repeats) (b : Outcome CQDBWriter) →
+    known mode repeats ≡ true → m ≡ modeOf mode → r ≡ repeatsOf repeats → b ≡ beginning m r n → after ≡ countsBegun n (l .counts) →
+    (numberIn b ≡ numberIn (beginningHeld mode repeats n)) × (stored b l after ≡ leftByBegin mode repeats n l)
+unfolding beginningHeld leftByBegin beginning countsBegun
+begin-known mode repeats n l after m r b fine f g e left =
+    let is : b ≡ beginning (modeOf mode) (repeatsOf repeats) n = e ∙ ap₂ (λ (x : Mode) (y : Repeats). beginning x y n) f g in
+    rw fine (
+      ap numberIn is,
+      ap₂ (λ (x : Outcome CQDBWriter) (cs : List ℕ). stored x l cs) is left ∙ same (eqb (beginRefusal n) 0),
+    )
+  where
+    rule : (b : Bool) → Outcome CQDBWriter
+    rule b = cond b (value (freshWriter (modeOf mode) (repeatsOf repeats) n)) (refusal (beginRefusal n))
+
+    same : (b : Bool) → stored (rule b) l (cond b (replicate 256 0) (l .counts)) ≡ lentIn (rule b) l
+    same true = refl
+    same false = refl
 
 -- put with a record that is none of 01's
 pub put-unknown : (h : Held) (e : Entry) → knownIn h ≡ false → (2 ≡ putNumber h e) × (h ≡ leftByPut h e)
@@ -78,14 +94,13 @@ close-known h v w' r buffer d k n fine is answer leaves number told back =
     )
 
 -- no refusal changes the record, the counts or a byte: begin
-pub begin-refused : (mode repeats n : ℕ) (counts : List ℕ) → (beginAnswer mode repeats n .refusal ≡ 0 → ⊥) → countsLeft mode repeats n counts ≡ counts
-unfolding beginAnswer beginning countsLeft countsBegun
-begin-refused mode repeats n counts = go (known mode repeats) (eqb (beginRefusal n) 0)
+pub begin-refused : (mode repeats n : ℕ) (l : Lent) → (numberIn (beginningHeld mode repeats n) ≡ 0 → ⊥) → leftByBegin mode repeats n l ≡ l
+unfolding leftByBegin
+begin-refused mode repeats n l = go (beginningHeld mode repeats n)
   where
-    go : (t b : Bool) → (cond t (begunAnswer (cond b (value (freshWriter (modeOf mode) (repeatsOf repeats) n)) (refusal (beginRefusal n)))) (notBegun 2) .refusal ≡ 0 → ⊥) → cond t (cond b (replicate 256 0) counts) counts ≡ counts
-    go true true refused = absurd (refused refl)
-    go true false refused = refl
-    go false b refused = refl
+    go : (b : Outcome CQDBWriter) → (numberIn b ≡ 0 → ⊥) → lentIn b l ≡ l
+    go (value w) refused = absurd (refused refl)
+    go (refusal k) refused = refl
 
 -- put
 pub put-refused : (h : Held) (e : Entry) → (putNumber h e ≡ 0 → ⊥) → leftByPut h e ≡ h

@@ -2,33 +2,49 @@
 -- buffer: refusal 2, and nothing changes. Assumes nothing.
 use Prim.Native.Nat.{ℕ}
 use mathlib.Core.Bool.{cond}
-use mathlib.Core.List.{List}
+use mathlib.Core.List.{List, [], _∷_}
+use lib.ListN.{replicate}
 use Rattle.jhash.specs.Outcome.{Outcome, value, refusal}
 use Rattle.image.specs.Image.{Entry}
 use Rattle.writer.specs.declared.CQDBWriter.{CQDBWriter}
-use Rattle.writer.specs.State.{beginning, countsBegun}
+use Rattle.writer.specs.State.{beginning}
 use Rattle.writer.specs.Put.{putRefusal, afterPut}
 use Rattle.writer.specs.Close.{closing, afterClose}
-use Rattle.cqdb_c.specs.declared.writing.BeginAnswer.{BeginAnswer}
+use Rattle.modes.specs.declared.record.Record.{Record}
 use Rattle.modes.specs.Modes.{known, modeOf, repeatsOf}
 use Rattle.modes.specs.Record.{recordOf, Held, knownIn, stateOf, heldOf}
 
--- a refused begin has the refusal's number, and zeros for the record
-abbrev pub notBegun : ℕ → BeginAnswer
-notBegun k = record { refusal = k; writer = record { mode = 0; repeats = 0; entries = 0; back = 0; length = 0; end = 0 } }
+-- C's writer, lent in place: the record's numbers (mode, repeats, entries, back size) and sizes (length, end), and the table counts
+pub record Lent : Type 0 where
+  pub numbers : List ℕ
+  pub sizes : List ℕ
+  pub counts : List ℕ
 
--- a begin is accepted, 0, and the fresh record stands beside it
-abbrev pub begunAnswer : Outcome CQDBWriter → BeginAnswer
-begunAnswer (value w) = record { refusal = 0; writer = recordOf w }
-begunAnswer (refusal k) = notBegun k
+abbrev pub lent : List ℕ → List ℕ → List ℕ → Lent
+lent numbers sizes counts = record { numbers = numbers; sizes = sizes; counts = counts }
 
--- the rule of begin, so answered, for a buffer of n bytes
-unfoldable pub beginAnswer : ℕ → ℕ → ℕ → BeginAnswer
-beginAnswer mode repeats n = cond (known mode repeats) (begunAnswer (beginning (modeOf mode) (repeatsOf repeats) n)) (notBegun 2)
+-- the record's parts
+abbrev pub numbersOf : Record → List ℕ
+numbersOf r = r .mode ∷ r .repeats ∷ r .entries ∷ r .back ∷ []
 
--- the counts that begin leaves
-unfoldable pub countsLeft : ℕ → ℕ → ℕ → List ℕ → List ℕ
-countsLeft mode repeats n counts = cond (known mode repeats) (countsBegun n counts) counts
+abbrev pub sizesOf : Record → List ℕ
+sizesOf r = r .length ∷ r .end ∷ []
+
+-- the rule of begin for a buffer of n bytes: a fresh record, or a refusal
+unfoldable pub beginningHeld : ℕ → ℕ → ℕ → Outcome CQDBWriter
+beginningHeld mode repeats n = cond (known mode repeats) (beginning (modeOf mode) (repeatsOf repeats) n) (refusal 2)
+
+abbrev pub numberIn : Outcome CQDBWriter → ℕ
+numberIn (value w) = 0
+numberIn (refusal k) = k
+
+-- what begin leaves: the fresh record with counts of 0, or where it is refused what was there
+abbrev pub lentIn : Outcome CQDBWriter → Lent → Lent
+lentIn (value w) l = lent (numbersOf (recordOf w)) (sizesOf (recordOf w)) (replicate 256 0)
+lentIn (refusal k) l = l
+
+unfoldable pub leftByBegin : ℕ → ℕ → ℕ → Lent → Lent
+leftByBegin mode repeats n l = lentIn (beginningHeld mode repeats n) l
 
 -- the rule of put: the refusal's number, 0 when accepted; and what put leaves
 unfoldable pub putNumber : Held → Entry → ℕ

@@ -13,15 +13,8 @@ ghost use lib.ListN.{length};
 ghost use Rattle.writer.specs.Put.{entryOf};
 ghost use Rattle.writer.specs.Close.{closedOf};
 ghost use Rattle.modes.specs.Record.{held};
-ghost use Rattle.cqdb_c.specs.Writing.{notBegun, beginAnswer, countsLeft, putNumber, leftByPut, closingHeld, refusalIn, sizeIn, leftByClose};
+ghost use Rattle.cqdb_c.specs.Writing.{beginningHeld, numberIn, lent, leftByBegin, putNumber, leftByPut, closingHeld, refusalIn, sizeIn, leftByClose};
 ghost use Rattle.cqdb_c.specs.Grown.{grownNumber, recordGrown};
-
-// The refusal's number, 0 when accepted; the fresh record, all zeros when refused.
-#[repr(C)]
-pub struct BeginAnswer {
-    pub refusal: u32,
-    pub writer: Record,
-}
 
 // What put and grown answer: the refusal's number, 0 when accepted; the record to go on with.
 #[repr(C)]
@@ -38,45 +31,36 @@ pub struct CloseAnswer {
     pub writer: Record,
 }
 
-// A begin that is refused with a number.
-fn not_begun(refusal: u32) -> BeginAnswer
-    ensures { λ r. ⌜ r ≡ notBegun refusal ⌝ }
-{
-    BeginAnswer {
-        refusal,
-        writer: Record {
-            mode: 0,
-            repeats: 0,
-            entries: 0,
-            back: 0,
-            length: 0,
-            end: 0,
-        },
-    }
-}
-
-// A fresh record for a buffer, whose counts are made 0; or refusal 1, or 2 for a mode or a repeats mode that is neither 0
-// nor 1.
+// Makes the writer, which is lent in place, fresh for a buffer; or refusal 1, or 2 for a mode or a repeats mode that is neither
+// 0 nor 1, and then the writer stays as it was.
 #[no_mangle]
 pub extern "C" fn cqdb_begin_parts(
     mode: u32,
     repeats: u32,
+    numbers: &mut [u32; 4],
+    sizes: &mut [u64; 2],
     counts: &mut [u32; 256],
     buf: &[u8],
-) -> BeginAnswer
-    ensures answer { λ r. ⌜ r ≡ beginAnswer mode repeats (length (now (buf .entry))) ⌝ }
-    ensures counts { λ r. ⌜ now (counts .exit) ≡ countsLeft mode repeats (length (now (buf .entry))) (now (counts .entry)) ⌝ }
+) -> u32
+    ensures answer { λ r. ⌜ r ≡ numberIn (beginningHeld mode repeats (length (now (buf .entry)))) ⌝ }
+    ensures leaves { λ r. ⌜
+        lent (now (numbers .exit)) (now (sizes .exit)) (now (counts .exit))
+        ≡ leftByBegin mode repeats (length (now (buf .entry)))
+        (lent (now (numbers .entry)) (now (sizes .entry)) (now (counts .entry)))
+        ⌝ }
 {
     if !known(mode, repeats) {
-        return not_begun(2);
+        return 2;
     }
     let begun = writer::begin(mode_of(mode), repeats_of(repeats), &mut *counts, buf);
     match begun {
-        Begun::Fresh(w) => BeginAnswer {
-            refusal: 0,
-            writer: record_of(w),
-        },
-        Begun::Refused(k) => not_begun(k),
+        Begun::Fresh(w) => {
+            let fresh = record_of(w);
+            *numbers = [fresh.mode, fresh.repeats, fresh.entries, fresh.back];
+            *sizes = [fresh.length, fresh.end];
+            0
+        }
+        Begun::Refused(k) => k,
     }
 }
 

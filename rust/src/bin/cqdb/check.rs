@@ -2,6 +2,7 @@
 use cqdb::CQDB;
 
 use crate::args::{Args, Command};
+use crate::compare;
 use crate::files::{self, Source};
 use crate::outcome::{Failure, Outcome, Output};
 use crate::progress::Progress;
@@ -12,13 +13,14 @@ pub const COMMAND: Command = Command {
     usage: "IMAGE",
     summary: "say whether an image can be relied on",
     text: "
-Asks the questions below and prints a line for each: yes or no, and the question.
-The exit status is 1 where an answer is no.
+Asks the questions below and prints a line for each: yes or no, the question, and
+the first thing that breaks it. The exit status is 1 where an answer is no.
 
   it opens             the head is whole and no table leaves the file
-  it is one of ours    a list of puts makes exactly these bytes
+  it is canonical      a list of puts makes exactly these bytes
   readings agree       no name has a zero byte, so a C string shows all of it
   every name is home   the search for each id's name meets that id
+  one name for one id  each entry's name has its id, and its id has its name
 ",
     options: &[],
     operands: (1, 1),
@@ -45,11 +47,13 @@ pub fn questions<'a>(source: &'a Source, out: &mut Output, command: &str) -> Res
     line(out, &Ok(()), "it opens")?;
     out.flush()?;
     quadratic::tell_of(&db, command);
-    let ours = if db.is_ours() { Ok(()) } else { Err("no list of puts makes these bytes".to_string()) };
-    let mut all = line(out, &ours, "it is one of ours")?;
+    let canonical = if db.is_canonical() { Ok(()) } else { Err("no list of puts makes these bytes".to_string()) };
+    let mut all = line(out, &canonical, "it is canonical")?;
     all &= line(out, &readings(&db), "readings agree")?;
     out.flush()?;
     all &= line(out, &homes(&db), "every name is home")?;
+    out.flush()?;
+    all &= line(out, &compare::one_name_for_one_id(&db), compare::ONE_NAME)?;
     Ok(Some((db, all)))
 }
 

@@ -1,35 +1,30 @@
-//! An image beside itself and beside an older one: whether names and ids keep to each other. Every answer is one of the
-//! proved lookups, of an id's name or of a name's id.
-use cqdb::CQDB;
+//! An image beside itself and beside an older one: whether names and ids keep to each other. The first is one proved call;
+//! the second joins the proved lookups of both images.
+use cqdb::{Mismatch, OneToOne, CQDB};
 
-use crate::lines;
-use crate::progress::Progress;
+use crate::{files, lines};
 
 /// The question whose answer `one_name_for_one_id` gives.
 pub const ONE_NAME: &str = "one name for one id";
 /// The question whose answer `kept_since` gives.
 pub const KEPT: &str = "ids of the sheet name the same prisms as before, and their names have not moved";
 
-/// The first entry whose id has another name, or whose name finds another id.
+/// The first entry whose name has another id, or whose id has another name, in the words of the lookup that shows it.
 pub fn one_name_for_one_id(db: &CQDB) -> Result<(), String> {
-    let puts = db.puts().ok_or("the entries of an image that is not one of ours cannot be listed")?;
-    let mut progress = Progress::new();
-    let broken = puts.zip(1..).find_map(|((name, id), number)| {
-        progress.at(number, "entries");
-        let shown = lines::shown(name);
-        match (db.to_str(id), db.to_id_bytes(name)) {
-            (Some(has), Some(found)) if has == name && found == id => None,
-            (None, _) => Some(format!("{shown} has id {id}, which has no name")),
-            (Some(has), _) if has != name => Some(format!("{shown} has id {id}, whose name is {}", lines::shown(has))),
-            (_, found) => Some(format!("id {id} has the name {shown}, which has id {}", or_none(found))),
+    let answer = db.one_to_one().map_err(files::refusal_in_words)?;
+    let OneToOne::Fails { kind, id, name, .. } = answer else { return Ok(()) };
+    let shown = lines::shown(name);
+    let or_none = |other: Option<String>| other.unwrap_or("none".to_string());
+    Err(match kind {
+        Mismatch::OtherId => {
+            let other = db.to_id_bytes(name).map(|id| id.to_string());
+            format!("{shown} was put with id {id}, and has id {}", or_none(other))
         }
-    });
-    progress.clear();
-    broken.map_or(Ok(()), Err)
-}
-
-fn or_none(id: Option<u32>) -> String {
-    id.map_or("none".to_string(), |id| id.to_string())
+        Mismatch::OtherName => {
+            let other = db.to_str(id).map(|name| lines::shown(name));
+            format!("id {id} was put with the name {shown}, and has the name {}", or_none(other))
+        }
+    })
 }
 
 /// The first id that names another prism than before, or whose name, now or before, has moved to another id. An id or a

@@ -64,7 +64,7 @@ fn named<'a>(db: &CQDB<'a>) -> Result<Named<'a>, Failure> {
     if list::names_none(db) {
         let puts = db
             .puts()
-            .ok_or_else(|| Failure::new("the image is one-way, and not one of ours: it has no list of puts"))?;
+            .ok_or_else(|| Failure::new("the image is one-way, and not canonical: it has no list of puts"))?;
         puts.into_iter().try_for_each(|(name, id)| note(name, id))?;
         return Ok(named);
     }

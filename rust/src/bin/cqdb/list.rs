@@ -7,7 +7,7 @@ use crate::cdb::{self, CDB};
 use crate::files::Source;
 use crate::outcome::{Answer, Failure, Outcome, Output};
 
-const PUTS: Opt = Opt::plain("--puts", "every put in put order, of an image that is one of ours");
+const PUTS: Opt = Opt::plain("--puts", "every put in put order, of a canonical image");
 
 pub const COMMAND: Command = Command {
     name: "list",
@@ -17,7 +17,7 @@ pub const COMMAND: Command = Command {
 Prints a line for each id that has a name: the id, a space and the name. That is
 the form that 'cqdb make' reads. A one-way image names no ids. With --puts every
 put is printed, also of a one-way image; 'cqdb make --repeats --renamed' makes the
-same image of these lines. An image that is not one of ours has no such list: the
+same image of these lines. An image that is not canonical has no such list: the
 exit status is then 1. BUNDLE:1 is the second image of a bundle; --all lists every
 image.
 ",
@@ -53,7 +53,7 @@ struct Listing<'a> {
 impl Listing<'_> {
     fn puts(&mut self, position: u64, db: &CQDB) -> Result<bool, Failure> {
         let Some(puts) = db.puts() else {
-            self.out.tell(&format!("list: {} is not one of ours: it has no list of puts", self.name))?;
+            self.out.tell(&format!("list: {} is not canonical: it has no list of puts", self.name))?;
             return Ok(false);
         };
         puts.into_iter().try_for_each(|(name, id)| self.entry(position, id, name))?;

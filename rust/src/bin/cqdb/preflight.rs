@@ -22,7 +22,6 @@ pub const COMMAND: Command = Command {
 Asks the questions of 'cqdb check' and those below and prints a line for each: yes
 or no, the question, and the first thing that breaks it.
 
-  one name for one id      each entry's id has its name, and its name has its id
   every id of the sheet has a name
                            with --sheet; with --validity and --date too,
                            references and walls have it on that date
@@ -53,7 +52,6 @@ fn run(args: Args) -> Outcome {
 
     let mut out = Output::new();
     let Some((db, mut all)) = check::questions(&image, &mut out, COMMAND.name)? else { return out.finish(false) };
-    all &= check::line(&mut out, &compare::one_name_for_one_id(&db), compare::ONE_NAME)?;
     if let Some(sheet) = &sheet {
         all &= check::line(&mut out, &all_named(&db, sheet, windows.as_ref())?, "every id of the sheet has a name")?;
     }

@@ -21,7 +21,7 @@ Prints a line for each number, its name first:
   named       ids that have a name
   gaps        ids below the back size that have none
   average     buckets read when the name of each entry is looked up, over the
-              entries, and both numbers; of an image that is one of ours
+              entries, and both numbers; of a canonical image
   length-N    entries whose name is found after N buckets, with a bar
 ",
     options: &[],

@@ -1,31 +1,48 @@
--- `cqdb_c::writing::cqdb_begin_parts` meets its contract: what `begin` promises, put into the struct. Assumes nothing.
-use mathlib.Core.Path.{sym, ap, _∙_}
+-- `cqdb_c::writing::cqdb_begin_parts` meets its contract: what `begin` promises, stored in the writer. Assumes nothing.
+use Prim.Native.Nat.{ℕ}
+use mathlib.Core.Path.{_≡_, sym, ap, _∙_}
+use mathlib.Core.List.{List}
 use lib.ListN.{length}
 use borrow.Author.Tests.{not-true, not-false}
 use Rattle.writer.specs.declared.Begun.{Begun}
 use Rattle.writer.specs.State.{begunOf}
 use Rattle.modes.specs.declared.record.Record.{Record}
-use Rattle.cqdb_c.specs.declared.writing.BeginAnswer.{BeginAnswer}
-use Rattle.cqdb_c.specs.Writing.{begunAnswer}
-use Rattle.cqdb_c.proofs.CCalls.{begin-unknown, begin-known}
+use Rattle.cqdb_c.specs.Writing.{Lent, lent, numbersOf, sizesOf, beginningHeld, numberIn, leftByBegin}
+use Rattle.cqdb_c.proofs.CCalls.{begin-unknown, begin-known, stored}
 use borrow.Author.Needs.{needs}
 use Rattle.cqdb_c.proofs.writing.cqdb_begin_parts.Statement.{statement}
 use Rattle.cqdb_c.proofs.writing.cqdb_begin_parts.Tie as tie
 
-abbrev fresh : Record → BeginAnswer
-fresh r = record { refusal = 0; writer = r }
+abbrev start : tie.After-begin → tie.Start
+start c = c .before .before .before .before .before .before .before
+
+-- the writer as it was lent, and as begin leaves it
+abbrev given : tie.After-begin → Lent
+given c = let a = start c .args in lent (a .numbers .now) (a .sizes .now) (a .counts .now)
+
+abbrev counts-after : tie.After-begin → List ℕ
+counts-after c = c .begin .last .1 .1 .0
+
+told : (c : tie.After-begin) → let a = start c .args in let b = begunOf (c .begin .result) in
+    (numberIn b ≡ numberIn (beginningHeld (a .mode) (a .repeats) (length (a .buf .now))))
+    × (stored b (given c) (counts-after c) ≡ leftByBegin (a .mode) (a .repeats) (length (a .buf .now)) (given c))
+told c =
+    let a = start c .args in
+    let of-repeats-of = c .before .before .repeats-of in
+    let of-mode-of = c .before .before .before .mode-of in
+    let tested = c .before .before .before .before in
+    begin-known (a .mode) (a .repeats) (length (a .buf .now)) (given c) (counts-after c) (of-mode-of .result) (of-repeats-of .result)
+    (begunOf (c .begin .result)) (sym (tested .before .known .ensures) ∙ not-false _ (tested .if1 .left)) (of-mode-of .ensures)
+    (of-repeats-of .ensures) (c .begin .ensures .0) (c .begin .ensures .1)
 
 known-requires : tie.Need-known-requires
 known-requires c κs = search needs
 
-not-begun-requires : tie.Need-not-begun-requires
-not-begun-requires c κs = search needs
-
 returns : tie.Need-returns
 returns c =
-    let a = c .before .before .before .before .args in
-    let told = begin-unknown (a .mode) (a .repeats) (length (a .buf .now)) (a .counts .now) (sym (c .before .before .known .ensures) ∙ not-true _ (c .before .if1 .taken)) in
-    (c .not-begun .ensures ∙ told .0, told .1)
+    let a = c .before .before .before .args in
+    begin-unknown (a .mode) (a .repeats) (length (a .buf .now)) (lent (a .numbers .now) (a .sizes .now) (a .counts .now))
+    (sym (c .before .known .ensures) ∙ not-true _ (c .if1 .taken))
 
 mode-of-requires : tie.Need-mode-of-requires
 mode-of-requires c κs = search needs
@@ -45,37 +62,29 @@ record-of-requires c κs = search needs
 enum-known-begun-2 : tie.Need-enum-known-begun-2
 enum-known-begun-2 c = search needs
 
-not-begun-requires-2 : tie.Need-not-begun-requires-2
-not-begun-requires-2 c κs = search needs
-
 returns-2 : tie.Need-returns-2
 returns-2 c =
-    let a = c .before .before .before .before .before .before .before .before .before .before .before .args in
-    let of-mode-of = c .before .before .before .before .before .before .before .mode-of in
-    let of-repeats-of = c .before .before .before .before .before .before .repeats-of in
-    let of-begin = c .before .before .before .before .begin in
-    let fine = sym (c .before .before .before .before .before .before .before .before .before .known .ensures) ∙ not-false _ (c .before .before .before .before .before .before .before .before .if1 .left) in
-    let told = begin-known (a .mode) (a .repeats) (length (a .buf .now)) (a .counts .now) (of-begin .last .1 .1 .0) (of-mode-of .result) (of-repeats-of .result) (begunOf (of-begin .result))
-    fine (of-mode-of .ensures) (of-repeats-of .ensures) (of-begin .ensures .0) (of-begin .ensures .1) in
-    (ap (λ (r : Record). fresh r) (c .record-of .ensures) ∙ ap (λ (b : Begun). begunAnswer (begunOf b)) (sym (c .before .before .begun .given .1)) ∙ told .0, told .1)
+    let d = c .before .before .before .before .before .before in
+    let is = sym (c .before .before .before .before .begun .given .1) in (
+      ap (λ (b : Begun). numberIn (begunOf b)) is ∙ told d .0,
+      ap (λ (r : Record). lent (numbersOf r) (sizesOf r) (counts-after d)) (c .before .before .record-of .ensures)
+          ∙ ap (λ (b : Begun). stored (begunOf b) (given d) (counts-after d)) is
+          ∙ told d .1,
+    )
 
 returns-3 : tie.Need-returns-3
 returns-3 c =
-    let a = c .before .before .before .before .before .before .before .before .before .before .before .args in
-    let of-mode-of = c .before .before .before .before .before .before .before .mode-of in
-    let of-repeats-of = c .before .before .before .before .before .before .repeats-of in
-    let of-begin = c .before .before .before .before .begin in
-    let fine = sym (c .before .before .before .before .before .before .before .before .before .known .ensures) ∙ not-false _ (c .before .before .before .before .before .before .before .before .if1 .left) in
-    let told = begin-known (a .mode) (a .repeats) (length (a .buf .now)) (a .counts .now) (of-begin .last .1 .1 .0) (of-mode-of .result) (of-repeats-of .result) (begunOf (of-begin .result))
-    fine (of-mode-of .ensures) (of-repeats-of .ensures) (of-begin .ensures .0) (of-begin .ensures .1) in
-    (c .not-begun2 .ensures ∙ ap (λ (b : Begun). begunAnswer (begunOf b)) (sym (c .before .before .begun2 .given .1)) ∙ told .0, told .1)
+    let d = c .before .before .before in
+    let is = sym (c .before .begun2 .given .1) in (
+      ap (λ (b : Begun). numberIn (begunOf b)) is ∙ told d .0,
+      ap (λ (b : Begun). stored (begunOf b) (given d) (counts-after d)) is ∙ told d .1,
+    )
 
 pub cqdb-begin-parts-spec : {M : Type 1} → statement M
 cqdb-begin-parts-spec =
     tie.close
     (tie.spec
     known-requires
-    not-begun-requires
     returns
     mode-of-requires
     repeats-of-requires
@@ -83,6 +92,5 @@ cqdb-begin-parts-spec =
     enum-known-begun
     record-of-requires
     enum-known-begun-2
-    not-begun-requires-2
     returns-2
     returns-3)

@@ -1,11 +1,11 @@
-// Is this image one of ours? cqdb_ours, held to 02 (ix) told once more in plain Rust: the entries are read back, their image is
+// Is this image canonical? cqdb_canonical, held to 02 (ix) told once more in plain Rust: the entries are read back, their image is
 // made anew, and the answer is yes exactly when the bytes are the same. Asked of images of lists, of the Rust's own images, of
 // every kind of damage, of images that are wrong in one thing alone, of large ones, and of all single-byte changes of small images.
-// origin [COPIES]
+// canonical [COPIES]
+mod archive;
 mod damage;
 mod names;
 mod original;
-mod ours;
 mod rules;
 mod seed;
 mod tally;
@@ -117,7 +117,7 @@ struct Run {
 impl Run {
     fn ask(&mut self, image: &[u8], what: impl FnOnce() -> String) -> bool {
         let answer = rule(image);
-        self.tally.rule(ours::ours(image), u32::from(answer), what);
+        self.tally.rule(archive::canonical(image), u32::from(answer), what);
         self.images += 1;
         self.yes += u64::from(answer);
         answer
@@ -135,11 +135,11 @@ fn closed(random: &mut Random, oneway: bool, puts: &[Put]) -> Vec<u8> {
     let largest = puts.iter().map(|put| put.1 as usize + 1).max().unwrap_or(0);
     let mut buf = random.bytes(HEAD + puts.iter().map(|put| put.0.len() + 25).sum::<usize>() + 4 * largest + 99);
     let mut counts = [0; 256];
-    let mut record = ours::begin(oneway as u32, 1, &mut counts, &buf).record;
+    let mut record = archive::begin(oneway as u32, 1, &mut counts, &buf).record;
     for (name, id) in puts {
-        record = ours::put(record, &mut counts, &mut buf, name, *id).record;
+        record = archive::put(record, &mut counts, &mut buf, name, *id).record;
     }
-    let answer = ours::close(record, &counts, &mut buf);
+    let answer = archive::close(record, &counts, &mut buf);
     assert_eq!(answer.refusal, 0, "there is room for all puts");
     buf.truncate(answer.size as usize);
     buf
@@ -246,7 +246,7 @@ fn every_byte(run: &mut Run, image: &[u8]) {
 fn main() {
     let copies = std::env::args().nth(1).map_or(COPIES, |text| text.parse().expect("a number of copies"));
     let mut random = Random::new();
-    println!("origin: seed {}", random.seed);
+    println!("canonical: seed {}", random.seed);
     let names = Names::new(&mut random);
     let mut run = Run::default();
     for _ in 0..copies.div_ceil(COPIES_OF_ONE) {
@@ -263,7 +263,7 @@ fn main() {
     for _ in 0..4 {
         large(&mut run, &mut random);
     }
-    println!("origin: {} images, four of them large with their copies; {} of them ours", run.images, run.yes);
+    println!("canonical: {} images, four of them large with their copies; {} of them canonical", run.images, run.yes);
     let before = (run.images, run.yes);
     let prism = |text: &str, id: u32| (text.as_bytes().to_vec(), id);
     let renewed = [prism("A", 0), prism("B", 2), prism("A", 5), prism("", 2)];
@@ -272,10 +272,10 @@ fn main() {
         every_byte(&mut run, &image_of(oneway, puts).expect("a small image"));
     }
     println!(
-        "origin: all {} single-byte changes of {} small images, {} of them ours",
+        "canonical: all {} single-byte changes of {} small images, {} of them canonical",
         run.images - before.0,
         small.len(),
         run.yes - before.1
     );
-    run.tally.end("origin");
+    run.tally.end("canonical");
 }

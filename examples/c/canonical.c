@@ -1,7 +1,7 @@
-/* Asks whether images are ours, and checks what it gets. Ends with status 1 where something differs.
+/* Asks whether images are canonical, and checks what it gets. Ends with status 1 where something differs.
 
        ./make-archive
-       cc -I include examples/c/origin.c target/staticlib/libcqdb_c.a -o origin && ./origin */
+       cc -I include examples/c/canonical.c target/staticlib/libcqdb_c.a -o canonical && ./canonical */
 #include <stdio.h>
 #include <string.h>
 
@@ -13,14 +13,14 @@ static void expect(int holds, const char *what) {
     checked++;
     if (!holds) {
         different++;
-        fprintf(stderr, "origin: wrong: %s\n", what);
+        fprintf(stderr, "canonical: wrong: %s\n", what);
     }
 }
 
 /* The answer where the byte at `at` is another; the byte is put back. */
 static uint32_t with_another(uint8_t *image, size_t size, size_t at) {
     image[at] ^= 1;
-    uint32_t answer = cqdb_ours(image, size);
+    uint32_t answer = cqdb_canonical(image, size);
     image[at] ^= 1;
     return answer;
 }
@@ -35,17 +35,17 @@ int main(void) {
         for (uint32_t i = 0; i < 3; i++) {
             expect(cqdb_put(&w, buf, sizeof buf, (const uint8_t *)names[i], strlen(names[i]), 2 * i) == 0, "put");
         }
-        expect(cqdb_ours(buf, sizeof buf) == 0, "no image before the close");
+        expect(cqdb_canonical(buf, sizeof buf) == 0, "no image before the close");
         size_t size = cqdb_close(&w, buf, sizeof buf).size;
-        expect(cqdb_ours(buf, size) == 1, "the image of a list");
-        expect(cqdb_ours(buf, size + 1) == 0 && cqdb_ours(buf, size - 1) == 0, "one byte behind, one missing");
+        expect(cqdb_canonical(buf, size) == 1, "the image of a list");
+        expect(cqdb_canonical(buf, size + 1) == 0 && cqdb_canonical(buf, size - 1) == 0, "one byte behind, one missing");
         expect(with_another(buf, size, 4) == 0, "a size word that is not the length");
         expect(with_another(buf, size, 8) == 0, "another flag word");
         expect(with_another(buf, size, 2080) == 0, "another name");
         expect(with_another(buf, size, size - 1) == 0, "another last byte");
-        expect(cqdb_ours(buf, size) == 1, "the image as it was");
+        expect(cqdb_canonical(buf, size) == 1, "the image as it was");
     }
-    expect(cqdb_ours(buf, 0) == 0, "no bytes");
-    printf("origin: %u checked, %u different\n", checked, different);
+    expect(cqdb_canonical(buf, 0) == 0, "no bytes");
+    printf("canonical: %u checked, %u different\n", checked, different);
     return different > 0;
 }

@@ -1,10 +1,10 @@
--- `ours_c::cqdb_ours` meets its contract: what `is_ours` promises, as a number. Assumes nothing.
+-- `ours_c::cqdb_canonical` meets its contract: what `is_ours` promises, as a number. Assumes nothing.
 use Prim.Native.Nat.{ℕ}
 use mathlib.Core.Path.{sym, ap, _∙_}
 use mathlib.Core.Bool.{Bool, cond}
 use borrow.Author.Needs.{needs}
-use Rattle.ours_c.proofs.cqdb_ours.Statement.{statement}
-use Rattle.ours_c.proofs.cqdb_ours.Tie as tie
+use Rattle.ours_c.proofs.cqdb_canonical.Statement.{statement}
+use Rattle.ours_c.proofs.cqdb_canonical.Tie as tie
 
 is-ours-requires : tie.Need-is-ours-requires
 is-ours-requires c κs = search needs
@@ -15,5 +15,5 @@ returns c = ap {B = ℕ} (λ (t : Bool). cond t 1 0) (sym (c .if1 .taken) ∙ c 
 returns-2 : tie.Need-returns-2
 returns-2 c = ap {B = ℕ} (λ (t : Bool). cond t 1 0) (sym (c .if1 .left) ∙ c .before .is-ours .ensures)
 
-pub cqdb-ours-spec : {M : Type 1} → statement M
-cqdb-ours-spec = tie.close (tie.spec is-ours-requires returns returns-2)
+pub cqdb-canonical-spec : {M : Type 1} → statement M
+cqdb-canonical-spec = tie.close (tie.spec is-ours-requires returns returns-2)

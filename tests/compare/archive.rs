@@ -2,9 +2,9 @@
 // most, as a caller wants them.
 #![allow(dead_code)]
 #[path = "../../rust/src/archive.rs"]
-mod archive;
+mod calls;
 
-pub use archive::*;
+pub use calls::*;
 
 /// The id that a lookup found.
 pub fn found_id(image: &[u8], name: &[u8]) -> Option<u32> {

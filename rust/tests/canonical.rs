@@ -1,4 +1,4 @@
-//! Is this image one of ours? Through the safe calls.
+//! Is this image canonical? Through the safe calls.
 use cqdb::{BStr, Flag, MemoryWriter, CQDB};
 
 const PUTS: [(&[u8], u32); 4] = [(b"A", 0), (b"north wall", 7), (b"B", 9), (b"", 7)];
@@ -16,8 +16,8 @@ fn read_back(puts: &[(&'static [u8], u32)]) -> Vec<(&'static BStr, u32)> {
     puts.iter().map(|(name, id)| (BStr::new(*name), *id)).collect()
 }
 
-fn is_ours(image: &[u8]) -> bool {
-    CQDB::new(image).is_ok_and(|db| db.is_ours())
+fn is_canonical(image: &[u8]) -> bool {
+    CQDB::new(image).is_ok_and(|db| db.is_canonical())
 }
 
 #[test]
@@ -25,7 +25,7 @@ fn images_of_a_writer() {
     for flag in [Flag::NONE, Flag::ONEWAY] {
         for n in 0..=PUTS.len() {
             let image = image(flag, &PUTS[..n]);
-            assert!(is_ours(&image), "{n} puts");
+            assert!(is_canonical(&image), "{n} puts");
             assert_eq!(CQDB::new(&image).unwrap().puts().unwrap().collect::<Vec<_>>(), read_back(&PUTS[..n]));
         }
     }
@@ -36,8 +36,8 @@ fn one_byte_behind_or_missing() {
     let image = image(Flag::NONE, &PUTS);
     let behind = [&image[..], &[0]].concat();
     assert!(CQDB::new(&behind).is_ok(), "bytes may follow an image that is read");
-    assert!(!is_ours(&behind) && CQDB::new(&behind).unwrap().puts().is_none());
-    assert!(!is_ours(&image[..image.len() - 1]));
+    assert!(!is_canonical(&behind) && CQDB::new(&behind).unwrap().puts().is_none());
+    assert!(!is_canonical(&image[..image.len() - 1]));
 }
 
 #[test]
@@ -48,7 +48,7 @@ fn words_of_a_lost_disk() {
     for at in [4, 8, absent, 2080, image.len() - 4] {
         let mut copy = image.clone();
         copy[at] ^= 1;
-        assert!(!is_ours(&copy), "byte {at}");
+        assert!(!is_canonical(&copy), "byte {at}");
     }
 }
 

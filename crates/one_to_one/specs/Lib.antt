@@ -1,0 +1,5 @@
+-- One to one: the rule, what is proved of it, and worked examples.
+pub mod OneToOne
+pub mod theorems
+pub mod examples
+pub mod steps

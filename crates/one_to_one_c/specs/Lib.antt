@@ -1,0 +1,2 @@
+-- What the exported call answers.
+pub mod OneToOneAnswer
