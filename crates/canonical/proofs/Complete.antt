@@ -19,10 +19,10 @@ use Rattle.lookup_laws.proofs.ImageOpening.{letters-image, magic-image, size-im
 use Rattle.canonical.proofs.ReadBack.{flag-image}
 use Rattle.image.specs.declared.Mode.{Mode}
 use Rattle.image.specs.declared.Mode.the-variants.{Twoway, Oneway}
-use Rattle.masks.specs.steps.Masks.{ats, Right}
-use Rattle.masks.proofs.Above.{rising-less}
-use Rattle.masks.proofs.Filled.{filled-right}
-use Rattle.masks.proofs.Links.{offsets, right-linked}
+use Rattle.canonical.specs.steps.HiddenBuckets.{ats, Right}
+use Rattle.canonical.proofs.CountAtLeast.{rising-less}
+use Rattle.canonical.proofs.FilledTable.{filled-right}
+use Rattle.canonical.proofs.BackArray.{offsets, right-linked}
 use Rattle.canonical.specs.steps.InPlace.{bucketsAt, wordsAt}
 use Rattle.canonical.proofs.InPlace.{LinksIn, InPlace}
 use Rattle.canonical.proofs.StandTogether.{getD-bucketsAt, length-bucketsAt, getD-wordsAt, length-wordsAt}

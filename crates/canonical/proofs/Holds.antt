@@ -25,7 +25,7 @@ use Rattle.lookup_laws.proofs.ImageOpening.{opening-image}
 use Rattle.lists.proofs.Parse.{parsed, parsed-whole}
 use Rattle.image.specs.declared.Mode.{Mode}
 use Rattle.image.specs.declared.Mode.the-variants.{Twoway, Oneway}
-use Rattle.masks.specs.steps.Masks.{place, Right}
+use Rattle.canonical.specs.steps.HiddenBuckets.{place, Right}
 use Rattle.image.specs.Zero.{hasZero}
 use Rattle.canonical.specs.steps.Made.{Storable, Made}
 use Rattle.canonical.specs.Ours.{modeIn}

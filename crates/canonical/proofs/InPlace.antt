@@ -11,7 +11,7 @@ use Rattle.image.specs.declared.Mode.{Mode}
 use Rattle.image.specs.declared.Mode.the-variants.{Twoway, Oneway}
 use Rattle.image.proofs.At.{At}
 use Rattle.reader.specs.Open.{hasLetters}
-use Rattle.masks.specs.steps.Masks.{Right, Linked}
+use Rattle.canonical.specs.steps.HiddenBuckets.{Right, Linked}
 use Rattle.canonical.specs.steps.InPlace.{bucketsAt, wordsAt}
 
 -- the links of a two-way image; a one-way image has none

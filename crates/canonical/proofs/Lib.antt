@@ -1,4 +1,8 @@
 -- Laws about images that are ours.
+pub mod CountAtLeast
+pub mod HiddenBuckets
+pub mod FilledTable
+pub mod BackArray
 pub mod ReadBack
 pub mod InPlace
 pub mod StandTogether

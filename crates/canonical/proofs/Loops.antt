@@ -11,7 +11,7 @@ use borrow.Author.Tests.{eq-eqb, ne-eqb}
 use Rattle.image.specs.Bytes.{word, range, all}
 use Rattle.image.specs.Head.{tableAt, bucketNumber}
 use Rattle.image.proofs.AllOfRange.{all-step, all-more, all-end}
-use Rattle.masks.specs.steps.Masks.{bit, above}
+use Rattle.canonical.specs.steps.HiddenBuckets.{bit, above}
 use Rattle.canonical.specs.steps.InPlace.{wordsAt}
 use Rattle.canonical.specs.steps.Tests.{clean, usedIn, tableRight, rowsRight, rowCounts, TablesInside}
 use Rattle.canonical.proofs.StandTogether.{getD-run}

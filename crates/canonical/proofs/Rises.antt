@@ -5,9 +5,9 @@ use Prim.Native.Nat.{ℕ, suc, _+_}
 use native.Mathlib.Omega.{arith}
 use Rattle.image.specs.Bytes.{filter}
 use Rattle.image.specs.Image.{Entry, Placed, entrySize, placed, inTable, ofTable, bucketOf}
-use Rattle.masks.specs.steps.Masks.{Rising, ats}
-use Rattle.masks.proofs.Above.{rising-less}
-use Rattle.masks.proofs.Links.{offsets}
+use Rattle.canonical.specs.steps.HiddenBuckets.{Rising, ats}
+use Rattle.canonical.proofs.CountAtLeast.{rising-less}
+use Rattle.canonical.proofs.BackArray.{offsets}
 
 pub rises : (o : ℕ) (es : List Entry) → Rising o (offsets (placed o es))
 unfolding placed

@@ -20,10 +20,10 @@ use Rattle.image.proofs.Words.{length-le32}
 use Rattle.reader.specs.Open.{hasLetters}
 use Rattle.image.specs.declared.Mode.{Mode}
 use Rattle.image.specs.declared.Mode.the-variants.{Twoway, Oneway}
-use Rattle.masks.specs.steps.Masks.{ats}
-use Rattle.masks.proofs.Above.{rising-less}
-use Rattle.masks.proofs.Masked.{right-filled}
-use Rattle.masks.proofs.Links.{offsets, linked-right}
+use Rattle.canonical.specs.steps.HiddenBuckets.{ats}
+use Rattle.canonical.proofs.CountAtLeast.{rising-less}
+use Rattle.canonical.proofs.HiddenBuckets.{right-filled}
+use Rattle.canonical.proofs.BackArray.{offsets, linked-right}
 use Rattle.canonical.specs.steps.InPlace.{bucketsAt, wordsAt}
 use Rattle.canonical.proofs.InPlace.{LinksIn, InPlace}
 use Rattle.canonical.proofs.StandTogether.{at-nothing, at-join, at-all, at-cat, at-parts, at-le32, at-two, getD-bucketsAt, getD-wordsAt, length-wordsAt}

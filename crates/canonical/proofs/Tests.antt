@@ -15,7 +15,7 @@ use Rattle.image.specs.Tables.{Bucket, empty, atOf, probeSequence}
 use Rattle.image.proofs.AllOfRange.{all-each, all-true}
 use Rattle.image.proofs.Bools.{and-first, and-second, and-both, or-false-first, or-false-second}
 use Rattle.reader.specs.Open.{opening, hasLetters, someLeaves, halves}
-use Rattle.masks.specs.steps.Masks.{above, ats}
+use Rattle.canonical.specs.steps.HiddenBuckets.{above, ats}
 use Rattle.canonical.specs.steps.InPlace.{bucketAt, bucketsAt}
 use Rattle.canonical.specs.steps.Tests.{clean, usedIn, tableRight, rowsRight, rowCounts, sayCounts, TablesInside}
 use Rattle.canonical.proofs.StandTogether.{getD-run, getD-bucketsAt, length-bucketsAt}

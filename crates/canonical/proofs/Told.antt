@@ -24,7 +24,7 @@ use Rattle.image.proofs.Sizes.{length-entries, before-suc}
 use Rattle.writer.proofs.Agree.{zeros, tallied-count}
 use Rattle.image.specs.declared.Mode.{Mode}
 use Rattle.image.specs.declared.Mode.the-variants.{Twoway, Oneway}
-use Rattle.masks.specs.steps.Masks.{place, Right}
+use Rattle.canonical.specs.steps.HiddenBuckets.{place, Right}
 use Rattle.image.specs.Zero.{hasZero}
 use Rattle.canonical.specs.steps.Made.{Storable, Made}
 use Rattle.canonical.specs.Ours.{modeIn}

@@ -18,9 +18,9 @@ use Rattle.image.proofs.Bools.{false-not-true, and-first, and-second, and-both}
 use Rattle.image.proofs.AllOfList.{All}
 use Rattle.image.proofs.Buckets.{length-probeSequence}
 use Rattle.lookup_laws.proofs.ProbeSequence.{probeSequence-at}
-use Rattle.masks.specs.steps.Masks.{above, hide, masked, place, selves, Linked}
-use Rattle.masks.proofs.Masked.{getD-masked, place-in}
-use Rattle.masks.proofs.Filled.{first-below}
+use Rattle.canonical.specs.steps.HiddenBuckets.{above, hide, masked, place, selves, Linked}
+use Rattle.canonical.proofs.HiddenBuckets.{getD-masked, place-in}
+use Rattle.canonical.proofs.FilledTable.{first-below}
 use Rattle.canonical.specs.steps.InPlace.{bucketAt, bucketsAt, wordsAt}
 use Rattle.canonical.specs.steps.Tests.{hidden, slotIn, standsIn, entryRight, entriesRight, aheadIn, selvesIn}
 use Rattle.canonical.proofs.StandTogether.{getD-bucketsAt, length-bucketsAt, getD-wordsAt}

@@ -6,7 +6,7 @@ ghost use Prim.Native.Nat.{_^_, _<_, _≤_};
 ghost use lib.Dec.{eqb};
 ghost use lib.ListN.{length};
 ghost use Rattle.image.specs.Stored.{whole, between};
-ghost use Rattle.masks.specs.steps.Masks.{above};
+ghost use Rattle.canonical.specs.steps.HiddenBuckets.{above};
 ghost use Rattle.canonical.specs.steps.InPlace.{wordsAt};
 ghost use Rattle.canonical.specs.steps.Tests.{aheadIn, selvesIn, linksInPlace, placedFrom};
 use super::tables::one;

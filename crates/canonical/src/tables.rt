@@ -5,7 +5,7 @@ ghost use Prim.Native.Nat.{_+_, _*_, _<_, _≤_};
 ghost use lib.Dec.{eqb};
 ghost use lib.ListN.{length};
 ghost use Rattle.image.specs.Bytes.{word};
-ghost use Rattle.masks.specs.steps.Masks.{bit};
+ghost use Rattle.canonical.specs.steps.HiddenBuckets.{bit};
 ghost use Rattle.canonical.specs.steps.Tests.{tableRight, rowsRight, rowCounts, sayCounts, TablesInside};
 use image::get_u32;
 

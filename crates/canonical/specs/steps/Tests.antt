@@ -17,7 +17,7 @@ use Rattle.image.specs.Zero.{hasZero}
 use Rattle.image.specs.declared.Mode.{Mode}
 use Rattle.image.specs.declared.Mode.the-variants.{Twoway, Oneway}
 use Rattle.reader.specs.Open.{opening}
-use Rattle.masks.specs.steps.Masks.{above}
+use Rattle.canonical.specs.steps.HiddenBuckets.{above}
 use Rattle.canonical.specs.Ours.{modeIn}
 use Rattle.canonical.specs.steps.InPlace.{wordsAt}
 

@@ -5,7 +5,7 @@ use Prim.Native.Nat.{ℕ, _+_, _*_, _-_, _≤_}
 use mathlib.Core.Path.{_≡_, ap, _∙_}
 use mathlib.Core.List.{map}
 use Rattle.image.specs.Bytes.{word, range}
-use Rattle.masks.specs.steps.Masks.{bit, above}
+use Rattle.canonical.specs.steps.HiddenBuckets.{bit, above}
 use Rattle.canonical.specs.steps.InPlace.{wordsAt}
 use Rattle.canonical.proofs.Loops.{run-next, run-end, bit-most, links-start}
 use Rattle.canonical.proofs.links.links_used.Statement.{statement}

@@ -3,7 +3,7 @@ use native.Mathlib.Omega.{arith}
 use borrow.Author.Needs.{needs}
 use Prim.Native.Nat.{_*_, _-_}
 use mathlib.Core.Path.{_≡_, refl, ap, _∙_}
-use Rattle.masks.specs.steps.Masks.{bit}
+use Rattle.canonical.specs.steps.HiddenBuckets.{bit}
 use Rattle.canonical.proofs.Loops.{Buckets, buckets-start, buckets-next, buckets-end}
 use Rattle.canonical.proofs.tables.table_right.Statement.{statement}
 use Rattle.canonical.proofs.tables.table_right.Tie as tie

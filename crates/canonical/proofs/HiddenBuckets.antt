@@ -12,8 +12,8 @@ use borrow.Author.Tests.{lt-ltb, le-ltb}
 use Rattle.image.specs.Tables.{Bucket, empty, atOf, start, probeSequence, firstEmpty, insert, insertAll, filled}
 use Rattle.image.proofs.Buckets.{getD-empties}
 use Rattle.image.proofs.AllOfList.{All}
-use Rattle.masks.specs.steps.Masks.{above, Rising, ats, hide, masked, place, Right}
-use Rattle.masks.proofs.Above.{above-in, above-only}
+use Rattle.canonical.specs.steps.HiddenBuckets.{above, Rising, ats, hide, masked, place, Right}
+use Rattle.canonical.proofs.CountAtLeast.{above-in, above-only}
 
 -- ---- hiding
 

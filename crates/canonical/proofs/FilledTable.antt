@@ -16,9 +16,9 @@ use Rattle.image.proofs.AllOfList.{All}
 use Rattle.image.proofs.Sizes.{length-insert}
 use Rattle.image.proofs.Buckets.{length-probeSequence}
 use Rattle.lookup_laws.proofs.ProbeSequence.{probeSequence-at, place-of}
-use Rattle.masks.specs.steps.Masks.{above, Rising, ats, hide, masked, place, Right}
-use Rattle.masks.proofs.Above.{above-none, above-set, above-room, rising-less}
-use Rattle.masks.proofs.Masked.{hide-shows, hide-hides, getD-masked, length-masked, getD-ats, length-ats, masked-is}
+use Rattle.canonical.specs.steps.HiddenBuckets.{above, Rising, ats, hide, masked, place, Right}
+use Rattle.canonical.proofs.CountAtLeast.{above-none, above-set, above-room, rising-less}
+use Rattle.canonical.proofs.HiddenBuckets.{hide-shows, hide-hides, getD-masked, length-masked, getD-ats, length-ats, masked-is}
 
 -- ---- the first empty bucket of a search
 

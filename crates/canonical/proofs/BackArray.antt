@@ -12,8 +12,8 @@ use borrow.Author.Tests.{eq-eqb, ne-eqb, le-leb, lt-leb}
 use Rattle.image.specs.Bytes.{filter}
 use Rattle.image.specs.Image.{Placed, placedOfId, lastFrom, backWord}
 use Rattle.image.proofs.AllOfList.{All}
-use Rattle.masks.specs.steps.Masks.{above, Rising, selves, Linked}
-use Rattle.masks.proofs.Above.{above-in, above-only, above-mono, above-same, above-one, above-none}
+use Rattle.canonical.specs.steps.HiddenBuckets.{above, Rising, selves, Linked}
+use Rattle.canonical.proofs.CountAtLeast.{above-in, above-only, above-mono, above-same, above-one, above-none}
 
 -- the offsets of entries
 abbrev pub offsets : List Placed → List ℕ
