@@ -14,7 +14,7 @@ use Rattle.image.specs.Stored.{between}
 use Rattle.image.proofs.Lists.{length-cat}
 use Rattle.reader.specs.Lookup.{lookup}
 use Rattle.reader.specs.Naming.{naming}
-use Rattle.batch.specs.RoundNames.{namesFrom, names, astray, joined, endsFrom, nth}
+use Rattle.batch.specs.RoundNames.{namesFrom, names, invalidEnds, packedBytes, endsFrom, nth}
 use Rattle.batch.specs.Round.{answerWords, roundWords, roundBuckets, rounding, afterRound}
 use Rattle.batch.specs.NameRound.{placeWords, nameWords, nameRefusal, afterNames}
 use Rattle.batch.specs.Theorem.{placeAt, Accepted, RoundHolds}
@@ -32,21 +32,21 @@ first-name pre x rest s e =
     ap (λ (l : List ℕ). take (s + length x - s) l) (drop-at pre (x ++ rest) s e)
     ∙ take-at x rest (s + length x - s) (sym d)
 
-back-from : (xs : List (List ℕ)) (pre : List ℕ) (s : ℕ) → length pre ≡ s → namesFrom (pre ++ joined xs) s (endsFrom s xs) ≡ xs
-unfolding namesFrom joined endsFrom
+back-from : (xs : List (List ℕ)) (pre : List ℕ) (s : ℕ) → length pre ≡ s → namesFrom (pre ++ packedBytes xs) s (endsFrom s xs) ≡ xs
+unfolding namesFrom packedBytes endsFrom
 back-from [] pre s e = refl
 back-from (x ∷ xs) pre s e =
-    ap (λ (y : List ℕ). y ∷ namesFrom (pre ++ (x ++ joined xs)) (s + length x) (endsFrom (s + length x) xs)) (first-name pre x (joined xs) s e)
-    ∙ ap (λ (l : List ℕ). x ∷ namesFrom l (s + length x) (endsFrom (s + length x) xs)) (sym (append-assoc pre x (joined xs)))
+    ap (λ (y : List ℕ). y ∷ namesFrom (pre ++ (x ++ packedBytes xs)) (s + length x) (endsFrom (s + length x) xs)) (first-name pre x (packedBytes xs) s e)
+    ∙ ap (λ (l : List ℕ). x ∷ namesFrom l (s + length x) (endsFrom (s + length x) xs)) (sym (append-assoc pre x (packedBytes xs)))
     ∙ ap (λ (l : List (List ℕ)). x ∷ l) (back-from xs (pre ++ x) (s + length x) (length-append pre x ∙ ap (λ (k : ℕ). k + length x) e))
 
-stand-from : (xs : List (List ℕ)) (size s : ℕ) → s + length (joined xs) ≤ size → astray size s (endsFrom s xs) ≡ false
-unfolding astray joined endsFrom
+stand-from : (xs : List (List ℕ)) (size s : ℕ) → s + length (packedBytes xs) ≤ size → invalidEnds size s (endsFrom s xs) ≡ false
+unfolding invalidEnds packedBytes endsFrom
 stand-from [] size s h = refl
 stand-from (x ∷ xs) size s h =
-    let k = length-append x (joined xs) in
-    ap (λ (t : Bool). (t || ltb size (s + length x)) || astray size (s + length x) (endsFrom (s + length x) xs)) (le-ltb (s + length x) s (omega arith))
-    ∙ ap (λ (t : Bool). t || astray size (s + length x) (endsFrom (s + length x) xs)) (le-ltb size (s + length x) (omega arith))
+    let k = length-append x (packedBytes xs) in
+    ap (λ (t : Bool). (t || ltb size (s + length x)) || invalidEnds size (s + length x) (endsFrom (s + length x) xs)) (le-ltb (s + length x) s (omega arith))
+    ∙ ap (λ (t : Bool). t || invalidEnds size (s + length x) (endsFrom (s + length x) xs)) (le-ltb size (s + length x) (omega arith))
     ∙ stand-from xs size (s + length x) (omega arith)
 
 -- ---- a round that is accepted
@@ -60,7 +60,7 @@ module _ (image bytes ends answers : List ℕ) (a : Accepted image bytes ends an
   count-is : a .count ≡ roundBuckets image (names bytes ends)
   unfolding rounding
   count-is =
-      given-count (ltb 512 (length ends) || astray (length bytes) 0 ends) (ltb (length answers / 4) (length ends)) (roundBuckets image (names bytes ends)) (a .count) (a .given)
+      given-count (ltb 512 (length ends) || invalidEnds (length bytes) 0 ends) (ltb (length answers / 4) (length ends)) (roundBuckets image (names bytes ends)) (a .count) (a .given)
 
   after-is : afterRound image bytes ends answers ≡ roundWords image (names bytes ends) ++ drop (4 * length (names bytes ends)) answers
   after-is = sym (left image bytes ends answers (value (a .count)) (sym (a .given)))
@@ -131,7 +131,7 @@ unfolding names
 round-holds =
     record {
       reads-back = λ xs. back-from xs [] 0 refl;
-      ends-stand = λ xs. stand-from xs (length (joined xs)) 0 (omega arith);
+      ends-stand = λ xs. stand-from xs (length (packedBytes xs)) 0 (omega arith);
       single = single;
       order-free = λ image bytes ends answers bytes' ends' answers' a a' i j h k e.
           single image bytes ends answers a i h ∙ ap (words-of image) e ∙ sym (single image bytes' ends' answers' a' j k);

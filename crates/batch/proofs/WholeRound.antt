@@ -13,7 +13,7 @@ use Rattle.jhash.specs.Outcome.{Outcome, value, refusal}
 use Rattle.image.specs.Bytes.{same, cat, filter, range}
 use Rattle.image.proofs.Equal.{same-self, same-false}
 use Rattle.reader.specs.Lookup.{lookup}
-use Rattle.batch.specs.RoundNames.{names, astray, among, newOnly, differentFrom, different, nth}
+use Rattle.batch.specs.RoundNames.{names, invalidEnds, among, newOnly, differentFrom, different, nth}
 use Rattle.batch.specs.Round.{answerWords, roundWords, bucketsOf, roundBuckets, rounding, leftBy, afterRound}
 use Rattle.batch.specs.steps.Telling.{isNew, news, Told, Has, Kept, Begun}
 use Rattle.batch.proofs.AnswerPlaces.{has-words}
@@ -23,7 +23,7 @@ use Rattle.batch.proofs.News.{Among, news-below, news-all, news-full}
 -- ---- the answer
 
 pub rounding-by : (image bytes ends : List ℕ) (places : ℕ) (a b d : Bool)
-    → ltb 512 (length ends) ≡ a → astray (length bytes) 0 ends ≡ b → ltb places (length ends) ≡ d
+    → ltb 512 (length ends) ≡ a → invalidEnds (length bytes) 0 ends ≡ b → ltb places (length ends) ≡ d
     → cond (a || b) (refusal 14) (cond d (refusal 15) (value (roundBuckets image (names bytes ends)))) ≡ rounding image bytes ends places
 unfolding rounding
 rounding-by image bytes ends places a b d ea eb ed =

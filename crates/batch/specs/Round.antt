@@ -8,7 +8,7 @@ use Rattle.jhash.specs.Outcome.{Outcome, value, refusal}
 use Rattle.image.specs.Bytes.{cat}
 use Rattle.reader.specs.Lookup.{Lookup, found, nothing, lookup}
 use Rattle.reader.specs.Cases.{reads}
-use Rattle.batch.specs.RoundNames.{names, astray, different}
+use Rattle.batch.specs.RoundNames.{names, invalidEnds, different}
 use Rattle.batch.specs.declared.Rounded.{Rounded}
 use Rattle.batch.specs.declared.Rounded.the-variants.{Buckets, Refused}
 
@@ -33,7 +33,7 @@ roundBuckets image xs = bucketsOf image (different xs)
 -- "Over 512 names, or ends that fall or pass the bytes, give 14"; "then an answer list shorter than the names gives 15"
 unfoldable pub rounding : List ℕ → List ℕ → List ℕ → ℕ → Outcome ℕ
 rounding image bytes ends places =
-    cond (ltb 512 (length ends) || astray (length bytes) 0 ends) (refusal 14)
+    cond (ltb 512 (length ends) || invalidEnds (length bytes) 0 ends) (refusal 14)
     (cond (ltb places (length ends)) (refusal 15) (value (roundBuckets image (names bytes ends))))
 
 -- the answer list afterwards: "answer places past the last name keep their content"; all as it was where the call is refused

@@ -3,7 +3,7 @@ use Prim.Native.Nat.{ℕ}
 use mathlib.Core.Bool.{Bool, true, false, _||_}
 use mathlib.Core.List.{List, [], _∷_, _++_}
 use Rattle.image.specs.Bytes.{same}
-unfoldable pub use Rattle.packed.specs.Names.{namesFrom, names, astray, joined, endsFrom}
+unfoldable pub use Rattle.packed.specs.Names.{namesFrom, names, invalidEnds, packedBytes, endsFrom}
 pub use Rattle.packed.specs.Names.{nth}
 
 -- is a name among some names?

@@ -7,7 +7,7 @@ use lib.ListN.{length, getD, take, drop}
 use Rattle.jhash.specs.Outcome.{value, refusal}
 use Rattle.reader.specs.Lookup.{lookup}
 use Rattle.reader.specs.Naming.{naming}
-use Rattle.batch.specs.RoundNames.{names, astray, among, different, joined, endsFrom, nth}
+use Rattle.batch.specs.RoundNames.{names, invalidEnds, among, different, packedBytes, endsFrom, nth}
 use Rattle.batch.specs.Round.{answerWords, bucketsOf, roundBuckets, rounding, afterRound}
 use Rattle.batch.specs.NameRound.{placeWords, nameRefusal, afterNames}
 
@@ -31,8 +31,8 @@ pub record OnceEach (xs : List (List ℕ)) : Type 0 where
 
 pub record RoundHolds : Type 0 where
   -- "names lie joined in a buffer, with a list of their ends": every list of names can be handed over so, and is read back
-  pub reads-back : (xs : List (List ℕ)) → names (joined xs) (endsFrom 0 xs) ≡ xs
-  pub ends-stand : (xs : List (List ℕ)) → astray (length (joined xs)) 0 (endsFrom 0 xs) ≡ false
+  pub reads-back : (xs : List (List ℕ)) → names (packedBytes xs) (endsFrom 0 xs) ≡ xs
+  pub ends-stand : (xs : List (List ℕ)) → invalidEnds (length (packedBytes xs)) 0 (endsFrom 0 xs) ≡ false
   -- "The answers are those of single lookups in the same order"
   pub single : (image bytes ends answers : List ℕ) → Accepted image bytes ends answers → (i : ℕ) → i < length ends
       → placeAt (afterRound image bytes ends answers) i ≡ answerWords (lookup image (nth (names bytes ends) i))

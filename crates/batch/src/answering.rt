@@ -7,7 +7,7 @@ ghost use lib.ListN.{length, getD, take, drop};
 ghost use lib.Seq.{sets};
 ghost use Rattle.reader.specs.Cases.{reads, lookupOf};
 ghost use Rattle.reader.specs.Lookup.{lookupBy};
-ghost use Rattle.batch.specs.RoundNames.{names, astray, nth};
+ghost use Rattle.batch.specs.RoundNames.{names, invalidEnds, nth};
 ghost use Rattle.batch.specs.Round.{answerWords, bucketsOf};
 ghost use Rattle.batch.specs.steps.Telling.{Keys, Has, Kept, Begun};
 ghost use Rattle.batch.specs.steps.Searching.{Decided, Right, Listing, AllDecided, AllGo, Answered};
@@ -171,7 +171,7 @@ pub(crate) fn find_all(
     m: usize,
     answers: &mut [u32],
 )
-    requires { ⌜ (astray (length (now bytes)) 0 (now ends) ≡ false) × (length (now ends) ≤ length (now keys)) × (4 * length (now ends) ≤ length (now answers)) × (m ≤ 512) × (m ≤ length (now live)) × ((x : ℕ) → x < m → getD (now live) x 0 < length (now ends)) × Keys (names (now bytes) (now ends)) (now keys) ⌝ }
+    requires { ⌜ (invalidEnds (length (now bytes)) 0 (now ends) ≡ false) × (length (now ends) ≤ length (now keys)) × (4 * length (now ends) ≤ length (now answers)) × (m ≤ 512) × (m ≤ length (now live)) × ((x : ℕ) → x < m → getD (now live) x 0 < length (now ends)) × Keys (names (now bytes) (now ends)) (now keys) ⌝ }
     ensures stored { λ _. ⌜ ((x : ℕ) → x < m → Right (now (image .entry)) (names (now (bytes .entry)) (now (ends .entry))) (now (answers .exit)) (getD (now (live .entry)) x 0)) ⌝ }
     ensures kept { λ _. ⌜ Kept (now (answers .entry)) (length (now (ends .entry))) (now (answers .exit)) ⌝ }
 {

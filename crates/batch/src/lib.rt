@@ -4,12 +4,12 @@ ghost use mathlib.Core.Bool.{false};
 ghost use mathlib.Core.List.{_++_};
 ghost use Prim.Native.Nat.{_*_, _/_, _≤_};
 ghost use lib.ListN.{length, drop};
-ghost use Rattle.batch.specs.RoundNames.{names, astray};
+ghost use Rattle.batch.specs.RoundNames.{names, invalidEnds};
 ghost use Rattle.batch.specs.Round.{roundWords, roundBuckets, rounding, afterRound, roundedOf};
 use answering::find_all;
 use answering::repeat_all;
 use answering::sum_all;
-use packed::astray;
+use packed::invalid_ends;
 use telling::hash_all;
 use telling::list_new;
 use telling::tell;
@@ -29,7 +29,7 @@ pub enum Rounded {
 
 // The answers of all names stored in their places. Gives the buckets read over the different names.
 fn answer_all(image: &[u8], bytes: &[u8], ends: &[u64], answers: &mut [u32]) -> u64
-    requires { ⌜ (length (now ends) ≤ 512) × (astray (length (now bytes)) 0 (now ends) ≡ false) × (4 * length (now ends) ≤ length (now answers)) ⌝ }
+    requires { ⌜ (length (now ends) ≤ 512) × (invalidEnds (length (now bytes)) 0 (now ends) ≡ false) × (4 * length (now ends) ≤ length (now answers)) ⌝ }
     ensures count { λ r. ⌜ r ≡ roundBuckets (now (image .entry)) (names (now (bytes .entry)) (now (ends .entry))) ⌝ }
     ensures stored { λ _. ⌜ now (answers .exit) ≡ roundWords (now (image .entry)) (names (now (bytes .entry)) (now (ends .entry))) ++ drop (4 * length (names (now (bytes .entry)) (now (ends .entry)))) (now (answers .entry)) ⌝ }
 {
@@ -59,7 +59,7 @@ pub fn round(image: &[u8], bytes: &[u8], ends: &[u64], answers: &mut [u32]) -> R
     if 512 < n {
         return Rounded::Refused(14);
     }
-    if astray(ends, bytes.len()) {
+    if invalid_ends(ends, bytes.len()) {
         return Rounded::Refused(14);
     }
     if answers.len() / 4 < n {

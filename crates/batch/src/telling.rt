@@ -6,7 +6,7 @@ ghost use mathlib.Core.Logic.{_⊎_};
 ghost use Prim.Native.Nat.{ℕ, _≤_, _<_};
 ghost use lib.ListN.{length, getD, take};
 ghost use Rattle.image.specs.Bytes.{same};
-ghost use Rattle.batch.specs.RoundNames.{names, astray, nth};
+ghost use Rattle.batch.specs.RoundNames.{names, invalidEnds, nth};
 ghost use Rattle.batch.specs.steps.Telling.{key, Keys, Listed, Linked, Equal, Told, news};
 use image::equality::same;
 use packed::key;
@@ -16,7 +16,7 @@ const SLOTS: u32 = 2048;
 
 // The keys of all names.
 pub(crate) fn hash_all(bytes: &[u8], ends: &[u64], keys: &mut [u32])
-    requires { ⌜ (astray (length (now bytes)) 0 (now ends) ≡ false) × (length (now ends) ≤ length (now keys)) ⌝ }
+    requires { ⌜ (invalidEnds (length (now bytes)) 0 (now ends) ≡ false) × (length (now ends) ≤ length (now keys)) ⌝ }
     ensures { λ _. ⌜ Keys (names (now (bytes .entry)) (now (ends .entry))) (now (keys .exit)) ⌝ }
 {
     let mut i = 0;
@@ -57,7 +57,7 @@ fn link(keys: &[u32], n: usize, links: &mut [u16], list: &mut [u16]) -> usize
 
 // Are two of the names equal? Names are compared only where their keys are equal.
 fn equal_names(bytes: &[u8], ends: &[u64], keys: &[u32], j: usize, i: usize) -> bool
-    requires { ⌜ (astray (length (now bytes)) 0 (now ends) ≡ false) × (j < length (now ends)) × (i < length (now ends)) × (length (now ends) ≤ length (now keys)) × Keys (names (now bytes) (now ends)) (now keys) ⌝ }
+    requires { ⌜ (invalidEnds (length (now bytes)) 0 (now ends) ≡ false) × (j < length (now ends)) × (i < length (now ends)) × (length (now ends) ≤ length (now keys)) × Keys (names (now bytes) (now ends)) (now keys) ⌝ }
     ensures { λ r. ⌜ r ≡ same (nth (names (now (bytes .entry)) (now (ends .entry))) j) (nth (names (now (bytes .entry)) (now (ends .entry))) i) ⌝ }
 {
     if keys[j] != keys[i] {
@@ -68,7 +68,7 @@ fn equal_names(bytes: &[u8], ends: &[u64], keys: &[u32], j: usize, i: usize) -> 
 
 // The number, counted from 1, of a name before the i-th that equals it; 0 where there is none.
 fn equal_before(bytes: &[u8], ends: &[u64], keys: &[u32], links: &[u16], i: usize) -> u16
-    requires { ⌜ (astray (length (now bytes)) 0 (now ends) ≡ false) × (i < length (now ends)) × (length (now ends) ≤ length (now keys)) × (length (now ends) ≤ length (now links)) × Keys (names (now bytes) (now ends)) (now keys) × Linked (now keys) (length (now ends)) (now links) ⌝ }
+    requires { ⌜ (invalidEnds (length (now bytes)) 0 (now ends) ≡ false) × (i < length (now ends)) × (length (now ends) ≤ length (now keys)) × (length (now ends) ≤ length (now links)) × Keys (names (now bytes) (now ends)) (now keys) × Linked (now keys) (length (now ends)) (now links) ⌝ }
     ensures { λ r. ⌜ Equal (names (now (bytes .entry)) (now (ends .entry))) i r ⌝ }
 {
     let mut q = links[i];
@@ -85,7 +85,7 @@ fn equal_before(bytes: &[u8], ends: &[u64], keys: &[u32], links: &[u16], i: usiz
 // For each name the number of an equal one before it, or 0, which stands there already. Only names with one before them in their slot are
 // looked at.
 pub(crate) fn tell(bytes: &[u8], ends: &[u64], keys: &[u32], equals: &mut [u16])
-    requires { ⌜ (astray (length (now bytes)) 0 (now ends) ≡ false) × (length (now ends) ≤ 512) × (length (now ends) ≤ length (now keys)) × (length (now ends) ≤ length (now equals)) × Keys (names (now bytes) (now ends)) (now keys) × ((i : ℕ) → i < length (now ends) → getD (now equals) i 0 ≡ 0) ⌝ }
+    requires { ⌜ (invalidEnds (length (now bytes)) 0 (now ends) ≡ false) × (length (now ends) ≤ 512) × (length (now ends) ≤ length (now keys)) × (length (now ends) ≤ length (now equals)) × Keys (names (now bytes) (now ends)) (now keys) × ((i : ℕ) → i < length (now ends) → getD (now equals) i 0 ≡ 0) ⌝ }
     ensures { λ _. ⌜ Told (names (now (bytes .entry)) (now (ends .entry))) (length (now (ends .entry))) (now (equals .exit)) ⌝ }
 {
     let mut links: [u16; 512] = [0; 512];

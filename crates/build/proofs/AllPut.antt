@@ -17,7 +17,7 @@ use Rattle.image.specs.Zero.{hasZero}
 use Rattle.image.proofs.Between.{length-between}
 use Rattle.image.proofs.Bools.{or-false-first, or-false-second}
 use Rattle.image.proofs.Sizes.{entriesSize-append}
-use Rattle.packed.specs.Names.{namesFrom, names, astray, nth, beginOf}
+use Rattle.packed.specs.Names.{namesFrom, names, invalidEnds, nth, beginOf}
 use Rattle.packed.proofs.NameEnds.{length-names}
 use Rattle.serialize.specs.Finish.{standing}
 use Rattle.serialize.specs.steps.Asked.{Standing}
@@ -77,20 +77,20 @@ last-begin (e ∷ es) =
     let k : length es ≡ length (e ∷ es) - 1 = omega arith in
     last-is e es ∙ ap (λ (m : ℕ). getD (e ∷ es) m 0) k ∙ sym (begin-later (e ∷ es) (length (e ∷ es)) (λ z. omega arith))
 
-entries-size : (bytes : List ℕ) (s : ℕ) (ends ids : List ℕ) → astray (length bytes) s ends ≡ false → length ends ≤ length ids
+entries-size : (bytes : List ℕ) (s : ℕ) (ends ids : List ℕ) → invalidEnds (length bytes) s ends ≡ false → length ends ≤ length ids
     → s + entriesSize (entriesListed (namesFrom bytes s ends) ids) ≡ lastEnd s ends + 9 * length ends
-unfolding namesFrom astray callsOf puts entriesSize
+unfolding namesFrom invalidEnds callsOf puts entriesSize
 entries-size bytes s [] ids good many = omega arith
 entries-size bytes s (e ∷ es) [] good many = absurd (omega arith)
 entries-size bytes s (e ∷ es) (id ∷ ids) good many =
     let size = length bytes in
-    let two = or-false-first (ltb e s || ltb size e) (astray size e es) good in
+    let two = or-false-first (ltb e s || ltb size e) (invalidEnds size e es) good in
     let rises = ltb-false e s (or-false-first (ltb e s) (ltb size e) two) in
     let inside = ltb-false size e (or-false-second (ltb e s) (ltb size e) two) in
-    let later = entries-size bytes e es ids (or-false-second (ltb e s || ltb size e) (astray size e es) good) (omega arith) in
+    let later = entries-size bytes e es ids (or-false-second (ltb e s || ltb size e) (invalidEnds size e es) good) (omega arith) in
     omega (arith, rises, length-between bytes s e rises inside, later)
 
-module _ (bytes ends ids : List ℕ) (good : astray (length bytes) 0 ends ≡ false) (many : length ends ≤ length ids) where
+module _ (bytes ends ids : List ℕ) (good : invalidEnds (length bytes) 0 ends ≡ false) (many : length ends ≤ length ids) where
   pub number-all : length (entriesListed (names bytes ends) ids) ≡ length ends
   number-all = let n = length-names bytes ends in length-listed (names bytes ends) ids (omega arith) ∙ n
 
@@ -107,7 +107,7 @@ back-rises : (mode : Mode) (a b : ℕ) → a ≤ b → backIn mode a ≤ backIn 
 back-rises Twoway a b h = h
 back-rises Oneway a b h = omega arith
 
-module _ (mode : Mode) (buffer bytes ends ids : List ℕ) (good : astray (length bytes) 0 ends ≡ false) (many : length ends ≤ length ids)
+module _ (mode : Mode) (buffer bytes ends ids : List ℕ) (good : invalidEnds (length bytes) 0 ends ≡ false) (many : length ends ≤ length ids)
     (roomy : RoomForAll mode ends ids (length buffer)) where
   size-most : imageSize mode (entriesListed (names bytes ends) ids) ≤ headSize + beginOf ends (length ends) + 25 * length ends + 4 * backIn mode (roomy .top)
   size-most =
@@ -274,7 +274,7 @@ module _ (mode : Mode) (repeats : Repeats) (n : ℕ) where
 
 -- ---- the list
 
-module _ (mode : Mode) (repeats : Repeats) (buffer bytes ends ids : List ℕ) (good : astray (length bytes) 0 ends ≡ false) (many : length ends ≤ length ids)
+module _ (mode : Mode) (repeats : Repeats) (buffer bytes ends ids : List ℕ) (good : invalidEnds (length bytes) 0 ends ≡ false) (many : length ends ≤ length ids)
     (room : headSize ≤ length buffer) (roomy : RoomForAll mode ends ids (length buffer)) (words : (i : ℕ) → i < length ends → getD ids i 0 < 2 ^ 32)
     (zeros : (i : ℕ) → i < length ends → hasZero (nth (names bytes ends) i) ≡ false)
     (apart : refusesRepeats repeats ≡ true → (i j : ℕ) → j < i → i < length ends → same (nth (names bytes ends) j) (nth (names bytes ends) i) ≡ false) where
@@ -345,7 +345,7 @@ module _ (mode : Mode) (repeats : Repeats) (buffer bytes ends ids : List ℕ) (g
 -- ---- their entries in a buffer
 
 -- where the entries of all names stand, finishing finds what it asks for, and these entries
-module _ (mode : Mode) (buffer bytes ends ids : List ℕ) (good : astray (length bytes) 0 ends ≡ false) (many : length ends ≤ length ids)
+module _ (mode : Mode) (buffer bytes ends ids : List ℕ) (good : invalidEnds (length bytes) 0 ends ≡ false) (many : length ends ≤ length ids)
     (roomy : RoomForAll mode ends ids (length buffer)) (words : (i : ℕ) → i < length ends → getD ids i 0 < 2 ^ 32) where
   abbrev all : List Entry
   all = entriesListed (names bytes ends) ids

@@ -11,7 +11,7 @@ use Rattle.image.specs.Stored.{between}
 use Rattle.image.specs.Image.{Entry, headSize, entryBytes, placed, count, backWords, backSize, backIn, entriesEnd, backSizeOf, imageSize, image}
 use Rattle.image.specs.declared.Mode.{Mode}
 use Rattle.image.proofs.Sizes.{backIn-twice}
-use Rattle.packed.specs.Names.{names, astray}
+use Rattle.packed.specs.Names.{names, invalidEnds}
 use Rattle.packed.proofs.NameEnds.{length-names}
 use Rattle.serialize.specs.Finish.{standing, finishedBuffer}
 use Rattle.serialize.specs.Record.{finishedOf}
@@ -62,7 +62,7 @@ module _ (l : List ℕ) (at m : ℕ) (room : at + m ≤ length l) (l′ : List �
 
 -- ---- the numbers of the image
 
-module _ (mode : Mode) (buffer bytes ends ids : List ℕ) (good : astray (length bytes) 0 ends ≡ false) (many : length ends ≤ length ids)
+module _ (mode : Mode) (buffer bytes ends ids : List ℕ) (good : invalidEnds (length bytes) 0 ends ≡ false) (many : length ends ≤ length ids)
     (roomy : RoomForAll mode ends ids (length buffer)) (words : (i : ℕ) → i < length ends → getD ids i 0 < 2 ^ 32) where
   abbrev xs : List (List ℕ)
   xs = names bytes ends

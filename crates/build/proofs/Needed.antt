@@ -12,7 +12,7 @@ use Rattle.image.specs.declared.Mode.the-variants.{Twoway, Oneway}
 use Rattle.image.specs.Image.{headSize, backSize, backIn}
 use Rattle.image.proofs.Between.{length-between}
 use Rattle.image.proofs.Bools.{or-false-first, or-false-second}
-use Rattle.packed.specs.Names.{namesFrom, names, astray, joined}
+use Rattle.packed.specs.Names.{namesFrom, names, invalidEnds, packedBytes}
 use Rattle.writer.specs.declared.Repeats.{Repeats}
 use Rattle.lists.specs.Calls.{putsSize, sizeOf, puts, WordIds}
 use Rattle.lists.specs.Demand3.{answersOf}
@@ -57,17 +57,17 @@ needs-are mode size ids b w p q = λ i. record { bytes = p i; words = q i }
 -- ---- the puts of the names
 
 -- the names that lie in the bytes from s on need no more than those, and 25 for each id
-puts-most : (bytes : List ℕ) (s : ℕ) (ends ids : List ℕ) → s ≤ length bytes → astray (length bytes) s ends ≡ false
+puts-most : (bytes : List ℕ) (s : ℕ) (ends ids : List ℕ) → s ≤ length bytes → invalidEnds (length bytes) s ends ≡ false
     → s + putsSize (puts (callsOf (namesFrom bytes s ends) ids)) ≤ length bytes + 25 * length ids
-unfolding namesFrom astray callsOf puts putsSize
+unfolding namesFrom invalidEnds callsOf puts putsSize
 puts-most bytes s [] ids inside good = omega arith
 puts-most bytes s (e ∷ es) [] inside good = omega arith
 puts-most bytes s (e ∷ es) (id ∷ ids) inside good =
     let size = length bytes in
-    let two = or-false-first (ltb e s || ltb size e) (astray size e es) good in
+    let two = or-false-first (ltb e s || ltb size e) (invalidEnds size e es) good in
     let rises = ltb-false e s (or-false-first (ltb e s) (ltb size e) two) in
     let within = ltb-false size e (or-false-second (ltb e s) (ltb size e) two) in
-    let later = puts-most bytes e es ids within (or-false-second (ltb e s || ltb size e) (astray size e es) good) in
+    let later = puts-most bytes e es ids within (or-false-second (ltb e s || ltb size e) (invalidEnds size e es) good) in
     omega (arith, rises, length-between bytes s e rises within, later)
 
 back-most : (xs : List (List ℕ)) (ids : List ℕ) → backSize (puts (callsOf xs ids)) ≤ idsBack ids
@@ -76,13 +76,13 @@ back-most [] ids = omega arith
 back-most (x ∷ xs) [] = omega arith
 back-most (x ∷ xs) (id ∷ ids) = omega (arith, back-most xs ids)
 
-size-most : (mode : Mode) (bytes ends ids : List ℕ) → astray (length bytes) 0 ends ≡ false
+size-most : (mode : Mode) (bytes ends ids : List ℕ) → invalidEnds (length bytes) 0 ends ≡ false
     → sizeOf mode (puts (listed bytes ends ids)) ≤ headSize + length bytes + 25 * length ids + 4 * backIn mode (idsBack ids)
 unfolding sizeOf names
 size-most mode bytes ends ids good =
     omega (arith, puts-most bytes 0 ends ids (omega arith) good, back-rises mode (backSize (puts (listed bytes ends ids))) (idsBack ids) (back-most (names bytes ends) ids))
 
-none-refused : (mode : Mode) (repeats : Repeats) (buffer bytes ends ids : List ℕ) → astray (length bytes) 0 ends ≡ false
+none-refused : (mode : Mode) (repeats : Repeats) (buffer bytes ends ids : List ℕ) → invalidEnds (length bytes) 0 ends ≡ false
     → WordIds mode (listed bytes ends ids) → bytesNeeded mode (length bytes) ids ≤ length buffer → bytesNeeded mode (length bytes) ids ≤ 4294967295
     → (i : ℕ) → getD (answersOf mode repeats buffer (listed bytes ends ids)) i 0 ≡ 3 → ⊥
 unfolding bytesNeeded
@@ -90,14 +90,14 @@ none-refused mode repeats buffer bytes ends ids good word within small =
     let most = size-most mode bytes ends ids good in
     capacity .none-refused mode repeats buffer (listed bytes ends ids) word (omega arith) (omega arith)
 
--- ---- names that lie joined with nothing behind them
+-- ---- packed names with nothing behind them
 
-puts-joined : (xs : List (List ℕ)) (ids : List ℕ) → length xs ≡ length ids → putsSize (puts (callsOf xs ids)) ≡ length (joined xs) + 25 * length ids
-unfolding callsOf puts putsSize joined
+puts-joined : (xs : List (List ℕ)) (ids : List ℕ) → length xs ≡ length ids → putsSize (puts (callsOf xs ids)) ≡ length (packedBytes xs) + 25 * length ids
+unfolding callsOf puts putsSize packedBytes
 puts-joined [] [] h = refl
 puts-joined [] (id ∷ ids) h = absurd (omega arith)
 puts-joined (x ∷ xs) [] h = absurd (omega arith)
-puts-joined (x ∷ xs) (id ∷ ids) h = omega (arith, puts-joined xs ids (omega arith), length-append x (joined xs))
+puts-joined (x ∷ xs) (id ∷ ids) h = omega (arith, puts-joined xs ids (omega arith), length-append x (packedBytes xs))
 
 back-joined : (xs : List (List ℕ)) (ids : List ℕ) → length xs ≡ length ids → backSize (puts (callsOf xs ids)) ≡ idsBack ids
 unfolding callsOf puts backSize idsBack
@@ -107,7 +107,7 @@ back-joined (x ∷ xs) [] h = absurd (omega arith)
 back-joined (x ∷ xs) (id ∷ ids) h = omega (arith, back-joined xs ids (omega arith))
 
 exact : (mode : Mode) (xs : List (List ℕ)) (ids : List ℕ) → length xs ≡ length ids
-    → bytesNeeded mode (length (joined xs)) ids ≡ atMost (sizeOf mode (puts (callsOf xs ids)))
+    → bytesNeeded mode (length (packedBytes xs)) ids ≡ atMost (sizeOf mode (puts (callsOf xs ids)))
 unfolding bytesNeeded sizeOf
 exact mode xs ids h = omega (arith, puts-joined xs ids h, ap (backIn mode) (back-joined xs ids h))
 

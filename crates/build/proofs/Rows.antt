@@ -12,7 +12,7 @@ use Rattle.image.specs.Image.{headSize, backSize, containsName}
 use Rattle.image.specs.declared.Mode.the-variants.{Twoway}
 use Rattle.image.specs.Zero.{hasZero}
 use Rattle.image.proofs.AllOfList.{All, all-map}
-use Rattle.packed.specs.Names.{names, namesFrom, astray}
+use Rattle.packed.specs.Names.{names, namesFrom, invalidEnds}
 use Rattle.writer.specs.Close.{closedSize}
 use Rattle.lists.specs.Calls.{Call, acceptedFrom, dueFrom, accepted, due, putDue, putsSize, sizeOf, WordIds}
 use Rattle.lists.specs.Demand3.{answersOf, afterList, acceptedPuts}
@@ -54,7 +54,7 @@ holds-in r c buffer places long many =
     )
 
 computed : All Computed buildRows
-unfolding accepted acceptedFrom due dueFrom putDue hasZero containsName same sizeOf putsSize backSize names namesFrom astray callsOf buildRefusal
+unfolding accepted acceptedFrom due dueFrom putDue hasZero containsName same sizeOf putsSize backSize names namesFrom invalidEnds callsOf buildRefusal
 computed = (
   (lit≤ tt, refl, (tt, (tt, (tt, (tt, tt)))), refl, refl, refl),
   (

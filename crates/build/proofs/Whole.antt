@@ -10,7 +10,7 @@ use lib.ListN.{length, drop}
 use Rattle.jhash.specs.Outcome.{Outcome, value, refusal}
 use Rattle.image.specs.declared.Mode.{Mode}
 use Rattle.image.specs.Image.{headSize}
-use Rattle.packed.specs.Names.{astray}
+use Rattle.packed.specs.Names.{invalidEnds}
 use Rattle.writer.specs.declared.Repeats.{Repeats}
 use Rattle.writer.specs.State.{State, fits, finishedSize, tooLarge}
 use Rattle.writer.specs.Close.{closeRefusal, closedSize, consistent, afterClose}
@@ -27,28 +27,28 @@ module _ (bytes ends : List ℕ) (ids places room : ℕ) where
   abbrev n : ℕ
   n = length ends
 
-  pub refusal-14 : astray (length bytes) 0 ends ≡ true → buildRefusal bytes ends ids places room ≡ 14
+  pub refusal-14 : invalidEnds (length bytes) 0 ends ≡ true → buildRefusal bytes ends ids places room ≡ 14
   unfolding buildRefusal
   refusal-14 e = ap (λ (t : Bool). number t (ltb ids n) (ltb places n) (ltb room headSize)) e
 
-  pub refusal-15 : astray (length bytes) 0 ends ≡ false → ids < n → buildRefusal bytes ends ids places room ≡ 15
+  pub refusal-15 : invalidEnds (length bytes) 0 ends ≡ false → ids < n → buildRefusal bytes ends ids places room ≡ 15
   unfolding buildRefusal
   refusal-15 e h =
       ap₂ (λ (t u : Bool). number t u (ltb places n) (ltb room headSize)) e (lt-ltb ids n h)
 
-  pub refusal-15-places : astray (length bytes) 0 ends ≡ false → n ≤ ids → places < n → buildRefusal bytes ends ids places room ≡ 15
+  pub refusal-15-places : invalidEnds (length bytes) 0 ends ≡ false → n ≤ ids → places < n → buildRefusal bytes ends ids places room ≡ 15
   unfolding buildRefusal
   refusal-15-places e h k =
       ap₂ (λ (t u : Bool). number t u (ltb places n) (ltb room headSize)) e (le-ltb ids n h)
       ∙ ap (λ (t : Bool). number false false t (ltb room headSize)) (lt-ltb places n k)
 
-  pub refusal-1 : astray (length bytes) 0 ends ≡ false → n ≤ ids → n ≤ places → room < headSize → buildRefusal bytes ends ids places room ≡ 1
+  pub refusal-1 : invalidEnds (length bytes) 0 ends ≡ false → n ≤ ids → n ≤ places → room < headSize → buildRefusal bytes ends ids places room ≡ 1
   unfolding buildRefusal
   refusal-1 e h k l =
       ap₂ (λ (t u : Bool). number t u (ltb places n) (ltb room headSize)) e (le-ltb ids n h)
       ∙ ap₂ (λ (t u : Bool). number false false t u) (le-ltb places n k) (lt-ltb room headSize l)
 
-  pub refusal-none : astray (length bytes) 0 ends ≡ false → n ≤ ids → n ≤ places → headSize ≤ room → buildRefusal bytes ends ids places room ≡ 0
+  pub refusal-none : invalidEnds (length bytes) 0 ends ≡ false → n ≤ ids → n ≤ places → headSize ≤ room → buildRefusal bytes ends ids places room ≡ 0
   unfolding buildRefusal
   refusal-none e h k l =
       ap₂ (λ (t u : Bool). number t u (ltb places n) (ltb room headSize)) e (le-ltb ids n h)

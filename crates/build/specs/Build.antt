@@ -8,7 +8,7 @@ use lib.Dec.{ltb}
 use Rattle.jhash.specs.Outcome.{Outcome, value, refusal}
 use Rattle.image.specs.declared.Mode.{Mode}
 use Rattle.image.specs.Image.{headSize}
-use Rattle.packed.specs.Names.{names, astray}
+use Rattle.packed.specs.Names.{names, invalidEnds}
 use Rattle.writer.specs.declared.Repeats.{Repeats}
 use Rattle.writer.specs.Put.{entryOf}
 use Rattle.writer.specs.Close.{closedSize, afterClose}
@@ -32,7 +32,7 @@ listed bytes ends ids = callsOf (names bytes ends) ids
 -- buffer under 2,072 bytes 1. 0: none
 unfoldable pub buildRefusal : List ℕ → List ℕ → ℕ → ℕ → ℕ → ℕ
 buildRefusal bytes ends ids places room =
-    cond (astray (length bytes) 0 ends) 14
+    cond (invalidEnds (length bytes) 0 ends) 14
     (cond (ltb ids (length ends) || ltb places (length ends)) 15
     (cond (ltb room headSize) 1 0))
 

@@ -11,7 +11,7 @@ use bulk_tables::table_list;
 use capacity::has_capacity;
 use image::Mode;
 use image::scratch::clear;
-use packed::astray;
+use packed::invalid_ends;
 use singly::index_words;
 use singly::put_list;
 use stored::write_list;
@@ -223,7 +223,7 @@ pub fn build(
         ⌝ }
 {
     let n = ends.len();
-    if astray(ends, bytes.len()) {
+    if invalid_ends(ends, bytes.len()) {
         return Built::Refused(14);
     }
     if ids.len() < n {

@@ -9,7 +9,7 @@ use borrow.Author.Tests.{eq-eqb}
 use lib.ListN.{length, getD}
 use Rattle.image.specs.Bytes.{same}
 use Rattle.image.proofs.Between.{length-between}
-use Rattle.packed.specs.Names.{names, astray, nth, beginOf}
+use Rattle.packed.specs.Names.{names, invalidEnds, nth, beginOf}
 use Rattle.packed.proofs.NameEnds.{nth-name, placed, begin-later, begin-next, begins-rise}
 use Rattle.bulk_tables.specs.steps.Tabled.{offsetOf, Differ}
 
@@ -25,7 +25,7 @@ offset-later ends i h = let e = begin-later ends i h in omega (arith, e)
 
 -- ---- they rise
 
-module _ (size : ℕ) (ends : List ℕ) (good : astray size 0 ends ≡ false) where
+module _ (size : ℕ) (ends : List ℕ) (good : invalidEnds size 0 ends ≡ false) where
   offsets-rise : (i j : ℕ) → i ≤ j → j ≤ length ends → offsetOf ends i + 9 * (j - i) ≤ offsetOf ends j
   offsets-rise i j h k =
       let up : beginOf ends i ≤ beginOf ends j = begins-rise size ends good j i h k in
@@ -44,7 +44,7 @@ module _ (size : ℕ) (ends : List ℕ) (good : astray size 0 ends ≡ false) wh
 -- ---- the names there
 
 -- a name is not so long that it has no hash
-pub names-short : (bytes ends : List ℕ) → astray (length bytes) 0 ends ≡ false → offsetOf ends (length ends) ≤ 4294967295
+pub names-short : (bytes ends : List ℕ) → invalidEnds (length bytes) 0 ends ≡ false → offsetOf ends (length ends) ≤ 4294967295
     → (i : ℕ) → i < length ends → length (nth (names bytes ends) i) < 4294967295
 names-short bytes ends good room i h =
     let p = placed (length bytes) ends i good h in
@@ -52,7 +52,7 @@ names-short bytes ends good room i h =
     omega (arith, long, begin-next ends i, offsets-small (length bytes) ends good room (i + 1) (omega arith))
 
 -- the names of two entries differ where those of the numbers found at their offsets do
-pub differ-found : (bytes ends : List ℕ) → astray (length bytes) 0 ends ≡ false → (a b i j : ℕ) → i < length ends → j < length ends
+pub differ-found : (bytes ends : List ℕ) → invalidEnds (length bytes) 0 ends ≡ false → (a b i j : ℕ) → i < length ends → j < length ends
     → offsetOf ends i ≡ a → offsetOf ends j ≡ b → same (nth (names bytes ends) i) (nth (names bytes ends) j) ≡ false → Differ bytes ends a b
 differ-found bytes ends good a b i j h k p q no-same i′ j′ h′ k′ p′ q′ =
     let e : i ≡ i′ = offsets-apart (length bytes) ends good i i′ h h′ (p ∙ sym p′) in

@@ -15,7 +15,7 @@ use Rattle.image.specs.Image.{Entry, Placed, headSize, entriesSize, placed, inT
 use Rattle.image.specs.Stored.{between}
 use Rattle.image.proofs.Lists.{filter-yes, filter-no}
 use Rattle.image.proofs.Sizes.{entriesSize-append, placed-append, ofTable-append, count-nil}
-use Rattle.packed.specs.Names.{names, astray, beginOf, nth}
+use Rattle.packed.specs.Names.{names, invalidEnds, beginOf, nth}
 use Rattle.packed.specs.Keys.{key}
 use Rattle.packed.proofs.Keys.{key-short}
 use Rattle.packed.proofs.NameEnds.{length-names, nth-name, placed as ends-placed, begin-next}
@@ -23,7 +23,7 @@ use Rattle.bulk_tables.specs.steps.Parted.{tableOfName, countOfTable, su
 use Rattle.bulk_tables.specs.steps.Tabled.{offsetOf, pairIn, pairsIn}
 use Rattle.bulk_tables.proofs.Tallies.{tally-own, tally-other}
 
-module _ (bytes ends : List ℕ) (straight : astray (length bytes) 0 ends ≡ false) where
+module _ (bytes ends : List ℕ) (straight : invalidEnds (length bytes) 0 ends ≡ false) where
   name-long : (i : ℕ) → i < length ends → beginOf ends i + length (nth (names bytes ends) i) ≡ beginOf ends (i + 1)
   name-long i h =
       let s = beginOf ends i in

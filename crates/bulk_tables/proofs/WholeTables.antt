@@ -11,7 +11,7 @@ use Rattle.image.specs.Bytes.{same, cat, le32}
 use Rattle.image.specs.Tables.{Bucket, empty, tableOf, filled}
 use Rattle.image.specs.Image.{Entry, Placed, headSize, placed, count, table, tables, entriesBefore}
 use Rattle.image.proofs.Sizes.{length-placed}
-use Rattle.packed.specs.Names.{names, nth, astray}
+use Rattle.packed.specs.Names.{names, nth, invalidEnds}
 use Rattle.packed.specs.Keys.{key}
 use Rattle.packed.proofs.NameEnds.{length-names}
 use Rattle.bulk_tables.specs.steps.Parted.{at, keptIn, tableIn, tableOfName, countOfTable, sumTo, firstOf, placeInOrder, firstIn}
@@ -24,7 +24,7 @@ use Rattle.bulk_tables.proofs.AllApart.{all-apart}
 use Rattle.bulk_tables.proofs.TableWords.{words-tables}
 
 -- hashes in w₁, pairs in w₂ and behind the cleared words of w₃, and where the places of each table end
-module _ (bytes ends : List ℕ) (straight : astray (length bytes) 0 ends ≡ false) (room : offsetOf ends (length ends) ≤ 4294967295) (w₁ w₂ w₃ rows : List ℕ)
+module _ (bytes ends : List ℕ) (straight : invalidEnds (length bytes) 0 ends ≡ false) (room : offsetOf ends (length ends) ≤ 4294967295) (w₁ w₂ w₃ rows : List ℕ)
     (hashes : (i : ℕ) → i < length ends → keptIn (length ends) w₁ i ≡ key (nth (names bytes ends) i))
     (pairs : (i : ℕ) → i < length ends
     → (pairIn (length ends) w₂ (placeInOrder (tableIn (length ends) w₁) (length ends) i) .hash ≡ keptIn (length ends) w₁ i)

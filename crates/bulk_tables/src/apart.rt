@@ -3,7 +3,7 @@ ghost use mathlib.Core.Path.{_≡_};
 ghost use mathlib.Core.Bool.{true, false};
 ghost use Prim.Native.Nat.{ℕ, _≤_, _<_};
 ghost use lib.ListN.{length};
-ghost use Rattle.packed.specs.Names.{astray};
+ghost use Rattle.packed.specs.Names.{invalidEnds};
 ghost use Rattle.bulk_tables.specs.steps.Tabled.{offsetOf, Differ};
 use image::equality::same;
 use packed::name_of;
@@ -40,7 +40,7 @@ fn number_at(ends: &[u64], offset: u64) -> usize
 
 // Do the names whose entries will stand at two offsets differ? False also where an offset is no entry's.
 pub(super) fn differ(bytes: &[u8], ends: &[u64], a: u32, b: u32) -> bool
-    requires { ⌜ (astray (length (now bytes)) 0 (now ends) ≡ false) × (0 < length (now ends)) × (length (now ends) ≤ 171798691) × ((k : ℕ) → k ≤ length (now ends) → offsetOf (now ends) k ≤ 4294967295) ⌝ }
+    requires { ⌜ (invalidEnds (length (now bytes)) 0 (now ends) ≡ false) × (0 < length (now ends)) × (length (now ends) ≤ 171798691) × ((k : ℕ) → k ≤ length (now ends) → offsetOf (now ends) k ≤ 4294967295) ⌝ }
     ensures { λ r. ⌜ (r ≡ true → Differ (now (bytes .entry)) (now (ends .entry)) a b) ⌝ }
 {
     let i = number_at(ends, a as u64);

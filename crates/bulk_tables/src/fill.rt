@@ -5,7 +5,7 @@ ghost use mathlib.Core.Bool.{Bool, true, false};
 ghost use Prim.Native.Nat.{ℕ, _+_, _*_, _-_, _≤_, _<_};
 ghost use lib.ListN.{length};
 ghost use Rattle.image.specs.Tables.{start, probeSequence, firstEmpty};
-ghost use Rattle.packed.specs.Names.{astray};
+ghost use Rattle.packed.specs.Names.{invalidEnds};
 ghost use Rattle.bulk_tables.specs.steps.Parted.{at, firstIn};
 ghost use Rattle.lookup_laws.specs.steps.HasMatch.{hasMatch};
 ghost use Rattle.bulk_tables.specs.steps.Tabled.{offsetOf, pairIn, bucketIn, Differ, Fills, Apart};
@@ -23,7 +23,7 @@ fn bucket_for(
     h: u32,
     offset: u32,
 ) -> usize
-    requires { ⌜ (astray (length (now bytes)) 0 (now ends) ≡ false) × (0 < length (now ends)) × (length (now ends) ≤ 171798691) × ((k : ℕ) → k ≤ length (now ends) → offsetOf (now ends) k ≤ 4294967295) × (0 < m) × (o + 2 * m ≤ length (now work)) ⌝ }
+    requires { ⌜ (invalidEnds (length (now bytes)) 0 (now ends) ≡ false) × (0 < length (now ends)) × (length (now ends) ≤ 171798691) × ((k : ℕ) → k ≤ length (now ends) → offsetOf (now ends) k ≤ 4294967295) × (0 < m) × (o + 2 * m ≤ length (now work)) ⌝ }
     ensures first { λ r. ⌜ (r < m → r ≡ firstEmpty (λ (k : ℕ). bucketIn (now (work .entry)) o k .at) (probeSequence m m (start h m))) ⌝ }
     ensures apart { λ r. ⌜ (r < m → different ≡ true → (v : ℕ → Bool) → ((a : ℕ) → Differ (now (bytes .entry)) (now (ends .entry)) a offset → v a ≡ false) → hasMatch (bucketIn (now (work .entry)) o) h v (probeSequence m m (start h m)) ≡ false) ⌝ }
 {
@@ -54,7 +54,7 @@ fn fill_table(
     first: usize,
     c: usize,
 ) -> bool
-    requires { ⌜ (astray (length (now bytes)) 0 (now ends) ≡ false) × (0 < length (now ends)) × (length (now ends) ≤ 171798691) × ((k : ℕ) → k ≤ length (now ends) → offsetOf (now ends) k ≤ 4294967295) × (7 * length (now ends) ≤ length (now work)) × (first + c ≤ length (now ends)) × ((p : ℕ) → first ≤ p → p < first + c → 0 < pairIn (length (now ends)) (now work) p .at) × ((w : ℕ) → 4 * first ≤ w → w < 4 * first + 4 * c → at (now work) w ≡ 0) ⌝ }
+    requires { ⌜ (invalidEnds (length (now bytes)) 0 (now ends) ≡ false) × (0 < length (now ends)) × (length (now ends) ≤ 171798691) × ((k : ℕ) → k ≤ length (now ends) → offsetOf (now ends) k ≤ 4294967295) × (7 * length (now ends) ≤ length (now work)) × (first + c ≤ length (now ends)) × ((p : ℕ) → first ≤ p → p < first + c → 0 < pairIn (length (now ends)) (now work) p .at) × ((w : ℕ) → 4 * first ≤ w → w < 4 * first + 4 * c → at (now work) w ≡ 0) ⌝ }
     ensures fills { λ r. ⌜ (r ≡ true → Fills (length (now (ends .entry))) (now (work .exit)) (4 * first) first c) ⌝ }
     ensures apart { λ r. ⌜ (r ≡ true → different ≡ true → Apart (now (bytes .entry)) (now (ends .entry)) (now (work .exit)) first c) ⌝ }
     ensures kept { λ _. ⌜ ((w : ℕ) → w < 4 * first → at (now (work .exit)) w ≡ at (now (work .entry)) w) × ((w : ℕ) → 4 * first + 4 * c ≤ w → at (now (work .exit)) w ≡ at (now (work .entry)) w) × (length (now (work .exit)) ≡ length (now (work .entry))) ⌝ }
@@ -86,7 +86,7 @@ pub(super) fn fill_all(
     work: &mut [u32],
     tables: &[u32; 256],
 ) -> bool
-    requires { ⌜ (astray (length (now bytes)) 0 (now ends) ≡ false) × (0 < length (now ends)) × (length (now ends) ≤ 171798691) × ((k : ℕ) → k ≤ length (now ends) → offsetOf (now ends) k ≤ 4294967295) × (7 * length (now ends) ≤ length (now work)) × ((t : ℕ) → t < 256 → (firstIn (now tables) t ≤ at (now tables) t) × (at (now tables) t ≤ length (now ends))) × ((p : ℕ) → p < length (now ends) → 0 < pairIn (length (now ends)) (now work) p .at) × ((w : ℕ) → w < 4 * length (now ends) → at (now work) w ≡ 0) ⌝ }
+    requires { ⌜ (invalidEnds (length (now bytes)) 0 (now ends) ≡ false) × (0 < length (now ends)) × (length (now ends) ≤ 171798691) × ((k : ℕ) → k ≤ length (now ends) → offsetOf (now ends) k ≤ 4294967295) × (7 * length (now ends) ≤ length (now work)) × ((t : ℕ) → t < 256 → (firstIn (now tables) t ≤ at (now tables) t) × (at (now tables) t ≤ length (now ends))) × ((p : ℕ) → p < length (now ends) → 0 < pairIn (length (now ends)) (now work) p .at) × ((w : ℕ) → w < 4 * length (now ends) → at (now work) w ≡ 0) ⌝ }
     ensures fills { λ r. ⌜ (r ≡ true → (t : ℕ) → t < 256 → Fills (length (now (ends .entry))) (now (work .exit)) (4 * firstIn (now (tables .entry)) t) (firstIn (now (tables .entry)) t) (at (now (tables .entry)) t - firstIn (now (tables .entry)) t)) ⌝ }
     ensures apart { λ r. ⌜ (r ≡ true → different ≡ true → (t : ℕ) → t < 256 → Apart (now (bytes .entry)) (now (ends .entry)) (now (work .exit)) (firstIn (now (tables .entry)) t) (at (now (tables .entry)) t - firstIn (now (tables .entry)) t)) ⌝ }
     ensures kept { λ _. ⌜ ((w : ℕ) → 4 * length (now (ends .entry)) ≤ w → at (now (work .exit)) w ≡ at (now (work .entry)) w) × (length (now (work .exit)) ≡ length (now (work .entry))) ⌝ }

@@ -7,7 +7,7 @@ ghost use lib.ListN.{length, take, drop};
 ghost use Rattle.image.specs.Bytes.{same, cat, le32};
 ghost use Rattle.image.specs.Zero.{hasZero};
 ghost use Rattle.image.specs.Image.{Entry, headSize, placed, tables};
-ghost use Rattle.packed.specs.Names.{names, astray, nth};
+ghost use Rattle.packed.specs.Names.{names, invalidEnds, nth};
 ghost use Rattle.bulk_tables.specs.steps.Parted.{at, tableOfName, countOfTable};
 ghost use Rattle.bulk_tables.specs.steps.Tabled.{offsetOf};
 use fill::fill_all;
@@ -32,7 +32,7 @@ pub fn table_list(
     work: &mut [u32],
     counts: &mut [u32; 256],
 ) -> bool
-    requires { ⌜ (astray (length (now bytes)) 0 (now ends) ≡ false) × (0 < length (now ends)) × (length (now ends) ≤ 171798691) × (offsetOf (now ends) (length (now ends)) ≤ 4294967295) × (length (now ends) ≤ length (now rs)) × (7 * length (now ends) ≤ length (now work)) × (length (now counts) ≡ 256) × ((t : ℕ) → t < 256 → at (now counts) t ≡ 0) ⌝ }
+    requires { ⌜ (invalidEnds (length (now bytes)) 0 (now ends) ≡ false) × (0 < length (now ends)) × (length (now ends) ≤ 171798691) × (offsetOf (now ends) (length (now ends)) ≤ 4294967295) × (length (now ends) ≤ length (now rs)) × (7 * length (now ends) ≤ length (now work)) × (length (now counts) ≡ 256) × ((t : ℕ) → t < 256 → at (now counts) t ≡ 0) ⌝ }
     ensures zeros { λ r. ⌜ (r ≡ true → (i : ℕ) → i < length (now (ends .entry)) → (at (now (rs .exit)) i ≡ 0) × (hasZero (nth (names (now (bytes .entry)) (now (ends .entry))) i) ≡ false)) ⌝ }
     ensures apart { λ r. ⌜ (r ≡ true → different ≡ true → (i j : ℕ) → j < i → i < length (now (ends .entry)) → same (nth (names (now (bytes .entry)) (now (ends .entry))) j) (nth (names (now (bytes .entry)) (now (ends .entry))) i) ≡ false) ⌝ }
     ensures tabled { λ r. ⌜ (r ≡ true → (es : List Entry) → map (λ (e : Entry). e .name) es ≡ names (now (bytes .entry)) (now (ends .entry)) → cat le32 (take (4 * length (now (ends .entry))) (now (work .exit))) ≡ tables (placed headSize es)) ⌝ }

@@ -3,7 +3,7 @@ ghost use mathlib.Core.Path.{_≡_};
 ghost use mathlib.Core.Bool.{false};
 ghost use Prim.Native.Nat.{ℕ, _+_, _*_, _%_, _≤_, _<_};
 ghost use lib.ListN.{length, drop, set};
-ghost use Rattle.packed.specs.Names.{names, astray, nth};
+ghost use Rattle.packed.specs.Names.{names, invalidEnds, nth};
 ghost use Rattle.packed.specs.Keys.{key};
 ghost use Rattle.image.specs.Tables.{tableOf};
 ghost use Rattle.bulk_tables.specs.steps.Parted.{at, zeroMark, keptIn, tableOfName, countOfTable, sumTo};
@@ -43,7 +43,7 @@ pub(super) fn hash_all(
     work: &mut [u32],
     tables: &mut [u32; 256],
 ) -> u32
-    requires { ⌜ (astray (length (now bytes)) 0 (now ends) ≡ false) × (length (now ends) ≤ length (now rs)) × (7 * length (now ends) ≤ length (now work)) × (length (now ends) ≤ 4294967295) × (length (now tables) ≡ 256) × ((t : ℕ) → t < 256 → at (now tables) t ≡ 0) ⌝ }
+    requires { ⌜ (invalidEnds (length (now bytes)) 0 (now ends) ≡ false) × (length (now ends) ≤ length (now rs)) × (7 * length (now ends) ≤ length (now work)) × (length (now ends) ≤ 4294967295) × (length (now tables) ≡ 256) × ((t : ℕ) → t < 256 → at (now tables) t ≡ 0) ⌝ }
     ensures hashes { λ _. ⌜ ((i : ℕ) → i < length (now (ends .entry)) → keptIn (length (now (ends .entry))) (now (work .exit)) i ≡ key (nth (names (now (bytes .entry)) (now (ends .entry))) i)) ⌝ }
     ensures counts { λ _. ⌜ (length (now (tables .exit)) ≡ 256) × ((t : ℕ) → t < 256 → at (now (tables .exit)) t ≡ countOfTable (tableOfName (names (now (bytes .entry)) (now (ends .entry)))) t (length (now (ends .entry)))) ⌝ }
     ensures marks { λ _. ⌜ ((i : ℕ) → i < length (now (ends .entry)) → at (now (rs .exit)) i ≡ zeroMark (nth (names (now (bytes .entry)) (now (ends .entry))) i)) × (drop (length (now (ends .entry))) (now (rs .exit)) ≡ drop (length (now (ends .entry))) (now (rs .entry))) ⌝ }

@@ -1,3 +1,3 @@
--- Laws of names by their ends.
+-- Laws of packed names.
 pub mod NameEnds
 pub mod Keys

@@ -12,7 +12,7 @@ use lib.ListN.{length, getD, drop, drop-of-length-le}
 use lib.Seq.{drop-cons}
 use Rattle.image.proofs.Bools.{or-false-first, or-false-second}
 use Rattle.image.specs.Stored.{between}
-use Rattle.packed.specs.Names.{namesFrom, names, astray}
+use Rattle.packed.specs.Names.{namesFrom, names, invalidEnds}
 use Rattle.packed.specs.Names.{beginOf, nth}
 
 -- where the i-th name begins, the first at s
@@ -20,7 +20,8 @@ abbrev begins : ℕ → List ℕ → ℕ → ℕ
 begins s ends zero = s
 begins s ends (suc i) = getD ends i 0
 
-nth-from : (bytes : List ℕ) (s : ℕ) (ends : List ℕ) (i : ℕ) → i < length ends → nth (namesFrom bytes s ends) i ≡ between bytes (begins s ends i) (getD ends i 0)
+nth-from : (bytes : List ℕ) (s : ℕ) (ends : List ℕ) (i : ℕ) → i < length ends
+    → nth (namesFrom bytes s ends) i ≡ between bytes (begins s ends i) (getD ends i 0)
 unfolding namesFrom
 nth-from bytes s [] i h = absurd (omega arith)
 nth-from bytes s (e ∷ es) zero h = refl
@@ -52,44 +53,44 @@ pub record Placed (size s e : ℕ) : Type 0 where
   pub rises : s ≤ e
   pub inside : e ≤ size
 
-placed-from : (size s : ℕ) (ends : List ℕ) (i : ℕ) → astray size s ends ≡ false → i < length ends → Placed size (begins s ends i) (getD ends i 0)
-unfolding astray
+placed-from : (size s : ℕ) (ends : List ℕ) (i : ℕ) → invalidEnds size s ends ≡ false → i < length ends → Placed size (begins s ends i) (getD ends i 0)
+unfolding invalidEnds
 placed-from size s [] i f h = absurd (omega arith)
 placed-from size s (e ∷ es) zero f h =
-    let two = or-false-first (ltb e s || ltb size e) (astray size e es) f in
+    let two = or-false-first (ltb e s || ltb size e) (invalidEnds size e es) f in
     record { rises = ltb-false e s (or-false-first (ltb e s) (ltb size e) two); inside = ltb-false size e (or-false-second (ltb e s) (ltb size e) two) }
 placed-from size s (e ∷ es) (suc zero) f h =
     let k : 0 < length es = omega arith in
-    placed-from size e es 0 (or-false-second (ltb e s || ltb size e) (astray size e es) f) k
+    placed-from size e es 0 (or-false-second (ltb e s || ltb size e) (invalidEnds size e es) f) k
 placed-from size s (e ∷ es) (suc (suc i)) f h =
     let k : suc i < length es = omega arith in
-    placed-from size e es (suc i) (or-false-second (ltb e s || ltb size e) (astray size e es) f) k
+    placed-from size e es (suc i) (or-false-second (ltb e s || ltb size e) (invalidEnds size e es) f) k
 
-pub placed : (size : ℕ) (ends : List ℕ) (i : ℕ) → astray size 0 ends ≡ false → i < length ends → Placed size (beginOf ends i) (getD ends i 0)
+pub placed : (size : ℕ) (ends : List ℕ) (i : ℕ) → invalidEnds size 0 ends ≡ false → i < length ends → Placed size (beginOf ends i) (getD ends i 0)
 placed size ends i f h =
     let p = placed-from size 0 ends i f h in
     let e = begins-of ends i in
     record { rises = omega (arith, p .rises); inside = p .inside }
 
 -- the test of the ends, a turn at a time
-pub astray-turn : (size s : ℕ) (ends : List ℕ) (i : ℕ) (b x : Bool) → i < length ends → (b || astray size s (drop i ends)) ≡ x
-    → (((b || ltb (getD ends i 0) s) || ltb size (getD ends i 0)) || astray size (getD ends i 0) (drop (i + 1) ends)) ≡ x
-unfolding astray
-astray-turn size s ends i b x h p =
+pub invalid-ends-step : (size s : ℕ) (ends : List ℕ) (i : ℕ) (b x : Bool) → i < length ends → (b || invalidEnds size s (drop i ends)) ≡ x
+    → (((b || ltb (getD ends i 0) s) || ltb size (getD ends i 0)) || invalidEnds size (getD ends i 0) (drop (i + 1) ends)) ≡ x
+unfolding invalidEnds
+invalid-ends-step size s ends i b x h p =
     let e : suc i ≡ i + 1 = omega arith in
     let end = getD ends i 0 in
-    assoc b (ltb end s) (ltb size end) (astray size end (drop (i + 1) ends))
-    ∙ ap (λ (k : ℕ). b || ((ltb end s || ltb size end) || astray size end (drop k ends))) (sym e)
-    ∙ sym (ap (λ (l : List ℕ). b || astray size s l) (drop-cons ends i 0 h))
+    assoc b (ltb end s) (ltb size end) (invalidEnds size end (drop (i + 1) ends))
+    ∙ ap (λ (k : ℕ). b || ((ltb end s || ltb size end) || invalidEnds size end (drop k ends))) (sym e)
+    ∙ sym (ap (λ (l : List ℕ). b || invalidEnds size s l) (drop-cons ends i 0 h))
     ∙ p
   where
     assoc : (a b c d : Bool) → (((a || b) || c) || d) ≡ (a || ((b || c) || d))
     assoc true b c d = refl
     assoc false b c d = refl
 
-pub astray-end : (size s : ℕ) (ends : List ℕ) (i : ℕ) (b x : Bool) → length ends ≤ i → (b || astray size s (drop i ends)) ≡ x → b ≡ x
-unfolding astray
-astray-end size s ends i b x h p = none b (ap (λ (l : List ℕ). b || astray size s l) (sym (drop-of-length-le ends {i = i} h)) ∙ p)
+pub invalid-ends-none : (size s : ℕ) (ends : List ℕ) (i : ℕ) (b x : Bool) → length ends ≤ i → (b || invalidEnds size s (drop i ends)) ≡ x → b ≡ x
+unfolding invalidEnds
+invalid-ends-none size s ends i b x h p = none b (ap (λ (l : List ℕ). b || invalidEnds size s l) (sym (drop-of-length-le ends {i = i} h)) ∙ p)
   where
     none : (b : Bool) → (b || false) ≡ x → b ≡ x
     none true q = q
@@ -106,10 +107,11 @@ begin-next ends i =
     let e : i + 1 - 1 ≡ i = omega arith in
     begin-later ends (i + 1) (λ z. omega arith) ∙ ap (λ (k : ℕ). getD ends k 0) e
 
-pub begins-rise : (size : ℕ) (ends : List ℕ) → astray size 0 ends ≡ false → (m i : ℕ) → i ≤ m → m ≤ length ends → beginOf ends i ≤ beginOf ends m
+pub begins-rise : (size : ℕ) (ends : List ℕ) → invalidEnds size 0 ends ≡ false → (m i : ℕ) → i ≤ m → m ≤ length ends → beginOf ends i ≤ beginOf ends m
 begins-rise size ends good zero i h k = let z : i ≡ 0 = omega arith in omega (arith, ap (beginOf ends) z)
 begins-rise size ends good (suc m) i h k =
     elim (decLt m i) [
       | yes l ↦ (let z : i ≡ suc m = omega arith in omega (arith, ap (beginOf ends) z))
-      | no l ↦ omega (arith, begins-rise size ends good m i (omega arith) (omega arith), placed size ends m good (omega arith) .rises, begin-next ends m, ap (beginOf ends) (add-one m))
+      | no l ↦
+          omega (arith, begins-rise size ends good m i (omega arith) (omega arith), placed size ends m good (omega arith) .rises, begin-next ends m, ap (beginOf ends) (add-one m))
     ]

@@ -1,4 +1,4 @@
--- The key of a name, by which equal names are told.
+-- The key of a name: equal names have equal keys.
 use Prim.Native.Nat.{ℕ}
 use mathlib.Core.Bool.{cond}
 use mathlib.Core.List.{List}

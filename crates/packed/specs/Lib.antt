@@ -1,3 +1,3 @@
--- Names that lie joined in a buffer, with a list of their ends.
+-- Packed names: end to end in one buffer, with the list of their end offsets.
 pub mod Names
 pub mod Keys

@@ -1,4 +1,4 @@
--- Names in one buffer: 02 (vii), "names lie joined in a buffer, with a list of their ends, each at least the one before."
+-- Packed names: 02 (vii), "names lie joined in a buffer, with a list of their ends, each at least the one before."
 use Prim.Native.Nat.{ℕ, _+_, _-_}
 use mathlib.Core.Bool.{Bool, false, cond, _||_}
 use mathlib.Core.List.{List, [], _∷_, _++_}
@@ -16,14 +16,14 @@ unfoldable pub names : List ℕ → List ℕ → List (List ℕ)
 names bytes ends = namesFrom bytes 0 ends
 
 -- "ends that fall or pass the bytes", of which there are `size`, where the name before ends at s
-unfoldable pub astray : ℕ → ℕ → List ℕ → Bool
-astray size s [] = false
-astray size s (e ∷ es) = ltb e s || ltb size e || astray size e es
+unfoldable pub invalidEnds : ℕ → ℕ → List ℕ → Bool
+invalidEnds size s [] = false
+invalidEnds size s (e ∷ es) = ltb e s || ltb size e || invalidEnds size e es
 
--- names joined, and their ends, the first of them beginning at s
-unfoldable pub joined : List (List ℕ) → List ℕ
-joined [] = []
-joined (x ∷ xs) = x ++ joined xs
+-- the bytes of packed names; and their ends, the first name beginning at s
+unfoldable pub packedBytes : List (List ℕ) → List ℕ
+packedBytes [] = []
+packedBytes (x ∷ xs) = x ++ packedBytes xs
 
 unfoldable pub endsFrom : ℕ → List (List ℕ) → List ℕ
 endsFrom s [] = []

@@ -1,16 +1,17 @@
-// Names that lie joined in a buffer, by the list of their ends.
+// Packed names: end to end in one buffer, with the list of their end offsets.
 ghost use mathlib.Core.Path.{_≡_};
 ghost use mathlib.Core.Bool.{false};
 ghost use mathlib.Core.List.{[]};
 ghost use Prim.Native.Nat.{_<_};
 ghost use lib.ListN.{length, getD};
-ghost use Rattle.packed.specs.Names.{names, astray, beginOf};
+ghost use Rattle.packed.specs.Names.{names, invalidEnds, beginOf};
 ghost use Rattle.packed.specs.Keys.{key};
 use jhash::Hashed;
 
-// Do the ends fall or pass `size` bytes? Each is looked at, and none ends the loop, so the compiler makes no branch of it.
-pub fn astray(ends: &[u64], size: usize) -> bool
-    ensures { λ r. ⌜ r ≡ astray size 0 (now (ends .entry)) ⌝ }
+// Do the ends fall, or pass `size` bytes? The loop reads each of them and ends at none, so the compiler makes no branch of
+// the tests.
+pub fn invalid_ends(ends: &[u64], size: usize) -> bool
+    ensures { λ r. ⌜ r ≡ invalidEnds size 0 (now (ends .entry)) ⌝ }
 {
     let mut bad = false;
     let mut start: u64 = 0;
@@ -34,7 +35,7 @@ fn begin_of(ends: &[u64], i: usize) -> u64
 
 // The i-th name, counted from 0.
 pub fn name_of<'a>(bytes: &'a [u8], ends: &[u64], i: usize) -> &'a [u8]
-    requires { ⌜ (i < length (now ends)) × (astray (length (now bytes)) 0 (now ends) ≡ false) ⌝ }
+    requires { ⌜ (i < length (now ends)) × (invalidEnds (length (now bytes)) 0 (now ends) ≡ false) ⌝ }
     ensures { λ r. ⌜ now r ≡ getD (names (now (bytes .entry)) (now (ends .entry))) i [] ⌝ }
 {
     let start = begin_of(ends, i) as usize;

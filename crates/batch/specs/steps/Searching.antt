@@ -10,7 +10,7 @@ use Rattle.image.specs.Image.{headSize}
 use Rattle.image.specs.Head.{tableAt, bucketNumber}
 use Rattle.reader.specs.Lookup.{Probe, ends, probeEntry, decide, unsearched, lookupHash, lookup}
 use Rattle.reader.specs.steps.Resume.{searchFrom}
-use Rattle.batch.specs.RoundNames.{names, astray, nth}
+use Rattle.batch.specs.RoundNames.{names, invalidEnds, nth}
 use Rattle.batch.specs.Round.{answerWords}
 use Rattle.batch.specs.steps.Telling.{Keys, Has, Kept}
 
@@ -42,7 +42,7 @@ Right image xs answers i = Has answers i (answerWords (lookup image (nth xs i)))
 
 -- m names are listed, with their keys, and there is a place for the answer of each
 pub record Listing (bytes ends keys list answers : List ℕ) (m : ℕ) : Type 0 where
-  pub stand : astray (length bytes) 0 ends ≡ false
+  pub stand : invalidEnds (length bytes) 0 ends ≡ false
   pub keyed : Keys (names bytes ends) keys
   pub all-keyed : length ends ≤ length keys
   pub placed : 4 * length ends ≤ length answers

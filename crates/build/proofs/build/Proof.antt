@@ -7,34 +7,34 @@ use Rattle.build.proofs.Whole.{refusal-14, refusal-15, refusal-15-place
 use Rattle.build.proofs.build.Statement.{statement}
 use Rattle.build.proofs.build.Tie as tie
 
-astray-requires : tie.Need-astray-requires
-astray-requires c κs = search needs
+invalid-ends-requires : tie.Need-invalid-ends-requires
+invalid-ends-requires c κs = search needs
 
 returns : tie.Need-returns
 returns c =
     let a = c .before .before .before .before .before .before .before .before .args in
-    let told = refusal-14 (a .bytes .now) (a .ends .now) (length (a .ids .now)) (length (a .refusals .now)) (length (a .buf .now)) (sym (c .before .astray .ensures) ∙ c .if1 .taken) in
+    let told = refusal-14 (a .bytes .now) (a .ends .now) (length (a .ids .now)) (length (a .refusals .now)) (length (a .buf .now)) (sym (c .before .invalid-ends .ensures) ∙ c .if1 .taken) in
     let out = refused-build (a .mode) (a .repeats) (a .buf .now) (a .bytes .now) (a .ends .now) (a .ids .now) (a .refusals .now) 14 told (omega arith) in
     (out .0, (out .1, (out .2, λ h. refl)))
 
 returns-2 : tie.Need-returns-2
 returns-2 c =
     let a = c .before .before .before .before .before .before .before .before .before .args in
-    let told = refusal-15 (a .bytes .now) (a .ends .now) (length (a .ids .now)) (length (a .refusals .now)) (length (a .buf .now)) (sym (c .before .before .astray .ensures) ∙ c .before .if1 .left) (c .if2 .taken) in
+    let told = refusal-15 (a .bytes .now) (a .ends .now) (length (a .ids .now)) (length (a .refusals .now)) (length (a .buf .now)) (sym (c .before .before .invalid-ends .ensures) ∙ c .before .if1 .left) (c .if2 .taken) in
     let out = refused-build (a .mode) (a .repeats) (a .buf .now) (a .bytes .now) (a .ends .now) (a .ids .now) (a .refusals .now) 15 told (omega arith) in
     (out .0, (out .1, (out .2, λ h. refl)))
 
 returns-3 : tie.Need-returns-3
 returns-3 c =
     let a = c .before .before .before .before .before .before .before .before .before .before .args in
-    let told = refusal-15-places (a .bytes .now) (a .ends .now) (length (a .ids .now)) (length (a .refusals .now)) (length (a .buf .now)) (sym (c .before .before .before .astray .ensures) ∙ c .before .before .if1 .left) (c .before .if2 .left) (c .if3 .taken) in
+    let told = refusal-15-places (a .bytes .now) (a .ends .now) (length (a .ids .now)) (length (a .refusals .now)) (length (a .buf .now)) (sym (c .before .before .before .invalid-ends .ensures) ∙ c .before .before .if1 .left) (c .before .if2 .left) (c .if3 .taken) in
     let out = refused-build (a .mode) (a .repeats) (a .buf .now) (a .bytes .now) (a .ends .now) (a .ids .now) (a .refusals .now) 15 told (omega arith) in
     (out .0, (out .1, (out .2, λ h. refl)))
 
 returns-4 : tie.Need-returns-4
 returns-4 c =
     let a = c .before .before .before .before .before .before .before .before .before .before .before .args in
-    let told = refusal-1 (a .bytes .now) (a .ends .now) (length (a .ids .now)) (length (a .refusals .now)) (length (a .buf .now)) (sym (c .before .before .before .before .astray .ensures) ∙ c .before .before .before .if1 .left) (c .before .before .if2 .left) (c .before .if3 .left) (c .if4 .taken) in
+    let told = refusal-1 (a .bytes .now) (a .ends .now) (length (a .ids .now)) (length (a .refusals .now)) (length (a .buf .now)) (sym (c .before .before .before .before .invalid-ends .ensures) ∙ c .before .before .before .if1 .left) (c .before .before .if2 .left) (c .before .if3 .left) (c .if4 .taken) in
     let out = refused-build (a .mode) (a .repeats) (a .buf .now) (a .bytes .now) (a .ends .now) (a .ids .now) (a .refusals .now) 1 told (omega arith) in
     (out .0, (out .1, (out .2, λ h. refl)))
 
@@ -42,7 +42,7 @@ build-list-requires : tie.Need-build-list-requires
 build-list-requires c κs =
     let s = c .before .before .before in
     record {
-      packed = sym (s .before .before .before .before .astray .ensures) ∙ s .before .before .before .if1 .left;
+      packed = sym (s .before .before .before .before .invalid-ends .ensures) ∙ s .before .before .before .if1 .left;
       ids-long = s .before .before .if2 .left;
       refusals-long = s .before .if3 .left;
       head-fits = s .if4 .left;
@@ -61,7 +61,7 @@ returns-5 : tie.Need-returns-5
 returns-5 c =
     let s = c .before .before .before .before .before .before .before .before .before .before in
     let a = s .before .before .before .before .before .before .before .before .before .before .before .args in
-    let straight = sym (s .before .before .before .before .astray .ensures) ∙ s .before .before .before .if1 .left in
+    let straight = sym (s .before .before .before .before .invalid-ends .ensures) ∙ s .before .before .before .if1 .left in
     let none = refusal-none (a .bytes .now) (a .ends .now) (length (a .ids .now)) (length (a .refusals .now)) (length (a .buf .now)) straight (s .before .before .if2 .left) (s .before .if3 .left) (s .if4 .left) in
     let out = c .before .before .before .before .before .before .build-list .ensures in
     (out .gives, (out .leaves, (out .answers, λ h. absurd (omega (arith, none, h)))))
@@ -70,7 +70,7 @@ pub build-spec : {M : Type 1} → statement M
 build-spec =
     tie.close
     (tie.spec
-    astray-requires
+    invalid-ends-requires
     returns
     returns-2
     returns-3

@@ -6,7 +6,7 @@ use mathlib.Core.List.{List, _++_}
 use lib.ListN.{length, drop}
 use Rattle.image.specs.Image.{Entry, headSize}
 use Rattle.image.specs.declared.Mode.{Mode}
-use Rattle.packed.specs.Names.{astray}
+use Rattle.packed.specs.Names.{invalidEnds}
 use Rattle.writer.specs.declared.CQDBWriter.{CQDBWriter}
 use Rattle.writer.specs.declared.Repeats.{Repeats}
 use Rattle.writer.specs.State.{State, stateWith, fresh}
@@ -25,7 +25,7 @@ entriesListed xs ids = puts (callsOf xs ids)
 
 -- a list that is not refused as a whole
 pub record ListPre (buffer bytes ends ids refusals : List ℕ) : Type 0 where
-  pub packed : astray (length bytes) 0 ends ≡ false
+  pub packed : invalidEnds (length bytes) 0 ends ≡ false
   pub ids-long : length ends ≤ length ids
   pub refusals-long : length ends ≤ length refusals
   pub head-fits : headSize ≤ length buffer

@@ -9,7 +9,7 @@ use Rattle.image.specs.Bytes.{cat}
 use Rattle.image.specs.Stored.{between}
 use Rattle.image.specs.Image.{Entry, headSize, entryBytes, placed, backWords, entriesEnd, backSizeOf, imageSize, image}
 use Rattle.image.specs.declared.Mode.{Mode}
-use Rattle.packed.specs.Names.{names, astray}
+use Rattle.packed.specs.Names.{names, invalidEnds}
 use Rattle.serialize.specs.steps.Asked.{TablesAtHand}
 use Rattle.bulk_tables.specs.steps.Parted.{tableOfName, countOfTable}
 use Rattle.build.specs.steps.Capacity.{RoomForAll}
@@ -21,7 +21,7 @@ entriesOf bytes ends ids = entriesListed (names bytes ends) ids
 
 -- the entries are to be stored around a cleared back array, which begins at `at`
 pub record StoreListPre (mode : Mode) (at : ℕ) (bytes ends ids buf : List ℕ) : Type 0 where
-  pub packed : astray (length bytes) 0 ends ≡ false
+  pub packed : invalidEnds (length bytes) 0 ends ≡ false
   pub few : length ends ≤ 171798691
   pub ids-long : length ends ≤ length ids
   pub within : imageSize mode (entriesOf bytes ends ids) ≤ length buf
@@ -42,7 +42,7 @@ pub record StoreListPost (mode : Mode) (at : ℕ) (bytes ends ids buf bufThen : 
 
 -- the image of all names is to be written, with these table counts and the words of its tables
 pub record WriteListPre (mode : Mode) (buf bytes ends ids counts words : List ℕ) : Type 0 where
-  pub packed : astray (length bytes) 0 ends ≡ false
+  pub packed : invalidEnds (length bytes) 0 ends ≡ false
   pub some : 0 < length ends
   pub few : length ends ≤ 171798691
   pub ids-long : length ends ≤ length ids

@@ -1,4 +1,4 @@
--- `joined::begin_of` meets its contract. Assumes nothing.
+-- `packed::begin_of` meets its contract. Assumes nothing.
 use Prim.Native.Nat.{ℕ, _-_}
 use mathlib.Core.Path.{sym, ap}
 use mathlib.Core.Bool.{Bool, cond}

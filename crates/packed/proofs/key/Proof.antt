@@ -1,4 +1,4 @@
--- `joined::key` meets its contract. Assumes nothing.
+-- `packed::key` meets its contract. Assumes nothing.
 use mathlib.Core.Path.{sym, _∙_}
 use Rattle.jhash.proofs.Outcomes.{result-name-hash, result-refused}
 use Rattle.packed.proofs.Keys.{key-short, key-long}
