@@ -17,7 +17,7 @@ use Rattle.image.proofs.Sizes.{length-entryBytes, length-entries, entriesSize-a
 use Rattle.image.proofs.Between.{length-between}
 use Rattle.image.proofs.AllOfList.{all-middle}
 use Rattle.image.proofs.EntryAt.{ids-below}
-use Rattle.taking.specs.steps.Working.{withLink}
+use Rattle.serialize.specs.steps.Insertion.{withLink}
 use Rattle.serialize.proofs.Partial.{zeros-links}
 use Rattle.serialize.proofs.OneMore.{links-more}
 use Rattle.serialize.proofs.Turn.{store-in, nextOf, placed-more, next-at}

@@ -4,7 +4,7 @@ ghost use mathlib.Core.Path.{_≡_};
 ghost use Prim.Native.Nat.{_+_, _*_, _≤_};
 ghost use lib.ListN.{length};
 ghost use Rattle.image.specs.Image.{backIn};
-ghost use Rattle.taking.specs.steps.Working.{withLink};
+ghost use Rattle.serialize.specs.steps.Insertion.{withLink};
 ghost use Rattle.build.specs.steps.Stores.{StoreListPre, StoreListPost, WriteListPre, WriteListPost};
 use super::capacity::largest;
 use image::Mode;

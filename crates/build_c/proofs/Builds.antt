@@ -10,7 +10,7 @@ use Rattle.writer.specs.declared.Repeats.{Repeats}
 use Rattle.build.specs.declared.Made.{Made}
 use Rattle.build.specs.Build.{building, bufferAfter, answersAfter}
 use Rattle.build_c.specs.declared.BuildAnswer.{BuildAnswer}
-use Rattle.modes.specs.Modes.{known, modeOf, repeatsOf}
+use Rattle.writer.specs.Numbers.{known, modeOf, repeatsOf}
 use Rattle.build_c.specs.Building.{builtAnswer, buildAnswer, bufferBuilt, answersBuilt}
 
 module _ (mode repeats : ℕ) (buffer bytes ends ids places : List ℕ) where

@@ -5,7 +5,7 @@ use mathlib.Core.List.{List}
 use Rattle.image.specs.declared.Mode.{Mode}
 use Rattle.build.specs.declared.needs.Needs.{Needs}
 use Rattle.build.specs.Needs.{needed}
-use Rattle.modes.specs.Modes.{modeOf}
+use Rattle.writer.specs.Numbers.{modeOf}
 use Rattle.build_c.specs.Needs.{neededAnswer, needsAnswer}
 
 pub needs-told : (mode size : ℕ) (ids : List ℕ) (m : Mode) (n : Needs) → m ≡ modeOf mode → n ≡ needed m size ids → neededAnswer n ≡ needsAnswer mode size ids

@@ -8,7 +8,7 @@ use Rattle.jhash.specs.Outcome.{Outcome, value, refusal}
 use Rattle.build.specs.declared.Made.{Made}
 use Rattle.build.specs.Build.{building, bufferAfter, answersAfter}
 use Rattle.build_c.specs.declared.BuildAnswer.{BuildAnswer}
-use Rattle.modes.specs.Modes.{known, modeOf, repeatsOf}
+use Rattle.writer.specs.Numbers.{known, modeOf, repeatsOf}
 
 -- zeros where refused
 abbrev pub builtAnswer : Outcome Made → BuildAnswer

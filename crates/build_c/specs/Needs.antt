@@ -3,7 +3,7 @@ use Prim.Native.Nat.{ℕ}
 use mathlib.Core.List.{List}
 use Rattle.build.specs.declared.needs.Needs.{Needs}
 use Rattle.build.specs.Needs.{needed}
-use Rattle.modes.specs.Modes.{modeOf}
+use Rattle.writer.specs.Numbers.{modeOf}
 use Rattle.build_c.specs.declared.NeedsAnswer.{NeedsAnswer}
 
 abbrev pub neededAnswer : Needs → NeedsAnswer

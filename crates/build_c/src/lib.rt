@@ -1,9 +1,9 @@
 // A whole list in one call, for C. It is compiled by itself, so that put and close have one caller each in cqdb_c and are inlined
 // there.
 use build::Built;
-use modes::known;
-use modes::mode_of;
-use modes::repeats_of;
+use writer::numbers::known;
+use writer::numbers::mode_of;
+use writer::numbers::repeats_of;
 ghost use mathlib.Core.Path.{_≡_};
 ghost use Prim.Native.Nat.{_<_};
 ghost use lib.ListN.{length};

@@ -9,8 +9,8 @@ ghost use Rattle.canonical.specs.steps.Noted.{firstPlace, NotedFrom, Not
 use image::entries::name_at;
 use image::entries::whole_length;
 use image::get_u32;
-use taking::fill::bucket_number;
-use taking::fill::table_at;
+use image::rows::bucket_number;
+use image::rows::table_at;
 
 // The place of the offset word of the first bucket that a hash is searched in; 0 where its table has no bucket.
 fn first_place(image: &[u8], h: u32) -> usize

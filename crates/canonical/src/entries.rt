@@ -18,9 +18,9 @@ use image::entries::name_at;
 use image::entries::raise;
 use image::entries::whole_length;
 use image::get_u32;
+use image::rows::bucket_number;
+use image::rows::table_at;
 use image::zero::has_zero;
-use taking::fill::bucket_number;
-use taking::fill::table_at;
 
 // An offset, but 0 from `at` on.
 fn hide(at: u32, w: u32) -> u32

@@ -15,10 +15,10 @@ use Rattle.writer.specs.declared.CQDBWriter.{CQDBWriter}
 use Rattle.writer.specs.State.{State, stateWith, beginning, beginRefusal, freshWriter, countsBegun}
 use Rattle.writer.specs.Put.{putRefusal, appended, afterPut}
 use Rattle.writer.specs.Close.{closing, closeRefusal, closedSize, closed, afterClose}
-use Rattle.modes.specs.declared.record.Record.{Record}
-use Rattle.modes.specs.Modes.{known, modeOf, repeatsOf}
-use Rattle.modes.specs.Record.{writerOf, recordOf, Held, held, knownIn, stateOf, heldOf}
-use Rattle.modes.proofs.Records.{back-and-forth}
+use Rattle.writer.specs.declared.c_record.Record.{Record}
+use Rattle.writer.specs.Numbers.{known, modeOf, repeatsOf}
+use Rattle.writer.specs.CRecord.{writerOf, recordOf, Held, held, knownIn, stateOf, heldOf}
+use Rattle.writer.proofs.CRecords.{back-and-forth}
 use Rattle.cqdb_c.specs.Writing.{Lent, lent, numbersOf, sizesOf, beginningHeld, numberIn, lentIn, leftByBegin, putNumber, leftByPut, closingHeld, refusalIn, sizeIn, leftByClose}
 
 -- begin with a mode or a repeats mode above 1

@@ -6,11 +6,11 @@ use mathlib.Core.List.{[]}
 use lib.Dec.{ltb}
 use Rattle.writer.specs.declared.CQDBWriter.{CQDBWriter}
 use Rattle.writer.specs.Grown.{withLength, grownRefusal, grownWriter}
-use Rattle.modes.specs.declared.record.Record.{Record}
-use Rattle.modes.specs.Modes.{known}
-use Rattle.modes.specs.Record.{writerOf, recordOf, Held, held}
+use Rattle.writer.specs.declared.c_record.Record.{Record}
+use Rattle.writer.specs.Numbers.{known}
+use Rattle.writer.specs.CRecord.{writerOf, recordOf, Held, held}
 use Rattle.cqdb_c.specs.Grown.{grownNumber, recordGrown}
-use Rattle.modes.proofs.Records.{back-and-forth}
+use Rattle.writer.proofs.CRecords.{back-and-forth}
 
 -- a record that is none of 01's
 pub grown-unknown : (r : Record) (n : ℕ) → known (r .mode) (r .repeats) ≡ false → (2 ≡ grownNumber r n) × (r ≡ recordGrown r n)

@@ -3,9 +3,9 @@
 use Prim.Native.Nat.{ℕ}
 use mathlib.Core.Bool.{cond}
 use Rattle.writer.specs.Grown.{grownRefusal, grownWriter}
-use Rattle.modes.specs.declared.record.Record.{Record}
-use Rattle.modes.specs.Modes.{known}
-use Rattle.modes.specs.Record.{writerOf, recordOf}
+use Rattle.writer.specs.declared.c_record.Record.{Record}
+use Rattle.writer.specs.Numbers.{known}
+use Rattle.writer.specs.CRecord.{writerOf, recordOf}
 
 unfoldable pub grownNumber : Record → ℕ → ℕ
 grownNumber r n = cond (known (r .mode) (r .repeats)) (grownRefusal (writerOf r) n) 2

@@ -10,9 +10,9 @@ use Rattle.writer.specs.declared.CQDBWriter.{CQDBWriter}
 use Rattle.writer.specs.State.{beginning}
 use Rattle.writer.specs.Put.{putRefusal, afterPut}
 use Rattle.writer.specs.Close.{closing, afterClose}
-use Rattle.modes.specs.declared.record.Record.{Record}
-use Rattle.modes.specs.Modes.{known, modeOf, repeatsOf}
-use Rattle.modes.specs.Record.{recordOf, Held, knownIn, stateOf, heldOf}
+use Rattle.writer.specs.declared.c_record.Record.{Record}
+use Rattle.writer.specs.Numbers.{known, modeOf, repeatsOf}
+use Rattle.writer.specs.CRecord.{recordOf, Held, knownIn, stateOf, heldOf}
 
 -- C's writer, lent in place: the record's numbers (mode, repeats, entries, back size) and sizes (length, end), and the table counts
 pub record Lent : Type 0 where

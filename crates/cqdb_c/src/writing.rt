@@ -1,18 +1,18 @@
 // Writing, for C: the record goes in and comes back by value, the 256 table counts and the buffer are lent. A record whose
 // mode or repeats mode is neither 0 nor 1 is none of 01's and fits no buffer.
-use modes::known;
-use modes::mode_of;
-use modes::record::Record;
-use modes::record::record_of;
-use modes::record::writer_of;
-use modes::repeats_of;
 use writer::Begun;
 use writer::Closed;
+use writer::c_record::Record;
+use writer::c_record::record_of;
+use writer::c_record::writer_of;
+use writer::numbers::known;
+use writer::numbers::mode_of;
+use writer::numbers::repeats_of;
 ghost use mathlib.Core.Path.{_≡_};
 ghost use lib.ListN.{length};
 ghost use Rattle.writer.specs.Put.{entryOf};
 ghost use Rattle.writer.specs.Close.{closedOf};
-ghost use Rattle.modes.specs.Record.{held};
+ghost use Rattle.writer.specs.CRecord.{held};
 ghost use Rattle.cqdb_c.specs.Writing.{beginningHeld, numberIn, lent, leftByBegin, putNumber, leftByPut, closingHeld, refusalIn, sizeIn, leftByClose};
 ghost use Rattle.cqdb_c.specs.Grown.{grownNumber, recordGrown};
 

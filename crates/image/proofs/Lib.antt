@@ -10,6 +10,7 @@ pub mod BitOr
 pub mod AllOfList
 pub mod At
 pub mod Buckets
+pub mod FirstEmpty
 pub mod Parts
 pub mod EntryAt
 pub mod EntryArea

@@ -12,6 +12,7 @@ use store::store_word;
 
 pub mod entries; // entries.rt: broken entries, whole ones, and a walk over them
 pub mod equality; // equality.rt: same
+pub mod rows; // rows.rt: the row of a hash's table in the head
 pub mod scratch; // scratch.rt: clear
 pub mod store; // store.rt: words and bytes stored where there is room
 pub mod zero; // zero.rt: zero bytes in a name

@@ -15,10 +15,10 @@ use Rattle.writer.specs.declared.CQDBWriter.{CQDBWriter}
 use Rattle.writer.specs.State.{State, stateWith}
 use Rattle.writer.specs.Put.{writerAfter, appended}
 use Rattle.writer.specs.Close.{afterClose}
-use Rattle.modes.specs.declared.record.Record.{Record}
-use Rattle.modes.specs.Modes.{repeatsWord}
-use Rattle.modes.specs.Record.{writerOf, recordOf, Held, held, knownIn, stateOf, heldOf}
-use Rattle.modes.proofs.Records.{back-and-forth, forth-and-back, held-known}
+use Rattle.writer.specs.declared.c_record.Record.{Record}
+use Rattle.writer.specs.Numbers.{repeatsWord}
+use Rattle.writer.specs.CRecord.{writerOf, recordOf, Held, held, knownIn, stateOf, heldOf}
+use Rattle.writer.proofs.CRecords.{back-and-forth, forth-and-back, held-known}
 use Rattle.index.specs.Index.{Right, grown}
 use Rattle.index.specs.Promise.{PutIndexed, Indexed}
 use Rattle.index.proofs.RightKept.{kept-right}

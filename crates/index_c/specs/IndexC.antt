@@ -10,8 +10,8 @@ use Rattle.jhash.specs.NameHash.{hashOf}
 use Rattle.image.specs.Image.{Entry}
 use Rattle.writer.specs.Put.{appended}
 use Rattle.writer.specs.Close.{afterClose}
-use Rattle.modes.specs.declared.record.Record.{Record}
-use Rattle.modes.specs.Record.{Held, knownIn, stateOf, heldOf}
+use Rattle.writer.specs.declared.c_record.Record.{Record}
+use Rattle.writer.specs.CRecord.{Held, knownIn, stateOf, heldOf}
 use Rattle.index.specs.Index.{slotCount, slotInserted, Right, indexedRefusal, afterIndexed, indexRefusal, grown}
 use Rattle.index.specs.KeptRight.{Bytes}
 

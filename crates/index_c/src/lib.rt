@@ -3,11 +3,11 @@
 ghost use mathlib.Core.Path.{_≡_};
 ghost use lib.ListN.{length};
 ghost use Rattle.writer.specs.Put.{entryOf};
-ghost use Rattle.modes.specs.Record.{held};
+ghost use Rattle.writer.specs.CRecord.{held};
 ghost use Rattle.index_c.specs.IndexC.{indexWords, recordIn, PutIndexedHeld, IndexedHeld};
-use modes::known;
-use modes::record::Record;
-use modes::record::writer_of;
+use writer::c_record::Record;
+use writer::c_record::writer_of;
+use writer::numbers::known;
 
 // How many words to lend for an index of this many names: two slots a name, two words a slot; the largest number where that
 // is more than a size can be.

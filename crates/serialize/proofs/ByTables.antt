@@ -24,7 +24,7 @@ use Rattle.image.proofs.AllOfList.{All}
 use Rattle.image.proofs.At.{At, at-same, at-right}
 use Rattle.image.proofs.Parts.{placedIn, before-most}
 use Rattle.image.proofs.EntryAt.{id-word}
-use Rattle.taking.specs.steps.Working.{withLink}
+use Rattle.serialize.specs.steps.Insertion.{withLink}
 use Rattle.serialize.specs.steps.Parting.{withPair, moved, hashAt, parted, partedFrom, roomsFrom}
 use Rattle.serialize.proofs.HeadRows.{Counts}
 use Rattle.serialize.proofs.Partial.{upToEntries, length-upToEntries, entries-after}

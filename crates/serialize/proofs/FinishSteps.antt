@@ -12,7 +12,7 @@ use Rattle.image.specs.Image.{backIn, flagWord, headBytes}
 use Rattle.image.specs.declared.Mode.{Mode}
 use Rattle.image.specs.declared.Mode.the-variants.{Twoway, Oneway}
 use Rattle.serialize.specs.Record.{finishedOf, noneAbove}
-use Rattle.taking.specs.steps.Working.{takenFrom}
+use Rattle.serialize.specs.steps.Insertion.{takenFrom}
 use Rattle.serialize.specs.steps.Parting.{byTables}
 use Rattle.serialize.specs.steps.Written.{rowsFrom, linksAt, headed, zeroed, parts, filledIn, written}
 

@@ -1,5 +1,6 @@
 -- Laws about finishing: that its steps leave the image.
 pub mod Joined
+pub mod Insertion
 pub mod Heads
 pub mod HeadRows
 pub mod Partial

@@ -16,7 +16,7 @@ use Rattle.image.specs.Stored.{between}
 use Rattle.image.specs.steps.EntryLength.{wholeLength}
 use Rattle.image.proofs.Words.{length-le32}
 use Rattle.image.proofs.Stores.{sets-then}
-use Rattle.taking.specs.steps.Working.{withLink}
+use Rattle.serialize.specs.steps.Insertion.{withLink}
 use Rattle.serialize.specs.steps.Parting.{roomsFrom, withPair, moved, hashAt, parted, partedFrom, withTable, tablesFrom, byTables}
 
 -- ---- a pair

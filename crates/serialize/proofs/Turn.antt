@@ -27,7 +27,7 @@ use Rattle.image.proofs.Parts.{placedIn, before-most, offset-word, number-word,
 use Rattle.image.proofs.EntryAt.{id-word, length-word, name-bytes, ids-below}
 use Rattle.image.specs.Stored.{between}
 use Rattle.image.specs.steps.EntryLength.{wholeLength}
-use Rattle.taking.specs.steps.Working.{bucketFor, withBucket, withLink, entryTaken}
+use Rattle.serialize.specs.steps.Insertion.{bucketFor, withBucket, withLink, entryTaken}
 use Rattle.image.proofs.Between.{is-whole}
 use Rattle.serialize.proofs.Partial.{tableWith, tablesWith, length-tableWith, length-tablesWith, upToEntries, length-upToEntries, partial}
 use Rattle.serialize.proofs.Partial.{rows-there, tables-there, entries-from}

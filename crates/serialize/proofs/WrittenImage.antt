@@ -22,7 +22,7 @@ use Rattle.serialize.specs.Finish.{standing, finishedBuffer}
 use Rattle.serialize.specs.Record.{finishedOf, noneAbove}
 use Rattle.serialize.specs.steps.Asked.{Standing, TablesAtHand, LinksStand}
 use Rattle.image.specs.Stored.{whole, between}
-use Rattle.taking.specs.steps.Working.{entryTaken, takenFrom}
+use Rattle.serialize.specs.steps.Insertion.{entryTaken, takenFrom}
 use Rattle.serialize.specs.steps.Parting.{byTables}
 use Rattle.serialize.specs.steps.Written.{linksAt, headed, zeroed, parts, filledIn, written}
 use Rattle.image.proofs.EntryArea.{AllBytes, bytes-drop, bytes-take, length-entriesIn, whole-bytes, ids-words}

@@ -10,6 +10,7 @@ use image::Mode;
 mod at_hand;
 pub mod counts; // counts.rt: none_above
 pub mod head; // head.rt: clear
+mod insert;
 pub mod size; // size.rt: the finished size and its parts
 mod tables;
 

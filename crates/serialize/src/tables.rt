@@ -15,10 +15,10 @@ use super::counts::none_above;
 use super::head::clear;
 use super::head::low;
 use super::head::wide;
+use super::insert::store_link;
+use super::insert::take_singly;
 use image::Mode;
 use image::store::store_word;
-use taking::fill::store_link;
-use taking::fill::take_singly;
 
 // A pair stored at `at`, where there is room for it.
 fn store_pair(buf: &mut [u8], at: usize, h: u32, offset: u32)

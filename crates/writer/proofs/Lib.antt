@@ -8,3 +8,4 @@ pub mod Closes
 pub mod Accepted
 pub mod Kept
 pub mod Longer
+pub mod CRecords

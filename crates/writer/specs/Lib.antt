@@ -4,4 +4,6 @@ pub mod Put
 pub mod Close
 pub mod Kept
 pub mod Grown
+pub mod Numbers
+pub mod CRecord
 pub mod steps

@@ -9,8 +9,10 @@ ghost use Rattle.writer.specs.Grown.{grownRefusal, grownWriter};
 ghost use Rattle.writer.specs.steps.Closing.{WriteClosedPost};
 use image::Mode;
 
+pub mod c_record; // c_record.rt: the writer record as C has it
 mod check;
 pub mod entry; // entry.rt: store
+pub mod numbers; // numbers.rt: the numbers by which C names a mode and a repeats mode
 pub mod record; // record.rt: the numbers of the record after a put
 
 // 02 (viii)'s repeats mode: with repeats off a writer refuses a name that it already holds.

@@ -1,7 +1,7 @@
 -- `index_c::cqdb_index_parts` meets its contract: what `index` promises, of C's record. Assumes nothing.
 use mathlib.Core.Path.{sym, _∙_}
 use borrow.Author.Tests.{not-true, not-false}
-use Rattle.modes.specs.Record.{held}
+use Rattle.writer.specs.CRecord.{held}
 use Rattle.index_c.proofs.IndexCalls.{index-unknown, index-known}
 use borrow.Author.Needs.{needs}
 use Rattle.index_c.proofs.cqdb_index_parts.Statement.{statement}

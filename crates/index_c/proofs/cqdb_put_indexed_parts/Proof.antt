@@ -2,9 +2,9 @@
 use mathlib.Core.Path.{sym, ap, _∙_}
 use borrow.Author.Tests.{not-true, not-false}
 use Rattle.writer.specs.Put.{entryOf}
-use Rattle.modes.specs.declared.record.Record.{Record}
-use Rattle.modes.specs.Modes.{known}
-use Rattle.modes.specs.Record.{writerOf, held}
+use Rattle.writer.specs.declared.c_record.Record.{Record}
+use Rattle.writer.specs.Numbers.{known}
+use Rattle.writer.specs.CRecord.{writerOf, held}
 use Rattle.index_c.specs.IndexC.{recordIn}
 use Rattle.index_c.proofs.IndexCalls.{put-unknown, put-stored, record-stored}
 use borrow.Author.Needs.{needs}

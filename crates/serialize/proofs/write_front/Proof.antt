@@ -1,4 +1,4 @@
--- `finish::write_front` meets its contract. Assumes nothing.
+-- `serialize::write_front` meets its contract. Assumes nothing.
 use native.Mathlib.Omega.{arith}
 use Rattle.serialize.proofs.FinishSteps.{linksAt-le, headed-parts}
 use borrow.Author.Needs.{needs}

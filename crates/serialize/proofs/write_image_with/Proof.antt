@@ -1,4 +1,4 @@
--- `finish::write_image_with` meets its contract. Assumes nothing.
+-- `serialize::write_image_with` meets its contract. Assumes nothing.
 use Prim.Native.Nat.{ℕ, _<_}
 use native.Mathlib.Omega.{arith}
 use lib.ListN.{getD}

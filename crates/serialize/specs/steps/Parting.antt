@@ -13,7 +13,7 @@ use Rattle.image.specs.Image.{headSize, bucketBytes}
 use Rattle.image.specs.Stored.{between}
 use Rattle.image.specs.steps.EntryLength.{wholeLength}
 use Rattle.image.specs.declared.Mode.{Mode}
-use Rattle.taking.specs.steps.Working.{withLink}
+use Rattle.serialize.specs.steps.Insertion.{withLink}
 
 -- where the rooms of the m tables from t on begin, in 32 bits; the first begins at o, and a table of c entries has room for 2c buckets
 unfoldable pub roomsFrom : List ℕ → ℕ → ℕ → ℕ → List ℕ

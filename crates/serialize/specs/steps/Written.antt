@@ -9,7 +9,7 @@ use Rattle.image.specs.Bytes.{le32}
 use Rattle.image.specs.Image.{headSize, headBytes, flagWord, backIn}
 use Rattle.image.specs.declared.Mode.{Mode}
 use Rattle.serialize.specs.Record.{finishedOf, noneAbove}
-use Rattle.taking.specs.steps.Working.{takenFrom}
+use Rattle.serialize.specs.steps.Insertion.{takenFrom}
 use Rattle.serialize.specs.steps.Parting.{byTables}
 
 -- the rows of the m tables from t on, the first with entries standing at o

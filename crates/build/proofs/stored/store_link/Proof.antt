@@ -5,7 +5,7 @@ use mathlib.Core.Path.{sym, ap, _∙_}
 use borrow.Author.Needs.{needs}
 use Rattle.image.specs.declared.Mode.{Mode}
 use Rattle.image.specs.Image.{backIn}
-use Rattle.taking.specs.steps.Working.{withLink}
+use Rattle.serialize.specs.steps.Insertion.{withLink}
 use Rattle.build.proofs.stored.store_link.Statement.{statement}
 use Rattle.build.proofs.stored.store_link.Tie as tie
 

@@ -1,7 +1,7 @@
 -- `ours::ahead::first_place` meets its contract. Assumes nothing.
 use native.Mathlib.Omega.{arith}
 use Prim.Native.Nat.{_/_, _%_, _+_, _*_, _<_}
-use Rattle.taking.proofs.Taking.{start-below}
+use Rattle.serialize.proofs.Insertion.{start-below}
 use borrow.Author.Needs.{needs}
 use Rattle.canonical.proofs.NotedEntries.{place-zero, place-said}
 use Rattle.canonical.proofs.ahead.first_place.Statement.{statement}

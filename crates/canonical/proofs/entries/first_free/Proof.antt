@@ -7,7 +7,7 @@ use mathlib.Core.Logic.{⊎-elim}
 use Rattle.image.specs.Bytes.{word}
 use Rattle.image.specs.Tables.{next, probeSequence, firstEmpty}
 use Rattle.image.proofs.ProbeStep.{next-inside, next-wraps}
-use Rattle.taking.proofs.Empties.{empty-here, empty-later, empty-none}
+use Rattle.image.proofs.FirstEmpty.{empty-here, empty-later, empty-none}
 use Rattle.canonical.specs.steps.Tests.{hidden}
 use Rattle.canonical.proofs.entries.first_free.Statement.{statement}
 use Rattle.canonical.proofs.entries.first_free.Tie as tie

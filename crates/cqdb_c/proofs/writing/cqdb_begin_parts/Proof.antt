@@ -6,7 +6,7 @@ use lib.ListN.{length}
 use borrow.Author.Tests.{not-true, not-false}
 use Rattle.writer.specs.declared.Begun.{Begun}
 use Rattle.writer.specs.State.{begunOf}
-use Rattle.modes.specs.declared.record.Record.{Record}
+use Rattle.writer.specs.declared.c_record.Record.{Record}
 use Rattle.cqdb_c.specs.Writing.{Lent, lent, numbersOf, sizesOf, beginningHeld, numberIn, leftByBegin}
 use Rattle.cqdb_c.proofs.CCalls.{begin-unknown, begin-known, stored}
 use borrow.Author.Needs.{needs}

@@ -2,7 +2,7 @@
 use mathlib.Core.Path.{sym, _∙_}
 use borrow.Author.Tests.{not-true, not-false}
 use Rattle.writer.specs.Put.{entryOf}
-use Rattle.modes.specs.Record.{held}
+use Rattle.writer.specs.CRecord.{held}
 use Rattle.cqdb_c.proofs.CCalls.{put-unknown, put-known}
 use borrow.Author.Needs.{needs}
 use Rattle.cqdb_c.proofs.writing.cqdb_put_parts.Statement.{statement}

@@ -1,4 +1,4 @@
--- `finish::at_hand::copy_words` meets its contract. Assumes nothing.
+-- `serialize::at_hand::copy_words` meets its contract. Assumes nothing.
 use native.Mathlib.Omega.{arith}
 use native.Mathlib.Nat.{add-zero}
 use borrow.Author.Needs.{needs}

@@ -1,4 +1,4 @@
--- `finish::counts::each_below` meets its contract. Assumes nothing.
+-- `serialize::counts::each_below` meets its contract. Assumes nothing.
 use Prim.Native.Nat.{_<_}
 use native.Mathlib.Omega.{arith}
 use Prim.Native.Nat.{ℕ, _≤_, _-_}

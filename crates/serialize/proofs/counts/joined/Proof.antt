@@ -1,4 +1,4 @@
--- `finish::counts::joined` meets its contract. Assumes nothing.
+-- `serialize::counts::joined` meets its contract. Assumes nothing.
 use Prim.Native.Nat.{ℕ, _≤_, _<_, _-_}
 use native.Mathlib.Omega.{arith}
 use lib.ListN.{getD}

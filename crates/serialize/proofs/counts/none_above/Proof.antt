@@ -1,4 +1,4 @@
--- `finish::counts::none_above` meets its contract. Assumes nothing.
+-- `serialize::counts::none_above` meets its contract. Assumes nothing.
 use borrow.Author.Needs.{needs}
 use Rattle.serialize.proofs.Joined.{bounded}
 use Rattle.serialize.proofs.counts.none_above.Statement.{statement}

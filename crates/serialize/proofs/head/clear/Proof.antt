@@ -1,4 +1,4 @@
--- `finish::head::clear` meets its contract. Assumes nothing.
+-- `serialize::head::clear` meets its contract. Assumes nothing.
 use native.Mathlib.Omega.{arith}
 use borrow.Author.Needs.{needs}
 use Prim.Native.Nat.{_≤_, _-_}

@@ -1,4 +1,4 @@
--- `finish::head::row_offset` meets its contract. Assumes nothing.
+-- `serialize::head::row_offset` meets its contract. Assumes nothing.
 use borrow.Author.Tests.{eq-eqb, ne-eqb}
 use Rattle.serialize.proofs.head.row_offset.Statement.{statement}
 use Rattle.serialize.proofs.head.row_offset.Tie as tie

@@ -1,4 +1,4 @@
--- `finish::head::write_head` meets its contract. Assumes nothing.
+-- `serialize::head::write_head` meets its contract. Assumes nothing.
 use Rattle.serialize.proofs.Heads.{head-stored}
 use borrow.Author.Needs.{needs}
 use Rattle.serialize.proofs.head.write_head.Statement.{statement}

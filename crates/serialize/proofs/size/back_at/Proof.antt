@@ -1,4 +1,4 @@
--- `finish::size::back_at` meets its contract. Assumes nothing.
+-- `serialize::size::back_at` meets its contract. Assumes nothing.
 use Rattle.serialize.proofs.FinishSteps.{linksAt-none, linksAt-some}
 use borrow.Author.Needs.{needs}
 use Rattle.serialize.proofs.size.back_at.Statement.{statement}

@@ -1,4 +1,4 @@
--- `finish::size::finished_size` meets its contract. Assumes nothing.
+-- `serialize::size::finished_size` meets its contract. Assumes nothing.
 use native.Mathlib.Omega.{arith}
 use Rattle.serialize.proofs.FinishSteps.{backIn-le}
 use borrow.Author.Needs.{needs}

@@ -1,4 +1,4 @@
--- `finish::tables::copied` meets its contract. Assumes nothing.
+-- `serialize::tables::copied` meets its contract. Assumes nothing.
 use Rattle.serialize.proofs.Filling.{copied-short, copied-rest}
 use borrow.Author.Needs.{needs}
 use Rattle.serialize.proofs.tables.copied.Statement.{statement}

@@ -1,4 +1,4 @@
--- `finish::tables::copy_pairs` meets its contract. Assumes nothing.
+-- `serialize::tables::copy_pairs` meets its contract. Assumes nothing.
 use native.Mathlib.Omega.{arith}
 use Prim.Native.Nat.{_≤_, _-_}
 use mathlib.Core.Path.{_≡_, _∙_}

@@ -1,4 +1,4 @@
--- `finish::tables::empty_bucket` meets its contract. Assumes nothing.
+-- `serialize::tables::empty_bucket` meets its contract. Assumes nothing.
 use native.Mathlib.Omega.{arith}
 use Prim.Native.Nat.{ℕ, _+_, _*_, _<_, _≤_, _-_}
 use mathlib.Core.Path.{_≡_, refl, sym, _∙_}
@@ -6,7 +6,7 @@ use mathlib.Core.Logic.{⊎-elim}
 use Rattle.image.specs.Bytes.{word}
 use Rattle.image.specs.Tables.{next, probeSequence, firstEmpty}
 use Rattle.image.proofs.ProbeStep.{next-inside, next-wraps}
-use Rattle.taking.proofs.Empties.{empty-here, empty-later, empty-none}
+use Rattle.image.proofs.FirstEmpty.{empty-here, empty-later, empty-none}
 use Rattle.serialize.proofs.tables.empty_bucket.Statement.{statement}
 use Rattle.serialize.proofs.tables.empty_bucket.Tie as tie
 use Rattle.serialize.proofs.tables.empty_bucket.Reads as reads

@@ -1,4 +1,4 @@
--- `finish::tables::fill_in` meets its contract. Assumes nothing.
+-- `serialize::tables::fill_in` meets its contract. Assumes nothing.
 use mathlib.Core.Path.{sym, _∙_}
 use Rattle.serialize.proofs.FinishSteps.{filled-by-tables, filled-singly}
 use borrow.Author.Needs.{needs}
@@ -6,7 +6,7 @@ use Rattle.serialize.proofs.tables.fill_in.Statement.{statement}
 use Rattle.serialize.proofs.tables.fill_in.Tie as tie
 use Rattle.serialize.proofs.tables.fill_in.Reads as reads
 use Rattle.serialize.proofs.tables.fill_in.Lts as lts
-use Rattle.taking.proofs.fill.take_singly.Reads as take-singly-reads
+use Rattle.serialize.proofs.insert.take_singly.Reads as take-singly-reads
 use Rattle.serialize.proofs.head.clear.Reads as clear-reads
 use Rattle.serialize.proofs.tables.parts.Reads as parts-reads
 use Rattle.serialize.proofs.tables.take_by_tables.Reads as take-by-tables-reads

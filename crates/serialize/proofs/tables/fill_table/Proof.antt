@@ -1,4 +1,4 @@
--- `finish::tables::fill_table` meets its contract. Assumes nothing.
+-- `serialize::tables::fill_table` meets its contract. Assumes nothing.
 use native.Mathlib.Omega.{arith}
 use borrow.Author.Tests.{not-true, not-false}
 use mathlib.Core.Path.{_≡_, sym, _∙_}

@@ -1,4 +1,4 @@
--- `finish::tables::fill_tables` meets its contract. Assumes nothing.
+-- `serialize::tables::fill_tables` meets its contract. Assumes nothing.
 use native.Mathlib.Omega.{arith}
 use borrow.Author.Needs.{needs}
 use Prim.Native.Nat.{ℕ, _+_, _*_, _≤_, _-_}

@@ -1,4 +1,4 @@
--- `finish::tables::insert` meets its contract. Assumes nothing.
+-- `serialize::tables::insert` meets its contract. Assumes nothing.
 use native.Mathlib.Omega.{arith}
 use native.Mathlib.Nat.{mod-lt}
 use Prim.Native.Nat.{_/_}

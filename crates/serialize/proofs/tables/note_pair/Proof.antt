@@ -1,4 +1,4 @@
--- `finish::tables::note_pair` meets its contract. Assumes nothing.
+-- `serialize::tables::note_pair` meets its contract. Assumes nothing.
 use mathlib.Core.Path.{refl}
 use Rattle.serialize.proofs.Parting.{pair-noted}
 use borrow.Author.Needs.{needs}

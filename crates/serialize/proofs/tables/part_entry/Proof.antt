@@ -1,4 +1,4 @@
--- `finish::tables::part_entry` meets its contract. Assumes nothing.
+-- `serialize::tables::part_entry` meets its contract. Assumes nothing.
 use native.Mathlib.Omega.{arith}
 use Prim.Native.Nat.{_+_, _-_}
 use mathlib.Core.Path.{refl}
@@ -12,7 +12,7 @@ use Rattle.serialize.proofs.tables.part_entry.Reads as reads
 use Rattle.serialize.proofs.tables.part_entry.Lts as lts
 use Rattle.image.proofs.get_u32.Reads as get-u32-reads
 use Rattle.jhash.proofs.name_hash.Reads as name-hash-reads
-use Rattle.taking.proofs.fill.store_link.Reads as store-link-reads
+use Rattle.serialize.proofs.insert.store_link.Reads as store-link-reads
 use Rattle.serialize.proofs.tables.note_pair.Reads as note-pair-reads
 
 get-u32-requires : tie.Need-get-u32-requires

@@ -1,4 +1,4 @@
--- `finish::tables::parts` meets its contract. Assumes nothing.
+-- `serialize::tables::parts` meets its contract. Assumes nothing.
 use borrow.Author.Needs.{needs}
 use Rattle.serialize.proofs.FinishSteps.{parts-few, parts-many}
 use Rattle.serialize.proofs.tables.parts.Statement.{statement}

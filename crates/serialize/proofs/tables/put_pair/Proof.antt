@@ -1,4 +1,4 @@
--- `finish::tables::put_pair` meets its contract. Assumes nothing.
+-- `serialize::tables::put_pair` meets its contract. Assumes nothing.
 use Rattle.serialize.proofs.Parting.{pair-stored}
 use borrow.Author.Needs.{needs}
 use Rattle.serialize.proofs.tables.put_pair.Statement.{statement}

@@ -1,4 +1,4 @@
--- `finish::tables::store_pair` meets its contract. Assumes nothing.
+-- `serialize::tables::store_pair` meets its contract. Assumes nothing.
 use Rattle.serialize.proofs.Parting.{pair-stored}
 use borrow.Author.Needs.{needs}
 use Rattle.serialize.proofs.tables.store_pair.Statement.{statement}

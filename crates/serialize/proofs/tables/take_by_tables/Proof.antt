@@ -1,4 +1,4 @@
--- `finish::tables::take_by_tables` meets its contract. Assumes nothing.
+-- `serialize::tables::take_by_tables` meets its contract. Assumes nothing.
 use Rattle.serialize.proofs.Parting.{by-tables}
 use borrow.Author.Needs.{needs}
 use Rattle.serialize.proofs.tables.take_by_tables.Statement.{statement}

@@ -1,2 +1,0 @@
--- Laws of C's writer record.
-pub mod Records

@@ -1,0 +1,25 @@
+-- `writer::c_record::writer_of` meets its contract. Assumes nothing.
+use mathlib.Core.Path.{ap₂}
+use Rattle.image.specs.declared.Mode.{Mode}
+use Rattle.writer.specs.declared.Repeats.{Repeats}
+use Rattle.writer.specs.declared.CQDBWriter.{CQDBWriter}
+use borrow.Author.Needs.{needs}
+use Rattle.writer.proofs.c_record.writer_of.Statement.{statement}
+use Rattle.writer.proofs.c_record.writer_of.Tie as tie
+
+mode-of-requires : tie.Need-mode-of-requires
+mode-of-requires c κs = search needs
+
+repeats-of-requires : tie.Need-repeats-of-requires
+repeats-of-requires c κs = search needs
+
+returns : tie.Need-returns
+returns c =
+    let r = c .before .before .args .r in
+    ap₂ {C = CQDBWriter}
+    (λ (f : Mode) (g : Repeats). record { mode = f; repeats = g; length = r .length; end = r .end; entries = r .entries; back = r .back })
+    (c .before .mode-of .ensures)
+    (c .repeats-of .ensures)
+
+pub writer-of-spec : {M : Type 1} → statement M
+writer-of-spec = tie.close (tie.spec mode-of-requires repeats-of-requires returns)
