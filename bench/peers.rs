@@ -2,122 +2,18 @@
 // same order, built into a file in the folder for temporary files and asked there; bench/peers/ has each library's side. All go
 // through the same calls and take turns, the best of several counts, and each answer is checked.
 mod names;
+mod side;
 #[allow(dead_code)]
 mod table;
 
 use names::{drawn, mixed, Names};
-use std::ffi::{c_char, c_int, c_void, CString};
+use side::{List, Opened, Questions, Side};
 use std::fs;
-use std::path::PathBuf;
 use std::ptr;
 use table::time;
 
 const LENGTH: usize = 9;
 const ABSENT: i64 = -1;
-
-// As in bench/peers/peer.h.
-#[repr(C)]
-struct List {
-    bytes: *const u8,
-    length: usize,
-    n: usize,
-}
-
-type Build = unsafe extern "C" fn(*const c_char, *const List) -> c_int;
-
-#[repr(C)]
-struct Peer {
-    add: Option<Build>,
-    insert: Build,
-    open: unsafe extern "C" fn(*const c_char) -> *mut c_void,
-    find: unsafe extern "C" fn(*mut c_void, *const u8, usize) -> i64,
-    close: unsafe extern "C" fn(*mut c_void),
-}
-
-// The peer of a library that is installed: bench/run then sets the flag of its name.
-macro_rules! peer {
-    ($name:ident) => {{
-        #[cfg($name)]
-        {
-            extern "C" {
-                static $name: Peer;
-            }
-            // SAFETY: the C file of the peer defines it, and nobody writes to it.
-            Some(unsafe { &$name })
-        }
-        #[cfg(not($name))]
-        None::<&'static Peer>
-    }};
-}
-
-// A library and its file. The file goes when the program ends.
-struct Side {
-    name: &'static str,
-    peer: &'static Peer,
-    file: PathBuf,
-}
-
-impl Side {
-    fn path(&self) -> CString {
-        CString::new(self.file.as_os_str().as_encoded_bytes()).expect("a path")
-    }
-
-    fn remove(&self) {
-        match fs::remove_file(&self.file) {
-            Err(error) if error.kind() != std::io::ErrorKind::NotFound => panic!("{}: {error}", self.file.display()),
-            _ => (),
-        }
-    }
-
-    // The time of a build for each name. The file of the build before is removed first, which does not count.
-    fn build(&self, build: Build, list: &List) -> f64 {
-        self.remove();
-        let path = self.path();
-        // SAFETY: the path ends with a zero byte, and the list's pointers are those of slices that outlive the call.
-        time(list.n, || assert_eq!(unsafe { build(path.as_ptr(), list) }, 0, "{} builds", self.name))
-    }
-
-    fn open(&self) -> Opened<'_> {
-        // SAFETY: the path ends with a zero byte.
-        let db = unsafe { (self.peer.open)(self.path().as_ptr()) };
-        assert!(!db.is_null(), "{} opens its file", self.name);
-        Opened { side: self, db }
-    }
-}
-
-impl Drop for Side {
-    fn drop(&mut self) {
-        self.remove();
-    }
-}
-
-// A side's file, ready for questions.
-struct Opened<'a> {
-    side: &'a Side,
-    db: *mut c_void,
-}
-
-impl Opened<'_> {
-    fn ask(&self, questions: &Questions) {
-        for (name, &answer) in questions.names.iter().zip(&questions.answers) {
-            // SAFETY: the peer opened db, and the name is lent with its length.
-            let found = unsafe { (self.side.peer.find)(self.db, name.as_ptr(), name.len()) };
-            assert!(found == answer, "{}: {name} gives {found} in place of {answer}", self.side.name);
-        }
-    }
-}
-
-impl Drop for Opened<'_> {
-    fn drop(&mut self) {
-        // SAFETY: the peer opened db, and it is not asked again.
-        unsafe { (self.side.peer.close)(self.db) };
-    }
-}
-
-struct Questions<'a> {
-    names: Vec<&'a str>,
-    answers: Vec<i64>,
-}
 
 fn sides() -> Vec<Side> {
     let libraries = [
