@@ -37,11 +37,11 @@ use Rattle.lists.proofs.WrittenRecord.{written-size, written-recorded}
 use Rattle.lists.proofs.ListPuts.{put-written, fresh-written}
 use Rattle.lists.proofs.ListCloses.{close-accepted, close-closed, closed-buffer}
 use Rattle.lists.proofs.CallLists.{list-answers, list-accepted, list-written}
-use Rattle.bulk_tables.specs.steps.Parted.{at}
+use Rattle.bulk_tables.specs.steps.Partition.{at}
 use Rattle.build.specs.Build.{callsOf, listed}
 use Rattle.build.specs.steps.Capacity.{RoomForAll}
 use Rattle.build.specs.steps.Steps.{entriesListed}
-use Rattle.packed.proofs.NameEnds.{begin-later}
+use Rattle.bulk_tables.proofs.Offsets.{size-all as size-entries}
 use Rattle.build.proofs.StoredAll.{length-listed}
 use Rattle.writer.proofs.Closes.{accepted as closable}
 
@@ -62,34 +62,6 @@ entries-back (x ∷ xs) (id ∷ ids) top h =
     let later = entries-back xs ids top (λ i k. h (suc i) (omega arith)) in
     omega arith
 
--- the last end, or s where there is none
-abbrev lastEnd : ℕ → List ℕ → ℕ
-lastEnd s [] = s
-lastEnd s (e ∷ es) = lastEnd e es
-
-last-is : (e : ℕ) (es : List ℕ) → lastEnd e es ≡ getD (e ∷ es) (length es) 0
-last-is e [] = refl
-last-is e (f ∷ es) = last-is f es
-
-last-begin : (ends : List ℕ) → lastEnd 0 ends ≡ beginOf ends (length ends)
-last-begin [] = refl
-last-begin (e ∷ es) =
-    let k : length es ≡ length (e ∷ es) - 1 = omega arith in
-    last-is e es ∙ ap (λ (m : ℕ). getD (e ∷ es) m 0) k ∙ sym (begin-later (e ∷ es) (length (e ∷ es)) (λ z. omega arith))
-
-entries-size : (bytes : List ℕ) (s : ℕ) (ends ids : List ℕ) → invalidEnds (length bytes) s ends ≡ false → length ends ≤ length ids
-    → s + entriesSize (entriesListed (namesFrom bytes s ends) ids) ≡ lastEnd s ends + 9 * length ends
-unfolding namesFrom invalidEnds callsOf puts entriesSize
-entries-size bytes s [] ids good many = omega arith
-entries-size bytes s (e ∷ es) [] good many = absurd (omega arith)
-entries-size bytes s (e ∷ es) (id ∷ ids) good many =
-    let size = length bytes in
-    let two = or-false-first (ltb e s || ltb size e) (invalidEnds size e es) good in
-    let rises = ltb-false e s (or-false-first (ltb e s) (ltb size e) two) in
-    let inside = ltb-false size e (or-false-second (ltb e s) (ltb size e) two) in
-    let later = entries-size bytes e es ids (or-false-second (ltb e s || ltb size e) (invalidEnds size e es) good) (omega arith) in
-    omega (arith, rises, length-between bytes s e rises inside, later)
-
 module _ (bytes ends ids : List ℕ) (good : invalidEnds (length bytes) 0 ends ≡ false) (many : length ends ≤ length ids) where
   pub number-all : length (entriesListed (names bytes ends) ids) ≡ length ends
   number-all = let n = length-names bytes ends in length-listed (names bytes ends) ids (omega arith) ∙ n
@@ -98,8 +70,7 @@ module _ (bytes ends ids : List ℕ) (good : invalidEnds (length bytes) 0 ends �
   names-all = let n = length-names bytes ends in entries-names (names bytes ends) ids (omega arith)
 
   pub end-all : entriesEnd (entriesListed (names bytes ends) ids) ≡ headSize + beginOf ends (length ends) + 9 * length ends
-  unfolding names
-  end-all = omega (arith, entries-size bytes 0 ends ids good many, last-begin ends)
+  end-all = size-entries bytes ends good (entriesListed (names bytes ends) ids) names-all
 
 -- ---- the size of their image
 

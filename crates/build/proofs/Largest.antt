@@ -7,7 +7,7 @@ use mathlib.Core.Path.{_≡_, refl, sym, ap, _∙_}
 use mathlib.Core.List.{List, [], _∷_}
 use lib.ListN.{length}
 use Rattle.image.specs.Image.{backSize}
-use Rattle.bulk_tables.specs.steps.Parted.{at}
+use Rattle.bulk_tables.specs.steps.Partition.{at}
 use Rattle.build.specs.steps.Capacity.{largestTo}
 use Rattle.lists.specs.Calls.{puts}
 use Rattle.build.specs.Build.{callsOf}

@@ -4,6 +4,7 @@ pub mod StoredAll
 pub mod Whole
 pub mod AllPut
 pub mod ListWhole
+pub mod BulkBuilt
 pub mod SinglePuts
 pub mod Theorem
 pub mod Rows

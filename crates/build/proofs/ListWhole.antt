@@ -16,9 +16,6 @@ use Rattle.packed.proofs.NameEnds.{length-names}
 use Rattle.serialize.specs.Finish.{standing, finishedBuffer}
 use Rattle.serialize.specs.Record.{finishedOf}
 use Rattle.serialize.specs.steps.Asked.{Standing, TablesAtHand, LinksStand}
-use Rattle.bulk_tables.specs.steps.Parted.{tableOfName, countOfTable}
-use Rattle.bulk_tables.proofs.PairsOfTable.{table-count}
-use Rattle.bulk_tables.proofs.Offsets.{names-short}
 use Rattle.build.specs.steps.Capacity.{largestTo, RoomForAll}
 use Rattle.build.specs.steps.Steps.{entriesListed}
 use Rattle.packed.proofs.NameEnds.{begin-later}
@@ -110,21 +107,12 @@ module _ (mode : Mode) (buffer bytes ends ids : List ℕ) (good : invalidEnds (l
         small = omega (arith, size-small mode buffer bytes ends ids good many roomy);
       }
 
-  -- the counts of the names are those of the entries
-  counts-are : (counts : List ℕ) → ((t : ℕ) → t < 256 → getD counts t 0 ≡ countOfTable (tableOfName xs) t (length ends))
-      → (t : ℕ) → t < 256 → getD counts t 0 ≡ count t (placed headSize es)
-  counts-are counts known t h =
-      known t h
-      ∙ table-count bytes ends good
-      (names-short bytes ends good (omega (arith, end-all bytes ends ids good many, size-small mode buffer bytes ends ids good many roomy)))
-      es (names-all bytes ends ids good many) t
-
   -- ---- what finishing asks for, and what it leaves
 
   module _ (counts buf : List ℕ) (long : length buf ≡ length buffer) (area : between buf headSize (entriesEnd (entriesListed (names bytes ends) ids)) ≡ cat entryBytes (entriesListed (names bytes ends) ids))
-      (known : (t : ℕ) → t < 256 → getD counts t 0 ≡ countOfTable (tableOfName (names bytes ends)) t (length ends)) (tables : length counts ≡ 256) where
+      (known : (t : ℕ) → t < 256 → getD counts t 0 ≡ count t (placed headSize (entriesListed (names bytes ends) ids))) (tables : length counts ≡ 256) where
     is-standing : standing buf (entriesEnd es) (length ends) ≡ es
-    is-standing = standing-all mode buffer bytes ends ids good many roomy words counts buf long area (counts-are counts known) tables
+    is-standing = standing-all mode buffer bytes ends ids good many roomy words counts buf long area known tables
 
     pub asked : (end back : ℕ) → end ≡ entriesEnd (entriesListed (names bytes ends) ids) → back ≡ backSizeOf mode (entriesListed (names bytes ends) ids)
         → (table-words : List ℕ) → ((qs : List Entry) → map (λ (e : Entry). e .name) qs ≡ names bytes ends → TablesAtHand table-words qs)
@@ -136,7 +124,7 @@ module _ (mode : Mode) (buffer bytes ends ids : List ℕ) (good : invalidEnds (l
     asked end back e f table-words told linked =
         subst (λ (o : ℕ). Standing mode o (length ends) back counts buf × TablesAtHand table-words (standing buf o (length ends)) × LinksStand mode o (length ends) back buf) (sym e)
         (subst (λ (b : ℕ). Standing mode (entriesEnd es) (length ends) b counts buf × TablesAtHand table-words (standing buf (entriesEnd es) (length ends)) × LinksStand mode (entriesEnd es) (length ends) b buf) (sym f) (
-          stands-all mode buffer bytes ends ids good many roomy words counts buf long area (counts-are counts known) tables,
+          stands-all mode buffer bytes ends ids good many roomy words counts buf long area known tables,
           told (standing buf (entriesEnd es) (length ends)) (ap (map (λ (e : Entry). e .name)) is-standing ∙ names-all bytes ends ids good many),
           ap (between buf (entriesEnd es + 16 * length ends)) finished-is
               ∙ linked
@@ -151,15 +139,3 @@ module _ (mode : Mode) (buffer bytes ends ids : List ℕ) (good : invalidEnds (l
         ∙ ap₂ (λ (o b : ℕ). finishedBuffer mode o (length ends) b buf) e f
         ∙ ap₂ (λ (qs : List Entry) (k : ℕ). image mode qs ++ drop k buf) is-standing finished-is
         ∙ ap (λ (r : List ℕ). image mode es ++ r) behind
-
--- ---- the answers of a list to none of which anything is due
-
-zeros-list : (l : List ℕ) (n : ℕ) → n ≤ length l → ((i : ℕ) → i < n → getD l i 0 ≡ 0) → take n l ≡ replicate n 0
-zeros-list l zero h z = refl
-zeros-list [] (suc n) h z = absurd (omega arith)
-zeros-list (x ∷ l) (suc n) h z = ap₂ {C = List ℕ} (λ (a : ℕ) (r : List ℕ). a ∷ r) (z 0 (omega arith)) (zeros-list l n (omega arith) (λ i k. z (suc i) (omega arith)))
-
-pub told-none : (rs places answers : List ℕ) (n : ℕ) → n ≤ length rs → ((i : ℕ) → i < n → getD rs i 0 ≡ 0) → drop n rs ≡ drop n places → answers ≡ replicate n 0
-    → rs ≡ answers ++ drop n places
-told-none rs places answers n h z kept e =
-    sym (take-append-drop n rs) ∙ ap₂ {C = List ℕ} (λ (a b : List ℕ). a ++ b) (zeros-list rs n h z ∙ sym e) kept

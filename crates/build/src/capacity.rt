@@ -27,7 +27,7 @@ pub(crate) fn largest(ids: &[u32], n: usize) -> u32
     top
 }
 
-// Has the buffer room for an image of all names, and the scratch memory 7 words for each? False for an empty list.
+// Has the buffer room for an image of all names, and the scratch memory 6 words for each? False for an empty list.
 pub(crate) fn has_capacity(mode: Mode, ends: &[u64], ids: &[u32], room: usize, words: usize) -> bool
     requires { ⌜ length (now ends) ≤ length (now ids) ⌝ }
     ensures { λ r. ⌜ (r ≡ true → Capacity mode (now (ends .entry)) (now (ids .entry)) room words) ⌝ }
@@ -39,7 +39,7 @@ pub(crate) fn has_capacity(mode: Mode, ends: &[u64], ids: &[u32], room: usize, w
     if 171798691 < n {
         return false;
     }
-    if words < 7 * n {
+    if words < 6 * n {
         return false;
     }
     let last = ends[n - 1];

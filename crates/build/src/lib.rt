@@ -5,13 +5,14 @@ ghost use lib.ListN.{length};
 ghost use Rattle.writer.specs.State.{stateWith, refusesRepeats};
 ghost use Rattle.writer.specs.Close.{closeRefusal};
 ghost use Rattle.build.specs.Build.{buildRefusal, building, bufferAfter, answersAfter, builtOf};
-ghost use Rattle.build.specs.steps.Capacity.{Capacity};
-ghost use Rattle.build.specs.steps.Steps.{ListPre, ListBuilt, Finished};
-use bulk_tables::table_list;
+ghost use Rattle.build.specs.steps.Steps.{ListPre, ListBuilt, BulkTried, Finished};
+use bulk_tables::build_tables;
+use bulk_tables::hashes::hash_all;
 use capacity::has_capacity;
 use image::Mode;
 use image::scratch::clear;
 use packed::invalid_ends;
+use singly::has_slots;
 use singly::index_words;
 use singly::put_list;
 use stored::write_list;
@@ -100,8 +101,9 @@ fn refuses(repeats: Repeats) -> bool
     }
 }
 
-// Bulk path: makes all tables in the scratch memory, then writes the image in one pass. Where a name is refused, or
-// may be, the names are put one by one.
+// Bulk path: builds all tables in the scratch memory, then writes the image in one pass. Returns the image's size, or 0
+// if a name is refused or may be, or if memory is short: then the buffer is as it was, and `refusals` has the names'
+// hashes if the scratch memory has a slot for each name.
 fn build_bulk(
     mode: Mode,
     repeats: Repeats,
@@ -111,47 +113,35 @@ fn build_bulk(
     ids: &[u32],
     refusals: &mut [u32],
     scratch: &mut [u32],
-) -> Built
-    requires { ⌜
-        ListPre (now buf) (now bytes) (now ends) (now ids) (now refusals)
-        × Capacity mode (now ends) (now ids) (length (now buf)) (length (now scratch))
-        ⌝ }
+) -> u32
+    requires { ⌜ ListPre (now buf) (now bytes) (now ends) (now ids) (now refusals) ⌝ }
     ensures { λ r. ⌜
-        ListBuilt mode repeats (now (buf .entry)) (now (bytes .entry)) (now (ends .entry)) (now (ids .entry))
-        (now (refusals .entry)) r (now (buf .exit)) (now (refusals .exit))
+        BulkTried mode repeats (now (buf .entry)) (now (bytes .entry)) (now (ends .entry)) (now (ids .entry))
+        (now (refusals .entry)) (length (now (scratch .entry))) r (now (buf .exit)) (now (refusals .exit))
         ⌝ }
 {
     let n = ends.len();
-    let mut counts = [0; 256];
-    let different = refuses(repeats);
-    if table_list(
-        different,
-        bytes,
-        ends,
-        &mut *refusals,
-        &mut *scratch,
-        &mut counts,
-    ) {
-        let words = &scratch[..4 * n];
-        let size = write_list(mode, &mut *buf, bytes, ends, ids, &counts, words);
-        return Built::Image(Made {
-            size,
-            accepted: n as u32,
-        });
+    if !has_slots(n, scratch.len()) {
+        return 0;
     }
-    build_singly(
-        mode,
-        repeats,
-        &mut *buf,
-        bytes,
-        ends,
-        ids,
-        &mut *refusals,
-        &mut *scratch,
-    )
+    let mut counts = [0; 256];
+    if !hash_all(bytes, ends, &mut *refusals, &mut counts) {
+        return 0;
+    }
+    if !has_capacity(mode, ends, ids, buf.len(), scratch.len()) {
+        return 0;
+    }
+    let distinct = refuses(repeats);
+    if !build_tables(distinct, bytes, ends, &*refusals, &counts, &mut *scratch) {
+        return 0;
+    }
+    let tables = &scratch[..4 * n];
+    let size = write_list(mode, &mut *buf, bytes, ends, ids, &counts, tables);
+    clear(&mut *refusals, n);
+    size
 }
 
-// The bulk path where an image of all names has room, otherwise the names are put one by one.
+// The bulk path, and if that is not possible the puts one by one.
 fn build_list(
     mode: Mode,
     repeats: Repeats,
@@ -168,17 +158,19 @@ fn build_list(
         (now (refusals .entry)) r (now (buf .exit)) (now (refusals .exit))
         ⌝ }
 {
-    if has_capacity(mode, ends, ids, buf.len(), scratch.len()) {
-        return build_bulk(
-            mode,
-            repeats,
-            &mut *buf,
-            bytes,
-            ends,
-            ids,
-            &mut *refusals,
-            &mut *scratch,
-        );
+    let size = build_bulk(
+        mode,
+        repeats,
+        &mut *buf,
+        bytes,
+        ends,
+        ids,
+        &mut *refusals,
+        &mut *scratch,
+    );
+    if 0 < size {
+        let accepted = ends.len() as u32;
+        return Built::Image(Made { size, accepted });
     }
     build_singly(
         mode,

@@ -1,12 +1,11 @@
--- Laws of names parted by table, and of the tables that are made of them.
-pub mod Tallies
-pub mod NamesParted
+-- Laws of names sorted by table, and of the tables that are built from them.
+pub mod PairStored
+pub mod TableCounts
 pub mod Offsets
-pub mod PairsParted
+pub mod Partitioning
 pub mod PairsOfTable
-pub mod Searching
-pub mod Twins
+pub mod Probing
 pub mod TablesFilled
-pub mod AllApart
+pub mod AllDistinct
 pub mod TableWords
 pub mod WholeTables

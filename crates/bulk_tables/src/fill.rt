@@ -1,41 +1,40 @@
-// The tables filled in the lent memory, each from its pairs in their order. A name that stands twice in the list is met on the
-// way, since equal names have one hash and so one search.
+// Fills the tables in scratch memory, each from its pairs in their order. Equal names have equal hashes, so the probe
+// sequence of a duplicate reaches the bucket of the name before.
 ghost use mathlib.Core.Path.{_≡_};
-ghost use mathlib.Core.Bool.{Bool, true, false};
-ghost use Prim.Native.Nat.{ℕ, _+_, _*_, _-_, _≤_, _<_};
-ghost use lib.ListN.{length};
-ghost use Rattle.image.specs.Tables.{start, probeSequence, firstEmpty};
-ghost use Rattle.packed.specs.Names.{invalidEnds};
-ghost use Rattle.bulk_tables.specs.steps.Parted.{at, firstIn};
-ghost use Rattle.lookup_laws.specs.steps.HasMatch.{hasMatch};
-ghost use Rattle.bulk_tables.specs.steps.Tabled.{offsetOf, pairIn, bucketIn, Differ, Fills, Apart};
-use super::apart::differ;
+ghost use mathlib.Core.Bool.{true};
+ghost use Rattle.bulk_tables.specs.steps.Contracts.{ProbePre, Probed};
+ghost use Rattle.bulk_tables.specs.steps.Contracts.{FillTablePre, TableFilled, FillAllPre, AllFilled};
+use super::distinct::distinct_names;
+use super::layout::buckets_at;
+use super::layout::hash_at;
+use super::layout::offset_at;
+use super::layout::pairs_at;
+use super::layout::store_pair;
 
-// The first empty bucket of the search for a pair among the m buckets from word o on; m where an equal name may have been met, if
-// names are to differ, or where no bucket is empty.
-fn bucket_for(
-    different: bool,
+// The first empty bucket for hash h among the m buckets from word o on. m if names must be distinct and a duplicate was
+// found, or if no bucket is empty.
+fn probe(
+    distinct: bool,
     bytes: &[u8],
     ends: &[u64],
-    work: &[u32],
+    scratch: &[u32],
     o: usize,
     m: usize,
     h: u32,
     offset: u32,
 ) -> usize
-    requires { ⌜ (invalidEnds (length (now bytes)) 0 (now ends) ≡ false) × (0 < length (now ends)) × (length (now ends) ≤ 171798691) × ((k : ℕ) → k ≤ length (now ends) → offsetOf (now ends) k ≤ 4294967295) × (0 < m) × (o + 2 * m ≤ length (now work)) ⌝ }
-    ensures first { λ r. ⌜ (r < m → r ≡ firstEmpty (λ (k : ℕ). bucketIn (now (work .entry)) o k .at) (probeSequence m m (start h m))) ⌝ }
-    ensures apart { λ r. ⌜ (r < m → different ≡ true → (v : ℕ → Bool) → ((a : ℕ) → Differ (now (bytes .entry)) (now (ends .entry)) a offset → v a ≡ false) → hasMatch (bucketIn (now (work .entry)) o) h v (probeSequence m m (start h m)) ≡ false) ⌝ }
+    requires { ⌜ ProbePre (now bytes) (now ends) (now scratch) o m ⌝ }
+    ensures { λ r. ⌜ Probed distinct (now (bytes .entry)) (now (ends .entry)) (now (scratch .entry)) o m h offset r ⌝ }
 {
     let mut k = (h / 256) as usize % m;
     let mut left = m;
     while 0 < left {
-        let a = work[o + 2 * k + 1];
+        let a = offset_at(scratch, o, k);
         if a == 0 {
             return k;
         }
-        if work[o + 2 * k] == h {
-            if different && !differ(bytes, ends, a, offset) {
+        if hash_at(scratch, o, k) == h {
+            if distinct && !distinct_names(bytes, ends, a, offset) {
                 return m;
             }
         }
@@ -45,60 +44,62 @@ fn bucket_for(
     m
 }
 
-// The buckets of a table of c pairs filled, which were empty. False where an equal name may have been met.
+// Fills the empty buckets of a table from its c pairs, the first of which is the p-th of all. False if names must be
+// distinct and a duplicate was found.
 fn fill_table(
-    different: bool,
+    distinct: bool,
     bytes: &[u8],
     ends: &[u64],
-    work: &mut [u32],
-    first: usize,
+    scratch: &mut [u32],
+    p: usize,
     c: usize,
 ) -> bool
-    requires { ⌜ (invalidEnds (length (now bytes)) 0 (now ends) ≡ false) × (0 < length (now ends)) × (length (now ends) ≤ 171798691) × ((k : ℕ) → k ≤ length (now ends) → offsetOf (now ends) k ≤ 4294967295) × (7 * length (now ends) ≤ length (now work)) × (first + c ≤ length (now ends)) × ((p : ℕ) → first ≤ p → p < first + c → 0 < pairIn (length (now ends)) (now work) p .at) × ((w : ℕ) → 4 * first ≤ w → w < 4 * first + 4 * c → at (now work) w ≡ 0) ⌝ }
-    ensures fills { λ r. ⌜ (r ≡ true → Fills (length (now (ends .entry))) (now (work .exit)) (4 * first) first c) ⌝ }
-    ensures apart { λ r. ⌜ (r ≡ true → different ≡ true → Apart (now (bytes .entry)) (now (ends .entry)) (now (work .exit)) first c) ⌝ }
-    ensures kept { λ _. ⌜ ((w : ℕ) → w < 4 * first → at (now (work .exit)) w ≡ at (now (work .entry)) w) × ((w : ℕ) → 4 * first + 4 * c ≤ w → at (now (work .exit)) w ≡ at (now (work .entry)) w) × (length (now (work .exit)) ≡ length (now (work .entry))) ⌝ }
+    requires { ⌜ FillTablePre (now bytes) (now ends) (now scratch) p c ⌝ }
+    ensures { λ r. ⌜
+        (r ≡ true → TableFilled distinct (now (bytes .entry)) (now (ends .entry)) (now (scratch .entry))
+        (now (scratch .exit)) p c)
+        ⌝ }
 {
-    let n = ends.len();
+    let pairs = pairs_at(ends.len());
+    let buckets = buckets_at(p);
     let m = 2 * c;
-    let o = 4 * first;
     let mut i = 0;
     while i < c {
-        let place = 4 * n + 2 * (first + i);
-        let h = work[place];
-        let offset = work[place + 1];
-        let k = bucket_for(different, bytes, ends, &*work, o, m, h, offset);
+        let h = hash_at(&*scratch, pairs, p + i);
+        let offset = offset_at(&*scratch, pairs, p + i);
+        let k = probe(distinct, bytes, ends, &*scratch, buckets, m, h, offset);
         if m <= k {
             return false;
         }
-        work[o + 2 * k] = h;
-        work[o + 2 * k + 1] = offset;
+        store_pair(&mut *scratch, buckets, k, h, offset);
         i += 1;
     }
     true
 }
 
-// All tables filled. `tables` has where the places of each end. False where an equal name may have been met.
+// Fills all tables. `lasts` has where the pairs of each table end. False if names must be distinct and a duplicate was
+// found.
 pub(super) fn fill_all(
-    different: bool,
+    distinct: bool,
     bytes: &[u8],
     ends: &[u64],
-    work: &mut [u32],
-    tables: &[u32; 256],
+    scratch: &mut [u32],
+    lasts: &[u32; 256],
 ) -> bool
-    requires { ⌜ (invalidEnds (length (now bytes)) 0 (now ends) ≡ false) × (0 < length (now ends)) × (length (now ends) ≤ 171798691) × ((k : ℕ) → k ≤ length (now ends) → offsetOf (now ends) k ≤ 4294967295) × (7 * length (now ends) ≤ length (now work)) × ((t : ℕ) → t < 256 → (firstIn (now tables) t ≤ at (now tables) t) × (at (now tables) t ≤ length (now ends))) × ((p : ℕ) → p < length (now ends) → 0 < pairIn (length (now ends)) (now work) p .at) × ((w : ℕ) → w < 4 * length (now ends) → at (now work) w ≡ 0) ⌝ }
-    ensures fills { λ r. ⌜ (r ≡ true → (t : ℕ) → t < 256 → Fills (length (now (ends .entry))) (now (work .exit)) (4 * firstIn (now (tables .entry)) t) (firstIn (now (tables .entry)) t) (at (now (tables .entry)) t - firstIn (now (tables .entry)) t)) ⌝ }
-    ensures apart { λ r. ⌜ (r ≡ true → different ≡ true → (t : ℕ) → t < 256 → Apart (now (bytes .entry)) (now (ends .entry)) (now (work .exit)) (firstIn (now (tables .entry)) t) (at (now (tables .entry)) t - firstIn (now (tables .entry)) t)) ⌝ }
-    ensures kept { λ _. ⌜ ((w : ℕ) → 4 * length (now (ends .entry)) ≤ w → at (now (work .exit)) w ≡ at (now (work .entry)) w) × (length (now (work .exit)) ≡ length (now (work .entry))) ⌝ }
+    requires { ⌜ FillAllPre (now bytes) (now ends) (now scratch) (now lasts) ⌝ }
+    ensures { λ r. ⌜
+        (r ≡ true → AllFilled distinct (now (bytes .entry)) (now (ends .entry)) (now (scratch .entry))
+        (now (scratch .exit)) (now (lasts .entry)))
+        ⌝ }
 {
-    let mut first = 0;
+    let mut p = 0;
     let mut t = 0;
     while t < 256 {
-        let end = tables[t] as usize;
-        if !fill_table(different, bytes, ends, &mut *work, first, end - first) {
+        let end = lasts[t] as usize;
+        if !fill_table(distinct, bytes, ends, &mut *scratch, p, end - p) {
             return false;
         }
-        first = end;
+        p = end;
         t += 1;
     }
     true

@@ -112,16 +112,16 @@ walk-step buf end entries counts₀ at left back counts k r some n h id name cou
     let a = r .inside in
     let fi = f .inside in
     let le = length-between buf at end a k in
-    let first = firstEntry (between buf at end) in
+    let and-first = firstEntry (between buf at end) in
     let later = entriesIn m (between buf (at + (8 + n)) end) in
-    let es : entriesIn left (between buf at end) ≡ first ∷ later =
+    let es : entriesIn left (between buf at end) ≡ and-first ∷ later =
     ap (λ (q : ℕ). entriesIn q (between buf at end)) l ∙ entries-rest buf at end n m a k f in
-    let fid : first .id ≡ id = first-id buf at end n m a k f ∙ sym ei in
-    let fh : hashOf (first .name) ≡ h = ap hashOf (first-name buf at end n m a k f ∙ sym en) ∙ sym eh in
+    let fid : and-first .id ≡ id = first-id buf at end n m a k f ∙ sym ei in
+    let fh : hashOf (and-first .name) ≡ h = ap hashOf (first-name buf at end n m a k f ∙ sym en) ∙ sym eh in
     let bs : backSize (entriesIn left (between buf at end)) ≡ max (id + 1) (backSize later) =
-    ap backSize es ∙ backSize-cons first later ∙ ap (λ (q : ℕ). max (q + 1) (backSize later)) fid in
+    ap backSize es ∙ backSize-cons and-first later ∙ ap (λ (q : ℕ). max (q + 1) (backSize later)) fid in
     let ts : tallied counts (entriesIn left (between buf at end)) ≡ tallied counts′ later =
-    ap (λ (q : List Entry). tallied counts q) es ∙ tallied-cons counts first later
+    ap (λ (q : List Entry). tallied counts q) es ∙ tallied-cons counts and-first later
     ∙ ap (λ (q : ℕ). tallied (raisedCounts counts q) later) fh ∙ ap (λ (q : List ℕ). tallied q later) (sym ec) in
     record {
       inside = omega arith;
@@ -159,14 +159,14 @@ pub contains-step : (buf : List ℕ) (end entries : ℕ) (sought : List ℕ) (at
     → ContainsRest buf end entries sought (at + (8 + n)) (left - 1) (so-far || b)
 contains-step buf end entries sought at left so-far k a some m n name b f en eb =
     let later = entriesIn (left - 1) (between buf (at + (8 + n)) end) in
-    let first = firstEntry (between buf at end) in
+    let and-first = firstEntry (between buf at end) in
     let l : left ≡ suc (left - 1) = omega arith in
-    let es : entriesIn left (between buf at end) ≡ first ∷ later =
+    let es : entriesIn left (between buf at end) ≡ and-first ∷ later =
     ap (λ (q : ℕ). entriesIn q (between buf at end)) l ∙ entries-rest buf at end n (left - 1) a k f in
-    let h : b ≡ hasName sought first = eb ∙ ap (λ (q : List ℕ). same q sought) (en ∙ sym (first-name buf at end n (left - 1) a k f)) in
+    let h : b ≡ hasName sought and-first = eb ∙ ap (λ (q : List ℕ). same q sought) (en ∙ sym (first-name buf at end n (left - 1) a k f)) in
     or-assoc so-far b (containsName sought later)
     ∙ ap (λ (q : Bool). so-far || (q || containsName sought later)) h
-    ∙ ap (λ (q : Bool). so-far || q) (sym (containsName-cons sought first later) ∙ ap (containsName sought) (sym es))
+    ∙ ap (λ (q : Bool). so-far || q) (sym (containsName-cons sought and-first later) ∙ ap (containsName sought) (sym es))
     ∙ m
 
 -- no entry is left

@@ -1,97 +1,160 @@
 -- `build::build_bulk` meets its contract. Assumes nothing.
-use Prim.Native.Nat.{ℕ, _*_, _^_, _<_}
+use Prim.Native.Nat.{ℕ, _*_, _^_, _≤_, _<_}
 use native.Mathlib.Omega.{arith}
-use mathlib.Core.Path.{_≡_, sym, ap, _∙_}
-use lib.ListN.{length, getD, length-replicate, getD-replicate}
+use mathlib.Core.Path.{_≡_, refl, sym, _∙_}
+use mathlib.Core.List.{List, _++_}
+use lib.ListN.{length, getD, drop, replicate, length-replicate, getD-replicate}
 use lib.Seq.{length-take-le}
 use borrow.Author.Needs.{needs}
-use Rattle.packed.specs.Names.{names, nth}
-use Rattle.image.specs.Bytes.{same}
-use Rattle.image.specs.Zero.{hasZero}
-use Rattle.build.proofs.Whole.{refusal-none, told-all, told-same, left-closed, built-made}
-use Rattle.build.specs.Build.{building, bufferAfter}
-use Rattle.build.proofs.AllPut.{number-all, accepted-all, answers-none, size-all, closed-all}
-use Rattle.build.proofs.ListWhole.{told-none}
+use borrow.Author.Tests.{not-true, not-false}
+use Rattle.bulk_tables.specs.steps.Contracts.{TablesBuilt}
+use Rattle.build.specs.steps.Capacity.{Capacity}
+use Rattle.build.specs.steps.Steps.{Slots}
+use Rattle.build.proofs.BulkBuilt.{refusals-cleared, all-built, gave-up}
 use Rattle.build.proofs.build_bulk.Statement.{statement}
 use Rattle.build.proofs.build_bulk.Tie as tie
 
-refuses-requires : tie.Need-refuses-requires
-refuses-requires c κs = search needs
+-- ---- places in the code, each told from a later one
 
-table-list-requires : tie.Need-table-list-requires
-table-list-requires c κs =
-    let s = c .before .before .before .before .before .before .before .before .before .before in
-    (s .pre .0 .packed, s .pre .1 .some, s .pre .1 .few, omega (arith, s .pre .1 .fits .small), s .pre .0 .refusals-long, s .pre .1 .scratch, length-replicate {A = ℕ} 256 0, λ t h. getD-replicate 256 t 0 0 h)
+abbrev start : tie.After-has-slots → tie.Start
+start c = c .before .before .before .before .before .before .before
 
-mul-words : tie.Need-mul-words
-mul-words c = search needs
+abbrev sized : tie.After-hash-all → tie.After-has-slots
+sized c = c .before .before .before .before
 
-slice-reshare-prefix-words : tie.Need-slice-reshare-prefix-words
-slice-reshare-prefix-words c = search needs
+abbrev hashed : tie.After-has-capacity → tie.After-hash-all
+hashed c = c .before .before .before .before
 
-slice-aggregate-words : tie.Need-slice-aggregate-words
-slice-aggregate-words c =
-    let s = c .before .before .before .before .before .before .before .before .before .before .before .before .before .before .before .before .before in
-    let told = c .before .before .before .before .before .before .table-list in
-    let work = told .last .1 .1 .1 .1 .0 in
-    let long : length work ≡ length (s .args .scratch .now) = told .ensures .1 .1 .1 .1 .2 in
-    sym (length-take-le (4 * length (s .args .ends .now)) work (omega (arith, s .pre .1 .scratch, long)))
+abbrev checked : tie.After-build-tables → tie.After-has-capacity
+checked c = c .before .before .before .before .before .before
 
-write-list-requires : tie.Need-write-list-requires
-write-list-requires c κs =
-    let s = c .before .before .before .before .before .before .before .before .before .before .before .before .before .before .before .before .before .before .before in
-    let told = c .before .before .before .before .before .before .before .before .table-list .ensures in
-    let yes = c .before .before .before .if1 .taken in
+abbrev tabled : tie.After-write-list → tie.After-build-tables
+tabled c = c .before .before .before .before .before .before .before
+
+-- ---- what the calls leave
+
+abbrev hashes-in : (c : tie.After-hash-all) → List ℕ
+hashes-in c = c .hash-all .last .1 .1 .0
+
+hashes-long : (c : tie.After-hash-all) → length (start (sized c) .args .ends .now) ≤ length (hashes-in c)
+hashes-long c = omega (arith, c .hash-all .kept .1 .1 .0, start (sized c) .pre .refusals-long)
+
+abbrev tables-in : (c : tie.After-build-tables) → List ℕ
+tables-in c = c .build-tables .last .1 .1 .1 .1 .1 .0
+
+tables-long : (c : tie.After-build-tables) → length (tables-in c) ≡ length (start (sized (hashed (checked c))) .args .scratch .now)
+tables-long c = c .build-tables .kept .1 .1 .1 .1 .1 .0
+
+-- ---- the needs
+
+has-slots-requires : tie.Need-has-slots-requires
+has-slots-requires c κs = search needs
+
+returns : tie.Need-returns
+returns c =
+    let s = start (c .before) in
+    gave-up (s .args .mode) (s .args .repeats) (s .pre) refl (λ slots. absurd (c .before .has-slots .ensures .when-false (not-true _ (c .if1 .taken)) slots))
+
+hash-all-requires : tie.Need-hash-all-requires
+hash-all-requires c κs =
+    let h = c .before .before .before in
+    let s = start h in
     record {
-      packed = s .pre .0 .packed;
-      some = s .pre .1 .some;
-      few = s .pre .1 .few;
-      ids-long = s .pre .0 .ids-long;
-      fits = s .pre .1 .fits;
-      tables = told .1 .1 .1 .0 .0;
-      counted = told .1 .1 .1 .0 .1;
-      tabled = told .1 .1 .0 yes;
+      ends-rise = s .pre .packed;
+      count-fits = h .has-slots .ensures .when-true (not-false _ (c .before .before .if1 .left)) .count-fits;
+      hashes-fit = s .pre .refusals-long;
+      rows = length-replicate {A = ℕ} 256 0;
+      counts-zero = λ t h. getD-replicate 256 t 0 0 h;
     }
-
-cast-t25 : tie.Need-cast-t25
-cast-t25 c = search needs
 
 same-length : tie.Need-same-length
 same-length c = search needs
 
+returns-2 : tie.Need-returns-2
+returns-2 c =
+    let h = c .before .before .before in
+    let s = start (sized h) in
+    gave-up (s .args .mode) (s .args .repeats) (s .pre) (h .hash-all .ensures .rest) (λ slots. h .hash-all .ensures .hashed .hashes-are)
+
+has-capacity-requires : tie.Need-has-capacity-requires
+has-capacity-requires c κs = search needs
+
 same-length-2 : tie.Need-same-length-2
 same-length-2 c = search needs
+
+returns-3 : tie.Need-returns-3
+returns-3 c =
+    let h = hashed (c .before) in
+    let s = start (sized h) in
+    gave-up (s .args .mode) (s .args .repeats) (s .pre) (h .hash-all .ensures .rest) (λ slots. h .hash-all .ensures .hashed .hashes-are)
+
+refuses-requires : tie.Need-refuses-requires
+refuses-requires c κs = search needs
+
+build-tables-requires : tie.Need-build-tables-requires
+build-tables-requires c κs =
+    let p = c .before .before .before .before in
+    let h = hashed (p .before) in
+    let s = start (sized h) in
+    let capacity = p .before .has-capacity .ensures (not-false _ (p .if3 .left)) in
+    record {
+      ends-rise = s .pre .packed;
+      nonempty = capacity .some;
+      count-fits = capacity .few;
+      last-offset-fits = omega (arith, capacity .fits .small);
+      hashes-fit = hashes-long h;
+      hashed = h .hash-all .ensures .hashed;
+      capacity = capacity .scratch;
+    }
 
 same-length-3 : tie.Need-same-length-3
 same-length-3 c = search needs
 
-returns : tie.Need-returns
-returns c =
-    let s = c .before .before .before .before .before .before .before .before .before .before .before .before .before .before .before .before .before .before .before .before .before .before in
-    let a = s .args in
-    let told = c .before .before .before .before .before .before .before .before .before .before .before .table-list .ensures in
-    let yes = c .before .before .before .before .before .before .if1 .taken in
-    let off = c .before .before .before .before .before .before .before .before .before .before .before .before .before .before .before .refuses .ensures in
-    let done = c .before .before .write-list in
-    let zero = told .0 yes in
-    let word : (i : ℕ) → i < length (a .ends .now) → getD (a .ids .now) i 0 < 2 ^ 32 = λ i h. omega (arith, c .before .before .before .before .before .before .before .before .before .before .before .before .before .before .before .before .before .before .shared-slice-known3 .given i) in
-    let clean : (i : ℕ) → i < length (a .ends .now) → hasZero (nth (names (a .bytes .now) (a .ends .now)) i) ≡ _ = λ i h. zero i h .1 in
-    let ok = refusal-none (a .bytes .now) (a .ends .now) (length (a .ids .now)) (length (a .refusals .now)) (length (a .buf .now)) (s .pre .0 .packed) (s .pre .0 .ids-long) (s .pre .0 .refusals-long) (s .pre .0 .head-fits) in
-    record {
-      gives = built-made (a .mode) (a .repeats) (a .buf .now) (a .bytes .now) (a .ends .now) (a .ids .now) (a .refusals .now) ok _
-          (done .ensures .size ∙ sym (size-all (a .mode) (a .repeats) (a .buf .now) (a .bytes .now) (a .ends .now) (a .ids .now) (s .pre .0 .packed) (s .pre .0 .ids-long) (s .pre .0 .head-fits) (s .pre .1 .fits) word clean (λ d. told .1 .0 yes (off ∙ d))))
-          (sym (ap length (accepted-all (a .mode) (a .repeats) (a .buf .now) (a .bytes .now) (a .ends .now) (a .ids .now) (s .pre .0 .packed) (s .pre .0 .ids-long) (s .pre .0 .head-fits) (s .pre .1 .fits) word clean (λ d. told .1 .0 yes (off ∙ d))) ∙ number-all (a .bytes .now) (a .ends .now) (a .ids .now) (s .pre .0 .packed) (s .pre .0 .ids-long)));
-      leaves = left-closed (a .mode) (a .repeats) (a .buf .now) (a .bytes .now) (a .ends .now) (a .ids .now) (a .refusals .now) ok _
-          (done .ensures .leaves ∙ sym (closed-all (a .mode) (a .repeats) (a .buf .now) (a .bytes .now) (a .ends .now) (a .ids .now) (s .pre .0 .packed) (s .pre .0 .ids-long) (s .pre .0 .head-fits) (s .pre .1 .fits) word clean (λ d. told .1 .0 yes (off ∙ d))));
-      answers = told-all (a .mode) (a .repeats) (a .buf .now) (a .bytes .now) (a .ends .now) (a .ids .now) (a .refusals .now) ok _
-          (told-none _ (a .refusals .now) _ (length (a .ends .now)) (omega (arith, s .pre .0 .refusals-long, told .1 .1 .1 .1 .1)) (λ i h. zero i h .0) (told .1 .1 .1 .1 .0) (answers-none (a .mode) (a .repeats) (a .buf .now) (a .bytes .now) (a .ends .now) (a .ids .now) (s .pre .0 .packed) (s .pre .0 .ids-long) (s .pre .0 .head-fits) (s .pre .1 .fits) word clean (λ d. told .1 .0 yes (off ∙ d))));
-    }
-
-build-singly-requires : tie.Need-build-singly-requires
-build-singly-requires c κs = search needs
-
 same-length-4 : tie.Need-same-length-4
 same-length-4 c = search needs
+
+returns-4 : tie.Need-returns-4
+returns-4 c =
+    let h = hashed (checked (c .before .before .before)) in
+    let s = start (sized h) in
+    gave-up (s .args .mode) (s .args .repeats) (s .pre) (h .hash-all .ensures .rest) (λ slots. h .hash-all .ensures .hashed .hashes-are)
+
+-- the capacity, and the tables
+capacity : (c : tie.After-build-tables) → let a = start (sized (hashed (checked c))) .args in
+    Capacity (a .mode) (a .ends .now) (a .ids .now) (length (a .buf .now)) (length (a .scratch .now))
+capacity c = checked c .has-capacity .ensures (not-false _ (c .before .before .before .before .before .if3 .left))
+
+mul-tables : tie.Need-mul-tables
+mul-tables c = omega (arith, capacity (c .before .before .before) .few)
+
+slice-reshare-prefix-tables : tie.Need-slice-reshare-prefix-tables
+slice-reshare-prefix-tables c = let t = c .before .before .before in omega (arith, capacity t .scratch, tables-long t)
+
+slice-aggregate-tables : tie.Need-slice-aggregate-tables
+slice-aggregate-tables c =
+    let t = c .before .before .before .before in
+    let n = length (start (sized (hashed (checked t))) .args .ends .now) in
+    sym (length-take-le (4 * n) (tables-in t) (omega (arith, capacity t .scratch, tables-long t)))
+
+write-list-requires : tie.Need-write-list-requires
+write-list-requires c κs =
+    let t = c .before .before .before .before .before .before in
+    let h = hashed (checked t) in
+    let pre = start (sized h) .pre in
+    let built = t .build-tables .ensures (not-false _ (c .before .before .before .if4 .left)) in
+    record {
+      packed = pre .packed;
+      some = capacity t .some;
+      few = capacity t .few;
+      ids-long = pre .ids-long;
+      fits = capacity t .fits;
+      tables = h .hash-all .ensures .hashed .rows;
+      counted = built .counts-are;
+      tabled = built .tables-are;
+    }
+
+clear-requires : tie.Need-clear-requires
+clear-requires c κs = omega (arith, hashes-long (hashed (checked (tabled (c .before .before .before)))))
 
 same-length-5 : tie.Need-same-length-5
 same-length-5 c = search needs
@@ -99,42 +162,55 @@ same-length-5 c = search needs
 same-length-6 : tie.Need-same-length-6
 same-length-6 c = search needs
 
-returns-2 : tie.Need-returns-2
-returns-2 c =
-    let s = c .before .before .before .before .before .before .before .before .before .before .before .before .before .before .before .before .before .before .before .before .before .before .before .before .before .before in
+same-length-7 : tie.Need-same-length-7
+same-length-7 c = search needs
+
+returns-5 : tie.Need-returns-5
+returns-5 c =
+    let z = c .before .before in
+    let w = z .before .before .before .before in
+    let t = tabled w in
+    let h = hashed (checked t) in
+    let s = start (sized h) in
     let a = s .args in
-    let kept = c .before .before .before .before .before .before .before .before .before .before .before .before .before .before .before .table-list .ensures .1 .1 .1 .1 in
-    let rs = c .before .before .before .before .before .before .before .before .before .before .before .before .before .before .before .table-list .last .1 .1 .1 .0 in
-    let same : length rs ≡ length (a .refusals .now) = kept .1 in
-    let singly = c .before .before .before .before .before .before .build-singly .ensures in
-    let ok =
-    refusal-none (a .bytes .now) (a .ends .now) (length (a .ids .now)) (length rs) (length (a .buf .now)) (s .pre .0 .packed) (s .pre .0 .ids-long)
-    (omega (arith, s .pre .0 .refusals-long, same)) (s .pre .0 .head-fits) in
+    let told = h .hash-all .ensures in
+    let built = t .build-tables .ensures (not-false _ (w .before .before .before .before .if4 .left)) in
+    let words : (i : ℕ) → i < length (a .ends .now) → getD (a .ids .now) i 0 < 2 ^ 32 = λ i b. omega (arith, sized h .before .before .before .shared-slice-known3 .given i) in
+    let n = length (a .ends .now) in
     record {
-      gives = singly .gives ∙ ap (building (a .mode) (a .repeats) (a .buf .now) (a .bytes .now) (a .ends .now) (a .ids .now)) same;
-      leaves = singly .leaves ∙ ap (bufferAfter (a .mode) (a .repeats) (a .buf .now) (a .bytes .now) (a .ends .now) (a .ids .now)) same;
-      answers =
-          singly .answers
-          ∙ told-same (a .mode) (a .repeats) (a .buf .now) (a .bytes .now) (a .ends .now) (a .ids .now) rs ok (a .refusals .now) same (kept .0);
+      count-fits = λ some. omega (arith, capacity t .few);
+      built = λ some.
+          all-built (a .mode) (a .repeats) (s .pre) (capacity t .fits) words (told .no-zeros (not-false _ (checked t .before .if2 .left)))
+          (λ d. built .no-duplicates (t .before .before .before .before .refuses .ensures ∙ d)) (w .write-list .ensures)
+          (refusals-cleared n _ (hashes-in h) (a .refusals .now) (z .clear .kept .0) (hashes-long h) (z .clear .ensures .0) (z .clear .ensures .1) (told .rest));
+      kept = λ e. absurd (omega (arith, e, w .write-list .ensures .size));
+      rest = λ e. absurd (omega (arith, e, w .write-list .ensures .size));
+      hashed = λ e. absurd (omega (arith, e, w .write-list .ensures .size));
     }
 
 pub build-bulk-spec : {M : Type 1} → statement M
 build-bulk-spec =
     tie.close
     (tie.spec
-    refuses-requires
-    table-list-requires
-    mul-words
-    slice-reshare-prefix-words
-    slice-aggregate-words
-    write-list-requires
-    cast-t25
-    same-length
-    same-length-2
-    same-length-3
+    has-slots-requires
     returns
-    build-singly-requires
+    hash-all-requires
+    same-length
+    returns-2
+    has-capacity-requires
+    same-length-2
+    returns-3
+    refuses-requires
+    build-tables-requires
+    same-length-3
     same-length-4
+    returns-4
+    mul-tables
+    slice-reshare-prefix-tables
+    slice-aggregate-tables
+    write-list-requires
+    clear-requires
     same-length-5
     same-length-6
-    returns-2)
+    same-length-7
+    returns-5)

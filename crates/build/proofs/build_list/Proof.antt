@@ -1,15 +1,29 @@
 -- `build::build_list` meets its contract, by either way. Assumes nothing.
+use native.Mathlib.Omega.{arith}
+use mathlib.Core.Path.{_≡_}
 use borrow.Author.Needs.{needs}
+use Rattle.build.proofs.BulkBuilt.{built-after}
 use Rattle.build.proofs.build_list.Statement.{statement}
 use Rattle.build.proofs.build_list.Tie as tie
 
-has-capacity-requires : tie.Need-has-capacity-requires
-has-capacity-requires c κs = search needs
+-- ---- places in the code, each told from a later one
+
+abbrev start : tie.After-build-bulk → tie.Start
+start c = c .before .before .before .before .before .before .before .before .before .before
+
+abbrev tried : tie.After-slice-known6 → tie.After-build-bulk
+tried c = c .before .before .before .before .before .before
+
+abbrev left : tie.After-build-singly → tie.After-slice-known6
+left c = c .before .before .before .before .before
+
+-- ---- the needs
 
 build-bulk-requires : tie.Need-build-bulk-requires
-build-bulk-requires c κs =
-    let s = c .before .before .before .before .before .before .before .before .before .before .before in
-    (s .pre, c .before .before .before .before .has-capacity .ensures (c .before .before .before .if1 .taken))
+build-bulk-requires c κs = search needs
+
+cast-accepted : tie.Need-cast-accepted
+cast-accepted c = omega (arith, tried (c .before) .build-bulk .ensures .count-fits (c .if1 .taken))
 
 same-length : tie.Need-same-length
 same-length c = search needs
@@ -21,7 +35,7 @@ same-length-3 : tie.Need-same-length-3
 same-length-3 c = search needs
 
 returns : tie.Need-returns
-returns c = search needs
+returns c = tried (c .before) .build-bulk .ensures .built (c .if1 .taken)
 
 build-singly-requires : tie.Need-build-singly-requires
 build-singly-requires c κs = search needs
@@ -36,14 +50,20 @@ same-length-6 : tie.Need-same-length-6
 same-length-6 c = search needs
 
 returns-2 : tie.Need-returns-2
-returns-2 c = search needs
+returns-2 c =
+    let d = c .before .before .before .before .before .before in
+    let b = tried (left d) in
+    let s = start b in
+    let e = b .build-bulk .ensures in
+    let none : b .build-bulk .result ≡ 0 = omega (arith, d .before .before .before .before .if1 .left) in
+    built-after (s .args .mode) (s .args .repeats) (s .pre) (e .kept none) (b .build-bulk .kept .1 .1 .1 .1 .1 .1 .0) (e .rest none) (d .build-singly .ensures)
 
 pub build-list-spec : {M : Type 1} → statement M
 build-list-spec =
     tie.close
     (tie.spec
-    has-capacity-requires
     build-bulk-requires
+    cast-accepted
     same-length
     same-length-2
     same-length-3

@@ -5,7 +5,7 @@ use lib.ListN.{length}
 use Rattle.image.specs.Image.{headSize, backIn}
 use Rattle.image.specs.declared.Mode.{Mode}
 use Rattle.packed.specs.Names.{beginOf}
-use Rattle.bulk_tables.specs.steps.Parted.{at}
+use Rattle.bulk_tables.specs.steps.Partition.{at}
 
 -- the largest of the first n ids, 0 without any
 unfoldable pub largestTo : List ℕ → ℕ → ℕ
@@ -19,9 +19,9 @@ pub record RoomForAll (mode : Mode) (ends ids : List ℕ) (room : ℕ) : Type 0 
   pub within : headSize + beginOf ends (length ends) + 25 * length ends + 4 * backIn mode top ≤ room
   pub small : headSize + beginOf ends (length ends) + 25 * length ends + 4 * backIn mode top ≤ 4294967295
 
--- the bulk path can be tried: besides there are 7 words of scratch memory a name, and a name
+-- the bulk path can be tried: besides there are 6 words of scratch memory a name, and a name
 pub record Capacity (mode : Mode) (ends ids : List ℕ) (room words : ℕ) : Type 0 where
   pub fits : RoomForAll mode ends ids room
   pub few : length ends ≤ 171798691
-  pub scratch : 7 * length ends ≤ words
+  pub scratch : 6 * length ends ≤ words
   pub some : 0 < length ends

@@ -7,11 +7,10 @@ use mathlib.Core.List.{List, _++_, map}
 use lib.ListN.{length, getD, drop, replicate}
 use Rattle.image.specs.Bytes.{cat}
 use Rattle.image.specs.Stored.{between}
-use Rattle.image.specs.Image.{Entry, headSize, entryBytes, placed, backWords, entriesEnd, backSizeOf, imageSize, image}
+use Rattle.image.specs.Image.{Entry, headSize, entryBytes, placed, count, backWords, entriesEnd, backSizeOf, imageSize, image}
 use Rattle.image.specs.declared.Mode.{Mode}
 use Rattle.packed.specs.Names.{names, invalidEnds}
 use Rattle.serialize.specs.steps.Asked.{TablesAtHand}
-use Rattle.bulk_tables.specs.steps.Parted.{tableOfName, countOfTable}
 use Rattle.build.specs.steps.Capacity.{RoomForAll}
 use Rattle.build.specs.steps.Steps.{entriesListed}
 
@@ -48,7 +47,8 @@ pub record WriteListPre (mode : Mode) (buf bytes ends ids counts words : List �
   pub ids-long : length ends ≤ length ids
   pub fits : RoomForAll mode ends ids (length buf)
   pub tables : length counts ≡ 256
-  pub counted : (t : ℕ) → t < 256 → getD counts t 0 ≡ countOfTable (tableOfName (names bytes ends)) t (length ends)
+  pub counted : (es : List Entry) → map (λ (e : Entry). e .name) es ≡ names bytes ends
+      → (t : ℕ) → t < 256 → getD counts t 0 ≡ count t (placed headSize es)
   pub tabled : (es : List Entry) → map (λ (e : Entry). e .name) es ≡ names bytes ends → TablesAtHand words es
 
 pub record WriteListPost (mode : Mode) (buf bytes ends ids : List ℕ) (r : ℕ) (bufThen : List ℕ) : Type 0 where

@@ -9,6 +9,7 @@ use Rattle.packed.specs.Names.{names}
 use Rattle.build.specs.steps.Steps.{entriesListed}
 use Rattle.image.specs.Stored.{between}
 use Rattle.packed.proofs.NameEnds.{begin-later}
+use Rattle.build.proofs.AllPut.{names-all}
 use Rattle.build.proofs.ListWhole.{Numbers, numbers, zeros-between, zeros-behind, asked, left-image}
 use Rattle.build.proofs.stored.write_list.Statement.{statement}
 use Rattle.build.proofs.stored.write_list.Tie as tie
@@ -131,7 +132,7 @@ write-image-with-requires c κs =
     let same : length (cleared .last .0) ≡ length (a .buf .now) = cleared .kept .0 in
     let buf = stored .last .1 .1 .1 .1 .1 .0 in
     asked (a .mode) (a .buf .now) (a .bytes .now) (a .ends .now) (a .ids .now) (s .pre .packed) (s .pre .ids-long) (s .pre .fits) (words told) (a .counts .now) buf
-    (stored .ensures .long ∙ same) (stored .ensures .area) (s .pre .counted) (s .pre .tables) _ (told .back-in .result) (z .end-is) (z .back-is) (a .words .now) (s .pre .tabled)
+    (stored .ensures .long ∙ same) (stored .ensures .area) (s .pre .counted _ (names-all (a .bytes .now) (a .ends .now) (a .ids .now) (s .pre .packed) (s .pre .ids-long))) (s .pre .tables) _ (told .back-in .result) (z .end-is) (z .back-is) (a .words .now) (s .pre .tabled)
     (ap (λ (k : ℕ). between buf k (imageSize (a .mode) (entriesListed (names (a .bytes .now) (a .ends .now)) (a .ids .now)))) (sym (z .at-is)) ∙ stored .ensures .linked)
 
 cast-result : tie.Need-cast-result
@@ -157,7 +158,7 @@ returns c =
     record {
       size = z .size-is;
       leaves = left-image (a .mode) (a .buf .now) (a .bytes .now) (a .ends .now) (a .ids .now) (s .pre .packed) (s .pre .ids-long) (s .pre .fits) (words told) (a .counts .now) buf
-          (stored .ensures .long ∙ same) (stored .ensures .area) (s .pre .counted) (s .pre .tables) _ (told .back-in .result) (z .end-is) (z .back-is)
+          (stored .ensures .long ∙ same) (stored .ensures .area) (s .pre .counted _ (names-all (a .bytes .now) (a .ends .now) (a .ids .now) (s .pre .packed) (s .pre .ids-long))) (s .pre .tables) _ (told .back-in .result) (z .end-is) (z .back-is)
           (stored .ensures .behind ∙ ap (λ (k : ℕ). drop k (cleared .last .0)) (sym (z .size-is)) ∙ behind ∙ ap (λ (k : ℕ). drop k (a .buf .now)) (z .size-is)) _ (done .ensures);
     }
 

@@ -1,136 +1,115 @@
--- `tabling::fill::fill_table` meets its contract. The loop's invariant: the buckets are those of a table that took the pairs passed. Assumes nothing.
-use Prim.Native.Nat.{ℕ, _*_, _-_, _≤_, _<_}
+-- `bulk_tables::fill::fill_table` meets its contract. The loop's invariant: the buckets are those of the first i pairs. Assumes nothing.
+use Prim.Native.Nat.{ℕ, _+_, _*_, _-_, _≤_, _<_}
 use native.Mathlib.Omega.{arith}
-use mathlib.Core.Path.{_≡_, refl, subst}
-use lib.ListN.{length-set}
+use mathlib.Core.Path.{_≡_, sym, ap, subst, _∙_}
+use mathlib.Core.List.{List}
+use borrow.Author.Needs.{needs}
 use Rattle.image.proofs.Bools.{false-not-true}
-use Rattle.bulk_tables.proofs.TablesFilled.{Filling, filling-start, filling-turn, filling-fills, filling-apart}
+use Rattle.bulk_tables.specs.steps.Layout.{pairStored}
+use Rattle.bulk_tables.specs.steps.BulkTables.{bucketIn}
+use Rattle.bulk_tables.specs.steps.Contracts.{Probed}
+use Rattle.bulk_tables.proofs.TablesFilled.{Filling, filling-start, filling-step, filling-fills, filling-distinct}
 use Rattle.bulk_tables.proofs.fill.fill_table.Statement.{statement}
 use Rattle.bulk_tables.proofs.fill.fill_table.Tie as tie
 
 abbrev Inv-loop : tie.InvT-loop
-Inv-loop different bytes ends work₀ first c n m o i₀ work i = (i ≤ c) × Filling different bytes ends work₀ first c i work
+Inv-loop distinct bytes ends scratch₀ p c pairs buckets m i₀ scratch i = Filling distinct bytes ends scratch₀ p c i scratch
 
 abbrev μ-loop : tie.MeasureT-loop
-μ-loop different bytes ends work₀ first c n m o i₀ work i = c - i
+μ-loop distinct bytes ends scratch₀ p c pairs buckets m i₀ scratch i = c - i
+
+-- ---- places in the code, each told from a later one
+
+abbrev start : tie.After-buckets-at Inv-loop μ-loop → tie.Start Inv-loop μ-loop
+start c = c .before .before .before .before .before
+
+abbrev entered : tie.After-probe Inv-loop μ-loop → tie.In-loop Inv-loop μ-loop
+entered c = c .before .before .before .before .before .before
+
+abbrev probed : tie.After-store-pair Inv-loop μ-loop → tie.After-probe Inv-loop μ-loop
+probed c = c .before .before .before
+
+-- ---- the needs
+
+pairs-at-requires : tie.Need-pairs-at-requires Inv-loop μ-loop
+pairs-at-requires c κs = search needs
+
+buckets-at-requires : tie.Need-buckets-at-requires Inv-loop μ-loop
+buckets-at-requires c κs = search needs
 
 mul-m : tie.Need-mul-m Inv-loop μ-loop
-mul-m c = let s = c .before .before .before in omega (arith, s .pre .2, s .pre .5)
-
-mul-o : tie.Need-mul-o Inv-loop μ-loop
-mul-o c = let s = c .before .before .before in omega (arith, s .pre .2, s .pre .5)
+mul-m c = search needs
 
 loop-holds : tie.Need-loop-holds Inv-loop μ-loop
-loop-holds c =
-    let s = c .before .before .before in
-    let a = s .args in
-    (omega arith, filling-start (a .different) (a .bytes .now) (a .ends .now) (a .work .now) (a .first) (a .c) (s .pre .7))
+loop-holds c = let s = start c in filling-start (s .pre) (s .args .distinct)
 
-mul-place : tie.Need-mul-place Inv-loop μ-loop
-mul-place c = let s = c .before .before .before .before .before in omega (arith, s .pre .2, s .pre .5)
+add-hash-at : tie.Need-add-hash-at Inv-loop μ-loop
+add-hash-at c = search needs
 
-add-place : tie.Need-add-place Inv-loop μ-loop
-add-place c = let s = c .before .before .before .before .before in omega (arith, s .pre .2, s .pre .5, c .loop-test .taken)
+hash-at-requires : tie.Need-hash-at-requires Inv-loop μ-loop
+hash-at-requires c κs = search needs
 
-mul-place-2 : tie.Need-mul-place-2 Inv-loop μ-loop
-mul-place-2 c = let s = c .before .before .before .before .before in omega (arith, s .pre .2, s .pre .5, c .loop-test .taken)
+add-offset-at : tie.Need-add-offset-at Inv-loop μ-loop
+add-offset-at c = search needs
 
-add-place-2 : tie.Need-add-place-2 Inv-loop μ-loop
-add-place-2 c = let s = c .before .before .before .before .before in omega (arith, s .pre .2, s .pre .5, c .loop-test .taken)
+offset-at-requires : tie.Need-offset-at-requires Inv-loop μ-loop
+offset-at-requires c κs = search needs
 
-mul-h : tie.Need-mul-h Inv-loop μ-loop
-mul-h c = let s = c .before .before .before .before .before in omega (arith, s .pre .2, s .pre .5, c .loop-test .taken)
-
-slice-read-h : tie.Need-slice-read-h Inv-loop μ-loop
-slice-read-h c = let s = c .before .before .before .before .before .before in omega (arith, s .pre .2, s .pre .5, c .before .loop-test .taken, s .pre .4, c .before .before .loop .inv .1 .long)
-
-add-offset : tie.Need-add-offset Inv-loop μ-loop
-add-offset c = let s = c .before .before .before .before .before .before in omega (arith, s .pre .2, s .pre .5, c .before .loop-test .taken)
-
-mul-offset : tie.Need-mul-offset Inv-loop μ-loop
-mul-offset c = let s = c .before .before .before .before .before .before in omega (arith, s .pre .2, s .pre .5, c .before .loop-test .taken)
-
-slice-read-offset : tie.Need-slice-read-offset Inv-loop μ-loop
-slice-read-offset c = let s = c .before .before .before .before .before .before .before in omega (arith, s .pre .2, s .pre .5, c .before .before .loop-test .taken, s .pre .4, c .before .before .before .loop .inv .1 .long)
-
-bucket-for-requires : tie.Need-bucket-for-requires Inv-loop μ-loop
-bucket-for-requires c κs =
-    let s = c .before .before .before .before .before .before .before .before in (
-      s .pre .0,
-      s .pre .1,
-      s .pre .2,
-      s .pre .3,
-      omega (arith, c .before .before .before .loop-test .taken),
-      omega (arith, s .pre .4, s .pre .5, c .before .before .before .before .loop .inv .1 .long),
-    )
+probe-requires : tie.Need-probe-requires Inv-loop μ-loop
+probe-requires c κs = search needs
 
 same-length : tie.Need-same-length Inv-loop μ-loop
-same-length c = c .before .before .before .before .before .before .loop .inv .1 .long
+same-length c = entered (c .before) .before .loop .inv .long
 
 returns : tie.Need-returns Inv-loop μ-loop
-returns c =
-    let i = c .before .before .before .before .before .before .loop .inv .1 in
-    (λ e. absurd (false-not-true e), (λ e. absurd (false-not-true e), (i .before, i .after, i .long)))
+returns c = λ e. absurd (false-not-true e)
 
-mul-work : tie.Need-mul-work Inv-loop μ-loop
-mul-work c = let s = c .before .before .before .before .before .before .before .before .before .before in omega (arith, s .pre .2, s .pre .5, c .if1 .left)
-
-add-work : tie.Need-add-work Inv-loop μ-loop
-add-work c = let s = c .before .before .before .before .before .before .before .before .before .before in omega (arith, s .pre .2, s .pre .5, c .if1 .left)
-
-mul-work-2 : tie.Need-mul-work-2 Inv-loop μ-loop
-mul-work-2 c = let s = c .before .before .before .before .before .before .before .before .before .before in omega (arith, s .pre .2, s .pre .5, c .if1 .left)
-
-slice-write-work : tie.Need-slice-write-work Inv-loop μ-loop
-slice-write-work c = let s = c .before .before .before .before .before .before .before .before .before .before in omega (arith, s .pre .2, s .pre .5, c .if1 .left, s .pre .4, c .before .before .before .before .before .before .loop .inv .1 .long)
-
-mul-work-3 : tie.Need-mul-work-3 Inv-loop μ-loop
-mul-work-3 c = let s = c .before .before .before .before .before .before .before .before .before .before in omega (arith, s .pre .2, s .pre .5, c .if1 .left)
-
-add-work-2 : tie.Need-add-work-2 Inv-loop μ-loop
-add-work-2 c = let s = c .before .before .before .before .before .before .before .before .before .before in omega (arith, s .pre .2, s .pre .5, c .if1 .left)
-
-add-work-3 : tie.Need-add-work-3 Inv-loop μ-loop
-add-work-3 c = let s = c .before .before .before .before .before .before .before .before .before .before in omega (arith, s .pre .2, s .pre .5, c .if1 .left)
-
-mul-work-4 : tie.Need-mul-work-4 Inv-loop μ-loop
-mul-work-4 c = let s = c .before .before .before .before .before .before .before .before .before .before in omega (arith, s .pre .2, s .pre .5, c .if1 .left)
-
-slice-write-work-2 : tie.Need-slice-write-work-2 Inv-loop μ-loop
-slice-write-work-2 c = let s = c .before .before .before .before .before .before .before .before .before .before in simp length-set (omega (arith, s .pre .5, c .if1 .left, s .pre .4, c .before .before .before .before .before .before .loop .inv .1 .long))
+store-pair-requires : tie.Need-store-pair-requires Inv-loop μ-loop
+store-pair-requires c κs = search needs
 
 add-i : tie.Need-add-i Inv-loop μ-loop
-add-i c = let s = c .before .before .before .before .before .before .before .before .before .before in omega (arith, s .pre .2, s .pre .5, c .before .before .before .before .before .loop-test .taken)
+add-i c = search needs
 
 loop-less : tie.Need-loop-less Inv-loop μ-loop
-loop-less c = omega (arith, c .before .before .before .before .before .loop-test .taken)
+loop-less c = search needs
 
 loop-again : tie.Need-loop-again Inv-loop μ-loop
 loop-again c =
-    let s = c .before .before .before .before .before .before .before .before .before .before in
+    let stored = c .before .before in
+    let found = probed stored in
+    let e = entered found in
+    let l = e .before .loop in
+    let begun = e .before .before in
+    let s = start begun in
     let a = s .args in
-    let l = c .before .before .before .before .before .before .loop in
-    let inside = c .before .before .before .before .before .loop-test .taken in
-    let found = c .before .bucket-for in
-    let free : found .result < 2 * a .c = omega (arith, c .if1 .left) in (
-      omega (arith, inside),
-      filling-turn (a .different) (a .bytes .now) (a .ends .now) (a .work .now) (a .first) (a .c) (l .i) (l .work) (l .inv .1) inside (s .pre .5) (s .pre .4) (s .pre .6) _ _ refl refl
-          (found .result) free (found .ensures .0 free) (found .ensures .1 free),
-    )
+    let k = found .probe .result in
+    let h = found .before .before .before .before .hash-at in
+    let o = found .before .before .offset-at in
+    let buckets = begun .buckets-at .ensures in
+    let pairs = begun .before .pairs-at .ensures in
+    let place = a .p + l .i in
+    let is-hash = h .ensures ∙ ap (λ (w : ℕ). bucketIn (l .scratch) w place .hash) pairs in
+    let is-offset = o .ensures ∙ ap (λ (w : ℕ). bucketIn (l .scratch) w place .at) pairs in
+    let free : k < 2 * a .c = omega (arith, stored .before .before .if1 .left) in
+    let told =
+    subst (λ (w : ℕ). Probed (a .distinct) (a .bytes .now) (a .ends .now) (l .scratch) w (2 * a .c) (h .result) (o .result) k) buckets
+    (found .probe .ensures) in
+    let is = stored .store-pair .ensures ∙ ap (λ (w : ℕ). pairStored (l .scratch) w k (h .result) (o .result)) buckets in
+    subst (Filling (a .distinct) (a .bytes .now) (a .ends .now) (a .scratch .now) (a .p) (a .c) (l .i + 1)) (sym is)
+    (filling-step (s .pre) (l .inv) (e .loop-test .taken) is-hash is-offset free told)
 
 same-length-2 : tie.Need-same-length-2 Inv-loop μ-loop
-same-length-2 c = c .before .loop .inv .1 .long
+same-length-2 c = c .before .loop .inv .long
 
 returns-2 : tie.Need-returns-2 Inv-loop μ-loop
 returns-2 c =
-    let s = c .before .before .before .before .before in
+    let s = start (c .before .before) in
     let a = s .args in
     let l = c .before .loop in
-    let last : l .i ≡ a .c = omega (arith, l .inv .0, c .loop-test .left) in
-    let all = subst (λ (i : ℕ). Filling (a .different) (a .bytes .now) (a .ends .now) (a .work .now) (a .first) (a .c) i (l .work)) last (l .inv .1) in (
-      λ e. filling-fills (a .different) (a .bytes .now) (a .ends .now) (a .work .now) (a .first) (a .c) (l .work) all (s .pre .5),
-      (λ e. filling-apart (a .different) (a .bytes .now) (a .ends .now) (a .work .now) (a .first) (a .c) (l .work) all (s .pre .5), (all .before, all .after, all .long)),
-    )
+    let last : l .i ≡ a .c = omega (arith, l .inv .at-most, c .loop-test .left) in
+    let all =
+    subst (λ (i : ℕ). Filling (a .distinct) (a .bytes .now) (a .ends .now) (a .scratch .now) (a .p) (a .c) i (l .scratch)) last (l .inv) in
+    λ e. record { fills = filling-fills (s .pre) all; no-duplicates = filling-distinct (s .pre) all; kept-before = all .before; kept-after = all .after }
 
 pub fill-table-spec : {M : Type 1} → statement M
 fill-table-spec =
@@ -138,30 +117,18 @@ fill-table-spec =
     (tie.spec
     Inv-loop
     μ-loop
+    pairs-at-requires
+    buckets-at-requires
     mul-m
-    mul-o
     loop-holds
-    mul-place
-    add-place
-    mul-place-2
-    add-place-2
-    mul-h
-    slice-read-h
-    add-offset
-    mul-offset
-    slice-read-offset
-    bucket-for-requires
+    add-hash-at
+    hash-at-requires
+    add-offset-at
+    offset-at-requires
+    probe-requires
     same-length
     returns
-    mul-work
-    add-work
-    mul-work-2
-    slice-write-work
-    mul-work-3
-    add-work-2
-    add-work-3
-    mul-work-4
-    slice-write-work-2
+    store-pair-requires
     add-i
     loop-less
     loop-again

@@ -1,0 +1,126 @@
+-- `bulk_tables::fill::probe` meets its contract. The loop's invariant: the probe sequence that is left tells what the whole one tells. Assumes nothing.
+use Prim.Native.Nat.{ℕ}
+use native.Mathlib.Omega.{arith}
+use mathlib.Core.Path.{_≡_, sym, subst, _∙_}
+use mathlib.Core.Bool.{true, false}
+use mathlib.Core.Logic.{⊎-elim}
+use borrow.Author.Needs.{needs}
+use borrow.Author.Tests.{not-false}
+use Rattle.image.proofs.Bools.{false-not-true}
+use Rattle.image.proofs.ProbeStep.{next-inside, next-wraps}
+use Rattle.bulk_tables.specs.steps.BulkTables.{bucketIn, sameNames}
+use Rattle.bulk_tables.proofs.Probing.{Remaining, remaining-start, remaining-step, found, no-match}
+use Rattle.bulk_tables.proofs.fill.probe.Statement.{statement}
+use Rattle.bulk_tables.proofs.fill.probe.Tie as tie
+
+abbrev Inv-loop : tie.InvT-loop
+Inv-loop distinct bytes ends scratch o m h offset k₀ left₀ k left =
+    Remaining (bucketIn scratch o) distinct (sameNames bytes ends offset) h m left k
+
+abbrev μ-loop : tie.MeasureT-loop
+μ-loop distinct bytes ends scratch o m h offset k₀ left₀ k left = left
+
+-- ---- places in the code, each told from a later one
+
+abbrev start : tie.At-loop Inv-loop μ-loop → tie.Start Inv-loop μ-loop
+start c = c .before .before .before .before
+
+abbrev read : tie.After-hash-at Inv-loop μ-loop → tie.After-offset-at Inv-loop μ-loop
+read c = c .before .before
+
+-- ---- the needs
+
+cast-k : tie.Need-cast-k Inv-loop μ-loop
+cast-k c = search needs
+
+rem-k : tie.Need-rem-k Inv-loop μ-loop
+rem-k c = search needs
+
+loop-holds : tie.Need-loop-holds Inv-loop μ-loop
+loop-holds c =
+    let s = c .before .before .before in
+    let a = s .args in
+    remaining-start (bucketIn (a .scratch .now) (a .o)) (a .distinct) (sameNames (a .bytes .now) (a .ends .now) (a .offset)) (a .h) (a .m) (s .pre .some)
+
+offset-at-requires : tie.Need-offset-at-requires Inv-loop μ-loop
+offset-at-requires c κs = search needs
+
+returns : tie.Need-returns Inv-loop μ-loop
+returns c =
+    let test = c .before .before in
+    let a = start (test .before) .args in
+    let l = test .before .loop in
+    let more = test .loop-test .taken in
+    let empty : bucketIn (a .scratch .now) (a .o) (l .k) .at ≡ 0 = sym (c .before .offset-at .ensures) ∙ c .if1 .taken in
+    record {
+      first = λ below. found (l .inv) more empty;
+      no-match = λ below. no-match (l .inv) more empty;
+    }
+
+hash-at-requires : tie.Need-hash-at-requires Inv-loop μ-loop
+hash-at-requires c κs = search needs
+
+distinct-names-requires : tie.Need-distinct-names-requires Inv-loop μ-loop
+distinct-names-requires c κs = search needs
+
+returns-2 : tie.Need-returns-2 Inv-loop μ-loop
+returns-2 c = record { first = λ below. absurd (omega arith); no-match = λ below. absurd (omega arith) }
+
+add-if5 : tie.Need-add-if5 Inv-loop μ-loop
+add-if5 c = search needs
+
+add-k : tie.Need-add-k Inv-loop μ-loop
+add-k c = search needs
+
+sub-left : tie.Need-sub-left Inv-loop μ-loop
+sub-left c = search needs
+
+loop-less : tie.Need-loop-less Inv-loop μ-loop
+loop-less c = search needs
+
+loop-again : tie.Need-loop-again Inv-loop μ-loop
+loop-again c =
+    let hashed = c .before .before in
+    let r = read hashed in
+    let test = r .before in
+    let l = test .before .loop in
+    let s = start (test .before) in
+    let a = s .args in
+    let b = bucketIn (a .scratch .now) (a .o) in
+    let v = sameNames (a .bytes .now) (a .ends .now) (a .offset) in
+    let is = r .offset-at .ensures in
+    let other : b (l .k) .hash ≡ a .h → a .distinct ≡ true → v (b (l .k) .at) ≡ false = λ e d.
+    ⊎-elim
+    (λ w. ⊎-elim (λ u. subst (λ (x : ℕ). v x ≡ false) is (u .1 .ensures (not-false _ (u .2 .left)))) (λ u. absurd (false-not-true (sym (u .left) ∙ d))) (w .1 .came))
+    (λ w. absurd (w .left (hashed .hash-at .ensures ∙ e)))
+    (c .before .if2 .came) in
+    let full : b (l .k) .at ≡ 0 → ⊥ = λ z. hashed .before .if1 .left (is ∙ z) in
+    let again = remaining-step (l .inv) (test .loop-test .taken) full other in
+    ⊎-elim
+    (λ w. again (c .if5 .k) (w .1 ∙ next-inside (a .m) (l .k) (w .0 .taken)) (omega (arith, w .0 .taken, w .1)))
+    (λ w. again (c .if5 .k) (w .1 ∙ next-wraps (a .m) (l .k) (omega (arith, l .inv .inside, w .0 .left))) (omega (arith, s .pre .some, w .1)))
+    (c .if5 .came)
+
+returns-3 : tie.Need-returns-3 Inv-loop μ-loop
+returns-3 c = record { first = λ below. absurd (omega arith); no-match = λ below. absurd (omega arith) }
+
+pub probe-spec : {M : Type 1} → statement M
+probe-spec =
+    tie.close
+    (tie.spec
+    Inv-loop
+    μ-loop
+    cast-k
+    rem-k
+    loop-holds
+    offset-at-requires
+    returns
+    hash-at-requires
+    distinct-names-requires
+    returns-2
+    add-if5
+    add-k
+    sub-left
+    loop-less
+    loop-again
+    returns-3)
