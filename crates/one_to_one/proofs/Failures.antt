@@ -6,7 +6,7 @@ use mathlib.Core.Bool.{Bool, true, false, cond}
 use mathlib.Core.List.{List, [], _∷_, _++_}
 use mathlib.Core.Option.{Option, none, some}
 use lib.Dec.{eqb}
-use borrow.Author.Tests.{eq-eqb, ne-eqb, eqb-true, eqb-false}
+use borrow.Author.Tests.{eq-eqb, ne-eqb, eqb-true}
 use Rattle.image.specs.Image.{Entry, entrySize, entriesSize}
 use Rattle.image.proofs.AllOfList.{All}
 use Rattle.one_to_one.specs.OneToOne.{Failure, firstFailure}
@@ -30,18 +30,18 @@ module _ (kind : Entry → ℕ) where
       (ne-eqb (kind e) 0 (λ z. n (sym h ∙ z)))
       ∙ ap (λ (x : ℕ). some (failure x o)) h
 
-  -- behind entries that do not fail
-  pub behind : (o : ℕ) (before : List Entry) (e : Entry) (es : List Entry) (k : ℕ)
+  -- after entries that do not fail
+  pub after-passed : (o : ℕ) (before : List Entry) (e : Entry) (es : List Entry) (k : ℕ)
       → All (λ (x : Entry). kind x ≡ 0) before → kind e ≡ k → ¬ (k ≡ 0)
       → firstFailure kind o (before ++ e ∷ es) ≡ some (failure k (o + entriesSize before))
   unfolding entriesSize
-  behind o [] e es k all h n =
+  after-passed o [] e es k all h n =
       let z : o ≡ o + 0 = omega arith in
       ends o e es k h n ∙ ap (λ (x : ℕ). some (failure k x)) z
-  behind o (x ∷ before) e es k all h n =
+  after-passed o (x ∷ before) e es k all h n =
       let s : (o + entrySize x) + entriesSize before ≡ o + (entrySize x + entriesSize before) = omega arith in
       passes o x (before ++ e ∷ es) (all .0)
-      ∙ behind (o + entrySize x) before e es k (all .1) h n
+      ∙ after-passed (o + entrySize x) before e es k (all .1) h n
       ∙ ap (λ (y : ℕ). some (failure k y)) s
 
   pub none-fails : (o : ℕ) (es : List Entry) → All (λ (x : Entry). kind x ≡ 0) es → firstFailure kind o es ≡ none
@@ -61,51 +61,6 @@ module _ (kind : Entry → ℕ) where
           → All (λ (x : Entry). kind x ≡ 0) (e ∷ es)
       go rest true t q = (eqb-true (kind e) 0 t, rest q)
       go rest false t q = let z : _≡_ {A = ℕ} 0 1 = cc in absurd (omega arith)
-
-  -- a failure is that of an entry behind others that do not fail
-  pub record Split (o : ℕ) (es : List Entry) (f : Failure) : Type 0 where
-    pub before : List Entry
-    pub entry : Entry
-    pub after : List Entry
-    pub entries : es ≡ before ++ entry ∷ after
-    pub stands : f .offset ≡ o + entriesSize before
-    pub passed : All (λ (x : Entry). kind x ≡ 0) before
-    pub kind-is : kind entry ≡ f .kind
-    pub some-kind : ¬ (f .kind ≡ 0)
-
-  pub split : (o : ℕ) (es : List Entry) (f : Failure) → firstFailure kind o es ≡ some f → Split o es f
-  unfolding firstFailure entriesSize
-  split o [] f h = let z : _≡_ {A = ℕ} 0 1 = cc in absurd (omega arith)
-  split o (e ∷ es) f h = go (split (o + entrySize e) es f) (eqb (kind e) 0) refl h
-    where
-      go : (firstFailure kind (o + entrySize e) es ≡ some f → Split (o + entrySize e) es f)
-          → (t : Bool) → eqb (kind e) 0 ≡ t
-          → cond t (firstFailure kind (o + entrySize e) es) (some (failure (kind e) o)) ≡ some f → Split o (e ∷ es) f
-      go rest true t q =
-          let s = rest q in
-          record {
-            before = e ∷ s .before;
-            entry = s .entry;
-            after = s .after;
-            entries = ap {B = List Entry} (λ (l : List Entry). e ∷ l) (s .entries);
-            stands = omega (arith, s .stands);
-            passed = (eqb-true (kind e) 0 t, s .passed);
-            kind-is = s .kind-is;
-            some-kind = s .some-kind;
-          }
-      go rest false t q =
-          let k : kind e ≡ f .kind = cc in
-          let at : f .offset ≡ o = cc in
-          record {
-            before = [];
-            entry = e;
-            after = es;
-            entries = refl;
-            stands = omega arith;
-            passed = tt;
-            kind-is = k;
-            some-kind = λ z. eqb-false (kind e) 0 t (k ∙ z);
-          }
 
 -- kinds that agree on every entry
 pub same-kinds : (kind other : Entry → ℕ) → ((e : Entry) → kind e ≡ other e) → (o : ℕ) (es : List Entry)

@@ -2,7 +2,7 @@
 use Prim.Native.Nat.{ℕ, _≤_}
 use native.Mathlib.Omega.{arith}
 use mathlib.Core.Path.{_≡_, refl, sym, ap, ap₂, _∙_}
-use mathlib.Core.Logic.{_↔_, _⊎_, inl, inr}
+use mathlib.Core.Logic.{inl, inr}
 use mathlib.Core.Bool.{Bool, true, false, cond}
 use mathlib.Core.List.{List, List·Memᴰ}
 use mathlib.Core.Option.{Option, none, some}
@@ -27,7 +27,7 @@ use Rattle.canonical.specs.steps.Made.{Made}
 use Rattle.canonical.proofs.Closing.{words, accepted-all, made-closes, made-room}
 use Rattle.canonical.proofs.ReadBack.{made-puts, made-mode, ours-yes}
 use Rattle.one_to_one.specs.OneToOne.{isId, isName, asked, kindOf, kindIn, Failure, firstFailure, firstIn, oneToOne}
-use Rattle.one_to_one.specs.theorems.Theorem.{Paired, FindsOther, GivesOther, Fails, kindAmong, SameId, SameName, OneId, OneName}
+use Rattle.one_to_one.specs.theorems.Theorem.{Paired, FindsOther, GivesOther, Fails, Inverse, kindAmong, SameId, SameName, OneId, OneName}
 use Rattle.one_to_one.proofs.Answers.{answered, accepted, first-is}
 use Rattle.one_to_one.proofs.Failures.{none-fails, all-pass, same-kinds}
 use Rattle.one_to_one.proofs.Puts.{each-in, at-one, name-first, id-last, first-entry, last-entry}
@@ -160,8 +160,7 @@ module _ (img : List ℕ) (m : Made img) where
           gives-last t (e .id) ∙ last .1 ∙ ap {B = Option (List ℕ)} some (sym (f .2) ∙ sym (f .1 (sym (f .3))))
 
   -- where the answer is yes, lookup and naming are inverse
-  pub inverse : modeIn img ≡ Twoway → oneToOne img ≡ value none → (name : List ℕ) (id : ℕ)
-      → (foundId (lookup img name) ≡ some id) ↔ (nameGiven img id ≡ some name)
+  pub inverse : modeIn img ≡ Twoway → oneToOne img ≡ value none → Inverse img
   inverse t h name id =
       let all : All (Paired img) (m .puts) = rw (made-puts img m) at (yes-paired img h) in (
         λ q.
@@ -174,19 +173,14 @@ module _ (img : List ℕ) (m : Made img) where
 
   -- an entry that fails finds another id, or gives another name
   module _ (e : Entry) (i : List·Memᴰ e (m .puts)) where
-    finds-some : (id : ℕ) × (foundId (lookup img (e .name)) ≡ some id)
-    finds-some = let f = name-first (m .puts) e i in (f .0, finds-first (e .name) ∙ f .1)
-
-    gives-some : modeIn img ≡ Twoway → (name : List ℕ) × (nameGiven img (e .id) ≡ some name)
-    gives-some t = let f = id-last (m .puts) e i in (f .0, gives-last t (e .id) ∙ f .1)
-
     finds-other : isId (foundId (lookup img (e .name))) (e .id) ≡ false → FindsOther img e
     finds-other h =
-        let f = finds-some in
+        let f = name-first (m .puts) e i in
+        let found = finds-first (e .name) ∙ f .1 in
         record {
           other = f .0;
-          found = f .1;
-          another = λ q. false-not-true (sym h ∙ id-is (foundId (lookup img (e .name))) (e .id) (f .1 ∙ ap {B = Option ℕ} some q));
+          found = found;
+          another = λ q. false-not-true (sym h ∙ id-is (foundId (lookup img (e .name))) (e .id) (found ∙ ap {B = Option ℕ} some q));
         }
 
     gives-other : isId (foundId (lookup img (e .name))) (e .id) ≡ true
@@ -195,13 +189,14 @@ module _ (img : List ℕ) (m : Made img) where
       where
         go : (mode : Mode) → modeIn img ≡ mode → asked mode (isName (nameGiven img (e .id)) (e .name)) ≡ false → GivesOther img e
         go Twoway t n =
-            let g = gives-some t in
+            let g = id-last (m .puts) e i in
+            let given = gives-last t (e .id) ∙ g .1 in
             record {
               finds = is-id (foundId (lookup img (e .name))) (e .id) f;
               two-way = t;
               other = g .0;
-              given = g .1;
-              another = λ q. false-not-true (sym n ∙ name-is (nameGiven img (e .id)) (e .name) (g .1 ∙ ap {B = Option (List ℕ)} some q));
+              given = given;
+              another = λ q. false-not-true (sym n ∙ name-is (nameGiven img (e .id)) (e .name) (given ∙ ap {B = Option (List ℕ)} some q));
             }
         go Oneway t n = absurd (false-not-true (sym n))
 

@@ -1,5 +1,5 @@
--- One to one: whether each name of an image has one id, and each id one name. An added call, by 02 (ix) and by 01's lookup
--- and naming.
+-- One to one: whether each name of an image has one id, and each id one name. An added call, by 02 (ix) and by 01's
+-- lookup and naming.
 use Prim.Native.Nat.{ℕ, _+_}
 use mathlib.Core.Bool.{Bool, true, false, cond, not}
 use mathlib.Core.List.{List, [], _∷_}
@@ -37,10 +37,11 @@ kindOf finds gives = cond (not finds) 1 (cond (not gives) 2 0)
 -- for an entry of an image: "its name finds its id", and "its id gives its name"
 unfoldable pub kindIn : List ℕ → Entry → ℕ
 kindIn img e =
-    kindOf (isId (foundId (lookup img (e .name))) (e .id)) (asked (modeIn img) (isName (nameGiven img (e .id)) (e .name)))
+    kindOf (isId (foundId (lookup img (e .name))) (e .id))
+    (asked (modeIn img) (isName (nameGiven img (e .id)) (e .name)))
 
--- "the offset of the first entry, in put order, for which this fails, and which of the two fails first": of entries that
--- stand one after the other from o on; none where it holds for every entry
+-- "the offset of the first entry, in put order, for which this fails, and which of the two fails first": the entries
+-- stand one after the other from o on. None where it holds for every entry
 pub record Failure : Type 0 where
   pub kind : ℕ
   pub offset : ℕ

@@ -14,7 +14,8 @@ use reader::Named;
 use reader::Opened;
 use reader::ToId;
 
-// Yes; or the offset of the first entry whose name finds another id or whose id gives another name; or the refusal's number.
+// Yes; or the offset of the first entry that fails, whose name finds another id or whose id gives another name; or the
+// number of the refusal.
 pub enum OneToOne {
     Yes,
     OtherId { offset: u32 },
@@ -32,7 +33,7 @@ fn finds_id(image: &[u8], name: &[u8], id: u32) -> bool
     }
 }
 
-// Does the id give this name? True for a one-way image, where no id gives a name.
+// Does the id give this name? True in a one-way image, where no id gives a name.
 fn gives_name(image: &[u8], twoway: bool, id: u32, name: &[u8]) -> bool
     ensures { λ r. ⌜
         r ≡ asked (cond twoway Twoway Oneway) (isName (nameGiven (now (image .entry)) id) (now (name .entry)))
@@ -71,8 +72,8 @@ fn first_failure(image: &[u8], n: u32) -> OneToOne
     OneToOne::Yes
 }
 
-// Is each entry's name found with its id, and does its id give its name? If not, the first entry, in put order, that fails.
-// Refused with 17 where the image is not canonical.
+// Does each entry's name find its id, and its id give its name? If not, the first entry, in put order, that fails.
+// Refused with 17 if the image is not canonical.
 pub fn one_to_one(image: &[u8]) -> OneToOne
     ensures { λ r. ⌜ oneToOneOf r ≡ oneToOne (now (image .entry)) ⌝ }
 {

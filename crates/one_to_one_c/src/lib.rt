@@ -4,8 +4,8 @@ ghost use mathlib.Core.Path.{_≡_};
 ghost use Rattle.one_to_one.specs.OneToOne.{oneToOne};
 ghost use Rattle.one_to_one_c.specs.OneToOneAnswer.{oneToOneAnswer};
 
-// The refusal's number, 0 when accepted; 1 for yes; otherwise the kind of the first failure and the offset of its entry. What
-// does not apply is 0.
+// The refusal's number, 0 when accepted; 1 for yes; otherwise the kind of the first failure and its entry's offset. Fields
+// that do not apply are 0.
 #[repr(C)]
 pub struct OneToOneAnswer {
     pub refusal: u32,
@@ -14,7 +14,7 @@ pub struct OneToOneAnswer {
     pub offset: u32,
 }
 
-// Is an image one to one? Refused with 17 where it is not canonical.
+// Is an image one to one? Refused with 17 if it is not canonical.
 #[no_mangle]
 pub extern "C" fn cqdb_one_to_one(image: &[u8]) -> OneToOneAnswer
     ensures { λ r. ⌜ r ≡ oneToOneAnswer (oneToOne (now (image .entry))) ⌝ }

@@ -4,7 +4,7 @@ use native.Mathlib.Omega.{arith}
 use mathlib.Core.Path.{refl, ap}
 use lib.Dec.{eqb}
 use borrow.Author.Tests.{not-true, not-false}
-use Rattle.one_to_one.proofs.Walking.{Walk, Turn, Inside, walk-starts, walk-ends, inside, other-id, other-name, walk-on}
+use Rattle.one_to_one.proofs.Walking.{Walk, Step, Inside, walk-starts, walk-ends, inside, other-id, other-name, walk-on}
 use borrow.Author.Needs.{needs}
 use Rattle.one_to_one.proofs.first_failure.Statement.{statement}
 use Rattle.one_to_one.proofs.first_failure.Tie as tie
@@ -15,11 +15,11 @@ Inv-loop image n twoway at₀ left₀ at left = Walk image at left
 abbrev μ-loop : tie.MeasureT-loop
 μ-loop image n twoway at₀ left₀ at left = left
 
--- the turn at which an entry's name was looked up
-turn : (c : tie.After-finds-id Inv-loop μ-loop) → let at = c .before .before .before .before .before .loop in
-    Turn (c .before .before .before .before .before .before .before .before .args .image .now) (at .at) (at .left)
+-- the iteration, where the entry's name was looked up
+step : (c : tie.After-finds-id Inv-loop μ-loop) → let at = c .before .before .before .before .before .loop in
+    Step (c .before .before .before .before .before .before .before .before .args .image .now) (at .at) (at .left)
     (c .before .before .before .get-u322 .result) (c .before .before .name-at .result .now) (c .before .get-u323 .result) (c .finds-id .result)
-turn c =
+step c =
     let entered = c .before .before .before .before in
     record {
       walk = entered .before .loop .inv;
@@ -31,10 +31,10 @@ turn c =
     }
 
 -- its entry lies in the image
-room : (c : tie.After-finds-id Inv-loop μ-loop) →
+lies-inside : (c : tie.After-finds-id Inv-loop μ-loop) →
     Inside (c .before .before .before .before .before .before .before .before .args .image .now)
     (c .before .before .before .before .before .loop .at) (c .before .before .before .get-u322 .result)
-room c = let t = turn c in inside (t .walk) (t .more) _ (t .len-is)
+lies-inside c = let t = step c in inside (t .walk) (t .more) _ (t .len-is)
 
 get-u32-requires : tie.Need-get-u32-requires Inv-loop μ-loop
 get-u32-requires c κs = search needs
@@ -65,29 +65,29 @@ finds-id-requires : tie.Need-finds-id-requires Inv-loop μ-loop
 finds-id-requires c κs = search needs
 
 cast-t14 : tie.Need-cast-t14 Inv-loop μ-loop
-cast-t14 c = let r = room (c .before) in omega arith
+cast-t14 c = let r = lies-inside (c .before) in omega arith
 
 returns : tie.Need-returns Inv-loop μ-loop
-returns c = other-id (turn (c .before)) (not-true _ (c .if1 .taken))
+returns c = other-id (step (c .before)) (not-true _ (c .if1 .taken))
 
 gives-name-requires : tie.Need-gives-name-requires Inv-loop μ-loop
 gives-name-requires c κs = search needs
 
 cast-t15 : tie.Need-cast-t15 Inv-loop μ-loop
-cast-t15 c = let r = room (c .before .before .before) in omega arith
+cast-t15 c = let r = lies-inside (c .before .before .before) in omega arith
 
 returns-2 : tie.Need-returns-2 Inv-loop μ-loop
 returns-2 c =
     let f = c .before .before .before in
     let flag = f .before .before .before .before .before .before .get-u32 in
-    other-name (turn f) (not-false _ (c .before .before .if1 .left)) (ap (λ (k : ℕ). eqb k 0) (flag .ensures))
+    other-name (step f) (not-false _ (c .before .before .if1 .left)) (ap (λ (k : ℕ). eqb k 0) (flag .ensures))
     (c .before .gives-name .ensures) (not-true _ (c .if2 .taken))
 
 add-at : tie.Need-add-at Inv-loop μ-loop
 add-at c = search needs
 
 add-at-2 : tie.Need-add-at-2 Inv-loop μ-loop
-add-at-2 c = let r = room (c .before .before .before) in omega arith
+add-at-2 c = let r = lies-inside (c .before .before .before) in omega arith
 
 sub-left : tie.Need-sub-left Inv-loop μ-loop
 sub-left c = omega arith
@@ -99,13 +99,11 @@ loop-again : tie.Need-loop-again Inv-loop μ-loop
 loop-again c =
     let f = c .before .before .before in
     let flag = f .before .before .before .before .before .before .get-u32 in
-    walk-on (turn f) (not-false _ (c .before .before .if1 .left)) (ap (λ (k : ℕ). eqb k 0) (flag .ensures))
+    walk-on (step f) (not-false _ (c .before .before .if1 .left)) (ap (λ (k : ℕ). eqb k 0) (flag .ensures))
     (c .before .gives-name .ensures) (not-false _ (c .if2 .left))
 
 returns-3 : tie.Need-returns-3 Inv-loop μ-loop
-returns-3 c =
-    let at = c .before .loop in
-    walk-ends (c .before .before .before .before .args .image .now) (at .at) (at .left) (at .inv) (omega arith)
+returns-3 c = walk-ends (c .before .loop .inv) (omega arith)
 
 pub first-failure-spec : {M : Type 1} → statement M
 first-failure-spec =

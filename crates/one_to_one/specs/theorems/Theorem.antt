@@ -44,15 +44,19 @@ pub record GivesOther (img : List ℕ) (e : Entry) : Type 0 where
 abbrev pub Fails : List ℕ → ℕ → Entry → Type 0
 Fails img kind e = ((kind ≡ 1) × FindsOther img e) ⊎ ((kind ≡ 2) × GivesOther img e)
 
--- "the first entry, in put order, for which this fails"
-pub record First (img : List ℕ) (f : Failure) : Type 0 where
+-- "the first entry, in put order, for which this fails", of entries that stand one after the other from o on
+pub record First (img : List ℕ) (o : ℕ) (es : List Entry) (f : Failure) : Type 0 where
   pub before : List Entry
   pub entry : Entry
-  pub behind : List Entry
-  pub entries : putsIn img ≡ before ++ entry ∷ behind
-  pub stands : f .offset ≡ headSize + entriesSize before
+  pub after : List Entry
+  pub entries : es ≡ before ++ entry ∷ after
+  pub offset-is : f .offset ≡ o + entriesSize before
   pub paired-before : Each (Paired img) before
   pub fails : Fails img (f .kind) entry
+
+-- lookup and naming are inverse
+abbrev pub Inverse : List ℕ → Type 0
+Inverse img = (name : List ℕ) (id : ℕ) → (foundId (lookup img name) ≡ some id) ↔ (nameGiven img id ≡ some name)
 
 -- ---- by the puts alone: a name finds the id of its first put, an id gives the name of its last
 
@@ -74,16 +78,12 @@ SameName e f = e .id ≡ f .id → e .name ≡ f .name
 abbrev pub OneName : List Entry → Type 0
 OneName es = Each (λ (e : Entry). Each (SameName e) es) es
 
--- the image of a list of calls, as in demand 3 or one-way, with either choice of 02 (viii)
-pub record OfList (mode : Mode) (repeats : Repeats) (buffer : List ℕ) (cs : List Call) : Type 0 where
-  pub yes-exactly : (oneToOne (imageOf mode repeats buffer cs) ≡ value none)
-      ↔ (OneId (acceptedPuts mode repeats buffer cs) × (mode ≡ Twoway → OneName (acceptedPuts mode repeats buffer cs)))
+-- the image img of a list of calls, as in demand 3 or one-way, with either choice of 02 (viii), by its accepted puts es
+pub record OfList (mode : Mode) (es : List Entry) (img : List ℕ) : Type 0 where
+  pub yes-exactly : (oneToOne img ≡ value none) ↔ (OneId es × (mode ≡ Twoway → OneName es))
   -- the whole answer follows from the accepted puts
-  pub by-puts : oneToOne (imageOf mode repeats buffer cs)
-      ≡ value (firstFailure (kindAmong mode (acceptedPuts mode repeats buffer cs)) headSize (acceptedPuts mode repeats buffer cs))
-  -- where the answer is yes, lookup and naming are inverse
-  pub inverse : mode ≡ Twoway → oneToOne (imageOf mode repeats buffer cs) ≡ value none → (name : List ℕ) (id : ℕ)
-      → (foundId (lookup (imageOf mode repeats buffer cs) name) ≡ some id) ↔ (nameGiven (imageOf mode repeats buffer cs) id ≡ some name)
+  pub by-puts : oneToOne img ≡ value (firstFailure (kindAmong mode es) headSize es)
+  pub inverse : mode ≡ Twoway → oneToOne img ≡ value none → Inverse img
 
 pub record Theorem : Type 0 where
   -- "refused with 17 .. where (ix) says no"; "an image without entries is one to one"
@@ -92,9 +92,9 @@ pub record Theorem : Type 0 where
   -- "yes exactly when, for every entry, its id gives its name and its name finds its id"
   pub yes-exactly : (img : List ℕ) → ours img ≡ true → (oneToOne img ≡ value none) ↔ Each (Paired img) (putsIn img)
   -- "otherwise the offset of the first entry .. and which of the two fails first"
-  pub first-exactly : (img : List ℕ) → AllBytes img → ours img ≡ true → (f : Failure) → (oneToOne img ≡ value (some f)) ↔ First img f
-  -- where it says yes, lookup and naming are inverse
-  pub inverse : (img : List ℕ) → AllBytes img → modeIn img ≡ Twoway → oneToOne img ≡ value none → (name : List ℕ) (id : ℕ)
-      → (foundId (lookup img name) ≡ some id) ↔ (nameGiven img id ≡ some name)
-  pub of-list : (mode : Mode) (repeats : Repeats) (buffer : List ℕ) (cs : List Call) → headSize ≤ length buffer → WordIds mode cs
-      → OfList mode repeats buffer cs
+  pub first-exactly : (img : List ℕ) → AllBytes img → ours img ≡ true → (f : Failure)
+      → (oneToOne img ≡ value (some f)) ↔ First img headSize (putsIn img) f
+  pub inverse : (img : List ℕ) → AllBytes img → modeIn img ≡ Twoway → oneToOne img ≡ value none → Inverse img
+  pub of-list : (mode : Mode) (repeats : Repeats) (buffer : List ℕ) (cs : List Call)
+      → headSize ≤ length buffer → WordIds mode cs
+      → OfList mode (acceptedPuts mode repeats buffer cs) (imageOf mode repeats buffer cs)
