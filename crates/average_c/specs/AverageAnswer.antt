@@ -8,7 +8,8 @@ use Rattle.average_c.specs.declared.AverageAnswer.{AverageAnswer}
 
 -- an average is accepted, 0, and its three numbers stand beside it; a refusal has its number, and 0 for the others
 abbrev pub averageAnswerOf : Outcome Mean → AverageAnswer
-averageAnswerOf (value m) = record { refusal = 0; entries = m .entries; quotient = m .quotient; remainder = m .remainder }
+averageAnswerOf (value m) =
+    record { refusal = 0; entries = m .entries; quotient = m .quotient; remainder = m .remainder }
 averageAnswerOf (refusal k) = record { refusal = k; entries = 0; quotient = 0; remainder = 0 }
 
 -- the rule of the call, so answered

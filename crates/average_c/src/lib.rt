@@ -1,7 +1,7 @@
-// The average search length for C. Each function is a thin call of the proved function that bears the work.
+// The average search length for C. Each function calls the proved function of `search_length`.
 use search_length::Averaged;
 ghost use mathlib.Core.Path.{_≡_};
-ghost use Rattle.search_length.specs.Average.{averageRefusal, afterLengths};
+ghost use Rattle.search_length.specs.steps.Contracts.{Lengths};
 ghost use Rattle.average_c.specs.AverageAnswer.{averageAnswer};
 
 // The refusal's number, 0 when accepted; the number of entries, quotient and remainder, 0 when refused.
@@ -35,12 +35,11 @@ pub extern "C" fn cqdb_average(image: &[u8]) -> AverageAnswer
     }
 }
 
-// How many entries are found after 1, 2, .. 15 and 16 or more buckets, into the lent list; or the refusal's number, and the list
-// stays as it was.
+// Stores how many entries are found after 1, 2, .. 15 and 16 or more buckets, and returns 0. Or returns the refusal's
+// number; the list stays as it was.
 #[no_mangle]
 pub extern "C" fn cqdb_lengths(image: &[u8], counts: &mut [u32; 16]) -> u32
-    ensures answer { λ r. ⌜ r ≡ averageRefusal (now (image .entry)) ⌝ }
-    ensures leaves { λ r. ⌜ now (counts .exit) ≡ afterLengths (now (image .entry)) (now (counts .entry)) ⌝ }
+    ensures { λ r. ⌜ Lengths (now (image .entry)) (now (counts .entry)) (now (counts .exit)) r ⌝ }
 {
     search_length::lengths(image, &mut *counts)
 }

@@ -12,8 +12,8 @@ use borrow.Author.Tests.{eq-eqb, ne-eqb, le-leb, lt-leb}
 use Rattle.image.specs.Bytes.{filter}
 use Rattle.image.specs.Image.{Placed, placedOfId, lastFrom, backWord}
 use Rattle.image.proofs.AllOfList.{All}
-use Rattle.canonical.specs.steps.HiddenBuckets.{above, Rising, selves, Linked}
-use Rattle.canonical.proofs.CountAtLeast.{above-in, above-only, above-mono, above-same, above-one, above-none}
+use Rattle.canonical.specs.steps.HiddenBuckets.{countFrom, Rising, selfLinks, BackArrayMatches}
+use Rattle.canonical.proofs.CountAtLeast.{countFrom-in, countFrom-only, countFrom-mono, countFrom-same, countFrom-one, countFrom-none}
 
 -- the offsets of entries
 abbrev pub offsets : List Placed → List ℕ
@@ -35,15 +35,15 @@ after-none : (i x : ℕ) → after i x [] ≡ x
 unfolding placedOfId filter lastFrom
 after-none i x = refl
 
-self-yes : (l : List ℕ) (p : Placed) (ps : List Placed) → getD l (p .entry .id) 0 ≡ p .at → selves l (p ∷ ps) ≡ 1 + selves l ps
-unfolding selves
+self-yes : (l : List ℕ) (p : Placed) (ps : List Placed) → getD l (p .entry .id) 0 ≡ p .at → selfLinks l (p ∷ ps) ≡ 1 + selfLinks l ps
+unfolding selfLinks
 self-yes l p ps e = rw (eq-eqb (getD l (p .entry .id) 0) (p .at) e)
 
-self-no : (l : List ℕ) (p : Placed) (ps : List Placed) → (getD l (p .entry .id) 0 ≡ p .at → ⊥) → selves l (p ∷ ps) ≡ selves l ps
-unfolding selves
+self-no : (l : List ℕ) (p : Placed) (ps : List Placed) → (getD l (p .entry .id) 0 ≡ p .at → ⊥) → selfLinks l (p ∷ ps) ≡ selfLinks l ps
+unfolding selfLinks
 self-no l p ps d = rw (ne-eqb (getD l (p .entry .id) 0) (p .at) d) (omega arith)
 
--- a number above 0 stands in the list
+-- a number above 0 is in the list
 inside : (l : List ℕ) (i : ℕ) → 0 < getD l i 0 → i < length l
 inside l i h =
     elim (decLt i (length l)) [
@@ -54,16 +54,16 @@ inside l i h =
 -- ---- linked links are right
 
 module _ (l : List ℕ) where
-  self-most : (a : ℕ) (ps : List Placed) → 0 < a → Rising a (offsets ps) → selves l ps ≤ above a l
-  unfolding selves
+  self-most : (a : ℕ) (ps : List Placed) → 0 < a → Rising a (offsets ps) → selfLinks l ps ≤ countFrom a l
+  unfolding selfLinks
   self-most a [] p r = omega arith
   self-most a (q ∷ ps) p r =
       let h = r .0 in
       let rest = self-most (suc (q .at)) ps (omega arith) (r .1) in
       elim (ℕ-discrete (getD l (q .entry .id) 0) (q .at)) [
         | yes e ↦
-            omega (arith, self-yes l q ps e, above-in a (suc (q .at)) l (q .entry .id) (inside l (q .entry .id) (omega arith)) (omega arith) (omega arith))
-        | no d ↦ omega (arith, self-no l q ps d, above-mono a (suc (q .at)) l (omega arith))
+            omega (arith, self-yes l q ps e, countFrom-in a (suc (q .at)) l (q .entry .id) (inside l (q .entry .id) (omega arith)) (omega arith) (omega arith))
+        | no d ↦ omega (arith, self-no l q ps d, countFrom-mono a (suc (q .at)) l (omega arith))
       ]
 
   -- a link that points from a on, else what was before
@@ -77,35 +77,35 @@ module _ (l : List ℕ) where
   from-no a i x h = rw (lt-leb a (getD l i 0) h)
 
   -- where the counts agree, no other link points from a to the first entry
-  exact : (a : ℕ) (q : Placed) (ps : List Placed) → 0 < a → a ≤ q .at → Rising (suc (q .at)) (offsets ps) → above a l ≡ selves l (q ∷ ps)
-      → (above (suc (q .at)) l ≡ selves l ps)
+  exact : (a : ℕ) (q : Placed) (ps : List Placed) → 0 < a → a ≤ q .at → Rising (suc (q .at)) (offsets ps) → countFrom a l ≡ selfLinks l (q ∷ ps)
+      → (countFrom (suc (q .at)) l ≡ selfLinks l ps)
       × ((i : ℕ) → i < length l → a ≤ getD l i 0 → getD l i 0 < suc (q .at) → (i ≡ q .entry .id) × (getD l i 0 ≡ q .at))
   exact a q ps p le r e =
       let least = self-most (suc (q .at)) ps (omega arith) r in
-      let mono = above-mono a (suc (q .at)) l (omega arith) in
+      let mono = countFrom-mono a (suc (q .at)) l (omega arith) in
       elim (ℕ-discrete (getD l (q .entry .id) 0) (q .at)) [
         | yes t ↦
             let one = self-yes l q ps t in
             let k = inside l (q .entry .id) (omega arith) in
-            let more = above-in a (suc (q .at)) l (q .entry .id) k (omega arith) (omega arith) in
-            let f : above (suc (q .at)) l ≡ selves l ps = omega arith in (
+            let more = countFrom-in a (suc (q .at)) l (q .entry .id) k (omega arith) (omega arith) in
+            let f : countFrom (suc (q .at)) l ≡ selfLinks l ps = omega arith in (
               f,
-              λ i h u v. let same : i ≡ q .entry .id = above-only a (suc (q .at)) l i (q .entry .id) (omega arith) h k u v (omega arith) (omega arith) in
+              λ i h u v. let same : i ≡ q .entry .id = countFrom-only a (suc (q .at)) l i (q .entry .id) (omega arith) h k u v (omega arith) (omega arith) in
                   (same, ap (λ (j : ℕ). getD l j 0) same ∙ t),
             )
         | no t ↦
             let one = self-no l q ps t in
-            let f : above (suc (q .at)) l ≡ selves l ps = omega arith in
-            (f, λ i h u v. absurd (omega (arith, above-in a (suc (q .at)) l i h u v)))
+            let f : countFrom (suc (q .at)) l ≡ selfLinks l ps = omega arith in
+            (f, λ i h u v. absurd (omega (arith, countFrom-in a (suc (q .at)) l i h u v)))
       ]
 
   after-from : (a : ℕ) (ps : List Placed) → 0 < a → Rising a (offsets ps) → All (λ (p : Placed). p .at ≤ getD l (p .entry .id) 0) ps
-      → above a l ≡ selves l ps → (i x : ℕ) → i < length l → after i x ps ≡ from a i x
-  unfolding selves
+      → countFrom a l ≡ selfLinks l ps → (i x : ℕ) → i < length l → after i x ps ≡ from a i x
+  unfolding selfLinks
   after-from a [] p r s e i x h =
       elim (decLt (getD l i 0) a) [
         | yes k ↦ after-none i x ∙ sym (from-no a i x k)
-        | no k ↦ absurd (omega (arith, above-in a (suc (getD l i 0)) l i h (omega arith) (omega arith)))
+        | no k ↦ absurd (omega (arith, countFrom-in a (suc (getD l i 0)) l i h (omega arith) (omega arith)))
       ]
   after-from a (q ∷ ps) p r s e i x h =
       let le = r .0 in
@@ -130,9 +130,9 @@ module _ (l : List ℕ) where
             ]
       ]
 
-pub linked-right : (l : List ℕ) (ps : List Placed) → Rising 1 (offsets ps) → Linked l ps → (i : ℕ) → i < length l → backWord ps i ≡ getD l i 0
+pub matching-link : (l : List ℕ) (ps : List Placed) → Rising 1 (offsets ps) → BackArrayMatches l ps → (i : ℕ) → i < length l → backWord ps i ≡ getD l i 0
 unfolding backWord
-linked-right l ps r k i h =
+matching-link l ps r k i h =
     after-from l 1 ps (omega arith) r (k .ahead) (k .used) i 0 h
     ∙ elim (decLt (getD l i 0) 1) [
       | yes m ↦ from-no l 1 i 0 m ∙ omega arith
@@ -160,10 +160,10 @@ after-cases a (q ∷ ps) r i x =
 module _ (l : List ℕ) where
   linked-from : (a : ℕ) (ps : List Placed) (before : ℕ → ℕ) → 0 < a → Rising a (offsets ps) → All (λ (p : Placed). p .entry .id < length l) ps
       → ((i : ℕ) → before i < a) → ((i : ℕ) → i < length l → getD l i 0 ≡ after i (before i) ps)
-      → All (λ (p : Placed). p .at ≤ getD l (p .entry .id) 0) ps × (above a l ≡ selves l ps)
-  unfolding selves
+      → All (λ (p : Placed). p .at ≤ getD l (p .entry .id) 0) ps × (countFrom a l ≡ selfLinks l ps)
+  unfolding selfLinks
   linked-from a [] before p r ids low is =
-      (tt, above-none a l (λ i h. omega (arith, is i h, after-none i (before i), low i)))
+      (tt, countFrom-none a l (λ i h. omega (arith, is i h, after-none i (before i), low i)))
   linked-from a (q ∷ ps) before p r ids low is =
       let le = r .0 in
       let (ahead, used) = linked-from (suc (q .at)) ps next (omega arith) (r .1) (ids .1) next-low next-is in
@@ -215,19 +215,19 @@ module _ (l : List ℕ) where
             | inr g ↦ absurd (omega arith)
           ]
 
-      count : above (suc (q .at)) l ≡ selves l ps → Dec (getD l (q .entry .id) 0 ≡ q .at) → above a l ≡ selves l (q ∷ ps)
+      count : countFrom (suc (q .at)) l ≡ selfLinks l ps → Dec (getD l (q .entry .id) 0 ≡ q .at) → countFrom a l ≡ selfLinks l (q ∷ ps)
       count used (yes e) =
           let le = r .0 in
-          let more = above-one a (suc (q .at)) l (q .entry .id) (ids .0) (omega arith) (omega arith) (λ i h u v. mine i h u v .0) in
+          let more = countFrom-one a (suc (q .at)) l (q .entry .id) (ids .0) (omega arith) (omega arith) (λ i h u v. mine i h u v .0) in
           omega (arith, self-yes l q ps e)
       count used (no d) =
           let le = r .0 in
-          let same = above-same a (suc (q .at)) l (omega arith) (λ i h u v. d (ap (λ (j : ℕ). getD l j 0) (sym (mine i h u v .0)) ∙ mine i h u v .1)) in
+          let same = countFrom-same a (suc (q .at)) l (omega arith) (λ i h u v. d (ap (λ (j : ℕ). getD l j 0) (sym (mine i h u v .0)) ∙ mine i h u v .1)) in
           omega (arith, self-no l q ps d)
 
-pub right-linked : (l : List ℕ) (ps : List Placed) → Rising 1 (offsets ps) → All (λ (p : Placed). p .entry .id < length l) ps
-    → ((i : ℕ) → i < length l → getD l i 0 ≡ backWord ps i) → Linked l ps
+pub links-match : (l : List ℕ) (ps : List Placed) → Rising 1 (offsets ps) → All (λ (p : Placed). p .entry .id < length l) ps
+    → ((i : ℕ) → i < length l → getD l i 0 ≡ backWord ps i) → BackArrayMatches l ps
 unfolding backWord
-right-linked l ps r ids is =
+links-match l ps r ids is =
     let (ahead, used) = linked-from l 1 ps (λ (i : ℕ). 0) (omega arith) r ids (λ i. omega arith) is in
     record { ahead = ahead; used = used }

@@ -16,9 +16,9 @@ use Rattle.image.proofs.AllOfList.{All}
 use Rattle.image.proofs.Sizes.{length-insert}
 use Rattle.image.proofs.Buckets.{length-probeSequence}
 use Rattle.lookup_laws.proofs.ProbeSequence.{probeSequence-at, place-of}
-use Rattle.canonical.specs.steps.HiddenBuckets.{above, Rising, ats, hide, masked, place, Right}
-use Rattle.canonical.proofs.CountAtLeast.{above-none, above-set, above-room, rising-less}
-use Rattle.canonical.proofs.HiddenBuckets.{hide-shows, hide-hides, getD-masked, length-masked, getD-ats, length-ats, masked-is}
+use Rattle.canonical.specs.steps.HiddenBuckets.{countFrom, Rising, bucketOffsets, hide, hideFrom, putBucket, TableMatches}
+use Rattle.canonical.proofs.CountAtLeast.{countFrom-none, countFrom-set, countFrom-room, rising-less}
+use Rattle.canonical.proofs.HiddenBuckets.{hide-shows, hide-hides, hide-empty, getD-hideFrom, length-hideFrom, getD-bucketOffsets, length-bucketOffsets, hideFrom-is}
 
 -- ---- the first empty bucket of a search
 
@@ -42,21 +42,27 @@ first-below at (k ∷ ks) n p h = go (eqb (at k) 0) (first-below at ks n p (λ i
     go true rest = h 0 (omega arith)
     go false rest = rest
 
-ats-set : (table : List Bucket) (k : ℕ) (b : Bucket) → ats (set table k b) ≡ set (ats table) k (b .at)
-ats-set [] k b = refl
-ats-set (c ∷ table) zero b = refl
-ats-set (c ∷ table) (suc k) b = ap (λ (l : List ℕ). c .at ∷ l) (ats-set table k b)
+-- the buckets of a probe sequence
+pub order-inside : (h n : ℕ) → 0 < n → (i : ℕ) → i < length (probeSequence n n (start h n)) → getD (probeSequence n n (start h n)) i 0 < n
+order-inside h n some i l =
+    let k : i < n = rw (length-probeSequence n n (start h n)) at l in
+    rw (probeSequence-at n n (start h n) i (mod-lt (h / 256) some) k) (mod-lt (start h n + i) some)
+
+bucketOffsets-set : (table : List Bucket) (k : ℕ) (b : Bucket) → bucketOffsets (set table k b) ≡ set (bucketOffsets table) k (b .at)
+bucketOffsets-set [] k b = refl
+bucketOffsets-set (c ∷ table) zero b = refl
+bucketOffsets-set (c ∷ table) (suc k) b = ap (λ (l : List ℕ). c .at ∷ l) (bucketOffsets-set table k b)
 
 -- ---- one entry
 
 -- what holds of a table that took m entries, all before offset a
-pub record Taken (n : ℕ) (table : List Bucket) (m a : ℕ) : Type 0 where
+pub record Inserted (n : ℕ) (table : List Bucket) (m a : ℕ) : Type 0 where
   pub sized : length table ≡ n
   pub zeros : (k : ℕ) → atOf table k ≡ 0 → getD table k empty ≡ empty
-  pub used : above 1 (ats table) ≡ m
+  pub used : countFrom 1 (bucketOffsets table) ≡ m
   pub below : (k : ℕ) → atOf table k < a
 
-module _ (n : ℕ) (table : List Bucket) (m a : ℕ) (b : Bucket) (t : Taken n table m a) (room : m < n) (pos : 0 < a) (le : a ≤ b .at) where
+module _ (n : ℕ) (table : List Bucket) (m a : ℕ) (b : Bucket) (t : Inserted n table m a) (room : m < n) (pos : 0 < a) (le : a ≤ b .at) where
   slot : ℕ
   slot = firstEmpty (atOf table) (probeSequence n n (start (b .hash) n))
 
@@ -65,19 +71,16 @@ module _ (n : ℕ) (table : List Bucket) (m a : ℕ) (b : Bucket) (t : Taken n t
 
   slot-in : slot < n
   unfolding slot
-  slot-in =
-      first-below (atOf table) (probeSequence n n (start (b .hash) n)) n (omega arith)
-      (λ i h. let k : i < n = rw (length-probeSequence n n (start (b .hash) n)) at h in
-      rw (probeSequence-at n n (start (b .hash) n) i start-below k) (mod-lt (start (b .hash) n + i) (omega arith)))
+  slot-in = first-below (atOf table) (probeSequence n n (start (b .hash) n)) n (omega arith) (order-inside (b .hash) n (omega arith))
 
   slot-empty : atOf table slot ≡ 0
   unfolding slot
   slot-empty =
-      let (j, h, z) = above-room (ats table) (omega (arith, t .used, t .sized, length-ats table)) in
-      let k : j < n = omega (arith, length-ats table, t .sized) in
+      let (j, h, z) = countFrom-room (bucketOffsets table) (omega (arith, t .used, t .sized, length-bucketOffsets table)) in
+      let k : j < n = omega (arith, length-bucketOffsets table, t .sized) in
       let (i, l, e) = place-of n (start (b .hash) n) j start-below k in
       first-found (atOf table) (probeSequence n n (start (b .hash) n)) i (rw (length-probeSequence n n (start (b .hash) n)) l)
-      (ap (atOf table) (probeSequence-at n n (start (b .hash) n) i start-below l ∙ e) ∙ sym (getD-ats table j) ∙ z)
+      (ap (atOf table) (probeSequence-at n n (start (b .hash) n) i start-below l ∙ e) ∙ sym (getD-bucketOffsets table j) ∙ z)
 
   there : slot < length table
   there = rw (t .sized) slot-in
@@ -90,36 +93,29 @@ module _ (n : ℕ) (table : List Bucket) (m a : ℕ) (b : Bucket) (t : Taken n t
   unfolding insert slot
   kept k d = getD-set-other table slot k b empty d
 
-  ats-insert : ats (insert n table b) ≡ set (ats table) slot (b .at)
+  bucketOffsets-insert : bucketOffsets (insert n table b) ≡ set (bucketOffsets table) slot (b .at)
   unfolding insert slot
-  ats-insert = ats-set table slot b
+  bucketOffsets-insert = bucketOffsets-set table slot b
 
   slot-of : (l : List Bucket) → l ≡ table → firstEmpty (atOf l) (probeSequence n n (start (b .hash) n)) ≡ slot
   unfolding slot
   slot-of l e = ap (λ (l : List Bucket). firstEmpty (atOf l) (probeSequence n n (start (b .hash) n))) e
 
-  pub hidden : (c : ℕ) → c ≤ b .at → masked c (insert n table b) ≡ masked c table
+  pub hidden : (c : ℕ) → c ≤ b .at → hideFrom c (insert n table b) ≡ hideFrom c table
   hidden c h =
-      masked-is c (insert n table b) (masked c table) (length-masked c table ∙ sym (length-insert n table b)) (λ k l. each k ∙ sym (getD-masked c table k))
+      hideFrom-is c (insert n table b) (hideFrom c table) (length-hideFrom c table ∙ sym (length-insert n table b)) (λ k l. each k ∙ sym (getD-hideFrom c table k))
     where
       each : (k : ℕ) → hide c (getD (insert n table b) k empty) ≡ hide c (getD table k empty)
       each k =
           elim (ℕ-discrete k slot) [
             | yes e ↦
                 let z = t .zeros slot slot-empty in
-                let h0 : hide c empty ≡ empty = hide-none in
-                rw e (ap (hide c) got ∙ hide-hides c b h ∙ sym (ap (hide c) z ∙ h0))
+                rw e (ap (hide c) got ∙ hide-hides c b h ∙ sym (ap (hide c) z ∙ hide-empty c))
             | no d ↦ ap (hide c) (kept k d)
           ]
-        where
-          hide-none : hide c empty ≡ empty
-          hide-none = elim (decLt 0 c) [
-            | yes p ↦ hide-shows c empty p
-            | no p ↦ hide-hides c empty (omega arith)
-          ]
 
-  pub taken-one : Taken n (insert n table b) (suc m) (suc (b .at))
-  taken-one = record {
+  pub inserted-one : Inserted n (insert n table b) (suc m) (suc (b .at))
+  inserted-one = record {
     sized = length-insert n table b ∙ t .sized;
     zeros = zeros;
     used = used;
@@ -136,11 +132,11 @@ module _ (n : ℕ) (table : List Bucket) (m a : ℕ) (b : Bucket) (t : Taken n t
             | no d ↦ kept k d ∙ t .zeros k (sym (ap (λ (x : Bucket). x .at) (kept k d)) ∙ z)
           ]
 
-      used : above 1 (ats (insert n table b)) ≡ suc m
+      used : countFrom 1 (bucketOffsets (insert n table b)) ≡ suc m
       used =
-          ap (above 1) ats-insert
-          ∙ above-set (ats table) slot (b .at) (rw (length-ats table) there) (getD-ats table slot ∙ slot-empty) (omega arith)
-          ∙ one (above 1 (ats table)) (t .used)
+          ap (countFrom 1) bucketOffsets-insert
+          ∙ countFrom-set (bucketOffsets table) slot (b .at) (rw (length-bucketOffsets table) there) (getD-bucketOffsets table slot ∙ slot-empty) (omega arith)
+          ∙ one (countFrom 1 (bucketOffsets table)) (t .used)
         where
           one : (x : ℕ) → x ≡ m → x + 1 ≡ suc m
           one x e = omega arith
@@ -153,22 +149,22 @@ module _ (n : ℕ) (table : List Bucket) (m a : ℕ) (b : Bucket) (t : Taken n t
           ]
 
   -- the entry in a later table in which no bucket below its offset or at it has changed
-  pub stands-later : (later : List Bucket) → masked (b .at) later ≡ masked (b .at) table → masked (suc (b .at)) later ≡ masked (suc (b .at)) (insert n table b)
-      → getD later (place n later b) empty ≡ b
-  stands-later later p q =
+  pub kept-later : (later : List Bucket) → hideFrom (b .at) later ≡ hideFrom (b .at) table → hideFrom (suc (b .at)) later ≡ hideFrom (suc (b .at)) (insert n table b)
+      → getD later (putBucket n later b) empty ≡ b
+  kept-later later p q =
       ap (λ (k : ℕ). getD later k empty) same-place ∙ shown (decLt (atOf later slot) (suc (b .at)))
     where
-      whole : masked (b .at) table ≡ table
-      whole = masked-is (b .at) table table refl (λ k h. hide-shows (b .at) (getD table k empty) (omega (arith, t .below k)))
+      whole : hideFrom (b .at) table ≡ table
+      whole = hideFrom-is (b .at) table table refl (λ k h. hide-shows (b .at) (getD table k empty) (omega (arith, t .below k)))
 
-      same-place : place n later b ≡ slot
-      same-place = slot-of (masked (b .at) later) (p ∙ whole)
+      same-place : putBucket n later b ≡ slot
+      same-place = slot-of (hideFrom (b .at) later) (p ∙ whole)
 
       both : hide (suc (b .at)) (getD later slot empty) ≡ b
       both =
-          sym (getD-masked (suc (b .at)) later slot)
+          sym (getD-hideFrom (suc (b .at)) later slot)
           ∙ ap (λ (l : List Bucket). getD l slot empty) q
-          ∙ getD-masked (suc (b .at)) (insert n table b) slot
+          ∙ getD-hideFrom (suc (b .at)) (insert n table b) slot
           ∙ ap (hide (suc (b .at))) got
           ∙ hide-shows (suc (b .at)) b (omega arith)
 
@@ -181,60 +177,60 @@ module _ (n : ℕ) (table : List Bucket) (m a : ℕ) (b : Bucket) (t : Taken n t
 
 -- ---- all of them
 
-later-hidden : (n : ℕ) (table : List Bucket) (m a c : ℕ) (bs : List Bucket) → Taken n table m a → 0 < a → m + length bs ≤ n
-    → Rising a (ats bs) → Rising c (ats bs) → masked c (insertAll n table bs) ≡ masked c table
+later-hidden : (n : ℕ) (table : List Bucket) (m a c : ℕ) (bs : List Bucket) → Inserted n table m a → 0 < a → m + length bs ≤ n
+    → Rising a (bucketOffsets bs) → Rising c (bucketOffsets bs) → hideFrom c (insertAll n table bs) ≡ hideFrom c table
 unfolding insertAll
 later-hidden n table m a c [] t p room r s = refl
 later-hidden n table m a c (b ∷ bs) t p room r s =
     let h = s .0 in
     later-hidden n (insert n table b) (suc m) (suc (b .at)) c bs
-    (taken-one n table m a b t (omega arith) p (r .0))
-    (omega arith) (omega arith) (r .1) (rising-less c (suc (b .at)) (ats bs) (omega arith) (s .1))
+    (inserted-one n table m a b t (omega arith) p (r .0))
+    (omega arith) (omega arith) (r .1) (rising-less c (suc (b .at)) (bucketOffsets bs) (omega arith) (s .1))
     ∙ hidden n table m a b t (omega arith) p (r .0) c h
 
-stand-all : (n : ℕ) (table : List Bucket) (m a : ℕ) (bs : List Bucket) → Taken n table m a → 0 < a → m + length bs ≤ n
-    → Rising a (ats bs) → All (λ (b : Bucket). getD (insertAll n table bs) (place n (insertAll n table bs) b) empty ≡ b) bs
+stand-all : (n : ℕ) (table : List Bucket) (m a : ℕ) (bs : List Bucket) → Inserted n table m a → 0 < a → m + length bs ≤ n
+    → Rising a (bucketOffsets bs) → All (λ (b : Bucket). getD (insertAll n table bs) (putBucket n (insertAll n table bs) b) empty ≡ b) bs
 unfolding insertAll
 stand-all n table m a [] t p room r = tt
 stand-all n table m a (b ∷ bs) t p room r =
     let h = r .0 in
-    let next = taken-one n table m a b t (omega arith) p h in
+    let next = inserted-one n table m a b t (omega arith) p h in
     let self : b .at ≤ b .at = omega arith in (
-      stands-later n table m a b t (omega arith) p h (insertAll n (insert n table b) bs)
+      kept-later n table m a b t (omega arith) p h (insertAll n (insert n table b) bs)
           (later-hidden n (insert n table b) (suc m) (suc (b .at)) (b .at) bs next (omega arith) (omega arith) (r .1)
-          (rising-less (b .at) (suc (b .at)) (ats bs) (omega arith) (r .1))
+          (rising-less (b .at) (suc (b .at)) (bucketOffsets bs) (omega arith) (r .1))
           ∙ hidden n table m a b t (omega arith) p h (b .at) self)
           (later-hidden n (insert n table b) (suc m) (suc (b .at)) (suc (b .at)) bs next (omega arith) (omega arith) (r .1) (r .1)),
       stand-all n (insert n table b) (suc m) (suc (b .at)) bs next (omega arith) (omega arith) (r .1),
     )
 
-taken-all : (n : ℕ) (table : List Bucket) (m a : ℕ) (bs : List Bucket) → Taken n table m a → 0 < a → m + length bs ≤ n
-    → Rising a (ats bs) → (e : ℕ) × Taken n (insertAll n table bs) (m + length bs) e
+inserted-all : (n : ℕ) (table : List Bucket) (m a : ℕ) (bs : List Bucket) → Inserted n table m a → 0 < a → m + length bs ≤ n
+    → Rising a (bucketOffsets bs) → (e : ℕ) × Inserted n (insertAll n table bs) (m + length bs) e
 unfolding insertAll
-taken-all n table m a [] t p room r = let e : m ≡ m + 0 = omega arith in (a, rw e at t)
-taken-all n table m a (b ∷ bs) t p room r =
+inserted-all n table m a [] t p room r = let e : m ≡ m + 0 = omega arith in (a, rw e at t)
+inserted-all n table m a (b ∷ bs) t p room r =
     let e : suc m + length bs ≡ m + suc (length bs) = omega arith in
     rw e at
-    (taken-all n (insert n table b) (suc m) (suc (b .at)) bs (taken-one n table m a b t (omega arith) p (r .0)) (omega arith) (omega arith) (r .1))
+    (inserted-all n (insert n table b) (suc m) (suc (b .at)) bs (inserted-one n table m a b t (omega arith) p (r .0)) (omega arith) (omega arith) (r .1))
 
-taken-none : (n : ℕ) → Taken n (replicate n empty) 0 1
-taken-none n = record {
+inserted-none : (n : ℕ) → Inserted n (replicate n empty) 0 1
+inserted-none n = record {
   sized = length-replicate n empty;
   zeros = λ k z. getD-empties n k;
-  used = above-none 1 (ats (replicate n empty)) (λ i h. let e = getD-ats (replicate n empty) i in let f = none i in omega arith);
+  used = countFrom-none 1 (bucketOffsets (replicate n empty)) (λ i h. let e = getD-bucketOffsets (replicate n empty) i in let f = none i in omega arith);
   below = λ k. let f = none k in omega arith;
 }
   where
     none : (k : ℕ) → atOf (replicate n empty) k ≡ 0
     none k = ap (λ (b : Bucket). b .at) (getD-empties n k)
 
-pub filled-right : (n : ℕ) (bs : List Bucket) → length bs ≤ n → Rising 1 (ats bs) → Right n (filled n bs) bs
+pub filled-matches : (n : ℕ) (bs : List Bucket) → length bs ≤ n → Rising 1 (bucketOffsets bs) → TableMatches n (filled n bs) bs
 unfolding filled
-filled-right n bs room rising =
-    let (e, t) = taken-all n (replicate n empty) 0 1 bs (taken-none n) (omega arith) (omega arith) rising in
+filled-matches n bs room rising =
+    let (e, t) = inserted-all n (replicate n empty) 0 1 bs (inserted-none n) (omega arith) (omega arith) rising in
     record {
       sized = t .sized;
       zeros = t .zeros;
       used = let u = t .used in omega arith;
-      stand = stand-all n (replicate n empty) 0 1 bs (taken-none n) (omega arith) (omega arith) rising;
+      stand = stand-all n (replicate n empty) 0 1 bs (inserted-none n) (omega arith) (omega arith) rising;
     }

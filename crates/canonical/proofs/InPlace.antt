@@ -1,4 +1,4 @@
--- All that is looked at in an image, where it stands, to tell whether it is that of these entries. Assumes nothing.
+-- The parts of an image, compared in place with those of some entries. Assumes nothing.
 use Prim.Native.Nat.{ℕ, _+_, _*_, _<_}
 use mathlib.Core.Path.{_≡_}
 use mathlib.Core.Bool.{true}
@@ -11,12 +11,12 @@ use Rattle.image.specs.declared.Mode.{Mode}
 use Rattle.image.specs.declared.Mode.the-variants.{Twoway, Oneway}
 use Rattle.image.proofs.At.{At}
 use Rattle.reader.specs.Open.{hasLetters}
-use Rattle.canonical.specs.steps.HiddenBuckets.{Right, Linked}
+use Rattle.canonical.specs.steps.HiddenBuckets.{TableMatches, BackArrayMatches}
 use Rattle.canonical.specs.steps.InPlace.{bucketsAt, wordsAt}
 
 -- the links of a two-way image; a one-way image has none
 abbrev pub LinksIn : Mode → List ℕ → List Entry → Type 0
-LinksIn Twoway img es = Linked (wordsAt img (entriesEnd es + 16 * length es) (backSizeOf Twoway es)) (placed headSize es)
+LinksIn Twoway img es = BackArrayMatches (wordsAt img (entriesEnd es + 16 * length es) (backSizeOf Twoway es)) (placed headSize es)
 LinksIn Oneway img es = Unit {0}
 
 pub record InPlace (img : List ℕ) (mode : Mode) (es : List Entry) : Type 0 where
@@ -31,7 +31,7 @@ pub record InPlace (img : List ℕ) (mode : Mode) (es : List Entry) : Type 0 whe
       → (tableAt img t ≡ tableOffset (entriesEnd es) (placed headSize es) t) × (bucketNumber img t ≡ 2 * count t (placed headSize es))
   pub entries : At img headSize (cat entryBytes es)
   pub tables : (t : ℕ) → t < 256
-      → Right (2 * count t (placed headSize es))
+      → TableMatches (2 * count t (placed headSize es))
       (bucketsAt img (entriesEnd es + 16 * entriesBefore t (placed headSize es)) (2 * count t (placed headSize es)))
       (map bucketOf (ofTable t (placed headSize es)))
   pub linked : LinksIn mode img es

@@ -1,4 +1,4 @@
--- Two different lists of puts in one direction never close to the same image; and the rule decides what is ours. Assumes nothing.
+-- Puts and direction are read back from an image, and the decision is right. Assumes nothing.
 use Prim.Native.Nat.{ℕ, zero, suc, _+_, _-_, _^_, _≤_, _<_}
 use native.Mathlib.Omega.{arith}
 use mathlib.Core.Path.{_≡_, refl, sym, ap, ap₂, _∙_}
@@ -15,7 +15,7 @@ use Rattle.image.proofs.EntryArea.{AllBytes, bytes-drop, bytes-take, ids-words}
 use Rattle.image.proofs.At.{At, at-same, at-left, at-right, at-word}
 use Rattle.image.proofs.Bools.{and-first, and-second, and-both}
 use Rattle.image.proofs.Equal.{same-true, same-self}
-use Rattle.image.proofs.AllOfList.{All}
+use Rattle.image.proofs.AllOfList.{All, all-map}
 use Rattle.image.proofs.Parts.{head-at, entries-at}
 use Rattle.image.proofs.Words.{length-le32}
 use Rattle.reader.specs.Open.{opening}
@@ -25,7 +25,7 @@ use Rattle.image.specs.declared.Mode.{Mode}
 use Rattle.image.specs.declared.Mode.the-variants.{Twoway, Oneway}
 use Rattle.image.specs.Zero.{hasZero}
 use Rattle.canonical.specs.steps.Made.{Storable, Made}
-use Rattle.canonical.specs.Ours.{counted, putsIn, modeIn, allFree, ours}
+use Rattle.canonical.specs.Canonical.{counted, putsIn, modeIn, noZeroBytes, canonical}
 
 -- entries are read back, whatever follows them
 parsed-front : (es : List Entry) (rest : List ℕ) → AllWordSized es → entriesIn (length es) (cat entryBytes es ++ rest) ≡ es
@@ -96,36 +96,22 @@ unfolding backSize
 word-ids [] n b h = tt
 word-ids (e ∷ es) n b h = (omega arith, word-ids es n (omega arith) h)
 
-pub image-injective : (mode : Mode) (es fs : List Entry) → WordIds es → WordIds fs → imageSize mode es ≤ 4294967295 → imageSize mode fs ≤ 4294967295
-    → image mode es ≡ image mode fs → es ≡ fs
-image-injective mode es fs ie if fe ff e = sym (puts-image mode es ie fe) ∙ ap putsIn e ∙ puts-image mode fs if ff
-
-pub two-way-injective : (es fs : List Entry) → imageSize Twoway es ≤ 4294967295 → imageSize Twoway fs ≤ 4294967295 → image Twoway es ≡ image Twoway fs → es ≡ fs
-two-way-injective es fs fe ff e =
-    image-injective Twoway es fs (word-ids es (2 ^ 32) (omega arith) (omega arith)) (word-ids fs (2 ^ 32) (omega arith) (omega arith)) fe ff e
-
--- even the direction is told by the bytes
-pub direction-injective : (f g : Mode) (es fs : List Entry) → WordIds es → WordIds fs → imageSize f es ≤ 4294967295 → imageSize g fs ≤ 4294967295
-    → image f es ≡ image g fs → f ≡ g
-direction-injective f g es fs ie if fe ff e = sym (flag-of-image f es ie fe) ∙ ap modeIn e ∙ flag-of-image g fs if ff
-
 -- ---- the rule decides
 
-frees : (es : List Entry) → All Storable es → allFree es ≡ true
-unfolding allFree
+frees : (es : List Entry) → All Storable es → noZeroBytes es ≡ true
+unfolding noZeroBytes
 frees [] a = refl
-frees (e ∷ es) a = and-both (not (hasZero (e .name))) (allFree es) (ap not (a .0 .free)) (frees es (a .1))
+frees (e ∷ es) a = and-both (not (hasZero (e .name))) (noZeroBytes es) (ap not (a .0 .free)) (frees es (a .1))
 
 pub ids-of : (es : List Entry) → All Storable es → WordIds es
-ids-of [] a = tt
-ids-of (e ∷ es) a = (a .0 .id-word, ids-of es (a .1))
+ids-of es a = all-map (λ e s. s .id-word) es a
 
-storables : (es : List Entry) → allFree es ≡ true → WordIds es → All Storable es
-unfolding allFree
+storables : (es : List Entry) → noZeroBytes es ≡ true → WordIds es → All Storable es
+unfolding noZeroBytes
 storables [] f i = tt
 storables (e ∷ es) f i = (
-  record { free = not-true (hasZero (e .name)) (and-first (not (hasZero (e .name))) (allFree es) f); id-word = i .0 },
-  storables es (and-second (not (hasZero (e .name))) (allFree es) f) (i .1),
+  record { free = not-true (hasZero (e .name)) (and-first (not (hasZero (e .name))) (noZeroBytes es) f); id-word = i .0 },
+  storables es (and-second (not (hasZero (e .name))) (noZeroBytes es) f) (i .1),
 )
 
 -- puts and direction of an image that puts make are read back
@@ -135,22 +121,22 @@ made-puts img m = ap putsIn (sym (m .is)) ∙ puts-image (m .mode) (m .puts) (id
 pub made-mode : (img : List ℕ) (m : Made img) → modeIn img ≡ m .mode
 made-mode img m = ap modeIn (sym (m .is)) ∙ flag-of-image (m .mode) (m .puts) (ids-of (m .puts) (m .each)) (m .fits)
 
-pub ours-yes : (img : List ℕ) → Made img → ours img ≡ true
-unfolding ours
-ours-yes img m =
+pub canonical-yes : (img : List ℕ) → Made img → canonical img ≡ true
+unfolding canonical
+canonical-yes img m =
     let p = made-puts img m in
     let d = made-mode img m in
     let i : image (modeIn img) (putsIn img) ≡ img = ap₂ image d p ∙ m .is in
     let s : imageSize (modeIn img) (putsIn img) ≡ imageSize (m .mode) (m .puts) = ap₂ imageSize d p in
-    and-both (allFree (putsIn img) && leb (imageSize (modeIn img) (putsIn img)) 4294967295) (same (image (modeIn img) (putsIn img)) img)
-    (and-both (allFree (putsIn img)) (leb (imageSize (modeIn img) (putsIn img)) 4294967295) (ap allFree p ∙ frees (m .puts) (m .each))
+    and-both (noZeroBytes (putsIn img) && leb (imageSize (modeIn img) (putsIn img)) 4294967295) (same (image (modeIn img) (putsIn img)) img)
+    (and-both (noZeroBytes (putsIn img)) (leb (imageSize (modeIn img) (putsIn img)) 4294967295) (ap noZeroBytes p ∙ frees (m .puts) (m .each))
     (le-leb (imageSize (modeIn img) (putsIn img)) 4294967295 (rw s (m .fits))))
     (ap (λ (l : List ℕ). same l img) i ∙ same-self img)
 
-pub ours-only : (img : List ℕ) → AllBytes img → ours img ≡ true → Made img
-unfolding ours putsIn
-ours-only img bytes h =
-    let a = allFree (putsIn img) in
+pub canonical-only : (img : List ℕ) → AllBytes img → canonical img ≡ true → Made img
+unfolding canonical putsIn
+canonical-only img bytes h =
+    let a = noZeroBytes (putsIn img) in
     let b = leb (imageSize (modeIn img) (putsIn img)) 4294967295 in
     let c = same (image (modeIn img) (putsIn img)) img in
     let ab = and-first (a && b) c h in

@@ -17,12 +17,12 @@ use Rattle.image.proofs.AllOfList.{All, all-map}
 use Rattle.writer.proofs.Agree.{zeros}
 use Rattle.lists.specs.Calls.{acceptedFrom, accepted, putDue, putsSize, sizeOf, WordIds}
 use Rattle.lists.proofs.CallLists.{list-accepted}
-use Rattle.canonical.specs.Ours.{ours}
+use Rattle.canonical.specs.Canonical.{canonical}
 use Rattle.jhash.specs.Word.{AllBytes}
-use Rattle.canonical.specs.Rows.{Row, Holds, rows, Bare, bares}
-use Rattle.canonical.specs.steps.Tests.{endIn}
-use Rattle.canonical.proofs.ReadBack.{ours-yes, ours-only}
-use Rattle.canonical.proofs.Holds.{ours-checked}
+use Rattle.canonical.specs.examples.Rows.{Row, Holds, rows, HeadOnly, headOnlyRows}
+use Rattle.canonical.specs.steps.Checks.{endIn}
+use Rattle.canonical.proofs.ReadBack.{canonical-yes, canonical-only}
+use Rattle.canonical.proofs.ChecksHold.{canonical-checked}
 use Rattle.canonical.proofs.Theorem.{theorem}
 
 -- what is computed of a row: there is room for a head, ids are words, and these are the accepted puts
@@ -33,7 +33,7 @@ holds-in : (r : Row) → Computed r → Holds r
 holds-in r c buffer long =
     let room : headSize ≤ length buffer = omega (arith, c .0) in
     let of = theorem .of-list (r .mode) (r .repeats) buffer (r .calls) room (c .1) in (
-      of .is-ours,
+      of .is-canonical,
       of .read-back
           ∙ list-accepted (r .mode) (r .repeats) buffer room (r .calls) (c .1)
           ∙ ap (λ (n : ℕ). accepted (r .mode) (r .repeats) n (r .calls)) long
@@ -67,9 +67,9 @@ empty-fits : imageSize Oneway [] ≤ 4294967295
 unfolding entriesSize
 empty-fits = lit≤ tt
 
-empty-ours : ours (headBytes 2072 1 0 0 ++ replicate 2048 0) ≡ true
-empty-ours =
-    ours-yes (headBytes 2072 1 0 0 ++ replicate 2048 0)
+empty-canonical : canonical (headBytes 2072 1 0 0 ++ replicate 2048 0) ≡ true
+empty-canonical =
+    canonical-yes (headBytes 2072 1 0 0 ++ replicate 2048 0)
     record { mode = Oneway; puts = []; each = tt; fits = empty-fits; is = empty-image }
 
 -- bytes that are looked at one by one, and bytes behind them
@@ -93,19 +93,19 @@ an-offset : backOffsetAt (headBytes 2072 0 0 2072 ++ replicate 2048 0) ≡ 2072
 unfolding word le32 headBytes
 an-offset = refl
 
-offset-not : ours (headBytes 2072 0 0 2072 ++ replicate 2048 0) ≡ false
-offset-not = go (ours (headBytes 2072 0 0 2072 ++ replicate 2048 0)) refl
+offset-not : canonical (headBytes 2072 0 0 2072 ++ replicate 2048 0) ≡ false
+offset-not = go (canonical (headBytes 2072 0 0 2072 ++ replicate 2048 0)) refl
   where
-    go : (r : Bool) → ours (headBytes 2072 0 0 2072 ++ replicate 2048 0) ≡ r → r ≡ false
+    go : (r : Bool) → canonical (headBytes 2072 0 0 2072 ++ replicate 2048 0) ≡ r → r ≡ false
     go false e = refl
     go true e =
         let bytes = headBytes 2072 0 0 2072 ++ replicate 2048 0 in
         let all : AllBytes bytes = bytes-behind (headBytes 2072 0 0 2072) (replicate 2048 0) head-bytes (λ i. rw (zeros 2048 i) (lit< tt)) in
-        let made = ours-only bytes all e in
-        let said = ours-checked bytes made .back-offset in
+        let made = canonical-only bytes all e in
+        let said = canonical-checked bytes made .back-offset in
         let end = endIn bytes (length (made .puts)) + 16 * length (made .puts) in
         let z : _≡_ {A = ℕ} 2072 0 = sym an-offset ∙ said ∙ ap (λ (b : ℕ). cond (eqb b 0) 0 end) no-array in
         absurd (omega arith)
 
-pub bares-hold : map (λ (b : Bare). ours (b .bytes)) bares ≡ map (λ (b : Bare). b .answer) bares
-bares-hold = ap₂ (λ (x : Bool) (y : Bool). x ∷ y ∷ []) empty-ours offset-not
+pub headOnlyRows-hold : map (λ (b : HeadOnly). canonical (b .bytes)) headOnlyRows ≡ map (λ (b : HeadOnly). b .answer) headOnlyRows
+headOnlyRows-hold = ap₂ (λ (x : Bool) (y : Bool). x ∷ y ∷ []) empty-canonical offset-not

@@ -1,4 +1,4 @@
--- Is this image one of ours? The decision is the rule, and what holds of images that are ours. Assumes nothing.
+-- The decision is the rule, and what holds of canonical images. Assumes nothing.
 use Prim.Native.Nat.{ℕ, _+_, _-_, _≤_, _<_}
 use native.Mathlib.Omega.{arith}
 use mathlib.Core.Path.{_≡_, refl, sym, ap, _∙_}
@@ -27,11 +27,11 @@ use Rattle.lists.proofs.ImageRead.{Read}
 use Rattle.lists.proofs.ReadingAnswered.{list-read}
 use Rattle.lists.proofs.Readings.{readings}
 use Rattle.canonical.specs.steps.Made.{Storable, Made}
-use Rattle.canonical.specs.Ours.{Ours, counted, putsIn, modeIn, ours}
-use Rattle.canonical.specs.Theorem.{IsOurs, Theorem}
-use Rattle.canonical.proofs.ReadBack.{names-bytes, made-puts, made-mode, ours-yes, ours-only}
-use Rattle.canonical.proofs.Holds.{ours-checked}
-use Rattle.canonical.proofs.Closing.{words, list-made, list-puts, list-mode, lists-injective, accepted-all, made-accepted, made-closes, made-size, made-room}
+use Rattle.canonical.specs.Canonical.{Canonical, counted, putsIn, modeIn, canonical}
+use Rattle.canonical.specs.theorems.CanonicalImages.{CanonicalImage, Theorem}
+use Rattle.canonical.proofs.ReadBack.{names-bytes, made-puts, made-mode, canonical-yes, canonical-only}
+use Rattle.canonical.proofs.ChecksHold.{canonical-checked}
+use Rattle.canonical.proofs.ListImages.{words, list-made, list-puts, list-mode, lists-injective, accepted-all, made-accepted, made-closes, made-size, made-room}
 
 -- ---- each entry's name is found
 
@@ -50,11 +50,11 @@ names-first done (e ∷ es) = (own, rw (append-assoc done (e ∷ []) es) at (nam
         let s = first-some (ofName (e .name) done) (ofName (e .name) es) e in
         (s .0, ap firstId (filter-append test done (e ∷ es) ∙ ap (λ (l : List Entry). ofName (e .name) done ++ l) (filter-yes test e es (same-self (e .name)))) ∙ s .1)
 
--- ---- an image that is ours, and longer bytes
+-- ---- a canonical image, and longer bytes
 
 -- the size word is the length
 size-word : (img : List ℕ) → Made img → word img 4 ≡ length img
-size-word img m = ours-checked img m .size
+size-word img m = canonical-checked img m .size
 
 front-word : (img more : List ℕ) → 8 ≤ length img → word (img ++ more) 4 ≡ word img 4
 unfolding word
@@ -99,9 +99,9 @@ module _ (img : List ℕ) (m : Made img) where
   made-found : All (λ (e : Entry). (id : ℕ) × (foundId (lookup img (e .name)) ≡ some id)) (m .puts)
   made-found = all-map (λ e f. (f .0, read .names .name-gives (e .name) ∙ f .1)) (m .puts) (names-first [] (m .puts))
 
-module _ (img : List ℕ) (bytes : AllBytes img) (yes : ours img ≡ true) where
+module _ (img : List ℕ) (bytes : AllBytes img) (yes : canonical img ≡ true) where
   made : Made img
-  made = ours-only img bytes yes
+  made = canonical-only img bytes yes
 
   puts-are : made .puts ≡ putsIn img
   puts-are = sym (made-puts img made)
@@ -109,10 +109,10 @@ module _ (img : List ℕ) (bytes : AllBytes img) (yes : ours img ≡ true) where
   mode-is : made .mode ≡ modeIn img
   mode-is = sym (made-mode img made)
 
-  is-ours : IsOurs img
-  is-ours =
+  is-canonical : CanonicalImage img
+  is-canonical =
       record {
-        opens = rw puts-are at (ours-checked img made .opened);
+        opens = rw puts-are at (canonical-checked img made .opened);
         agrees = made-agrees img made;
         homes = made-homes img made;
         found = rw puts-are at (made-found img made);
@@ -120,27 +120,27 @@ module _ (img : List ℕ) (bytes : AllBytes img) (yes : ours img ≡ true) where
           let a = made-accepted img made buffer long in rw (puts-are, mode-is) at a,
           let b = made-closes img made buffer long in rw (puts-are, mode-is) at b,
         );
-        alone = λ more b d. alone more b d (ours (img ++ more)) refl;
-        cut = λ k h. cut k h (ours (take k img)) refl;
+        alone = λ more b d. alone more b d (canonical (img ++ more)) refl;
+        cut = λ k h. cut k h (canonical (take k img)) refl;
       }
     where
-      -- an image that is ours and shorter would go on behind it
-      cut : (k : ℕ) → k < length img → (r : Bool) → ours (take k img) ≡ r → ours (take k img) ≡ false
+      -- a shorter canonical image would go on behind its end
+      cut : (k : ℕ) → k < length img → (r : Bool) → canonical (take k img) ≡ r → canonical (take k img) ≡ false
       cut k h true e =
           let whole : Made (take k img ++ drop k img) = rw (take-append-drop k img) made in
-          let none : drop k img ≡ [] = made-alone (take k img) (drop k img) (ours-only (take k img) (bytes-take k img bytes) e) whole in
+          let none : drop k img ≡ [] = made-alone (take k img) (drop k img) (canonical-only (take k img) (bytes-take k img bytes) e) whole in
           let short : length img - k ≡ 0 = sym (length-drop k img) ∙ ap length none in
           absurd (omega arith)
       cut k h false e = e
 
-      alone : (more : List ℕ) → AllBytes (img ++ more) → (more ≡ [] → ⊥) → (r : Bool) → ours (img ++ more) ≡ r → ours (img ++ more) ≡ false
-      alone more b d true e = absurd (d (made-alone img more made (ours-only (img ++ more) b e)))
+      alone : (more : List ℕ) → AllBytes (img ++ more) → (more ≡ [] → ⊥) → (r : Bool) → canonical (img ++ more) ≡ r → canonical (img ++ more) ≡ false
+      alone more b d true e = absurd (d (made-alone img more made (canonical-only (img ++ more) b e)))
       alone more b d false e = e
 
 -- ---- the rule, and lists
 
-ours-made : (img : List ℕ) → Ours img → Made img
-ours-made img o =
+canonical-made : (img : List ℕ) → Canonical img → Made img
+canonical-made img o =
     let each : All Storable (o .puts) = all-map (λ e p. record { free = p .free; id-word = p .id-word }) (o .puts) (o .each) in
     rw (o .closes) at (list-made (o .mode) On (o .buffer) (o .room) (putAll (o .puts)) (words (o .mode) (o .puts) each))
 
@@ -149,8 +149,8 @@ named-in-bytes : (img : List ℕ) → AllBytes img → All (λ (e : Entry). AllB
 unfolding putsIn
 named-in-bytes img bytes = names-bytes (counted (opening img)) (drop headSize img) (bytes-drop headSize img bytes)
 
-made-ours : (img : List ℕ) → AllBytes img → Made img → Ours img
-made-ours img bytes m =
+made-canonical : (img : List ℕ) → AllBytes img → Made img → Canonical img
+made-canonical img bytes m =
     let names : All (λ (e : Entry). AllBytes (e .name)) (m .puts) = rw (made-puts img m) at (named-in-bytes img bytes) in
     record {
       mode = m .mode;
@@ -166,11 +166,11 @@ made-ours img bytes m =
 pub theorem : Theorem
 theorem =
     record {
-      exactly = λ img bytes. (λ yes. made-ours img bytes (ours-only img bytes yes), λ o. ours-yes img (ours-made img o));
-      holds = is-ours;
+      exactly = λ img bytes. (λ yes. made-canonical img bytes (canonical-only img bytes yes), λ o. canonical-yes img (canonical-made img o));
+      holds = is-canonical;
       of-list =
           λ mode repeats buffer cs room word. record {
-            is-ours = ours-yes (imageOf mode repeats buffer cs) (list-made mode repeats buffer room cs word);
+            is-canonical = canonical-yes (imageOf mode repeats buffer cs) (list-made mode repeats buffer room cs word);
             read-back = list-puts mode repeats buffer room cs word;
             mode-back = list-mode mode repeats buffer room cs word;
           };

@@ -1,5 +1,6 @@
--- Is this image one of ours? 02 (ix): the decision, and the steps by which the code takes it.
-pub mod Ours
-pub mod Theorem
-pub mod Rows
+-- Is an image canonical? 02 (ix): the rule and the decision, what is proved of them, examples, and the steps of the
+-- code.
+pub mod Canonical
+pub mod theorems
+pub mod examples
 pub mod steps

@@ -2,5 +2,6 @@
 pub mod HiddenBuckets
 pub mod Made
 pub mod InPlace
-pub mod Noted
-pub mod Tests
+pub mod Checks
+pub mod Cache
+pub mod Contracts

@@ -1,98 +1,95 @@
-// Whether an image is one of ours (02 (ix)): the image that some list of puts closes to, with no byte after it. The image
-// alone is lent: every part of it is compared where it stands.
+// Whether an image is canonical (02 (ix)): exactly what some puts produce, with no byte after it. The call needs no
+// memory but the image: every part of it is checked in place.
 ghost use mathlib.Core.Path.{_≡_};
 ghost use mathlib.Core.Bool.{cond};
-ghost use Prim.Native.Nat.{_<_, _≤_};
-ghost use lib.ListN.{length};
 ghost use Rattle.jhash.specs.Outcome.{value};
 ghost use Rattle.image.specs.Image.{backIn};
 ghost use Rattle.image.specs.declared.Mode.the-variants.{Twoway, Oneway};
 ghost use Rattle.reader.specs.Open.{opening};
-ghost use Rattle.canonical.specs.Ours.{ours};
-ghost use Rattle.canonical.specs.steps.Tests.{bodyRight, TablesInside};
-use entries::entries_right;
+ghost use Rattle.canonical.specs.Canonical.{canonical};
+ghost use Rattle.canonical.specs.steps.Checks.{bodyOk};
+ghost use Rattle.canonical.specs.steps.Contracts.{CheckBodyPre};
+use entries::check_entries;
 use image::get_u32;
-use links::links_right;
 use reader::Opened;
-use tables::place_of;
-use tables::rows_right;
-use tables::say_counts;
-use tables::wide;
+use tables::check_rows;
+use tables::count_used;
+use tables::counts_match;
+use tables::offset_of;
+use tables::size_at;
 
-mod ahead; // ahead.rt: the next entries noted before they are walked
-mod entries; // entries.rt: one walk over the entries, each compared with its bucket
-mod links; // links.rt: the back array
-mod tables; // tables.rt: the rows of the head, and the buckets that no entry has
+mod entries; // entries.rt: one walk over the entries, each compared with its bucket and its link
+mod prefetch; // prefetch.rt: hashes and first buckets of the next entries
+mod tables; // tables.rt: the rows of the head, and the tables
 
-// The back size that an image has by its direction, `back` being that of its entries.
+// The back size that an image has by its mode, if that of its entries is `back`.
 fn back_for(two: bool, back: u64) -> u64
     ensures { λ r. ⌜ r ≡ backIn (cond two Twoway Oneway) back ⌝ }
 {
     if two { back } else { 0 }
 }
 
-// Is everything behind the head right, the entries ending at `end`? The rows come first: a table is read only where its row says
-// the place that it must have, so that no byte is read as part of two tables.
-fn body_right(image: &[u8], n: u32, end: usize, back: usize) -> bool
-    requires { ⌜ (2072 ≤ end) × (end ≤ length (now image)) × (end < 4294967296) × (back < 4294967296) × TablesInside (now image) ⌝ }
-    ensures { λ r. ⌜ r ≡ bodyRight (now (image .entry)) n end back ⌝ }
+// Is all behind the head valid, if the entries end at `end`? The rows come first: a table is read only if its row has
+// the right offset, so that no byte is read as part of two tables. Each link is the offset of its id's last entry: no
+// entry's link points before it, and as many links are not 0 as entries are pointed to by their own id's link.
+fn check_body(image: &[u8], n: u32, end: usize, back: usize) -> bool
+    requires { ⌜ CheckBodyPre (now image) end back ⌝ }
+    ensures { λ r. ⌜ r ≡ bodyOk (now (image .entry)) n end back ⌝ }
 {
-    if !rows_right(image, end) {
-        return false;
-    }
-    let mut counts = [0; 256];
-    let found = entries_right(image, end, n, &mut counts);
-    if !found.right {
-        return false;
-    }
-    if !say_counts(image, &counts) {
+    if !check_rows(image, end) {
         return false;
     }
     let two = get_u32(image, 8) == 0;
+    let o = end + 16 * (n as usize);
+    let mut counts = [0; 256];
+    let found = check_entries(image, end, n, two, o, &mut counts);
+    if !found.valid {
+        return false;
+    }
+    if !counts_match(image, &counts) {
+        return false;
+    }
     if back as u64 != back_for(two, found.back) {
         return false;
     }
     if !two {
         return true;
     }
-    links_right(image, end, n, end + 16 * wide(n), back)
+    count_used(image, o, back) as u64 == found.linked
 }
 
-// Is an image that opens, with n entries, one of ours? Where the entries end follows from its size: 16 bytes of tables for each
-// entry and 4 for each link stand behind them.
-fn opened_right(image: &[u8], n: u32) -> bool
+// Is an image that opens, with n entries, canonical? Its size says where the entries end: 16 bytes of tables for each
+// entry and 4 for each link are behind them.
+fn check_opened(image: &[u8], n: u32) -> bool
     requires { ⌜ opening (now image) ≡ value n ⌝ }
-    ensures { λ r. ⌜ r ≡ ours (now (image .entry)) ⌝ }
+    ensures { λ r. ⌜ r ≡ canonical (now (image .entry)) ⌝ }
 {
-    let size = wide(get_u32(image, 4));
+    let size = size_at(image, 4);
     if size != image.len() {
         return false;
     }
-    let flag = get_u32(image, 8);
-    if flag > 1 {
+    if get_u32(image, 8) > 1 {
         return false;
     }
-    let entries = wide(n);
-    let back = wide(get_u32(image, 16));
-    let behind = 16 * entries + 4 * back;
+    let back = size_at(image, 16);
+    let behind = 16 * (n as usize) + 4 * back;
     if size < 2072 + behind {
         return false;
     }
     let end = size - behind;
-    let links = place_of(back, end + 16 * entries);
-    if wide(get_u32(image, 20)) != links {
+    if size_at(image, 20) != offset_of(back, end + 16 * (n as usize)) {
         return false;
     }
-    body_right(image, n, end, back)
+    check_body(image, n, end, back)
 }
 
 // Are these bytes the image that some list of puts, one-way or two-way, of names without a zero byte, closes to?
-pub fn is_ours(image: &[u8]) -> bool
-    ensures { λ r. ⌜ r ≡ ours (now (image .entry)) ⌝ }
+pub fn is_canonical(image: &[u8]) -> bool
+    ensures { λ r. ⌜ r ≡ canonical (now (image .entry)) ⌝ }
 {
     let opened = reader::open(image);
     match opened {
-        Opened::Num(n) => opened_right(image, n),
+        Opened::Num(n) => check_opened(image, n),
         Opened::Refused(k) => false,
     }
 }

@@ -8,23 +8,23 @@ use mathlib.Core.Option.{Option}
 use Rattle.jhash.specs.Outcome.{Outcome, value, refusal}
 use Rattle.jhash.specs.Word.{AllBytes}
 use Rattle.reader.specs.Open.{opening}
-use Rattle.canonical.specs.Ours.{ours}
+use Rattle.canonical.specs.Canonical.{canonical}
 use Rattle.canonical.proofs.Theorem.{theorem}
 use Rattle.one_to_one.specs.OneToOne.{Failure, firstIn, oneToOne}
 
-pub refused : (img : List ℕ) → ours img ≡ false → oneToOne img ≡ refusal 17
+pub refused : (img : List ℕ) → canonical img ≡ false → oneToOne img ≡ refusal 17
 unfolding oneToOne
 refused img h = ap (λ (t : Bool). cond t (value (firstIn img)) (refusal 17)) h
 
-pub answered : (img : List ℕ) → ours img ≡ true → oneToOne img ≡ value (firstIn img)
+pub answered : (img : List ℕ) → canonical img ≡ true → oneToOne img ≡ value (firstIn img)
 unfolding oneToOne
 answered img h = ap (λ (t : Bool). cond t (value (firstIn img)) (refusal 17)) h
 
 -- what the answer says of the image where it is not refused
-pub accepted : (img : List ℕ) (a : Option Failure) → oneToOne img ≡ value a → ours img ≡ true
-accepted img a h = go (ours img) refl
+pub accepted : (img : List ℕ) (a : Option Failure) → oneToOne img ≡ value a → canonical img ≡ true
+accepted img a h = go (canonical img) refl
   where
-    go : (t : Bool) → ours img ≡ t → t ≡ true
+    go : (t : Bool) → canonical img ≡ t → t ≡ true
     go true e = refl
     go false e = let r = refused img e in let z : _≡_ {A = ℕ} 0 1 = cc in absurd (omega arith)
 
@@ -32,6 +32,6 @@ pub first-is : (img : List ℕ) (a : Option Failure) → oneToOne img ≡ value 
 first-is img a h = let r = answered img (accepted img a h) in cc
 
 -- a canonical image opens
-pub never-refused : (img : List ℕ) (k : ℕ) → AllBytes img → ours img ≡ true → refusal k ≡ opening img → ⊥
+pub never-refused : (img : List ℕ) (k : ℕ) → AllBytes img → canonical img ≡ true → refusal k ≡ opening img → ⊥
 never-refused img k bytes h e =
     let o = theorem .holds img bytes h .opens in let z : _≡_ {A = ℕ} 0 1 = cc in omega arith

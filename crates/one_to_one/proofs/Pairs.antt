@@ -22,10 +22,10 @@ use Rattle.writer.specs.declared.Repeats.the-variants.{On}
 use Rattle.lists.specs.theorems.RepeatsOff.{putAll}
 use Rattle.lists.proofs.ImageRead.{Read, namedIn}
 use Rattle.lists.proofs.ReadingAnswered.{list-read}
-use Rattle.canonical.specs.Ours.{ours, putsIn, modeIn}
+use Rattle.canonical.specs.Canonical.{canonical, putsIn, modeIn}
 use Rattle.canonical.specs.steps.Made.{Made}
-use Rattle.canonical.proofs.Closing.{words, accepted-all, made-closes, made-room}
-use Rattle.canonical.proofs.ReadBack.{made-puts, made-mode, ours-yes}
+use Rattle.canonical.proofs.ListImages.{words, accepted-all, made-closes, made-room}
+use Rattle.canonical.proofs.ReadBack.{made-puts, made-mode, canonical-yes}
 use Rattle.one_to_one.specs.OneToOne.{isId, isName, asked, kindOf, kindIn, Failure, firstFailure, firstIn, oneToOne}
 use Rattle.one_to_one.specs.theorems.Theorem.{Paired, FindsOther, GivesOther, Fails, Inverse, kindAmong, SameId, SameName, OneId, OneName}
 use Rattle.one_to_one.proofs.Answers.{answered, accepted, first-is}
@@ -82,7 +82,7 @@ pub yes-paired : (img : List ℕ) → oneToOne img ≡ value none → All (Paire
 unfolding firstIn
 yes-paired img h = all-map (paired img) (putsIn img) (all-pass (kindIn img) headSize (putsIn img) (first-is img none h))
 
-pub paired-yes : (img : List ℕ) → ours img ≡ true → All (Paired img) (putsIn img) → oneToOne img ≡ value none
+pub paired-yes : (img : List ℕ) → canonical img ≡ true → All (Paired img) (putsIn img) → oneToOne img ≡ value none
 unfolding firstIn
 paired-yes img own all =
     answered img own
@@ -117,7 +117,7 @@ module _ (img : List ℕ) (m : Made img) where
   pub by-puts : oneToOne img ≡ value (firstFailure (kindAmong (m .mode) (m .puts)) headSize (m .puts))
   unfolding firstIn
   by-puts =
-      answered img (ours-yes img m)
+      answered img (canonical-yes img m)
       ∙ ap {B = Outcome (Option Failure)} value
       (ap (firstFailure (kindIn img) headSize) (made-puts img m)
       ∙ same-kinds (kindIn img) (kindAmong (m .mode) (m .puts)) kind-among headSize (m .puts))
@@ -141,7 +141,7 @@ module _ (img : List ℕ) (m : Made img) where
 
   pub one-yes : OneId (m .puts) → (m .mode ≡ Twoway → OneName (m .puts)) → oneToOne img ≡ value none
   one-yes ids names =
-      paired-yes img (ours-yes img m)
+      paired-yes img (canonical-yes img m)
       (rw (made-puts img m)
       (all-map (λ (e : Entry) (i : List·Memᴰ e (m .puts)). record { finds = finds e i; gives = λ t. gives t e i }) (m .puts) (each-in (m .puts))))
     where

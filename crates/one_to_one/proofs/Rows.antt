@@ -12,7 +12,7 @@ use Rattle.image.specs.Zero.{hasZero}
 use Rattle.image.proofs.AllOfList.{All, all-map}
 use Rattle.reader.specs.Open.{opening}
 use Rattle.lookup_laws.specs.Answer.{ofName, ofId}
-use Rattle.canonical.specs.Ours.{ours}
+use Rattle.canonical.specs.Canonical.{canonical}
 use Rattle.canonical.specs.steps.Made.{Storable}
 use Rattle.one_to_one.specs.OneToOne.{Failure, firstFailure}
 use Rattle.one_to_one.specs.theorems.Theorem.{kindAmong}
@@ -70,8 +70,8 @@ rows-hold = all-map holds rows computed
 -- no byte at all does not open
 pub no-bytes : NoBytes
 unfolding opening
-no-bytes = refused [] (go (ours []) refl)
+no-bytes = refused [] (go (canonical []) refl)
   where
-    go : (t : Bool) → ours [] ≡ t → t ≡ false
+    go : (t : Bool) → canonical [] ≡ t → t ≡ false
     go true h = absurd (never-refused [] 1 (λ i. lit< tt) h refl)
     go false h = refl

@@ -17,10 +17,10 @@ use Rattle.image.proofs.AllOfList.{All, all-map}
 use Rattle.writer.specs.declared.Repeats.{Repeats}
 use Rattle.lists.specs.Calls.{Call, WordIds}
 use Rattle.lists.specs.Demand3.{acceptedPuts, imageOf}
-use Rattle.canonical.specs.Ours.{putsIn}
+use Rattle.canonical.specs.Canonical.{putsIn}
 use Rattle.canonical.specs.steps.Made.{Made}
-use Rattle.canonical.proofs.Closing.{list-made, list-puts, list-mode}
-use Rattle.canonical.proofs.ReadBack.{made-puts, made-mode, ours-only}
+use Rattle.canonical.proofs.ListImages.{list-made, list-puts, list-mode}
+use Rattle.canonical.proofs.ReadBack.{made-puts, made-mode, canonical-only}
 use Rattle.one_to_one.specs.OneToOne.{kindIn, Failure, firstFailure, firstIn, oneToOne}
 use Rattle.one_to_one.specs.theorems.Theorem.{Fails, First, OneId, OneName, OfList, Theorem}
 use Rattle.one_to_one.proofs.Answers.{refused, answered, accepted, first-is}
@@ -103,9 +103,9 @@ one-to-one =
       empty = λ img own none-there. answered img own ∙ ap (λ (es : List Entry). value (firstFailure (kindIn img) headSize es)) none-there;
       yes-exactly = λ img own. (pairs.yes-paired img, pairs.paired-yes img own);
       first-exactly = λ img bytes own f. (
-        λ h. first img headSize (putsIn img) f (all-said img (ours-only img bytes own)) (first-is img (some f) h),
+        λ h. first img headSize (putsIn img) f (all-said img (canonical-only img bytes own)) (first-is img (some f) h),
         λ r. answered img own ∙ ap {B = Outcome (Option Failure)} value (first-back img headSize (putsIn img) f r),
       );
-      inverse = λ img bytes t yes. pairs.inverse img (ours-only img bytes (accepted img none yes)) t yes;
+      inverse = λ img bytes t yes. pairs.inverse img (canonical-only img bytes (accepted img none yes)) t yes;
       of-list = of-list;
     }

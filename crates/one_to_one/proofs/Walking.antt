@@ -20,9 +20,9 @@ use Rattle.image.proofs.Sizes.{length-entryBytes, length-image}
 use Rattle.reader.specs.Lookup.{lookup}
 use Rattle.lookup_laws.specs.Answer.{foundId, nameGiven}
 use Rattle.lists.proofs.Parse.{AllWordSized}
-use Rattle.canonical.specs.Ours.{putsIn}
+use Rattle.canonical.specs.Canonical.{putsIn}
 use Rattle.canonical.specs.steps.Made.{Made}
-use Rattle.canonical.proofs.ReadBack.{all-wordly, ids-of, made-puts, ours-only}
+use Rattle.canonical.proofs.ReadBack.{all-wordly, ids-of, made-puts, canonical-only}
 use Rattle.canonical.proofs.Theorem.{theorem}
 use Rattle.one_to_one.specs.OneToOne.{isId, isName, asked, kindOf, kindIn, Failure, firstFailure, firstIn}
 use Rattle.one_to_one.specs.steps.Contracts.{CanonicalImage}
@@ -44,7 +44,7 @@ pub record Walk (img : List ℕ) (at left : ℕ) : Type 0 where
 pub walk-starts : (img : List ℕ) (n : ℕ) → AllBytes img → CanonicalImage img n → Walk img 2072 n
 unfolding firstIn
 walk-starts img n bytes c =
-    let m = ours-only img bytes (c .canonical) in
+    let m = canonical-only img bytes (c .canonical) in
     let puts = made-puts img m in
     let opens = sym (c .opens) ∙ theorem .holds img bytes (c .canonical) .opens in
     let number : n ≡ length (putsIn img) = cc in

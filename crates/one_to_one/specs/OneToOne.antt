@@ -12,7 +12,7 @@ use Rattle.image.specs.declared.Mode.{Mode}
 use Rattle.image.specs.declared.Mode.the-variants.{Twoway, Oneway}
 use Rattle.reader.specs.Lookup.{lookup}
 use Rattle.lookup_laws.specs.Answer.{foundId, nameGiven}
-use Rattle.canonical.specs.Ours.{ours, putsIn, modeIn}
+use Rattle.canonical.specs.Canonical.{canonical, putsIn, modeIn}
 use Rattle.one_to_one.specs.declared.OneToOne.{OneToOne}
 use Rattle.one_to_one.specs.declared.OneToOne.the-variants as answer
 
@@ -56,7 +56,7 @@ firstIn img = firstFailure (kindIn img) headSize (putsIn img)
 
 -- the answer: refused with 17 where 02 (ix) says no; otherwise yes, or the first failure
 unfoldable pub oneToOne : List ℕ → Outcome (Option Failure)
-oneToOne img = cond (ours img) (value (firstIn img)) (refusal 17)
+oneToOne img = cond (canonical img) (value (firstIn img)) (refusal 17)
 
 -- the number and the values of each case of the answer
 abbrev pub oneToOneOf : OneToOne → Outcome (Option Failure)

@@ -77,7 +77,7 @@ fn first_failure(image: &[u8], n: u32) -> OneToOne
 pub fn one_to_one(image: &[u8]) -> OneToOne
     ensures { λ r. ⌜ oneToOneOf r ≡ oneToOne (now (image .entry)) ⌝ }
 {
-    if !canonical::is_ours(image) {
+    if !canonical::is_canonical(image) {
         return OneToOne::Refused(17);
     }
     match reader::open(image) {

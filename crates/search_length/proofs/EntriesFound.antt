@@ -1,4 +1,4 @@
--- Each entry of an image that is ours is found, after at least one bucket and at most as many as its table has entries. Assumes nothing.
+-- Each entry of a canonical image is found, after at least one bucket and at most as many as its table has entries. Assumes nothing.
 use Prim.Native.Nat.{ℕ, _+_, _*_, _^_, _≤_, _<_}
 use native.Mathlib.Omega.{arith}
 use mathlib.Core.Path.{_≡_, refl, ap, _∙_}
@@ -20,8 +20,8 @@ use Rattle.reader.proofs.FoundAt.{not-found}
 use Rattle.lookup_laws.specs.Answer.{foundId, tablePuts}
 use Rattle.lookup_laws.proofs.ImageAnswers.{found-reads}
 use Rattle.canonical.specs.steps.Made.{Made}
-use Rattle.canonical.specs.Ours.{ours, putsIn}
-use Rattle.canonical.proofs.ReadBack.{ids-of, made-puts, ours-only}
+use Rattle.canonical.specs.Canonical.{canonical, putsIn}
+use Rattle.canonical.proofs.ReadBack.{ids-of, made-puts, canonical-only}
 use Rattle.canonical.proofs.Theorem.{theorem}
 use Rattle.search_length.specs.SearchLengths.{searchLength}
 
@@ -56,7 +56,7 @@ lookup-some img name f e = by-size (ltb (length img) headSize) e
     by-size true q = not-found 0 f q
     by-size false q = by-name (leb 4294967295 (length name)) q
 
--- ---- the entries of an image that is ours
+-- ---- the entries of a canonical image
 
 backs : (es : List Entry) → All (λ (e : Entry). e .id < 2 ^ 32) es → backSize es ≤ 2 ^ 32
 unfolding backSize
@@ -67,9 +67,9 @@ backs (e ∷ es) a = omega (arith, a .0, backs es (a .1))
 abbrev pub Bounded : List ℕ → List Entry → Entry → Type 0
 Bounded img all e = (1 ≤ searchLength img e) × (searchLength img e ≤ tablePuts (e .name) all)
 
-module _ (img : List ℕ) (bytes : AllBytes img) (own : ours img ≡ true) where
+module _ (img : List ℕ) (bytes : AllBytes img) (own : canonical img ≡ true) where
   made : Made img
-  made = ours-only img bytes own
+  made = canonical-only img bytes own
 
   found-most : (name : List ℕ) (f : Found) → lookup img name ≡ found f → f .buckets ≤ tablePuts name (putsIn img)
   found-most name f e =

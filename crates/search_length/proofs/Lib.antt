@@ -1,7 +1,7 @@
--- Laws of the search lengths, and the theorem.
-pub mod Walking
-pub mod Counting
-pub mod Divided
+-- Laws of the average search length.
+pub mod FirstEntry
+pub mod Histogram
+pub mod Answers
 pub mod EntriesFound
 pub mod Theorem
 pub mod Rows

@@ -22,15 +22,15 @@ use Rattle.reader.specs.Cases.{reads}
 use Rattle.reader.proofs.Searches.{lookup-own}
 use Rattle.reader.specs.Open.{opening}
 use Rattle.canonical.specs.steps.Made.{Storable, Made}
-use Rattle.canonical.specs.Ours.{putsIn, allFree, ours}
-use Rattle.canonical.proofs.ReadBack.{made-puts, ours-yes}
+use Rattle.canonical.specs.Canonical.{putsIn, noZeroBytes, canonical}
+use Rattle.canonical.proofs.ReadBack.{made-puts, canonical-yes}
 use Rattle.search_length.specs.SearchLengths.{totalOf}
 use Rattle.search_length.specs.Average.{entryCount, total, averaging}
-use Rattle.search_length.specs.Rows.{Averages, letter, averageRows}
+use Rattle.search_length.specs.examples.Rows.{Averages, letter, averageRows}
 use Rattle.search_length.specs.declared.Mean.{Mean}
 use Rattle.search_length.proofs.Theorem.{average-search}
 
--- an image of puts is ours, and has these entries
+-- an image of puts is canonical, and has these entries
 module _ (mode : Mode) (es : List Entry) (each : All Storable es) (fits : imageSize mode es ≤ 4294967295) where
   made : Made (image mode es)
   made = record { mode = mode; puts = es; each = each; fits = fits; is = refl }
@@ -46,7 +46,7 @@ module _ (mode : Mode) (es : List Entry) (each : All Storable es) (fits : imageS
   averaged n s long some sum =
       let number : entryCount (image mode es) ≡ n = ap length entries-are ∙ long in
       let all : total (image mode es) ≡ s = ap (totalOf (image mode es)) entries-are ∙ sum in
-      let none = average-search .accepted (image mode es) (ours-yes (image mode es) made) (omega (arith, number)) in
+      let none = average-search .accepted (image mode es) (canonical-yes (image mode es) made) (omega (arith, number)) in
       rw none (ap₂ mean all number)
     where
       mean : ℕ → ℕ → Outcome Mean
@@ -134,8 +134,8 @@ unfolding word le32 cat range same entryBytes entriesSize bucketBytes backSize p
 repeated = total-of Oneway (letter 65 5) (letter 65 9) 0x89284101 0x89284101 hash-A hash-A
 
 -- no bytes are no image
-nothing : ours [] ≡ false
-unfolding word le32 cat filter range same entryBytes entriesSize placed ofTable bucketBytes table tableBytes entriesBefore tableOffset tableRow backSize placedOfId lastFrom backWord backOffset headBytes headWords tableRows tables backWords image probeSequence firstEmpty insert insertAll filled entriesIn hasZero opening putsIn allFree ours
+nothing : canonical [] ≡ false
+unfolding word le32 cat filter range same entryBytes entriesSize placed ofTable bucketBytes table tableBytes entriesBefore tableOffset tableRow backSize placedOfId lastFrom backWord backOffset headBytes headWords tableRows tables backWords image probeSequence firstEmpty insert insertAll filled entriesIn hasZero opening putsIn noZeroBytes canonical
 nothing = refl
 
 pub rows-hold : All Averages averageRows
@@ -145,8 +145,8 @@ rows-hold = (
   (
     averaged Oneway (letter 65 5 ∷ letter 65 9 ∷ []) (storable 65 5 refl (lit< tt), (storable 65 9 refl (lit< tt), tt)) (lit≤ tt) 2 2 refl (lit< tt) repeated,
     (
-      average-search .no-entries (image Twoway []) (ours-yes (image Twoway []) (made Twoway [] tt (lit≤ tt))) (ap length (entries-are Twoway [] tt (lit≤ tt))),
-      (average-search .not-ours [] nothing, tt),
+      average-search .no-entries (image Twoway []) (canonical-yes (image Twoway []) (made Twoway [] tt (lit≤ tt))) (ap length (entries-are Twoway [] tt (lit≤ tt))),
+      (average-search .not-canonical [] nothing, tt),
     ),
   ),
 )

@@ -17,13 +17,13 @@ use Rattle.image.specs.Tables.{tableOf}
 use Rattle.jhash.specs.Word.{AllBytes}
 use Rattle.image.proofs.AllOfList.{All}
 use Rattle.lookup_laws.specs.Answer.{tablePuts}
-use Rattle.canonical.specs.Ours.{ours, putsIn}
+use Rattle.canonical.specs.Canonical.{canonical, putsIn}
 use Rattle.search_length.specs.SearchLengths.{searchLength, totalOf}
 use Rattle.search_length.specs.Average.{entryCount, total, averageRefusal, averageOf, averaging, lengthsOf, afterLengths}
-use Rattle.search_length.specs.Theorem.{nameInTable, entriesOfTable, boundOf, sum, Searched, AverageSearch}
+use Rattle.search_length.specs.theorems.AverageSearch.{nameInTable, entriesOfTable, boundOf, sum, Searched, AverageSearch}
 use Rattle.search_length.specs.declared.Mean.{Mean}
-use Rattle.search_length.proofs.Counting.{lengths-sixteen, lengths-sum, lengths-are, zeros, long}
-use Rattle.search_length.proofs.Divided.{first-zero}
+use Rattle.search_length.proofs.Histogram.{lengths-sixteen, lengths-sum, lengths-are, zeros, long}
+use Rattle.search_length.proofs.Answers.{first-zero}
 use Rattle.search_length.proofs.EntriesFound.{Bounded, all-bounded}
 
 -- ---- sums over entries
@@ -80,13 +80,13 @@ table-most img t all (e ∷ es) b = go (eqb (tableOf (hashOf (e .name))) t) refl
         one a s l n p q = omega (arith, suc-mul l n)
     go false q h = h
 
--- ---- an image that is ours
+-- ---- a canonical image
 
 none : sum (replicate {A = ℕ} 16 0) ≡ 0
 unfolding sum
 none = refl
 
-searched : (img : List ℕ) → AllBytes img → ours img ≡ true → Searched img
+searched : (img : List ℕ) → AllBytes img → canonical img ≡ true → Searched img
 unfolding total lengthsOf entriesOfTable
 searched img bytes own =
     let es = putsIn img in
@@ -122,7 +122,7 @@ given img m e = go (eqb (averageRefusal img) 0) refl e
 -- no refusal: there are entries
 some-entries : (img : List ℕ) → averageRefusal img ≡ 0 → 0 < entryCount img
 unfolding averageRefusal
-some-entries img e = first-zero (ours img) (entryCount img) e
+some-entries img e = first-zero (canonical img) (entryCount img) e
 
 divides : (s n : ℕ) → 0 < n → (s / n * n + s % n ≡ s) × (s % n < n)
 divides s n h = (div-add-mod' s n, mod-lt s {m = n} h)
@@ -131,7 +131,7 @@ pub average-search : AverageSearch
 unfolding averaging averageRefusal afterLengths
 average-search =
     record {
-      not-ours = λ img h. rw h;
+      not-canonical = λ img h. rw h;
       no-entries = λ img h z. rw (h, z);
       accepted = λ img h more. rw (h, ne-eqb (entryCount img) 0 (λ z. omega arith));
       divided = λ img m e.

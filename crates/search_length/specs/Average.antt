@@ -5,7 +5,7 @@ use mathlib.Core.List.{List}
 use lib.ListN.{length, replicate}
 use lib.Dec.{eqb}
 use Rattle.jhash.specs.Outcome.{Outcome, value, refusal}
-use Rattle.canonical.specs.Ours.{ours, putsIn}
+use Rattle.canonical.specs.Canonical.{canonical, putsIn}
 use Rattle.search_length.specs.SearchLengths.{totalOf, lengthsFrom}
 use Rattle.search_length.specs.declared.Mean.{Mean}
 use Rattle.search_length.specs.declared.Averaged.{Averaged}
@@ -20,19 +20,24 @@ total img = totalOf img (putsIn img)
 
 -- "an image that (ix) says no to gives 17, then one without entries gives 18"
 abbrev pub firstRefusal : Bool → ℕ → ℕ
-firstRefusal own n = cond (not own) 17 (cond (eqb n 0) 18 0)
+firstRefusal valid n = cond (not valid) 17 (cond (eqb n 0) 18 0)
 
 unfoldable pub averageRefusal : List ℕ → ℕ
-averageRefusal img = firstRefusal (ours img) (entryCount img)
+averageRefusal img = firstRefusal (canonical img) (entryCount img)
 
 -- "the total .. divided by the number of entries, as whole quotient and remainder"
 abbrev pub averageOf : List ℕ → Mean
-averageOf img = record { entries = entryCount img; quotient = total img / entryCount img; remainder = total img % entryCount img }
+averageOf img = record {
+  entries = entryCount img;
+  quotient = total img / entryCount img;
+  remainder = total img % entryCount img;
+}
 
 unfoldable pub averaging : List ℕ → Outcome Mean
 averaging img = cond (eqb (averageRefusal img) 0) (value (averageOf img)) (refusal (averageRefusal img))
 
--- how many entries are found after 1, 2, .. 15 and 16 or more buckets: an added call, refused as the average is. A refusal leaves the list as it was
+-- how many entries are found after 1, 2, .. 15 and 16 or more buckets: an added call, refused as the average is. A
+-- refusal leaves the list as it was
 unfoldable pub lengthsOf : List ℕ → List ℕ
 lengthsOf img = lengthsFrom img (replicate 16 0) (putsIn img)
 

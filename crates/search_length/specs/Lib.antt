@@ -1,5 +1,6 @@
--- Average search length: 02 (x).
+-- Average search length: 02 (x): the rules, what is proved of them, examples, and the steps of the code.
 pub mod SearchLengths
 pub mod Average
-pub mod Theorem
-pub mod Rows
+pub mod theorems
+pub mod examples
+pub mod steps

@@ -1,4 +1,5 @@
--- Search lengths: 02 (x), "the total of buckets read when the name of each entry is looked up", and how many entries have each length.
+-- Search lengths: 02 (x), "the total of buckets read when the name of each entry is looked up", and how many entries
+-- have each length.
 use Prim.Native.Nat.{ℕ, _+_, _-_, min}
 use mathlib.Core.Bool.{cond}
 use mathlib.Core.List.{List, [], _∷_}

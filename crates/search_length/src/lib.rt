@@ -1,12 +1,12 @@
-// The average search length (02 (x)): how many buckets are read when the name of each entry of an image is looked up, over
-// the number of entries; and how many entries have each length.
+// The average search length (02 (x)): how many buckets are read when the name of each entry of an image is looked up,
+// divided by the number of entries. Also how many entries have each length.
 ghost use mathlib.Core.Path.{_≡_};
 ghost use Rattle.reader.specs.Open.{opening};
-ghost use Rattle.canonical.specs.Ours.{counted};
-ghost use Rattle.search_length.specs.Average.{firstRefusal, averageRefusal, averaging, averagedOf, afterLengths};
+ghost use Rattle.canonical.specs.Canonical.{counted};
+ghost use Rattle.search_length.specs.Average.{firstRefusal, averaging, averagedOf};
+ghost use Rattle.search_length.specs.steps.Contracts.{Lengths};
 use reader::Opened;
 use walks::count_lengths;
-use walks::total;
 
 mod walks; // walks.rt: the search lengths of the entries
 
@@ -17,13 +17,13 @@ pub struct Mean {
     pub remainder: u64,
 }
 
-// What the call answers: the average, or the number of the refusal.
+// The answer: the average, or the number of the refusal.
 pub enum Averaged {
     Given(Mean),
     Refused(u32),
 }
 
-// How many entries opening counts, 0 where it refuses.
+// How many entries opening counts, 0 if it refuses.
 fn entries(image: &[u8]) -> u32
     ensures { λ r. ⌜ r ≡ counted (opening (now (image .entry))) ⌝ }
 {
@@ -34,10 +34,10 @@ fn entries(image: &[u8]) -> u32
 }
 
 // The refusal of an image of n entries, 0 for none.
-fn first_refusal(own: bool, n: u32) -> u32
-    ensures { λ r. ⌜ r ≡ firstRefusal own n ⌝ }
+fn first_refusal(valid: bool, n: u32) -> u32
+    ensures { λ r. ⌜ r ≡ firstRefusal valid n ⌝ }
 {
-    if !own {
+    if !valid {
         return 17;
     }
     if n == 0 {
@@ -46,16 +46,17 @@ fn first_refusal(own: bool, n: u32) -> u32
     0
 }
 
-// The average search length of an image that is ours and has entries.
+// The average search length of a canonical image that has entries.
 pub fn average(image: &[u8]) -> Averaged
     ensures { λ r. ⌜ averagedOf r ≡ averaging (now (image .entry)) ⌝ }
 {
     let n = entries(image);
-    let refusal = first_refusal(canonical::is_ours(image), n);
+    let refusal = first_refusal(canonical::is_canonical(image), n);
     if refusal != 0 {
         return Averaged::Refused(refusal);
     }
-    let sum = total(image, n);
+    let mut counts = [0; 16];
+    let sum = count_lengths(image, n, &mut counts);
     let count = n as u64;
     Averaged::Given(Mean {
         entries: n,
@@ -64,14 +65,13 @@ pub fn average(image: &[u8]) -> Averaged
     })
 }
 
-// How many entries are found after 1, 2, .. 15 and 16 or more buckets, into the lent list; or the number of the refusal, and the
-// list stays as it was.
+// Stores how many entries are found after 1, 2, .. 15 and 16 or more buckets, and returns 0. Or returns the number of
+// the refusal; the list stays as it was.
 pub fn lengths(image: &[u8], counts: &mut [u32; 16]) -> u32
-    ensures answer { λ r. ⌜ r ≡ averageRefusal (now (image .entry)) ⌝ }
-    ensures leaves { λ r. ⌜ now (counts .exit) ≡ afterLengths (now (image .entry)) (now (counts .entry)) ⌝ }
+    ensures { λ r. ⌜ Lengths (now (image .entry)) (now (counts .entry)) (now (counts .exit)) r ⌝ }
 {
     let n = entries(image);
-    let refusal = first_refusal(canonical::is_ours(image), n);
+    let refusal = first_refusal(canonical::is_canonical(image), n);
     if refusal != 0 {
         return refusal;
     }

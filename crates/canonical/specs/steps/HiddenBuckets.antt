@@ -1,5 +1,6 @@
--- When a table or a back array is that of some entries, told without making it anew: 02 (ix). Offsets rise in put order, and an insertion moves nothing, so
--- the table as it was before a put is the finished one without the entries from that put on.
+-- When a table or a back array is that of some entries, decided without building it again: 02 (ix). Offsets rise in
+-- put order, and an insertion moves nothing. So the table before a put is the finished one without the entries from
+-- that put on.
 use Prim.Native.Nat.{ℕ, suc, _+_, _≤_}
 use mathlib.Core.Path.{_≡_}
 use mathlib.Core.Bool.{cond}
@@ -14,9 +15,9 @@ use Rattle.image.specs.Bytes.{Each}
 abbrev pub bit : ℕ → ℕ → ℕ
 bit a x = cond (leb a x) 1 0
 
-unfoldable pub above : ℕ → List ℕ → ℕ
-above a [] = 0
-above a (x ∷ xs) = bit a x + above a xs
+unfoldable pub countFrom : ℕ → List ℕ → ℕ
+countFrom a [] = 0
+countFrom a (x ∷ xs) = bit a x + countFrom a xs
 
 -- each number is larger than the one before, and the first is a or more
 abbrev pub Rising : ℕ → List ℕ → Type 0
@@ -24,38 +25,39 @@ Rising a [] = Unit {0}
 Rising a (x ∷ xs) = (a ≤ x) × Rising (suc x) xs
 
 -- the offsets in the buckets of a table
-abbrev pub ats : List Bucket → List ℕ
-ats table = map (λ (b : Bucket). b .at) table
+abbrev pub bucketOffsets : List Bucket → List ℕ
+bucketOffsets table = map (λ (b : Bucket). b .at) table
 
--- a bucket, but empty where its offset is a or more; and a table of such buckets, as it was before the put whose entry stands at a
+-- a bucket, but empty if its offset is a or more; and a table of such buckets, as it was before the put of the entry
+-- at a
 abbrev pub hide : ℕ → Bucket → Bucket
 hide a b = cond (ltb (b .at) a) b empty
 
-unfoldable pub masked : ℕ → List Bucket → List Bucket
-masked a table = map (hide a) table
+unfoldable pub hideFrom : ℕ → List Bucket → List Bucket
+hideFrom a table = map (hide a) table
 
--- the bucket that the put of b took: the first of its search that no earlier entry has
-abbrev pub place : ℕ → List Bucket → Bucket → ℕ
-place n table b = firstEmpty (atOf (masked (b .at) table)) (probeSequence n n (start (b .hash) n))
+-- the bucket that the put of b took: the first of its probe sequence that no earlier entry has
+abbrev pub putBucket : ℕ → List Bucket → Bucket → ℕ
+putBucket n table b = firstEmpty (atOf (hideFrom (b .at) table)) (probeSequence n n (start (b .hash) n))
 
--- a table of n buckets in which each of these entries stands where its put took a bucket, and nothing else stands
-pub record Right (n : ℕ) (table bs : List Bucket) : Type 0 where
+-- a table of n buckets in which each of these entries is in the bucket that its put took, and nothing else is
+pub record TableMatches (n : ℕ) (table bs : List Bucket) : Type 0 where
   pub sized : length table ≡ n
   -- both words of an empty bucket are 0
   pub zeros : (k : ℕ) → atOf table k ≡ 0 → getD table k empty ≡ empty
   -- there are as many used buckets as entries
-  pub used : above 1 (ats table) ≡ length bs
+  pub used : countFrom 1 (bucketOffsets table) ≡ length bs
   -- the bucket that each put took holds its entry
-  pub stand : Each (λ (b : Bucket). getD table (place n table b) empty ≡ b) bs
+  pub stand : Each (λ (b : Bucket). getD table (putBucket n table b) empty ≡ b) bs
 
 -- how many entries their own id's link points to
-unfoldable pub selves : List ℕ → List Placed → ℕ
-selves links [] = 0
-selves links (p ∷ ps) = cond (eqb (getD links (p .entry .id) 0) (p .at)) 1 0 + selves links ps
+unfoldable pub selfLinks : List ℕ → List Placed → ℕ
+selfLinks links [] = 0
+selfLinks links (p ∷ ps) = cond (eqb (getD links (p .entry .id) 0) (p .at)) 1 0 + selfLinks links ps
 
 -- a back array whose links are those of these entries
-pub record Linked (links : List ℕ) (ps : List Placed) : Type 0 where
+pub record BackArrayMatches (links : List ℕ) (ps : List Placed) : Type 0 where
   -- the link of each entry's id points to it or behind it
   pub ahead : Each (λ (p : Placed). p .at ≤ getD links (p .entry .id) 0) ps
   -- there are as many links above 0 as entries that their own link points to
-  pub used : above 1 links ≡ selves links ps
+  pub used : countFrom 1 links ≡ selfLinks links ps

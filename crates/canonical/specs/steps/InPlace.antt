@@ -1,4 +1,4 @@
--- What is looked at in an image, where it stands.
+-- Buckets and words of an image, read in place.
 use Prim.Native.Nat.{ℕ, _+_, _*_}
 use mathlib.Core.List.{List, map}
 use Rattle.image.specs.Bytes.{word, range}

@@ -9,12 +9,12 @@ use borrow.Author.Needs.{needs}
 use Rattle.one_to_one.proofs.one_to_one.Statement.{statement}
 use Rattle.one_to_one.proofs.one_to_one.Tie as tie
 
-is-ours-requires : tie.Need-is-ours-requires
-is-ours-requires c κs = search needs
+is-canonical-requires : tie.Need-is-canonical-requires
+is-canonical-requires c κs = search needs
 
 returns : tie.Need-returns
 returns c =
-    let own = c .before .is-ours in
+    let own = c .before .is-canonical in
     sym (refused (c .before .before .before .args .image .now) (sym (own .ensures) ∙ not-true (own .result) (c .if1 .taken)))
 
 open-requires : tie.Need-open-requires
@@ -26,7 +26,7 @@ enum-known-n c = search needs
 first-failure-requires : tie.Need-first-failure-requires
 first-failure-requires c κs =
     let opened = c .before .before .before in
-    let own = opened .before .before .is-ours in
+    let own = opened .before .before .is-canonical in
     record {
       canonical = sym (own .ensures) ∙ not-false (own .result) (opened .before .if1 .left);
       opens = sym (opened .«open» .ensures) ∙ ap openedOf (c .before .n .given .1);
@@ -38,14 +38,14 @@ enum-known-k c = search needs
 returns-2 : tie.Need-returns-2
 returns-2 c =
     let opened = c .before .before .before .before in
-    let own = opened .before .before .is-ours in
+    let own = opened .before .before .is-canonical in
     let image = opened .before .before .before .before .args .image .now in
     c .first-failure .ensures ∙ sym (answered image (sym (own .ensures) ∙ not-false (own .result) (opened .before .if1 .left)))
 
 returns-3 : tie.Need-returns-3
 returns-3 c =
     let opened = c .before .before .before in
-    let own = opened .before .before .is-ours in
+    let own = opened .before .before .is-canonical in
     let start = opened .before .before .before in
     absurd
     (never-refused (start .before .args .image .now) (c .before .k .given .0 .0)
@@ -57,7 +57,7 @@ pub one-to-one-spec : {M : Type 1} → statement M
 one-to-one-spec =
     tie.close
     (tie.spec
-    is-ours-requires
+    is-canonical-requires
     returns
     open-requires
     enum-known-n

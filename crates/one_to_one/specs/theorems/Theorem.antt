@@ -17,7 +17,7 @@ use Rattle.lookup_laws.specs.Answer.{foundId, nameGiven, ofName, ofId, firstId,
 use Rattle.writer.specs.declared.Repeats.{Repeats}
 use Rattle.lists.specs.Calls.{Call, WordIds}
 use Rattle.lists.specs.Demand3.{acceptedPuts, imageOf}
-use Rattle.canonical.specs.Ours.{ours, putsIn, modeIn}
+use Rattle.canonical.specs.Canonical.{canonical, putsIn, modeIn}
 use Rattle.one_to_one.specs.OneToOne.{isId, isName, asked, kindOf, Failure, firstFailure, oneToOne}
 
 -- ---- an image that 02 (ix) says yes to
@@ -87,12 +87,12 @@ pub record OfList (mode : Mode) (es : List Entry) (img : List ℕ) : Type 0 wher
 
 pub record Theorem : Type 0 where
   -- "refused with 17 .. where (ix) says no"; "an image without entries is one to one"
-  pub refused : (img : List ℕ) → ours img ≡ false → oneToOne img ≡ refusal 17
-  pub empty : (img : List ℕ) → ours img ≡ true → putsIn img ≡ [] → oneToOne img ≡ value none
+  pub refused : (img : List ℕ) → canonical img ≡ false → oneToOne img ≡ refusal 17
+  pub empty : (img : List ℕ) → canonical img ≡ true → putsIn img ≡ [] → oneToOne img ≡ value none
   -- "yes exactly when, for every entry, its id gives its name and its name finds its id"
-  pub yes-exactly : (img : List ℕ) → ours img ≡ true → (oneToOne img ≡ value none) ↔ Each (Paired img) (putsIn img)
+  pub yes-exactly : (img : List ℕ) → canonical img ≡ true → (oneToOne img ≡ value none) ↔ Each (Paired img) (putsIn img)
   -- "otherwise the offset of the first entry .. and which of the two fails first"
-  pub first-exactly : (img : List ℕ) → AllBytes img → ours img ≡ true → (f : Failure)
+  pub first-exactly : (img : List ℕ) → AllBytes img → canonical img ≡ true → (f : Failure)
       → (oneToOne img ≡ value (some f)) ↔ First img headSize (putsIn img) f
   pub inverse : (img : List ℕ) → AllBytes img → modeIn img ≡ Twoway → oneToOne img ≡ value none → Inverse img
   pub of-list : (mode : Mode) (repeats : Repeats) (buffer : List ℕ) (cs : List Call)

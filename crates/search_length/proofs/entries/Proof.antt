@@ -1,7 +1,7 @@
--- `average::entries` meets its contract. Assumes nothing.
+-- `search_length::entries` meets its contract. Assumes nothing.
 use mathlib.Core.Path.{sym, ap, _∙_}
 use Rattle.reader.specs.Cases.{openedOf}
-use Rattle.canonical.specs.Ours.{counted}
+use Rattle.canonical.specs.Canonical.{counted}
 use borrow.Author.Needs.{needs}
 use Rattle.search_length.proofs.entries.Statement.{statement}
 use Rattle.search_length.proofs.entries.Tie as tie

@@ -1,4 +1,4 @@
--- `average::first_refusal` meets its contract. Assumes nothing.
+-- `search_length::first_refusal` meets its contract. Assumes nothing.
 use borrow.Author.Needs.{needs}
 use borrow.Author.Tests.{eq-eqb, ne-eqb}
 use Rattle.search_length.proofs.first_refusal.Statement.{statement}

@@ -1,4 +1,4 @@
--- `ours::entries::hide` meets its contract. Assumes nothing.
+-- `canonical::entries::hide` meets its contract. Assumes nothing.
 use borrow.Author.Tests.{lt-ltb, le-ltb}
 use native.Mathlib.Omega.{arith}
 use Rattle.canonical.proofs.entries.hide.Statement.{statement}

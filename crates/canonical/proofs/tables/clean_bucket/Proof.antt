@@ -1,4 +1,4 @@
--- `ours::tables::clean_bucket` meets its contract. Assumes nothing.
+-- `canonical::tables::clean_bucket` meets its contract. Assumes nothing.
 use borrow.Author.Needs.{needs}
 use Prim.Native.Nat.{ℕ}
 use mathlib.Core.Path.{ap₂}

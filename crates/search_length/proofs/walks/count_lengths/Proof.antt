@@ -1,26 +1,52 @@
--- `average::walks::count_lengths` meets its contract: what is counted and what the entries that are left add are the whole. Assumes nothing.
+-- `search_length::walks::count_lengths` meets its contract. Assumes nothing.
 use native.Mathlib.Omega.{arith}
 use borrow.Author.Needs.{needs}
-use Rattle.search_length.proofs.Counting.{Counting, counting-begins, counting-more, counting-ends}
+use Prim.Native.Nat.{ℕ}
+use mathlib.Core.Path.{ap, _∙_}
+use Rattle.image.specs.Tally.{oneMore}
+use Rattle.reader.specs.Cases.{reads}
+use Rattle.reader.specs.Lookup.{lookup}
+use Rattle.search_length.proofs.Histogram.{Counting, counting-starts, counting-next, counting-ends}
 use Rattle.search_length.proofs.walks.count_lengths.Statement.{statement}
 use Rattle.search_length.proofs.walks.count_lengths.Tie as tie
 
 abbrev Inv-loop : tie.InvT-loop
-Inv-loop image n counts₀ rest₀ left₀ counts rest left = Counting image n counts rest left
+Inv-loop image n counts₀ rest₀ left₀ sum₀ counts rest left sum = Counting image n counts rest left sum
 
 abbrev μ-loop : tie.MeasureT-loop
-μ-loop image n counts₀ rest₀ left₀ counts rest left = left
+μ-loop image n counts₀ rest₀ left₀ sum₀ counts rest left sum = left
 
-behind-requires : tie.Need-behind-requires Inv-loop μ-loop
-behind-requires c κs = search needs
+-- from the lookup's answer to the loop, and from there to the start
+abbrev in-loop : tie.After-buckets Inv-loop μ-loop → tie.In-loop Inv-loop μ-loop
+in-loop c = c .before .before .before
+
+abbrev start : tie.In-loop Inv-loop μ-loop → tie.Start Inv-loop μ-loop
+start c = c .before .before .before .before
+
+bytes-from-requires : tie.Need-bytes-from-requires Inv-loop μ-loop
+bytes-from-requires c κs = search needs
 
 loop-holds : tie.Need-loop-holds Inv-loop μ-loop
 loop-holds c =
     let s = c .before .before in
-    counting-begins (s .args .image .now) (s .args .counts .now) _ (s .args .n) (c .behind .ensures) (s .pre)
+    counting-starts (s .args .image .now) (s .args .counts .now) _ (s .args .n) (c .bytes-from .ensures) (s .pre)
 
-front-length-requires : tie.Need-front-length-requires Inv-loop μ-loop
-front-length-requires c κs = search needs
+first-name-requires : tie.Need-first-name-requires Inv-loop μ-loop
+first-name-requires c κs = search needs
+
+to-id-requires : tie.Need-to-id-requires Inv-loop μ-loop
+to-id-requires c κs = search needs
+
+buckets-requires : tie.Need-buckets-requires Inv-loop μ-loop
+buckets-requires c κs = search needs
+
+cast-sum : tie.Need-cast-sum Inv-loop μ-loop
+cast-sum c = search needs
+
+add-sum : tie.Need-add-sum Inv-loop μ-loop
+add-sum c =
+    let l = in-loop c in
+    omega (arith, l .before .loop .inv .sum-small, l .loop-test .taken, c .buckets .ok, start l .fits .n)
 
 bin-of-requires : tie.Need-bin-of-requires Inv-loop μ-loop
 bin-of-requires c κs = search needs
@@ -28,8 +54,8 @@ bin-of-requires c κs = search needs
 raise-at-requires : tie.Need-raise-at-requires Inv-loop μ-loop
 raise-at-requires c κs =
     let k = c .before .bin-of in
-    let at = c .before .before .before .before .loop in
-    (k .ensures .1, omega (arith, at .inv .small (k .result), c .before .before .before .loop-test .taken, c .before .before .before .before .before .before .before .fits .n))
+    let l = in-loop (c .before .before) in
+    record { inside = k .ensures .inside; small = omega (arith, l .before .loop .inv .small (k .result), l .loop-test .taken, start l .fits .n) }
 
 after-first-requires : tie.Need-after-first-requires Inv-loop μ-loop
 after-first-requires c κs = search needs
@@ -42,19 +68,15 @@ loop-less c = omega arith
 
 loop-again : tie.Need-loop-again Inv-loop μ-loop
 loop-again c =
-    let raised = c .before .raise-at in
-    let k = c .before .before .before .bin-of in
-    let front = c .before .before .before .before .front-length in
-    let more = c .before .before .before .before .before .loop-test .taken in
-    let at = c .before .before .before .before .before .before .loop in
-    let a = c .before .before .before .before .before .before .before .before .before .args in
-    counting-more (a .image .now) (a .n) (at .counts) (at .rest .now) _ _ (at .left) (front .result) (k .result) (at .inv) more (front .ensures) (k .ensures .0) (raised .ensures) (c .after-first .ensures)
+    let b = c .before .before .before .before in
+    let l = in-loop b in
+    let image = start l .args .image .now in
+    counting-next (l .before .loop .inv) (l .loop-test .taken) (b .buckets .result) _ _ (omega (arith, b .buckets .ok))
+    (b .buckets .ensures ∙ ap reads (b .before .to-id .ensures ∙ ap (lookup image) (b .before .before .first-name .ensures)))
+    (c .before .raise-at .ensures ∙ ap (λ (k : ℕ). oneMore (l .before .loop .counts) k) (c .before .before .before .bin-of .ensures .is)) (c .after-first .ensures)
 
 returns : tie.Need-returns Inv-loop μ-loop
-returns c =
-    let at = c .before .loop in
-    let a = c .before .before .before .before .args in
-    counting-ends (a .image .now) (a .n) (at .counts) (at .rest .now) (at .left) (at .inv) (omega arith)
+returns c = counting-ends (c .before .loop .inv) (omega arith)
 
 pub count-lengths-spec : {M : Type 1} → statement M
 count-lengths-spec =
@@ -62,9 +84,13 @@ count-lengths-spec =
     (tie.spec
     Inv-loop
     μ-loop
-    behind-requires
+    bytes-from-requires
     loop-holds
-    front-length-requires
+    first-name-requires
+    to-id-requires
+    buckets-requires
+    cast-sum
+    add-sum
     bin-of-requires
     raise-at-requires
     after-first-requires

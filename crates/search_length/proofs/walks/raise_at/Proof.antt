@@ -1,4 +1,4 @@
--- `average::walks::raise_at` meets its contract. Assumes nothing.
+-- `search_length::walks::raise_at` meets its contract. Assumes nothing.
 use mathlib.Core.Path.{refl}
 use borrow.Author.Needs.{needs}
 use Rattle.search_length.proofs.walks.raise_at.Statement.{statement}

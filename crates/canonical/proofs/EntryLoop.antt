@@ -1,0 +1,141 @@
+-- The walk over the entries that checks each of them. Assumes nothing.
+use Prim.Native.Nat.{ℕ, suc, _+_, _*_, _-_, _≤_, _<_, max}
+use native.Mathlib.Omega.{arith}
+use mathlib.Core.Path.{_≡_, refl, sym, ap, ap₂, _∙_}
+use mathlib.Core.Bool.{Bool, true, false, cond, _&&_}
+use mathlib.Core.List.{List, _∷_}
+use lib.ListN.{length, drop, length-take, length-drop}
+use lib.Dec.{eqb}
+use Rattle.jhash.specs.NameHash.{hashOf}
+use Rattle.image.specs.Bytes.{word}
+use Rattle.image.specs.Image.{Placed, entrySize, placed}
+use Rattle.image.specs.Stored.{firstEntry, whole, entriesIn, between}
+use Rattle.image.specs.steps.EntryLength.{wholeLength}
+use Rattle.image.specs.Tally.{raisedCounts}
+use Rattle.image.proofs.Between.{Front, front, entry-room}
+use Rattle.image.proofs.Bools.{false-not-true}
+use Rattle.image.proofs.EntryWalk.{Rest, first-id, first-name, entries-rest, walk-start, walk-step, walk-broken, walk-end}
+use Rattle.canonical.specs.steps.Checks.{nameAt, nameOk, notBefore, entriesOk, selfLinksIn, placedFrom}
+use Rattle.canonical.specs.steps.Contracts.{OneIf, CheckEntriesPre, EntriesFound}
+
+-- what the entries from `at` on add to what was found before them is the whole
+pub record Entering (img : List ℕ) (end entries : ℕ) (two : Bool) (o : ℕ) (counts₀ : List ℕ) (at left back linked : ℕ) (counts : List ℕ) : Type 0 where
+  pub rest : Rest img end entries counts₀ at left back counts
+  pub valid-same : entriesOk img two o (placedFrom img end left at) ≡ entriesOk img two o (placedFrom img end entries 2072)
+  pub linked-same : linked + selfLinksIn img o (placedFrom img end left at) ≡ selfLinksIn img o (placedFrom img end entries 2072)
+  pub few : linked + left ≤ entries
+
+abbrev Valid : List ℕ → ℕ → ℕ → Bool → ℕ → Bool
+Valid img end entries two o = whole entries (between img 2072 end) && entriesOk img two o (placedFrom img end entries 2072)
+
+not-valid : {img : List ℕ} {end entries : ℕ} {two : Bool} {o : ℕ} {counts₀ counts : List ℕ} → false ≡ Valid img end entries two o
+    → EntriesFound img end entries two o counts₀ counts (record { valid = false; back = 0; linked = 0 })
+not-valid e = record {
+  valid = e;
+  back = λ z. absurd (false-not-true z);
+  linked = λ z. absurd (false-not-true z);
+  by-table = λ z. absurd (false-not-true z);
+}
+
+pub entering-start : {img : List ℕ} {end entries : ℕ} {two : Bool} {o : ℕ} {counts₀ : List ℕ} → CheckEntriesPre img end o counts₀
+    → Entering img end entries two o counts₀ 2072 entries 0 0 counts₀
+entering-start {img} {end} {entries} {two} {o} {counts₀} p = record {
+  rest = walk-start img end entries counts₀ (p .area .from) (p .zeros);
+  valid-same = refl;
+  linked-same = omega arith;
+  few = omega arith;
+}
+
+module _ {img : List ℕ} {end entries : ℕ} {two : Bool} {o : ℕ} {counts₀ : List ℕ} {at left back linked : ℕ} {counts : List ℕ}
+    (e : Entering img end entries two o counts₀ at left back linked counts) (k : end ≤ length img) (some : 0 < left) (n : ℕ)
+    (is : n ≡ wholeLength (between img at end)) where
+  pub entering-broken : n ≡ 0 → {counts₁ : List ℕ} → EntriesFound img end entries two o counts₀ counts₁ (record { valid = false; back = 0; linked = 0 })
+  entering-broken z =
+      not-valid
+      (ap (λ (b : Bool). b && entriesOk img two o (placedFrom img end entries 2072))
+      (walk-broken img end entries counts₀ at left back counts (e .rest) some (sym z ∙ is)))
+
+  module _ (nz : n ≡ 0 → ⊥) where
+    there : Front (between img at end) n
+    there = front (between img at end) n is nz
+
+    pub entering-inside : (at + (8 + n) ≤ end) × (1 ≤ n)
+    entering-inside = entry-room img at end n (e .rest .inside) k is nz
+
+    name-is : firstEntry (between img at end) .name ≡ nameAt img at n
+    name-is = first-name img at end n (left - 1) (e .rest .inside) k there
+
+    size-is : entrySize (firstEntry (between img at end)) ≡ 8 + n
+    size-is =
+        omega
+        (arith, ap length name-is, length-take (n - 1) (drop (at + 8) img), length-drop (at + 8) img, entering-inside)
+
+    later : List Placed
+    later = placedFrom img end (left - 1) (at + (8 + n))
+
+    step : placedFrom img end left at ≡ record { entry = firstEntry (between img at end); at = at } ∷ later
+    unfolding placed later
+    step =
+        let s : left ≡ suc (left - 1) = omega arith in
+        let rest = entriesIn (left - 1) (between img (at + (8 + n)) end) in
+        ap (λ (m : ℕ). placed at (entriesIn m (between img at end))) s
+        ∙ ap (placed at) (entries-rest img at end n (left - 1) (e .rest .inside) k there)
+        ∙ ap (λ (j : ℕ). record { entry = firstEntry (between img at end); at = at } ∷ placed (at + j) rest) size-is
+
+    -- the entry's link w
+    module _ (id w : ℕ) (ei : id ≡ word img at) (ew : w ≡ word img (o + 4 * id)) where
+      link-is : word img (o + 4 * firstEntry (between img at end) .id) ≡ w
+      link-is =
+          ap (λ (i : ℕ). word img (o + 4 * i)) (first-id img at end n (left - 1) (e .rest .inside) k there ∙ sym ei) ∙ sym ew
+
+      module _ (p q : Bool) (ep : p ≡ notBefore two at w) (eq : q ≡ nameOk img at (nameAt img at n)) where
+        entries-step : entriesOk img two o (placedFrom img end left at) ≡ (p && q && entriesOk img two o later)
+        unfolding entriesOk
+        entries-step =
+            ap (entriesOk img two o) step
+            ∙ ap₂ (λ (v : ℕ) (name : List ℕ). notBefore two at v && nameOk img at name && entriesOk img two o later) link-is name-is
+            ∙ ap₂ (λ (x y : Bool). x && y && entriesOk img two o later) (sym ep) (sym eq)
+
+        pub entering-wrong : (p && q) ≡ false → {counts₁ : List ℕ}
+            → EntriesFound img end entries two o counts₀ counts₁ (record { valid = false; back = 0; linked = 0 })
+        entering-wrong z =
+            not-valid
+            (no-second (whole entries (between img 2072 end)) (entriesOk img two o (placedFrom img end entries 2072))
+            (sym (entries-step ∙ ap (λ (b : Bool). b && entriesOk img two o later) z) ∙ e .valid-same))
+          where
+            no-second : (a b : Bool) → false ≡ b → false ≡ (a && b)
+            no-second true b h = h
+            no-second false b h = refl
+
+        pub entering-next : (p && q) ≡ true → (h b : ℕ) (counts₁ : List ℕ) → h ≡ hashOf (nameAt img at n) → n < 4294967296 → id < 4294967296
+            → OneIf w at b → counts₁ ≡ raisedCounts counts h
+            → Entering img end entries two o counts₀ (at + (8 + n)) (left - 1) (max back (id + 1)) (linked + b) counts₁
+        unfolding later selfLinksIn
+        entering-next y h b counts₁ eh small idsmall one ec = record {
+          rest = walk-step img end entries counts₀ at left back counts k (e .rest) some n h id (nameAt img at n) counts₁ there small idsmall refl eh ei ec;
+          valid-same = sym (entries-step ∙ ap (λ (b : Bool). b && entriesOk img two o later) y) ∙ e .valid-same;
+          linked-same =
+              let t : selfLinksIn img o (placedFrom img end left at) ≡ cond (eqb w at) 1 0 + selfLinksIn img o later =
+              ap (selfLinksIn img o) step ∙ ap (λ (v : ℕ). cond (eqb v at) 1 0 + selfLinksIn img o later) link-is in
+              omega (arith, one .is, e .linked-same);
+          few = omega (arith, one .most, e .few);
+        }
+
+pub entering-end : {img : List ℕ} {end entries : ℕ} {two : Bool} {o : ℕ} {counts₀ : List ℕ} {at back linked : ℕ} {counts : List ℕ}
+    → Entering img end entries two o counts₀ at 0 back linked counts → end ≤ length img
+    → EntriesFound img end entries two o counts₀ counts (record { valid = eqb at end; back = back; linked = linked })
+unfolding entriesOk selfLinksIn placed entriesIn
+entering-end {img} {end} {entries} {two} {o} {counts₀} {at} {back} {linked} {counts} e k =
+    let w = walk-end img end entries counts₀ at back counts k (e .rest) in
+    let all : true ≡ entriesOk img two o (placedFrom img end entries 2072) = e .valid-same in
+    let links : linked + 0 ≡ selfLinksIn img o (placedFrom img end entries 2072) = e .linked-same in
+    record {
+      valid = w .0 ∙ and-all (whole entries (between img 2072 end)) ∙ ap (λ (b : Bool). whole entries (between img 2072 end) && b) all;
+      back = λ y. w .1;
+      linked = λ y. omega arith;
+      by-table = λ y. w .2;
+    }
+  where
+    and-all : (a : Bool) → a ≡ (a && true)
+    and-all true = refl
+    and-all false = refl

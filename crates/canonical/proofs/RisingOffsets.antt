@@ -1,0 +1,28 @@
+-- The offsets of entries rise, also of those of one table. Assumes nothing.
+use mathlib.Core.Bool.{Bool, true, false, cond}
+use mathlib.Core.List.{List, [], _∷_, map}
+use Prim.Native.Nat.{ℕ, suc, _+_}
+use native.Mathlib.Omega.{arith}
+use Rattle.image.specs.Bytes.{filter}
+use Rattle.image.specs.Image.{Entry, Placed, entrySize, placed, inTable, ofTable, bucketOf}
+use Rattle.canonical.specs.steps.HiddenBuckets.{Rising, bucketOffsets}
+use Rattle.canonical.proofs.CountAtLeast.{rising-less}
+use Rattle.canonical.proofs.BackArray.{offsets}
+
+pub rises : (o : ℕ) (es : List Entry) → Rising o (offsets (placed o es))
+unfolding placed
+rises o [] = tt
+rises o (e ∷ es) = (omega arith, rising-less (suc o) (o + entrySize e) (offsets (placed (o + entrySize e) es)) (omega arith) (rises (o + entrySize e) es))
+
+rises-keep : (test : Placed → Bool) (a : ℕ) (ps : List Placed) → Rising a (offsets ps) → Rising a (bucketOffsets (map bucketOf (filter test ps)))
+unfolding filter
+rises-keep test a [] r = tt
+rises-keep test a (p ∷ ps) r = go (test p) (rises-keep test (suc (p .at)) ps (r .1))
+  where
+    go : (t : Bool) → Rising (suc (p .at)) (bucketOffsets (map bucketOf (filter test ps))) → Rising a (bucketOffsets (map bucketOf (cond t (p ∷ filter test ps) (filter test ps))))
+    go true rest = (r .0, rest)
+    go false rest = let h = r .0 in rising-less a (suc (p .at)) (bucketOffsets (map bucketOf (filter test ps))) (omega arith) rest
+
+pub rises-table : (t a : ℕ) (ps : List Placed) → Rising a (offsets ps) → Rising a (bucketOffsets (map bucketOf (ofTable t ps)))
+unfolding ofTable
+rises-table t a ps r = rises-keep (inTable t) a ps r

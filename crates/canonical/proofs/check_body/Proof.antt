@@ -1,0 +1,169 @@
+-- `canonical::check_body` meets its contract. Assumes nothing.
+use borrow.Author.Needs.{needs}
+use borrow.Author.Tests.{not-true, not-false}
+use native.Mathlib.Omega.{arith}
+use Prim.Native.Nat.{ℕ, _+_, _*_}
+use mathlib.Core.Path.{_≡_, sym, ap, ap₂, _∙_}
+use mathlib.Core.Bool.{Bool, true, cond, _&&_}
+use mathlib.Core.List.{List}
+use lib.ListN.{replicate}
+use lib.Dec.{eqb}
+use Rattle.image.specs.Image.{backSize, backIn}
+use Rattle.image.specs.Stored.{whole, entriesIn, between}
+use Rattle.image.specs.Tally.{tallied}
+use Rattle.image.specs.declared.Mode.the-variants.{Twoway, Oneway}
+use Rattle.writer.proofs.Agree.{zeros}
+use Rattle.canonical.specs.Canonical.{modeIn}
+use Rattle.canonical.specs.steps.Checks.{rowsOk, countsMatch, twoWay, entriesOk, placedFrom}
+use Rattle.canonical.proofs.Decision.{body-rows, body-entries, body-counts, body-back, body-oneway, body-twoway}
+use Rattle.canonical.proofs.check_body.Statement.{statement}
+use Rattle.canonical.proofs.check_body.Tie as tie
+
+-- ---- what holds behind each check
+
+abbrev start : tie.Else1 → tie.Start
+start c = c .before .before .before
+
+abbrev image : tie.Else1 → List ℕ
+image c = start c .args .image .now
+
+rows : (c : tie.Else1) → rowsOk (image c) (start c .args .end) 0 256 ≡ true
+rows c = sym (c .before .check-rows .ensures) ∙ not-false _ (c .if1 .left)
+
+two : (c : tie.After-get-u32) → eqb (c .get-u32 .result) 0 ≡ twoWay (image (c .before))
+two c = ap (λ (w : ℕ). eqb w 0) (c .get-u32 .ensures)
+
+-- the check of the entries, and its answer
+abbrev checked : tie.Else2 → tie.After-check-entries
+checked c = c .before .before
+
+abbrev flagged : tie.After-check-entries → tie.After-get-u32
+flagged c = c .before .before
+
+abbrev Entries : tie.Else1 → Bool
+Entries c =
+    let a = start c .args in
+    whole (a .n) (between (image c) 2072 (a .end)) && entriesOk (image c) (twoWay (image c)) (a .end + 16 * a .n) (placedFrom (image c) (a .end) (a .n) 2072)
+
+found : (c : tie.After-check-entries) → c .check-entries .result .valid ≡ Entries (flagged c .before)
+found c = rw (two (flagged c)) at (c .check-entries .ensures .valid)
+
+entries : (c : tie.Else2) → Entries (flagged (checked c) .before) ≡ true
+entries c = sym (found (checked c)) ∙ not-false _ (c .if2 .left)
+
+abbrev entered : tie.Else3 → tie.Else2
+entered c = c .before .before .before
+
+abbrev first : tie.Else2 → tie.Else1
+first c = flagged (checked c) .before
+
+-- what the counts match
+counted : (c : tie.After-counts-match) → let e = first (c .before .before) in
+    c .counts-match .result ≡ countsMatch (image e) (tallied (replicate 256 0) (entriesIn (start e .args .n) (between (image e) 2072 (start e .args .end))))
+counted c =
+    let e = c .before .before in
+    c .counts-match .ensures ∙ ap (countsMatch (image (first e))) (checked e .check-entries .ensures .by-table (not-false _ (e .if2 .left)))
+
+counts : (c : tie.Else3) → let e = first (entered c) in
+    countsMatch (image e) (tallied (replicate 256 0) (entriesIn (start e .args .n) (between (image e) 2072 (start e .args .end)))) ≡ true
+counts c = sym (counted (c .before)) ∙ not-false _ (c .if3 .left)
+
+-- the back size
+back : (c : tie.After-back-for) → let e = first (entered (c .before)) in
+    c .back-for .result ≡ backIn (modeIn (image e)) (backSize (entriesIn (start e .args .n) (between (image e) 2072 (start e .args .end))))
+back c =
+    let e = entered (c .before) in
+    c .back-for .ensures
+    ∙ ap₂ (λ (t : Bool) (k : ℕ). backIn (cond t Twoway Oneway) k) (two (flagged (checked e))) (checked e .check-entries .ensures .back (not-false _ (e .if2 .left)))
+
+-- ---- the needs
+
+check-rows-requires : tie.Need-check-rows-requires
+check-rows-requires c κs = search needs
+
+returns : tie.Need-returns
+returns c =
+    let a = c .before .before .before .args in
+    body-rows (a .image .now) (a .n) (a .end) (a .back) (sym (c .before .check-rows .ensures) ∙ not-true _ (c .if1 .taken))
+
+get-u32-requires : tie.Need-get-u32-requires
+get-u32-requires c κs = search needs
+
+mul-o : tie.Need-mul-o
+mul-o c = search needs
+
+add-o : tie.Need-add-o
+add-o c = search needs
+
+check-entries-requires : tie.Need-check-entries-requires
+check-entries-requires c κs =
+    let s = start (c .before .before) in
+    record { area = s .pre .area; links = omega (arith, s .pre .area .small, s .fits .n); zeros = zeros 256 }
+
+returns-2 : tie.Need-returns-2
+returns-2 c =
+    let f = c .before .before in
+    let e = flagged f .before in
+    let a = start e .args in
+    body-entries (image e) (a .n) (a .end) (a .back) (rows e) (sym (found f) ∙ not-true _ (c .if2 .taken))
+
+counts-match-requires : tie.Need-counts-match-requires
+counts-match-requires c κs = search needs
+
+returns-3 : tie.Need-returns-3
+returns-3 c =
+    let d = c .before .before .before in
+    let e = first d in
+    let a = start e .args in
+    body-counts (image e) (a .n) (a .end) (a .back) (rows e) (entries d) (sym (counted (c .before)) ∙ not-true _ (c .if3 .taken))
+
+back-for-requires : tie.Need-back-for-requires
+back-for-requires c κs = search needs
+
+returns-4 : tie.Need-returns-4
+returns-4 c =
+    let d = c .before .before in
+    let e = first (entered d) in
+    let a = start e .args in
+    body-back (image e) (a .n) (a .end) (a .back) (rows e) (entries (entered d)) (counts d) (λ y. c .if4 .taken (y ∙ sym (back (c .before))))
+
+returns-5 : tie.Need-returns-5
+returns-5 c =
+    let b = c .before .before in
+    let d = b .before in
+    let e = first (entered d) in
+    let a = start e .args in
+    body-oneway (image e) (a .n) (a .end) (a .back) (rows e) (entries (entered d)) (counts d) (c .before .if4 .left ∙ back b)
+    (sym (two (flagged (checked (entered d)))) ∙ not-true _ (c .if5 .taken))
+
+count-used-requires : tie.Need-count-used-requires
+count-used-requires c κs = search needs
+
+returns-6 : tie.Need-returns-6
+returns-6 c =
+    let b = c .before .before .before .before in
+    let d = b .before in
+    let e = first (entered d) in
+    let a = start e .args in
+    ap₂ eqb (c .before .count-used .ensures) (checked (entered d) .check-entries .ensures .linked (not-false _ (entered d .if2 .left)))
+    ∙ body-twoway (image e) (a .n) (a .end) (a .back) (rows e) (entries (entered d)) (counts d) (c .before .before .before .if4 .left ∙ back b)
+    (sym (two (flagged (checked (entered d)))) ∙ not-false _ (c .before .before .if5 .left))
+
+pub check-body-spec : {M : Type 1} → statement M
+check-body-spec =
+    tie.close
+    (tie.spec
+    check-rows-requires
+    returns
+    get-u32-requires
+    mul-o
+    add-o
+    check-entries-requires
+    returns-2
+    counts-match-requires
+    returns-3
+    back-for-requires
+    returns-4
+    returns-5
+    count-used-requires
+    returns-6)

@@ -1,0 +1,129 @@
+-- `canonical::prefetch::hash_batch` meets its contract. Assumes nothing.
+use borrow.Author.Needs.{needs}
+use native.Mathlib.Omega.{arith}
+use Prim.Native.Nat.{_+_, _-_, _≤_}
+use mathlib.Core.Path.{ap, _∙_}
+use Rattle.jhash.specs.NameHash.{hashOf}
+use Rattle.jhash.proofs.Outcomes.{result-refused, result-name-hash}
+use Rattle.image.proofs.Between.{entry-room}
+use Rattle.canonical.proofs.CachedEntries.{Hashing, hashing-start, hashing-next, hashing-broken, hashing-all}
+use Rattle.canonical.proofs.prefetch.hash_batch.Statement.{statement}
+use Rattle.canonical.proofs.prefetch.hash_batch.Tie as tie
+
+abbrev Inv-loop : tie.InvT-loop
+Inv-loop image from end hashes₀ places₀ at₀ i₀ hashes places at i = Hashing image end from hashes places at i
+
+abbrev μ-loop : tie.MeasureT-loop
+μ-loop image from end hashes₀ places₀ at₀ i₀ hashes places at i = 256 - i
+
+-- from the place behind the call of first_place to that behind whole_length, and from there to the start
+abbrev whole : tie.After-first-place Inv-loop μ-loop → tie.Else1 Inv-loop μ-loop
+whole c = c .before .before .before .before .before .before
+
+abbrev start : tie.Else1 Inv-loop μ-loop → tie.Start Inv-loop μ-loop
+start c = c .before .before .before .before .before
+
+-- a whole entry lies before the end
+room : (c : tie.Else1 Inv-loop μ-loop)
+    → (c .before .before .before .loop .at + (8 + c .before .whole-length .result) ≤ start c .args .end) × (1 ≤ c .before .whole-length .result)
+room c =
+    let l = c .before .before .before .loop in
+    let n = c .before .whole-length in
+    entry-room (start c .args .image .now) (l .at) (start c .args .end) (n .result) (l .inv .inside) (start c .pre .area .inside) (n .ensures .0) (c .if1 .left)
+
+loop-holds : tie.Need-loop-holds Inv-loop μ-loop
+loop-holds c = hashing-start (c .before .pre)
+
+whole-length-requires : tie.Need-whole-length-requires Inv-loop μ-loop
+whole-length-requires c κs = (c .before .loop .inv .inside, c .before .before .before .pre .area .inside)
+
+returns : tie.Need-returns Inv-loop μ-loop
+returns c =
+    let w = c .before .whole-length in
+    hashing-broken (c .before .before .before .loop .inv) (w .result) (w .ensures .0) (c .if1 .taken)
+
+name-at-requires : tie.Need-name-at-requires Inv-loop μ-loop
+name-at-requires c κs = let r = room c in (omega (arith, start c .pre .area .inside), r .1)
+
+name-hash-requires : tie.Need-name-hash-requires Inv-loop μ-loop
+name-hash-requires c κs = search needs
+
+enum-known-h : tie.Need-enum-known-h Inv-loop μ-loop
+enum-known-h c = search needs
+
+enum-told : tie.Need-enum-told Inv-loop μ-loop
+enum-told c = search needs
+
+returns-2 : tie.Need-returns-2 Inv-loop μ-loop
+returns-2 c =
+    let hashed = c .before .before .name-hash in
+    let name = c .before .before .before .name-at in
+    let n = c .before .before .before .before .before .whole-length in
+    absurd (omega (arith, result-refused (name .result .now) 0 (hashed .result) (hashed .ensures) (c .enum-told .given .1), name .ensures .1, n .ensures .1))
+
+first-place-requires : tie.Need-first-place-requires Inv-loop μ-loop
+first-place-requires c κs = search needs
+
+mul-hashes : tie.Need-mul-hashes Inv-loop μ-loop
+mul-hashes c = omega (arith, whole c .before .before .loop-test .taken)
+
+element-write-hashes : tie.Need-element-write-hashes Inv-loop μ-loop
+element-write-hashes c = omega (arith, whole c .before .before .loop-test .taken)
+
+mul-places : tie.Need-mul-places Inv-loop μ-loop
+mul-places c = omega (arith, whole c .before .before .loop-test .taken)
+
+element-write-places : tie.Need-element-write-places Inv-loop μ-loop
+element-write-places c = omega (arith, whole c .before .before .loop-test .taken)
+
+add-at : tie.Need-add-at Inv-loop μ-loop
+add-at c = let r = room (whole c) in omega (arith, start (whole c) .pre .area .small)
+
+add-at-2 : tie.Need-add-at-2 Inv-loop μ-loop
+add-at-2 c = let r = room (whole c) in omega (arith, start (whole c) .pre .area .small)
+
+add-i : tie.Need-add-i Inv-loop μ-loop
+add-i c = omega (arith, whole c .before .before .loop-test .taken)
+
+loop-less : tie.Need-loop-less Inv-loop μ-loop
+loop-less c = omega (arith, whole c .before .before .loop-test .taken)
+
+loop-again : tie.Need-loop-again Inv-loop μ-loop
+loop-again c =
+    let e = whole c in
+    let w = e .before .whole-length in
+    let hashed = c .before .before .before .before .name-hash in
+    let name = c .before .before .before .before .before .name-at in
+    let h = c .before .before .h .given .0 .0 in
+    let is = result-name-hash (name .result .now) (hashed .result) h (hashed .ensures) (c .before .before .h .given .1) .1 in
+    hashing-next (e .before .before .before .loop .inv) (start e .pre .area .inside) (w .result) (w .ensures .0) (e .if1 .left) (e .before .before .loop-test .taken)
+    h (c .first-place .result) (is ∙ ap hashOf (name .ensures .0)) (c .first-place .ensures)
+
+returns-3 : tie.Need-returns-3 Inv-loop μ-loop
+returns-3 c = hashing-all (c .before .loop .inv) (omega (arith, c .loop-test .left))
+
+pub hash-batch-spec : {M : Type 1} → statement M
+hash-batch-spec =
+    tie.close
+    (tie.spec
+    Inv-loop
+    μ-loop
+    loop-holds
+    whole-length-requires
+    returns
+    name-at-requires
+    name-hash-requires
+    enum-known-h
+    enum-told
+    returns-2
+    first-place-requires
+    mul-hashes
+    element-write-hashes
+    mul-places
+    element-write-places
+    add-at
+    add-at-2
+    add-i
+    loop-less
+    loop-again
+    returns-3)

@@ -1,0 +1,65 @@
+-- `canonical::prefetch::read_buckets` meets its contract. Assumes nothing.
+use borrow.Author.Needs.{needs}
+use native.Mathlib.Omega.{arith}
+use Prim.Native.Nat.{_-_, _≤_}
+use Rattle.canonical.specs.steps.Contracts.{BucketsRead}
+use Rattle.canonical.proofs.CachedEntries.{read-next}
+use Rattle.canonical.proofs.prefetch.read_buckets.Statement.{statement}
+use Rattle.canonical.proofs.prefetch.read_buckets.Tie as tie
+
+abbrev Inv-loop : tie.InvT-loop
+Inv-loop image places firsts₀ i₀ firsts i = (i ≤ 256) × BucketsRead image places firsts i
+
+abbrev μ-loop : tie.MeasureT-loop
+μ-loop image places firsts₀ i₀ firsts i = 256 - i
+
+loop-holds : tie.Need-loop-holds Inv-loop μ-loop
+loop-holds c = (omega arith, record { firsts-long = c .before .pre .firsts-long; words = λ k h. absurd (omega arith) })
+
+mul-get-u32 : tie.Need-mul-get-u32 Inv-loop μ-loop
+mul-get-u32 c = omega (arith, c .loop-test .taken)
+
+element-copy-out-get-u32 : tie.Need-element-copy-out-get-u32 Inv-loop μ-loop
+element-copy-out-get-u32 c = omega (arith, c .loop-test .taken)
+
+get-u32-requires : tie.Need-get-u32-requires Inv-loop μ-loop
+get-u32-requires c κs = search needs
+
+mul-firsts : tie.Need-mul-firsts Inv-loop μ-loop
+mul-firsts c = omega (arith, c .before .before .loop-test .taken)
+
+element-write-firsts : tie.Need-element-write-firsts Inv-loop μ-loop
+element-write-firsts c = omega (arith, c .before .before .loop-test .taken)
+
+add-i : tie.Need-add-i Inv-loop μ-loop
+add-i c = omega (arith, c .before .before .loop-test .taken)
+
+loop-less : tie.Need-loop-less Inv-loop μ-loop
+loop-less c = omega (arith, c .before .before .loop-test .taken)
+
+loop-again : tie.Need-loop-again Inv-loop μ-loop
+loop-again c =
+    let more = c .before .before .loop-test .taken in
+    (omega (arith, more), read-next (c .before .before .before .loop .inv .1) (c .get-u32 .result) more (c .get-u32 .ensures))
+
+returns : tie.Need-returns Inv-loop μ-loop
+returns c =
+    let l = c .before .loop in
+    record { firsts-long = l .inv .1 .firsts-long; words = λ k h. l .inv .1 .words k (omega (arith, c .loop-test .left)) }
+
+pub read-buckets-spec : {M : Type 1} → statement M
+read-buckets-spec =
+    tie.close
+    (tie.spec
+    Inv-loop
+    μ-loop
+    loop-holds
+    mul-get-u32
+    element-copy-out-get-u32
+    get-u32-requires
+    mul-firsts
+    element-write-firsts
+    add-i
+    loop-less
+    loop-again
+    returns)

@@ -1,0 +1,65 @@
+-- `canonical::tables::counts_match` meets its contract. Assumes nothing.
+use borrow.Author.Needs.{needs}
+use native.Mathlib.Omega.{arith}
+use Prim.Native.Nat.{_-_}
+use mathlib.Core.Path.{refl, sym, _∙_}
+use Rattle.canonical.proofs.TableLoops.{Counts, count-differs, count-matches, counts-end}
+use Rattle.canonical.proofs.tables.counts_match.Statement.{statement}
+use Rattle.canonical.proofs.tables.counts_match.Tie as tie
+
+abbrev Inv-loop : tie.InvT-loop
+Inv-loop image counts t₀ t = Counts image counts t
+
+abbrev μ-loop : tie.MeasureT-loop
+μ-loop image counts t₀ t = 256 - t
+
+loop-holds : tie.Need-loop-holds Inv-loop μ-loop
+loop-holds c = record { few = omega arith; same = refl }
+
+row-number-requires : tie.Need-row-number-requires Inv-loop μ-loop
+row-number-requires c κs = search needs
+
+mul-twice : tie.Need-mul-twice Inv-loop μ-loop
+mul-twice c = search needs
+
+element-copy-out-twice : tie.Need-element-copy-out-twice Inv-loop μ-loop
+element-copy-out-twice c = search needs
+
+twice-requires : tie.Need-twice-requires Inv-loop μ-loop
+twice-requires c κs = search needs
+
+returns : tie.Need-returns Inv-loop μ-loop
+returns c =
+    let l = c .before .before .before .before in
+    count-differs (l .before .loop .inv) (l .loop-test .taken) (λ e. c .if1 .taken (c .before .before .before .row-number .ensures .is ∙ e ∙ sym (c .before .twice .ensures)))
+
+add-t : tie.Need-add-t Inv-loop μ-loop
+add-t c = search needs
+
+loop-less : tie.Need-loop-less Inv-loop μ-loop
+loop-less c = search needs
+
+loop-again : tie.Need-loop-again Inv-loop μ-loop
+loop-again c =
+    let l = c .before .before .before .before in
+    count-matches (l .before .loop .inv) (l .loop-test .taken) (sym (c .before .before .before .row-number .ensures .is) ∙ c .if1 .left ∙ c .before .twice .ensures)
+
+returns-2 : tie.Need-returns-2 Inv-loop μ-loop
+returns-2 c = counts-end (c .before .loop .inv) (omega arith)
+
+pub counts-match-spec : {M : Type 1} → statement M
+counts-match-spec =
+    tie.close
+    (tie.spec
+    Inv-loop
+    μ-loop
+    loop-holds
+    row-number-requires
+    mul-twice
+    element-copy-out-twice
+    twice-requires
+    returns
+    add-t
+    loop-less
+    loop-again
+    returns-2)

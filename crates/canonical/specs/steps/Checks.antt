@@ -1,0 +1,152 @@
+-- The checks by which the code decides whether an image is canonical, in place and without a second buffer. All of them
+-- hold exactly when it is.
+use Prim.Native.Nat.{ℕ, zero, suc, _+_, _*_, _-_, _/_, _≤_, _<_}
+use mathlib.Core.Path.{_≡_}
+use mathlib.Core.Bool.{Bool, true, false, cond, not, _&&_, _||_}
+use mathlib.Core.List.{List, [], _∷_, map}
+use lib.ListN.{length, getD, take, drop, replicate}
+use lib.Dec.{eqb, ltb}
+use Rattle.jhash.specs.NameHash.{hashOf}
+use Rattle.jhash.specs.Outcome.{value}
+use Rattle.image.specs.Bytes.{word, range, all}
+use Rattle.image.specs.Head.{tableAt, bucketNumber, backSizeAt, backOffsetAt}
+use Rattle.image.specs.Image.{Entry, Placed, headSize, placed, backSize, backIn}
+use Rattle.image.specs.Stored.{whole, entriesIn, between}
+use Rattle.image.specs.Tables.{tableOf, start, probeSequence, firstEmpty}
+use Rattle.image.specs.Tally.{tallied}
+use Rattle.image.specs.Zero.{hasZero}
+use Rattle.reader.specs.Open.{opening}
+use Rattle.canonical.specs.steps.HiddenBuckets.{countFrom}
+use Rattle.canonical.specs.Canonical.{modeIn}
+use Rattle.canonical.specs.steps.InPlace.{wordsAt}
+
+-- ---- the entries
+
+-- where the entries of an image end, if there are n: tables and links follow them
+abbrev pub endIn : List ℕ → ℕ → ℕ
+endIn img n = length img - (16 * n + 4 * backSizeAt img)
+
+abbrev pub areaIn : List ℕ → ℕ → List ℕ
+areaIn img n = between img headSize (endIn img n)
+
+abbrev pub entriesOf : List ℕ → ℕ → List Entry
+entriesOf img n = entriesIn n (areaIn img n)
+
+-- the m entries from `at` to `end`, with their offsets
+abbrev pub placedFrom : List ℕ → ℕ → ℕ → ℕ → List Placed
+placedFrom img end m at = placed at (entriesIn m (between img at end))
+
+-- the name of the entry at `at` whose length word is n
+abbrev pub nameAt : List ℕ → ℕ → ℕ → List ℕ
+nameAt img at n = take (n - 1) (drop (at + 8) img)
+
+-- ---- the rows and the tables
+
+-- no table with an offset above 0 leaves the image: opening has checked that
+abbrev pub TablesInside : List ℕ → Type 0
+TablesInside img = (t : ℕ) → t < 256 → 0 < tableAt img t → tableAt img t + 8 * bucketNumber img t ≤ length img
+
+-- of the 2c buckets at o the empty ones are zero, and c are used
+abbrev pub clean : List ℕ → ℕ → ℕ → Bool
+clean img o k = not (eqb (word img (o + 8 * k + 4)) 0) || eqb (word img (o + 8 * k)) 0
+
+unfoldable pub usedIn : List ℕ → ℕ → ℕ → ℕ → ℕ
+usedIn img o k m = countFrom 1 (map (λ (k : ℕ). word img (o + 8 * k + 4)) (range k m))
+
+unfoldable pub tableOk : List ℕ → ℕ → ℕ → Bool
+tableOk img o c = all (clean img o) 0 (2 * c) && eqb (usedIn img o 0 (2 * c)) c
+
+-- the number of entries that row t stands for
+abbrev pub rowCount : List ℕ → ℕ → ℕ
+rowCount img t = bucketNumber img t / 2
+
+-- the rows of the m tables from t on, and the tables; the first with entries is at o
+unfoldable pub rowsOk : List ℕ → ℕ → ℕ → ℕ → Bool
+rowsOk img o t zero = true
+rowsOk img o t (suc m) =
+    eqb (bucketNumber img t) (2 * rowCount img t)
+    && eqb (tableAt img t) (cond (eqb (rowCount img t) 0) 0 o)
+    && tableOk img o (rowCount img t)
+    && rowsOk img (o + 16 * rowCount img t) (suc t) m
+
+-- have the tables these numbers of entries?
+abbrev pub countsMatch : List ℕ → List ℕ → Bool
+countsMatch img counts = all (λ (t : ℕ). eqb (bucketNumber img t) (2 * getD counts t 0)) 0 256
+
+-- ---- each entry in its table
+
+-- the offset of a bucket, 0 from a on
+abbrev pub hidden : ℕ → ℕ → ℕ
+hidden a w = cond (ltb w a) w 0
+
+-- the bucket that the put at `at` took: the first of its probe sequence that is empty or has an offset from `at` on
+unfoldable pub slotIn : List ℕ → ℕ → ℕ → ℕ
+slotIn img h at =
+    let o = tableAt img (tableOf h) in
+    let n = bucketNumber img (tableOf h) in
+    o + 8 * firstEmpty (λ (k : ℕ). hidden at (word img (o + 8 * k + 4))) (probeSequence n n (start h n))
+
+unfoldable pub inItsBucket : List ℕ → ℕ → ℕ → Bool
+inItsBucket img h at =
+    not (eqb (bucketNumber img (tableOf h)) 0)
+    && eqb (word img (slotIn img h at)) h
+    && eqb (word img (slotIn img h at + 4)) at
+
+-- its name has no zero byte, and it is in its bucket
+abbrev pub nameOk : List ℕ → ℕ → List ℕ → Bool
+nameOk img at name = not (hasZero name) && inItsBucket img (hashOf name) at
+
+-- ---- the links of a two-way image, at o
+
+-- does an image have links?
+abbrev pub twoWay : List ℕ → Bool
+twoWay img = eqb (word img 8) 0
+
+-- a link w points to the entry at `at` or behind it
+abbrev pub notBefore : Bool → ℕ → ℕ → Bool
+notBefore two at w = not (two && ltb w at)
+
+abbrev pub entryOk : List ℕ → Bool → ℕ → Placed → Bool
+entryOk img two o p = notBefore two (p .at) (word img (o + 4 * p .entry .id)) && nameOk img (p .at) (p .entry .name)
+
+unfoldable pub entriesOk : List ℕ → Bool → ℕ → List Placed → Bool
+entriesOk img two o [] = true
+entriesOk img two o (p ∷ ps) = entryOk img two o p && entriesOk img two o ps
+
+-- how many entries their own id's link points to
+unfoldable pub selfLinksIn : List ℕ → ℕ → List Placed → ℕ
+selfLinksIn img o [] = 0
+selfLinksIn img o (p ∷ ps) = cond (eqb (word img (o + 4 * p .entry .id)) (p .at)) 1 0 + selfLinksIn img o ps
+
+-- as many of the n links are above 0
+abbrev pub linksCounted : List ℕ → ℕ → ℕ → List Placed → Bool
+linksCounted img o n ps = eqb (countFrom 1 (wordsAt img o n)) (selfLinksIn img o ps)
+
+-- ---- all of them
+
+-- behind the head: n entries that end at `end`, and `back` links
+unfoldable pub bodyOk : List ℕ → ℕ → ℕ → ℕ → Bool
+bodyOk img n end back =
+    cond (rowsOk img end 0 256)
+    (cond (whole n (between img 2072 end) && entriesOk img (twoWay img) (end + 16 * n) (placedFrom img end n 2072))
+    (cond (countsMatch img (tallied (replicate 256 0) (entriesIn n (between img 2072 end))))
+    (cond (eqb back (backIn (modeIn img) (backSize (entriesIn n (between img 2072 end)))))
+    (cond (twoWay img) (linksCounted img (end + 16 * n) back (placedFrom img end n 2072)) true)
+    false) false) false) false
+
+-- and the head; n is the number that opening answers
+pub record Checked (img : List ℕ) (n : ℕ) : Type 0 where
+  pub opened : opening img ≡ value n
+  pub size : word img 4 ≡ length img
+  pub flag : word img 8 ≤ 1
+  pub room : headSize + (16 * n + 4 * backSizeAt img) ≤ length img
+  pub back-offset : backOffsetAt img ≡ cond (eqb (backSizeAt img) 0) 0 (endIn img n + 16 * n)
+  pub wholes : whole n (areaIn img n) ≡ true
+  pub back-size : backSizeAt img ≡ backIn (modeIn img) (backSize (entriesOf img n))
+  pub rows : rowsOk img (endIn img n) 0 256 ≡ true
+  pub counts : countsMatch img (tallied (replicate 256 0) (entriesOf img n)) ≡ true
+  pub entries : entriesOk img (twoWay img) (endIn img n + 16 * n) (placed headSize (entriesOf img n)) ≡ true
+  pub links :
+      cond (twoWay img)
+      (linksCounted img (endIn img n + 16 * n) (backSizeAt img) (placed headSize (entriesOf img n))) true
+      ≡ true

@@ -1,0 +1,2 @@
+-- Worked examples of the rules.
+pub mod Rows
