@@ -25,7 +25,7 @@ use Rattle.canonical.proofs.Concatenation.{getD-bucketsAt, length-bucke
 pub record Opens (img : List ℕ) : Type 0 where
   pub long : 2072 ≤ length img
   pub letters : hasLetters img ≡ true
-  pub probeSequence : word img 12 ≡ 0x62445371
+  pub order : word img 12 ≡ 0x62445371
   pub tables : someLeaves img 0 256 ≡ false
 
 pub opens : (img : List ℕ) (n : ℕ) → opening img ≡ value n → Opens img
@@ -42,7 +42,7 @@ opens img n e =
     go false p true q false r d s rest e = let z : _≡_ {A = ℕ} 0 1 = cc in absurd (omega arith)
     go false p true q true r true s rest e = let z : _≡_ {A = ℕ} 0 1 = cc in absurd (omega arith)
     go false p true q true r false s rest e =
-        record { long = ltb-false (length img) 2072 p; letters = q; probeSequence = eqb-true (word img 12) 0x62445371 r; tables = s }
+        record { long = ltb-false (length img) 2072 p; letters = q; order = eqb-true (word img 12) 0x62445371 r; tables = s }
 
 none-leaves : (img : List ℕ) (t m k : ℕ) → someLeaves img t m ≡ false → t ≤ k → k < t + m → 0 < tableAt img k
     → tableAt img k + 8 * bucketNumber img k ≤ length img
