@@ -19,8 +19,8 @@ use Rattle.image.proofs.Bools.{or-false-first, or-false-second}
 use Rattle.image.proofs.Sizes.{entriesSize-append}
 use Rattle.packed.specs.Names.{namesFrom, names, invalidEnds, nth, beginOf}
 use Rattle.packed.proofs.NameEnds.{length-names}
-use Rattle.serialize.specs.Finish.{standing}
-use Rattle.serialize.specs.steps.Asked.{Standing}
+use Rattle.serialize.specs.Serialize.{storedEntries}
+use Rattle.serialize.specs.steps.Preconditions.{ClosePrecondition}
 use Rattle.writer.specs.declared.Repeats.{Repeats}
 use Rattle.writer.specs.declared.Repeats.the-variants.{Off, On}
 use Rattle.writer.specs.declared.CQDBWriter.{CQDBWriter}
@@ -346,10 +346,10 @@ module _ (mode : Mode) (buffer bytes ends ids : List ℕ) (good : invalidEnds (l
           ids = entries-back (names bytes ends) ids (2 ^ 32) (λ i h. words i (omega arith));
         }
 
-    pub standing-all : standing buf (entriesEnd (entriesListed (names bytes ends) ids)) (length ends) ≡ entriesListed (names bytes ends) ids
+    pub standing-all : storedEntries buf (entriesEnd (entriesListed (names bytes ends) ids)) (length ends) ≡ entriesListed (names bytes ends) ids
     standing-all = written-recorded mode On (length buffer) all (stateWith writer counts buf) written-all
 
-    pub stands-all : Standing mode (entriesEnd (entriesListed (names bytes ends) ids)) (length ends) (backSizeOf mode (entriesListed (names bytes ends) ids)) counts buf
+    pub stands-all : ClosePrecondition mode (entriesEnd (entriesListed (names bytes ends) ids)) (length ends) (backSizeOf mode (entriesListed (names bytes ends) ids)) counts buf
     stands-all =
         let s = stateWith writer counts buf in
         let ok = closable s (close-accepted mode On (length buffer) all s written-all) in

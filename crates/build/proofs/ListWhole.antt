@@ -13,9 +13,9 @@ use Rattle.image.specs.declared.Mode.{Mode}
 use Rattle.image.proofs.Sizes.{backIn-twice}
 use Rattle.packed.specs.Names.{names, invalidEnds}
 use Rattle.packed.proofs.NameEnds.{length-names}
-use Rattle.serialize.specs.Finish.{standing, finishedBuffer}
+use Rattle.serialize.specs.Serialize.{storedEntries, serialized}
 use Rattle.serialize.specs.Record.{finishedOf}
-use Rattle.serialize.specs.steps.Asked.{Standing, TablesAtHand, LinksStand}
+use Rattle.serialize.specs.steps.Preconditions.{PrecomputedTables, PrecomputedPre}
 use Rattle.build.specs.steps.Capacity.{largestTo, RoomForAll}
 use Rattle.build.specs.steps.Steps.{entriesListed}
 use Rattle.packed.proofs.NameEnds.{begin-later}
@@ -111,31 +111,31 @@ module _ (mode : Mode) (buffer bytes ends ids : List ℕ) (good : invalidEnds (l
 
   module _ (counts buf : List ℕ) (long : length buf ≡ length buffer) (area : between buf headSize (entriesEnd (entriesListed (names bytes ends) ids)) ≡ cat entryBytes (entriesListed (names bytes ends) ids))
       (known : (t : ℕ) → t < 256 → getD counts t 0 ≡ count t (placed headSize (entriesListed (names bytes ends) ids))) (tables : length counts ≡ 256) where
-    is-standing : standing buf (entriesEnd es) (length ends) ≡ es
+    is-standing : storedEntries buf (entriesEnd es) (length ends) ≡ es
     is-standing = standing-all mode buffer bytes ends ids good many roomy words counts buf long area known tables
 
     pub asked : (end back : ℕ) → end ≡ entriesEnd (entriesListed (names bytes ends) ids) → back ≡ backSizeOf mode (entriesListed (names bytes ends) ids)
-        → (table-words : List ℕ) → ((qs : List Entry) → map (λ (e : Entry). e .name) qs ≡ names bytes ends → TablesAtHand table-words qs)
+        → (table-words : List ℕ) → ((qs : List Entry) → map (λ (e : Entry). e .name) qs ≡ names bytes ends → PrecomputedTables table-words qs)
         → between buf (entriesEnd (entriesListed (names bytes ends) ids) + 16 * length ends) (imageSize mode (entriesListed (names bytes ends) ids))
         ≡ backWords (placed headSize (entriesListed (names bytes ends) ids)) (backSizeOf mode (entriesListed (names bytes ends) ids))
-        → Standing mode end (length ends) back counts buf
-        × TablesAtHand table-words (standing buf end (length ends))
-        × LinksStand mode end (length ends) back buf
+        → PrecomputedPre mode end (length ends) back counts table-words buf
     asked end back e f table-words told linked =
-        subst (λ (o : ℕ). Standing mode o (length ends) back counts buf × TablesAtHand table-words (standing buf o (length ends)) × LinksStand mode o (length ends) back buf) (sym e)
-        (subst (λ (b : ℕ). Standing mode (entriesEnd es) (length ends) b counts buf × TablesAtHand table-words (standing buf (entriesEnd es) (length ends)) × LinksStand mode (entriesEnd es) (length ends) b buf) (sym f) (
-          stands-all mode buffer bytes ends ids good many roomy words counts buf long area known tables,
-          told (standing buf (entriesEnd es) (length ends)) (ap (map (λ (e : Entry). e .name)) is-standing ∙ names-all bytes ends ids good many),
-          ap (between buf (entriesEnd es + 16 * length ends)) finished-is
+        subst (λ (o : ℕ). PrecomputedPre mode o (length ends) back counts table-words buf) (sym e)
+        (subst (λ (b : ℕ). PrecomputedPre mode (entriesEnd es) (length ends) b counts table-words buf) (sym f)
+        (record {
+          closable = stands-all mode buffer bytes ends ids good many roomy words counts buf long area known tables;
+          tables = told (storedEntries buf (entriesEnd es) (length ends)) (ap (map (λ (e : Entry). e .name)) is-standing ∙ names-all bytes ends ids good many);
+          back-array =
+              ap (between buf (entriesEnd es + 16 * length ends)) finished-is
               ∙ linked
-              ∙ ap₂ (λ (qs : List Entry) (k : ℕ). backWords (placed headSize qs) k) (sym is-standing) (sym (backIn-twice mode (backSize es))),
-        ))
+              ∙ ap₂ (λ (qs : List Entry) (k : ℕ). backWords (placed headSize qs) k) (sym is-standing) (sym (backIn-twice mode (backSize es)));
+        }))
 
     pub left-image : (end back : ℕ) → end ≡ entriesEnd (entriesListed (names bytes ends) ids) → back ≡ backSizeOf mode (entriesListed (names bytes ends) ids)
         → drop (imageSize mode (entriesListed (names bytes ends) ids)) buf ≡ drop (imageSize mode (entriesListed (names bytes ends) ids)) buffer → (l : List ℕ)
-        → l ≡ finishedBuffer mode end (length ends) back buf → l ≡ image mode es ++ drop (imageSize mode es) buffer
+        → l ≡ serialized mode end (length ends) back buf → l ≡ image mode es ++ drop (imageSize mode es) buffer
     left-image end back e f behind l g =
         g
-        ∙ ap₂ (λ (o b : ℕ). finishedBuffer mode o (length ends) b buf) e f
+        ∙ ap₂ (λ (o b : ℕ). serialized mode o (length ends) b buf) e f
         ∙ ap₂ (λ (qs : List Entry) (k : ℕ). image mode qs ++ drop k buf) is-standing finished-is
         ∙ ap (λ (r : List ℕ). image mode es ++ r) behind

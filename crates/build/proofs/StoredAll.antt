@@ -17,10 +17,10 @@ use Rattle.image.proofs.Sizes.{length-entryBytes, length-entries, entriesSize-a
 use Rattle.image.proofs.Between.{length-between}
 use Rattle.image.proofs.AllOfList.{all-middle}
 use Rattle.image.proofs.EntryAt.{ids-below}
-use Rattle.serialize.specs.steps.Insertion.{withLink}
-use Rattle.serialize.proofs.Partial.{zeros-links}
-use Rattle.serialize.proofs.OneMore.{links-more}
-use Rattle.serialize.proofs.Turn.{store-in, nextOf, placed-more, next-at}
+use Rattle.serialize.specs.steps.Insertion.{backStored}
+use Rattle.serialize.proofs.PartialImage.{zeros-links}
+use Rattle.serialize.proofs.EntryAdded.{links-more}
+use Rattle.serialize.proofs.InsertStep.{store-in, nextOf, placed-more, next-at}
 use Rattle.packed.specs.Names.{names, nth, beginOf}
 use Rattle.packed.proofs.NameEnds.{length-names, nth-name}
 use Rattle.writer.specs.Put.{entryOf}
@@ -155,7 +155,7 @@ module _ (mode : Mode) (es : List Entry) (buf₀ buf : List ℕ) (s : Storing mo
 
 -- the link of an entry, behind what stands before the back array at `at`
 linked-at : (mode : Mode) (n at : ℕ) (rs : List Placed) (p : Placed) (front tail : List ℕ) → length front ≡ at → p .entry .id < n
-    → withLink mode (front ++ backWords rs (backIn mode n) ++ tail) at (p .entry .id) (p .at) ≡ front ++ backWords (rs ++ p ∷ []) (backIn mode n) ++ tail
+    → backStored mode (front ++ backWords rs (backIn mode n) ++ tail) at (p .entry .id) (p .at) ≡ front ++ backWords (rs ++ p ∷ []) (backIn mode n) ++ tail
 unfolding backWords range cat
 linked-at Twoway n at rs p front tail e h =
     let i = p .entry .id in
@@ -187,7 +187,7 @@ module _ (mode : Mode) (es qs rest : List Entry) (e : Entry) (split : es ≡ qs 
   link-within = let h = id-below in let k = back-most mode (e .id + 1) (backSize es) (omega arith) in omega arith
 
   turn : (buf₀ b b1 b2 : List ℕ) (o at : ℕ) → Storing mode es qs buf₀ b → o ≡ headSize + entriesSize qs → at ≡ entriesEnd es + 16 * length es
-      → b1 ≡ sets b o (entryBytes e) → b2 ≡ withLink mode b1 at (e .id) o → Storing mode es (qs ++ e ∷ []) buf₀ b2
+      → b1 ≡ sets b o (entryBytes e) → b2 ≡ backStored mode b1 at (e .id) o → Storing mode es (qs ++ e ∷ []) buf₀ b2
   turn buf₀ b b1 b2 o at s eo ea p q =
       let v = entryBytes e in
       let H = s .head in
@@ -215,7 +215,7 @@ module _ (mode : Mode) (es qs rest : List Entry) (e : Entry) (split : es ≡ qs 
         long = s .long;
         left = left;
         is =
-            q ∙ ap₂ (λ (l : List ℕ) (k : ℕ). withLink mode l at (e .id) k) one eo
+            q ∙ ap₂ (λ (l : List ℕ) (k : ℕ). backStored mode l at (e .id) k) one eo
             ∙ linked-at mode (backSize es) at (placed headSize qs) (nextOf qs e) F T front id-below
             ∙ ap (λ (l : List Placed). F ++ backWords l n ++ T) (sym (placed-more qs e));
       }
@@ -260,7 +260,7 @@ module _ (mode : Mode) (xs : List (List ℕ)) (ids : List ℕ) (i : ℕ) (many :
 
   pub storing-turn : (buf₀ b b1 b2 : List ℕ) (o at : ℕ) → Storing mode (entriesListed xs ids) (take i (entriesListed xs ids)) buf₀ b
       → o ≡ headSize + entriesSize (take i (entriesListed xs ids)) → at ≡ entriesEnd (entriesListed xs ids) + 16 * length (entriesListed xs ids)
-      → b1 ≡ sets b o (entryBytes (entryOf (nth xs i) (getD ids i 0))) → b2 ≡ withLink mode b1 at (getD ids i 0) o
+      → b1 ≡ sets b o (entryBytes (entryOf (nth xs i) (getD ids i 0))) → b2 ≡ backStored mode b1 at (getD ids i 0) o
       → Storing mode (entriesListed xs ids) (take (i + 1) (entriesListed xs ids)) buf₀ b2
   unfolding es e
   storing-turn buf₀ b b1 b2 o at s eo ea p q =
@@ -333,7 +333,7 @@ module _ (mode : Mode) (bytes ends ids buf₀ : List ℕ) (at : ℕ) (many : len
         record { entry = omega arith; small = omega arith; link = omega arith }
 
     pub along-turn : (b1 b2 : List ℕ) → b1 ≡ sets b o (entryBytes (entryOf (between bytes start (getD ends i 0)) (getD ids i 0)))
-        → b2 ≡ withLink mode b1 at (getD ids i 0) o
+        → b2 ≡ backStored mode b1 at (getD ids i 0) o
         → Along mode (entriesListed (names bytes ends) ids) buf₀ b2 (i + 1) (o + (length (between bytes start (getD ends i 0)) + 9))
     along-turn b1 b2 p q =
         record {

@@ -4,7 +4,7 @@ ghost use mathlib.Core.Path.{_≡_};
 ghost use Prim.Native.Nat.{_+_, _*_, _≤_};
 ghost use lib.ListN.{length};
 ghost use Rattle.image.specs.Image.{backIn};
-ghost use Rattle.serialize.specs.steps.Insertion.{withLink};
+ghost use Rattle.serialize.specs.steps.Insertion.{backStored};
 ghost use Rattle.build.specs.steps.Stores.{StoreListPre, StoreListPost, WriteListPre, WriteListPost};
 use super::capacity::largest;
 use image::Mode;
@@ -14,7 +14,7 @@ use writer::entry::store;
 // The link of an id, for which the back array at `links` has room; a one-way image has none.
 fn store_link(mode: Mode, buf: &mut [u8], links: usize, id: u32, at: u32)
     requires { ⌜ links + 4 * backIn mode (id + 1) ≤ length (now buf) ⌝ }
-    ensures { λ _. ⌜ now (buf .exit) ≡ withLink mode (now (buf .entry)) links id at ⌝ }
+    ensures { λ _. ⌜ now (buf .exit) ≡ backStored mode (now (buf .entry)) links id at ⌝ }
 {
     match mode {
         Mode::Twoway => store_word(&mut *buf, links + 4 * (id as usize), at),

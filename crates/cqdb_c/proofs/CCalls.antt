@@ -1,5 +1,5 @@
--- The writing calls as C has them: a mode or a repeats mode above 1 changes nothing; with modes of 01's and 02's, what the writer's calls promise. Assumes
--- nothing.
+-- The writing calls as C has them: a mode or a repeats mode above 1 changes nothing; with modes of 01's and 02's,
+-- what the writer's calls promise. Assumes nothing.
 use Prim.Native.Nat.{ℕ}
 use mathlib.Core.Path.{_≡_, refl, ap, ap₂, _∙_}
 use mathlib.Core.Bool.{Bool, true, false, cond}
@@ -17,14 +17,14 @@ use Rattle.writer.specs.Put.{putRefusal, appended, afterPut}
 use Rattle.writer.specs.Close.{closing, closeRefusal, closedSize, closed, afterClose}
 use Rattle.writer.specs.declared.c_record.Record.{Record}
 use Rattle.writer.specs.Numbers.{known, modeOf, repeatsOf}
-use Rattle.writer.specs.CRecord.{writerOf, recordOf, Held, held, knownIn, stateOf, heldOf}
+use Rattle.writer.specs.CRecord.{writerOf, recordOf, CState, cState, knownIn, stateOf, cStateOf}
 use Rattle.writer.proofs.CRecords.{back-and-forth}
-use Rattle.cqdb_c.specs.Writing.{Lent, lent, numbersOf, sizesOf, beginningHeld, numberIn, lentIn, leftByBegin, putNumber, leftByPut, closingHeld, refusalIn, sizeIn, leftByClose}
+use Rattle.cqdb_c.specs.Writing.{Lent, lent, numbersOf, sizesOf, beginningOf, numberIn, lentIn, leftByBegin, putNumber, leftByPut, closingOf, refusalIn, sizeIn, leftByClose}
 
 -- begin with a mode or a repeats mode above 1
 pub begin-unknown : (mode repeats n : ℕ) (l : Lent) → known mode repeats ≡ false
-    → (2 ≡ numberIn (beginningHeld mode repeats n)) × (l ≡ leftByBegin mode repeats n l)
-unfolding beginningHeld leftByBegin
+    → (2 ≡ numberIn (beginningOf mode repeats n)) × (l ≡ leftByBegin mode repeats n l)
+unfolding beginningOf leftByBegin
 begin-unknown mode repeats n l over = rw over (refl, refl)
 
 -- what the code leaves where the writer's begin answers b and leaves the counts after
@@ -35,8 +35,8 @@ stored (refusal k) l after = lent (l .numbers) (l .sizes) after
 -- begin with known ones: b is what the writer's begin answers, and after the counts that it leaves
 pub begin-known : (mode repeats n : ℕ) (l : Lent) (after : List ℕ) (m : Mode) (r : Repeats) (b : Outcome CQDBWriter) →
     known mode repeats ≡ true → m ≡ modeOf mode → r ≡ repeatsOf repeats → b ≡ beginning m r n → after ≡ countsBegun n (l .counts) →
-    (numberIn b ≡ numberIn (beginningHeld mode repeats n)) × (stored b l after ≡ leftByBegin mode repeats n l)
-unfolding beginningHeld leftByBegin beginning countsBegun
+    (numberIn b ≡ numberIn (beginningOf mode repeats n)) × (stored b l after ≡ leftByBegin mode repeats n l)
+unfolding beginningOf leftByBegin beginning countsBegun
 begin-known mode repeats n l after m r b fine f g e left =
     let is : b ≡ beginning (modeOf mode) (repeatsOf repeats) n = e ∙ ap₂ (λ (x : Mode) (y : Repeats). beginning x y n) f g in
     rw fine (
@@ -52,92 +52,92 @@ begin-known mode repeats n l after m r b fine f g e left =
     same false = refl
 
 -- put with a record that is none of 01's
-pub put-unknown : (h : Held) (e : Entry) → knownIn h ≡ false → (2 ≡ putNumber h e) × (h ≡ leftByPut h e)
+pub put-unknown : (h : CState) (e : Entry) → knownIn h ≡ false → (2 ≡ putNumber h e) × (h ≡ leftByPut h e)
 unfolding putNumber leftByPut
 put-unknown h e over = rw over (refl, refl)
 
 -- put with one of 01's: the writer's record v goes in, w' comes back
-pub put-known : (h : Held) (e : Entry) (v w' : CQDBWriter) (r : Record) (counts buffer : List ℕ) (k : ℕ) →
+pub put-known : (h : CState) (e : Entry) (v w' : CQDBWriter) (r : Record) (counts buffer : List ℕ) (k : ℕ) →
     knownIn h ≡ true → v ≡ writerOf (h .writer) →
     k ≡ putRefusal (stateWith v (h .counts) (h .buffer)) e →
     stateWith w' counts buffer ≡ afterPut (stateWith v (h .counts) (h .buffer)) e →
     r ≡ recordOf w' →
-    (k ≡ putNumber h e) × (held r counts buffer ≡ leftByPut h e)
+    (k ≡ putNumber h e) × (cState r counts buffer ≡ leftByPut h e)
 unfolding putNumber leftByPut
 put-known h e v w' r counts buffer k fine is answer leaves back =
     let same : stateWith v (h .counts) (h .buffer) ≡ stateOf h = ap (λ (w : CQDBWriter). stateWith w (h .counts) (h .buffer)) is in
     rw fine (
       answer ∙ ap (λ (s : State). putRefusal s e) same,
-      ap (λ (x : Record). held x counts buffer) back ∙ ap heldOf (leaves ∙ ap (λ (s : State). afterPut s e) same),
+      ap (λ (x : Record). cState x counts buffer) back ∙ ap cStateOf (leaves ∙ ap (λ (s : State). afterPut s e) same),
     )
 
 -- close with a record that is none of 01's
-pub close-unknown : (h : Held) → knownIn h ≡ false →
-    ((2 ≡ refusalIn (closingHeld h)) × (0 ≡ sizeIn (closingHeld h))) × (h ≡ leftByClose h)
-unfolding closingHeld leftByClose
-close-unknown h over = rw over ((refl, refl), refl)
+pub close-unknown : (h : CState) → knownIn h ≡ false →
+    (2 ≡ refusalIn (closingOf h)) × ((0 ≡ sizeIn (closingOf h)) × (h ≡ leftByClose h))
+unfolding closingOf leftByClose
+close-unknown h over = rw over (refl, (refl, refl))
 
 -- close with one of 01's: the writer's record v goes in, w' comes back, and d is what the writer's close answers
-pub close-known : (h : Held) (v w' : CQDBWriter) (r : Record) (buffer : List ℕ) (d : Outcome ℕ) (k n : ℕ) →
+pub close-known : (h : CState) (v w' : CQDBWriter) (r : Record) (buffer : List ℕ) (d : Outcome ℕ) (k n : ℕ) →
     knownIn h ≡ true → v ≡ writerOf (h .writer) →
     d ≡ closing (stateWith v (h .counts) (h .buffer)) →
     stateWith w' (h .counts) buffer ≡ afterClose (stateWith v (h .counts) (h .buffer)) →
     k ≡ refusalIn d → n ≡ sizeIn d → r ≡ recordOf w' →
-    ((k ≡ refusalIn (closingHeld h)) × (n ≡ sizeIn (closingHeld h))) × (held r (h .counts) buffer ≡ leftByClose h)
-unfolding closingHeld leftByClose
+    (k ≡ refusalIn (closingOf h)) × ((n ≡ sizeIn (closingOf h)) × (cState r (h .counts) buffer ≡ leftByClose h))
+unfolding closingOf leftByClose
 close-known h v w' r buffer d k n fine is answer leaves number told back =
     let same : stateWith v (h .counts) (h .buffer) ≡ stateOf h = ap (λ (w : CQDBWriter). stateWith w (h .counts) (h .buffer)) is in
     let d-is : d ≡ closing (stateOf h) = answer ∙ ap closing same in
     rw fine (
-      (number ∙ ap refusalIn d-is, told ∙ ap sizeIn d-is),
-      ap (λ (x : Record). held x (h .counts) buffer) back ∙ ap heldOf (leaves ∙ ap afterClose same),
+      number ∙ ap refusalIn d-is,
+      (told ∙ ap sizeIn d-is, ap (λ (x : Record). cState x (h .counts) buffer) back ∙ ap cStateOf (leaves ∙ ap afterClose same)),
     )
 
 -- no refusal changes the record, the counts or a byte: begin
-pub begin-refused : (mode repeats n : ℕ) (l : Lent) → (numberIn (beginningHeld mode repeats n) ≡ 0 → ⊥) → leftByBegin mode repeats n l ≡ l
+pub begin-refused : (mode repeats n : ℕ) (l : Lent) → (numberIn (beginningOf mode repeats n) ≡ 0 → ⊥) → leftByBegin mode repeats n l ≡ l
 unfolding leftByBegin
-begin-refused mode repeats n l = go (beginningHeld mode repeats n)
+begin-refused mode repeats n l = go (beginningOf mode repeats n)
   where
     go : (b : Outcome CQDBWriter) → (numberIn b ≡ 0 → ⊥) → lentIn b l ≡ l
     go (value w) refused = absurd (refused refl)
     go (refusal k) refused = refl
 
 -- put
-pub put-refused : (h : Held) (e : Entry) → (putNumber h e ≡ 0 → ⊥) → leftByPut h e ≡ h
+pub put-refused : (h : CState) (e : Entry) → (putNumber h e ≡ 0 → ⊥) → leftByPut h e ≡ h
 unfolding putNumber leftByPut afterPut
 put-refused h e = go (knownIn h) refl
   where
-    go : (t : Bool) → knownIn h ≡ t → (cond t (putRefusal (stateOf h) e) 2 ≡ 0 → ⊥) → cond t (heldOf (afterPut (stateOf h) e)) h ≡ h
+    go : (t : Bool) → knownIn h ≡ t → (cond t (putRefusal (stateOf h) e) 2 ≡ 0 → ⊥) → cond t (cStateOf (afterPut (stateOf h) e)) h ≡ h
     go true fine refused =
-        ap (λ (b : Bool). heldOf (cond b (appended (stateOf h) e) (stateOf h))) (ne-eqb (putRefusal (stateOf h) e) 0 refused)
+        ap (λ (b : Bool). cStateOf (cond b (appended (stateOf h) e) (stateOf h))) (ne-eqb (putRefusal (stateOf h) e) 0 refused)
         ∙ back-and-forth h fine
     go false over refused = refl
 
 -- and close
-pub close-refused : (h : Held) → (refusalIn (closingHeld h) ≡ 0 → ⊥) → leftByClose h ≡ h
-unfolding closingHeld leftByClose closing afterClose
+pub close-refused : (h : CState) → (refusalIn (closingOf h) ≡ 0 → ⊥) → leftByClose h ≡ h
+unfolding closingOf leftByClose closing afterClose
 close-refused h = go (knownIn h) refl
   where
-    go : (t : Bool) → knownIn h ≡ t → (refusalIn (cond t (closing (stateOf h)) (refusal 2)) ≡ 0 → ⊥) → cond t (heldOf (afterClose (stateOf h))) h ≡ h
+    go : (t : Bool) → knownIn h ≡ t → (refusalIn (cond t (closing (stateOf h)) (refusal 2)) ≡ 0 → ⊥) → cond t (cStateOf (afterClose (stateOf h))) h ≡ h
     go true fine refused = by (eqb (closeRefusal (stateOf h)) 0) refused ∙ back-and-forth h fine
       where
         by : (b : Bool) → (refusalIn (cond b (value (closedSize (stateOf h))) (refusal (closeRefusal (stateOf h)))) ≡ 0 → ⊥) →
-            heldOf (cond b (closed (stateOf h)) (stateOf h)) ≡ heldOf (stateOf h)
+            cStateOf (cond b (closed (stateOf h)) (stateOf h)) ≡ cStateOf (stateOf h)
         by true never = absurd (never refl)
         by false never = refl
     go false over refused = refl
 
 -- close hands back the record that it was lent, and the counts
-pub close-keeps : (h : Held) → (leftByClose h .writer ≡ h .writer) × (leftByClose h .counts ≡ h .counts)
+pub close-keeps : (h : CState) → (leftByClose h .writer ≡ h .writer) × (leftByClose h .counts ≡ h .counts)
 unfolding leftByClose afterClose closed
 close-keeps h = go (knownIn h) refl
   where
     kept : knownIn h ≡ true → (b : Bool) →
-        (heldOf (cond b (closed (stateOf h)) (stateOf h)) .writer ≡ h .writer) × (heldOf (cond b (closed (stateOf h)) (stateOf h)) .counts ≡ h .counts)
-    kept fine true = (ap (λ (x : Held). x .writer) (back-and-forth h fine), refl)
-    kept fine false = (ap (λ (x : Held). x .writer) (back-and-forth h fine), refl)
+        (cStateOf (cond b (closed (stateOf h)) (stateOf h)) .writer ≡ h .writer) × (cStateOf (cond b (closed (stateOf h)) (stateOf h)) .counts ≡ h .counts)
+    kept fine true = (ap (λ (x : CState). x .writer) (back-and-forth h fine), refl)
+    kept fine false = (ap (λ (x : CState). x .writer) (back-and-forth h fine), refl)
 
     go : (t : Bool) → knownIn h ≡ t →
-        (cond t (heldOf (afterClose (stateOf h))) h .writer ≡ h .writer) × (cond t (heldOf (afterClose (stateOf h))) h .counts ≡ h .counts)
+        (cond t (cStateOf (afterClose (stateOf h))) h .writer ≡ h .writer) × (cond t (cStateOf (afterClose (stateOf h))) h .counts ≡ h .counts)
     go true fine = kept fine (eqb (closeRefusal (stateOf h)) 0)
     go false over = (refl, refl)

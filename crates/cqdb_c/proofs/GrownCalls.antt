@@ -8,7 +8,7 @@ use Rattle.writer.specs.declared.CQDBWriter.{CQDBWriter}
 use Rattle.writer.specs.Grown.{withLength, grownRefusal, grownWriter}
 use Rattle.writer.specs.declared.c_record.Record.{Record}
 use Rattle.writer.specs.Numbers.{known}
-use Rattle.writer.specs.CRecord.{writerOf, recordOf, Held, held}
+use Rattle.writer.specs.CRecord.{writerOf, recordOf, CState, cState}
 use Rattle.cqdb_c.specs.Grown.{grownNumber, recordGrown}
 use Rattle.writer.proofs.CRecords.{back-and-forth}
 
@@ -34,6 +34,6 @@ grown-refused r n = go (known (r .mode) (r .repeats)) refl (ltb n (r .length))
   where
     go : (t : Bool) → known (r .mode) (r .repeats) ≡ t → (b : Bool) → (_≡_ {A = ℕ} (cond t (cond b 2 0) 2) 0 → ⊥)
         → cond t (recordOf (cond b (writerOf r) (withLength (writerOf r) n))) r ≡ r
-    go true fine true refused = ap (λ (h : Held). h .writer) (back-and-forth (held r [] []) fine)
+    go true fine true refused = ap (λ (h : CState). h .writer) (back-and-forth (cState r [] []) fine)
     go true fine false refused = absurd (refused refl)
     go false over b refused = refl

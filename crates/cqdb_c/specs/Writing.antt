@@ -1,5 +1,5 @@
--- The exported writing calls: each rule's answer as numbers, and what it leaves. A record with a mode or a repeats mode that is neither 0 nor 1 fits no
--- buffer: refusal 2, and nothing changes. Assumes nothing.
+-- The exported writing calls: each rule's answer as numbers, and what it leaves. A record with a mode or a repeats
+-- mode that is neither 0 nor 1 fits no buffer: refusal 2, and nothing changes. Assumes nothing.
 use Prim.Native.Nat.{ℕ}
 use mathlib.Core.Bool.{cond}
 use mathlib.Core.List.{List, [], _∷_}
@@ -12,7 +12,7 @@ use Rattle.writer.specs.Put.{putRefusal, afterPut}
 use Rattle.writer.specs.Close.{closing, afterClose}
 use Rattle.writer.specs.declared.c_record.Record.{Record}
 use Rattle.writer.specs.Numbers.{known, modeOf, repeatsOf}
-use Rattle.writer.specs.CRecord.{recordOf, Held, knownIn, stateOf, heldOf}
+use Rattle.writer.specs.CRecord.{recordOf, CState, knownIn, stateOf, cStateOf}
 
 -- C's writer, lent in place: the record's numbers (mode, repeats, entries, back size) and sizes (length, end), and the table counts
 pub record Lent : Type 0 where
@@ -31,8 +31,8 @@ abbrev pub sizesOf : Record → List ℕ
 sizesOf r = r .length ∷ r .end ∷ []
 
 -- the rule of begin for a buffer of n bytes: a fresh record, or a refusal
-unfoldable pub beginningHeld : ℕ → ℕ → ℕ → Outcome CQDBWriter
-beginningHeld mode repeats n = cond (known mode repeats) (beginning (modeOf mode) (repeatsOf repeats) n) (refusal 2)
+unfoldable pub beginningOf : ℕ → ℕ → ℕ → Outcome CQDBWriter
+beginningOf mode repeats n = cond (known mode repeats) (beginning (modeOf mode) (repeatsOf repeats) n) (refusal 2)
 
 abbrev pub numberIn : Outcome CQDBWriter → ℕ
 numberIn (value w) = 0
@@ -44,18 +44,18 @@ lentIn (value w) l = lent (numbersOf (recordOf w)) (sizesOf (recordOf w)) (repli
 lentIn (refusal k) l = l
 
 unfoldable pub leftByBegin : ℕ → ℕ → ℕ → Lent → Lent
-leftByBegin mode repeats n l = lentIn (beginningHeld mode repeats n) l
+leftByBegin mode repeats n l = lentIn (beginningOf mode repeats n) l
 
 -- the rule of put: the refusal's number, 0 when accepted; and what put leaves
-unfoldable pub putNumber : Held → Entry → ℕ
+unfoldable pub putNumber : CState → Entry → ℕ
 putNumber h e = cond (knownIn h) (putRefusal (stateOf h) e) 2
 
-unfoldable pub leftByPut : Held → Entry → Held
-leftByPut h e = cond (knownIn h) (heldOf (afterPut (stateOf h) e)) h
+unfoldable pub leftByPut : CState → Entry → CState
+leftByPut h e = cond (knownIn h) (cStateOf (afterPut (stateOf h) e)) h
 
 -- the rule of close: the image's size or the refusal's number, each 0 where it is the other; and what close leaves
-unfoldable pub closingHeld : Held → Outcome ℕ
-closingHeld h = cond (knownIn h) (closing (stateOf h)) (refusal 2)
+unfoldable pub closingOf : CState → Outcome ℕ
+closingOf h = cond (knownIn h) (closing (stateOf h)) (refusal 2)
 
 abbrev pub refusalIn : Outcome ℕ → ℕ
 refusalIn (value n) = 0
@@ -65,5 +65,5 @@ abbrev pub sizeIn : Outcome ℕ → ℕ
 sizeIn (value n) = n
 sizeIn (refusal k) = 0
 
-unfoldable pub leftByClose : Held → Held
-leftByClose h = cond (knownIn h) (heldOf (afterClose (stateOf h))) h
+unfoldable pub leftByClose : CState → CState
+leftByClose h = cond (knownIn h) (cStateOf (afterClose (stateOf h))) h

@@ -10,9 +10,9 @@ ghost use Rattle.consistency.specs.Home.{home};
 ghost use Rattle.reader.specs.Cases.{namingOf};
 ghost use Rattle.cqdb_c.specs.ReadAnswers.{placeAnswerOf, oneIf};
 
-// 1 and the place of the name in the image, its length and its first byte's offset; or three zeros. The length is below
-// 2^32, since it is an entry's length word minus 1; the offset may lie above. So the answer has 16 bytes, which C hands back
-// in two registers.
+// 1 and the place of the name in the image, its length and its first byte's offset; or three zeros. The length is
+// below 2^32, since it is an entry's length word minus 1; the offset may lie above. So the answer has 16 bytes, which
+// C hands back in two registers.
 #[repr(C)]
 pub struct PlaceAnswer {
     pub found: u32,

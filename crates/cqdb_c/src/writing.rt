@@ -1,5 +1,5 @@
-// Writing, for C: the record goes in and comes back by value, the 256 table counts and the buffer are lent. A record whose
-// mode or repeats mode is neither 0 nor 1 is none of 01's and fits no buffer.
+// Writing, for C: the record goes in and comes back by value, the 256 table counts and the buffer are lent. A record
+// whose mode or repeats mode is neither 0 nor 1 is none of 01's and fits no buffer.
 use writer::Begun;
 use writer::Closed;
 use writer::c_record::Record;
@@ -12,8 +12,8 @@ ghost use mathlib.Core.Path.{_≡_};
 ghost use lib.ListN.{length};
 ghost use Rattle.writer.specs.Put.{entryOf};
 ghost use Rattle.writer.specs.Close.{closedOf};
-ghost use Rattle.writer.specs.CRecord.{held};
-ghost use Rattle.cqdb_c.specs.Writing.{beginningHeld, numberIn, lent, leftByBegin, putNumber, leftByPut, closingHeld, refusalIn, sizeIn, leftByClose};
+ghost use Rattle.writer.specs.CRecord.{cState};
+ghost use Rattle.cqdb_c.specs.Writing.{beginningOf, numberIn, lent, leftByBegin, putNumber, leftByPut, closingOf, refusalIn, sizeIn, leftByClose};
 ghost use Rattle.cqdb_c.specs.Grown.{grownNumber, recordGrown};
 
 // What put and grown answer: the refusal's number, 0 when accepted; the record to go on with.
@@ -42,7 +42,7 @@ pub extern "C" fn cqdb_begin_parts(
     counts: &mut [u32; 256],
     buf: &[u8],
 ) -> u32
-    ensures answer { λ r. ⌜ r ≡ numberIn (beginningHeld mode repeats (length (now (buf .entry)))) ⌝ }
+    ensures answer { λ r. ⌜ r ≡ numberIn (beginningOf mode repeats (length (now (buf .entry)))) ⌝ }
     ensures leaves { λ r. ⌜
         lent (now (numbers .exit)) (now (sizes .exit)) (now (counts .exit))
         ≡ leftByBegin mode repeats (length (now (buf .entry)))
@@ -73,8 +73,13 @@ pub extern "C" fn cqdb_put_parts(
     name: &[u8],
     id: u32,
 ) -> PutAnswer
-    ensures answer { λ r. ⌜ r .refusal ≡ putNumber (held w (now (counts .entry)) (now (buf .entry))) (entryOf (now (name .entry)) id) ⌝ }
-    ensures leaves { λ r. ⌜ held (r .writer) (now (counts .exit)) (now (buf .exit)) ≡ leftByPut (held w (now (counts .entry)) (now (buf .entry))) (entryOf (now (name .entry)) id) ⌝ }
+    ensures answer { λ r. ⌜
+        r .refusal ≡ putNumber (cState w (now (counts .entry)) (now (buf .entry))) (entryOf (now (name .entry)) id)
+        ⌝ }
+    ensures leaves { λ r. ⌜
+        cState (r .writer) (now (counts .exit)) (now (buf .exit))
+        ≡ leftByPut (cState w (now (counts .entry)) (now (buf .entry))) (entryOf (now (name .entry)) id)
+        ⌝ }
 {
     if !known(w.mode, w.repeats) {
         return PutAnswer {
@@ -113,8 +118,14 @@ fn close_size(answer: Closed) -> u32
 // Writes head, tables and back array, and gives the image's size; or refusal 2 or 4.
 #[no_mangle]
 pub extern "C" fn cqdb_close_parts(w: Record, counts: &[u32; 256], buf: &mut [u8]) -> CloseAnswer
-    ensures answer { λ r. ⌜ (r .refusal ≡ refusalIn (closingHeld (held w (now (counts .entry)) (now (buf .entry))))) × (r .size ≡ sizeIn (closingHeld (held w (now (counts .entry)) (now (buf .entry))))) ⌝ }
-    ensures leaves { λ r. ⌜ held (r .writer) (now (counts .entry)) (now (buf .exit)) ≡ leftByClose (held w (now (counts .entry)) (now (buf .entry))) ⌝ }
+    ensures refusal { λ r. ⌜
+        r .refusal ≡ refusalIn (closingOf (cState w (now (counts .entry)) (now (buf .entry))))
+        ⌝ }
+    ensures size { λ r. ⌜ r .size ≡ sizeIn (closingOf (cState w (now (counts .entry)) (now (buf .entry)))) ⌝ }
+    ensures leaves { λ r. ⌜
+        cState (r .writer) (now (counts .entry)) (now (buf .exit))
+        ≡ leftByClose (cState w (now (counts .entry)) (now (buf .entry)))
+        ⌝ }
 {
     if !known(w.mode, w.repeats) {
         return CloseAnswer {

@@ -17,24 +17,24 @@ use Rattle.writer.specs.Put.{writerAfter, appended}
 use Rattle.writer.specs.Close.{afterClose}
 use Rattle.writer.specs.declared.c_record.Record.{Record}
 use Rattle.writer.specs.Numbers.{repeatsWord}
-use Rattle.writer.specs.CRecord.{writerOf, recordOf, Held, held, knownIn, stateOf, heldOf}
-use Rattle.writer.proofs.CRecords.{back-and-forth, forth-and-back, held-known}
+use Rattle.writer.specs.CRecord.{writerOf, recordOf, CState, cState, knownIn, stateOf, cStateOf}
+use Rattle.writer.proofs.CRecords.{back-and-forth, forth-and-back, cState-known}
 use Rattle.index.specs.Index.{Right, grown}
 use Rattle.index.specs.Promise.{PutIndexed, Indexed}
 use Rattle.index.proofs.RightKept.{kept-right}
 use Rattle.index_c.specs.IndexC.{recordIn, RightHeld, putIndexedNumber, leftByPutIndexed, PutIndexedHeld, indexNumber, IndexedHeld, KeptRightHeld}
 
 -- 01's state with a right index, as C has it
-held-right : (s : State) (words : List ℕ) → Right s words → RightHeld (heldOf s) words
+held-right : (s : State) (words : List ℕ) → Right s words → RightHeld (cStateOf s) words
 held-right s words right =
     record {
-      known = held-known s;
+      known = cState-known s;
       index = subst (λ (t : State). Right t words) (sym (forth-and-back s)) right;
     }
 
 -- ---- the put
 
-pub put-unknown : (h : Held) (words : List ℕ) (e : Entry) → knownIn h ≡ false → PutIndexedHeld h words e 2 h words
+pub put-unknown : (h : CState) (words : List ℕ) (e : Entry) → knownIn h ≡ false → PutIndexedHeld h words e 2 h words
 put-unknown h words e over =
     record {
       refused = λ n. (refl, refl);
@@ -44,33 +44,33 @@ put-unknown h words e over =
       right = λ right. right;
     }
 
-module _ (h : Held) (words : List ℕ) (e : Entry) (v w' : CQDBWriter) (r : Record) (counts buffer words′ : List ℕ) (k : ℕ)
+module _ (h : CState) (words : List ℕ) (e : Entry) (v w' : CQDBWriter) (r : Record) (counts buffer words′ : List ℕ) (k : ℕ)
     (fine : knownIn h ≡ true) (is : v ≡ writerOf (h .writer)) (back : r ≡ recordOf w')
     (given : PutIndexed (stateWith v (h .counts) (h .buffer)) words e k (stateWith w' counts buffer) words′) where
   p : PutIndexed (stateOf h) words e k (stateWith w' counts buffer) words′
   p = subst (λ (w : CQDBWriter). PutIndexed (stateWith w (h .counts) (h .buffer)) words e k (stateWith w' counts buffer) words′) is given
 
-  is-held : held r counts buffer ≡ heldOf (stateWith w' counts buffer)
-  is-held = ap (λ (x : Record). held x counts buffer) back
+  is-held : cState r counts buffer ≡ cStateOf (stateWith w' counts buffer)
+  is-held = ap (λ (x : Record). cState x counts buffer) back
 
   answer-is : RightHeld h words → k ≡ putIndexedNumber h words e
   unfolding putIndexedNumber
   answer-is right = rw fine (p .answer (right .index))
 
-  leaves-is : RightHeld h words → held r counts buffer ≡ leftByPutIndexed h words e
+  leaves-is : RightHeld h words → cState r counts buffer ≡ leftByPutIndexed h words e
   unfolding leftByPutIndexed
-  leaves-is right = rw fine (is-held ∙ ap heldOf (p .leaves (right .index)))
+  leaves-is right = rw fine (is-held ∙ ap cStateOf (p .leaves (right .index)))
 
-  right-is : RightHeld h words → RightHeld (held r counts buffer) words′
+  right-is : RightHeld h words → RightHeld (cState r counts buffer) words′
   right-is right =
-      subst (λ (x : Held). RightHeld x words′) (sym is-held)
+      subst (λ (x : CState). RightHeld x words′) (sym is-held)
       (held-right (stateWith w' counts buffer) words′ (p .right (right .index)))
 
-  put-known : PutIndexedHeld h words e k (held r counts buffer) words′
+  put-known : PutIndexedHeld h words e k (cState r counts buffer) words′
   put-known =
       record {
-        refused = λ n. (is-held ∙ ap heldOf (p .refused n .0) ∙ back-and-forth h fine, p .refused n .1);
-        accepted = λ z. (fine, is-held ∙ ap heldOf (p .accepted z .0), p .accepted z .1);
+        refused = λ n. (is-held ∙ ap cStateOf (p .refused n .0) ∙ back-and-forth h fine, p .refused n .1);
+        accepted = λ z. (fine, is-held ∙ ap cStateOf (p .accepted z .0), p .accepted z .1);
         answer = answer-is;
         leaves = leaves-is;
         right = right-is;
@@ -105,7 +105,7 @@ record-stored numbers sizes w four two =
     other : (j : ℕ) → (j ≡ 2 → ⊥) → (j ≡ 3 → ⊥) → getD (set (set numbers 2 (w .entries)) 3 (w .back)) j 0 ≡ getD numbers j 0
     other j x y = getD-set-other (set numbers 2 (w .entries)) 3 j (w .back) 0 y ∙ getD-set-other numbers 2 j (w .entries) 0 x
 
-module _ (h : Held) (words : List ℕ) (e : Entry) (v w' : CQDBWriter) (counts buffer words′ : List ℕ) (k : ℕ)
+module _ (h : CState) (words : List ℕ) (e : Entry) (v w' : CQDBWriter) (counts buffer words′ : List ℕ) (k : ℕ)
     (fine : knownIn h ≡ true) (is : v ≡ writerOf (h .writer))
     (given : PutIndexed (stateWith v (h .counts) (h .buffer)) words e k (stateWith w' counts buffer) words′) where
   -- mode, choice and length stay
@@ -135,7 +135,7 @@ module _ (h : Held) (words : List ℕ) (e : Entry) (v w' : CQDBWriter) (counts b
           }
 
   known-back : recordOf (writerOf (h .writer)) ≡ h .writer
-  known-back = ap (λ (x : Held). x .writer) (back-and-forth h fine)
+  known-back = ap (λ (x : CState). x .writer) (back-and-forth h fine)
 
   after-is : recordAfter (h .writer) w' ≡ recordOf w'
   after-is =
@@ -148,12 +148,12 @@ module _ (h : Held) (words : List ℕ) (e : Entry) (v w' : CQDBWriter) (counts b
         end = w' .end;
       }
 
-  pub put-stored : (r : Record) → r ≡ recordAfter (h .writer) w' → PutIndexedHeld h words e k (held r counts buffer) words′
+  pub put-stored : (r : Record) → r ≡ recordAfter (h .writer) w' → PutIndexedHeld h words e k (cState r counts buffer) words′
   put-stored r back = put-known h words e v w' r counts buffer words′ k fine is (back ∙ after-is) given
 
 -- ---- making the index
 
-pub index-unknown : (h : Held) (words : List ℕ) → knownIn h ≡ false → IndexedHeld h words 2 words
+pub index-unknown : (h : CState) (words : List ℕ) → knownIn h ≡ false → IndexedHeld h words 2 words
 unfolding indexNumber
 index-unknown h words over =
     record {
@@ -166,7 +166,7 @@ index-unknown h words over =
     is : 2 ≡ indexNumber h words
     is = rw over refl
 
-module _ (h : Held) (words words′ : List ℕ) (v : CQDBWriter) (k : ℕ) (fine : knownIn h ≡ true) (is : v ≡ writerOf (h .writer))
+module _ (h : CState) (words words′ : List ℕ) (v : CQDBWriter) (k : ℕ) (fine : knownIn h ≡ true) (is : v ≡ writerOf (h .writer))
     (given : Indexed (stateWith v (h .counts) (h .buffer)) words k words′) where
   q : Indexed (stateOf h) words k words′
   q = subst (λ (w : CQDBWriter). Indexed (stateWith w (h .counts) (h .buffer)) words k words′) is given

@@ -11,7 +11,7 @@ use Rattle.image.specs.Image.{Entry}
 use Rattle.writer.specs.Put.{appended}
 use Rattle.writer.specs.Close.{afterClose}
 use Rattle.writer.specs.declared.c_record.Record.{Record}
-use Rattle.writer.specs.CRecord.{Held, knownIn, stateOf, heldOf}
+use Rattle.writer.specs.CRecord.{CState, knownIn, stateOf, cStateOf}
 use Rattle.index.specs.Index.{slotCount, slotInserted, Right, indexedRefusal, afterIndexed, indexRefusal, grown}
 use Rattle.index.specs.KeptRight.{Bytes}
 
@@ -32,24 +32,24 @@ recordIn numbers sizes =
     }
 
 -- the index is right for what is lent
-pub record RightHeld (h : Held) (words : List ℕ) : Type 0 where
+pub record RightHeld (h : CState) (words : List ℕ) : Type 0 where
   pub known : knownIn h ≡ true
   pub index : Right (stateOf h) words
 
 -- the rule of the put by an index: the refusal's number, 0 when accepted; and what it leaves
-unfoldable pub putIndexedNumber : Held → List ℕ → Entry → ℕ
+unfoldable pub putIndexedNumber : CState → List ℕ → Entry → ℕ
 putIndexedNumber h words e = cond (knownIn h) (indexedRefusal (stateOf h) words e) 2
 
-unfoldable pub leftByPutIndexed : Held → List ℕ → Entry → Held
-leftByPutIndexed h words e = cond (knownIn h) (heldOf (afterIndexed (stateOf h) words e)) h
+unfoldable pub leftByPutIndexed : CState → List ℕ → Entry → CState
+leftByPutIndexed h words e = cond (knownIn h) (cStateOf (afterIndexed (stateOf h) words e)) h
 
-pub record PutIndexedHeld (h : Held) (words : List ℕ) (e : Entry) (refusal : ℕ) (h′ : Held)
+pub record PutIndexedHeld (h : CState) (words : List ℕ) (e : Entry) (refusal : ℕ) (h′ : CState)
     (words′ : List ℕ) : Type 0 where
   -- whatever is lent, a refusal changes nothing, and an accepted put appends the entry and inserts its slot
   pub refused : (refusal ≡ 0 → ⊥) → (h′ ≡ h) × (words′ ≡ words)
   pub accepted : refusal ≡ 0
       → (knownIn h ≡ true)
-      × (h′ ≡ heldOf (appended (stateOf h) e))
+      × (h′ ≡ cStateOf (appended (stateOf h) e))
       × (words′ ≡ slotInserted words (hashOf (e .name)) (h .writer .end))
   -- by a right index, the rule's number and what it leaves, and the index is right again
   pub answer : RightHeld h words → refusal ≡ putIndexedNumber h words e
@@ -57,10 +57,10 @@ pub record PutIndexedHeld (h : Held) (words : List ℕ) (e : Entry) (refusal : �
   pub right : RightHeld h words → RightHeld h′ words′
 
 -- making an index: the rule's number; a refusal changes nothing; 0 gives a right index, and keeps an odd last word
-unfoldable pub indexNumber : Held → List ℕ → ℕ
+unfoldable pub indexNumber : CState → List ℕ → ℕ
 indexNumber h words = cond (knownIn h) (indexRefusal (stateOf h) words) 2
 
-pub record IndexedHeld (h : Held) (words : List ℕ) (refusal : ℕ) (words′ : List ℕ) : Type 0 where
+pub record IndexedHeld (h : CState) (words : List ℕ) (refusal : ℕ) (words′ : List ℕ) : Type 0 where
   pub answer : refusal ≡ indexNumber h words
   pub refused : (refusal ≡ 0 → ⊥) → words′ ≡ words
   pub right : refusal ≡ 0 → length (h .counts) ≡ 256 → RightHeld h words′
@@ -68,12 +68,12 @@ pub record IndexedHeld (h : Held) (words : List ℕ) (refusal : ℕ) (words′ :
 
 -- so an index is right that cqdb_index made, where since then only cqdb_put_indexed, cqdb_close and cqdb_grown were called
 pub record KeptRightHeld : Type 0 where
-  pub made : (h : Held) (words words′ : List ℕ) → length (h .counts) ≡ 256 → IndexedHeld h words 0 words′
+  pub made : (h : CState) (words words′ : List ℕ) → length (h .counts) ≡ 256 → IndexedHeld h words 0 words′
       → RightHeld h words′
-  pub put : (h h′ : Held) (words words′ : List ℕ) (e : Entry) (refusal : ℕ) → PutIndexedHeld h words e refusal h′ words′
+  pub put : (h h′ : CState) (words words′ : List ℕ) (e : Entry) (refusal : ℕ) → PutIndexedHeld h words e refusal h′ words′
       → RightHeld h words → RightHeld h′ words′
-  pub closed : (h : Held) (words : List ℕ) → Bytes (stateOf h)
-      → RightHeld h words → RightHeld (heldOf (afterClose (stateOf h))) words
-  pub larger : (h : Held) (words buffer : List ℕ) → Bytes (stateOf h) → length (h .buffer) ≤ length buffer
+  pub closed : (h : CState) (words : List ℕ) → Bytes (stateOf h)
+      → RightHeld h words → RightHeld (cStateOf (afterClose (stateOf h))) words
+  pub larger : (h : CState) (words buffer : List ℕ) → Bytes (stateOf h) → length (h .buffer) ≤ length buffer
       → take (h .writer .end) buffer ≡ take (h .writer .end) (h .buffer)
-      → RightHeld h words → RightHeld (heldOf (grown (stateOf h) buffer)) words
+      → RightHeld h words → RightHeld (cStateOf (grown (stateOf h) buffer)) words

@@ -3,7 +3,7 @@
 ghost use mathlib.Core.Path.{_≡_};
 ghost use lib.ListN.{length};
 ghost use Rattle.writer.specs.Put.{entryOf};
-ghost use Rattle.writer.specs.CRecord.{held};
+ghost use Rattle.writer.specs.CRecord.{cState};
 ghost use Rattle.index_c.specs.IndexC.{indexWords, recordIn, PutIndexedHeld, IndexedHeld};
 use writer::c_record::Record;
 use writer::c_record::writer_of;
@@ -30,7 +30,7 @@ pub extern "C" fn cqdb_index_parts(
     slots: &mut [u32],
 ) -> u32
     ensures { λ r. ⌜
-        IndexedHeld (held w (now (counts .entry)) (now (buf .entry))) (now (slots .entry)) r (now (slots .exit))
+        IndexedHeld (cState w (now (counts .entry)) (now (buf .entry))) (now (slots .entry)) r (now (slots .exit))
         ⌝ }
 {
     if !known(w.mode, w.repeats) {
@@ -69,9 +69,9 @@ pub extern "C" fn cqdb_put_indexed_parts(
         (length (now (numbers .entry)) ≡ 4
         → length (now (sizes .entry)) ≡ 2
         → PutIndexedHeld
-        (held (recordIn (now (numbers .entry)) (now (sizes .entry))) (now (counts .entry)) (now (buf .entry)))
+        (cState (recordIn (now (numbers .entry)) (now (sizes .entry))) (now (counts .entry)) (now (buf .entry)))
         (now (slots .entry)) (entryOf (now (name .entry)) id) r
-        (held (recordIn (now (numbers .exit)) (now (sizes .exit))) (now (counts .exit)) (now (buf .exit)))
+        (cState (recordIn (now (numbers .exit)) (now (sizes .exit))) (now (counts .exit)) (now (buf .exit)))
         (now (slots .exit)))
         ⌝ }
 {

@@ -46,7 +46,7 @@ too-long s e h =
     (λ z.
     let went = passed s e z in
     let low = fitting (s .writer) (s .counts) (s .buffer) (went .fitted) .low in
-    let room = not-too-large (s .writer .length) (finishedSize (writerAfter (s .writer) e)) (went .roomy) .0 in
+    let room = not-too-large (s .writer .length) (finishedSize (writerAfter (s .writer) e)) (went .has-capacity) .0 in
     omega arith))
 
 -- ---- a long line

@@ -17,7 +17,7 @@ use Rattle.image.proofs.Between.{drop-take}
 use Rattle.image.proofs.Bools.{and-first, and-second}
 use Rattle.image.proofs.AllOfList.{All}
 use Rattle.image.proofs.Sizes.{backIn-twice}
-use Rattle.serialize.proofs.WrittenImage.{area-kept, standing-end}
+use Rattle.serialize.proofs.WrittenImage.{area-kept, stored-end}
 use Rattle.writer.specs.State.{State, fits, finishedSize, tooLarge}
 use Rattle.writer.specs.Close.{entryArea, recorded, consistent, closeRefusal}
 use Rattle.writer.specs.State.{countsAgree}
@@ -56,7 +56,7 @@ module _ (s : State) (bytes : AllBytes (s .buffer)) (closes : closeRefusal s ≡
   area-is = area-kept (s .writer .end) (s .writer .entries) (s .buffer) bytes entire
 
   pub ends : s .writer .end ≡ headSize + entriesSize (recorded s)
-  ends = standing-end (s .writer .end) (s .writer .entries) (s .buffer) bytes entire (f .low) (omega (arith, f .high, f .same-length))
+  ends = stored-end (s .writer .end) (s .writer .entries) (s .buffer) bytes entire (f .low) (omega (arith, f .high, f .same-length))
 
   pub ids-are : All (λ (e : Entry). e .id < 2 ^ 32) (recorded s)
   ids-are = ids-words (s .writer .entries) (entryArea s) (bytes-take (s .writer .end - headSize) (drop headSize (s .buffer)) (bytes-drop headSize (s .buffer) bytes))

@@ -15,7 +15,7 @@ use Rattle.writer.specs.State.{State, stateWith, fresh}
 use Rattle.writer.specs.Put.{putRefusal, appended}
 use Rattle.writer.specs.Grown.{withLength}
 use Rattle.writer.proofs.Puts.{accepted-leaves}
-use Rattle.writer.proofs.Longer.{longer-taken}
+use Rattle.writer.proofs.Longer.{longer-accepted}
 use Rattle.lists.specs.Calls.{Call, after, accepted, WordIds}
 use Rattle.lists.specs.Demand3.{afterList, acceptedPuts}
 use Rattle.lists.specs.theorems.RepeatsOff.{putAll}
@@ -185,7 +185,7 @@ module _ (mode : Mode) (repeats : Repeats) (buffer longer : List ℕ) (cs : List
       (area-there mode repeats (length buffer) es s w longer l)
 
   moved : movedTo longer s ≡ there mode repeats (length buffer) es s w longer l
-  moved = ap (λ (x : CQDBWriter). stateWith x (s .counts) longer) (sym (longer-taken (s .writer) m (l .long) .1))
+  moved = ap (λ (x : CQDBWriter). stateWith x (s .counts) longer) (sym (longer-accepted (s .writer) m (l .long) .1))
 
   state-there : movedTo longer s ≡ afterList mode repeats longer (putAll es)
   state-there =
@@ -199,7 +199,7 @@ module _ (mode : Mode) (repeats : Repeats) (buffer longer : List ℕ) (cs : List
       let same : movedTo longer s ≡ afterList mode repeats longer (putAll (acceptedPuts mode repeats buffer cs)) =
       state-there ∙ ap (λ (fs : List Entry). afterList mode repeats longer (putAll fs)) (sym are) in
       record {
-        taken = sym (longer-taken (s .writer) m (l .long) .0);
+        taken = sym (longer-accepted (s .writer) m (l .long) .0);
         same-puts =
             ap (λ (fs : List Entry). acceptedPuts mode repeats longer (putAll fs)) are
             ∙ list-accepted mode repeats longer room-there (putAll es) words

@@ -1,14 +1,15 @@
--- Head and rows written, tables and back array cleared: the image before any entry is taken. Assumes nothing.
+-- Head and rows written, tables and back array cleared: the image before any entry is inserted. Assumes nothing.
 use Prim.Native.Nat.{ℕ, _+_, _-_, _*_, _≤_}
 use native.Mathlib.Omega.{arith}
 use mathlib.Core.Path.{_≡_, refl, sym, ap, _∙_}
 use mathlib.Core.Bool.{cond}
-use mathlib.Core.List.{List, [], _++_, append-assoc}
+use mathlib.Core.List.{List, [], _++_, append-assoc, append-nil}
 use lib.ListN.{length, take, drop, replicate, length-append, length-drop, length-replicate, take-append-drop}
 use lib.Seq.{sets, sets-eq, take-add, drop-drop}
 use lib.Dec.{eqb}
 use Rattle.image.specs.Bytes.{cat}
-use Rattle.image.specs.Image.{Entry, headSize, entryBytes, placed, flagWord, backIn, backSize, backSizeOf, entriesEnd, imageSize, backOffset, headBytes, headWords, tableRows, backWords}
+use Rattle.image.specs.Image.{Entry, headSize, entryBytes, placed, flagWord, backIn, backSize, backSizeOf, entriesEnd, imageSize}
+use Rattle.image.specs.Image.{backOffset, headBytes, headWords, tableRows, backWords}
 use Rattle.image.specs.declared.Mode.{Mode}
 use Rattle.image.specs.declared.Mode.the-variants.{Twoway, Oneway}
 use Rattle.image.proofs.Sizes.{length-placed, length-headWords, length-tableRows, length-backWords, backIn-twice}
@@ -16,16 +17,16 @@ use Rattle.image.proofs.Stores.{sets-then, sets-right-at}
 use Rattle.image.proofs.Parts.{placedIn}
 use Rattle.serialize.specs.Record.{finishedOf}
 use Rattle.image.specs.Stored.{between}
-use Rattle.serialize.specs.steps.Written.{rowsFrom, linksAt, headed, zeroed}
+use Rattle.serialize.specs.steps.Written.{rowsFrom, backOffsetOf, headed, zeroed}
 use Rattle.serialize.proofs.HeadRows.{Counts, rows-image}
-use Rattle.serialize.proofs.Partial.{tablesWith, upToEntries, partial, zeros-both, zeros-links}
+use Rattle.serialize.proofs.PartialImage.{tablesWith, upToEntries, partial, zeros-both, zeros-links}
 
 -- ---- three stores: head, rows, and what follows the entries
 
 stores : (buf h r z : List ℕ) (end size : ℕ) → length h ≡ 24 → length r ≡ 2048 → 2072 ≤ end → length z ≡ size - end → end ≤ size
     → size ≤ length buf
     → sets (sets (sets buf 0 h) 24 r) end z ≡ h ++ r ++ between buf 2072 end ++ z ++ drop size buf
-stores buf h r z end size lh lr low lz high room =
+stores buf h r z end size lh lr low lz high inside =
     let rest = drop 2072 buf in
     let both : length (h ++ r) ≡ 2072 = omega (arith, length-append h r) in
     let place : end ≡ length (h ++ r) + (end - 2072) = omega arith in
@@ -46,7 +47,7 @@ stores buf h r z end size lh lr low lz high room =
     regroup : (a b c d : List ℕ) → a ++ (b ++ c ++ d) ≡ a ++ b ++ c ++ d
     regroup a b c d = simp append-assoc
 
--- bytes in two parts
+-- bytes in two partitions
 between-parts : (buf : List ℕ) (a b c : ℕ) → a ≤ b → b ≤ c → between buf a c ≡ between buf a b ++ between buf b c
 between-parts buf a b c h k =
     let sum : c - a ≡ b - a + (c - b) = omega arith in
@@ -63,7 +64,7 @@ pub record Tells (mode : Mode) (end entries back : ℕ) (counts buf : List ℕ) 
   pub backs : back ≡ backSizeOf mode es
   pub tallies : Counts counts (placedIn es)
   pub area : between buf headSize end ≡ cat entryBytes es
-  pub room : finishedOf mode end entries back ≤ length buf
+  pub inside : finishedOf mode end entries back ≤ length buf
 
 module _ (mode : Mode) (end entries back : ℕ) (counts buf : List ℕ) (es : List Entry) (tells : Tells mode end entries back counts buf es) where
   abbrev size : ℕ
@@ -75,19 +76,19 @@ module _ (mode : Mode) (end entries back : ℕ) (counts buf : List ℕ) (es : Li
   pub told-size : size ≡ imageSize mode es
   told-size = omega (arith, told-back, tells .ends, tells .number)
 
-  pub told-links : linksAt mode end entries back ≡ backOffset mode es
-  unfolding linksAt backOffset
-  told-links =
+  pub told-back-offset : backOffsetOf mode end entries back ≡ backOffset mode es
+  unfolding backOffsetOf backOffset
+  told-back-offset =
       let e : end + 16 * entries ≡ entriesEnd es + 16 * length es = omega (arith, tells .ends, tells .number) in
       ap (λ (n : ℕ). cond (eqb n 0) 0 (end + 16 * entries)) told-back
       ∙ ap (λ (o : ℕ). cond (eqb (backSizeOf mode es) 0) 0 o) e
 
-  head-told : headBytes size (flagWord mode) (backIn mode back) (linksAt mode end entries back) ≡ headWords mode es
+  head-told : headBytes size (flagWord mode) (backIn mode back) (backOffsetOf mode end entries back) ≡ headWords mode es
   unfolding headWords
   head-told =
-      ap (λ (n : ℕ). headBytes n (flagWord mode) (backIn mode back) (linksAt mode end entries back)) told-size
-      ∙ ap (λ (n : ℕ). headBytes (imageSize mode es) (flagWord mode) n (linksAt mode end entries back)) told-back
-      ∙ ap (headBytes (imageSize mode es) (flagWord mode) (backSizeOf mode es)) told-links
+      ap (λ (n : ℕ). headBytes n (flagWord mode) (backIn mode back) (backOffsetOf mode end entries back)) told-size
+      ∙ ap (λ (n : ℕ). headBytes (imageSize mode es) (flagWord mode) n (backOffsetOf mode end entries back)) told-back
+      ∙ ap (headBytes (imageSize mode es) (flagWord mode) (backSizeOf mode es)) told-back-offset
 
   rows-told : rowsFrom counts end 0 256 ≡ tableRows (entriesEnd es) (placedIn es)
   rows-told = ap (λ (o : ℕ). rowsFrom counts o 0 256) (tells .ends) ∙ rows-image counts (entriesEnd es) (placedIn es) (tells .tallies)
@@ -97,21 +98,36 @@ module _ (mode : Mode) (end entries back : ℕ) (counts buf : List ℕ) (es : Li
       zeros-both (placedIn es) (backSizeOf mode es) (size - end)
       (omega (arith, told-back, tells .number, length-placed headSize es))
 
-  -- head and rows, and bytes behind the entries
-  behind-stored : (z : List ℕ) (to : ℕ) → length z ≡ to - end → end ≤ to → to ≤ size
-      → sets (headed mode end entries back counts buf) end z ≡ upToEntries mode es ++ z ++ drop to buf
+  -- head and rows, and bytes stored from a place behind the entries on
+  stored-from : (z : List ℕ) (from to : ℕ) → end ≤ from → length z ≡ to - from → from ≤ to → to ≤ size
+      → sets (headed mode end entries back counts buf) from z ≡ upToEntries mode es ++ between buf end from ++ z ++ drop to buf
   unfolding headed upToEntries
-  behind-stored z to long high below =
-      let h = headBytes size (flagWord mode) (backIn mode back) (linksAt mode end entries back) in
+  stored-from z from to low long high below =
+      let h = headBytes size (flagWord mode) (backIn mode back) (backOffsetOf mode end entries back) in
       let r = rowsFrom counts end 0 256 in
+      let X = between buf end from in
       let tail = drop to buf in
-      stores buf h r z end to
+      let H = headWords mode es in
+      let R = tableRows (entriesEnd es) (placedIn es) in
+      let E = cat entryBytes es in
+      stores buf h r z from to
       (ap length head-told ∙ length-headWords mode es)
       (ap length rows-told ∙ length-tableRows (entriesEnd es) (placedIn es))
-      (omega (arith, tells .ends)) long high (omega (arith, tells .room))
-      ∙ ap (λ (l : List ℕ). l ++ r ++ between buf headSize end ++ z ++ tail) head-told
-      ∙ ap (λ (l : List ℕ). headWords mode es ++ l ++ between buf headSize end ++ z ++ tail) rows-told
-      ∙ ap (λ (l : List ℕ). headWords mode es ++ tableRows (entriesEnd es) (placedIn es) ++ l ++ z ++ tail) (tells .area)
+      (omega (arith, tells .ends)) long high (omega (arith, tells .inside))
+      ∙ ap (λ (l : List ℕ). l ++ r ++ between buf headSize from ++ z ++ tail) head-told
+      ∙ ap (λ (l : List ℕ). H ++ l ++ between buf headSize from ++ z ++ tail) rows-told
+      ∙ ap (λ (l : List ℕ). H ++ R ++ l ++ z ++ tail)
+      (between-parts buf headSize end from (omega (arith, tells .ends)) low ∙ ap (λ (l : List ℕ). l ++ X) (tells .area))
+      ∙ ap (λ (l : List ℕ). l ++ z ++ tail) (sym (append-assoc (H ++ R) E X))
+
+  -- right behind the entries
+  behind-stored : (z : List ℕ) (to : ℕ) → length z ≡ to - end → end ≤ to → to ≤ size
+      → sets (headed mode end entries back counts buf) end z ≡ upToEntries mode es ++ z ++ drop to buf
+  behind-stored z to long high below =
+      let none : end - end ≡ 0 = omega arith in
+      stored-from z end to (omega arith) long high below
+      ∙ ap (λ (n : ℕ). upToEntries mode es ++ take n (drop end buf) ++ z ++ drop to buf) none
+      ∙ ap (λ (l : List ℕ). l ++ z ++ drop to buf) (append-nil (upToEntries mode es))
 
   pub cleared-partial : zeroed (headed mode end entries back counts buf) end size ≡ partial mode es [] ++ drop size buf
   unfolding zeroed partial placed
@@ -120,7 +136,7 @@ module _ (mode : Mode) (end entries back : ℕ) (counts buf : List ℕ) (es : Li
       ∙ ap (λ (l : List ℕ). upToEntries mode es ++ l ++ drop size buf) zeros-told
       ∙ ap (λ (l : List ℕ). l ++ drop size buf) (sym (append-assoc (upToEntries mode es) (tablesWith (placedIn es) []) (backWords [] (backSizeOf mode es))))
 
-  -- the back array alone cleared: what stands in the tables' rooms is whatever stood there
+  -- the back array alone cleared: where the tables will stand is whatever stood there
   zeros-back : replicate (size - (end + 16 * entries)) 0 ≡ backWords [] (backSizeOf mode es)
   zeros-back =
       let n = backSizeOf mode es in
@@ -129,27 +145,11 @@ module _ (mode : Mode) (end entries back : ℕ) (counts buf : List ℕ) (es : Li
 
   pub back-cleared : zeroed (headed mode end entries back counts buf) (end + 16 * entries) size
       ≡ upToEntries mode es ++ between buf end (end + 16 * entries) ++ backWords [] (backSizeOf mode es) ++ drop size buf
-  unfolding headed zeroed upToEntries
+  unfolding zeroed
   back-cleared =
-      let h = headBytes size (flagWord mode) (backIn mode back) (linksAt mode end entries back) in
-      let r = rowsFrom counts end 0 256 in
       let from = end + 16 * entries in
-      let z : List ℕ = replicate (size - from) 0 in
-      let X = between buf end from in
-      let tail = drop size buf in
-      let H = headWords mode es in
-      let R = tableRows (entriesEnd es) (placedIn es) in
-      let E = cat entryBytes es in
-      stores buf h r z from size
-      (ap length head-told ∙ length-headWords mode es)
-      (ap length rows-told ∙ length-tableRows (entriesEnd es) (placedIn es))
-      (omega (arith, tells .ends)) (length-replicate (size - from) 0) (omega arith) (tells .room)
-      ∙ ap (λ (l : List ℕ). l ++ r ++ between buf headSize from ++ z ++ tail) head-told
-      ∙ ap (λ (l : List ℕ). H ++ l ++ between buf headSize from ++ z ++ tail) rows-told
-      ∙ ap (λ (l : List ℕ). H ++ R ++ l ++ z ++ tail)
-      (between-parts buf headSize end from (omega (arith, tells .ends)) (omega arith) ∙ ap (λ (l : List ℕ). l ++ X) (tells .area))
-      ∙ ap (λ (l : List ℕ). l ++ z ++ tail) (sym (append-assoc (H ++ R) E X))
-      ∙ ap (λ (l : List ℕ). H ++ R ++ E ++ X ++ l ++ tail) zeros-back
+      stored-from (replicate (size - from) 0) from size (omega arith) (length-replicate (size - from) 0) (omega arith) (omega arith)
+      ∙ ap (λ (l : List ℕ). upToEntries mode es ++ between buf end from ++ l ++ drop size buf) zeros-back
 
   -- bytes for the tables stored: what stands behind them stays
   pub tables-stored : (T : List ℕ) → length T ≡ 16 * entries

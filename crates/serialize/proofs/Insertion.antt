@@ -1,87 +1,113 @@
--- An entry taken into its table and the back array, and entries one after the other. Assumes nothing.
-use Prim.Native.Nat.{ℕ, suc, _+_, _-_, _*_, _/_, _%_, _<_}
+-- A pair inserted into its table, an entry into its table and the back array, and entries one after the other.
+-- Assumes nothing.
+use Prim.Native.Nat.{ℕ, suc, _+_, _-_, _*_, _/_, _%_, _≤_, _<_}
 use native.Mathlib.Omega.{arith}
 use native.Mathlib.Nat.{mod-lt}
 use mathlib.Core.Path.{_≡_, refl, sym, ap, ap₂, _∙_}
-use mathlib.Core.Bool.{Bool, cond}
+use mathlib.Core.Bool.{Bool, true, false, cond}
 use mathlib.Core.List.{List, _++_}
-use lib.ListN.{take, drop}
+use lib.ListN.{length}
 use lib.Seq.{sets}
-use lib.Dec.{eqb}
-use borrow.Author.Tests.{eq-eqb, ne-eqb}
-use Rattle.jhash.specs.NameHash.{hashOf}
+use lib.Dec.{eqb, leb}
+use borrow.Author.Tests.{eq-eqb, ne-eqb, leb-true}
 use Rattle.image.specs.Bytes.{word, le32}
-use Rattle.image.specs.Tables.{probeSequence, firstEmpty}
 use Rattle.image.specs.declared.Mode.{Mode}
 use Rattle.image.proofs.Words.{length-le32}
+use Rattle.image.proofs.Bools.{and-first, and-second}
 use Rattle.image.proofs.Stores.{sets-then}
+use Rattle.image.proofs.Between.{entry-room}
 use Rattle.image.specs.Stored.{between}
 use Rattle.image.specs.steps.EntryLength.{wholeLength}
-use Rattle.serialize.specs.steps.Insertion.{bucketFor, withBucket, withLink, entryTaken, takenFrom}
+use Rattle.serialize.specs.steps.Insertion.{EmptyBucket, TableIn, holdsTable, inserted, PairInserted, insertedByRow, EntryPre, hashAt}
+use Rattle.serialize.specs.steps.Insertion.{backStored, entryInserted, WalkPre, insertedFrom}
 
 -- a search among some buckets begins at one of them
 pub start-below : (x n : ℕ) → (n ≡ 0 → ⊥) → x % n < n
 start-below x n h = mod-lt x (omega arith)
 
-module _ (buf : List ℕ) (h at : ℕ) where
-  pub bucket-none : (n : ℕ) → n ≡ word buf (28 + 8 * (h % 256)) → n ≡ 0 → buf ≡ withBucket buf h at
-  unfolding withBucket
-  bucket-none n e z = rw (eq-eqb (word buf (28 + 8 * (h % 256))) 0 (sym e ∙ z))
+-- ---- a pair
 
-  pub bucket-stored : (o n k : ℕ) (b1 b2 : List ℕ) → o ≡ word buf (24 + 8 * (h % 256)) → n ≡ word buf (28 + 8 * (h % 256)) → (n ≡ 0 → ⊥)
-      → k ≡ firstEmpty (λ (i : ℕ). word buf (o + 8 * i + 4)) (probeSequence n n (h / 256 % n))
-      → b1 ≡ sets buf (o + 8 * k) (le32 h) → b2 ≡ sets b1 (o + 8 * k + 4) (le32 at) → b2 ≡ withBucket buf h at
-  unfolding withBucket bucketFor
-  bucket-stored o n k b1 b2 eo en nz ek p q =
-      let o′ = word buf (24 + 8 * (h % 256)) in
-      let n′ = word buf (28 + 8 * (h % 256)) in
-      let s : ℕ = o′ + 8 * firstEmpty (λ (i : ℕ). word buf (o′ + 8 * i + 4)) (probeSequence n′ n′ (h / 256 % n′)) in
-      let ek′ : k ≡ firstEmpty (λ (i : ℕ). word buf (o′ + 8 * i + 4)) (probeSequence n′ n′ (h / 256 % n′)) =
-      ek ∙ ap₂ (λ (x : ℕ) (y : ℕ). firstEmpty (λ (i : ℕ). word buf (x + 8 * i + 4)) (probeSequence y y (h / 256 % y))) eo en in
-      let es : o + 8 * k ≡ s = ap₂ (λ (x : ℕ) (y : ℕ). x + 8 * y) eo ek′ in
-      let both : b2 ≡ sets buf (o + 8 * k) (le32 h ++ le32 at) =
-      q ∙ ap (λ (l : List ℕ). sets l (o + 8 * k + 4) (le32 at)) p
-      ∙ sets-then (le32 h) (le32 at) buf (o + 8 * k) (o + 8 * k + 4) (omega (arith, length-le32 h)) in
-      both
-      ∙ ap (λ (x : ℕ). sets buf x (le32 h ++ le32 at)) es
-      ∙ sym (ap (λ (b : Bool). cond b buf (sets buf s (le32 h ++ le32 at))) (ne-eqb n′ 0 (λ z. nz (en ∙ z))))
+pub pair-stored : (b b1 b2 : List ℕ) (at h v : ℕ) → b1 ≡ sets b at (le32 h) → b2 ≡ sets b1 (at + 4) (le32 v) → b2 ≡ sets b at (le32 h ++ le32 v)
+pair-stored b b1 b2 at h v p q =
+    q ∙ ap (λ (l : List ℕ). sets l (at + 4) (le32 v)) p
+    ∙ sets-then (le32 h) (le32 v) b at (at + 4) (omega (arith, length-le32 h))
 
-pub taken-parts : (mode : Mode) (links : ℕ) (buf : List ℕ) (at n id h : ℕ) (name b1 b2 : List ℕ)
-    → name ≡ take (n - 1) (drop (at + 8) buf) → h ≡ hashOf name → id ≡ word buf at
-    → b1 ≡ withBucket buf h at → b2 ≡ withLink mode b1 links id at → b2 ≡ entryTaken mode links buf at n
-unfolding entryTaken
-taken-parts mode links buf at n id h name b1 b2 en eh ei p q =
-    q ∙ ap₂ (λ (l : List ℕ) (i : ℕ). withLink mode l links i at) (p ∙ ap (λ (k : ℕ). withBucket buf k at) (eh ∙ ap hashOf en)) ei
+pub pair-inserted : (buf : List ℕ) (o n h at k : ℕ) {buf′ : List ℕ} → EmptyBucket buf o n (h / 256 % n) k
+    → buf′ ≡ sets buf (o + 8 * k) (le32 h ++ le32 at) → buf′ ≡ inserted buf o n h at
+unfolding inserted
+pair-inserted buf o n h at k e p = p ∙ ap (λ (i : ℕ). sets buf (o + 8 * i) (le32 h ++ le32 at)) (e .is)
 
-module _ (mode : Mode) (links end : ℕ) where
-  from-suc : (m at : ℕ) (buf : List ℕ)
-      → takenFrom mode links end (suc m) at buf
-      ≡ cond (eqb (wholeLength (between buf at end)) 0) buf
-      (takenFrom mode links end m (at + (8 + wholeLength (between buf at end))) (entryTaken mode links buf at (wholeLength (between buf at end))))
-  unfolding takenFrom
-  from-suc m at buf = refl
+pub table-in : {buf : List ℕ} {o n : ℕ} {b : Bool} → b ≡ holdsTable buf o n → b ≡ true → TableIn buf o n
+table-in {buf} {o} {n} e holds =
+    let h = sym e ∙ holds in
+    record {
+      some = leb-true 1 n (and-first (leb 1 n) (leb (o + 8 * n) (length buf)) h);
+      inside = leb-true (o + 8 * n) (length buf) (and-second (leb 1 n) (leb (o + 8 * n) (length buf)) h);
+    }
 
-  pub from-broken : (left at n : ℕ) (buf x : List ℕ) → 0 < left → n ≡ wholeLength (between buf at end) → n ≡ 0
-      → takenFrom mode links end left at buf ≡ x → buf ≡ x
-  from-broken left at n buf x h e z p =
-      let m : left ≡ suc (left - 1) = omega arith in
-      let w = wholeLength (between buf at end) in
-      sym
-      (sym p ∙ ap (λ (k : ℕ). takenFrom mode links end k at buf) m ∙ from-suc (left - 1) at buf
-      ∙ ap (λ (b : Bool). cond b buf (takenFrom mode links end (left - 1) (at + (8 + w)) (entryTaken mode links buf at w))) (eq-eqb w 0 (sym e ∙ z)))
+module _ (buf : List ℕ) (h at : ℕ) {o n : ℕ} {b : Bool} (is-o : o ≡ word buf (24 + 8 * (h % 256))) (is-n : n ≡ word buf (28 + 8 * (h % 256)))
+    (is-b : b ≡ holdsTable buf o n) where
+  by-row : cond b (inserted buf o n h at) buf ≡ insertedByRow buf h at
+  unfolding insertedByRow
+  by-row =
+      ap (λ (t : Bool). cond t (inserted buf o n h at) buf) is-b
+      ∙ ap₂ (λ (x : ℕ) (y : ℕ). cond (holdsTable buf x y) (inserted buf x y h at) buf) is-o is-n
 
-  pub from-turn : (left at n : ℕ) (buf buf′ x : List ℕ) → 0 < left → n ≡ wholeLength (between buf at end) → (n ≡ 0 → ⊥)
-      → buf′ ≡ entryTaken mode links buf at n → takenFrom mode links end left at buf ≡ x
-      → takenFrom mode links end (left - 1) (at + (8 + n)) buf′ ≡ x
-  from-turn left at n buf buf′ x h e z t p =
-      let m : left ≡ suc (left - 1) = omega arith in
-      let w = wholeLength (between buf at end) in
-      ap (λ (l : List ℕ). takenFrom mode links end (left - 1) (at + (8 + n)) l) t
-      ∙ ap (λ (k : ℕ). takenFrom mode links end (left - 1) (at + (8 + k)) (entryTaken mode links buf at k)) e
-      ∙ sym (ap (λ (b : Bool). cond b buf (takenFrom mode links end (left - 1) (at + (8 + w)) (entryTaken mode links buf at w))) (ne-eqb w 0 (λ y. z (e ∙ y))))
-      ∙ sym (ap (λ (k : ℕ). takenFrom mode links end k at buf) m ∙ from-suc (left - 1) at buf)
-      ∙ p
+  pub row-none : b ≡ false → buf ≡ insertedByRow buf h at
+  row-none lacks = sym (ap (λ (t : Bool). cond t (inserted buf o n h at) buf) lacks) ∙ by-row
 
-  pub from-none : (at : ℕ) (buf x : List ℕ) → takenFrom mode links end 0 at buf ≡ x → buf ≡ x
-  unfolding takenFrom
-  from-none at buf x p = p
+  pub row-inserted : b ≡ true → {buf′ : List ℕ} → PairInserted buf o n h at buf′ → buf′ ≡ insertedByRow buf h at
+  row-inserted holds p = p .stored ∙ sym (ap (λ (t : Bool). cond t (inserted buf o n h at) buf) holds) ∙ by-row
+
+-- ---- an entry
+
+pub entry-inserted : (mode : Mode) (back-offset : ℕ) (buf : List ℕ) (at n : ℕ) {id h : ℕ} {b1 b2 : List ℕ} → id ≡ word buf at → h ≡ hashAt buf at n
+    → b1 ≡ insertedByRow buf h at → b2 ≡ backStored mode b1 back-offset id at → b2 ≡ entryInserted mode back-offset buf at n
+unfolding entryInserted
+entry-inserted mode back-offset buf at n ei eh p q =
+    q
+    ∙ ap₂ (λ (l : List ℕ) (i : ℕ). backStored mode l back-offset i at) (p ∙ ap (λ (k : ℕ). insertedByRow buf k at) eh) ei
+
+-- ---- a walk over the entries
+
+-- a whole entry lies before the end
+pub entry-in : {back-offset end : ℕ} {buf₀ : List ℕ} → WalkPre back-offset end buf₀ → (buf : List ℕ) → length buf ≡ length buf₀ → (at n : ℕ) → at ≤ end
+    → n ≡ wholeLength (between buf at end) → n < 4294967296 → (n ≡ 0 → ⊥) → (at + (8 + n) ≤ end) × EntryPre at n buf
+entry-in {back-offset} {end} pre buf long at n before is small some =
+    let r = entry-room buf at end n before (omega (arith, pre .inside)) is some in
+    (r .0, record { inside = omega (arith, r .0, pre .inside); some = r .1; length-word = small; offset-word = omega (arith, pre .end-word) })
+
+-- the entries from `at` on, inserted into this buffer, leave what all entries leave
+pub record Inserting (mode : Mode) (back-offset end entries : ℕ) (buf₀ buf : List ℕ) (at left : ℕ) : Type 0 where
+  pub inside : at ≤ end
+  pub long : length buf ≡ length buf₀
+  pub leaves : insertedFrom mode back-offset end left at buf ≡ insertedFrom mode back-offset end entries 2072 buf₀
+
+module _ {mode : Mode} {back-offset end entries : ℕ} {buf₀ buf : List ℕ} {at left : ℕ} (inv : Inserting mode back-offset end entries buf₀ buf at left) where
+  abbrev from : ℕ → List ℕ
+  from n = insertedFrom mode back-offset end (left - 1) (at + (8 + n)) (entryInserted mode back-offset buf at n)
+
+  module _ {n : ℕ} (more : 0 < left) (is : n ≡ wholeLength (between buf at end)) where
+    next : cond (eqb n 0) buf (from n) ≡ insertedFrom mode back-offset end entries 2072 buf₀
+    unfolding insertedFrom
+    next =
+        let m : suc (left - 1) ≡ left = omega arith in
+        ap (λ (k : ℕ). cond (eqb k 0) buf (from k)) is ∙ ap (λ (k : ℕ). insertedFrom mode back-offset end k at buf) m ∙ inv .leaves
+
+    pub inserted-broken : n ≡ 0 → buf ≡ insertedFrom mode back-offset end entries 2072 buf₀
+    inserted-broken z = sym (ap (λ (b : Bool). cond b buf (from n)) (eq-eqb n 0 z)) ∙ next
+
+    pub inserted-step : (n ≡ 0 → ⊥) → at + (8 + n) ≤ end → (buf′ : List ℕ) → length buf′ ≡ length buf → buf′ ≡ entryInserted mode back-offset buf at n
+        → Inserting mode back-offset end entries buf₀ buf′ (at + (8 + n)) (left - 1)
+    inserted-step some before buf′ same done = record {
+      inside = before;
+      long = same ∙ inv .long;
+      leaves =
+          ap (insertedFrom mode back-offset end (left - 1) (at + (8 + n))) done
+          ∙ sym (ap (λ (b : Bool). cond b buf (from n)) (ne-eqb n 0 some))
+          ∙ next;
+    }
+
+  pub inserted-all : left ≡ 0 → buf ≡ insertedFrom mode back-offset end entries 2072 buf₀
+  unfolding insertedFrom
+  inserted-all z = sym (ap (λ (k : ℕ). insertedFrom mode back-offset end k at buf) z) ∙ inv .leaves

@@ -1,17 +1,17 @@
--- Laws about finishing: that its steps leave the image.
-pub mod Joined
-pub mod Insertion
-pub mod Heads
+-- Laws about serializing: that its steps leave the image.
+pub mod OrAll
+pub mod HeadStores
 pub mod HeadRows
-pub mod Partial
+pub mod PartialImage
 pub mod Cleared
-pub mod OneMore
-pub mod Turn
-pub mod Parting
-pub mod Filling
-pub mod Rooms
-pub mod ByTables
-pub mod TableByTable
-pub mod AtHand
-pub mod FinishSteps
+pub mod EntryAdded
+pub mod Insertion
+pub mod InsertStep
+pub mod PartitionSteps
+pub mod TableFill
+pub mod TableAreas
+pub mod Partitioned
+pub mod TablesFilled
+pub mod TablesCopied
+pub mod WriteSteps
 pub mod WrittenImage

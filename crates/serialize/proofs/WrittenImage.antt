@@ -1,4 +1,4 @@
--- All that finishing writes is the image of the entries that stand in the buffer. Assumes nothing.
+-- All that is written is the image of the entries that stand in the buffer. Assumes nothing.
 use Prim.Native.Nat.{ℕ, _+_, _-_, _*_, _^_, _≤_, _<_}
 use native.Mathlib.Omega.{arith}
 use mathlib.Core.Path.{_≡_, refl, sym, ap, ap₂, _∙_}
@@ -18,29 +18,29 @@ use Rattle.image.proofs.Between.{length-between}
 use Rattle.image.proofs.Parts.{placedIn}
 use Rattle.image.proofs.Bools.{and-second}
 use Rattle.image.proofs.AllOfList.{All}
-use Rattle.serialize.specs.Finish.{standing, finishedBuffer}
+use Rattle.serialize.specs.Serialize.{storedEntries, serialized}
 use Rattle.serialize.specs.Record.{finishedOf, noneAbove}
-use Rattle.serialize.specs.steps.Asked.{Standing, TablesAtHand, LinksStand}
+use Rattle.serialize.specs.steps.Preconditions.{ClosePrecondition, PrecomputedTables, BackArrayStored}
 use Rattle.image.specs.Stored.{whole, between}
-use Rattle.serialize.specs.steps.Insertion.{entryTaken, takenFrom}
-use Rattle.serialize.specs.steps.Parting.{byTables}
-use Rattle.serialize.specs.steps.Written.{linksAt, headed, zeroed, parts, filledIn, written}
+use Rattle.serialize.specs.steps.Insertion.{entryInserted, insertedFrom}
+use Rattle.serialize.specs.steps.Partition.{insertedByTables}
+use Rattle.serialize.specs.steps.Written.{backOffsetOf, headed, zeroed, partitions, allInserted, written}
 use Rattle.image.proofs.EntryArea.{AllBytes, bytes-drop, bytes-take, length-entriesIn, whole-bytes, ids-words}
 use Rattle.serialize.proofs.HeadRows.{counts-agree}
-use Rattle.serialize.proofs.Partial.{upToEntries, partial, partial-all}
-use Rattle.serialize.proofs.Cleared.{Tells, told-back, told-size, told-links, cleared-partial, tables-stored, back-cleared}
-use Rattle.serialize.proofs.Turn.{next-at, length-found, turn}
-use Rattle.serialize.proofs.TableByTable.{counts-few, by-tables-image}
-use Rattle.serialize.proofs.AtHand.{words-number}
+use Rattle.serialize.proofs.PartialImage.{upToEntries, partial, partial-all}
+use Rattle.serialize.proofs.Cleared.{Tells, told-back, told-size, told-back-offset, cleared-partial, tables-stored, back-cleared}
+use Rattle.serialize.proofs.InsertStep.{next-at, length-found, step}
+use Rattle.serialize.proofs.TablesFilled.{counts-few, by-tables-image}
+use Rattle.serialize.proofs.TablesCopied.{words-number}
 
 -- ---- the walk, from any entry on
 
 module _ (mode : Mode) (es : List Entry) (tail : List ℕ) (small : imageSize mode es ≤ 4294967295)
     (ids : All (λ (e : Entry). e .id < 2 ^ 32) es) where
   pub walked : (rest qs : List Entry) → es ≡ qs ++ rest
-      → takenFrom mode (backOffset mode es) (entriesEnd es) (length rest) (headSize + entriesSize qs) (partial mode es qs ++ tail)
+      → insertedFrom mode (backOffset mode es) (entriesEnd es) (length rest) (headSize + entriesSize qs) (partial mode es qs ++ tail)
       ≡ partial mode es es ++ tail
-  unfolding takenFrom
+  unfolding insertedFrom
   walked [] qs split = ap (λ (l : List Entry). partial mode es l ++ tail) (sym (split ∙ append-nil qs))
   walked (e ∷ rest) qs split =
       let at = headSize + entriesSize qs in
@@ -48,12 +48,12 @@ module _ (mode : Mode) (es : List Entry) (tail : List ℕ) (small : imageSize mo
       let o = backOffset mode es in
       let end = entriesEnd es in
       let n = length (e .name) + 1 in
-      ap (λ (k : ℕ). cond (eqb k 0) B (takenFrom mode o end (length rest) (at + (8 + k)) (entryTaken mode o B at k)))
+      ap (λ (k : ℕ). cond (eqb k 0) B (insertedFrom mode o end (length rest) (at + (8 + k)) (entryInserted mode o B at k)))
       (length-found mode es qs rest e tail split small ids)
-      ∙ ap (λ (b : Bool). cond b B (takenFrom mode o end (length rest) (at + (8 + n)) (entryTaken mode o B at n)))
+      ∙ ap (λ (b : Bool). cond b B (insertedFrom mode o end (length rest) (at + (8 + n)) (entryInserted mode o B at n)))
       (ne-eqb n 0 (λ z. omega arith))
-      ∙ ap (λ (l : List ℕ). takenFrom mode o end (length rest) (at + (8 + n)) l) (turn mode es qs rest e tail split small ids)
-      ∙ ap (λ (k : ℕ). takenFrom mode o end (length rest) k (partial mode es (qs ++ e ∷ []) ++ tail)) (next-at qs e)
+      ∙ ap (λ (l : List ℕ). insertedFrom mode o end (length rest) (at + (8 + n)) l) (step mode es qs rest e tail split small ids)
+      ∙ ap (λ (k : ℕ). insertedFrom mode o end (length rest) k (partial mode es (qs ++ e ∷ []) ++ tail)) (next-at qs e)
       ∙ walked rest (qs ++ e ∷ []) (split ∙ sym (append-assoc qs (e ∷ []) rest))
 
 -- ---- what is asked for before the image is written
@@ -64,35 +64,35 @@ module _ (end entries : ℕ) (buf : List ℕ) (bytes : AllBytes buf) (entire : w
   area-bytes = bytes-take (end - headSize) (drop headSize buf) (bytes-drop headSize buf bytes)
 
   -- the bytes of the entries are kept
-  pub area-kept : between buf headSize end ≡ cat entryBytes (standing buf end entries)
+  pub area-kept : between buf headSize end ≡ cat entryBytes (storedEntries buf end entries)
   area-kept = whole-bytes entries (between buf headSize end) area-bytes entire
 
-  pub standing-number : length (standing buf end entries) ≡ entries
-  standing-number = length-entriesIn entries (between buf headSize end)
+  pub stored-number : length (storedEntries buf end entries) ≡ entries
+  stored-number = length-entriesIn entries (between buf headSize end)
 
-  standing-ids : All (λ (e : Entry). e .id < 2 ^ 32) (standing buf end entries)
-  standing-ids = ids-words entries (between buf headSize end) area-bytes
+  stored-ids : All (λ (e : Entry). e .id < 2 ^ 32) (storedEntries buf end entries)
+  stored-ids = ids-words entries (between buf headSize end) area-bytes
 
-  pub standing-end : headSize ≤ end → end ≤ length buf → end ≡ entriesEnd (standing buf end entries)
-  standing-end low high =
+  pub stored-end : headSize ≤ end → end ≤ length buf → end ≡ entriesEnd (storedEntries buf end entries)
+  stored-end low high =
       let area = length (between buf headSize end) in
-      let n : area ≡ entriesSize (standing buf end entries) = ap length area-kept ∙ length-entries (standing buf end entries) in
+      let n : area ≡ entriesSize (storedEntries buf end entries) = ap length area-kept ∙ length-entries (storedEntries buf end entries) in
       let m : area ≡ end - headSize = simp (length-take, length-drop) (omega arith) in
       omega arith
 
 -- and the numbers that belong to them
-module _ (mode : Mode) (end entries back : ℕ) (counts buf : List ℕ) (bytes : AllBytes buf) (asked : Standing mode end entries back counts buf) where
+module _ (mode : Mode) (end entries back : ℕ) (counts buf : List ℕ) (bytes : AllBytes buf) (asked : ClosePrecondition mode end entries back counts buf) where
   es : List Entry
-  es = standing buf end entries
+  es = storedEntries buf end entries
 
   size : ℕ
   size = finishedOf mode end entries back
 
-  at-end : end ≡ entriesEnd (standing buf end entries)
-  at-end = standing-end end entries buf bytes (asked .entire) (asked .low) (omega (arith, asked .room))
+  at-end : end ≡ entriesEnd (storedEntries buf end entries)
+  at-end = stored-end end entries buf bytes (asked .entire) (asked .low) (omega (arith, asked .inside))
 
-  in-number : length (standing buf end entries) ≡ entries
-  in-number = standing-number end entries buf bytes (asked .entire)
+  in-number : length (storedEntries buf end entries) ≡ entries
+  in-number = stored-number end entries buf bytes (asked .entire)
 
   tells : Tells mode end entries back counts buf es
   unfolding es
@@ -100,9 +100,9 @@ module _ (mode : Mode) (end entries back : ℕ) (counts buf : List ℕ) (bytes :
     ends = at-end;
     number = sym in-number;
     backs = asked .backs;
-    tallies = counts-agree counts (standing buf end entries) (asked .agree);
+    tallies = counts-agree counts (storedEntries buf end entries) (asked .agree);
     area = area-kept end entries buf bytes (asked .entire);
-    room = asked .room;
+    inside = asked .inside;
   }
 
   image-small : imageSize mode es ≤ 4294967295
@@ -110,21 +110,21 @@ module _ (mode : Mode) (end entries back : ℕ) (counts buf : List ℕ) (bytes :
   image-small = rw (← told-size mode end entries back counts buf es tells) (asked .small)
 
   -- entry by entry
-  written-singly : takenFrom mode (linksAt mode end entries back) end entries headSize (zeroed (headed mode end entries back counts buf) end size)
+  written-singly : insertedFrom mode (backOffsetOf mode end entries back) end entries headSize (zeroed (headed mode end entries back counts buf) end size)
       ≡ image mode es ++ drop size buf
   unfolding es size entriesSize
   written-singly =
       let tail = drop (finishedOf mode end entries back) buf in
-      ap (takenFrom mode (linksAt mode end entries back) end entries headSize) (cleared-partial mode end entries back counts buf es tells)
-      ∙ ap (λ (o : ℕ). takenFrom mode o end entries headSize (partial mode es [] ++ tail)) (told-links mode end entries back counts buf es tells)
-      ∙ ap (λ (o : ℕ). takenFrom mode (backOffset mode es) o entries headSize (partial mode es [] ++ tail)) at-end
-      ∙ ap (λ (n : ℕ). takenFrom mode (backOffset mode es) (entriesEnd es) n headSize (partial mode es [] ++ tail)) (sym in-number)
-      ∙ walked mode es tail image-small (standing-ids end entries buf bytes (asked .entire)) es [] refl
+      ap (insertedFrom mode (backOffsetOf mode end entries back) end entries headSize) (cleared-partial mode end entries back counts buf es tells)
+      ∙ ap (λ (o : ℕ). insertedFrom mode o end entries headSize (partial mode es [] ++ tail)) (told-back-offset mode end entries back counts buf es tells)
+      ∙ ap (λ (o : ℕ). insertedFrom mode (backOffset mode es) o entries headSize (partial mode es [] ++ tail)) at-end
+      ∙ ap (λ (n : ℕ). insertedFrom mode (backOffset mode es) (entriesEnd es) n headSize (partial mode es [] ++ tail)) (sym in-number)
+      ∙ walked mode es tail image-small (stored-ids end entries buf bytes (asked .entire)) es [] refl
       ∙ ap (λ (l : List ℕ). l ++ tail) (partial-all mode es)
 
   -- by tables
-  written-by-tables : parts counts entries ≡ true
-      → byTables mode (linksAt mode end entries back) end entries counts (zeroed (headed mode end entries back counts buf) (end + 16 * entries) size)
+  written-by-tables : partitions counts entries ≡ true
+      → insertedByTables mode (backOffsetOf mode end entries back) end entries counts (zeroed (headed mode end entries back counts buf) (end + 16 * entries) size)
       ≡ image mode es ++ drop size buf
   unfolding es size
   written-by-tables few =
@@ -132,41 +132,41 @@ module _ (mode : Mode) (end entries back : ℕ) (counts buf : List ℕ) (bytes :
       let X = between buf end (end + 16 * entries) in
       let Z = upToEntries mode es ++ X ++ backWords [] (backSizeOf mode es) ++ tail in
       let long : length X ≡ 16 * length (placedIn es) =
-      length-between buf end (end + 16 * entries) (omega arith) (omega (arith, asked .room))
+      length-between buf end (end + 16 * entries) (omega arith) (omega (arith, asked .inside))
       ∙ same end entries (sym in-number ∙ sym (length-placed headSize es)) in
-      ap (byTables mode (linksAt mode end entries back) end entries counts) (back-cleared mode end entries back counts buf es tells)
-      ∙ ap (λ (o : ℕ). byTables mode o end entries counts Z) (told-links mode end entries back counts buf es tells)
-      ∙ ap (λ (o : ℕ). byTables mode (backOffset mode es) o entries counts Z) at-end
-      ∙ ap (λ (n : ℕ). byTables mode (backOffset mode es) (entriesEnd es) n counts Z) (sym in-number)
+      ap (insertedByTables mode (backOffsetOf mode end entries back) end entries counts) (back-cleared mode end entries back counts buf es tells)
+      ∙ ap (λ (o : ℕ). insertedByTables mode o end entries counts Z) (told-back-offset mode end entries back counts buf es tells)
+      ∙ ap (λ (o : ℕ). insertedByTables mode (backOffset mode es) o entries counts Z) at-end
+      ∙ ap (λ (n : ℕ). insertedByTables mode (backOffset mode es) (entriesEnd es) n counts Z) (sym in-number)
       ∙ by-tables-image mode es X tail counts long image-small
-      (standing-ids end entries buf bytes (asked .entire)) (tells .tallies)
+      (stored-ids end entries buf bytes (asked .entire)) (tells .tallies)
       (counts-few counts (placedIn es) 4608 (and-second (leb 1024 entries) (noneAbove counts 4608) few) (tells .tallies))
     where
       same : (a n : ℕ) {m : ℕ} → n ≡ m → a + 16 * n - a ≡ 16 * m
       same a n e = omega arith
 
-  pub written-image : written mode end entries back counts buf ≡ finishedBuffer mode end entries back buf
-  unfolding written filledIn es size
-  written-image = go (parts counts entries) refl
+  pub written-image : written mode end entries back counts buf ≡ serialized mode end entries back buf
+  unfolding written allInserted es size
+  written-image = go (partitions counts entries) refl
     where
-      go : (t : Bool) → parts counts entries ≡ t
+      go : (t : Bool) → partitions counts entries ≡ t
           → cond t
-          (byTables mode (linksAt mode end entries back) end entries counts (zeroed (headed mode end entries back counts buf) (end + 16 * entries) size))
-          (takenFrom mode (linksAt mode end entries back) end entries headSize (zeroed (headed mode end entries back counts buf) end size))
-          ≡ finishedBuffer mode end entries back buf
+          (insertedByTables mode (backOffsetOf mode end entries back) end entries counts (zeroed (headed mode end entries back counts buf) (end + 16 * entries) size))
+          (insertedFrom mode (backOffsetOf mode end entries back) end entries headSize (zeroed (headed mode end entries back counts buf) end size))
+          ≡ serialized mode end entries back buf
       go true few = written-by-tables few
       go false many = written-singly
 
-  -- with the tables at hand, and the back array in its place
-  pub written-with-image : (words b1 b2 : List ℕ) → TablesAtHand words (standing buf end entries) → LinksStand mode end entries back buf
-      → b1 ≡ headed mode end entries back counts buf → b2 ≡ sets b1 end (cat le32 words) → b2 ≡ finishedBuffer mode end entries back buf
+  -- with precomputed tables, and the back array in its place
+  pub written-with-image : (words b1 b2 : List ℕ) → PrecomputedTables words (storedEntries buf end entries) → BackArrayStored mode end entries back buf
+      → b1 ≡ headed mode end entries back counts buf → b2 ≡ sets b1 end (cat le32 words) → b2 ≡ serialized mode end entries back buf
   unfolding es upToEntries image
-  written-with-image words b1 b2 at-hand linked front copied =
+  written-with-image words b1 b2 at-hand linked front copyable =
       let tail = drop (finishedOf mode end entries back) buf in
       let U = upToEntries mode es in
       let long : length (cat le32 words) ≡ 16 * entries =
       omega (arith, length-cat le32 4 length-le32 words, words-number words buf end entries at-hand) in
-      copied
+      copyable
       ∙ ap (λ (l : List ℕ). sets l end (cat le32 words)) front
       ∙ tables-stored mode end entries back counts buf es tells (cat le32 words) long
       ∙ ap₂ (λ (t l : List ℕ). U ++ t ++ l ++ tail) at-hand linked

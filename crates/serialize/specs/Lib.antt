@@ -1,4 +1,4 @@
--- What finishing gives: the image of entries that stand in a buffer.
+-- What serializing gives: the image of entries that stand in a buffer.
 pub mod Record
-pub mod Finish
+pub mod Serialize
 pub mod steps

@@ -1,5 +1,5 @@
 -- What describes the steps of code. No rule stands here, and nobody has to believe it: proofs/ joins it to the rules.
-pub mod Asked
 pub mod Insertion
-pub mod Parting
+pub mod Partition
+pub mod Preconditions
 pub mod Written

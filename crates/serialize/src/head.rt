@@ -15,15 +15,15 @@ const CHUNK_ID: u32 = 0x42445143;
 const BYTEORDER_CHECK: u32 = 0x62445371;
 
 // The first 24 bytes: letters, size, flag word, byte order, back size, back offset.
-pub(super) fn write_head(buf: &mut [u8], size: u32, flag: u32, back: u32, back_at: u32)
-    ensures { λ _. ⌜ now (buf .exit) ≡ sets (now (buf .entry)) 0 (headBytes size flag back «back_at») ⌝ }
+pub(super) fn write_head(buf: &mut [u8], size: u32, flag: u32, back: u32, back_offset: u32)
+    ensures { λ _. ⌜ now (buf .exit) ≡ sets (now (buf .entry)) 0 (headBytes size flag back «back_offset») ⌝ }
 {
     image::put_u32(&mut *buf, 0, CHUNK_ID);
     image::put_u32(&mut *buf, 4, size);
     image::put_u32(&mut *buf, 8, flag);
     image::put_u32(&mut *buf, 12, BYTEORDER_CHECK);
     image::put_u32(&mut *buf, 16, back);
-    image::put_u32(&mut *buf, 20, back_at);
+    image::put_u32(&mut *buf, 20, back_offset);
 }
 
 // The low 32 bits of a number.
@@ -47,7 +47,7 @@ fn row_offset(count: u64, o: u64) -> u64
     if count == 0 { 0 } else { o }
 }
 
-// The rows of the 256 tables, the first table with entries standing at `end`.
+// The rows of the 256 tables, of which the first with entries begins at `end`.
 pub(super) fn write_rows(buf: &mut [u8], counts: &[u32; 256], end: u32)
     ensures { λ _. ⌜ now (buf .exit) ≡ sets (now (buf .entry)) 24 (rowsFrom (now (counts .entry)) end 0 256) ⌝ }
 {
@@ -62,7 +62,7 @@ pub(super) fn write_rows(buf: &mut [u8], counts: &[u32; 256], end: u32)
     }
 }
 
-// Zeros from one place to another. A leaf for the crates above.
+// Zeros from one place to another. An internal function for the crates above.
 pub fn clear(buf: &mut [u8], from: usize, to: usize)
     requires { ⌜ (from ≤ to) × (to ≤ length (now buf)) ⌝ }
     ensures { λ _. ⌜ now (buf .exit) ≡ sets (now (buf .entry)) from (replicate (to - from) 0) ⌝ }

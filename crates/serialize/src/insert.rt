@@ -1,23 +1,36 @@
-// The entries taken into the hash tables and the back array.
+// Entries inserted one after the other into the hash tables and the back array.
 ghost use mathlib.Core.Path.{_≡_};
-ghost use Prim.Native.Nat.{ℕ, _+_, _*_, _<_, _≤_};
+ghost use mathlib.Core.List.{_++_};
+ghost use Prim.Native.Nat.{_+_, _<_, _≤_};
 ghost use lib.ListN.{length};
-ghost use Rattle.image.specs.Bytes.{word};
-ghost use Rattle.image.specs.Tables.{probeSequence, firstEmpty};
-ghost use Rattle.serialize.specs.steps.Insertion.{withBucket, withLink, entryTaken, takenFrom};
+ghost use lib.Seq.{sets};
+ghost use Rattle.image.specs.Bytes.{le32};
+ghost use Rattle.serialize.specs.steps.Insertion.{ProbePre, EmptyBucket, TableIn, PairInserted, holdsTable};
+ghost use Rattle.serialize.specs.steps.Insertion.{insertedByRow, backStored, hashAt, EntryPre, WalkPre};
+ghost use Rattle.serialize.specs.steps.Insertion.{entryInserted, insertedFrom};
 use image::Mode;
 use image::rows::bucket_number;
 use image::rows::table_at;
+use image::store::store_word;
+
+// A pair of hash and offset stored at `at`.
+pub(super) fn store_pair(buf: &mut [u8], at: usize, h: u32, offset: u32)
+    requires { ⌜ at + 8 ≤ length (now buf) ⌝ }
+    ensures { λ _. ⌜ now (buf .exit) ≡ sets (now (buf .entry)) at (le32 h ++ le32 offset) ⌝ }
+{
+    store_word(&mut *buf, at, h);
+    store_word(&mut *buf, at + 4, offset);
+}
 
 // The first empty of the n buckets at o, from bucket k on; bucket 0 where none is empty.
 fn first_empty(buf: &[u8], o: usize, n: usize, k: usize) -> usize
-    requires { ⌜ (k < n) × (o < 4294967296) × (n < 4294967296) ⌝ }
-    ensures { λ r. ⌜ (r ≡ firstEmpty (λ (i : ℕ). word (now (buf .entry)) (o + 8 * i + 4)) (probeSequence n n k)) × (r < n) ⌝ }
+    requires { ⌜ ProbePre (now buf) o n k ⌝ }
+    ensures { λ r. ⌜ EmptyBucket (now (buf .entry)) o n k r ⌝ }
 {
     let mut i = k;
     let mut left = n;
     while left > 0 {
-        if image::get_u32(buf, o + 8 * i + 4) == 0 {
+        if jhash::word::word(buf, o + 8 * i + 4) == 0 {
             return i;
         }
         i = if i + 1 < n { i + 1 } else { 0 };
@@ -26,58 +39,87 @@ fn first_empty(buf: &[u8], o: usize, n: usize, k: usize) -> usize
     0
 }
 
-// An entry of hash h at `at`, stored in the first empty bucket of its search.
-fn store_bucket(buf: &mut [u8], h: u32, at: u32)
-    ensures { λ _. ⌜ now (buf .exit) ≡ withBucket (now (buf .entry)) h at ⌝ }
+// A pair stored in the first empty bucket of its search among the n buckets at o.
+pub(super) fn insert_pair(buf: &mut [u8], o: usize, n: usize, h: u32, at: u32)
+    requires { ⌜ TableIn (now buf) o n ⌝ }
+    ensures { λ _. ⌜ PairInserted (now (buf .entry)) o n h at (now (buf .exit)) ⌝ }
+{
+    let k = first_empty(&*buf, o, n, (h / 256) as usize % n);
+    store_pair(&mut *buf, o + 8 * k, h, at);
+}
+
+// Whether there are buckets, and the n of them at o lie in the buffer.
+fn holds_table(buf: &[u8], o: usize, n: usize) -> bool
+    requires { ⌜ (o < 4294967296) × (n < 4294967296) ⌝ }
+    ensures { λ r. ⌜ r ≡ holdsTable (now (buf .entry)) o n ⌝ }
+{
+    1 <= n && o + 8 * n <= buf.len()
+}
+
+// A pair stored in the first empty bucket of its search in the table of its hash, which the row in the head gives.
+fn insert_by_row(buf: &mut [u8], h: u32, at: u32)
+    ensures { λ _. ⌜ now (buf .exit) ≡ insertedByRow (now (buf .entry)) h at ⌝ }
 {
     let o = table_at(&*buf, h);
     let n = bucket_number(&*buf, h);
-    if n == 0 {
+    if !holds_table(&*buf, o, n) {
         return;
     }
-    let k = first_empty(&*buf, o, n, (h / 256) as usize % n);
-    image::put_u32(&mut *buf, o + 8 * k, h);
-    image::put_u32(&mut *buf, o + 8 * k + 4, at);
+    insert_pair(&mut *buf, o, n, h, at);
 }
 
-// The link of an id; a one-way image has none.
-pub fn store_link(mode: Mode, buf: &mut [u8], links: usize, id: u32, at: u32)
-    requires { ⌜ links < 4294967296 ⌝ }
-    ensures { λ _. ⌜ now (buf .exit) ≡ withLink mode (now (buf .entry)) links id at ⌝ }
+// An id's offset stored in the back array, which begins at `back_offset`; a one-way image has none.
+pub(super) fn store_back(mode: Mode, buf: &mut [u8], back_offset: usize, id: u32, at: u32)
+    requires { ⌜ «back_offset» < 4294967296 ⌝ }
+    ensures { λ _. ⌜ now (buf .exit) ≡ backStored mode (now (buf .entry)) «back_offset» id at ⌝ }
 {
     match mode {
-        Mode::Twoway => image::put_u32(&mut *buf, links + 4 * (id as usize), at),
+        Mode::Twoway => image::put_u32(&mut *buf, back_offset + 4 * (id as usize), at),
         Mode::Oneway => {}
     }
 }
 
-// The entry at `at`, whose length word is n, taken into its table and the back array.
-fn take_entry(mode: Mode, links: usize, buf: &mut [u8], at: usize, n: usize)
-    requires { ⌜ (at + (8 + n) ≤ length (now buf)) × (1 ≤ n) × (n < 4294967296) × (at < 4294967296) × (links < 4294967296) ⌝ }
-    ensures { λ _. ⌜ now (buf .exit) ≡ entryTaken mode links (now (buf .entry)) at n ⌝ }
+// The hash of the name of the entry at `at`, whose length word is n.
+pub(super) fn hash_at(buf: &[u8], at: usize, n: usize) -> u32
+    requires { ⌜ EntryPre at n (now buf) ⌝ }
+    ensures { λ r. ⌜ r ≡ hashAt (now (buf .entry)) at n ⌝ }
 {
-    let id = image::get_u32(&*buf, at);
-    let hashed = jhash::name_hash(image::entries::name_at(&*buf, at, n));
-    let jhash::Hashed::Hash(h) = hashed else {
-        return;
+    let jhash::Hashed::Hash(h) = jhash::name_hash(image::entries::name_at(buf, at, n)) else {
+        return 0;
     };
-    store_bucket(&mut *buf, h, at as u32);
-    store_link(mode, &mut *buf, links, id, at as u32);
+    h
 }
 
-// The entries from `from` on, one after the other.
-pub fn take_singly(mode: Mode, links: usize, buf: &mut [u8], from: usize, end: usize, entries: u32)
-    requires { ⌜ (from ≤ end) × (end ≤ length (now buf)) × (end < 4294967296) × (links < 4294967296) ⌝ }
-    ensures { λ _. ⌜ now (buf .exit) ≡ takenFrom mode links end entries from (now (buf .entry)) ⌝ }
+// The entry at `at`, whose length word is n, inserted into its table and the back array.
+fn insert_entry(mode: Mode, back_offset: usize, buf: &mut [u8], at: usize, n: usize)
+    requires { ⌜ EntryPre at n (now buf) × («back_offset» < 4294967296) ⌝ }
+    ensures { λ _. ⌜ now (buf .exit) ≡ entryInserted mode «back_offset» (now (buf .entry)) at n ⌝ }
 {
-    let mut at = from;
+    let id = image::get_u32(&*buf, at);
+    let h = hash_at(&*buf, at, n);
+    insert_by_row(&mut *buf, h, at as u32);
+    store_back(mode, &mut *buf, back_offset, id, at as u32);
+}
+
+// The entries from 2,072 on, one after the other.
+pub(super) fn insert_entries(
+    mode: Mode,
+    back_offset: usize,
+    buf: &mut [u8],
+    end: usize,
+    entries: u32,
+)
+    requires { ⌜ WalkPre «back_offset» end (now buf) ⌝ }
+    ensures { λ _. ⌜ now (buf .exit) ≡ insertedFrom mode «back_offset» end entries 2072 (now (buf .entry)) ⌝ }
+{
+    let mut at = 2072;
     let mut left = entries;
     while left > 0 {
         let n = image::entries::whole_length(&*buf, at, end);
         if n == 0 {
             return;
         }
-        take_entry(mode, links, &mut *buf, at, n);
+        insert_entry(mode, back_offset, &mut *buf, at, n);
         at += 8 + n;
         left -= 1;
     }

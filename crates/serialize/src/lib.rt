@@ -1,16 +1,18 @@
-// Finishing: entries that stand in a buffer become an image, when head, tables and back array are written around them.
+// Serializing: entries that stand in a buffer become an image, when head, tables and back array are written around
+// them.
 ghost use mathlib.Core.Path.{_≡_};
 ghost use Prim.Native.Nat.{_≤_};
-ghost use Rattle.serialize.specs.Finish.{standing, finishedBuffer};
+ghost use Rattle.serialize.specs.Serialize.{serialized};
 ghost use Rattle.serialize.specs.Record.{finishedOf};
-ghost use Rattle.serialize.specs.steps.Asked.{Standing, TablesAtHand, LinksStand};
+ghost use Rattle.serialize.specs.steps.Preconditions.{ClosePrecondition, PrecomputedPre};
 ghost use Rattle.serialize.specs.steps.Written.{headed};
 use image::Mode;
 
-mod at_hand;
 pub mod counts; // counts.rt: none_above
 pub mod head; // head.rt: clear
 mod insert;
+mod partition;
+mod precomputed;
 pub mod size; // size.rt: the finished size and its parts
 mod tables;
 
@@ -21,20 +23,20 @@ fn write_front(mode: Mode, end: u64, entries: u32, back: u32, counts: &[u32; 256
 {
     let size = size::finished_size(mode, end, entries, back);
     let back_size = size::back_in(mode, back as u64);
-    let links = size::back_at(mode, end, entries, back);
+    let back_offset = size::back_offset(mode, end, entries, back);
     head::write_head(
         &mut *buf,
         size as u32,
         image::flag_word(mode),
         back_size as u32,
-        links as u32,
+        back_offset as u32,
     );
     head::write_rows(&mut *buf, counts, end as u32);
 }
 
-// Writes the image of the entries that stand from 2,072 to `end`: head and rows, tables and back array. A leaf for the
-// crates above, whose callers know what stands in the buffer: that many whole entries, with these table counts and this back
-// size (0 if one-way), in a buffer that has room for the image.
+// Writes the image of the entries that stand from 2,072 to `end`: head and rows, tables and back array. An internal
+// function for the crates above, whose callers know what stands in the buffer: that many whole entries, with these
+// table counts and this back size (0 if one-way), in a buffer that has room for the image.
 pub fn write_image(
     mode: Mode,
     end: u64,
@@ -43,15 +45,15 @@ pub fn write_image(
     counts: &[u32; 256],
     buf: &mut [u8],
 )
-    requires { ⌜ Standing mode end entries back (now counts) (now buf) ⌝ }
-    ensures { λ _. ⌜ now (buf .exit) ≡ finishedBuffer mode end entries back (now (buf .entry)) ⌝ }
+    requires { ⌜ ClosePrecondition mode end entries back (now counts) (now buf) ⌝ }
+    ensures { λ _. ⌜ now (buf .exit) ≡ serialized mode end entries back (now (buf .entry)) ⌝ }
 {
     write_front(mode, end, entries, back, counts, &mut *buf);
     let size = size::finished_size(mode, end, entries, back);
-    let links = size::back_at(mode, end, entries, back);
-    tables::fill_in(
+    let back_offset = size::back_offset(mode, end, entries, back);
+    tables::insert_all(
         mode,
-        links as usize,
+        back_offset as usize,
         &mut *buf,
         counts,
         end as usize,
@@ -60,8 +62,8 @@ pub fn write_image(
     );
 }
 
-// The same where the tables are at hand, as words, and entries and back array stand in the buffer already: head, rows and
-// tables are written, and no entry is read.
+// The same with precomputed tables, as words, where entries and back array stand in the buffer already: head, rows
+// and tables are written, and no entry is read.
 pub fn write_image_with(
     mode: Mode,
     end: u64,
@@ -71,9 +73,9 @@ pub fn write_image_with(
     tables: &[u32],
     buf: &mut [u8],
 )
-    requires { ⌜ Standing mode end entries back (now counts) (now buf) × TablesAtHand (now tables) (standing (now buf) end entries) × LinksStand mode end entries back (now buf) ⌝ }
-    ensures { λ _. ⌜ now (buf .exit) ≡ finishedBuffer mode end entries back (now (buf .entry)) ⌝ }
+    requires { ⌜ PrecomputedPre mode end entries back (now counts) (now tables) (now buf) ⌝ }
+    ensures { λ _. ⌜ now (buf .exit) ≡ serialized mode end entries back (now (buf .entry)) ⌝ }
 {
     write_front(mode, end, entries, back, counts, &mut *buf);
-    at_hand::copy_words(&mut *buf, end as usize, tables);
+    precomputed::copy_words(&mut *buf, end as usize, tables);
 }

@@ -1,9 +1,9 @@
-// The finished size, and where the back array stands.
+// The finished size (01's term), and where the back array begins.
 ghost use mathlib.Core.Path.{_≡_};
 ghost use Prim.Native.Nat.{_<_, _^_};
 ghost use Rattle.image.specs.Image.{backIn};
 ghost use Rattle.serialize.specs.Record.{finishedOf};
-ghost use Rattle.serialize.specs.steps.Written.{linksAt};
+ghost use Rattle.serialize.specs.steps.Written.{backOffsetOf};
 use image::Mode;
 
 // The back size that counts in a size: none in one-way mode.
@@ -24,10 +24,10 @@ pub fn finished_size(mode: Mode, end: u64, entries: u32, back: u32) -> u64
     end + 16 * (entries as u64) + 4 * back_in(mode, back as u64)
 }
 
-// Where the back array stands, 0 where there is none.
-pub(super) fn back_at(mode: Mode, end: u64, entries: u32, back: u32) -> u64
+// Where the back array begins, 0 where there is none.
+pub(super) fn back_offset(mode: Mode, end: u64, entries: u32, back: u32) -> u64
     requires { ⌜ end < 2 ^ 63 ⌝ }
-    ensures { λ r. ⌜ r ≡ linksAt mode end entries back ⌝ }
+    ensures { λ r. ⌜ r ≡ backOffsetOf mode end entries back ⌝ }
 {
     if back_in(mode, back as u64) == 0 {
         return 0;

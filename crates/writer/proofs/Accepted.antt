@@ -1,4 +1,5 @@
--- An accepted close: its checks are what finishing asks for, and what finishing leaves is what the rule says. Assumes nothing.
+-- An accepted close: its checks are the precondition of serializing, and what serializing leaves is what the rule says. Assumes
+-- nothing.
 use Prim.Native.Nat.{ℕ}
 use native.Mathlib.Omega.{arith}
 use mathlib.Core.Path.{_≡_, ap, _∙_}
@@ -10,8 +11,8 @@ use borrow.Author.Tests.{eqb-true}
 use Rattle.image.specs.Image.{backIn, backSize}
 use Rattle.image.specs.Stored.{whole}
 use Rattle.image.proofs.Bools.{and-first, and-second}
-use Rattle.serialize.specs.Finish.{finishedBuffer}
-use Rattle.serialize.specs.steps.Asked.{Standing}
+use Rattle.serialize.specs.Serialize.{serialized}
+use Rattle.serialize.specs.steps.Preconditions.{ClosePrecondition}
 use Rattle.writer.specs.State.{stateWith, fits, finishedSize, tooLarge, countsAgree}
 use Rattle.writer.specs.Close.{entryArea, recorded, consistent, closed, afterClose}
 use Rattle.writer.specs.declared.CQDBWriter.{CQDBWriter}
@@ -20,7 +21,7 @@ use Rattle.writer.proofs.Closes.{closes}
 
 module _ (w : CQDBWriter) (counts buf : List ℕ) (fit : fits (stateWith w counts buf) ≡ true)
     (fine : tooLarge (w .length) (finishedSize w) ≡ false) (all : consistent (stateWith w counts buf) ≡ true) where
-  pub stands : Standing (w .mode) (w .end) (w .entries) (w .back) counts buf
+  pub stands : ClosePrecondition (w .mode) (w .end) (w .entries) (w .back) counts buf
   stands =
       let s = stateWith w counts buf in
       let a : Bool = whole (w .entries) (entryArea s) in
@@ -34,10 +35,10 @@ module _ (w : CQDBWriter) (counts buf : List ℕ) (fit : fits (stateWith w count
         entire = and-first a b ab;
         agree = and-second a b ab;
         backs = eqb-true (w .back) (backIn (w .mode) (backSize (recorded s))) (and-second (a && b) c all);
-        room = omega (arith, l .0, f .same-length);
+        inside = omega (arith, l .0, f .same-length);
         small = l .1;
       }
 
-  pub closes-image : (b : List ℕ) → b ≡ finishedBuffer (w .mode) (w .end) (w .entries) (w .back) buf → stateWith w counts b ≡ afterClose (stateWith w counts buf)
+  pub closes-image : (b : List ℕ) → b ≡ serialized (w .mode) (w .end) (w .entries) (w .back) buf → stateWith w counts b ≡ afterClose (stateWith w counts buf)
   unfolding closed
   closes-image b e = ap (stateWith w counts) e ∙ closes (stateWith w counts buf) fit fine all .1

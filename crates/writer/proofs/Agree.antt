@@ -57,7 +57,8 @@ tallied-count (e ∷ es) counts o t l =
     let h = hashOf (e .name) in
     ap (λ (c : List ℕ). getD c t 0) (tallied-cons counts e es)
     ∙ tallied-count es (raisedCounts counts h) (o + entrySize e) t (omega (arith, length-raised counts h))
-    ∙ sum (getD (raisedCounts counts h) t 0) (getD counts t 0) (cond (eqb (tableOf h) t) 1 0) (count t (placed (o + entrySize e) es)) (count t (p ∷ placed (o + entrySize e) es))
+    ∙ sum (getD (raisedCounts counts h) t 0) (getD counts t 0) (cond (eqb (tableOf h) t) 1 0) (count t (placed (o + entrySize e) es))
+    (count t (p ∷ placed (o + entrySize e) es))
     (getD-raised counts h t l) (count-cons t p (placed (o + entrySize e) es))
   where
     sum : (x y b z w : ℕ) → x ≡ y + b → w ≡ b + z → x + z ≡ y + w

@@ -13,7 +13,7 @@ use Rattle.writer.specs.declared.Repeats.{Repeats}
 use Rattle.writer.specs.declared.Repeats.the-variants.{Off, On}
 use Rattle.writer.specs.State.{State, stateWith}
 use Rattle.writer.specs.Numbers.{known, modeOf, repeatsOf, repeatsWord}
-use Rattle.writer.specs.CRecord.{Held, held, knownIn, stateOf, heldOf}
+use Rattle.writer.specs.CRecord.{CState, cState, knownIn, stateOf, cStateOf}
 
 -- a number that stands for a mode is that mode's flag word
 mode-word : (mode : ℕ) → mode ≤ 1 → flagWord (modeOf mode) ≡ mode
@@ -32,12 +32,12 @@ repeats-word repeats fine = go (eqb repeats 0) refl
     go false e = omega (arith, eqb-false repeats 0 e)
 
 -- C's record and 01's stand for each other, so that a refused call hands back the very record
-pub back-and-forth : (h : Held) → knownIn h ≡ true → heldOf (stateOf h) ≡ h
+pub back-and-forth : (h : CState) → knownIn h ≡ true → cStateOf (stateOf h) ≡ h
 back-and-forth h fine =
     let w = h .writer in
     ap₂
     (λ (m r : ℕ).
-    held
+    cState
     (record { mode = m; repeats = r; entries = w .entries; back = w .back; length = w .length; end = w .end })
     (h .counts)
     (h .buffer))
@@ -45,8 +45,8 @@ back-and-forth h fine =
     (repeats-word (w .repeats) (leb-true (w .repeats) 1 (and-second (leb (w .mode) 1) (leb (w .repeats) 1) fine)))
 
 -- the other way round: 01's record, as C has it, is one of 01's and stands for itself
-pub held-known : (s : State) → knownIn (heldOf s) ≡ true
-held-known s = go (s .writer .mode) (s .writer .repeats)
+pub cState-known : (s : State) → knownIn (cStateOf s) ≡ true
+cState-known s = go (s .writer .mode) (s .writer .repeats)
   where
     go : (mode : Mode) (repeats : Repeats) → known (flagWord mode) (repeatsWord repeats) ≡ true
     go Twoway Off = refl
@@ -62,7 +62,7 @@ repeats-back : (repeats : Repeats) → repeatsOf (repeatsWord repeats) ≡ repea
 repeats-back Off = refl
 repeats-back On = refl
 
-pub forth-and-back : (s : State) → stateOf (heldOf s) ≡ s
+pub forth-and-back : (s : State) → stateOf (cStateOf s) ≡ s
 forth-and-back s =
     let w = s .writer in
     ap₂ {C = State}

@@ -1,4 +1,5 @@
--- The walk over the earlier entries: what it gives in each case, as its checks go, and what put makes of it. Assumes nothing.
+-- The walk over the earlier entries: what it gives in each case, as its checks go, and what put makes of it. Assumes
+-- nothing.
 use Prim.Native.Nat.{ℕ}
 use mathlib.Core.Path.{_≡_, refl, sym, ap, _∙_}
 use mathlib.Core.Bool.{Bool, true, false, cond, not, _&&_}
@@ -33,7 +34,8 @@ module _ (s : State) (name : List ℕ) where
       go true false = refl
       go false b = refl
 
--- w and these bytes: b says whether the entries are whole, tally has their counts, k is their back size, m says whether one has the name
+-- w and these bytes: b says whether the entries are whole, tally has their counts, k is their back size, m says
+-- whether one has the name
 module _ (w : CQDBWriter) (counts buf name : List ℕ) (b : Bool) (is-whole : b ≡ whole (w .entries) (entryArea (stateWith w counts buf))) where
   abbrev s : State
   s = stateWith w counts buf
@@ -50,7 +52,8 @@ module _ (w : CQDBWriter) (counts buf name : List ℕ) (b : Bool) (is-whole : b 
 
     pub other-counts : d ≡ false → 4 ≡ walkRefusal (stateWith w counts buf) name
     other-counts differ =
-        fails s name (and3-second-fails (whole (w .entries) (entryArea s)) (countsAgree counts (recorded s)) backs (sym is-whole ∙ yes-whole) (sym agree ∙ differ))
+        fails s name
+        (and3-second-fails (whole (w .entries) (entryArea s)) (countsAgree counts (recorded s)) backs (sym is-whole ∙ yes-whole) (sym agree ∙ differ))
 
     module _ (yes-same : d ≡ true) (k n : ℕ) (is-back : k ≡ backSize (recorded s)) (is-in : n ≡ backIn (w .mode) k) where
       by-back : (x : Bool) → x ≡ eqb (w .back) n → x ≡ consistent s

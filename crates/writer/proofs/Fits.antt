@@ -13,6 +13,7 @@ use Rattle.image.specs.declared.Mode.the-variants.{Twoway, Oneway}
 use Rattle.image.proofs.Bools.{and-first, and-second, or-false-first, or-false-second}
 use Rattle.writer.specs.State.{stateWith, noneAbove, fits, tooLarge}
 use Rattle.writer.specs.Put.{raised}
+use Rattle.writer.specs.steps.Earlier.{EndInside}
 use Rattle.writer.specs.declared.CQDBWriter.{CQDBWriter}
 
 module _ (w : CQDBWriter) (counts buf : List ℕ) where
@@ -57,6 +58,9 @@ fitting w counts buf h =
       high = leb-true (w .end) (w .length) (and-second (a && b) c abc);
       none = and-second (a && b && c) d h;
     }
+
+pub end-inside : {w : CQDBWriter} {counts buf : List ℕ} → Fitting w counts buf → EndInside w buf
+end-inside f = record { low = f .low; high = omega (arith, f .high, f .same-length) }
 
 -- ---- sizes
 

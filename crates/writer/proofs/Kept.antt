@@ -1,4 +1,4 @@
--- A put changes its own entry's bytes alone, and an accepted close leaves the entries (`specs/Kept`). Assumes nothing.
+-- A put changes its own entry's bytes alone, and an accepted close leaves the entries (`specs/theorems/Kept`). Assumes nothing.
 use Prim.Native.Nat.{ℕ, suc, _+_, _-_, _≤_, _<_}
 use native.Mathlib.Omega.{arith}
 use mathlib.Core.Path.{_≡_, refl, sym, ap, _∙_}
@@ -17,9 +17,9 @@ use Rattle.writer.specs.State.{State, fits, finishedSize, tooLarge, coun
 use Rattle.writer.specs.Put.{putRefusal, appended, afterPut}
 use Rattle.image.specs.Stored.{whole}
 use Rattle.writer.specs.Close.{entryArea, recorded, closeRefusal, closedSize, closed, afterClose}
-use Rattle.writer.specs.Kept.{Kept}
+use Rattle.writer.specs.theorems.Kept.{Kept}
 use Rattle.image.proofs.Between.{take-sets}
-use Rattle.serialize.proofs.WrittenImage.{area-kept, standing-end}
+use Rattle.serialize.proofs.WrittenImage.{area-kept, stored-end}
 use Rattle.writer.proofs.Fits.{fitting}
 
 -- ---- runs of stores
@@ -103,7 +103,7 @@ module _ (s : State) (bytes : (i : ℕ) → getD (s .buffer) i 0 < 256) (accepte
       let a = accepted-whole s accepted in
       let w = s .writer in
       let f = fitting w (s .counts) (s .buffer) (a .0) in
-      let ends = standing-end (w .end) (w .entries) (s .buffer) bytes (a .1) (f .low) (omega (arith, f .high, f .same-length)) in
+      let ends = stored-end (w .end) (w .entries) (s .buffer) bytes (a .1) (f .low) (omega (arith, f .high, f .same-length)) in
       ap entryArea is-closed
       ∙ area-in-image s (recorded s) (w .end) (drop (closedSize s) (s .buffer)) ends
       ∙ sym (area-kept (w .end) (w .entries) (s .buffer) bytes (a .1))

@@ -1,4 +1,4 @@
--- A buffer that grows: what the record takes. Assumes nothing.
+-- A buffer that grows: the record after it. Assumes nothing.
 use Prim.Native.Nat.{ℕ, _≤_, _<_}
 use mathlib.Core.Path.{_≡_, refl}
 use borrow.Author.Tests.{lt-ltb, le-ltb}
@@ -9,6 +9,6 @@ use Rattle.writer.specs.Grown.{withLength, grownRefusal, grownWriter}
 pub shorter-refused : (w : CQDBWriter) (n : ℕ) → n < w .length → (2 ≡ grownRefusal w n) × (w ≡ grownWriter w n)
 shorter-refused w n h = rw (lt-ltb n (w .length) h) (refl, refl)
 
--- any other is taken
-pub longer-taken : (w : CQDBWriter) (n : ℕ) → w .length ≤ n → (0 ≡ grownRefusal w n) × (withLength w n ≡ grownWriter w n)
-longer-taken w n h = rw (le-ltb n (w .length) h) (refl, refl)
+-- any other is accepted
+pub longer-accepted : (w : CQDBWriter) (n : ℕ) → w .length ≤ n → (0 ≡ grownRefusal w n) × (withLength w n ≡ grownWriter w n)
+longer-accepted w n h = rw (le-ltb n (w .length) h) (refl, refl)

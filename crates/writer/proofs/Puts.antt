@@ -60,14 +60,14 @@ module _ (s : State) (e : Entry) where
   pub record Passed : Type 0 where
     pub fitted : fits s ≡ true
     pub zero-free : hasZero (e .name) ≡ false
-    pub roomy : full ≡ false
+    pub has-capacity : full ≡ false
 
   pub passed : putRefusal s e ≡ 0 → Passed
   passed h = go (fits s) (hasZero (e .name)) (eqb early 0) full refl refl refl refl (sym by-number ∙ h)
     where
       go : (f z b t : Bool) → fits s ≡ f → hasZero (e .name) ≡ z → eqb early 0 ≡ b → full ≡ t
           → _≡_ {A = ℕ} (cond (not f) 2 (cond z 13 (cond b (cond t 3 0) early))) 0 → Passed
-      go true false true false p q b r e = record { fitted = p; zero-free = q; roomy = r }
+      go true false true false p q b r e = record { fitted = p; zero-free = q; has-capacity = r }
       go true false true true p q b r e = absurd (some-none 2 e)
       go true false false t p q b r e = absurd (eqb-false early 0 b e)
       go true true b t p q g r e = absurd (some-none 12 e)

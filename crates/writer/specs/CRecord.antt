@@ -32,21 +32,21 @@ recordOf w =
     }
 
 -- what a call is lent, as C has it: the record, its 256 table counts and the buffer
-pub record Held : Type 0 where
+pub record CState : Type 0 where
   pub writer : Record
   pub counts : List ℕ
   pub buffer : List ℕ
 
-abbrev pub held : Record → List ℕ → List ℕ → Held
-held w counts buffer = record { writer = w; counts = counts; buffer = buffer }
+abbrev pub cState : Record → List ℕ → List ℕ → CState
+cState w counts buffer = record { writer = w; counts = counts; buffer = buffer }
 
 -- the state of 01's rules that it stands for, and the other way round
-abbrev pub stateOf : Held → State
+abbrev pub stateOf : CState → State
 stateOf h = stateWith (writerOf (h .writer)) (h .counts) (h .buffer)
 
-abbrev pub heldOf : State → Held
-heldOf s = held (recordOf (s .writer)) (s .counts) (s .buffer)
+abbrev pub cStateOf : State → CState
+cStateOf s = cState (recordOf (s .writer)) (s .counts) (s .buffer)
 
 -- is a lent record one of 01's?
-abbrev pub knownIn : Held → Bool
+abbrev pub knownIn : CState → Bool
 knownIn h = known (h .writer .mode) (h .writer .repeats)

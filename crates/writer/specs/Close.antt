@@ -18,15 +18,17 @@ entryArea s = between (s .buffer) headSize (s .writer .end)
 abbrev pub recorded : State → List Entry
 recorded s = entriesIn (s .writer .entries) (entryArea s)
 
--- the bytes from 2,072 to end are the recorded number of whole entries, with the table counts and the back size of the record (back size 0 if one-way)
+-- the bytes from 2,072 to end are the recorded number of whole entries, with the table counts and the back size of
+-- the record (back size 0 if one-way)
 abbrev pub consistent : State → Bool
 consistent s =
     whole (s .writer .entries) (entryArea s)
     && countsAgree (s .counts) (recorded s)
     && eqb (s .writer .back) (backIn (s .writer .mode) (backSize (recorded s)))
 
--- 2 when the record doesn't fit the buffer; then 4 when the bytes from 2,072 to end aren't the recorded number of whole entries, when their table
--- counts or back size differ from the record, or when the finished size exceeds either limit. 0: no refusal
+-- 2 when the record doesn't fit the buffer; then 4 when the bytes from 2,072 to end aren't the recorded number of
+-- whole entries, when their table counts or back size differ from the record, or when the finished size exceeds
+-- either limit. 0: no refusal
 unfoldable pub closeRefusal : State → ℕ
 closeRefusal s =
     cond (not (fits s)) 2 (cond (consistent s && not (tooLarge (s .writer .length) (finishedSize (s .writer)))) 0 4)

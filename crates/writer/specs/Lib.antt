@@ -2,8 +2,8 @@
 pub mod State
 pub mod Put
 pub mod Close
-pub mod Kept
 pub mod Grown
 pub mod Numbers
 pub mod CRecord
+pub mod theorems
 pub mod steps

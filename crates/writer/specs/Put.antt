@@ -40,15 +40,17 @@ unfoldable pub writerAfter : CQDBWriter → Entry → CQDBWriter
 unfolding writerWith
 writerAfter w e = writerWith w (length (e .name)) (e .id)
 
--- 02 (viii): with repeats off, put walks the earlier entries. A walk that fails close's checks of entries, counts or back size; otherwise an equal name
+-- 02 (viii): with repeats off, put walks the earlier entries. A walk that fails close's checks of entries, counts or
+-- back size; otherwise an equal name
 abbrev pub walkFails : State → Bool
 walkFails s = not (consistent s) && refusesRepeats (s .writer .repeats)
 
 abbrev pub repeated : State → List ℕ → Bool
 repeated s name = containsName name (recorded s) && refusesRepeats (s .writer .repeats)
 
--- 2 when the record doesn't fit the buffer; then 13 for a zero byte in the name (02 (v)); with repeats off, 4 when the walk fails, otherwise 16 when it
--- meets an equal name (02 (viii)); then 3 when the finished size, all after this put, exceeds the buffer or 4,294,967,295. 0: no refusal
+-- 2 when the record doesn't fit the buffer; then 13 for a zero byte in the name (02 (v)); with repeats off, 4 when
+-- the walk fails, otherwise 16 when it meets an equal name (02 (viii)); then 3 when the finished size, all after this
+-- put, exceeds the buffer or 4,294,967,295. 0: no refusal
 unfoldable pub putRefusal : State → Entry → ℕ
 putRefusal s e =
     cond (not (fits s)) 2

@@ -12,8 +12,8 @@ use Rattle.writer.specs.declared.Repeats.the-variants.{Off, On}
 use Rattle.writer.specs.declared.CQDBWriter.{CQDBWriter}
 use Rattle.writer.specs.declared.Begun.{Begun}
 use Rattle.writer.specs.declared.Begun.the-variants.{Fresh, Refused}
--- the rules of the record that finishing has too: the finished size; no table count exceeds a number; table counts agree
--- with entries
+-- the rules of the record that serializing has too: the finished size; no table count exceeds a number; table counts
+-- agree with entries
 pub use Rattle.serialize.specs.Record.{finishedOf, noneAbove, countsAgree}
 
 -- what a call is lent: the writer record, whose 256 table counts are lent apart, and the buffer
@@ -25,12 +25,14 @@ pub record State : Type 0 where
 abbrev pub stateWith : CQDBWriter → List ℕ → List ℕ → State
 stateWith w counts buffer = record { writer = w; counts = counts; buffer = buffer }
 
--- 02 (viii): a writer refuses a name that it already holds, unless begun in the repeats mode. The writer record carries this choice, through every call
+-- 02 (viii): a writer refuses a name that it already holds, unless begun in the repeats mode. The writer record
+-- carries this choice, through every call
 abbrev pub refusesRepeats : Repeats → Bool
 refusesRepeats Off = true
 refusesRepeats On = false
 
--- the record fits (01's term) a buffer when the lengths agree, 2,072 ≤ end ≤ length, and no table count exceeds the number of entries
+-- the record fits (01's term) a buffer when the lengths agree, 2,072 ≤ end ≤ length, and no table count exceeds the
+-- number of entries
 unfoldable pub fits : State → Bool
 fits s =
     eqb (s .writer .length) (length (s .buffer))
@@ -44,14 +46,17 @@ finishedSize w = finishedOf (w .mode) (w .end) (w .entries) (w .back)
 
 -- a size that exceeds the buffer or 4,294,967,295
 abbrev pub tooLarge : ℕ → ℕ → Bool
-tooLarge room size = ltb room size || ltb 4294967295 size
+tooLarge capacity size = ltb capacity size || ltb 4294967295 size
 
--- a fresh record: the chosen mode, the chosen repeats mode (02 (viii)), the buffer's length, end 2,072 and otherwise zeros
+-- a fresh record: the chosen mode, the chosen repeats mode (02 (viii)), the buffer's length, end 2,072 and otherwise
+-- zeros
 abbrev pub freshWriter : Mode → Repeats → ℕ → CQDBWriter
-freshWriter mode repeats n = record { mode = mode; repeats = repeats; length = n; end = headSize; entries = 0; back = 0 }
+freshWriter mode repeats n =
+    record { mode = mode; repeats = repeats; length = n; end = headSize; entries = 0; back = 0 }
 
 unfoldable pub fresh : Mode → Repeats → List ℕ → State
-fresh mode repeats buffer = record { writer = freshWriter mode repeats (length buffer); counts = replicate 256 0; buffer = buffer }
+fresh mode repeats buffer =
+    record { writer = freshWriter mode repeats (length buffer); counts = replicate 256 0; buffer = buffer }
 
 -- begin gives 1 when the buffer, of n bytes, is under 2,072 bytes; 0 stands for no refusal
 abbrev pub beginRefusal : ℕ → ℕ

@@ -1,12 +1,9 @@
-// Whether the bytes from 2,072 to the record's end are its entries, and whether one of them has a name already. One walk tells
-// both.
+// Whether the bytes from 2,072 to the record's end are its entries, and whether one of them has a name already, by
+// one walk.
 ghost use mathlib.Core.Path.{_≡_};
-ghost use Prim.Native.Nat.{_≤_};
-ghost use lib.ListN.{length};
 ghost use Rattle.writer.specs.State.{stateWith};
 ghost use Rattle.writer.specs.Close.{consistent};
-ghost use Rattle.writer.specs.steps.Earlier.{walkRefusal, earlierRefusal};
-ghost use Rattle.writer.specs.steps.Earlier.{sameCounts};
+ghost use Rattle.writer.specs.steps.Earlier.{EndInside, sameCounts, walkRefusal, earlierRefusal};
 use super::CQDBWriter;
 use super::Repeats;
 
@@ -23,10 +20,10 @@ fn same_counts(a: &[u32; 256], b: &[u32; 256]) -> bool
     same
 }
 
-// What a walk over the record's entries gives: 4 where they are not whole, or have not the record's counts and back size;
-// otherwise 16 where one has this name; 0 where none has.
+// What a walk over the record's entries gives: 4 where they are not whole or have other counts or another back size
+// than the record; otherwise 16 where one has this name; 0 where none has.
 pub(super) fn walk_refusal(w: CQDBWriter, counts: &[u32; 256], buf: &[u8], name: &[u8]) -> u32
-    requires { ⌜ (2072 ≤ w .end) × (w .end ≤ length (now buf)) ⌝ }
+    requires { ⌜ EndInside w (now buf) ⌝ }
     ensures { λ r. ⌜ r ≡ walkRefusal (stateWith w (now (counts .entry)) (now (buf .entry))) (now (name .entry)) ⌝ }
 {
     let mut tally = [0; 256];
@@ -46,15 +43,15 @@ pub(super) fn walk_refusal(w: CQDBWriter, counts: &[u32; 256], buf: &[u8], name:
 
 // Whether the entries are whole and have the record's counts and back size. No name is sought: the empty one stands in.
 pub(super) fn agrees(w: CQDBWriter, counts: &[u32; 256], buf: &[u8]) -> bool
-    requires { ⌜ (2072 ≤ w .end) × (w .end ≤ length (now buf)) ⌝ }
+    requires { ⌜ EndInside w (now buf) ⌝ }
     ensures { λ r. ⌜ r ≡ consistent (stateWith w (now (counts .entry)) (now (buf .entry))) ⌝ }
 {
     walk_refusal(w, counts, buf, &buf[..0]) != 4
 }
 
-// The refusal that the earlier entries make due to a put of this name, 0 for none. With repeats on they are not looked at.
+// The refusal of a put of this name because of the earlier entries, 0 for none. With repeats on they are not walked.
 pub(super) fn earlier_refusal(w: CQDBWriter, counts: &[u32; 256], buf: &[u8], name: &[u8]) -> u32
-    requires { ⌜ (2072 ≤ w .end) × (w .end ≤ length (now buf)) ⌝ }
+    requires { ⌜ EndInside w (now buf) ⌝ }
     ensures { λ r. ⌜ r ≡ earlierRefusal (stateWith w (now (counts .entry)) (now (buf .entry))) (now (name .entry)) ⌝ }
 {
     let repeats = w.repeats;

@@ -8,7 +8,8 @@ ghost use Rattle.writer.specs.Put.{entryOf};
 use image::store::store_bytes;
 use image::store::store_word;
 
-// An entry stored from `at` on: id, name length plus 1, the name, one zero byte. A leaf: the caller knows that there is room.
+// An entry stored from `at` on: id, name length plus 1, the name, one zero byte. An internal function: the caller
+// knows that the entry fits into the buffer.
 pub fn store(buf: &mut [u8], at: usize, name: &[u8], id: u32)
     requires { ⌜ (at + (length (now name) + 9) ≤ length (now buf)) × (length (now name) < 4294967295) ⌝ }
     ensures { λ _. ⌜ now (buf .exit) ≡ sets (now (buf .entry)) at (entryBytes (entryOf (now (name .entry)) id)) ⌝ }

@@ -1,7 +1,6 @@
 // Writing: begin, put and close over one lent buffer, for every writer record and every buffer.
 ghost use mathlib.Core.Path.{_≡_};
 ghost use lib.ListN.{length};
-ghost use Rattle.jhash.specs.NameHash.{hashOf};
 ghost use Rattle.writer.specs.State.{stateWith, beginning, begunOf, countsBegun};
 ghost use Rattle.writer.specs.Put.{putRefusal, appended, afterPut, entryOf};
 ghost use Rattle.writer.specs.Close.{closeRefusal, closing, closedOf, afterClose};
@@ -21,8 +20,8 @@ pub enum Repeats {
     On,
 }
 
-// The writer record (`CQDBWriter` of cqdb-rs), but for its 256 table counts, which are lent apart: the mode, the repeats mode,
-// the buffer's length, the end of the entries, the number of entries and the back size.
+// The writer record (`CQDBWriter` of cqdb-rs), but for its 256 table counts, which are lent apart: the mode, the
+// repeats mode, the buffer's length, the end of the entries, the number of entries and the back size.
 pub struct CQDBWriter {
     pub mode: Mode,
     pub repeats: Repeats,
@@ -38,7 +37,7 @@ pub enum Begun {
     Refused(u32),
 }
 
-// What put and grown answer, the number of the refusal or 0 where the call is accepted, and the record that it hands
+// What put and grown answer: the number of the refusal, or 0 where the call is accepted; and the record that it hands
 // back.
 pub struct PutAnswer {
     pub refusal: u32,
@@ -78,7 +77,9 @@ pub fn begin(mode: Mode, repeats: Repeats, counts: &mut [u32; 256], buf: &[u8]) 
 
 // The number of the refusal that is due to a put, 0 where it is accepted. All of put's decision stands here.
 fn put_refusal(w: CQDBWriter, counts: &[u32; 256], buf: &[u8], name: &[u8], id: u32) -> u32
-    ensures { λ r. ⌜ r ≡ putRefusal (stateWith w (now (counts .entry)) (now (buf .entry))) (entryOf (now (name .entry)) id) ⌝ }
+    ensures { λ r. ⌜
+        r ≡ putRefusal (stateWith w (now (counts .entry)) (now (buf .entry))) (entryOf (now (name .entry)) id)
+        ⌝ }
 {
     if !record::fits(w, counts, buf) {
         return 2;
@@ -99,25 +100,8 @@ fn put_refusal(w: CQDBWriter, counts: &[u32; 256], buf: &[u8], name: &[u8], id: 
     0
 }
 
-// What an accepted put does, with the hash of its name at hand: it appends an entry, id, name length plus 1, the name, one zero
-// byte; and raises the counts. A leaf for the crates above, whose callers know that nothing is due to the put.
-pub fn append_by(
-    w: CQDBWriter,
-    counts: &mut [u32; 256],
-    buf: &mut [u8],
-    name: &[u8],
-    id: u32,
-    h: u32,
-) -> CQDBWriter
-    requires { ⌜ (putRefusal (stateWith w (now counts) (now buf)) (entryOf (now name) id) ≡ 0) × (h ≡ hashOf (now name)) ⌝ }
-    ensures { λ r. ⌜ stateWith r (now (counts .exit)) (now (buf .exit)) ≡ appended (stateWith w (now (counts .entry)) (now (buf .entry))) (entryOf (now (name .entry)) id) ⌝ }
-{
-    image::entries::raise(&mut *counts, h);
-    entry::store(&mut *buf, w.end as usize, name, id);
-    record::after(w, name.len(), id)
-}
-
-// What an accepted put does.
+// What an accepted put does: it appends an entry (id, name length plus 1, the name, one zero byte) and raises the
+// counts.
 fn append(
     w: CQDBWriter,
     counts: &mut [u32; 256],
@@ -126,12 +110,17 @@ fn append(
     id: u32,
 ) -> CQDBWriter
     requires { ⌜ putRefusal (stateWith w (now counts) (now buf)) (entryOf (now name) id) ≡ 0 ⌝ }
-    ensures { λ r. ⌜ stateWith r (now (counts .exit)) (now (buf .exit)) ≡ appended (stateWith w (now (counts .entry)) (now (buf .entry))) (entryOf (now (name .entry)) id) ⌝ }
+    ensures { λ r. ⌜
+        stateWith r (now (counts .exit)) (now (buf .exit))
+        ≡ appended (stateWith w (now (counts .entry)) (now (buf .entry))) (entryOf (now (name .entry)) id)
+        ⌝ }
 {
     let jhash::Hashed::Hash(h) = jhash::name_hash(name) else {
         return w;
     };
-    append_by(w, &mut *counts, &mut *buf, name, id, h)
+    image::entries::raise(&mut *counts, h);
+    entry::store(&mut *buf, w.end as usize, name, id);
+    record::after(w, name.len(), id)
 }
 
 // Appends an entry, or is refused and changes nothing.
@@ -142,8 +131,13 @@ pub fn put(
     name: &[u8],
     id: u32,
 ) -> PutAnswer
-    ensures answer { λ r. ⌜ r .refusal ≡ putRefusal (stateWith w (now (counts .entry)) (now (buf .entry))) (entryOf (now (name .entry)) id) ⌝ }
-    ensures leaves { λ r. ⌜ stateWith (r .writer) (now (counts .exit)) (now (buf .exit)) ≡ afterPut (stateWith w (now (counts .entry)) (now (buf .entry))) (entryOf (now (name .entry)) id) ⌝ }
+    ensures answer { λ r. ⌜
+        r .refusal ≡ putRefusal (stateWith w (now (counts .entry)) (now (buf .entry))) (entryOf (now (name .entry)) id)
+        ⌝ }
+    ensures leaves { λ r. ⌜
+        stateWith (r .writer) (now (counts .exit)) (now (buf .exit))
+        ≡ afterPut (stateWith w (now (counts .entry)) (now (buf .entry))) (entryOf (now (name .entry)) id)
+        ⌝ }
 {
     let refusal = put_refusal(w, &*counts, &*buf, name, id);
     if refusal != 0 {
@@ -203,16 +197,19 @@ pub fn write_closed(w: CQDBWriter, counts: &[u32; 256], buf: &mut [u8]) -> u32
     requires { ⌜ closeRefusal (stateWith w (now counts) (now buf)) ≡ 0 ⌝ }
     ensures { λ r. ⌜ WriteClosedPost (stateWith w (now (counts .entry)) (now (buf .entry))) r (now (buf .exit)) ⌝ }
 {
-    let mode = w.mode;
-    let size = serialize::size::finished_size(mode, w.end, w.entries, w.back);
-    serialize::write_image(mode, w.end, w.entries, w.back, counts, &mut *buf);
+    let image_mode = w.mode;
+    let size = serialize::size::finished_size(image_mode, w.end, w.entries, w.back);
+    serialize::write_image(image_mode, w.end, w.entries, w.back, counts, &mut *buf);
     size as u32
 }
 
 // Writes head, tables and back array into the lent buffer, and gives the image's size. May be called often.
 pub fn close(w: CQDBWriter, counts: &[u32; 256], buf: &mut [u8]) -> CloseAnswer
     ensures answer { λ r. ⌜ closedOf (r .answer) ≡ closing (stateWith w (now (counts .entry)) (now (buf .entry))) ⌝ }
-    ensures leaves { λ r. ⌜ stateWith (r .writer) (now (counts .entry)) (now (buf .exit)) ≡ afterClose (stateWith w (now (counts .entry)) (now (buf .entry))) ⌝ }
+    ensures leaves { λ r. ⌜
+        stateWith (r .writer) (now (counts .entry)) (now (buf .exit))
+        ≡ afterClose (stateWith w (now (counts .entry)) (now (buf .entry)))
+        ⌝ }
 {
     let refusal = close_refusal(w, counts, &*buf);
     if refusal != 0 {

@@ -23,10 +23,10 @@ pub(super) fn fits(w: CQDBWriter, counts: &[u32; 256], buf: &[u8]) -> bool
 }
 
 // Whether a size exceeds the buffer or 4,294,967,295.
-pub fn too_large(room: u64, size: u64) -> bool
-    ensures { λ r. ⌜ r ≡ tooLarge room size ⌝ }
+pub fn too_large(capacity: u64, size: u64) -> bool
+    ensures { λ r. ⌜ r ≡ tooLarge capacity size ⌝ }
 {
-    room < size || 4294967295 < size
+    capacity < size || 4294967295 < size
 }
 
 // The back size after a put, which may be 2^32.

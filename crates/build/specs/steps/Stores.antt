@@ -10,7 +10,7 @@ use Rattle.image.specs.Stored.{between}
 use Rattle.image.specs.Image.{Entry, headSize, entryBytes, placed, count, backWords, entriesEnd, backSizeOf, imageSize, image}
 use Rattle.image.specs.declared.Mode.{Mode}
 use Rattle.packed.specs.Names.{names, invalidEnds}
-use Rattle.serialize.specs.steps.Asked.{TablesAtHand}
+use Rattle.serialize.specs.steps.Preconditions.{PrecomputedTables}
 use Rattle.build.specs.steps.Capacity.{RoomForAll}
 use Rattle.build.specs.steps.Steps.{entriesListed}
 
@@ -49,7 +49,7 @@ pub record WriteListPre (mode : Mode) (buf bytes ends ids counts words : List �
   pub tables : length counts ≡ 256
   pub counted : (es : List Entry) → map (λ (e : Entry). e .name) es ≡ names bytes ends
       → (t : ℕ) → t < 256 → getD counts t 0 ≡ count t (placed headSize es)
-  pub tabled : (es : List Entry) → map (λ (e : Entry). e .name) es ≡ names bytes ends → TablesAtHand words es
+  pub tabled : (es : List Entry) → map (λ (e : Entry). e .name) es ≡ names bytes ends → PrecomputedTables words es
 
 pub record WriteListPost (mode : Mode) (buf bytes ends ids : List ℕ) (r : ℕ) (bufThen : List ℕ) : Type 0 where
   pub size : r ≡ imageSize mode (entriesOf bytes ends ids)

@@ -1,7 +1,7 @@
 -- `index_c::cqdb_index_parts` meets its contract: what `index` promises, of C's record. Assumes nothing.
 use mathlib.Core.Path.{sym, _∙_}
 use borrow.Author.Tests.{not-true, not-false}
-use Rattle.writer.specs.CRecord.{held}
+use Rattle.writer.specs.CRecord.{cState}
 use Rattle.index_c.proofs.IndexCalls.{index-unknown, index-known}
 use borrow.Author.Needs.{needs}
 use Rattle.index_c.proofs.cqdb_index_parts.Statement.{statement}
@@ -13,7 +13,7 @@ known-requires c κs = search needs
 returns : tie.Need-returns
 returns c =
     let a = c .before .before .before .before .args in
-    index-unknown (held (a .w) (a .counts .now) (a .buf .now)) (a .slots .now) (sym (c .before .known .ensures) ∙ not-true _ (c .if1 .taken))
+    index-unknown (cState (a .w) (a .counts .now) (a .buf .now)) (a .slots .now) (sym (c .before .known .ensures) ∙ not-true _ (c .if1 .taken))
 
 writer-of-requires : tie.Need-writer-of-requires
 writer-of-requires c κs = search needs
@@ -30,7 +30,7 @@ returns-2 c =
     let made = c .before .before .index in
     let writer = c .before .before .before .before .writer-of in
     let fine = sym (c .before .before .before .before .before .before .known .ensures) ∙ not-false _ (c .before .before .before .before .before .if1 .left) in
-    index-known (held (a .w) (a .counts .now) (a .buf .now)) (a .slots .now) _ (writer .result) (made .result) fine (writer .ensures) (made .ensures)
+    index-known (cState (a .w) (a .counts .now) (a .buf .now)) (a .slots .now) _ (writer .result) (made .result) fine (writer .ensures) (made .ensures)
 
 pub cqdb-index-parts-spec : {M : Type 1} → statement M
 cqdb-index-parts-spec =

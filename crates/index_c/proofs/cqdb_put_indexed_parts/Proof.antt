@@ -4,7 +4,7 @@ use borrow.Author.Tests.{not-true, not-false}
 use Rattle.writer.specs.Put.{entryOf}
 use Rattle.writer.specs.declared.c_record.Record.{Record}
 use Rattle.writer.specs.Numbers.{known}
-use Rattle.writer.specs.CRecord.{writerOf, held}
+use Rattle.writer.specs.CRecord.{writerOf, cState}
 use Rattle.index_c.specs.IndexC.{recordIn}
 use Rattle.index_c.proofs.IndexCalls.{put-unknown, put-stored, record-stored}
 use borrow.Author.Needs.{needs}
@@ -21,7 +21,7 @@ returns : tie.Need-returns
 returns c four two =
     let a = c .before .before .before .before .before .before .before .before .args in
     let r = c .before .before .record-in in
-    put-unknown (held (recordIn (a .numbers .now) (a .sizes .now)) (a .counts .now) (a .buf .now)) (a .slots .now) (entryOf (a .name .now) (a .id))
+    put-unknown (cState (recordIn (a .numbers .now) (a .sizes .now)) (a .counts .now) (a .buf .now)) (a .slots .now) (entryOf (a .name .now) (a .id))
     (sym (c .before .known .ensures ∙ ap (λ (x : Record). known (x .mode) (x .repeats)) (r .ensures)) ∙ not-true _ (c .if1 .taken))
 
 writer-of-requires : tie.Need-writer-of-requires
@@ -52,7 +52,7 @@ returns-2 c four two =
     let done = c .before .before .before .before .before .put-indexed in
     let writer = c .before .before .before .before .before .before .before .before .before .writer-of in
     let fine = sym (c .before .before .before .before .before .before .before .before .before .before .before .known .ensures ∙ ap (λ (x : Record). known (x .mode) (x .repeats)) (r .ensures)) ∙ not-false _ (c .before .before .before .before .before .before .before .before .before .before .if1 .left) in
-    put-stored (held (recordIn (a .numbers .now) (a .sizes .now)) (a .counts .now) (a .buf .now)) (a .slots .now) (entryOf (a .name .now) (a .id))
+    put-stored (cState (recordIn (a .numbers .now) (a .sizes .now)) (a .counts .now) (a .buf .now)) (a .slots .now) (entryOf (a .name .now) (a .id))
     (writer .result) (done .result .writer) (done .last .1 .0) (done .last .1 .1 .0) (done .last .1 .1 .1 .0) (done .result .refusal)
     fine (writer .ensures ∙ ap writerOf (r .ensures)) (done .ensures) _
     (record-stored (a .numbers .now) (a .sizes .now) (done .result .writer) four two)

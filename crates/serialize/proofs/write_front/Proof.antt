@@ -1,17 +1,9 @@
 -- `serialize::write_front` meets its contract. Assumes nothing.
 use native.Mathlib.Omega.{arith}
-use Rattle.serialize.proofs.FinishSteps.{linksAt-le, headed-parts}
+use Rattle.serialize.proofs.WriteSteps.{backOffset-le, headed-parts}
 use borrow.Author.Needs.{needs}
 use Rattle.serialize.proofs.write_front.Statement.{statement}
 use Rattle.serialize.proofs.write_front.Tie as tie
-use Rattle.serialize.proofs.write_front.Reads as reads
-use Rattle.serialize.proofs.write_front.Lts as lts
-use Rattle.serialize.proofs.head.write_head.Reads as write-head-reads
-use Rattle.serialize.proofs.head.write_rows.Reads as write-rows-reads
-use Rattle.serialize.proofs.size.back_at.Reads as back-at-reads
-use Rattle.serialize.proofs.size.back_in.Reads as back-in-reads
-use Rattle.serialize.proofs.size.finished_size.Reads as finished-size-reads
-use Rattle.image.proofs.flag_word.Reads as flag-word-reads
 
 finished-size-requires : tie.Need-finished-size-requires
 finished-size-requires c κs = search needs
@@ -19,8 +11,8 @@ finished-size-requires c κs = search needs
 back-in-requires : tie.Need-back-in-requires
 back-in-requires c κs = search needs
 
-back-at-requires : tie.Need-back-at-requires
-back-at-requires c κs = search needs
+back-offset-requires : tie.Need-back-offset-requires
+back-offset-requires c κs = search needs
 
 cast-write-head : tie.Need-cast-write-head
 cast-write-head c = search needs
@@ -35,7 +27,7 @@ cast-write-head-3 : tie.Need-cast-write-head-3
 cast-write-head-3 c =
     let start = c .before .before .before .before .before .before in
     let a = start .args in
-    omega (arith, c .before .before .back-at .ensures, linksAt-le (a .mode) (a .end) (a .entries) (a .back), start .pre)
+    omega (arith, c .before .before .back-offset .ensures, backOffset-le (a .mode) (a .end) (a .entries) (a .back), start .pre)
 
 write-head-requires : tie.Need-write-head-requires
 write-head-requires c κs = search needs
@@ -58,7 +50,7 @@ returns c =
     let of-write-rows = rows .write-rows in
     let of-write-head = head .write-head in
     let of-flag-word = head .before .flag-word in
-    let of-back-at = head .before .before .before .back-at in
+    let of-back-at = head .before .before .before .back-offset in
     let of-back-in = head .before .before .before .before .back-in in
     let of-finished-size = sized .finished-size in
     headed-parts (a .mode) (a .end) (a .entries) (a .back) (a .counts .now) (a .buf .now)
@@ -73,7 +65,7 @@ write-front-spec =
     (tie.spec
     finished-size-requires
     back-in-requires
-    back-at-requires
+    back-offset-requires
     cast-write-head
     flag-word-requires
     cast-write-head-2

@@ -3,17 +3,11 @@ use Prim.Native.Nat.{ℕ, _<_}
 use native.Mathlib.Omega.{arith}
 use mathlib.Core.Path.{_∙_}
 use lib.ListN.{getD}
-use Rattle.serialize.proofs.FinishSteps.{linksAt-le, written-parts}
+use Rattle.serialize.proofs.WriteSteps.{backOffset-le, written-parts}
 use Rattle.serialize.proofs.WrittenImage.{written-image}
 use borrow.Author.Needs.{needs}
 use Rattle.serialize.proofs.write_image.Statement.{statement}
 use Rattle.serialize.proofs.write_image.Tie as tie
-use Rattle.serialize.proofs.write_image.Reads as reads
-use Rattle.serialize.proofs.write_image.Lts as lts
-use Rattle.serialize.proofs.size.back_at.Reads as back-at-reads
-use Rattle.serialize.proofs.size.finished_size.Reads as finished-size-reads
-use Rattle.serialize.proofs.tables.fill_in.Reads as fill-in-reads
-use Rattle.serialize.proofs.write_front.Reads as write-front-reads
 
 write-front-requires : tie.Need-write-front-requires
 write-front-requires c κs = search needs
@@ -21,19 +15,25 @@ write-front-requires c κs = search needs
 finished-size-requires : tie.Need-finished-size-requires
 finished-size-requires c κs = search needs
 
-back-at-requires : tie.Need-back-at-requires
-back-at-requires c κs = search needs
+back-offset-requires : tie.Need-back-offset-requires
+back-offset-requires c κs = search needs
 
-fill-in-requires : tie.Need-fill-in-requires
-fill-in-requires c κs =
+insert-all-requires : tie.Need-insert-all-requires
+insert-all-requires c κs =
     let front = c .before .before .before .before .before in
     let start = front .before .before .before in
     let a = start .args in
     let kept = front .write-front .kept .1 .1 .1 .1 .1 .0 in
     let size = c .before .before .finished-size .ensures in
     let small = start .pre .small in
-    let room = start .pre .room in
-    (start .pre .low, omega arith, omega arith, omega arith, omega (arith, c .before .back-at .ensures, linksAt-le (a .mode) (a .end) (a .entries) (a .back)))
+    let inside = start .pre .inside in
+    record {
+      low = start .pre .low;
+      tables = omega arith;
+      inside = omega arith;
+      size-word = omega arith;
+      back-word = omega (arith, c .before .back-offset .ensures, backOffset-le (a .mode) (a .end) (a .entries) (a .back));
+    }
 
 same-length : tie.Need-same-length
 same-length c = search needs
@@ -44,8 +44,8 @@ returns c =
     let known = front .before .before in
     let start = known .before in
     let a = start .args in
-    let of-fill-in = c .before .before .fill-in in
-    let of-back-at = c .before .before .before .before .back-at in
+    let of-fill-in = c .before .before .insert-all in
+    let of-back-at = c .before .before .before .before .back-offset in
     let of-finished-size = c .before .before .before .before .before .finished-size in
     let of-write-front = front .write-front in
     let bytes : (i : ℕ) → getD (a .buf .now) i 0 < 256 = λ i. omega (arith, known .slice-known .given i) in
@@ -61,7 +61,7 @@ write-image-spec =
     (tie.spec
     write-front-requires
     finished-size-requires
-    back-at-requires
-    fill-in-requires
+    back-offset-requires
+    insert-all-requires
     same-length
     returns)

@@ -2,15 +2,11 @@
 use Prim.Native.Nat.{ℕ, _<_}
 use native.Mathlib.Omega.{arith}
 use lib.ListN.{getD}
-use Rattle.serialize.proofs.AtHand.{words-number}
+use Rattle.serialize.proofs.TablesCopied.{words-number}
 use Rattle.serialize.proofs.WrittenImage.{written-with-image}
 use borrow.Author.Needs.{needs}
 use Rattle.serialize.proofs.write_image_with.Statement.{statement}
 use Rattle.serialize.proofs.write_image_with.Tie as tie
-use Rattle.serialize.proofs.write_image_with.Reads as reads
-use Rattle.serialize.proofs.write_image_with.Lts as lts
-use Rattle.serialize.proofs.at_hand.copy_words.Reads as copy-words-reads
-use Rattle.serialize.proofs.write_front.Reads as write-front-reads
 
 write-front-requires : tie.Need-write-front-requires
 write-front-requires c κs = search needs
@@ -21,7 +17,7 @@ copy-words-requires c κs =
     let start = front .before .before .before .before in
     let a = start .args in
     let kept = front .write-front .kept .1 .1 .1 .1 .1 .0 in
-    omega (arith, start .pre .0 .room, words-number (a .tables .now) (a .buf .now) (a .end) (a .entries) (start .pre .1))
+    omega (arith, start .pre .closable .inside, words-number (a .tables .now) (a .buf .now) (a .end) (a .entries) (start .pre .tables))
 
 same-length : tie.Need-same-length
 same-length c = search needs
@@ -35,9 +31,9 @@ returns c =
     let bytes : (i : ℕ) → getD (a .buf .now) i 0 < 256 = λ i. omega (arith, known .slice-known .given i) in
     let of-write-front = front .write-front in
     let of-copy-words = c .before .before .copy-words in
-    written-with-image (a .mode) (a .end) (a .entries) (a .back) (a .counts .now) (a .buf .now) bytes (start .pre .0) (a .tables .now)
+    written-with-image (a .mode) (a .end) (a .entries) (a .back) (a .counts .now) (a .buf .now) bytes (start .pre .closable) (a .tables .now)
     (of-write-front .last .1 .1 .1 .1 .1 .0) (of-copy-words .last .0)
-    (start .pre .1) (start .pre .2) (of-write-front .ensures) (of-copy-words .ensures)
+    (start .pre .tables) (start .pre .back-array) (of-write-front .ensures) (of-copy-words .ensures)
 
 pub write-image-with-spec : {M : Type 1} → statement M
 write-image-with-spec =

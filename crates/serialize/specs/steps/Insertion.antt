@@ -1,11 +1,12 @@
--- What taking entries into tables and back array leaves, as the code goes. No rule of 01 stands here: proofs/ shows that all
--- steps together leave the image.
-use Prim.Native.Nat.{ℕ, zero, suc, _+_, _*_, _-_}
-use mathlib.Core.Bool.{cond}
+-- What inserting entries one by one into tables and back array leaves, as the code goes. No rule of 01 stands here:
+-- proofs/ shows that all steps together leave the image.
+use Prim.Native.Nat.{ℕ, zero, suc, _+_, _*_, _-_, _<_, _≤_}
+use mathlib.Core.Path.{_≡_}
+use mathlib.Core.Bool.{Bool, cond, _&&_}
 use mathlib.Core.List.{List, _++_}
-use lib.ListN.{take, drop}
+use lib.ListN.{length, take, drop}
 use lib.Seq.{sets}
-use lib.Dec.{eqb}
+use lib.Dec.{eqb, leb}
 use Rattle.jhash.specs.NameHash.{hashOf}
 use Rattle.image.specs.Bytes.{word, le32}
 use Rattle.image.specs.Tables.{tableOf, start, probeSequence, firstEmpty}
@@ -14,28 +15,83 @@ use Rattle.image.specs.declared.Mode.the-variants.{Twoway, Oneway}
 use Rattle.image.specs.Stored.{between}
 use Rattle.image.specs.steps.EntryLength.{wholeLength}
 
--- the bucket that takes an entry of hash h: its place in the buffer
-unfoldable pub bucketFor : List ℕ → ℕ → ℕ
-bucketFor buf h =
+-- ---- a search for an empty bucket
+
+-- the n buckets at o lie in the buffer, and the search starts at one of them
+pub record ProbePre (buf : List ℕ) (o n k : ℕ) : Type 0 where
+  pub inside : o + 8 * n ≤ length buf
+  pub begins : k < n
+
+-- the offset in bucket i of the table at o
+abbrev pub offsetAt : List ℕ → ℕ → ℕ → ℕ
+offsetAt buf o i = word buf (o + 8 * i + 4)
+
+pub record EmptyBucket (buf : List ℕ) (o n k r : ℕ) : Type 0 where
+  pub is : r ≡ firstEmpty (offsetAt buf o) (probeSequence n n k)
+  pub below : r < n
+
+-- ---- a pair of hash and offset
+
+-- there are buckets, and the n of them at o lie in the buffer
+pub record TableIn (buf : List ℕ) (o n : ℕ) : Type 0 where
+  pub some : 0 < n
+  pub inside : o + 8 * n ≤ length buf
+
+abbrev pub holdsTable : List ℕ → ℕ → ℕ → Bool
+holdsTable buf o n = leb 1 n && leb (o + 8 * n) (length buf)
+
+-- a pair stored in the first empty bucket of its search among the n buckets at o
+unfoldable pub inserted : List ℕ → ℕ → ℕ → ℕ → ℕ → List ℕ
+inserted buf o n h at =
+    sets buf (o + 8 * firstEmpty (offsetAt buf o) (probeSequence n n (start h n))) (le32 h ++ le32 at)
+
+-- the same, and the offset is a word
+pub record PairInserted (buf : List ℕ) (o n h at : ℕ) (after : List ℕ) : Type 0 where
+  pub stored : after ≡ inserted buf o n h at
+  pub offset-word : at < 4294967296
+
+-- a pair inserted into the table of its hash, which the row in the head gives
+unfoldable pub insertedByRow : List ℕ → ℕ → ℕ → List ℕ
+insertedByRow buf h at =
     let o = word buf (24 + 8 * tableOf h) in
     let n = word buf (28 + 8 * tableOf h) in
-    o + 8 * firstEmpty (λ (k : ℕ). word buf (o + 8 * k + 4)) (probeSequence n n (start h n))
+    cond (holdsTable buf o n) (inserted buf o n h at) buf
 
--- an entry of hash h at `at` stored in its table, and its link under its id
-unfoldable pub withBucket : List ℕ → ℕ → ℕ → List ℕ
-withBucket buf h at = cond (eqb (word buf (28 + 8 * tableOf h)) 0) buf (sets buf (bucketFor buf h) (le32 h ++ le32 at))
+-- ---- an entry
 
-abbrev pub withLink : Mode → List ℕ → ℕ → ℕ → ℕ → List ℕ
-withLink Twoway buf links id at = sets buf (links + 4 * id) (le32 at)
-withLink Oneway buf links id at = buf
+-- the entry at `at` with length word n lies in the buffer
+pub record EntryPre (at n : ℕ) (buf : List ℕ) : Type 0 where
+  pub inside : at + (8 + n) ≤ length buf
+  pub some : 1 ≤ n
+  pub length-word : n < 4294967296
+  pub offset-word : at < 4294967296
 
--- the entry at `at` with length word n taken into table and back array, which stands at `links`
-unfoldable pub entryTaken : Mode → ℕ → List ℕ → ℕ → ℕ → List ℕ
-entryTaken mode links buf at n = withLink mode (withBucket buf (hashOf (take (n - 1) (drop (at + 8) buf))) at) links (word buf at) at
+-- the hash of its name
+unfoldable pub hashAt : List ℕ → ℕ → ℕ → ℕ
+hashAt buf at n = hashOf (take (n - 1) (drop (at + 8) buf))
 
--- and so m entries, one after the other
-unfoldable pub takenFrom : Mode → ℕ → ℕ → ℕ → ℕ → List ℕ → List ℕ
-takenFrom mode links end zero at buf = buf
-takenFrom mode links end (suc m) at buf =
+-- its offset stored under its id in the back array, which begins at back-offset
+abbrev pub backStored : Mode → List ℕ → ℕ → ℕ → ℕ → List ℕ
+backStored Twoway buf back-offset id at = sets buf (back-offset + 4 * id) (le32 at)
+backStored Oneway buf back-offset id at = buf
+
+-- the entry inserted into its table and the back array
+unfoldable pub entryInserted : Mode → ℕ → List ℕ → ℕ → ℕ → List ℕ
+entryInserted mode back-offset buf at n =
+    backStored mode (insertedByRow buf (hashAt buf at n) at) back-offset (word buf at) at
+
+-- ---- all entries
+
+-- the entries end in the buffer
+pub record WalkPre (back-offset end : ℕ) (buf : List ℕ) : Type 0 where
+  pub low : 2072 ≤ end
+  pub inside : end ≤ length buf
+  pub end-word : end < 4294967296
+  pub back-word : back-offset < 4294967296
+
+-- m entries inserted, one after the other
+unfoldable pub insertedFrom : Mode → ℕ → ℕ → ℕ → ℕ → List ℕ → List ℕ
+insertedFrom mode back-offset end zero at buf = buf
+insertedFrom mode back-offset end (suc m) at buf =
     let n = wholeLength (between buf at end) in
-    cond (eqb n 0) buf (takenFrom mode links end m (at + (8 + n)) (entryTaken mode links buf at n))
+    cond (eqb n 0) buf (insertedFrom mode back-offset end m (at + (8 + n)) (entryInserted mode back-offset buf at n))

@@ -1,13 +1,32 @@
 -- `writer::append` meets its contract. Assumes nothing.
-use mathlib.Core.Path.{sym, _∙_}
+use Prim.Native.Nat.{ℕ, _<_}
+use native.Mathlib.Omega.{arith}
+use native.Mathlib.Decide.{decLt}
+use mathlib.Core.Path.{_≡_, sym, _∙_}
+use lib.ListN.{length}
+use Rattle.image.specs.Image.{Entry}
 use Rattle.image.proofs.Bools.{false-not-true}
 use Rattle.jhash.proofs.Outcomes.{result-refused, result-name-hash}
-use Rattle.writer.specs.State.{stateWith}
-use Rattle.writer.specs.Put.{entryOf}
-use Rattle.writer.proofs.Puts.{passed, long-name}
+use Rattle.writer.specs.State.{State, stateWith}
+use Rattle.writer.specs.Put.{entryOf, writerAfter}
+use Rattle.writer.proofs.Puts.{Passed, passed, long-name, count-small, entry-fits, size-small, appended-parts}
 use borrow.Author.Needs.{needs}
 use Rattle.writer.proofs.append.Statement.{statement}
 use Rattle.writer.proofs.append.Tie as tie
+
+abbrev state : tie.Start → State
+state s = stateWith (s .args .w) (s .args .counts .now) (s .args .buf .now)
+
+-- what the put has passed
+went : (s : tie.Start) → Passed (state s) (entryOf (s .args .name .now) (s .args .id))
+went s = passed (state s) (entryOf (s .args .name .now) (s .args .id)) (s .pre)
+
+short : (s : tie.Start) → length (s .args .name .now) < 4294967295
+short s =
+    elim (decLt (length (s .args .name .now)) 4294967295) [
+      | yes p ↦ p
+      | no p ↦ absurd (false-not-true (sym (went s .has-capacity) ∙ long-name (s .args .w) (s .args .name .now) (s .args .id) (omega arith)))
+    ]
 
 name-hash-requires : tie.Need-name-hash-requires
 name-hash-requires c κs = search needs
@@ -20,24 +39,46 @@ enum-told c = search needs
 
 returns : tie.Need-returns
 returns c =
-    let a = c .before .before .before .before .before .args in
-    let s = stateWith (a .w) (a .counts .now) (a .buf .now) in
-    let went = passed s (entryOf (a .name .now) (a .id)) (c .before .before .before .before .before .pre) in
-    let long = result-refused (a .name .now) 0 (c .before .before .name-hash .result) (c .before .before .name-hash .ensures) (c .enum-told .given .1) in
-    absurd (false-not-true (sym (went .roomy) ∙ long-name (a .w) (a .name .now) (a .id) long))
+    let s = c .before .before .before .before .before in
+    let hashed = c .before .before .name-hash in
+    absurd (omega (arith, short s, result-refused (s .args .name .now) 0 (hashed .result) (hashed .ensures) (c .enum-told .given .1)))
 
-append-by-requires : tie.Need-append-by-requires
-append-by-requires c κs =
-    let s = c .before .before .before .before .before .before .before .before in
-    let hashed = c .before .before .before .before .before .name-hash in
-    let h = c .before .before .before .h in
-    (s .pre, result-name-hash (s .args .name .now) (hashed .result) (h .given .0 .0) (hashed .ensures) (h .given .1) .1)
+raise-requires : tie.Need-raise-requires
+unfolding writerAfter
+raise-requires c κs =
+    let s = c .before .before .before .before .before .before .before in
+    let a = s .args in
+    count-small (a .w) (a .counts .now) (a .buf .now) (length (a .name .now)) (a .id) (went s .fitted) (went s .has-capacity)
+    (c .before .before .h .given .0 .0)
+
+store-requires : tie.Need-store-requires
+unfolding writerAfter
+store-requires c κs =
+    let s = c .before .before .before .before .before .before .before .before .before in
+    let a = s .args in
+    (entry-fits (a .w) (a .counts .now) (a .buf .now) (length (a .name .now)) (a .id) (went s .fitted) (went s .has-capacity), short s)
+
+after-requires : tie.Need-after-requires
+unfolding writerAfter
+after-requires c κs =
+    let s = c .before .before .before .before .before .before .before .before .before .before .before .before in
+    let a = s .args in
+    size-small (a .w) (a .counts .now) (a .buf .now) (length (a .name .now)) (a .id) (went s .fitted) (went s .has-capacity)
 
 same-length : tie.Need-same-length
 same-length c = search needs
 
 returns-2 : tie.Need-returns-2
-returns-2 c = c .before .before .append-by .ensures
+returns-2 c =
+    let read = c .before .before .before .before .before .before .before .before in
+    let a = read .before .before .before .before .before .args in
+    let hashed = read .before .before .name-hash in
+    let is-hash = result-name-hash (a .name .now) (hashed .result) (read .h .given .0 .0) (hashed .ensures) (read .h .given .1) .1 in
+    let raised = c .before .before .before .before .before .raise in
+    let stored = c .before .before .before .store in
+    appended-parts (a .w) (c .after .result) (a .counts .now) (raised .last .0) (a .buf .now) (stored .last .0) (a .name .now) (a .id)
+    (read .h .given .0 .0) is-hash (c .after .ensures) (raised .ensures) (stored .ensures)
 
 pub append-spec : {M : Type 1} → statement M
-append-spec = tie.close (tie.spec name-hash-requires enum-known-h enum-told returns append-by-requires same-length returns-2)
+append-spec =
+    tie.close (tie.spec name-hash-requires enum-known-h enum-told returns raise-requires store-requires after-requires same-length returns-2)

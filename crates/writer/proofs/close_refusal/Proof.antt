@@ -1,61 +1,62 @@
 -- `writer::close_refusal` meets its contract. Assumes nothing.
 use native.Mathlib.Omega.{arith}
-use Prim.Native.Nat.{ℕ}
 use mathlib.Core.Path.{_≡_, sym, ap, _∙_}
-use mathlib.Core.Bool.{true, false}
+use mathlib.Core.Bool.{true}
 use borrow.Author.Tests.{not-true, not-false}
-use Rattle.writer.specs.State.{stateWith, fits, tooLarge, finishedSize}
-use Rattle.writer.proofs.Fits.{fitting}
+use Rattle.writer.specs.State.{State, stateWith, fits, tooLarge, finishedSize}
+use Rattle.writer.proofs.Fits.{fitting, end-inside}
 use Rattle.writer.proofs.Closes.{due-unfit, due-big, due-differs, due-none}
 use borrow.Author.Needs.{needs}
 use Rattle.writer.proofs.close_refusal.Statement.{statement}
 use Rattle.writer.proofs.close_refusal.Tie as tie
 
+abbrev state : tie.Start → State
+state s = stateWith (s .args .w) (s .args .counts .now) (s .args .buf .now)
+
+abbrev start : tie.Else1 → tie.Start
+start c = c .before .before .before
+
+fitted : (c : tie.Else1) → fits (state (start c)) ≡ true
+fitted c = sym (c .before .fits2 .ensures) ∙ not-false _ (c .if1 .left)
+
+-- the size, as the second check reads it
+sized : (c : tie.After-too-large)
+    → let w = start (c .before .before) .args .w in tooLarge (w .length) (finishedSize w) ≡ c .too-large .result
+sized c = ap (tooLarge (start (c .before .before) .args .w .length)) (sym (c .before .finished-size .ensures)) ∙ sym (c .too-large .ensures)
+
 fits-requires : tie.Need-fits-requires
 fits-requires c κs = search needs
 
 returns : tie.Need-returns
-returns c =
-    let a = c .before .before .before .args in
-    due-unfit (stateWith (a .w) (a .counts .now) (a .buf .now)) (sym (c .before .fits2 .ensures) ∙ not-true _ (c .if1 .taken))
+returns c = due-unfit (state (c .before .before .before)) (sym (c .before .fits2 .ensures) ∙ not-true _ (c .if1 .taken))
 
 finished-size-requires : tie.Need-finished-size-requires
 finished-size-requires c κs =
-    let s = c .before .before .before in
-    let a = s .args in
-    let yes : fits (stateWith (a .w) (a .counts .now) (a .buf .now)) ≡ true = sym (c .before .fits2 .ensures) ∙ not-false _ (c .if1 .left) in
-    omega (arith, fitting (a .w) (a .counts .now) (a .buf .now) yes, s .good)
+    let a = start c .args in
+    omega (arith, fitting (a .w) (a .counts .now) (a .buf .now) (fitted c), start c .good)
 
 too-large-requires : tie.Need-too-large-requires
 too-large-requires c κs = search needs
 
 returns-2 : tie.Need-returns-2
-returns-2 c =
-    let a = c .before .before .before .before .before .before .args in
-    let yes : fits (stateWith (a .w) (a .counts .now) (a .buf .now)) ≡ true = sym (c .before .before .before .before .fits2 .ensures) ∙ not-false _ (c .before .before .before .if1 .left) in
-    due-big (stateWith (a .w) (a .counts .now) (a .buf .now)) yes
-    (ap (λ (m : ℕ). tooLarge (a .w .length) m) (sym (c .before .before .finished-size .ensures)) ∙ sym (c .before .too-large .ensures) ∙ c .if2 .taken)
+returns-2 c = let f = c .before .before .before in due-big (state (start f)) (fitted f) (sized (c .before) ∙ c .if2 .taken)
 
 agrees-requires : tie.Need-agrees-requires
 agrees-requires c κs =
-    let a = c .before .before .before .before .before .before .args in
-    let yes : fits (stateWith (a .w) (a .counts .now) (a .buf .now)) ≡ true = sym (c .before .before .before .before .fits2 .ensures) ∙ not-false _ (c .before .before .before .if1 .left) in
-    let f = fitting (a .w) (a .counts .now) (a .buf .now) yes in
-    (f .low, omega (arith, f .high, f .same-length))
+    let f = c .before .before .before in
+    let a = start f .args in
+    end-inside (fitting (a .w) (a .counts .now) (a .buf .now) (fitted f))
 
 returns-3 : tie.Need-returns-3
 returns-3 c =
-    let a = c .before .before .before .before .before .before .before .before .args in
-    let yes : fits (stateWith (a .w) (a .counts .now) (a .buf .now)) ≡ true = sym (c .before .before .before .before .before .before .fits2 .ensures) ∙ not-false _ (c .before .before .before .before .before .if1 .left) in
-    due-differs (stateWith (a .w) (a .counts .now) (a .buf .now)) yes (sym (c .before .agrees .ensures) ∙ not-true _ (c .if3 .taken))
+    let f = c .before .before .before .before .before in due-differs (state (start f)) (fitted f)
+    (sym (c .before .agrees .ensures) ∙ not-true _ (c .if3 .taken))
 
 returns-4 : tie.Need-returns-4
 returns-4 c =
-    let a = c .before .before .before .before .before .before .before .before .args in
-    let yes : fits (stateWith (a .w) (a .counts .now) (a .buf .now)) ≡ true = sym (c .before .before .before .before .before .before .fits2 .ensures) ∙ not-false _ (c .before .before .before .before .before .if1 .left) in
-    let fine : tooLarge (a .w .length) (finishedSize (a .w)) ≡ false =
-    ap (λ (m : ℕ). tooLarge (a .w .length) m) (sym (c .before .before .before .before .finished-size .ensures)) ∙ sym (c .before .before .before .too-large .ensures) ∙ c .before .before .if2 .left in
-    due-none (stateWith (a .w) (a .counts .now) (a .buf .now)) yes fine (sym (c .before .agrees .ensures) ∙ not-false _ (c .if3 .left))
+    let f = c .before .before .before .before .before in
+    due-none (state (start f)) (fitted f) (sized (c .before .before .before) ∙ c .before .before .if2 .left)
+    (sym (c .before .agrees .ensures) ∙ not-false _ (c .if3 .left))
 
 pub close-refusal-spec : {M : Type 1} → statement M
 close-refusal-spec =

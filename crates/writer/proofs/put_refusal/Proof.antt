@@ -2,108 +2,110 @@
 use native.Mathlib.Omega.{arith}
 use mathlib.Core.Path.{_≡_, sym, ap, _∙_}
 use mathlib.Core.Bool.{true, false}
+use Rattle.image.specs.Image.{Entry}
 use lib.ListN.{length}
 use borrow.Author.Tests.{not-true, not-false}
 use Rattle.image.specs.Zero.{hasZero}
-use Rattle.writer.specs.State.{stateWith, fits, finishedSize, tooLarge}
+use Rattle.writer.specs.State.{State, stateWith, fits, finishedSize, tooLarge}
 use Rattle.writer.specs.Put.{entryOf, writerWith, writerAfter}
 use Rattle.writer.specs.steps.Earlier.{earlierRefusal}
-use Rattle.writer.proofs.Fits.{fitting}
+use Rattle.writer.proofs.Fits.{fitting, end-inside}
 use Rattle.writer.proofs.Puts.{refuses-unfit, refuses-zero, refuses-earlier, refuses-full, accepts, long-name}
 use borrow.Author.Needs.{needs}
 use Rattle.writer.proofs.put_refusal.Statement.{statement}
 use Rattle.writer.proofs.put_refusal.Tie as tie
 
+abbrev state : tie.Start → State
+state s = stateWith (s .args .w) (s .args .counts .now) (s .args .buf .now)
+
+abbrev entry : tie.Start → Entry
+entry s = entryOf (s .args .name .now) (s .args .id)
+
+-- what the checks have passed, one after the other
+abbrev start : tie.Else1 → tie.Start
+start c = c .before .before .before .before
+
+fitted : (c : tie.Else1) → fits (state (start c)) ≡ true
+fitted c = sym (c .before .fits2 .ensures) ∙ not-false _ (c .if1 .left)
+
+abbrev unzeroed : tie.Else2 → tie.Else1
+unzeroed c = c .before .before
+
+zero-free : (c : tie.Else2) → hasZero (start (unzeroed c) .args .name .now) ≡ false
+zero-free c = sym (c .before .has-zero .ensures) ∙ c .if2 .left
+
+abbrev walked : tie.Else3 → tie.Else2
+walked c = c .before .before
+
+none-due : (c : tie.Else3) → let s = start (unzeroed (walked c)) in earlierRefusal (state s) (s .args .name .now) ≡ 0
+none-due c = sym (c .before .earlier-refusal .ensures) ∙ c .if3 .left
+
 fits-requires : tie.Need-fits-requires
 fits-requires c κs = search needs
 
 returns : tie.Need-returns
-returns c =
-    let a = c .before .before .before .before .args in
-    let s = stateWith (a .w) (a .counts .now) (a .buf .now) in
-    let e = entryOf (a .name .now) (a .id) in
-    refuses-unfit s e (sym (c .before .fits2 .ensures) ∙ not-true _ (c .if1 .taken))
+returns c = let s = c .before .before .before .before in refuses-unfit (state s) (entry s) (sym (c .before .fits2 .ensures) ∙ not-true _ (c .if1 .taken))
 
 has-zero-requires : tie.Need-has-zero-requires
 has-zero-requires c κs = search needs
 
 returns-2 : tie.Need-returns-2
 returns-2 c =
-    let a = c .before .before .before .before .before .before .args in
-    let s = stateWith (a .w) (a .counts .now) (a .buf .now) in
-    let e = entryOf (a .name .now) (a .id) in
-    let yes : fits s ≡ true = sym (c .before .before .before .fits2 .ensures) ∙ not-false _ (c .before .before .if1 .left) in
-    refuses-zero s e yes (sym (c .before .has-zero .ensures) ∙ c .if2 .taken)
+    let f = c .before .before in
+    refuses-zero (state (start f)) (entry (start f)) (fitted f) (sym (c .before .has-zero .ensures) ∙ c .if2 .taken)
 
 earlier-refusal-requires : tie.Need-earlier-refusal-requires
 earlier-refusal-requires c κs =
-    let a = c .before .before .before .before .before .before .args in
-    let s = stateWith (a .w) (a .counts .now) (a .buf .now) in
-    let e = entryOf (a .name .now) (a .id) in
-    let yes : fits s ≡ true = sym (c .before .before .before .fits2 .ensures) ∙ not-false _ (c .before .before .if1 .left) in
-    let f = fitting (a .w) (a .counts .now) (a .buf .now) yes in
-    let same = f .same-length in
-    let high = f .high in
-    (f .low, omega arith)
+    let f = unzeroed c in
+    let a = start f .args in
+    end-inside (fitting (a .w) (a .counts .now) (a .buf .now) (fitted f))
 
 returns-3 : tie.Need-returns-3
 returns-3 c =
-    let a = c .before .before .before .before .before .before .before .before .args in
-    let s = stateWith (a .w) (a .counts .now) (a .buf .now) in
-    let e = entryOf (a .name .now) (a .id) in
-    let yes : fits s ≡ true = sym (c .before .before .before .before .before .fits2 .ensures) ∙ not-false _ (c .before .before .before .before .if1 .left) in
-    let free : hasZero (a .name .now) ≡ false = sym (c .before .before .before .has-zero .ensures) ∙ c .before .before .if2 .left in
-    refuses-earlier s e yes free (c .before .earlier-refusal .result) (c .before .earlier-refusal .ensures) (c .if3 .taken)
+    let z = c .before .before in
+    let f = unzeroed z in
+    refuses-earlier (state (start f)) (entry (start f)) (fitted f) (zero-free z) (c .before .earlier-refusal .result)
+    (c .before .earlier-refusal .ensures) (c .if3 .taken)
 
 returns-4 : tie.Need-returns-4
 returns-4 c =
-    let a = c .before .before .before .before .before .before .before .before .before .args in
-    let s = stateWith (a .w) (a .counts .now) (a .buf .now) in
-    let e = entryOf (a .name .now) (a .id) in
-    let yes : fits s ≡ true = sym (c .before .before .before .before .before .before .fits2 .ensures) ∙ not-false _ (c .before .before .before .before .before .if1 .left) in
-    let free : hasZero (a .name .now) ≡ false = sym (c .before .before .before .before .has-zero .ensures) ∙ c .before .before .before .if2 .left in
-    let none : earlierRefusal s (a .name .now) ≡ 0 = sym (c .before .before .earlier-refusal .ensures) ∙ c .before .if3 .left in
-    refuses-full s e yes free none (long-name (a .w) (a .name .now) (a .id) (c .if4 .taken))
+    let n = c .before in
+    let z = walked n in
+    let f = unzeroed z in
+    let a = start f .args in
+    refuses-full (state (start f)) (entry (start f)) (fitted f) (zero-free z) (none-due n) (long-name (a .w) (a .name .now) (a .id) (c .if4 .taken))
 
 size-with-requires : tie.Need-size-with-requires
 size-with-requires c κs =
-    let a = c .before .before .before .before .before .before .before .before .before .args in
-    let s = stateWith (a .w) (a .counts .now) (a .buf .now) in
-    let e = entryOf (a .name .now) (a .id) in
-    let yes : fits s ≡ true = sym (c .before .before .before .before .before .before .fits2 .ensures) ∙ not-false _ (c .before .before .before .before .before .if1 .left) in
-    let f = fitting (a .w) (a .counts .now) (a .buf .now) yes in
-    let same = f .same-length in
-    let high = f .high in
-    (omega (arith, c .before .before .before .before .before .before .before .before .before .good), c .if4 .left)
+    let f = unzeroed (walked (c .before)) in
+    let a = start f .args in
+    (omega (arith, start f .good, fitting (a .w) (a .counts .now) (a .buf .now) (fitted f)), c .if4 .left)
 
 too-large-requires : tie.Need-too-large-requires
 too-large-requires c κs = search needs
 
+-- the size after this put, as the last check reads it
+sized : (c : tie.After-too-large)
+    → let a = start (unzeroed (walked (c .before .before .before))) .args in
+    tooLarge (a .w .length) (finishedSize (writerWith (a .w) (length (a .name .now)) (a .id))) ≡ c .too-large .result
+sized c =
+    ap (tooLarge (start (unzeroed (walked (c .before .before .before))) .args .w .length)) (sym (c .before .size-with .ensures)) ∙ sym (c .too-large .ensures)
+
 returns-5 : tie.Need-returns-5
 unfolding writerAfter
 returns-5 c =
-    let a = c .before .before .before .before .before .before .before .before .before .before .before .before .args in
-    let s = stateWith (a .w) (a .counts .now) (a .buf .now) in
-    let e = entryOf (a .name .now) (a .id) in
-    let yes : fits s ≡ true = sym (c .before .before .before .before .before .before .before .before .before .fits2 .ensures) ∙ not-false _ (c .before .before .before .before .before .before .before .before .if1 .left) in
-    let free : hasZero (a .name .now) ≡ false = sym (c .before .before .before .before .before .before .before .has-zero .ensures) ∙ c .before .before .before .before .before .before .if2 .left in
-    let none : earlierRefusal s (a .name .now) ≡ 0 = sym (c .before .before .before .before .before .earlier-refusal .ensures) ∙ c .before .before .before .before .if3 .left in
-    let fine : tooLarge (a .w .length) (finishedSize (writerWith (a .w) (length (a .name .now)) (a .id))) ≡ true =
-    ap (tooLarge (a .w .length)) (sym (c .before .before .size-with .ensures)) ∙ sym (c .before .too-large .ensures) ∙ c .if5 .taken in
-    refuses-full s e yes free none fine
+    let n = c .before .before .before .before in
+    let z = walked n in
+    let f = unzeroed z in
+    refuses-full (state (start f)) (entry (start f)) (fitted f) (zero-free z) (none-due n) (sized (c .before) ∙ c .if5 .taken)
 
 returns-6 : tie.Need-returns-6
 unfolding writerAfter
 returns-6 c =
-    let a = c .before .before .before .before .before .before .before .before .before .before .before .before .args in
-    let s = stateWith (a .w) (a .counts .now) (a .buf .now) in
-    let e = entryOf (a .name .now) (a .id) in
-    let yes : fits s ≡ true = sym (c .before .before .before .before .before .before .before .before .before .fits2 .ensures) ∙ not-false _ (c .before .before .before .before .before .before .before .before .if1 .left) in
-    let free : hasZero (a .name .now) ≡ false = sym (c .before .before .before .before .before .before .before .has-zero .ensures) ∙ c .before .before .before .before .before .before .if2 .left in
-    let none : earlierRefusal s (a .name .now) ≡ 0 = sym (c .before .before .before .before .before .earlier-refusal .ensures) ∙ c .before .before .before .before .if3 .left in
-    let fine : tooLarge (a .w .length) (finishedSize (writerWith (a .w) (length (a .name .now)) (a .id))) ≡ false =
-    ap (tooLarge (a .w .length)) (sym (c .before .before .size-with .ensures)) ∙ sym (c .before .too-large .ensures) ∙ c .if5 .left in
-    accepts s e yes free none fine
+    let n = c .before .before .before .before in
+    let z = walked n in
+    let f = unzeroed z in
+    accepts (state (start f)) (entry (start f)) (fitted f) (zero-free z) (none-due n) (sized (c .before) ∙ c .if5 .left)
 
 pub put-refusal-spec : {M : Type 1} → statement M
 put-refusal-spec =

@@ -5,7 +5,7 @@ use mathlib.Core.Path.{sym, ap, _∙_}
 use borrow.Author.Needs.{needs}
 use Rattle.image.specs.declared.Mode.{Mode}
 use Rattle.image.specs.Image.{backIn}
-use Rattle.serialize.specs.steps.Insertion.{withLink}
+use Rattle.serialize.specs.steps.Insertion.{backStored}
 use Rattle.build.proofs.stored.store_link.Statement.{statement}
 use Rattle.build.proofs.stored.store_link.Tie as tie
 
@@ -32,7 +32,7 @@ same-length c = search needs
 returns : tie.Need-returns
 returns c =
     let a = c .before .before .before .before .before .before .before .args in
-    c .before .before .store-word .ensures ∙ ap (λ (m : Mode). withLink m (a .buf .now) (a .links) (a .id) (a .at)) (sym (c .before .before .before .before .enum-told .given .1))
+    c .before .before .store-word .ensures ∙ ap (λ (m : Mode). backStored m (a .buf .now) (a .links) (a .id) (a .at)) (sym (c .before .before .before .before .enum-told .given .1))
 
 returns-2 : tie.Need-returns-2
 returns-2 c = search needs

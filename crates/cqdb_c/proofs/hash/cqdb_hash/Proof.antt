@@ -1,4 +1,5 @@
--- `cqdb_c::hash::cqdb_hash` meets its contract: what `jhash` promises of the answer, put into the struct. Assumes nothing.
+-- `cqdb_c::hash::cqdb_hash` meets its contract: what `jhash` promises of the answer, put into the struct. Assumes
+-- nothing.
 use mathlib.Core.Path.{sym, ap, _∙_}
 use Rattle.jhash.specs.NameHash.{outcome}
 use Rattle.cqdb_c.specs.Hash.{answerOf}

@@ -1,4 +1,5 @@
--- `cqdb_c::naming::cqdb_to_str` meets its contract: the reader's answer, put into the struct; the length fits its 32 bits. Assumes nothing.
+-- `cqdb_c::naming::cqdb_to_str` meets its contract: the reader's answer, put into the struct; the length fits its 32
+-- bits. Assumes nothing.
 use Prim.Native.Nat.{ℕ}
 use native.Mathlib.Omega.{arith}
 use mathlib.Core.Path.{ap, _∙_}

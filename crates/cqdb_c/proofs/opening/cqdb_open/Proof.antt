@@ -1,4 +1,5 @@
--- `cqdb_c::opening::cqdb_open` meets its contract: what `open` promises of the answer, put into the struct. Assumes nothing.
+-- `cqdb_c::opening::cqdb_open` meets its contract: what `open` promises of the answer, put into the struct. Assumes
+-- nothing.
 use mathlib.Core.Path.{sym, ap, _∙_}
 use Rattle.reader.specs.Cases.{openedOf}
 use Rattle.cqdb_c.specs.ReadAnswers.{openAnswerOf}

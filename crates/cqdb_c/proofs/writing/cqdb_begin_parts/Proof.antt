@@ -7,7 +7,7 @@ use borrow.Author.Tests.{not-true, not-false}
 use Rattle.writer.specs.declared.Begun.{Begun}
 use Rattle.writer.specs.State.{begunOf}
 use Rattle.writer.specs.declared.c_record.Record.{Record}
-use Rattle.cqdb_c.specs.Writing.{Lent, lent, numbersOf, sizesOf, beginningHeld, numberIn, leftByBegin}
+use Rattle.cqdb_c.specs.Writing.{Lent, lent, numbersOf, sizesOf, beginningOf, numberIn, leftByBegin}
 use Rattle.cqdb_c.proofs.CCalls.{begin-unknown, begin-known, stored}
 use borrow.Author.Needs.{needs}
 use Rattle.cqdb_c.proofs.writing.cqdb_begin_parts.Statement.{statement}
@@ -24,7 +24,7 @@ abbrev counts-after : tie.After-begin → List ℕ
 counts-after c = c .begin .last .1 .1 .0
 
 told : (c : tie.After-begin) → let a = start c .args in let b = begunOf (c .begin .result) in
-    (numberIn b ≡ numberIn (beginningHeld (a .mode) (a .repeats) (length (a .buf .now))))
+    (numberIn b ≡ numberIn (beginningOf (a .mode) (a .repeats) (length (a .buf .now))))
     × (stored b (given c) (counts-after c) ≡ leftByBegin (a .mode) (a .repeats) (length (a .buf .now)) (given c))
 told c =
     let a = start c .args in

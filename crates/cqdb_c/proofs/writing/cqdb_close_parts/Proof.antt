@@ -2,7 +2,7 @@
 use mathlib.Core.Path.{sym, _∙_}
 use borrow.Author.Tests.{not-true, not-false}
 use Rattle.writer.specs.Close.{closedOf}
-use Rattle.writer.specs.CRecord.{held}
+use Rattle.writer.specs.CRecord.{cState}
 use Rattle.cqdb_c.proofs.CCalls.{close-unknown, close-known}
 use borrow.Author.Needs.{needs}
 use Rattle.cqdb_c.proofs.writing.cqdb_close_parts.Statement.{statement}
@@ -14,7 +14,7 @@ known-requires c κs = search needs
 returns : tie.Need-returns
 returns c =
     let a = c .before .before .before .args in
-    close-unknown (held (a .w) (a .counts .now) (a .buf .now)) (sym (c .before .known .ensures) ∙ not-true _ (c .if1 .taken))
+    close-unknown (cState (a .w) (a .counts .now) (a .buf .now)) (sym (c .before .known .ensures) ∙ not-true _ (c .if1 .taken))
 
 writer-of-requires : tie.Need-writer-of-requires
 writer-of-requires c κs = search needs
@@ -40,9 +40,10 @@ returns-2 c =
     let of-writer-of = c .before .before .before .before .before .before .before .before .writer-of in
     let of-close = c .before .before .before .before .before .before .close in
     let fine = sym (c .before .before .before .before .before .before .before .before .before .before .known .ensures) ∙ not-false _ (c .before .before .before .before .before .before .before .before .before .if1 .left) in
-    close-known (held (a .w) (a .counts .now) (a .buf .now)) (of-writer-of .result) (of-close .result .writer) (c .record-of .result)
+    close-known (cState (a .w) (a .counts .now) (a .buf .now)) (of-writer-of .result) (of-close .result .writer) (c .record-of .result)
     (of-close .last .1 .1 .0) (closedOf (of-close .result .answer)) (c .before .before .close-number .result) (c .before .close-size .result)
-    fine (of-writer-of .ensures) (of-close .ensures .0) (of-close .ensures .1) (c .before .before .close-number .ensures) (c .before .close-size .ensures) (c .record-of .ensures)
+    fine (of-writer-of .ensures) (of-close .ensures .0) (of-close .ensures .1) (c .before .before .close-number .ensures)
+    (c .before .close-size .ensures) (c .record-of .ensures)
 
 pub cqdb-close-parts-spec : {M : Type 1} → statement M
 cqdb-close-parts-spec =

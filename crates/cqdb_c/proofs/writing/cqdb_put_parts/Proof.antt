@@ -2,7 +2,7 @@
 use mathlib.Core.Path.{sym, _∙_}
 use borrow.Author.Tests.{not-true, not-false}
 use Rattle.writer.specs.Put.{entryOf}
-use Rattle.writer.specs.CRecord.{held}
+use Rattle.writer.specs.CRecord.{cState}
 use Rattle.cqdb_c.proofs.CCalls.{put-unknown, put-known}
 use borrow.Author.Needs.{needs}
 use Rattle.cqdb_c.proofs.writing.cqdb_put_parts.Statement.{statement}
@@ -14,7 +14,7 @@ known-requires c κs = search needs
 returns : tie.Need-returns
 returns c =
     let a = c .before .before .before .before .args in
-    put-unknown (held (a .w) (a .counts .now) (a .buf .now)) (entryOf (a .name .now) (a .id)) (sym (c .before .known .ensures) ∙ not-true _ (c .if1 .taken))
+    put-unknown (cState (a .w) (a .counts .now) (a .buf .now)) (entryOf (a .name .now) (a .id)) (sym (c .before .known .ensures) ∙ not-true _ (c .if1 .taken))
 
 writer-of-requires : tie.Need-writer-of-requires
 writer-of-requires c κs = search needs
@@ -34,7 +34,8 @@ returns-2 c =
     let of-put = c .before .before .before .before .put in
     let of-writer-of = c .before .before .before .before .before .before .before .writer-of in
     let fine = sym (c .before .before .before .before .before .before .before .before .before .known .ensures) ∙ not-false _ (c .before .before .before .before .before .before .before .before .if1 .left) in
-    put-known (held (a .w) (a .counts .now) (a .buf .now)) (entryOf (a .name .now) (a .id)) (of-writer-of .result) (of-put .result .writer) (c .record-of .result)
+    put-known (cState (a .w) (a .counts .now) (a .buf .now)) (entryOf (a .name .now) (a .id)) (of-writer-of .result) (of-put .result .writer)
+    (c .record-of .result)
     (of-put .last .1 .0) (of-put .last .1 .1 .0) (of-put .result .refusal)
     fine (of-writer-of .ensures) (of-put .ensures .0) (of-put .ensures .1) (c .record-of .ensures)
 

@@ -1,30 +1,31 @@
 -- `serialize::head::write_rows` meets its contract. Assumes nothing.
 use native.Mathlib.Omega.{arith}
 use borrow.Author.Needs.{needs}
-use Prim.Native.Nat.{_+_, _*_, _≤_, _-_}
+use Prim.Native.Nat.{ℕ, _+_, _*_, _≤_, _-_}
 use mathlib.Core.Path.{_≡_, refl, _∙_}
+use mathlib.Core.List.{List}
 use lib.ListN.{length}
 use lib.Seq.{sets}
 use Rattle.serialize.specs.steps.Written.{rowsFrom}
-use Rattle.serialize.proofs.Heads.{rows-turn, rows-end}
+use Rattle.serialize.proofs.HeadStores.{rows-step, rows-end}
 use Rattle.serialize.proofs.head.write_rows.Statement.{statement}
 use Rattle.serialize.proofs.head.write_rows.Tie as tie
-use Rattle.serialize.proofs.head.write_rows.Reads as reads
-use Rattle.serialize.proofs.head.write_rows.Lts as lts
-use Rattle.image.proofs.put_u32.Reads as put-u32-reads
-use Rattle.serialize.proofs.head.low.Reads as low-reads
-use Rattle.serialize.proofs.head.row_offset.Reads as row-offset-reads
-use Rattle.serialize.proofs.head.wide.Reads as wide-reads
+
+-- the rows from table t on, stored in this buffer, leave what all rows leave
+record Storing (counts : List ℕ) (end : ℕ) (buf₀ buf : List ℕ) (o t : ℕ) : Type 0 where
+  most : t ≤ 256
+  long : length buf ≡ length buf₀
+  leaves : sets buf (24 + 8 * t) (rowsFrom counts o t (256 - t)) ≡ sets buf₀ 24 (rowsFrom counts end 0 256)
+  near : o ≤ 4294967296 * (1 + 16 * t)
 
 abbrev Inv-loop : tie.InvT-loop
-Inv-loop buf₀ counts end o₀ t₀ buf o t =
-    (t ≤ 256) × (length buf ≡ length buf₀) × (sets buf (24 + 8 * t) (rowsFrom counts o t (256 - t)) ≡ sets buf₀ 24 (rowsFrom counts end 0 256)) × (o ≤ 4294967296 * (1 + 16 * t))
+Inv-loop buf₀ counts end o₀ t₀ buf o t = Storing counts end buf₀ buf o t
 
 abbrev μ-loop : tie.MeasureT-loop
 μ-loop buf₀ counts end o₀ t₀ buf o t = 256 - t
 
 loop-holds : tie.Need-loop-holds Inv-loop μ-loop
-loop-holds c = (omega arith, refl, refl, omega arith)
+loop-holds c = record { most = omega arith; long = refl; leaves = refl; near = omega arith }
 
 mul-wide : tie.Need-mul-wide Inv-loop μ-loop
 mul-wide c = omega arith
@@ -65,14 +66,17 @@ low-requires-2 c κs = search needs
 put-u32-requires-2 : tie.Need-put-u32-requires-2 Inv-loop μ-loop
 put-u32-requires-2 c κs = search needs
 
+-- the count that was read, where both words of the row are stored
+abbrev counted : tie.After-put-u322 Inv-loop μ-loop → tie.After-wide Inv-loop μ-loop
+counted c = c .before .before .before .before .before .before .before .before .before
+
 mul-o : tie.Need-mul-o Inv-loop μ-loop
-mul-o c = omega (arith, c .before .before .before .before .before .before .before .before .before .before .before .wide .ensures)
+mul-o c = omega (arith, counted (c .before .before) .wide .ensures)
 
 add-o : tie.Need-add-o Inv-loop μ-loop
 add-o c =
-    let of-loop = c .before .before .before .before .before .before .before .before .before .before .before .before .before .before .loop in
-    let of-wide = c .before .before .before .before .before .before .before .before .before .before .before .wide in
-    omega (arith, of-wide .ensures, of-loop .inv)
+    let w = counted (c .before .before) in
+    omega (arith, w .wide .ensures, w .before .before .before .loop .inv .near, w .before .before .loop-test .taken)
 
 add-t : tie.Need-add-t Inv-loop μ-loop
 add-t c = omega arith
@@ -82,21 +86,20 @@ loop-less c = omega arith
 
 loop-again : tie.Need-loop-again Inv-loop μ-loop
 loop-again c =
-    let a = c .before .before .before .before .before .before .before .before .before .before .before .before .before .before .before .before .args in
-    let of-loop = c .before .before .before .before .before .before .before .before .before .before .before .before .before .before .loop in
-    let of-loop-test = c .before .before .before .before .before .before .before .before .before .before .before .before .before .loop-test in
-    let of-wide = c .before .before .before .before .before .before .before .before .before .before .before .wide in
-    let of-row-offset = c .before .before .before .before .before .before .before .before .before .row-offset in
-    let of-low = c .before .before .before .before .before .before .before .before .low in
-    let of-put-u32 = c .before .before .before .before .before .before .before .put-u32 in
-    let of-low2 = c .before .before .before .low2 in
-    let i = of-loop in (
-      omega arith,
-      c .before .before .put-u322 .kept .0 ∙ of-put-u32 .kept .0 ∙ i .inv .1,
-      rows-turn (a .counts .now) (i .buf) (of-put-u32 .last .0) (c .before .before .put-u322 .last .0) _ (i .o) (i .t) 256 (of-low .result) (of-low2 .result) (of-wide .result) (of-row-offset .result)
-          (of-loop-test .taken) (of-wide .ensures .0) (of-row-offset .ensures) (of-low .ensures) (of-low2 .ensures) (of-put-u32 .ensures) (c .before .before .put-u322 .ensures) (i .inv .2),
-      omega (arith, of-wide .ensures, i .inv .3),
-    )
+    let stored = c .before .before in
+    let w = counted stored in
+    let i = w .before .before .before .loop in
+    let less = w .before .before .loop-test .taken in
+    let first = stored .before .before .before .before .before in
+    record {
+      most = omega arith;
+      long = stored .put-u322 .kept .0 ∙ first .put-u32 .kept .0 ∙ i .inv .long;
+      leaves =
+          rows-step (w .before .before .before .before .before .args .counts .now) (i .buf) _ (i .o) (i .t) 256 less (w .wide .ensures .0)
+          (first .before .before .row-offset .ensures) (first .before .low .ensures)
+          (stored .before .low2 .ensures) (first .put-u32 .ensures) (stored .put-u322 .ensures) (i .inv .leaves);
+      near = omega (arith, w .wide .ensures, i .inv .near);
+    }
 
 same-length : tie.Need-same-length Inv-loop μ-loop
 same-length c = search needs
@@ -104,7 +107,8 @@ same-length c = search needs
 returns : tie.Need-returns Inv-loop μ-loop
 returns c =
     let z : 256 - c .before .loop .t ≡ 0 = omega arith in
-    rows-end (c .before .before .before .args .counts .now) (c .before .loop .buf) _ (c .before .loop .o) (c .before .loop .t) (24 + 8 * c .before .loop .t) (rw z at (c .before .loop .inv .2))
+    rows-end (c .before .before .before .args .counts .now) (c .before .loop .buf) _ (c .before .loop .o) (c .before .loop .t)
+    (24 + 8 * c .before .loop .t) (rw z at (c .before .loop .inv .leaves))
 
 pub write-rows-spec : {M : Type 1} → statement M
 write-rows-spec =

@@ -1,54 +1,63 @@
 -- `serialize::insert::first_empty` meets its contract. Assumes nothing.
 use native.Mathlib.Omega.{arith}
 use borrow.Author.Needs.{needs}
-use Prim.Native.Nat.{ℕ, _+_, _*_, _<_, _≤_, _-_}
-use mathlib.Core.Path.{_≡_, refl, sym, _∙_}
+use Prim.Native.Nat.{ℕ, _+_, _<_, _≤_, _-_}
+use mathlib.Core.Path.{_≡_, refl, sym, ap, _∙_}
+use mathlib.Core.List.{List}
 use mathlib.Core.Logic.{⊎-elim}
-use Rattle.image.specs.Bytes.{word}
 use Rattle.image.specs.Tables.{next, probeSequence, firstEmpty}
 use Rattle.image.proofs.ProbeStep.{next-inside, next-wraps}
 use Rattle.image.proofs.FirstEmpty.{empty-here, empty-later, empty-none}
+use Rattle.serialize.specs.steps.Insertion.{offsetAt}
 use Rattle.serialize.proofs.insert.first_empty.Statement.{statement}
 use Rattle.serialize.proofs.insert.first_empty.Tie as tie
-use Rattle.serialize.proofs.insert.first_empty.Reads as reads
-use Rattle.serialize.proofs.insert.first_empty.Lts as lts
-use Rattle.image.proofs.get_u32.Reads as get-u32-reads
+
+-- the search from bucket i on finds what the whole search finds
+record Probing (buf : List ℕ) (o n k i left : ℕ) : Type 0 where
+  below : i < n
+  few : left ≤ n
+  finds : firstEmpty (offsetAt buf o) (probeSequence n left i) ≡ firstEmpty (offsetAt buf o) (probeSequence n n k)
 
 abbrev Inv-loop : tie.InvT-loop
-Inv-loop buf o n k i₀ left₀ i left = (i < n) × (left ≤ n) × (firstEmpty (λ (j : ℕ). word buf (o + 8 * j + 4)) (probeSequence n left i) ≡ firstEmpty (λ (j : ℕ). word buf (o + 8 * j + 4)) (probeSequence n n k))
+Inv-loop buf o n k i₀ left₀ i left = Probing buf o n k i left
 
 abbrev μ-loop : tie.MeasureT-loop
 μ-loop buf o n k i₀ left₀ i left = left
 
 loop-holds : tie.Need-loop-holds Inv-loop μ-loop
-loop-holds c = (c .before .pre .0, omega arith, refl)
+loop-holds c = record { below = c .before .pre .begins; few = omega arith; finds = refl }
 
-mul-get-u32 : tie.Need-mul-get-u32 Inv-loop μ-loop
-mul-get-u32 c = omega arith
+mul-word : tie.Need-mul-word Inv-loop μ-loop
+mul-word c = search needs
 
-add-get-u32 : tie.Need-add-get-u32 Inv-loop μ-loop
-add-get-u32 c = omega arith
+add-word : tie.Need-add-word Inv-loop μ-loop
+add-word c = search needs
 
-add-get-u32-2 : tie.Need-add-get-u32-2 Inv-loop μ-loop
-add-get-u32-2 c = omega arith
+add-word-2 : tie.Need-add-word-2 Inv-loop μ-loop
+add-word-2 c = search needs
 
-get-u32-requires : tie.Need-get-u32-requires Inv-loop μ-loop
-get-u32-requires c κs = search needs
+word-requires : tie.Need-word-requires Inv-loop μ-loop
+word-requires c κs = search needs
 
 returns : tie.Need-returns Inv-loop μ-loop
 returns c =
     let a = c .before .before .before .before .before .args in
-    let of-loop = c .before .before .before .loop in
-    (empty-here (λ (j : ℕ). word (a .buf .now) (a .o + 8 * j + 4)) (a .n) (of-loop .left) (of-loop .i) _ (c .before .before .loop-test .taken) (sym (c .before .get-u32 .ensures) ∙ c .if1 .taken) (of-loop .inv .2), of-loop .inv .0)
+    let l = c .before .before .before .loop in
+    record {
+      is =
+          empty-here (offsetAt (a .buf .now) (a .o)) (a .n) (l .left) (l .i) _ (c .before .before .loop-test .taken)
+          (sym (c .before .word .ensures) ∙ c .if1 .taken) (l .inv .finds);
+      below = l .inv .below;
+    }
 
 add-if2 : tie.Need-add-if2 Inv-loop μ-loop
-add-if2 c = omega arith
+add-if2 c = search needs
 
 add-i : tie.Need-add-i Inv-loop μ-loop
-add-i c = omega arith
+add-i c = search needs
 
 sub-left : tie.Need-sub-left Inv-loop μ-loop
-sub-left c = omega arith
+sub-left c = search needs
 
 loop-less : tie.Need-loop-less Inv-loop μ-loop
 loop-less c = omega arith
@@ -56,19 +65,23 @@ loop-less c = omega arith
 loop-again : tie.Need-loop-again Inv-loop μ-loop
 loop-again c =
     let a = c .before .before .before .before .before .before .args in
-    let i = c .before .before .before .before .loop in
-    let of-loop-test = c .before .before .before .loop-test in
-    let later = empty-later (λ (j : ℕ). word (a .buf .now) (a .o + 8 * j + 4)) (a .n) (i .left) (i .i) _ (of-loop-test .taken) (λ z. c .before .if1 .left (c .before .before .get-u32 .ensures ∙ z)) (i .inv .2) in
+    let l = c .before .before .before .before .loop in
+    let i : ℕ = c .if2 .i in
+    let later = empty-later (offsetAt (a .buf .now) (a .o)) (a .n) (l .left) (l .i) _ (c .before .before .before .loop-test .taken)
+    (λ z. c .before .if1 .left (c .before .before .word .ensures ∙ z)) (l .inv .finds) in
+    let e : (i ≡ next (a .n) (l .i)) × (i < a .n) =
     ⊎-elim
-    (λ w. let e : c .if2 .i ≡ next (a .n) (i .i) = w .1 ∙ next-inside (a .n) (i .i) (w .0 .taken) in (omega (arith, w .0 .taken, w .1), omega arith, rw e later))
-    (λ w. let e : c .if2 .i ≡ next (a .n) (i .i) = w .1 ∙ next-wraps (a .n) (i .i) (omega (arith, i .inv .0, w .0 .left)) in (omega (arith, w .1), omega arith, rw e later))
-    (c .if2 .came)
+    (λ w. (w .1 ∙ next-inside (a .n) (l .i) (w .0 .taken), omega (arith, w .0 .taken, w .1)))
+    (λ w. (w .1 ∙ next-wraps (a .n) (l .i) (omega (arith, l .inv .below, w .0 .left)), omega (arith, w .1, l .inv .below)))
+    (c .if2 .came) in
+    record { below = e .1; few = omega (arith, l .inv .few); finds = rw (e .0) later }
 
 returns-2 : tie.Need-returns-2 Inv-loop μ-loop
 returns-2 c =
     let a = c .before .before .before .args in
-    let z : c .before .loop .left ≡ 0 = omega arith in
-    (empty-none (λ (j : ℕ). word (a .buf .now) (a .o + 8 * j + 4)) (a .n) (c .before .loop .i) _ (rw z at (c .before .loop .inv .2)), omega arith)
+    let l = c .before .loop in
+    let z : l .left ≡ 0 = omega arith in
+    record { is = empty-none (offsetAt (a .buf .now) (a .o)) (a .n) (l .i) _ (rw z at (l .inv .finds)); below = omega (arith, l .inv .below) }
 
 pub first-empty-spec : {M : Type 1} → statement M
 first-empty-spec =
@@ -77,10 +90,10 @@ first-empty-spec =
     Inv-loop
     μ-loop
     loop-holds
-    mul-get-u32
-    add-get-u32
-    add-get-u32-2
-    get-u32-requires
+    mul-word
+    add-word
+    add-word-2
+    word-requires
     returns
     add-if2
     add-i

@@ -1,12 +1,9 @@
 -- `serialize::size::finished_size` meets its contract. Assumes nothing.
 use native.Mathlib.Omega.{arith}
-use Rattle.serialize.proofs.FinishSteps.{backIn-le}
+use Rattle.serialize.proofs.WriteSteps.{backIn-le}
 use borrow.Author.Needs.{needs}
 use Rattle.serialize.proofs.size.finished_size.Statement.{statement}
 use Rattle.serialize.proofs.size.finished_size.Tie as tie
-use Rattle.serialize.proofs.size.finished_size.Reads as reads
-use Rattle.serialize.proofs.size.finished_size.Lts as lts
-use Rattle.serialize.proofs.size.back_in.Reads as back-in-reads
 
 mul-result : tie.Need-mul-result
 mul-result c = search needs

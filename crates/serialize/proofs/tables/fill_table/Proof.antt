@@ -1,66 +1,87 @@
--- `serialize::tables::fill_table` meets its contract. Assumes nothing.
 use native.Mathlib.Omega.{arith}
+use lib.ListN.{length-take}
 use borrow.Author.Tests.{not-true, not-false}
-use mathlib.Core.Path.{_≡_, sym, _∙_}
-use mathlib.Core.Bool.{true}
-use Rattle.serialize.specs.steps.Parting.{copied}
-use Rattle.serialize.proofs.Filling.{copied-room, table-none, table-filled}
+use Rattle.serialize.proofs.TableFill.{pairs-copied, Copyable, copy-fits, table-left, table-filled}
 use borrow.Author.Needs.{needs}
 use Rattle.serialize.proofs.tables.fill_table.Statement.{statement}
 use Rattle.serialize.proofs.tables.fill_table.Tie as tie
-use Rattle.serialize.proofs.tables.fill_table.Reads as reads
-use Rattle.serialize.proofs.tables.fill_table.Lts as lts
-use Rattle.serialize.proofs.tables.copied.Reads as copied-reads
-use Rattle.serialize.proofs.tables.copy_pairs.Reads as copy-pairs-reads
-use Rattle.serialize.proofs.tables.fill_room.Reads as fill-room-reads
 
-copied-requires : tie.Need-copied-requires
-copied-requires c κs = search needs
+copyable-requires : tie.Need-copyable-requires
+copyable-requires c κs = search needs
 
 same-length : tie.Need-same-length
 same-length c = search needs
 
 returns : tie.Need-returns
 returns c =
-    let a = c .before .before .before .before .args in
-    let start-pre = c .before .before .before .before .pre in
-    (start-pre .2, start-pre .3, table-none (a .buf .now) (a .o) (a .c) (sym (c .before .copied .ensures) ∙ not-true _ (c .if1 .taken)))
+    let a = c .before .before .before .before .before .args in
+    table-left (a .buf .now) (a .o) (a .c) (c .before .copyable .ensures) (not-true _ (c .if1 .taken))
 
-copy-pairs-requires : tie.Need-copy-pairs-requires
-copy-pairs-requires c κs =
-    let a = c .before .before .before .before .before .before .before .args in
-    let start-pre = c .before .before .before .before .before .before .before .pre in
-    let room = copied-room (a .buf .now) (a .o) (a .c) (sym (c .before .before .before .before .copied .ensures) ∙ not-false _ (c .before .before .before .if1 .left)) in
-    (room .1, omega (arith, room .0), start-pre .2, start-pre .3)
+mul-store-bytes : tie.Need-mul-store-bytes
+mul-store-bytes c = search needs
 
-fill-room-requires : tie.Need-fill-room-requires
-fill-room-requires c κs =
-    let a = c .before .before .before .before .before .before .before .before .before .before .before .args in
-    let room = copied-room (a .buf .now) (a .o) (a .c) (sym (c .before .before .before .before .before .before .before .before .copied .ensures) ∙ not-false _ (c .before .before .before .before .before .before .before .if1 .left)) in
-    (room .1, room .0)
+add-store-bytes : tie.Need-add-store-bytes
+add-store-bytes c = search needs
+
+sub-store-bytes : tie.Need-sub-store-bytes
+sub-store-bytes c = search needs
+
+part-store-bytes-start : tie.Need-part-store-bytes-start
+part-store-bytes-start c = search needs
+
+-- what the test says
+fits : (c : tie.Else1) → let a = c .before .before .before .before .before .args in Copyable (a .buf .now) (a .o) (a .c)
+fits c =
+    let a = c .before .before .before .before .before .args in copy-fits (a .buf .now) (a .o) (a .c) (c .before .copyable .ensures) (not-false _ (c .if1 .left))
+
+part-store-bytes-end : tie.Need-part-store-bytes-end
+part-store-bytes-end c = let inside = fits (c .before .before) .inside in omega arith
+
+store-bytes-requires : tie.Need-store-bytes-requires
+store-bytes-requires c κs =
+    let few = fits (c .before .before .before) .few in
+    simp length-take (omega (arith, c .before .before .before .before .before .before .before .before .pre .copy-long))
+
+insert-pairs-requires : tie.Need-insert-pairs-requires
+insert-pairs-requires c κs =
+    let e = c .before .before .before .before .before .before .before .before in
+    let few = fits e .few in
+    record {
+      few = few;
+      pairs-inside = omega (arith, c .before .before .before .before .store-bytes .kept .0, e .before .before .before .before .before .pre .copy-long);
+      inside = fits e .inside;
+    }
 
 same-length-2 : tie.Need-same-length-2
 same-length-2 c = search needs
 
+same-length-3 : tie.Need-same-length-3
+same-length-3 c = search needs
+
 returns-2 : tie.Need-returns-2
 returns-2 c =
-    let a = c .before .before .before .before .before .before .before .before .before .before .before .before .before .before .args in
-    let yes : copied (a .buf .now) (a .o) (a .c) ≡ true = sym (c .before .before .before .before .before .before .before .before .before .before .before .copied .ensures) ∙ not-false _ (c .before .before .before .before .before .before .before .before .before .before .if1 .left) in
-    let of-copy = c .before .before .before .before .before .before .copy-pairs in
-    let of-fill = c .before .before .fill-room in (
-      of-copy .ensures .0,
-      of-copy .ensures .1,
-      table-filled (a .buf .now) (a .o) (a .c) yes (of-copy .last .1 .1 .1 .0) (of-copy .last .1 .1 .1 .1 .0) (of-fill .last .0) (of-copy .ensures .2) (of-fill .ensures),
-    )
+    let e = c .before .before .before .before .before .before .before .before .before .before .before in
+    let a = e .before .before .before .before .before .args in
+    let inside = fits e .inside in
+    let few = fits e .few in
+    let copied = c .before .before .before .before .before .before .before .store-bytes in
+    table-filled (a .buf .now) (a .o) (a .c) (e .before .copyable .ensures) (not-false _ (e .if1 .left)) (copied .last .0)
+    (pairs-copied (a .buf .now) (a .copy .now) (a .o) (a .c) (omega arith) (omega (arith, e .before .before .before .before .before .pre .copy-long)) (copied .ensures)) (c .before .before .insert-pairs .ensures)
 
 pub fill-table-spec : {M : Type 1} → statement M
 fill-table-spec =
     tie.close
     (tie.spec
-    copied-requires
+    copyable-requires
     same-length
     returns
-    copy-pairs-requires
-    fill-room-requires
+    mul-store-bytes
+    add-store-bytes
+    sub-store-bytes
+    part-store-bytes-start
+    part-store-bytes-end
+    store-bytes-requires
+    insert-pairs-requires
     same-length-2
+    same-length-3
     returns-2)

@@ -1,7 +1,9 @@
 -- `writer::check::walk_refusal` meets its contract. Assumes nothing.
 use borrow.Author.Tests.{not-true, not-false}
-use mathlib.Core.Bool.{true, false}
-use mathlib.Core.Path.{sym, _∙_}
+use mathlib.Core.Bool.{Bool, true, false, cond}
+use mathlib.Core.Path.{_≡_, sym, _∙_}
+use Rattle.writer.specs.State.{stateWith}
+use Rattle.writer.specs.steps.Earlier.{walkRefusal}
 use Rattle.writer.proofs.Agree.{zeros}
 use Rattle.writer.proofs.Earlier.{not-whole, other-counts, other-back, by-name}
 use borrow.Author.Needs.{needs}
@@ -9,7 +11,14 @@ use Rattle.writer.proofs.check.walk_refusal.Statement.{statement}
 use Rattle.writer.proofs.check.walk_refusal.Tie as tie
 
 walk-requires : tie.Need-walk-requires
-walk-requires c κs = let start-pre = c .before .before .before .pre in (start-pre .0, start-pre .1, zeros 256)
+walk-requires c κs = let s = c .before .before .before in (s .pre .low, s .pre .high, zeros 256)
+
+-- what the walk found, where the entries are whole
+abbrev walked : tie.Else1 → tie.After-walk
+walked c = c .before .before
+
+whole : (c : tie.Else1) → walked c .walk .result .whole ≡ true
+whole c = not-false _ (c .if1 .left)
 
 returns : tie.Need-returns
 returns c =
@@ -21,10 +30,10 @@ same-counts-requires c κs = search needs
 
 returns-2 : tie.Need-returns-2
 returns-2 c =
-    let a = c .before .before .before .before .before .before .before .before .before .args in
-    let of-walk = c .before .before .before .before .before .walk in
-    let whole = not-false _ (c .before .before .before .if1 .left) in
-    other-counts (a .w) (a .counts .now) (a .buf .now) (a .name .now) _ (of-walk .ensures .0) whole _ (of-walk .ensures .1 .1 .1 whole)
+    let e = c .before .before .before in
+    let a = walked e .before .before .before .before .args in
+    let found = walked e .walk .ensures in
+    other-counts (a .w) (a .counts .now) (a .buf .now) (a .name .now) _ (found .0) (whole e) _ (found .1 .1 .1 (whole e))
     _ (c .before .same-counts .ensures) (not-true _ (c .if2 .taken))
 
 cast-if3 : tie.Need-cast-if3
@@ -35,32 +44,31 @@ back-in-requires c κs = search needs
 
 returns-3 : tie.Need-returns-3
 returns-3 c =
-    let a = c .before .before .before .before .before .before .before .before .before .before .before .before .args in
-    let of-walk = c .before .before .before .before .before .before .before .before .walk in
-    let whole = not-false _ (c .before .before .before .before .before .before .if1 .left) in
-    let same = not-false _ (c .before .before .before .if2 .left) in
-    other-back (a .w) (a .counts .now) (a .buf .now) (a .name .now) _ (of-walk .ensures .0) whole _ (of-walk .ensures .1 .1 .1 whole)
-    _ (c .before .before .before .before .same-counts .ensures) same _ _ (of-walk .ensures .1 .0 whole) (c .before .back-in .ensures) (c .if3 .taken)
+    let s = c .before .before .before in
+    let e = s .before .before .before in
+    let a = walked e .before .before .before .before .args in
+    let found = walked e .walk .ensures in
+    other-back (a .w) (a .counts .now) (a .buf .now) (a .name .now) _ (found .0) (whole e) _ (found .1 .1 .1 (whole e))
+    _ (s .before .same-counts .ensures) (not-false _ (s .if2 .left)) _ _ (found .1 .0 (whole e)) (c .before .back-in .ensures) (c .if3 .taken)
+
+-- the entries agree with the record: the answer is whether one has the name
+by-match : (c : tie.Else3) (m : Bool)
+    → let e = c .before .before .before .before .before .before in let a = walked e .before .before .before .before .args in
+    m ≡ walked e .walk .result .contains → cond m 16 0 ≡ walkRefusal (stateWith (a .w) (a .counts .now) (a .buf .now)) (a .name .now)
+by-match c m is =
+    let s = c .before .before .before in
+    let e = s .before .before .before in
+    let a = walked e .before .before .before .before .args in
+    let found = walked e .walk .ensures in
+    by-name (a .w) (a .counts .now) (a .buf .now) (a .name .now) _ (found .0) (whole e) _ (found .1 .1 .1 (whole e))
+    _ (s .before .same-counts .ensures) (not-false _ (s .if2 .left)) _ _ (found .1 .0 (whole e)) (c .before .back-in .ensures) (c .if3 .left)
+    m (is ∙ found .1 .1 .0 (whole e))
 
 returns-4 : tie.Need-returns-4
-returns-4 c =
-    let a = c .before .before .before .before .before .before .before .before .before .before .before .before .before .args in
-    let of-walk = c .before .before .before .before .before .before .before .before .before .walk in
-    let whole = not-false _ (c .before .before .before .before .before .before .before .if1 .left) in
-    let same = not-false _ (c .before .before .before .before .if2 .left) in
-    by-name (a .w) (a .counts .now) (a .buf .now) (a .name .now) _ (of-walk .ensures .0) whole _ (of-walk .ensures .1 .1 .1 whole)
-    _ (c .before .before .before .before .before .same-counts .ensures) same _ _ (of-walk .ensures .1 .0 whole) (c .before .before .back-in .ensures) (c .before .if3 .left)
-    true (sym (c .if4 .taken) ∙ of-walk .ensures .1 .1 .0 whole)
+returns-4 c = by-match (c .before) true (sym (c .if4 .taken))
 
 returns-5 : tie.Need-returns-5
-returns-5 c =
-    let a = c .before .before .before .before .before .before .before .before .before .before .before .before .before .args in
-    let of-walk = c .before .before .before .before .before .before .before .before .before .walk in
-    let whole = not-false _ (c .before .before .before .before .before .before .before .if1 .left) in
-    let same = not-false _ (c .before .before .before .before .if2 .left) in
-    by-name (a .w) (a .counts .now) (a .buf .now) (a .name .now) _ (of-walk .ensures .0) whole _ (of-walk .ensures .1 .1 .1 whole)
-    _ (c .before .before .before .before .before .same-counts .ensures) same _ _ (of-walk .ensures .1 .0 whole) (c .before .before .back-in .ensures) (c .before .if3 .left)
-    false (sym (c .if4 .left) ∙ of-walk .ensures .1 .1 .0 whole)
+returns-5 c = by-match (c .before) false (sym (c .if4 .left))
 
 pub walk-refusal-spec : {M : Type 1} → statement M
 walk-refusal-spec =

@@ -48,7 +48,8 @@ returns c =
     let of-word = c .before .before .before .before .before .before .before .before .before .before .store-word in
     let of-word2 = c .before .before .before .before .before .before .store-word2 in
     let of-bytes = c .before .before .store-bytes in
-    stored-parts (a .name .now) (a .buf .now) (of-word .last .0) (of-word2 .last .0) (of-bytes .last .0) (a .at) (a .id) (of-word .ensures) (of-word2 .ensures) (of-bytes .ensures)
+    stored-parts (a .name .now) (a .buf .now) (of-word .last .0) (of-word2 .last .0) (of-bytes .last .0) (a .at) (a .id) (of-word .ensures)
+    (of-word2 .ensures) (of-bytes .ensures)
 
 pub store-spec : {M : Type 1} → statement M
 store-spec =

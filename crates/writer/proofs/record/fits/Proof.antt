@@ -5,7 +5,8 @@ use Rattle.writer.proofs.record.fits.Statement.{statement}
 use Rattle.writer.proofs.record.fits.Tie as tie
 
 returns : tie.Need-returns
-returns c = other-length (c .before .before .before .args .w) (c .before .before .before .args .counts .now) (c .before .before .before .args .buf .now) (c .if1 .taken)
+returns c =
+    other-length (c .before .before .before .args .w) (c .before .before .before .args .counts .now) (c .before .before .before .args .buf .now) (c .if1 .taken)
 
 returns-2 : tie.Need-returns-2
 returns-2 c =

@@ -4,7 +4,7 @@ use Prim.Native.Nat.{ℕ, _+_, _*_}
 use mathlib.Core.Path.{_≡_, ap, _∙_}
 use Rattle.image.specs.Image.{backIn}
 use Rattle.writer.specs.Put.{raised, writerWith}
-use Rattle.serialize.proofs.FinishSteps.{backIn-le}
+use Rattle.serialize.proofs.WriteSteps.{backIn-le}
 use Rattle.writer.proofs.Fits.{raised-le}
 use borrow.Author.Needs.{needs}
 use Rattle.writer.proofs.record.size_with.Statement.{statement}
@@ -38,13 +38,15 @@ mul-result-2 : tie.Need-mul-result-2
 mul-result-2 c =
     let a = c .before .before .before .before .args in
     let of-raised = c .before .before .before .raised in
-    omega (arith, c .before .before .back-in .ensures, backIn-le (a .w .mode) (of-raised .result), of-raised .ensures, raised-le (a .w .mode) (a .w .back) (a .id))
+    omega
+    (arith, c .before .before .back-in .ensures, backIn-le (a .w .mode) (of-raised .result), of-raised .ensures, raised-le (a .w .mode) (a .w .back) (a .id))
 
 add-result-5 : tie.Need-add-result-5
 add-result-5 c =
     let a = c .before .before .before .before .args in
     let of-raised = c .before .before .before .raised in
-    omega (arith, c .before .before .back-in .ensures, backIn-le (a .w .mode) (of-raised .result), of-raised .ensures, raised-le (a .w .mode) (a .w .back) (a .id))
+    omega
+    (arith, c .before .before .back-in .ensures, backIn-le (a .w .mode) (of-raised .result), of-raised .ensures, raised-le (a .w .mode) (a .w .back) (a .id))
 
 returns : tie.Need-returns
 unfolding writerWith

@@ -1,0 +1,136 @@
+-- One entry more in tables and back array: one bucket of one table changes, and one word of the back array. Assumes nothing.
+use Prim.Native.Nat.{ℕ, zero, suc, _+_, _*_, _/_, _≤_, _<_}
+use native.Mathlib.Nat.{mod-lt}
+use native.Mathlib.Omega.{arith}
+use mathlib.Core.Path.{_≡_, refl, sym, ap, _∙_}
+use mathlib.Core.Bool.{Bool, true, false, cond}
+use mathlib.Core.List.{List, [], _∷_, _++_, map, map-append, append-nil}
+use lib.ListN.{length}
+use lib.Seq.{sets}
+use lib.Dec.{eqb, lit<}
+use borrow.Author.Tests.{eq-eqb, ne-eqb}
+use Rattle.jhash.specs.NameHash.{hashOf}
+use Rattle.image.specs.Bytes.{le32, cat, filter, range}
+use Rattle.image.specs.Tables.{tableOf, start, next, probeSequence, firstEmpty, atOf, insert, filled}
+use Rattle.image.specs.Image.{Placed, inTable, ofTable, count, bucketOf, bucketBytes, entriesBefore, hasId, placedOfId, lastFrom, backWord, backWords}
+use Rattle.image.proofs.Words.{length-le32}
+use Rattle.image.proofs.Lists.{length-cat, filter-yes, filter-no, filter-append, length-range}
+use Rattle.image.proofs.Sizes.{ofTable-append, filled-more, length-bucketBytes}
+use Rattle.image.proofs.Stores.{sets-part, sets-run}
+use Rattle.image.proofs.Parts.{bucketsOf, length-tablesOf-to}
+use Rattle.serialize.proofs.PartialImage.{tableWith, tablesWith, length-tableWith}
+
+-- ---- the first empty bucket of a search
+
+-- it is one of the buckets
+pub firstEmpty-below : (f : ℕ → ℕ) (n m k : ℕ) → k < n → firstEmpty f (probeSequence n m k) < n
+unfolding firstEmpty probeSequence
+firstEmpty-below f n zero k h = omega arith
+firstEmpty-below f n (suc m) k h = go (eqb (f k) 0) (firstEmpty-below f n m (next n k) (mod-lt (k + 1) (omega arith)))
+  where
+    go : (b : Bool) → firstEmpty f (probeSequence n m (next n k)) < n → cond b k (firstEmpty f (probeSequence n m (next n k))) < n
+    go true i = h
+    go false i = i
+
+-- ---- tables
+
+-- an entry's table, and the bucket for it where the entries rs are inserted
+abbrev pub ownTable : Placed → ℕ
+ownTable p = tableOf (hashOf (p .entry .name))
+
+unfoldable pub place : List Placed → List Placed → Placed → ℕ
+place ps rs p =
+    let n = 2 * count (ownTable p) ps in
+    firstEmpty (atOf (tableWith ps rs (ownTable p))) (probeSequence n n (start (hashOf (p .entry .name)) n))
+
+module _ (ps rs : List Placed) (p : Placed) where
+  own : ℕ
+  own = ownTable p
+
+  one-more : (t : ℕ) (k : List Placed) → ofTable t (p ∷ []) ≡ k → ofTable t (rs ++ p ∷ []) ≡ ofTable t rs ++ k
+  one-more t k e = ofTable-append t rs (p ∷ []) ∙ ap (λ (l : List Placed). ofTable t rs ++ l) e
+
+  table-other : (t : ℕ) → (t ≡ own → ⊥) → tableWith ps rs t ≡ tableWith ps (rs ++ p ∷ []) t
+  unfolding tableWith ofTable own
+  table-other t h =
+      let no : inTable t p ≡ false = ne-eqb (tableOf (hashOf (p .entry .name))) t (λ z. h (sym z)) in
+      sym (ap (λ (l : List Placed). filled (2 * count t ps) (map bucketOf l))
+      (one-more t [] (filter-no (inTable t) p [] no) ∙ append-nil (ofTable t rs)))
+
+  table-own : tableWith ps (rs ++ p ∷ []) own ≡ insert (2 * count own ps) (tableWith ps rs own) (bucketOf p)
+  unfolding tableWith ofTable own
+  table-own =
+      let yes : inTable own p ≡ true = eq-eqb own own refl in
+      ap (λ (l : List Placed). filled (2 * count own ps) (map bucketOf l)) (one-more own (p ∷ []) (filter-yes (inTable own) p [] yes))
+      ∙ ap (filled (2 * count own ps)) (map-append bucketOf (ofTable own rs) (p ∷ []))
+      ∙ filled-more (2 * count own ps) (map bucketOf (ofTable own rs)) (bucketOf p)
+
+  pub place-below : 0 < count (ownTable p) ps → place ps rs p < 2 * count (ownTable p) ps
+  unfolding place
+  place-below h =
+      let n = 2 * count (ownTable p) ps in
+      firstEmpty-below (atOf (tableWith ps rs (ownTable p))) n n (start (hashOf (p .entry .name)) n)
+      (mod-lt (hashOf (p .entry .name) / 256) (omega arith))
+
+  stored : 0 < count own ps
+      → sets (cat bucketBytes (tableWith ps rs own)) (8 * place ps rs p) (bucketBytes (bucketOf p)) ≡ cat bucketBytes (tableWith ps (rs ++ p ∷ []) own)
+  unfolding own place insert
+  stored h =
+      sets-part bucketBytes 8 length-bucketBytes (tableWith ps rs own) (place ps rs p) (bucketOf p) (rw (length-tableWith ps rs own) (place-below h))
+      ∙ ap (cat bucketBytes) (sym table-own)
+
+  pub tables-more : 0 < count (ownTable p) ps
+      → sets (tablesWith ps rs) (16 * entriesBefore (ownTable p) ps + 8 * place ps rs p) (bucketBytes (bucketOf p)) ≡ tablesWith ps (rs ++ p ∷ [])
+  unfolding tablesWith own
+  tables-more h =
+      sets-run (bucketsOf (tableWith ps rs)) (bucketsOf (tableWith ps (rs ++ p ∷ []))) (bucketBytes (bucketOf p)) 256 (ownTable p) (8 * place ps rs p)
+      (16 * entriesBefore (ownTable p) ps + 8 * place ps rs p)
+      (mod-lt (hashOf (p .entry .name)) (lit< tt))
+      (ap (λ (n : ℕ). n + 8 * place ps rs p) (sym (length-tablesOf-to ps (tableWith ps rs) (length-tableWith ps rs) (ownTable p))))
+      inside
+      (stored h)
+      (λ t k. ap (cat bucketBytes) (table-other t k))
+    where
+      inside : 8 * place ps rs p + length (bucketBytes (bucketOf p)) ≤ length (cat bucketBytes (tableWith ps rs (ownTable p)))
+      inside =
+          let b = place-below h in
+          omega
+          (arith, length-bucketBytes (bucketOf p), length-cat bucketBytes 8 length-bucketBytes (tableWith ps rs (ownTable p)), length-tableWith ps rs (ownTable p))
+
+-- ---- the back array
+
+over : (v w : ℕ) → sets (le32 v) 0 (le32 w) ≡ le32 w
+unfolding le32
+over v w = refl
+
+last-more : (o : ℕ) (ps : List Placed) (p : Placed) → lastFrom o (ps ++ p ∷ []) ≡ p .at
+unfolding lastFrom
+last-more o [] p = refl
+last-more o (q ∷ ps) p = last-more (q .at) ps p
+
+module _ (rs : List Placed) (p : Placed) where
+  id-more : (i : ℕ) (k : List Placed) → placedOfId i (p ∷ []) ≡ k → placedOfId i (rs ++ p ∷ []) ≡ placedOfId i rs ++ k
+  unfolding placedOfId
+  id-more i k e = filter-append (λ (q : Placed). hasId i (q .entry)) rs (p ∷ []) ∙ ap (λ (l : List Placed). placedOfId i rs ++ l) e
+
+  link-other : (i : ℕ) → (i ≡ p .entry .id → ⊥) → backWord rs i ≡ backWord (rs ++ p ∷ []) i
+  unfolding backWord placedOfId filter
+  link-other i h =
+      let no : hasId i (p .entry) ≡ false = ne-eqb (p .entry .id) i (λ z. h (sym z)) in
+      sym (ap (lastFrom 0) (id-more i [] (filter-no (λ (q : Placed). hasId i (q .entry)) p [] no) ∙ append-nil (placedOfId i rs)))
+
+  link-own : backWord (rs ++ p ∷ []) (p .entry .id) ≡ p .at
+  unfolding backWord placedOfId filter
+  link-own =
+      let i = p .entry .id in
+      ap (lastFrom 0) (id-more i (p ∷ []) (filter-yes (λ (q : Placed). hasId i (q .entry)) p [] (eq-eqb i i refl))) ∙ last-more 0 (placedOfId i rs) p
+
+  pub links-more : (n : ℕ) → p .entry .id < n → sets (backWords rs n) (4 * p .entry .id) (le32 (p .at)) ≡ backWords (rs ++ p ∷ []) n
+  unfolding backWords
+  links-more n h =
+      let i = p .entry .id in
+      sets-run (λ (j : ℕ). le32 (backWord rs j)) (λ (j : ℕ). le32 (backWord (rs ++ p ∷ []) j)) (le32 (p .at)) n i 0 (4 * i) h
+      (omega (arith, length-cat (λ (j : ℕ). le32 (backWord rs j)) 4 (λ j. length-le32 (backWord rs j)) (range 0 i), length-range 0 i))
+      (omega (arith, length-le32 (p .at), length-le32 (backWord rs i)))
+      (over (backWord rs i) (p .at) ∙ ap le32 (sym link-own))
+      (λ j k. ap le32 (link-other j k))

@@ -1,0 +1,80 @@
+-- The steps of serializing: the sizes, where the back array begins, and which way the entries are inserted. Assumes nothing.
+use Prim.Native.Nat.{ℕ, _+_, _-_, _*_, _≤_, _<_}
+use native.Mathlib.Omega.{arith}
+use mathlib.Core.Path.{_≡_, sym, ap, ap₂, _∙_}
+use mathlib.Core.Bool.{Bool, true, false, cond}
+use mathlib.Core.List.{List}
+use lib.ListN.{replicate}
+use lib.Seq.{sets}
+use lib.Dec.{eqb}
+use borrow.Author.Tests.{eq-eqb, ne-eqb, le-leb, lt-leb}
+use Rattle.image.specs.Image.{backIn, flagWord, headBytes}
+use Rattle.image.specs.declared.Mode.{Mode}
+use Rattle.image.specs.declared.Mode.the-variants.{Twoway, Oneway}
+use Rattle.serialize.specs.Record.{finishedOf, noneAbove}
+use Rattle.serialize.specs.steps.Insertion.{insertedFrom}
+use Rattle.serialize.specs.steps.Partition.{insertedByTables}
+use Rattle.serialize.specs.steps.Written.{rowsFrom, backOffsetOf, headed, zeroed, partitions, allInserted, written}
+
+pub backIn-le : (mode : Mode) (n : ℕ) → backIn mode n ≤ n
+backIn-le Twoway n = omega arith
+backIn-le Oneway n = omega arith
+
+module _ (mode : Mode) (end entries back : ℕ) where
+  -- where the back array stands
+  pub backOffset-none : (n : ℕ) → n ≡ backIn mode back → n ≡ 0 → 0 ≡ backOffsetOf mode end entries back
+  unfolding backOffsetOf
+  backOffset-none n e z = rw (eq-eqb (backIn mode back) 0 (sym e ∙ z))
+
+  pub backOffset-some : (n : ℕ) → n ≡ backIn mode back → (n ≡ 0 → ⊥) → end + 16 * entries ≡ backOffsetOf mode end entries back
+  unfolding backOffsetOf
+  backOffset-some n e z = rw (ne-eqb (backIn mode back) 0 (λ y. z (e ∙ y)))
+
+  pub backOffset-le : backOffsetOf mode end entries back ≤ end + 16 * entries
+  unfolding backOffsetOf
+  backOffset-le = go (eqb (backIn mode back) 0)
+    where
+      go : (b : Bool) → cond b 0 (end + 16 * entries) ≤ end + 16 * entries
+      go true = omega arith
+      go false = omega arith
+
+  -- head and rows
+  pub headed-parts : (counts buf b1 b2 : List ℕ) (n f k l : ℕ)
+      → n ≡ finishedOf mode end entries back → f ≡ flagWord mode → k ≡ backIn mode back → l ≡ backOffsetOf mode end entries back
+      → b1 ≡ sets buf 0 (headBytes n f k l) → b2 ≡ sets b1 24 (rowsFrom counts end 0 256) → b2 ≡ headed mode end entries back counts buf
+  unfolding headed
+  headed-parts counts buf b1 b2 n f k l en ef ek el p q =
+      let size = finishedOf mode end entries back in
+      let links = backOffsetOf mode end entries back in
+      let first : b1 ≡ sets buf 0 (headBytes size (flagWord mode) (backIn mode back) links) =
+      p ∙ ap (λ (x : ℕ). sets buf 0 (headBytes x f k l)) en ∙ ap (λ (x : ℕ). sets buf 0 (headBytes size x k l)) ef
+      ∙ ap₂ (λ (x : ℕ) (y : ℕ). sets buf 0 (headBytes size (flagWord mode) x y)) ek el in
+      q ∙ ap (λ (x : List ℕ). sets x 24 (rowsFrom counts end 0 256)) first
+
+  -- all steps of writing
+  pub written-parts : (counts buf b1 b2 : List ℕ) (n l : ℕ)
+      → n ≡ finishedOf mode end entries back → l ≡ backOffsetOf mode end entries back → b1 ≡ headed mode end entries back counts buf
+      → b2 ≡ allInserted mode l end entries n counts b1 → b2 ≡ written mode end entries back counts buf
+  unfolding written
+  written-parts counts buf b1 b2 n l en el p q =
+      q
+      ∙ ap₂ (λ (x : ℕ) (y : ℕ). allInserted mode x end entries y counts b1) el en
+      ∙ ap (allInserted mode (backOffsetOf mode end entries back) end entries (finishedOf mode end entries back) counts) p
+
+-- by tables, or one by one
+pub partitions-few : (counts : List ℕ) (entries : ℕ) → entries < 1024 → false ≡ partitions counts entries
+partitions-few counts entries h = rw (lt-leb 1024 entries h)
+
+pub partitions-many : (counts : List ℕ) (entries : ℕ) (b : Bool) → 1024 ≤ entries → b ≡ noneAbove counts 4608 → b ≡ partitions counts entries
+partitions-many counts entries b h e = rw (le-leb 1024 entries h) e
+
+module _ (mode : Mode) (back-offset end entries size : ℕ) (counts buf : List ℕ) where
+  pub filled-by-tables : {b1 b2 : List ℕ} → partitions counts entries ≡ true → b1 ≡ sets buf (end + 16 * entries) (replicate (size - (end + 16 * entries)) 0)
+      → b2 ≡ insertedByTables mode back-offset end entries counts b1 → b2 ≡ allInserted mode back-offset end entries size counts buf
+  unfolding allInserted zeroed
+  filled-by-tables t p q = rw t (q ∙ ap (insertedByTables mode back-offset end entries counts) p)
+
+  pub filled-singly : {b1 b2 : List ℕ} → partitions counts entries ≡ false → b1 ≡ sets buf end (replicate (size - end) 0)
+      → b2 ≡ insertedFrom mode back-offset end entries 2072 b1 → b2 ≡ allInserted mode back-offset end entries size counts buf
+  unfolding allInserted zeroed
+  filled-singly t p q = rw t (q ∙ ap (insertedFrom mode back-offset end entries 2072) p)

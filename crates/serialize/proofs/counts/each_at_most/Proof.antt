@@ -1,0 +1,61 @@
+-- `serialize::counts::each_at_most` meets its contract. Assumes nothing.
+use Prim.Native.Nat.{_<_}
+use native.Mathlib.Omega.{arith}
+use Prim.Native.Nat.{ℕ, _≤_, _-_}
+use mathlib.Core.Path.{_≡_, refl}
+use mathlib.Core.Bool.{_&&_}
+use Rattle.serialize.specs.Record.{noneAbove}
+use Rattle.image.specs.Bytes.{all}
+use Rattle.image.proofs.AllOfRange.{all-more, all-end}
+use lib.ListN.{getD}
+use lib.Dec.{leb}
+use Rattle.serialize.proofs.counts.each_at_most.Statement.{statement}
+use Rattle.serialize.proofs.counts.each_at_most.Tie as tie
+
+abbrev Inv-loop : tie.InvT-loop
+Inv-loop counts entries none₀ t₀ none t = (t ≤ 256) × ((none && all (λ (i : ℕ). leb (getD counts i 0) entries) t (256 - t)) ≡ noneAbove counts entries)
+
+abbrev μ-loop : tie.MeasureT-loop
+μ-loop counts entries none₀ t₀ none t = 256 - t
+
+loop-holds : tie.Need-loop-holds Inv-loop μ-loop
+loop-holds c = (omega arith, refl)
+
+mul-none : tie.Need-mul-none Inv-loop μ-loop
+mul-none c = omega arith
+
+element-copy-out-none : tie.Need-element-copy-out-none Inv-loop μ-loop
+element-copy-out-none c = omega arith
+
+add-t : tie.Need-add-t Inv-loop μ-loop
+add-t c = omega arith
+
+loop-less : tie.Need-loop-less Inv-loop μ-loop
+loop-less c = omega arith
+
+loop-again : tie.Need-loop-again Inv-loop μ-loop
+loop-again c =
+    let a = c .before .before .before .args in
+    let i = c .before .before .loop in
+    let h : i .t < 256 = omega arith in
+    (omega arith, all-more (λ (k : ℕ). leb (getD (a .counts .now) k 0) (a .entries)) (i .t) 256 (i .none) _ h (i .inv .1))
+
+returns : tie.Need-returns Inv-loop μ-loop
+returns c =
+    let z : 256 - c .before .loop .t ≡ 0 = omega arith in
+    all-end (λ (k : ℕ). leb (getD (c .before .before .args .counts .now) k 0) (c .before .before .args .entries)) (c .before .loop .t) _ _
+    (rw z at (c .before .loop .inv .1))
+
+pub each-at-most-spec : {M : Type 1} → statement M
+each-at-most-spec =
+    tie.close
+    (tie.spec
+    Inv-loop
+    μ-loop
+    loop-holds
+    mul-none
+    element-copy-out-none
+    add-t
+    loop-less
+    loop-again
+    returns)

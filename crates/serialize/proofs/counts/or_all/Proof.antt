@@ -1,0 +1,50 @@
+-- `serialize::counts::or_all` meets its contract. Assumes nothing.
+use Prim.Native.Nat.{ℕ, _≤_, _<_, _-_}
+use native.Mathlib.Omega.{arith}
+use lib.ListN.{getD}
+use Rattle.serialize.proofs.OrAll.{or-more}
+use Rattle.serialize.proofs.counts.or_all.Statement.{statement}
+use Rattle.serialize.proofs.counts.or_all.Tie as tie
+
+abbrev Inv-loop : tie.InvT-loop
+Inv-loop counts all₀ t₀ all t = (t ≤ 256) × ((i : ℕ) → i < t → getD counts i 0 ≤ all)
+
+abbrev μ-loop : tie.MeasureT-loop
+μ-loop counts all₀ t₀ all t = 256 - t
+
+loop-holds : tie.Need-loop-holds Inv-loop μ-loop
+loop-holds c = (omega arith, λ i k. absurd (omega (arith, k)))
+
+mul-all : tie.Need-mul-all Inv-loop μ-loop
+mul-all c = omega arith
+
+element-copy-out-all : tie.Need-element-copy-out-all Inv-loop μ-loop
+element-copy-out-all c = omega arith
+
+add-t : tie.Need-add-t Inv-loop μ-loop
+add-t c = omega arith
+
+loop-less : tie.Need-loop-less Inv-loop μ-loop
+loop-less c = omega arith
+
+loop-again : tie.Need-loop-again Inv-loop μ-loop
+loop-again c =
+    let i = c .before .before .loop in
+    (omega arith, or-more (c .before .before .before .args .counts .now) (i .t) (i .all) (i .inv .1))
+
+returns : tie.Need-returns Inv-loop μ-loop
+returns c t k = c .before .loop .inv .1 t (omega (arith, k))
+
+pub or-all-spec : {M : Type 1} → statement M
+or-all-spec =
+    tie.close
+    (tie.spec
+    Inv-loop
+    μ-loop
+    loop-holds
+    mul-all
+    element-copy-out-all
+    add-t
+    loop-less
+    loop-again
+    returns)

@@ -1,0 +1,19 @@
+use borrow.Author.Needs.{needs}
+use borrow.Author.Tests.{le-leb, lt-leb}
+use Rattle.serialize.proofs.insert.holds_table.Statement.{statement}
+use Rattle.serialize.proofs.insert.holds_table.Tie as tie
+
+mul-result : tie.Need-mul-result
+mul-result c = search needs
+
+add-result : tie.Need-add-result
+add-result c = search needs
+
+returns : tie.Need-returns
+returns c = rw (le-leb 1 (c .before .args .n) (c .if1 .taken))
+
+returns-2 : tie.Need-returns-2
+returns-2 c = rw (lt-leb 1 (c .before .args .n) (c .if1 .left))
+
+pub holds-table-spec : {M : Type 1} → statement M
+holds-table-spec = tie.close (tie.spec mul-result add-result returns returns-2)

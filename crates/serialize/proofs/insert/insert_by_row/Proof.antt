@@ -1,0 +1,50 @@
+use borrow.Author.Needs.{needs}
+use borrow.Author.Tests.{not-true, not-false}
+use Rattle.serialize.proofs.Insertion.{table-in, row-none, row-inserted}
+use Rattle.serialize.proofs.insert.insert_by_row.Statement.{statement}
+use Rattle.serialize.proofs.insert.insert_by_row.Tie as tie
+
+table-at-requires : tie.Need-table-at-requires
+table-at-requires c κs = search needs
+
+bucket-number-requires : tie.Need-bucket-number-requires
+bucket-number-requires c κs = search needs
+
+holds-table-requires : tie.Need-holds-table-requires
+holds-table-requires c κs = search needs
+
+same-length : tie.Need-same-length
+same-length c = search needs
+
+returns : tie.Need-returns
+returns c =
+    let a = c .before .before .before .before .before .before .before .before .args in
+    row-none (a .buf .now) (a .h) (a .at) (c .before .before .before .before .before .table-at .ensures .0)
+    (c .before .before .before .bucket-number .ensures .0) (c .before .holds-table .ensures) (not-true _ (c .if1 .taken))
+
+insert-pair-requires : tie.Need-insert-pair-requires
+insert-pair-requires c κs = table-in (c .before .before .holds-table .ensures) (not-false _ (c .before .if1 .left))
+
+same-length-2 : tie.Need-same-length-2
+same-length-2 c = search needs
+
+returns-2 : tie.Need-returns-2
+returns-2 c =
+    let left = c .before .before .before .before in
+    let a = left .before .before .before .before .before .before .before .before .args in
+    row-inserted (a .buf .now) (a .h) (a .at) (left .before .before .before .before .before .table-at .ensures .0)
+    (left .before .before .before .bucket-number .ensures .0) (left .before .holds-table .ensures)
+    (not-false _ (left .if1 .left)) (c .before .before .insert-pair .ensures)
+
+pub insert-by-row-spec : {M : Type 1} → statement M
+insert-by-row-spec =
+    tie.close
+    (tie.spec
+    table-at-requires
+    bucket-number-requires
+    holds-table-requires
+    same-length
+    returns
+    insert-pair-requires
+    same-length-2
+    returns-2)

@@ -1,0 +1,96 @@
+-- `serialize::partition::partition_entries` meets its contract. Assumes nothing.
+use native.Mathlib.Omega.{arith}
+use borrow.Author.Needs.{needs}
+use Prim.Native.Nat.{_+_, _≤_}
+use mathlib.Core.Path.{refl}
+use Rattle.serialize.specs.steps.Insertion.{EntryPre}
+use Rattle.serialize.proofs.Insertion.{entry-in}
+use Rattle.serialize.proofs.PartitionSteps.{Partitioning, partitioned-broken, partitioned-step, partitioned-all}
+use Rattle.serialize.proofs.partition.partition_entries.Statement.{statement}
+use Rattle.serialize.proofs.partition.partition_entries.Tie as tie
+
+abbrev Inv-loop : tie.InvT-loop
+Inv-loop mode back-offset buf₀ places₀ end entries at₀ left₀ buf places at left = Partitioning mode back-offset end entries places₀ buf₀ places buf at left
+
+abbrev μ-loop : tie.MeasureT-loop
+μ-loop mode back-offset buf₀ places₀ end entries at₀ left₀ buf places at left = left
+
+-- the entry that was read lies before the end
+entry : (c : tie.Else1 Inv-loop μ-loop)
+    → let l = c .before .before .before .before .loop in let n = c .before .whole-length .result in
+    (l .at + (8 + n) ≤ c .before .before .before .before .before .before .args .end) × EntryPre (l .at) n (l .buf)
+entry c =
+    let l = c .before .before .before .before .loop in
+    let n = c .before .whole-length in
+    entry-in (c .before .before .before .before .before .before .pre) (l .buf) (l .inv .long) (l .at) (n .result) (l .inv .inside) (n .ensures .0)
+    (n .ensures .1) (c .if1 .left)
+
+loop-holds : tie.Need-loop-holds Inv-loop μ-loop
+loop-holds c = record { inside = c .before .pre .low; long = refl; leaves = refl }
+
+whole-length-requires : tie.Need-whole-length-requires Inv-loop μ-loop
+whole-length-requires c κs = search needs
+
+same-length : tie.Need-same-length Inv-loop μ-loop
+same-length c = search needs
+
+returns : tie.Need-returns Inv-loop μ-loop
+returns c =
+    partitioned-broken (c .before .before .before .before .loop .inv) (c .before .before .before .loop-test .taken)
+    (c .before .whole-length .ensures .0) (c .if1 .taken)
+
+partition-entry-requires : tie.Need-partition-entry-requires Inv-loop μ-loop
+partition-entry-requires c κs = (entry (c .before .before) .1, c .before .before .before .before .before .before .before .before .pre .back-word)
+
+-- the entry, where it has been inserted
+abbrev read : tie.After-partition-entry Inv-loop μ-loop → tie.Else1 Inv-loop μ-loop
+read c = c .before .before .before
+
+add-at : tie.Need-add-at Inv-loop μ-loop
+add-at c =
+    let r = entry (read (c .before .before)) in
+    omega (arith, (read (c .before .before)) .before .before .before .before .before .before .pre .end-word)
+
+add-at-2 : tie.Need-add-at-2 Inv-loop μ-loop
+add-at-2 c =
+    let r = entry (read (c .before .before)) in
+    omega (arith, (read (c .before .before)) .before .before .before .before .before .before .pre .end-word)
+
+sub-left : tie.Need-sub-left Inv-loop μ-loop
+sub-left c = omega arith
+
+loop-less : tie.Need-loop-less Inv-loop μ-loop
+loop-less c = omega arith
+
+loop-again : tie.Need-loop-again Inv-loop μ-loop
+loop-again c =
+    let e = read (c .before .before) in
+    let done = c .before .before .partition-entry in
+    partitioned-step (e .before .before .before .before .loop .inv) (e .before .before .before .loop-test .taken)
+    (e .before .whole-length .ensures .0) (e .if1 .left)
+    (entry e .0) (done .last .1 .1 .1 .0) (done .last .1 .1 .0) (done .kept .1 .1 .0) (done .ensures)
+
+same-length-2 : tie.Need-same-length-2 Inv-loop μ-loop
+same-length-2 c = search needs
+
+returns-2 : tie.Need-returns-2 Inv-loop μ-loop
+returns-2 c = partitioned-all (c .before .loop .inv) (omega arith)
+
+pub partition-entries-spec : {M : Type 1} → statement M
+partition-entries-spec =
+    tie.close
+    (tie.spec
+    Inv-loop
+    μ-loop
+    loop-holds
+    whole-length-requires
+    same-length
+    returns
+    partition-entry-requires
+    add-at
+    add-at-2
+    sub-left
+    loop-less
+    loop-again
+    same-length-2
+    returns-2)

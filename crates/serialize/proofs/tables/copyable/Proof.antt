@@ -1,0 +1,25 @@
+use borrow.Author.Needs.{needs}
+use Prim.Native.Nat.{_+_, _*_}
+use lib.ListN.{length}
+use borrow.Author.Tests.{le-leb, lt-leb}
+use Rattle.serialize.proofs.tables.copyable.Statement.{statement}
+use Rattle.serialize.proofs.tables.copyable.Tie as tie
+
+mul-if1 : tie.Need-mul-if1
+mul-if1 c = search needs
+
+add-if1 : tie.Need-add-if1
+add-if1 c = search needs
+
+returns : tie.Need-returns
+returns c =
+    let a = c .before .args in
+    rw (le-leb (a .o + 16 * a .c) (length (a .buf .now)) (c .if1 .taken))
+
+returns-2 : tie.Need-returns-2
+returns-2 c =
+    let a = c .before .args in
+    rw (lt-leb (a .o + 16 * a .c) (length (a .buf .now)) (c .if1 .left))
+
+pub copyable-spec : {M : Type 1} → statement M
+copyable-spec = tie.close (tie.spec mul-if1 add-if1 returns returns-2)

@@ -1,0 +1,99 @@
+// Entries partitioned by table: the pair of hash and offset of each, in put order, stored where its table will stand.
+ghost use mathlib.Core.Path.{_≡_};
+ghost use Prim.Native.Nat.{_<_};
+ghost use lib.Seq.{sets};
+ghost use Rattle.serialize.specs.steps.Insertion.{EntryPre, WalkPre};
+ghost use Rattle.serialize.specs.steps.Partition.{tableOffsetsFrom, pairPut, PairAppended};
+ghost use Rattle.serialize.specs.steps.Partition.{EntryPartitioned, partitionedFrom};
+use super::head::low;
+use super::head::wide;
+use super::insert::hash_at;
+use super::insert::store_back;
+use super::insert::store_pair;
+use image::Mode;
+
+// Where each table begins: the first at `end`, each behind the one before it.
+pub(super) fn table_offsets(counts: &[u32; 256], end: usize, places: &mut [u32; 256])
+    requires { ⌜ end < 4294967296 ⌝ }
+    ensures { λ _. ⌜
+        now (places .exit) ≡ sets (now (places .entry)) 0 (tableOffsetsFrom (now (counts .entry)) end 0 256)
+        ⌝ }
+{
+    let mut o = end as u64;
+    let mut t = 0;
+    while t < 256 {
+        let count = wide(counts[t]);
+        places[t] = low(o);
+        o += 16 * count;
+        t += 1;
+    }
+}
+
+// A pair stored at `at` where the buffer has room for it.
+fn put_pair(buf: &mut [u8], at: u32, h: u32, offset: u32)
+    ensures { λ _. ⌜ now (buf .exit) ≡ pairPut (now (buf .entry)) at h offset ⌝ }
+{
+    if at as usize + 8 <= buf.len() {
+        store_pair(&mut *buf, at as usize, h, offset);
+    }
+}
+
+// The pair of an entry of hash h at `at`, stored behind the pairs of its table.
+fn append_pair(buf: &mut [u8], places: &mut [u32; 256], h: u32, at: u32)
+    ensures { λ _. ⌜
+        PairAppended (now (places .entry)) (now (buf .entry)) h at (now (places .exit)) (now (buf .exit))
+        ⌝ }
+{
+    let t = (h % 256) as usize;
+    let p = places[t];
+    put_pair(&mut *buf, p, h, at);
+    places[t] = std::num::wrapping_add_u32(p, 8);
+}
+
+// The entry at `at`, whose length word is n: its pair appended, and its offset stored in the back array.
+fn partition_entry(
+    mode: Mode,
+    back_offset: usize,
+    buf: &mut [u8],
+    places: &mut [u32; 256],
+    at: usize,
+    n: usize,
+)
+    requires { ⌜ EntryPre at n (now buf) × («back_offset» < 4294967296) ⌝ }
+    ensures { λ _. ⌜
+        EntryPartitioned mode «back_offset» at n (now (places .entry)) (now (buf .entry)) (now (places .exit))
+        (now (buf .exit))
+        ⌝ }
+{
+    let id = image::get_u32(&*buf, at);
+    let h = hash_at(&*buf, at, n);
+    append_pair(&mut *buf, &mut *places, h, at as u32);
+    store_back(mode, &mut *buf, back_offset, id, at as u32);
+}
+
+// The entries from 2,072 on, one after the other.
+pub(super) fn partition_entries(
+    mode: Mode,
+    back_offset: usize,
+    buf: &mut [u8],
+    places: &mut [u32; 256],
+    end: usize,
+    entries: u32,
+)
+    requires { ⌜ WalkPre «back_offset» end (now buf) ⌝ }
+    ensures { λ _. ⌜
+        now (buf .exit) ≡ partitionedFrom mode «back_offset» end entries 2072 (now (places .entry)) (now (buf .entry))
+        ⌝ }
+{
+    let mut at = 2072;
+    let mut left = entries;
+    while left > 0 {
+        let n = image::entries::whole_length(&*buf, at, end);
+        if n == 0 {
+            return;
+        }
+        partition_entry(mode, back_offset, &mut *buf, &mut *places, at, n);
+        at += 8 + n;
+        left -= 1;
+    }
+}

@@ -1,0 +1,2 @@
+-- Statements of theorems: what is proved of the rules.
+pub mod Kept
