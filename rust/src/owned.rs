@@ -149,8 +149,8 @@ impl FromIterator<char> for BString {
     }
 }
 
-/// Parts that are put one behind the other.
-macro_rules! joined {
+/// Parts whose bytes are concatenated.
+macro_rules! concatenated {
     ($(($($generics:tt)*) $part:ty;)*) => {$(
         impl<$($generics)*> FromIterator<$part> for BString {
             fn from_iter<I: IntoIterator<Item = $part>>(parts: I) -> BString {
@@ -162,7 +162,7 @@ macro_rules! joined {
     )*};
 }
 
-joined! {
+concatenated! {
     ('a) &'a str;
     ('a) &'a [u8];
     ('a) &'a BStr;

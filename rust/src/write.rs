@@ -13,9 +13,9 @@ const FIRST: usize = 4_096;
 /// The choice of repeats, as the record has it.
 const REPEATS_OFF: u32 = 0;
 const REPEATS_ON: u32 = 1;
-/// The words of the first index, and those from which on it doubles.
-const FIRST_INDEX: usize = 256;
-const SMALL_INDEX: usize = 1 << 18;
+/// The names that the first index is for. The next one is for four times as many, or from some size on for twice as many.
+const FIRST_NAMES: u32 = 64;
+const MANY_NAMES: u32 = 65_536;
 /// A buffer that has to become so many times as long is taken anew.
 const LEAP: usize = 4;
 /// The size of the largest image.
@@ -51,7 +51,14 @@ pub struct MemoryWriter {
     record: Record,
     counts: Counts,
     /// The index of the entries, where repeats are off: right whenever no call is under way.
-    slots: Option<Vec<u32>>,
+    index: Option<Index>,
+}
+
+/// The slots of an index, and the number of names up to which half of them stay empty.
+#[derive(Clone)]
+struct Index {
+    slots: Vec<u32>,
+    names: u32,
 }
 
 impl MemoryWriter {
@@ -62,8 +69,7 @@ impl MemoryWriter {
 
     /// A writer of a two-way or one-way image.
     pub fn with_flag(flag: Flag) -> Self {
-        // Zeros are the index of a writer without entries.
-        Self::begin(flag, REPEATS_OFF, Some(vec![0; FIRST_INDEX]))
+        Self::begin(flag, REPEATS_OFF, Some(Index::new()))
     }
 
     /// A writer that takes a name that it holds already, as for a prism that is renewed under another id.
@@ -71,12 +77,12 @@ impl MemoryWriter {
         Self::begin(flag, REPEATS_ON, None)
     }
 
-    fn begin(flag: Flag, repeats: u32, slots: Option<Vec<u32>>) -> Self {
+    fn begin(flag: Flag, repeats: u32, index: Option<Index>) -> Self {
         let buffer = vec![0; FIRST];
         let mut counts = [0; 256];
         let begun = archive::begin(flag.bits(), repeats, &mut counts, &buffer);
         assert_eq!(begun.refusal, 0, "begin accepts every buffer of 2,072 bytes or more");
-        MemoryWriter { buffer, record: begun.record, counts, slots }
+        MemoryWriter { buffer, record: begun.record, counts, index }
     }
 
     /// Puts a name, any bytes but 0, under an id. A name gives the id of its first put, and an id gives the name of its last.
@@ -106,7 +112,7 @@ impl MemoryWriter {
     /// # }
     /// ```
     pub fn place_of(&self, name: &[u8]) -> Option<u32> {
-        self.slots.as_ref()?;
+        self.index.as_ref()?;
         let (mut at, mut place) = (HEAD, 0);
         while at < self.record.end as usize {
             let held = name_at(&self.buffer, at);
@@ -127,14 +133,15 @@ impl MemoryWriter {
     }
 
     fn put_here(&mut self, name: &[u8], id: u32) -> Result<(), Refusal> {
-        let Some(slots) = &mut self.slots else {
+        let Some(index) = &mut self.index else {
             let answer = archive::put(self.record, &mut self.counts, &mut self.buffer, name, id);
             self.record = answer.record;
             return refusal::or(answer.refusal, ());
         };
-        if slots.len() < archive::index_words(self.record.entries as usize + 1) {
-            widen(slots, self.record, &self.counts, &self.buffer);
+        if index.names <= self.record.entries {
+            index.enlarge(self.record, &self.counts, &self.buffer);
         }
+        let slots = &mut index.slots;
         let refusal = archive::put_indexed(&mut self.record, &mut self.counts, &mut self.buffer, slots, name, id);
         refusal::or(refusal, ())
     }
@@ -185,22 +192,31 @@ impl MemoryWriter {
     }
 }
 
+impl Index {
+    /// The index of a writer without entries: zeros.
+    fn new() -> Self {
+        Index { slots: vec![0; archive::index_words(FIRST_NAMES as usize)], names: FIRST_NAMES }
+    }
+
+    /// Makes the index anew, for more names. Where memory cannot be had it stays as it is, with empty slots left.
+    #[cold]
+    fn enlarge(&mut self, record: Record, counts: &Counts, buffer: &[u8]) {
+        let names = self.names.saturating_mul(if self.names < MANY_NAMES { 4 } else { 2 });
+        let words = archive::index_words(names as usize);
+        if self.slots.try_reserve_exact(words - self.slots.len()).is_ok() {
+            self.slots.resize(words, 0);
+            let refusal = archive::index(record, counts, buffer, &mut self.slots);
+            assert_eq!(refusal, 0, "record, counts and buffer are the writer's own");
+            self.names = names;
+        }
+    }
+}
+
 /// The name of the entry at an offset: the id, the length of the name plus 1, and the name.
 fn name_at(buffer: &[u8], at: usize) -> &[u8] {
     let entry = &buffer[at..];
     let length = u32::from_le_bytes([entry[4], entry[5], entry[6], entry[7]]) as usize - 1;
     &entry[8..8 + length]
-}
-
-/// Gives the index more words, four times as many while it is small and then twice as many, and makes it from the entries
-/// anew. Where memory cannot be had it stays as it is: half of it is still empty.
-fn widen(slots: &mut Vec<u32>, record: Record, counts: &Counts, buffer: &[u8]) {
-    let more = slots.len() * if slots.len() < SMALL_INDEX { 3 } else { 1 };
-    if slots.try_reserve_exact(more).is_ok() {
-        slots.resize(slots.len() + more, 0);
-        let refusal = archive::index(record, counts, buffer, slots);
-        assert_eq!(refusal, 0, "record, counts and buffer are the writer's own");
-    }
 }
 
 impl Default for MemoryWriter {

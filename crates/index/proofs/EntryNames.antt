@@ -1,57 +1,76 @@
--- A probe of the slots matches a name exactly when an entry has it. Assumes nothing.
+-- The buckets of entries; and a search among them matches a name exactly when an entry has it. Assumes nothing.
 use Prim.Native.Nat.{ℕ, _+_, _≤_, _<_, _^_}
 use native.Mathlib.Omega.{arith}
 use mathlib.Core.Path.{_≡_, refl, sym, ap, _∙_}
 use mathlib.Core.Bool.{Bool, true, false, cond, _&&_, _||_}
-use mathlib.Core.List.{List, [], _∷_, map}
+use mathlib.Core.List.{List, [], _∷_, _++_, map, map-append}
 use borrow.Author.Tests.{eqb-false}
 use lib.Dec.{eqb}
-use lib.ListN.{length, getD}
+use lib.ListN.{length, getD, length-map}
 use Rattle.jhash.specs.NameHash.{hashOf}
 use Rattle.image.specs.Bytes.{same, cat}
 use Rattle.image.specs.Tables.{Bucket, empty, probeSequence, start, filled}
-use Rattle.image.specs.Image.{Entry, Placed, headSize, entryBytes, entrySize, placed, bucketOf, hasName, containsName}
+use Rattle.image.specs.Image.{Entry, Placed, headSize, entryBytes, entrySize, entriesSize, placed, bucketOf, hasName, containsName}
 use Rattle.image.proofs.At.{At}
 use Rattle.image.proofs.Bools.{false-not-true}
 use Rattle.image.proofs.Buckets.{filled-all}
 use Rattle.image.proofs.EntryAt.{EntryAt, placed-at, all-placed}
 use Rattle.image.proofs.Equal.{same-true}
 use Rattle.image.proofs.AllOfList.{All, all-map, all-both, all-image}
+use Rattle.image.proofs.Sizes.{placed-append, length-placed}
 use Rattle.reader.specs.Lookup.{Hit, hit, pass}
 use Rattle.lookup_laws.proofs.EntryProbe.{probe-entry-at}
 use Rattle.lookup_laws.proofs.TableContents.{NotEmpty}
 use Rattle.lookup_laws.specs.steps.HasMatch.{hasMatch}
 use Rattle.lookup_laws.proofs.Matching.{no-match}
+use Rattle.index.specs.Index.{bucketsOf}
 use Rattle.index.specs.steps.Probe.{isHit, hasNameAt}
+
+-- ---- the buckets of entries
+
+pub buckets-snoc : (es : List Entry) (e : Entry)
+    → bucketsOf (es ++ (e ∷ [])) ≡ bucketsOf es ++ (record { hash = hashOf (e .name); at = headSize + entriesSize es } ∷ [])
+unfolding placed
+buckets-snoc es e =
+    ap (map bucketOf) (placed-append headSize es (e ∷ []))
+    ∙ map-append bucketOf (placed headSize es) (placed (headSize + entriesSize es) (e ∷ []))
+
+pub length-buckets : (es : List Entry) → length (bucketsOf es) ≡ length es
+length-buckets es = length-map (placed headSize es) bucketOf ∙ length-placed headSize es
+
+pub buckets-occupied : (es : List Entry) → All NotEmpty (bucketsOf es)
+unfolding placed
+buckets-occupied es = from headSize es (omega arith)
+  where
+    from : (o : ℕ) (es : List Entry) → 0 < o → All NotEmpty (map bucketOf (placed o es))
+    from o [] h = tt
+    from o (e ∷ es) h = ((λ z. omega (arith, h, z)), from (o + entrySize e) es (omega arith))
 
 -- ---- names read where entries stand
 
-module _ (img name : List ℕ) (small : length img ≤ 4294967295) where
-  -- reading at its offset says whether the entry has the name
-  abbrev pub NameRead : Placed → Type 0
-  NameRead p = hasNameAt img name (p .at) ≡ same (p .entry .name) name
+-- at the entry's offset, v says whether the entry has the name
+abbrev pub Decides : List ℕ → (ℕ → Bool) → Placed → Type 0
+Decides name v p = v (p .at) ≡ same (p .entry .name) name
 
-  hit-is : (t : Bool) (x : Hit) → isHit (cond t (hit x) pass) ≡ t
-  hit-is true x = refl
-  hit-is false x = refl
+pub all-decided : (img name : List ℕ) → length img ≤ 4294967295 → (es : List Entry) → At img headSize (cat entryBytes es)
+    → All (λ (e : Entry). e .id < 2 ^ 32) es → All (Decides name (hasNameAt img name)) (placed headSize es)
+all-decided img name small es stands ids =
+    all-map one (placed headSize es)
+    (all-both (EntryAt img) (λ (p : Placed). p .entry .id < 2 ^ 32) (placed headSize es)
+    (placed-at img headSize es (omega arith) stands) (all-placed (λ (e : Entry). e .id < 2 ^ 32) headSize es ids))
+  where
+    hit-is : (t : Bool) (x : Hit) → isHit (cond t (hit x) pass) ≡ t
+    hit-is true x = refl
+    hit-is false x = refl
 
-  one-decided : (p : Placed) → EntryAt img p × (p .entry .id < 2 ^ 32) → NameRead p
-  one-decided p w = ap isHit (probe-entry-at (p .entry) (w .0 .there) small name (w .1)) ∙ hit-is (same (p .entry .name) name) _
-
-  pub all-decided : (es : List Entry) → At img headSize (cat entryBytes es) → All (λ (e : Entry). e .id < 2 ^ 32) es → All NameRead (placed headSize es)
-  all-decided es stands ids =
-      all-map one-decided (placed headSize es)
-      (all-both (EntryAt img) (λ (p : Placed). p .entry .id < 2 ^ 32) (placed headSize es)
-      (placed-at img headSize es (omega arith) stands) (all-placed (λ (e : Entry). e .id < 2 ^ 32) headSize es ids))
+    one : (p : Placed) → EntryAt img p × (p .entry .id < 2 ^ 32) → Decides name (hasNameAt img name) p
+    one p w = ap isHit (probe-entry-at (p .entry) (w .0 .there) small name (w .1)) ∙ hit-is (same (p .entry .name) name) _
 
 -- ---- entries and names
 
 module _ (name : List ℕ) (v : ℕ → Bool) where
-  abbrev pub Decides : Placed → Type 0
-  Decides p = v (p .at) ≡ same (p .entry .name) name
-
   -- no entry of the name's hash has the name: none has it
-  holds-none : (o : ℕ) (es : List Entry) → All Decides (placed o es)
+  holds-none : (o : ℕ) (es : List Entry) → All (Decides name v) (placed o es)
       → All (λ (b : Bucket). b .hash ≡ hashOf name → v (b .at) ≡ false) (map bucketOf (placed o es)) → containsName name es ≡ false
   unfolding placed containsName
   holds-none o [] decided others = refl
@@ -80,35 +99,29 @@ module _ (name : List ℕ) (v : ℕ → Bool) where
   matches-some b h X decided [] e = absurd (false-not-true e)
   matches-some b h X decided (k ∷ ks) e = go (eqb (b k .at) 0) refl (eqb (b k .hash) h) (v (b k .at)) refl (matches-some b h X decided ks) e
     where
-      go : (p : Bool) → eqb (b k .at) 0 ≡ p → (q t : Bool) → v (b k .at) ≡ t → (hasMatch b h v ks ≡ true → X) → cond p false (cond (q && t) true (hasMatch b h v ks)) ≡ true → X
+      go : (p : Bool) → eqb (b k .at) 0 ≡ p → (q t : Bool) → v (b k .at) ≡ t → (hasMatch b h v ks ≡ true → X)
+          → cond p false (cond (q && t) true (hasMatch b h v ks)) ≡ true → X
       go true p q t r rest e = absurd (false-not-true e)
       go false p true true r rest e = decided k (eqb-false (b k .at) 0 p) r
       go false p true false r rest e = rest e
       go false p false t r rest e = rest e
 
-  module _ (m o : ℕ) (es : List Entry) (after : 0 < o) (room : length (map bucketOf (placed o es)) ≤ m) (decided : All Decides (placed o es)) where
-    abbrev slots : ℕ → Bucket
-    slots k = getD (filled m (map bucketOf (placed o es))) k empty
+  module _ (m : ℕ) (es : List Entry) (fit : length (bucketsOf es) ≤ m) (decided : All (Decides name v) (placed headSize es)) where
+    abbrev table : ℕ → Bucket
+    table k = getD (filled m (bucketsOf es)) k empty
 
-    no-zero : (p : ℕ) (fs : List Entry) → 0 < p → All NotEmpty (map bucketOf (placed p fs))
-    unfolding placed
-    no-zero p [] h = tt
-    no-zero p (e ∷ fs) h = ((λ z. omega (arith, h, z)), no-zero (p + entrySize e) fs (omega arith))
-
-    pub all-occupied : All NotEmpty (map bucketOf (placed o es))
-    all-occupied = no-zero o es after
-
-    pub not-contained : 0 < m → hasMatch slots (hashOf name) v (probeSequence m m (start (hashOf name) m)) ≡ false → containsName name es ≡ false
+    pub not-contained : 0 < m → hasMatch table (hashOf name) v (probeSequence m m (start (hashOf name) m)) ≡ false → containsName name es ≡ false
     not-contained some none =
-        holds-none o es decided (no-match (hashOf name) v m (map bucketOf (placed o es)) some room all-occupied none)
+        holds-none headSize es decided (no-match (hashOf name) v m (bucketsOf es) some fit (buckets-occupied es) none)
 
     abbrev P : Bucket → Type 0
     P b = NotEmpty b → v (b .at) ≡ true → containsName name es ≡ true
 
-    pub contained : (ks : List ℕ) → hasMatch slots (hashOf name) v ks ≡ true → containsName name es ≡ true
+    pub contained : (ks : List ℕ) → hasMatch table (hashOf name) v ks ≡ true → containsName name es ≡ true
     contained ks e =
-        matches-some slots (hashOf name) (containsName name es ≡ true)
-        (filled-all P m (map bucketOf (placed o es)) (λ full t. absurd (full refl))
-        (all-image P bucketOf (λ p w full t. w .1 (sym (w .0) ∙ t)) (placed o es)
-        (all-both Decides (λ (p : Placed). same (p .entry .name) name ≡ true → containsName name es ≡ true) (placed o es) decided (has-one o es))))
+        matches-some table (hashOf name) (containsName name es ≡ true)
+        (filled-all P m (bucketsOf es) (λ full t. absurd (full refl))
+        (all-image P bucketOf (λ p w full t. w .1 (sym (w .0) ∙ t)) (placed headSize es)
+        (all-both (Decides name v) (λ (p : Placed). same (p .entry .name) name ≡ true → containsName name es ≡ true) (placed headSize es) decided
+        (has-one headSize es))))
         ks e

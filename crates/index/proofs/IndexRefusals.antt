@@ -1,14 +1,13 @@
 -- What making an index comes to. Assumes nothing.
-use Prim.Native.Nat.{ℕ, _*_, _/_, _≤_, _<_}
+use Prim.Native.Nat.{ℕ, _*_, _≤_, _<_}
 use native.Mathlib.Omega.{arith}
-use mathlib.Core.Path.{_≡_, refl, sym, ap, _∙_}
+use mathlib.Core.Path.{_≡_, refl, sym, _∙_}
 use mathlib.Core.Bool.{_&&_}
-use mathlib.Core.List.{List, map}
+use mathlib.Core.List.{List}
 use borrow.Author.Tests.{eq-eqb, ne-eqb, lt-ltb, le-ltb}
 use lib.Dec.{eqb}
 use lib.ListN.{length, getD}
-use Rattle.image.specs.Tables.{empty, filled}
-use Rattle.image.specs.Image.{headSize, placed, bucketOf, backIn, backSize}
+use Rattle.image.specs.Image.{backIn, backSize}
 use Rattle.image.specs.Stored.{whole}
 use Rattle.image.proofs.Bools.{and-first}
 use Rattle.writer.specs.declared.CQDBWriter.{CQDBWriter}
@@ -17,7 +16,7 @@ use Rattle.writer.specs.Close.{entryArea, recorded, closeRefusal}
 use Rattle.writer.specs.State.{countsAgree}
 use Rattle.writer.proofs.Fits.{fitting, not-too-large}
 use Rattle.writer.proofs.Closes.{accepted}
-use Rattle.index.specs.Index.{slotCount, entryBuckets, Right, indexRefusal}
+use Rattle.index.specs.Index.{slotCount, Right, indexRefusal}
 use Rattle.index.specs.Promise.{Indexed}
 use Rattle.index.specs.steps.Fill.{FillPre, SlotsFilled}
 
@@ -59,20 +58,8 @@ module _ (s : State) (words : List ℕ) (r : ℕ) (answer : r ≡ closeRefusal s
       unfolding indexRefusal
       is-made = rw (eq-eqb (closeRefusal s) 0 closes, le-ltb (slotCount words) (s .writer .entries) room) (sym closes)
 
-      same : slotCount words′ ≡ slotCount cleared
-      same = ap (λ (n : ℕ). n / 2) (fills .long)
-
       is-right : length (s .counts) ≡ 256 → Right s words′
-      unfolding entryBuckets
-      is-right tables =
-          record {
-            closes = closes;
-            tables = tables;
-            room = omega (arith, room, same, long);
-            slots =
-                λ k h. fills .slots k (omega (arith, h, same))
-                ∙ ap (λ (m : ℕ). getD (filled m (map bucketOf (placed headSize (recorded s)))) k empty) (sym same);
-          }
+      is-right tables = record { closes = closes; tables = tables; capacity = omega (arith, room, fills .long, long); slots = fills .slots }
 
       pub index-made : Indexed s words 0 words′
       index-made =
@@ -97,6 +84,6 @@ fillable w counts buf words closes room cleared =
       entire =
           and-first (whole (w .entries) (entryArea s)) (countsAgree counts (recorded s))
           (and-first (whole (w .entries) (entryArea s) && countsAgree counts (recorded s)) (eqb (w .back) (backIn (w .mode) (backSize (recorded s)))) (a .all));
-      room = room;
+      capacity = room;
       cleared = cleared;
     }

@@ -5,55 +5,59 @@ use mathlib.Core.List.{List}
 use lib.ListN.{length}
 use lib.Seq.{sets}
 use Rattle.jhash.specs.NameHash.{hashOf}
-use Rattle.image.specs.Image.{entryBytes}
+use Rattle.image.specs.Image.{Entry, entryBytes}
 use Rattle.image.specs.Tally.{raisedCounts}
 use Rattle.image.proofs.EntryArea.{AllBytes}
 use Rattle.writer.specs.declared.CQDBWriter.{CQDBWriter}
 use Rattle.writer.specs.State.{State, stateWith}
-use Rattle.writer.specs.Put.{entryOf, writerWith, appended}
+use Rattle.writer.specs.Put.{writerWith, appended}
 use Rattle.writer.proofs.Puts.{appended-parts}
-use Rattle.index.specs.Index.{slotStored, slotInserted, Right, indexedRefusal}
+use Rattle.index.specs.declared.Decision.{Decision}
+use Rattle.index.specs.Index.{slotCount, firstEmptySlot, slotStored, slotInserted, Right, indexedRefusal}
 use Rattle.index.specs.Promise.{PutIndexed}
-use Rattle.index.specs.steps.Decided.{InBounds}
+use Rattle.index.specs.steps.Decided.{Decided, InBounds}
 use Rattle.index.proofs.PutRefusals.{kept-refused, left-accepted, none-refused}
 use Rattle.index.proofs.RightAfterPut.{right-after-put}
 
-module _ (w : CQDBWriter) (counts buf words name : List ℕ) (id d : ℕ)
-    (decided : Right (stateWith w counts buf) words → d ≡ indexedRefusal (stateWith w counts buf) words (entryOf name id)) where
-  pub put-refused : (d ≡ 0 → ⊥) → PutIndexed (stateWith w counts buf) words (entryOf name id) d (stateWith w counts buf) words
+module _ {s : State} {words : List ℕ} {e : Entry} {d : Decision} (decided : Decided s words e d) where
+  pub put-refused : (d .refusal ≡ 0 → ⊥) → PutIndexed s words e (d .refusal) s words
   put-refused n =
       record {
         refused = λ z. (refl, refl);
         accepted = λ z. absurd (n z);
-        answer = decided;
-        leaves = λ right. kept-refused (stateWith w counts buf) words (entryOf name id) d (decided right) n;
+        answer = decided .rule;
+        leaves = λ right. kept-refused s words e (d .refusal) (decided .rule right) n;
         right = λ right. right;
       }
 
-  module _ (z : d ≡ 0) (h k : ℕ) (v : CQDBWriter) (counts′ buf′ words′ : List ℕ) (bytes : AllBytes buf) (word : id < 2 ^ 32)
-      (bounds : InBounds w counts buf words name id h k) (ev : v ≡ writerWith w (length name) id) (ec : counts′ ≡ raisedCounts counts h)
-      (eb : buf′ ≡ sets buf (w .end) (entryBytes (entryOf name id))) (ew : words′ ≡ slotStored words k h (w .end)) where
-    answer-is : Right (stateWith w counts buf) words → 0 ≡ indexedRefusal (stateWith w counts buf) words (entryOf name id)
-    answer-is right = sym z ∙ decided right
+  module _ (z : d .refusal ≡ 0) (bytes : AllBytes (s .buffer)) (word : e .id < 2 ^ 32) {v : CQDBWriter} {counts buffer words′ : List ℕ}
+      (ev : v ≡ writerWith (s .writer) (length (e .name)) (e .id)) (ec : counts ≡ raisedCounts (s .counts) (d .hash))
+      (eb : buffer ≡ sets (s .buffer) (s .writer .end) (entryBytes e)) (ew : words′ ≡ slotStored words (d .slot) (d .hash) (s .writer .end)) where
+    bounds : InBounds s words e (d .hash) (d .slot)
+    bounds = decided .bounds z
 
-    appends : stateWith v counts′ buf′ ≡ appended (stateWith w counts buf) (entryOf name id)
-    appends = appended-parts w v counts counts′ buf buf′ name id h (bounds .hash) ev ec eb
+    answer-is : Right s words → 0 ≡ indexedRefusal s words e
+    answer-is right = sym z ∙ decided .rule right
 
-    inserts : words′ ≡ slotInserted words (hashOf name) (w .end)
-    inserts = ew ∙ ap₂ (λ (i x : ℕ). slotStored words i x (w .end)) (bounds .first) (bounds .hash)
+    appends : stateWith v counts buffer ≡ appended s e
+    appends = appended-parts (s .writer) v (s .counts) counts (s .buffer) buffer (e .name) (e .id) (d .hash) (bounds .hash) ev ec eb
 
-    stays-right : Right (stateWith w counts buf) words → Right (stateWith v counts′ buf′) words′
+    inserts : words′ ≡ slotInserted words (hashOf (e .name)) (s .writer .end)
+    inserts = ew ∙ ap₂ (λ (i x : ℕ). slotStored words i x (s .writer .end)) (bounds .first) (bounds .hash)
+
+    stays-right : Right s words → Right (stateWith v counts buffer) words′
     stays-right right =
-        let none = none-refused (stateWith w counts buf) words (entryOf name id) (answer-is right) in
-        let more = right-after-put (stateWith w counts buf) words bytes right (entryOf name id) word (none .0) (none .1) k h (bounds .hash) (bounds .inside) (bounds .first) in
-        subst (λ (t : State). Right t words′) (sym appends) (subst (Right (appended (stateWith w counts buf) (entryOf name id))) (sym ew) more)
+        let none = none-refused s words e (answer-is right) in
+        let inside = subst (λ (k : ℕ). k < slotCount words) (bounds .first) (bounds .inside) in
+        let more = right-after-put bytes right e word (none .0) (none .1) inside in
+        subst (λ (t : State). Right t words′) (sym appends) (subst (Right (appended s e)) (sym inserts) more)
 
-    pub put-accepted : PutIndexed (stateWith w counts buf) words (entryOf name id) 0 (stateWith v counts′ buf′) words′
+    pub put-accepted : PutIndexed s words e 0 (stateWith v counts buffer) words′
     put-accepted =
         record {
           refused = λ n. absurd (n refl);
           accepted = λ none. (appends, inserts);
           answer = answer-is;
-          leaves = λ right. appends ∙ left-accepted (stateWith w counts buf) words (entryOf name id) (answer-is right);
+          leaves = λ right. appends ∙ left-accepted s words e (answer-is right);
           right = stays-right;
         }

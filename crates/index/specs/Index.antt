@@ -17,32 +17,38 @@ use Rattle.writer.specs.Close.{recorded, closeRefusal}
 abbrev pub slotCount : List ℕ → ℕ
 slotCount words = length words / 2
 
-abbrev pub slot : List ℕ → ℕ → Bucket
-slot words k = record { hash = getD words (2 * k) 0; at = getD words (2 * k + 1) 0 }
+abbrev pub slotAt : List ℕ → ℕ → Bucket
+slotAt words k = record { hash = getD words (2 * k) 0; at = getD words (2 * k + 1) 0 }
 
--- hash and offset stored in slot k; inserted: in the first empty slot of the hash's probe sequence, which is that of the
--- image's own tables
-abbrev pub slotStored : List ℕ → ℕ → ℕ → ℕ → List ℕ
-slotStored words k h at = set (set words (2 * k) h) (2 * k + 1) at
+-- the slots that a hash is looked for in, one after the other: those of the image's own tables
+abbrev pub probeSequence : List ℕ → ℕ → List ℕ
+probeSequence words h = probeSequence (slotCount words) (slotCount words) (start h (slotCount words))
 
 abbrev pub firstEmptySlot : List ℕ → ℕ → ℕ
-firstEmptySlot words h =
-    firstEmpty (λ (k : ℕ). slot words k .at) (probeSequence (slotCount words) (slotCount words) (start h (slotCount words)))
+firstEmptySlot words h = firstEmpty (λ (k : ℕ). slotAt words k .at) (probeSequence words h)
+
+-- hash and offset stored in slot k; inserted: in the first empty slot of the hash's probe sequence
+abbrev pub slotStored : List ℕ → ℕ → ℕ → ℕ → List ℕ
+slotStored words k h at = set (set words (2 * k) h) (2 * k + 1) at
 
 abbrev pub slotInserted : List ℕ → ℕ → ℕ → List ℕ
 slotInserted words h at = slotStored words (firstEmptySlot words h) h at
 
--- what the slots are to contain: hash and offset of each entry of the buffer, in put order
-unfoldable pub entryBuckets : State → List Bucket
-entryBuckets s = map bucketOf (placed headSize (recorded s))
+-- hash and offset of each entry, in put order
+abbrev pub bucketsOf : List Entry → List Bucket
+bucketsOf es = map bucketOf (placed headSize es)
 
--- the index is right: close would accept record and buffer, there are 256 counts, no entry is without a slot, and the slots
--- are what inserting the entries in put order into empty ones leaves, by the rule of the image's own tables
+-- the slots are what inserting these into empty ones leaves, by the rule of the image's own tables
+pub record FilledWith (words : List ℕ) (bs : List Bucket) : Type 0 where
+  pub each : (k : ℕ) → k < slotCount words → slotAt words k ≡ getD (filled (slotCount words) bs) k empty
+
+-- the index is right: close would accept record and buffer, there are 256 counts and at least as many slots as entries,
+-- and the slots are filled with the entries in put order
 pub record Right (s : State) (words : List ℕ) : Type 0 where
   pub closes : closeRefusal s ≡ 0
   pub tables : length (s .counts) ≡ 256
-  pub room : s .writer .entries ≤ slotCount words
-  pub slots : (k : ℕ) → k < slotCount words → slot words k ≡ getD (filled (slotCount words) (entryBuckets s)) k empty
+  pub capacity : s .writer .entries ≤ slotCount words
+  pub slots : FilledWith words (bucketsOf (recorded s))
 
 -- a put by the index: put's refusal; where put would accept, 24 when every slot is taken
 unfoldable pub indexedRefusal : State → List ℕ → Entry → ℕ
@@ -56,20 +62,3 @@ afterIndexed s words e = cond (eqb (indexedRefusal s words e) 0) (appended s e) 
 unfoldable pub indexRefusal : State → List ℕ → ℕ
 indexRefusal s words =
     cond (eqb (closeRefusal s) 0 && ltb (slotCount words) (s .writer .entries)) 24 (closeRefusal s)
-
--- the state in a buffer that has grown: its record takes the new length, and nothing else of it changes
-unfoldable pub grown : State → List ℕ → State
-grown s buffer =
-    record {
-      writer =
-          record {
-            mode = s .writer .mode;
-            repeats = s .writer .repeats;
-            length = length buffer;
-            end = s .writer .end;
-            entries = s .writer .entries;
-            back = s .writer .back;
-          };
-      counts = s .counts;
-      buffer = buffer;
-    }

@@ -1,5 +1,5 @@
-// The index of the names that a buffer holds, in lent words, and a put that probes it: with repeats off it compares the name
-// with the entries of an equal hash alone, where `writer::put` walks all earlier ones.
+// The index of the names that a buffer holds, in lent words, and a put that probes it: with repeats off it compares the
+// name with the entries of an equal hash alone, where `writer::put` walks all earlier ones.
 ghost use mathlib.Core.Path.{_≡_};
 ghost use Rattle.writer.specs.State.{stateWith};
 ghost use Rattle.writer.specs.Put.{entryOf};
@@ -9,11 +9,11 @@ ghost use Rattle.index.specs.steps.Fill.{FillPre, SlotsFilled};
 use image::entries::name_at;
 use image::entries::whole_length;
 use image::scratch::clear;
-use slots::first_empty;
-use slots::probe_for_put;
+use slots::probe;
 use slots::store_slot;
 use writer::CQDBWriter;
 use writer::PutAnswer;
+use writer::Repeats;
 use writer::record::after;
 use writer::record::size_with;
 use writer::record::too_large;
@@ -64,8 +64,8 @@ fn decide(
     id: u32,
 ) -> Decision
     ensures { λ r. ⌜
-        Decided w (now (counts .entry)) (now (buf .entry)) (now (slots .entry)) (now (name .entry)) id
-        (r .refusal) (r .hash) (r .slot)
+        Decided (stateWith w (now (counts .entry)) (now (buf .entry))) (now (slots .entry))
+        (entryOf (now (name .entry)) id) r
         ⌝ }
 {
     if !fits_buffer(w, buf) {
@@ -80,15 +80,12 @@ fn decide(
     let m = slots.len() / 2;
     let end = w.end as usize;
     let repeats = w.repeats;
-    let k = probe_for_put(repeats, &buf[..end], slots, m, h, name);
+    let k = probe(repeats, &buf[..end], slots, h, name);
     if m < k {
         return refused(16);
     }
     if too_large(w.length, size_with(w, name.len(), id)) {
         return refused(3);
-    }
-    if m <= w.entries as usize {
-        return refused(24);
     }
     if k == m {
         return refused(24);
@@ -132,13 +129,12 @@ pub fn put_indexed(
     PutAnswer { refusal: 0, writer }
 }
 
-// Inserts the entries of the buffer into empty slots, in put order. Internal: the caller knows that the entries are whole and
-// that there is a slot for each.
+// Inserts the entries of the buffer into empty slots, in put order. Internal: the caller knows that the entries are
+// whole and that there is a slot for each.
 fn fill(buf: &[u8], end: usize, entries: u32, slots: &mut [u32])
     requires { ⌜ FillPre (now buf) end entries (now slots) ⌝ }
     ensures { λ _. ⌜ SlotsFilled (now (buf .entry)) end entries (now (slots .entry)) (now (slots .exit)) ⌝ }
 {
-    let m = slots.len() / 2;
     let mut at = 2072;
     let mut left = entries;
     while left > 0 {
@@ -146,18 +142,19 @@ fn fill(buf: &[u8], end: usize, entries: u32, slots: &mut [u32])
         if n == 0 {
             return;
         }
-        let jhash::Hashed::Hash(h) = jhash::name_hash(name_at(buf, at, n)) else {
+        let name = name_at(buf, at, n);
+        let jhash::Hashed::Hash(h) = jhash::name_hash(name) else {
             return;
         };
-        let k = first_empty(&*slots, m, h);
+        let k = probe(Repeats::On, buf, &*slots, h, name);
         store_slot(&mut *slots, k, h, at as u32);
         at += 8 + n;
         left -= 1;
     }
 }
 
-// Makes the index of the entries in the buffer, or is refused and changes nothing: with close's refusals, and with 24 where
-// there are more entries than slots. For a fresh record every slot is empty.
+// Makes the index of the entries in the buffer, or is refused and changes nothing: with close's refusals, and with 24
+// where there are more entries than slots. For a fresh record every slot is empty.
 pub fn index(w: CQDBWriter, counts: &[u32; 256], buf: &[u8], slots: &mut [u32]) -> u32
     ensures { λ r. ⌜
         Indexed (stateWith w (now (counts .entry)) (now (buf .entry))) (now (slots .entry)) r (now (slots .exit))

@@ -1,48 +1,64 @@
 // Slots probed and stored: two words each, a hash and the offset of an entry. An offset of 0 marks an empty slot.
 ghost use mathlib.Core.Path.{_≡_};
-ghost use mathlib.Core.Bool.{false};
-ghost use Prim.Native.Nat.{ℕ, _*_, _≤_, _<_};
-ghost use lib.ListN.{length};
-ghost use Rattle.image.specs.Tables.{start, probeSequence};
+ghost use Prim.Native.Nat.{_<_};
 ghost use Rattle.writer.specs.State.{refusesRepeats};
-ghost use Rattle.index.specs.Index.{slotCount, slot, slotStored};
-ghost use Rattle.index.specs.steps.Probe.{hasNameAt, duplicateAt, probe};
+ghost use Rattle.index.specs.Index.{slotCount, slotAt, slotStored};
+ghost use Rattle.index.specs.steps.Probe.{duplicateAt, probeSlots};
 use reader::Probe;
 use reader::lookup::probe_entry;
 use writer::Repeats;
 
-// Has the entry at an offset this name?
-fn has_name(bytes: &[u8], name: &[u8], at: u32) -> bool
-    ensures { λ r. ⌜ r ≡ hasNameAt (now (bytes .entry)) (now (name .entry)) at ⌝ }
+// Would a put of the name be refused as a duplicate of the entry at an offset? Never with repeats on.
+fn is_duplicate(repeats: Repeats, bytes: &[u8], name: &[u8], at: u32) -> bool
+    ensures { λ r. ⌜ r ≡ duplicateAt (refusesRepeats repeats) (now (bytes .entry)) (now (name .entry)) at ⌝ }
 {
-    match probe_entry(bytes, name, at) {
-        Probe::Pass => false,
-        Probe::Ends => false,
-        Probe::Hit(_) => true,
+    match repeats {
+        Repeats::On => false,
+        Repeats::Off => match probe_entry(bytes, name, at) {
+            Probe::Pass => false,
+            Probe::Ends => false,
+            Probe::Hit(_) => true,
+        },
     }
 }
 
-// Probes the m slots for a name of hash h: m + 1 where an entry has the name, otherwise the first empty slot, m where every
-// slot is taken.
-fn probe(bytes: &[u8], slots: &[u32], m: usize, h: u32, name: &[u8]) -> usize
-    requires { ⌜ 2 * m ≤ length (now slots) ⌝ }
+// The hash in a slot.
+fn hash_at(slots: &[u32], k: usize) -> u32
+    requires { ⌜ k < slotCount (now slots) ⌝ }
+    ensures { λ r. ⌜ r ≡ slotAt (now (slots .entry)) k .hash ⌝ }
+{
+    slots[2 * k]
+}
+
+// The offset in a slot.
+fn offset_at(slots: &[u32], k: usize) -> u32
+    requires { ⌜ k < slotCount (now slots) ⌝ }
+    ensures { λ r. ⌜ r ≡ slotAt (now (slots .entry)) k .at ⌝ }
+{
+    slots[2 * k + 1]
+}
+
+// Probes the m slots for a name of hash h: m + 1 if an entry is a duplicate, otherwise the first empty slot, m if none
+// is empty.
+pub(super) fn probe(repeats: Repeats, bytes: &[u8], slots: &[u32], h: u32, name: &[u8]) -> usize
     ensures { λ r. ⌜
-        r ≡ probe m (slot (now (slots .entry))) h
-        (hasNameAt (now (bytes .entry)) (now (name .entry))) (probeSequence m m (start h m))
+        r ≡ probeSlots (now (slots .entry)) h
+        (duplicateAt (refusesRepeats repeats) (now (bytes .entry)) (now (name .entry)))
         ⌝ }
 {
+    let m = slots.len() / 2;
     if m == 0 {
         return 0;
     }
     let mut k = (h / 256) as usize % m;
     let mut left = m;
     while 0 < left {
-        let at = slots[2 * k + 1];
+        let at = offset_at(slots, k);
         if at == 0 {
             return k;
         }
-        if slots[2 * k] == h {
-            if has_name(bytes, name, at) {
+        if hash_at(slots, k) == h {
+            if is_duplicate(repeats, bytes, name, at) {
                 return m + 1;
             }
         }
@@ -50,47 +66,6 @@ fn probe(bytes: &[u8], slots: &[u32], m: usize, h: u32, name: &[u8]) -> usize
         left -= 1;
     }
     m
-}
-
-// The first empty slot of the probe sequence of a hash; m where every slot is taken.
-pub(super) fn first_empty(slots: &[u32], m: usize, h: u32) -> usize
-    requires { ⌜ 2 * m ≤ length (now slots) ⌝ }
-    ensures { λ r. ⌜ r ≡ probe m (slot (now (slots .entry))) h (λ (a : ℕ). false) (probeSequence m m (start h m)) ⌝ }
-{
-    if m == 0 {
-        return 0;
-    }
-    let mut k = (h / 256) as usize % m;
-    let mut left = m;
-    while 0 < left {
-        if slots[2 * k + 1] == 0 {
-            return k;
-        }
-        k = if k + 1 < m { k + 1 } else { 0 };
-        left -= 1;
-    }
-    m
-}
-
-// The probe of a put: with repeats off for its name and the first empty slot, with repeats on for that slot alone.
-pub(super) fn probe_for_put(
-    repeats: Repeats,
-    bytes: &[u8],
-    slots: &[u32],
-    m: usize,
-    h: u32,
-    name: &[u8],
-) -> usize
-    requires { ⌜ 2 * m ≤ length (now slots) ⌝ }
-    ensures { λ r. ⌜
-        r ≡ probe m (slot (now (slots .entry))) h
-        (duplicateAt (refusesRepeats repeats) (now (bytes .entry)) (now (name .entry))) (probeSequence m m (start h m))
-        ⌝ }
-{
-    match repeats {
-        Repeats::Off => probe(bytes, slots, m, h, name),
-        Repeats::On => first_empty(slots, m, h),
-    }
 }
 
 // Stores hash and offset in a slot.

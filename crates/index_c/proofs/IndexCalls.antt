@@ -19,10 +19,12 @@ use Rattle.writer.specs.declared.c_record.Record.{Record}
 use Rattle.writer.specs.Numbers.{repeatsWord}
 use Rattle.writer.specs.CRecord.{writerOf, recordOf, CState, cState, knownIn, stateOf, cStateOf}
 use Rattle.writer.proofs.CRecords.{back-and-forth, forth-and-back, cState-known}
-use Rattle.index.specs.Index.{Right, grown}
+use Rattle.lists.specs.theorems.LongerBuffer.{movedTo}
+use Rattle.index.specs.Index.{Right}
 use Rattle.index.specs.Promise.{PutIndexed, Indexed}
 use Rattle.index.proofs.RightKept.{kept-right}
-use Rattle.index_c.specs.IndexC.{recordIn, RightHeld, putIndexedNumber, leftByPutIndexed, PutIndexedHeld, indexNumber, IndexedHeld, KeptRightHeld}
+use Rattle.index_c.specs.IndexC.{recordIn, RightHeld, putIndexedNumber, leftByPutIndexed, PutIndexedHeld, indexNumber, IndexedHeld}
+use Rattle.index_c.specs.theorems.KeptRightHeld.{KeptRightHeld}
 
 -- 01's state with a right index, as C has it
 held-right : (s : State) (words : List ℕ) → Right s words → RightHeld (cStateOf s) words
@@ -44,9 +46,9 @@ put-unknown h words e over =
       right = λ right. right;
     }
 
-module _ (h : CState) (words : List ℕ) (e : Entry) (v w' : CQDBWriter) (r : Record) (counts buffer words′ : List ℕ) (k : ℕ)
-    (fine : knownIn h ≡ true) (is : v ≡ writerOf (h .writer)) (back : r ≡ recordOf w')
-    (given : PutIndexed (stateWith v (h .counts) (h .buffer)) words e k (stateWith w' counts buffer) words′) where
+module _ (h : CState) {words : List ℕ} {e : Entry} {v w' : CQDBWriter} {counts buffer words′ : List ℕ} {k : ℕ} (fine : knownIn h ≡ true)
+    (is : v ≡ writerOf (h .writer)) (given : PutIndexed (stateWith v (h .counts) (h .buffer)) words e k (stateWith w' counts buffer) words′)
+    {r : Record} (back : r ≡ recordOf w') where
   p : PutIndexed (stateOf h) words e k (stateWith w' counts buffer) words′
   p = subst (λ (w : CQDBWriter). PutIndexed (stateWith w (h .counts) (h .buffer)) words e k (stateWith w' counts buffer) words′) is given
 
@@ -105,34 +107,24 @@ record-stored numbers sizes w four two =
     other : (j : ℕ) → (j ≡ 2 → ⊥) → (j ≡ 3 → ⊥) → getD (set (set numbers 2 (w .entries)) 3 (w .back)) j 0 ≡ getD numbers j 0
     other j x y = getD-set-other (set numbers 2 (w .entries)) 3 j (w .back) 0 y ∙ getD-set-other numbers 2 j (w .entries) 0 x
 
-module _ (h : CState) (words : List ℕ) (e : Entry) (v w' : CQDBWriter) (counts buffer words′ : List ℕ) (k : ℕ)
-    (fine : knownIn h ≡ true) (is : v ≡ writerOf (h .writer))
-    (given : PutIndexed (stateWith v (h .counts) (h .buffer)) words e k (stateWith w' counts buffer) words′) where
+module _ (h : CState) {words : List ℕ} {e : Entry} {v w' : CQDBWriter} {counts buffer words′ : List ℕ} {k : ℕ} (fine : knownIn h ≡ true)
+    (is : v ≡ writerOf (h .writer)) (given : PutIndexed (stateWith v (h .counts) (h .buffer)) words e k (stateWith w' counts buffer) words′) where
   -- mode, choice and length stay
-  record Stay : Type 0 where
-    modes : w' .mode ≡ v .mode
-    choices : w' .repeats ≡ v .repeats
-    lengths : w' .length ≡ v .length
+  record Stay (w : CQDBWriter) : Type 0 where
+    modes : w .mode ≡ v .mode
+    choices : w .repeats ≡ v .repeats
+    lengths : w .length ≡ v .length
 
-  stay : Stay
+  stay : Stay w'
   unfolding appended writerAfter
   stay = go (eqb k 0) refl
     where
-      go : (b : Bool) → eqb k 0 ≡ b → Stay
-      go true x =
-          let t = given .accepted (eqb-true k 0 x) .0 in
-          record {
-            modes = ap (λ (s : State). s .writer .mode) t;
-            choices = ap (λ (s : State). s .writer .repeats) t;
-            lengths = ap (λ (s : State). s .writer .length) t;
-          }
-      go false x =
-          let t = given .refused (eqb-false k 0 x) .0 in
-          record {
-            modes = ap (λ (s : State). s .writer .mode) t;
-            choices = ap (λ (s : State). s .writer .repeats) t;
-            lengths = ap (λ (s : State). s .writer .length) t;
-          }
+      stays : (s : State) → stateWith w' counts buffer ≡ s → Stay (s .writer) → Stay w'
+      stays s e = subst (λ (t : State). Stay (t .writer)) (sym e)
+
+      go : (b : Bool) → eqb k 0 ≡ b → Stay w'
+      go true x = stays _ (given .accepted (eqb-true k 0 x) .0) (record { modes = refl; choices = refl; lengths = refl })
+      go false x = stays _ (given .refused (eqb-false k 0 x) .0) (record { modes = refl; choices = refl; lengths = refl })
 
   known-back : recordOf (writerOf (h .writer)) ≡ h .writer
   known-back = ap (λ (x : CState). x .writer) (back-and-forth h fine)
@@ -148,8 +140,8 @@ module _ (h : CState) (words : List ℕ) (e : Entry) (v w' : CQDBWriter) (counts
         end = w' .end;
       }
 
-  pub put-stored : (r : Record) → r ≡ recordAfter (h .writer) w' → PutIndexedHeld h words e k (cState r counts buffer) words′
-  put-stored r back = put-known h words e v w' r counts buffer words′ k fine is (back ∙ after-is) given
+  pub put-stored : {r : Record} → r ≡ recordAfter (h .writer) w' → PutIndexedHeld h words e k (cState r counts buffer) words′
+  put-stored back = put-known h fine is given (back ∙ after-is)
 
 -- ---- making the index
 
@@ -166,7 +158,7 @@ index-unknown h words over =
     is : 2 ≡ indexNumber h words
     is = rw over refl
 
-module _ (h : CState) (words words′ : List ℕ) (v : CQDBWriter) (k : ℕ) (fine : knownIn h ≡ true) (is : v ≡ writerOf (h .writer))
+module _ (h : CState) {words words′ : List ℕ} {v : CQDBWriter} {k : ℕ} (fine : knownIn h ≡ true) (is : v ≡ writerOf (h .writer))
     (given : Indexed (stateWith v (h .counts) (h .buffer)) words k words′) where
   q : Indexed (stateOf h) words k words′
   q = subst (λ (w : CQDBWriter). Indexed (stateWith w (h .counts) (h .buffer)) words k words′) is given
@@ -192,7 +184,7 @@ kept-right-held =
       made = λ h words words′ tables p. p .right refl tables;
       put = λ h h′ words words′ e refusal p right. p .right right;
       closed = λ h words bytes right. held-right (afterClose (stateOf h)) words (kept-right .close-right (stateOf h) words bytes (right .index));
-      larger =
-          λ h words buffer bytes more same right. held-right (grown (stateOf h) buffer) words
-          (kept-right .grown-right (stateOf h) words buffer bytes more same (right .index));
+      longer =
+          λ h words longer bytes l right. held-right (movedTo longer (stateOf h)) words
+          (kept-right .longer-right (stateOf h) words longer bytes l (right .index));
     }

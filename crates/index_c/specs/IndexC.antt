@@ -1,19 +1,18 @@
 -- The index for C: h is what a call is lent (record, counts, buffer) with the words of the slots, h′ and words′ what it
--- leaves. A record with a mode or a repeats mode that is neither 0 nor 1 fits no buffer: refusal 2, and nothing changes.
+-- leaves. A record with a mode or a repeats mode that is neither 0 nor 1 fits no buffer: refusal 2, and nothing
+-- changes.
 use Prim.Native.Nat.{ℕ, _*_, _≤_}
 use mathlib.Core.Path.{_≡_}
 use mathlib.Core.Bool.{true, cond}
 use mathlib.Core.List.{List}
-use lib.ListN.{length, getD, take}
+use lib.ListN.{length, getD}
 use lib.Dec.{ltb}
 use Rattle.jhash.specs.NameHash.{hashOf}
 use Rattle.image.specs.Image.{Entry}
 use Rattle.writer.specs.Put.{appended}
-use Rattle.writer.specs.Close.{afterClose}
 use Rattle.writer.specs.declared.c_record.Record.{Record}
 use Rattle.writer.specs.CRecord.{CState, knownIn, stateOf, cStateOf}
-use Rattle.index.specs.Index.{slotCount, slotInserted, Right, indexedRefusal, afterIndexed, indexRefusal, grown}
-use Rattle.index.specs.KeptRight.{Bytes}
+use Rattle.index.specs.Index.{slotCount, slotInserted, Right, indexedRefusal, afterIndexed, indexRefusal}
 
 -- two slots a name, two words a slot; where that exceeds 64 bits, the largest number of 64 bits
 abbrev pub indexWords : ℕ → ℕ
@@ -65,15 +64,3 @@ pub record IndexedHeld (h : CState) (words : List ℕ) (refusal : ℕ) (words′
   pub refused : (refusal ≡ 0 → ⊥) → words′ ≡ words
   pub right : refusal ≡ 0 → length (h .counts) ≡ 256 → RightHeld h words′
   pub last : (i : ℕ) → 2 * slotCount words ≤ i → getD words′ i 0 ≡ getD words i 0
-
--- so an index is right that cqdb_index made, where since then only cqdb_put_indexed, cqdb_close and cqdb_grown were called
-pub record KeptRightHeld : Type 0 where
-  pub made : (h : CState) (words words′ : List ℕ) → length (h .counts) ≡ 256 → IndexedHeld h words 0 words′
-      → RightHeld h words′
-  pub put : (h h′ : CState) (words words′ : List ℕ) (e : Entry) (refusal : ℕ) → PutIndexedHeld h words e refusal h′ words′
-      → RightHeld h words → RightHeld h′ words′
-  pub closed : (h : CState) (words : List ℕ) → Bytes (stateOf h)
-      → RightHeld h words → RightHeld (cStateOf (afterClose (stateOf h))) words
-  pub larger : (h : CState) (words buffer : List ℕ) → Bytes (stateOf h) → length (h .buffer) ≤ length buffer
-      → take (h .writer .end) buffer ≡ take (h .writer .end) (h .buffer)
-      → RightHeld h words → RightHeld (cStateOf (grown (stateOf h) buffer)) words

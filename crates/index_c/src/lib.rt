@@ -1,5 +1,5 @@
-// The index for C: the 256 table counts, the buffer and the slots are lent. A record whose mode or repeats mode is neither 0
-// nor 1 is none of 01's and fits no buffer.
+// The index for C: the 256 table counts, the buffer and the slots are lent. A record whose mode or repeats mode is
+// neither 0 nor 1 is none of 01's and fits no buffer.
 ghost use mathlib.Core.Path.{_≡_};
 ghost use lib.ListN.{length};
 ghost use Rattle.writer.specs.Put.{entryOf};
@@ -9,8 +9,8 @@ use writer::c_record::Record;
 use writer::c_record::writer_of;
 use writer::numbers::known;
 
-// How many words to lend for an index of this many names: two slots a name, two words a slot; the largest number where that
-// is more than a size can be.
+// How many words to lend for an index of this many names: two slots a name, two words a slot; the largest number where
+// that is more than a size can be.
 #[no_mangle]
 pub extern "C" fn cqdb_index_words(names: usize) -> usize
     ensures { λ r. ⌜ r ≡ indexWords names ⌝ }
@@ -53,8 +53,9 @@ fn record_in(numbers: &[u32; 4], sizes: &[u64; 2]) -> Record
     }
 }
 
-// Appends an entry, raises its count and stores its slot; or refusal 2, 13, 16, 3 or 24, and nothing changes. The record is
-// lent in place: by value, in and out, it costs 6 ns a put, since its words are stored one by one and loaded four at a time.
+// Appends an entry, raises its count and stores its slot; or refusal 2, 13, 16, 3 or 24, and nothing changes. The
+// record is lent in place: by value, in and out, it costs 6 ns a put, since its words are stored one by one and loaded
+// four at a time.
 #[no_mangle]
 pub extern "C" fn cqdb_put_indexed_parts(
     numbers: &mut [u32; 4],

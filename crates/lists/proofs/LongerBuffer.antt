@@ -123,7 +123,7 @@ module _ (mode : Mode) (repeats : Repeats) (n : ℕ) (es : List Entry) (s : Stat
       let size : entriesSize es ≡ s .writer .end - headSize = omega (arith, w .end) in
       ap (λ (k : ℕ). take k (drop headSize longer)) size ∙ l .same-entries ∙ written-area mode repeats n es s w
 
-  written-there : Written mode repeats (length longer) es there
+  pub written-there : Written mode repeats (length longer) es there
   written-there =
       record {
         mode-is = w .mode-is;

@@ -18,8 +18,12 @@ returns-2 c =
 
 returns-3 : tie.Need-returns-3
 returns-3 c =
-    let a = c .before .before .before .before .before .before .args in
-    record { when-true = λ e. absurd (false-not-true e); when-false = λ e counts. end-high (a .w) counts (a .buf .now) (c .before .before .before .before .if1 .left) (omega (arith, c .before .before .if2 .left)) (c .if3 .taken) }
+    let l = c .before .before .before .before in
+    let a = l .before .before .args in
+    record {
+      when-true = λ e. absurd (false-not-true e);
+      when-false = λ e counts. end-high (a .w) counts (a .buf .now) (l .if1 .left) (omega (arith, c .before .before .if2 .left)) (c .if3 .taken);
+    }
 
 returns-4 : tie.Need-returns-4
 returns-4 c =

@@ -5,6 +5,7 @@ use mathlib.Core.List.{List, [], _∷_}
 use lib.Dec.{eqb}
 use Rattle.image.specs.Tables.{Bucket}
 use Rattle.reader.specs.Lookup.{Probe, pass, ends, hit, probeEntry}
+use Rattle.index.specs.Index.{slotCount, slotAt, probeSequence}
 
 -- has the entry at an offset this name?
 abbrev pub isHit : Probe → Bool
@@ -19,9 +20,13 @@ hasNameAt bytes name at = isHit (probeEntry bytes name at)
 abbrev pub duplicateAt : Bool → List ℕ → List ℕ → ℕ → Bool
 duplicateAt refuses bytes name at = refuses && hasNameAt bytes name at
 
--- a probe of m slots for a hash, along a probe sequence: m + 1 where v says that an entry of the hash is a match, otherwise
--- the first empty slot, m where there is none
-unfoldable pub probe : ℕ → (ℕ → Bucket) → ℕ → (ℕ → Bool) → List ℕ → ℕ
-probe m b h v [] = m
-probe m b h v (k ∷ ks) =
-    cond (eqb (b k .at) 0) k (cond (eqb (b k .hash) h && v (b k .at)) (m + 1) (probe m b h v ks))
+-- a probe of m slots for a hash, along some of them: m + 1 if v says that an entry of the hash is a duplicate,
+-- otherwise the first empty slot, m if there is none
+unfoldable pub probeAlong : ℕ → (ℕ → Bucket) → ℕ → (ℕ → Bool) → List ℕ → ℕ
+probeAlong m b h v [] = m
+probeAlong m b h v (k ∷ ks) =
+    cond (eqb (b k .at) 0) k (cond (eqb (b k .hash) h && v (b k .at)) (m + 1) (probeAlong m b h v ks))
+
+-- along the probe sequence
+abbrev pub probeSlots : List ℕ → ℕ → (ℕ → Bool) → ℕ
+probeSlots words h v = probeAlong (slotCount words) (slotAt words) h v (probeSequence words h)

@@ -1,7 +1,7 @@
 -- `index_c::cqdb_index_parts` meets its contract: what `index` promises, of C's record. Assumes nothing.
 use mathlib.Core.Path.{sym, _∙_}
 use borrow.Author.Tests.{not-true, not-false}
-use Rattle.writer.specs.CRecord.{cState}
+use Rattle.writer.specs.CRecord.{CState, cState}
 use Rattle.index_c.proofs.IndexCalls.{index-unknown, index-known}
 use borrow.Author.Needs.{needs}
 use Rattle.index_c.proofs.cqdb_index_parts.Statement.{statement}
@@ -10,10 +10,12 @@ use Rattle.index_c.proofs.cqdb_index_parts.Tie as tie
 known-requires : tie.Need-known-requires
 known-requires c κs = search needs
 
+-- what was lent
+abbrev H : tie.After-known → CState
+H k = let a = k .before .before .before .args in cState (a .w) (a .counts .now) (a .buf .now)
+
 returns : tie.Need-returns
-returns c =
-    let a = c .before .before .before .before .args in
-    index-unknown (cState (a .w) (a .counts .now) (a .buf .now)) (a .slots .now) (sym (c .before .known .ensures) ∙ not-true _ (c .if1 .taken))
+returns c = index-unknown (H (c .before)) _ (sym (c .before .known .ensures) ∙ not-true _ (c .if1 .taken))
 
 writer-of-requires : tie.Need-writer-of-requires
 writer-of-requires c κs = search needs
@@ -26,11 +28,9 @@ same-length c = search needs
 
 returns-2 : tie.Need-returns-2
 returns-2 c =
-    let a = c .before .before .before .before .before .before .before .before .before .args in
-    let made = c .before .before .index in
-    let writer = c .before .before .before .before .writer-of in
-    let fine = sym (c .before .before .before .before .before .before .known .ensures) ∙ not-false _ (c .before .before .before .before .before .if1 .left) in
-    index-known (cState (a .w) (a .counts .now) (a .buf .now)) (a .slots .now) _ (writer .result) (made .result) fine (writer .ensures) (made .ensures)
+    let w = c .before .before .before .before in
+    let k = w .before .before in
+    index-known (H k) (sym (k .known .ensures) ∙ not-false _ (w .before .if1 .left)) (w .writer-of .ensures) (c .before .before .index .ensures)
 
 pub cqdb-index-parts-spec : {M : Type 1} → statement M
 cqdb-index-parts-spec =

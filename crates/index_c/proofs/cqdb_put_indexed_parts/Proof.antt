@@ -1,10 +1,11 @@
 -- `index_c::cqdb_put_indexed_parts` meets its contract: what `put_indexed` promises, of C's record. Assumes nothing.
-use mathlib.Core.Path.{sym, ap, _∙_}
+use mathlib.Core.Path.{_≡_, sym, ap, _∙_}
+use mathlib.Core.Bool.{Bool}
 use borrow.Author.Tests.{not-true, not-false}
 use Rattle.writer.specs.Put.{entryOf}
 use Rattle.writer.specs.declared.c_record.Record.{Record}
 use Rattle.writer.specs.Numbers.{known}
-use Rattle.writer.specs.CRecord.{writerOf, cState}
+use Rattle.writer.specs.CRecord.{writerOf, CState, cState, knownIn}
 use Rattle.index_c.specs.IndexC.{recordIn}
 use Rattle.index_c.proofs.IndexCalls.{put-unknown, put-stored, record-stored}
 use borrow.Author.Needs.{needs}
@@ -17,12 +18,20 @@ record-in-requires c κs = search needs
 known-requires : tie.Need-known-requires
 known-requires c κs = search needs
 
+-- what was lent, and whether its modes are known
+abbrev begun : tie.After-known → tie.Start
+begun k = k .before .before .before .before .before .before .before
+
+abbrev H : tie.After-known → CState
+H k = let a = begun k .args in cState (recordIn (a .numbers .now) (a .sizes .now)) (a .counts .now) (a .buf .now)
+
+known-is : (k : tie.After-known) {b : Bool} → k .known .result ≡ b → knownIn (H k) ≡ b
+known-is k e = sym (k .known .ensures ∙ ap (λ (x : Record). known (x .mode) (x .repeats)) (k .before .record-in .ensures)) ∙ e
+
 returns : tie.Need-returns
 returns c four two =
-    let a = c .before .before .before .before .before .before .before .before .args in
-    let r = c .before .before .record-in in
-    put-unknown (cState (recordIn (a .numbers .now) (a .sizes .now)) (a .counts .now) (a .buf .now)) (a .slots .now) (entryOf (a .name .now) (a .id))
-    (sym (c .before .known .ensures ∙ ap (λ (x : Record). known (x .mode) (x .repeats)) (r .ensures)) ∙ not-true _ (c .if1 .taken))
+    let a = begun (c .before) .args in
+    put-unknown (H (c .before)) (a .slots .now) (entryOf (a .name .now) (a .id)) (known-is (c .before) (not-true _ (c .if1 .taken)))
 
 writer-of-requires : tie.Need-writer-of-requires
 writer-of-requires c κs = search needs
@@ -47,15 +56,11 @@ same-length-2 c = search needs
 
 returns-2 : tie.Need-returns-2
 returns-2 c four two =
-    let a = c .before .before .before .before .before .before .before .before .before .before .before .before .before .before .before .before .before .before .args in
-    let r = c .before .before .before .before .before .before .before .before .before .before .before .before .record-in in
     let done = c .before .before .before .before .before .put-indexed in
-    let writer = c .before .before .before .before .before .before .before .before .before .writer-of in
-    let fine = sym (c .before .before .before .before .before .before .before .before .before .before .before .known .ensures ∙ ap (λ (x : Record). known (x .mode) (x .repeats)) (r .ensures)) ∙ not-false _ (c .before .before .before .before .before .before .before .before .before .before .if1 .left) in
-    put-stored (cState (recordIn (a .numbers .now) (a .sizes .now)) (a .counts .now) (a .buf .now)) (a .slots .now) (entryOf (a .name .now) (a .id))
-    (writer .result) (done .result .writer) (done .last .1 .0) (done .last .1 .1 .0) (done .last .1 .1 .1 .0) (done .result .refusal)
-    fine (writer .ensures ∙ ap writerOf (r .ensures)) (done .ensures) _
-    (record-stored (a .numbers .now) (a .sizes .now) (done .result .writer) four two)
+    let w = c .before .before .before .before .before .before .before .before .before in
+    let k = w .before .before in
+    put-stored (H k) (known-is k (not-false _ (w .before .if1 .left))) (w .writer-of .ensures ∙ ap writerOf (k .before .record-in .ensures)) (done .ensures)
+    (record-stored (begun k .args .numbers .now) (begun k .args .sizes .now) (done .result .writer) four two)
 
 pub cqdb-put-indexed-parts-spec : {M : Type 1} → statement M
 cqdb-put-indexed-parts-spec =

@@ -1,26 +1,39 @@
 -- `index::slots::probe` meets its contract. The loop's invariant: the rest of the probe sequence gives the result of the whole. Assumes nothing.
+use Prim.Native.Nat.{ℕ}
 use native.Mathlib.Omega.{arith}
-use mathlib.Core.Path.{_≡_, sym, _∙_}
-use mathlib.Core.Bool.{false}
+use mathlib.Core.Path.{_≡_, sym, ap, _∙_}
+use mathlib.Core.Bool.{Bool, false}
 use mathlib.Core.Logic.{⊎-elim}
 use Rattle.image.proofs.ProbeStep.{next-inside, next-wraps}
-use Rattle.index.specs.Index.{slot}
-use Rattle.index.specs.steps.Probe.{hasNameAt}
+use Rattle.writer.specs.State.{refusesRepeats}
+use Rattle.index.specs.Index.{slotAt}
+use Rattle.index.specs.steps.Probe.{duplicateAt}
 use Rattle.index.proofs.Probing.{Rest, rest-start, probe-none, rest-end, rest-empty, rest-match, rest-next}
 use borrow.Author.Needs.{needs}
 use Rattle.index.proofs.slots.probe.Statement.{statement}
 use Rattle.index.proofs.slots.probe.Tie as tie
 
 abbrev Inv-loop : tie.InvT-loop
-Inv-loop bytes slots m h name k₀ left₀ k left = Rest m (slot slots) h (hasNameAt bytes name) left k
+Inv-loop repeats bytes slots h name m k₀ left₀ k left = Rest slots h (duplicateAt (refusesRepeats repeats) bytes name) left k
 
 abbrev μ-loop : tie.MeasureT-loop
-μ-loop bytes slots m h name k₀ left₀ k left = left
+μ-loop repeats bytes slots h name m k₀ left₀ k left = left
+
+abbrev duplicate : tie.Start Inv-loop μ-loop → ℕ → Bool
+duplicate s = duplicateAt (refusesRepeats (s .args .repeats)) (s .args .bytes .now) (s .args .name .now)
+
+-- the beginning, from a turn of the loop
+abbrev begun : tie.In-loop Inv-loop μ-loop → tie.Start Inv-loop μ-loop
+begun p = p .before .before .before .before .before .before
+
+-- what was asked of the offset a holds of the offset in the slot, b
+says : (v : ℕ → Bool) {a b : ℕ} {r t : Bool} → a ≡ b → r ≡ v a → r ≡ t → v b ≡ t
+says v e f g = ap v (sym e) ∙ sym f ∙ g
 
 returns : tie.Need-returns Inv-loop μ-loop
 returns c =
-    let a = c .before .before .before .before .args in
-    probe-none (a .m) (slot (a .slots .now)) (a .h) (hasNameAt (a .bytes .now) (a .name .now)) (c .if1 .taken)
+    let s = c .before .before .before .before in
+    probe-none (s .args .slots .now) (s .args .h) (duplicate s) (c .if1 .taken)
 
 cast-k : tie.Need-cast-k Inv-loop μ-loop
 cast-k c = omega arith
@@ -30,49 +43,35 @@ rem-k c = omega arith
 
 loop-holds : tie.Need-loop-holds Inv-loop μ-loop
 loop-holds c =
-    let a = c .before .before .before .before .args in
-    rest-start (a .m) (slot (a .slots .now)) (a .h) (hasNameAt (a .bytes .now) (a .name .now)) (omega (arith, c .if1 .left))
+    let s = c .before .before .before .before in
+    rest-start (s .args .slots .now) (s .args .h) (duplicate s) (omega (arith, c .if1 .left))
 
-mul-at : tie.Need-mul-at Inv-loop μ-loop
-mul-at c = omega (arith, c .before .loop .inv .inside)
-
-add-at : tie.Need-add-at Inv-loop μ-loop
-add-at c = omega (arith, c .before .loop .inv .inside)
-
-mul-at-2 : tie.Need-mul-at-2 Inv-loop μ-loop
-mul-at-2 c = omega (arith, c .before .loop .inv .inside)
-
-shared-slice-read-at : tie.Need-shared-slice-read-at Inv-loop μ-loop
-shared-slice-read-at c = omega (arith, c .before .before .loop .inv .inside)
+offset-at-requires : tie.Need-offset-at-requires Inv-loop μ-loop
+offset-at-requires c κs = c .before .loop .inv .inside
 
 returns-2 : tie.Need-returns-2 Inv-loop μ-loop
 returns-2 c =
-    let a = c .before .before .before .before .before .before .before .before .args in
-    let l = c .before .before .before .loop in
-    rest-empty (a .m) (slot (a .slots .now)) (a .h) (hasNameAt (a .bytes .now) (a .name .now)) (l .left) (l .k) (l .inv) (c .before .before .loop-test .taken) (c .if2 .taken)
+    let o = c .before in
+    let p = o .before in
+    rest-empty (p .before .loop .inv) (p .loop-test .taken) (sym (o .offset-at .ensures) ∙ c .if2 .taken)
 
-mul-if3 : tie.Need-mul-if3 Inv-loop μ-loop
-mul-if3 c = omega (arith, c .before .before .before .loop .inv .inside)
+hash-at-requires : tie.Need-hash-at-requires Inv-loop μ-loop
+hash-at-requires c κs = c .before .before .before .loop .inv .inside
 
-mul-if3-2 : tie.Need-mul-if3-2 Inv-loop μ-loop
-mul-if3-2 c = omega (arith, c .before .before .before .loop .inv .inside)
-
-shared-slice-read-if3 : tie.Need-shared-slice-read-if3 Inv-loop μ-loop
-shared-slice-read-if3 c = omega (arith, c .before .before .before .before .loop .inv .inside)
-
-has-name-requires : tie.Need-has-name-requires Inv-loop μ-loop
-has-name-requires c κs = search needs
+is-duplicate-requires : tie.Need-is-duplicate-requires Inv-loop μ-loop
+is-duplicate-requires c κs = search needs
 
 add-result : tie.Need-add-result Inv-loop μ-loop
 add-result c = omega arith
 
 returns-3 : tie.Need-returns-3 Inv-loop μ-loop
 returns-3 c =
-    let a = c .before .before .before .before .before .before .before .before .before .before .before .before .args in
-    let l = c .before .before .before .before .before .before .before .loop in
-    rest-match (a .m) (slot (a .slots .now)) (a .h) (hasNameAt (a .bytes .now) (a .name .now)) (l .left) (l .k) (l .inv)
-    (c .before .before .before .before .before .before .loop-test .taken) (c .before .before .before .before .if2 .left) (c .before .before .if3 .taken)
-    (sym (c .before .has-name .ensures) ∙ c .if4 .taken)
+    let x = c .before .before .before in
+    let o = x .before .before in
+    let p = o .before in
+    rest-match (p .before .loop .inv) (p .loop-test .taken) (λ z. x .before .if2 .left (o .offset-at .ensures ∙ z))
+    (sym (x .hash-at .ensures) ∙ c .before .before .if3 .taken)
+    (says (duplicate (begun p)) (o .offset-at .ensures) (c .before .is-duplicate .ensures) (c .if4 .taken))
 
 add-if5 : tie.Need-add-if5 Inv-loop μ-loop
 add-if5 c = omega (arith, c .before .before .before .before .before .loop .inv .inside)
@@ -88,27 +87,25 @@ loop-less c = omega arith
 
 loop-again : tie.Need-loop-again Inv-loop μ-loop
 loop-again c =
-    let s = c .before .before .before .before .before .before .before .before .before .before .before in
-    let a = s .args in
-    let l = c .before .before .before .before .before .before .loop in
-    let v = hasNameAt (a .bytes .now) (a .name .now) in
-    let b = slot (a .slots .now) in
-    let other : b (l .k) .hash ≡ a .h → v (b (l .k) .at) ≡ false = λ e.
+    let x = c .before .before in
+    let o = x .before .before in
+    let p = o .before in
+    let l = p .before .loop in
+    let words = begun p .args .slots .now in
+    let v = duplicate (begun p) in
+    let other : slotAt words (l .k) .hash ≡ begun p .args .h → v (slotAt words (l .k) .at) ≡ false = λ e.
     ⊎-elim
-    (λ w. sym (w .1 .ensures) ∙ w .2 .left)
-    (λ w. absurd (w .left e))
+    (λ w. says v (o .offset-at .ensures) (w .1 .ensures) (w .2 .left))
+    (λ w. absurd (w .left (x .hash-at .ensures ∙ e)))
     (c .before .if3 .came) in
-    let again = rest-next (a .m) b (a .h) v (l .left) (l .k) (l .inv) (c .before .before .before .before .before .loop-test .taken) (c .before .before .before .if2 .left) other in
+    let again = rest-next (l .inv) (p .loop-test .taken) (λ z. x .before .if2 .left (o .offset-at .ensures ∙ z)) other (c .if5 .k) in
     ⊎-elim
-    (λ w. again (c .if5 .k) (w .1 ∙ next-inside (a .m) (l .k) (w .0 .taken)) (omega (arith, w .0 .taken, w .1)))
-    (λ w. again (c .if5 .k) (w .1 ∙ next-wraps (a .m) (l .k) (omega (arith, l .inv .inside, w .0 .left))) (omega (arith, l .inv .inside, w .1)))
+    (λ w. again (w .1 ∙ next-inside _ (l .k) (w .0 .taken)) (omega (arith, w .0 .taken, w .1)))
+    (λ w. again (w .1 ∙ next-wraps _ (l .k) (omega (arith, l .inv .inside, w .0 .left))) (omega (arith, l .inv .inside, w .1)))
     (c .if5 .came)
 
 returns-4 : tie.Need-returns-4 Inv-loop μ-loop
-returns-4 c =
-    let a = c .before .before .before .before .before .before .args in
-    let l = c .before .loop in
-    rest-end (a .m) (slot (a .slots .now)) (a .h) (hasNameAt (a .bytes .now) (a .name .now)) (l .left) (l .k) (l .inv) (omega (arith, c .loop-test .left))
+returns-4 c = rest-end (c .before .loop .inv) (omega (arith, c .loop-test .left))
 
 pub probe-spec : {M : Type 1} → statement M
 probe-spec =
@@ -120,15 +117,10 @@ probe-spec =
     cast-k
     rem-k
     loop-holds
-    mul-at
-    add-at
-    mul-at-2
-    shared-slice-read-at
+    offset-at-requires
     returns-2
-    mul-if3
-    mul-if3-2
-    shared-slice-read-if3
-    has-name-requires
+    hash-at-requires
+    is-duplicate-requires
     add-result
     returns-3
     add-if5

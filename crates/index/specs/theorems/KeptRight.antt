@@ -2,13 +2,14 @@
 use Prim.Native.Nat.{ℕ, _≤_, _<_}
 use mathlib.Core.Path.{_≡_}
 use mathlib.Core.List.{List}
-use lib.ListN.{length, getD, take}
+use lib.ListN.{length, getD}
 use Rattle.image.specs.declared.Mode.{Mode}
 use Rattle.image.specs.Image.{headSize}
 use Rattle.writer.specs.declared.Repeats.{Repeats}
 use Rattle.writer.specs.State.{State, fresh}
 use Rattle.writer.specs.Close.{afterClose}
-use Rattle.index.specs.Index.{Right, grown}
+use Rattle.lists.specs.theorems.LongerBuffer.{movedTo, Longer}
+use Rattle.index.specs.Index.{Right}
 
 -- the numbers of a buffer are bytes
 abbrev pub Bytes : State → Type 0
@@ -21,7 +22,6 @@ pub record KeptRight : Type 0 where
   -- a close keeps it right
   pub close-right : (s : State) (words : List ℕ) → Bytes s
       → Right s words → Right (afterClose s) words
-  -- so does a buffer that grows, where the bytes before the end of the entries are those of before
-  pub grown-right : (s : State) (words buffer : List ℕ) → Bytes s → length (s .buffer) ≤ length buffer
-      → take (s .writer .end) buffer ≡ take (s .writer .end) (s .buffer)
-      → Right s words → Right (grown s buffer) words
+  -- so does a longer buffer with the same entries, whose length the record takes
+  pub longer-right : (s : State) (words longer : List ℕ) → Bytes s → Longer longer s
+      → Right s words → Right (movedTo longer s) words

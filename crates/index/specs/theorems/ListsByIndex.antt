@@ -1,5 +1,6 @@
--- Lists of calls by an index: 01, "Whole lists (demand 3)", where each put is a put by the index. Each call is lent record,
--- counts, buffer and slots as the call before left them. It speaks of demand 3's definitions: `answersOf`, `afterList`, `due`.
+-- Lists of calls by an index: 01, "Whole lists (demand 3)", where each put is a put by the index. Each call is lent
+-- record, counts, buffer and slots as the call before left them. It speaks of demand 3's definitions: `answersOf`,
+-- `afterList`, `due`.
 use Prim.Native.Nat.{ℕ, _≤_}
 use mathlib.Core.Path.{_≡_}
 use mathlib.Core.Bool.{cond, _&&_}
@@ -16,8 +17,8 @@ use Rattle.lists.specs.Demand3.{answersOf, afterList, acceptedPuts, imageOf}
 use Rattle.index.specs.Index.{slotCount, Right}
 use Rattle.index.specs.Promise.{PutIndexed}
 
--- a run of a list: each put keeps the promise of put_indexed, each close is answered and leaves what the rule of close says.
--- rs are the refusals' numbers, t and words′ what the last call leaves
+-- a run of a list: each put keeps the promise of put_indexed, each close is answered and leaves what the rule of close
+-- says. rs are the refusals' numbers, t and words′ what the last call leaves
 abbrev pub Run : State → List ℕ → List Call → List ℕ → State → List ℕ → Type 0
 Run s words [] [] t words′ = (t ≡ s) × (words′ ≡ words)
 Run s words [] (r ∷ rs) t words′ = ⊥
@@ -26,8 +27,8 @@ Run s words (put e ∷ cs) (r ∷ rs) t words′ =
     (u : State) × (mid : List ℕ) × (PutIndexed s words e r u mid) × Run u mid cs rs t words′
 Run s words (close ∷ cs) (r ∷ rs) t words′ = (r ≡ closeRefusal s) × Run (afterClose s) words cs rs t words′
 
--- the refusal that is due to a call by an index of m slots after the accepted puts es: demand 3's, and 24 where a put would
--- be accepted and m puts are
+-- the refusal that is due to a call by an index of m slots after the accepted puts es: demand 3's, and 24 where a put
+-- would be accepted and m puts are
 abbrev pub dueToIndexed : ℕ → Mode → Repeats → ℕ → List Entry → Call → ℕ
 dueToIndexed m mode repeats n es (put e) =
     cond (eqb (putDue mode repeats n es e) 0 && leb m (length es)) 24 (putDue mode repeats n es e)
@@ -50,8 +51,8 @@ notFull [] = []
 notFull (r ∷ rs) = cond (eqb r 24) (notFull rs) (r ∷ notFull rs)
 
 -- what is said of one run, from a fresh record and an index that is right for it: cleared slots are (`right-fresh`)
-pub record RunByIndex (mode : Mode) (repeats : Repeats) (buffer words : List ℕ) (cs : List Call) (rs : List ℕ) (t : State)
-    (words′ : List ℕ) : Type 0 where
+pub record RunByIndex (mode : Mode) (repeats : Repeats) (buffer words : List ℕ) (cs : List Call) (rs : List ℕ)
+    (t : State) (words′ : List ℕ) : Type 0 where
   -- each call is answered as is due
   pub answered : rs ≡ dueIndexed (slotCount words) mode repeats (length buffer) [] cs
   -- without the puts that were answered by 24 the list has, by puts without an index, the same answers, and leaves the

@@ -1,0 +1,2 @@
+-- Worked examples: rows that the checker computes.
+pub mod Slots
