@@ -1,151 +1,205 @@
--- The words of a place: stored and read. Assumes nothing.
+-- The words of a place: stored and read; the answers of listed names, and of duplicates. Assumes nothing.
 use Prim.Native.Nat.{ℕ, zero, suc, _+_, _*_, _-_, _≤_, _<_}
 use native.Mathlib.Omega.{arith}
-use mathlib.Core.Path.{_≡_, refl, sym, ap, _∙_}
-use mathlib.Core.List.{List, [], _∷_}
-use native.Mathlib.Decide.{ℕ-discrete, decLt}
-use lib.ListN.{length, getD, set, take, drop, length-set, length-take, length-drop}
-use lib.Seq.{sets, drop-cons, getD-set-same, getD-set-other, getD-take, getD-drop, ext-getD}
-use Rattle.batch.specs.steps.Telling.{Has, Kept, Begun}
+use native.Mathlib.Decide.{ℕ-discrete}
+use mathlib.Core.Path.{_≡_, refl, sym, ap, subst, _∙_}
+use mathlib.Core.List.{List, [], _∷_, _++_}
+use lib.ListN.{length, getD, set, take, drop, length-set, length-take, length-drop, take-append-drop}
+use lib.Seq.{getD-set-same, getD-set-other, getD-take, getD-drop, ext-getD}
+use Rattle.image.specs.Bytes.{cat}
+use Rattle.reader.specs.Lookup.{Lookup, found, nothing, lookupBy, lookup}
+use Rattle.reader.proofs.Searches.{lookup-own}
+use Rattle.packed.proofs.NameEnds.{length-names}
+use Rattle.packed.proofs.Keys.{key-short}
+use Rattle.batch.specs.RoundNames.{names, nth}
+use Rattle.batch.specs.Round.{answerWords}
+use Rattle.batch.specs.steps.Duplicates.{key, IsUnique}
+use Rattle.batch.specs.steps.Answers.{putWords, wordsIn, HasPlace, Has, Right, ListedNames, Answered, UniqueAnswered, Source}
 
--- four words stored one by one
-pub four-stored : (l : List ℕ) (at a b c d : ℕ) → set (set (set (set l at a) (at + 1) b) (at + 2) c) (at + 3) d ≡ sets l at (a ∷ b ∷ c ∷ d ∷ [])
-four-stored l at a b c d =
-    let e : at + 1 ≡ suc at = omega arith in
-    let f : at + 2 ≡ suc (suc at) = omega arith in
-    let g : at + 3 ≡ suc (suc (suc at)) = omega arith in
-    λ i. set (set (set (set l at a) (e i) b) (f i) c) (g i) d
+-- ---- words stored in a place and read
 
--- four words read one by one
-pub four-read : (l : List ℕ) (i : ℕ) → i + 4 ≤ length l
-    → _≡_ {A = List ℕ} (getD l i 0 ∷ getD l (i + 1) 0 ∷ getD l (i + 2) 0 ∷ getD l (i + 3) 0 ∷ []) (take 4 (drop i l))
-four-read l i h =
-    let e : i + 1 ≡ suc i = omega arith in
-    let f : i + 2 ≡ suc (suc i) = omega arith in
-    let g : i + 3 ≡ suc (suc (suc i)) = omega arith in
-    (λ k. getD l i 0 ∷ getD l (e k) 0 ∷ getD l (f k) 0 ∷ getD l (g k) 0 ∷ [])
-    ∙ sym
-    (ap (take 4)
-    (drop-cons l i 0 (omega arith)
-    ∙ ap (λ (r : List ℕ). getD l i 0 ∷ r)
-    (drop-cons l (suc i) 0 (omega arith)
-    ∙ ap (λ (r : List ℕ). getD l (suc i) 0 ∷ r)
-    (drop-cons l (suc (suc i)) 0 (omega arith)
-    ∙ ap (λ (r : List ℕ). getD l (suc (suc i)) 0 ∷ r) (drop-cons l (suc (suc (suc i))) 0 (omega arith))))))
+module _ (l : List ℕ) (i : ℕ) (ws : List ℕ) where
+  abbrev l₁ : List ℕ
+  l₁ = set l (4 * i) (getD ws 0 0)
 
--- ---- a run of stores, word by word
+  abbrev l₂ : List ℕ
+  l₂ = set l₁ (4 * i + 1) (getD ws 1 0)
 
-getD-sets-below : (ws l : List ℕ) (at p : ℕ) → p < at → getD (sets l at ws) p 0 ≡ getD l p 0
-getD-sets-below [] l at p h = refl
-getD-sets-below (w ∷ ws) l at p h =
-    let k : p < suc at = omega arith in
-    getD-sets-below ws (set l at w) (suc at) p k ∙ getD-set-other l at p w 0 (λ e. omega arith)
+  abbrev l₃ : List ℕ
+  l₃ = set l₂ (4 * i + 2) (getD ws 2 0)
 
-getD-sets-above : (ws l : List ℕ) (at p : ℕ) → at + length ws ≤ p → getD (sets l at ws) p 0 ≡ getD l p 0
-getD-sets-above [] l at p h = refl
-getD-sets-above (w ∷ ws) l at p h =
-    let k : suc at + length ws ≤ p = omega arith in
-    getD-sets-above ws (set l at w) (suc at) p k ∙ getD-set-other l at p w 0 (λ e. omega arith)
+  -- a word elsewhere stays, behind the first of them, the second, and so on
+  other₁ : (p : ℕ) → (p ≡ 4 * i → ⊥) → getD l₁ p 0 ≡ getD l p 0
+  other₁ p n = getD-set-other l (4 * i) p (getD ws 0 0) 0 n
 
-getD-sets-in : (ws l : List ℕ) (at w : ℕ) → w < length ws → at + length ws ≤ length l → getD (sets l at ws) (at + w) 0 ≡ getD ws w 0
-getD-sets-in [] l at w h k = absurd (omega arith)
-getD-sets-in (v ∷ ws) l at zero h k =
-    let e : at + 0 ≡ at = omega arith in
-    ap (λ (p : ℕ). getD (sets (set l at v) (suc at) ws) p 0) e
-    ∙ getD-sets-below ws (set l at v) (suc at) at (omega arith)
-    ∙ getD-set-same l at v 0 (omega arith)
-getD-sets-in (v ∷ ws) l at (suc w) h k =
-    let e : at + suc w ≡ suc at + w = omega arith in
-    let m : w < length ws = omega arith in
-    ap (λ (p : ℕ). getD (sets (set l at v) (suc at) ws) p 0) e
-    ∙ getD-sets-in ws (set l at v) (suc at) w m (omega (arith, length-set l at v))
+  other₂ : (p : ℕ) → (p ≡ 4 * i + 1 → ⊥) → getD l₂ p 0 ≡ getD l₁ p 0
+  other₂ p n = getD-set-other l₁ (4 * i + 1) p (getD ws 1 0) 0 n
 
--- ---- places
+  other₃ : (p : ℕ) → (p ≡ 4 * i + 2 → ⊥) → getD l₃ p 0 ≡ getD l₂ p 0
+  other₃ p n = getD-set-other l₂ (4 * i + 2) p (getD ws 2 0) 0 n
 
-module _ (l : List ℕ) (i : ℕ) (ws : List ℕ) (four : length ws ≡ 4) (room : 4 * i + 4 ≤ length l) where
-  -- words stored in a place stand there; every other place keeps its own
-  pub has-stored : Has (sets l (4 * i) ws) i ws
-  has-stored w h = getD-sets-in ws l (4 * i) w (omega arith) (omega arith)
+  other₄ : (p : ℕ) → (p ≡ 4 * i + 3 → ⊥) → getD (putWords l i ws) p 0 ≡ getD l₃ p 0
+  other₄ p n = getD-set-other l₃ (4 * i + 3) p (getD ws 3 0) 0 n
 
-  has-other : (j : ℕ) (vs : List ℕ) → (j ≡ i → ⊥) → Has l j vs → Has (sets l (4 * i) ws) j vs
-  has-other j vs apart has w h =
-      elim (decLt j i) [
-        | yes k ↦ getD-sets-below ws l (4 * i) (4 * j + w) (omega arith) ∙ has w h
-        | no k ↦ getD-sets-above ws l (4 * i) (4 * j + w) (above j w h (omega arith) apart) ∙ has w h
-      ]
-    where
-      above : (j w : ℕ) → w < 4 → i ≤ j → (j ≡ i → ⊥) → 4 * i + length ws ≤ 4 * j + w
-      above j w h k apart = elim (decLt i j) [ yes q ↦ omega arith | no q ↦ absurd (apart (omega arith)) ]
+  has-stored : HasPlace l i → Has (putWords l i ws) i ws
+  has-stored room zero h =
+      let e : 4 * i + 0 ≡ 4 * i = omega arith in
+      ap (λ (p : ℕ). getD (putWords l i ws) p 0) e
+      ∙ other₄ (4 * i) (λ z. omega arith) ∙ other₃ (4 * i) (λ z. omega arith) ∙ other₂ (4 * i) (λ z. omega arith)
+      ∙ getD-set-same l (4 * i) (getD ws 0 0) 0 (omega arith)
+  has-stored room (suc zero) h =
+      other₄ (4 * i + 1) (λ z. omega arith) ∙ other₃ (4 * i + 1) (λ z. omega arith)
+      ∙ getD-set-same l₁ (4 * i + 1) (getD ws 1 0) 0 (simp length-set (omega arith))
+  has-stored room (suc (suc zero)) h =
+      other₄ (4 * i + 2) (λ z. omega arith) ∙ getD-set-same l₂ (4 * i + 2) (getD ws 2 0) 0 (simp length-set (omega arith))
+  has-stored room (suc (suc (suc zero))) h = getD-set-same l₃ (4 * i + 3) (getD ws 3 0) 0 (simp length-set (omega arith))
+  has-stored room (suc (suc (suc (suc w)))) h = absurd (omega arith)
+
+  has-other : (j : ℕ) (vs : List ℕ) → (j ≡ i → ⊥) → Has l j vs → Has (putWords l i ws) j vs
+  has-other j vs other has w h =
+      let p = 4 * j + w in
+      other₄ p (λ z. other (omega arith)) ∙ other₃ p (λ z. other (omega arith)) ∙ other₂ p (λ z. other (omega arith)) ∙ other₁ p (λ z. other (omega arith))
+      ∙ has w h
 
   -- of a place that should hold what is stored there, or held its own before
-  pub has-after : (j : ℕ) (vs : List ℕ) → (j ≡ i → (w : ℕ) → w < 4 → getD ws w 0 ≡ getD vs w 0) → ((j ≡ i → ⊥) → Has l j vs) → Has (sets l (4 * i) ws) j vs
-  has-after j vs new old =
+  pub has-after : HasPlace l i → (j : ℕ) (vs : List ℕ) → (j ≡ i → (w : ℕ) → w < 4 → getD ws w 0 ≡ getD vs w 0) → ((j ≡ i → ⊥) → Has l j vs)
+      → Has (putWords l i ws) j vs
+  has-after room j vs new old =
       elim (ℕ-discrete j i) [
-        | yes e ↦ λ w h. ap (λ (k : ℕ). getD (sets l (4 * i) ws) (4 * k + w) 0) e ∙ has-stored w h ∙ new e w h
+        | yes e ↦ λ w h. ap (λ (k : ℕ). getD (putWords l i ws) (4 * k + w) 0) e ∙ has-stored room w h ∙ new e w h
         | no e ↦ has-other j vs e (old e)
       ]
 
-  pub kept-after : (l₀ : List ℕ) (n : ℕ) → i < n → Kept l₀ n l → Kept l₀ n (sets l (4 * i) ws)
-  kept-after l₀ n h kept p q = getD-sets-above ws l (4 * i) p (omega arith) ∙ kept p q
+pub length-put : (l : List ℕ) (i : ℕ) (ws : List ℕ) → length (putWords l i ws) ≡ length l
+length-put l i ws = simp length-set
 
--- the words of a place, as a list
-pub has-words : (l : List ℕ) (i : ℕ) (vs : List ℕ) → length vs ≡ 4 → 4 * i + 4 ≤ length l → Has l i vs → take 4 (drop (4 * i) l) ≡ vs
-has-words l i vs four room has =
-    ext-getD 0 (take 4 (drop (4 * i) l)) vs (size ∙ sym four)
-    (λ w h. getD-take 4 (drop (4 * i) l) w 0 (omega (arith, size)) ∙ getD-drop (4 * i) l w 0 ∙ has w (omega (arith, size)))
+-- the words in a place
+words-at : (l : List ℕ) (i w : ℕ) → w < 4 → getD (wordsIn l i) w 0 ≡ getD l (4 * i + w) 0
+words-at l i zero h = let e : 4 * i ≡ 4 * i + 0 = omega arith in ap (λ (p : ℕ). getD l p 0) e
+words-at l i (suc zero) h = refl
+words-at l i (suc (suc zero)) h = refl
+words-at l i (suc (suc (suc zero))) h = refl
+words-at l i (suc (suc (suc (suc w)))) h = absurd (omega arith)
+
+-- ---- places in a row
+
+-- a list whose places hold these words, four to an element
+pub placed-words : {A : Type 0} (d : A) (f : A → List ℕ) → ((x : A) → length (f x) ≡ 4) → (xs : List A) (l : List ℕ) → length l ≡ 4 * length xs
+    → ((i : ℕ) → i < length xs → Has l i (f (getD xs i d))) → l ≡ cat f xs
+unfolding cat
+placed-words d f four [] [] e has = refl
+placed-words d f four [] (y ∷ l) e has = absurd (omega arith)
+placed-words d f four (x ∷ xs) l e has =
+    sym (take-append-drop 4 l)
+    ∙ ap (λ (r : List ℕ). r ++ drop 4 l)
+    (ext-getD 0 (take 4 l) (f x) (size ∙ sym (four x)) (λ w h. getD-take 4 l w 0 (omega (arith, size)) ∙ first w (has 0 (omega arith) w (omega (arith, size)))))
+    ∙ ap (λ (r : List ℕ). f x ++ r)
+    (placed-words d f four xs (drop 4 l) (omega (arith, length-drop 4 l)) (λ i k w q. shift i w (has (suc i) (omega arith) w q)))
   where
-    size : length (take 4 (drop (4 * i) l)) ≡ 4
-    size = omega (arith, length-take 4 (drop (4 * i) l), length-drop (4 * i) l)
+    size : length (take 4 l) ≡ 4
+    size = omega (arith, length-take 4 l)
 
--- ---- the answers of repeated names
+    first : (w : ℕ) → getD l (4 * 0 + w) 0 ≡ getD (f x) w 0 → getD l w 0 ≡ getD (f x) w 0
+    first w p = let e : w ≡ 4 * 0 + w = omega arith in ap (λ (k : ℕ). getD l k 0) e ∙ p
 
--- the words of the places below i stand, and so do those of new names
-pub record Copied (equals : List ℕ) (n : ℕ) (answers : List ℕ) (words : ℕ → List ℕ) (i : ℕ) : Type 0 where
-  pub passed : (j : ℕ) → j < i → Has answers j (words j)
-  pub new : (j : ℕ) → j < n → getD equals j 0 ≡ 0 → Has answers j (words j)
+    shift : (i w : ℕ) → getD l (4 * suc i + w) 0 ≡ getD (f (getD xs i d)) w 0 → getD (drop 4 l) (4 * i + w) 0 ≡ getD (f (getD xs i d)) w 0
+    shift i w p =
+        let s : 4 + (4 * i + w) ≡ 4 * suc i + w = omega arith in
+        getD-drop 4 l (4 * i + w) 0 ∙ ap (λ (k : ℕ). getD l k 0) s ∙ p
 
-module _ (equals : List ℕ) (n : ℕ) (l₀ l : List ℕ) (words : ℕ → List ℕ) (i from : ℕ) where
-  -- what is copied are the words of the i-th place
-  source-has : i < n → (getD equals i 0 ≡ 0 → from ≡ i) → (0 < getD equals i 0 → from + 1 ≡ getD equals i 0)
-      → Begun equals n l₀ words → Copied equals n l words i → Has l from (words i)
-  source-has h own earlier begun copied w k =
+-- ---- answers
+
+pub length-words : (x : Lookup) → length (answerWords x) ≡ 4
+length-words (found f) = refl
+length-words (nothing n) = refl
+
+-- a lookup with a name's key is the name's
+by-key : (image name x : List ℕ) (h : ℕ) → name ≡ x → h ≡ key x → lookupBy image name h ≡ lookup image x
+by-key image name x h e k =
+    ap (λ (l : List ℕ). lookupBy image l h) e ∙ lookup-own image x h (λ short. k ∙ key-short x short)
+
+-- the first x of m listed names have their answers
+pub record Finding (image bytes ends list before after : List ℕ) (m x : ℕ) : Type 0 where
+  pub inside : x ≤ m
+  pub long : length after ≡ length before
+  pub answered : Answered image bytes ends list before after x
+
+pub finding-start : (image bytes ends list before : List ℕ) (m : ℕ) → Finding image bytes ends list before before m 0
+finding-start image bytes ends list before m =
+    record { inside = omega arith; long = refl; answered = record { stays = λ i r. r; stored = λ y h. absurd (omega arith) } }
+
+pub finding-end : {image bytes ends list before after : List ℕ} {m x : ℕ} → Finding image bytes ends list before after m x → m ≤ x
+    → Answered image bytes ends list before after m
+finding-end f all = record { stays = f .answered .stays; stored = λ y h. f .answered .stored y (omega arith) }
+
+module _ {bytes ends keys list before : List ℕ} {m : ℕ} (pre : ListedNames bytes ends keys list before m) where
+  -- one more has its answer, which was looked up with its key; what was right stays so
+  pub finding-step : {image answers after name : List ℕ} {x : ℕ} (v : Lookup) → x < m → name ≡ nth (names bytes ends) (getD list x 0)
+      → v ≡ lookupBy image name (getD keys (getD list x 0) 0) → after ≡ putWords answers (getD list x 0) (answerWords v)
+      → Finding image bytes ends list before answers m x → Finding image bytes ends list before after m (x + 1)
+  finding-step {image} {answers} {after} {name} {x} v h is answer stored old =
+      subst (λ (r : List ℕ). Finding image bytes ends list before r m (x + 1)) (sym stored)
+      (record {
+        inside = omega arith;
+        long = length-put answers i (answerWords v) ∙ old .long;
+        answered = record { stays = λ j r. stays j (λ e. old .answered .stays j r); stored = all };
+      })
+    where
+      xs : List (List ℕ)
+      xs = names bytes ends
+
+      i : ℕ
+      i = getD list x 0
+
+      own : v ≡ lookup image (nth xs i)
+      own = answer ∙ by-key image name (nth xs i) (getD keys i 0) is (pre .names .keyed i (omega (arith, length-names bytes ends, pre .below x h)))
+
+      stays : (j : ℕ) → ((j ≡ i → ⊥) → Right image xs answers j) → Right image xs (putWords answers i (answerWords v)) j
+      stays j r =
+          has-after answers i (answerWords v) (omega (arith, pre .below x h, pre .places, old .long)) j (answerWords (lookup image (nth xs j)))
+          (λ e w k. ap (λ (a : Lookup). getD (answerWords a) w 0) (own ∙ ap (λ (n : ℕ). lookup image (nth xs n)) (sym e))) r
+
+      all : (y : ℕ) → y < x + 1 → Right image xs (putWords answers i (answerWords v)) (getD list y 0)
+      all y k =
+          stays (getD list y 0)
+          (λ other. elim (ℕ-discrete y x) [ yes e ↦ absurd (other (ap (λ (n : ℕ). getD list n 0) e)) | no e ↦ old .answered .stored y (omega arith) ])
+
+-- ---- the answers of duplicates
+
+-- the places below i have their answers, and so have those of unique names
+pub record Copied (image : List ℕ) (xs : List (List ℕ)) (equals answers : List ℕ) (n i : ℕ) : Type 0 where
+  pub passed : (j : ℕ) → j < i → Right image xs answers j
+  pub unique : (j : ℕ) → j < n → IsUnique equals j → Right image xs answers j
+
+module _ {image : List ℕ} {xs : List (List ℕ)} {equals before l : List ℕ} {n i from : ℕ} (u : UniqueAnswered image xs equals before n)
+    (source : Source i (getD equals i 0) from) (inside : i < n) (places : 4 * n ≤ length l) (old : Copied image xs equals l n i) where
+  abbrev words : ℕ → List ℕ
+  words j = answerWords (lookup image (nth xs j))
+
+  -- what is copied is the answer of the i-th name
+  source-has : Has l from (words i)
+  source-has =
       elim (ℕ-discrete (getD equals i 0) 0) [
-        | yes z ↦ ap (λ (j : ℕ). getD l (4 * j + w) 0) (own z) ∙ copied .new i h z w k
-        | no z ↦ before (omega arith)
+        | yes z ↦ subst (λ (j : ℕ). Has l j (words i)) (sym (source .own z)) (old .unique i inside z)
+        | no z ↦ earlier (omega arith)
       ]
     where
-      before : 0 < getD equals i 0 → getD l (4 * from + w) 0 ≡ getD (words i) w 0
-      before q =
-          let a = begun .alike i h q in
-          let e = earlier q in
+      earlier : 0 < getD equals i 0 → Has l from (words i)
+      earlier q =
+          let e = source .earlier q in
           let f : from ≡ getD equals i 0 - 1 = omega arith in
-          copied .passed from (omega (arith, a .0)) w k ∙ ap (λ (r : List ℕ). getD r w 0) (ap words f ∙ a .1)
+          let same-name : nth xs from ≡ nth xs i = ap (nth xs) f ∙ u .equal i inside .there q in
+          subst (λ (x : List ℕ). Has l from (answerWords (lookup image x))) same-name
+          (old .passed from (omega (arith, u .equal i inside .below)))
 
-  pub copied-turn : i < n → 4 * n ≤ length l → (getD equals i 0 ≡ 0 → from ≡ i) → (0 < getD equals i 0 → from + 1 ≡ getD equals i 0) → from ≤ i
-      → Begun equals n l₀ words → Copied equals n l words i → Copied equals n (sets l (4 * i) (take 4 (drop (4 * from) l))) words (i + 1)
-  copied-turn h room own earlier below begun copied =
+  pub copied-step : Copied image xs equals (putWords l i (wordsIn l from)) n (i + 1)
+  copied-step =
       record {
-        passed = λ j k. has-after l i ws four (omega arith) j (words j) (there j) (λ q. copied .passed j (less j k q));
-        new = λ j k z. has-after l i ws four (omega arith) j (words j) (there j) (λ q. copied .new j k z);
+        passed = λ j k. after j (λ other. old .passed j (omega arith));
+        unique = λ j k z. after j (λ other. old .unique j k z);
       }
     where
-      ws : List ℕ
-      ws = take 4 (drop (4 * from) l)
-
-      four : length ws ≡ 4
-      four = omega (arith, length-take 4 (drop (4 * from) l), length-drop (4 * from) l)
-
-      less : (j : ℕ) → j < i + 1 → (j ≡ i → ⊥) → j < i
-      less j k q = elim (decLt j i) [ yes u ↦ u | no u ↦ absurd (q (omega arith)) ]
-
-      there : (j : ℕ) → j ≡ i → (w : ℕ) → w < 4 → getD ws w 0 ≡ getD (words j) w 0
-      there j e w k =
-          getD-take 4 (drop (4 * from) l) w 0 k
-          ∙ getD-drop (4 * from) l w 0
-          ∙ source-has h own earlier begun copied w k
-          ∙ ap (λ (m : ℕ). getD (words m) w 0) (sym e)
-
-pub copied-kept : (l₀ l : List ℕ) (n i from : ℕ) → i < n → 4 * n ≤ length l → from ≤ i → Kept l₀ n l
-    → Kept l₀ n (sets l (4 * i) (take 4 (drop (4 * from) l)))
-copied-kept l₀ l n i from h room below kept =
-    kept-after l i (take 4 (drop (4 * from) l)) (omega (arith, length-take 4 (drop (4 * from) l), length-drop (4 * from) l)) (omega arith) l₀ n h kept
+      after : (j : ℕ) → ((j ≡ i → ⊥) → Right image xs l j) → Right image xs (putWords l i (wordsIn l from)) j
+      after j r =
+          has-after l i (wordsIn l from) (omega arith) j (words j)
+          (λ e w k. words-at l from w k ∙ source-has w k ∙ ap (λ (m : ℕ). getD (words m) w 0) (sym e)) r

@@ -12,7 +12,7 @@ use Rattle.reader.specs.Lookup.{lookup}
 use Rattle.reader.specs.Cases.{reads}
 use Rattle.batch.specs.RoundNames.{among, newOnly, differentFrom, different, nth}
 use Rattle.batch.specs.Round.{bucketsOf}
-use Rattle.batch.specs.Theorem.{Distinct, OnceEach}
+use Rattle.batch.specs.theorems.Theorem.{Distinct, OnceEach}
 
 -- ---- among
 

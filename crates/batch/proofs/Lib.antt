@@ -1,13 +1,13 @@
 -- Laws of a round.
-pub mod Tells
-pub mod GrowingLists
+pub mod IndexLists
+pub mod Duplicates
 pub mod AnswerPlaces
-pub mod News
-pub mod Finds
-pub mod Sights
+pub mod Lookups
+pub mod Probes
 pub mod Passes
-pub mod WholeRound
-pub mod NameWords
+pub mod UniqueSums
+pub mod RoundAnswers
+pub mod PlaceWords
 pub mod Different
 pub mod Theorem
 pub mod Rows

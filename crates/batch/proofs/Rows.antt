@@ -12,7 +12,7 @@ use Rattle.reader.proofs.ExampleReads.{reads-hold}
 use Rattle.batch.specs.RoundNames.{namesFrom, names, invalidEnds, among, differentFrom, different}
 use Rattle.batch.specs.Round.{answerWords, roundWords, bucketsOf, rounding, afterRound}
 use Rattle.batch.specs.NameRound.{nameWords, nameRefusal, afterNames}
-use Rattle.batch.specs.Rows.{TwiceOnce, RowsHold}
+use Rattle.batch.specs.examples.Rows.{TwiceOnce, RowsHold}
 
 found-A : lookup ownImage (65 ∷ []) ≡ found (record { id = 5; buckets = 1; offset = 2072 })
 found-A = reads-hold .looked-up .1 .0

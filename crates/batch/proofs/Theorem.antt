@@ -1,4 +1,4 @@
--- What is proved of a round, as specs/Theorem states it. Assumes nothing.
+-- What is proved of a round, as specs/theorems/Theorem states it. Assumes nothing.
 use Prim.Native.Nat.{ℕ, zero, suc, _+_, _*_, _-_, _/_, _≤_, _<_}
 use native.Mathlib.Omega.{arith}
 use mathlib.Core.Path.{_≡_, refl, sym, ap, _∙_}
@@ -17,14 +17,14 @@ use Rattle.reader.specs.Naming.{naming}
 use Rattle.batch.specs.RoundNames.{namesFrom, names, invalidEnds, packedBytes, endsFrom, nth}
 use Rattle.batch.specs.Round.{answerWords, roundWords, roundBuckets, rounding, afterRound}
 use Rattle.batch.specs.NameRound.{placeWords, nameWords, nameRefusal, afterNames}
-use Rattle.batch.specs.Theorem.{placeAt, Accepted, RoundHolds}
+use Rattle.batch.specs.theorems.Theorem.{placeAt, Accepted, RoundHolds}
 use Rattle.packed.proofs.NameEnds.{length-names}
-use Rattle.batch.proofs.Finds.{length-words}
-use Rattle.batch.proofs.WholeRound.{left}
-use Rattle.batch.proofs.NameWords.{length-place, names-left}
+use Rattle.batch.proofs.AnswerPlaces.{length-words}
+use Rattle.batch.proofs.RoundAnswers.{left}
+use Rattle.batch.proofs.PlaceWords.{length-place, names-left}
 use Rattle.batch.proofs.Different.{once-each, not-above, all-different}
 
--- ---- names joined, and read back
+-- ---- names packed, and read back
 
 first-name : (pre x rest : List ℕ) (s : ℕ) → length pre ≡ s → between (pre ++ (x ++ rest)) s (s + length x) ≡ x
 first-name pre x rest s e =
@@ -40,14 +40,14 @@ back-from (x ∷ xs) pre s e =
     ∙ ap (λ (l : List ℕ). x ∷ namesFrom l (s + length x) (endsFrom (s + length x) xs)) (sym (append-assoc pre x (packedBytes xs)))
     ∙ ap (λ (l : List (List ℕ)). x ∷ l) (back-from xs (pre ++ x) (s + length x) (length-append pre x ∙ ap (λ (k : ℕ). k + length x) e))
 
-stand-from : (xs : List (List ℕ)) (size s : ℕ) → s + length (packedBytes xs) ≤ size → invalidEnds size s (endsFrom s xs) ≡ false
+valid-from : (xs : List (List ℕ)) (size s : ℕ) → s + length (packedBytes xs) ≤ size → invalidEnds size s (endsFrom s xs) ≡ false
 unfolding invalidEnds packedBytes endsFrom
-stand-from [] size s h = refl
-stand-from (x ∷ xs) size s h =
+valid-from [] size s h = refl
+valid-from (x ∷ xs) size s h =
     let k = length-append x (packedBytes xs) in
     ap (λ (t : Bool). (t || ltb size (s + length x)) || invalidEnds size (s + length x) (endsFrom (s + length x) xs)) (le-ltb (s + length x) s (omega arith))
     ∙ ap (λ (t : Bool). t || invalidEnds size (s + length x) (endsFrom (s + length x) xs)) (le-ltb size (s + length x) (omega arith))
-    ∙ stand-from xs size (s + length x) (omega arith)
+    ∙ valid-from xs size (s + length x) (omega arith)
 
 -- ---- a round that is accepted
 
@@ -60,7 +60,8 @@ module _ (image bytes ends answers : List ℕ) (a : Accepted image bytes ends an
   count-is : a .count ≡ roundBuckets image (names bytes ends)
   unfolding rounding
   count-is =
-      given-count (ltb 512 (length ends) || invalidEnds (length bytes) 0 ends) (ltb (length answers / 4) (length ends)) (roundBuckets image (names bytes ends)) (a .count) (a .given)
+      given-count (ltb 512 (length ends) || invalidEnds (length bytes) 0 ends) (ltb (length answers / 4) (length ends))
+      (roundBuckets image (names bytes ends)) (a .count) (a .given)
 
   after-is : afterRound image bytes ends answers ≡ roundWords image (names bytes ends) ++ drop (4 * length (names bytes ends)) answers
   after-is = sym (left image bytes ends answers (value (a .count)) (sym (a .given)))
@@ -131,7 +132,7 @@ unfolding names
 round-holds =
     record {
       reads-back = λ xs. back-from xs [] 0 refl;
-      ends-stand = λ xs. stand-from xs (length (packedBytes xs)) 0 (omega arith);
+      ends-valid = λ xs. valid-from xs (length (packedBytes xs)) 0 (omega arith);
       single = single;
       order-free = λ image bytes ends answers bytes' ends' answers' a a' i j h k e.
           single image bytes ends answers a i h ∙ ap (words-of image) e ∙ sym (single image bytes' ends' answers' a' j k);

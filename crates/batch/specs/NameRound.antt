@@ -1,5 +1,5 @@
--- The other half of "names a whole round", ids in and names out: an added call. It refuses as 02 (vii) does: over 512 ids give 14, then an answer list
--- shorter than the ids gives 15.
+-- The other half of "names a whole round", ids in and names out: an added call. It refuses as 02 (vii) does: over 512
+-- ids give 14, then an answer list shorter than the ids gives 15.
 use Prim.Native.Nat.{ℕ, _*_, _/_, _%_}
 use mathlib.Core.Bool.{cond}
 use mathlib.Core.List.{List, [], _∷_, _++_}
@@ -8,7 +8,8 @@ use lib.Dec.{ltb}
 use Rattle.image.specs.Bytes.{cat}
 use Rattle.reader.specs.Naming.{Naming, place, unnamed, naming}
 
--- for each id the place of its name or nothing, as single namings give it: 1, the name's length, its start in two words, the low one first; or four zeros
+-- for each id the place of its name or nothing, as single namings give it: 1, the name's length, its start in two
+-- words, the low one first; or four zeros
 abbrev pub placeWords : Naming → List ℕ
 placeWords (place s n) = 1 ∷ n ∷ s % 4294967296 ∷ s / 4294967296 ∷ []
 placeWords unnamed = 0 ∷ 0 ∷ 0 ∷ 0 ∷ []

@@ -12,8 +12,8 @@ use Rattle.batch.specs.RoundNames.{names, invalidEnds, different}
 use Rattle.batch.specs.declared.Rounded.{Rounded}
 use Rattle.batch.specs.declared.Rounded.the-variants.{Buckets, Refused}
 
--- "The answers are those of single lookups in the same order": an answer in its place, four words. 1, the id, the buckets read and the offset; or 0 and the
--- buckets read, with 0 for id and offset
+-- "The answers are those of single lookups in the same order": an answer in its place, four words. 1, the id, the
+-- buckets read and the offset; or 0 and the buckets read, with 0 for id and offset
 abbrev pub answerWords : Lookup → List ℕ
 answerWords (found f) = 1 ∷ f .id ∷ f .buckets ∷ f .offset ∷ []
 answerWords (nothing n) = 0 ∷ 0 ∷ n ∷ 0 ∷ []
@@ -36,14 +36,16 @@ rounding image bytes ends places =
     cond (ltb 512 (length ends) || invalidEnds (length bytes) 0 ends) (refusal 14)
     (cond (ltb places (length ends)) (refusal 15) (value (roundBuckets image (names bytes ends))))
 
--- the answer list afterwards: "answer places past the last name keep their content"; all as it was where the call is refused
+-- the answer list afterwards: "answer places past the last name keep their content"; all as it was where the call is
+-- refused
 abbrev pub leftBy : List ℕ → List (List ℕ) → List ℕ → Outcome ℕ → List ℕ
 leftBy image xs answers (value n) = roundWords image xs ++ drop (4 * length xs) answers
 leftBy image xs answers (refusal k) = answers
 
 -- a place is four words
 unfoldable pub afterRound : List ℕ → List ℕ → List ℕ → List ℕ → List ℕ
-afterRound image bytes ends answers = leftBy image (names bytes ends) answers (rounding image bytes ends (length answers / 4))
+afterRound image bytes ends answers =
+    leftBy image (names bytes ends) answers (rounding image bytes ends (length answers / 4))
 
 -- the number and the value of each case of the answer
 abbrev pub roundedOf : Rounded → Outcome ℕ

@@ -1,4 +1,5 @@
--- The names of a round: 02 (vii), "Up to 512 names lie joined in a buffer, with a list of their ends, each at least the one before."
+-- The names of a round: 02 (vii), "Up to 512 names lie joined in a buffer, with a list of their ends, each at least the
+-- one before."
 use Prim.Native.Nat.{ℕ}
 use mathlib.Core.Bool.{Bool, true, false, _||_}
 use mathlib.Core.List.{List, [], _∷_, _++_}

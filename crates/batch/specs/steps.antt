@@ -1,3 +1,4 @@
--- What the steps of the code tell. No promise of a public function cites them.
-pub mod Telling
-pub mod Searching
+-- What the steps of the code ask and promise. No promise of a public function cites them.
+pub mod Duplicates
+pub mod Probing
+pub mod Answers

@@ -1,17 +1,16 @@
 // The answers of a round in their places, four words each.
 ghost use mathlib.Core.Path.{_≡_};
-ghost use mathlib.Core.Bool.{false};
-ghost use mathlib.Core.List.{List, [], _∷_, map};
+ghost use mathlib.Core.List.{[], _∷_};
 ghost use Prim.Native.Nat.{ℕ, _+_, _*_, _≤_, _<_};
-ghost use lib.ListN.{length, getD, take, drop};
-ghost use lib.Seq.{sets};
-ghost use Rattle.reader.specs.Cases.{reads, lookupOf};
+ghost use lib.ListN.{length, getD};
+ghost use Rattle.reader.specs.Cases.{lookupOf};
 ghost use Rattle.reader.specs.Lookup.{lookupBy};
-ghost use Rattle.batch.specs.RoundNames.{names, invalidEnds, nth};
-ghost use Rattle.batch.specs.Round.{answerWords, bucketsOf};
-ghost use Rattle.batch.specs.steps.Telling.{Keys, Has, Kept, Begun};
-ghost use Rattle.batch.specs.steps.Searching.{Decided, Right, Listing, AllDecided, AllGo, Answered};
-use super::searching::pass;
+ghost use Rattle.batch.specs.RoundNames.{names};
+ghost use Rattle.batch.specs.Round.{answerWords};
+ghost use Rattle.batch.specs.steps.Answers.{putWords, wordsIn, HasPlace, Right, PutDecidedPre};
+ghost use Rattle.batch.specs.steps.Answers.{PassCount, ListedNames, DecidedNames, OpenNames, Answered};
+ghost use Rattle.batch.specs.steps.Answers.{SumPre, IfZero, SumsUnique, CopyPre, AllAnswered, Source};
+use super::probing::pass;
 use packed::name_of;
 use reader::Probe;
 use reader::ToId;
@@ -21,56 +20,56 @@ use reader::lookup::search_from;
 // How many buckets the passes read for each name.
 const PASSES: u32 = 5;
 
-// Four words stored at a place.
+// Stores four words in the i-th place.
 pub(crate) fn put_words(
     answers: &mut [u32],
-    at: usize,
+    i: usize,
     found: u32,
     id: u32,
     buckets: u32,
     offset: u32,
 )
-    requires { ⌜ at + 4 ≤ length (now answers) ⌝ }
-    ensures { λ _. ⌜ now (answers .exit) ≡ sets (now (answers .entry)) at (found ∷ id ∷ buckets ∷ offset ∷ []) ⌝ }
+    requires { ⌜ HasPlace (now answers) i ⌝ }
+    ensures { λ _. ⌜
+        now (answers .exit) ≡ putWords (now (answers .entry)) i (found ∷ id ∷ buckets ∷ offset ∷ [])
+        ⌝ }
 {
+    let at = 4 * i;
     answers[at] = found;
     answers[at + 1] = id;
     answers[at + 2] = buckets;
     answers[at + 3] = offset;
 }
 
-// A lookup's answer stored at a place. Gives the buckets that it read.
-fn put_answer(answers: &mut [u32], at: usize, answer: ToId) -> u32
-    requires { ⌜ at + 4 ≤ length (now answers) ⌝ }
-    ensures count { λ r. ⌜ r ≡ reads (lookupOf answer) ⌝ }
-    ensures stored { λ _. ⌜ now (answers .exit) ≡ sets (now (answers .entry)) at (answerWords (lookupOf answer)) ⌝ }
+// Stores a lookup's answer in the i-th place.
+fn put_answer(answers: &mut [u32], i: usize, answer: ToId)
+    requires { ⌜ HasPlace (now answers) i ⌝ }
+    ensures { λ _. ⌜ now (answers .exit) ≡ putWords (now (answers .entry)) i (answerWords (lookupOf answer)) ⌝ }
 {
     match answer {
         ToId::Found(f) => {
-            put_words(&mut *answers, at, 1, f.id, f.buckets, f.offset);
-            f.buckets
+            put_words(&mut *answers, i, 1, f.id, f.buckets, f.offset);
         }
         ToId::Nothing { buckets } => {
-            put_words(&mut *answers, at, 0, 0, buckets, 0);
-            buckets
+            put_words(&mut *answers, i, 0, 0, buckets, 0);
         }
     }
 }
 
-// The answer at a place stored at another.
-fn copy_answer(answers: &mut [u32], from: usize, at: usize)
-    requires { ⌜ (from + 4 ≤ length (now answers)) × (at + 4 ≤ length (now answers)) ⌝ }
-    ensures { λ _. ⌜ now (answers .exit) ≡ sets (now (answers .entry)) at (take 4 (drop from (now (answers .entry)))) ⌝ }
+// Copies the answer of one place to another.
+fn copy_answer(answers: &mut [u32], from: usize, to: usize)
+    requires { ⌜ HasPlace (now answers) from × HasPlace (now answers) to ⌝ }
+    ensures { λ _. ⌜ now (answers .exit) ≡ putWords (now (answers .entry)) to (wordsIn (now (answers .entry)) from) ⌝ }
 {
-    let found = answers[from];
-    let id = answers[from + 1];
-    let buckets = answers[from + 2];
-    let offset = answers[from + 3];
-    put_words(&mut *answers, at, found, id, buckets, offset);
+    let found = answers[4 * from];
+    let id = answers[4 * from + 1];
+    let buckets = answers[4 * from + 2];
+    let offset = answers[4 * from + 3];
+    put_words(&mut *answers, to, found, id, buckets, offset);
 }
 
-// The answer of a name, the c-th bucket of whose search has this offset, stored at a place. An entry with another name
-// there leaves the search to go on.
+// Stores the answer of a name that is not too long, the c-th bucket of whose search has this offset. An entry with
+// another name there leaves the search to go on.
 fn put_decided(
     image: &[u8],
     name: &[u8],
@@ -78,35 +77,33 @@ fn put_decided(
     offset: u32,
     c: u32,
     answers: &mut [u32],
-    at: usize,
+    i: usize,
 )
-    requires { ⌜ (at + 4 ≤ length (now answers)) × Decided (now image) h c offset × (c ≤ 512) ⌝ }
-    ensures { λ _. ⌜ now (answers .exit) ≡ sets (now (answers .entry)) at (answerWords (lookupBy (now (image .entry)) (now (name .entry)) h)) ⌝ }
+    requires { ⌜ PutDecidedPre (now image) (now name) (now answers) h offset c i ⌝ }
+    ensures { λ _. ⌜
+        now (answers .exit)
+        ≡ putWords (now (answers .entry)) i (answerWords (lookupBy (now (image .entry)) (now (name .entry)) h))
+        ⌝ }
 {
-    if 4294967295 <= name.len() {
-        put_words(&mut *answers, at, 0, 0, 0, 0);
-        return;
-    }
     if offset == 0 {
-        put_words(&mut *answers, at, 0, 0, c, 0);
+        put_words(&mut *answers, i, 0, 0, c, 0);
         return;
     }
     match probe_entry(image, name, offset) {
         Probe::Pass => {
-            put_answer(&mut *answers, at, search_from(image, name, h, c));
+            put_answer(&mut *answers, i, search_from(image, name, h, c));
         }
         Probe::Ends => {
-            put_words(&mut *answers, at, 0, 0, c, 0);
+            put_words(&mut *answers, i, 0, 0, c, 0);
         }
         Probe::Hit(hit) => {
-            put_words(&mut *answers, at, 1, hit.id, c, hit.offset);
+            put_words(&mut *answers, i, 1, hit.id, c, hit.offset);
         }
     }
 }
 
-// The answers of the first m listed names, the c-th buckets of whose searches have these offsets, in their places.
-// What other places hold stays.
-fn find_done(
+// Stores the answers of the first m listed names, the c-th buckets of whose searches have these offsets.
+fn find_decided(
     image: &[u8],
     bytes: &[u8],
     ends: &[u64],
@@ -117,8 +114,13 @@ fn find_done(
     c: u32,
     answers: &mut [u32],
 )
-    requires { ⌜ Listing (now bytes) (now ends) (now keys) (now list) (now answers) m × AllDecided (now image) (now keys) (now list) (now offsets) m c ⌝ }
-    ensures { λ _. ⌜ Answered (now (image .entry)) (now (bytes .entry)) (now (ends .entry)) (now (list .entry)) (now (answers .entry)) (now (answers .exit)) m ⌝ }
+    requires { ⌜
+        DecidedNames (now image) (now bytes) (now ends) (now keys) (now list) (now offsets) (now answers) m c
+        ⌝ }
+    ensures { λ _. ⌜
+        Answered (now (image .entry)) (now (bytes .entry)) (now (ends .entry)) (now (list .entry))
+        (now (answers .entry)) (now (answers .exit)) m
+        ⌝ }
 {
     let mut x: usize = 0;
     while x < m {
@@ -130,14 +132,13 @@ fn find_done(
             offsets[x],
             c,
             &mut *answers,
-            4 * i,
+            i,
         );
         x += 1;
     }
 }
 
-// The answers of the first m listed names, whose searches go on after c buckets, in their places. What other places
-// hold stays.
+// Stores the answers of the first m listed names, whose searches are open after c buckets.
 fn find_open(
     image: &[u8],
     bytes: &[u8],
@@ -148,20 +149,33 @@ fn find_open(
     c: u32,
     answers: &mut [u32],
 )
-    requires { ⌜ Listing (now bytes) (now ends) (now keys) (now list) (now answers) m × AllGo (now image) (now keys) (now list) m c ⌝ }
-    ensures { λ _. ⌜ Answered (now (image .entry)) (now (bytes .entry)) (now (ends .entry)) (now (list .entry)) (now (answers .entry)) (now (answers .exit)) m ⌝ }
+    requires { ⌜ OpenNames (now image) (now bytes) (now ends) (now keys) (now list) (now answers) m c ⌝ }
+    ensures { λ _. ⌜
+        Answered (now (image .entry)) (now (bytes .entry)) (now (ends .entry)) (now (list .entry))
+        (now (answers .entry)) (now (answers .exit)) m
+        ⌝ }
 {
     let mut x: usize = 0;
     while x < m {
         let i = list[x] as usize;
         let answer = search_from(image, name_of(bytes, ends, i), keys[i], c);
-        put_answer(&mut *answers, 4 * i, answer);
+        put_answer(&mut *answers, i, answer);
         x += 1;
     }
 }
 
-// The lookups of the first m names listed in `live`, each stored in its place: five passes, and each search that is
-// still open then goes on by itself.
+// How many passes are made: none over an image without a head, nor where a name may be too long to be searched for.
+fn pass_count(image: &[u8], bytes: &[u8]) -> u32
+    ensures { λ r. ⌜ PassCount (now (image .entry)) (now (bytes .entry)) r ⌝ }
+{
+    if image.len() < 2072 {
+        return 0;
+    }
+    if 4294967295 <= bytes.len() { 0 } else { PASSES }
+}
+
+// Stores the answers of the first m names listed in `live`: five passes, and then each search that is still open goes
+// on by itself.
 pub(crate) fn find_all(
     image: &[u8],
     bytes: &[u8],
@@ -171,68 +185,86 @@ pub(crate) fn find_all(
     m: usize,
     answers: &mut [u32],
 )
-    requires { ⌜ (invalidEnds (length (now bytes)) 0 (now ends) ≡ false) × (length (now ends) ≤ length (now keys)) × (4 * length (now ends) ≤ length (now answers)) × (m ≤ 512) × (m ≤ length (now live)) × ((x : ℕ) → x < m → getD (now live) x 0 < length (now ends)) × Keys (names (now bytes) (now ends)) (now keys) ⌝ }
-    ensures stored { λ _. ⌜ ((x : ℕ) → x < m → Right (now (image .entry)) (names (now (bytes .entry)) (now (ends .entry))) (now (answers .exit)) (getD (now (live .entry)) x 0)) ⌝ }
-    ensures kept { λ _. ⌜ Kept (now (answers .entry)) (length (now (ends .entry))) (now (answers .exit)) ⌝ }
+    requires { ⌜ ListedNames (now bytes) (now ends) (now keys) (now live) (now answers) m ⌝ }
+    ensures { λ _. ⌜
+        ((x : ℕ) → x < m
+        → Right (now (image .entry)) (names (now (bytes .entry)) (now (ends .entry))) (now (answers .exit))
+        (getD (now (live .entry)) x 0))
+        ⌝ }
 {
     let mut done: [u16; 512] = [0; 512];
     let mut offsets: [u32; 512] = [0; 512];
+    let passes = pass_count(image, bytes);
     let mut q = m;
     let mut c: u32 = 0;
-    while c < PASSES {
-        let on = pass(image, keys, c, q, &mut *live, &mut done, &mut offsets);
+    while c < passes {
+        let open = pass(image, keys, c, q, &mut *live, &mut done, &mut offsets);
         c += 1;
-        find_done(
+        find_decided(
             image,
             bytes,
             ends,
             keys,
             &done,
-            q - on,
+            q - open,
             &offsets,
             c,
             &mut *answers,
         );
-        q = on;
+        q = open;
     }
     find_open(image, bytes, ends, keys, &*live, q, c, &mut *answers);
 }
 
-// The buckets read over the first m listed names, from the answers in their places.
-pub(crate) fn sum_all(list: &[u16], m: usize, answers: &[u32]) -> u64
-    requires { ⌜ (m ≤ 512) × (m ≤ length (now list)) × ((x : ℕ) → x < m → 4 * getD (now list) x 0 + 4 ≤ length (now answers)) ⌝ }
-    ensures { λ r. ⌜ ((image : List ℕ) (xs : List (List ℕ)) → ((x : ℕ) → x < m → Right image xs (now (answers .entry)) (getD (now (list .entry)) x 0)) → r ≡ bucketsOf image (map (nth xs) (take m (now (list .entry))))) ⌝ }
+// x where q is 0, else 0.
+fn if_zero(q: u16, x: u32) -> u32
+    ensures { λ r. ⌜ IfZero q x r ⌝ }
+{
+    if q == 0 { x } else { 0 }
+}
+
+// The buckets that the answer in the i-th place counts.
+fn buckets_at(answers: &[u32], i: usize) -> u32
+    requires { ⌜ HasPlace (now answers) i ⌝ }
+    ensures { λ r. ⌜ r ≡ getD (now (answers .entry)) (4 * i + 2) 0 ⌝ }
+{
+    answers[4 * i + 2]
+}
+
+// The buckets read over the unique ones of n names, from the answers in their places. Their order does not follow the
+// passes', so they are added up here. There is no branch.
+pub(crate) fn sum_buckets(equals: &[u16], n: usize, answers: &[u32]) -> u64
+    requires { ⌜ SumPre (now equals) (now answers) n ⌝ }
+    ensures { λ r. ⌜ SumsUnique (now (equals .entry)) (now (answers .entry)) n r ⌝ }
 {
     let mut sum: u64 = 0;
-    let mut x: usize = 0;
-    while x < m {
-        let i = list[x] as usize;
-        sum += answers[4 * i + 2] as u64;
-        x += 1;
+    let mut i: usize = 0;
+    while i < n {
+        let q = equals[i];
+        sum += if_zero(q, buckets_at(answers, i)) as u64;
+        i += 1;
     }
     sum
 }
 
-// Where the answer of the i-th name stands already: at its own place, or at that of an equal one before, whose number, counted from
-// 1, is q.
+// The place of the i-th name's answer: its own, or that of the equal name before, whose number, counted from 1, is q.
 fn source(i: usize, q: usize) -> usize
     requires { ⌜ q ≤ i ⌝ }
-    ensures { λ r. ⌜ (q ≡ 0 → r ≡ i) × (0 < q → r + 1 ≡ q) × (r ≤ i) ⌝ }
+    ensures { λ r. ⌜ Source i q r ⌝ }
 {
     if q == 0 { i } else { q - 1 }
 }
 
-// The answers of repeated names copied from equal ones before them; a new name's is copied to where it stands, so there is no
-// branch.
-pub(crate) fn repeat_all(equals: &[u16], n: usize, answers: &mut [u32])
-    requires { ⌜ (n ≤ length (now equals)) × (4 * n ≤ length (now answers)) × ((i : ℕ) → i < n → getD (now equals) i 0 ≤ i) ⌝ }
-    ensures stored { λ _. ⌜ ((words : ℕ → List ℕ) → Begun (now (equals .entry)) n (now (answers .entry)) words → (i : ℕ) → i < n → Has (now (answers .exit)) i (words i)) ⌝ }
-    ensures kept { λ _. ⌜ Kept (now (answers .entry)) n (now (answers .exit)) ⌝ }
+// Copies to each of n places the answer of the equal name before; a unique name's is copied to where it stands, so
+// there is no branch.
+pub(crate) fn copy_duplicates(equals: &[u16], n: usize, answers: &mut [u32])
+    requires { ⌜ CopyPre (now equals) (now answers) n ⌝ }
+    ensures { λ _. ⌜ AllAnswered (now (equals .entry)) n (now (answers .entry)) (now (answers .exit)) ⌝ }
 {
     let mut i: usize = 0;
     while i < n {
         let from = source(i, equals[i] as usize);
-        copy_answer(&mut *answers, 4 * from, 4 * i);
+        copy_answer(&mut *answers, from, i);
         i += 1;
     }
 }

@@ -113,5 +113,6 @@ begins-rise size ends good (suc m) i h k =
     elim (decLt m i) [
       | yes l ↦ (let z : i ≡ suc m = omega arith in omega (arith, ap (beginOf ends) z))
       | no l ↦
-          omega (arith, begins-rise size ends good m i (omega arith) (omega arith), placed size ends m good (omega arith) .rises, begin-next ends m, ap (beginOf ends) (add-one m))
+          (let before = begins-rise size ends good m i (omega arith) (omega arith) in
+          omega (arith, before, placed size ends m good (omega arith) .rises, begin-next ends m, ap (beginOf ends) (add-one m)))
     ]

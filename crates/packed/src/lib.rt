@@ -8,8 +8,8 @@ ghost use Rattle.packed.specs.Names.{names, invalidEnds, beginOf};
 ghost use Rattle.packed.specs.Keys.{key};
 use jhash::Hashed;
 
-// Do the ends fall, or pass `size` bytes? The loop reads each of them and ends at none, so the compiler makes no branch of
-// the tests.
+// Do the ends fall, or pass `size` bytes? The loop reads each of them and ends at none, so the compiler makes no branch
+// of the tests.
 pub fn invalid_ends(ends: &[u64], size: usize) -> bool
     ensures { λ r. ⌜ r ≡ invalidEnds size 0 (now (ends .entry)) ⌝ }
 {

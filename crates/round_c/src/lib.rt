@@ -1,4 +1,5 @@
-// A whole round for C, in both directions. The answers lie in words, four to an answer, as the structs of include/cqdb.h do.
+// A whole round for C, in both directions. The answers lie in words, four to an answer, as the structs of
+// include/cqdb.h do.
 use batch::Rounded;
 ghost use mathlib.Core.Path.{_≡_};
 ghost use Prim.Native.Nat.{_/_};
@@ -14,7 +15,7 @@ pub struct RoundAnswer {
     pub buckets: u64,
 }
 
-// The ids of the names that lie joined in `names` with these ends, or refusal 14 or 15, and nothing is written.
+// The ids of the packed names in `names` with these ends, or refusal 14 or 15, and nothing is written.
 #[no_mangle]
 pub extern "C" fn cqdb_round_words(
     image: &[u8],
@@ -22,8 +23,14 @@ pub extern "C" fn cqdb_round_words(
     ends: &[u64],
     answers: &mut [u32],
 ) -> RoundAnswer
-    ensures answer { λ r. ⌜ r ≡ roundAnswer (rounding (now (image .entry)) (now (names .entry)) (now (ends .entry)) (length (now (answers .entry)) / 4)) ⌝ }
-    ensures leaves { λ r. ⌜ now (answers .exit) ≡ afterRound (now (image .entry)) (now (names .entry)) (now (ends .entry)) (now (answers .entry)) ⌝ }
+    ensures answer { λ r. ⌜
+        r ≡ roundAnswer (rounding (now (image .entry)) (now (names .entry)) (now (ends .entry))
+        (length (now (answers .entry)) / 4))
+        ⌝ }
+    ensures leaves { λ r. ⌜
+        now (answers .exit)
+        ≡ afterRound (now (image .entry)) (now (names .entry)) (now (ends .entry)) (now (answers .entry))
+        ⌝ }
 {
     let rounded = batch::round(image, names, ends, &mut *answers);
     match rounded {
@@ -42,7 +49,9 @@ pub extern "C" fn cqdb_round_words(
 #[no_mangle]
 pub extern "C" fn cqdb_name_round_words(image: &[u8], ids: &[u32], answers: &mut [u32]) -> u32
     ensures answer { λ r. ⌜ r ≡ nameRefusal (now (ids .entry)) (length (now (answers .entry)) / 4) ⌝ }
-    ensures leaves { λ _. ⌜ now (answers .exit) ≡ afterNames (now (image .entry)) (now (ids .entry)) (now (answers .entry)) ⌝ }
+    ensures leaves { λ _. ⌜
+        now (answers .exit) ≡ afterNames (now (image .entry)) (now (ids .entry)) (now (answers .entry))
+        ⌝ }
 {
     batch::name_round(image, ids, &mut *answers)
 }

@@ -1,167 +1,181 @@
--- `round::answering::find_all` meets its contract. The loop's invariant: each of the names has its answer, or its search is open and goes on after c
--- buckets. Assumes nothing.
+-- `batch::answering::find_all` meets its contract. The loop's invariant: each of the names has its answer, or its search is open after c buckets. Assumes
+-- nothing.
 use Prim.Native.Nat.{ℕ, _-_, _≤_, _<_}
 use native.Mathlib.Omega.{arith}
 use mathlib.Core.Path.{_≡_, refl, _∙_}
 use mathlib.Core.Logic.{_⊎_, inr}
+use mathlib.Core.List.{List}
 use lib.ListN.{length, getD, length-replicate}
+use borrow.Author.Needs.{needs}
 use Rattle.batch.specs.RoundNames.{names}
-use Rattle.batch.specs.steps.Telling.{Listed, Kept}
-use Rattle.batch.specs.steps.Searching.{Goes, Right}
-use Rattle.batch.proofs.Sights.{goes-first}
-use Rattle.batch.proofs.Passes.{listed-self, listed-via, listed-small, next-right, last-right}
+use Rattle.batch.specs.steps.Duplicates.{Listed}
+use Rattle.batch.specs.steps.Probing.{Open}
+use Rattle.batch.specs.steps.Answers.{Right}
+use Rattle.batch.proofs.IndexLists.{listed-has}
+use Rattle.batch.proofs.Probes.{open-first}
+use Rattle.batch.proofs.Passes.{next-right, last-right}
 use Rattle.batch.proofs.answering.find_all.Statement.{statement}
 use Rattle.batch.proofs.answering.find_all.Tie as tie
 
+record Inv (image bytes ends keys first before live answers done offsets : List ℕ) (m passes q c : ℕ) : Type 0 where
+  pub passed : c ≤ passes
+  pub count : q ≤ m
+  pub live-long : length live ≡ length first
+  pub answers-long : length answers ≡ length before
+  pub done-long : length done ≡ 512
+  pub offsets-long : length offsets ≡ 512
+  pub below : (z : ℕ) → z < q → getD live z 0 < length ends
+  pub is-open : (z : ℕ) → z < q → Open image (getD keys (getD live z 0) 0) c
+  pub right : (x : ℕ) → x < m → Right image (names bytes ends) answers (getD first x 0) ⊎ Listed live q (getD first x 0)
+
 abbrev Inv-loop : tie.InvT-loop
-Inv-loop image bytes ends keys live₀ m answers₀ done₀ offsets₀ q₀ c₀ live answers done offsets q c =
-    (c ≤ 5) × (q ≤ m) × (length live ≡ length live₀) × (length done ≡ 512) × (length offsets ≡ 512) × (length answers ≡ length answers₀)
-    × Kept answers₀ (length ends) answers
-    × ((z : ℕ) → z < q → Listed live₀ m (getD live z 0))
-    × ((z : ℕ) → z < q → Goes image (getD keys (getD live z 0) 0) c)
-    × ((x : ℕ) → x < m → Right image (names bytes ends) answers (getD live₀ x 0) ⊎ Listed live q (getD live₀ x 0))
+Inv-loop image bytes ends keys first m before done₀ offsets₀ passes q₀ c₀ live answers done offsets q c =
+    Inv image bytes ends keys first before live answers done offsets m passes q c
 
 abbrev μ-loop : tie.MeasureT-loop
-μ-loop image bytes ends keys live₀ m answers₀ done₀ offsets₀ q₀ c₀ live answers done offsets q c = 5 - c
+μ-loop image bytes ends keys first m before done₀ offsets₀ passes q₀ c₀ live answers done offsets q c = passes - c
+
+-- ---- places in the code, each from a later one
+
+abbrev start : tie.After-pass-count Inv-loop μ-loop → tie.Start Inv-loop μ-loop
+start c = c .before .before .before .before .before .before .before
+
+abbrev entered : tie.After-pass Inv-loop μ-loop → tie.In-loop Inv-loop μ-loop
+entered c = c .before .before .before .before
+
+abbrev passed : tie.After-done3 Inv-loop μ-loop → tie.After-pass Inv-loop μ-loop
+passed c = c .before .before .before .before .before
+
+abbrev decided : tie.After-find-decided Inv-loop μ-loop → tie.After-done3 Inv-loop μ-loop
+decided c = c .before .before .before
+
+pass-count-requires : tie.Need-pass-count-requires Inv-loop μ-loop
+pass-count-requires c κs = search needs
 
 loop-holds : tie.Need-loop-holds Inv-loop μ-loop
 loop-holds c =
-    let a = c .before .before .before .before .before .before .args in
-    let first = a .live .now in (
-      omega arith,
-      omega arith,
-      refl,
-      length-replicate {A = ℕ} 512 0,
-      length-replicate {A = ℕ} 512 0,
-      refl,
-      λ p h. refl,
-      λ z h. listed-self first (a .m) z h,
-      λ z h. goes-first (a .image .now) (getD (a .keys .now) (getD first z 0) 0),
-      λ x h. inr (listed-self first (a .m) x h),
-    )
+    let a = start c .args in
+    record {
+      passed = omega arith;
+      count = omega arith;
+      live-long = refl;
+      answers-long = refl;
+      done-long = length-replicate {A = ℕ} 512 0;
+      offsets-long = length-replicate {A = ℕ} 512 0;
+      below = start c .pre .below;
+      is-open = λ z h. open-first (a .image .now) (getD (a .keys .now) (getD (a .live .now) z 0) 0);
+      right = λ x h. inr (record { place = x; inside = h; is = refl });
+    }
 
 slice-aggregate-pass : tie.Need-slice-aggregate-pass Inv-loop μ-loop
-slice-aggregate-pass c = omega (arith, c .before .before .before .loop .inv .3)
+slice-aggregate-pass c = omega (arith, c .before .before .before .loop .inv .done-long)
 
 slice-aggregate-pass-2 : tie.Need-slice-aggregate-pass-2 Inv-loop μ-loop
-slice-aggregate-pass-2 c = omega (arith, c .before .before .before .before .loop .inv .4)
+slice-aggregate-pass-2 c = omega (arith, c .before .before .before .before .loop .inv .offsets-long)
 
 pass-requires : tie.Need-pass-requires Inv-loop μ-loop
 pass-requires c κs =
-    let s = c .before .before .before .before .before .before .before .before .before .before .before in
-    let l = c .before .before .before .before .loop in (
-      omega (arith, c .before .before .before .loop-test .taken),
-      omega (arith, l .inv .1, s .pre .3),
-      omega (arith, l .inv .1, l .inv .2, s .pre .4),
-      omega (arith, l .inv .1, l .inv .3, s .pre .3),
-      omega (arith, l .inv .1, l .inv .4, s .pre .3),
-      λ z h.
-          let small = listed-small (s .args .live .now) (s .args .m) (length (s .args .ends .now)) (getD (l .live) z 0) (s .pre .5) (l .inv .7 z h) in
-          omega (arith, small, s .pre .1),
-      l .inv .8,
-    )
+    let e = c .before .before .before in
+    let v = e .before .loop .inv in
+    let s = start (e .before .before) in
+    record {
+      head = e .before .before .pass-count .ensures .head (omega (arith, e .loop-test .taken));
+      small = omega (arith, e .loop-test .taken, e .before .before .pass-count .ensures .few);
+      few = omega (arith, v .count, s .pre .few);
+      live-capacity = omega (arith, v .count, v .live-long, s .pre .capacity);
+      done-capacity = omega (arith, v .count, v .done-long, s .pre .few);
+      offsets-capacity = omega (arith, v .count, v .offsets-long, s .pre .few);
+      keyed = λ z h. omega (arith, v .below z h, s .pre .names .capacity);
+      is-open = v .is-open;
+    }
 
 add-c : tie.Need-add-c Inv-loop μ-loop
-add-c c = omega (arith, c .before .before .before .before .before .before .before .before .before .loop .inv .0)
+add-c c =
+    let e = entered (c .before .before .before .before) in omega (arith, e .loop-test .taken, e .before .before .pass-count .ensures .few)
 
-slice-aggregate-find-done : tie.Need-slice-aggregate-find-done Inv-loop μ-loop
-slice-aggregate-find-done c = omega (arith, c .before .before .before .before .before .pass .kept, c .before .before .before .before .before .before .before .before .before .before .loop .inv .3)
+slice-aggregate-find-decided : tie.Need-slice-aggregate-find-decided Inv-loop μ-loop
+slice-aggregate-find-decided c = omega (arith, passed c .pass .kept, entered (passed c) .before .loop .inv .done-long)
 
-sub-find-done : tie.Need-sub-find-done Inv-loop μ-loop
-sub-find-done c = omega (arith, c .before .before .before .before .before .pass .ensures .0 .0)
+sub-find-decided : tie.Need-sub-find-decided Inv-loop μ-loop
+sub-find-decided c = omega (arith, passed c .pass .ensures .count)
 
-slice-aggregate-find-done-2 : tie.Need-slice-aggregate-find-done-2 Inv-loop μ-loop
-slice-aggregate-find-done-2 c = omega (arith, c .before .before .before .before .before .before .pass .kept, c .before .before .before .before .before .before .before .before .before .before .before .loop .inv .4)
+slice-aggregate-find-decided-2 : tie.Need-slice-aggregate-find-decided-2 Inv-loop μ-loop
+slice-aggregate-find-decided-2 c = let p = passed (c .before) in omega (arith, p .pass .kept, entered p .before .loop .inv .offsets-long)
 
-find-done-requires : tie.Need-find-done-requires Inv-loop μ-loop
-find-done-requires c κs =
-    let s = c .before .before .before .before .before .before .before .before .before .before .before .before .before .before .before .before .before .before .before in
-    let l = c .before .before .before .before .before .before .before .before .before .before .before .before .loop in
-    let parted = c .before .before .before .before .before .before .before .pass in
-    let first = s .args .live .now in
-    let done = parted .last .1 .1 .1 .1 .1 .0 in (
-      record {
-        stand = s .pre .0;
-        keyed = s .pre .6;
-        all-keyed = s .pre .1;
-        placed = omega (arith, l .inv .5, s .pre .2);
-        room = omega (arith, parted .kept, l .inv .3, l .inv .1, s .pre .3);
-        small = λ x h.
-            listed-small first (s .args .m) (length (s .args .ends .now)) (getD done x 0) (s .pre .5)
-            (listed-via first (l .live) (s .args .m) (l .q) (getD done x 0) (l .inv .7) (parted .ensures .1 .1 x h .0));
-      },
-      record {
-        few = omega (arith, l .inv .0);
-        room = omega (arith, parted .kept, l .inv .4, l .inv .1, s .pre .3);
-        each = λ x h. parted .ensures .1 .1 x h .1;
-      },
-    )
+find-decided-requires : tie.Need-find-decided-requires Inv-loop μ-loop
+find-decided-requires c κs =
+    let p = passed (c .before .before) in
+    let e = entered p in
+    let v = e .before .loop .inv in
+    let s = start (e .before .before) in
+    record {
+      listed =
+          record {
+            names = s .pre .names;
+            places = omega (arith, v .answers-long, s .pre .places);
+            few = omega (arith, v .count, s .pre .few);
+            capacity = omega (arith, p .pass .kept, v .done-long, v .count, s .pre .few);
+            below = λ x h. listed-has (λ (i : ℕ). i < length (s .args .ends .now)) (v .below) (p .pass .ensures .decided x h .listed);
+          };
+      short = e .before .before .pass-count .ensures .short (omega (arith, e .loop-test .taken));
+      small = omega (arith, e .loop-test .taken, e .before .before .pass-count .ensures .few);
+      capacity = omega (arith, p .pass .kept, v .offsets-long, v .count, s .pre .few);
+      decided = λ x h. p .pass .ensures .decided x h .decided;
+    }
 
 loop-less : tie.Need-loop-less Inv-loop μ-loop
-loop-less c = omega (arith, c .before .before .before .before .before .before .before .before .before .before .before .before .before .before .loop-test .taken)
+loop-less c = omega (arith, entered (passed (decided (c .before .before))) .loop-test .taken)
 
 loop-again : tie.Need-loop-again Inv-loop μ-loop
 loop-again c =
-    let s = c .before .before .before .before .before .before .before .before .before .before .before .before .before .before .before .before .before .before .before .before .before .before in
-    let l = c .before .before .before .before .before .before .before .before .before .before .before .before .before .before .before .loop in
-    let parted = c .before .before .before .before .before .before .before .before .before .before .pass in
-    let found = c .before .before .find-done in
-    let image = s .args .image .now in
-    let xs = names (s .args .bytes .now) (s .args .ends .now) in
-    let first = s .args .live .now in
-    let live = parted .last .1 .1 .1 .1 .0 in
-    let done = parted .last .1 .1 .1 .1 .1 .0 in
-    let after = found .last .1 .1 .1 .1 .1 .1 .1 .1 .0 in (
-      omega (arith, c .before .before .before .before .before .before .before .before .before .before .before .before .before .before .loop-test .taken),
-      omega (arith, parted .ensures .0 .0, l .inv .1),
-      omega (arith, parted .kept, l .inv .2),
-      omega (arith, parted .kept, l .inv .3),
-      omega (arith, parted .kept, l .inv .4),
-      omega (arith, found .kept, l .inv .5),
-      λ p h. found .ensures .kept p h ∙ l .inv .6 p h,
-      λ z h. listed-via first (l .live) (s .args .m) (l .q) (getD live z 0) (l .inv .7) (parted .ensures .1 .0 z h .0),
-      λ z h. parted .ensures .1 .0 z h .1,
-      λ x h.
-          let i = getD first x 0 in
-          next-right image xs (l .answers) after (l .live) live done (l .q) (parted .result) (l .q - parted .result) i
-          (found .ensures .stays i) (parted .ensures .0 .1) (found .ensures .stored) (l .inv .9 x h),
-    )
+    let found = c .before .before .find-decided in
+    let p = passed (decided (c .before .before)) in
+    let parted = p .pass .ensures in
+    let e = entered p in
+    let v = e .before .loop .inv in
+    let s = start (e .before .before) in
+    record {
+      passed = omega (arith, e .loop-test .taken);
+      count = omega (arith, parted .count, v .count);
+      live-long = omega (arith, p .pass .kept, v .live-long);
+      answers-long = omega (arith, found .kept, v .answers-long);
+      done-long = omega (arith, p .pass .kept, v .done-long);
+      offsets-long = omega (arith, p .pass .kept, v .offsets-long);
+      below = λ z h. listed-has (λ (i : ℕ). i < length (s .args .ends .now)) (v .below) (parted .is-open z h .listed);
+      is-open = λ z h. parted .is-open z h .is-open;
+      right = λ x h. next-right parted (found .ensures) (v .right x h);
+    }
 
 find-open-requires : tie.Need-find-open-requires Inv-loop μ-loop
 find-open-requires c κs =
-    let s = c .before .before .before .before .before .before .before .before .before .before in
-    let l = c .before .before .before .loop in (
-      record {
-        stand = s .pre .0;
-        keyed = s .pre .6;
-        all-keyed = s .pre .1;
-        placed = omega (arith, l .inv .5, s .pre .2);
-        room = omega (arith, l .inv .1, l .inv .2, s .pre .4);
-        small = λ x h.
-            listed-small (s .args .live .now) (s .args .m) (length (s .args .ends .now)) (getD (l .live) x 0) (s .pre .5) (l .inv .7 x h);
-      },
-      record { few = omega (arith, l .inv .0); each = l .inv .8 },
-    )
+    let at = c .before .before .before in
+    let v = at .loop .inv in
+    let s = start (at .before) in
+    record {
+      listed =
+          record {
+            names = s .pre .names;
+            places = omega (arith, v .answers-long, s .pre .places);
+            few = omega (arith, v .count, s .pre .few);
+            capacity = omega (arith, v .count, v .live-long, s .pre .capacity);
+            below = v .below;
+          };
+      small = omega (arith, v .passed, at .before .pass-count .ensures .few);
+      is-open = v .is-open;
+    }
 
 same-length : tie.Need-same-length Inv-loop μ-loop
-same-length c = omega (arith, c .before .before .before .before .before .before .loop .inv .2)
+same-length c = omega (arith, c .before .before .before .before .before .before .loop .inv .live-long)
 
 same-length-2 : tie.Need-same-length-2 Inv-loop μ-loop
-same-length-2 c = omega (arith, c .before .before .find-open .kept, c .before .before .before .before .before .before .loop .inv .5)
+same-length-2 c =
+    let found = c .before .before in omega (arith, found .find-open .kept, found .before .before .before .before .loop .inv .answers-long)
 
 returns : tie.Need-returns Inv-loop μ-loop
 returns c =
-    let s = c .before .before .before .before .before .before .before .before .before .before .before .before .before in
-    let l = c .before .before .before .before .before .before .loop in
-    let found = c .before .before .find-open in
-    let image = s .args .image .now in
-    let xs = names (s .args .bytes .now) (s .args .ends .now) in
-    let after = found .last .1 .1 .1 .1 .1 .1 .1 .0 in (
-      λ x h.
-          let i = getD (s .args .live .now) x 0 in
-          last-right image xs (l .answers) after (l .live) (l .q) i (found .ensures .stays i) (found .ensures .stored) (l .inv .9 x h),
-      λ p h. found .ensures .kept p h ∙ l .inv .6 p h,
-    )
+    let found = c .before .before in
+    let v = found .before .before .before .before .loop .inv in
+    λ x h. last-right (found .find-open .ensures) (v .right x h)
 
 pub find-all-spec : {M : Type 1} → statement M
 find-all-spec =
@@ -169,15 +183,16 @@ find-all-spec =
     (tie.spec
     Inv-loop
     μ-loop
+    pass-count-requires
     loop-holds
     slice-aggregate-pass
     slice-aggregate-pass-2
     pass-requires
     add-c
-    slice-aggregate-find-done
-    sub-find-done
-    slice-aggregate-find-done-2
-    find-done-requires
+    slice-aggregate-find-decided
+    sub-find-decided
+    slice-aggregate-find-decided-2
+    find-decided-requires
     loop-less
     loop-again
     find-open-requires

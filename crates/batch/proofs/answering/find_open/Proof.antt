@@ -1,90 +1,88 @@
--- `round::answering::find_open` meets its contract. The loop's invariant: the names passed have their answers. Assumes nothing.
-use Prim.Native.Nat.{_-_, _≤_}
+-- `batch::answering::find_open` meets its contract. The loop's invariant: the names passed have their answers. Assumes nothing.
+use Prim.Native.Nat.{_-_, _<_}
 use native.Mathlib.Omega.{arith}
-use mathlib.Core.Path.{_≡_, refl, _∙_}
+use mathlib.Core.Path.{_∙_}
 use lib.ListN.{length, getD}
+use borrow.Author.Needs.{needs}
 use Rattle.reader.specs.Cases.{lookupOf}
 use Rattle.reader.proofs.Searches.{from-whole}
-use Rattle.batch.specs.steps.Searching.{Answered}
-use Rattle.batch.proofs.Passes.{finding-begins, finding-turn, all-answered}
-use borrow.Author.Needs.{needs}
+use Rattle.batch.proofs.AnswerPlaces.{Finding, finding-start, finding-step, finding-end}
 use Rattle.batch.proofs.answering.find_open.Statement.{statement}
 use Rattle.batch.proofs.answering.find_open.Tie as tie
 
 abbrev Inv-loop : tie.InvT-loop
-Inv-loop image bytes ends keys list m c answers₀ x₀ answers x = (x ≤ m) × (length answers ≡ length answers₀) × Answered image bytes ends list answers₀ answers x
+Inv-loop image bytes ends keys list m c answers₀ x₀ answers x = Finding image bytes ends list answers₀ answers m x
 
 abbrev μ-loop : tie.MeasureT-loop
 μ-loop image bytes ends keys list m c answers₀ x₀ answers x = m - x
 
+-- ---- places in the code, each from a later one
+
+abbrev start : tie.At-loop Inv-loop μ-loop → tie.Start Inv-loop μ-loop
+start c = c .before .before .before .before .before .before .before
+
+abbrev read : tie.After-shared-slice-known7 Inv-loop μ-loop → tie.In-loop Inv-loop μ-loop
+read c = c .before .before .before
+
+-- the next listed number is one of the names
+below : (c : tie.In-loop Inv-loop μ-loop) → let s = start (c .before) in getD (s .args .list .now) (c .before .loop .x) 0 < length (s .args .ends .now)
+below c = start (c .before) .pre .listed .below (c .before .loop .x) (c .loop-test .taken)
+
 loop-holds : tie.Need-loop-holds Inv-loop μ-loop
-loop-holds c = (omega arith, refl, finding-begins _ _ _ _ _)
+loop-holds c = finding-start _ _ _ _ _ _
 
 mul-i : tie.Need-mul-i Inv-loop μ-loop
-mul-i c = omega arith
+mul-i c = search needs
 
 shared-slice-read-i : tie.Need-shared-slice-read-i Inv-loop μ-loop
-shared-slice-read-i c = omega (arith, c .before .before .before .before .before .before .before .before .before .pre .0 .room)
+shared-slice-read-i c = search needs
 
 cast-i : tie.Need-cast-i Inv-loop μ-loop
-cast-i c = omega (arith, c .shared-slice-known6 .given (c .before .before .loop .x))
+cast-i c = omega (arith, below (c .before))
 
 name-of-requires : tie.Need-name-of-requires Inv-loop μ-loop
-name-of-requires c κs = (c .before .before .before .before .before .before .before .before .before .pre .0 .small (c .before .before .loop .x) (omega arith), c .before .before .before .before .before .before .before .before .before .pre .0 .stand)
+name-of-requires c κs = (below (c .before), start (c .before .before) .pre .listed .names .valid)
 
 mul-search-from : tie.Need-mul-search-from Inv-loop μ-loop
-mul-search-from c = omega (arith, c .before .before .before .before .before .before .before .before .before .before .pre .0 .small (c .before .before .before .loop .x) (omega arith), c .before .before .before .before .before .before .before .before .before .before .pre .0 .placed, c .before .before .before .loop .inv .1)
+mul-search-from c = omega (arith, below (c .before .before))
 
 shared-slice-read-search-from : tie.Need-shared-slice-read-search-from Inv-loop μ-loop
-shared-slice-read-search-from c = omega (arith, c .before .before .before .before .before .before .before .before .before .before .before .pre .0 .small (c .before .before .before .before .loop .x) (omega arith), c .before .before .before .before .before .before .before .before .before .before .before .pre .0 .all-keyed)
+shared-slice-read-search-from c = omega (arith, below (read c))
 
 search-from-requires : tie.Need-search-from-requires Inv-loop μ-loop
 search-from-requires c κs =
-    let s = c .before .before .before .before .before .before .before .before .before .before .before in
-    let i = getD (s .args .list .now) (c .before .before .before .before .loop .x) 0 in
-    omega (arith, c .shared-slice-known7 .given i, s .pre .1 .few)
-
-mul-put-answer : tie.Need-mul-put-answer Inv-loop μ-loop
-mul-put-answer c =
-    let s = c .before .before .before .before .before .before .before .before .before .before .before .before .before in
-    let l = c .before .before .before .before .before .before .loop in
-    omega (arith, s .pre .0 .small (l .x) (omega arith), s .pre .0 .placed, l .inv .1)
+    let s = start (read c .before) in
+    omega (arith, c .shared-slice-known7 .given (getD (s .args .list .now) (read c .before .loop .x) 0), s .pre .small)
 
 put-answer-requires : tie.Need-put-answer-requires Inv-loop μ-loop
-put-answer-requires c κs =
-    let s = c .before .before .before .before .before .before .before .before .before .before .before .before .before in
-    let l = c .before .before .before .before .before .before .loop in
-    omega (arith, s .pre .0 .small (l .x) (omega arith), s .pre .0 .placed, l .inv .1)
+put-answer-requires c κs = omega (arith, below (read (c .before .before)))
 
 add-x : tie.Need-add-x Inv-loop μ-loop
-add-x c = omega arith
+add-x c = search needs
 
 loop-less : tie.Need-loop-less Inv-loop μ-loop
-loop-less c = omega arith
+loop-less c = search needs
 
 loop-again : tie.Need-loop-again Inv-loop μ-loop
 loop-again c =
-    let s = c .before .before .before .before .before .before .before .before .before .before .before .before .before .before .before .before in
+    let put = c .before .before in
+    let searched = put .before .before in
+    let e = read (searched .before) in
+    let s = start (e .before) in
     let a = s .args in
-    let l = c .before .before .before .before .before .before .before .before .before .loop in
-    let put = c .before .before .put-answer in
-    let name = c .before .before .before .before .before .before .name-of in
+    let l = e .before .loop in
+    let name = searched .before .before .name-of in
+    let still = s .pre .is-open (l .x) (e .loop-test .taken) in
     let h = getD (a .keys .now) (getD (a .list .now) (l .x) 0) 0 in
-    let searched = c .before .before .before .before .search-from in
-    let more = c .before .before .before .before .before .before .before .before .loop-test .taken in
-    let goes = s .pre .1 .each (l .x) more in
-    let answer = searched .ensures ∙ from-whole (a .image .now) (name .result .now) h (a .c) (λ head. goes head (name .result .now)) in (
-      omega arith,
-      omega (arith, put .kept, l .inv .1),
-      finding-turn (a .image .now) (a .bytes .now) (a .ends .now) (a .list .now) (a .answers .now) (a .keys .now) (l .answers) _ (name .result .now) (l .x) (lookupOf (searched .result))
-          (s .pre .0 .small (l .x) (omega arith)) (omega (arith, s .pre .0 .placed, l .inv .1)) (s .pre .0 .keyed) (name .ensures) answer (put .ensures .1) (l .inv .2),
-    )
+    let answer = from-whole (a .image .now) (name .result .now) h (a .c) (λ head. still (name .result .now)) in
+    finding-step (s .pre .listed) (lookupOf (searched .search-from .result)) (e .loop-test .taken) (name .ensures)
+    (searched .search-from .ensures ∙ answer) (put .put-answer .ensures) (l .inv)
 
 same-length : tie.Need-same-length Inv-loop μ-loop
 same-length c = search needs
 
 returns : tie.Need-returns Inv-loop μ-loop
-returns c = let l = c .before .loop in all-answered _ _ _ _ _ _ (l .x) _ (c .loop-test .left) (l .inv .2)
+returns c = finding-end (c .before .loop .inv) (c .loop-test .left)
 
 pub find-open-spec : {M : Type 1} → statement M
 find-open-spec =
@@ -100,7 +98,6 @@ find-open-spec =
     mul-search-from
     shared-slice-read-search-from
     search-from-requires
-    mul-put-answer
     put-answer-requires
     add-x
     loop-less

@@ -1,10 +1,10 @@
--- `round::answering::put_answer` meets its contract. Assumes nothing.
+-- `batch::answering::put_answer` meets its contract. Assumes nothing.
 use mathlib.Core.Path.{sym, ap, _∙_}
-use lib.Seq.{sets}
-use Rattle.reader.specs.Cases.{reads, lookupOf}
+use borrow.Author.Needs.{needs}
+use Rattle.reader.specs.Cases.{lookupOf}
 use Rattle.reader.specs.declared.ToId.{ToId}
 use Rattle.batch.specs.Round.{answerWords}
-use borrow.Author.Needs.{needs}
+use Rattle.batch.specs.steps.Answers.{putWords}
 use Rattle.batch.proofs.answering.put_answer.Statement.{statement}
 use Rattle.batch.proofs.answering.put_answer.Tie as tie
 
@@ -25,22 +25,20 @@ same-length c = search needs
 
 returns : tie.Need-returns
 returns c =
-    let a = c .before .before .before .before .before .before .before .before .args in
-    let is = c .before .before .before .before .before .answer .given .1 in (
-      ap (λ (x : ToId). reads (lookupOf x)) (sym is),
-      c .before .before .put-words .ensures ∙ ap (λ (x : ToId). sets (a .answers .now) (a .at) (answerWords (lookupOf x))) (sym is),
-    )
+    let put = c .before .before in
+    let known = put .before .before .before in
+    let a = known .before .before .before .args in
+    put .put-words .ensures ∙ ap (λ (x : ToId). putWords (a .answers .now) (a .i) (answerWords (lookupOf x))) (sym (known .answer .given .1))
 
 same-length-2 : tie.Need-same-length-2
 same-length-2 c = search needs
 
 returns-2 : tie.Need-returns-2
 returns-2 c =
-    let a = c .before .before .before .before .before .before .before .before .args in
-    let is = c .before .before .before .before .before .answer2 .given .1 in (
-      ap (λ (x : ToId). reads (lookupOf x)) (sym is),
-      c .before .before .put-words2 .ensures ∙ ap (λ (x : ToId). sets (a .answers .now) (a .at) (answerWords (lookupOf x))) (sym is),
-    )
+    let put = c .before .before in
+    let known = put .before .before .before in
+    let a = known .before .before .before .args in
+    put .put-words2 .ensures ∙ ap (λ (x : ToId). putWords (a .answers .now) (a .i) (answerWords (lookupOf x))) (sym (known .answer2 .given .1))
 
 pub put-answer-spec : {M : Type 1} → statement M
 put-answer-spec =

@@ -1,10 +1,12 @@
--- `round::answering::put_words` meets its contract. Assumes nothing.
+-- `batch::answering::put_words` meets its contract. Assumes nothing.
 use native.Mathlib.Omega.{arith}
 use lib.ListN.{length-set}
-use Rattle.batch.proofs.AnswerPlaces.{four-stored}
 use borrow.Author.Needs.{needs}
 use Rattle.batch.proofs.answering.put_words.Statement.{statement}
 use Rattle.batch.proofs.answering.put_words.Tie as tie
+
+mul-at : tie.Need-mul-at
+mul-at c = search needs
 
 mul-answers : tie.Need-mul-answers
 mul-answers c = search needs
@@ -43,14 +45,13 @@ same-length : tie.Need-same-length
 same-length c = search needs
 
 returns : tie.Need-returns
-returns c =
-    let a = c .args in
-    four-stored (a .answers .now) (a .at) (a .found) (a .id) (a .buckets) (a .offset)
+returns c = search needs
 
 pub put-words-spec : {M : Type 1} → statement M
 put-words-spec =
     tie.close
     (tie.spec
+    mul-at
     mul-answers
     slice-write-answers
     add-answers

@@ -1,78 +1,93 @@
--- `round::naming::name_all` meets its contract. The loop's invariant: what is stored, and then the places of the ids from i on, are all. Assumes nothing.
-use Prim.Native.Nat.{ℕ, _+_, _*_, _-_, _≤_}
+-- `batch::naming::name_all` meets its contract. The loop's invariant: the places passed hold their words. Assumes nothing.
+use Prim.Native.Nat.{ℕ, _-_, _≤_, _<_}
 use native.Mathlib.Omega.{arith}
-use native.Mathlib.Nat.{mul-zero}
-use mathlib.Core.Path.{_≡_, refl, sym, ap, _∙_}
+use mathlib.Core.Path.{_≡_, refl, sym, ap, subst, _∙_}
 use mathlib.Core.List.{List}
-use lib.ListN.{length, getD, drop}
-use lib.Seq.{sets}
-use Rattle.reader.specs.Naming.{Naming, naming}
-use Rattle.batch.specs.NameRound.{placeWords, nameWords}
-use Rattle.reader.proofs.Lengths.{naming-small}
-use Rattle.batch.proofs.NameWords.{name-turn, name-end}
+use lib.ListN.{length, getD}
 use borrow.Author.Needs.{needs}
+use Rattle.reader.specs.Naming.{Naming, naming}
+use Rattle.reader.proofs.Lengths.{naming-small}
+use Rattle.batch.specs.NameRound.{placeWords}
+use Rattle.batch.specs.steps.Answers.{putWords, Has}
+use Rattle.batch.proofs.AnswerPlaces.{has-after}
+use Rattle.batch.proofs.PlaceWords.{all-places}
 use Rattle.batch.proofs.naming.name_all.Statement.{statement}
 use Rattle.batch.proofs.naming.name_all.Tie as tie
 
+record Inv (image ids before answers : List ℕ) (i : ℕ) : Type 0 where
+  pub inside : i ≤ length ids
+  pub long : length answers ≡ length before
+  pub stored : (j : ℕ) → j < i → Has answers j (placeWords (naming image (getD ids j 0)))
+
 abbrev Inv-loop : tie.InvT-loop
-Inv-loop image ids answers₀ i₀ answers i =
-    (i ≤ length ids) × (length answers ≡ length answers₀) × (sets answers (4 * i) (nameWords image (drop i ids)) ≡ sets answers₀ 0 (nameWords image ids))
+Inv-loop image ids before i₀ answers i = Inv image ids before answers i
 
 abbrev μ-loop : tie.MeasureT-loop
-μ-loop image ids answers₀ i₀ answers i = length ids - i
+μ-loop image ids before i₀ answers i = length ids - i
+
+-- ---- places in the code, each from a later one
+
+abbrev start : tie.At-loop Inv-loop μ-loop → tie.Start Inv-loop μ-loop
+start c = c .before .before .before .before
+
+abbrev entered : tie.After-to-str Inv-loop μ-loop → tie.At-loop Inv-loop μ-loop
+entered c = c .before .before .before .before
 
 loop-holds : tie.Need-loop-holds Inv-loop μ-loop
-loop-holds c = (omega arith, refl, simp mul-zero)
-
-mul-put-place : tie.Need-mul-put-place Inv-loop μ-loop
-mul-put-place c = omega (arith, c .before .before .before .before .before .before .pre, c .before .before .loop .inv .1)
+loop-holds c = record { inside = omega arith; long = refl; stored = λ j h. absurd (omega arith) }
 
 mul-to-str : tie.Need-mul-to-str Inv-loop μ-loop
-mul-to-str c = omega arith
+mul-to-str c = search needs
 
 shared-slice-read-to-str : tie.Need-shared-slice-read-to-str Inv-loop μ-loop
-shared-slice-read-to-str c = omega arith
+shared-slice-read-to-str c = search needs
 
 to-str-requires : tie.Need-to-str-requires Inv-loop μ-loop
-to-str-requires c κs = tt
+to-str-requires c κs = search needs
 
 put-place-requires : tie.Need-put-place-requires Inv-loop μ-loop
 put-place-requires c κs =
-    let s = c .before .before .before .before .before .before .before .before in
-    let l = c .before .before .before .before .loop in (
-      omega (arith, s .pre, l .inv .1),
-      rw (c .to-str .ensures) (naming-small (s .args .image .now) (getD (s .args .ids .now) (l .i) 0) (λ (i : ℕ). omega (arith, c .before .before .before .before .before .before .before .shared-slice-known .given i))),
+    let at = entered c in
+    let s = start at in (
+      omega (arith, s .pre, at .loop .inv .long, c .before .before .before .loop-test .taken),
+      rw (c .to-str .ensures)
+          (naming-small (s .args .image .now) (getD (s .args .ids .now) (at .loop .i) 0)
+          (λ (i : ℕ). omega (arith, at .before .before .before .shared-slice-known .given i))),
     )
 
 add-i : tie.Need-add-i Inv-loop μ-loop
-add-i c = omega arith
+add-i c = search needs
 
 loop-less : tie.Need-loop-less Inv-loop μ-loop
-loop-less c = omega arith
+loop-less c = search needs
 
 loop-again : tie.Need-loop-again Inv-loop μ-loop
 loop-again c =
-    let s = c .before .before .before .before .before .before .before .before .before .before .before in
-    let l = c .before .before .before .before .before .before .before .loop in
-    let put = c .before .before .put-place in
-    let image = s .args .image .now in
-    let ids = s .args .ids .now in (
-      omega arith,
-      put .kept .0 ∙ l .inv .1,
-      ap (λ (b : List ℕ). sets b (4 * (l .i + 1)) (nameWords image (drop (l .i + 1) ids)))
-          (put .ensures ∙ ap (λ (x : Naming). sets (l .answers) (4 * l .i) (placeWords x)) (c .before .before .before .to-str .ensures))
-          ∙ name-turn image ids (l .answers) (l .i) (omega arith)
-          ∙ l .inv .2,
-    )
+    let put = c .before .before in
+    let named = put .before in
+    let at = entered named in
+    let l = at .loop in
+    let a = start at .args in
+    let word : ℕ → List ℕ = λ j. placeWords (naming (a .image .now) (getD (a .ids .now) j 0)) in
+    let after = put .put-place .ensures ∙ ap (λ (x : Naming). putWords (l .answers) (l .i) (placeWords x)) (named .to-str .ensures) in
+    record {
+      inside = omega arith;
+      long = put .put-place .kept .0 ∙ l .inv .long;
+      stored = λ j h.
+          subst (λ (r : List ℕ). Has r j (word j)) (sym after)
+          (has-after (l .answers) (l .i) (word (l .i)) (omega (arith, start at .pre, l .inv .long)) j (word j)
+          (λ e w k. ap (λ (n : ℕ). getD (word n) w 0) (sym e)) (λ other. l .inv .stored j (omega arith)));
+    }
 
 same-length : tie.Need-same-length Inv-loop μ-loop
 same-length c = search needs
 
 returns : tie.Need-returns Inv-loop μ-loop
 returns c =
-    let s = c .before .before .before .before .before in
+    let a = start (c .before) .args in
     let l = c .before .loop in
-    sym (name-end (s .args .image .now) (s .args .ids .now) (l .answers) (l .i) (omega arith) (4 * l .i)) ∙ l .inv .2
+    all-places (a .image .now) (a .ids .now) (l .answers) (omega (arith, l .inv .long, start (c .before) .pre))
+    (λ i h. l .inv .stored i (omega (arith, c .loop-test .left)))
 
 pub name-all-spec : {M : Type 1} → statement M
 name-all-spec =
@@ -81,7 +96,6 @@ name-all-spec =
     Inv-loop
     μ-loop
     loop-holds
-    mul-put-place
     mul-to-str
     shared-slice-read-to-str
     to-str-requires

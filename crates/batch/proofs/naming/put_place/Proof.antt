@@ -1,13 +1,13 @@
--- `round::naming::put_place` meets its contract. Assumes nothing.
+-- `batch::naming::put_place` meets its contract. Assumes nothing.
 use Prim.Native.Nat.{_<_}
 use native.Mathlib.Omega.{arith}
 use mathlib.Core.Path.{sym, ap, subst, _∙_}
-use lib.Seq.{sets}
+use borrow.Author.Needs.{needs}
 use Rattle.reader.specs.Cases.{namingOf}
 use Rattle.reader.specs.declared.Named.{Named}
 use Rattle.reader.specs.Naming.{lengthIn}
 use Rattle.batch.specs.NameRound.{placeWords}
-use borrow.Author.Needs.{needs}
+use Rattle.batch.specs.steps.Answers.{putWords}
 use Rattle.batch.proofs.naming.put_place.Statement.{statement}
 use Rattle.batch.proofs.naming.put_place.Tie as tie
 
@@ -22,7 +22,8 @@ cast-high c = search needs
 
 cast-put-words : tie.Need-cast-put-words
 cast-put-words c =
-    let small = subst (λ (x : Named). lengthIn (namingOf x) < 4294967296) (c .before .before .named .given .1) (c .before .before .before .before .before .pre .1) in
+    let known = c .before .before in
+    let small = subst (λ (x : Named). lengthIn (namingOf x) < 4294967296) (known .named .given .1) (known .before .before .before .pre .1) in
     omega (arith, small)
 
 put-words-requires : tie.Need-put-words-requires
@@ -39,16 +40,20 @@ same-length c = search needs
 
 returns : tie.Need-returns
 returns c =
-    let a = c .before .before .before .before .before .before .before .before .args in
-    c .before .before .put-words .ensures ∙ ap (λ (x : Named). sets (a .answers .now) (a .at) (placeWords (namingOf x))) (sym (c .before .before .before .before .before .named .given .1))
+    let put = c .before .before in
+    let known = put .before .before .before in
+    let a = known .before .before .before .args in
+    put .put-words .ensures ∙ ap (λ (x : Named). putWords (a .answers .now) (a .i) (placeWords (namingOf x))) (sym (known .named .given .1))
 
 same-length-2 : tie.Need-same-length-2
 same-length-2 c = search needs
 
 returns-2 : tie.Need-returns-2
 returns-2 c =
-    let a = c .before .before .before .before .before .before .before .args in
-    c .before .before .put-words2 .ensures ∙ ap (λ (x : Named). sets (a .answers .now) (a .at) (placeWords (namingOf x))) (sym (c .before .before .before .before .enum-told .given .1))
+    let put = c .before .before in
+    let told = put .before .before in
+    let a = told .before .before .before .args in
+    put .put-words2 .ensures ∙ ap (λ (x : Named). putWords (a .answers .now) (a .i) (placeWords (namingOf x))) (sym (told .enum-told .given .1))
 
 pub put-place-spec : {M : Type 1} → statement M
 put-place-spec =

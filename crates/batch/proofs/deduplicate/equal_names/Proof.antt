@@ -1,0 +1,69 @@
+-- `batch::deduplicate::equal_names` meets its contract. Assumes nothing.
+use Prim.Native.Nat.{ℕ, _<_}
+use native.Mathlib.Omega.{arith}
+use mathlib.Core.Path.{sym, ap, _∙_}
+use mathlib.Core.List.{List}
+use lib.ListN.{length}
+use borrow.Author.Needs.{needs}
+use Rattle.image.specs.Bytes.{same}
+use Rattle.image.proofs.Equal.{same-false}
+use Rattle.packed.proofs.NameEnds.{length-names}
+use Rattle.batch.specs.RoundNames.{names, nth}
+use Rattle.batch.proofs.Duplicates.{other-key}
+use Rattle.batch.proofs.deduplicate.equal_names.Statement.{statement}
+use Rattle.batch.proofs.deduplicate.equal_names.Tie as tie
+
+mul-if1 : tie.Need-mul-if1
+mul-if1 c = search needs
+
+shared-slice-read-if1 : tie.Need-shared-slice-read-if1
+shared-slice-read-if1 c = search needs
+
+mul-if1-2 : tie.Need-mul-if1-2
+mul-if1-2 c = search needs
+
+shared-slice-read-if1-2 : tie.Need-shared-slice-read-if1-2
+shared-slice-read-if1-2 c = search needs
+
+returns : tie.Need-returns
+returns c =
+    let s = c .before .before .before .before .before .before in
+    let xs = names (s .args .bytes .now) (s .args .ends .now) in
+    let size = length-names (s .args .bytes .now) (s .args .ends .now) in
+    let i : s .args .i < length xs = omega (arith, s .pre .second) in
+    let j : s .args .j < length xs = omega (arith, s .pre .first) in
+    sym
+    (same-false (nth xs (s .args .j)) (nth xs (s .args .i))
+    (other-key xs (s .args .keys .now) (s .args .i) (s .pre .names .keyed) i (s .args .j) j (c .if1 .taken)))
+
+name-of-requires : tie.Need-name-of-requires
+name-of-requires c κs = search needs
+
+name-of-requires-2 : tie.Need-name-of-requires-2
+name-of-requires-2 c κs = search needs
+
+same-requires : tie.Need-same-requires
+same-requires c κs = search needs
+
+returns-2 : tie.Need-returns-2
+returns-2 c =
+    let name-i = c .before in
+    let name-j = name-i .before in
+    let s = name-j .before .before .before .before .before .before .before in
+    c .same .ensures
+    ∙ ap (λ (l : List ℕ). same l (name-i .name-of2 .result .now)) (name-j .name-of .ensures)
+    ∙ ap (same (nth (names (s .args .bytes .now) (s .args .ends .now)) (s .args .j))) (name-i .name-of2 .ensures)
+
+pub equal-names-spec : {M : Type 1} → statement M
+equal-names-spec =
+    tie.close
+    (tie.spec
+    mul-if1
+    shared-slice-read-if1
+    mul-if1-2
+    shared-slice-read-if1-2
+    returns
+    name-of-requires
+    name-of-requires-2
+    same-requires
+    returns-2)

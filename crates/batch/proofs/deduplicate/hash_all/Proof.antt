@@ -1,0 +1,86 @@
+-- `batch::deduplicate::hash_all` meets its contract. The loop's invariant: the first i keys are stored. Assumes nothing.
+use Prim.Native.Nat.{ℕ, _-_, _≤_, _<_}
+use native.Mathlib.Omega.{arith}
+use mathlib.Core.Path.{_≡_, refl, ap, _∙_}
+use mathlib.Core.List.{List}
+use lib.ListN.{length, length-set}
+use borrow.Author.Needs.{needs}
+use Rattle.packed.proofs.NameEnds.{length-names}
+use Rattle.batch.specs.RoundNames.{names}
+use Rattle.batch.specs.steps.Duplicates.{key}
+use Rattle.batch.proofs.Duplicates.{KeysTo, keys-step}
+use Rattle.batch.proofs.deduplicate.hash_all.Statement.{statement}
+use Rattle.batch.proofs.deduplicate.hash_all.Tie as tie
+
+record Inv (bytes ends keys₀ keys : List ℕ) (i : ℕ) : Type 0 where
+  pub inside : i ≤ length ends
+  pub long : length keys ≡ length keys₀
+  pub stored : KeysTo (names bytes ends) i keys
+
+abbrev Inv-loop : tie.InvT-loop
+Inv-loop bytes ends keys₀ i₀ keys i = Inv bytes ends keys₀ keys i
+
+abbrev μ-loop : tie.MeasureT-loop
+μ-loop bytes ends keys₀ i₀ keys i = length ends - i
+
+abbrev start : tie.At-loop Inv-loop μ-loop → tie.Start Inv-loop μ-loop
+start c = c .before .before .before .before
+
+loop-holds : tie.Need-loop-holds Inv-loop μ-loop
+loop-holds c = record { inside = omega arith; long = refl; stored = λ j h. absurd (omega arith) }
+
+name-of-requires : tie.Need-name-of-requires Inv-loop μ-loop
+name-of-requires c κs = search needs
+
+key-requires : tie.Need-key-requires Inv-loop μ-loop
+key-requires c κs = search needs
+
+mul-keys : tie.Need-mul-keys Inv-loop μ-loop
+mul-keys c = search needs
+
+slice-write-keys : tie.Need-slice-write-keys Inv-loop μ-loop
+slice-write-keys c = search needs
+
+add-i : tie.Need-add-i Inv-loop μ-loop
+add-i c = search needs
+
+loop-less : tie.Need-loop-less Inv-loop μ-loop
+loop-less c = search needs
+
+loop-again : tie.Need-loop-again Inv-loop μ-loop
+loop-again c =
+    let at = c .before .before .before in
+    let s = start at in
+    let l = at .loop in
+    let inside : l .i < length (l .keys) = omega arith in
+    record {
+      inside = omega arith;
+      long = simp length-set (l .inv .long);
+      stored = keys-step (names (s .args .bytes .now) (s .args .ends .now)) (l .keys) (l .i) (c .key .result) inside (l .inv .stored)
+          (c .key .ensures ∙ ap key (c .before .name-of .ensures));
+    }
+
+same-length : tie.Need-same-length Inv-loop μ-loop
+same-length c = search needs
+
+returns : tie.Need-returns Inv-loop μ-loop
+returns c =
+    let a = start (c .before) .args in
+    λ i h. c .before .loop .inv .stored i (omega (arith, length-names (a .bytes .now) (a .ends .now)))
+
+pub hash-all-spec : {M : Type 1} → statement M
+hash-all-spec =
+    tie.close
+    (tie.spec
+    Inv-loop
+    μ-loop
+    loop-holds
+    name-of-requires
+    key-requires
+    mul-keys
+    slice-write-keys
+    add-i
+    loop-less
+    loop-again
+    same-length
+    returns)

@@ -1,0 +1,181 @@
+-- `batch::probing::pass` meets its contract. The loop's invariant: the searches passed are partitioned, and the others stand where they stood. Assumes
+-- nothing.
+use Prim.Native.Nat.{ℕ, _+_, _-_, _≤_, _<_}
+use native.Mathlib.Omega.{arith}
+use mathlib.Core.Path.{_≡_, refl, sym, subst}
+use mathlib.Core.List.{List}
+use lib.ListN.{length, getD, length-set}
+use borrow.Author.Needs.{needs}
+use Rattle.batch.specs.steps.Probing.{Open, Partition}
+use Rattle.batch.proofs.Passes.{unread-step, partition-step, partition-end}
+use Rattle.batch.proofs.probing.pass.Statement.{statement}
+use Rattle.batch.proofs.probing.pass.Tie as tie
+
+record Inv (image keys live₀ done₀ offsets₀ live done offsets : List ℕ) (c q p d z : ℕ) : Type 0 where
+  pub inside : z ≤ q
+  pub live-long : length live ≡ length live₀
+  pub done-long : length done ≡ length done₀
+  pub offsets-long : length offsets ≡ length offsets₀
+  pub unread : (y : ℕ) → z ≤ y → getD live y 0 ≡ getD live₀ y 0
+  pub partition : Partition image keys live₀ live done offsets q (c + 1) p d z
+
+abbrev Inv-loop : tie.InvT-loop
+Inv-loop image keys c q live₀ done₀ offsets₀ p₀ d₀ z₀ live done offsets p d z = Inv image keys live₀ done₀ offsets₀ live done offsets c q p d z
+
+abbrev μ-loop : tie.MeasureT-loop
+μ-loop image keys c q live₀ done₀ offsets₀ p₀ d₀ z₀ live done offsets p d z = q - z
+
+-- ---- places in the code, each from a later one
+
+abbrev start : tie.At-loop Inv-loop μ-loop → tie.Start Inv-loop μ-loop
+start c = c .before .before .before .before .before .before
+
+abbrev read : tie.After-shared-slice-known3 Inv-loop μ-loop → tie.At-loop Inv-loop μ-loop
+read c = c .before .before .before
+
+-- the name at z stands where it stood, and has a key
+own : (c : tie.At-loop Inv-loop μ-loop) → getD (c .loop .live) (c .loop .z) 0 ≡ getD (start c .args .live .now) (c .loop .z) 0
+own c = c .loop .inv .unread (c .loop .z) (omega arith)
+
+keyed : (c : tie.In-loop Inv-loop μ-loop) → getD (c .before .loop .live) (c .before .loop .z) 0 < length (start (c .before) .args .keys .now)
+keyed c = omega (arith, own (c .before), start (c .before) .pre .keyed (c .before .loop .z) (c .loop-test .taken))
+
+loop-holds : tie.Need-loop-holds Inv-loop μ-loop
+loop-holds c =
+    record {
+      inside = omega arith;
+      live-long = refl;
+      done-long = refl;
+      offsets-long = refl;
+      unread = λ y h. refl;
+      partition =
+          record {
+            count = omega arith;
+            each = λ y h. absurd (omega arith);
+            is-open = λ y h. absurd (omega arith);
+            decided = λ y h. absurd (omega arith);
+          };
+    }
+
+mul-i : tie.Need-mul-i Inv-loop μ-loop
+mul-i c = search needs
+
+slice-read-i : tie.Need-slice-read-i Inv-loop μ-loop
+slice-read-i c = search needs
+
+cast-probe : tie.Need-cast-probe Inv-loop μ-loop
+cast-probe c = omega (arith, keyed (c .before))
+
+mul-probe : tie.Need-mul-probe Inv-loop μ-loop
+mul-probe c = omega (arith, keyed (c .before))
+
+shared-slice-read-probe : tie.Need-shared-slice-read-probe Inv-loop μ-loop
+shared-slice-read-probe c = omega (arith, keyed (c .before .before))
+
+probe-requires : tie.Need-probe-requires Inv-loop μ-loop
+probe-requires c κs =
+    let s = start (read c) in
+    let l = read c .loop in
+    record {
+      head = s .pre .head;
+      small = s .pre .small;
+      is-open =
+          subst (λ (k : ℕ). Open (s .args .image .now) (getD (s .args .keys .now) k 0) (s .args .c)) (sym (own (read c)))
+          (s .pre .is-open (l .z) (c .before .before .loop-test .taken));
+    }
+
+mul-live : tie.Need-mul-live Inv-loop μ-loop
+mul-live c = search needs
+
+slice-write-live : tie.Need-slice-write-live Inv-loop μ-loop
+slice-write-live c = search needs
+
+mul-done : tie.Need-mul-done Inv-loop μ-loop
+mul-done c = search needs
+
+slice-write-done : tie.Need-slice-write-done Inv-loop μ-loop
+slice-write-done c = search needs
+
+mul-offsets : tie.Need-mul-offsets Inv-loop μ-loop
+mul-offsets c = search needs
+
+slice-write-offsets : tie.Need-slice-write-offsets Inv-loop μ-loop
+slice-write-offsets c = search needs
+
+add-p : tie.Need-add-p Inv-loop μ-loop
+add-p c = search needs
+
+sub-d : tie.Need-sub-d Inv-loop μ-loop
+sub-d c = search needs
+
+add-d : tie.Need-add-d Inv-loop μ-loop
+add-d c = search needs
+
+add-z : tie.Need-add-z Inv-loop μ-loop
+add-z c = search needs
+
+loop-less : tie.Need-loop-less Inv-loop μ-loop
+loop-less c = search needs
+
+loop-again : tie.Need-loop-again Inv-loop μ-loop
+loop-again c =
+    let b = c .before .before in
+    let at = read (b .before) in
+    let l = at .loop in
+    let v = l .inv in
+    let i = getD (l .live) (l .z) 0 in
+    let more = b .before .before .before .loop-test .taken in
+    let room : l .p < length (l .live) = omega (arith, v .live-long, start at .pre .live-capacity, v .partition .count) in
+    record {
+      inside = omega arith;
+      live-long = simp length-set (v .live-long);
+      done-long = simp length-set (v .done-long);
+      offsets-long = simp length-set (v .offsets-long);
+      unread = unread-step (v .partition) i (b .probe .result .offset) (b .probe .result .on) (own at) room (v .unread);
+      partition =
+          partition-step (v .partition) i (b .probe .result .offset) (b .probe .result .on) (own at) room (b .probe .ensures) more
+          (omega (arith, v .done-long, start at .pre .done-capacity, v .partition .count))
+          (omega (arith, v .offsets-long, start at .pre .offsets-capacity, v .partition .count));
+    }
+
+same-length : tie.Need-same-length Inv-loop μ-loop
+same-length c = search needs
+
+same-length-2 : tie.Need-same-length-2 Inv-loop μ-loop
+same-length-2 c = search needs
+
+same-length-3 : tie.Need-same-length-3 Inv-loop μ-loop
+same-length-3 c = search needs
+
+returns : tie.Need-returns Inv-loop μ-loop
+returns c = let v = c .before .loop .inv in partition-end (v .partition) (v .inside) (c .loop-test .left)
+
+pub pass-spec : {M : Type 1} → statement M
+pass-spec =
+    tie.close
+    (tie.spec
+    Inv-loop
+    μ-loop
+    loop-holds
+    mul-i
+    slice-read-i
+    cast-probe
+    mul-probe
+    shared-slice-read-probe
+    probe-requires
+    mul-live
+    slice-write-live
+    mul-done
+    slice-write-done
+    mul-offsets
+    slice-write-offsets
+    add-p
+    sub-d
+    add-d
+    add-z
+    loop-less
+    loop-again
+    same-length
+    same-length-2
+    same-length-3
+    returns)

@@ -1,0 +1,112 @@
+-- `batch::probing::probe` meets its contract. Assumes nothing.
+use Prim.Native.Nat.{_+_, _*_, _≤_, _<_}
+use native.Mathlib.Omega.{arith}
+use lib.ListN.{length}
+use borrow.Author.Needs.{needs}
+use Rattle.batch.proofs.Probes.{open-past, probed}
+use Rattle.batch.proofs.probing.probe.Statement.{statement}
+use Rattle.batch.proofs.probing.probe.Tie as tie
+
+-- the bucket is inside the image
+inside : (c : tie.After-bucket-after)
+    → let s = c .before .before .before .before .before in c .before .word .result + 8 * c .bucket-after .result + 8 ≤ length (s .args .image .now)
+inside c =
+    let t = c .before .before .before .table-of in
+    let row = t .ensures .1 (omega (arith, c .before .before .if1 .left)) in
+    omega (arith, row .1, row .3, c .bucket-after .ensures .1, c .before .word .ensures)
+
+table-of-requires : tie.Need-table-of-requires
+table-of-requires c κs = search needs
+
+returns : tie.Need-returns
+returns c =
+    let s = c .before .before .before in
+    let a = s .args in
+    let t = c .before .table-of in
+    record {
+      small = omega arith;
+      is-open = λ e.
+          open-past (a .image .now) (a .h) (a .c) (t .result .n) (t .ensures .0) (λ some. let row = t .ensures .1 some in (row .0, row .2)) (c .if1 .taken) (s .pre .is-open);
+      decided = λ z. absurd (omega arith);
+    }
+
+cast-t : tie.Need-cast-t
+cast-t c = search needs
+
+mul-word : tie.Need-mul-word
+mul-word c = search needs
+
+add-word : tie.Need-add-word
+add-word c = search needs
+
+word-requires : tie.Need-word-requires
+word-requires c κs = search needs
+
+cast-start : tie.Need-cast-start
+cast-start c = search needs
+
+bucket-after-requires : tie.Need-bucket-after-requires
+bucket-after-requires c κs = search needs
+
+cast-k : tie.Need-cast-k
+cast-k c = search needs
+
+mul-at : tie.Need-mul-at
+mul-at c = search needs
+
+add-at : tie.Need-add-at
+add-at c = search needs
+
+add-word-2 : tie.Need-add-word-2
+add-word-2 c = search needs
+
+word-requires-2 : tie.Need-word-requires-2
+word-requires-2 c κs = omega (arith, inside c)
+
+word-requires-3 : tie.Need-word-requires-3
+word-requires-3 c κs = omega (arith, inside (c .before))
+
+passes-requires : tie.Need-passes-requires
+passes-requires c κs = search needs
+
+returns-2 : tie.Need-returns-2
+returns-2 c =
+    let read = c .before in
+    let k = read .before .before in
+    let e = k .before .before in
+    let t = e .before .table-of in
+    let s = e .before .before .before in
+    let row = t .ensures .1 (omega (arith, e .if1 .left)) in
+    probed
+    (record {
+      head = s .pre .head;
+      searched = row .0;
+      table = k .before .word .ensures;
+      number = row .2;
+      more = omega (arith, e .if1 .left);
+      bucket = k .bucket-after .ensures .0;
+      of-offset = read .before .word2 .ensures;
+      of-hash = read .word3 .ensures;
+      is-open = s .pre .is-open;
+    }) (c .passes .ensures)
+
+pub probe-spec : {M : Type 1} → statement M
+probe-spec =
+    tie.close
+    (tie.spec
+    table-of-requires
+    returns
+    cast-t
+    mul-word
+    add-word
+    word-requires
+    cast-start
+    bucket-after-requires
+    cast-k
+    mul-at
+    add-at
+    add-word-2
+    word-requires-2
+    word-requires-3
+    passes-requires
+    returns-2)

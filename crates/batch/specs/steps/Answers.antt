@@ -1,0 +1,123 @@
+-- What the steps that store a round's answers ask and promise. An answer is four words in its name's place.
+use Prim.Native.Nat.{ℕ, _+_, _*_, _≤_, _<_}
+use mathlib.Core.Path.{_≡_}
+use mathlib.Core.Bool.{false}
+use mathlib.Core.List.{List, [], _∷_}
+use lib.ListN.{length, getD, set}
+use Rattle.reader.specs.Lookup.{lookup}
+use Rattle.batch.specs.RoundNames.{names, invalidEnds, nth}
+use Rattle.batch.specs.Round.{answerWords, roundWords, roundBuckets}
+use Rattle.batch.specs.steps.Duplicates.{KeyedNames, EqualBefore, IsUnique}
+use Rattle.batch.specs.steps.Probing.{Open, Decided}
+
+-- four words stored in the i-th place, and the words in it
+abbrev pub putWords : List ℕ → ℕ → List ℕ → List ℕ
+putWords l i ws =
+    set (set (set (set l (4 * i) (getD ws 0 0)) (4 * i + 1) (getD ws 1 0)) (4 * i + 2) (getD ws 2 0)) (4 * i + 3)
+    (getD ws 3 0)
+
+abbrev pub wordsIn : List ℕ → ℕ → List ℕ
+wordsIn l i = getD l (4 * i) 0 ∷ getD l (4 * i + 1) 0 ∷ getD l (4 * i + 2) 0 ∷ getD l (4 * i + 3) 0 ∷ []
+
+-- there is an i-th place
+abbrev pub HasPlace : List ℕ → ℕ → Type 0
+HasPlace l i = 4 * i + 4 ≤ length l
+
+-- a place holds these words
+abbrev pub Has : List ℕ → ℕ → List ℕ → Type 0
+Has answers i words = (w : ℕ) → w < 4 → getD answers (4 * i + w) 0 ≡ getD words w 0
+
+-- the place of the i-th name holds its answer
+abbrev pub Right : List ℕ → List (List ℕ) → List ℕ → ℕ → Type 0
+Right image xs answers i = Has answers i (answerWords (lookup image (nth xs i)))
+
+pub record AnswerAllPre (bytes ends answers : List ℕ) : Type 0 where
+  pub few : length ends ≤ 512
+  pub valid : invalidEnds (length bytes) 0 ends ≡ false
+  pub places : length answers ≡ 4 * length ends
+
+-- all names have their answers, and r buckets were read over the different ones
+pub record AnsweredAll (image : List ℕ) (xs : List (List ℕ)) (answers : List ℕ) (r : ℕ) : Type 0 where
+  pub count : r ≡ roundBuckets image xs
+  pub stored : answers ≡ roundWords image xs
+
+-- ---- the searches
+
+-- passes are made only over an image with a head, for names that are not too long
+pub record PassCount (image bytes : List ℕ) (r : ℕ) : Type 0 where
+  pub few : r ≤ 5
+  pub head : 0 < r → 2072 ≤ length image
+  pub short : 0 < r → length bytes < 4294967295
+
+pub record PutDecidedPre (image name answers : List ℕ) (h offset c i : ℕ) : Type 0 where
+  pub short : length name < 4294967295
+  pub inside : HasPlace answers i
+  pub small : c ≤ 512
+  pub decided : Decided image h c offset
+
+-- m of the names are listed, and there is a place for the answer of each
+pub record ListedNames (bytes ends keys list answers : List ℕ) (m : ℕ) : Type 0 where
+  pub names : KeyedNames bytes ends keys
+  pub places : 4 * length ends ≤ length answers
+  pub few : m ≤ 512
+  pub capacity : m ≤ length list
+  pub below : (x : ℕ) → x < m → getD list x 0 < length ends
+
+-- the c-th buckets of their searches have these offsets
+pub record DecidedNames (image bytes ends keys list offsets answers : List ℕ) (m c : ℕ) : Type 0 where
+  pub listed : ListedNames bytes ends keys list answers m
+  pub short : length bytes < 4294967295
+  pub small : c ≤ 512
+  pub capacity : m ≤ length offsets
+  pub decided : (x : ℕ) → x < m → Decided image (getD keys (getD list x 0) 0) c (getD offsets x 0)
+
+-- their searches are open after c buckets
+pub record OpenNames (image bytes ends keys list answers : List ℕ) (m c : ℕ) : Type 0 where
+  pub listed : ListedNames bytes ends keys list answers m
+  pub small : c ≤ 512
+  pub is-open : (x : ℕ) → x < m → Open image (getD keys (getD list x 0) 0) c
+
+-- the first m listed names have their answers, and what was right stays so
+pub record Answered (image bytes ends list before after : List ℕ) (m : ℕ) : Type 0 where
+  pub stays : (i : ℕ) → Right image (names bytes ends) before i → Right image (names bytes ends) after i
+  pub stored : (x : ℕ) → x < m → Right image (names bytes ends) after (getD list x 0)
+
+-- ---- duplicates
+
+-- the unique ones of n names have their answers
+pub record UniqueAnswered (image : List ℕ) (xs : List (List ℕ)) (equals answers : List ℕ) (n : ℕ) : Type 0 where
+  pub size : length xs ≡ n
+  pub equal : (i : ℕ) → i < n → EqualBefore xs i (getD equals i 0)
+  pub right : (i : ℕ) → i < n → IsUnique equals i → Right image xs answers i
+
+pub record SumPre (equals answers : List ℕ) (n : ℕ) : Type 0 where
+  pub few : n ≤ 512
+  pub inside : n ≤ length equals
+  pub places : 4 * n ≤ length answers
+
+-- x where q is 0, else 0
+pub record IfZero (q x r : ℕ) : Type 0 where
+  pub own : q ≡ 0 → r ≡ x
+  pub none : 0 < q → r ≡ 0
+
+-- the sum of the buckets read, each name counted once
+abbrev pub SumsUnique : List ℕ → List ℕ → ℕ → ℕ → Type 0
+SumsUnique equals answers n r =
+    (image : List ℕ) (xs : List (List ℕ)) → UniqueAnswered image xs equals answers n → r ≡ roundBuckets image xs
+
+pub record CopyPre (equals answers : List ℕ) (n : ℕ) : Type 0 where
+  pub inside : n ≤ length equals
+  pub places : 4 * n ≤ length answers
+  pub earlier : (i : ℕ) → i < n → getD equals i 0 ≤ i
+
+-- with the answers of unique names in `before`, all names have theirs
+abbrev pub AllAnswered : List ℕ → ℕ → List ℕ → List ℕ → Type 0
+AllAnswered equals n before after =
+    (image : List ℕ) (xs : List (List ℕ)) → UniqueAnswered image xs equals before n → (i : ℕ) → i < n
+    → Right image xs after i
+
+-- the place of an answer to copy: its own, or that of the equal name before, whose number, counted from 1, is q
+pub record Source (i q r : ℕ) : Type 0 where
+  pub own : q ≡ 0 → r ≡ i
+  pub earlier : 0 < q → r + 1 ≡ q
+  pub below : r ≤ i

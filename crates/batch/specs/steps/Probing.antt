@@ -1,0 +1,62 @@
+-- What the passes over a round's open searches ask and promise.
+use Prim.Native.Nat.{ℕ, _+_, _≤_, _<_}
+use mathlib.Core.Path.{_≡_}
+use mathlib.Core.Logic.{_⊎_}
+use mathlib.Core.List.{List}
+use lib.ListN.{length, getD}
+use Rattle.image.specs.Image.{headSize}
+use Rattle.reader.specs.Lookup.{nothing, probeEntry, decide, lookupHash}
+use Rattle.reader.specs.steps.Resume.{searchFrom}
+use Rattle.batch.specs.steps.Duplicates.{Listed}
+
+-- the search for the hash h is open after c buckets: what is left of it answers what the whole search does, whatever
+-- the name
+abbrev pub Open : List ℕ → ℕ → ℕ → Type 0
+Open image h c = (name : List ℕ) → searchFrom image name h c ≡ lookupHash image name h
+
+-- the c-th bucket of the search for the hash h has the offset e. Empty, it ends the search; else its entry decides,
+-- unless that has another name: then the search goes on
+pub record Decided (image : List ℕ) (h c e : ℕ) : Type 0 where
+  pub head : headSize ≤ length image
+  pub empty : e ≡ 0 → (name : List ℕ) → nothing c ≡ lookupHash image name h
+  pub by-entry : 0 < e → (name : List ℕ)
+      → decide (probeEntry image name e) c (searchFrom image name h c) ≡ lookupHash image name h
+
+pub record ProbePre (image : List ℕ) (h c : ℕ) : Type 0 where
+  pub head : headSize ≤ length image
+  pub small : c < 512
+  pub is-open : Open image h c
+
+-- what the c-th bucket of a search says: `on` is 1 where the search is open behind it, 0 where its offset decides
+pub record Probed (image : List ℕ) (h c offset on : ℕ) : Type 0 where
+  pub small : on ≤ 1
+  pub is-open : on ≡ 1 → Open image h c
+  pub decided : on ≡ 0 → Decided image h c offset
+
+-- ---- a pass: q searches are open after c buckets, and each reads its next one
+
+pub record PassPre (image keys live done offsets : List ℕ) (c q : ℕ) : Type 0 where
+  pub head : headSize ≤ length image
+  pub small : c < 512
+  pub few : q ≤ 512
+  pub live-capacity : q ≤ length live
+  pub done-capacity : q ≤ length done
+  pub offsets-capacity : q ≤ length offsets
+  pub keyed : (z : ℕ) → z < q → getD live z 0 < length keys
+  pub is-open : (z : ℕ) → z < q → Open image (getD keys (getD live z 0) 0) c
+
+-- one of the q searches that is open after c buckets, and one whose c-th bucket decides
+pub record StillOpen (image keys first : List ℕ) (q c i : ℕ) : Type 0 where
+  pub listed : Listed first q i
+  pub is-open : Open image (getD keys i 0) c
+
+pub record NowDecided (image keys first : List ℕ) (q c i e : ℕ) : Type 0 where
+  pub listed : Listed first q i
+  pub decided : Decided image (getD keys i 0) c e
+
+-- of q searches, listed in `first`, z have read their c-th bucket: p are open and d are decided
+pub record Partition (image keys first live done offsets : List ℕ) (q c p d z : ℕ) : Type 0 where
+  pub count : p + d ≡ z
+  pub each : (y : ℕ) → y < z → Listed live p (getD first y 0) ⊎ Listed done d (getD first y 0)
+  pub is-open : (y : ℕ) → y < p → StillOpen image keys first q c (getD live y 0)
+  pub decided : (y : ℕ) → y < d → NowDecided image keys first q c (getD done y 0) (getD offsets y 0)

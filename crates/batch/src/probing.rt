@@ -1,0 +1,76 @@
+// A pass of a round: each search that is still open reads its next bucket. Where a bucket is there to be read the pass
+// has no branch that depends on the names, so that none is mispredicted and the reads of many names are under way at
+// once.
+ghost use mathlib.Core.Path.{_≡_};
+ghost use Prim.Native.Nat.{_+_, _-_, _<_};
+ghost use Rattle.batch.specs.steps.Duplicates.{Flag};
+ghost use Rattle.batch.specs.steps.Probing.{ProbePre, Probed, PassPre, Partition};
+use jhash::word::word;
+use reader::lookup::bucket_after;
+use reader::lookup::table_of;
+
+// What the next bucket of a search says: its offset, and 1 where the search is open behind it, else 0.
+struct BucketProbe {
+    offset: u32,
+    on: usize,
+}
+
+// 1 where a search for the hash h passes a bucket with this hash and offset: another hash, and not empty. Else 0.
+fn passes(hash: u32, h: u32, offset: u32) -> usize
+    ensures { λ r. ⌜ Flag ((hash ≡ h → ⊥) × (0 < offset)) r ⌝ }
+{
+    if (hash == h) | (offset == 0) { 0 } else { 1 }
+}
+
+// The bucket that the search for the hash h reads after c others. Where its table has no more, none is read and the
+// search stays open.
+fn probe(image: &[u8], h: u32, c: u32) -> BucketProbe
+    requires { ⌜ ProbePre (now image) h c ⌝ }
+    ensures { λ r. ⌜ Probed (now (image .entry)) h (c + 1) (r .offset) (r .on) ⌝ }
+{
+    let table = table_of(image, h);
+    let n = table.n;
+    if n <= c {
+        return BucketProbe { offset: 0, on: 1 };
+    }
+    let t = (h % 256) as usize;
+    let start = word(image, 24 + 8 * t) as usize;
+    let k = bucket_after(h, c, n) as usize;
+    let at = start + 8 * k;
+    let offset = word(image, at + 4);
+    let on = passes(word(image, at), h, offset);
+    BucketProbe { offset, on }
+}
+
+// Each of the first q open searches reads its next bucket, after c. Those that stay open move to the front of `live`;
+// the others are listed in `done`, with the offset in the bucket. Gives how many stay open.
+pub(crate) fn pass(
+    image: &[u8],
+    keys: &[u32],
+    c: u32,
+    q: usize,
+    live: &mut [u16],
+    done: &mut [u16],
+    offsets: &mut [u32],
+) -> usize
+    requires { ⌜ PassPre (now image) (now keys) (now live) (now done) (now offsets) c q ⌝ }
+    ensures { λ r. ⌜
+        Partition (now (image .entry)) (now (keys .entry)) (now (live .entry)) (now (live .exit)) (now (done .exit))
+        (now (offsets .exit)) q (c + 1) r (q - r) q
+        ⌝ }
+{
+    let mut p: usize = 0;
+    let mut d: usize = 0;
+    let mut z: usize = 0;
+    while z < q {
+        let i = live[z];
+        let b = probe(image, keys[i as usize], c);
+        live[p] = i;
+        done[d] = i;
+        offsets[d] = b.offset;
+        p += b.on;
+        d += 1 - b.on;
+        z += 1;
+    }
+    p
+}
