@@ -21,7 +21,7 @@ use Rattle.lookup_laws.proofs.Matching.{hasMatch-equal}
 use Rattle.writer.specs.State.{State}
 use Rattle.writer.specs.Close.{recorded}
 use Rattle.lists.proofs.Closable.{number, end-small, entries-stand, ids-are, ends}
-use Rattle.index.specs.Index.{slotCount, slotAt, probeSequence, bucketsOf, Right}
+use Rattle.index.specs.Index.{slotCount, slotAt, slotSequence, bucketsOf, Right}
 use Rattle.index.specs.steps.Probe.{hasNameAt, duplicateAt, probeSlots}
 use Rattle.index.proofs.EntryNames.{length-buckets, buckets-occupied, all-decided, Decides, not-contained, contained}
 use Rattle.index.proofs.Probing.{Result, result, never-matches}
@@ -73,7 +73,7 @@ module _ {s : State} {words : List ℕ} (bytes : AllBytes (s .buffer)) (right : 
     v = hasNameAt img name
 
     abbrev ks : List ℕ
-    ks = probeSequence words h
+    ks = slotSequence words h
 
     abbrev table : ℕ → Bucket
     table k = getD (filled m (bucketsOf es)) k empty

@@ -16,7 +16,7 @@ use Rattle.image.proofs.Bools.{false-not-true}
 use Rattle.image.proofs.Buckets.{getD-empties}
 use Rattle.image.proofs.EntryWalk.{whole-rest, first-name, entries-rest}
 use Rattle.image.proofs.Sizes.{entriesSize-append}
-use Rattle.index.specs.Index.{slotCount, slotAt, slotStored, probeSequence, firstEmptySlot, bucketsOf, FilledWith}
+use Rattle.index.specs.Index.{slotCount, slotAt, slotStored, slotSequence, firstEmptySlot, bucketsOf, FilledWith}
 use Rattle.index.specs.steps.Probe.{probeSlots}
 use Rattle.index.specs.steps.Fill.{FillPre, SlotsFilled}
 use Rattle.index.proofs.EntryNames.{buckets-snoc, length-buckets, buckets-occupied}
@@ -82,8 +82,8 @@ module _ {buf : List ℕ} {end entries : ℕ} {words₀ : List ℕ} (pre : FillP
         fewer : length (bucketsOf (f .done)) < slotCount words
         fewer = omega (arith, pre .capacity, f .number, f .long, more, length-buckets (f .done))
 
-        go : Result words h never (probeSequence words h) → EmptyFound words h never (probeSequence words h)
-        go (inl o) = absurd (false-not-true (sym (never-matches (slotAt words) h (probeSequence words h)) ∙ o .matching))
+        go : Result words h never (slotSequence words h) → EmptyFound words h never (slotSequence words h)
+        go (inl o) = absurd (false-not-true (sym (never-matches (slotAt words) h (slotSequence words h)) ∙ o .matching))
         go (inr (inl o)) = o
         go (inr (inr o)) =
             absurd (omega (arith, fewer, none-empty (f .slots) (omega (arith, fewer)) (buckets-occupied (f .done)) h (o .full)))

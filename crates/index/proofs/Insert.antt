@@ -20,7 +20,7 @@ use Rattle.lookup_laws.proofs.Scan.{used}
 use Rattle.lookup_laws.proofs.ProbeSequence.{view}
 use Rattle.lookup_laws.proofs.SearchFilling.{EndsAtEmpty}
 use Rattle.lookup_laws.proofs.TableContents.{OtherStart, NotEmpty, filled-used}
-use Rattle.index.specs.Index.{slotCount, slotAt, slotStored, probeSequence, firstEmptySlot, FilledWith}
+use Rattle.index.specs.Index.{slotCount, slotAt, slotStored, slotSequence, firstEmptySlot, FilledWith}
 use Rattle.index.proofs.Probing.{sequence-below}
 
 -- equal words make equal slots
@@ -83,7 +83,7 @@ module _ {words : List ℕ} {bs : List Bucket} (slots : FilledWith words bs) (fi
   m = slotCount words
 
   abbrev ks : List ℕ
-  ks = probeSequence words h
+  ks = slotSequence words h
 
   abbrev table : ℕ → Bucket
   table k = getD (filled m bs) k empty
@@ -99,7 +99,7 @@ module _ {words : List ℕ} {bs : List Bucket} (slots : FilledWith words bs) (fi
       apart b some = inr (ap (λ (t : Bool). cond t ends pass) (ne-eqb (b .at) 0 some))
 
   -- no slot is empty: there is an entry for each
-  pub none-empty : All (λ (k : ℕ). NotEmpty (slotAt words k)) (probeSequence words h) → slotCount words ≤ length bs
+  pub none-empty : All (λ (k : ℕ). NotEmpty (slotAt words k)) (slotSequence words h) → slotCount words ≤ length bs
   none-empty all = go (ℕ-discrete m 0)
     where
       there : All (λ (k : ℕ). NotEmpty (table k)) ks
@@ -112,7 +112,7 @@ module _ {words : List ℕ} {bs : List Bucket} (slots : FilledWith words bs) (fi
       go (no z) = omega (arith, counted (omega (arith, z)), used-all table ks there, long)
 
   -- one is empty: there are fewer entries than slots
-  pub some-empty : (All (λ (k : ℕ). NotEmpty (slotAt words k)) (probeSequence words h) → ⊥) → length bs < slotCount words
+  pub some-empty : (All (λ (k : ℕ). NotEmpty (slotAt words k)) (slotSequence words h) → ⊥) → length bs < slotCount words
   some-empty empties = go (ℕ-discrete (length bs) m)
     where
       every : length bs ≡ m → Dec (m ≡ 0) → usedIn table ks ≡ length ks
@@ -138,7 +138,7 @@ module _ {words : List ℕ} {bs : List Bucket} (slots : FilledWith words bs) (b 
   abbrev stored : List ℕ
   stored = slotStored words k (b .hash) (b .at)
 
-  place : firstEmpty (atOf (filled count bs)) (probeSequence words (b .hash)) ≡ k
+  place : firstEmpty (atOf (filled count bs)) (slotSequence words (b .hash)) ≡ k
   place =
       sym
       (firstEmpty-ext (λ (j : ℕ). slotAt words j .at) (atOf (filled count bs)) count (λ j l. ap (λ (x : Bucket). x .at) (slots .each j l)) count

@@ -14,7 +14,7 @@ use Rattle.image.proofs.Buckets.{probeSequence-step}
 use Rattle.image.proofs.AllOfList.{All}
 use Rattle.lookup_laws.specs.steps.HasMatch.{hasMatch}
 use Rattle.lookup_laws.proofs.TableContents.{NotEmpty}
-use Rattle.index.specs.Index.{slotCount, slotAt, probeSequence, firstEmptySlot}
+use Rattle.index.specs.Index.{slotCount, slotAt, slotSequence, firstEmptySlot}
 use Rattle.index.specs.steps.Probe.{probeAlong, probeSlots}
 
 -- the rest of the probe sequence, `left` slots from slot k on, gives the result of the whole
@@ -91,7 +91,7 @@ order-below m (suc n) k h =
     let inside : k < m = h (omega arith) in
     (inside, order-below m n (next m k) (λ more. mod-lt (k + 1) (omega (arith, inside))))
 
-pub sequence-below : (words : List ℕ) (h : ℕ) → All (λ (k : ℕ). k < slotCount words) (probeSequence words h)
+pub sequence-below : (words : List ℕ) (h : ℕ) → All (λ (k : ℕ). k < slotCount words) (slotSequence words h)
 sequence-below words h = order-below (slotCount words) (slotCount words) (start h (slotCount words)) (λ some. mod-lt (h / 256) some)
 
 module _ (words : List ℕ) (h : ℕ) (v : ℕ → Bool) where
@@ -132,14 +132,14 @@ module _ (words : List ℕ) (h : ℕ) (v : ℕ → Bool) where
       go false p false q (inr (inr r)) =
           inr (inr (record { is = rw (p, q) (r .is); matching = rw (p, q) (r .matching); full = (eqb-false (slotAt words k .at) 0 p, r .full) }))
 
-  pub result : Result (probeSequence words h)
-  result = along (probeSequence words h) (sequence-below words h)
+  pub result : Result (slotSequence words h)
+  result = along (slotSequence words h) (sequence-below words h)
 
   -- a result below the number of slots is the first empty slot
   pub probe-first : probeSlots words h v < slotCount words → probeSlots words h v ≡ firstEmptySlot words h
   probe-first l = go result
     where
-      go : Result (probeSequence words h) → probeSlots words h v ≡ firstEmptySlot words h
+      go : Result (slotSequence words h) → probeSlots words h v ≡ firstEmptySlot words h
       go (inl o) = absurd (omega (arith, l, o .is))
       go (inr (inl o)) = o .is
       go (inr (inr o)) = absurd (omega (arith, l, o .is))

@@ -13,7 +13,7 @@ use Rattle.writer.specs.declared.CQDBWriter.{CQDBWriter}
 use Rattle.writer.specs.declared.Repeats.{Repeats}
 use Rattle.writer.specs.State.{State, stateWith, fresh}
 use Rattle.writer.specs.Close.{recorded, afterClose}
-use Rattle.writer.proofs.Longer.{longer-taken}
+use Rattle.writer.proofs.Longer.{longer-accepted}
 use Rattle.lists.specs.theorems.LongerBuffer.{movedTo, Longer}
 use Rattle.lists.proofs.Closable.{written}
 use Rattle.lists.proofs.LongerBuffer.{written-there}
@@ -54,7 +54,7 @@ module _ (s : State) (words : List ℕ) (bytes : AllBytes (s .buffer)) (right : 
 
   right-longer : (longer : List ℕ) → Longer longer s → Right (movedTo longer s) words
   right-longer longer l =
-      subst (λ (w : CQDBWriter). Right (stateWith w (s .counts) longer) words) (longer-taken (s .writer) (length longer) (l .long) .1)
+      subst (λ (w : CQDBWriter). Right (stateWith w (s .counts) longer) words) (longer-accepted (s .writer) (length longer) (l .long) .1)
       (right-written right refl (was .entries)
       (written-there (s .writer .mode) (s .writer .repeats) (s .writer .length) (recorded s) s was longer l))
 

@@ -9,11 +9,11 @@ ghost use Rattle.index.specs.steps.Fill.{FillPre, SlotsFilled};
 use image::entries::name_at;
 use image::entries::whole_length;
 use image::scratch::clear;
+use slots::first_empty;
 use slots::probe;
 use slots::store_slot;
 use writer::CQDBWriter;
 use writer::PutAnswer;
-use writer::Repeats;
 use writer::record::after;
 use writer::record::size_with;
 use writer::record::too_large;
@@ -142,11 +142,10 @@ fn fill(buf: &[u8], end: usize, entries: u32, slots: &mut [u32])
         if n == 0 {
             return;
         }
-        let name = name_at(buf, at, n);
-        let jhash::Hashed::Hash(h) = jhash::name_hash(name) else {
+        let jhash::Hashed::Hash(h) = jhash::name_hash(name_at(buf, at, n)) else {
             return;
         };
-        let k = probe(Repeats::On, buf, &*slots, h, name);
+        let k = first_empty(&*slots, h);
         store_slot(&mut *slots, k, h, at as u32);
         at += 8 + n;
         left -= 1;

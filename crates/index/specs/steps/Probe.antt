@@ -5,7 +5,7 @@ use mathlib.Core.List.{List, [], _∷_}
 use lib.Dec.{eqb}
 use Rattle.image.specs.Tables.{Bucket}
 use Rattle.reader.specs.Lookup.{Probe, pass, ends, hit, probeEntry}
-use Rattle.index.specs.Index.{slotCount, slotAt, probeSequence}
+use Rattle.index.specs.Index.{slotCount, slotAt, slotSequence}
 
 -- has the entry at an offset this name?
 abbrev pub isHit : Probe → Bool
@@ -29,4 +29,4 @@ probeAlong m b h v (k ∷ ks) =
 
 -- along the probe sequence
 abbrev pub probeSlots : List ℕ → ℕ → (ℕ → Bool) → ℕ
-probeSlots words h v = probeAlong (slotCount words) (slotAt words) h v (probeSequence words h)
+probeSlots words h v = probeAlong (slotCount words) (slotAt words) h v (slotSequence words h)
