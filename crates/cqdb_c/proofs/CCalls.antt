@@ -98,7 +98,9 @@ pub begin-refused : (mode repeats n : ℕ) (l : Lent) → (numberIn (beginningOf
 unfolding leftByBegin
 begin-refused mode repeats n l = go (beginningOf mode repeats n)
   where
-    go : (b : Outcome CQDBWriter) → (numberIn b ≡ 0 → ⊥) → lentIn b l ≡ l
+    go : (b : Outcome CQDBWriter)
+        → (numberIn b ≡ 0 → ⊥)
+        → lentIn b l ≡ l
     go (value w) refused = absurd (refused refl)
     go (refusal k) refused = refl
 

@@ -58,7 +58,7 @@ between-parts buf a b c h k =
 
 -- ---- numbers that say what the entries are
 
-pub record Tells (mode : Mode) (end entries back : ℕ) (counts buf : List ℕ) (es : List Entry) : Type 0 where
+pub record Describes (mode : Mode) (end entries back : ℕ) (counts buf : List ℕ) (es : List Entry) : Type 0 where
   pub ends : end ≡ entriesEnd es
   pub number : entries ≡ length es
   pub backs : back ≡ backSizeOf mode es
@@ -66,37 +66,37 @@ pub record Tells (mode : Mode) (end entries back : ℕ) (counts buf : List ℕ) 
   pub area : between buf headSize end ≡ cat entryBytes es
   pub inside : finishedOf mode end entries back ≤ length buf
 
-module _ (mode : Mode) (end entries back : ℕ) (counts buf : List ℕ) (es : List Entry) (tells : Tells mode end entries back counts buf es) where
+module _ (mode : Mode) (end entries back : ℕ) (counts buf : List ℕ) (es : List Entry) (describes : Describes mode end entries back counts buf es) where
   abbrev size : ℕ
   size = finishedOf mode end entries back
 
-  pub told-back : backIn mode back ≡ backSizeOf mode es
-  told-back = ap (backIn mode) (tells .backs) ∙ backIn-twice mode (backSize es)
+  pub back-is : backIn mode back ≡ backSizeOf mode es
+  back-is = ap (backIn mode) (describes .backs) ∙ backIn-twice mode (backSize es)
 
-  pub told-size : size ≡ imageSize mode es
-  told-size = omega (arith, told-back, tells .ends, tells .number)
+  pub size-is : size ≡ imageSize mode es
+  size-is = omega (arith, back-is, describes .ends, describes .number)
 
-  pub told-back-offset : backOffsetOf mode end entries back ≡ backOffset mode es
+  pub back-offset-is : backOffsetOf mode end entries back ≡ backOffset mode es
   unfolding backOffsetOf backOffset
-  told-back-offset =
-      let e : end + 16 * entries ≡ entriesEnd es + 16 * length es = omega (arith, tells .ends, tells .number) in
-      ap (λ (n : ℕ). cond (eqb n 0) 0 (end + 16 * entries)) told-back
+  back-offset-is =
+      let e : end + 16 * entries ≡ entriesEnd es + 16 * length es = omega (arith, describes .ends, describes .number) in
+      ap (λ (n : ℕ). cond (eqb n 0) 0 (end + 16 * entries)) back-is
       ∙ ap (λ (o : ℕ). cond (eqb (backSizeOf mode es) 0) 0 o) e
 
-  head-told : headBytes size (flagWord mode) (backIn mode back) (backOffsetOf mode end entries back) ≡ headWords mode es
+  head-is : headBytes size (flagWord mode) (backIn mode back) (backOffsetOf mode end entries back) ≡ headWords mode es
   unfolding headWords
-  head-told =
-      ap (λ (n : ℕ). headBytes n (flagWord mode) (backIn mode back) (backOffsetOf mode end entries back)) told-size
-      ∙ ap (λ (n : ℕ). headBytes (imageSize mode es) (flagWord mode) n (backOffsetOf mode end entries back)) told-back
-      ∙ ap (headBytes (imageSize mode es) (flagWord mode) (backSizeOf mode es)) told-back-offset
+  head-is =
+      ap (λ (n : ℕ). headBytes n (flagWord mode) (backIn mode back) (backOffsetOf mode end entries back)) size-is
+      ∙ ap (λ (n : ℕ). headBytes (imageSize mode es) (flagWord mode) n (backOffsetOf mode end entries back)) back-is
+      ∙ ap (headBytes (imageSize mode es) (flagWord mode) (backSizeOf mode es)) back-offset-is
 
-  rows-told : rowsFrom counts end 0 256 ≡ tableRows (entriesEnd es) (placedIn es)
-  rows-told = ap (λ (o : ℕ). rowsFrom counts o 0 256) (tells .ends) ∙ rows-image counts (entriesEnd es) (placedIn es) (tells .tallies)
+  rows-are : rowsFrom counts end 0 256 ≡ tableRows (entriesEnd es) (placedIn es)
+  rows-are = ap (λ (o : ℕ). rowsFrom counts o 0 256) (describes .ends) ∙ rows-image counts (entriesEnd es) (placedIn es) (describes .tallies)
 
-  zeros-told : replicate (size - end) 0 ≡ tablesWith (placedIn es) [] ++ backWords [] (backSizeOf mode es)
-  zeros-told =
+  zeros-are : replicate (size - end) 0 ≡ tablesWith (placedIn es) [] ++ backWords [] (backSizeOf mode es)
+  zeros-are =
       zeros-both (placedIn es) (backSizeOf mode es) (size - end)
-      (omega (arith, told-back, tells .number, length-placed headSize es))
+      (omega (arith, back-is, describes .number, length-placed headSize es))
 
   -- head and rows, and bytes stored from a place behind the entries on
   stored-from : (z : List ℕ) (from to : ℕ) → end ≤ from → length z ≡ to - from → from ≤ to → to ≤ size
@@ -111,13 +111,13 @@ module _ (mode : Mode) (end entries back : ℕ) (counts buf : List ℕ) (es : Li
       let R = tableRows (entriesEnd es) (placedIn es) in
       let E = cat entryBytes es in
       stores buf h r z from to
-      (ap length head-told ∙ length-headWords mode es)
-      (ap length rows-told ∙ length-tableRows (entriesEnd es) (placedIn es))
-      (omega (arith, tells .ends)) long high (omega (arith, tells .inside))
-      ∙ ap (λ (l : List ℕ). l ++ r ++ between buf headSize from ++ z ++ tail) head-told
-      ∙ ap (λ (l : List ℕ). H ++ l ++ between buf headSize from ++ z ++ tail) rows-told
+      (ap length head-is ∙ length-headWords mode es)
+      (ap length rows-are ∙ length-tableRows (entriesEnd es) (placedIn es))
+      (omega (arith, describes .ends)) long high (omega (arith, describes .inside))
+      ∙ ap (λ (l : List ℕ). l ++ r ++ between buf headSize from ++ z ++ tail) head-is
+      ∙ ap (λ (l : List ℕ). H ++ l ++ between buf headSize from ++ z ++ tail) rows-are
       ∙ ap (λ (l : List ℕ). H ++ R ++ l ++ z ++ tail)
-      (between-parts buf headSize end from (omega (arith, tells .ends)) low ∙ ap (λ (l : List ℕ). l ++ X) (tells .area))
+      (between-parts buf headSize end from (omega (arith, describes .ends)) low ∙ ap (λ (l : List ℕ). l ++ X) (describes .area))
       ∙ ap (λ (l : List ℕ). l ++ z ++ tail) (sym (append-assoc (H ++ R) E X))
 
   -- right behind the entries
@@ -133,14 +133,14 @@ module _ (mode : Mode) (end entries back : ℕ) (counts buf : List ℕ) (es : Li
   unfolding zeroed partial placed
   cleared-partial =
       behind-stored (replicate (size - end) 0) size (length-replicate (size - end) 0) (omega arith) (omega arith)
-      ∙ ap (λ (l : List ℕ). upToEntries mode es ++ l ++ drop size buf) zeros-told
+      ∙ ap (λ (l : List ℕ). upToEntries mode es ++ l ++ drop size buf) zeros-are
       ∙ ap (λ (l : List ℕ). l ++ drop size buf) (sym (append-assoc (upToEntries mode es) (tablesWith (placedIn es) []) (backWords [] (backSizeOf mode es))))
 
   -- the back array alone cleared: where the tables will stand is whatever stood there
   zeros-back : replicate (size - (end + 16 * entries)) 0 ≡ backWords [] (backSizeOf mode es)
   zeros-back =
       let n = backSizeOf mode es in
-      let long : size - (end + 16 * entries) ≡ length (backWords [] n) = omega (arith, told-back, length-backWords [] n) in
+      let long : size - (end + 16 * entries) ≡ length (backWords [] n) = omega (arith, back-is, length-backWords [] n) in
       ap (λ (k : ℕ). replicate k 0) long ∙ sym (zeros-links n)
 
   pub back-cleared : zeroed (headed mode end entries back counts buf) (end + 16 * entries) size

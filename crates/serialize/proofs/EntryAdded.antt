@@ -43,25 +43,33 @@ place ps rs p =
     let n = 2 * count (ownTable p) ps in
     firstEmpty (atOf (tableWith ps rs (ownTable p))) (probeSequence n n (start (hashOf (p .entry .name)) n))
 
+-- the entries of a table, with one entry more
+module _ (rs : List Placed) (p : Placed) where
+  pub ofTable-own : ofTable (ownTable p) (rs ++ p ∷ []) ≡ ofTable (ownTable p) rs ++ p ∷ []
+  unfolding ofTable filter
+  ofTable-own =
+      ofTable-append (ownTable p) rs (p ∷ [])
+      ∙ ap (λ (l : List Placed). ofTable (ownTable p) rs ++ l) (filter-yes (inTable (ownTable p)) p [] (eq-eqb (ownTable p) (ownTable p) refl))
+
+  pub ofTable-other : (t : ℕ) → (t ≡ ownTable p → ⊥) → ofTable t (rs ++ p ∷ []) ≡ ofTable t rs
+  unfolding ofTable filter
+  ofTable-other t h =
+      ofTable-append t rs (p ∷ [])
+      ∙ ap (λ (l : List Placed). ofTable t rs ++ l) (filter-no (inTable t) p [] (ne-eqb (ownTable p) t (λ z. h (sym z))))
+      ∙ append-nil (ofTable t rs)
+
 module _ (ps rs : List Placed) (p : Placed) where
   own : ℕ
   own = ownTable p
 
-  one-more : (t : ℕ) (k : List Placed) → ofTable t (p ∷ []) ≡ k → ofTable t (rs ++ p ∷ []) ≡ ofTable t rs ++ k
-  one-more t k e = ofTable-append t rs (p ∷ []) ∙ ap (λ (l : List Placed). ofTable t rs ++ l) e
-
   table-other : (t : ℕ) → (t ≡ own → ⊥) → tableWith ps rs t ≡ tableWith ps (rs ++ p ∷ []) t
-  unfolding tableWith ofTable own
-  table-other t h =
-      let no : inTable t p ≡ false = ne-eqb (tableOf (hashOf (p .entry .name))) t (λ z. h (sym z)) in
-      sym (ap (λ (l : List Placed). filled (2 * count t ps) (map bucketOf l))
-      (one-more t [] (filter-no (inTable t) p [] no) ∙ append-nil (ofTable t rs)))
+  unfolding tableWith own
+  table-other t h = sym (ap (λ (l : List Placed). filled (2 * count t ps) (map bucketOf l)) (ofTable-other rs p t h))
 
   table-own : tableWith ps (rs ++ p ∷ []) own ≡ insert (2 * count own ps) (tableWith ps rs own) (bucketOf p)
-  unfolding tableWith ofTable own
+  unfolding tableWith own
   table-own =
-      let yes : inTable own p ≡ true = eq-eqb own own refl in
-      ap (λ (l : List Placed). filled (2 * count own ps) (map bucketOf l)) (one-more own (p ∷ []) (filter-yes (inTable own) p [] yes))
+      ap (λ (l : List Placed). filled (2 * count own ps) (map bucketOf l)) (ofTable-own rs p)
       ∙ ap (filled (2 * count own ps)) (map-append bucketOf (ofTable own rs) (p ∷ []))
       ∙ filled-more (2 * count own ps) (map bucketOf (ofTable own rs)) (bucketOf p)
 

@@ -6,18 +6,17 @@ use mathlib.Core.Path.{_≡_, refl, sym, ap, ap₂, _∙_}
 use mathlib.Core.List.{List, [], _∷_, _++_, map, map-append, append-nil, append-assoc}
 use lib.ListN.{length, getD, take, drop, length-append, length-drop, length-map}
 use lib.Seq.{sets, sets-eq, take-add, take-all, take-suc, length-take-le, drop-drop}
-use borrow.Author.Tests.{eq-eqb, ne-eqb}
 use Rattle.image.specs.Bytes.{word, le32, cat, filter, range}
 use Rattle.image.specs.Tables.{Bucket, empty}
-use Rattle.image.specs.Image.{Placed, inTable, ofTable, count, bucketOf, bucketBytes, entriesBefore}
-use Rattle.image.proofs.Lists.{cat-append, cat-ext, length-cat, filter-yes, filter-no, range-at, run-more}
-use Rattle.image.proofs.Sizes.{ofTable-append, length-bucketBytes, before-all}
+use Rattle.image.specs.Image.{Placed, ofTable, count, bucketOf, bucketBytes, entriesBefore}
+use Rattle.image.proofs.Lists.{cat-append, cat-ext, length-cat, range-at, run-more}
+use Rattle.image.proofs.Sizes.{length-bucketBytes, before-all}
 use Rattle.image.proofs.Stores.{sets-right-at, sets-run}
 use Rattle.image.proofs.Parts.{before-most}
 use Rattle.image.proofs.At.{At, at-same, at-equal, at-left, at-after, at-part, at-word, at-second}
 use Rattle.image.proofs.AllOfList.{All}
 use Rattle.serialize.specs.steps.Partition.{pairsAt}
-use Rattle.serialize.proofs.EntryAdded.{ownTable}
+use Rattle.serialize.proofs.EntryAdded.{ownTable, ofTable-own, ofTable-other}
 
 -- ---- runs of bytes of the sizes that the tables have
 
@@ -107,29 +106,16 @@ module _ (ps : List Placed) (X : List ℕ) (long : length X ≡ 16 * length ps) 
       sum a b p q r = omega arith
 
   module _ (p : Placed) where
-    ofTable-own : ofTable (ownTable p) (rs ++ p ∷ []) ≡ ofTable (ownTable p) rs ++ p ∷ []
-    unfolding ofTable filter
-    ofTable-own =
-        ofTable-append (ownTable p) rs (p ∷ [])
-        ∙ ap (λ (l : List Placed). ofTable (ownTable p) rs ++ l) (filter-yes (inTable (ownTable p)) p [] (eq-eqb (ownTable p) (ownTable p) refl))
-
-    ofTable-other : (t : ℕ) → (t ≡ ownTable p → ⊥) → ofTable t (rs ++ p ∷ []) ≡ ofTable t rs
-    unfolding ofTable filter
-    ofTable-other t h =
-        ofTable-append t rs (p ∷ [])
-        ∙ ap (λ (l : List Placed). ofTable t rs ++ l) (filter-no (inTable t) p [] (ne-eqb (ownTable p) t (λ z. h (sym z))))
-        ∙ append-nil (ofTable t rs)
-
     pub count-own : count (ownTable p) (rs ++ p ∷ []) ≡ count (ownTable p) rs + 1
-    count-own = ap length ofTable-own ∙ length-append (ofTable (ownTable p) rs) (p ∷ [])
+    count-own = ap length (ofTable-own rs p) ∙ length-append (ofTable (ownTable p) rs) (p ∷ [])
 
     pub count-other : (t : ℕ) → (t ≡ ownTable p → ⊥) → count t (rs ++ p ∷ []) ≡ count t rs
-    count-other t h = ap length (ofTable-other t h)
+    count-other t h = ap length (ofTable-other rs p t h)
 
     other : (t : ℕ) → (t ≡ ownTable p → ⊥) → areaWith ps X rs t ≡ areaWith ps X (rs ++ p ∷ []) t
     unfolding areaWith pairsOf
     other t h =
-        sym (ap (λ (l : List Placed). cat bucketBytes (map bucketOf l) ++ drop (8 * length l) (tableArea ps X t)) (ofTable-other t h))
+        sym (ap (λ (l : List Placed). cat bucketBytes (map bucketOf l) ++ drop (8 * length l) (tableArea ps X t)) (ofTable-other rs p t h))
 
     own : count (ownTable p) rs < count (ownTable p) ps → ownTable p < 256
         → sets (areaWith ps X rs (ownTable p)) (8 * count (ownTable p) rs) (bucketBytes (bucketOf p)) ≡ areaWith ps X (rs ++ p ∷ []) (ownTable p)
@@ -144,7 +130,7 @@ module _ (ps : List Placed) (X : List ℕ) (long : length X ≡ 16 * length ps) 
         let place : 8 * c ≡ length A + 0 = omega (arith, length-pairsOf rs t) in
         let later : 8 * c + (0 + length b) ≡ 8 * (c + 1) = omega arith in
         let pairs : cat bucketBytes (map bucketOf (ofTable t (rs ++ p ∷ []))) ≡ A ++ b =
-        ap (λ (l : List Placed). cat bucketBytes (map bucketOf l)) ofTable-own
+        ap (λ (l : List Placed). cat bucketBytes (map bucketOf l)) (ofTable-own rs p)
         ∙ ap (cat bucketBytes) (map-append bucketOf (ofTable t rs) (p ∷ []))
         ∙ cat-append bucketBytes (map bucketOf (ofTable t rs)) (bucketOf p ∷ [])
         ∙ ap (λ (l : List ℕ). A ++ l) (cat-one (bucketOf p)) in

@@ -28,7 +28,7 @@ use Rattle.serialize.specs.steps.Written.{backOffsetOf, headed, zeroed, 
 use Rattle.image.proofs.EntryArea.{AllBytes, bytes-drop, bytes-take, length-entriesIn, whole-bytes, ids-words}
 use Rattle.serialize.proofs.HeadRows.{counts-agree}
 use Rattle.serialize.proofs.PartialImage.{upToEntries, partial, partial-all}
-use Rattle.serialize.proofs.Cleared.{Tells, told-back, told-size, told-back-offset, cleared-partial, tables-stored, back-cleared}
+use Rattle.serialize.proofs.Cleared.{Describes, back-is, size-is, back-offset-is, cleared-partial, tables-stored, back-cleared}
 use Rattle.serialize.proofs.InsertStep.{next-at, length-found, step}
 use Rattle.serialize.proofs.TablesFilled.{counts-few, by-tables-image}
 use Rattle.serialize.proofs.TablesCopied.{words-number}
@@ -94,9 +94,9 @@ module _ (mode : Mode) (end entries back : ℕ) (counts buf : List ℕ) (bytes :
   in-number : length (storedEntries buf end entries) ≡ entries
   in-number = stored-number end entries buf bytes (asked .entire)
 
-  tells : Tells mode end entries back counts buf es
+  describes : Describes mode end entries back counts buf es
   unfolding es
-  tells = record {
+  describes = record {
     ends = at-end;
     number = sym in-number;
     backs = asked .backs;
@@ -107,7 +107,7 @@ module _ (mode : Mode) (end entries back : ℕ) (counts buf : List ℕ) (bytes :
 
   image-small : imageSize mode es ≤ 4294967295
   unfolding es
-  image-small = rw (← told-size mode end entries back counts buf es tells) (asked .small)
+  image-small = rw (← size-is mode end entries back counts buf es describes) (asked .small)
 
   -- entry by entry
   written-singly : insertedFrom mode (backOffsetOf mode end entries back) end entries headSize (zeroed (headed mode end entries back counts buf) end size)
@@ -115,8 +115,8 @@ module _ (mode : Mode) (end entries back : ℕ) (counts buf : List ℕ) (bytes :
   unfolding es size entriesSize
   written-singly =
       let tail = drop (finishedOf mode end entries back) buf in
-      ap (insertedFrom mode (backOffsetOf mode end entries back) end entries headSize) (cleared-partial mode end entries back counts buf es tells)
-      ∙ ap (λ (o : ℕ). insertedFrom mode o end entries headSize (partial mode es [] ++ tail)) (told-back-offset mode end entries back counts buf es tells)
+      ap (insertedFrom mode (backOffsetOf mode end entries back) end entries headSize) (cleared-partial mode end entries back counts buf es describes)
+      ∙ ap (λ (o : ℕ). insertedFrom mode o end entries headSize (partial mode es [] ++ tail)) (back-offset-is mode end entries back counts buf es describes)
       ∙ ap (λ (o : ℕ). insertedFrom mode (backOffset mode es) o entries headSize (partial mode es [] ++ tail)) at-end
       ∙ ap (λ (n : ℕ). insertedFrom mode (backOffset mode es) (entriesEnd es) n headSize (partial mode es [] ++ tail)) (sym in-number)
       ∙ walked mode es tail image-small (stored-ids end entries buf bytes (asked .entire)) es [] refl
@@ -134,13 +134,13 @@ module _ (mode : Mode) (end entries back : ℕ) (counts buf : List ℕ) (bytes :
       let long : length X ≡ 16 * length (placedIn es) =
       length-between buf end (end + 16 * entries) (omega arith) (omega (arith, asked .inside))
       ∙ same end entries (sym in-number ∙ sym (length-placed headSize es)) in
-      ap (insertedByTables mode (backOffsetOf mode end entries back) end entries counts) (back-cleared mode end entries back counts buf es tells)
-      ∙ ap (λ (o : ℕ). insertedByTables mode o end entries counts Z) (told-back-offset mode end entries back counts buf es tells)
+      ap (insertedByTables mode (backOffsetOf mode end entries back) end entries counts) (back-cleared mode end entries back counts buf es describes)
+      ∙ ap (λ (o : ℕ). insertedByTables mode o end entries counts Z) (back-offset-is mode end entries back counts buf es describes)
       ∙ ap (λ (o : ℕ). insertedByTables mode (backOffset mode es) o entries counts Z) at-end
       ∙ ap (λ (n : ℕ). insertedByTables mode (backOffset mode es) (entriesEnd es) n counts Z) (sym in-number)
       ∙ by-tables-image mode es X tail counts long image-small
-      (stored-ids end entries buf bytes (asked .entire)) (tells .tallies)
-      (counts-few counts (placedIn es) 4608 (and-second (leb 1024 entries) (noneAbove counts 4608) few) (tells .tallies))
+      (stored-ids end entries buf bytes (asked .entire)) (describes .tallies)
+      (counts-few counts (placedIn es) 4608 (and-second (leb 1024 entries) (noneAbove counts 4608) few) (describes .tallies))
     where
       same : (a n : ℕ) {m : ℕ} → n ≡ m → a + 16 * n - a ≡ 16 * m
       same a n e = omega arith
@@ -168,6 +168,6 @@ module _ (mode : Mode) (end entries back : ℕ) (counts buf : List ℕ) (bytes :
       omega (arith, length-cat le32 4 length-le32 words, words-number words buf end entries at-hand) in
       copyable
       ∙ ap (λ (l : List ℕ). sets l end (cat le32 words)) front
-      ∙ tables-stored mode end entries back counts buf es tells (cat le32 words) long
+      ∙ tables-stored mode end entries back counts buf es describes (cat le32 words) long
       ∙ ap₂ (λ (t l : List ℕ). U ++ t ++ l ++ tail) at-hand linked
-      ∙ ap (λ (n : ℕ). U ++ tables (placedIn es) ++ backWords (placedIn es) n ++ tail) (told-back mode end entries back counts buf es tells)
+      ∙ ap (λ (n : ℕ). U ++ tables (placedIn es) ++ backWords (placedIn es) n ++ tail) (back-is mode end entries back counts buf es describes)

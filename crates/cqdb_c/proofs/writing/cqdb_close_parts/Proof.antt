@@ -36,14 +36,12 @@ same-length c = search needs
 
 returns-2 : tie.Need-returns-2
 returns-2 c =
-    let a = c .before .before .before .before .before .before .before .before .before .before .before .before .args in
-    let of-writer-of = c .before .before .before .before .before .before .before .before .writer-of in
-    let of-close = c .before .before .before .before .before .before .close in
-    let fine = sym (c .before .before .before .before .before .before .before .before .before .before .known .ensures) ∙ not-false _ (c .before .before .before .before .before .before .before .before .before .if1 .left) in
-    close-known (cState (a .w) (a .counts .now) (a .buf .now)) (of-writer-of .result) (of-close .result .writer) (c .record-of .result)
-    (of-close .last .1 .1 .0) (closedOf (of-close .result .answer)) (c .before .before .close-number .result) (c .before .close-size .result)
-    fine (of-writer-of .ensures) (of-close .ensures .0) (of-close .ensures .1) (c .before .before .close-number .ensures)
-    (c .before .close-size .ensures) (c .record-of .ensures)
+    let given = c .before .before .before .before .before .before .before .before in
+    let known = given .before in
+    let a = known .before .before .before .args in
+    let done = c .before .before .before .before .before .before .close in
+    close-known (cState (a .w) (a .counts .now) (a .buf .now)) _ _ _ _ _ _ _ (sym (known .before .known .ensures) ∙ not-false _ (known .if1 .left))
+    (given .writer-of .ensures) (done .ensures .0) (done .ensures .1) (c .before .before .close-number .ensures) (c .before .close-size .ensures) (c .record-of .ensures)
 
 pub cqdb-close-parts-spec : {M : Type 1} → statement M
 cqdb-close-parts-spec =

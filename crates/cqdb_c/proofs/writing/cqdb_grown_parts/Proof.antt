@@ -25,12 +25,12 @@ record-of-requires c κs = search needs
 
 returns-2 : tie.Need-returns-2
 returns-2 c =
-    let a = c .before .before .before .before .before .before .args in
-    let of-grown = c .before .before .grown in
-    let of-writer-of = c .before .before .before .writer-of in
-    let fine = sym (c .before .before .before .before .before .known .ensures) ∙ not-false _ (c .before .before .before .before .if1 .left) in
-    grown-known (a .w) (a .length) (of-writer-of .result) (of-grown .result .writer) (c .record-of .result) (of-grown .result .refusal)
-    fine (of-writer-of .ensures) (of-grown .ensures .0) (of-grown .ensures .1) (c .record-of .ensures)
+    let given = c .before .before .before in
+    let known = given .before in
+    let a = known .before .before .args in
+    let done = c .before .before .grown in
+    grown-known (a .w) (a .length) _ _ _ _ (sym (known .before .known .ensures) ∙ not-false _ (known .if1 .left)) (given .writer-of .ensures)
+    (done .ensures .0) (done .ensures .1) (c .record-of .ensures)
 
 pub cqdb-grown-parts-spec : {M : Type 1} → statement M
 cqdb-grown-parts-spec =

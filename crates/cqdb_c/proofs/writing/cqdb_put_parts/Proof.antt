@@ -30,14 +30,12 @@ same-length c = search needs
 
 returns-2 : tie.Need-returns-2
 returns-2 c =
-    let a = c .before .before .before .before .before .before .before .before .before .before .before .before .args in
-    let of-put = c .before .before .before .before .put in
-    let of-writer-of = c .before .before .before .before .before .before .before .writer-of in
-    let fine = sym (c .before .before .before .before .before .before .before .before .before .known .ensures) ∙ not-false _ (c .before .before .before .before .before .before .before .before .if1 .left) in
-    put-known (cState (a .w) (a .counts .now) (a .buf .now)) (entryOf (a .name .now) (a .id)) (of-writer-of .result) (of-put .result .writer)
-    (c .record-of .result)
-    (of-put .last .1 .0) (of-put .last .1 .1 .0) (of-put .result .refusal)
-    fine (of-writer-of .ensures) (of-put .ensures .0) (of-put .ensures .1) (c .record-of .ensures)
+    let given = c .before .before .before .before .before .before .before in
+    let known = given .before in
+    let a = known .before .before .before .before .args in
+    let done = c .before .before .before .before .put in
+    put-known (cState (a .w) (a .counts .now) (a .buf .now)) (entryOf (a .name .now) (a .id)) _ _ _ _ _ _
+    (sym (known .before .known .ensures) ∙ not-false _ (known .if1 .left)) (given .writer-of .ensures) (done .ensures .0) (done .ensures .1) (c .record-of .ensures)
 
 pub cqdb-put-parts-spec : {M : Type 1} → statement M
 cqdb-put-parts-spec =

@@ -1,7 +1,7 @@
 -- `serialize::partition::partition_entries` meets its contract. Assumes nothing.
 use native.Mathlib.Omega.{arith}
 use borrow.Author.Needs.{needs}
-use Prim.Native.Nat.{_+_, _≤_}
+use Prim.Native.Nat.{_+_, _<_, _≤_}
 use mathlib.Core.Path.{refl}
 use Rattle.serialize.specs.steps.Insertion.{EntryPre}
 use Rattle.serialize.proofs.Insertion.{entry-in}
@@ -46,15 +46,16 @@ partition-entry-requires c κs = (entry (c .before .before) .1, c .before .befor
 abbrev read : tie.After-partition-entry Inv-loop μ-loop → tie.Else1 Inv-loop μ-loop
 read c = c .before .before .before
 
+-- the place behind it is a word
+next-word : (c : tie.After-partition-entry Inv-loop μ-loop)
+    → let e = read c in e .before .before .before .before .loop .at + (8 + e .before .whole-length .result) < 4294967296
+next-word c = let e = read c in omega (arith, entry e .0, e .before .before .before .before .before .before .pre .end-word)
+
 add-at : tie.Need-add-at Inv-loop μ-loop
-add-at c =
-    let r = entry (read (c .before .before)) in
-    omega (arith, (read (c .before .before)) .before .before .before .before .before .before .pre .end-word)
+add-at c = omega (arith, next-word (c .before .before))
 
 add-at-2 : tie.Need-add-at-2 Inv-loop μ-loop
-add-at-2 c =
-    let r = entry (read (c .before .before)) in
-    omega (arith, (read (c .before .before)) .before .before .before .before .before .before .pre .end-word)
+add-at-2 c = omega (arith, next-word (c .before .before))
 
 sub-left : tie.Need-sub-left Inv-loop μ-loop
 sub-left c = omega arith

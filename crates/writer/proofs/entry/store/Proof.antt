@@ -36,20 +36,20 @@ add-buf-2 c = search needs
 slice-write-buf : tie.Need-slice-write-buf
 slice-write-buf c = search needs
 
+-- the first word stored, where all parts are stored
+abbrev first : tie.After-store-bytes → tie.After-store-word
+first c = c .before .before .before .before .before .before .before .before
+
 same-length : tie.Need-same-length
 same-length c =
-    let of-word = c .before .before .before .before .before .before .before .before .before .before .store-word in
-    let of-word2 = c .before .before .before .before .before .before .store-word2 in
-    simp length-set (omega (arith, c .before .before .store-bytes .kept, of-word2 .kept, of-word .kept))
+    let done = c .before .before in
+    simp length-set (omega (arith, done .store-bytes .kept, done .before .before .before .before .store-word2 .kept, first done .store-word .kept))
 
 returns : tie.Need-returns
 returns c =
-    let a = c .before .before .before .before .before .before .before .before .before .before .before .before .before .before .args in
-    let of-word = c .before .before .before .before .before .before .before .before .before .before .store-word in
-    let of-word2 = c .before .before .before .before .before .before .store-word2 in
-    let of-bytes = c .before .before .store-bytes in
-    stored-parts (a .name .now) (a .buf .now) (of-word .last .0) (of-word2 .last .0) (of-bytes .last .0) (a .at) (a .id) (of-word .ensures)
-    (of-word2 .ensures) (of-bytes .ensures)
+    let done = c .before .before in
+    let a = first done .before .before .before .before .args in
+    stored-parts (a .name .now) (a .buf .now) _ _ _ (a .at) (a .id) (first done .store-word .ensures) (done .before .before .before .before .store-word2 .ensures) (done .store-bytes .ensures)
 
 pub store-spec : {M : Type 1} → statement M
 store-spec =
