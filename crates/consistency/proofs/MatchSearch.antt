@@ -1,4 +1,4 @@
--- The search of the home check along the buckets, a turn at a time. Assumes nothing.
+-- The search of the home check along the buckets, a step at a time. Assumes nothing.
 use Prim.Native.Nat.{ℕ, suc, _+_, _*_, _-_, _≤_, _<_}
 use native.Mathlib.Omega.{arith}
 use mathlib.Core.Path.{_≡_, refl, sym, ap, ap₂, _∙_}
@@ -45,7 +45,7 @@ module _ (image name : List ℕ) (h o n : ℕ) where
       let e : m ≡ 0 = omega arith in
       sym (ap (λ (i : ℕ). anyMatch id (matchesAlong look (probeSequence n i k) (n - m))) e ∙ ap (anyMatch id) (none-left k (n - m)))
 
-  -- a turn, by what is seen
+  -- a step, by the probe of its bucket
   pub matches-step : (k m : ℕ) (seen : Probe) → 0 < m → m ≤ n → seen ≡ look k
       → addMatch seen (n - (m - 1)) (matchesRest image name h o n (next n k) (m - 1)) ≡ matchesRest image name h o n k m
   matches-step k m seen l f e =
@@ -54,6 +54,12 @@ module _ (image name : List ℕ) (h o n : ℕ) where
       ap (λ (s : Probe). addMatch s (n - (m - 1)) (matchesRest image name h o n (next n k) (m - 1))) e
       ∙ ap (λ (i : ℕ). addMatch (look k) i (matchesAlong look (probeSequence n (m - 1) (next n k)) i)) r
       ∙ sym (ap (λ (i : ℕ). matchesAlong look (probeSequence n i k) (n - m)) p ∙ one-more (m - 1) k (n - m))
+
+-- the loop of the search: what is left of it has a match with the id exactly where the whole search has
+pub record MatchInv (image name : List ℕ) (h o n id k left : ℕ) : Type 0 where
+  pub bucket : k < n
+  pub most : left ≤ n
+  pub same : anyMatch id (matchesRest image name h o n k left) ≡ anyMatch id (matchesIn image name h o n)
 
 -- an entry with this id decides; past another one the rest does
 pub this-one : (i id : ℕ) (rest : Bool) → i ≡ id → true ≡ (eqb i id || rest)

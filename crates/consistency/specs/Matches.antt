@@ -1,5 +1,5 @@
--- The entries that a search meets: 01, "Looking up a name", and 02 (vi), "A renewed prism counts as home". The lookup's answer and the home check are
--- two readings of them.
+-- The matches of a search: 01, "Looking up a name", and 02 (vi), "A renewed prism counts as home". The lookup's answer
+-- and the home check are two readings of them.
 use Prim.Native.Nat.{ℕ, _+_, _*_}
 use mathlib.Core.Bool.{Bool, false, cond, _||_}
 use mathlib.Core.List.{List, [], _∷_}
@@ -12,8 +12,8 @@ use Rattle.image.specs.Head.{tableAt, bucketNumber}
 use Rattle.reader.specs.Lookup.{Lookup, found, nothing, Probe, pass, ends, hit, probeBucket, unsearched}
 use Rattle.reader.specs.declared.Found.{Found}
 
--- the entries with this name that a search meets, in its order, each with its id, the buckets read up to it and its offset; behind the last, the number of
--- buckets that the search reads
+-- the entries with this name that a search reads, in its order, each with its id, the buckets read up to it and its
+-- offset; after the last, the number of buckets that the search reads
 pub data Matches : Type 0 where
   matched : Found → Matches → Matches
   ended : ℕ → Matches
@@ -26,21 +26,24 @@ addMatch (hit h) reads rest = matched (record { id = h .id; buckets = reads; off
 
 -- or all buckets are read, `reads` being those read before
 unfoldable pub matchesAlong : (ℕ → Probe) → List ℕ → ℕ → Matches
-matchesAlong look [] reads = ended reads
-matchesAlong look (k ∷ ks) reads = addMatch (look k) (reads + 1) (matchesAlong look ks (reads + 1))
+matchesAlong probe [] reads = ended reads
+matchesAlong probe (k ∷ ks) reads = addMatch (probe k) (reads + 1) (matchesAlong probe ks (reads + 1))
 
 -- in a table of n buckets at offset o
 unfoldable pub matchesIn : List ℕ → List ℕ → ℕ → ℕ → ℕ → Matches
-matchesIn image name h o n = matchesAlong (λ (k : ℕ). probeBucket image name h (o + 8 * k)) (probeSequence n n (start h n)) 0
+matchesIn image name h o n =
+    matchesAlong (λ (k : ℕ). probeBucket image name h (o + 8 * k)) (probeSequence n n (start h n)) 0
 
 -- none where 01 reads no bucket
 unfoldable pub matchesByHash : List ℕ → List ℕ → ℕ → Matches
 matchesByHash image name h =
-    cond (unsearched image (tableOf h)) (ended 0) (matchesIn image name h (tableAt image (tableOf h)) (bucketNumber image (tableOf h)))
+    cond (unsearched image (tableOf h)) (ended 0)
+    (matchesIn image name h (tableAt image (tableOf h)) (bucketNumber image (tableOf h)))
 
 unfoldable pub matchesOf : List ℕ → List ℕ → Matches
 matchesOf image name =
-    cond (ltb (length image) headSize) (ended 0) (cond (leb 4294967295 (length name)) (ended 0) (matchesByHash image name (hashOf name)))
+    cond (ltb (length image) headSize) (ended 0)
+    (cond (leb 4294967295 (length name)) (ended 0) (matchesByHash image name (hashOf name)))
 
 -- the lookup's answer: the first of them
 abbrev pub firstMatch : Matches → Lookup

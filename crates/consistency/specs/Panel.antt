@@ -19,7 +19,7 @@ cutAtZero image unnamed = unnamed
 unfoldable pub panel : List ℕ → ℕ → Naming
 panel image id = cutAtZero image (naming image id)
 
--- as a returned part of the lent image, empty if nothing
+-- as a subslice of the image, empty if nothing
 abbrev pub panelSlice : Slice → ℕ → Slice
 panelSlice image id = sliceOr image (subslice image 0 0) (panel (image .bytes) id)
 
@@ -36,7 +36,8 @@ pub record LongestFront (name front : List ℕ) : Type 0 where
 
 -- the panel shows only what precedes the first zero: its reading of every id, in every image, is that front of the name
 pub record PanelReads : Type 0 where
-  pub shown : (image : List ℕ) (id : ℕ) → LongestFront (reading image (naming image id)) (reading image (panel image id))
+  pub shown : (image : List ℕ) (id : ℕ)
+      → LongestFront (reading image (naming image id)) (reading image (panel image id))
 
 -- both readings agree on an id: the panel's, and the recogniser's, which is the whole name
 abbrev pub agreeOn : List ℕ → ℕ → Bool

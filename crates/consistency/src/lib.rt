@@ -1,4 +1,4 @@
-// Whether an image agrees with itself, on every slice of bytes: whether an id's name leads back to it (the home check), and
+// Whether an image is consistent, on every slice of bytes: whether an id's name leads back to it (the home check), and
 // whether the panel, which reads names as C strings, reads whole names. No call has a `requires`.
 ghost use mathlib.Core.Path.{_≡_};
 ghost use Rattle.consistency.specs.Home.{home};
@@ -11,7 +11,7 @@ pub mod panel; // panel.rt: panel, panel_place, readings_agree
 
 pub use panel::readings_agree;
 
-// Has the id a name, and has some entry that the search for that name meets this name and this id?
+// The home check (01's term): has the id a name, and has some match of that name's search this id?
 pub fn home(image: &[u8], id: u32) -> bool
     ensures { λ r. ⌜ r ≡ home (now (image .entry)) id ⌝ }
 {

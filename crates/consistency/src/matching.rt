@@ -1,30 +1,29 @@
-// The search of the home check (02 (vi)). It goes on past an equal name, so that each of a name's ids is met; the lookup's own
+// The search of the home check (02 (vi)). It continues past an equal name, so it finds each id of a name; the lookup's
 // search, which ends there, is the reader's.
 ghost use mathlib.Core.Path.{_≡_};
-ghost use Prim.Native.Nat.{_+_, _*_, _<_, _≤_};
+ghost use Prim.Native.Nat.{_≤_};
 ghost use lib.ListN.{length};
+ghost use Rattle.reader.specs.steps.Search.{TableIn};
 ghost use Rattle.consistency.specs.Matches.{matchesIn, matchesByHash, matchesOf, anyMatch};
+use image::HEAD_SIZE;
+use image::probe::next;
+use image::probe::start;
 use jhash::Hashed;
 use reader::Probe;
-use reader::lookup::next_bucket;
 use reader::lookup::probe_bucket;
 use reader::lookup::table_of;
-use reader::start::start;
 
-// The head is 2,072 bytes.
-const HEAD_SIZE: usize = 2072;
-
-// Does a search for the name in the table of n buckets at `at` meet an entry with this id? It ends at an empty bucket, at a
+// Has the search for the name in the table of n buckets at `at` a match with this id? It ends at an empty bucket, at a
 // broken entry, and after n buckets.
 fn has_match_in(image: &[u8], name: &[u8], h: u32, at: u32, n: u32, id: u32) -> bool
-    requires { ⌜ (0 < n) × (at + 8 * n ≤ length (now image)) ⌝ }
+    requires { ⌜ TableIn (now image) at n ⌝ }
     ensures { λ r. ⌜ r ≡ anyMatch id (matchesIn (now (image .entry)) (now (name .entry)) h at n) ⌝ }
 {
     let mut k = start(h, n);
     let mut left = n;
     while 0 < left {
         left -= 1;
-        match probe_bucket(image, name, h, at as usize + 8 * (k as usize)) {
+        match probe_bucket(image, name, h, at as usize + 8 * k) {
             Probe::Pass => {}
             Probe::Ends => {
                 return false;
@@ -35,7 +34,7 @@ fn has_match_in(image: &[u8], name: &[u8], h: u32, at: u32, n: u32, id: u32) -> 
                 }
             }
         }
-        k = next_bucket(k, n);
+        k = next(k, n as usize);
     }
     false
 }
@@ -52,7 +51,7 @@ fn has_match_hashed(image: &[u8], name: &[u8], h: u32, id: u32) -> bool
     has_match_in(image, name, h, table.at, table.n, id)
 }
 
-// Does a search for the name meet an entry with this id?
+// Has the search for the name a match with this id?
 pub(super) fn has_match(image: &[u8], name: &[u8], id: u32) -> bool
     ensures { λ r. ⌜ r ≡ anyMatch id (matchesOf (now (image .entry)) (now (name .entry))) ⌝ }
 {

@@ -1,4 +1,5 @@
-// The panel's reading of names (02 (v)): a name up to its first zero byte, as a C string is read; and whether it is the whole name.
+// The panel's reading of names (02 (v)): a name up to its first zero byte, as a C string is read; and whether it is the
+// whole name.
 ghost use mathlib.Core.Path.{_≡_};
 ghost use mathlib.Core.Bool.{cond};
 ghost use Prim.Native.Nat.{_+_, _<_, _≤_};
@@ -21,7 +22,8 @@ fn shown_length(image: &[u8], start: usize, len: usize) -> usize
     length_before_zero(&image[start..start + len])
 }
 
-// The place of an id's name up to its first zero byte, or nothing. A name that begins with a zero byte has a place of length 0.
+// The place of an id's name up to its first zero byte, or nothing. A name that begins with a zero byte has a place of
+// length 0.
 pub fn panel_place(image: &[u8], id: u32) -> Named
     ensures { λ r. ⌜ namingOf r ≡ panel (now (image .entry)) id ⌝ }
 {
@@ -34,7 +36,7 @@ pub fn panel_place(image: &[u8], id: u32) -> Named
     }
 }
 
-// The part of the lent image that is an id's name up to its first zero byte, empty if it has none.
+// The subslice of the image that is an id's name up to its first zero byte, empty if it has none.
 pub fn panel<'a>(image: &'a [u8], id: u32) -> &'a [u8]
     ensures { λ r. ⌜ slice r ≡ panelSlice (slice (image .entry)) id ⌝ }
 {
@@ -44,7 +46,7 @@ pub fn panel<'a>(image: &'a [u8], id: u32) -> &'a [u8]
     }
 }
 
-// The id to look at after this one, or 0 where both readings differ on this one. On an id without a name they agree.
+// The next id to check, or 0 where both readings differ on this one. On an id without a name they agree.
 fn agree_step(image: &[u8], id: u32) -> u32
     requires { ⌜ id < 4294967295 ⌝ }
     ensures { λ r. ⌜ r ≡ cond (agreeOn (now (image .entry)) id) (id + 1) 0 ⌝ }
@@ -62,7 +64,7 @@ fn agree_step(image: &[u8], id: u32) -> u32
     }
 }
 
-// Do both readings agree on every id below back size? Where no id can have a name, they do, and none is looked at.
+// Do both readings agree on every id below back size? Where no id can have a name they do, and none is read.
 pub fn readings_agree(image: &[u8]) -> bool
     ensures { λ r. ⌜ r ≡ readingsAgree (now (image .entry)) ⌝ }
 {

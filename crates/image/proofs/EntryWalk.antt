@@ -15,6 +15,7 @@ use Rattle.image.specs.Tables.{tableOf}
 use Rattle.image.specs.Image.{Entry, backSize, hasName, containsName}
 use Rattle.image.specs.Stored.{firstWhole, firstEntry, afterFirst, whole, entriesIn, between}
 use Rattle.image.specs.steps.EntryLength.{wholeLength}
+use Rattle.image.specs.steps.Walk.{ComparePre}
 use Rattle.image.specs.Tally.{tallied, raisedCounts, countsAfter}
 use Rattle.image.proofs.Equal.{same-false}
 use Rattle.image.proofs.Between.{Front, not-whole, length-between, drop-between, word-between, name-between}
@@ -100,7 +101,7 @@ module _ (buf : List ℕ) (at end n m : ℕ) (h : at ≤ end) (k : end ≤ lengt
       entriesIn-suc m (between buf at end)
       ∙ ap (λ (l : List ℕ). firstEntry (between buf at end) ∷ entriesIn m l) after-first
 
--- one turn
+-- one step of the walk
 pub walk-step : (buf : List ℕ) (end entries : ℕ) (counts₀ : List ℕ) (at left back : ℕ) (counts : List ℕ) → end ≤ length buf
     → Rest buf end entries counts₀ at left back counts → 0 < left
     → (n h id : ℕ) (name counts′ : List ℕ) → Front (between buf at end) n → n < 4294967296 → id < 4294967296
@@ -147,12 +148,16 @@ unfolding containsName
 containsName-cons name e es = refl
 
 -- a name of another hash is another name
-pub other-hash : (name sought : List ℕ) (h want : ℕ) → length name < 4294967295 → h ≡ hashOf name → (length sought < 4294967295 → want ≡ hashOf sought)
-    → (h ≡ want → ⊥) → same name sought ≡ false
-other-hash name sought h want short is wants differ =
-    same-false name sought (λ e. differ (is ∙ ap hashOf e ∙ sym (wants (omega (arith, short, ap length e)))))
+pub other-hash : {name sought : List ℕ} {h want : ℕ} → ComparePre name h sought want → (h ≡ want → ⊥) → same name sought ≡ false
+other-hash {name} {sought} p differ =
+    same-false name sought (λ e. differ (p .hash ∙ ap hashOf e ∙ sym (p .wanted (omega (arith, p .short, ap length e)))))
 
--- one turn: b says whether the name of the entry at `at` is the one that is sought
+-- the loop of the walk
+pub record WalkInv (buf : List ℕ) (end entries : ℕ) (counts₀ sought counts : List ℕ) (at left back : ℕ) (contains : Bool) : Type 0 where
+  pub rest : Rest buf end entries counts₀ at left back counts
+  pub contains-rest : ContainsRest buf end entries sought at left contains
+
+-- one step: b says whether the name of the entry at `at` is the one that is sought
 pub contains-step : (buf : List ℕ) (end entries : ℕ) (sought : List ℕ) (at left : ℕ) (so-far : Bool) → end ≤ length buf → at ≤ end → 0 < left
     → ContainsRest buf end entries sought at left so-far → (n : ℕ) (name : List ℕ) (b : Bool) → Front (between buf at end) n
     → name ≡ take (n - 1) (drop (at + 8) buf) → b ≡ same name sought

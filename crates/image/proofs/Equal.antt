@@ -15,6 +15,11 @@ use Rattle.jhash.proofs.WordRead.{word-of, word-below}
 use Rattle.image.specs.Bytes.{word, le32, same}
 use Rattle.image.proofs.Words.{le32-bytes}
 
+-- the loops over two byte strings, before byte i: what is left is equal exactly where all from `from` on is
+pub record SameInv (a b : List ℕ) (from i : ℕ) : Type 0 where
+  pub inside : i ≤ length a
+  pub rest : same (drop i a) (drop i b) ≡ same (drop from a) (drop from b)
+
 -- ---- the test tells equal strings
 
 pub same-self : (xs : List ℕ) → same xs xs ≡ true

@@ -9,6 +9,12 @@ use lib.Seq.{sets, drop-cons, set-append-left}
 use Rattle.image.specs.Bytes.{cat, range}
 use Rattle.image.proofs.Lists.{cat-append, cat-run, range-at}
 
+-- the loop that stores src from `at` on, before its byte j
+pub record StoreInv (buf₀ : List ℕ) (at : ℕ) (src buf : List ℕ) (j : ℕ) : Type 0 where
+  pub inside : j ≤ length src
+  pub same-length : length buf ≡ length buf₀
+  pub rest : sets buf (at + j) (drop j src) ≡ sets buf₀ at src
+
 module _ {A : Type 0} where
   pub sets-append : (xs ys l : List A) (i : ℕ) → sets (sets l i xs) (i + length xs) ys ≡ sets l i (xs ++ ys)
   sets-append [] ys l i = ap (λ (k : ℕ). sets l k ys) (add-zero i)

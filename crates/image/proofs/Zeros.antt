@@ -5,31 +5,28 @@ use native.Mathlib.Numerals.{add-one}
 use mathlib.Core.Path.{_≡_, refl, sym, ap, ap₂, _∙_}
 use mathlib.Core.Bool.{Bool, true, false, not, cond, _&&_, _||_}
 use mathlib.Core.List.{List, [], _∷_, _++_}
-use borrow.Author.Tests.{eq-eqb, ne-eqb}
-use lib.Dec.{eqb}
+use borrow.Author.Tests.{lt-ltb, le-ltb, eq-eqb, ne-eqb}
+use lib.Dec.{eqb, ltb}
 use lib.ListN.{length, getD, take, drop, drop-of-length-le, take-append-drop, length-drop}
 use lib.Seq.{drop-cons, drop-drop, take-add, take-all}
 use Rattle.image.specs.Bytes.{same}
 use Rattle.image.specs.Zero.{hasZero, beforeZero}
 use Rattle.image.proofs.Bools.{false-not-true}
 
--- nothing is left
-pub zero-none : (s : List ℕ) (i : ℕ) → length s ≤ i → hasZero (drop i s) ≡ false
-unfolding hasZero
-zero-none s i h = rw (drop-of-length-le s {i = i} h)
+-- ---- the loops over a name, before byte i
+
+-- what is left has a zero byte exactly where the name has
+pub record ZeroInv (name : List ℕ) (i : ℕ) : Type 0 where
+  pub inside : i ≤ length name
+  pub rest : hasZero (drop i name) ≡ hasZero name
+
+-- the bytes so far precede the first zero byte, and what is left continues them
+pub record BeforeInv (name : List ℕ) (i : ℕ) : Type 0 where
+  pub inside : i ≤ length name
+  pub rest : i + length (beforeZero (drop i name)) ≡ length (beforeZero name)
 
 -- one byte at i, where j is the next
 module _ (s : List ℕ) (i j : ℕ) (e : i + 1 ≡ j) (p : i < length s) where
-  pub zero-byte : hasZero (drop i s) ≡ (eqb (getD s i 0) 0 || hasZero (drop j s))
-  unfolding hasZero
-  zero-byte = rw (← e, add-one, drop-cons s i 0 p)
-
-  pub zero-there : getD s i 0 ≡ 0 → hasZero (drop i s) ≡ true
-  zero-there h = zero-byte ∙ ap (λ (t : Bool). t || hasZero (drop j s)) (eq-eqb (getD s i 0) 0 h)
-
-  pub zero-further : (getD s i 0 ≡ 0 → ⊥) → hasZero (drop i s) ≡ hasZero (drop j s)
-  zero-further h = zero-byte ∙ ap (λ (t : Bool). t || hasZero (drop j s)) (ne-eqb (getD s i 0) 0 h)
-
   pub before-there : getD s i 0 ≡ 0 → beforeZero (drop i s) ≡ []
   unfolding beforeZero
   before-there h = rw (drop-cons s i 0 p, eq-eqb (getD s i 0) 0 h)
@@ -227,3 +224,11 @@ before-less (x ∷ xs) h = go (eqb x 0) h (before-less xs)
         → length (cond t [] (x ∷ beforeZero xs)) < length (x ∷ xs)
     go true e rest = omega arith
     go false e rest = let l = rest e in omega arith
+
+-- it is shorter exactly where there is one
+pub before-test : (s : List ℕ) → ltb (length (beforeZero s)) (length s) ≡ hasZero s
+before-test s = go (hasZero s) refl
+  where
+    go : (t : Bool) → hasZero s ≡ t → ltb (length (beforeZero s)) (length s) ≡ hasZero s
+    go true e = lt-ltb (length (beforeZero s)) (length s) (before-less s e) ∙ sym e
+    go false e = le-ltb (length (beforeZero s)) (length s) (omega (arith, before-all s e)) ∙ sym e

@@ -15,7 +15,7 @@ unfoldable pub cat : {A : Type 0} → (A → List ℕ) → List A → List ℕ
 cat f [] = []
 cat f (x ∷ xs) = f x ++ cat f xs
 
--- the elements for which a test holds, in their order
+-- the elements that pass a test, in their order
 unfoldable pub filter : {A : Type 0} → (A → Bool) → List A → List A
 filter test [] = []
 filter test (x ∷ xs) = cond (test x) (x ∷ filter test xs) (filter test xs)
@@ -32,7 +32,7 @@ same [] (y ∷ ys) = false
 same (x ∷ xs) [] = false
 same (x ∷ xs) (y ∷ ys) = eqb x y && same xs ys
 
--- does a test hold of each of the m numbers from t on?
+-- does each of the m numbers from t on pass a test?
 unfoldable pub all : (ℕ → Bool) → ℕ → ℕ → Bool
 all test t zero = true
 all test t (suc m) = test t && all test (suc t) m

@@ -30,7 +30,7 @@ unfoldable pub entriesSize : List Entry → ℕ
 entriesSize [] = 0
 entriesSize (e ∷ es) = entrySize e + entriesSize es
 
--- an entry and the offset at which it stands
+-- an entry and its offset
 pub record Placed : Type 0 where
   pub entry : Entry
   pub at : ℕ
@@ -102,7 +102,7 @@ unfoldable pub lastFrom : ℕ → List Placed → ℕ
 lastFrom o [] = o
 lastFrom o (p ∷ ps) = lastFrom (p .at) ps
 
--- the offset of an id's last entry, 0 if it has none
+-- the id's word in the back array: the offset of its last entry, 0 if it has none
 unfoldable pub backWord : List Placed → ℕ → ℕ
 backWord ps i = lastFrom 0 (placedOfId i ps)
 
@@ -127,11 +127,12 @@ backSizeOf mode es = backIn mode (backSize es)
 abbrev pub imageSize : Mode → List Entry → ℕ
 imageSize mode es = entriesEnd es + 16 * length es + 4 * backSizeOf mode es
 
--- the back array stands after the tables; its offset is 0 in a one-way image and in an empty one
+-- the back array follows the tables; its offset is 0 in a one-way image and in an empty one
 unfoldable pub backOffset : Mode → List Entry → ℕ
 backOffset mode es = cond (eqb (backSizeOf mode es) 0) 0 (entriesEnd es + 16 * length es)
 
--- 0: the letters CQDB. 4: size of the whole image. 8: flag word. 12: 62445371 hexadecimal. 16: back size. 20: back offset
+-- 0: the letters CQDB. 4: size of the whole image. 8: flag word. 12: 62445371 hexadecimal. 16: back size.
+-- 20: back offset
 unfoldable pub headBytes : ℕ → ℕ → ℕ → ℕ → List ℕ
 headBytes size flag n o =
     67 ∷ 81 ∷ 68 ∷ 66 ∷ [] ++ le32 size ++ le32 flag ++ le32 0x62445371 ++ le32 n ++ le32 o

@@ -1,5 +1,5 @@
--- The entries that bytes hold: 01, "Looking up a name" (an entry at an offset of an image, broken or not) and "When a call is refused" (whole
--- entries one after the other, as close finds them).
+-- The entries in some bytes: 01, "Looking up a name" (an entry at an offset of an image, broken or not) and "When a
+-- call is refused" (whole entries one after the other, as close finds them).
 use Prim.Native.Nat.{ℕ, zero, suc, _+_, _-_}
 use mathlib.Core.Bool.{Bool, _&&_, _||_}
 use mathlib.Core.List.{List, [], _∷_}
@@ -14,7 +14,10 @@ nameOf image at = take (word image (at + 4) - 1) (drop (at + 8) image)
 
 -- an entry is broken where its first 8 bytes or its name leave the image, or its length word is 0
 abbrev pub broken : List ℕ → ℕ → Bool
-broken image at = ltb (length image) (at + 8) || eqb (word image (at + 4)) 0 || ltb (length image) (at + 8 + (word image (at + 4) - 1))
+broken image at =
+    ltb (length image) (at + 8)
+    || eqb (word image (at + 4)) 0
+    || ltb (length image) (at + 8 + (word image (at + 4) - 1))
 
 -- the entry at the front of some bytes
 abbrev pub firstEntry : List ℕ → Entry
@@ -27,7 +30,10 @@ afterFirst bytes = drop (8 + word bytes 4) bytes
 -- is it whole? Length word at least 1, last byte zero
 abbrev pub firstWhole : List ℕ → Bool
 firstWhole bytes =
-    leb 8 (length bytes) && leb 1 (word bytes 4) && leb (8 + word bytes 4) (length bytes) && eqb (getD bytes (7 + word bytes 4) 0) 0
+    leb 8 (length bytes)
+    && leb 1 (word bytes 4)
+    && leb (8 + word bytes 4) (length bytes)
+    && eqb (getD bytes (7 + word bytes 4) 0) 0
 
 -- are the bytes this number of whole entries?
 unfoldable pub whole : ℕ → List ℕ → Bool

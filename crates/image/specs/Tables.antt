@@ -17,7 +17,7 @@ start h n = h / 256 % n
 abbrev pub next : ℕ → ℕ → ℕ
 next n k = (k + 1) % n
 
--- the m buckets that a search among n meets from bucket k on, in its order
+-- the probe sequence: the m buckets that a search among n reads from bucket k on, in its order
 unfoldable pub probeSequence : ℕ → ℕ → ℕ → List ℕ
 probeSequence n zero k = []
 probeSequence n (suc m) k = k ∷ probeSequence n m (next n k)

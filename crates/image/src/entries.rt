@@ -1,27 +1,27 @@
-// The entries that bytes hold: whether the one at a place is broken, or whole, its name, and a walk over them that counts them by
-// table and says whether one has a given name.
+// The entries in some bytes: whether the one at a place is broken, or whole, its name, and a walk over them that counts
+// them by table and says whether one has a given name.
 ghost use mathlib.Core.Path.{_≡_};
-ghost use mathlib.Core.Bool.{true};
-ghost use Prim.Native.Nat.{ℕ, _+_, _-_, _<_, _≤_, max};
+ghost use Prim.Native.Nat.{_+_, _-_, _<_, _≤_, max};
 ghost use lib.ListN.{length, getD, take, drop};
 ghost use Rattle.jhash.specs.NameHash.{hashOf};
 ghost use Rattle.image.specs.Bytes.{same};
 ghost use Rattle.image.specs.Tables.{tableOf};
-ghost use Rattle.image.specs.Image.{backSize, containsName};
-ghost use Rattle.image.specs.Stored.{broken, whole, entriesIn, between};
+ghost use Rattle.image.specs.Stored.{broken, between};
+ghost use Rattle.image.specs.Tally.{raisedCounts};
 ghost use Rattle.image.specs.steps.EntryLength.{wholeLength};
-ghost use Rattle.image.specs.Tally.{raisedCounts, tallied};
+ghost use Rattle.image.specs.steps.Walk.{ComparePre, WalkPre, WalkedEntries};
+use super::HEAD_SIZE;
 use jhash::word::word;
 
-// A length word minus 1; of 0 the largest number of all, more than any image has room for.
+// A length word minus 1; of 0 the largest number of all, which exceeds the length of any image.
 fn less_one(len: u32) -> u64
     ensures { λ r. ⌜ ((len ≡ 0 → r ≡ 18446744073709551615) × (0 < len → r ≡ len - 1)) ⌝ }
 {
     std::num::wrapping_sub_u64(len as u64, 1)
 }
 
-// Does the entry at `at` leave the image with its first 8 bytes or its name, or is its length word 0? The last two are one
-// comparison.
+// Does the entry at `at` leave the image with its first 8 bytes or its name, or is its length word 0? The last two are
+// one comparison.
 pub fn broken(image: &[u8], at: u32) -> bool
     ensures { λ r. ⌜ r ≡ broken (now (image .entry)) at ⌝ }
 {
@@ -29,8 +29,8 @@ pub fn broken(image: &[u8], at: u32) -> bool
     if image.len() < start {
         return true;
     }
-    let room = image.len() - start;
-    (room as u64) < less_one(word(image, at as usize + 4))
+    let left = image.len() - start;
+    (left as u64) < less_one(word(image, at as usize + 4))
 }
 
 // The larger of two numbers.
@@ -50,8 +50,8 @@ pub fn raise(counts: &mut [u32; 256], h: u32)
     counts[t] = c + 1;
 }
 
-// What a walk over the entries found: whether they are whole, the back size that they have, and whether one has the name
-// that was sought.
+// What a walk over the entries found: whether they are whole, their back size, and whether one has the name that was
+// sought.
 pub struct Walked {
     pub whole: bool,
     pub back: u64,
@@ -97,10 +97,10 @@ fn sought_hash(sought: &[u8]) -> u32
     h
 }
 
-// Whether an entry's name, which has hash h, is the one that is sought. The entry is hashed for the counts anyway, so its
-// bytes are compared only where the hashes are equal.
+// Whether an entry's name, which has hash h, is the one that is sought. The entry is hashed for the counts anyway, so
+// its bytes are compared only where the hashes are equal.
 fn is_sought(name: &[u8], h: u32, sought: &[u8], want: u32) -> bool
-    requires { ⌜ (length (now name) < 4294967295) × (h ≡ hashOf (now name)) × (length (now sought) < 4294967295 → want ≡ hashOf (now sought)) ⌝ }
+    requires { ⌜ ComparePre (now name) h (now sought) want ⌝ }
     ensures { λ r. ⌜ r ≡ same (now (name .entry)) (now (sought .entry)) ⌝ }
 {
     if h != want {
@@ -109,16 +109,15 @@ fn is_sought(name: &[u8], h: u32, sought: &[u8], want: u32) -> bool
     super::equality::same(name, sought)
 }
 
-// Walks `entries` entries from 2,072 on, counts them by table and says whether one has the name that is sought. The walk goes
-// on where that name is met, since a broken entry may follow.
+// Walks `entries` entries from 2,072 on, counts them by table and says whether one has the name that is sought. The
+// walk continues past that name, since a broken entry may follow.
 pub fn walk(buf: &[u8], end: usize, entries: u32, counts: &mut [u32; 256], sought: &[u8]) -> Walked
-    requires { ⌜ (2072 ≤ end) × (end ≤ length (now buf)) × ((t : ℕ) → getD (now counts) t 0 ≡ 0) ⌝ }
-    ensures whole { λ r. ⌜ r .whole ≡ whole entries (between (now (buf .entry)) 2072 end) ⌝ }
-    ensures back { λ r. ⌜ (r .whole ≡ true → r .back ≡ backSize (entriesIn entries (between (now (buf .entry)) 2072 end))) ⌝ }
-    ensures contains { λ r. ⌜ (r .whole ≡ true → r .contains ≡ containsName (now (sought .entry)) (entriesIn entries (between (now (buf .entry)) 2072 end))) ⌝ }
-    ensures counts { λ r. ⌜ (r .whole ≡ true → now (counts .exit) ≡ tallied (now (counts .entry)) (entriesIn entries (between (now (buf .entry)) 2072 end))) ⌝ }
+    requires { ⌜ WalkPre (now buf) end (now counts) ⌝ }
+    ensures { λ r. ⌜
+        WalkedEntries (now (buf .entry)) end entries (now (sought .entry)) (now (counts .entry)) (now (counts .exit)) r
+        ⌝ }
 {
-    let mut at = 2072;
+    let mut at = HEAD_SIZE;
     let mut left = entries;
     let mut back: u64 = 0;
     let mut contains = false;

@@ -1,5 +1,5 @@
-// What an image is made of: its words, read and stored little-endian anywhere in a slice, byte strings compared, the entries
-// that bytes hold, and the writer's mode.
+// What an image is made of: its words, read and stored little-endian anywhere in a slice, byte strings compared, the
+// entries in some bytes, probe sequences, and the writer's mode.
 ghost use mathlib.Core.Path.{_≡_};
 ghost use Prim.Native.Nat.{_<_};
 ghost use lib.ListN.{length, set};
@@ -12,12 +12,16 @@ use store::store_word;
 
 pub mod entries; // entries.rt: broken entries, whole ones, and a walk over them
 pub mod equality; // equality.rt: same
+pub mod probe; // probe.rt: the probe sequence of a search
 pub mod rows; // rows.rt: the row of a hash's table in the head
 pub mod scratch; // scratch.rt: clear
-pub mod store; // store.rt: words and bytes stored where there is room
+pub mod store; // store.rt: words and bytes stored inside a buffer
 pub mod zero; // zero.rt: zero bytes in a name
 
-// The writer's mode (`Flag` of cqdb-rs, NONE and ONEWAY): one-way leaves the back array out.
+// The head is 2,072 bytes.
+pub const HEAD_SIZE: usize = 2072;
+
+// The writer's mode (`Flag` of cqdb-rs, NONE and ONEWAY): a one-way image has no back array.
 pub enum Mode {
     Twoway,
     Oneway,

@@ -3,7 +3,7 @@ ghost use mathlib.Core.Path.{_≡_};
 ghost use Prim.Native.Nat.{ℕ, _≤_, _<_};
 ghost use lib.ListN.{length, getD};
 
-// Sets the first n words to 0: what lent memory held is not trusted.
+// Sets the first n words to 0: the former content of lent memory is not trusted.
 pub fn clear(words: &mut [u32], n: usize)
     requires { ⌜ n ≤ length (now words) ⌝ }
     ensures zero { λ _. ⌜ ((i : ℕ) → i < n → getD (now (words .exit)) i 0 ≡ 0) ⌝ }

@@ -1,5 +1,5 @@
-// Words and byte strings stored where there is room for them. These are leaves: the caller knows of the room, so that no store
-// is tested twice.
+// Words and byte strings stored inside a buffer. These are internal functions: the caller knows that they fit, so no
+// store is tested twice.
 ghost use mathlib.Core.Path.{_≡_};
 ghost use Prim.Native.Nat.{_+_, _≤_};
 ghost use lib.ListN.{length};

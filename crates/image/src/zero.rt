@@ -20,27 +20,13 @@ fn zero_in_eight(s: &[u8], at: usize) -> bool
     zero_in_four(s, at) | zero_in_four(s, at + 4)
 }
 
-// Has a name of fewer than four bytes a zero byte?
-fn zero_in_few(s: &[u8]) -> bool
-    ensures { λ r. ⌜ r ≡ hasZero (now (s .entry)) ⌝ }
-{
-    let mut i: usize = 0;
-    while i < s.len() {
-        if s[i] == 0 {
-            return true;
-        }
-        i += 1;
-    }
-    false
-}
-
 // Has a name of fewer than eight bytes a zero byte? The last four bytes overlap the first four.
 fn zero_in_short(name: &[u8]) -> bool
     requires { ⌜ length (now name) < 8 ⌝ }
     ensures { λ r. ⌜ r ≡ hasZero (now (name .entry)) ⌝ }
 {
     if name.len() < 4 {
-        return zero_in_few(name);
+        return length_before_zero(name) < name.len();
     }
     zero_in_four(name, 0) | zero_in_four(name, name.len() - 4)
 }

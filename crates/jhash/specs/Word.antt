@@ -7,6 +7,6 @@ use lib.ListN.{getD}
 abbrev pub AllBytes : List ℕ → Type 0
 AllBytes s = (k : ℕ) → getD s k 0 < 256
 
--- all words are 32-bit unsigned, little-endian: the word that stands at offset o of a byte string. Past its end stand zeros
+-- all words are 32-bit unsigned, little-endian: the word at offset o of a byte string. Bytes past its end count as 0
 unfoldable pub word : List ℕ → ℕ → ℕ
 word s o = getD s o 0 + getD s (o + 1) 0 * 256 + getD s (o + 2) 0 * 65536 + getD s (o + 3) 0 * 16777216

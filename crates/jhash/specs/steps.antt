@@ -1,2 +1,2 @@
--- What describes the steps of code. No rule stands here, and nobody has to believe it: proofs/ joins it to the rules.
+-- What only describes code. No rule is here: proofs/ joins it to the rules.
 pub mod Rounds

@@ -4,7 +4,8 @@ ghost use Prim.Native.Nat.{_+_, _*_, _/_, _%_, _^_, _<_, _≤_};
 ghost use lib.Dec.{leb};
 ghost use mathlib.Core.List.{[], _∷_, _++_};
 ghost use lib.ListN.{length};
-ghost use Rattle.jhash.specs.Lookup3.{sub32, rotl32, plus, added, mix, finalWord, final, equalWords, initialWord, hashRest};
+ghost use Rattle.jhash.specs.Lookup3.{sub32, rotl32, plus, added, mix, finalWord, final};
+ghost use Rattle.jhash.specs.Lookup3.{equalWords, initialWord, hashRest};
 ghost use Rattle.jhash.specs.steps.Rounds.{mixRound, finalStep};
 ghost use Rattle.jhash.specs.NameHash.{outcome, hashOutcome};
 use word::word;
@@ -78,8 +79,8 @@ fn halves_added(product: u64) -> u64
     product % 4294967296 + product / 4294967296
 }
 
-// x rotated left by k bits: the product by a power of two, its halves added. The sum never carries past 32 bits, so the cast
-// loses nothing. 32 bits are a whole turn: an amount of 32 or more rotates by its remainder modulo 32.
+// x rotated left by k bits: the product by a power of two, its halves added. The sum never carries past 32 bits, so the
+// cast loses nothing. An amount of 32 or more rotates by its remainder modulo 32.
 pub fn rotate_left(x: u32, k: u32) -> u32
     ensures { λ r. ⌜ r ≡ rotl32 x (k % 32) ⌝ }
 {
@@ -93,8 +94,8 @@ fn minus(x: u32, y: u32) -> u32
     std::num::wrapping_sub_u32(x, y)
 }
 
-// One round of mixing; the words change their names for the next round. The rotation comes first and the sum last, and the
-// compiler keeps that order: the next round waits for the rotated word and the difference, not for the sum.
+// One round of mixing; the words change their names for the next round. The rotation comes first and the sum last, and
+// the compiler keeps that order: the next round waits for the rotated word and the difference, not for the sum.
 fn mix_round(w: Words, k: u32) -> Words
     requires { ⌜ (0 < k) × (k < 32) ⌝ }
     ensures { λ r. ⌜ r ≡ mixRound w k ⌝ }
@@ -164,8 +165,8 @@ fn added_block(w: Words, s: &[u8]) -> Words
     plus(w, word(s, 0), word(s, 4), word(s, 8))
 }
 
-// The last bytes, fewer than 12, added as three words, by how many of the words they fill; the zero byte after them adds
-// nothing.
+// The last bytes, fewer than 12, added as three words, by how many of the words they fill; the zero byte after them
+// adds nothing.
 fn added_tail(w: Words, s: &[u8]) -> Words
     requires { ⌜ length (now s) < 12 ⌝ }
     ensures { λ r. ⌜ r ≡ added w (now (s .entry)) ⌝ }
@@ -184,7 +185,7 @@ fn hash_from(name: &[u8], x: u32) -> u32
     ensures { λ r. ⌜ r ≡ hashRest (equalWords x) (now (name .entry) ++ 0 ∷ []) ⌝ }
 {
     let mut words = Words { a: x, b: x, c: x };
-    // The whole name as a part: place and length are read one by one, and the compiler then hands them in as two numbers
+    // A subslice that is the whole name: place and length are read one by one, and the compiler then passes two numbers
     // in place of a pointer to both.
     let n = name.len();
     let mut t = &name[0..n];

@@ -1,5 +1,6 @@
-// The little-endian words of a slice: what the hash reads of a name, and the crates above of an image. These are leaves:
-// `word` and `word_near_end` ask that the place is known to be whole or not, so that no read is tested twice.
+// The little-endian words of a slice: what the hash reads of a name, and the crates above of an image. `word` and
+// `word_near_end` are internal functions: the caller knows whether all four bytes are there, so no read is tested
+// twice.
 ghost use mathlib.Core.Path.{_≡_};
 ghost use Prim.Native.Nat.{_+_, _<_, _≤_};
 ghost use lib.ListN.{length, getD};

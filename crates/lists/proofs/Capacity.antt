@@ -28,24 +28,24 @@ unfolding putsSize
 putsSize-snoc [] e = omega arith
 putsSize-snoc (x ∷ es) e = omega (arith, putsSize-snoc es e)
 
--- a put that has room is not refused with 3
-roomy-due : (z h t : Bool) → t ≡ false → _≡_ {A = ℕ} (cond z 13 (cond h 16 (cond t 3 0))) 3 → ⊥
-roomy-due true h t p d = omega arith
-roomy-due false true t p d = omega arith
-roomy-due false false true p d = let z : _≡_ {A = ℕ} 0 1 = cc in omega arith
-roomy-due false false false p d = omega arith
+-- a put that fits is not refused with 3
+capacity-due : (z h t : Bool) → t ≡ false → _≡_ {A = ℕ} (cond z 13 (cond h 16 (cond t 3 0))) 3 → ⊥
+capacity-due true h t p d = omega arith
+capacity-due false true t p d = omega arith
+capacity-due false false true p d = let z : _≡_ {A = ℕ} 0 1 = cc in omega arith
+capacity-due false false false p d = omega arith
 
 -- the accepted puts es and those to come need no more than `size` bytes, and no id is `top` or above; the buffer has room for these
 module _ (mode : Mode) (repeats : Repeats) (n size top : ℕ) (within : 2072 + size + 4 * backIn mode top ≤ n)
     (small : 2072 + size + 4 * backIn mode top ≤ 4294967295) where
-  one-roomy : (es : List Entry) (e : Entry) (rest : ℕ) → putsSize es + (25 + length (e .name) + rest) ≤ size → backSize es ≤ top → e .id + 1 ≤ top
+  one-fits : (es : List Entry) (e : Entry) (rest : ℕ) → putsSize es + (25 + length (e .name) + rest) ≤ size → backSize es ≤ top → e .id + 1 ≤ top
       → putDue mode repeats n es e ≡ 3 → ⊥
   unfolding putDue sizeOf
-  one-roomy es e rest fits back id d =
+  one-fits es e rest fits back id d =
       let next : List Entry = es ++ (e ∷ []) in
       let higher = back-rises mode (backSize next) top (omega (arith, backSize-snoc es e)) in
       let least = putsSize-snoc es e in
-      roomy-due (hasZero (e .name)) (containsName (e .name) es && refusesRepeats repeats) (tooLarge n (sizeOf mode next))
+      capacity-due (hasZero (e .name)) (containsName (e .name) es && refusesRepeats repeats) (tooLarge n (sizeOf mode next))
       (ap₂ {C = Bool} (λ (a b : Bool). a || b) (le-ltb n (sizeOf mode next) (omega (arith, higher, least))) (le-ltb 4294967295 (sizeOf mode next) (omega (arith, higher, least))))
       d
 
@@ -66,7 +66,7 @@ module _ (mode : Mode) (repeats : Repeats) (n size top : ℕ) (within : 2072 + s
   none-from es (close ∷ cs) fits back later zero d = omega arith
   none-from es (close ∷ cs) fits back later (suc i) d =
       none-from (es ++ []) cs (rw (append-nil es) fits) (rw (append-nil es) back) later i d
-  none-from es (put e ∷ cs) fits back later zero d = one-roomy es e (putsSize (puts cs)) fits back (omega arith) d
+  none-from es (put e ∷ cs) fits back later zero d = one-fits es e (putsSize (puts cs)) fits back (omega arith) d
   none-from es (put e ∷ cs) fits back later (suc i) d =
       let b : Bool = eqb (putDue mode repeats n es e) 0 in
       none-from (es ++ cond b (e ∷ []) []) cs (size-then b es e (putsSize (puts cs)) fits) (back-then b es e back (omega arith)) (omega arith) i d

@@ -39,7 +39,7 @@ map-range f g s zero h = refl
 map-range f g s (suc n) h =
     ap₂ {C = List ℕ} (λ (x : ℕ) (xs : List ℕ). x ∷ xs) (h s (omega arith)) (map-range f g (suc s) n (λ i p. h i (omega arith)))
 
--- the links of the entries from o on, in offsets below k
+-- the back words of the entries from o on, in offsets below k
 module _ (i k : ℕ) where
   ofIt : ℕ → List Entry → List Placed
   ofIt o es = filter (λ (p : Placed). hasId i (p .entry)) (placed o es)
@@ -86,7 +86,7 @@ Computed r =
     × (sizeOf (r .mode) (entries r) ≡ r .size)
     × (length (entries r) ≡ r .number)
     × (backOffset (r .mode) (entries r) ≡ r .backOffset)
-    × (map (backWord (placed headSize (entries r))) (range 0 (backSizeOf (r .mode) (entries r))) ≡ r .links)
+    × (map (backWord (placed headSize (entries r))) (range 0 (backSizeOf (r .mode) (entries r))) ≡ r .backWords)
     × Each (λ (a : NameGives). firstId (ofName (a .name) (entries r)) ≡ a .gives) (r .names)
     × Each (λ (a : IdGives). (namedIn (r .mode) (entries r) (a .id) ≡ a .gives) × (isNamed (namedIn (r .mode) (entries r) (a .id)) ≡ a .isHome)) (r .ids)
 

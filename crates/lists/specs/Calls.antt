@@ -1,5 +1,6 @@
--- Lists of calls: 01, "Whole lists (demand 3)". What happens along a list is told twice: by the rules of the single calls, each lent record and buffer
--- as the call before left them (`after`, `answers`); and by the calls and the buffer's length alone (`accepted`, `due`). Demand 3 says that both agree.
+-- Lists of calls: 01, "Whole lists (demand 3)". A list is defined twice: by the rules of the single calls, each lent
+-- record and buffer as the call before left them (`after`, `answers`); and by the calls and the buffer's length alone
+-- (`accepted`, `due`). Demand 3 says that both agree.
 use Prim.Native.Nat.{ℕ, _+_, _*_, _^_, _<_}
 use mathlib.Core.Path.{_≡_}
 use mathlib.Core.Logic.{_⊎_}
@@ -39,7 +40,8 @@ unfoldable pub answers : State → List Call → List ℕ
 answers s [] = []
 answers s (c ∷ cs) = answer s c ∷ answers (afterCall s c) cs
 
--- a put is accepted when its answer is no refusal: the puts of a list of calls that these answers accept, in their order
+-- a put is accepted when its answer is no refusal: the puts of a list of calls that these answers accept, in their
+-- order
 abbrev pub acceptedOne : Call → ℕ → List Entry
 acceptedOne (put e) r = cond (eqb r 0) (e ∷ []) []
 acceptedOne close r = []
@@ -54,13 +56,15 @@ unfoldable pub putsSize : List Entry → ℕ
 putsSize [] = 0
 putsSize (e ∷ es) = 25 + length (e .name) + putsSize es
 
--- the finished size follows from the calls: 2,072, plus 25 + name length for each accepted put, plus 4 × (the largest id of these + 1) if there are
--- any (`backSize`, which is 0 without any). In one-way mode the last term is 0
+-- the finished size (01's term) follows from the calls: 2,072, plus 25 + name length for each accepted put, plus 4 ×
+-- (the largest id of these + 1) if there are any (`backSize`, which is 0 without any). In one-way mode the last term
+-- is 0
 unfoldable pub sizeOf : Mode → List Entry → ℕ
 sizeOf mode es = 2072 + putsSize es + 4 * backIn mode (backSize es)
 
--- the refusal that is due to a put after the accepted puts es, in a buffer of n bytes: 13 for a zero byte in the name (02 (v)); then, with repeats off, 16
--- when an accepted put before it has this name (02 (viii)); then 3 when the size, which counts the put at hand, exceeds either limit. 0: none
+-- the refusal that is due to a put after the accepted puts es, in a buffer of n bytes: 13 for a zero byte in the name
+-- (02 (v)); then, with repeats off, 16 when an accepted put before it has this name (02 (viii)); then 3 when the
+-- size, which counts the put at hand, exceeds either limit. 0: none
 unfoldable pub putDue : Mode → Repeats → ℕ → List Entry → Entry → ℕ
 putDue mode repeats n es e =
     cond (hasZero (e .name)) 13
@@ -82,7 +86,8 @@ acceptedFrom mode repeats n es (c ∷ cs) = acceptedFrom mode repeats n (accepte
 
 unfoldable pub dueFrom : Mode → Repeats → ℕ → List Entry → List Call → List ℕ
 dueFrom mode repeats n es [] = []
-dueFrom mode repeats n es (c ∷ cs) = dueTo mode repeats n es c ∷ dueFrom mode repeats n (acceptedAfter mode repeats n es c) cs
+dueFrom mode repeats n es (c ∷ cs) =
+    dueTo mode repeats n es c ∷ dueFrom mode repeats n (acceptedAfter mode repeats n es c) cs
 
 -- the accepted puts of a list of calls, and the refusal due to each call, by the buffer's length and the calls alone
 unfoldable pub accepted : Mode → Repeats → ℕ → List Call → List Entry
@@ -91,8 +96,8 @@ accepted mode repeats n cs = acceptedFrom mode repeats n [] cs
 unfoldable pub due : Mode → Repeats → ℕ → List Call → List ℕ
 due mode repeats n cs = dueFrom mode repeats n [] cs
 
--- no call of a list gives 2 or 4, and no close is refused there: a put may be answered by 0, 13, 16 or 3, a close by 0, and there is one answer for
--- each call
+-- no call of a list gives 2 or 4, and no close is refused there: a put may be answered by 0, 13, 16 or 3, a close by
+-- 0, and there is one answer for each call
 abbrev pub Permitted : Call → ℕ → Type 0
 Permitted (put e) r = (r ≡ 0) ⊎ ((r ≡ 13) ⊎ ((r ≡ 16) ⊎ (r ≡ 3)))
 Permitted close r = r ≡ 0
@@ -103,7 +108,8 @@ AllPermitted [] (r ∷ rs) = ⊥
 AllPermitted (c ∷ cs) [] = ⊥
 AllPermitted (c ∷ cs) (r ∷ rs) = Permitted c r × AllPermitted cs rs
 
--- a put is handed an id that is a word. Of a one-way list this has to be said; a two-way one needs no such premise, since its size bounds the ids
+-- a put is handed an id that is a word. Of a one-way list this has to be said; a two-way one needs no such premise,
+-- since its size bounds the ids
 abbrev pub WordId : Mode → Call → Type 0
 WordId Twoway c = Unit {0}
 WordId Oneway (put e) = e .id < 2 ^ 32

@@ -1,1 +1,1 @@
-// Whole lists of put and close calls. There is no code here: specs/ says what holds of every list, and proofs/ proves it.
+// Whole lists of put and close calls. There is no code here: specs/ states what holds of every list, proofs/ proves it.

@@ -1,11 +1,11 @@
-// Looking up a name, for C, compiled by itself: in one crate with the home check, which searches too, and the writer, which
-// hashes, the compiler would keep search and hash as functions of their own.
+// Looking up a name, for C. A crate of its own, so that the compiler inlines search and hash: beside the home check,
+// which searches too, and the writer, which hashes, it would not.
 use reader::ToId;
 ghost use mathlib.Core.Path.{_≡_};
 ghost use Rattle.lookup_c.specs.IdAnswers.{idAnswer};
 
-// 1, the id and the offset of the entry when the name was found, each 0 when not; and the number of buckets that the search reads.
-// Four words come back in two registers.
+// 1, the id and the offset of the entry when the name was found, each 0 when not; and the number of buckets that the
+// search reads. Four words are returned in two registers.
 #[repr(C)]
 pub struct IdAnswer {
     pub found: u32,

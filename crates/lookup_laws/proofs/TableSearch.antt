@@ -23,30 +23,30 @@ use Rattle.lookup_laws.proofs.ProbeSequence.{view}
 use Rattle.lookup_laws.proofs.SearchFilling.{hitsIn, EndsAtEmpty}
 use Rattle.lookup_laws.proofs.TableContents.{OtherStart, NotEmpty, filled-used, filled-hits}
 
--- ---- what a search for a hash sees in a bucket, by a verdict on the offsets of entries with that hash
+-- ---- the probe of a bucket in a search for a hash, by the probes v of the offsets of entries with that hash
 
 abbrev pub probeWith : ℕ → (ℕ → Probe) → Bucket → Probe
 probeWith h v b = cond (eqb (b .at) 0) ends (cond (eqb (b .hash) h) (v (b .at)) pass)
 
--- a verdict that never ends
-abbrev settle : Probe → Probe
-settle pass = pass
-settle ends = pass
-settle (hit told) = hit told
+-- a probe that never ends the search
+abbrev noEnd : Probe → Probe
+noEnd pass = pass
+noEnd ends = pass
+noEnd (hit told) = hit told
 
-settle-taken : (x : Probe) → Taken (settle x)
-settle-taken pass = tt
-settle-taken ends = tt
-settle-taken (hit told) = tt
+noEnd-taken : (x : Probe) → Taken (noEnd x)
+noEnd-taken pass = tt
+noEnd-taken ends = tt
+noEnd-taken (hit told) = tt
 
-settle-same : (x : Probe) → Taken x → settle x ≡ x
-settle-same pass t = refl
-settle-same ends t = absurd t
-settle-same (hit told) t = refl
+noEnd-same : (x : Probe) → Taken x → noEnd x ≡ x
+noEnd-same pass t = refl
+noEnd-same ends t = absurd t
+noEnd-same (hit told) t = refl
 
 module _ (h : ℕ) (v : ℕ → Probe) where
-  look-sees : ((o : ℕ) → Taken (v o)) → EndsAtEmpty (probeWith h v)
-  look-sees never = record {
+  probeWith-ends : ((o : ℕ) → Taken (v o)) → EndsAtEmpty (probeWith h v)
+  probeWith-ends never = record {
     empties = λ b e. ap (λ (t : Bool). cond t ends (cond (eqb (b .hash) h) (v (b .at)) pass)) (eq-eqb (b .at) 0 e);
     takes = λ b e. rw (ne-eqb (b .at) 0 e) (either b (eqb (b .hash) h));
   }
@@ -61,13 +61,13 @@ module _ (h : ℕ) (v : ℕ → Probe) where
     | no e ↦ inr (rw (ne-eqb (b .at) 0 full, ne-eqb (b .hash) h e))
   ]
 
-  -- where the entries have a verdict, the two looks agree
-  settled : (b : Bucket) → Taken (probeWith h v b) → probeWith h (λ (o : ℕ). settle (v o)) b ≡ probeWith h v b
-  settled b t = go (eqb (b .at) 0) (eqb (b .hash) h) t
+  -- where no entry ends the search, both probes agree
+  noEnds : (b : Bucket) → Taken (probeWith h v b) → probeWith h (λ (o : ℕ). noEnd (v o)) b ≡ probeWith h v b
+  noEnds b t = go (eqb (b .at) 0) (eqb (b .hash) h) t
     where
-      go : (p q : Bool) → Taken (cond p ends (cond q (v (b .at)) pass)) → cond p ends (cond q (settle (v (b .at))) pass) ≡ cond p ends (cond q (v (b .at)) pass)
+      go : (p q : Bool) → Taken (cond p ends (cond q (v (b .at)) pass)) → cond p ends (cond q (noEnd (v (b .at))) pass) ≡ cond p ends (cond q (v (b .at)) pass)
       go true q t = refl
-      go false true t = settle-same (v (b .at)) t
+      go false true t = noEnd-same (v (b .at)) t
       go false false t = refl
 
   full-bucket : (b : Bucket) → Taken (probeWith h v b) → NotEmpty b
@@ -86,21 +86,21 @@ searched-same {a} {b} {m} {n} {k} {l} p q r s = rw (p, q, r) at s
 
 module _ (n h : ℕ) (v : ℕ → Probe) (bs : List Bucket) (some-bucket : 0 < n) (room : length bs ≤ n)
     (each : All (λ (b : Bucket). Taken (probeWith h v b)) bs) where
-  abbrev settled-at : ℕ → Probe
-  settled-at o = settle (v o)
+  abbrev noEnds-at : ℕ → Probe
+  noEnds-at o = noEnd (v o)
 
   f : Bucket → Probe
-  f = probeWith h settled-at
+  f = probeWith h noEnds-at
 
   seen : List Probe
   seen = map (λ (k : ℕ). probeWith h v (getD (filled n bs) k empty)) (probeSequence n n (start h n))
 
-  -- every bucket of the table is empty or has a verdict
+  -- every bucket of the table is empty or does not end the search
   seen-view : view n f (filled n bs) (start h n) ≡ seen
   unfolding view f seen
   seen-view =
       ap (λ (g : ℕ → Probe). map g (probeSequence n n (start h n)))
-      (fun-ext λ k. filled-all (λ (b : Bucket). f b ≡ probeWith h v b) n bs refl (all-map (settled h v) bs each) k)
+      (fun-ext λ k. filled-all (λ (b : Bucket). f b ≡ probeWith h v b) n bs refl (all-map (noEnds h v) bs each) k)
 
   inside : start h n < n
   inside = mod-lt (h / 256) some-bucket
@@ -112,14 +112,14 @@ module _ (n h : ℕ) (v : ℕ → Probe) (bs : List Bucket) (some-bucket : 0 < n
   unfolding f
   seen-used =
       ap used (sym seen-view)
-      ∙ filled-used f (look-sees h settled-at (λ o. settle-taken (v o))) n (start h n) inside (look-apart h settled-at n) bs room full
+      ∙ filled-used f (probeWith-ends h noEnds-at (λ o. noEnd-taken (v o))) n (start h n) inside (look-apart h noEnds-at n) bs room full
 
   seen-hits : hits seen ≡ hitsIn (map (probeWith h v) bs)
   unfolding f
   seen-hits =
       ap hits (sym seen-view)
-      ∙ filled-hits f (look-sees h settled-at (λ o. settle-taken (v o))) n (start h n) inside (look-apart h settled-at n) bs room full
-      ∙ ap hitsIn (map-ext f (probeWith h v) (settled h v) bs each)
+      ∙ filled-hits f (probeWith-ends h noEnds-at (λ o. noEnd-taken (v o))) n (start h n) inside (look-apart h noEnds-at n) bs room full
+      ∙ ap hitsIn (map-ext f (probeWith h v) (noEnds h v) bs each)
 
   pub searched : Searched (hitsIn (map (probeWith h v) bs)) (length bs) (matchesAlong (λ (k : ℕ). probeWith h v (getD (filled n bs) k empty)) (probeSequence n n (start h n)) 0)
   unfolding seen

@@ -10,7 +10,7 @@ use Rattle.image.specs.Tables.{tableOf}
 use Rattle.image.specs.Image.{Entry, headSize, entrySize, placed, count, hasId}
 use Rattle.reader.specs.Lookup.{Lookup, found, nothing}
 use Rattle.reader.specs.IdWalk.{Step, item, done}
--- an id gives a name when naming it answers a place that holds exactly that name's bytes
+-- an id gives a name when naming it answers a place with exactly that name's bytes
 pub use Rattle.reader.specs.Naming.{bytesAt, nameGiven}
 pub use Rattle.image.specs.Image.{hasName}
 
@@ -19,7 +19,7 @@ abbrev pub foundId : Lookup → Option ℕ
 foundId (found f) = some (f .id)
 foundId (nothing reads) = none
 
--- 02 (ii): where its lookup says that the entry stands
+-- 02 (ii): the offset at which its lookup finds the entry
 abbrev pub foundOffset : Lookup → Option ℕ
 foundOffset (found f) = some (f .offset)
 foundOffset (nothing reads) = none
@@ -50,12 +50,14 @@ lastName [] = none
 lastName (e ∷ []) = some (e .name)
 lastName (e ∷ f ∷ es) = lastName (f ∷ es)
 
--- 02 (ii): the place of a name's first entry, where the entries stand one after the other from o on: o plus the sizes of the entries before it
+-- 02 (ii): the place of a name's first entry, where the entries follow each other from o on: o plus the sizes of the
+-- entries before it
 unfoldable pub firstAt : List ℕ → ℕ → List Entry → Option ℕ
 firstAt name o [] = none
 firstAt name o (e ∷ es) = cond (hasName name e) (some o) (firstAt name (o + entrySize e) es)
 
--- 02 (vi): an id is home (01's term) exactly when it has a name: the search for that name meets every entry of it, the id's last one too
+-- 02 (vi): an id is home (01's term) exactly when it has a name: that name's search matches every entry of it, the id's
+-- last one too
 abbrev pub isNamed : Option (List ℕ) → Bool
 isNamed (some name) = true
 isNamed none = false

@@ -11,6 +11,7 @@ use Rattle.image.specs.Tables.{start, next}
 use Rattle.image.proofs.ProbeStep.{next-inside, next-wraps}
 use Rattle.reader.specs.Lookup.{nothing, pass, ends, searchTable}
 use Rattle.reader.specs.steps.Resume.{searchRest}
+use Rattle.reader.specs.steps.Search.{EarlyMissPre, FirstZero}
 use Rattle.reader.proofs.Searches.{probe-bucket-by, rest-start, rest-step}
 
 -- ---- among fewer than three buckets a search comes back to where it was
@@ -31,10 +32,6 @@ two-buckets n k h l = elim (decLt (k + 1) n) [
       ]
 ]
 
--- r counts from 1 to the first 0 of three numbers; 0 tells nothing
-abbrev pub FirstZero : ℕ → ℕ → ℕ → ℕ → Type 0
-FirstZero x y z r = (r < 4) × (r ≡ 1 → x ≡ 0) × (r ≡ 2 → (0 < x) × (y ≡ 0)) × (r ≡ 3 → (0 < x) × (0 < y) × (z ≡ 0))
-
 module _ (image name : List ℕ) (h o n : ℕ) where
   -- the two words of bucket j
   abbrev hash : ℕ → ℕ
@@ -43,7 +40,7 @@ module _ (image name : List ℕ) (h o n : ℕ) where
   abbrev offset : ℕ → ℕ
   offset j = word image (o + 8 * j + 4)
 
-  -- a turn at an empty bucket, and at one with another hash
+  -- a step at an empty bucket, and at one with another hash
   empty-ends : (j m : ℕ) → 0 < m → m ≤ n → offset j ≡ 0 → searchRest image name h o n j m ≡ nothing (n - (m - 1))
   empty-ends j m l f e =
       sym (rest-step image name h o n j m ends l f (probe-bucket-by image name (offset j) h (o + 8 * j) true _ refl (eq-eqb (offset j) 0 e) refl))
@@ -54,13 +51,13 @@ module _ (image name : List ℕ) (h o n : ℕ) where
       (rest-step image name h o n j m pass l f
       (probe-bucket-by image name (offset j) h (o + 8 * j) false false refl (ne-eqb (offset j) 0 (λ e. omega arith)) (ne-eqb (hash j) h d)))
 
-  -- the buckets are told apart by their offsets
-  apart : (j k : ℕ) → 0 < offset j → offset k ≡ 0 → k ≡ j → ⊥
-  apart j k p e q = let f = ap offset q in omega arith
+  -- buckets differ where their offsets do
+  distinct : (j k : ℕ) → 0 < offset j → offset k ≡ 0 → k ≡ j → ⊥
+  distinct j k p e q = let f = ap offset q in omega arith
 
-  module _ (k : ℕ) (e : k ≡ start h n) (l : k < n) where
+  module _ {k : ℕ} (pre : EarlyMissPre image h o n k) where
     whole : searchTable image name h o n ≡ searchRest image name h o n k n
-    whole = sym (ap (λ (j : ℕ). searchRest image name h o n j n) e ∙ rest-start image name h o n)
+    whole = sym (ap (λ (j : ℕ). searchRest image name h o n j n) (pre .starts) ∙ rest-start image name h o n)
 
     at-first : offset k ≡ 0 → searchTable image name h o n ≡ nothing 1
     at-first z = let r : n - (n - 1) ≡ 1 = omega arith in whole ∙ empty-ends k n (omega arith) (omega arith) z ∙ ap nothing r
@@ -70,7 +67,7 @@ module _ (image name : List ℕ) (h o n : ℕ) where
       | yes q ↦
           let r : n - (n - 1 - 1) ≡ 2 = omega arith in
           whole ∙ other-passes k n (omega arith) (omega arith) p d ∙ empty-ends (next n k) (n - 1) (omega arith) (omega arith) z ∙ ap nothing r
-      | no q ↦ absurd (apart k (next n k) p z (one-bucket n k l (omega arith)))
+      | no q ↦ absurd (distinct k (next n k) p z (one-bucket n k (pre .bucket) (omega arith)))
     ]
 
     at-third : (hash k ≡ h → ⊥) → (hash (next n k) ≡ h → ⊥) → 0 < offset k → 0 < offset (next n k) → offset (next n (next n k)) ≡ 0
@@ -83,10 +80,10 @@ module _ (image name : List ℕ) (h o n : ℕ) where
           ∙ other-passes (next n k) (n - 1) (omega arith) (omega arith) p₁ d₁
           ∙ empty-ends (next n (next n k)) (n - 1 - 1) (omega arith) (omega arith) z
           ∙ ap nothing r
-      | no q ↦ absurd (apart k (next n (next n k)) p₀ z (two-buckets n k l (omega arith)))
+      | no q ↦ absurd (distinct k (next n (next n k)) p₀ z (two-buckets n k (pre .bucket) (omega arith)))
     ]
 
-    -- by the first offset that is 0, x, y, z being the three that the search meets, in the buckets k, i, j
+    -- by the first offset that is 0; x, y, z are those in the first three buckets k, i, j
     pub early-miss : (i j x y z r : ℕ) → i ≡ next n k → j ≡ next n i → x ≡ offset k → y ≡ offset i → z ≡ offset j → (hash k ≡ h → ⊥) → (hash i ≡ h → ⊥)
         → FirstZero x y z r → 0 < r → searchTable image name h o n ≡ nothing r
     early-miss i j x y z r ei ej ex ey ez d₀ d₁ = go r
@@ -99,9 +96,9 @@ module _ (image name : List ℕ) (h o n : ℕ) where
 
         go : (r : ℕ) → FirstZero x y z r → 0 < r → searchTable image name h o n ≡ nothing r
         go zero f p = absurd (omega arith)
-        go (suc zero) f p = at-first (sym ex ∙ f .1 refl)
-        go (suc (suc zero)) f p = let g = f .2 refl in at-second d₀ (omega (arith, g .0, ex)) (second ∙ g .1)
+        go (suc zero) f p = at-first (sym ex ∙ f .first refl)
+        go (suc (suc zero)) f p = let g = f .second refl in at-second d₀ (omega (arith, g .0, ex)) (second ∙ g .1)
         go (suc (suc (suc zero))) f p =
-            let g = f .3 refl in
+            let g = f .third refl in
             at-third d₀ (λ q. d₁ (ap hash ei ∙ q)) (omega (arith, g .0, ex)) (omega (arith, g .1, second)) (third ∙ g .2)
-        go (suc (suc (suc (suc r)))) f p = absurd (omega (arith, f .0))
+        go (suc (suc (suc (suc r)))) f p = absurd (omega (arith, f .few))

@@ -1,4 +1,4 @@
--- The pass over the tables' rows, a turn at a time, and the cases of opening. Assumes nothing.
+-- The pass over the tables' rows, a step at a time, and the cases of opening. Assumes nothing.
 use Prim.Native.Nat.{ℕ, suc, _+_, _*_, _/_, _%_, _-_, _^_, _≤_, _<_}
 use native.Mathlib.Omega.{arith}
 use native.Mathlib.Numerals.{add-one}
@@ -11,7 +11,23 @@ use lib.ListN.{length}
 use Rattle.jhash.specs.Outcome.{value, refusal}
 use Rattle.image.specs.Bytes.{word}
 use Rattle.image.specs.Head.{tableAt, bucketNumber, backOffsetAt, tableLeaves, backLeaves}
+use Rattle.reader.specs.declared.opening.Tables.{Tables}
 use Rattle.reader.specs.Open.{someLeaves, halves, hasLetters, opening}
+
+-- ---- the loops over the rows
+
+-- the sum so far and the halves that are left are the sum of all; while no slack is too large, a table that leaves is still to come exactly
+-- where there is one
+pub record TablesInv (image : List ℕ) (all : Tables) (t : ℕ) : Type 0 where
+  pub rows : t ≤ 256
+  pub num-small : all .num < 2 ^ 32
+  pub sum : (all .num + halves image t (256 - t)) % 2 ^ 32 ≡ halves image 0 256 % 2 ^ 32
+  pub leaves : all .slacks < 2 ^ 63 → someLeaves image t (256 - t) ≡ someLeaves image 0 256
+
+-- a table that leaves was found or is still to come exactly where there is one
+pub record LeavesInv (image : List ℕ) (one : Bool) (t : ℕ) : Type 0 where
+  pub rows : t ≤ 256
+  pub same : (one || someLeaves image t (256 - t)) ≡ someLeaves image 0 256
 
 -- one table more of m that are left
 left-one : (t m : ℕ) → t < m → m - t ≡ suc (m - (t + 1))
@@ -36,7 +52,7 @@ leaves-step image t m h =
     ap (someLeaves image t) (left-one t m h) ∙ leaves-more image t (m - (t + 1))
     ∙ ap (λ (k : ℕ). (ltb 0 (tableAt image t) && tableLeaves image t) || someLeaves image k (m - (t + 1))) (sym (add-one t))
 
--- one turn of the loop that joins what it found, for a table at a with n buckets
+-- one step of the loop that collects by or, for a table at a with n buckets
 pub leaves-join : (image : List ℕ) (t m a n : ℕ) (b r x : Bool) → t < m → a ≡ tableAt image t → n ≡ bucketNumber image t
     → r ≡ (ltb 0 a && ltb (length image) (a + 8 * n))
     → (b || someLeaves image t (m - t)) ≡ x → ((b || r) || someLeaves image (t + 1) (m - (t + 1))) ≡ x

@@ -1,4 +1,4 @@
--- The search along the buckets, a turn at a time. Assumes nothing.
+-- The search along the buckets, a step at a time. Assumes nothing.
 use Prim.Native.Nat.{ℕ, suc, _+_, _*_, _-_, _/_, _%_, _≤_, _<_}
 use native.Mathlib.Omega.{arith}
 use native.Mathlib.Decide.{ℕ-discrete}
@@ -16,9 +16,9 @@ use Rattle.image.specs.Stored.{nameOf, broken}
 use Rattle.reader.specs.Lookup.{Lookup, nothing, Probe, pass, ends, hit, hitAt, probeEntry, probeBucket, decide, searchAlong, unsearched, searchTable, lookupHash, lookupBy, lookup}
 use Rattle.reader.specs.steps.Resume.{searchRest, bucketAfter, searchFrom, lookupFrom}
 
--- ---- what is seen in an entry and in a bucket
+-- ---- the probe of an entry and of a bucket
 
--- the part of the image that is compared with the name, for a length word w
+-- the bytes of the image that are compared with the name, for a length word w
 pub name-slice : (image : List ℕ) (at w : ℕ) → w ≡ word image (at + 4) → take (at + 8 + (w - 1) - (at + 8)) (drop (at + 8) image) ≡ nameOf image at
 name-slice image at w e =
     let f : at + 8 + (w - 1) - (at + 8) ≡ w - 1 = omega arith in
@@ -41,42 +41,53 @@ module _ (image name : List ℕ) (at : ℕ) where
 -- ---- the search
 
 module _ (image name : List ℕ) (h o n : ℕ) where
+  abbrev bucket : ℕ → Probe
+  bucket j = probeBucket image name h (o + 8 * j)
+
   pub rest-start : searchRest image name h o n (start h n) n ≡ searchTable image name h o n
   unfolding searchTable
-  rest-start =
-      let e : n - n ≡ 0 = omega arith in
-      ap (searchAlong (λ (j : ℕ). probeBucket image name h (o + 8 * j)) (probeSequence n n (start h n))) e
+  rest-start = let e : n - n ≡ 0 = omega arith in ap (searchAlong bucket (probeSequence n n (start h n))) e
 
-  over : (k r : ℕ) → searchAlong (λ (j : ℕ). probeBucket image name h (o + 8 * j)) (probeSequence n 0 k) r ≡ nothing r
+  over : (k r : ℕ) → searchAlong bucket (probeSequence n 0 k) r ≡ nothing r
   unfolding searchAlong probeSequence
   over k r = refl
 
-  more : (m k r : ℕ) → searchAlong (λ (j : ℕ). probeBucket image name h (o + 8 * j)) (probeSequence n (suc m) k) r
-      ≡ decide (probeBucket image name h (o + 8 * k)) (r + 1) (searchAlong (λ (j : ℕ). probeBucket image name h (o + 8 * j)) (probeSequence n m (next n k)) (r + 1))
+  more : (m k r : ℕ) → searchAlong bucket (probeSequence n (suc m) k) r ≡ decide (bucket k) (r + 1) (searchAlong bucket (probeSequence n m (next n k)) (r + 1))
   unfolding searchAlong probeSequence
   more m k r = refl
 
   pub rest-over : (k m : ℕ) → m ≤ 0 → nothing (n - m) ≡ searchRest image name h o n k m
   rest-over k m l =
       let e : m ≡ 0 = omega arith in
-      sym (ap (λ (i : ℕ). searchAlong (λ (j : ℕ). probeBucket image name h (o + 8 * j)) (probeSequence n i k) (n - m)) e ∙ over k (n - m))
+      sym (ap (λ (i : ℕ). searchAlong bucket (probeSequence n i k) (n - m)) e ∙ over k (n - m))
 
-  -- a turn, by what is seen
-  pub rest-step : (k m : ℕ) (seen : Probe) → 0 < m → m ≤ n → seen ≡ probeBucket image name h (o + 8 * k)
-      → decide seen (n - (m - 1)) (searchRest image name h o n (next n k) (m - 1)) ≡ searchRest image name h o n k m
-  rest-step k m seen l f e =
+  -- a step, by the probe of its bucket
+  pub rest-step : (k m : ℕ) (probed : Probe) → 0 < m → m ≤ n → probed ≡ bucket k
+      → decide probed (n - (m - 1)) (searchRest image name h o n (next n k) (m - 1)) ≡ searchRest image name h o n k m
+  rest-step k m probed l f e =
       let p : m ≡ suc (m - 1) = omega arith in
       let r : n - (m - 1) ≡ n - m + 1 = omega arith in
       ap (λ (s : Probe). decide s (n - (m - 1)) (searchRest image name h o n (next n k) (m - 1))) e
-      ∙ ap (λ (i : ℕ). decide (probeBucket image name h (o + 8 * k)) i (searchAlong (λ (j : ℕ). probeBucket image name h (o + 8 * j)) (probeSequence n (m - 1) (next n k)) i)) r
-      ∙ sym (ap (λ (i : ℕ). searchAlong (λ (j : ℕ). probeBucket image name h (o + 8 * j)) (probeSequence n i k) (n - m)) p ∙ more (m - 1) k (n - m))
+      ∙ ap (λ (i : ℕ). decide (bucket k) i (searchAlong bucket (probeSequence n (m - 1) (next n k)) i)) r
+      ∙ sym (ap (λ (i : ℕ). searchAlong bucket (probeSequence n i k) (n - m)) p ∙ more (m - 1) k (n - m))
+
+-- the loop of a search that began at bucket `first` with m buckets left: what is left of it answers what was left then
+pub record RestInv (image name : List ℕ) (h o n first m k left : ℕ) : Type 0 where
+  pub bucket : k < n
+  pub most : left ≤ n
+  pub same : searchRest image name h o n k left ≡ searchRest image name h o n first m
 
 -- ---- the table of a hash
 
-module _ (image : List ℕ) (h at n : ℕ) (ea : at ≡ tableAt image (tableOf h)) (en : n ≡ bucketNumber image (tableOf h)) where
+-- the two words of its row in the head
+pub record Row (image : List ℕ) (h at n : ℕ) : Type 0 where
+  pub offset : at ≡ tableAt image (tableOf h)
+  pub number : n ≡ bucketNumber image (tableOf h)
+
+module _ {image : List ℕ} {h at n : ℕ} (row : Row image h at n) where
   by-tests : (z y x : Bool) → eqb at 0 ≡ z → eqb n 0 ≡ y → ltb (length image) (at + 8 * n) ≡ x → unsearched image (tableOf h) ≡ (z || y || x)
   by-tests z y x ez ey ex =
-      sym (λ i. eqb (ea i) 0 || eqb (en i) 0 || ltb (length image) (ea i + 8 * en i)) ∙ (λ i. ez i || ey i || ex i)
+      sym (λ i. eqb (row .offset i) 0 || eqb (row .number i) 0 || ltb (length image) (row .offset i + 8 * row .number i)) ∙ (λ i. ez i || ey i || ex i)
 
   pub unread-offset : at ≡ 0 → unsearched image (tableOf h) ≡ true
   unread-offset e = by-tests true _ _ (eq-eqb at 0 e) refl refl

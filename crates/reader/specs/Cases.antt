@@ -31,7 +31,7 @@ abbrev pub reads : Lookup → ℕ
 reads (found f) = f .buckets
 reads (nothing n) = n
 
--- what is seen in a bucket
+-- the probe of a bucket
 abbrev pub probeOf : Probe → spec.Probe
 probeOf Pass = spec.pass
 probeOf Ends = spec.ends
@@ -42,7 +42,7 @@ abbrev pub namingOf : Named → Naming
 namingOf (named.Place start len) = place start len
 namingOf named.Nothing = unnamed
 
--- the step of a walk: id, place, and the id before which the walk then stands; or the end
+-- the step of a walk: id, place, and the walk's next id; or the end
 abbrev pub steppedOf : Stepped → Step
 steppedOf (Item id start len iter) = item id start len (iter .next)
 steppedOf Done = done

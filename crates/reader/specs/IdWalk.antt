@@ -5,12 +5,12 @@ use mathlib.Core.List.{List, [], _∷_}
 use Rattle.image.specs.Head.{backSizeAt}
 use Rattle.reader.specs.Naming.{Naming, place, unnamed, naming, noBack}
 
--- a step of a walk that stands before id n: the id, the place of its name, and the id before which the walk then stands; or the end
+-- a step of a walk whose next id is n: the id, the place of its name, and the next id after it; or the end
 pub data Step : Type 0 where
   item : ℕ → ℕ → ℕ → ℕ → Step
   done : Step
 
--- it ends for good at the first id without a name: the walk then stays before that id
+-- it ends for good at the first id without a name: the walk's next id stays that one
 abbrev pub stepOf : ℕ → Naming → Step
 stepOf n (place s l) = item n s l (n + 1)
 stepOf n unnamed = done
@@ -22,12 +22,12 @@ step image n = stepOf n (naming image n)
 unfoldable pub upperHint : List ℕ → ℕ → ℕ
 upperHint image n = cond (noBack image) 0 (backSizeAt image - n)
 
--- where a walk that stood before id n stands after a step: before the id that the step names; at the end it stays
+-- the next id after a step: the one that the step gives; at the end it stays
 abbrev pub nextAfter : ℕ → Step → ℕ
 nextAfter n (item id s l next) = next
 nextAfter n done = n
 
--- the first m steps of a walk that stands before id n
+-- the first m steps of a walk whose next id is n
 unfoldable pub steps : List ℕ → ℕ → ℕ → List Step
 steps image n zero = []
 steps image n (suc m) = step image n ∷ steps image (nextAfter n (step image n)) m

@@ -12,13 +12,13 @@ use Rattle.image.specs.Head.{tableAt, bucketNumber, tableLeaves}
 use Rattle.image.specs.Stored.{nameOf, broken}
 use Rattle.reader.specs.declared.Found.{Found}
 
--- the answer: found with its id, or nothing; both carry the number of buckets read, the deciding one included. 02 (ii): a found answer carries the offset
--- in the deciding bucket too, where this id and name stand
+-- the answer: found with its id, or nothing; both carry the number of buckets read, the deciding one included. 02 (ii):
+-- a found answer carries the offset in the deciding bucket too, where this id and name stand
 pub data Lookup : Type 0 where
   found : Found → Lookup
   nothing : ℕ → Lookup
 
--- what an entry with an equal name tells: its id, and the offset in its bucket, where it stands
+-- an entry with an equal name: its id, and the offset in its bucket, where it is
 pub record Hit : Type 0 where
   pub id : ℕ
   pub offset : ℕ
@@ -26,13 +26,13 @@ pub record Hit : Type 0 where
 abbrev pub hitAt : List ℕ → ℕ → Hit
 hitAt image at = record { id = word image at; offset = at }
 
--- what a search sees in a bucket: it passes it, or ends with nothing, or with what an entry tells
+-- what a search does at a bucket: it passes it, ends with nothing, or ends with an entry
 pub data Probe : Type 0 where
   pass : Probe
   ends : Probe
   hit : Hit → Probe
 
--- a broken entry ends with nothing; an equal name ends with what the entry tells; another name is passed
+-- a broken entry ends with nothing; an equal name ends with the entry; another name is passed
 unfoldable pub probeEntry : List ℕ → List ℕ → ℕ → Probe
 probeEntry image name at =
     cond (broken image at) ends (cond (same (nameOf image at) name) (hit (hitAt image at)) pass)
@@ -43,7 +43,7 @@ probeBucket image name h b =
     cond (eqb (word image (b + 4)) 0) ends
     (cond (eqb (word image b) h) (probeEntry image name (word image (b + 4))) pass)
 
--- one more bucket was read: what was seen decides, or the search goes on
+-- one more bucket was read: its probe decides, or the rest of the search does
 abbrev pub decide : Probe → ℕ → Lookup → Lookup
 decide pass reads rest = rest
 decide ends reads rest = nothing reads
@@ -51,12 +51,13 @@ decide (hit h) reads rest = found (record { id = h .id; buckets = reads; offset 
 
 -- the search along a list of buckets, `reads` being those read before. After the last the answer is nothing
 unfoldable pub searchAlong : (ℕ → Probe) → List ℕ → ℕ → Lookup
-searchAlong look [] reads = nothing reads
-searchAlong look (k ∷ ks) reads = decide (look k) (reads + 1) (searchAlong look ks (reads + 1))
+searchAlong probe [] reads = nothing reads
+searchAlong probe (k ∷ ks) reads = decide (probe k) (reads + 1) (searchAlong probe ks (reads + 1))
 
 -- the search in a table of n buckets at offset o
 unfoldable pub searchTable : List ℕ → List ℕ → ℕ → ℕ → ℕ → Lookup
-searchTable image name h o n = searchAlong (λ (k : ℕ). probeBucket image name h (o + 8 * k)) (probeSequence n n (start h n)) 0
+searchTable image name h o n =
+    searchAlong (λ (k : ℕ). probeBucket image name h (o + 8 * k)) (probeSequence n n (start h n)) 0
 
 -- nothing after 0 reads: a table with offset 0, bucket number 0 or an end past the image
 abbrev pub unsearched : List ℕ → ℕ → Bool

@@ -21,11 +21,13 @@ abbrev pub lengthIn : Naming → ℕ
 lengthIn (place s n) = n
 lengthIn unnamed = 0
 
--- there is no back array that can be read: the image is under 2,072 bytes, back offset is 0, or the back array leaves the image
+-- there is no back array that can be read: the image is under 2,072 bytes, back offset is 0, or the back array leaves
+-- the image
 abbrev pub noBack : List ℕ → Bool
 noBack image = ltb (length image) headSize || eqb (backOffsetAt image) 0 || backLeaves image
 
--- the name of the entry at an offset: nothing when the offset is 0, its length word is 0, or length word or name leaves the image
+-- the name of the entry at an offset: nothing when the offset is 0, its length word is 0, or length word or name leaves
+-- the image
 unfoldable pub namingAt : List ℕ → ℕ → Naming
 namingAt image at =
     cond (eqb at 0 || broken image at) unnamed (place (at + 8) (word image (at + 4) - 1))
@@ -49,7 +51,7 @@ nameSlice image id = sliceOr image (subslice image 0 0) (naming (image .bytes) i
 abbrev pub nameOr : Slice → ℕ → Slice → Slice
 nameOr image id other = sliceOr image other (naming (image .bytes) id)
 
--- 01, "Whole lists": an id gives a name when naming it answers a place that holds exactly that name's bytes
+-- 01, "Whole lists": an id gives a name when naming it answers a place with exactly that name's bytes
 abbrev pub bytesAt : List ℕ → Naming → Option (List ℕ)
 bytesAt image (place s n) = some (take n (drop s image))
 bytesAt image unnamed = none

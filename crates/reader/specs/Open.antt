@@ -21,10 +21,12 @@ halves image t (suc m) = bucketNumber image t / 2 + halves image (suc t) m
 
 -- the letters CQDB
 abbrev pub hasLetters : List ℕ → Bool
-hasLetters image = eqb (getD image 0 0) 67 && eqb (getD image 1 0) 81 && eqb (getD image 2 0) 68 && eqb (getD image 3 0) 66
+hasLetters image =
+    eqb (getD image 0 0) 67 && eqb (getD image 1 0) 81 && eqb (getD image 2 0) 68 && eqb (getD image 3 0) 66
 
--- the first that applies: 1 under 2,072 bytes, 5 for wrong letters, 6 for a wrong word at 12, 7 when a table with offset above 0 leaves the image,
--- 8 when a back array with offset above 0 does. Otherwise num: the sum of halves over all 256 tables, modulo 2^32
+-- the first that applies: 1 under 2,072 bytes, 5 for wrong letters, 6 for a wrong word at 12, 7 when a table with
+-- offset above 0 leaves the image, 8 when a back array with offset above 0 does. Otherwise num: the sum of halves
+-- over all 256 tables, modulo 2^32
 unfoldable pub opening : List ℕ → Outcome ℕ
 opening image =
     cond (ltb (length image) headSize) (refusal 1)

@@ -1,2 +1,4 @@
--- What describes the steps of code. No promise of a user's call cites it.
+-- What only describes code. No rule is here: proofs/ joins it to the rules.
 pub mod Resume
+pub mod Search
+pub mod Tables

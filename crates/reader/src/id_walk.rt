@@ -9,14 +9,14 @@ use super::naming::no_back;
 use super::naming::to_str;
 use jhash::word::word;
 
-// A walk that stands before id 0.
+// A walk whose next id is 0.
 pub fn iter() -> Iter
     ensures { λ r. ⌜ r .next ≡ 0 ⌝ }
 {
     Iter { next: 0 }
 }
 
-// The next step of a walk. It ends at the first id without a name, and who goes on there with the same walk meets the
+// The next step of a walk. It ends at the first id without a name; calling `next` again with the same walk gives the
 // end again.
 pub fn next(image: &[u8], walk: Iter) -> Stepped
     ensures { λ r. ⌜ steppedOf r ≡ step (now (image .entry)) (walk .next) ⌝ }

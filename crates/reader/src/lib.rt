@@ -1,7 +1,6 @@
-// Reading: open, look up, name, walk, on every slice of bytes. No call of a user has a `requires`, and each answers what 01
-// fixes for the bytes that it is lent, whether an open accepted them or not. The steps of a search (`start`, `probe_bucket`,
-// `next_bucket`, `table_of`) are leaves for the crate `agreement`, whose search goes on past an equal name.
-pub mod start; // start.rt: the bucket that a search begins with
+// Reading: open, look up, name, walk, on every slice of bytes. No call of a user has a `requires`, and each answers
+// what 01 fixes for the bytes that it is lent, whether open accepts them or not. The steps of a search (`table_of`,
+// `probe_bucket`, `probe_entry`, `bucket_after`) are internal functions, public for the crates whose searches differ.
 pub mod opening; // opening.rt: open
 pub mod lookup; // lookup.rt: to_id
 pub mod naming; // naming.rt: to_str, name, name_or
@@ -13,17 +12,14 @@ pub use naming::name_or;
 pub use naming::to_str;
 pub use opening::open;
 
-// The head is 2,072 bytes.
-const HEAD_SIZE: usize = 2072;
-
 // What opening answers: the number of associations (`num`), or the number of the refusal that applies first.
 pub enum Opened {
     Num(u32),
     Refused(u32),
 }
 
-// What a lookup finds: the id, the number of buckets that the search reads, the deciding one included, and the offset in that
-// bucket, where the entry with this id and name stands.
+// What a lookup finds: the id, the number of buckets that the search reads, the deciding one included, and the offset
+// in that bucket, where the entry with this id and name is.
 pub struct Found {
     pub id: u32,
     pub buckets: u32,
@@ -42,13 +38,13 @@ pub struct Table {
     pub n: u32,
 }
 
-// What an entry with the wanted name tells: its id, and the offset at which it stands.
+// An entry with the wanted name: its id and its offset.
 pub struct Hit {
     pub id: u32,
     pub offset: u32,
 }
 
-// What a search sees in a bucket: it passes it, or ends with nothing, or with an entry that has the name.
+// What a search does at a bucket: it passes it, ends with nothing, or ends with an entry that has the name.
 pub enum Probe {
     Pass,
     Ends,
@@ -61,12 +57,12 @@ pub enum Named {
     Nothing,
 }
 
-// A walk over the ids, which stands before the id `next`.
+// A walk over the ids; `next` is the id of its next step.
 pub struct Iter {
     pub next: u32,
 }
 
-// A step of a walk: the id, the place of its name, and the walk to go on with; or the end.
+// A step of a walk: the id, the place of its name, and the walk to continue with; or the end.
 pub enum Stepped {
     Item {
         id: u32,

@@ -1,27 +1,27 @@
-// Looking up a name (reference `to_id`): what a bucket shows, the search along the buckets, and the call.
+// Looking up a name (reference `to_id`): the probe of a bucket, the search along the buckets, and the call.
 ghost use mathlib.Core.Path.{_≡_};
-ghost use Prim.Native.Nat.{ℕ, _+_, _*_, _/_, _<_, _≤_};
-ghost use mathlib.Core.Bool.{true, false};
+ghost use Prim.Native.Nat.{ℕ, _+_, _/_, _<_, _≤_};
 ghost use mathlib.Core.List.{List};
 ghost use lib.ListN.{length};
-ghost use Rattle.image.specs.Tables.{tableOf, start, next};
-ghost use Rattle.image.specs.Head.{tableAt, bucketNumber};
-ghost use Rattle.reader.specs.Lookup.{nothing, probeEntry, probeBucket, unsearched, searchTable, lookupHash, lookup};
+ghost use Rattle.image.specs.Tables.{start};
+ghost use Rattle.reader.specs.Lookup.{nothing, probeEntry, probeBucket, searchTable, lookupHash, lookup};
 ghost use Rattle.reader.specs.Cases.{probeOf, lookupOf};
 ghost use Rattle.reader.specs.steps.Resume.{searchRest, bucketAfter, lookupFrom};
+ghost use Rattle.reader.specs.steps.Search.{TableIn, RestPre, EarlyMissPre, FirstZero, TableFound};
 use super::Found;
-use super::HEAD_SIZE;
 use super::Hit;
 use super::Probe;
 use super::Table;
 use super::ToId;
-use super::start::start;
+use image::HEAD_SIZE;
 use image::entries::broken;
 use image::equality::same;
+use image::probe::next;
+use image::probe::start;
 use jhash::Hashed;
 use jhash::word::word;
 
-// What a search for a name sees in the entry at `at`.
+// What a search for a name does at the entry at `at`.
 pub fn probe_entry(image: &[u8], name: &[u8], at: u32) -> Probe
     ensures { λ r. ⌜ probeOf r ≡ probeEntry (now (image .entry)) (now (name .entry)) at ⌝ }
 {
@@ -40,7 +40,7 @@ pub fn probe_entry(image: &[u8], name: &[u8], at: u32) -> Probe
     Probe::Pass
 }
 
-// What a search for a name with the hash h sees in the bucket at `at`.
+// What a search for a name with the hash h does at the bucket at `at`.
 pub fn probe_bucket(image: &[u8], name: &[u8], h: u32, at: usize) -> Probe
     requires { ⌜ at + 8 ≤ length (now image) ⌝ }
     ensures { λ r. ⌜ probeOf r ≡ probeBucket (now (image .entry)) (now (name .entry)) h at ⌝ }
@@ -55,14 +55,6 @@ pub fn probe_bucket(image: &[u8], name: &[u8], h: u32, at: usize) -> Probe
     probe_entry(image, name, entry)
 }
 
-// The bucket after k: by one, from the last to the first.
-pub fn next_bucket(k: u32, n: u32) -> u32
-    requires { ⌜ k < n ⌝ }
-    ensures { λ r. ⌜ (r ≡ next n k) × (r < n) ⌝ }
-{
-    if k + 1 == n { 0 } else { k + 1 }
-}
-
 // The smaller of two numbers: when it is 0 and the first is not, the second is.
 fn smaller(x: u32, y: u32) -> u32
     ensures { λ r. ⌜ (0 < x → r ≡ 0 → y ≡ 0) ⌝ }
@@ -70,10 +62,10 @@ fn smaller(x: u32, y: u32) -> u32
     if x < y { x } else { y }
 }
 
-// Which of three numbers is the first that is 0, counted from 1; 0 tells nothing. One branch, on the smallest, decides whether any
-// is 0.
+// Which of three numbers is the first that is 0, counted from 1; 0 where none is. One branch, on the smallest, decides
+// whether any is 0.
 fn first_zero(x: u32, y: u32, z: u32) -> u32
-    ensures { λ r. ⌜ (r < 4) × (r ≡ 1 → x ≡ 0) × (r ≡ 2 → (0 < x) × (y ≡ 0)) × (r ≡ 3 → (0 < x) × (0 < y) × (z ≡ 0)) ⌝ }
+    ensures { λ r. ⌜ FirstZero x y z r ⌝ }
 {
     if smaller(x, smaller(y, z)) != 0 {
         return 0;
@@ -84,23 +76,24 @@ fn first_zero(x: u32, y: u32, z: u32) -> u32
     if y == 0 { 2 } else { 3 }
 }
 
-// Of the first three buckets of a search, from bucket k on, the number of the first empty one, if neither of the first two has
-// the hash h: there the search ends with nothing, whatever the name. Else 0, which tells nothing. Half of a table's buckets
-// are empty, so a branch on each is often mispredicted; here one branch, on the smallest of three offsets, decides.
-fn early_miss(image: &[u8], h: u32, at: u32, n: u32, k: u32) -> u32
-    requires { ⌜ (k ≡ start h n) × (k < n) × (at + 8 * n ≤ length (now image)) ⌝ }
+// Of the first three buckets of a search, from bucket k on, the number of the first empty one, if neither of the first
+// two has the hash h: there the search ends with nothing, whatever the name. Otherwise 0, and the search is undecided.
+// Half of a table's buckets are empty, so a branch on each is often mispredicted; here one branch, on the smallest of
+// three offsets, decides.
+fn early_miss(image: &[u8], h: u32, at: u32, n: usize, k: usize) -> u32
+    requires { ⌜ EarlyMissPre (now image) h at n k ⌝ }
     ensures { λ r. ⌜ (0 < r → (name : List ℕ) → searchTable (now (image .entry)) name h at n ≡ nothing r) ⌝ }
 {
-    let first = at as usize + 8 * (k as usize);
+    let first = at as usize + 8 * k;
     if word(image, first) == h {
         return 0;
     }
-    let k1 = next_bucket(k, n);
-    let second = at as usize + 8 * (k1 as usize);
+    let k1 = next(k, n);
+    let second = at as usize + 8 * k1;
     if word(image, second) == h {
         return 0;
     }
-    let third = at as usize + 8 * (next_bucket(k1, n) as usize);
+    let third = at as usize + 8 * next(k1, n);
     first_zero(
         word(image, first + 4),
         word(image, second + 4),
@@ -108,10 +101,10 @@ fn early_miss(image: &[u8], h: u32, at: u32, n: u32, k: u32) -> u32
     )
 }
 
-// The search for a name in the table of n buckets at `at`, where m buckets are left: from bucket `first` on by one,
-// from the last to the first.
-fn search_rest(image: &[u8], name: &[u8], h: u32, at: u32, n: u32, first: u32, m: u32) -> ToId
-    requires { ⌜ (first < n) × (m ≤ n) × (at + 8 * n ≤ length (now image)) ⌝ }
+// The search for a name in the table of n buckets at `at`, where m buckets are left: from bucket `first` on, and from
+// the last to bucket 0.
+fn search_rest(image: &[u8], name: &[u8], h: u32, at: u32, n: u32, first: usize, m: u32) -> ToId
+    requires { ⌜ RestPre (now image) at n first m ⌝ }
     ensures { λ r. ⌜ lookupOf r ≡ searchRest (now (image .entry)) (now (name .entry)) h at n first m ⌝ }
 {
     let mut k = first;
@@ -119,7 +112,7 @@ fn search_rest(image: &[u8], name: &[u8], h: u32, at: u32, n: u32, first: u32, m
     while 0 < left {
         left -= 1;
         let read = n - left;
-        match probe_bucket(image, name, h, at as usize + 8 * (k as usize)) {
+        match probe_bucket(image, name, h, at as usize + 8 * k) {
             Probe::Pass => {}
             Probe::Ends => {
                 return ToId::Nothing { buckets: read };
@@ -132,19 +125,19 @@ fn search_rest(image: &[u8], name: &[u8], h: u32, at: u32, n: u32, first: u32, m
                 });
             }
         }
-        k = next_bucket(k, n);
+        k = next(k, n as usize);
     }
     ToId::Nothing { buckets: n }
 }
 
-// The search for a name in the table of n buckets at `at`: from bucket (hash / 256) modulo n on by one, from the last to
-// the first, and no further than n buckets.
+// The search for a name in the table of n buckets at `at`: from bucket (hash / 256) modulo n on, from the last to
+// bucket 0, and at most n buckets.
 fn search(image: &[u8], name: &[u8], h: u32, at: u32, n: u32) -> ToId
-    requires { ⌜ (0 < n) × (at + 8 * n ≤ length (now image)) ⌝ }
+    requires { ⌜ TableIn (now image) at n ⌝ }
     ensures { λ r. ⌜ lookupOf r ≡ searchTable (now (image .entry)) (now (name .entry)) h at n ⌝ }
 {
     let k = start(h, n);
-    let ended_after = early_miss(image, h, at, n, k);
+    let ended_after = early_miss(image, h, at, n as usize, k);
     if ended_after != 0 {
         return ToId::Nothing {
             buckets: ended_after,
@@ -153,12 +146,11 @@ fn search(image: &[u8], name: &[u8], h: u32, at: u32, n: u32) -> ToId
     search_rest(image, name, h, at, n, k, n)
 }
 
-// The table that a hash is searched in, its offset and bucket number. The number is 0 where no bucket is read: offset 0, bucket
-// number 0 or an end past the image.
+// The table that a hash is searched in: its offset and bucket number. The number is 0 where no bucket is read: offset
+// 0, bucket number 0 or an end past the image.
 pub fn table_of(image: &[u8], h: u32) -> Table
     requires { ⌜ 2072 ≤ length (now image) ⌝ }
-    ensures unread { λ r. ⌜ (r .n ≡ 0 → unsearched (now (image .entry)) (tableOf h) ≡ true) ⌝ }
-    ensures searched { λ r. ⌜ (0 < r .n → (unsearched (now (image .entry)) (tableOf h) ≡ false) × (r .at ≡ tableAt (now (image .entry)) (tableOf h)) × (r .n ≡ bucketNumber (now (image .entry)) (tableOf h)) × (r .at + 8 * r .n ≤ length (now (image .entry)))) ⌝ }
+    ensures { λ r. ⌜ TableFound (now (image .entry)) h (r .at) (r .n) ⌝ }
 {
     let t = (h % 256) as usize;
     let at = word(image, 24 + 8 * t);
@@ -188,8 +180,8 @@ fn to_id_hashed(image: &[u8], name: &[u8], h: u32) -> ToId
 pub fn to_id(image: &[u8], name: &[u8]) -> ToId
     ensures { λ r. ⌜ lookupOf r ≡ lookup (now (image .entry)) (now (name .entry)) ⌝ }
 {
-    // Image and name as parts, each the whole: place and length are read one by one, and the compiler then hands them in as
-    // four numbers in place of two pointers to pairs.
+    // Subslices that are the whole image and the whole name: place and length are read one by one, and the compiler
+    // then passes four numbers in place of two pointers to pairs.
     let all = image.len();
     let bytes = &image[0..all];
     let n = name.len();
@@ -228,6 +220,6 @@ pub fn search_from(image: &[u8], name: &[u8], h: u32, c: u32) -> ToId
     if n <= c {
         return ToId::Nothing { buckets: n };
     }
-    let k = bucket_after(h, c, n);
+    let k = bucket_after(h, c, n) as usize;
     search_rest(image, name, h, table.at, n, k, n - c)
 }

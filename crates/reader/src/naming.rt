@@ -3,9 +3,9 @@ ghost use mathlib.Core.Path.{_≡_};
 ghost use Rattle.reader.specs.Slices.{slice};
 ghost use Rattle.reader.specs.Naming.{noBack, naming, nameSlice, nameOr};
 ghost use Rattle.reader.specs.Cases.{namingOf};
-use super::HEAD_SIZE;
 use super::Named;
 use super::opening::back_leaves;
+use image::HEAD_SIZE;
 use image::entries::broken;
 use jhash::word::word;
 
@@ -46,17 +46,14 @@ pub fn to_str(image: &[u8], id: u32) -> Named
     }
 }
 
-// The part of the lent image that is an id's name, empty if it has none.
+// The subslice of the image that is an id's name, empty if it has none.
 pub fn name<'a>(image: &'a [u8], id: u32) -> &'a [u8]
     ensures { λ r. ⌜ slice r ≡ nameSlice (slice (image .entry)) id ⌝ }
 {
-    match to_str(image, id) {
-        Named::Place { start, len } => &image[start..start + len],
-        Named::Nothing => &image[0..0],
-    }
+    name_or(image, id, &image[0..0])
 }
 
-// The part of the lent image that is an id's name, or the stand-in itself if it has none.
+// The subslice of the image that is an id's name, or the stand-in itself if it has none.
 pub fn name_or<'a>(image: &'a [u8], id: u32, stand_in: &'a [u8]) -> &'a [u8]
     ensures { λ r. ⌜ slice r ≡ nameOr (slice (image .entry)) id (slice (stand_in .entry)) ⌝ }
 {

@@ -1,20 +1,21 @@
 // Opening an image (reference `CQDB::new`).
 ghost use mathlib.Core.Path.{_≡_};
 ghost use mathlib.Core.Bool.{false, _&&_};
-ghost use Prim.Native.Nat.{_+_, _*_, _/_, _%_, _^_, _<_, _≤_};
+ghost use Prim.Native.Nat.{_+_, _*_, _^_, _<_, _≤_};
 ghost use lib.Dec.{ltb};
 ghost use lib.ListN.{length};
 ghost use Rattle.image.specs.Head.{backLeaves};
-ghost use Rattle.reader.specs.Open.{hasLetters, someLeaves, halves, opening};
+ghost use Rattle.reader.specs.Open.{hasLetters, someLeaves, opening};
 ghost use Rattle.reader.specs.Cases.{openedOf};
-use super::HEAD_SIZE;
+ghost use Rattle.reader.specs.steps.Tables.{TableAdded, AllTables};
 use super::Opened;
+use image::HEAD_SIZE;
 use jhash::word::word;
 
-// What the tables met so far tell: the halves of their bucket numbers, summed modulo 2^32, and their rooms joined bit by bit.
+// Of the tables so far: the halves of their bucket numbers, summed modulo 2^32, and the bitwise or of their slacks.
 struct Tables {
     num: u32,
-    rooms: u64,
+    slacks: u64,
 }
 
 const NUM_TABLES: usize = 256;
@@ -29,38 +30,37 @@ fn has_letters(image: &[u8]) -> bool
     (image[0] == 67) & (image[1] == 81) & (image[2] == 68) & (image[3] == 66)
 }
 
-// The room behind a table at `at` with n buckets, in an image of `size` bytes: the size minus the table's end, modulo 2^64. No
-// end reaches 2^36, so below 2^63 it is a true difference, and the table ends in the image.
+// The slack of a table at `at` with n buckets, in an image of `size` bytes: the size minus the table's end, modulo
+// 2^64. No end reaches 2^36, so below 2^63 it is a true difference, and the table ends in the image.
 fn slack(size: usize, at: u32, n: u32) -> u64
     ensures { λ r. ⌜ (r < 2 ^ 63 → at + 8 * n ≤ size) ⌝ }
 {
     std::num::wrapping_sub_u64(size as u64, at as u64 + 8 * (n as u64))
 }
 
-// One room more, of such a table. A join by `|` is never below what it joins, so no room exceeds it.
-fn with_slack(rooms: u64, size: usize, at: u32, n: u32) -> u64
-    ensures { λ r. ⌜ (r < 2 ^ 63 → (rooms < 2 ^ 63) × (at + 8 * n ≤ size)) ⌝ }
+// The bitwise or with the slack of one more table. It is never below its operands, so no slack exceeds it.
+fn with_slack(slacks: u64, size: usize, at: u32, n: u32) -> u64
+    ensures { λ r. ⌜ (r < 2 ^ 63 → (slacks < 2 ^ 63) × (at + 8 * n ≤ size)) ⌝ }
 {
-    rooms | slack(size, at, n)
+    slacks | slack(size, at, n)
 }
 
 // One table more.
 fn with_table(all: Tables, size: usize, at: u32, n: u32) -> Tables
-    ensures { λ r. ⌜ (r .num ≡ (all .num + n / 2) % 2 ^ 32) × (r .rooms < 2 ^ 63 → (all .rooms < 2 ^ 63) × (at + 8 * n ≤ size)) ⌝ }
+    ensures { λ r. ⌜ TableAdded all size at n r ⌝ }
 {
     Tables {
         num: std::num::wrapping_add_u32(all.num, n / 2),
-        rooms: with_slack(all.rooms, size, at, n),
+        slacks: with_slack(all.slacks, size, at, n),
     }
 }
 
-// All 256 tables, in a loop that has neither a way out but its end nor a comparison of 64 bits, so the compiler makes vector
-// code of it.
+// All 256 tables. The loop has no early exit and no 64-bit comparison, so the compiler makes vector code of it.
 fn all_tables(image: &[u8]) -> Tables
     requires { ⌜ 2072 ≤ length (now image) ⌝ }
-    ensures { λ r. ⌜ (r .num ≡ halves (now (image .entry)) 0 256 % 2 ^ 32) × (r .rooms < 2 ^ 63 → someLeaves (now (image .entry)) 0 256 ≡ false) ⌝ }
+    ensures { λ r. ⌜ AllTables (now (image .entry)) r ⌝ }
 {
-    let mut all = Tables { num: 0, rooms: 0 };
+    let mut all = Tables { num: 0, slacks: 0 };
     let mut t: usize = 0;
     while t < NUM_TABLES {
         all = with_table(
@@ -100,13 +100,13 @@ fn some_leaves_by_each(image: &[u8]) -> bool
     one
 }
 
-// The same, where the joined rooms are known. A join of 2^63 or more does not settle it: a table that leaves may have
+// The same, where the bitwise or of the slacks is known. From 2^63 on it decides nothing: a table that leaves may have
 // offset 0.
-fn some_leaves(image: &[u8], rooms: u64) -> bool
-    requires { ⌜ (2072 ≤ length (now image)) × (rooms < 2 ^ 63 → someLeaves (now image) 0 256 ≡ false) ⌝ }
+fn some_leaves(image: &[u8], slacks: u64) -> bool
+    requires { ⌜ (2072 ≤ length (now image)) × (slacks < 2 ^ 63 → someLeaves (now image) 0 256 ≡ false) ⌝ }
     ensures { λ r. ⌜ r ≡ someLeaves (now (image .entry)) 0 256 ⌝ }
 {
-    if 9223372036854775808 <= rooms {
+    if 9223372036854775808 <= slacks {
         return some_leaves_by_each(image);
     }
     false
@@ -122,9 +122,9 @@ pub(crate) fn back_leaves(image: &[u8]) -> bool
     image.len() < at + 4 * n
 }
 
-// The number of associations of an image, or why it is refused: 1 for too few bytes, 5 for other letters, 6 for another word at
-// 12, 7 for a table that leaves the image, 8 for such a back array. The size and flag words are not looked at, and bytes
-// may follow the image.
+// The number of associations of an image, or the number of its refusal: 1 for too few bytes, 5 for other letters, 6 for
+// another word at 12, 7 for a table that leaves the image, 8 for such a back array. The size and flag words are not
+// read, and bytes may follow the image.
 pub fn open(image: &[u8]) -> Opened
     ensures { λ r. ⌜ openedOf r ≡ opening (now (image .entry)) ⌝ }
 {
@@ -138,7 +138,7 @@ pub fn open(image: &[u8]) -> Opened
         return Opened::Refused(6);
     }
     let all = all_tables(image);
-    if some_leaves(image, all.rooms) {
+    if some_leaves(image, all.slacks) {
         return Opened::Refused(7);
     }
     if 0 < word(image, 20) {

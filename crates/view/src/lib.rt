@@ -1,5 +1,5 @@
-// A view of an image (reference `CQDB`): a struct that holds the slice, and thin calls of the functions on plain slices, each with
-// that function's promise, read off the struct. A view can be copied, and its calls take it by value.
+// A view of an image (reference `CQDB`): a struct around the slice, and thin calls of the functions on plain slices,
+// each with that function's promise. A view can be copied, and its calls take it by value.
 ghost use mathlib.Core.Path.{_≡_};
 ghost use Rattle.reader.specs.Open.{opening};
 ghost use Rattle.reader.specs.Lookup.{lookup};
@@ -65,7 +65,7 @@ impl<'a> CQDB<'a> {
         reader::to_str(self.image, id)
     }
 
-    // The part of the slice that is an id's name, empty if it has none. It lives as long as the slice, and may outlive the view.
+    // The subslice that is an id's name, empty if it has none. It lives as long as the slice, and may outlive the view.
     pub fn name(self, id: u32) -> &'a [u8]
         ensures { λ r. ⌜ slice r ≡ nameSlice (slice (self .entry .image)) id ⌝ }
     {
@@ -79,7 +79,7 @@ impl<'a> CQDB<'a> {
         reader::id_walk::next(self.image, walk)
     }
 
-    // Has the id a name, and has some entry that the search for that name meets this name and this id?
+    // The home check: has the id a name, and has some match of that name's search this id?
     pub fn home(self, id: u32) -> bool
         ensures { λ r. ⌜ r ≡ home (now (self .entry .image)) id ⌝ }
     {
@@ -87,8 +87,8 @@ impl<'a> CQDB<'a> {
     }
 }
 
-// The part of an image that is an id's name, empty if it has none, by a view that is made for it. Its parameters are plain, so
-// that the borrow checker covers whoever calls it.
+// The subslice of an image that is an id's name, empty if it has none, by a view that is made for it. Its parameters
+// are plain, so the borrow checker covers its callers.
 pub fn name_of<'a>(image: &'a [u8], id: u32) -> &'a [u8]
     ensures { λ r. ⌜ slice r ≡ nameSlice (slice (image .entry)) id ⌝ }
 {

@@ -1,4 +1,4 @@
--- `agreement::home` meets its contract. Assumes nothing.
+-- `consistency::home` meets its contract. Assumes nothing.
 use native.Mathlib.Omega.{arith}
 use mathlib.Core.Path.{sym, ap, _∙_}
 use Rattle.reader.specs.Cases.{namingOf}

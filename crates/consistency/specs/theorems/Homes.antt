@@ -1,4 +1,4 @@
--- What holds of the entries that a search meets, and of home, on every byte string: 02 (vi).
+-- What holds of the matches of a search, and of home, on every byte string: 02 (vi).
 use Prim.Native.Nat.{ℕ, _≤_}
 use mathlib.Core.Path.{_≡_}
 use mathlib.Core.Bool.{Bool, true, false}
@@ -23,7 +23,7 @@ homeByFirst image id (place s n) = finds id (lookup image (take n (drop s image)
 homeByFirst image id unnamed = false
 
 pub record Homes : Type 0 where
-  -- the lookup's rule is a reading of the entries that the search meets: the first of them
+  -- the lookup's rule is a reading of the search's matches: the first of them
   pub lookup-first : (image name : List ℕ) → lookup image name ≡ firstMatch (matchesOf image name)
   -- who was home by 01's rule is home
   pub still-home : (image : List ℕ) (id : ℕ) → homeByFirst image id (naming image id) ≡ true → home image id ≡ true

@@ -1,4 +1,4 @@
--- What the walks over entries read first of each. No rule of 01 stands here: proofs/ joins it to specs/Stored.
+-- What the walks over entries read first of each: proofs/ joins it to specs/Stored.
 use Prim.Native.Nat.{ℕ}
 use mathlib.Core.Bool.{cond}
 use mathlib.Core.List.{List}

@@ -1,5 +1,6 @@
 -- Mixing and finishing as the code computes them: one round, or one step, on words that change their names each time.
--- `proofs/Mixing.antt` proves that six such rounds are lookup3's `mix` and seven such steps its `final`. Assumes nothing.
+-- `proofs/Mixing.antt` proves that six such rounds are lookup3's `mix` and seven such steps its `final`.
+-- Assumes nothing.
 use Prim.Native.Nat.{ℕ}
 use Rattle.jhash.specs.Lookup3.{add32, mixed, finalWord}
 use Rattle.jhash.specs.declared.Words.{Words}

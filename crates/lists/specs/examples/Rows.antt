@@ -1,5 +1,5 @@
--- The examples C1 to C7 and C11 of 01, "Examples from the quay", as rows: a list of calls on a buffer, and what it gives. C6 names the repeats mode
--- (02 (viii)); the others hold with either choice.
+-- The examples C1 to C7 and C11 of 01, "Examples from the quay", as rows: a list of calls on a buffer, and what it
+-- gives. C6 names the repeats mode (02 (viii)); the others hold with either choice.
 use Prim.Native.Nat.{ℕ, _+_, _*_}
 use mathlib.Core.Path.{_≡_}
 use mathlib.Core.Bool.{Bool, true, false}
@@ -33,7 +33,8 @@ pub record IdGives : Type 0 where
   pub gives : Option (List ℕ)
   pub isHome : Bool
 
--- calls on a buffer of `bytes` bytes; the refusal of each, the size that one more close gives, num, the back array's offset and words, and answers
+-- calls on a buffer of `bytes` bytes; the refusal of each, the size that one more close gives, num, the back array's
+-- offset and words, and answers
 pub record Row : Type 0 where
   pub mode : Mode
   pub repeats : Repeats
@@ -43,7 +44,7 @@ pub record Row : Type 0 where
   pub size : ℕ
   pub number : ℕ
   pub backOffset : ℕ
-  pub links : List ℕ
+  pub backWords : List ℕ
   pub names : List NameGives
   pub ids : List IdGives
 
@@ -55,7 +56,7 @@ backArray img = map (λ (i : ℕ). word img (backOffsetAt img + 4 * i)) (range 0
 pub record ImageHolds (r : Row) (img : List ℕ) : Type 0 where
   pub opened : opening img ≡ value (r .number)
   pub back-offset : backOffsetAt img ≡ r .backOffset
-  pub back-array : backArray img ≡ r .links
+  pub back-array : backArray img ≡ r .backWords
   pub named : Each (λ (a : NameGives). foundId (lookup img (a .name)) ≡ a .gives) (r .names)
   pub placed : Each (λ (a : IdGives). (nameGiven img (a .id) ≡ a .gives) × (home img (a .id) ≡ a .isHome)) (r .ids)
 
@@ -90,7 +91,7 @@ c1 repeats =
       size = 2072;
       number = 0;
       backOffset = 0;
-      links = [];
+      backWords = [];
       names = record { name = A; gives = none } ∷ [];
       ids = record { id = 0; gives = none; isHome = false } ∷ [];
     }
@@ -106,7 +107,7 @@ c2 repeats =
       size = 2101;
       number = 1;
       backOffset = 2097;
-      links = 2072 ∷ [];
+      backWords = 2072 ∷ [];
       names = record { name = []; gives = some 0 } ∷ [];
       ids = record { id = 0; gives = some []; isHome = true } ∷ [];
     }
@@ -122,7 +123,7 @@ c3 repeats =
       size = 2072;
       number = 0;
       backOffset = 0;
-      links = [];
+      backWords = [];
       names = record { name = []; gives = none } ∷ [];
       ids = record { id = 0; gives = none; isHome = false } ∷ [];
     }
@@ -138,9 +139,13 @@ c4 repeats =
       size = 2140;
       number = 2;
       backOffset = 2124;
-      links = 2072 ∷ 0 ∷ 0 ∷ 2082 ∷ [];
+      backWords = 2072 ∷ 0 ∷ 0 ∷ 2082 ∷ [];
       names = record { name = A; gives = some 0 } ∷ record { name = B; gives = some 3 } ∷ [];
-      ids = record { id = 0; gives = some A; isHome = true } ∷ record { id = 1; gives = none; isHome = false } ∷ record { id = 3; gives = some B; isHome = true } ∷ [];
+      ids =
+          record { id = 0; gives = some A; isHome = true }
+          ∷ record { id = 1; gives = none; isHome = false }
+          ∷ record { id = 3; gives = some B; isHome = true }
+          ∷ [];
     }
 
 abbrev pub c5 : Repeats → Row
@@ -154,7 +159,7 @@ c5 repeats =
       size = 2124;
       number = 2;
       backOffset = 0;
-      links = [];
+      backWords = [];
       names = record { name = A; gives = some 0 } ∷ record { name = B; gives = some 3 } ∷ [];
       ids = record { id = 0; gives = none; isHome = false } ∷ [];
     }
@@ -170,7 +175,7 @@ c6 =
       size = 2164;
       number = 2;
       backOffset = 2124;
-      links = 0 ∷ 0 ∷ 0 ∷ 0 ∷ 0 ∷ 2072 ∷ 0 ∷ 0 ∷ 0 ∷ 2082 ∷ [];
+      backWords = 0 ∷ 0 ∷ 0 ∷ 0 ∷ 0 ∷ 2072 ∷ 0 ∷ 0 ∷ 0 ∷ 2082 ∷ [];
       names = record { name = A; gives = some 5 } ∷ [];
       ids = record { id = 5; gives = some A; isHome = true } ∷ record { id = 9; gives = some A; isHome = true } ∷ [];
     }
@@ -187,7 +192,7 @@ c6-off =
       size = 2122;
       number = 1;
       backOffset = 2098;
-      links = 0 ∷ 0 ∷ 0 ∷ 0 ∷ 0 ∷ 2072 ∷ [];
+      backWords = 0 ∷ 0 ∷ 0 ∷ 0 ∷ 0 ∷ 2072 ∷ [];
       names = record { name = A; gives = some 5 } ∷ [];
       ids = record { id = 5; gives = some A; isHome = true } ∷ record { id = 9; gives = none; isHome = false } ∷ [];
     }
@@ -203,7 +208,7 @@ c7 repeats =
       size = 2128;
       number = 2;
       backOffset = 2124;
-      links = 2082 ∷ [];
+      backWords = 2082 ∷ [];
       names = record { name = A; gives = some 0 } ∷ record { name = B; gives = some 0 } ∷ [];
       ids = record { id = 0; gives = some B; isHome = true } ∷ [];
     }
@@ -220,7 +225,7 @@ c11 repeats =
       size = 2072;
       number = 0;
       backOffset = 0;
-      links = [];
+      backWords = [];
       names = record { name = A; gives = none } ∷ [];
       ids = record { id = 4294967295; gives = none; isHome = false } ∷ [];
     }
@@ -236,14 +241,15 @@ c11-one-way repeats =
       size = 2098;
       number = 1;
       backOffset = 0;
-      links = [];
+      backWords = [];
       names = record { name = A; gives = some 4294967295 } ∷ [];
       ids = record { id = 4294967295; gives = none; isHome = false } ∷ [];
     }
 
 -- those that hold with either choice, and those that name it
 abbrev pub exampleRows : Repeats → List Row
-exampleRows repeats = c1 repeats ∷ c2 repeats ∷ c3 repeats ∷ c4 repeats ∷ c5 repeats ∷ c7 repeats ∷ c11 repeats ∷ c11-one-way repeats ∷ []
+exampleRows repeats =
+    c1 repeats ∷ c2 repeats ∷ c3 repeats ∷ c4 repeats ∷ c5 repeats ∷ c7 repeats ∷ c11 repeats ∷ c11-one-way repeats ∷ []
 
 abbrev pub namedRows : List Row
 namedRows = c6 ∷ c6-off ∷ []

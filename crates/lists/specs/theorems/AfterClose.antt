@@ -1,6 +1,7 @@
--- Reading from a close to the next put. An accepted put writes its entry where the last close had put its tables: until the next close the buffer is no
--- image, though open may still accept it. Demand 3 speaks of the image after the one more close; this says what a careful caller relies on, who reads
--- the buffer between a close of the list and the next put.
+-- Reading from a close to the next put. An accepted put writes its entry where the last close had put its tables:
+-- until the next close the buffer is no image, though open may still accept it. Demand 3 speaks of the image after
+-- the one more close; this says what a careful caller relies on, who reads the buffer between a close of the list and
+-- the next put.
 use Prim.Native.Nat.{ℕ, _-_, _≤_}
 use mathlib.Core.Path.{_≡_}
 use mathlib.Core.List.{List, [], _∷_, _++_}
@@ -30,8 +31,9 @@ pub record ReadingAnswered (es : List Entry) (img : List ℕ) : Type 0 where
   -- name_or, and name, where the caller's own bytes are none: the bytes of the id's name, or the caller's own
   pub slice-given : (at : ℕ × ℕ) (id : ℕ) (other : Slice)
       → nameOr (record { at = at; bytes = img }) id other .bytes ≡ Option·getD (lastName (ofId id es)) (other .bytes)
-  -- next: a walk that stands before an id gives it and its name, and ends where it has none
-  pub walked : (id : ℕ) → stepGiven img (step img id) ≡ Option·map (λ (name : List ℕ). entryOf name id) (lastName (ofId id es))
+  -- next: a walk whose next id is this one gives it and its name, and ends where it has none
+  pub walked : (id : ℕ)
+      → stepGiven img (step img id) ≡ Option·map (λ (name : List ℕ). entryOf name id) (lastName (ofId id es))
   -- size_hint: back size minus the next id
   pub hinted : (id : ℕ) → upperHint img id ≡ backSize es - id
   -- home
@@ -43,18 +45,22 @@ pub record AfterClose (repeats : Repeats) (buffer : List ℕ) (cs : List Call) (
   -- the close accepts no put: the accepted puts so far are those of cs
   pub same-puts : acceptedPuts Twoway repeats buffer (cs ++ (close ∷ [])) ≡ acceptedPuts Twoway repeats buffer cs
   -- the buffer's first bytes as they stand, as many as this size, are the image that 01's rules give for them
-  pub stands : take size (afterList Twoway repeats buffer (cs ++ (close ∷ [])) .buffer) ≡ image Twoway (acceptedPuts Twoway repeats buffer cs)
+  pub stands : take size (afterList Twoway repeats buffer (cs ++ (close ∷ [])) .buffer)
+      ≡ image Twoway (acceptedPuts Twoway repeats buffer cs)
   -- lent these bytes, each reading call answers by them
-  pub answered : ReadingAnswered (acceptedPuts Twoway repeats buffer cs) (take size (afterList Twoway repeats buffer (cs ++ (close ∷ [])) .buffer))
+  pub answered : ReadingAnswered (acceptedPuts Twoway repeats buffer cs)
+      (take size (afterList Twoway repeats buffer (cs ++ (close ∷ [])) .buffer))
 
 -- for every list on a buffer of 2,072 bytes or more
 pub record CloseReadable : Type 0 where
-  pub after-close : (repeats : Repeats) (buffer : List ℕ) (cs : List Call) (size : ℕ) → headSize ≤ length buffer → closing (afterList Twoway repeats buffer cs) ≡ value size
+  pub after-close : (repeats : Repeats) (buffer : List ℕ) (cs : List Call) (size : ℕ) → headSize ≤ length buffer
+      → closing (afterList Twoway repeats buffer cs) ≡ value size
       → AfterClose repeats buffer cs size
   -- calls of which no put is accepted, so refused puts and further closes, change neither record nor buffer
   pub kept : (repeats : Repeats) (buffer : List ℕ) (cs more : List Call) → headSize ≤ length buffer
       → acceptedPuts Twoway repeats buffer (cs ++ (close ∷ more)) ≡ acceptedPuts Twoway repeats buffer cs
       → afterList Twoway repeats buffer (cs ++ (close ∷ more)) ≡ afterList Twoway repeats buffer (cs ++ (close ∷ []))
-  -- whatever calls follow it, a put above all: one more close repairs everything, and the answers are by the accepted puts until then
+  -- whatever calls follow it, a put above all: after one more close the answers are by the accepted puts until then
   pub repaired : (repeats : Repeats) (buffer : List ℕ) (cs more : List Call) (size : ℕ) → headSize ≤ length buffer
-      → closing (afterList Twoway repeats buffer (cs ++ (close ∷ more))) ≡ value size → AfterClose repeats buffer (cs ++ (close ∷ more)) size
+      → closing (afterList Twoway repeats buffer (cs ++ (close ∷ more))) ≡ value size
+      → AfterClose repeats buffer (cs ++ (close ∷ more)) size

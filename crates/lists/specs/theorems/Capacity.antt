@@ -1,4 +1,5 @@
--- The room of a whole list: in a buffer that has room for the image of all its puts, no put is refused with 3.
+-- The capacity that a whole list needs: in a buffer at least as long as the image of all its puts, no put is refused
+-- with 3.
 use Prim.Native.Nat.{ℕ, _≤_}
 use mathlib.Core.Path.{_≡_}
 use mathlib.Core.List.{List}

@@ -1,5 +1,6 @@
--- One-way lists: what holds of every list of put and close calls from a fresh one-way writer, with repeats off or on (02 (viii)). It is what demand 3
--- says of two-way ones; but a one-way image has no back array, so no id gives a name there.
+-- One-way lists: what holds of every list of put and close calls from a fresh one-way writer, with repeats off or on
+-- (02 (viii)). It is what demand 3 says of two-way ones; but a one-way image has no back array, so no id gives a name
+-- there.
 use Prim.Native.Nat.{ℕ, _≤_}
 use mathlib.Core.Path.{_≡_}
 use mathlib.Core.Bool.{false}
@@ -30,9 +31,13 @@ pub record OneWayList (repeats : Repeats) (buffer : List ℕ) (cs : List Call) :
 
 -- for every list, and every two, on buffers of 2,072 bytes or more
 pub record OneWay : Type 0 where
-  pub one-list : (repeats : Repeats) (buffer : List ℕ) (cs : List Call) → headSize ≤ length buffer → WordIds Oneway cs → OneWayList repeats buffer cs
+  pub one-list : (repeats : Repeats) (buffer : List ℕ) (cs : List Call) → headSize ≤ length buffer
+      → WordIds Oneway cs → OneWayList repeats buffer cs
   -- with the same accepted puts of one name, in the same order, both images answer that name alike
-  pub alike-name : (repeats₁ : Repeats) (buffer₁ : List ℕ) (cs₁ : List Call) (repeats₂ : Repeats) (buffer₂ : List ℕ) (cs₂ : List Call) → headSize ≤ length buffer₁ → headSize ≤ length buffer₂
-      → WordIds Oneway cs₁ → WordIds Oneway cs₂
-      → (name : List ℕ) → ofName name (acceptedPuts Oneway repeats₁ buffer₁ cs₁) ≡ ofName name (acceptedPuts Oneway repeats₂ buffer₂ cs₂)
-      → foundId (lookup (imageOf Oneway repeats₁ buffer₁ cs₁) name) ≡ foundId (lookup (imageOf Oneway repeats₂ buffer₂ cs₂) name)
+  pub alike-name : (repeats₁ : Repeats) (buffer₁ : List ℕ) (cs₁ : List Call)
+      → (repeats₂ : Repeats) (buffer₂ : List ℕ) (cs₂ : List Call)
+      → headSize ≤ length buffer₁ → headSize ≤ length buffer₂ → WordIds Oneway cs₁ → WordIds Oneway cs₂
+      → (name : List ℕ)
+      → ofName name (acceptedPuts Oneway repeats₁ buffer₁ cs₁) ≡ ofName name (acceptedPuts Oneway repeats₂ buffer₂ cs₂)
+      → foundId (lookup (imageOf Oneway repeats₁ buffer₁ cs₁) name)
+      ≡ foundId (lookup (imageOf Oneway repeats₂ buffer₂ cs₂) name)

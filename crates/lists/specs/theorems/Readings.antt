@@ -1,5 +1,5 @@
--- Both readings of names in the image of a list: 02 (v). Put turns names with a zero byte down, so the image of every list of calls from a fresh record,
--- as in demand 3 or one-way, passes the check.
+-- Both readings of names in the image of a list: 02 (v). Put refuses names with a zero byte, so the image of every list
+-- of calls from a fresh record, two-way as in demand 3 or one-way, passes the check.
 use Prim.Native.Nat.{_≤_}
 use mathlib.Core.Path.{_≡_}
 use mathlib.Core.Bool.{true}
@@ -14,5 +14,7 @@ use Rattle.lists.specs.Calls.{Call, WordIds}
 use Rattle.lists.specs.Demand3.{imageOf}
 
 pub record Readings : Type 0 where
-  pub two-way : (repeats : Repeats) (buffer : List ℕ) (cs : List Call) → headSize ≤ length buffer → readingsAgree (imageOf Twoway repeats buffer cs) ≡ true
-  pub one-way : (repeats : Repeats) (buffer : List ℕ) (cs : List Call) → headSize ≤ length buffer → WordIds Oneway cs → readingsAgree (imageOf Oneway repeats buffer cs) ≡ true
+  pub two-way : (repeats : Repeats) (buffer : List ℕ) (cs : List Call) → headSize ≤ length buffer
+      → readingsAgree (imageOf Twoway repeats buffer cs) ≡ true
+  pub one-way : (repeats : Repeats) (buffer : List ℕ) (cs : List Call) → headSize ≤ length buffer → WordIds Oneway cs
+      → readingsAgree (imageOf Oneway repeats buffer cs) ≡ true

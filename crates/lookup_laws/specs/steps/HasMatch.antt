@@ -1,5 +1,4 @@
--- A search for an equal entry along a probe sequence, as the code goes. No rule stands here: proofs/ joins it to the
--- rules.
+-- A search for an equal entry along a probe sequence, as the code does it.
 use Prim.Native.Nat.{ℕ}
 use mathlib.Core.Bool.{Bool, true, false, cond, _&&_}
 use mathlib.Core.List.{List, [], _∷_}
@@ -10,4 +9,5 @@ use Rattle.image.specs.Tables.{Bucket}
 -- equal?
 unfoldable pub hasMatch : (ℕ → Bucket) → ℕ → (ℕ → Bool) → List ℕ → Bool
 hasMatch b h v [] = false
-hasMatch b h v (k ∷ ks) = cond (eqb (b k .at) 0) false (cond (eqb (b k .hash) h && v (b k .at)) true (hasMatch b h v ks))
+hasMatch b h v (k ∷ ks) =
+    cond (eqb (b k .at) 0) false (cond (eqb (b k .hash) h && v (b k .at)) true (hasMatch b h v ks))

@@ -21,7 +21,8 @@ pub record OpenRow : Type 0 where
   pub gives : Outcome ℕ
 
 abbrev pub Opens : OpenRow → Type 0
-Opens r = (image : List ℕ) → length image ≡ r .size → take (length (r .begins)) image ≡ r .begins → opening image ≡ r .gives
+Opens r =
+    (image : List ℕ) → length image ≡ r .size → take (length (r .begins)) image ≡ r .begins → opening image ≡ r .gives
 
 -- a row of the head with offset o and bucket number n
 unfoldable pub rowOf : ℕ → ℕ → List ℕ
@@ -41,7 +42,12 @@ c9 = record { size = 2072; begins = headOf (rowOf 0 7); gives = value 3 }
 
 -- C10: three such with 4294967295
 abbrev pub c10 : OpenRow
-c10 = record { size = 2072; begins = headOf (rowOf 0 4294967295 ++ rowOf 0 4294967295 ++ rowOf 0 4294967295); gives = value 2147483645 }
+c10 =
+    record {
+      size = 2072;
+      begins = headOf (rowOf 0 4294967295 ++ rowOf 0 4294967295 ++ rowOf 0 4294967295);
+      gives = value 2147483645;
+    }
 
 -- ---- looking up a name
 
@@ -54,7 +60,8 @@ pub record LookupRow : Type 0 where
 abbrev pub Finds : LookupRow → Type 0
 Finds r = lookup (r .image) (r .name) ≡ r .gives
 
--- C12: table with one bucket, taken by another hash. Here the empty name's, whose hash is 8ba9414b hexadecimal: table 75
+-- C12: table with one bucket, taken by another hash. Here the empty name's, whose hash is 8ba9414b hexadecimal:
+-- table 75
 unfoldable pub takenImage : List ℕ
 takenImage = headOf (replicate (8 * 75) 0 ++ rowOf 2072 1) ++ le32 0x8ba9414a ++ le32 2072
 
@@ -73,7 +80,8 @@ pub record OneTaken (image name : List ℕ) : Type 0 where
   pub entry : 0 < word image (at + 4)
   pub other : word image at ≡ hashOf name → ⊥
 
--- besides: table with one bucket, taken by the name's own entry. Here A's, whose hash is 89284101 hexadecimal, with id 5: table 1
+-- besides: table with one bucket, taken by the name's own entry. Here A's, whose hash is 89284101 hexadecimal, with
+-- id 5: table 1
 unfoldable pub ownImage : List ℕ
 ownImage = headOf (rowOf 0 0 ++ rowOf 2082 1) ++ (le32 5 ++ le32 2 ++ 65 ∷ 0 ∷ []) ++ le32 0x89284101 ++ le32 2072
 

@@ -11,7 +11,8 @@ use Rattle.reader.specs.Lookup.{Lookup, nothing, probeBucket, searchAlon
 
 -- what is left of the search in the table of n buckets at o, before bucket k and with m buckets left
 abbrev pub searchRest : List ℕ → List ℕ → ℕ → ℕ → ℕ → ℕ → ℕ → Lookup
-searchRest image name h o n k m = searchAlong (λ (j : ℕ). probeBucket image name h (o + 8 * j)) (probeSequence n m k) (n - m)
+searchRest image name h o n k m =
+    searchAlong (λ (j : ℕ). probeBucket image name h (o + 8 * j)) (probeSequence n m k) (n - m)
 
 -- the bucket that a search in a table of n buckets reads after c others
 abbrev pub bucketAfter : ℕ → ℕ → ℕ → ℕ

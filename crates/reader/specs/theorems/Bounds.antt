@@ -21,6 +21,6 @@ pub record Bounds : Type 0 where
   pub lookup-unsearched : (image name : List ℕ)
       → (ltb (length image) headSize || leb 4294967295 (length name) || unsearched image (tableOf (hashOf name))) ≡ true
       → lookup image name ≡ nothing 0
-  -- each bucket that a search for a hash meets lies in the image, where the table does not leave it
+  -- each bucket that a search for a hash reads lies in the image, where the table does not leave it
   pub bucket-inside : (image : List ℕ) (h o n i : ℕ) → o + 8 * n ≤ length image → i < n
       → o + 8 * getD (probeSequence n n (start h n)) i 0 + 8 ≤ length image

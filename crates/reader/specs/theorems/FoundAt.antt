@@ -1,4 +1,5 @@
--- 02 (ii), "the offset in the deciding bucket, where this id and name stand": what a found answer's offset is, on every byte string.
+-- 02 (ii), "the offset in the deciding bucket, where this id and name stand": what a found answer's offset is, on every
+-- byte string.
 use Prim.Native.Nat.{ℕ, _+_, _*_, _-_, _≤_, _<_}
 use mathlib.Core.Path.{_≡_}
 use mathlib.Core.Bool.{false}
@@ -24,14 +25,15 @@ pub record FoundInTable (image name : List ℕ) (f : Found) (o n : ℕ) : Type 0
   -- it has the name's hash, and this offset
   pub hash : word image (o + 8 * bucketRead name n (f .buckets)) ≡ hashOf name
   pub offset : word image (o + 8 * bucketRead name n (f .buckets) + 4) ≡ f .offset
-  -- the entry at this offset is not broken, and holds exactly this name and this id
+  -- the entry at this offset is not broken, and has exactly this name and this id
   pub whole : broken image (f .offset) ≡ false
   pub name-there : nameOf image (f .offset) ≡ name
   pub id-there : word image (f .offset) ≡ f .id
 
 -- in the name's table
 abbrev pub FoundAt : List ℕ → List ℕ → Found → Type 0
-FoundAt image name f = FoundInTable image name f (tableAt image (tableOf (hashOf name))) (bucketNumber image (tableOf (hashOf name)))
+FoundAt image name f =
+    FoundInTable image name f (tableAt image (tableOf (hashOf name))) (bucketNumber image (tableOf (hashOf name)))
 
 -- on every byte string, of every found answer
 abbrev pub FoundAtOffset : Type 0

@@ -1,4 +1,4 @@
--- `agreement::matching::has_match` meets its contract. Assumes nothing.
+-- `consistency::matching::has_match` meets its contract. Assumes nothing.
 use mathlib.Core.Path.{refl, ap, _∙_}
 use mathlib.Core.Bool.{true, false}
 use borrow.Author.Tests.{lt-ltb, le-ltb, le-leb, lt-leb}

@@ -1,4 +1,4 @@
--- `agreement::matching::has_match_hashed` meets its contract. Assumes nothing.
+-- `consistency::matching::has_match_hashed` meets its contract. Assumes nothing.
 use Prim.Native.Nat.{_<_}
 use native.Mathlib.Omega.{arith}
 use mathlib.Core.Path.{_∙_}
@@ -14,13 +14,12 @@ returns : tie.Need-returns
 returns c =
     let of-table = c .before .before in
     let a = of-table .before .before .before .args in
-    matches-unread (a .image .now) (a .name .now) (a .h) (a .id) (of-table .table-of .ensures .0 (c .if1 .taken))
+    matches-unread (a .image .now) (a .name .now) (a .h) (a .id) (of-table .table-of .ensures .unread (c .if1 .taken))
 
 has-match-in-requires : tie.Need-has-match-in-requires
 has-match-in-requires c κs =
     let some : 0 < c .before .before .table-of .result .n = omega (arith, c .if1 .left) in
-    let read = c .before .before .table-of .ensures .1 some in
-    (some, read .3)
+    record { some = some; inside = c .before .before .table-of .ensures .table some .inside }
 
 returns-2 : tie.Need-returns-2
 returns-2 c =
@@ -28,8 +27,8 @@ returns-2 c =
     let a = of-table .before .before .before .args in
     let t = of-table .table-of .result in
     let some : 0 < t .n = omega (arith, c .before .if1 .left) in
-    let row = of-table .table-of .ensures .1 some in
-    c .has-match-in .ensures ∙ matches-read (a .image .now) (a .name .now) (a .h) (t .at) (t .n) (a .id) (row .0) (row .1) (row .2)
+    let found = of-table .table-of .ensures .table some in
+    c .has-match-in .ensures ∙ matches-read (a .image .now) (a .name .now) (a .h) (t .at) (t .n) (a .id) (found .searched) (found .offset) (found .number)
 
 pub has-match-hashed-spec : {M : Type 1} → statement M
 has-match-hashed-spec = tie.close (tie.spec table-of-requires returns has-match-in-requires returns-2)

@@ -1,6 +1,6 @@
--- `agreement::matching::has_match_in` meets its contract. The loop's invariant: what is left of the search meets the id exactly when the whole search does.
+-- `consistency::matching::has_match_in` meets its contract. The loop's invariant: what is left of the search matches the id exactly when the whole search does.
 -- Assumes nothing.
-use Prim.Native.Nat.{ℕ, _-_, _≤_, _<_}
+use Prim.Native.Nat.{ℕ, _-_}
 use native.Mathlib.Omega.{arith}
 use mathlib.Core.Path.{_≡_, sym, ap, _∙_}
 use mathlib.Core.Bool.{Bool}
@@ -9,19 +9,18 @@ use Rattle.image.specs.Tables.{next}
 use Rattle.reader.specs.Lookup.{Probe, pass, ends, hit}
 use Rattle.consistency.specs.Matches.{Matches, addMatch, matchesIn, anyMatch}
 use Rattle.reader.specs.Cases.{probeOf}
-use Rattle.consistency.proofs.MatchSearch.{matchesRest, matches-start, matches-over, matches-step, this-one, another}
+use Rattle.consistency.proofs.MatchSearch.{matchesRest, MatchInv, matches-start, matches-over, matches-step, this-one, another}
 use borrow.Author.Needs.{needs}
 use Rattle.consistency.proofs.matching.has_match_in.Statement.{statement}
 use Rattle.consistency.proofs.matching.has_match_in.Tie as tie
 
 abbrev Inv-loop : tie.InvT-loop
-Inv-loop image name h at n id k₀ left₀ k left =
-    (k < n) × (left ≤ n) × (anyMatch id (matchesRest image name h at n k left) ≡ anyMatch id (matchesIn image name h at n))
+Inv-loop image name h at n id k₀ left₀ k left = MatchInv image name h at n id k left
 
 abbrev μ-loop : tie.MeasureT-loop
 μ-loop image name h at n id k₀ left₀ k left = left
 
--- after a bucket was looked at: the id, the buckets, what the whole search says, what is left from bucket j on, and the turn by what was seen
+-- after a bucket was probed: the id, the buckets, the whole search's answer, the rest of the search from bucket j on, and its step
 module _ (c : tie.After-probe-bucket Inv-loop μ-loop) where
   abbrev wanted : ℕ
   wanted = c .before .before .before .before .before .before .args .id
@@ -45,13 +44,13 @@ module _ (c : tie.After-probe-bucket Inv-loop μ-loop) where
   abbrev after : ℕ
   after = next buckets (c .before .before .loop .k)
 
-  turn : (s : Probe) → probeOf (c .probe-bucket .result) ≡ s → anyMatch wanted (addMatch s (buckets - still) (left-of after)) ≡ whole
-  turn s e =
+  step : (s : Probe) → probeOf (c .probe-bucket .result) ≡ s → anyMatch wanted (addMatch s (buckets - still) (left-of after)) ≡ whole
+  step s e =
       let a = c .before .before .before .before .before .before .args in
       let of-loop = c .before .before .loop in
       ap (anyMatch (a .id))
-      (matches-step (a .image .now) (a .name .now) (a .h) (a .at) (a .n) (of-loop .k) (of-loop .left) s (omega arith) (of-loop .inv .1) (sym e ∙ c .probe-bucket .ensures))
-      ∙ of-loop .inv .2
+      (matches-step (a .image .now) (a .name .now) (a .h) (a .at) (a .n) (of-loop .k) (of-loop .left) s (omega arith) (of-loop .inv .most) (sym e ∙ c .probe-bucket .ensures))
+      ∙ of-loop .inv .same
 
 start-requires : tie.Need-start-requires Inv-loop μ-loop
 start-requires c κs = search needs
@@ -60,27 +59,25 @@ loop-holds : tie.Need-loop-holds Inv-loop μ-loop
 loop-holds c =
     let a = c .before .before .before .args in
     let image = a .image .now in
-    let name = a .name .now in (
-      c .start .ensures .1,
-      search needs,
-      ap (λ (j : ℕ). anyMatch (a .id) (matchesRest image name (a .h) (a .at) (a .n) j (a .n))) (c .start .ensures .0)
-          ∙ ap (anyMatch (a .id)) (matches-start image name (a .h) (a .at) (a .n)),
-    )
+    let name = a .name .now in
+    record {
+      bucket = c .start .ensures .1;
+      most = search needs;
+      same = ap (λ (j : ℕ). anyMatch (a .id) (matchesRest image name (a .h) (a .at) (a .n) j (a .n))) (c .start .ensures .0)
+          ∙ ap (anyMatch (a .id)) (matches-start image name (a .h) (a .at) (a .n));
+    }
 
 sub-left : tie.Need-sub-left Inv-loop μ-loop
 sub-left c = search needs
-
-cast-probe-bucket : tie.Need-cast-probe-bucket Inv-loop μ-loop
-cast-probe-bucket c = search needs
 
 mul-probe-bucket : tie.Need-mul-probe-bucket Inv-loop μ-loop
 mul-probe-bucket c = search needs
 
 add-probe-bucket : tie.Need-add-probe-bucket Inv-loop μ-loop
-add-probe-bucket c = omega (arith, c .before .before .before .before .before .pre .1)
+add-probe-bucket c = omega (arith, c .before .before .before .before .before .pre .inside)
 
 probe-bucket-requires : tie.Need-probe-bucket-requires Inv-loop μ-loop
-probe-bucket-requires c κs = omega (arith, c .before .before .before .before .before .pre .1)
+probe-bucket-requires c κs = omega (arith, c .before .before .before .before .before .pre .inside)
 
 enum-told : tie.Need-enum-told Inv-loop μ-loop
 enum-told c = search needs
@@ -89,7 +86,7 @@ enum-told-2 : tie.Need-enum-told-2 Inv-loop μ-loop
 enum-told-2 c = search needs
 
 returns : tie.Need-returns Inv-loop μ-loop
-returns c = turn (c .before .before) ends (ap probeOf (c .enum-told2 .given .1))
+returns c = step (c .before .before) ends (ap probeOf (c .enum-told2 .given .1))
 
 enum-known-hit : tie.Need-enum-known-hit Inv-loop μ-loop
 enum-known-hit c = search needs
@@ -97,14 +94,14 @@ enum-known-hit c = search needs
 -- an entry with this id
 returns-2 : tie.Need-returns-2 Inv-loop μ-loop
 returns-2 c =
-    let seen = c .before .before .before .before .before in
+    let probed = c .before .before .before .before .before in
     let of-hit = c .before .before .before .hit in
     let told = of-hit .given .0 .0 in
-    this-one (told .id) (wanted seen) (anyMatch (wanted seen) (left-of seen (after seen))) (c .if1 .taken)
-    ∙ turn seen (hit (record { id = told .id; offset = told .offset })) (ap probeOf (of-hit .given .1))
+    this-one (told .id) (wanted probed) (anyMatch (wanted probed) (left-of probed (after probed))) (c .if1 .taken)
+    ∙ step probed (hit (record { id = told .id; offset = told .offset })) (ap probeOf (of-hit .given .1))
 
-next-bucket-requires : tie.Need-next-bucket-requires Inv-loop μ-loop
-next-bucket-requires c κs = search needs
+next-requires : tie.Need-next-requires Inv-loop μ-loop
+next-requires c κs = search needs
 
 loop-less : tie.Need-loop-less Inv-loop μ-loop
 loop-less c = omega arith
@@ -112,23 +109,24 @@ loop-less c = omega arith
 -- the bucket was passed, or its entry has another id
 loop-again : tie.Need-loop-again Inv-loop μ-loop
 loop-again c =
-    let seen = c .before .before in (
-      c .next-bucket .ensures .1,
-      omega arith,
-      ap (λ (j : ℕ). anyMatch (wanted seen) (left-of seen j)) (c .next-bucket .ensures .0)
-          ∙ ⊎-elim (λ w. turn seen pass (ap probeOf (w .1 .given .1)))
+    let probed = c .before .before in
+    record {
+      bucket = c .next .ensures .1;
+      most = omega arith;
+      same = ap (λ (j : ℕ). anyMatch (wanted probed) (left-of probed j)) (c .next .ensures .0)
+          ∙ ⊎-elim (λ w. step probed pass (ap probeOf (w .1 .given .1)))
           (λ w.
           let told = w .1 .given .0 .0 in
-          another (told .id) (wanted seen) (anyMatch (wanted seen) (left-of seen (after seen))) (w .4 .left)
-          ∙ turn seen (hit (record { id = told .id; offset = told .offset })) (ap probeOf (w .1 .given .1)))
-          (c .before .match .came),
-    )
+          another (told .id) (wanted probed) (anyMatch (wanted probed) (left-of probed (after probed))) (w .4 .left)
+          ∙ step probed (hit (record { id = told .id; offset = told .offset })) (ap probeOf (w .1 .given .1)))
+          (c .before .match .came);
+    }
 
 returns-3 : tie.Need-returns-3 Inv-loop μ-loop
 returns-3 c =
     let a = c .before .before .before .before .before .args in
     matches-over (a .image .now) (a .name .now) (a .h) (a .at) (a .n) (a .id) (c .before .loop .k) (c .before .loop .left) (omega arith)
-    ∙ c .before .loop .inv .2
+    ∙ c .before .loop .inv .same
 
 pub has-match-in-spec : {M : Type 1} → statement M
 has-match-in-spec =
@@ -139,7 +137,6 @@ has-match-in-spec =
     start-requires
     loop-holds
     sub-left
-    cast-probe-bucket
     mul-probe-bucket
     add-probe-bucket
     probe-bucket-requires
@@ -148,7 +145,7 @@ has-match-in-spec =
     returns
     enum-known-hit
     returns-2
-    next-bucket-requires
+    next-requires
     loop-less
     loop-again
     returns-3)

@@ -1,4 +1,4 @@
--- `agreement::panel::agree_step` meets its contract. Assumes nothing.
+-- `consistency::panel::agree_step` meets its contract. Assumes nothing.
 use Prim.Native.Nat.{_+_, _≤_}
 use mathlib.Core.Path.{sym, ap, _∙_}
 use mathlib.Core.Bool.{Bool, cond}

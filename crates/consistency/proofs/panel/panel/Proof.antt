@@ -1,4 +1,4 @@
--- `agreement::panel::panel` meets its contract. Assumes nothing.
+-- `consistency::panel::panel` meets its contract. Assumes nothing.
 use native.Mathlib.Omega.{arith}
 use mathlib.Core.Path.{sym, ap, _∙_}
 use Rattle.reader.specs.Cases.{namingOf}

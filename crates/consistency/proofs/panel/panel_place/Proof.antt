@@ -1,4 +1,4 @@
--- `agreement::panel::panel_place` meets its contract. Assumes nothing.
+-- `consistency::panel::panel_place` meets its contract. Assumes nothing.
 use mathlib.Core.Path.{sym, ap, _∙_}
 use Rattle.reader.specs.Cases.{namingOf}
 use Rattle.reader.proofs.Namings.{named}

@@ -1,4 +1,4 @@
--- `agreement::panel::readings_agree` meets its contract. The loop's invariant: the ids that are left agree exactly where all do. Assumes nothing.
+-- `consistency::panel::readings_agree` meets its contract. The loop's invariant: the ids that are left agree exactly where all do. Assumes nothing.
 use Prim.Native.Nat.{ℕ, _-_, _≤_}
 use native.Mathlib.Omega.{arith}
 use mathlib.Core.Path.{_≡_, sym, ap, _∙_}

@@ -1,4 +1,4 @@
--- `agreement::panel::shown_length` meets its contract. Assumes nothing.
+-- `consistency::panel::shown_length` meets its contract. Assumes nothing.
 use Prim.Native.Nat.{ℕ, _+_, _-_}
 use native.Mathlib.Omega.{arith}
 use mathlib.Core.Path.{_≡_, ap, _∙_}

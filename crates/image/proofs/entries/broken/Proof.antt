@@ -10,8 +10,8 @@ add-start c = search needs
 returns : tie.Need-returns
 returns c = broken-short (c .before .before .args .image .now) (c .before .before .args .at) (c .if1 .taken)
 
-sub-room : tie.Need-sub-room
-sub-room c = search needs
+sub-left : tie.Need-sub-left
+sub-left c = search needs
 
 add-word : tie.Need-add-word
 add-word c = search needs
@@ -31,4 +31,4 @@ returns-2 c =
 pub broken-spec : {M : Type 1} → statement M
 broken-spec =
     tie.close
-    (tie.spec add-start returns sub-room add-word word-requires less-one-requires returns-2)
+    (tie.spec add-start returns sub-left add-word word-requires less-one-requires returns-2)

@@ -6,10 +6,7 @@ use Rattle.image.proofs.entries.is_sought.Statement.{statement}
 use Rattle.image.proofs.entries.is_sought.Tie as tie
 
 returns : tie.Need-returns
-returns c =
-    let a = c .before .before .before .args in
-    let start-pre = c .before .before .before .pre in
-    sym (other-hash (a .name .now) (a .sought .now) (a .h) (a .want) (start-pre .0) (start-pre .1) (start-pre .2) (c .if1 .taken))
+returns c = sym (other-hash (c .before .before .before .pre) (c .if1 .taken))
 
 same-requires : tie.Need-same-requires
 same-requires c κs = search needs

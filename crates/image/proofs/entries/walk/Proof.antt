@@ -1,77 +1,86 @@
 -- `image::entries::walk` meets its contract. Assumes nothing.
-use Rattle.image.specs.Tables.{tableOf}
-use Rattle.jhash.proofs.Outcomes.{result-refused, result-name-hash}
-use borrow.Author.Needs.{needs}
-use Prim.Native.Nat.{_+_}
-use mathlib.Core.Path.{sym, _∙_}
-use Rattle.image.proofs.Bools.{false-not-true}
-use Rattle.image.specs.Stored.{between}
-use Rattle.image.proofs.Between.{Front, front, entry-room}
+use Prim.Native.Nat.{_+_, _≤_, _<_}
 use native.Mathlib.Omega.{arith}
-use Prim.Native.Nat.{_<_, _≤_}
-use mathlib.Core.Path.{_≡_, refl}
-use Rattle.image.proofs.EntryWalk.{Rest, ContainsRest, walk-start, walk-step, walk-broken, walk-end, contains-step, contains-end}
+use mathlib.Core.Path.{_≡_, refl, sym, _∙_}
+use Rattle.jhash.proofs.Outcomes.{result-refused, result-name-hash}
+use Rattle.image.specs.Tables.{tableOf}
+use Rattle.image.specs.Stored.{between}
+use Rattle.image.proofs.Bools.{false-not-true}
+use Rattle.image.proofs.Between.{Front, front, entry-room}
+use Rattle.image.proofs.EntryWalk.{Rest, ContainsRest, WalkInv, walk-start, walk-step, walk-broken, walk-end, contains-step, contains-end}
+use borrow.Author.Needs.{needs}
 use Rattle.image.proofs.entries.walk.Statement.{statement}
 use Rattle.image.proofs.entries.walk.Tie as tie
-use Rattle.image.proofs.entries.walk.Reads as reads
-use Rattle.image.proofs.entries.walk.Lts as lts
-use Rattle.image.proofs.entries.is_sought.Reads as is-sought-reads
-use Rattle.image.proofs.entries.sought_hash.Reads as sought-hash-reads
-use Rattle.jhash.proofs.word.word.Reads as word-reads
-use Rattle.jhash.proofs.name_hash.Reads as name-hash-reads
-use Rattle.image.proofs.entries.whole_length.Reads as whole-length-reads
-use Rattle.image.proofs.entries.larger.Reads as larger-reads
-use Rattle.image.proofs.entries.raise.Reads as raise-reads
 
 abbrev Inv-loop : tie.InvT-loop
-Inv-loop buf end entries counts₀ sought at₀ left₀ back₀ met₀ want counts at left back contains =
-    Rest buf end entries counts₀ at left back counts × ContainsRest buf end entries sought at left contains
+Inv-loop buf end entries counts₀ sought at₀ left₀ back₀ contains₀ want counts at left back contains =
+    WalkInv buf end entries counts₀ sought counts at left back contains
 
 abbrev μ-loop : tie.MeasureT-loop
-μ-loop buf end entries counts₀ sought at₀ left₀ back₀ met₀ want counts at left back contains = left
+μ-loop buf end entries counts₀ sought at₀ left₀ back₀ contains₀ want counts at left back contains = left
 
--- what the entry's length word says, where it is not 0
-known : (c : tie.Else1 Inv-loop μ-loop)
-    → Front (between (c .before .before .before .before .before .before .before .args .buf .now) (c .before .before .before .loop .at) (c .before .before .before .before .before .before .before .args .end)) (c .before .whole-length .result)
-known c =
-    front _ (c .before .whole-length .result) (c .before .whole-length .ensures .0) (c .if1 .left)
+-- ---- places: from an entry that is whole to the start; from the comparison back to that entry and to its hash
 
--- and that it lies before the end
-room : (c : tie.Else1 Inv-loop μ-loop)
-    → (c .before .before .before .loop .at + (8 + c .before .whole-length .result) ≤ c .before .before .before .before .before .before .before .args .end) × (1 ≤ c .before .whole-length .result)
-room c =
-    let s = c .before .before .before .before .before .before .before in
-    let l = c .before .before .before .loop in
-    let n = c .before .whole-length in
-    entry-room (s .args .buf .now) (l .at) (s .args .end) (n .result) (l .inv .0 .inside) (s .pre .1) (n .ensures .0) (c .if1 .left)
+abbrev start : tie.Else1 Inv-loop μ-loop → tie.Start Inv-loop μ-loop
+start e = e .before .before .before .before .before .before .before
+
+abbrev loop : tie.Else1 Inv-loop μ-loop → tie.At-loop Inv-loop μ-loop
+loop e = e .before .before .before
+
+abbrev hashed : tie.After-is-sought Inv-loop μ-loop → tie.After-name-hash Inv-loop μ-loop
+hashed c = c .before .before .before .before .before .before
+
+abbrev named : tie.After-name-hash Inv-loop μ-loop → tie.After-name-at Inv-loop μ-loop
+named c = c .before .before .before
+
+abbrev entry : tie.After-is-sought Inv-loop μ-loop → tie.Else1 Inv-loop μ-loop
+entry c = named (hashed c) .before
+
+-- ---- an entry that is whole
+
+-- what its length word says, and that it ends before the end
+known : (e : tie.Else1 Inv-loop μ-loop)
+    → Front (between (start e .args .buf .now) (loop e .loop .at) (start e .args .end)) (e .before .whole-length .result)
+known e = front _ (e .before .whole-length .result) (e .before .whole-length .ensures .0) (e .if1 .left)
+
+inside : (e : tie.Else1 Inv-loop μ-loop)
+    → (loop e .loop .at + (8 + e .before .whole-length .result) ≤ start e .args .end) × (1 ≤ e .before .whole-length .result)
+inside e =
+    let n = e .before .whole-length in
+    entry-room (start e .args .buf .now) (loop e .loop .at) (start e .args .end) (n .result) (loop e .loop .inv .rest .inside)
+    (start e .pre .inside) (n .ensures .0) (e .if1 .left)
 
 sought-hash-requires : tie.Need-sought-hash-requires Inv-loop μ-loop
 sought-hash-requires c κs = search needs
 
 loop-holds : tie.Need-loop-holds Inv-loop μ-loop
 loop-holds c =
-    let a = c .before .before .before .args in
-    let start-pre = c .before .before .before .pre in
-    (walk-start (a .buf .now) (a .end) (a .entries) (a .counts .now) (start-pre .0) (start-pre .2), refl)
+    let s = c .before .before .before in
+    record {
+      rest = walk-start (s .args .buf .now) (s .args .end) (s .args .entries) (s .args .counts .now) (s .pre .head) (s .pre .zero);
+      contains-rest = refl;
+    }
 
 whole-length-requires : tie.Need-whole-length-requires Inv-loop μ-loop
-whole-length-requires c κs = (c .before .loop .inv .0 .inside, c .before .before .before .before .before .pre .1)
+whole-length-requires c κs = (c .before .loop .inv .rest .inside, c .before .before .before .before .before .pre .inside)
 
 returns : tie.Need-returns Inv-loop μ-loop
 returns c =
     let a = c .before .before .before .before .before .before .before .args in
-    let of-loop = c .before .before .before .loop in (
-      walk-broken (a .buf .now) (a .end) (a .entries) (a .counts .now) (of-loop .at) (of-loop .left) (of-loop .back) (of-loop .counts) (of-loop .inv .0) (c .before .before .loop-test .taken) (sym (c .if1 .taken) ∙ c .before .whole-length .ensures .0),
-      ((λ z. absurd (false-not-true z)), ((λ z. absurd (false-not-true z)), (λ z. absurd (false-not-true z)))),
-    )
+    let l = c .before .before .before .loop in
+    record {
+      whole-is = walk-broken (a .buf .now) (a .end) (a .entries) (a .counts .now) (l .at) (l .left) (l .back) (l .counts) (l .inv .rest)
+          (c .before .before .loop-test .taken) (sym (c .if1 .taken) ∙ c .before .whole-length .ensures .0);
+      back-is = λ z. absurd (false-not-true z);
+      contains-is = λ z. absurd (false-not-true z);
+      counts-are = λ z. absurd (false-not-true z);
+    }
 
 name-at-requires : tie.Need-name-at-requires Inv-loop μ-loop
-name-at-requires c κs = let r = room c in (omega (arith, c .before .before .before .before .before .before .before .pre .1), r .1)
+name-at-requires c κs = (omega (arith, inside c .0, start c .pre .inside), inside c .1)
 
 word-requires : tie.Need-word-requires Inv-loop μ-loop
-word-requires c κs =
-    let r = room (c .before) in
-    omega (arith, c .before .before .before .before .before .before .before .before .pre .1)
+word-requires c κs = omega (arith, inside (c .before) .0, start (c .before) .pre .inside)
 
 cast-larger : tie.Need-cast-larger Inv-loop μ-loop
 cast-larger c = search needs
@@ -93,39 +102,30 @@ enum-told c = search needs
 
 returns-2 : tie.Need-returns-2 Inv-loop μ-loop
 returns-2 c =
-    let hashed = c .before .before .name-hash in
-    let name = c .before .before .before .before .before .name-at in
-    let n = c .before .before .before .before .before .before .before .whole-length in
-    absurd (omega (arith, result-refused (name .result .now) 0 (hashed .result) (hashed .ensures) (c .enum-told .given .1), name .ensures .1, n .ensures .1))
+    let h = c .before .before in
+    let name = named h .name-at in
+    let n = named h .before .before .whole-length in
+    absurd (omega (arith, result-refused (name .result .now) 0 (h .name-hash .result) (h .name-hash .ensures) (c .enum-told .given .1), name .ensures .1, n .ensures .1))
 
 raise-requires : tie.Need-raise-requires Inv-loop μ-loop
 raise-requires c κs =
-    let start-fits = c .before .before .before .before .before .before .before .before .before .before .before .before .before .before .before .fits in
-    let of-loop = c .before .before .before .before .before .before .before .before .before .before .before .loop in
-    let of-loop-test = c .before .before .before .before .before .before .before .before .before .before .loop-test in
-    let k = of-loop .inv .0 .counts-small (tableOf (c .before .before .h .given .0 .0)) in
-    omega (arith, of-loop-test .taken, start-fits .entries)
+    let e = named (c .before .before .before .before) .before in
+    let k = loop e .loop .inv .rest .counts-small (tableOf (c .before .before .h .given .0 .0)) in
+    omega (arith, e .before .before .loop-test .taken, start e .fits .entries)
 
 is-sought-requires : tie.Need-is-sought-requires Inv-loop μ-loop
 is-sought-requires c κs =
-    let hashed = c .before .before .before .before .before .name-hash in
+    let n = c .before .before .before .before .before in
     let h = c .before .before .before .h .given in
-    let told = result-name-hash (c .before .before .before .before .before .before .before .before .name-at .result .now) (hashed .result) (h .0 .0) (hashed .ensures) (h .1) in
-    (told .0, told .1, c .before .before .before .before .before .before .before .before .before .before .before .before .before .sought-hash .ensures)
+    let is = result-name-hash (named n .name-at .result .now) (n .name-hash .result) (h .0 .0) (n .name-hash .ensures) (h .1) in
+    let s = loop (named n .before) .before in
+    record { short = is .0; hash = is .1; wanted = s .sought-hash .ensures }
 
 add-at : tie.Need-add-at Inv-loop μ-loop
-add-at c =
-    let start-good = c .before .before .before .before .before .before .before .before .before .before .before .before .before .before .before .before .before .good in
-    let start-pre = c .before .before .before .before .before .before .before .before .before .before .before .before .before .before .before .before .before .pre in
-    let r = room (c .before .before .before .before .before .before .before .before .before .before) in
-    omega (arith, start-good, start-pre .1)
+add-at c = omega (arith, inside (entry c) .0, start (entry c) .good, start (entry c) .pre .inside)
 
 add-at-2 : tie.Need-add-at-2 Inv-loop μ-loop
-add-at-2 c =
-    let start-good = c .before .before .before .before .before .before .before .before .before .before .before .before .before .before .before .before .before .good in
-    let start-pre = c .before .before .before .before .before .before .before .before .before .before .before .before .before .before .before .before .before .pre in
-    let r = room (c .before .before .before .before .before .before .before .before .before .before) in
-    omega (arith, start-good, start-pre .1)
+add-at-2 c = omega (arith, inside (entry c) .0, start (entry c) .good, start (entry c) .pre .inside)
 
 sub-left : tie.Need-sub-left Inv-loop μ-loop
 sub-left c = omega arith
@@ -135,36 +135,40 @@ loop-less c = omega arith
 
 loop-again : tie.Need-loop-again Inv-loop μ-loop
 loop-again c =
-    let a = c .before .before .before .before .before .before .before .before .before .before .before .before .before .before .before .before .before .args in
-    let start-pre = c .before .before .before .before .before .before .before .before .before .before .before .before .before .before .before .before .before .pre in
-    let of-loop = c .before .before .before .before .before .before .before .before .before .before .before .before .before .loop in
-    let some = c .before .before .before .before .before .before .before .before .before .before .before .before .loop-test .taken in
-    let of-whole-length = c .before .before .before .before .before .before .before .before .before .before .before .whole-length in
-    let of-word = c .before .before .before .before .before .before .before .before .word in
-    let of-larger = c .before .before .before .before .before .before .before .larger in
-    let of-name-hash = c .before .before .before .before .before .before .name-hash in
-    let of-h = c .before .before .before .before .h in
-    let of-raise = c .before .raise in
-    let f = known (c .before .before .before .before .before .before .before .before .before .before) in
-    let of-name-at = c .before .before .before .before .before .before .before .before .before .name-at in
-    let name = of-name-at .result .now in
-    let told = result-name-hash name (of-name-hash .result) (of-h .given .0 .0) (of-name-hash .ensures) (of-h .given .1) in
-    let small : of-word .result < 4294967296 = omega (arith, of-word .ok) in
-    let t = walk-step (a .buf .now) (a .end) (a .entries) (a .counts .now) (of-loop .at) (of-loop .left) (of-loop .back) (of-loop .counts) (start-pre .1) (of-loop .inv .0) some
-    (of-whole-length .result) (of-h .given .0 .0) (of-word .result) name (of-raise .last .0) f (of-whole-length .ensures .1) small (of-name-at .ensures .0) (told .1) (of-word .ensures) (of-raise .ensures) in
-    let m = contains-step (a .buf .now) (a .end) (a .entries) (a .sought .now) (of-loop .at) (of-loop .left) (of-loop .contains) (start-pre .1) (of-loop .inv .0 .inside) some (of-loop .inv .1)
-    (of-whole-length .result) name (c .is-sought .result) f (of-name-at .ensures .0) (c .is-sought .ensures) in
-    (rw (of-larger .ensures) t, m)
+    let e = entry c in
+    let a = start e .args in
+    let l = loop e .loop in
+    let some = e .before .before .loop-test .taken in
+    let n = e .before .whole-length in
+    let name = named (hashed c) .name-at in
+    let id = hashed c .before .before .word in
+    let h = c .before .before .before .before .h .given in
+    let is = result-name-hash (name .result .now) (hashed c .name-hash .result) (h .0 .0) (hashed c .name-hash .ensures) (h .1) in
+    let small : id .result < 4294967296 = omega (arith, id .ok) in
+    record {
+      rest = rw (hashed c .before .larger .ensures)
+          (walk-step (a .buf .now) (a .end) (a .entries) (a .counts .now) (l .at) (l .left) (l .back) (l .counts) (start e .pre .inside) (l .inv .rest) some
+          (n .result) (h .0 .0) (id .result) (name .result .now) (c .before .raise .last .0) (known e) (n .ensures .1) small (name .ensures .0) (is .1)
+          (id .ensures) (c .before .raise .ensures));
+      contains-rest = contains-step (a .buf .now) (a .end) (a .entries) (a .sought .now) (l .at) (l .left) (l .contains) (start e .pre .inside)
+          (l .inv .rest .inside) some (l .inv .contains-rest) (n .result) (name .result .now) (c .is-sought .result) (known e) (name .ensures .0)
+          (c .is-sought .ensures);
+    }
 
 returns-3 : tie.Need-returns-3 Inv-loop μ-loop
 returns-3 c =
-    let a = c .before .before .before .before .before .args in
-    let start-pre = c .before .before .before .before .before .pre in
-    let of-loop = c .before .loop in
-    let z : of-loop .left ≡ 0 = omega arith in
-    let e = walk-end (a .buf .now) (a .end) (a .entries) (a .counts .now) (of-loop .at) (of-loop .back) (of-loop .counts) (start-pre .1) (rw z at (of-loop .inv .0)) in
-    let m = contains-end (a .buf .now) (a .end) (a .entries) (a .sought .now) (of-loop .at) (of-loop .left) (of-loop .contains) z (of-loop .inv .1) in
-    (e .0, ((λ w. e .1), ((λ w. m), (λ w. e .2))))
+    let s = c .before .before .before .before .before in
+    let a = s .args in
+    let l = c .before .loop in
+    let z : l .left ≡ 0 = omega arith in
+    let e = walk-end (a .buf .now) (a .end) (a .entries) (a .counts .now) (l .at) (l .back) (l .counts) (s .pre .inside) (rw z at (l .inv .rest)) in
+    record {
+      whole-is = e .0;
+      back-is = λ w. e .1;
+      contains-is = λ w.
+          contains-end (a .buf .now) (a .end) (a .entries) (a .sought .now) (l .at) (l .left) (l .contains) z (l .inv .contains-rest);
+      counts-are = λ w. e .2;
+    }
 
 pub walk-spec : {M : Type 1} → statement M
 walk-spec =

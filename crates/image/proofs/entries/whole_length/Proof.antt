@@ -4,9 +4,6 @@ use Rattle.image.proofs.Between.{short-there, none-there, cut-there, op
 use borrow.Author.Needs.{needs}
 use Rattle.image.proofs.entries.whole_length.Statement.{statement}
 use Rattle.image.proofs.entries.whole_length.Tie as tie
-use Rattle.image.proofs.entries.whole_length.Reads as reads
-use Rattle.image.proofs.entries.whole_length.Lts as lts
-use Rattle.jhash.proofs.word.word.Reads as word-reads
 
 sub-if1 : tie.Need-sub-if1
 sub-if1 c = search needs
@@ -52,23 +49,29 @@ add-if4-2 c = search needs
 shared-slice-read-if4 : tie.Need-shared-slice-read-if4
 shared-slice-read-if4 c = search needs
 
+-- the start, the first test and the length word, from where the entry ends before `end`
+abbrev start : tie.Else3 → tie.Start
+start c = c .before .before .before .before .before
+
 returns-4 : tie.Need-returns-4
 returns-4 c =
-    let a = c .before .before .before .before .before .before .before .args in
-    let start-pre = c .before .before .before .before .before .before .before .pre in
-    let of-if1 = c .before .before .before .before .before .if1 in
-    let of-word = c .before .before .before .before .word in
-    let of-if2 = c .before .before .before .if2 in
-    (open-there (a .buf .now) (a .at) (a .end) (start-pre .0) (start-pre .1) (of-if1 .left) (of-word .result) (of-word .ensures) (of-if2 .left) (c .before .before .if3 .left) (c .if4 .taken), omega arith)
+    let e = c .before .before in
+    let a = start e .args in
+    let w = e .before .before .word in (
+      open-there (a .buf .now) (a .at) (a .end) (start e .pre .0) (start e .pre .1) (e .before .before .before .if1 .left) (w .result) (w .ensures)
+          (e .before .if2 .left) (e .if3 .left) (c .if4 .taken),
+      omega arith,
+    )
 
 returns-5 : tie.Need-returns-5
 returns-5 c =
-    let a = c .before .before .before .before .before .before .before .args in
-    let start-pre = c .before .before .before .before .before .before .before .pre in
-    let of-if1 = c .before .before .before .before .before .if1 in
-    let of-word = c .before .before .before .before .word in
-    let of-if2 = c .before .before .before .if2 in
-    (whole-there (a .buf .now) (a .at) (a .end) (start-pre .0) (start-pre .1) (of-if1 .left) (of-word .result) (of-word .ensures) (of-if2 .left) (c .before .before .if3 .left) (c .if4 .left), omega (arith, of-word .ok))
+    let e = c .before .before in
+    let a = start e .args in
+    let w = e .before .before .word in (
+      whole-there (a .buf .now) (a .at) (a .end) (start e .pre .0) (start e .pre .1) (e .before .before .before .if1 .left) (w .result) (w .ensures)
+          (e .before .if2 .left) (e .if3 .left) (c .if4 .left),
+      omega (arith, w .ok),
+    )
 
 pub whole-length-spec : {M : Type 1} → statement M
 whole-length-spec =

@@ -10,12 +10,14 @@ use borrow.Author.Needs.{needs}
 use Rattle.image.proofs.scratch.clear.Statement.{statement}
 use Rattle.image.proofs.scratch.clear.Tie as tie
 
+record ClearInv (words₀ : List ℕ) (n : ℕ) (words : List ℕ) (i : ℕ) : Type 0 where
+  pub inside : i ≤ n
+  pub same-length : length words ≡ length words₀
+  pub zero : (j : ℕ) → j < i → getD words j 0 ≡ 0
+  pub kept : (j : ℕ) → n ≤ j → getD words j 0 ≡ getD words₀ j 0
+
 abbrev Inv-loop : tie.InvT-loop
-Inv-loop words₀ n i₀ words i =
-    (i ≤ n)
-    × (length words ≡ length words₀)
-    × ((j : ℕ) → j < i → getD words j 0 ≡ 0)
-    × ((j : ℕ) → n ≤ j → getD words j 0 ≡ getD words₀ j 0)
+Inv-loop words₀ n i₀ words i = ClearInv words₀ n words i
 
 abbrev μ-loop : tie.MeasureT-loop
 μ-loop words₀ n i₀ words i = n - i
@@ -29,7 +31,7 @@ one-more l i h known j k =
     ]
 
 loop-holds : tie.Need-loop-holds Inv-loop μ-loop
-loop-holds c = (omega arith, refl, λ j h. absurd (omega arith), λ j h. refl)
+loop-holds c = record { inside = omega arith; same-length = refl; zero = λ j h. absurd (omega arith); kept = λ j h. refl }
 
 mul-words : tie.Need-mul-words Inv-loop μ-loop
 mul-words c = omega arith
@@ -45,18 +47,19 @@ loop-less c = omega arith
 
 loop-again : tie.Need-loop-again Inv-loop μ-loop
 loop-again c =
-    let l = c .before .loop in (
-      omega arith,
-      simp length-set (l .inv .1),
-      one-more (l .words) (l .i) (omega (arith, l .inv .1)) (l .inv .2),
-      λ j h. getD-set-other (l .words) (l .i) j 0 0 (λ e. omega (arith, c .loop-test .taken)) ∙ l .inv .3 j h,
-    )
+    let l = c .before .loop in
+    record {
+      inside = omega arith;
+      same-length = simp length-set (l .inv .same-length);
+      zero = one-more (l .words) (l .i) (omega (arith, l .inv .same-length)) (l .inv .zero);
+      kept = λ j h. getD-set-other (l .words) (l .i) j 0 0 (λ e. omega (arith, c .loop-test .taken)) ∙ l .inv .kept j h;
+    }
 
 same-length : tie.Need-same-length Inv-loop μ-loop
 same-length c = search needs
 
 returns : tie.Need-returns Inv-loop μ-loop
-returns c = (λ j h. c .before .loop .inv .2 j (omega arith), c .before .loop .inv .3)
+returns c = (λ j h. c .before .loop .inv .zero j (omega arith), c .before .loop .inv .kept)
 
 pub clear-spec : {M : Type 1} → statement M
 clear-spec =

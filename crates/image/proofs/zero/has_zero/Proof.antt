@@ -1,17 +1,17 @@
 -- `image::zero::has_zero` meets its contract. The loop's invariant: what is left has a zero byte exactly where the name has. Assumes nothing.
-use Prim.Native.Nat.{_-_, _≤_}
+use Prim.Native.Nat.{ℕ, _-_}
 use native.Mathlib.Omega.{arith}
-use mathlib.Core.Path.{_≡_, sym, _∙_}
-use lib.ListN.{length, drop}
-use Rattle.image.specs.Zero.{hasZero}
+use mathlib.Core.Path.{sym, _∙_}
+use mathlib.Core.List.{List}
+use lib.ListN.{length}
 use Rattle.image.proofs.Bools.{or-false-first, or-false-second}
-use Rattle.image.proofs.Zeros.{zero-at-an-end, none-in-first, zero-in-front, none-in-front, zero-last, zero-overlap}
+use Rattle.image.proofs.Zeros.{ZeroInv, zero-at-an-end, none-in-first, zero-in-front, none-in-front, zero-last, zero-overlap}
 use borrow.Author.Needs.{needs}
 use Rattle.image.proofs.zero.has_zero.Statement.{statement}
 use Rattle.image.proofs.zero.has_zero.Tie as tie
 
 abbrev Inv-loop : tie.InvT-loop
-Inv-loop name last i₀ i = (i ≤ length name) × (hasZero (drop i name) ≡ hasZero name)
+Inv-loop name last i₀ i = ZeroInv name i
 
 abbrev μ-loop : tie.MeasureT-loop
 μ-loop name last i₀ i = length name - i
@@ -44,17 +44,21 @@ loop-holds c =
     let first = c .before .before .zero-in-eight in
     let last = c .before .zero-in-eight2 in
     let none = sym (first .ensures) ∙ or-false-first (first .result) (last .result) (c .if2 .left) in
-    (omega arith, none-in-first name 8 none)
+    record { inside = omega arith; rest = none-in-first name 8 none }
 
 zero-in-eight-requires-3 : tie.Need-zero-in-eight-requires-3 Inv-loop μ-loop
 zero-in-eight-requires-3 c κs = search needs
 
+-- the name, from a place in the loop
+abbrev name-of : tie.After-zero-in-eight3 Inv-loop μ-loop → List ℕ
+name-of c = c .before .before .before .before .before .before .before .before .args .name .now
+
 returns-3 : tie.Need-returns-3 Inv-loop μ-loop
 returns-3 c =
-    let name = c .before .before .before .before .before .before .before .before .before .args .name .now in
+    let name = name-of (c .before) in
     let of-loop = c .before .before .before .loop in
     let eight = sym (c .before .zero-in-eight3 .ensures) ∙ c .if3 .taken in
-    sym (zero-in-front name (of-loop .i) 8 eight) ∙ of-loop .inv .1
+    sym (zero-in-front name (of-loop .i) 8 eight) ∙ of-loop .inv .rest
 
 add-i : tie.Need-add-i Inv-loop μ-loop
 add-i c = search needs
@@ -64,10 +68,10 @@ loop-less c = omega arith
 
 loop-again : tie.Need-loop-again Inv-loop μ-loop
 loop-again c =
-    let name = c .before .before .before .before .before .before .before .before .before .args .name .now in
+    let name = name-of (c .before) in
     let of-loop = c .before .before .before .loop in
     let eight = sym (c .before .zero-in-eight3 .ensures) ∙ c .if3 .left in
-    (omega arith, sym (none-in-front name (of-loop .i) 8 eight) ∙ of-loop .inv .1)
+    record { inside = omega arith; rest = sym (none-in-front name (of-loop .i) 8 eight) ∙ of-loop .inv .rest }
 
 returns-4 : tie.Need-returns-4 Inv-loop μ-loop
 returns-4 c =
@@ -77,7 +81,7 @@ returns-4 c =
     let last = c .before .before .before .zero-in-eight2 in
     let none = sym (last .ensures) ∙ or-false-second (first .result) (last .result) (c .before .before .if2 .left) in
     sym (sym (zero-last name 8 (omega arith)) ∙ none)
-    ∙ zero-overlap name (length name - 8) (of-loop .i) (omega arith) (of-loop .inv .1)
+    ∙ zero-overlap name (length name - 8) (of-loop .i) (omega arith) (of-loop .inv .rest)
 
 pub has-zero-spec : {M : Type 1} → statement M
 has-zero-spec =

@@ -1,23 +1,22 @@
--- `image::zero::length_before_zero` meets its contract. The loop's invariant: the bytes met so far precede the first zero byte, and what
--- is left goes on with them. Assumes nothing.
+-- `image::zero::length_before_zero` meets its contract. Assumes nothing.
 use Prim.Native.Nat.{_+_, _-_, _≤_}
 use native.Mathlib.Omega.{arith}
 use mathlib.Core.Path.{_≡_, refl, ap}
 use lib.ListN.{length, drop}
 use Rattle.image.specs.Zero.{beforeZero}
-use Rattle.image.proofs.Zeros.{before-none, before-there, before-further}
+use Rattle.image.proofs.Zeros.{BeforeInv, before-none, before-there, before-further}
 use borrow.Author.Needs.{needs}
 use Rattle.image.proofs.zero.length_before_zero.Statement.{statement}
 use Rattle.image.proofs.zero.length_before_zero.Tie as tie
 
 abbrev Inv-loop : tie.InvT-loop
-Inv-loop name i₀ i = (i ≤ length name) × (i + length (beforeZero (drop i name)) ≡ length (beforeZero name))
+Inv-loop name i₀ i = BeforeInv name i
 
 abbrev μ-loop : tie.MeasureT-loop
 μ-loop name i₀ i = length name - i
 
 loop-holds : tie.Need-loop-holds Inv-loop μ-loop
-loop-holds c = (search needs, omega arith)
+loop-holds c = record { inside = search needs; rest = omega arith }
 
 shared-slice-read-if1 : tie.Need-shared-slice-read-if1 Inv-loop μ-loop
 shared-slice-read-if1 c = search needs
@@ -28,7 +27,7 @@ returns c =
     let of-loop = c .before .before .before .loop in
     let less = c .before .before .loop-test .taken in
     let none = ap length (before-there (a .name .now) (of-loop .i) _ refl less (c .if1 .taken)) in
-    let met = of-loop .inv .1 in
+    let rest = of-loop .inv .rest in
     (omega arith, omega arith)
 
 add-i : tie.Need-add-i Inv-loop μ-loop
@@ -43,15 +42,15 @@ loop-again c =
     let of-loop = c .before .before .before .loop in
     let less = c .before .before .loop-test .taken in
     let one = before-further (a .name .now) (of-loop .i) _ refl less (c .if1 .left) in
-    let met = of-loop .inv .1 in
-    (omega arith, omega arith)
+    let rest = of-loop .inv .rest in
+    record { inside = omega arith; rest = omega arith }
 
 returns-2 : tie.Need-returns-2 Inv-loop μ-loop
 returns-2 c =
     let a = c .before .before .args in
     let of-loop = c .before .loop in
     let none = before-none (a .name .now) (of-loop .i) (c .loop-test .left) in
-    let met = of-loop .inv .1 in
+    let rest = of-loop .inv .rest in
     (omega arith, omega arith)
 
 pub length-before-zero-spec : {M : Type 1} → statement M

@@ -1,15 +1,21 @@
 -- `image::zero::zero_in_short` meets its contract. Assumes nothing.
+use Prim.Native.Nat.{ℕ}
 use native.Mathlib.Omega.{arith}
+use mathlib.Core.Path.{ap, _∙_}
+use lib.Dec.{ltb}
+use lib.ListN.{length}
 use borrow.Author.Needs.{needs}
-use Rattle.image.proofs.Zeros.{zero-ends}
+use Rattle.image.proofs.Zeros.{zero-ends, before-test}
 use Rattle.image.proofs.zero.zero_in_short.Statement.{statement}
 use Rattle.image.proofs.zero.zero_in_short.Tie as tie
 
-zero-in-few-requires : tie.Need-zero-in-few-requires
-zero-in-few-requires c κs = search needs
+length-before-zero-requires : tie.Need-length-before-zero-requires
+length-before-zero-requires c κs = search needs
 
 returns : tie.Need-returns
-returns c = c .zero-in-few .ensures
+returns c =
+    let name = c .before .before .before .args .name .now in
+    ap (λ (k : ℕ). ltb k (length name)) (c .length-before-zero .ensures .0) ∙ before-test name
 
 zero-in-four-requires : tie.Need-zero-in-four-requires
 zero-in-four-requires c κs = search needs
@@ -31,7 +37,7 @@ pub zero-in-short-spec : {M : Type 1} → statement M
 zero-in-short-spec =
     tie.close
     (tie.spec
-    zero-in-few-requires
+    length-before-zero-requires
     returns
     zero-in-four-requires
     sub-zero-in-four

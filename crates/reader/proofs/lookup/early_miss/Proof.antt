@@ -18,11 +18,8 @@ word-requires c κs = search needs
 returns : tie.Need-returns
 returns c = λ l. absurd (omega arith)
 
-next-bucket-requires : tie.Need-next-bucket-requires
-next-bucket-requires c κs = search needs
-
-cast-second : tie.Need-cast-second
-cast-second c = search needs
+next-requires : tie.Need-next-requires
+next-requires c κs = search needs
 
 mul-second : tie.Need-mul-second
 mul-second c = search needs
@@ -36,11 +33,8 @@ word-requires-2 c κs = search needs
 returns-2 : tie.Need-returns-2
 returns-2 c = λ l. absurd (omega arith)
 
-next-bucket-requires-2 : tie.Need-next-bucket-requires-2
-next-bucket-requires-2 c κs = search needs
-
-cast-third : tie.Need-cast-third
-cast-third c = search needs
+next-requires-2 : tie.Need-next-requires-2
+next-requires-2 c κs = search needs
 
 mul-third : tie.Need-mul-third
 mul-third c = search needs
@@ -69,23 +63,23 @@ word-requires-5 c κs = search needs
 first-zero-requires : tie.Need-first-zero-requires
 first-zero-requires c κs = search needs
 
+-- the places of the two steps to the next bucket, from the end back
+abbrev third-bucket : tie.After-first-zero → tie.After-next2
+third-bucket c = c .before .before .before .before
+
+abbrev second-bucket : tie.After-next2 → tie.After-next
+second-bucket c = c .before .before .before
+
 returns-3 : tie.Need-returns-3
 returns-3 c = λ l name.
-    let a = c .before .before .before .before .before .before .before .before .before .before .before .args in
-    let pre = c .before .before .before .before .before .before .before .before .before .before .before .pre in
-    let of-word = c .before .before .before .before .before .before .before .before .before .word in
-    let of-if1 = c .before .before .before .before .before .before .before .before .if1 in
-    let of-next = c .before .before .before .before .before .before .before .next-bucket in
-    let of-word2 = c .before .before .before .before .before .before .word2 in
-    let of-if2 = c .before .before .before .before .before .if2 in
-    let of-next2 = c .before .before .before .before .next-bucket2 in
-    let of-word3 = c .before .before .before .word3 in
-    let of-word4 = c .before .before .word4 in
-    let of-word5 = c .before .word5 in
-    early-miss (a .image .now) name (a .h) (a .at) (a .n) (a .k) (pre .0) (pre .1)
-    (of-next .result) (of-next2 .result) (of-word3 .result) (of-word4 .result) (of-word5 .result) (c .first-zero .result)
-    (of-next .ensures .0) (of-next2 .ensures .0) (of-word3 .ensures) (of-word4 .ensures) (of-word5 .ensures)
-    (λ e. of-if1 .left (of-word .ensures ∙ e)) (λ e. of-if2 .left (of-word2 .ensures ∙ e))
+    let third = third-bucket c in
+    let second = second-bucket third in
+    let s = second .before .before .before .before in
+    let a = s .args in
+    early-miss (a .image .now) name (a .h) (a .at) (a .n) (s .pre)
+    (second .next .result) (third .next2 .result) (c .before .before .before .word3 .result) (c .before .before .word4 .result) (c .before .word5 .result) (c .first-zero .result)
+    (second .next .ensures .0) (third .next2 .ensures .0) (c .before .before .before .word3 .ensures) (c .before .before .word4 .ensures) (c .before .word5 .ensures)
+    (λ e. second .before .if1 .left (second .before .before .word .ensures ∙ e)) (λ e. third .before .if2 .left (third .before .before .word2 .ensures ∙ e))
     (c .first-zero .ensures)
     l
 
@@ -97,14 +91,12 @@ early-miss-spec =
     add-first
     word-requires
     returns
-    next-bucket-requires
-    cast-second
+    next-requires
     mul-second
     add-second
     word-requires-2
     returns-2
-    next-bucket-requires-2
-    cast-third
+    next-requires-2
     mul-third
     add-third
     add-word

@@ -26,7 +26,12 @@ returns-4 c =
     let p : 0 < a .x = omega arith in
     let q : 0 < a .y = omega arith in
     let rest = c .before .before .before .smaller2 .ensures p (c .before .before .if1 .left) in
-    (omega arith, λ e. omega arith, λ e. omega arith, λ e. (p, q, c .before .before .before .before .smaller .ensures q rest))
+    record {
+      few = omega arith;
+      first = λ e. omega arith;
+      second = λ e. omega arith;
+      third = λ e. (p, q, c .before .before .before .before .smaller .ensures q rest);
+    }
 
 pub first-zero-spec : {M : Type 1} → statement M
 first-zero-spec =

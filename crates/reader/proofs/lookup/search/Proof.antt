@@ -13,14 +13,16 @@ start-requires : tie.Need-start-requires
 start-requires c κs = search needs
 
 early-miss-requires : tie.Need-early-miss-requires
-early-miss-requires c κs = (c .start .ensures .0, c .start .ensures .1, c .before .before .before .pre .1)
+early-miss-requires c κs =
+    record { starts = c .start .ensures .0; bucket = c .start .ensures .1; inside = c .before .before .before .pre .inside }
 
 -- an empty bucket near the start decides
 returns : tie.Need-returns
 returns c = sym (c .before .early-miss .ensures (omega arith) (c .before .before .before .before .before .args .name .now))
 
 search-rest-requires : tie.Need-search-rest-requires
-search-rest-requires c κs = (c .before .before .start .ensures .1, omega arith, c .before .before .before .before .before .pre .1)
+search-rest-requires c κs =
+    record { bucket = c .before .before .start .ensures .1; most = omega arith; inside = c .before .before .before .before .before .pre .inside }
 
 returns-2 : tie.Need-returns-2
 returns-2 c =

@@ -30,15 +30,17 @@ returns-3 : tie.Need-returns-3
 returns-3 c =
     let t = c .before in
     let a = t .before .before .before .before .before .args in
-    let none = t .table-of .ensures .0 in
-    let some = t .table-of .ensures .1 in
-    let n = t .table-of .result .n in
-    from-over (a .image .now) (a .name .now) (a .h) (a .c) n none (λ h. (some h .0, some h .2)) (c .if3 .taken)
+    let found = t .table-of .ensures in
+    from-over (a .image .now) (a .name .now) (a .h) (a .c) (t .table-of .result .n) (found .unread) (λ some. (found .table some .searched, found .table some .number))
+    (c .if3 .taken)
     ∙ from-by (a .image .now) (a .name .now) (a .h) (a .c) false false (le-ltb (length (a .image .now)) 2072 (t .before .before .if1 .left))
     (lt-leb 4294967295 (length (a .name .now)) (t .before .if2 .left))
 
 bucket-after-requires : tie.Need-bucket-after-requires
 bucket-after-requires c κs = (omega (arith, c .if3 .left), c .before .before .before .before .before .before .pre)
+
+cast-k : tie.Need-cast-k
+cast-k c = search needs
 
 sub-search-rest : tie.Need-sub-search-rest
 sub-search-rest c = omega (arith, c .before .if3 .left)
@@ -47,7 +49,7 @@ search-rest-requires : tie.Need-search-rest-requires
 search-rest-requires c κs =
     let t = c .before .before .table-of in
     let some : 0 < t .result .n = omega (arith, c .before .if3 .left) in
-    (c .bucket-after .ensures .1, omega arith, t .ensures .1 some .3)
+    record { bucket = c .bucket-after .ensures .1; most = omega arith; inside = t .ensures .table some .inside }
 
 returns-4 : tie.Need-returns-4
 returns-4 c =
@@ -55,10 +57,10 @@ returns-4 c =
     let a = t .before .before .before .before .before .args in
     let table = t .table-of .result in
     let some : 0 < table .n = omega (arith, c .before .before .if3 .left) in
-    let row = t .table-of .ensures .1 some in
+    let found = t .table-of .ensures .table some in
     let left-from : ℕ → Lookup = λ (k : ℕ). searchRest (a .image .now) (a .name .now) (a .h) (table .at) (table .n) k (table .n - a .c) in
     c .search-rest .ensures ∙ ap left-from (c .before .bucket-after .ensures .0)
-    ∙ from-read (a .image .now) (a .name .now) (a .h) (a .c) (table .at) (table .n) (row .0) (row .1) (row .2)
+    ∙ from-read (a .image .now) (a .name .now) (a .h) (a .c) (table .at) (table .n) (found .searched) (found .offset) (found .number)
     ∙ from-by (a .image .now) (a .name .now) (a .h) (a .c) false false (le-ltb (length (a .image .now)) 2072 (t .before .before .if1 .left))
     (lt-leb 4294967295 (length (a .name .now)) (t .before .if2 .left))
 
@@ -71,6 +73,7 @@ search-from-spec =
     table-of-requires
     returns-3
     bucket-after-requires
+    cast-k
     sub-search-rest
     search-rest-requires
     returns-4)

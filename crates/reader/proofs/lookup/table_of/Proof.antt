@@ -1,6 +1,6 @@
 -- `reader::lookup::table_of` meets its contract. Assumes nothing.
 use native.Mathlib.Omega.{arith}
-use Rattle.reader.proofs.Searches.{unread-offset, unread-number, unread-leaves, read-table}
+use Rattle.reader.proofs.Searches.{Row, unread-offset, unread-number, unread-leaves, read-table}
 use borrow.Author.Needs.{needs}
 use Rattle.reader.proofs.lookup.table_of.Statement.{statement}
 use Rattle.reader.proofs.lookup.table_of.Tie as tie
@@ -26,11 +26,13 @@ add-word-2 c = search needs
 word-requires-2 : tie.Need-word-requires-2
 word-requires-2 c κs = search needs
 
+-- the two words of the row
+row-of : (c : tie.After-word2)
+    → let a = c .before .before .before .args in Row (a .image .now) (a .h) (c .before .word .result) (c .word2 .result)
+row-of c = record { offset = c .before .word .ensures; number = c .word2 .ensures }
+
 returns : tie.Need-returns
-returns c =
-    let row = c .before in
-    let a = row .before .before .before .args in
-    (λ z. unread-offset (a .image .now) (a .h) (row .before .word .result) (row .word2 .result) (row .before .word .ensures) (row .word2 .ensures) (c .if1 .taken), λ z. absurd (omega arith))
+returns c = record { unread = λ z. unread-offset (row-of (c .before)) (c .if1 .taken); table = λ z. absurd (omega arith) }
 
 cast-if2 : tie.Need-cast-if2
 cast-if2 c = search needs
@@ -46,25 +48,24 @@ add-if2 c = search needs
 
 returns-2 : tie.Need-returns-2
 returns-2 c =
-    let row = c .before .before in
-    let a = row .before .before .before .args in
-    (λ z. unread-leaves (a .image .now) (a .h) (row .before .word .result) (row .word2 .result) (row .before .word .ensures) (row .word2 .ensures) (c .before .if1 .left) (c .if2 .taken), λ z. absurd (omega arith))
+    record {
+      unread = λ z. unread-leaves (row-of (c .before .before)) (c .before .if1 .left) (c .if2 .taken);
+      table = λ z. absurd (omega arith);
+    }
 
 returns-3 : tie.Need-returns-3
 returns-3 c =
-    let row = c .before .before in
-    let a = row .before .before .before .args in
-    let at = row .before .word .result in
-    let n = row .word2 .result in
-    let offset = c .before .if1 .left in (
-      λ z. unread-number (a .image .now) (a .h) at n (row .before .word .ensures) (row .word2 .ensures) offset z,
-      λ some. (
-        read-table (a .image .now) (a .h) at n (row .before .word .ensures) (row .word2 .ensures) offset some (c .if2 .left),
-        row .before .word .ensures,
-        row .word2 .ensures,
-        c .if2 .left,
-      ),
-    )
+    let row = row-of (c .before .before) in
+    let above = c .before .if1 .left in
+    record {
+      unread = unread-number row above;
+      table = λ some. record {
+        searched = read-table row above some (c .if2 .left);
+        offset = row .offset;
+        number = row .number;
+        inside = c .if2 .left;
+      };
+    }
 
 pub table-of-spec : {M : Type 1} → statement M
 table-of-spec =

@@ -1,26 +1,30 @@
 -- `reader::opening::all_tables` meets its contract. The loop's invariant: the sum so far and the halves that are left are the sum of all, and while
--- the joined rooms are below 2^63, a table that leaves the image is still to come exactly where there is one. Assumes nothing.
+-- the bitwise or of the slacks is below 2^63, a table that leaves the image is still to come exactly where there is one. Assumes nothing.
 use Prim.Native.Nat.{ℕ, _+_, _-_, _/_, _%_, _^_, _≤_, _<_}
 use native.Mathlib.Omega.{arith}
 use native.Mathlib.Nat.{zero-add}
 use mathlib.Core.Path.{_≡_, refl, sym, ap, _∙_}
 use Rattle.image.specs.Head.{bucketNumber}
 use Rattle.reader.specs.Open.{someLeaves, halves}
-use Rattle.reader.proofs.Opens.{halves-step, halves-none, leaves-pass, leaves-none, sum-step, sum-end}
+use Rattle.reader.proofs.Opens.{TablesInv, halves-step, halves-none, leaves-pass, leaves-none, sum-step, sum-end}
 use borrow.Author.Needs.{needs}
 use Rattle.reader.proofs.opening.all_tables.Statement.{statement}
 use Rattle.reader.proofs.opening.all_tables.Tie as tie
 
 abbrev Inv-loop : tie.InvT-loop
-Inv-loop image all₀ t₀ all t =
-    (t ≤ 256) × (all .num < 2 ^ 32) × ((all .num + halves image t (256 - t)) % 2 ^ 32 ≡ halves image 0 256 % 2 ^ 32)
-    × (all .rooms < 2 ^ 63 → someLeaves image t (256 - t) ≡ someLeaves image 0 256)
+Inv-loop image all₀ t₀ all t = TablesInv image all t
 
 abbrev μ-loop : tie.MeasureT-loop
 μ-loop image all₀ t₀ all t = 256 - t
 
 loop-holds : tie.Need-loop-holds Inv-loop μ-loop
-loop-holds c = (search needs, search needs, ap (λ (k : ℕ). k % 2 ^ 32) (zero-add (halves (c .before .args .image .now) 0 256)), λ h. refl)
+loop-holds c =
+    record {
+      rows = search needs;
+      num-small = search needs;
+      sum = ap (λ (k : ℕ). k % 2 ^ 32) (zero-add (halves (c .before .args .image .now) 0 256));
+      leaves = λ h. refl;
+    }
 
 mul-word : tie.Need-mul-word Inv-loop μ-loop
 mul-word c = search needs
@@ -58,17 +62,18 @@ loop-again c =
     let of-word = c .before .before .word in
     let t = of-loop .t in
     let inv = of-loop .inv in
-    let h = of-loop-test .taken in (
-      omega arith,
-      omega (arith, c .with-table .ensures .0),
-      sum-step (of-loop .all .num) (bucketNumber image t / 2) (c .with-table .result .num) (halves image (t + 1) (256 - (t + 1)))
-          (halves image t (256 - t)) (halves image 0 256) (inv .2) (halves-step image t 256 h)
-          (c .with-table .ensures .0 ∙ ap (λ (n : ℕ). (of-loop .all .num + n / 2) % 2 ^ 32) (c .before .word2 .ensures)),
-      λ k.
-          let told = c .with-table .ensures .1 k in
-          leaves-pass image t 256 (of-word .result) (c .before .word2 .result) h (of-word .ensures) (c .before .word2 .ensures) (told .1)
-          ∙ inv .3 (told .0),
-    )
+    let h = of-loop-test .taken in
+    let added = c .with-table .ensures in
+    record {
+      rows = omega arith;
+      num-small = omega (arith, added .num-is);
+      sum = sum-step (of-loop .all .num) (bucketNumber image t / 2) (c .with-table .result .num) (halves image (t + 1) (256 - (t + 1)))
+          (halves image t (256 - t)) (halves image 0 256) (inv .sum) (halves-step image t 256 h)
+          (added .num-is ∙ ap (λ (n : ℕ). (of-loop .all .num + n / 2) % 2 ^ 32) (c .before .word2 .ensures));
+      leaves = λ k.
+          leaves-pass image t 256 (of-word .result) (c .before .word2 .result) h (of-word .ensures) (c .before .word2 .ensures) (added .fits k .1)
+          ∙ inv .leaves (added .fits k .0);
+    }
 
 returns : tie.Need-returns Inv-loop μ-loop
 returns c =
@@ -76,11 +81,12 @@ returns c =
     let image = a .image .now in
     let t = c .before .loop .t in
     let inv = c .before .loop .inv in
-    let e : t ≡ 256 = omega arith in (
-      sum-end (c .before .loop .all .num) (halves image t (256 - t)) (halves image 0 256) (inv .1) (inv .2)
-          (ap (λ (k : ℕ). halves image k (256 - k)) e ∙ halves-none image 256),
-      λ k. sym (inv .3 k) ∙ ap (λ (k : ℕ). someLeaves image k (256 - k)) e ∙ leaves-none image 256,
-    )
+    let e : t ≡ 256 = omega arith in
+    record {
+      num-is = sum-end (c .before .loop .all .num) (halves image t (256 - t)) (halves image 0 256) (inv .num-small) (inv .sum)
+          (ap (λ (k : ℕ). halves image k (256 - k)) e ∙ halves-none image 256);
+      none-leaves = λ k. sym (inv .leaves k) ∙ ap (λ (k : ℕ). someLeaves image k (256 - k)) e ∙ leaves-none image 256;
+    }
 
 pub all-tables-spec : {M : Type 1} → statement M
 all-tables-spec =

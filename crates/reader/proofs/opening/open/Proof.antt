@@ -104,7 +104,7 @@ returns-6 : tie.Need-returns-6
 returns-6 c =
     let passed4 = c .before .before .before .before in
     let image = image-of passed4 in
-    ap value (passed4 .before .before .all-tables .ensures .0)
+    ap value (passed4 .before .before .all-tables .ensures .num-is)
     ∙ passed passed4 false
     (ap (λ (t : Bool). ltb 0 (word image 20) && t) (sym (c .before .back-leaves .ensures) ∙ c .if6 .left) ∙ and-false (ltb 0 (word image 20)))
 
@@ -112,7 +112,7 @@ returns-7 : tie.Need-returns-7
 returns-7 c =
     let passed4 = c .before .before in
     let image = image-of passed4 in
-    ap value (passed4 .before .before .all-tables .ensures .0)
+    ap value (passed4 .before .before .all-tables .ensures .num-is)
     ∙ passed passed4 false
     (ap (λ (t : Bool). t && backLeaves image) (le-ltb 0 (word image 20) (omega (arith, c .before .word2 .ensures))))
 

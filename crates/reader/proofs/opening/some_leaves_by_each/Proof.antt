@@ -1,23 +1,23 @@
--- `reader::opening::some_leaves_by_each` meets its contract. The loop's invariant: a table that leaves the image was met or is still to come exactly where there
+-- `reader::opening::some_leaves_by_each` meets its contract. The loop's invariant: a table that leaves the image was found or is still to come exactly where there
 -- is one. Assumes nothing.
 use Prim.Native.Nat.{ℕ, _-_, _≤_}
 use native.Mathlib.Omega.{arith}
 use mathlib.Core.Path.{_≡_, refl, sym, ap, _∙_}
 use mathlib.Core.Bool.{Bool, _||_, or-false}
 use Rattle.reader.specs.Open.{someLeaves}
-use Rattle.reader.proofs.Opens.{leaves-join, leaves-none}
+use Rattle.reader.proofs.Opens.{LeavesInv, leaves-join, leaves-none}
 use borrow.Author.Needs.{needs}
 use Rattle.reader.proofs.opening.some_leaves_by_each.Statement.{statement}
 use Rattle.reader.proofs.opening.some_leaves_by_each.Tie as tie
 
 abbrev Inv-loop : tie.InvT-loop
-Inv-loop image one₀ t₀ one t = (t ≤ 256) × ((one || someLeaves image t (256 - t)) ≡ someLeaves image 0 256)
+Inv-loop image one₀ t₀ one t = LeavesInv image one t
 
 abbrev μ-loop : tie.MeasureT-loop
 μ-loop image one₀ t₀ one t = 256 - t
 
 loop-holds : tie.Need-loop-holds Inv-loop μ-loop
-loop-holds c = (search needs, refl)
+loop-holds c = record { rows = search needs; same = refl }
 
 mul-word : tie.Need-mul-word Inv-loop μ-loop
 mul-word c = search needs
@@ -51,11 +51,12 @@ loop-again c =
     let image = c .before .before .before .before .before .before .args .image .now in
     let of-loop = c .before .before .before .before .loop in
     let of-word = c .before .before .word in
-    let of-word2 = c .before .word2 in (
-      omega arith,
-      leaves-join image (of-loop .t) 256 (of-word .result) (of-word2 .result) (of-loop .one) (c .leaves .result) (someLeaves image 0 256)
-          (c .before .before .before .loop-test .taken) (of-word .ensures) (of-word2 .ensures) (c .leaves .ensures) (of-loop .inv .1),
-    )
+    let of-word2 = c .before .word2 in
+    record {
+      rows = omega arith;
+      same = leaves-join image (of-loop .t) 256 (of-word .result) (of-word2 .result) (of-loop .one) (c .leaves .result) (someLeaves image 0 256)
+          (c .before .before .before .loop-test .taken) (of-word .ensures) (of-word2 .ensures) (c .leaves .ensures) (of-loop .inv .same);
+    }
 
 returns : tie.Need-returns Inv-loop μ-loop
 returns c =
@@ -64,7 +65,7 @@ returns c =
     let e : c .before .loop .t ≡ 256 = omega arith in
     sym (or-false one)
     ∙ ap (λ (b : Bool). one || b) (sym (ap (λ (k : ℕ). someLeaves image k (256 - k)) e ∙ leaves-none image 256))
-    ∙ c .before .loop .inv .1
+    ∙ c .before .loop .inv .same
 
 pub some-leaves-by-each-spec : {M : Type 1} → statement M
 some-leaves-by-each-spec =

@@ -10,7 +10,7 @@ slack-requires c κs = search needs
 
 returns : tie.Need-returns
 returns c h =
-    let rooms = c .before .args .rooms in
+    let rooms = c .before .args .slacks in
     let own = c .slack .result in
     (omega (arith, h, le-or-l rooms own), c .slack .ensures (omega (arith, h, le-or-r rooms own)))
 

@@ -11,7 +11,7 @@ use Rattle.writer.proofs.check.walk_refusal.Statement.{statement}
 use Rattle.writer.proofs.check.walk_refusal.Tie as tie
 
 walk-requires : tie.Need-walk-requires
-walk-requires c κs = let s = c .before .before .before in (s .pre .low, s .pre .high, zeros 256)
+walk-requires c κs = let s = c .before .before .before in record { head = s .pre .low; inside = s .pre .high; zero = zeros 256 }
 
 -- what the walk found, where the entries are whole
 abbrev walked : tie.Else1 → tie.After-walk
@@ -23,7 +23,7 @@ whole c = not-false _ (c .if1 .left)
 returns : tie.Need-returns
 returns c =
     let a = c .before .before .before .before .before .before .args in
-    not-whole (a .w) (a .counts .now) (a .buf .now) (a .name .now) _ (c .before .before .walk .ensures .0) (not-true _ (c .if1 .taken))
+    not-whole (a .w) (a .counts .now) (a .buf .now) (a .name .now) _ (c .before .before .walk .ensures .whole-is) (not-true _ (c .if1 .taken))
 
 same-counts-requires : tie.Need-same-counts-requires
 same-counts-requires c κs = search needs
@@ -33,7 +33,7 @@ returns-2 c =
     let e = c .before .before .before in
     let a = walked e .before .before .before .before .args in
     let found = walked e .walk .ensures in
-    other-counts (a .w) (a .counts .now) (a .buf .now) (a .name .now) _ (found .0) (whole e) _ (found .1 .1 .1 (whole e))
+    other-counts (a .w) (a .counts .now) (a .buf .now) (a .name .now) _ (found .whole-is) (whole e) _ (found .counts-are (whole e))
     _ (c .before .same-counts .ensures) (not-true _ (c .if2 .taken))
 
 cast-if3 : tie.Need-cast-if3
@@ -48,8 +48,8 @@ returns-3 c =
     let e = s .before .before .before in
     let a = walked e .before .before .before .before .args in
     let found = walked e .walk .ensures in
-    other-back (a .w) (a .counts .now) (a .buf .now) (a .name .now) _ (found .0) (whole e) _ (found .1 .1 .1 (whole e))
-    _ (s .before .same-counts .ensures) (not-false _ (s .if2 .left)) _ _ (found .1 .0 (whole e)) (c .before .back-in .ensures) (c .if3 .taken)
+    other-back (a .w) (a .counts .now) (a .buf .now) (a .name .now) _ (found .whole-is) (whole e) _ (found .counts-are (whole e))
+    _ (s .before .same-counts .ensures) (not-false _ (s .if2 .left)) _ _ (found .back-is (whole e)) (c .before .back-in .ensures) (c .if3 .taken)
 
 -- the entries agree with the record: the answer is whether one has the name
 by-match : (c : tie.Else3) (m : Bool)
@@ -60,9 +60,9 @@ by-match c m is =
     let e = s .before .before .before in
     let a = walked e .before .before .before .before .args in
     let found = walked e .walk .ensures in
-    by-name (a .w) (a .counts .now) (a .buf .now) (a .name .now) _ (found .0) (whole e) _ (found .1 .1 .1 (whole e))
-    _ (s .before .same-counts .ensures) (not-false _ (s .if2 .left)) _ _ (found .1 .0 (whole e)) (c .before .back-in .ensures) (c .if3 .left)
-    m (is ∙ found .1 .1 .0 (whole e))
+    by-name (a .w) (a .counts .now) (a .buf .now) (a .name .now) _ (found .whole-is) (whole e) _ (found .counts-are (whole e))
+    _ (s .before .same-counts .ensures) (not-false _ (s .if2 .left)) _ _ (found .back-is (whole e)) (c .before .back-in .ensures) (c .if3 .left)
+    m (is ∙ found .contains-is (whole e))
 
 returns-4 : tie.Need-returns-4
 returns-4 c = by-match (c .before) true (sym (c .if4 .taken))

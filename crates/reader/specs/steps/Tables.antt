@@ -1,0 +1,17 @@
+-- What the pass over the head's 256 rows promises when an image is opened.
+use Prim.Native.Nat.{ℕ, _+_, _*_, _/_, _%_, _^_, _≤_, _<_}
+use mathlib.Core.Path.{_≡_}
+use mathlib.Core.Bool.{false}
+use mathlib.Core.List.{List}
+use Rattle.reader.specs.Open.{someLeaves, halves}
+use Rattle.reader.specs.declared.opening.Tables.{Tables}
+
+-- one more table, at offset o with n buckets, in an image of `size` bytes
+pub record TableAdded (all : Tables) (size o n : ℕ) (r : Tables) : Type 0 where
+  pub num-is : r .num ≡ (all .num + n / 2) % 2 ^ 32
+  pub fits : r .slacks < 2 ^ 63 → (all .slacks < 2 ^ 63) × (o + 8 * n ≤ size)
+
+-- all of them
+pub record AllTables (image : List ℕ) (r : Tables) : Type 0 where
+  pub num-is : r .num ≡ halves image 0 256 % 2 ^ 32
+  pub none-leaves : r .slacks < 2 ^ 63 → someLeaves image 0 256 ≡ false
