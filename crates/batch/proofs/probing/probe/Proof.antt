@@ -12,8 +12,8 @@ inside : (c : tie.After-bucket-after)
     → let s = c .before .before .before .before .before in c .before .word .result + 8 * c .bucket-after .result + 8 ≤ length (s .args .image .now)
 inside c =
     let t = c .before .before .before .table-of in
-    let row = t .ensures .1 (omega (arith, c .before .before .if1 .left)) in
-    omega (arith, row .1, row .3, c .bucket-after .ensures .1, c .before .word .ensures)
+    let row = t .ensures .table (omega (arith, c .before .before .if1 .left)) in
+    omega (arith, row .offset, row .inside, c .bucket-after .ensures .1, c .before .word .ensures)
 
 table-of-requires : tie.Need-table-of-requires
 table-of-requires c κs = search needs
@@ -26,7 +26,7 @@ returns c =
     record {
       small = omega arith;
       is-open = λ e.
-          open-past (a .image .now) (a .h) (a .c) (t .result .n) (t .ensures .0) (λ some. let row = t .ensures .1 some in (row .0, row .2)) (c .if1 .taken) (s .pre .is-open);
+          open-past (a .image .now) (a .h) (a .c) (t .result .n) (t .ensures .unread) (λ some. let row = t .ensures .table some in (row .searched, row .number)) (c .if1 .taken) (s .pre .is-open);
       decided = λ z. absurd (omega arith);
     }
 
@@ -76,13 +76,13 @@ returns-2 c =
     let e = k .before .before in
     let t = e .before .table-of in
     let s = e .before .before .before in
-    let row = t .ensures .1 (omega (arith, e .if1 .left)) in
+    let row = t .ensures .table (omega (arith, e .if1 .left)) in
     probed
     (record {
       head = s .pre .head;
-      searched = row .0;
+      searched = row .searched;
       table = k .before .word .ensures;
-      number = row .2;
+      number = row .number;
       more = omega (arith, e .if1 .left);
       bucket = k .bucket-after .ensures .0;
       of-offset = read .before .word2 .ensures;
