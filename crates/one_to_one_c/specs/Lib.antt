@@ -1,2 +1,0 @@
--- What the exported call answers.
-pub mod OneToOneAnswer
