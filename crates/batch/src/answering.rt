@@ -59,7 +59,9 @@ fn put_answer(answers: &mut [u32], i: usize, answer: ToId)
 // Copies the answer of one place to another.
 fn copy_answer(answers: &mut [u32], from: usize, to: usize)
     requires { ⌜ HasPlace (now answers) from × HasPlace (now answers) to ⌝ }
-    ensures { λ _. ⌜ now (answers .exit) ≡ putWords (now (answers .entry)) to (wordsIn (now (answers .entry)) from) ⌝ }
+    ensures { λ _. ⌜
+        now (answers .exit) ≡ putWords (now (answers .entry)) to (wordsIn (now (answers .entry)) from)
+        ⌝ }
 {
     let found = answers[4 * from];
     let id = answers[4 * from + 1];

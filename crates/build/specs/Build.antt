@@ -57,7 +57,8 @@ bufferAfter mode repeats buffer bytes ends ids places =
     (afterClose (afterList mode repeats buffer (listed bytes ends ids)) .buffer)
 
 -- the answers afterwards: the number of each put's refusal; places behind keep their content
-unfoldable pub answersAfter : Mode → Repeats → List ℕ → List ℕ → List ℕ → List ℕ → List ℕ → List ℕ
+unfoldable pub answersAfter : Mode → Repeats → List ℕ → List ℕ → List ℕ → List ℕ → List ℕ
+    → List ℕ
 answersAfter mode repeats buffer bytes ends ids places =
     cond (ltb 0 (buildRefusal bytes ends (length ids) (length places) (length buffer))) places
     (answersOf mode repeats buffer (listed bytes ends ids) ++ drop (length ends) places)

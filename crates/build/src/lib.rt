@@ -198,7 +198,8 @@ pub fn build(
     scratch: &mut [u32],
 ) -> Built
     ensures answer { λ r. ⌜
-        builtOf r ≡ building mode repeats (now (buf .entry)) (now (bytes .entry)) (now (ends .entry)) (now (ids .entry))
+        builtOf r ≡ building mode repeats (now (buf .entry)) (now (bytes .entry)) (now (ends .entry))
+        (now (ids .entry))
         (length (now (refusals .entry)))
         ⌝ }
     ensures leaves { λ _. ⌜

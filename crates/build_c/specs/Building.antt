@@ -1,5 +1,5 @@
--- What cqdb_build_parts answers: the call of `build`, whose numbers stand in a struct. A mode or a repeats mode that is neither 0 nor 1 gives 2 before all
--- else, as cqdb_begin does, and nothing is written.
+-- What cqdb_build_parts answers: the call of `build`, whose numbers stand in a struct. A mode or a repeats mode that
+-- is neither 0 nor 1 gives 2 before all else, as cqdb_begin does, and nothing is written.
 use Prim.Native.Nat.{ℕ}
 use mathlib.Core.Bool.{cond}
 use mathlib.Core.List.{List}
@@ -17,7 +17,8 @@ builtAnswer (refusal k) = record { refusal = k; size = 0; accepted = 0 }
 
 unfoldable pub buildAnswer : ℕ → ℕ → List ℕ → List ℕ → List ℕ → List ℕ → ℕ → BuildAnswer
 buildAnswer mode repeats buffer bytes ends ids places =
-    cond (known mode repeats) (builtAnswer (building (modeOf mode) (repeatsOf repeats) buffer bytes ends ids places)) (builtAnswer (refusal 2))
+    cond (known mode repeats) (builtAnswer (building (modeOf mode) (repeatsOf repeats) buffer bytes ends ids places))
+    (builtAnswer (refusal 2))
 
 unfoldable pub bufferBuilt : ℕ → ℕ → List ℕ → List ℕ → List ℕ → List ℕ → ℕ → List ℕ
 bufferBuilt mode repeats buffer bytes ends ids places =

@@ -1,5 +1,5 @@
-// A whole list in one call, for C. It is compiled by itself, so that put and close have one caller each in cqdb_c and are inlined
-// there.
+// A whole list in one call, for C. It is compiled by itself, so that put and close have one caller each in cqdb_c and
+// are inlined there.
 use build::Built;
 use writer::numbers::known;
 use writer::numbers::mode_of;
@@ -18,8 +18,8 @@ pub struct BuildAnswer {
     pub accepted: u32,
 }
 
-// Puts each name with its id and closes, with the number of each put's refusal in `refusals`; or refusal 2 for a mode or a
-// repeats mode that is neither 0 nor 1, then 14, 15 or 1, and nothing is written.
+// Puts each name with its id and closes, with the number of each put's refusal in `refusals`; or refusal 2 for a mode
+// or a repeats mode that is neither 0 nor 1, then 14, 15 or 1, and nothing is written.
 #[no_mangle]
 pub extern "C" fn cqdb_build_parts(
     mode: u32,
@@ -31,9 +31,20 @@ pub extern "C" fn cqdb_build_parts(
     refusals: &mut [u32],
     work: &mut [u32],
 ) -> BuildAnswer
-    ensures answer { λ r. ⌜ r ≡ buildAnswer mode repeats (now (buf .entry)) (now (names .entry)) (now (ends .entry)) (now (ids .entry)) (length (now (refusals .entry))) ⌝ }
-    ensures leaves { λ _. ⌜ now (buf .exit) ≡ bufferBuilt mode repeats (now (buf .entry)) (now (names .entry)) (now (ends .entry)) (now (ids .entry)) (length (now (refusals .entry))) ⌝ }
-    ensures answers { λ _. ⌜ now (refusals .exit) ≡ answersBuilt mode repeats (now (buf .entry)) (now (names .entry)) (now (ends .entry)) (now (ids .entry)) (now (refusals .entry)) ⌝ }
+    ensures answer { λ r. ⌜
+        r ≡ buildAnswer mode repeats (now (buf .entry)) (now (names .entry)) (now (ends .entry)) (now (ids .entry))
+        (length (now (refusals .entry)))
+        ⌝ }
+    ensures leaves { λ _. ⌜
+        now (buf .exit)
+        ≡ bufferBuilt mode repeats (now (buf .entry)) (now (names .entry)) (now (ends .entry)) (now (ids .entry))
+        (length (now (refusals .entry)))
+        ⌝ }
+    ensures answers { λ _. ⌜
+        now (refusals .exit)
+        ≡ answersBuilt mode repeats (now (buf .entry)) (now (names .entry)) (now (ends .entry)) (now (ids .entry))
+        (now (refusals .entry))
+        ⌝ }
     ensures untouched { λ r. ⌜ (0 < r .refusal → now (work .exit) ≡ now (work .entry)) ⌝ }
 {
     if !known(mode, repeats) {

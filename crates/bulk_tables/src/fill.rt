@@ -24,7 +24,9 @@ fn probe(
     offset: u32,
 ) -> usize
     requires { ⌜ ProbePre (now bytes) (now ends) (now scratch) o m ⌝ }
-    ensures { λ r. ⌜ Probed distinct (now (bytes .entry)) (now (ends .entry)) (now (scratch .entry)) o m h offset r ⌝ }
+    ensures { λ r. ⌜
+        Probed distinct (now (bytes .entry)) (now (ends .entry)) (now (scratch .entry)) o m h offset r
+        ⌝ }
 {
     let mut k = (h / 256) as usize % m;
     let mut left = m;

@@ -14,8 +14,8 @@ pub mod hashes; // hashes.rt: the hash of each name, and counts by table
 mod layout; // layout.rt: the layout of the scratch memory
 mod partition; // partition.rt: the pairs, sorted by table
 
-// Builds the tables of the image of all names in the first words of the scratch memory, from the names' hashes and counts.
-// False if names must be distinct and a duplicate was found; then the scratch memory is unspecified.
+// Builds the tables of the image of all names in the first words of the scratch memory, from the names' hashes and
+// counts. False if names must be distinct and a duplicate was found; then the scratch memory is unspecified.
 pub fn build_tables(
     distinct: bool,
     bytes: &[u8],
@@ -26,7 +26,8 @@ pub fn build_tables(
 ) -> bool
     requires { ⌜ BuildTablesPre (now bytes) (now ends) (now hashes) (now counts) (now scratch) ⌝ }
     ensures { λ r. ⌜
-        (r ≡ true → TablesBuilt distinct (now (bytes .entry)) (now (ends .entry)) (now (counts .entry)) (now (scratch .exit)))
+        (r ≡ true → TablesBuilt distinct (now (bytes .entry)) (now (ends .entry)) (now (counts .entry))
+        (now (scratch .exit)))
         ⌝ }
 {
     let mut places = [0; 256];

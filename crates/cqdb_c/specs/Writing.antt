@@ -14,7 +14,8 @@ use Rattle.writer.specs.declared.c_record.Record.{Record}
 use Rattle.writer.specs.Numbers.{known, modeOf, repeatsOf}
 use Rattle.writer.specs.CRecord.{recordOf, CState, knownIn, stateOf, cStateOf}
 
--- C's writer, lent in place: the record's numbers (mode, repeats, entries, back size) and sizes (length, end), and the table counts
+-- C's writer, lent in place: the record's numbers (mode, repeats, entries, back size) and sizes (length, end), and
+-- the table counts
 pub record Lent : Type 0 where
   pub numbers : List ℕ
   pub sizes : List ℕ

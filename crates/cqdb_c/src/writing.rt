@@ -13,7 +13,8 @@ ghost use lib.ListN.{length};
 ghost use Rattle.writer.specs.Put.{entryOf};
 ghost use Rattle.writer.specs.Close.{closedOf};
 ghost use Rattle.writer.specs.CRecord.{cState};
-ghost use Rattle.cqdb_c.specs.Writing.{beginningOf, numberIn, lent, leftByBegin, putNumber, leftByPut, closingOf, refusalIn, sizeIn, leftByClose};
+ghost use Rattle.cqdb_c.specs.Writing.{beginningOf, numberIn, lent, leftByBegin, putNumber, leftByPut};
+ghost use Rattle.cqdb_c.specs.Writing.{closingOf, refusalIn, sizeIn, leftByClose};
 ghost use Rattle.cqdb_c.specs.Grown.{grownNumber, recordGrown};
 
 // What put and grown answer: the refusal's number, 0 when accepted; the record to go on with.
@@ -31,8 +32,8 @@ pub struct CloseAnswer {
     pub writer: Record,
 }
 
-// Makes the writer, which is lent in place, fresh for a buffer; or refusal 1, or 2 for a mode or a repeats mode that is neither
-// 0 nor 1, and then the writer stays as it was.
+// Makes the writer, which is lent in place, fresh for a buffer; or refusal 1, or 2 for a mode or a repeats mode that
+// is neither 0 nor 1, and then the writer stays as it was.
 #[no_mangle]
 pub extern "C" fn cqdb_begin_parts(
     mode: u32,

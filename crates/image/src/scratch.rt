@@ -7,7 +7,9 @@ ghost use lib.ListN.{length, getD};
 pub fn clear(words: &mut [u32], n: usize)
     requires { ⌜ n ≤ length (now words) ⌝ }
     ensures zero { λ _. ⌜ ((i : ℕ) → i < n → getD (now (words .exit)) i 0 ≡ 0) ⌝ }
-    ensures kept { λ _. ⌜ ((i : ℕ) → n ≤ i → getD (now (words .exit)) i 0 ≡ getD (now (words .entry)) i 0) ⌝ }
+    ensures kept { λ _. ⌜
+        ((i : ℕ) → n ≤ i → getD (now (words .exit)) i 0 ≡ getD (now (words .entry)) i 0)
+        ⌝ }
 {
     let mut i = 0;
     while i < n {

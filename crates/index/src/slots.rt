@@ -69,8 +69,8 @@ pub(super) fn probe(repeats: Repeats, bytes: &[u8], slots: &[u32], h: u32, name:
     m
 }
 
-// The same without a name, for making the index. A function of its own, since `probe` with two callers is not inlined, which
-// costs 4 % of a put.
+// The same without a name, for making the index. A function of its own, since `probe` with two callers is not
+// inlined, which costs 4 % of a put.
 pub(super) fn first_empty(slots: &[u32], h: u32) -> usize
     ensures { λ r. ⌜ r ≡ probeSlots (now (slots .entry)) h (λ (a : ℕ). false) ⌝ }
 {

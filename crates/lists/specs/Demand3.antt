@@ -93,13 +93,16 @@ pub record TwoLists
     (repeats₂ : Repeats) (buffer₂ : List ℕ) (cs₂ : List Call) : Type 0 where
   -- With the same accepted puts of one name, in the same order, both images answer that name alike.
   pub alike-name : (name : List ℕ)
-      → ofName name (acceptedPuts Twoway repeats₁ buffer₁ cs₁) ≡ ofName name (acceptedPuts Twoway repeats₂ buffer₂ cs₂)
+      → ofName name (acceptedPuts Twoway repeats₁ buffer₁ cs₁)
+      ≡ ofName name (acceptedPuts Twoway repeats₂ buffer₂ cs₂)
       → foundId (lookup (imageOf Twoway repeats₁ buffer₁ cs₁) name)
       ≡ foundId (lookup (imageOf Twoway repeats₂ buffer₂ cs₂) name)
   -- With the same accepted puts of one id, in the same order, both give it the same name or nothing.
   pub alike-id : (id : ℕ)
-      → ofId id (acceptedPuts Twoway repeats₁ buffer₁ cs₁) ≡ ofId id (acceptedPuts Twoway repeats₂ buffer₂ cs₂)
-      → nameGiven (imageOf Twoway repeats₁ buffer₁ cs₁) id ≡ nameGiven (imageOf Twoway repeats₂ buffer₂ cs₂) id
+      → ofId id (acceptedPuts Twoway repeats₁ buffer₁ cs₁)
+      ≡ ofId id (acceptedPuts Twoway repeats₂ buffer₂ cs₂)
+      → nameGiven (imageOf Twoway repeats₁ buffer₁ cs₁) id
+      ≡ nameGiven (imageOf Twoway repeats₂ buffer₂ cs₂) id
 
 -- For every list, and every two, on buffers of 2,072 bytes or more.
 pub record Demand3 : Type 0 where

@@ -4,8 +4,8 @@ ghost use mathlib.Core.Path.{_≡_};
 ghost use Rattle.one_to_one.specs.OneToOne.{oneToOne};
 ghost use Rattle.lists_c.specs.OneToOneAnswer.{oneToOneAnswer};
 
-// The refusal's number, 0 when accepted; 1 for yes; otherwise the kind of the first failure and its entry's offset. Fields
-// that do not apply are 0.
+// The refusal's number, 0 when accepted; 1 for yes; otherwise the kind of the first failure and its entry's offset.
+// Fields that do not apply are 0.
 #[repr(C)]
 pub struct OneToOneAnswer {
     pub refusal: u32,

@@ -82,7 +82,9 @@ fn first_zero(x: u32, y: u32, z: u32) -> u32
 // three offsets, decides.
 fn early_miss(image: &[u8], h: u32, at: u32, n: usize, k: usize) -> u32
     requires { ⌜ EarlyMissPre (now image) h at n k ⌝ }
-    ensures { λ r. ⌜ (0 < r → (name : List ℕ) → searchTable (now (image .entry)) name h at n ≡ nothing r) ⌝ }
+    ensures { λ r. ⌜
+        (0 < r → (name : List ℕ) → searchTable (now (image .entry)) name h at n ≡ nothing r)
+        ⌝ }
 {
     let first = at as usize + 8 * k;
     if word(image, first) == h {

@@ -82,7 +82,8 @@ pub(super) fn partition_entries(
 )
     requires { ⌜ WalkPre «back_offset» end (now buf) ⌝ }
     ensures { λ _. ⌜
-        now (buf .exit) ≡ partitionedFrom mode «back_offset» end entries 2072 (now (places .entry)) (now (buf .entry))
+        now (buf .exit)
+        ≡ partitionedFrom mode «back_offset» end entries 2072 (now (places .entry)) (now (buf .entry))
         ⌝ }
 {
     let mut at = 2072;

@@ -48,4 +48,5 @@ namedIn (refusal k) = unnamed
 
 -- the same as a returned part, empty if nothing or refused
 abbrev pub namePartOn : Slice → ℕ → Date → List Window → Slice
-namePartOn image id date windows = sliceOr image (subslice image 0 0) (namedIn (namingOn (image .bytes) id date windows))
+namePartOn image id date windows =
+    sliceOr image (subslice image 0 0) (namedIn (namingOn (image .bytes) id date windows))

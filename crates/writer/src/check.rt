@@ -24,7 +24,9 @@ fn same_counts(a: &[u32; 256], b: &[u32; 256]) -> bool
 // than the record; otherwise 16 where one has this name; 0 where none has.
 pub(super) fn walk_refusal(w: CQDBWriter, counts: &[u32; 256], buf: &[u8], name: &[u8]) -> u32
     requires { ⌜ EndInside w (now buf) ⌝ }
-    ensures { λ r. ⌜ r ≡ walkRefusal (stateWith w (now (counts .entry)) (now (buf .entry))) (now (name .entry)) ⌝ }
+    ensures { λ r. ⌜
+        r ≡ walkRefusal (stateWith w (now (counts .entry)) (now (buf .entry))) (now (name .entry))
+        ⌝ }
 {
     let mut tally = [0; 256];
     let walked = image::entries::walk(buf, w.end as usize, w.entries, &mut tally, name);
@@ -52,7 +54,9 @@ pub(super) fn agrees(w: CQDBWriter, counts: &[u32; 256], buf: &[u8]) -> bool
 // The refusal of a put of this name because of the earlier entries, 0 for none. With repeats on they are not walked.
 pub(super) fn earlier_refusal(w: CQDBWriter, counts: &[u32; 256], buf: &[u8], name: &[u8]) -> u32
     requires { ⌜ EndInside w (now buf) ⌝ }
-    ensures { λ r. ⌜ r ≡ earlierRefusal (stateWith w (now (counts .entry)) (now (buf .entry))) (now (name .entry)) ⌝ }
+    ensures { λ r. ⌜
+        r ≡ earlierRefusal (stateWith w (now (counts .entry)) (now (buf .entry))) (now (name .entry))
+        ⌝ }
 {
     let repeats = w.repeats;
     match repeats {

@@ -12,7 +12,9 @@ use image::store::store_word;
 // knows that the entry fits into the buffer.
 pub fn store(buf: &mut [u8], at: usize, name: &[u8], id: u32)
     requires { ⌜ (at + (length (now name) + 9) ≤ length (now buf)) × (length (now name) < 4294967295) ⌝ }
-    ensures { λ _. ⌜ now (buf .exit) ≡ sets (now (buf .entry)) at (entryBytes (entryOf (now (name .entry)) id)) ⌝ }
+    ensures { λ _. ⌜
+        now (buf .exit) ≡ sets (now (buf .entry)) at (entryBytes (entryOf (now (name .entry)) id))
+        ⌝ }
 {
     store_word(&mut *buf, at, id);
     store_word(&mut *buf, at + 4, name.len() as u32 + 1);

@@ -132,7 +132,8 @@ pub fn put(
     id: u32,
 ) -> PutAnswer
     ensures answer { λ r. ⌜
-        r .refusal ≡ putRefusal (stateWith w (now (counts .entry)) (now (buf .entry))) (entryOf (now (name .entry)) id)
+        r .refusal ≡ putRefusal (stateWith w (now (counts .entry)) (now (buf .entry)))
+        (entryOf (now (name .entry)) id)
         ⌝ }
     ensures leaves { λ r. ⌜
         stateWith (r .writer) (now (counts .exit)) (now (buf .exit))
@@ -205,7 +206,9 @@ pub fn write_closed(w: CQDBWriter, counts: &[u32; 256], buf: &mut [u8]) -> u32
 
 // Writes head, tables and back array into the lent buffer, and gives the image's size. May be called often.
 pub fn close(w: CQDBWriter, counts: &[u32; 256], buf: &mut [u8]) -> CloseAnswer
-    ensures answer { λ r. ⌜ closedOf (r .answer) ≡ closing (stateWith w (now (counts .entry)) (now (buf .entry))) ⌝ }
+    ensures answer { λ r. ⌜
+        closedOf (r .answer) ≡ closing (stateWith w (now (counts .entry)) (now (buf .entry)))
+        ⌝ }
     ensures leaves { λ r. ⌜
         stateWith (r .writer) (now (counts .entry)) (now (buf .exit))
         ≡ afterClose (stateWith w (now (counts .entry)) (now (buf .entry)))

@@ -58,7 +58,8 @@ namingRows =
 -- once
 pub record TwiceOnce : Type 0 where
   pub gives : rounding ownImage (65 ∷ 65 ∷ []) (1 ∷ 2 ∷ []) 2 ≡ value 1
-  pub leaves : afterRound ownImage (65 ∷ 65 ∷ []) (1 ∷ 2 ∷ []) (nines 9) ≡ 1 ∷ 5 ∷ 1 ∷ 2072 ∷ 1 ∷ 5 ∷ 1 ∷ 2072 ∷ 9 ∷ []
+  pub leaves : afterRound ownImage (65 ∷ 65 ∷ []) (1 ∷ 2 ∷ []) (nines 9) ≡ 1 ∷ 5 ∷ 1 ∷ 2072 ∷ 1
+      ∷ 5 ∷ 1 ∷ 2072 ∷ 9 ∷ []
 
 -- what the rows say
 pub record RowsHold : Type 0 where

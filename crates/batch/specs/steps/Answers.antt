@@ -103,7 +103,8 @@ pub record IfZero (q x r : ℕ) : Type 0 where
 -- the sum of the buckets read, each name counted once
 abbrev pub SumsUnique : List ℕ → List ℕ → ℕ → ℕ → Type 0
 SumsUnique equals answers n r =
-    (image : List ℕ) (xs : List (List ℕ)) → UniqueAnswered image xs equals answers n → r ≡ roundBuckets image xs
+    (image : List ℕ) (xs : List (List ℕ)) → UniqueAnswered image xs equals answers n
+    → r ≡ roundBuckets image xs
 
 pub record CopyPre (equals answers : List ℕ) (n : ℕ) : Type 0 where
   pub inside : n ≤ length equals

@@ -36,13 +36,15 @@ pub record RoundHolds : Type 0 where
   pub reads-back : (xs : List (List ℕ)) → names (packedBytes xs) (endsFrom 0 xs) ≡ xs
   pub ends-valid : (xs : List (List ℕ)) → invalidEnds (length (packedBytes xs)) 0 (endsFrom 0 xs) ≡ false
   -- "The answers are those of single lookups in the same order"
-  pub single : (image bytes ends answers : List ℕ) → Accepted image bytes ends answers → (i : ℕ) → i < length ends
+  pub single : (image bytes ends answers : List ℕ) → Accepted image bytes ends answers → (i : ℕ)
+      → i < length ends
       → placeAt (afterRound image bytes ends answers) i ≡ answerWords (lookup image (nth (names bytes ends) i))
   -- so the order of the names does not change an answer: a name has one answer at every place of every round on the
   -- image
   pub order-free : (image bytes ends answers bytes' ends' answers' : List ℕ)
       → Accepted image bytes ends answers → Accepted image bytes' ends' answers'
-      → (i j : ℕ) → i < length ends → j < length ends' → nth (names bytes ends) i ≡ nth (names bytes' ends') j
+      → (i j : ℕ) → i < length ends → j < length ends'
+      → nth (names bytes ends) i ≡ nth (names bytes' ends') j
       → placeAt (afterRound image bytes ends answers) i ≡ placeAt (afterRound image bytes' ends' answers') j
   -- "The call's bucket count is the sum over the different names"
   pub counted : (image bytes ends answers : List ℕ) (a : Accepted image bytes ends answers)
@@ -50,7 +52,8 @@ pub record RoundHolds : Type 0 where
   pub once-each : (xs : List (List ℕ)) → OnceEach xs
   -- "so never above that of single calls"; with all names different it is that sum
   pub not-above : (image : List ℕ) (xs : List (List ℕ)) → roundBuckets image xs ≤ bucketsOf image xs
-  pub all-different : (image : List ℕ) (xs : List (List ℕ)) → Distinct xs → roundBuckets image xs ≡ bucketsOf image xs
+  pub all-different : (image : List ℕ) (xs : List (List ℕ)) → Distinct xs
+      → roundBuckets image xs ≡ bucketsOf image xs
   -- "answer places past the last name keep their content"; a refusal writes nothing
   pub past-kept : (image bytes ends answers : List ℕ) → Accepted image bytes ends answers
       → drop (4 * length ends) (afterRound image bytes ends answers) ≡ drop (4 * length ends) answers
@@ -59,7 +62,8 @@ pub record RoundHolds : Type 0 where
       → afterRound image bytes ends answers ≡ answers
   -- ids in and names out: each place holds the single naming of its id; places past the last keep their content; a
   -- refusal writes nothing
-  pub named : (image ids answers : List ℕ) → nameRefusal ids (length answers / 4) ≡ 0 → (i : ℕ) → i < length ids
+  pub named : (image ids answers : List ℕ) → nameRefusal ids (length answers / 4) ≡ 0 → (i : ℕ)
+      → i < length ids
       → placeAt (afterNames image ids answers) i ≡ placeWords (naming image (getD ids i 0))
   pub names-past-kept : (image ids answers : List ℕ) → nameRefusal ids (length answers / 4) ≡ 0
       → drop (4 * length ids) (afterNames image ids answers) ≡ drop (4 * length ids) answers

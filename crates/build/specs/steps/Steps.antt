@@ -84,7 +84,8 @@ pub record PutListPre (w : CQDBWriter) (counts buffer slots bytes ends ids refus
   pub right : 0 < length slots → Right (stateWith w counts buffer) slots
   pub enough : 0 < length slots → length ends ≤ slotCount slots
 
-pub record PutListPost (w : CQDBWriter) (buffer bytes ends ids refusals : List ℕ) (then : State) (refusalsThen : List ℕ)
+pub record PutListPost (w : CQDBWriter) (buffer bytes ends ids refusals : List ℕ) (then : State)
+    (refusalsThen : List ℕ)
     : Type 0 where
   pub leaves : then ≡ afterList (w .mode) (w .repeats) buffer (listed bytes ends ids)
   pub answers : refusalsThen

@@ -7,7 +7,8 @@ use mathlib.Core.List.{List, _++_, map}
 use lib.ListN.{length, getD, drop, replicate}
 use Rattle.image.specs.Bytes.{cat}
 use Rattle.image.specs.Stored.{between}
-use Rattle.image.specs.Image.{Entry, headSize, entryBytes, placed, count, backWords, entriesEnd, backSizeOf, imageSize, image}
+use Rattle.image.specs.Image.{Entry, headSize, entryBytes, placed, count, backWords, entriesEnd, backSizeOf}
+use Rattle.image.specs.Image.{imageSize, image}
 use Rattle.image.specs.declared.Mode.{Mode}
 use Rattle.packed.specs.Names.{names, invalidEnds}
 use Rattle.serialize.specs.steps.Preconditions.{PrecomputedTables}
@@ -49,7 +50,8 @@ pub record WriteListPre (mode : Mode) (buf bytes ends ids counts words : List �
   pub tables : length counts ≡ 256
   pub counted : (es : List Entry) → map (λ (e : Entry). e .name) es ≡ names bytes ends
       → (t : ℕ) → t < 256 → getD counts t 0 ≡ count t (placed headSize es)
-  pub tabled : (es : List Entry) → map (λ (e : Entry). e .name) es ≡ names bytes ends → PrecomputedTables words es
+  pub tabled : (es : List Entry) → map (λ (e : Entry). e .name) es ≡ names bytes ends
+      → PrecomputedTables words es
 
 pub record WriteListPost (mode : Mode) (buf bytes ends ids : List ℕ) (r : ℕ) (bufThen : List ℕ) : Type 0 where
   pub size : r ≡ imageSize mode (entriesOf bytes ends ids)

@@ -97,7 +97,8 @@ pub record PartitionPre (ends hashes scratch places : List ℕ) : Type 0 where
 abbrev pub PairsAre : List ℕ → List ℕ → List ℕ → Type 0
 PairsAre ends hashes scratch =
     (i : ℕ) → i < length ends → let p = sortedPlace (tableIn hashes) (length ends) i in
-    (pairIn (length ends) scratch p .hash ≡ at hashes i) × (pairIn (length ends) scratch p .at ≡ entryOffset ends i)
+    (pairIn (length ends) scratch p .hash ≡ at hashes i)
+    × (pairIn (length ends) scratch p .at ≡ entryOffset ends i)
 
 -- `places` has where the places of each table end
 pub record Partitioned (ends hashes scratch places : List ℕ) : Type 0 where
@@ -139,7 +140,8 @@ pub record FillAllPre (bytes ends scratch lasts : List ℕ) : Type 0 where
   pub packed : PackedNames bytes ends
   pub capacity : scratchWords (length ends) ≤ length scratch
   pub lasts-rise : (t : ℕ) → t < 256 → (firstIn lasts t ≤ at lasts t) × (at lasts t ≤ length ends)
-  pub pairs-stored : (t q : ℕ) → t < 256 → firstIn lasts t ≤ q → q < at lasts t → 0 < pairIn (length ends) scratch q .at
+  pub pairs-stored : (t q : ℕ) → t < 256 → firstIn lasts t ≤ q → q < at lasts t
+      → 0 < pairIn (length ends) scratch q .at
   pub buckets-empty : (w : ℕ) → w < pairsAt (length ends) → at scratch w ≡ 0
 
 pub record AllFilled (distinct : Bool) (bytes ends scratch₀ scratch lasts : List ℕ) : Type 0 where

@@ -48,7 +48,8 @@ rows =
     row Twoway Off 2072 [] []
     ∷ row Oneway On 2072 (close ∷ []) []
     -- A renewed, with a refused name and a close between; the same calls with repeats off
-    ∷ row Twoway On 3000 (put (A 0) ∷ put (Z 1) ∷ close ∷ put (B 2) ∷ put (A 2) ∷ []) (A 0 ∷ B 2 ∷ A 2 ∷ [])
+    ∷ row Twoway On 3000 (put (A 0) ∷ put (Z 1) ∷ close ∷ put (B 2) ∷ put (A 2) ∷ [])
+    (A 0 ∷ B 2 ∷ A 2 ∷ [])
     ∷ row Twoway Off 3000 (put (A 0) ∷ put (Z 1) ∷ close ∷ put (B 2) ∷ put (A 2) ∷ []) (A 0 ∷ B 2 ∷ [])
     -- room for one put: the second is refused, and so is a two-way put, which needs a back array
     ∷ row Oneway On 2098 (put (A 5) ∷ put (B 6) ∷ []) (A 5 ∷ [])

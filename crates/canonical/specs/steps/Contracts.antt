@@ -109,7 +109,8 @@ pub record CheckEntriesPre (img : List ℕ) (end o : ℕ) (counts : List ℕ) : 
 
 pub record EntriesFound (img : List ℕ) (end entries : ℕ) (two : Bool) (o : ℕ) (counts₀ counts : List ℕ)
     (r : EntriesChecked) : Type 0 where
-  pub valid : r .valid ≡ (whole entries (between img 2072 end) && entriesOk img two o (placedFrom img end entries 2072))
+  pub valid : r .valid
+      ≡ (whole entries (between img 2072 end) && entriesOk img two o (placedFrom img end entries 2072))
   pub back : r .valid ≡ true → r .back ≡ backSize (entriesIn entries (between img 2072 end))
   pub linked : r .valid ≡ true → r .linked ≡ selfLinksIn img o (placedFrom img end entries 2072)
   pub by-table : r .valid ≡ true → counts ≡ tallied counts₀ (entriesIn entries (between img 2072 end))

@@ -39,7 +39,8 @@ pub record CanonicalImage (img : List ℕ) : Type 0 where
       → (acceptedPuts (modeIn img) On buffer (putAll (putsIn img)) ≡ putsIn img)
       × (imageOf (modeIn img) On buffer (putAll (putsIn img)) ≡ img)
   -- with one byte or more behind it, or missing at its end, it is not canonical
-  pub alone : (more : List ℕ) → AllBytes (img ++ more) → (more ≡ [] → ⊥) → canonical (img ++ more) ≡ false
+  pub alone : (more : List ℕ) → AllBytes (img ++ more) → (more ≡ [] → ⊥)
+      → canonical (img ++ more) ≡ false
   pub cut : (k : ℕ) → k < length img → canonical (take k img) ≡ false
 
 -- ---- the image of a list of calls, which may hold refused puts and closes, with either choice of 02 (viii)

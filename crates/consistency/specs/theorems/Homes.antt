@@ -26,6 +26,8 @@ pub record Homes : Type 0 where
   -- the lookup's rule is a reading of the search's matches: the first of them
   pub lookup-first : (image name : List ℕ) → lookup image name ≡ firstMatch (matchesOf image name)
   -- who was home by 01's rule is home
-  pub still-home : (image : List ℕ) (id : ℕ) → homeByFirst image id (naming image id) ≡ true → home image id ≡ true
+  pub still-home : (image : List ℕ) (id : ℕ) → homeByFirst image id (naming image id) ≡ true
+      → home image id ≡ true
   -- the search of the home check, too, reads at most the buckets of the name's table: one pass over it
-  pub one-pass : (image name : List ℕ) → matchReads (matchesOf image name) ≤ bucketNumber image (tableOf (hashOf name))
+  pub one-pass : (image name : List ℕ)
+      → matchReads (matchesOf image name) ≤ bucketNumber image (tableOf (hashOf name))

@@ -72,9 +72,11 @@ pub record RunByIndex (mode : Mode) (repeats : Repeats) (buffer words : List ℕ
 pub record ListsByIndex : Type 0 where
   -- for every list, two-way or one-way, with either choice of repeats, on a buffer of 2,072 bytes or more
   pub runs : (mode : Mode) (repeats : Repeats) (buffer words : List ℕ) (cs : List Call) (rs : List ℕ) (t : State)
-      (words′ : List ℕ) → headSize ≤ length buffer → WordIds mode cs → Right (fresh mode repeats buffer) words
+      (words′ : List ℕ) → headSize ≤ length buffer → WordIds mode cs
+      → Right (fresh mode repeats buffer) words
       → Run (fresh mode repeats buffer) words cs rs t words′
       → RunByIndex mode repeats buffer words cs rs t words′
   -- once every slot is taken, each later put that would be accepted gets 24, and the other refusals stay what they are
-  pub from-then : (m : ℕ) (mode : Mode) (repeats : Repeats) (n : ℕ) (es : List Entry) (cs : List Call) → m ≤ length es
+  pub from-then : (m : ℕ) (mode : Mode) (repeats : Repeats) (n : ℕ) (es : List Entry) (cs : List Call)
+      → m ≤ length es
       → dueIndexed m mode repeats n es cs ≡ map (dueToIndexed m mode repeats n es) cs

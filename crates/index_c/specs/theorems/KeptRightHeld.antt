@@ -14,7 +14,8 @@ use Rattle.index_c.specs.IndexC.{RightHeld, PutIndexedHeld, IndexedHeld}
 pub record KeptRightHeld : Type 0 where
   pub made : (h : CState) (words words′ : List ℕ) → length (h .counts) ≡ 256 → IndexedHeld h words 0 words′
       → RightHeld h words′
-  pub put : (h h′ : CState) (words words′ : List ℕ) (e : Entry) (refusal : ℕ) → PutIndexedHeld h words e refusal h′ words′
+  pub put : (h h′ : CState) (words words′ : List ℕ) (e : Entry) (refusal : ℕ)
+      → PutIndexedHeld h words e refusal h′ words′
       → RightHeld h words → RightHeld h′ words′
   pub closed : (h : CState) (words : List ℕ) → Bytes (stateOf h)
       → RightHeld h words → RightHeld (cStateOf (afterClose (stateOf h))) words

@@ -58,7 +58,8 @@ pub record ImageHolds (r : Row) (img : List ℕ) : Type 0 where
   pub back-offset : backOffsetAt img ≡ r .backOffset
   pub back-array : backArray img ≡ r .backWords
   pub named : Each (λ (a : NameGives). foundId (lookup img (a .name)) ≡ a .gives) (r .names)
-  pub placed : Each (λ (a : IdGives). (nameGiven img (a .id) ≡ a .gives) × (home img (a .id) ≡ a .isHome)) (r .ids)
+  pub placed : Each (λ (a : IdGives). (nameGiven img (a .id) ≡ a .gives) × (home img (a .id) ≡ a .isHome))
+      (r .ids)
 
 pub record RowHolds (r : Row) (buffer : List ℕ) : Type 0 where
   pub answered : answersOf (r .mode) (r .repeats) buffer (r .calls) ≡ r .refusals
@@ -177,7 +178,8 @@ c6 =
       backOffset = 2124;
       backWords = 0 ∷ 0 ∷ 0 ∷ 0 ∷ 0 ∷ 2072 ∷ 0 ∷ 0 ∷ 0 ∷ 2082 ∷ [];
       names = record { name = A; gives = some 5 } ∷ [];
-      ids = record { id = 5; gives = some A; isHome = true } ∷ record { id = 9; gives = some A; isHome = true } ∷ [];
+      ids = record { id = 5; gives = some A; isHome = true }
+          ∷ record { id = 9; gives = some A; isHome = true } ∷ [];
     }
 
 -- C6 without the repeats mode: the second put is refused
@@ -249,7 +251,8 @@ c11-one-way repeats =
 -- those that hold with either choice, and those that name it
 abbrev pub exampleRows : Repeats → List Row
 exampleRows repeats =
-    c1 repeats ∷ c2 repeats ∷ c3 repeats ∷ c4 repeats ∷ c5 repeats ∷ c7 repeats ∷ c11 repeats ∷ c11-one-way repeats ∷ []
+    c1 repeats ∷ c2 repeats ∷ c3 repeats ∷ c4 repeats ∷ c5 repeats ∷ c7 repeats ∷ c11 repeats
+    ∷ c11-one-way repeats ∷ []
 
 abbrev pub namedRows : List Row
 namedRows = c6 ∷ c6-off ∷ []

@@ -30,7 +30,8 @@ pub record ReadingAnswered (es : List Entry) (img : List ℕ) : Type 0 where
   pub ids : IdsAnswered es img
   -- name_or, and name, where the caller's own bytes are none: the bytes of the id's name, or the caller's own
   pub slice-given : (at : ℕ × ℕ) (id : ℕ) (other : Slice)
-      → nameOr (record { at = at; bytes = img }) id other .bytes ≡ Option·getD (lastName (ofId id es)) (other .bytes)
+      → nameOr (record { at = at; bytes = img }) id other .bytes
+      ≡ Option·getD (lastName (ofId id es)) (other .bytes)
   -- next: a walk whose next id is this one gives it and its name, and ends where it has none
   pub walked : (id : ℕ)
       → stepGiven img (step img id) ≡ Option·map (λ (name : List ℕ). entryOf name id) (lastName (ofId id es))
@@ -59,8 +60,10 @@ pub record CloseReadable : Type 0 where
   -- calls of which no put is accepted, so refused puts and further closes, change neither record nor buffer
   pub kept : (repeats : Repeats) (buffer : List ℕ) (cs more : List Call) → headSize ≤ length buffer
       → acceptedPuts Twoway repeats buffer (cs ++ (close ∷ more)) ≡ acceptedPuts Twoway repeats buffer cs
-      → afterList Twoway repeats buffer (cs ++ (close ∷ more)) ≡ afterList Twoway repeats buffer (cs ++ (close ∷ []))
+      → afterList Twoway repeats buffer (cs ++ (close ∷ more))
+      ≡ afterList Twoway repeats buffer (cs ++ (close ∷ []))
   -- whatever calls follow it, a put above all: after one more close the answers are by the accepted puts until then
-  pub repaired : (repeats : Repeats) (buffer : List ℕ) (cs more : List Call) (size : ℕ) → headSize ≤ length buffer
+  pub repaired : (repeats : Repeats) (buffer : List ℕ) (cs more : List Call) (size : ℕ)
+      → headSize ≤ length buffer
       → closing (afterList Twoway repeats buffer (cs ++ (close ∷ more))) ≡ value size
       → AfterClose repeats buffer (cs ++ (close ∷ more)) size

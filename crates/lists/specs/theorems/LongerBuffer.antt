@@ -41,5 +41,7 @@ pub record GrownList (mode : Mode) (repeats : Repeats) (buffer longer : List ℕ
 
 -- for every list of puts and closes on a buffer of 2,072 bytes or more
 pub record LongerBuffer : Type 0 where
-  pub grows : (mode : Mode) (repeats : Repeats) (buffer longer : List ℕ) (cs : List Call) → headSize ≤ length buffer
-      → WordIds mode cs → Longer longer (afterList mode repeats buffer cs) → GrownList mode repeats buffer longer cs
+  pub grows : (mode : Mode) (repeats : Repeats) (buffer longer : List ℕ) (cs : List Call)
+      → headSize ≤ length buffer
+      → WordIds mode cs → Longer longer (afterList mode repeats buffer cs)
+      → GrownList mode repeats buffer longer cs

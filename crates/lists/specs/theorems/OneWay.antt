@@ -36,8 +36,10 @@ pub record OneWay : Type 0 where
   -- with the same accepted puts of one name, in the same order, both images answer that name alike
   pub alike-name : (repeats₁ : Repeats) (buffer₁ : List ℕ) (cs₁ : List Call)
       → (repeats₂ : Repeats) (buffer₂ : List ℕ) (cs₂ : List Call)
-      → headSize ≤ length buffer₁ → headSize ≤ length buffer₂ → WordIds Oneway cs₁ → WordIds Oneway cs₂
+      → headSize ≤ length buffer₁ → headSize ≤ length buffer₂ → WordIds Oneway cs₁
+      → WordIds Oneway cs₂
       → (name : List ℕ)
-      → ofName name (acceptedPuts Oneway repeats₁ buffer₁ cs₁) ≡ ofName name (acceptedPuts Oneway repeats₂ buffer₂ cs₂)
+      → ofName name (acceptedPuts Oneway repeats₁ buffer₁ cs₁)
+      ≡ ofName name (acceptedPuts Oneway repeats₂ buffer₂ cs₂)
       → foundId (lookup (imageOf Oneway repeats₁ buffer₁ cs₁) name)
       ≡ foundId (lookup (imageOf Oneway repeats₂ buffer₂ cs₂) name)

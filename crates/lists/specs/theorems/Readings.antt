@@ -16,5 +16,6 @@ use Rattle.lists.specs.Demand3.{imageOf}
 pub record Readings : Type 0 where
   pub two-way : (repeats : Repeats) (buffer : List ℕ) (cs : List Call) → headSize ≤ length buffer
       → readingsAgree (imageOf Twoway repeats buffer cs) ≡ true
-  pub one-way : (repeats : Repeats) (buffer : List ℕ) (cs : List Call) → headSize ≤ length buffer → WordIds Oneway cs
+  pub one-way : (repeats : Repeats) (buffer : List ℕ) (cs : List Call) → headSize ≤ length buffer
+      → WordIds Oneway cs
       → readingsAgree (imageOf Oneway repeats buffer cs) ≡ true

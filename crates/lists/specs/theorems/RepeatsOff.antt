@@ -31,7 +31,8 @@ pub record ListOff (mode : Mode) (buffer : List ℕ) (cs : List Call) : Type 0 w
       ↔ (ofName name (acceptedPuts mode Off buffer cs) ≡ entryOf name id ∷ [])
   -- its accepted puts alone, with either choice in the same buffer, are all accepted again and make the same image
   pub puts-again : (repeats : Repeats)
-      → acceptedPuts mode repeats buffer (putAll (acceptedPuts mode Off buffer cs)) ≡ acceptedPuts mode Off buffer cs
+      → acceptedPuts mode repeats buffer (putAll (acceptedPuts mode Off buffer cs))
+      ≡ acceptedPuts mode Off buffer cs
   pub image-again : (repeats : Repeats)
       → imageOf mode repeats buffer (putAll (acceptedPuts mode Off buffer cs)) ≡ imageOf mode Off buffer cs
 

@@ -56,7 +56,8 @@ pub record First (img : List ℕ) (o : ℕ) (es : List Entry) (f : Failure) : Ty
 
 -- lookup and naming are inverse
 abbrev pub Inverse : List ℕ → Type 0
-Inverse img = (name : List ℕ) (id : ℕ) → (foundId (lookup img name) ≡ some id) ↔ (nameGiven img id ≡ some name)
+Inverse img = (name : List ℕ) (id : ℕ)
+    → (foundId (lookup img name) ≡ some id) ↔ (nameGiven img id ≡ some name)
 
 -- ---- by the puts alone: a name finds the id of its first put, an id gives the name of its last
 
@@ -90,11 +91,13 @@ pub record Theorem : Type 0 where
   pub refused : (img : List ℕ) → canonical img ≡ false → oneToOne img ≡ refusal 17
   pub empty : (img : List ℕ) → canonical img ≡ true → putsIn img ≡ [] → oneToOne img ≡ value none
   -- "yes exactly when, for every entry, its id gives its name and its name finds its id"
-  pub yes-exactly : (img : List ℕ) → canonical img ≡ true → (oneToOne img ≡ value none) ↔ Each (Paired img) (putsIn img)
+  pub yes-exactly : (img : List ℕ) → canonical img ≡ true
+      → (oneToOne img ≡ value none) ↔ Each (Paired img) (putsIn img)
   -- "otherwise the offset of the first entry .. and which of the two fails first"
   pub first-exactly : (img : List ℕ) → AllBytes img → canonical img ≡ true → (f : Failure)
       → (oneToOne img ≡ value (some f)) ↔ First img headSize (putsIn img) f
-  pub inverse : (img : List ℕ) → AllBytes img → modeIn img ≡ Twoway → oneToOne img ≡ value none → Inverse img
+  pub inverse : (img : List ℕ) → AllBytes img → modeIn img ≡ Twoway → oneToOne img ≡ value none
+      → Inverse img
   pub of-list : (mode : Mode) (repeats : Repeats) (buffer : List ℕ) (cs : List Call)
       → headSize ≤ length buffer → WordIds mode cs
       → OfList mode (acceptedPuts mode repeats buffer cs) (imageOf mode repeats buffer cs)

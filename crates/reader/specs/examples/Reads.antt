@@ -22,7 +22,8 @@ pub record OpenRow : Type 0 where
 
 abbrev pub Opens : OpenRow → Type 0
 Opens r =
-    (image : List ℕ) → length image ≡ r .size → take (length (r .begins)) image ≡ r .begins → opening image ≡ r .gives
+    (image : List ℕ) → length image ≡ r .size → take (length (r .begins)) image ≡ r .begins
+    → opening image ≡ r .gives
 
 -- a row of the head with offset o and bucket number n
 unfoldable pub rowOf : ℕ → ℕ → List ℕ

@@ -15,11 +15,13 @@ use Rattle.reader.specs.Cases.{reads}
 pub record Bounds : Type 0 where
   -- a search reads at most n buckets, where n is the number of buckets of its table, and so does a lookup
   pub search-reads : (image name : List ℕ) (h o n : ℕ) → reads (searchTable image name h o n) ≤ n
-  pub lookup-reads : (image name : List ℕ) → reads (lookup image name) ≤ bucketNumber image (tableOf (hashOf name))
+  pub lookup-reads : (image name : List ℕ)
+      → reads (lookup image name) ≤ bucketNumber image (tableOf (hashOf name))
   -- none: in an image under 2,072 bytes, for a name of 4,294,967,295 bytes or more, in a table with offset 0, bucket
   -- number 0 or an end past the image
   pub lookup-unsearched : (image name : List ℕ)
-      → (ltb (length image) headSize || leb 4294967295 (length name) || unsearched image (tableOf (hashOf name))) ≡ true
+      → (ltb (length image) headSize || leb 4294967295 (length name) || unsearched image (tableOf (hashOf name)))
+      ≡ true
       → lookup image name ≡ nothing 0
   -- each bucket that a search for a hash reads lies in the image, where the table does not leave it
   pub bucket-inside : (image : List ℕ) (h o n i : ℕ) → o + 8 * n ≤ length image → i < n

@@ -27,7 +27,8 @@ pub record Walks : Type 0 where
   pub walk-lists : (image : List ℕ) (k : ℕ) → FirstUnnamed image 0 k → (r : ℕ)
       → steps image 0 (k + r) ≡ map (step image) (range 0 k) ++ replicate r done
   -- a walk that has ended stays so: every further step is the end again
-  pub stays-ended : (image : List ℕ) (n : ℕ) → step image n ≡ done → (m : ℕ) → steps image n m ≡ replicate m done
+  pub stays-ended : (image : List ℕ) (n : ℕ) → step image n ≡ done → (m : ℕ)
+      → steps image n m ≡ replicate m done
   -- every walk ends
   pub ends : (image : List ℕ) → Ends image
   -- the upper hint is no less than the number of ids that are still to come

@@ -42,9 +42,10 @@ partitioned mode back-offset places buf at n =
     let h = hashAt buf at n in
     backStored mode (pairPut buf (getD places (tableOf h) 0) h at) back-offset (word buf at) at
 
-pub record EntryPartitioned (mode : Mode) (back-offset at n : ℕ) (places buf places′ buf′ : List ℕ) : Type 0 where
-  pub stored : buf′ ≡ partitioned mode back-offset places buf at n
-  pub moved : places′ ≡ advanced places (hashAt buf at n)
+pub record EntryPartitioned (mode : Mode) (back-offset at n : ℕ) (places buf places′ buf′ : List ℕ) : Type 0
+  where
+    pub stored : buf′ ≡ partitioned mode back-offset places buf at n
+    pub moved : places′ ≡ advanced places (hashAt buf at n)
 
 -- and so m entries, one after the other
 unfoldable pub partitionedFrom : Mode → ℕ → ℕ → ℕ → ℕ → List ℕ → List ℕ → List ℕ

@@ -12,7 +12,8 @@ use Rattle.validity.specs.declared.WindowState.the-variants.{Inactive, A
 
 -- what one window says
 unfoldable pub stateOf : ℕ → Date → Window → WindowState
-stateOf id date w = cond (invalidDates w) InvalidDate (cond (inverted w) Inverted (cond (holdsDate id date w) Active Inactive))
+stateOf id date w =
+    cond (invalidDates w) InvalidDate (cond (inverted w) Inverted (cond (holdsDate id date w) Active Inactive))
 
 -- nothing, holds, 23, 22
 abbrev pub rank : WindowState → ℕ

@@ -54,7 +54,8 @@ pub record Seasons : Type 0 where
       ↔ ((isDate date ≡ false) ⊎ (someWindow invalidDates windows ≡ true))
   pub gives-23 : (image : List ℕ) (id : ℕ) (date : Date) (windows : List Window)
       → (namingOn image id date windows ≡ refusal 23)
-      ↔ ((isDate date ≡ true) × (someWindow invalidDates windows ≡ false) × (someWindow inverted windows ≡ true))
+      ↔ ((isDate date ≡ true) × (someWindow invalidDates windows ≡ false)
+      × (someWindow inverted windows ≡ true))
   -- what the windows say, and what is answered where they say it, are the rule in two parts
   pub in-two-parts : (image : List ℕ) (id : ℕ) (date : Date) (windows : List Window)
       → placeBy image id date (windowState id date windows) ≡ namingOn image id date windows
