@@ -49,21 +49,6 @@ answered : (c : tie.After-find-all)
 answered c =
     unique-answered (length-names (begun c .args .bytes .now) (begun c .args .ends .now)) (deduplicated c .deduplicate .ensures) (c .find-all .ensures)
 
-slice-aggregate-hash-all : tie.Need-slice-aggregate-hash-all
-slice-aggregate-hash-all c = search needs
-
-hash-all-requires : tie.Need-hash-all-requires
-hash-all-requires c κs = search needs
-
-slice-aggregate-deduplicate : tie.Need-slice-aggregate-deduplicate
-slice-aggregate-deduplicate c = search needs
-
-slice-aggregate-deduplicate-2 : tie.Need-slice-aggregate-deduplicate-2
-slice-aggregate-deduplicate-2 c = search needs
-
-slice-aggregate-deduplicate-3 : tie.Need-slice-aggregate-deduplicate-3
-slice-aggregate-deduplicate-3 c = search needs
-
 deduplicate-requires : tie.Need-deduplicate-requires
 deduplicate-requires c κs =
     let h = c .before .before .before .before in
@@ -72,12 +57,6 @@ deduplicate-requires c κs =
       equals-capacity = omega (arith, length-replicate {A = ℕ} 512 0, start h .pre .few);
       list-capacity = omega (arith, length-replicate {A = ℕ} 512 0, start h .pre .few);
     }
-
-slice-aggregate-find-all : tie.Need-slice-aggregate-find-all
-slice-aggregate-find-all c = search needs
-
-slice-aggregate-find-all-2 : tie.Need-slice-aggregate-find-all-2
-slice-aggregate-find-all-2 c = search needs
 
 find-all-requires : tie.Need-find-all-requires
 find-all-requires c κs =
@@ -93,9 +72,6 @@ find-all-requires c κs =
       below = unique .below;
     }
 
-slice-aggregate-sum-buckets : tie.Need-slice-aggregate-sum-buckets
-slice-aggregate-sum-buckets c = search needs
-
 sum-buckets-requires : tie.Need-sum-buckets-requires
 sum-buckets-requires c κs =
     let f = c .before .before .before .before .before in
@@ -105,9 +81,6 @@ sum-buckets-requires c κs =
       inside = omega (arith, deduplicated f .deduplicate .kept, length-replicate {A = ℕ} 512 0, s .pre .few);
       places = omega (arith, f .find-all .kept, s .pre .places);
     }
-
-slice-aggregate-copy-duplicates : tie.Need-slice-aggregate-copy-duplicates
-slice-aggregate-copy-duplicates c = search needs
 
 copy-duplicates-requires : tie.Need-copy-duplicates-requires
 copy-duplicates-requires c κs =
@@ -119,9 +92,6 @@ copy-duplicates-requires c κs =
       places = omega (arith, f .find-all .kept, s .pre .places);
       earlier = λ i h. d .ensures .equal i h .below;
     }
-
-same-length : tie.Need-same-length
-same-length c = search needs
 
 returns : tie.Need-returns
 returns c =
@@ -135,9 +105,6 @@ returns c =
           all-words image (names-in f) _ (answered f .size) (omega (arith, copied .kept, f .find-all .kept, begun f .pre .places))
           (copied .ensures image (names-in f) (answered f));
     }
-
-same-length-2 : tie.Need-same-length-2
-same-length-2 c = search needs
 
 returns-2 : tie.Need-returns-2
 returns-2 c =
@@ -155,20 +122,20 @@ pub answer-all-spec : {M : Type 1} → statement M
 answer-all-spec =
     tie.close
     (tie.spec
-    slice-aggregate-hash-all
-    hash-all-requires
-    slice-aggregate-deduplicate
-    slice-aggregate-deduplicate-2
-    slice-aggregate-deduplicate-3
+    (λ c. search needs)
+    (λ c κs. search needs)
+    (λ c. search needs)
+    (λ c. search needs)
+    (λ c. search needs)
     deduplicate-requires
-    slice-aggregate-find-all
-    slice-aggregate-find-all-2
+    (λ c. search needs)
+    (λ c. search needs)
     find-all-requires
-    slice-aggregate-sum-buckets
+    (λ c. search needs)
     sum-buckets-requires
-    slice-aggregate-copy-duplicates
+    (λ c. search needs)
     copy-duplicates-requires
-    same-length
+    (λ c. search needs)
     returns
-    same-length-2
+    (λ c. search needs)
     returns-2)

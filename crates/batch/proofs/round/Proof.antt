@@ -43,9 +43,6 @@ returns c =
     let s = c .before .before .before .before .before in
     given s (refusal 14) (rounding-by _ _ (s .args .ends .now) _ true _ _ (lt-ltb 512 (length (s .args .ends .now)) (c .if1 .taken)) refl refl)
 
-invalid-ends-requires : tie.Need-invalid-ends-requires
-invalid-ends-requires c κs = search needs
-
 returns-2 : tie.Need-returns-2
 returns-2 c =
     let few = c .before .before in
@@ -65,12 +62,6 @@ returns-3 c =
     (le-ltb 512 (length (a .ends .now)) (few .if1 .left)) (valid (c .before))
     (lt-ltb places (length (a .ends .now)) (c .if3 .taken)))
 
-mul-answer-all : tie.Need-mul-answer-all
-mul-answer-all c = search needs
-
-slice-relend-prefix-answer-all : tie.Need-slice-relend-prefix-answer-all
-slice-relend-prefix-answer-all c = search needs
-
 slice-aggregate-answer-all : tie.Need-slice-aggregate-answer-all
 slice-aggregate-answer-all c = simp length-take (omega (arith, c .before .if3 .left))
 
@@ -82,9 +73,6 @@ answer-all-requires c κs =
       valid = valid (else .before);
       places = simp length-take (omega (arith, else .if3 .left));
     }
-
-same-length : tie.Need-same-length
-same-length c = search needs
 
 returns-4 : tie.Need-returns-4
 returns-4 c =
@@ -110,12 +98,12 @@ round-spec =
     tie.close
     (tie.spec
     returns
-    invalid-ends-requires
+    (λ c κs. search needs)
     returns-2
     returns-3
-    mul-answer-all
-    slice-relend-prefix-answer-all
+    (λ c. search needs)
+    (λ c. search needs)
     slice-aggregate-answer-all
     answer-all-requires
-    same-length
+    (λ c. search needs)
     returns-4)

@@ -7,9 +7,6 @@ use Rattle.build.proofs.Whole.{refusal-14, refusal-15, refusal-15-place
 use Rattle.build.proofs.build.Statement.{statement}
 use Rattle.build.proofs.build.Tie as tie
 
-invalid-ends-requires : tie.Need-invalid-ends-requires
-invalid-ends-requires c κs = search needs
-
 returns : tie.Need-returns
 returns c =
     let a = c .before .before .before .before .before .before .before .before .args in
@@ -48,15 +45,6 @@ build-list-requires c κs =
       head-fits = s .if4 .left;
     }
 
-same-length : tie.Need-same-length
-same-length c = search needs
-
-same-length-2 : tie.Need-same-length-2
-same-length-2 c = search needs
-
-same-length-3 : tie.Need-same-length-3
-same-length-3 c = search needs
-
 returns-5 : tie.Need-returns-5
 returns-5 c =
     let s = c .before .before .before .before .before .before .before .before .before .before in
@@ -70,13 +58,13 @@ pub build-spec : {M : Type 1} → statement M
 build-spec =
     tie.close
     (tie.spec
-    invalid-ends-requires
+    (λ c κs. search needs)
     returns
     returns-2
     returns-3
     returns-4
     build-list-requires
-    same-length
-    same-length-2
-    same-length-3
+    (λ c. search needs)
+    (λ c. search needs)
+    (λ c. search needs)
     returns-5)

@@ -47,9 +47,6 @@ tables-long c = c .build-tables .kept .1 .1 .1 .1 .1 .0
 
 -- ---- the needs
 
-has-slots-requires : tie.Need-has-slots-requires
-has-slots-requires c κs = search needs
-
 returns : tie.Need-returns
 returns c =
     let s = start (c .before) in
@@ -67,29 +64,17 @@ hash-all-requires c κs =
       counts-zero = λ t h. getD-replicate 256 t 0 0 h;
     }
 
-same-length : tie.Need-same-length
-same-length c = search needs
-
 returns-2 : tie.Need-returns-2
 returns-2 c =
     let h = c .before .before .before in
     let s = start (sized h) in
     gave-up (s .args .mode) (s .args .repeats) (s .pre) (h .hash-all .ensures .rest) (λ slots. h .hash-all .ensures .hashed .hashes-are)
 
-has-capacity-requires : tie.Need-has-capacity-requires
-has-capacity-requires c κs = search needs
-
-same-length-2 : tie.Need-same-length-2
-same-length-2 c = search needs
-
 returns-3 : tie.Need-returns-3
 returns-3 c =
     let h = hashed (c .before) in
     let s = start (sized h) in
     gave-up (s .args .mode) (s .args .repeats) (s .pre) (h .hash-all .ensures .rest) (λ slots. h .hash-all .ensures .hashed .hashes-are)
-
-refuses-requires : tie.Need-refuses-requires
-refuses-requires c κs = search needs
 
 build-tables-requires : tie.Need-build-tables-requires
 build-tables-requires c κs =
@@ -106,12 +91,6 @@ build-tables-requires c κs =
       hashed = h .hash-all .ensures .hashed;
       capacity = capacity .scratch;
     }
-
-same-length-3 : tie.Need-same-length-3
-same-length-3 c = search needs
-
-same-length-4 : tie.Need-same-length-4
-same-length-4 c = search needs
 
 returns-4 : tie.Need-returns-4
 returns-4 c =
@@ -156,15 +135,6 @@ write-list-requires c κs =
 clear-requires : tie.Need-clear-requires
 clear-requires c κs = omega (arith, hashes-long (hashed (checked (tabled (c .before .before .before)))))
 
-same-length-5 : tie.Need-same-length-5
-same-length-5 c = search needs
-
-same-length-6 : tie.Need-same-length-6
-same-length-6 c = search needs
-
-same-length-7 : tie.Need-same-length-7
-same-length-7 c = search needs
-
 returns-5 : tie.Need-returns-5
 returns-5 c =
     let z = c .before .before in
@@ -192,25 +162,25 @@ pub build-bulk-spec : {M : Type 1} → statement M
 build-bulk-spec =
     tie.close
     (tie.spec
-    has-slots-requires
+    (λ c κs. search needs)
     returns
     hash-all-requires
-    same-length
+    (λ c. search needs)
     returns-2
-    has-capacity-requires
-    same-length-2
+    (λ c κs. search needs)
+    (λ c. search needs)
     returns-3
-    refuses-requires
+    (λ c κs. search needs)
     build-tables-requires
-    same-length-3
-    same-length-4
+    (λ c. search needs)
+    (λ c. search needs)
     returns-4
     mul-tables
     slice-reshare-prefix-tables
     slice-aggregate-tables
     write-list-requires
     clear-requires
-    same-length-5
-    same-length-6
-    same-length-7
+    (λ c. search needs)
+    (λ c. search needs)
+    (λ c. search needs)
     returns-5)

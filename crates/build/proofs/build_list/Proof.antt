@@ -19,35 +19,11 @@ left c = c .before .before .before .before .before
 
 -- ---- the needs
 
-build-bulk-requires : tie.Need-build-bulk-requires
-build-bulk-requires c κs = search needs
-
 cast-accepted : tie.Need-cast-accepted
 cast-accepted c = omega (arith, tried (c .before) .build-bulk .ensures .count-fits (c .if1 .taken))
 
-same-length : tie.Need-same-length
-same-length c = search needs
-
-same-length-2 : tie.Need-same-length-2
-same-length-2 c = search needs
-
-same-length-3 : tie.Need-same-length-3
-same-length-3 c = search needs
-
 returns : tie.Need-returns
 returns c = tried (c .before) .build-bulk .ensures .built (c .if1 .taken)
-
-build-singly-requires : tie.Need-build-singly-requires
-build-singly-requires c κs = search needs
-
-same-length-4 : tie.Need-same-length-4
-same-length-4 c = search needs
-
-same-length-5 : tie.Need-same-length-5
-same-length-5 c = search needs
-
-same-length-6 : tie.Need-same-length-6
-same-length-6 c = search needs
 
 returns-2 : tie.Need-returns-2
 returns-2 c =
@@ -62,14 +38,14 @@ pub build-list-spec : {M : Type 1} → statement M
 build-list-spec =
     tie.close
     (tie.spec
-    build-bulk-requires
+    (λ c κs. search needs)
     cast-accepted
-    same-length
-    same-length-2
-    same-length-3
+    (λ c. search needs)
+    (λ c. search needs)
+    (λ c. search needs)
     returns
-    build-singly-requires
-    same-length-4
-    same-length-5
-    same-length-6
+    (λ c κs. search needs)
+    (λ c. search needs)
+    (λ c. search needs)
+    (λ c. search needs)
     returns-2)

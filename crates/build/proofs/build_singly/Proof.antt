@@ -32,15 +32,6 @@ put-start c = c .before .before .before .before .before .before .before .before 
 word-ids : (c : tie.After-put-list) (i : ℕ) → i < length (put-start c .args .ends .now) → getD (put-start c .args .ids .now) i 0 < 2 ^ 32
 word-ids c i h = omega (arith, c .before .before .before .before .before .before .before .before .before .before .before .before .shared-slice-known3 .given i)
 
-index-words-requires : tie.Need-index-words-requires
-index-words-requires c κs = search needs
-
-clear-requires : tie.Need-clear-requires
-clear-requires c κs = search needs
-
-slice-relend-prefix-slots : tie.Need-slice-relend-prefix-slots
-slice-relend-prefix-slots c = search needs
-
 slice-aggregate-slots : tie.Need-slice-aggregate-slots
 slice-aggregate-slots c =
     let z = c .before .before .before in
@@ -67,15 +58,6 @@ finish-list-requires c κs =
     let a = put-start p .args in
     list-closes (a .mode) (a .repeats) (put-start p .pre) (word-ids p) (p .put-list .ensures .leaves)
 
-same-length : tie.Need-same-length
-same-length c = search needs
-
-same-length-2 : tie.Need-same-length-2
-same-length-2 c = search needs
-
-same-length-3 : tie.Need-same-length-3
-same-length-3 c = search needs
-
 returns : tie.Need-returns
 returns c =
     let p = c .before .before .before .before .before .before .before .before .before .before .before in
@@ -86,13 +68,13 @@ pub build-singly-spec : {M : Type 1} → statement M
 build-singly-spec =
     tie.close
     (tie.spec
-    index-words-requires
-    clear-requires
-    slice-relend-prefix-slots
+    (λ c κs. search needs)
+    (λ c κs. search needs)
+    (λ c. search needs)
     slice-aggregate-slots
     put-list-requires
     finish-list-requires
-    same-length
-    same-length-2
-    same-length-3
+    (λ c. search needs)
+    (λ c. search needs)
+    (λ c. search needs)
     returns)

@@ -4,12 +4,6 @@ use Rattle.build_c.proofs.Needed.{needs-told}
 use Rattle.build_c.proofs.cqdb_build_needs.Statement.{statement}
 use Rattle.build_c.proofs.cqdb_build_needs.Tie as tie
 
-mode-of-requires : tie.Need-mode-of-requires
-mode-of-requires c κs = search needs
-
-for-list-requires : tie.Need-for-list-requires
-for-list-requires c κs = search needs
-
 returns : tie.Need-returns
 returns c =
     let a = c .before .before .before .args in
@@ -17,4 +11,4 @@ returns c =
     needs-told (a .mode) (a .size) (a .ids .now) (m .result) (c .for-list .result) (m .ensures) (c .for-list .ensures)
 
 pub cqdb-build-needs-spec : {M : Type 1} → statement M
-cqdb-build-needs-spec = tie.close (tie.spec mode-of-requires for-list-requires returns)
+cqdb-build-needs-spec = tie.close (tie.spec (λ c κs. search needs) (λ c κs. search needs) returns)

@@ -28,52 +28,16 @@ module _ (c : tie.After-build) where
       known-build (start .args .mode) (start .args .repeats) (start .args .buf .now) (start .args .names .now) (start .args .ends .now) (start .args .ids .now) (start .args .refusals .now) fine (m .result) (r .result)
       (m .ensures) (r .ensures) (builtOf (done .result)) _ _ (done .ensures .0) (done .ensures .1 .0) (done .ensures .1 .1 .0)
 
-known-requires : tie.Need-known-requires
-known-requires c κs = search needs
-
 returns : tie.Need-returns
 returns c =
     let a = c .before .before .before .before .before .before .before .before .args in
     let out = unknown-build (a .mode) (a .repeats) (a .buf .now) (a .names .now) (a .ends .now) (a .ids .now) (a .refusals .now) (sym (c .before .known .ensures) ∙ not-true _ (c .if1 .taken)) in
     (out .0, (out .1, (out .2, λ h. refl)))
 
-mode-of-requires : tie.Need-mode-of-requires
-mode-of-requires c κs = search needs
-
-repeats-of-requires : tie.Need-repeats-of-requires
-repeats-of-requires c κs = search needs
-
-build-requires : tie.Need-build-requires
-build-requires c κs = search needs
-
-enum-known-built : tie.Need-enum-known-built
-enum-known-built c = search needs
-
-enum-known-built-2 : tie.Need-enum-known-built-2
-enum-known-built-2 c = search needs
-
-same-length : tie.Need-same-length
-same-length c = search needs
-
-same-length-2 : tie.Need-same-length-2
-same-length-2 c = search needs
-
-same-length-3 : tie.Need-same-length-3
-same-length-3 c = search needs
-
 returns-2 : tie.Need-returns-2
 returns-2 c =
     let out = told (c .before .before .before .before .before .before .before .before .before) in
     (ap (λ (b : Built). builtAnswer (builtOf b)) (sym (c .before .built .given .1)) ∙ out .0, (out .1, (out .2, λ h. absurd (omega (arith, h)))))
-
-same-length-4 : tie.Need-same-length-4
-same-length-4 c = search needs
-
-same-length-5 : tie.Need-same-length-5
-same-length-5 c = search needs
-
-same-length-6 : tie.Need-same-length-6
-same-length-6 c = search needs
 
 returns-3 : tie.Need-returns-3
 returns-3 c =
@@ -88,18 +52,18 @@ pub cqdb-build-parts-spec : {M : Type 1} → statement M
 cqdb-build-parts-spec =
     tie.close
     (tie.spec
-    known-requires
+    (λ c κs. search needs)
     returns
-    mode-of-requires
-    repeats-of-requires
-    build-requires
-    enum-known-built
-    enum-known-built-2
-    same-length
-    same-length-2
-    same-length-3
+    (λ c κs. search needs)
+    (λ c κs. search needs)
+    (λ c κs. search needs)
+    (λ c. search needs)
+    (λ c. search needs)
+    (λ c. search needs)
+    (λ c. search needs)
+    (λ c. search needs)
     returns-2
-    same-length-4
-    same-length-5
-    same-length-6
+    (λ c. search needs)
+    (λ c. search needs)
+    (λ c. search needs)
     returns-3)

@@ -48,20 +48,11 @@ prefix-sums-requires c κs = sums-pre (c .before .before .before .before .before
 partition-pairs-requires : tie.Need-partition-pairs-requires
 partition-pairs-requires c κs = let p = c .before .before in partition-pre (start p .pre) (p .prefix-sums .ensures)
 
-pairs-at-requires : tie.Need-pairs-at-requires
-pairs-at-requires c κs = search needs
-
-clear-requires : tie.Need-clear-requires
-clear-requires c κs = search needs
-
 fill-all-requires : tie.Need-fill-all-requires
 fill-all-requires c κs =
     let z = c .before .before .before .before in
     let p = partitioned z in
     fill-pre (start (summed p) .pre) (p .partition-pairs .ensures) (kept z) (long z) (zeroed z)
-
-same-length : tie.Need-same-length
-same-length c = search needs
 
 returns : tie.Need-returns
 returns c =
@@ -77,8 +68,8 @@ build-tables-spec =
     (tie.spec
     prefix-sums-requires
     partition-pairs-requires
-    pairs-at-requires
-    clear-requires
+    (λ c κs. search needs)
+    (λ c κs. search needs)
     fill-all-requires
-    same-length
+    (λ c. search needs)
     returns)

@@ -78,22 +78,10 @@ back c =
 
 -- ---- the needs
 
-check-rows-requires : tie.Need-check-rows-requires
-check-rows-requires c κs = search needs
-
 returns : tie.Need-returns
 returns c =
     let a = c .before .before .before .args in
     body-rows (a .image .now) (a .n) (a .end) (a .back) (sym (c .before .check-rows .ensures) ∙ not-true _ (c .if1 .taken))
-
-get-u32-requires : tie.Need-get-u32-requires
-get-u32-requires c κs = search needs
-
-mul-o : tie.Need-mul-o
-mul-o c = search needs
-
-add-o : tie.Need-add-o
-add-o c = search needs
 
 check-entries-requires : tie.Need-check-entries-requires
 check-entries-requires c κs =
@@ -107,18 +95,12 @@ returns-2 c =
     let a = start e .args in
     body-entries (image e) (a .n) (a .end) (a .back) (rows e) (sym (found f) ∙ not-true _ (c .if2 .taken))
 
-counts-match-requires : tie.Need-counts-match-requires
-counts-match-requires c κs = search needs
-
 returns-3 : tie.Need-returns-3
 returns-3 c =
     let d = c .before .before .before in
     let e = first d in
     let a = start e .args in
     body-counts (image e) (a .n) (a .end) (a .back) (rows e) (entries d) (sym (counted (c .before)) ∙ not-true _ (c .if3 .taken))
-
-back-for-requires : tie.Need-back-for-requires
-back-for-requires c κs = search needs
 
 returns-4 : tie.Need-returns-4
 returns-4 c =
@@ -136,9 +118,6 @@ returns-5 c =
     body-oneway (image e) (a .n) (a .end) (a .back) (rows e) (entries (entered d)) (counts d) (c .before .if4 .left ∙ back b)
     (sym (two (flagged (checked (entered d)))) ∙ not-true _ (c .if5 .taken))
 
-count-used-requires : tie.Need-count-used-requires
-count-used-requires c κs = search needs
-
 returns-6 : tie.Need-returns-6
 returns-6 c =
     let b = c .before .before .before .before in
@@ -153,17 +132,17 @@ pub check-body-spec : {M : Type 1} → statement M
 check-body-spec =
     tie.close
     (tie.spec
-    check-rows-requires
+    (λ c κs. search needs)
     returns
-    get-u32-requires
-    mul-o
-    add-o
+    (λ c κs. search needs)
+    (λ c. search needs)
+    (λ c. search needs)
     check-entries-requires
     returns-2
-    counts-match-requires
+    (λ c κs. search needs)
     returns-3
-    back-for-requires
+    (λ c κs. search needs)
     returns-4
     returns-5
-    count-used-requires
+    (λ c κs. search needs)
     returns-6)

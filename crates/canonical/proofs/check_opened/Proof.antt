@@ -33,16 +33,10 @@ wanted c =
     c .offset-of .ensures
     ∙ ap₂ (λ (k l : ℕ). cond (eqb k 0) 0 (l - (16 * n + 4 * k) + 16 * n)) (b .size-at2 .ensures .is) (b .before .before .before .if1 .left)
 
-size-at-requires : tie.Need-size-at-requires
-size-at-requires c κs = search needs
-
 returns : tie.Need-returns
 returns c =
     let s = start (c .before) in
     refuse (s .args .image .now) (s .args .n) (bytes (c .before)) (s .pre) (λ k. c .if1 .taken (c .before .size-at .ensures .is ∙ k .size))
-
-get-u32-requires : tie.Need-get-u32-requires
-get-u32-requires c κs = search needs
 
 returns-2 : tie.Need-returns-2
 returns-2 c =
@@ -50,42 +44,12 @@ returns-2 c =
     let s = start f in
     refuse (s .args .image .now) (s .args .n) (bytes f) (s .pre) (λ k. omega (arith, k .flag, c .before .get-u32 .ensures, c .if2 .taken))
 
-size-at-requires-2 : tie.Need-size-at-requires-2
-size-at-requires-2 c κs = search needs
-
-mul-behind : tie.Need-mul-behind
-mul-behind c = search needs
-
-mul-behind-2 : tie.Need-mul-behind-2
-mul-behind-2 c = search needs
-
-add-behind : tie.Need-add-behind
-add-behind c = search needs
-
-add-if3 : tie.Need-add-if3
-add-if3 c = search needs
-
 returns-3 : tie.Need-returns-3
 returns-3 c =
     let b = c .before in
     let s = start (first b) in
     refuse (s .args .image .now) (s .args .n) (bytes (first b)) (s .pre)
     (λ k. omega (arith, k .room, b .size-at2 .ensures .is, b .before .before .before .if1 .left, c .if3 .taken))
-
-sub-end : tie.Need-sub-end
-sub-end c = search needs
-
-size-at-requires-3 : tie.Need-size-at-requires-3
-size-at-requires-3 c κs = search needs
-
-mul-offset-of : tie.Need-mul-offset-of
-mul-offset-of c = search needs
-
-add-offset-of : tie.Need-add-offset-of
-add-offset-of c = search needs
-
-offset-of-requires : tie.Need-offset-of-requires
-offset-of-requires c κs = search needs
 
 returns-4 : tie.Need-returns-4
 returns-4 c =
@@ -124,21 +88,21 @@ pub check-opened-spec : {M : Type 1} → statement M
 check-opened-spec =
     tie.close
     (tie.spec
-    size-at-requires
+    (λ c κs. search needs)
     returns
-    get-u32-requires
+    (λ c κs. search needs)
     returns-2
-    size-at-requires-2
-    mul-behind
-    mul-behind-2
-    add-behind
-    add-if3
+    (λ c κs. search needs)
+    (λ c. search needs)
+    (λ c. search needs)
+    (λ c. search needs)
+    (λ c. search needs)
     returns-3
-    sub-end
-    size-at-requires-3
-    mul-offset-of
-    add-offset-of
-    offset-of-requires
+    (λ c. search needs)
+    (λ c κs. search needs)
+    (λ c. search needs)
+    (λ c. search needs)
+    (λ c κs. search needs)
     returns-4
     check-body-requires
     returns-5)

@@ -7,20 +7,8 @@ use borrow.Author.Needs.{needs}
 use Rattle.canonical.proofs.is_canonical.Statement.{statement}
 use Rattle.canonical.proofs.is_canonical.Tie as tie
 
-open-requires : tie.Need-open-requires
-open-requires c κs = search needs
-
-enum-known-opened : tie.Need-enum-known-opened
-enum-known-opened c = search needs
-
 check-opened-requires : tie.Need-check-opened-requires
 check-opened-requires c κs = sym (c .before .before .before .«open» .ensures) ∙ ap openedOf (c .before .opened .given .1)
-
-enum-known-opened-2 : tie.Need-enum-known-opened-2
-enum-known-opened-2 c = search needs
-
-returns : tie.Need-returns
-returns c = search needs
 
 returns-2 : tie.Need-returns-2
 returns-2 c =
@@ -32,9 +20,9 @@ pub is-canonical-spec : {M : Type 1} → statement M
 is-canonical-spec =
     tie.close
     (tie.spec
-    open-requires
-    enum-known-opened
+    (λ c κs. search needs)
+    (λ c. search needs)
     check-opened-requires
-    enum-known-opened-2
-    returns
+    (λ c. search needs)
+    (λ c. search needs)
     returns-2)

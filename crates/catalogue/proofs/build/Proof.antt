@@ -7,43 +7,10 @@ use borrow.Author.Needs.{needs}
 use Rattle.catalogue.proofs.build.Statement.{statement}
 use Rattle.catalogue.proofs.build.Tie as tie
 
-begin-requires : tie.Need-begin-requires
-begin-requires c κs = search needs
-
-enum-known-fresh : tie.Need-enum-known-fresh
-enum-known-fresh c = search needs
-
-enum-told : tie.Need-enum-told
-enum-told c = search needs
-
-same-length : tie.Need-same-length
-same-length c = search needs
-
 returns : tie.Need-returns
 returns c =
     let a = c .before .before .before .before .before .before .before .before .args in
     λ big enough. begin-accepted (a .buf .now) big _ (ap begunOf (sym (c .enum-told .given .1)) ∙ c .before .before .begin .ensures .0)
-
-put-input-requires : tie.Need-put-input-requires
-put-input-requires c κs = search needs
-
-close-requires : tie.Need-close-requires
-close-requires c κs = search needs
-
-enum-known-answer : tie.Need-enum-known-answer
-enum-known-answer c = search needs
-
-enum-told-2 : tie.Need-enum-told-2
-enum-told-2 c = search needs
-
-same-length-2 : tie.Need-same-length-2
-same-length-2 c = search needs
-
-same-length-3 : tie.Need-same-length-3
-same-length-3 c = search needs
-
-same-length-4 : tie.Need-same-length-4
-same-length-4 c = search needs
 
 abbrev after-put-input : tie.After-close → tie.After-put-input
 after-put-input c = c .before .before .before .before .before .before .before .before .before
@@ -87,15 +54,6 @@ returns-2 c =
     never-refused (a .buf .now) (a .room .now) (a .counts .now) _ (w .0 .0) (ap begunOf (sym (w .1)) ∙ b .ensures .0) (b .ensures .1) _ (of-put-input .ensures) big enough
     _ (ap closedOf (sym (c .enum-told2 .given .1)) ∙ of-close .ensures .0)
 
-same-length-5 : tie.Need-same-length-5
-same-length-5 c = search needs
-
-same-length-6 : tie.Need-same-length-6
-same-length-6 c = search needs
-
-same-length-7 : tie.Need-same-length-7
-same-length-7 c = search needs
-
 returns-3 : tie.Need-returns-3
 returns-3 c =
     let a = start-from-close-arg2 (c .before .before .before .before .before .before) .args in
@@ -112,20 +70,20 @@ pub build-spec : {M : Type 1} → statement M
 build-spec =
     tie.close
     (tie.spec
-    begin-requires
-    enum-known-fresh
-    enum-told
-    same-length
+    (λ c κs. search needs)
+    (λ c. search needs)
+    (λ c. search needs)
+    (λ c. search needs)
     returns
-    put-input-requires
-    close-requires
-    enum-known-answer
-    enum-told-2
-    same-length-2
-    same-length-3
-    same-length-4
+    (λ c κs. search needs)
+    (λ c κs. search needs)
+    (λ c. search needs)
+    (λ c. search needs)
+    (λ c. search needs)
+    (λ c. search needs)
+    (λ c. search needs)
     returns-2
-    same-length-5
-    same-length-6
-    same-length-7
+    (λ c. search needs)
+    (λ c. search needs)
+    (λ c. search needs)
     returns-3)

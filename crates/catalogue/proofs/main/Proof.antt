@@ -5,30 +5,6 @@ use borrow.Author.Needs.{needs}
 use Rattle.catalogue.proofs.main.Statement.{statement}
 use Rattle.catalogue.proofs.main.Tie as tie
 
-large-buffer-requires : tie.Need-large-buffer-requires
-large-buffer-requires c κs = search needs
-
-large-buffer-requires-2 : tie.Need-large-buffer-requires-2
-large-buffer-requires-2 c κs = search needs
-
-large-buffer-requires-3 : tie.Need-large-buffer-requires-3
-large-buffer-requires-3 c κs = search needs
-
-slice-aggregate-build : tie.Need-slice-aggregate-build
-slice-aggregate-build c = search needs
-
-slice-aggregate-build-2 : tie.Need-slice-aggregate-build-2
-slice-aggregate-build-2 c = search needs
-
-slice-aggregate-build-3 : tie.Need-slice-aggregate-build-3
-slice-aggregate-build-3 c = search needs
-
-build-requires : tie.Need-build-requires
-build-requires c κs = search needs
-
-slice-aggregate-print-image : tie.Need-slice-aggregate-print-image
-slice-aggregate-print-image c = search needs
-
 abbrev after-large-buffer2 : tie.After-piece2 → tie.After-large-buffer2
 after-large-buffer2 c = c .before .before .before .before .before .before .before .before .before
 
@@ -43,20 +19,17 @@ print-image-requires c κs =
     built-in 65536 (b .result .entries) (b .result .size) (of-large-buffer .result) (of-large-buffer2 .result) (b .last .1 .0)
     (of-large-buffer .ensures) (of-large-buffer2 .ensures) (lit≤ tt) (b .ensures)
 
-returns : tie.Need-returns
-returns c = search needs
-
 pub main-spec : {M : Type 1} → statement M
 main-spec =
     tie.close
     (tie.spec
-    large-buffer-requires
-    large-buffer-requires-2
-    large-buffer-requires-3
-    slice-aggregate-build
-    slice-aggregate-build-2
-    slice-aggregate-build-3
-    build-requires
-    slice-aggregate-print-image
+    (λ c κs. search needs)
+    (λ c κs. search needs)
+    (λ c κs. search needs)
+    (λ c. search needs)
+    (λ c. search needs)
+    (λ c. search needs)
+    (λ c κs. search needs)
+    (λ c. search needs)
     print-image-requires
-    returns)
+    (λ c. search needs))

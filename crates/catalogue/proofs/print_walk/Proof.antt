@@ -14,26 +14,11 @@ Inv-loop image walk₀ walk = Unit {0}
 abbrev μ-loop : tie.MeasureT-loop
 μ-loop image walk₀ walk = 2 ^ 32 - walk .next
 
-iter-requires : tie.Need-iter-requires Inv-loop μ-loop
-iter-requires c κs = search needs
-
 loop-holds : tie.Need-loop-holds Inv-loop μ-loop
 loop-holds c = tt
 
-next-requires : tie.Need-next-requires Inv-loop μ-loop
-next-requires c κs = search needs
-
-enum-known-id : tie.Need-enum-known-id Inv-loop μ-loop
-enum-known-id c = search needs
-
-enum-told : tie.Need-enum-told Inv-loop μ-loop
-enum-told c = search needs
-
 returns : tie.Need-returns Inv-loop μ-loop
 returns c = tt
-
-cast-print-line : tie.Need-cast-print-line Inv-loop μ-loop
-cast-print-line c = search needs
 
 abbrev start : tie.After-known-told Inv-loop μ-loop → tie.Start Inv-loop μ-loop
 start c = c .before .before .before .before .before .before .before
@@ -48,12 +33,6 @@ add-print-line c =
     let inside = s .inside in
     omega arith
 
-sub-print-line : tie.Need-sub-print-line Inv-loop μ-loop
-sub-print-line c = search needs
-
-part-print-line-start : tie.Need-part-print-line-start Inv-loop μ-loop
-part-print-line-start c = search needs
-
 part-print-line-end : tie.Need-part-print-line-end Inv-loop μ-loop
 part-print-line-end c =
     let a = start c .args in
@@ -63,9 +42,6 @@ part-print-line-end c =
     let s = stepping (a .image .now) (of-loop .walk .next) (g .0 .0) (g .0 .1 .0) (g .0 .1 .1 .0) (g .0 .1 .1 .1 .0 .next) (sym (of-next .ensures) ∙ ap steppedOf (g .1)) in
     let inside = s .inside in
     omega arith
-
-print-line-requires : tie.Need-print-line-requires Inv-loop μ-loop
-print-line-requires c κs = search needs
 
 loop-less : tie.Need-loop-less Inv-loop μ-loop
 loop-less c =
@@ -87,17 +63,17 @@ print-walk-spec =
     (tie.spec
     Inv-loop
     μ-loop
-    iter-requires
+    (λ c κs. search needs)
     loop-holds
-    next-requires
-    enum-known-id
-    enum-told
+    (λ c κs. search needs)
+    (λ c. search needs)
+    (λ c. search needs)
     returns
-    cast-print-line
+    (λ c. search needs)
     add-print-line
-    sub-print-line
-    part-print-line-start
+    (λ c. search needs)
+    (λ c. search needs)
     part-print-line-end
-    print-line-requires
+    (λ c κs. search needs)
     loop-less
     loop-again)

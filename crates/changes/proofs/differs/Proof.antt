@@ -8,18 +8,6 @@ use borrow.Author.Needs.{needs}
 use Rattle.changes.proofs.differs.Statement.{statement}
 use Rattle.changes.proofs.differs.Tie as tie
 
-to-str-requires : tie.Need-to-str-requires
-to-str-requires c κs = search needs
-
-enum-known-start : tie.Need-enum-known-start
-enum-known-start c = search needs
-
-to-str-requires-2 : tie.Need-to-str-requires-2
-to-str-requires-2 c κs = search needs
-
-enum-known-from : tie.Need-enum-known-from
-enum-known-from c = search needs
-
 abbrev after-to-str : tie.After-known-told2 → tie.After-to-str
 after-to-str c = c .before .before .before .before .before .before .before
 
@@ -38,12 +26,6 @@ add-same c =
     let p = c .before .before .before .before .before .start .given in
     omega (arith, named (a .old .now) (a .id) (p .0 .0) (p .0 .1 .0) (sym (after-to-str c .to-str .ensures) ∙ ap namingOf (p .1)))
 
-sub-same : tie.Need-sub-same
-sub-same c = search needs
-
-part-same-start : tie.Need-part-same-start
-part-same-start c = search needs
-
 part-same-end : tie.Need-part-same-end
 part-same-end c =
     let a = start-from-to-str2 (c .before .before .before) .args in
@@ -56,35 +38,11 @@ add-same-2 c =
     let p = c .before .before .from .given in
     omega (arith, named (a .new .now) (a .id) (p .0 .0) (p .0 .1 .0) (sym (c .before .before .before .before .to-str2 .ensures) ∙ ap namingOf (p .1)))
 
-sub-same-2 : tie.Need-sub-same-2
-sub-same-2 c = search needs
-
-part-same-start-2 : tie.Need-part-same-start-2
-part-same-start-2 c = search needs
-
 part-same-end-2 : tie.Need-part-same-end-2
 part-same-end-2 c =
     let a = start-from-to-str2 (c .before .before .before .before) .args in
     let p = c .before .before .from .given in
     omega (arith, named (a .new .now) (a .id) (p .0 .0) (p .0 .1 .0) (sym (c .before .before .before .before .to-str2 .ensures) ∙ ap namingOf (p .1)))
-
-same-requires : tie.Need-same-requires
-same-requires c κs = search needs
-
-enum-told : tie.Need-enum-told
-enum-told c = search needs
-
-enum-told-2 : tie.Need-enum-told-2
-enum-told-2 c = search needs
-
-to-str-requires-3 : tie.Need-to-str-requires-3
-to-str-requires-3 c κs = search needs
-
-enum-known-start-2 : tie.Need-enum-known-start-2
-enum-known-start-2 c = search needs
-
-enum-told-3 : tie.Need-enum-told-3
-enum-told-3 c = search needs
 
 returns : tie.Need-returns
 returns c =
@@ -118,24 +76,24 @@ pub differs-spec : {M : Type 1} → statement M
 differs-spec =
     tie.close
     (tie.spec
-    to-str-requires
-    enum-known-start
-    to-str-requires-2
-    enum-known-from
+    (λ c κs. search needs)
+    (λ c. search needs)
+    (λ c κs. search needs)
+    (λ c. search needs)
     add-same
-    sub-same
-    part-same-start
+    (λ c. search needs)
+    (λ c. search needs)
     part-same-end
     add-same-2
-    sub-same-2
-    part-same-start-2
+    (λ c. search needs)
+    (λ c. search needs)
     part-same-end-2
-    same-requires
-    enum-told
-    enum-told-2
-    to-str-requires-3
-    enum-known-start-2
-    enum-told-3
+    (λ c κs. search needs)
+    (λ c. search needs)
+    (λ c. search needs)
+    (λ c κs. search needs)
+    (λ c. search needs)
+    (λ c. search needs)
     returns
     returns-2
     returns-3

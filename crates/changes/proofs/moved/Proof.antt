@@ -8,35 +8,17 @@ use borrow.Author.Needs.{needs}
 use Rattle.changes.proofs.moved.Statement.{statement}
 use Rattle.changes.proofs.moved.Tie as tie
 
-to-str-requires : tie.Need-to-str-requires
-to-str-requires c κs = search needs
-
-enum-known-start : tie.Need-enum-known-start
-enum-known-start c = search needs
-
 add-other-id : tie.Need-add-other-id
 add-other-id c =
     let a = c .before .before .before .before .before .before .args in
     let p = c .before .start .given in
     omega (arith, named (a .old .now) (a .id) (p .0 .0) (p .0 .1 .0) (sym (c .before .before .before .to-str .ensures) ∙ ap namingOf (p .1)))
 
-sub-other-id : tie.Need-sub-other-id
-sub-other-id c = search needs
-
-part-other-id-start : tie.Need-part-other-id-start
-part-other-id-start c = search needs
-
 part-other-id-end : tie.Need-part-other-id-end
 part-other-id-end c =
     let a = c .before .before .before .before .before .before .args in
     let p = c .before .start .given in
     omega (arith, named (a .old .now) (a .id) (p .0 .0) (p .0 .1 .0) (sym (c .before .before .before .to-str .ensures) ∙ ap namingOf (p .1)))
-
-other-id-requires : tie.Need-other-id-requires
-other-id-requires c κs = search needs
-
-enum-told : tie.Need-enum-told
-enum-told c = search needs
 
 returns : tie.Need-returns
 returns c =
@@ -54,13 +36,13 @@ pub moved-spec : {M : Type 1} → statement M
 moved-spec =
     tie.close
     (tie.spec
-    to-str-requires
-    enum-known-start
+    (λ c κs. search needs)
+    (λ c. search needs)
     add-other-id
-    sub-other-id
-    part-other-id-start
+    (λ c. search needs)
+    (λ c. search needs)
     part-other-id-end
-    other-id-requires
-    enum-told
+    (λ c κs. search needs)
+    (λ c. search needs)
     returns
     returns-2)

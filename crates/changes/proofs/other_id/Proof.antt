@@ -6,21 +6,12 @@ use borrow.Author.Needs.{needs}
 use Rattle.changes.proofs.other_id.Statement.{statement}
 use Rattle.changes.proofs.other_id.Tie as tie
 
-to-id-requires : tie.Need-to-id-requires
-to-id-requires c κs = search needs
-
-enum-known-f : tie.Need-enum-known-f
-enum-known-f c = search needs
-
 abbrev start : tie.After-struct-known → tie.Start
 start c = c .before .before .before .before .before .before .before
 
 returns : tie.Need-returns
 returns c =
     same-id (start (c .before) .args .id) _ _ (ap lookupOf (sym (c .before .before .before .f .given .1)) ∙ c .before .before .before .before .before .to-id .ensures) (c .if1 .taken)
-
-enum-known-buckets : tie.Need-enum-known-buckets
-enum-known-buckets c = search needs
 
 returns-2 : tie.Need-returns-2
 returns-2 c =
@@ -32,4 +23,4 @@ returns-3 c =
 
 pub other-id-spec : {M : Type 1} → statement M
 other-id-spec =
-    tie.close (tie.spec to-id-requires enum-known-f returns enum-known-buckets returns-2 returns-3)
+    tie.close (tie.spec (λ c κs. search needs) (λ c. search needs) returns (λ c. search needs) returns-2 returns-3)

@@ -4,18 +4,6 @@ use borrow.Author.Needs.{needs}
 use Rattle.changes.proofs.upper.Statement.{statement}
 use Rattle.changes.proofs.upper.Tie as tie
 
-iter-requires : tie.Need-iter-requires
-iter-requires c κs = search needs
-
-size-hint-requires : tie.Need-size-hint-requires
-size-hint-requires c κs = search needs
-
-iter-requires-2 : tie.Need-iter-requires-2
-iter-requires-2 c κs = search needs
-
-size-hint-requires-2 : tie.Need-size-hint-requires-2
-size-hint-requires-2 c κs = search needs
-
 abbrev start : tie.After-size-hint2 → tie.Start
 start c = c .before .before .before .before .before .before
 
@@ -35,9 +23,9 @@ pub upper-spec : {M : Type 1} → statement M
 upper-spec =
     tie.close
     (tie.spec
-    iter-requires
-    size-hint-requires
-    iter-requires-2
-    size-hint-requires-2
+    (λ c κs. search needs)
+    (λ c κs. search needs)
+    (λ c κs. search needs)
+    (λ c κs. search needs)
     returns
     returns-2)

@@ -8,12 +8,6 @@ use borrow.Author.Needs.{needs}
 use Rattle.consistency.proofs.home.Statement.{statement}
 use Rattle.consistency.proofs.home.Tie as tie
 
-to-str-requires : tie.Need-to-str-requires
-to-str-requires c κs = search needs
-
-enum-known-start : tie.Need-enum-known-start
-enum-known-start c = search needs
-
 add-end : tie.Need-add-end
 add-end c =
     let a = c .before .before .before .before .before .args in
@@ -21,24 +15,12 @@ add-end c =
     let place = c .before .start .given in
     omega (arith, named (a .image .now) (a .id) (place .0 .0) (place .0 .1 .0) (sym (of-to-str .ensures) ∙ ap namingOf (place .1)))
 
-sub-has-match : tie.Need-sub-has-match
-sub-has-match c = search needs
-
-part-has-match-start : tie.Need-part-has-match-start
-part-has-match-start c = search needs
-
 part-has-match-end : tie.Need-part-has-match-end
 part-has-match-end c =
     let a = c .before .before .before .before .before .args in
     let of-to-str = c .before .before .before .to-str in
     let place = c .before .start .given in
     omega (arith, named (a .image .now) (a .id) (place .0 .0) (place .0 .1 .0) (sym (of-to-str .ensures) ∙ ap namingOf (place .1)))
-
-has-match-requires : tie.Need-has-match-requires
-has-match-requires c κs = search needs
-
-enum-told : tie.Need-enum-told
-enum-told c = search needs
 
 returns : tie.Need-returns
 returns c =
@@ -58,13 +40,13 @@ pub home-spec : {M : Type 1} → statement M
 home-spec =
     tie.close
     (tie.spec
-    to-str-requires
-    enum-known-start
+    (λ c κs. search needs)
+    (λ c. search needs)
     add-end
-    sub-has-match
-    part-has-match-start
+    (λ c. search needs)
+    (λ c. search needs)
     part-has-match-end
-    has-match-requires
-    enum-told
+    (λ c κs. search needs)
+    (λ c. search needs)
     returns
     returns-2)

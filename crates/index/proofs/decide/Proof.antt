@@ -38,12 +38,6 @@ bytes z i = omega (arith, z .before .before .before .before .before .shared-slic
 in-buffer : (z : tie.After-has-zero) → InBuffer (S (begun z) .writer) (S (begun z) .buffer)
 in-buffer z = z .before .before .fits-buffer .ensures .when-true (not-false _ (z .before .if1 .left))
 
-fits-buffer-requires : tie.Need-fits-buffer-requires
-fits-buffer-requires c κs = search needs
-
-refused-requires : tie.Need-refused-requires
-refused-requires c κs = search needs
-
 returns : tie.Need-returns
 returns c =
     let f = c .before .before in
@@ -51,30 +45,12 @@ returns c =
     refused-with (c .refused .result) 1 (c .refused .ensures)
     (unfit (S s) (s .args .slots .now) (E s) (f .fits-buffer .ensures .when-false (not-true _ (c .before .if1 .taken)) (s .args .counts .now)))
 
-has-zero-requires : tie.Need-has-zero-requires
-has-zero-requires c κs = search needs
-
-refused-requires-2 : tie.Need-refused-requires-2
-refused-requires-2 c κs = search needs
-
 returns-2 : tie.Need-returns-2
 returns-2 c =
     let z = c .before .before in
     let s = begun z in
     refused-with (c .refused2 .result) 12 (c .refused2 .ensures)
     (zero-byte (S s) (s .args .slots .now) (E s) (sym (z .has-zero .ensures) ∙ c .before .if2 .taken))
-
-name-hash-requires : tie.Need-name-hash-requires
-name-hash-requires c κs = search needs
-
-enum-known-h : tie.Need-enum-known-h
-enum-known-h c = search needs
-
-enum-told : tie.Need-enum-told
-enum-told c = search needs
-
-refused-requires-3 : tie.Need-refused-requires-3
-refused-requires-3 c κs = search needs
 
 returns-3 : tie.Need-returns-3
 returns-3 c =
@@ -89,9 +65,6 @@ slice-aggregate-probe : tie.Need-slice-aggregate-probe
 slice-aggregate-probe c =
     let z = c .before .before .before .before .before .before in
     omega (arith, length-take (S (begun z) .writer .end) (S (begun z) .buffer), in-buffer z .same-length, in-buffer z .high)
-
-probe-requires : tie.Need-probe-requires
-probe-requires c κs = search needs
 
 -- ---- the probe and the checks behind it
 
@@ -130,9 +103,6 @@ size-is : (t : tie.After-too-large) {b : Bool} → t .too-large .result ≡ b
 size-is t e =
     ap (tooLarge (S (begun (zeros (probing t))) .writer .length)) (sym (t .before .size-with .ensures)) ∙ sym (t .too-large .ensures) ∙ e
 
-refused-requires-4 : tie.Need-refused-requires-4
-refused-requires-4 c κs = search needs
-
 returns-4 : tie.Need-returns-4
 returns-4 c =
     refused-with (c .refused4 .result) 15 (c .refused4 .ensures) (found-duplicate (probed (c .before .before)) (c .before .if3 .taken))
@@ -142,37 +112,16 @@ size-with-requires c κs =
     let z = zeros (c .before) in
     (omega (arith, in-buffer z .high, begun z .good, in-buffer z .same-length), hashed (c .before) .0)
 
-too-large-requires : tie.Need-too-large-requires
-too-large-requires c κs = search needs
-
-refused-requires-5 : tie.Need-refused-requires-5
-refused-requires-5 c κs = search needs
-
 returns-5 : tie.Need-returns-5
 returns-5 c =
     let t = c .before .before in
     refused-with (c .refused5 .result) 2 (c .refused5 .ensures) (too-big (probed (probing t)) (new t) (size-is t (c .before .if4 .taken)))
-
-refused-requires-6 : tie.Need-refused-requires-6
-refused-requires-6 c κs = search needs
 
 returns-6 : tie.Need-returns-6
 returns-6 c =
     let t = c .before .before .before in
     refused-with (c .refused6 .result) 23 (c .refused6 .ensures)
     (none-free (probed (probing t)) (new t) (size-is t (c .before .before .if4 .left)) (c .before .if5 .taken))
-
-cast-t : tie.Need-cast-t
-cast-t c = search needs
-
-mul-if6 : tie.Need-mul-if6
-mul-if6 c = search needs
-
-element-copy-out-if6 : tie.Need-element-copy-out-if6
-element-copy-out-if6 c = search needs
-
-refused-requires-7 : tie.Need-refused-requires-7
-refused-requires-7 c κs = search needs
 
 returns-7 : tie.Need-returns-7
 returns-7 c =
@@ -204,30 +153,30 @@ pub decide-spec : {M : Type 1} → statement M
 decide-spec =
     tie.close
     (tie.spec
-    fits-buffer-requires
-    refused-requires
+    (λ c κs. search needs)
+    (λ c κs. search needs)
     returns
-    has-zero-requires
-    refused-requires-2
+    (λ c κs. search needs)
+    (λ c κs. search needs)
     returns-2
-    name-hash-requires
-    enum-known-h
-    enum-told
-    refused-requires-3
+    (λ c κs. search needs)
+    (λ c. search needs)
+    (λ c. search needs)
+    (λ c κs. search needs)
     returns-3
     slice-aggregate-probe
-    probe-requires
-    refused-requires-4
+    (λ c κs. search needs)
+    (λ c κs. search needs)
     returns-4
     size-with-requires
-    too-large-requires
-    refused-requires-5
+    (λ c κs. search needs)
+    (λ c κs. search needs)
     returns-5
-    refused-requires-6
+    (λ c κs. search needs)
     returns-6
-    cast-t
-    mul-if6
-    element-copy-out-if6
-    refused-requires-7
+    (λ c. search needs)
+    (λ c. search needs)
+    (λ c. search needs)
+    (λ c κs. search needs)
     returns-7
     returns-8)

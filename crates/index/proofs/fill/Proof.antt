@@ -72,15 +72,6 @@ name-at-requires c κs =
     let room = entry-room (s .args .buf .now) (l .at) (s .args .end) (n .result) (l .inv .inside) (s .pre .inside) (n .ensures .0) (c .if1 .left) in
     (omega (arith, room .0, s .pre .inside), room .1)
 
-name-hash-requires : tie.Need-name-hash-requires Inv-loop μ-loop
-name-hash-requires c κs = search needs
-
-enum-known-h : tie.Need-enum-known-h Inv-loop μ-loop
-enum-known-h c = search needs
-
-enum-told : tie.Need-enum-told Inv-loop μ-loop
-enum-told c = search needs
-
 same-length-2 : tie.Need-same-length-2 Inv-loop μ-loop
 same-length-2 c =
     let n = c .before .before .before .before .before in
@@ -93,9 +84,6 @@ returns-2 c =
     let n = hashed .before .before .before .whole-length in
     let long = result-refused (now (named .result)) 0 (hashed .name-hash .result) (hashed .name-hash .ensures) (c .enum-told .given .1) in
     absurd (omega (arith, long, named .ensures .1, n .ensures .1))
-
-first-empty-requires : tie.Need-first-empty-requires Inv-loop μ-loop
-first-empty-requires c κs = search needs
 
 cast-store-slot : tie.Need-cast-store-slot Inv-loop μ-loop
 cast-store-slot c =
@@ -155,12 +143,12 @@ fill-spec =
     same-length
     returns
     name-at-requires
-    name-hash-requires
-    enum-known-h
-    enum-told
+    (λ c κs. search needs)
+    (λ c. search needs)
+    (λ c. search needs)
     same-length-2
     returns-2
-    first-empty-requires
+    (λ c κs. search needs)
     cast-store-slot
     store-slot-requires
     add-at

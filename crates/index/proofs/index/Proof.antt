@@ -7,29 +7,17 @@ use borrow.Author.Needs.{needs}
 use Rattle.index.proofs.index.Statement.{statement}
 use Rattle.index.proofs.index.Tie as tie
 
-close-refusal-requires : tie.Need-close-refusal-requires
-close-refusal-requires c κs = search needs
-
 returns : tie.Need-returns
 returns c =
     let a = c .before .before .before .before .args in
     let r = c .before .close-refusal in
     index-refused (stateWith (a .w) (a .counts .now) (a .buf .now)) (a .slots .now) (r .result) (r .ensures) (c .if1 .taken)
 
-cast-if2 : tie.Need-cast-if2
-cast-if2 c = search needs
-
 returns-2 : tie.Need-returns-2
 returns-2 c =
     let a = c .before .before .before .before .before .before .args in
     let r = c .before .before .before .close-refusal in
     index-full (stateWith (a .w) (a .counts .now) (a .buf .now)) (a .slots .now) (r .result) (r .ensures) (c .before .before .if1 .left) (c .if2 .taken)
-
-mul-clear : tie.Need-mul-clear
-mul-clear c = search needs
-
-clear-requires : tie.Need-clear-requires
-clear-requires c κs = search needs
 
 fill-requires : tie.Need-fill-requires
 fill-requires c κs =
@@ -39,9 +27,6 @@ fill-requires c κs =
     let kept = cleared .kept .0 in
     fillable (a .w) (a .counts .now) (a .buf .now) (cleared .last .0) (sym (r .ensures) ∙ c .before .before .before .before .before .before .before .if1 .left)
     (omega (arith, kept, c .before .before .before .before .before .if2 .left)) (λ i h. cleared .ensures .0 i (omega (arith, h, kept)))
-
-same-length : tie.Need-same-length
-same-length c = search needs
 
 returns-3 : tie.Need-returns-3
 returns-3 c =
@@ -57,12 +42,12 @@ pub index-spec : {M : Type 1} → statement M
 index-spec =
     tie.close
     (tie.spec
-    close-refusal-requires
+    (λ c κs. search needs)
     returns
-    cast-if2
+    (λ c. search needs)
     returns-2
-    mul-clear
-    clear-requires
+    (λ c. search needs)
+    (λ c κs. search needs)
     fill-requires
-    same-length
+    (λ c. search needs)
     returns-3)

@@ -28,15 +28,6 @@ bounds : (d : tie.After-decide) → d .decide .result .refusal ≡ 0
     (d .decide .result .hash) (d .decide .result .slot)
 bounds d z = d .decide .ensures .bounds z
 
-decide-requires : tie.Need-decide-requires
-decide-requires c κs = search needs
-
-same-length : tie.Need-same-length
-same-length c = search needs
-
-same-length-2 : tie.Need-same-length-2
-same-length-2 c = search needs
-
 returns : tie.Need-returns
 returns c = put-refused (c .before .decide .ensures) (c .if1 .taken)
 
@@ -65,12 +56,6 @@ after-requires c κs =
     let q = stored (c .before .before) in
     bounds (decision q) (q .before .before .before .if1 .left) .size
 
-same-length-3 : tie.Need-same-length-3
-same-length-3 c = search needs
-
-same-length-4 : tie.Need-same-length-4
-same-length-4 c = search needs
-
 returns-2 : tie.Need-returns-2
 returns-2 c =
     let t = c .before .before .before in
@@ -86,15 +71,15 @@ pub put-indexed-spec : {M : Type 1} → statement M
 put-indexed-spec =
     tie.close
     (tie.spec
-    decide-requires
-    same-length
-    same-length-2
+    (λ c κs. search needs)
+    (λ c. search needs)
+    (λ c. search needs)
     returns
     cast-store-slot
     store-slot-requires
     raise-requires
     store-requires
     after-requires
-    same-length-3
-    same-length-4
+    (λ c. search needs)
+    (λ c. search needs)
     returns-2)

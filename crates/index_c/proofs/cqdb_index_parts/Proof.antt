@@ -7,24 +7,12 @@ use borrow.Author.Needs.{needs}
 use Rattle.index_c.proofs.cqdb_index_parts.Statement.{statement}
 use Rattle.index_c.proofs.cqdb_index_parts.Tie as tie
 
-known-requires : tie.Need-known-requires
-known-requires c κs = search needs
-
 -- what was lent
 abbrev H : tie.After-known → CState
 H k = let a = k .before .before .before .args in cState (a .w) (a .counts .now) (a .buf .now)
 
 returns : tie.Need-returns
 returns c = index-unknown (H (c .before)) _ (sym (c .before .known .ensures) ∙ not-true _ (c .if1 .taken))
-
-writer-of-requires : tie.Need-writer-of-requires
-writer-of-requires c κs = search needs
-
-index-requires : tie.Need-index-requires
-index-requires c κs = search needs
-
-same-length : tie.Need-same-length
-same-length c = search needs
 
 returns-2 : tie.Need-returns-2
 returns-2 c =
@@ -35,4 +23,4 @@ returns-2 c =
 pub cqdb-index-parts-spec : {M : Type 1} → statement M
 cqdb-index-parts-spec =
     tie.close
-    (tie.spec known-requires returns writer-of-requires index-requires same-length returns-2)
+    (tie.spec (λ c κs. search needs) returns (λ c κs. search needs) (λ c κs. search needs) (λ c. search needs) returns-2)

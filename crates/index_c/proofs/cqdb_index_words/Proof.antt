@@ -13,13 +13,10 @@ returns c =
     let n = c .before .args .names in
     sym (ap (λ (t : Bool). cond {A = ℕ} t 18446744073709551615 (4 * n)) (lt-ltb 18446744073709551615 (4 * n) (omega (arith, c .if1 .taken))))
 
-mul-result : tie.Need-mul-result
-mul-result c = search needs
-
 returns-2 : tie.Need-returns-2
 returns-2 c =
     let n = c .before .args .names in
     sym (ap (λ (t : Bool). cond {A = ℕ} t 18446744073709551615 (4 * n)) (le-ltb 18446744073709551615 (4 * n) (omega (arith, c .if1 .left))))
 
 pub cqdb-index-words-spec : {M : Type 1} → statement M
-cqdb-index-words-spec = tie.close (tie.spec returns mul-result returns-2)
+cqdb-index-words-spec = tie.close (tie.spec returns (λ c. search needs) returns-2)

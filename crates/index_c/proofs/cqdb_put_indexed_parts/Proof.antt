@@ -12,12 +12,6 @@ use borrow.Author.Needs.{needs}
 use Rattle.index_c.proofs.cqdb_put_indexed_parts.Statement.{statement}
 use Rattle.index_c.proofs.cqdb_put_indexed_parts.Tie as tie
 
-record-in-requires : tie.Need-record-in-requires
-record-in-requires c κs = search needs
-
-known-requires : tie.Need-known-requires
-known-requires c κs = search needs
-
 -- what was lent, and whether its modes are known
 abbrev begun : tie.After-known → tie.Start
 begun k = k .before .before .before .before .before .before .before
@@ -33,27 +27,6 @@ returns c four two =
     let a = begun (c .before) .args in
     put-unknown (H (c .before)) (a .slots .now) (entryOf (a .name .now) (a .id)) (known-is (c .before) (not-true _ (c .if1 .taken)))
 
-writer-of-requires : tie.Need-writer-of-requires
-writer-of-requires c κs = search needs
-
-put-indexed-requires : tie.Need-put-indexed-requires
-put-indexed-requires c κs = search needs
-
-element-write-numbers : tie.Need-element-write-numbers
-element-write-numbers c = search needs
-
-element-write-numbers-2 : tie.Need-element-write-numbers-2
-element-write-numbers-2 c = search needs
-
-element-write-sizes : tie.Need-element-write-sizes
-element-write-sizes c = search needs
-
-same-length : tie.Need-same-length
-same-length c = search needs
-
-same-length-2 : tie.Need-same-length-2
-same-length-2 c = search needs
-
 returns-2 : tie.Need-returns-2
 returns-2 c four two =
     let done = c .before .before .before .before .before .put-indexed in
@@ -66,14 +39,14 @@ pub cqdb-put-indexed-parts-spec : {M : Type 1} → statement M
 cqdb-put-indexed-parts-spec =
     tie.close
     (tie.spec
-    record-in-requires
-    known-requires
+    (λ c κs. search needs)
+    (λ c κs. search needs)
     returns
-    writer-of-requires
-    put-indexed-requires
-    element-write-numbers
-    element-write-numbers-2
-    element-write-sizes
-    same-length
-    same-length-2
+    (λ c κs. search needs)
+    (λ c κs. search needs)
+    (λ c. search needs)
+    (λ c. search needs)
+    (λ c. search needs)
+    (λ c. search needs)
+    (λ c. search needs)
     returns-2)

@@ -5,18 +5,6 @@ use borrow.Author.Needs.{needs}
 use Rattle.jhash.proofs.added_block.Statement.{statement}
 use Rattle.jhash.proofs.added_block.Tie as tie
 
-word-requires : tie.Need-word-requires
-word-requires c κs = search needs
-
-word-requires-2 : tie.Need-word-requires-2
-word-requires-2 c κs = search needs
-
-word-requires-3 : tie.Need-word-requires-3
-word-requires-3 c κs = search needs
-
-plus-requires : tie.Need-plus-requires
-plus-requires c κs = search needs
-
 returns : tie.Need-returns
 returns c =
     words-added (c .before .before .before .before .before .args .w) (now (c .before .before .before .before .before .args .s))
@@ -27,4 +15,4 @@ returns c =
 
 pub added-block-spec : {M : Type 1} → statement M
 added-block-spec =
-    tie.close (tie.spec word-requires word-requires-2 word-requires-3 plus-requires returns)
+    tie.close (tie.spec (λ c κs. search needs) (λ c κs. search needs) (λ c κs. search needs) (λ c κs. search needs) returns)

@@ -4,13 +4,10 @@ use borrow.Author.Needs.{needs}
 use Rattle.jhash.proofs.final_step.Statement.{statement}
 use Rattle.jhash.proofs.final_step.Tie as tie
 
-final-word-requires : tie.Need-final-word-requires
-final-word-requires c κs = search needs
-
 returns : tie.Need-returns
 unfolding finalStep
 returns c =
     λ i. record { a = c .before .args .w .b; b = c .final-word .ensures i; c = c .before .args .w .a }
 
 pub final-step-spec : {M : Type 1} → statement M
-final-step-spec = tie.close (tie.spec final-word-requires returns)
+final-step-spec = tie.close (tie.spec (λ c κs. search needs) returns)

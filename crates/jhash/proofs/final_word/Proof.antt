@@ -7,12 +7,6 @@ use borrow.Author.Needs.{needs}
 use Rattle.jhash.proofs.final_word.Statement.{statement}
 use Rattle.jhash.proofs.final_word.Tie as tie
 
-rotate-left-requires : tie.Need-rotate-left-requires
-rotate-left-requires c κs = search needs
-
-minus-requires : tie.Need-minus-requires
-minus-requires c κs = search needs
-
 returns : tie.Need-returns
 returns c =
     let start = c .before .before .before in
@@ -21,4 +15,4 @@ returns c =
     ∙ ap (sub32 (bitXor (w .c) (w .b))) (by-amount (w .b) (start .args .k) (c .before .rotate-left .ensures) (start .pre .1))
 
 pub final-word-spec : {M : Type 1} → statement M
-final-word-spec = tie.close (tie.spec rotate-left-requires minus-requires returns)
+final-word-spec = tie.close (tie.spec (λ c κs. search needs) (λ c κs. search needs) returns)

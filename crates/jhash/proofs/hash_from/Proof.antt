@@ -20,34 +20,10 @@ Inv-loop name x words₀ n t₀ words t = hashRest words (t ++ 0 ∷ []) ≡ has
 abbrev μ-loop : tie.MeasureT-loop
 μ-loop name x words₀ n t₀ words t = length t
 
-sub-t : tie.Need-sub-t Inv-loop μ-loop
-sub-t c = search needs
-
-part-t-start : tie.Need-part-t-start Inv-loop μ-loop
-part-t-start c = search needs
-
-part-t-end : tie.Need-part-t-end Inv-loop μ-loop
-part-t-end c = search needs
-
 loop-holds : tie.Need-loop-holds Inv-loop μ-loop
 loop-holds c =
     let name : List ℕ = now (c .before .before .args .name) in
     ap (λ (t : List ℕ). hashRest (equalWords (c .before .before .args .x)) (t ++ 0 ∷ [])) (take-all (length name - 0) name (omega arith))
-
-added-block-requires : tie.Need-added-block-requires Inv-loop μ-loop
-added-block-requires c κs = search needs
-
-jhash-mix-requires : tie.Need-jhash-mix-requires Inv-loop μ-loop
-jhash-mix-requires c κs = search needs
-
-sub-t-2 : tie.Need-sub-t-2 Inv-loop μ-loop
-sub-t-2 c = search needs
-
-part-t-start-2 : tie.Need-part-t-start-2 Inv-loop μ-loop
-part-t-start-2 c = search needs
-
-part-t-end-2 : tie.Need-part-t-end-2 Inv-loop μ-loop
-part-t-end-2 c = search needs
 
 loop-less : tie.Need-loop-less Inv-loop μ-loop
 loop-less c = simp (length-take, length-drop) (omega arith)
@@ -59,12 +35,6 @@ loop-again c =
     let e : c .before .jhash-mix .result ≡ mix (added w t) = c .before .jhash-mix .ensures ∙ ap mix (c .before .before .added-block .ensures) in
     rw (take-all (length t - 12) (drop 12 t) (simp length-drop (omega arith)), e)
     (block-step w t (c .before .before .before .loop-test .taken) ∙ c .before .before .before .before .loop .inv)
-
-added-tail-requires : tie.Need-added-tail-requires Inv-loop μ-loop
-added-tail-requires c κs = search needs
-
-jhash-final-requires : tie.Need-jhash-final-requires Inv-loop μ-loop
-jhash-final-requires c κs = search needs
 
 returns : tie.Need-returns Inv-loop μ-loop
 returns c =
@@ -79,17 +49,17 @@ hash-from-spec =
     (tie.spec
     Inv-loop
     μ-loop
-    sub-t
-    part-t-start
-    part-t-end
+    (λ c. search needs)
+    (λ c. search needs)
+    (λ c. search needs)
     loop-holds
-    added-block-requires
-    jhash-mix-requires
-    sub-t-2
-    part-t-start-2
-    part-t-end-2
+    (λ c κs. search needs)
+    (λ c κs. search needs)
+    (λ c. search needs)
+    (λ c. search needs)
+    (λ c. search needs)
     loop-less
     loop-again
-    added-tail-requires
-    jhash-final-requires
+    (λ c κs. search needs)
+    (λ c κs. search needs)
     returns)

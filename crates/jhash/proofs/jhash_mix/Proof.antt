@@ -4,24 +4,6 @@ use borrow.Author.Needs.{needs}
 use Rattle.jhash.proofs.jhash_mix.Statement.{statement}
 use Rattle.jhash.proofs.jhash_mix.Tie as tie
 
-mix-round-requires : tie.Need-mix-round-requires
-mix-round-requires c κs = search needs
-
-mix-round-requires-2 : tie.Need-mix-round-requires-2
-mix-round-requires-2 c κs = search needs
-
-mix-round-requires-3 : tie.Need-mix-round-requires-3
-mix-round-requires-3 c κs = search needs
-
-mix-round-requires-4 : tie.Need-mix-round-requires-4
-mix-round-requires-4 c κs = search needs
-
-mix-round-requires-5 : tie.Need-mix-round-requires-5
-mix-round-requires-5 c κs = search needs
-
-mix-round-requires-6 : tie.Need-mix-round-requires-6
-mix-round-requires-6 c κs = search needs
-
 returns : tie.Need-returns
 returns c =
     six-rounds (c .before .before .before .before .before .before .args .w)
@@ -36,10 +18,10 @@ pub jhash-mix-spec : {M : Type 1} → statement M
 jhash-mix-spec =
     tie.close
     (tie.spec
-    mix-round-requires
-    mix-round-requires-2
-    mix-round-requires-3
-    mix-round-requires-4
-    mix-round-requires-5
-    mix-round-requires-6
+    (λ c κs. search needs)
+    (λ c κs. search needs)
+    (λ c κs. search needs)
+    (λ c κs. search needs)
+    (λ c κs. search needs)
+    (λ c κs. search needs)
     returns)

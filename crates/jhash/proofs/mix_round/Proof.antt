@@ -6,15 +6,6 @@ use borrow.Author.Needs.{needs}
 use Rattle.jhash.proofs.mix_round.Statement.{statement}
 use Rattle.jhash.proofs.mix_round.Tie as tie
 
-rotate-left-requires : tie.Need-rotate-left-requires
-rotate-left-requires c κs = search needs
-
-minus-requires : tie.Need-minus-requires
-minus-requires c κs = search needs
-
-wrapping-add-u32-requires : tie.Need-wrapping-add-u32-requires
-wrapping-add-u32-requires c κs = search needs
-
 returns : tie.Need-returns
 unfolding mixRound
 returns c =
@@ -29,4 +20,4 @@ returns c =
 
 pub mix-round-spec : {M : Type 1} → statement M
 mix-round-spec =
-    tie.close (tie.spec rotate-left-requires minus-requires wrapping-add-u32-requires returns)
+    tie.close (tie.spec (λ c κs. search needs) (λ c κs. search needs) (λ c κs. search needs) returns)

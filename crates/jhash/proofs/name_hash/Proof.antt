@@ -5,17 +5,11 @@ use Rattle.jhash.proofs.Limit.{refuses, short, hashes}
 use Rattle.jhash.proofs.name_hash.Statement.{statement}
 use Rattle.jhash.proofs.name_hash.Tie as tie
 
-too-long-requires : tie.Need-too-long-requires
-too-long-requires c κs = search needs
-
 returns : tie.Need-returns
 returns c = refuses (now (c .before .before .before .args .name)) 0 (c .before .too-long .result) (c .before .too-long .ensures) (c .if1 .taken)
 
 initial-word-requires : tie.Need-initial-word-requires
 initial-word-requires c κs = short (now (c .before .before .before .args .name)) 0 (c .before .too-long .result) (c .before .too-long .ensures) (c .if1 .left)
-
-hash-from-requires : tie.Need-hash-from-requires
-hash-from-requires c κs = search needs
 
 returns-2 : tie.Need-returns-2
 returns-2 c =
@@ -26,4 +20,4 @@ returns-2 c =
 pub name-hash-spec : {M : Type 1} → statement M
 name-hash-spec =
     tie.close
-    (tie.spec too-long-requires returns initial-word-requires hash-from-requires returns-2)
+    (tie.spec (λ c κs. search needs) returns initial-word-requires (λ c κs. search needs) returns-2)

@@ -5,17 +5,8 @@ use borrow.Author.Needs.{needs}
 use Rattle.jhash.proofs.power.Statement.{statement}
 use Rattle.jhash.proofs.power.Tie as tie
 
-cast-result : tie.Need-cast-result
-cast-result c = search needs
-
-mul-result : tie.Need-mul-result
-mul-result c = search needs
-
-array-read-result : tie.Need-array-read-result
-array-read-result c = search needs
-
 returns : tie.Need-returns
 returns c = power-at _ refl (c .args .k)
 
 pub power-spec : {M : Type 1} → statement M
-power-spec = tie.close (tie.spec cast-result mul-result array-read-result returns)
+power-spec = tie.close (tie.spec (λ c. search needs) (λ c. search needs) (λ c. search needs) returns)

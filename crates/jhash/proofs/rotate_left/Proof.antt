@@ -4,16 +4,10 @@ use borrow.Author.Needs.{needs}
 use Rattle.jhash.proofs.rotate_left.Statement.{statement}
 use Rattle.jhash.proofs.rotate_left.Tie as tie
 
-power-requires : tie.Need-power-requires
-power-requires c κs = search needs
-
 mul-halves-added : tie.Need-mul-halves-added
 mul-halves-added c =
     let start = c .before in
     record { fits = product-fits (start .args .x) (start .args .k) (start .fits .x .fits) (c .power .ensures) }
-
-halves-added-requires : tie.Need-halves-added-requires
-halves-added-requires c κs = search needs
 
 cast-result : tie.Need-cast-result
 cast-result c =
@@ -28,4 +22,4 @@ returns c =
 
 pub rotate-left-spec : {M : Type 1} → statement M
 rotate-left-spec =
-    tie.close (tie.spec power-requires mul-halves-added halves-added-requires cast-result returns)
+    tie.close (tie.spec (λ c κs. search needs) mul-halves-added (λ c κs. search needs) cast-result returns)

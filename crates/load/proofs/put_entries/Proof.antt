@@ -26,21 +26,6 @@ loop-holds : tie.Need-loop-holds Inv-loop μ-loop
 unfolding stateAfter
 loop-holds c = (omega arith, refl, refl, refl)
 
-stepped-requires : tie.Need-stepped-requires Inv-loop μ-loop
-stepped-requires c κs = search needs
-
-state-name-requires : tie.Need-state-name-requires Inv-loop μ-loop
-state-name-requires c κs = search needs
-
-slice-aggregate-put : tie.Need-slice-aggregate-put Inv-loop μ-loop
-slice-aggregate-put c = search needs
-
-put-requires : tie.Need-put-requires Inv-loop μ-loop
-put-requires c κs = search needs
-
-same-length : tie.Need-same-length Inv-loop μ-loop
-same-length c = search needs
-
 returns : tie.Need-returns Inv-loop μ-loop
 returns c =
     let put = c .before .before .before .before .before in
@@ -73,9 +58,6 @@ loop-again c =
       search needs,
     )
 
-same-length-2 : tie.Need-same-length-2 Inv-loop μ-loop
-same-length-2 c = search needs
-
 returns-2 : tie.Need-returns-2 Inv-loop μ-loop
 returns-2 c =
     let at = c .before .loop in
@@ -88,14 +70,14 @@ put-entries-spec =
     Inv-loop
     μ-loop
     loop-holds
-    stepped-requires
-    state-name-requires
-    slice-aggregate-put
-    put-requires
-    same-length
+    (λ c κs. search needs)
+    (λ c κs. search needs)
+    (λ c. search needs)
+    (λ c κs. search needs)
+    (λ c. search needs)
     returns
     add-i
     loop-less
     loop-again
-    same-length-2
+    (λ c. search needs)
     returns-2)

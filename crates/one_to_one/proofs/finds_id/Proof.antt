@@ -8,15 +8,6 @@ use borrow.Author.Needs.{needs}
 use Rattle.one_to_one.proofs.finds_id.Statement.{statement}
 use Rattle.one_to_one.proofs.finds_id.Tie as tie
 
-to-id-requires : tie.Need-to-id-requires
-to-id-requires c κs = search needs
-
-enum-known-f : tie.Need-enum-known-f
-enum-known-f c = search needs
-
-enum-known-buckets : tie.Need-enum-known-buckets
-enum-known-buckets c = search needs
-
 returns : tie.Need-returns
 returns c =
     let m = c .before .before in
@@ -31,4 +22,4 @@ returns-2 c =
 
 pub finds-id-spec : {M : Type 1} → statement M
 finds-id-spec =
-    tie.close (tie.spec to-id-requires enum-known-f enum-known-buckets returns returns-2)
+    tie.close (tie.spec (λ c κs. search needs) (λ c. search needs) (λ c. search needs) returns returns-2)

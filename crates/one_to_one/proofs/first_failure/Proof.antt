@@ -36,9 +36,6 @@ lies-inside : (c : tie.After-finds-id Inv-loop μ-loop) →
     (c .before .before .before .before .before .loop .at) (c .before .before .before .get-u322 .result)
 lies-inside c = let t = step c in inside (t .walk) (t .more) _ (t .len-is)
 
-get-u32-requires : tie.Need-get-u32-requires Inv-loop μ-loop
-get-u32-requires c κs = search needs
-
 loop-holds : tie.Need-loop-holds Inv-loop μ-loop
 loop-holds c =
     let s = c .before .before in
@@ -47,31 +44,16 @@ loop-holds c =
 add-get-u32 : tie.Need-add-get-u32 Inv-loop μ-loop
 add-get-u32 c = let r = inside (c .before .loop .inv) (c .loop-test .taken) _ refl in omega arith
 
-get-u32-requires-2 : tie.Need-get-u32-requires-2 Inv-loop μ-loop
-get-u32-requires-2 c κs = search needs
-
-cast-len : tie.Need-cast-len Inv-loop μ-loop
-cast-len c = search needs
-
 name-at-requires : tie.Need-name-at-requires Inv-loop μ-loop
 name-at-requires c κs =
     let r = inside (c .before .before .loop .inv) (c .before .loop-test .taken) _ (c .get-u322 .ensures) in
     (r .whole, r .some-length)
-
-get-u32-requires-3 : tie.Need-get-u32-requires-3 Inv-loop μ-loop
-get-u32-requires-3 c κs = search needs
-
-finds-id-requires : tie.Need-finds-id-requires Inv-loop μ-loop
-finds-id-requires c κs = search needs
 
 cast-t14 : tie.Need-cast-t14 Inv-loop μ-loop
 cast-t14 c = let r = lies-inside (c .before) in omega arith
 
 returns : tie.Need-returns Inv-loop μ-loop
 returns c = other-id (step (c .before)) (not-true _ (c .if1 .taken))
-
-gives-name-requires : tie.Need-gives-name-requires Inv-loop μ-loop
-gives-name-requires c κs = search needs
 
 cast-t15 : tie.Need-cast-t15 Inv-loop μ-loop
 cast-t15 c = let r = lies-inside (c .before .before .before) in omega arith
@@ -82,9 +64,6 @@ returns-2 c =
     let flag = f .before .before .before .before .before .before .get-u32 in
     other-name (step f) (not-false _ (c .before .before .if1 .left)) (ap (λ (k : ℕ). eqb k 0) (flag .ensures))
     (c .before .gives-name .ensures) (not-true _ (c .if2 .taken))
-
-add-at : tie.Need-add-at Inv-loop μ-loop
-add-at c = search needs
 
 add-at-2 : tie.Need-add-at-2 Inv-loop μ-loop
 add-at-2 c = let r = lies-inside (c .before .before .before) in omega arith
@@ -111,20 +90,20 @@ first-failure-spec =
     (tie.spec
     Inv-loop
     μ-loop
-    get-u32-requires
+    (λ c κs. search needs)
     loop-holds
     add-get-u32
-    get-u32-requires-2
-    cast-len
+    (λ c κs. search needs)
+    (λ c. search needs)
     name-at-requires
-    get-u32-requires-3
-    finds-id-requires
+    (λ c κs. search needs)
+    (λ c κs. search needs)
     cast-t14
     returns
-    gives-name-requires
+    (λ c κs. search needs)
     cast-t15
     returns-2
-    add-at
+    (λ c. search needs)
     add-at-2
     sub-left
     loop-less

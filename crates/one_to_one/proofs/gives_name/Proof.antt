@@ -21,12 +21,6 @@ returns c =
     ap (λ (t : Bool). asked (cond t Twoway Oneway) (isName (nameGiven (a .image .now) (a .id)) (a .name .now)))
     (sym (not-true (a .twoway) (c .if1 .taken)))
 
-to-str-requires : tie.Need-to-str-requires
-to-str-requires c κs = search needs
-
-enum-known-start : tie.Need-enum-known-start
-enum-known-start c = search needs
-
 add-same : tie.Need-add-same
 add-same c =
     let m = c .before in
@@ -34,24 +28,12 @@ add-same c =
     let p = m .start .given in
     omega (arith, named (a .image .now) (a .id) (p .0 .0) (p .0 .1 .0) (sym (m .before .before .to-str .ensures) ∙ ap namingOf (p .1)) .inside)
 
-sub-same : tie.Need-sub-same
-sub-same c = search needs
-
-part-same-start : tie.Need-part-same-start
-part-same-start c = search needs
-
 part-same-end : tie.Need-part-same-end
 part-same-end c =
     let m = c .before in
     let a = m .before .before .before .before .before .before .args in
     let p = m .start .given in
     omega (arith, named (a .image .now) (a .id) (p .0 .0) (p .0 .1 .0) (sym (m .before .before .to-str .ensures) ∙ ap namingOf (p .1)) .inside)
-
-same-requires : tie.Need-same-requires
-same-requires c κs = search needs
-
-enum-told : tie.Need-enum-told
-enum-told c = search needs
 
 returns-2 : tie.Need-returns-2
 returns-2 c =
@@ -78,13 +60,13 @@ gives-name-spec =
     tie.close
     (tie.spec
     returns
-    to-str-requires
-    enum-known-start
+    (λ c κs. search needs)
+    (λ c. search needs)
     add-same
-    sub-same
-    part-same-start
+    (λ c. search needs)
+    (λ c. search needs)
     part-same-end
-    same-requires
-    enum-told
+    (λ c κs. search needs)
+    (λ c. search needs)
     returns-2
     returns-3)

@@ -9,19 +9,10 @@ use borrow.Author.Needs.{needs}
 use Rattle.one_to_one.proofs.one_to_one.Statement.{statement}
 use Rattle.one_to_one.proofs.one_to_one.Tie as tie
 
-is-canonical-requires : tie.Need-is-canonical-requires
-is-canonical-requires c κs = search needs
-
 returns : tie.Need-returns
 returns c =
     let own = c .before .is-canonical in
     sym (refused (c .before .before .before .args .image .now) (sym (own .ensures) ∙ not-true (own .result) (c .if1 .taken)))
-
-open-requires : tie.Need-open-requires
-open-requires c κs = search needs
-
-enum-known-n : tie.Need-enum-known-n
-enum-known-n c = search needs
 
 first-failure-requires : tie.Need-first-failure-requires
 first-failure-requires c κs =
@@ -31,9 +22,6 @@ first-failure-requires c κs =
       canonical = sym (own .ensures) ∙ not-false (own .result) (opened .before .if1 .left);
       opens = sym (opened .«open» .ensures) ∙ ap openedOf (c .before .n .given .1);
     }
-
-enum-known-k : tie.Need-enum-known-k
-enum-known-k c = search needs
 
 returns-2 : tie.Need-returns-2
 returns-2 c =
@@ -57,11 +45,11 @@ pub one-to-one-spec : {M : Type 1} → statement M
 one-to-one-spec =
     tie.close
     (tie.spec
-    is-canonical-requires
+    (λ c κs. search needs)
     returns
-    open-requires
-    enum-known-n
+    (λ c κs. search needs)
+    (λ c. search needs)
     first-failure-requires
-    enum-known-k
+    (λ c. search needs)
     returns-2
     returns-3)

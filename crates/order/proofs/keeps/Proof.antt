@@ -26,9 +26,6 @@ abbrev μ-loop : tie.MeasureT-loop
 loop-holds : tie.Need-loop-holds Inv-loop μ-loop
 loop-holds c = (omega arith, refl)
 
-mul-id : tie.Need-mul-id Inv-loop μ-loop
-mul-id c = search needs
-
 shared-slice-read-id : tie.Need-shared-slice-read-id Inv-loop μ-loop
 shared-slice-read-id c = omega arith
 
@@ -75,7 +72,7 @@ keeps-spec =
     Inv-loop
     μ-loop
     loop-holds
-    mul-id
+    (λ c. search needs)
     shared-slice-read-id
     returns
     returns-2

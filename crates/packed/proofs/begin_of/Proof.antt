@@ -8,15 +8,6 @@ use borrow.Author.Needs.{needs}
 use Rattle.packed.proofs.begin_of.Statement.{statement}
 use Rattle.packed.proofs.begin_of.Tie as tie
 
-sub-result : tie.Need-sub-result
-sub-result c = search needs
-
-mul-result : tie.Need-mul-result
-mul-result c = search needs
-
-shared-slice-read-result : tie.Need-shared-slice-read-result
-shared-slice-read-result c = search needs
-
 returns : tie.Need-returns
 returns c =
     let a = c .before .args in
@@ -29,4 +20,4 @@ returns-2 c =
 
 pub begin-of-spec : {M : Type 1} → statement M
 begin-of-spec =
-    tie.close (tie.spec sub-result mul-result shared-slice-read-result returns returns-2)
+    tie.close (tie.spec (λ c. search needs) (λ c. search needs) (λ c. search needs) returns returns-2)

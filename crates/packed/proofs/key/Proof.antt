@@ -6,15 +6,6 @@ use borrow.Author.Needs.{needs}
 use Rattle.packed.proofs.key.Statement.{statement}
 use Rattle.packed.proofs.key.Tie as tie
 
-name-hash-requires : tie.Need-name-hash-requires
-name-hash-requires c κs = search needs
-
-enum-known-h : tie.Need-enum-known-h
-enum-known-h c = search needs
-
-enum-told : tie.Need-enum-told
-enum-told c = search needs
-
 returns : tie.Need-returns
 returns c =
     let name = c .before .before .before .before .before .args .name .now in
@@ -29,4 +20,4 @@ returns-2 c =
     sym (key-long name (result-refused name 0 (of-hash .result) (of-hash .ensures) (c .enum-told .given .1)))
 
 pub key-spec : {M : Type 1} → statement M
-key-spec = tie.close (tie.spec name-hash-requires enum-known-h enum-told returns returns-2)
+key-spec = tie.close (tie.spec (λ c κs. search needs) (λ c. search needs) (λ c. search needs) returns returns-2)

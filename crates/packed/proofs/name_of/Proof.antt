@@ -20,15 +20,6 @@ placed-here c =
     let s = start c in
     placed (length (s .args .bytes .now)) (s .args .ends .now) (s .args .i) (s .pre .1) (s .pre .0)
 
-begin-of-requires : tie.Need-begin-of-requires
-begin-of-requires c κs = search needs
-
-mul-end : tie.Need-mul-end
-mul-end c = search needs
-
-shared-slice-read-end : tie.Need-shared-slice-read-end
-shared-slice-read-end c = search needs
-
 sub-result : tie.Need-sub-result
 sub-result c = omega (arith, placed-here (c .before), c .before .begin-of .ensures)
 
@@ -49,9 +40,9 @@ pub name-of-spec : {M : Type 1} → statement M
 name-of-spec =
     tie.close
     (tie.spec
-    begin-of-requires
-    mul-end
-    shared-slice-read-end
+    (λ c κs. search needs)
+    (λ c. search needs)
+    (λ c. search needs)
     sub-result
     part-result-start
     part-result-end

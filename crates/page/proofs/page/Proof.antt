@@ -5,15 +5,6 @@ use Rattle.page.proofs.Pages.{whole-page}
 use Rattle.page.proofs.page.Statement.{statement}
 use Rattle.page.proofs.page.Tie as tie
 
-size-hint-requires : tie.Need-size-hint-requires
-size-hint-requires c κs = search needs
-
-print-front-requires : tie.Need-print-front-requires
-print-front-requires c κs = search needs
-
-same-length : tie.Need-same-length
-same-length c = search needs
-
 returns : tie.Need-returns
 returns c =
     let a = c .before .before .before .before .before .before .before .args in
@@ -30,4 +21,4 @@ returns c =
     (printed .ensures .1)
 
 pub page-spec : {M : Type 1} → statement M
-page-spec = tie.close (tie.spec size-hint-requires print-front-requires same-length returns)
+page-spec = tie.close (tie.spec (λ c κs. search needs) (λ c κs. search needs) (λ c. search needs) returns)

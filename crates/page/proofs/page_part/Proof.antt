@@ -6,17 +6,8 @@ use Rattle.page.proofs.Pages.{part-of-page}
 use Rattle.page.proofs.page_part.Statement.{statement}
 use Rattle.page.proofs.page_part.Tie as tie
 
-size-hint-requires : tie.Need-size-hint-requires
-size-hint-requires c κs = search needs
-
-ids-below-requires : tie.Need-ids-below-requires
-ids-below-requires c κs = search needs
-
 print-front-requires : tie.Need-print-front-requires
 print-front-requires c κs = omega arith
-
-same-length : tie.Need-same-length
-same-length c = search needs
 
 returns : tie.Need-returns
 returns c =
@@ -40,4 +31,4 @@ returns c =
 
 pub page-part-spec : {M : Type 1} → statement M
 page-part-spec =
-    tie.close (tie.spec size-hint-requires ids-below-requires print-front-requires same-length returns)
+    tie.close (tie.spec (λ c κs. search needs) (λ c κs. search needs) print-front-requires (λ c. search needs) returns)

@@ -5,19 +5,10 @@ use Rattle.page.proofs.Pages.{too-short, all-printed}
 use Rattle.page.proofs.print_front.Statement.{statement}
 use Rattle.page.proofs.print_front.Tie as tie
 
-mul-length : tie.Need-mul-length
-mul-length c = search needs
-
 returns : tie.Need-returns
 returns c =
     let a = c .before .before .before .args in
     too-short (nameGiven (a .image .now)) (a .first) (a .count) (a .out .now) (c .if1 .taken)
-
-print-lines-requires : tie.Need-print-lines-requires
-print-lines-requires c κs = search needs
-
-same-length : tie.Need-same-length
-same-length c = search needs
 
 returns-2 : tie.Need-returns-2
 returns-2 c =
@@ -27,4 +18,4 @@ returns-2 c =
     all-printed (nameGiven (a .image .now)) (a .first) (a .count) (a .out .now) (printed .last .0) room (printed .ensures)
 
 pub print-front-spec : {M : Type 1} → statement M
-print-front-spec = tie.close (tie.spec mul-length returns print-lines-requires same-length returns-2)
+print-front-spec = tie.close (tie.spec (λ c. search needs) returns (λ c κs. search needs) (λ c. search needs) returns-2)

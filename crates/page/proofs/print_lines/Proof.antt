@@ -25,9 +25,6 @@ loop-holds c =
     let a = c .before .before .args in
     (omega arith, refl, lines-start (nameGiven (a .image .now)) (a .out .now) (a .first) (a .count))
 
-cast-print-line : tie.Need-cast-print-line Inv-loop μ-loop
-cast-print-line c = search needs
-
 mul-print-line : tie.Need-mul-print-line Inv-loop μ-loop
 mul-print-line c = omega arith
 
@@ -54,9 +51,6 @@ loop-again c =
       lines-turn (nameGiven (a .image .now)) (l .out) (printed .last .0) (a .first) (l .i) (a .count) more (printed .ensures) ∙ l .inv .2,
     )
 
-same-length : tie.Need-same-length Inv-loop μ-loop
-same-length c = search needs
-
 returns : tie.Need-returns Inv-loop μ-loop
 returns c =
     let a = c .before .before .before .before .args in
@@ -70,12 +64,12 @@ print-lines-spec =
     Inv-loop
     μ-loop
     loop-holds
-    cast-print-line
+    (λ c. search needs)
     mul-print-line
     add-print-line
     print-line-requires
     add-i
     loop-less
     loop-again
-    same-length
+    (λ c. search needs)
     returns)

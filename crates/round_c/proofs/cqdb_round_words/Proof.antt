@@ -6,25 +6,10 @@ use Rattle.round_c.specs.RoundAnswers.{roundAnswer}
 use Rattle.round_c.proofs.cqdb_round_words.Statement.{statement}
 use Rattle.round_c.proofs.cqdb_round_words.Tie as tie
 
-round-requires : tie.Need-round-requires
-round-requires c κs = search needs
-
-enum-known-rounded : tie.Need-enum-known-rounded
-enum-known-rounded c = search needs
-
-enum-known-rounded-2 : tie.Need-enum-known-rounded-2
-enum-known-rounded-2 c = search needs
-
-same-length : tie.Need-same-length
-same-length c = search needs
-
 returns : tie.Need-returns
 returns c =
     let whole = c .before .before .before .before .before .round in
     (ap roundAnswer (ap roundedOf (sym (c .before .rounded .given .1)) ∙ whole .ensures .0), whole .ensures .1)
-
-same-length-2 : tie.Need-same-length-2
-same-length-2 c = search needs
 
 returns-2 : tie.Need-returns-2
 returns-2 c =
@@ -35,10 +20,10 @@ pub cqdb-round-words-spec : {M : Type 1} → statement M
 cqdb-round-words-spec =
     tie.close
     (tie.spec
-    round-requires
-    enum-known-rounded
-    enum-known-rounded-2
-    same-length
+    (λ c κs. search needs)
+    (λ c. search needs)
+    (λ c. search needs)
+    (λ c. search needs)
     returns
-    same-length-2
+    (λ c. search needs)
     returns-2)

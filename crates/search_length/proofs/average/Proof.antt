@@ -15,15 +15,6 @@ some c =
     let a = c .before .before .before .before .before .args in
     answers.some-entries (a .image .now) (number .result) (number .ensures) (valid .result) (r .result) (valid .ensures) (r .ensures) (c .if1 .left)
 
-entries-requires : tie.Need-entries-requires
-entries-requires c κs = search needs
-
-is-canonical-requires : tie.Need-is-canonical-requires
-is-canonical-requires c κs = search needs
-
-first-refusal-requires : tie.Need-first-refusal-requires
-first-refusal-requires c κs = search needs
-
 returns : tie.Need-returns
 returns c =
     let r = c .before .first-refusal in
@@ -31,12 +22,6 @@ returns c =
     let number = c .before .before .before .entries in
     let a = c .before .before .before .before .before .args in
     answers.refused (a .image .now) (number .result) (number .ensures) (valid .result) (r .result) (valid .ensures) (r .ensures) (c .if1 .taken)
-
-count-lengths-requires : tie.Need-count-lengths-requires
-count-lengths-requires c κs = search needs
-
-cast-count : tie.Need-cast-count
-cast-count c = search needs
 
 div-t9 : tie.Need-div-t9
 div-t9 c = omega (arith, some (c .before .before))
@@ -59,12 +44,12 @@ pub average-spec : {M : Type 1} → statement M
 average-spec =
     tie.close
     (tie.spec
-    entries-requires
-    is-canonical-requires
-    first-refusal-requires
+    (λ c κs. search needs)
+    (λ c κs. search needs)
+    (λ c κs. search needs)
     returns
-    count-lengths-requires
-    cast-count
+    (λ c κs. search needs)
+    (λ c. search needs)
     div-t9
     rem-t10
     returns-2)

@@ -6,15 +6,6 @@ use borrow.Author.Needs.{needs}
 use Rattle.search_length.proofs.entries.Statement.{statement}
 use Rattle.search_length.proofs.entries.Tie as tie
 
-open-requires : tie.Need-open-requires
-open-requires c κs = search needs
-
-enum-known-n : tie.Need-enum-known-n
-enum-known-n c = search needs
-
-enum-known-k : tie.Need-enum-known-k
-enum-known-k c = search needs
-
 returns : tie.Need-returns
 returns c = ap counted (ap openedOf (sym (c .before .n .given .1)) ∙ c .before .before .before .«open» .ensures)
 
@@ -22,4 +13,4 @@ returns-2 : tie.Need-returns-2
 returns-2 c = ap counted (ap openedOf (sym (c .before .k .given .1)) ∙ c .before .before .before .«open» .ensures)
 
 pub entries-spec : {M : Type 1} → statement M
-entries-spec = tie.close (tie.spec open-requires enum-known-n enum-known-k returns returns-2)
+entries-spec = tie.close (tie.spec (λ c κs. search needs) (λ c. search needs) (λ c. search needs) returns returns-2)

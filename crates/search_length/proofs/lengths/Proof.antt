@@ -4,15 +4,6 @@ use borrow.Author.Needs.{needs}
 use Rattle.search_length.proofs.lengths.Statement.{statement}
 use Rattle.search_length.proofs.lengths.Tie as tie
 
-entries-requires : tie.Need-entries-requires
-entries-requires c κs = search needs
-
-is-canonical-requires : tie.Need-is-canonical-requires
-is-canonical-requires c κs = search needs
-
-first-refusal-requires : tie.Need-first-refusal-requires
-first-refusal-requires c κs = search needs
-
 returns : tie.Need-returns
 returns c =
     let r = c .before .first-refusal in
@@ -20,9 +11,6 @@ returns c =
     let number = c .before .before .before .entries in
     let a = c .before .before .before .before .before .args in
     answers.refused-lengths (a .image .now) (number .result) (number .ensures) (valid .result) (r .result) (valid .ensures) (r .ensures) (a .counts .now) (c .if1 .taken)
-
-count-lengths-requires : tie.Need-count-lengths-requires
-count-lengths-requires c κs = search needs
 
 returns-2 : tie.Need-returns-2
 returns-2 c =
@@ -39,9 +27,9 @@ pub lengths-spec : {M : Type 1} → statement M
 lengths-spec =
     tie.close
     (tie.spec
-    entries-requires
-    is-canonical-requires
-    first-refusal-requires
+    (λ c κs. search needs)
+    (λ c κs. search needs)
+    (λ c κs. search needs)
     returns
-    count-lengths-requires
+    (λ c κs. search needs)
     returns-2)

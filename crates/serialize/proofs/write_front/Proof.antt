@@ -5,41 +5,11 @@ use borrow.Author.Needs.{needs}
 use Rattle.serialize.proofs.write_front.Statement.{statement}
 use Rattle.serialize.proofs.write_front.Tie as tie
 
-finished-size-requires : tie.Need-finished-size-requires
-finished-size-requires c κs = search needs
-
-back-in-requires : tie.Need-back-in-requires
-back-in-requires c κs = search needs
-
-back-offset-requires : tie.Need-back-offset-requires
-back-offset-requires c κs = search needs
-
-cast-write-head : tie.Need-cast-write-head
-cast-write-head c = search needs
-
-flag-word-requires : tie.Need-flag-word-requires
-flag-word-requires c κs = search needs
-
-cast-write-head-2 : tie.Need-cast-write-head-2
-cast-write-head-2 c = search needs
-
 cast-write-head-3 : tie.Need-cast-write-head-3
 cast-write-head-3 c =
     let start = c .before .before .before .before .before .before in
     let a = start .args in
     omega (arith, c .before .before .back-offset .ensures, backOffset-le (a .mode) (a .end) (a .entries) (a .back), start .pre)
-
-write-head-requires : tie.Need-write-head-requires
-write-head-requires c κs = search needs
-
-cast-write-rows : tie.Need-cast-write-rows
-cast-write-rows c = search needs
-
-write-rows-requires : tie.Need-write-rows-requires
-write-rows-requires c κs = search needs
-
-same-length : tie.Need-same-length
-same-length c = search needs
 
 returns : tie.Need-returns
 returns c =
@@ -63,15 +33,15 @@ pub write-front-spec : {M : Type 1} → statement M
 write-front-spec =
     tie.close
     (tie.spec
-    finished-size-requires
-    back-in-requires
-    back-offset-requires
-    cast-write-head
-    flag-word-requires
-    cast-write-head-2
+    (λ c κs. search needs)
+    (λ c κs. search needs)
+    (λ c κs. search needs)
+    (λ c. search needs)
+    (λ c κs. search needs)
+    (λ c. search needs)
     cast-write-head-3
-    write-head-requires
-    cast-write-rows
-    write-rows-requires
-    same-length
+    (λ c κs. search needs)
+    (λ c. search needs)
+    (λ c κs. search needs)
+    (λ c. search needs)
     returns)

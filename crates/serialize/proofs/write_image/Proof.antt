@@ -9,15 +9,6 @@ use borrow.Author.Needs.{needs}
 use Rattle.serialize.proofs.write_image.Statement.{statement}
 use Rattle.serialize.proofs.write_image.Tie as tie
 
-write-front-requires : tie.Need-write-front-requires
-write-front-requires c κs = search needs
-
-finished-size-requires : tie.Need-finished-size-requires
-finished-size-requires c κs = search needs
-
-back-offset-requires : tie.Need-back-offset-requires
-back-offset-requires c κs = search needs
-
 insert-all-requires : tie.Need-insert-all-requires
 insert-all-requires c κs =
     let front = c .before .before .before .before .before in
@@ -34,9 +25,6 @@ insert-all-requires c κs =
       size-word = omega arith;
       back-word = omega (arith, c .before .back-offset .ensures, backOffset-le (a .mode) (a .end) (a .entries) (a .back));
     }
-
-same-length : tie.Need-same-length
-same-length c = search needs
 
 returns : tie.Need-returns
 returns c =
@@ -59,9 +47,9 @@ pub write-image-spec : {M : Type 1} → statement M
 write-image-spec =
     tie.close
     (tie.spec
-    write-front-requires
-    finished-size-requires
-    back-offset-requires
+    (λ c κs. search needs)
+    (λ c κs. search needs)
+    (λ c κs. search needs)
     insert-all-requires
-    same-length
+    (λ c. search needs)
     returns)

@@ -8,9 +8,6 @@ use borrow.Author.Needs.{needs}
 use Rattle.serialize.proofs.write_image_with.Statement.{statement}
 use Rattle.serialize.proofs.write_image_with.Tie as tie
 
-write-front-requires : tie.Need-write-front-requires
-write-front-requires c κs = search needs
-
 copy-words-requires : tie.Need-copy-words-requires
 copy-words-requires c κs =
     let front = c .before .before .before in
@@ -18,9 +15,6 @@ copy-words-requires c κs =
     let a = start .args in
     let kept = front .write-front .kept .1 .1 .1 .1 .1 .0 in
     omega (arith, start .pre .closable .inside, words-number (a .tables .now) (a .buf .now) (a .end) (a .entries) (start .pre .tables))
-
-same-length : tie.Need-same-length
-same-length c = search needs
 
 returns : tie.Need-returns
 returns c =
@@ -37,4 +31,4 @@ returns c =
 
 pub write-image-with-spec : {M : Type 1} → statement M
 write-image-with-spec =
-    tie.close (tie.spec write-front-requires copy-words-requires same-length returns)
+    tie.close (tie.spec (λ c κs. search needs) copy-words-requires (λ c. search needs) returns)

@@ -12,34 +12,10 @@ use Rattle.validity.proofs.place_by.Lts as lts
 use Rattle.reader.proofs.to_str.Reads as to-str-reads
 use Rattle.validity.proofs.calendar.is_date.Reads as is-date-reads
 
-is-date-requires : tie.Need-is-date-requires
-is-date-requires c κs = search needs
-
 returns : tie.Need-returns
 returns c =
     let a = c .before .before .before .args in
     no-date (a .image .now) (a .id) (a .date) (a .s) (sym (c .before .is-date .ensures) ∙ not-true _ (c .if1 .taken))
-
-enum-told : tie.Need-enum-told
-enum-told c = search needs
-
-enum-told-2 : tie.Need-enum-told-2
-enum-told-2 c = search needs
-
-to-str-requires : tie.Need-to-str-requires
-to-str-requires c κs = search needs
-
-enum-known-start : tie.Need-enum-known-start
-enum-known-start c = search needs
-
-enum-told-3 : tie.Need-enum-told-3
-enum-told-3 c = search needs
-
-enum-told-4 : tie.Need-enum-told-4
-enum-told-4 c = search needs
-
-enum-told-5 : tie.Need-enum-told-5
-enum-told-5 c = search needs
 
 returns-2 : tie.Need-returns-2
 returns-2 c =
@@ -82,15 +58,15 @@ pub place-by-spec : {M : Type 1} → statement M
 place-by-spec =
     tie.close
     (tie.spec
-    is-date-requires
+    (λ c κs. search needs)
     returns
-    enum-told
-    enum-told-2
-    to-str-requires
-    enum-known-start
-    enum-told-3
-    enum-told-4
-    enum-told-5
+    (λ c. search needs)
+    (λ c. search needs)
+    (λ c κs. search needs)
+    (λ c. search needs)
+    (λ c. search needs)
+    (λ c. search needs)
+    (λ c. search needs)
     returns-2
     returns-3
     returns-4

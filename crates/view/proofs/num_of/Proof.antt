@@ -13,15 +13,6 @@ use Rattle.view.proofs.num_of.Tie as tie
 number : (x r : Opened) (o : Outcome ℕ) → x ≡ r → openedOf x ≡ o → numOf (openedOf r) ≡ numOf o
 number x r o e p = ap (λ (y : Opened). numOf (openedOf y)) (sym e) ∙ ap numOf p
 
-open-requires : tie.Need-open-requires
-open-requires c κs = search needs
-
-enum-known-n : tie.Need-enum-known-n
-enum-known-n c = search needs
-
-enum-told : tie.Need-enum-told
-enum-told c = search needs
-
 returns : tie.Need-returns
 returns c = number _ _ _ (c .before .n .given .1) (c .before .before .before .«open» .ensures)
 
@@ -29,4 +20,4 @@ returns-2 : tie.Need-returns-2
 returns-2 c = number _ _ _ (c .enum-told .given .1) (c .before .before .«open» .ensures)
 
 pub num-of-spec : {M : Type 1} → statement M
-num-of-spec = tie.close (tie.spec open-requires enum-known-n enum-told returns returns-2)
+num-of-spec = tie.close (tie.spec (λ c κs. search needs) (λ c. search needs) (λ c. search needs) returns returns-2)

@@ -28,15 +28,6 @@ short s =
       | no p ↦ absurd (false-not-true (sym (went s .has-capacity) ∙ long-name (s .args .w) (s .args .name .now) (s .args .id) (omega arith)))
     ]
 
-name-hash-requires : tie.Need-name-hash-requires
-name-hash-requires c κs = search needs
-
-enum-known-h : tie.Need-enum-known-h
-enum-known-h c = search needs
-
-enum-told : tie.Need-enum-told
-enum-told c = search needs
-
 returns : tie.Need-returns
 returns c =
     let s = c .before .before .before .before .before in
@@ -65,9 +56,6 @@ after-requires c κs =
     let a = s .args in
     size-small (a .w) (a .counts .now) (a .buf .now) (length (a .name .now)) (a .id) (went s .fitted) (went s .has-capacity)
 
-same-length : tie.Need-same-length
-same-length c = search needs
-
 returns-2 : tie.Need-returns-2
 returns-2 c =
     let read = c .before .before .before .before .before .before .before .before in
@@ -81,4 +69,4 @@ returns-2 c =
 
 pub append-spec : {M : Type 1} → statement M
 append-spec =
-    tie.close (tie.spec name-hash-requires enum-known-h enum-told returns raise-requires store-requires after-requires same-length returns-2)
+    tie.close (tie.spec (λ c κs. search needs) (λ c. search needs) (λ c. search needs) returns raise-requires store-requires after-requires (λ c. search needs) returns-2)

@@ -10,22 +10,10 @@ use Rattle.writer.proofs.close.Lts as lts
 use Rattle.writer.proofs.close_refusal.Reads as close-refusal-reads
 use Rattle.writer.proofs.write_closed.Reads as write-closed-reads
 
-close-refusal-requires : tie.Need-close-refusal-requires
-close-refusal-requires c κs = search needs
-
-same-length : tie.Need-same-length
-same-length c = search needs
-
 returns : tie.Need-returns
 returns c =
     let a = c .before .before .before .before .args in
     refused (stateWith (a .w) (a .counts .now) (a .buf .now)) (c .before .close-refusal .result) (c .before .close-refusal .ensures) (c .if1 .taken)
-
-write-closed-requires : tie.Need-write-closed-requires
-write-closed-requires c κs = search needs
-
-same-length-2 : tie.Need-same-length-2
-same-length-2 c = search needs
 
 returns-2 : tie.Need-returns-2
 returns-2 c =
@@ -40,9 +28,9 @@ pub close-spec : {M : Type 1} → statement M
 close-spec =
     tie.close
     (tie.spec
-    close-refusal-requires
-    same-length
+    (λ c κs. search needs)
+    (λ c. search needs)
     returns
-    write-closed-requires
-    same-length-2
+    (λ c κs. search needs)
+    (λ c. search needs)
     returns-2)

@@ -24,9 +24,6 @@ sized : (c : tie.After-too-large)
     → let w = start (c .before .before) .args .w in tooLarge (w .length) (finishedSize w) ≡ c .too-large .result
 sized c = ap (tooLarge (start (c .before .before) .args .w .length)) (sym (c .before .finished-size .ensures)) ∙ sym (c .too-large .ensures)
 
-fits-requires : tie.Need-fits-requires
-fits-requires c κs = search needs
-
 returns : tie.Need-returns
 returns c = due-unfit (state (c .before .before .before)) (sym (c .before .fits2 .ensures) ∙ not-true _ (c .if1 .taken))
 
@@ -34,9 +31,6 @@ finished-size-requires : tie.Need-finished-size-requires
 finished-size-requires c κs =
     let a = start c .args in
     omega (arith, fitting (a .w) (a .counts .now) (a .buf .now) (fitted c), start c .good)
-
-too-large-requires : tie.Need-too-large-requires
-too-large-requires c κs = search needs
 
 returns-2 : tie.Need-returns-2
 returns-2 c = let f = c .before .before .before in due-big (state (start f)) (fitted f) (sized (c .before) ∙ c .if2 .taken)
@@ -62,10 +56,10 @@ pub close-refusal-spec : {M : Type 1} → statement M
 close-refusal-spec =
     tie.close
     (tie.spec
-    fits-requires
+    (λ c κs. search needs)
     returns
     finished-size-requires
-    too-large-requires
+    (λ c κs. search needs)
     returns-2
     agrees-requires
     returns-3

@@ -40,14 +40,8 @@ walked c = c .before .before
 none-due : (c : tie.Else3) → let s = start (unzeroed (walked c)) in earlierRefusal (state s) (s .args .name .now) ≡ 0
 none-due c = sym (c .before .earlier-refusal .ensures) ∙ c .if3 .left
 
-fits-requires : tie.Need-fits-requires
-fits-requires c κs = search needs
-
 returns : tie.Need-returns
 returns c = let s = c .before .before .before .before in refuses-unfit (state s) (entry s) (sym (c .before .fits2 .ensures) ∙ not-true _ (c .if1 .taken))
-
-has-zero-requires : tie.Need-has-zero-requires
-has-zero-requires c κs = search needs
 
 returns-2 : tie.Need-returns-2
 returns-2 c =
@@ -81,9 +75,6 @@ size-with-requires c κs =
     let a = start f .args in
     (omega (arith, start f .good, fitting (a .w) (a .counts .now) (a .buf .now) (fitted f)), c .if4 .left)
 
-too-large-requires : tie.Need-too-large-requires
-too-large-requires c κs = search needs
-
 -- the size after this put, as the last check reads it
 sized : (c : tie.After-too-large)
     → let a = start (unzeroed (walked (c .before .before .before))) .args in
@@ -111,14 +102,14 @@ pub put-refusal-spec : {M : Type 1} → statement M
 put-refusal-spec =
     tie.close
     (tie.spec
-    fits-requires
+    (λ c κs. search needs)
     returns
-    has-zero-requires
+    (λ c κs. search needs)
     returns-2
     earlier-refusal-requires
     returns-3
     returns-4
     size-with-requires
-    too-large-requires
+    (λ c κs. search needs)
     returns-5
     returns-6)

@@ -29,9 +29,6 @@ cast-result c =
     let k = accepted (stateWith (a .w) (a .counts .now) (a .buf .now)) (s .pre) in
     omega (arith, c .before .before .before .before .finished-size .ensures, stands (a .w) (a .counts .now) (a .buf .now) (k .fit) (k .fine) (k .all) .small)
 
-same-length : tie.Need-same-length
-same-length c = search needs
-
 returns : tie.Need-returns
 returns c =
     let s = c .before .before .before .before .before .before in
@@ -45,4 +42,4 @@ returns c =
     }
 
 pub write-closed-spec : {M : Type 1} → statement M
-write-closed-spec = tie.close (tie.spec finished-size-requires write-image-requires cast-result same-length returns)
+write-closed-spec = tie.close (tie.spec finished-size-requires write-image-requires cast-result (λ c. search needs) returns)

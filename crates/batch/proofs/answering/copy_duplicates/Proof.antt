@@ -38,26 +38,11 @@ loop-holds c =
       copied = λ image xs u. record { passed = λ j h. absurd (omega arith); unique = u .right };
     }
 
-mul-source : tie.Need-mul-source Inv-loop μ-loop
-mul-source c = search needs
-
-shared-slice-read-source : tie.Need-shared-slice-read-source Inv-loop μ-loop
-shared-slice-read-source c = search needs
-
 cast-source : tie.Need-cast-source Inv-loop μ-loop
 cast-source c = let at = c .before .before in omega (arith, start at .pre .earlier (at .loop .i) (c .before .loop-test .taken))
 
 source-requires : tie.Need-source-requires Inv-loop μ-loop
 source-requires c κs = let at = c .before .before in omega (arith, start at .pre .earlier (at .loop .i) (c .before .loop-test .taken))
-
-copy-answer-requires : tie.Need-copy-answer-requires Inv-loop μ-loop
-copy-answer-requires c κs = search needs
-
-add-i : tie.Need-add-i Inv-loop μ-loop
-add-i c = search needs
-
-loop-less : tie.Need-loop-less Inv-loop μ-loop
-loop-less c = search needs
 
 loop-again : tie.Need-loop-again Inv-loop μ-loop
 loop-again c =
@@ -75,9 +60,6 @@ loop-again c =
           (copied-step u (src .source .ensures) more (omega (arith, start at .pre .places, l .inv .long)) (l .inv .copied image xs u));
     }
 
-same-length : tie.Need-same-length Inv-loop μ-loop
-same-length c = search needs
-
 returns : tie.Need-returns Inv-loop μ-loop
 returns c = let v = c .before .loop .inv in λ image xs u i h. v .copied image xs u .passed i (omega (arith, c .loop-test .left))
 
@@ -88,13 +70,13 @@ copy-duplicates-spec =
     Inv-loop
     μ-loop
     loop-holds
-    mul-source
-    shared-slice-read-source
+    (λ c. search needs)
+    (λ c. search needs)
     cast-source
     source-requires
-    copy-answer-requires
-    add-i
-    loop-less
+    (λ c κs. search needs)
+    (λ c. search needs)
+    (λ c. search needs)
     loop-again
-    same-length
+    (λ c. search needs)
     returns)

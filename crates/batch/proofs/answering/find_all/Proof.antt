@@ -49,9 +49,6 @@ passed c = c .before .before .before .before .before
 abbrev decided : tie.After-find-decided Inv-loop μ-loop → tie.After-done3 Inv-loop μ-loop
 decided c = c .before .before .before
 
-pass-count-requires : tie.Need-pass-count-requires Inv-loop μ-loop
-pass-count-requires c κs = search needs
-
 loop-holds : tie.Need-loop-holds Inv-loop μ-loop
 loop-holds c =
     let a = start c .args in
@@ -183,7 +180,7 @@ find-all-spec =
     (tie.spec
     Inv-loop
     μ-loop
-    pass-count-requires
+    (λ c κs. search needs)
     loop-holds
     slice-aggregate-pass
     slice-aggregate-pass-2

@@ -30,12 +30,6 @@ below c = start (c .before) .pre .listed .below (c .before .loop .x) (c .loop-te
 loop-holds : tie.Need-loop-holds Inv-loop μ-loop
 loop-holds c = finding-start _ _ _ _ _ _
 
-mul-i : tie.Need-mul-i Inv-loop μ-loop
-mul-i c = search needs
-
-shared-slice-read-i : tie.Need-shared-slice-read-i Inv-loop μ-loop
-shared-slice-read-i c = search needs
-
 cast-i : tie.Need-cast-i Inv-loop μ-loop
 cast-i c = omega (arith, below (c .before))
 
@@ -47,12 +41,6 @@ mul-put-decided c = omega (arith, below (c .before .before))
 
 shared-slice-read-put-decided : tie.Need-shared-slice-read-put-decided Inv-loop μ-loop
 shared-slice-read-put-decided c = omega (arith, below (c .before .before .before))
-
-mul-put-decided-2 : tie.Need-mul-put-decided-2 Inv-loop μ-loop
-mul-put-decided-2 c = search needs
-
-shared-slice-read-put-decided-2 : tie.Need-shared-slice-read-put-decided-2 Inv-loop μ-loop
-shared-slice-read-put-decided-2 c = search needs
 
 put-decided-requires : tie.Need-put-decided-requires Inv-loop μ-loop
 put-decided-requires c κs =
@@ -67,12 +55,6 @@ put-decided-requires c κs =
       decided = s .pre .decided (e .before .loop .x) (e .loop-test .taken);
     }
 
-add-x : tie.Need-add-x Inv-loop μ-loop
-add-x c = search needs
-
-loop-less : tie.Need-loop-less Inv-loop μ-loop
-loop-less c = search needs
-
 loop-again : tie.Need-loop-again Inv-loop μ-loop
 loop-again c =
     let put = c .before .before in
@@ -80,9 +62,6 @@ loop-again c =
     let s = start (e .before) in
     let name = put .before .before .before .before .name-of in
     finding-step (s .pre .listed) _ (e .loop-test .taken) (name .ensures) refl (put .put-decided .ensures) (e .before .loop .inv)
-
-same-length : tie.Need-same-length Inv-loop μ-loop
-same-length c = search needs
 
 returns : tie.Need-returns Inv-loop μ-loop
 returns c = finding-end (c .before .loop .inv) (c .loop-test .left)
@@ -94,17 +73,17 @@ find-decided-spec =
     Inv-loop
     μ-loop
     loop-holds
-    mul-i
-    shared-slice-read-i
+    (λ c. search needs)
+    (λ c. search needs)
     cast-i
     name-of-requires
     mul-put-decided
     shared-slice-read-put-decided
-    mul-put-decided-2
-    shared-slice-read-put-decided-2
+    (λ c. search needs)
+    (λ c. search needs)
     put-decided-requires
-    add-x
-    loop-less
+    (λ c. search needs)
+    (λ c. search needs)
     loop-again
-    same-length
+    (λ c. search needs)
     returns)

@@ -31,12 +31,6 @@ below c = start (c .before) .pre .listed .below (c .before .loop .x) (c .loop-te
 loop-holds : tie.Need-loop-holds Inv-loop μ-loop
 loop-holds c = finding-start _ _ _ _ _ _
 
-mul-i : tie.Need-mul-i Inv-loop μ-loop
-mul-i c = search needs
-
-shared-slice-read-i : tie.Need-shared-slice-read-i Inv-loop μ-loop
-shared-slice-read-i c = search needs
-
 cast-i : tie.Need-cast-i Inv-loop μ-loop
 cast-i c = omega (arith, below (c .before))
 
@@ -57,12 +51,6 @@ search-from-requires c κs =
 put-answer-requires : tie.Need-put-answer-requires Inv-loop μ-loop
 put-answer-requires c κs = omega (arith, below (read (c .before .before)))
 
-add-x : tie.Need-add-x Inv-loop μ-loop
-add-x c = search needs
-
-loop-less : tie.Need-loop-less Inv-loop μ-loop
-loop-less c = search needs
-
 loop-again : tie.Need-loop-again Inv-loop μ-loop
 loop-again c =
     let put = c .before .before in
@@ -78,9 +66,6 @@ loop-again c =
     finding-step (s .pre .listed) (lookupOf (searched .search-from .result)) (e .loop-test .taken) (name .ensures)
     (searched .search-from .ensures ∙ answer) (put .put-answer .ensures) (l .inv)
 
-same-length : tie.Need-same-length Inv-loop μ-loop
-same-length c = search needs
-
 returns : tie.Need-returns Inv-loop μ-loop
 returns c = finding-end (c .before .loop .inv) (c .loop-test .left)
 
@@ -91,16 +76,16 @@ find-open-spec =
     Inv-loop
     μ-loop
     loop-holds
-    mul-i
-    shared-slice-read-i
+    (λ c. search needs)
+    (λ c. search needs)
     cast-i
     name-of-requires
     mul-search-from
     shared-slice-read-search-from
     search-from-requires
     put-answer-requires
-    add-x
-    loop-less
+    (λ c. search needs)
+    (λ c. search needs)
     loop-again
-    same-length
+    (λ c. search needs)
     returns)

@@ -19,12 +19,6 @@ decided : (c : tie.After-probe-entry) (s : Probe) → s ≡ probeEntry (start c 
     → let a = start c .args in decide s (a .c) (searchFrom (a .image .now) (a .name .now) (a .h) (a .c)) ≡ lookupBy (a .image .now) (a .name .now) (a .h)
 decided c = entry-decides (start c .pre .decided) (start c .args .name .now) (start c .pre .short) (omega (arith, c .before .if1 .left))
 
-put-words-requires : tie.Need-put-words-requires
-put-words-requires c κs = search needs
-
-same-length : tie.Need-same-length
-same-length c = search needs
-
 returns : tie.Need-returns
 returns c =
     let put = c .before .before in
@@ -33,33 +27,6 @@ returns c =
     put .put-words .ensures
     ∙ ap (λ (x : Lookup). putWords (a .answers .now) (a .i) (answerWords x))
     (empty-decides (s .pre .decided) (a .name .now) (s .pre .short) (put .before .before .if1 .taken))
-
-probe-entry-requires : tie.Need-probe-entry-requires
-probe-entry-requires c κs = search needs
-
-enum-told : tie.Need-enum-told
-enum-told c = search needs
-
-search-from-requires : tie.Need-search-from-requires
-search-from-requires c κs = search needs
-
-put-answer-requires : tie.Need-put-answer-requires
-put-answer-requires c κs = search needs
-
-enum-told-2 : tie.Need-enum-told-2
-enum-told-2 c = search needs
-
-put-words-requires-2 : tie.Need-put-words-requires-2
-put-words-requires-2 c κs = search needs
-
-enum-known-hit : tie.Need-enum-known-hit
-enum-known-hit c = search needs
-
-put-words-requires-3 : tie.Need-put-words-requires-3
-put-words-requires-3 c κs = search needs
-
-same-length-2 : tie.Need-same-length-2
-same-length-2 c = search needs
 
 returns-2 : tie.Need-returns-2
 returns-2 c =
@@ -74,9 +41,6 @@ returns-2 c =
     ∙ rest-decides (s .pre .decided) (a .name .now) (s .pre .short) (omega (arith, seen .before .if1 .left))
     (sym (ap probeOf (told .enum-told .given .1)) ∙ seen .probe-entry .ensures))
 
-same-length-3 : tie.Need-same-length-3
-same-length-3 c = search needs
-
 returns-3 : tie.Need-returns-3
 returns-3 c =
     let put = c .before .before in
@@ -86,9 +50,6 @@ returns-3 c =
     put .put-words2 .ensures
     ∙ ap (λ (x : Lookup). putWords (a .answers .now) (a .i) (answerWords x))
     (decided seen ends (sym (ap probeOf (told .enum-told2 .given .1)) ∙ seen .probe-entry .ensures))
-
-same-length-4 : tie.Need-same-length-4
-same-length-4 c = search needs
 
 returns-4 : tie.Need-returns-4
 returns-4 c =
@@ -105,20 +66,20 @@ pub put-decided-spec : {M : Type 1} → statement M
 put-decided-spec =
     tie.close
     (tie.spec
-    put-words-requires
-    same-length
+    (λ c κs. search needs)
+    (λ c. search needs)
     returns
-    probe-entry-requires
-    enum-told
-    search-from-requires
-    put-answer-requires
-    enum-told-2
-    put-words-requires-2
-    enum-known-hit
-    put-words-requires-3
-    same-length-2
+    (λ c κs. search needs)
+    (λ c. search needs)
+    (λ c κs. search needs)
+    (λ c κs. search needs)
+    (λ c. search needs)
+    (λ c κs. search needs)
+    (λ c. search needs)
+    (λ c κs. search needs)
+    (λ c. search needs)
     returns-2
-    same-length-3
+    (λ c. search needs)
     returns-3
-    same-length-4
+    (λ c. search needs)
     returns-4)

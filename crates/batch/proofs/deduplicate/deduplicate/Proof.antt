@@ -66,39 +66,6 @@ loop-holds c =
           };
     }
 
-mul-s : tie.Need-mul-s Inv-loop μ-loop
-mul-s c = search needs
-
-shared-slice-read-s : tie.Need-shared-slice-read-s Inv-loop μ-loop
-shared-slice-read-s c = search needs
-
-cast-s : tie.Need-cast-s Inv-loop μ-loop
-cast-s c = search needs
-
-mul-links : tie.Need-mul-links Inv-loop μ-loop
-mul-links c = search needs
-
-array-read-links : tie.Need-array-read-links Inv-loop μ-loop
-array-read-links c = search needs
-
-mul-links-2 : tie.Need-mul-links-2 Inv-loop μ-loop
-mul-links-2 c = search needs
-
-array-write-links : tie.Need-array-write-links Inv-loop μ-loop
-array-write-links c = search needs
-
-add-slots : tie.Need-add-slots Inv-loop μ-loop
-add-slots c = search needs
-
-cast-slots : tie.Need-cast-slots Inv-loop μ-loop
-cast-slots c = search needs
-
-mul-slots : tie.Need-mul-slots Inv-loop μ-loop
-mul-slots c = search needs
-
-array-write-slots : tie.Need-array-write-slots Inv-loop μ-loop
-array-write-slots c = search needs
-
 slice-aggregate-equal-before : tie.Need-slice-aggregate-equal-before Inv-loop μ-loop
 slice-aggregate-equal-before c = simp length-set (omega (arith, c .before .before .before .loop .inv .links-long))
 
@@ -111,33 +78,6 @@ equal-before-requires c κs =
       capacity = simp length-set (omega (arith, entered c .loop .inv .links-long, s .pre .names .few));
       linked = linked-here c;
     }
-
-mul-equals : tie.Need-mul-equals Inv-loop μ-loop
-mul-equals c = search needs
-
-slice-write-equals : tie.Need-slice-write-equals Inv-loop μ-loop
-slice-write-equals c = search needs
-
-cast-list : tie.Need-cast-list Inv-loop μ-loop
-cast-list c = search needs
-
-mul-list : tie.Need-mul-list Inv-loop μ-loop
-mul-list c = search needs
-
-slice-write-list : tie.Need-slice-write-list Inv-loop μ-loop
-slice-write-list c = search needs
-
-one-if-zero-requires : tie.Need-one-if-zero-requires Inv-loop μ-loop
-one-if-zero-requires c κs = search needs
-
-add-m : tie.Need-add-m Inv-loop μ-loop
-add-m c = search needs
-
-add-i : tie.Need-add-i Inv-loop μ-loop
-add-i c = search needs
-
-loop-less : tie.Need-loop-less Inv-loop μ-loop
-loop-less c = search needs
 
 loop-again : tie.Need-loop-again Inv-loop μ-loop
 loop-again c =
@@ -157,12 +97,6 @@ loop-again c =
           deduplicated-step (omega (arith, v .equals-long)) (omega (arith, v .list-long, v .unique .count)) (c .before .equal-before .ensures) (c .one-if-zero .ensures) (v .unique);
     }
 
-same-length : tie.Need-same-length Inv-loop μ-loop
-same-length c = search needs
-
-same-length-2 : tie.Need-same-length-2 Inv-loop μ-loop
-same-length-2 c = search needs
-
 returns : tie.Need-returns Inv-loop μ-loop
 returns c =
     let l = c .before .loop in
@@ -177,29 +111,29 @@ deduplicate-spec =
     Inv-loop
     μ-loop
     loop-holds
-    mul-s
-    shared-slice-read-s
-    cast-s
-    mul-links
-    array-read-links
-    mul-links-2
-    array-write-links
-    add-slots
-    cast-slots
-    mul-slots
-    array-write-slots
+    (λ c. search needs)
+    (λ c. search needs)
+    (λ c. search needs)
+    (λ c. search needs)
+    (λ c. search needs)
+    (λ c. search needs)
+    (λ c. search needs)
+    (λ c. search needs)
+    (λ c. search needs)
+    (λ c. search needs)
+    (λ c. search needs)
     slice-aggregate-equal-before
     equal-before-requires
-    mul-equals
-    slice-write-equals
-    cast-list
-    mul-list
-    slice-write-list
-    one-if-zero-requires
-    add-m
-    add-i
-    loop-less
+    (λ c. search needs)
+    (λ c. search needs)
+    (λ c. search needs)
+    (λ c. search needs)
+    (λ c. search needs)
+    (λ c κs. search needs)
+    (λ c. search needs)
+    (λ c. search needs)
+    (λ c. search needs)
     loop-again
-    same-length
-    same-length-2
+    (λ c. search needs)
+    (λ c. search needs)
     returns)

@@ -30,25 +30,10 @@ xs s = names (s .args .bytes .now) (s .args .ends .now)
 inside : (s : tie.Start Inv-loop μ-loop) → s .args .i < length (xs s)
 inside s = omega (arith, length-names (s .args .bytes .now) (s .args .ends .now), s .pre .inside)
 
-mul-q : tie.Need-mul-q Inv-loop μ-loop
-mul-q c = search needs
-
-shared-slice-read-q : tie.Need-shared-slice-read-q Inv-loop μ-loop
-shared-slice-read-q c = search needs
-
 loop-holds : tie.Need-loop-holds Inv-loop μ-loop
 loop-holds c =
     let s = start c in
     walk-start (xs s) (s .args .keys .now) (s .args .i) (s .pre .names .keyed) (inside s) _ (s .pre .linked (s .args .i) (omega arith))
-
-sub-j : tie.Need-sub-j Inv-loop μ-loop
-sub-j c = search needs
-
-cast-j : tie.Need-cast-j Inv-loop μ-loop
-cast-j c = search needs
-
-equal-names-requires : tie.Need-equal-names-requires Inv-loop μ-loop
-equal-names-requires c κs = search needs
 
 returns : tie.Need-returns Inv-loop μ-loop
 returns c =
@@ -56,12 +41,6 @@ returns c =
     let s = start (at .before) in
     walk-found (xs s) (s .args .keys .now) (s .args .i) (s .pre .names .keyed) (inside s) (at .loop .q) (omega arith) (at .loop .inv)
     (same-true (nth (xs s) (at .loop .q - 1)) (nth (xs s) (s .args .i)) (sym (c .before .equal-names .ensures) ∙ c .if1 .taken))
-
-mul-q-2 : tie.Need-mul-q-2 Inv-loop μ-loop
-mul-q-2 c = search needs
-
-shared-slice-read-q-2 : tie.Need-shared-slice-read-q-2 Inv-loop μ-loop
-shared-slice-read-q-2 c = search needs
 
 loop-less : tie.Need-loop-less Inv-loop μ-loop
 loop-less c =
@@ -92,15 +71,15 @@ equal-before-spec =
     (tie.spec
     Inv-loop
     μ-loop
-    mul-q
-    shared-slice-read-q
+    (λ c. search needs)
+    (λ c. search needs)
     loop-holds
-    sub-j
-    cast-j
-    equal-names-requires
+    (λ c. search needs)
+    (λ c. search needs)
+    (λ c κs. search needs)
     returns
-    mul-q-2
-    shared-slice-read-q-2
+    (λ c. search needs)
+    (λ c. search needs)
     loop-less
     loop-again
     returns-2)

@@ -13,18 +13,6 @@ use Rattle.batch.proofs.Duplicates.{other-key}
 use Rattle.batch.proofs.deduplicate.equal_names.Statement.{statement}
 use Rattle.batch.proofs.deduplicate.equal_names.Tie as tie
 
-mul-if1 : tie.Need-mul-if1
-mul-if1 c = search needs
-
-shared-slice-read-if1 : tie.Need-shared-slice-read-if1
-shared-slice-read-if1 c = search needs
-
-mul-if1-2 : tie.Need-mul-if1-2
-mul-if1-2 c = search needs
-
-shared-slice-read-if1-2 : tie.Need-shared-slice-read-if1-2
-shared-slice-read-if1-2 c = search needs
-
 returns : tie.Need-returns
 returns c =
     let s = c .before .before .before .before .before .before in
@@ -35,15 +23,6 @@ returns c =
     sym
     (same-false (nth xs (s .args .j)) (nth xs (s .args .i))
     (other-key xs (s .args .keys .now) (s .args .i) (s .pre .names .keyed) i (s .args .j) j (c .if1 .taken)))
-
-name-of-requires : tie.Need-name-of-requires
-name-of-requires c κs = search needs
-
-name-of-requires-2 : tie.Need-name-of-requires-2
-name-of-requires-2 c κs = search needs
-
-same-requires : tie.Need-same-requires
-same-requires c κs = search needs
 
 returns-2 : tie.Need-returns-2
 returns-2 c =
@@ -58,12 +37,12 @@ pub equal-names-spec : {M : Type 1} → statement M
 equal-names-spec =
     tie.close
     (tie.spec
-    mul-if1
-    shared-slice-read-if1
-    mul-if1-2
-    shared-slice-read-if1-2
+    (λ c. search needs)
+    (λ c. search needs)
+    (λ c. search needs)
+    (λ c. search needs)
     returns
-    name-of-requires
-    name-of-requires-2
-    same-requires
+    (λ c κs. search needs)
+    (λ c κs. search needs)
+    (λ c κs. search needs)
     returns-2)

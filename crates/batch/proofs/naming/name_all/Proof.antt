@@ -36,15 +36,6 @@ entered c = c .before .before .before .before
 loop-holds : tie.Need-loop-holds Inv-loop μ-loop
 loop-holds c = record { inside = omega arith; long = refl; stored = λ j h. absurd (omega arith) }
 
-mul-to-str : tie.Need-mul-to-str Inv-loop μ-loop
-mul-to-str c = search needs
-
-shared-slice-read-to-str : tie.Need-shared-slice-read-to-str Inv-loop μ-loop
-shared-slice-read-to-str c = search needs
-
-to-str-requires : tie.Need-to-str-requires Inv-loop μ-loop
-to-str-requires c κs = search needs
-
 put-place-requires : tie.Need-put-place-requires Inv-loop μ-loop
 put-place-requires c κs =
     let at = entered c in
@@ -54,12 +45,6 @@ put-place-requires c κs =
           (naming-small (s .args .image .now) (getD (s .args .ids .now) (at .loop .i) 0)
           (λ (i : ℕ). omega (arith, at .before .before .before .shared-slice-known .given i))),
     )
-
-add-i : tie.Need-add-i Inv-loop μ-loop
-add-i c = search needs
-
-loop-less : tie.Need-loop-less Inv-loop μ-loop
-loop-less c = search needs
 
 loop-again : tie.Need-loop-again Inv-loop μ-loop
 loop-again c =
@@ -79,9 +64,6 @@ loop-again c =
           (λ e w k. ap (λ (n : ℕ). getD (word n) w 0) (sym e)) (λ other. l .inv .stored j (omega arith)));
     }
 
-same-length : tie.Need-same-length Inv-loop μ-loop
-same-length c = search needs
-
 returns : tie.Need-returns Inv-loop μ-loop
 returns c =
     let a = start (c .before) .args in
@@ -96,12 +78,12 @@ name-all-spec =
     Inv-loop
     μ-loop
     loop-holds
-    mul-to-str
-    shared-slice-read-to-str
-    to-str-requires
+    (λ c. search needs)
+    (λ c. search needs)
+    (λ c κs. search needs)
     put-place-requires
-    add-i
-    loop-less
+    (λ c. search needs)
+    (λ c. search needs)
     loop-again
-    same-length
+    (λ c. search needs)
     returns)

@@ -30,20 +30,11 @@ returns-2 c =
     let e = refusal-by ids places false true (le-ltb 512 (length ids) (c .before .if1 .left)) (lt-ltb places (length ids) (c .if2 .taken)) in
     (e, names-left (a .image .now) ids (a .answers .now) 15 e (omega arith))
 
-mul-name-all : tie.Need-mul-name-all
-mul-name-all c = search needs
-
-slice-relend-prefix-name-all : tie.Need-slice-relend-prefix-name-all
-slice-relend-prefix-name-all c = search needs
-
 slice-aggregate-name-all : tie.Need-slice-aggregate-name-all
 slice-aggregate-name-all c = simp length-take (omega (arith, c .before .if2 .left))
 
 name-all-requires : tie.Need-name-all-requires
 name-all-requires c κs = simp length-take (omega (arith, c .before .if2 .left))
-
-same-length : tie.Need-same-length
-same-length c = search needs
 
 returns-3 : tie.Need-returns-3
 returns-3 c =
@@ -61,9 +52,9 @@ name-round-spec =
     (tie.spec
     returns
     returns-2
-    mul-name-all
-    slice-relend-prefix-name-all
+    (λ c. search needs)
+    (λ c. search needs)
     slice-aggregate-name-all
     name-all-requires
-    same-length
+    (λ c. search needs)
     returns-3)

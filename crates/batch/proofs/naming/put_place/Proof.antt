@@ -11,32 +11,11 @@ use Rattle.batch.specs.steps.Answers.{putWords}
 use Rattle.batch.proofs.naming.put_place.Statement.{statement}
 use Rattle.batch.proofs.naming.put_place.Tie as tie
 
-enum-known-named : tie.Need-enum-known-named
-enum-known-named c = search needs
-
-cast-low : tie.Need-cast-low
-cast-low c = search needs
-
-cast-high : tie.Need-cast-high
-cast-high c = search needs
-
 cast-put-words : tie.Need-cast-put-words
 cast-put-words c =
     let known = c .before .before in
     let small = subst (λ (x : Named). lengthIn (namingOf x) < 4294967296) (known .named .given .1) (known .before .before .before .pre .1) in
     omega (arith, small)
-
-put-words-requires : tie.Need-put-words-requires
-put-words-requires c κs = search needs
-
-enum-told : tie.Need-enum-told
-enum-told c = search needs
-
-put-words-requires-2 : tie.Need-put-words-requires-2
-put-words-requires-2 c κs = search needs
-
-same-length : tie.Need-same-length
-same-length c = search needs
 
 returns : tie.Need-returns
 returns c =
@@ -44,9 +23,6 @@ returns c =
     let known = put .before .before .before in
     let a = known .before .before .before .args in
     put .put-words .ensures ∙ ap (λ (x : Named). putWords (a .answers .now) (a .i) (placeWords (namingOf x))) (sym (known .named .given .1))
-
-same-length-2 : tie.Need-same-length-2
-same-length-2 c = search needs
 
 returns-2 : tie.Need-returns-2
 returns-2 c =
@@ -59,14 +35,14 @@ pub put-place-spec : {M : Type 1} → statement M
 put-place-spec =
     tie.close
     (tie.spec
-    enum-known-named
-    cast-low
-    cast-high
+    (λ c. search needs)
+    (λ c. search needs)
+    (λ c. search needs)
     cast-put-words
-    put-words-requires
-    enum-told
-    put-words-requires-2
-    same-length
+    (λ c κs. search needs)
+    (λ c. search needs)
+    (λ c κs. search needs)
+    (λ c. search needs)
     returns
-    same-length-2
+    (λ c. search needs)
     returns-2)

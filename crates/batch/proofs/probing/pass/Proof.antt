@@ -57,12 +57,6 @@ loop-holds c =
           };
     }
 
-mul-i : tie.Need-mul-i Inv-loop μ-loop
-mul-i c = search needs
-
-slice-read-i : tie.Need-slice-read-i Inv-loop μ-loop
-slice-read-i c = search needs
-
 cast-probe : tie.Need-cast-probe Inv-loop μ-loop
 cast-probe c = omega (arith, keyed (c .before))
 
@@ -83,39 +77,6 @@ probe-requires c κs =
           subst (λ (k : ℕ). Open (s .args .image .now) (getD (s .args .keys .now) k 0) (s .args .c)) (sym (own (read c)))
           (s .pre .is-open (l .z) (c .before .before .loop-test .taken));
     }
-
-mul-live : tie.Need-mul-live Inv-loop μ-loop
-mul-live c = search needs
-
-slice-write-live : tie.Need-slice-write-live Inv-loop μ-loop
-slice-write-live c = search needs
-
-mul-done : tie.Need-mul-done Inv-loop μ-loop
-mul-done c = search needs
-
-slice-write-done : tie.Need-slice-write-done Inv-loop μ-loop
-slice-write-done c = search needs
-
-mul-offsets : tie.Need-mul-offsets Inv-loop μ-loop
-mul-offsets c = search needs
-
-slice-write-offsets : tie.Need-slice-write-offsets Inv-loop μ-loop
-slice-write-offsets c = search needs
-
-add-p : tie.Need-add-p Inv-loop μ-loop
-add-p c = search needs
-
-sub-d : tie.Need-sub-d Inv-loop μ-loop
-sub-d c = search needs
-
-add-d : tie.Need-add-d Inv-loop μ-loop
-add-d c = search needs
-
-add-z : tie.Need-add-z Inv-loop μ-loop
-add-z c = search needs
-
-loop-less : tie.Need-loop-less Inv-loop μ-loop
-loop-less c = search needs
 
 loop-again : tie.Need-loop-again Inv-loop μ-loop
 loop-again c =
@@ -138,15 +99,6 @@ loop-again c =
           (omega (arith, v .offsets-long, start at .pre .offsets-capacity, v .partition .count));
     }
 
-same-length : tie.Need-same-length Inv-loop μ-loop
-same-length c = search needs
-
-same-length-2 : tie.Need-same-length-2 Inv-loop μ-loop
-same-length-2 c = search needs
-
-same-length-3 : tie.Need-same-length-3 Inv-loop μ-loop
-same-length-3 c = search needs
-
 returns : tie.Need-returns Inv-loop μ-loop
 returns c = let v = c .before .loop .inv in partition-end (v .partition) (v .inside) (c .loop-test .left)
 
@@ -157,25 +109,25 @@ pass-spec =
     Inv-loop
     μ-loop
     loop-holds
-    mul-i
-    slice-read-i
+    (λ c. search needs)
+    (λ c. search needs)
     cast-probe
     mul-probe
     shared-slice-read-probe
     probe-requires
-    mul-live
-    slice-write-live
-    mul-done
-    slice-write-done
-    mul-offsets
-    slice-write-offsets
-    add-p
-    sub-d
-    add-d
-    add-z
-    loop-less
+    (λ c. search needs)
+    (λ c. search needs)
+    (λ c. search needs)
+    (λ c. search needs)
+    (λ c. search needs)
+    (λ c. search needs)
+    (λ c. search needs)
+    (λ c. search needs)
+    (λ c. search needs)
+    (λ c. search needs)
+    (λ c. search needs)
     loop-again
-    same-length
-    same-length-2
-    same-length-3
+    (λ c. search needs)
+    (λ c. search needs)
+    (λ c. search needs)
     returns)

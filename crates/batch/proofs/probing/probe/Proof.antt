@@ -15,9 +15,6 @@ inside c =
     let row = t .ensures .table (omega (arith, c .before .before .if1 .left)) in
     omega (arith, row .offset, row .inside, c .bucket-after .ensures .1, c .before .word .ensures)
 
-table-of-requires : tie.Need-table-of-requires
-table-of-requires c κs = search needs
-
 returns : tie.Need-returns
 returns c =
     let s = c .before .before .before in
@@ -30,44 +27,11 @@ returns c =
       decided = λ z. absurd (omega arith);
     }
 
-cast-t : tie.Need-cast-t
-cast-t c = search needs
-
-mul-word : tie.Need-mul-word
-mul-word c = search needs
-
-add-word : tie.Need-add-word
-add-word c = search needs
-
-word-requires : tie.Need-word-requires
-word-requires c κs = search needs
-
-cast-start : tie.Need-cast-start
-cast-start c = search needs
-
-bucket-after-requires : tie.Need-bucket-after-requires
-bucket-after-requires c κs = search needs
-
-cast-k : tie.Need-cast-k
-cast-k c = search needs
-
-mul-at : tie.Need-mul-at
-mul-at c = search needs
-
-add-at : tie.Need-add-at
-add-at c = search needs
-
-add-word-2 : tie.Need-add-word-2
-add-word-2 c = search needs
-
 word-requires-2 : tie.Need-word-requires-2
 word-requires-2 c κs = omega (arith, inside c)
 
 word-requires-3 : tie.Need-word-requires-3
 word-requires-3 c κs = omega (arith, inside (c .before))
-
-passes-requires : tie.Need-passes-requires
-passes-requires c κs = search needs
 
 returns-2 : tie.Need-returns-2
 returns-2 c =
@@ -94,19 +58,19 @@ pub probe-spec : {M : Type 1} → statement M
 probe-spec =
     tie.close
     (tie.spec
-    table-of-requires
+    (λ c κs. search needs)
     returns
-    cast-t
-    mul-word
-    add-word
-    word-requires
-    cast-start
-    bucket-after-requires
-    cast-k
-    mul-at
-    add-at
-    add-word-2
+    (λ c. search needs)
+    (λ c. search needs)
+    (λ c. search needs)
+    (λ c κs. search needs)
+    (λ c. search needs)
+    (λ c κs. search needs)
+    (λ c. search needs)
+    (λ c. search needs)
+    (λ c. search needs)
+    (λ c. search needs)
     word-requires-2
     word-requires-3
-    passes-requires
+    (λ c κs. search needs)
     returns-2)

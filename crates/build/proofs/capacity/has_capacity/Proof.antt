@@ -36,14 +36,8 @@ returns-4 c = λ e. absurd (false-not-true e)
 largest-requires : tie.Need-largest-requires
 largest-requires c κs = c .before .before .before .before .before .before .before .pre
 
-cast-top : tie.Need-cast-top
-cast-top c = search needs
-
 add-top : tie.Need-add-top
 add-top c = omega arith
-
-back-in-requires : tie.Need-back-in-requires
-back-in-requires c κs = search needs
 
 returns-5 : tie.Need-returns-5
 returns-5 c = λ e. absurd (false-not-true e)
@@ -102,9 +96,9 @@ has-capacity-spec =
     shared-slice-read-last
     returns-4
     largest-requires
-    cast-top
+    (λ c. search needs)
     add-top
-    back-in-requires
+    (λ c κs. search needs)
     returns-5
     add-size
     mul-size

@@ -23,9 +23,6 @@ mul-larger c = omega arith
 shared-slice-read-larger : tie.Need-shared-slice-read-larger Inv-loop μ-loop
 shared-slice-read-larger c = omega (arith, c .before .before .before .before .pre, c .before .loop-test .taken)
 
-larger-requires : tie.Need-larger-requires Inv-loop μ-loop
-larger-requires c κs = search needs
-
 add-i : tie.Need-add-i Inv-loop μ-loop
 add-i c = omega (arith, c .before .before .loop-test .taken)
 
@@ -45,4 +42,4 @@ returns c =
     l .inv .1 ∙ ap (largestTo (c .before .before .before .args .ids .now)) last
 
 pub largest-spec : {M : Type 1} → statement M
-largest-spec = tie.close (tie.spec Inv-loop μ-loop loop-holds mul-larger shared-slice-read-larger larger-requires add-i loop-less loop-again returns)
+largest-spec = tie.close (tie.spec Inv-loop μ-loop loop-holds mul-larger shared-slice-read-larger (λ c κs. search needs) add-i loop-less loop-again returns)

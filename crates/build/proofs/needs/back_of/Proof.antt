@@ -11,15 +11,6 @@ use Rattle.build.proofs.needs.back_of.Tie as tie
 returns : tie.Need-returns
 returns c = (no-back (c .before .before .args .ids .now) (c .if1 .taken), omega arith)
 
-largest-requires : tie.Need-largest-requires
-largest-requires c κs = search needs
-
-cast-result : tie.Need-cast-result
-cast-result c = search needs
-
-add-result : tie.Need-add-result
-add-result c = search needs
-
 returns-2 : tie.Need-returns-2
 returns-2 c =
     let ids = c .before .before .before .args .ids .now in
@@ -29,4 +20,4 @@ returns-2 c =
     (is, word)
 
 pub back-of-spec : {M : Type 1} → statement M
-back-of-spec = tie.close (tie.spec returns largest-requires cast-result add-result returns-2)
+back-of-spec = tie.close (tie.spec returns (λ c κs. search needs) (λ c. search needs) (λ c. search needs) returns-2)

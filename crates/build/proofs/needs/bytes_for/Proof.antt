@@ -7,15 +7,6 @@ use Rattle.build.proofs.Needed.{back-less, whole-sum}
 use Rattle.build.proofs.needs.bytes_for.Statement.{statement}
 use Rattle.build.proofs.needs.bytes_for.Tie as tie
 
-back-of-requires : tie.Need-back-of-requires
-back-of-requires c κs = search needs
-
-back-in-requires : tie.Need-back-in-requires
-back-in-requires c κs = search needs
-
-bytes-each-requires : tie.Need-bytes-each-requires
-bytes-each-requires c κs = search needs
-
 mul-sum : tie.Need-mul-sum
 mul-sum c =
     let back = c .before .before .back-of in
@@ -25,12 +16,6 @@ add-sum : tie.Need-add-sum
 add-sum c =
     let back = c .before .before .back-of in
     omega (arith, c .before .back-in .ensures, back-less (c .before .before .before .before .args .mode) (back .result), back .ensures .1)
-
-sum-requires : tie.Need-sum-requires
-sum-requires c κs = search needs
-
-sum-requires-2 : tie.Need-sum-requires-2
-sum-requires-2 c κs = search needs
 
 returns : tie.Need-returns
 returns c =
@@ -45,11 +30,11 @@ pub bytes-for-spec : {M : Type 1} → statement M
 bytes-for-spec =
     tie.close
     (tie.spec
-    back-of-requires
-    back-in-requires
-    bytes-each-requires
+    (λ c κs. search needs)
+    (λ c κs. search needs)
+    (λ c κs. search needs)
     mul-sum
     add-sum
-    sum-requires
-    sum-requires-2
+    (λ c κs. search needs)
+    (λ c κs. search needs)
     returns)

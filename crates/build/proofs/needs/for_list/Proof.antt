@@ -4,16 +4,10 @@ use Rattle.build.proofs.Needed.{needs-are}
 use Rattle.build.proofs.needs.for_list.Statement.{statement}
 use Rattle.build.proofs.needs.for_list.Tie as tie
 
-bytes-for-requires : tie.Need-bytes-for-requires
-bytes-for-requires c κs = search needs
-
-words-for-requires : tie.Need-words-for-requires
-words-for-requires c κs = search needs
-
 returns : tie.Need-returns
 returns c =
     let a = c .before .before .before .args in
     needs-are (a .mode) (a .size) (a .ids .now) (c .before .bytes-for .result) (c .words-for .result) (c .before .bytes-for .ensures) (c .words-for .ensures)
 
 pub for-list-spec : {M : Type 1} → statement M
-for-list-spec = tie.close (tie.spec bytes-for-requires words-for-requires returns)
+for-list-spec = tie.close (tie.spec (λ c κs. search needs) (λ c κs. search needs) returns)

@@ -91,12 +91,6 @@ loop-again c =
       puts-turn g inside many room _ named (done .result .refusal) _ _ (done .ensures) (search needs),
     )
 
-same-length : tie.Need-same-length Inv-loop μ-loop
-same-length c = search needs
-
-same-length-2 : tie.Need-same-length-2 Inv-loop μ-loop
-same-length-2 c = search needs
-
 same-length-3 : tie.Need-same-length-3 Inv-loop μ-loop
 same-length-3 c = c .before .loop .inv .3 .size
 
@@ -127,7 +121,7 @@ put-list-spec =
     add-i
     loop-less
     loop-again
-    same-length
-    same-length-2
+    (λ c. search needs)
+    (λ c. search needs)
     same-length-3
     returns)

@@ -11,25 +11,10 @@ use Rattle.build.proofs.SinglePuts.{spare-refusal, spare-after}
 use Rattle.build.proofs.singly.put_name.Statement.{statement}
 use Rattle.build.proofs.singly.put_name.Tie as tie
 
-put-requires : tie.Need-put-requires
-put-requires c κs = search needs
-
-same-length : tie.Need-same-length
-same-length c = search needs
-
 returns : tie.Need-returns
 returns c =
     let done = c .before .before .put .ensures in
     record { answer = done .0; leaves = done .1; right = λ h. absurd (omega arith) }
-
-put-indexed-requires : tie.Need-put-indexed-requires
-put-indexed-requires c κs = search needs
-
-same-length-2 : tie.Need-same-length-2
-same-length-2 c = search needs
-
-same-length-3 : tie.Need-same-length-3
-same-length-3 c = search needs
 
 returns-2 : tie.Need-returns-2
 returns-2 c =
@@ -48,4 +33,4 @@ returns-2 c =
     }
 
 pub put-name-spec : {M : Type 1} → statement M
-put-name-spec = tie.close (tie.spec put-requires same-length returns put-indexed-requires same-length-2 same-length-3 returns-2)
+put-name-spec = tie.close (tie.spec (λ c κs. search needs) (λ c. search needs) returns (λ c κs. search needs) (λ c. search needs) (λ c. search needs) returns-2)

@@ -9,43 +9,25 @@ use Rattle.serialize.specs.steps.Insertion.{backStored}
 use Rattle.build.proofs.stored.store_link.Statement.{statement}
 use Rattle.build.proofs.stored.store_link.Tie as tie
 
-enum-told : tie.Need-enum-told
-enum-told c = search needs
-
-mul-store-word : tie.Need-mul-store-word
-mul-store-word c = search needs
-
-add-store-word : tie.Need-add-store-word
-add-store-word c = search needs
-
 store-word-requires : tie.Need-store-word-requires
 store-word-requires c κs =
     let s = c .before .before .before .before in
     omega (arith, s .pre, ap (λ (m : Mode). backIn m (s .args .id + 1)) (c .before .enum-told .given .1))
-
-enum-told-2 : tie.Need-enum-told-2
-enum-told-2 c = search needs
-
-same-length : tie.Need-same-length
-same-length c = search needs
 
 returns : tie.Need-returns
 returns c =
     let a = c .before .before .before .before .before .before .before .args in
     c .before .before .store-word .ensures ∙ ap (λ (m : Mode). backStored m (a .buf .now) (a .links) (a .id) (a .at)) (sym (c .before .before .before .before .enum-told .given .1))
 
-returns-2 : tie.Need-returns-2
-returns-2 c = search needs
-
 pub store-link-spec : {M : Type 1} → statement M
 store-link-spec =
     tie.close
     (tie.spec
-    enum-told
-    mul-store-word
-    add-store-word
+    (λ c. search needs)
+    (λ c. search needs)
+    (λ c. search needs)
     store-word-requires
-    enum-told-2
-    same-length
+    (λ c. search needs)
+    (λ c. search needs)
     returns
-    returns-2)
+    (λ c. search needs))

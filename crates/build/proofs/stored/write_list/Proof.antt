@@ -14,44 +14,17 @@ use Rattle.build.proofs.ListWhole.{Numbers, numbers, zeros-between, zer
 use Rattle.build.proofs.stored.write_list.Statement.{statement}
 use Rattle.build.proofs.stored.write_list.Tie as tie
 
-sub-end : tie.Need-sub-end
-sub-end c = search needs
-
-mul-end : tie.Need-mul-end
-mul-end c = search needs
-
-shared-slice-read-end : tie.Need-shared-slice-read-end
-shared-slice-read-end c = search needs
-
 add-end : tie.Need-add-end
 add-end c =
     let s = c .before .before .before .before .before .before in
     let n = length (s .args .ends .now) in
     omega (arith, s .pre .some, s .pre .fits .small, begin-later (s .args .ends .now) n (λ z. omega (arith, s .pre .some)))
 
-mul-end-2 : tie.Need-mul-end-2
-mul-end-2 c = search needs
-
 add-end-2 : tie.Need-add-end-2
 add-end-2 c =
     let s = c .before .before .before .before .before .before in
     let n = length (s .args .ends .now) in
     omega (arith, s .pre .some, s .pre .fits .small, begin-later (s .args .ends .now) n (λ z. omega (arith, s .pre .some)))
-
-largest-requires : tie.Need-largest-requires
-largest-requires c κs = search needs
-
-cast-back-in : tie.Need-cast-back-in
-cast-back-in c = search needs
-
-add-back-in : tie.Need-add-back-in
-add-back-in c = search needs
-
-back-in-requires : tie.Need-back-in-requires
-back-in-requires c κs = search needs
-
-mul-at : tie.Need-mul-at
-mul-at c = search needs
 
 -- ids are words
 words : (c : tie.After-back-in) (i : ℕ) → i < length (c .before .before .before .before .before .before .before .before .args .ends .now) → getD (c .before .before .before .before .before .before .before .before .args .ids .now) i 0 < 2 ^ 32
@@ -113,9 +86,6 @@ store-list-requires c κs =
           ∙ ap (λ (k : ℕ). replicate {A = ℕ} (4 * k) 0) (z .back-is);
     }
 
-cast-write-image-with : tie.Need-cast-write-image-with
-cast-write-image-with c = search needs
-
 cast-write-image-with-2 : tie.Need-cast-write-image-with-2
 cast-write-image-with-2 c =
     let z = known (c .before .before .before .before .before .before .before .before) in
@@ -140,9 +110,6 @@ cast-result c =
     let z = known (c .before .before .before .before .before .before .before .before .before .before .before .before) in
     omega (arith, z .small)
 
-same-length : tie.Need-same-length
-same-length c = search needs
-
 returns : tie.Need-returns
 returns c =
     let s = c .before .before .before .before .before .before .before .before .before .before .before .before .before .before .before .before .before .before .before .before in
@@ -166,25 +133,25 @@ pub write-list-spec : {M : Type 1} → statement M
 write-list-spec =
     tie.close
     (tie.spec
-    sub-end
-    mul-end
-    shared-slice-read-end
+    (λ c. search needs)
+    (λ c. search needs)
+    (λ c. search needs)
     add-end
-    mul-end-2
+    (λ c. search needs)
     add-end-2
-    largest-requires
-    cast-back-in
-    add-back-in
-    back-in-requires
-    mul-at
+    (λ c κs. search needs)
+    (λ c. search needs)
+    (λ c. search needs)
+    (λ c κs. search needs)
+    (λ c. search needs)
     add-at
     mul-size
     add-size
     clear-requires
     store-list-requires
-    cast-write-image-with
+    (λ c. search needs)
     cast-write-image-with-2
     write-image-with-requires
     cast-result
-    same-length
+    (λ c. search needs)
     returns)

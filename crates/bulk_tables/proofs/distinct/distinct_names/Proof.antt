@@ -9,32 +9,11 @@ use Rattle.bulk_tables.proofs.Offsets.{name-at}
 use Rattle.bulk_tables.proofs.distinct.distinct_names.Statement.{statement}
 use Rattle.bulk_tables.proofs.distinct.distinct_names.Tie as tie
 
-entry-index-requires : tie.Need-entry-index-requires
-entry-index-requires c κs = search needs
-
-entry-index-requires-2 : tie.Need-entry-index-requires-2
-entry-index-requires-2 c κs = search needs
-
-entry-offset-requires : tie.Need-entry-offset-requires
-entry-offset-requires c κs = search needs
-
 returns : tie.Need-returns
 returns c = λ e. absurd (false-not-true e)
 
-entry-offset-requires-2 : tie.Need-entry-offset-requires-2
-entry-offset-requires-2 c κs = search needs
-
 returns-2 : tie.Need-returns-2
 returns-2 c = λ e. absurd (false-not-true e)
-
-name-of-requires : tie.Need-name-of-requires
-name-of-requires c κs = search needs
-
-name-of-requires-2 : tie.Need-name-of-requires-2
-name-of-requires-2 c κs = search needs
-
-same-requires : tie.Need-same-requires
-same-requires c κs = search needs
 
 returns-3 : tie.Need-returns-3
 returns-3 c =
@@ -54,13 +33,13 @@ pub distinct-names-spec : {M : Type 1} → statement M
 distinct-names-spec =
     tie.close
     (tie.spec
-    entry-index-requires
-    entry-index-requires-2
-    entry-offset-requires
+    (λ c κs. search needs)
+    (λ c κs. search needs)
+    (λ c κs. search needs)
     returns
-    entry-offset-requires-2
+    (λ c κs. search needs)
     returns-2
-    name-of-requires
-    name-of-requires-2
-    same-requires
+    (λ c κs. search needs)
+    (λ c κs. search needs)
+    (λ c κs. search needs)
     returns-3)

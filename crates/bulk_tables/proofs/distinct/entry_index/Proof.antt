@@ -17,9 +17,6 @@ Inv-loop ends offset low₀ high₀ low high = Range ends low high
 abbrev μ-loop : tie.MeasureT-loop
 μ-loop ends offset low₀ high₀ low high = high - low
 
-loop-holds : tie.Need-loop-holds Inv-loop μ-loop
-loop-holds c = search needs
-
 sub-loop : tie.Need-sub-loop Inv-loop μ-loop
 sub-loop c = omega arith
 
@@ -29,20 +26,11 @@ sub-middle c = omega arith
 add-middle : tie.Need-add-middle Inv-loop μ-loop
 add-middle c = omega arith
 
-entry-offset-requires : tie.Need-entry-offset-requires Inv-loop μ-loop
-entry-offset-requires c κs = search needs
-
 loop-less : tie.Need-loop-less Inv-loop μ-loop
 loop-less c = omega arith
 
-loop-again : tie.Need-loop-again Inv-loop μ-loop
-loop-again c = search needs
-
 loop-less-2 : tie.Need-loop-less-2 Inv-loop μ-loop
 loop-less-2 c = omega arith
-
-loop-again-2 : tie.Need-loop-again-2 Inv-loop μ-loop
-loop-again-2 c = search needs
 
 returns : tie.Need-returns Inv-loop μ-loop
 returns c = omega arith
@@ -53,13 +41,13 @@ entry-index-spec =
     (tie.spec
     Inv-loop
     μ-loop
-    loop-holds
+    (λ c. search needs)
     sub-loop
     sub-middle
     add-middle
-    entry-offset-requires
+    (λ c κs. search needs)
     loop-less
-    loop-again
+    (λ c. search needs)
     loop-less-2
-    loop-again-2
+    (λ c. search needs)
     returns)

@@ -8,23 +8,11 @@ use Rattle.bulk_tables.proofs.distinct.entry_offset.Tie as tie
 returns : tie.Need-returns
 returns c = let a = c .before .args in offset-first (a .ends .now) (a .i) (c .if1 .taken)
 
-sub-result : tie.Need-sub-result
-sub-result c = search needs
-
-mul-result : tie.Need-mul-result
-mul-result c = search needs
-
-shared-slice-read-result : tie.Need-shared-slice-read-result
-shared-slice-read-result c = search needs
-
 add-result : tie.Need-add-result
 add-result c =
     let s = c .before .before in
     let e = offset-later (s .args .ends .now) (s .args .i) (c .before .if1 .left) in
     omega (arith, e, s .pre .offsets .offsets-fit (s .args .i) (omega (arith, s .pre .inside)))
-
-mul-result-2 : tie.Need-mul-result-2
-mul-result-2 c = search needs
 
 add-result-2 : tie.Need-add-result-2
 add-result-2 c =
@@ -38,4 +26,4 @@ returns-2 c = let a = c .before .before .args in offset-later (a .ends .now) (a 
 pub entry-offset-spec : {M : Type 1} → statement M
 entry-offset-spec =
     tie.close
-    (tie.spec returns sub-result mul-result shared-slice-read-result add-result mul-result-2 add-result-2 returns-2)
+    (tie.spec returns (λ c. search needs) (λ c. search needs) (λ c. search needs) add-result (λ c. search needs) add-result-2 returns-2)

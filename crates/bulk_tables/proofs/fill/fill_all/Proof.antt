@@ -34,12 +34,6 @@ loop-holds c =
     let a = c .before .before .before .args in
     all-start (a .distinct) (a .bytes .now) (a .ends .now) (a .scratch .now) (a .lasts .now)
 
-mul-end : tie.Need-mul-end Inv-loop μ-loop
-mul-end c = search needs
-
-element-copy-out-end : tie.Need-element-copy-out-end Inv-loop μ-loop
-element-copy-out-end c = search needs
-
 cast-end : tie.Need-cast-end Inv-loop μ-loop
 cast-end c =
     let e = c .before in
@@ -57,12 +51,6 @@ same-length c = let d = called (c .before) in d .fill-table .kept .1 .1 .1 .0 �
 
 returns : tie.Need-returns Inv-loop μ-loop
 returns c = λ e. absurd (false-not-true e)
-
-add-t : tie.Need-add-t Inv-loop μ-loop
-add-t c = search needs
-
-loop-less : tie.Need-loop-less Inv-loop μ-loop
-loop-less c = search needs
 
 loop-again : tie.Need-loop-again Inv-loop μ-loop
 loop-again c =
@@ -91,15 +79,15 @@ fill-all-spec =
     Inv-loop
     μ-loop
     loop-holds
-    mul-end
-    element-copy-out-end
+    (λ c. search needs)
+    (λ c. search needs)
     cast-end
     sub-fill-table
     fill-table-requires
     same-length
     returns
-    add-t
-    loop-less
+    (λ c. search needs)
+    (λ c. search needs)
     loop-again
     same-length-2
     returns-2)

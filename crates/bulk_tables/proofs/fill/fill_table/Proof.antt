@@ -31,47 +31,14 @@ probed c = c .before .before .before
 
 -- ---- the needs
 
-pairs-at-requires : tie.Need-pairs-at-requires Inv-loop μ-loop
-pairs-at-requires c κs = search needs
-
-buckets-at-requires : tie.Need-buckets-at-requires Inv-loop μ-loop
-buckets-at-requires c κs = search needs
-
-mul-m : tie.Need-mul-m Inv-loop μ-loop
-mul-m c = search needs
-
 loop-holds : tie.Need-loop-holds Inv-loop μ-loop
 loop-holds c = let s = start c in filling-start (s .pre) (s .args .distinct)
-
-add-hash-at : tie.Need-add-hash-at Inv-loop μ-loop
-add-hash-at c = search needs
-
-hash-at-requires : tie.Need-hash-at-requires Inv-loop μ-loop
-hash-at-requires c κs = search needs
-
-add-offset-at : tie.Need-add-offset-at Inv-loop μ-loop
-add-offset-at c = search needs
-
-offset-at-requires : tie.Need-offset-at-requires Inv-loop μ-loop
-offset-at-requires c κs = search needs
-
-probe-requires : tie.Need-probe-requires Inv-loop μ-loop
-probe-requires c κs = search needs
 
 same-length : tie.Need-same-length Inv-loop μ-loop
 same-length c = entered (c .before) .before .loop .inv .long
 
 returns : tie.Need-returns Inv-loop μ-loop
 returns c = λ e. absurd (false-not-true e)
-
-store-pair-requires : tie.Need-store-pair-requires Inv-loop μ-loop
-store-pair-requires c κs = search needs
-
-add-i : tie.Need-add-i Inv-loop μ-loop
-add-i c = search needs
-
-loop-less : tie.Need-loop-less Inv-loop μ-loop
-loop-less c = search needs
 
 loop-again : tie.Need-loop-again Inv-loop μ-loop
 loop-again c =
@@ -117,20 +84,20 @@ fill-table-spec =
     (tie.spec
     Inv-loop
     μ-loop
-    pairs-at-requires
-    buckets-at-requires
-    mul-m
+    (λ c κs. search needs)
+    (λ c κs. search needs)
+    (λ c. search needs)
     loop-holds
-    add-hash-at
-    hash-at-requires
-    add-offset-at
-    offset-at-requires
-    probe-requires
+    (λ c. search needs)
+    (λ c κs. search needs)
+    (λ c. search needs)
+    (λ c κs. search needs)
+    (λ c κs. search needs)
     same-length
     returns
-    store-pair-requires
-    add-i
-    loop-less
+    (λ c κs. search needs)
+    (λ c. search needs)
+    (λ c. search needs)
     loop-again
     same-length-2
     returns-2)

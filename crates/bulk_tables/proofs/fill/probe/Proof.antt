@@ -30,20 +30,11 @@ read c = c .before .before
 
 -- ---- the needs
 
-cast-k : tie.Need-cast-k Inv-loop μ-loop
-cast-k c = search needs
-
-rem-k : tie.Need-rem-k Inv-loop μ-loop
-rem-k c = search needs
-
 loop-holds : tie.Need-loop-holds Inv-loop μ-loop
 loop-holds c =
     let s = c .before .before .before in
     let a = s .args in
     remaining-start (bucketIn (a .scratch .now) (a .o)) (a .distinct) (sameNames (a .bytes .now) (a .ends .now) (a .offset)) (a .h) (a .m) (s .pre .some)
-
-offset-at-requires : tie.Need-offset-at-requires Inv-loop μ-loop
-offset-at-requires c κs = search needs
 
 returns : tie.Need-returns Inv-loop μ-loop
 returns c =
@@ -57,26 +48,8 @@ returns c =
       no-match = λ below. no-match (l .inv) more empty;
     }
 
-hash-at-requires : tie.Need-hash-at-requires Inv-loop μ-loop
-hash-at-requires c κs = search needs
-
-distinct-names-requires : tie.Need-distinct-names-requires Inv-loop μ-loop
-distinct-names-requires c κs = search needs
-
 returns-2 : tie.Need-returns-2 Inv-loop μ-loop
 returns-2 c = record { first = λ below. absurd (omega arith); no-match = λ below. absurd (omega arith) }
-
-add-if5 : tie.Need-add-if5 Inv-loop μ-loop
-add-if5 c = search needs
-
-add-k : tie.Need-add-k Inv-loop μ-loop
-add-k c = search needs
-
-sub-left : tie.Need-sub-left Inv-loop μ-loop
-sub-left c = search needs
-
-loop-less : tie.Need-loop-less Inv-loop μ-loop
-loop-less c = search needs
 
 loop-again : tie.Need-loop-again Inv-loop μ-loop
 loop-again c =
@@ -110,17 +83,17 @@ probe-spec =
     (tie.spec
     Inv-loop
     μ-loop
-    cast-k
-    rem-k
+    (λ c. search needs)
+    (λ c. search needs)
     loop-holds
-    offset-at-requires
+    (λ c κs. search needs)
     returns
-    hash-at-requires
-    distinct-names-requires
+    (λ c κs. search needs)
+    (λ c κs. search needs)
     returns-2
-    add-if5
-    add-k
-    sub-left
-    loop-less
+    (λ c. search needs)
+    (λ c. search needs)
+    (λ c. search needs)
+    (λ c. search needs)
     loop-again
     returns-3)

@@ -71,18 +71,6 @@ loop-holds c =
       no-zeros = λ e j h. absurd (omega arith);
     }
 
-name-of-requires : tie.Need-name-of-requires Inv-loop μ-loop
-name-of-requires c κs = search needs
-
-key-requires : tie.Need-key-requires Inv-loop μ-loop
-key-requires c κs = search needs
-
-mul-hashes : tie.Need-mul-hashes Inv-loop μ-loop
-mul-hashes c = search needs
-
-slice-write-hashes : tie.Need-slice-write-hashes Inv-loop μ-loop
-slice-write-hashes c = search needs
-
 raise-requires : tie.Need-raise-requires Inv-loop μ-loop
 raise-requires c κs =
     let k = c .before in
@@ -92,15 +80,6 @@ raise-requires c κs =
     let t = tableOf (k .key .result) in
     let T = tableOfName (names (s .args .bytes .now) (s .args .ends .now)) in
     omega (arith, l .inv .hashed .counts-are t (mod-lt (k .key .result) (omega arith)), count-le T t (l .i), e .loop-test .taken, s .pre .count-fits)
-
-has-zero-requires : tie.Need-has-zero-requires Inv-loop μ-loop
-has-zero-requires c κs = search needs
-
-add-i : tie.Need-add-i Inv-loop μ-loop
-add-i c = search needs
-
-loop-less : tie.Need-loop-less Inv-loop μ-loop
-loop-less c = search needs
 
 loop-again : tie.Need-loop-again Inv-loop μ-loop
 loop-again c =
@@ -155,14 +134,14 @@ hash-all-spec =
     Inv-loop
     μ-loop
     loop-holds
-    name-of-requires
-    key-requires
-    mul-hashes
-    slice-write-hashes
+    (λ c κs. search needs)
+    (λ c κs. search needs)
+    (λ c. search needs)
+    (λ c. search needs)
     raise-requires
-    has-zero-requires
-    add-i
-    loop-less
+    (λ c κs. search needs)
+    (λ c. search needs)
+    (λ c. search needs)
     loop-again
     same-length
     returns)

@@ -37,29 +37,11 @@ mul-offset c = let l = c .before in omega (arith, offset-fits (start l .pre) (l 
 add-offset-2 : tie.Need-add-offset-2 Inv-loop μ-loop
 add-offset-2 c = let l = c .before in omega (arith, offset-fits (start l .pre) (l .loop .inv))
 
-mul-scatter-pair : tie.Need-mul-scatter-pair Inv-loop μ-loop
-mul-scatter-pair c = search needs
-
-shared-slice-read-scatter-pair : tie.Need-shared-slice-read-scatter-pair Inv-loop μ-loop
-shared-slice-read-scatter-pair c = search needs
-
 cast-scatter-pair : tie.Need-cast-scatter-pair Inv-loop μ-loop
 cast-scatter-pair c = let l = entered c .before in omega (arith, offset-fits (start l .pre) (l .loop .inv))
 
 scatter-pair-requires : tie.Need-scatter-pair-requires Inv-loop μ-loop
 scatter-pair-requires c κs = let e = entered c in scatter-pre (start (e .before) .pre) (e .before .loop .inv) (e .loop-test .taken)
-
-mul-from : tie.Need-mul-from Inv-loop μ-loop
-mul-from c = search needs
-
-shared-slice-read-from : tie.Need-shared-slice-read-from Inv-loop μ-loop
-shared-slice-read-from c = search needs
-
-add-i : tie.Need-add-i Inv-loop μ-loop
-add-i c = search needs
-
-loop-less : tie.Need-loop-less Inv-loop μ-loop
-loop-less c = search needs
 
 loop-again : tie.Need-loop-again Inv-loop μ-loop
 loop-again c =
@@ -83,14 +65,14 @@ partition-pairs-spec =
     add-offset
     mul-offset
     add-offset-2
-    mul-scatter-pair
-    shared-slice-read-scatter-pair
+    (λ c. search needs)
+    (λ c. search needs)
     cast-scatter-pair
     scatter-pair-requires
-    mul-from
-    shared-slice-read-from
-    add-i
-    loop-less
+    (λ c. search needs)
+    (λ c. search needs)
+    (λ c. search needs)
+    (λ c. search needs)
     loop-again
     same-length
     returns)

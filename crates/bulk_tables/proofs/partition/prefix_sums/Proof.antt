@@ -39,9 +39,6 @@ element-write-firsts c = omega (arith, c .before .loop .inv .sums .rows)
 mul-first : tie.Need-mul-first Inv-loop μ-loop
 mul-first c = omega arith
 
-element-copy-out-first : tie.Need-element-copy-out-first Inv-loop μ-loop
-element-copy-out-first c = search needs
-
 abbrev head : tie.After-first Inv-loop μ-loop → tie.At-loop Inv-loop μ-loop
 head c = c .before .before
 
@@ -89,4 +86,4 @@ returns c =
 pub prefix-sums-spec : {M : Type 1} → statement M
 prefix-sums-spec =
     tie.close
-    (tie.spec Inv-loop μ-loop loop-holds mul-firsts element-write-firsts mul-first element-copy-out-first add-first add-t loop-less loop-again returns)
+    (tie.spec Inv-loop μ-loop loop-holds mul-firsts element-write-firsts mul-first (λ c. search needs) add-first add-t loop-less loop-again returns)

@@ -8,36 +8,6 @@ use borrow.Author.Needs.{needs}
 use Rattle.bulk_tables.proofs.partition.scatter_pair.Statement.{statement}
 use Rattle.bulk_tables.proofs.partition.scatter_pair.Tie as tie
 
-cast-t : tie.Need-cast-t
-cast-t c = search needs
-
-mul-p : tie.Need-mul-p
-mul-p c = search needs
-
-element-copy-out-p : tie.Need-element-copy-out-p
-element-copy-out-p c = search needs
-
-pairs-at-requires : tie.Need-pairs-at-requires
-pairs-at-requires c κs = search needs
-
-cast-store-pair : tie.Need-cast-store-pair
-cast-store-pair c = search needs
-
-store-pair-requires : tie.Need-store-pair-requires
-store-pair-requires c κs = search needs
-
-add-places : tie.Need-add-places
-add-places c = search needs
-
-mul-places : tie.Need-mul-places
-mul-places c = search needs
-
-element-write-places : tie.Need-element-write-places
-element-write-places c = search needs
-
-same-length : tie.Need-same-length
-same-length c = search needs
-
 returns : tie.Need-returns
 returns c =
     let stored = c .before .before in
@@ -52,14 +22,14 @@ pub scatter-pair-spec : {M : Type 1} → statement M
 scatter-pair-spec =
     tie.close
     (tie.spec
-    cast-t
-    mul-p
-    element-copy-out-p
-    pairs-at-requires
-    cast-store-pair
-    store-pair-requires
-    add-places
-    mul-places
-    element-write-places
-    same-length
+    (λ c. search needs)
+    (λ c. search needs)
+    (λ c. search needs)
+    (λ c κs. search needs)
+    (λ c. search needs)
+    (λ c κs. search needs)
+    (λ c. search needs)
+    (λ c. search needs)
+    (λ c. search needs)
+    (λ c. search needs)
     returns)

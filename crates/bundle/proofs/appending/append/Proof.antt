@@ -6,12 +6,6 @@ use borrow.Author.Needs.{needs}
 use Rattle.bundle.proofs.appending.append.Statement.{statement}
 use Rattle.bundle.proofs.appending.append.Tie as tie
 
-append-refusal-requires : tie.Need-append-refusal-requires
-append-refusal-requires c κs = search needs
-
-same-length : tie.Need-same-length
-same-length c = search needs
-
 returns : tie.Need-returns
 returns c =
     let a = c .before .before .before .before .before .args in
@@ -35,9 +29,6 @@ store-bytes-requires c κs =
     let none = sym (c .before .before .append-refusal .ensures) ∙ c .before .if1 .left in
     omega (arith, passed buf (a .end) image none .room)
 
-same-length-2 : tie.Need-same-length-2
-same-length-2 c = search needs
-
 returns-2 : tie.Need-returns-2
 returns-2 c =
     let a = c .before .before .before .before .before .before .before .before .before .args in
@@ -51,10 +42,10 @@ pub append-spec : {M : Type 1} → statement M
 append-spec =
     tie.close
     (tie.spec
-    append-refusal-requires
-    same-length
+    (λ c κs. search needs)
+    (λ c. search needs)
     returns
     add-joined
     store-bytes-requires
-    same-length-2
+    (λ c. search needs)
     returns-2)

@@ -19,9 +19,6 @@ slice-aggregate-whole c =
     let a = c .before .before .before .before .args in
     sym (length-take-le (a .end) (a .buf .now) (c .before .if1 .left))
 
-whole-requires : tie.Need-whole-requires
-whole-requires c κs = search needs
-
 returns-2 : tie.Need-returns-2
 returns-2 c =
     let a = c .before .before .before .before .before .before .args in
@@ -29,9 +26,6 @@ returns-2 c =
     let image = a .image .now in
     let w = c .before .whole in
     refuses-broken buf (a .end) image (c .before .before .before .if1 .left) (sym (w .ensures) ∙ not-true (w .result) (c .if2 .taken))
-
-unfit-requires : tie.Need-unfit-requires
-unfit-requires c κs = search needs
 
 returns-3 : tie.Need-returns-3
 returns-3 c =
@@ -41,9 +35,6 @@ returns-3 c =
     let w = c .before .before .before .whole in
     let walked = sym (w .ensures) ∙ not-false (w .result) (c .before .before .if2 .left) in
     refuses-unfit buf (a .end) image (c .before .before .before .before .before .if1 .left) walked (sym (c .before .unfit .ensures) ∙ c .if3 .taken)
-
-sub-if4 : tie.Need-sub-if4
-sub-if4 c = search needs
 
 abbrev start : tie.Else3 → tie.Start
 start c = c .before .before .before .before .before .before .before .before
@@ -76,10 +67,10 @@ append-refusal-spec =
     (tie.spec
     returns
     slice-aggregate-whole
-    whole-requires
+    (λ c κs. search needs)
     returns-2
-    unfit-requires
+    (λ c κs. search needs)
     returns-3
-    sub-if4
+    (λ c. search needs)
     returns-4
     returns-5)

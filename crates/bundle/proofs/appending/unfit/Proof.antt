@@ -15,16 +15,10 @@ returns c =
     let image = c .before .before .args .image .now in
     simp (lt-ltb (length image) 2072 (c .if1 .taken))
 
-word-requires : tie.Need-word-requires
-word-requires c κs = search needs
-
-cast-result : tie.Need-cast-result
-cast-result c = search needs
-
 returns-2 : tie.Need-returns-2
 returns-2 c =
     let image = c .before .before .before .args .image .now in
     simp (le-ltb (length image) 2072 (c .before .if1 .left)) (ap (λ (w : ℕ). not (eqb w (length image))) (c .word .ensures))
 
 pub unfit-spec : {M : Type 1} → statement M
-unfit-spec = tie.close (tie.spec returns word-requires cast-result returns-2)
+unfit-spec = tie.close (tie.spec returns (λ c κs. search needs) (λ c. search needs) returns-2)

@@ -6,15 +6,6 @@ use borrow.Author.Needs.{needs}
 use Rattle.bundle.proofs.appending.whole.Statement.{statement}
 use Rattle.bundle.proofs.appending.whole.Tie as tie
 
-count-requires : tie.Need-count-requires
-count-requires c κs = search needs
-
-enum-told : tie.Need-enum-told
-enum-told c = search needs
-
-enum-told-2 : tie.Need-enum-told-2
-enum-told-2 c = search needs
-
 returns : tie.Need-returns
 returns c = ap isValue (ap countedOf (sym (c .enum-told .given .1)) ∙ c .before .before .count .ensures)
 
@@ -22,4 +13,4 @@ returns-2 : tie.Need-returns-2
 returns-2 c = ap isValue (ap countedOf (sym (c .enum-told2 .given .1)) ∙ c .before .before .count .ensures)
 
 pub whole-spec : {M : Type 1} → statement M
-whole-spec = tie.close (tie.spec count-requires enum-told enum-told-2 returns returns-2)
+whole-spec = tie.close (tie.spec (λ c κs. search needs) (λ c. search needs) (λ c. search needs) returns returns-2)

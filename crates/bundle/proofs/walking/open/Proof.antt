@@ -9,12 +9,6 @@ use borrow.Author.Needs.{needs}
 use Rattle.bundle.proofs.walking.open.Statement.{statement}
 use Rattle.bundle.proofs.walking.open.Tie as tie
 
-place-requires : tie.Need-place-requires
-place-requires c κs = search needs
-
-enum-known-start : tie.Need-enum-known-start
-enum-known-start c = search needs
-
 add-open : tie.Need-add-open
 add-open c =
     let a = c .before .before .before .before .before .args in
@@ -22,30 +16,12 @@ add-open c =
     let told = sym (c .before .before .before .place .ensures) ∙ ap placedOf (of-start .1) in
     omega (arith, place-inside (a .file .now) (a .position) (of-start .0 .0) (of-start .0 .1 .0) told)
 
-sub-open : tie.Need-sub-open
-sub-open c = search needs
-
-part-open-start : tie.Need-part-open-start
-part-open-start c = search needs
-
 part-open-end : tie.Need-part-open-end
 part-open-end c =
     let a = c .before .before .before .before .before .args in
     let of-start = c .before .start .given in
     let told = sym (c .before .before .before .place .ensures) ∙ ap placedOf (of-start .1) in
     omega (arith, place-inside (a .file .now) (a .position) (of-start .0 .0) (of-start .0 .1 .0) told)
-
-open-requires : tie.Need-open-requires
-open-requires c κs = search needs
-
-enum-known-num : tie.Need-enum-known-num
-enum-known-num c = search needs
-
-enum-known-k : tie.Need-enum-known-k
-enum-known-k c = search needs
-
-enum-known-k-2 : tie.Need-enum-known-k-2
-enum-known-k-2 c = search needs
 
 abbrev after-place : tie.After-open → tie.After-place
 after-place c = c .before .before .before .before .before
@@ -81,16 +57,16 @@ pub open-spec : {M : Type 1} → statement M
 open-spec =
     tie.close
     (tie.spec
-    place-requires
-    enum-known-start
+    (λ c κs. search needs)
+    (λ c. search needs)
     add-open
-    sub-open
-    part-open-start
+    (λ c. search needs)
+    (λ c. search needs)
     part-open-end
-    open-requires
-    enum-known-num
-    enum-known-k
-    enum-known-k-2
+    (λ c κs. search needs)
+    (λ c. search needs)
+    (λ c. search needs)
+    (λ c. search needs)
     returns
     returns-2
     returns-3)

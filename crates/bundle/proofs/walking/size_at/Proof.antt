@@ -5,23 +5,11 @@ use borrow.Author.Needs.{needs}
 use Rattle.bundle.proofs.walking.size_at.Statement.{statement}
 use Rattle.bundle.proofs.walking.size_at.Tie as tie
 
-sub-if1 : tie.Need-sub-if1
-sub-if1 c = search needs
-
 returns : tie.Need-returns
 returns c =
     let start = c .before .before in
     let says = size-short (start .args .file .now) (start .args .at) (start .pre) (c .if1 .taken) in
     (says, omega (arith, start .pre))
-
-add-word : tie.Need-add-word
-add-word c = search needs
-
-word-requires : tie.Need-word-requires
-word-requires c κs = search needs
-
-cast-size : tie.Need-cast-size
-cast-size c = search needs
 
 returns-2 : tie.Need-returns-2
 returns-2 c =
@@ -29,9 +17,6 @@ returns-2 c =
     let of-word = c .before .word in
     let says = size-small (start .args .file .now) (start .args .at) (of-word .result) (start .pre) (c .before .before .if1 .left) (of-word .ensures) (c .if2 .taken) in
     (says, omega (arith, start .pre))
-
-sub-if3 : tie.Need-sub-if3
-sub-if3 c = search needs
 
 returns-3 : tie.Need-returns-3
 returns-3 c =
@@ -53,12 +38,12 @@ pub size-at-spec : {M : Type 1} → statement M
 size-at-spec =
     tie.close
     (tie.spec
-    sub-if1
+    (λ c. search needs)
     returns
-    add-word
-    word-requires
-    cast-size
+    (λ c. search needs)
+    (λ c κs. search needs)
+    (λ c. search needs)
     returns-2
-    sub-if3
+    (λ c. search needs)
     returns-3
     returns-4)

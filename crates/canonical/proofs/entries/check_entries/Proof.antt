@@ -82,20 +82,11 @@ mul-h c = let p = c .before .before .prefetch in omega (arith, p .ensures .some,
 array-read-h : tie.Need-array-read-h Inv-loop μ-loop
 array-read-h c = let p = c .before .before .prefetch in omega (arith, p .ensures .some, p .ensures .cache .most)
 
-size-at-requires : tie.Need-size-at-requires Inv-loop μ-loop
-size-at-requires c κs = search needs
-
 mul-get-u32 : tie.Need-mul-get-u32 Inv-loop μ-loop
 mul-get-u32 c = omega (arith, c .size-at .ensures .small)
 
 add-get-u32 : tie.Need-add-get-u32 Inv-loop μ-loop
 add-get-u32 c = omega (arith, c .size-at .ensures .small, start ((in-loop (c .before)) .before) .pre .links)
-
-get-u32-requires : tie.Need-get-u32-requires Inv-loop μ-loop
-get-u32-requires c κs = search needs
-
-not-before-requires : tie.Need-not-before-requires Inv-loop μ-loop
-not-before-requires c κs = search needs
 
 mul-check-entry : tie.Need-mul-check-entry Inv-loop μ-loop
 mul-check-entry c = let p = c .before .before .before .before .before .prefetch in omega (arith, p .ensures .some, p .ensures .cache .most)
@@ -144,12 +135,6 @@ raise-requires c κs =
 
 add-larger : tie.Need-add-larger Inv-loop μ-loop
 add-larger c = omega (arith, c .before .before .before .before .before .before .size-at .ensures .small)
-
-larger-requires : tie.Need-larger-requires Inv-loop μ-loop
-larger-requires c κs = search needs
-
-one-if-equal-requires : tie.Need-one-if-equal-requires Inv-loop μ-loop
-one-if-equal-requires c κs = search needs
 
 add-linked : tie.Need-add-linked Inv-loop μ-loop
 add-linked c =
@@ -219,11 +204,11 @@ check-entries-spec =
     sub-i
     mul-h
     array-read-h
-    size-at-requires
+    (λ c κs. search needs)
     mul-get-u32
     add-get-u32
-    get-u32-requires
-    not-before-requires
+    (λ c κs. search needs)
+    (λ c κs. search needs)
     mul-check-entry
     array-read-check-entry
     mul-check-entry-2
@@ -232,8 +217,8 @@ check-entries-spec =
     returns-2
     raise-requires
     add-larger
-    larger-requires
-    one-if-equal-requires
+    (λ c κs. search needs)
+    (λ c κs. search needs)
     add-linked
     add-at
     add-at-2

@@ -4,21 +4,12 @@ use Rattle.canonical.proofs.EntryBuckets.{name-zero, name-bucket}
 use Rattle.canonical.proofs.entries.check_entry.Statement.{statement}
 use Rattle.canonical.proofs.entries.check_entry.Tie as tie
 
-name-at-requires : tie.Need-name-at-requires
-name-at-requires c κs = search needs
-
-has-zero-requires : tie.Need-has-zero-requires
-has-zero-requires c κs = search needs
-
 returns : tie.Need-returns
 returns c =
     let a = c .before .before .before .before .args in
     let name = c .before .before .name-at in
     let zero = c .before .has-zero in
     name-zero (a .image .now) (a .at) (a .n) (name .result .now) (zero .result) (name .ensures .0) (zero .ensures) (c .if1 .taken)
-
-cast-in-bucket-cached : tie.Need-cast-in-bucket-cached
-cast-in-bucket-cached c = search needs
 
 in-bucket-cached-requires : tie.Need-in-bucket-cached-requires
 in-bucket-cached-requires c κs = c .before .before .before .before .pre .bucket
@@ -37,9 +28,9 @@ pub check-entry-spec : {M : Type 1} → statement M
 check-entry-spec =
     tie.close
     (tie.spec
-    name-at-requires
-    has-zero-requires
+    (λ c κs. search needs)
+    (λ c κs. search needs)
     returns
-    cast-in-bucket-cached
+    (λ c. search needs)
     in-bucket-cached-requires
     returns-2)

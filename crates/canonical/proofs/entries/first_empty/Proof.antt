@@ -22,12 +22,6 @@ loop-holds c =
     let a = c .before .args in
     probing-start (a .image .now) (a .o) (a .n) (a .k) (a .at) (c .before .pre .start)
 
-offset-at-requires : tie.Need-offset-at-requires Inv-loop μ-loop
-offset-at-requires c κs = search needs
-
-hide-requires : tie.Need-hide-requires Inv-loop μ-loop
-hide-requires c κs = search needs
-
 -- the bucket's offset, as it counts
 offset : (c : tie.After-hide Inv-loop μ-loop)
     → let a = c .before .before .before .before .before .args in
@@ -38,18 +32,6 @@ returns : tie.Need-returns Inv-loop μ-loop
 returns c =
     let l = c .before .before .before .before in
     probing-here (l .loop .inv) (c .before .before .before .loop-test .taken) (sym (offset (c .before)) ∙ c .if1 .taken)
-
-add-if2 : tie.Need-add-if2 Inv-loop μ-loop
-add-if2 c = search needs
-
-add-i : tie.Need-add-i Inv-loop μ-loop
-add-i c = search needs
-
-sub-left : tie.Need-sub-left Inv-loop μ-loop
-sub-left c = search needs
-
-loop-less : tie.Need-loop-less Inv-loop μ-loop
-loop-less c = search needs
 
 loop-again : tie.Need-loop-again Inv-loop μ-loop
 loop-again c =
@@ -71,12 +53,12 @@ first-empty-spec =
     Inv-loop
     μ-loop
     loop-holds
-    offset-at-requires
-    hide-requires
+    (λ c κs. search needs)
+    (λ c κs. search needs)
     returns
-    add-if2
-    add-i
-    sub-left
-    loop-less
+    (λ c. search needs)
+    (λ c. search needs)
+    (λ c. search needs)
+    (λ c. search needs)
     loop-again
     returns-2)

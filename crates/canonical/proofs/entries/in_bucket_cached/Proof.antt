@@ -14,19 +14,10 @@ sub-get-u32 c =
     let s = c .before .before .before in
     place-room (s .args .image .now) (s .args .h) (s .pre) (c .before .if1 .left)
 
-get-u32-requires : tie.Need-get-u32-requires
-get-u32-requires c κs = search needs
-
 returns-2 : tie.Need-returns-2
 returns-2 c =
     let s = c .before .before .before .before in
     cached-hit (s .args .image .now) (s .args .h) (s .pre) (c .before .before .if1 .left) (s .args .at) (c .get-u32 .result) (c .before .if2 .taken) (c .get-u32 .ensures)
 
-in-its-bucket-requires : tie.Need-in-its-bucket-requires
-in-its-bucket-requires c κs = search needs
-
-returns-3 : tie.Need-returns-3
-returns-3 c = search needs
-
 pub in-bucket-cached-spec : {M : Type 1} → statement M
-in-bucket-cached-spec = tie.close (tie.spec returns sub-get-u32 get-u32-requires returns-2 in-its-bucket-requires returns-3)
+in-bucket-cached-spec = tie.close (tie.spec returns sub-get-u32 (λ c κs. search needs) returns-2 (λ c κs. search needs) (λ c. search needs))

@@ -7,23 +7,11 @@ use Rattle.canonical.proofs.EntryBuckets.{bucket-none, bucket-other, bu
 use Rattle.canonical.proofs.entries.in_its_bucket.Statement.{statement}
 use Rattle.canonical.proofs.entries.in_its_bucket.Tie as tie
 
-table-at-requires : tie.Need-table-at-requires
-table-at-requires c κs = search needs
-
-bucket-number-requires : tie.Need-bucket-number-requires
-bucket-number-requires c κs = search needs
-
 returns : tie.Need-returns
 returns c =
     let a = c .before .before .before .before .args in
     let n = c .before .bucket-number in
     bucket-none (a .image .now) (a .h) (a .at) (n .result) (n .ensures .0) (c .if1 .taken)
-
-cast-first-empty : tie.Need-cast-first-empty
-cast-first-empty c = search needs
-
-rem-first-empty : tie.Need-rem-first-empty
-rem-first-empty c = search needs
 
 first-empty-requires : tie.Need-first-empty-requires
 first-empty-requires c κs = record {
@@ -31,9 +19,6 @@ first-empty-requires c κs = record {
   place = search needs;
   number = search needs;
 }
-
-hash-at-requires : tie.Need-hash-at-requires
-hash-at-requires c κs = search needs
 
 returns-2 : tie.Need-returns-2
 returns-2 c =
@@ -43,9 +28,6 @@ returns-2 c =
     let n = some .before .bucket-number .ensures .0 in
     let w = c .before .hash-at in
     bucket-other (a .image .now) (a .h) (a .at) o n (some .if1 .left) (c .before .before .first-empty .ensures) (w .result) (w .ensures) (c .if2 .taken)
-
-offset-at-requires : tie.Need-offset-at-requires
-offset-at-requires c κs = search needs
 
 returns-3 : tie.Need-returns-3
 returns-3 c =
@@ -62,13 +44,13 @@ pub in-its-bucket-spec : {M : Type 1} → statement M
 in-its-bucket-spec =
     tie.close
     (tie.spec
-    table-at-requires
-    bucket-number-requires
+    (λ c κs. search needs)
+    (λ c κs. search needs)
     returns
-    cast-first-empty
-    rem-first-empty
+    (λ c. search needs)
+    (λ c. search needs)
     first-empty-requires
-    hash-at-requires
+    (λ c κs. search needs)
     returns-2
-    offset-at-requires
+    (λ c κs. search needs)
     returns-3)

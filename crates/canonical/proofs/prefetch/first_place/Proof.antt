@@ -13,23 +13,11 @@ small c =
     let n = c .before .bucket-number in
     omega (arith, start-below (c .before .before .before .before .args .h / 256) (n .result) (c .if1 .left), n .ensures .1, c .before .before .table-at .ensures .1)
 
-table-at-requires : tie.Need-table-at-requires
-table-at-requires c κs = search needs
-
-bucket-number-requires : tie.Need-bucket-number-requires
-bucket-number-requires c κs = search needs
-
 returns : tie.Need-returns
 returns c =
     let a = c .before .before .before .before .args in
     let n = c .before .bucket-number in
     place-zero (a .image .now) (a .h) (n .result) (n .ensures .0) (c .if1 .taken)
-
-cast-result : tie.Need-cast-result
-cast-result c = search needs
-
-rem-result : tie.Need-rem-result
-rem-result c = search needs
 
 mul-result : tie.Need-mul-result
 mul-result c = omega (arith, small c)
@@ -51,11 +39,11 @@ pub first-place-spec : {M : Type 1} → statement M
 first-place-spec =
     tie.close
     (tie.spec
-    table-at-requires
-    bucket-number-requires
+    (λ c κs. search needs)
+    (λ c κs. search needs)
     returns
-    cast-result
-    rem-result
+    (λ c. search needs)
+    (λ c. search needs)
     mul-result
     add-result
     add-result-2

@@ -45,24 +45,12 @@ returns c =
 name-at-requires : tie.Need-name-at-requires Inv-loop μ-loop
 name-at-requires c κs = let r = room c in (omega (arith, start c .pre .area .inside), r .1)
 
-name-hash-requires : tie.Need-name-hash-requires Inv-loop μ-loop
-name-hash-requires c κs = search needs
-
-enum-known-h : tie.Need-enum-known-h Inv-loop μ-loop
-enum-known-h c = search needs
-
-enum-told : tie.Need-enum-told Inv-loop μ-loop
-enum-told c = search needs
-
 returns-2 : tie.Need-returns-2 Inv-loop μ-loop
 returns-2 c =
     let hashed = c .before .before .name-hash in
     let name = c .before .before .before .name-at in
     let n = c .before .before .before .before .before .whole-length in
     absurd (omega (arith, result-refused (name .result .now) 0 (hashed .result) (hashed .ensures) (c .enum-told .given .1), name .ensures .1, n .ensures .1))
-
-first-place-requires : tie.Need-first-place-requires Inv-loop μ-loop
-first-place-requires c κs = search needs
 
 mul-hashes : tie.Need-mul-hashes Inv-loop μ-loop
 mul-hashes c = omega (arith, whole c .before .before .loop-test .taken)
@@ -112,11 +100,11 @@ hash-batch-spec =
     whole-length-requires
     returns
     name-at-requires
-    name-hash-requires
-    enum-known-h
-    enum-told
+    (λ c κs. search needs)
+    (λ c. search needs)
+    (λ c. search needs)
     returns-2
-    first-place-requires
+    (λ c κs. search needs)
     mul-hashes
     element-write-hashes
     mul-places

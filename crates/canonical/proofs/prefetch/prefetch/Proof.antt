@@ -8,14 +8,8 @@ use Rattle.canonical.proofs.prefetch.prefetch.Tie as tie
 returns : tie.Need-returns
 returns c = record { some = c .if1 .taken; cache = c .before .before .pre .cache }
 
-hash-batch-requires : tie.Need-hash-batch-requires
-hash-batch-requires c κs = search needs
-
-read-buckets-requires : tie.Need-read-buckets-requires
-read-buckets-requires c κs = search needs
-
 returns-2 : tie.Need-returns-2
 returns-2 c = record { some = omega arith; cache = cached-new (c .before .before .before .hash-batch .ensures) (c .read-buckets .ensures) }
 
 pub prefetch-spec : {M : Type 1} → statement M
-prefetch-spec = tie.close (tie.spec returns hash-batch-requires read-buckets-requires returns-2)
+prefetch-spec = tie.close (tie.spec returns (λ c κs. search needs) (λ c κs. search needs) returns-2)

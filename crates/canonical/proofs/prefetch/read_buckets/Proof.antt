@@ -22,9 +22,6 @@ mul-get-u32 c = omega (arith, c .loop-test .taken)
 element-copy-out-get-u32 : tie.Need-element-copy-out-get-u32 Inv-loop μ-loop
 element-copy-out-get-u32 c = omega (arith, c .loop-test .taken)
 
-get-u32-requires : tie.Need-get-u32-requires Inv-loop μ-loop
-get-u32-requires c κs = search needs
-
 mul-firsts : tie.Need-mul-firsts Inv-loop μ-loop
 mul-firsts c = omega (arith, c .before .before .loop-test .taken)
 
@@ -56,7 +53,7 @@ read-buckets-spec =
     loop-holds
     mul-get-u32
     element-copy-out-get-u32
-    get-u32-requires
+    (λ c κs. search needs)
     mul-firsts
     element-write-firsts
     add-i

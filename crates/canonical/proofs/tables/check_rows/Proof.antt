@@ -66,22 +66,10 @@ table c = rw (count (c .before .before .before .before .before)) at (c .check-ta
 loop-holds : tie.Need-loop-holds Inv-loop μ-loop
 loop-holds c = rows-start (c .before .pre)
 
-row-number-requires : tie.Need-row-number-requires Inv-loop μ-loop
-row-number-requires c κs = search needs
-
-mul-if1 : tie.Need-mul-if1 Inv-loop μ-loop
-mul-if1 c = search needs
-
 returns : tie.Need-returns Inv-loop μ-loop
 returns c =
     let l = c .before .before in
     row-number (l .before .loop .inv) (l .loop-test .taken) (λ e. c .if1 .taken (rw (c .before .row-number .ensures .is) e))
-
-row-offset-requires : tie.Need-row-offset-requires Inv-loop μ-loop
-row-offset-requires c κs = search needs
-
-offset-of-requires : tie.Need-offset-of-requires Inv-loop μ-loop
-offset-of-requires c κs = search needs
 
 returns-2 : tie.Need-returns-2 Inv-loop μ-loop
 returns-2 c =
@@ -99,17 +87,8 @@ returns-3 c =
     let l = in-loop e in
     row-table (l .before .loop .inv) (l .loop-test .taken) (even e) (there (c .before .before)) (sym (table (c .before)) ∙ not-true _ (c .if3 .taken))
 
-mul-o : tie.Need-mul-o Inv-loop μ-loop
-mul-o c = search needs
-
 add-o : tie.Need-add-o Inv-loop μ-loop
 add-o c = let r = room (c .before .before) in omega arith
-
-add-t : tie.Need-add-t Inv-loop μ-loop
-add-t c = search needs
-
-loop-less : tie.Need-loop-less Inv-loop μ-loop
-loop-less c = search needs
 
 loop-again : tie.Need-loop-again Inv-loop μ-loop
 loop-again c =
@@ -129,17 +108,17 @@ check-rows-spec =
     Inv-loop
     μ-loop
     loop-holds
-    row-number-requires
-    mul-if1
+    (λ c κs. search needs)
+    (λ c. search needs)
     returns
-    row-offset-requires
-    offset-of-requires
+    (λ c κs. search needs)
+    (λ c κs. search needs)
     returns-2
     check-table-requires
     returns-3
-    mul-o
+    (λ c. search needs)
     add-o
-    add-t
-    loop-less
+    (λ c. search needs)
+    (λ c. search needs)
     loop-again
     returns-4)

@@ -15,37 +15,10 @@ Inv-loop image o c n clean₀ used₀ k₀ clean used k = (n ≡ 2 * c) × Bucke
 abbrev μ-loop : tie.MeasureT-loop
 μ-loop image o c n clean₀ used₀ k₀ clean used k = n - k
 
-mul-n : tie.Need-mul-n Inv-loop μ-loop
-mul-n c = search needs
-
 loop-holds : tie.Need-loop-holds Inv-loop μ-loop
 loop-holds c =
     let a = c .before .args in
     (refl, buckets-start (a .image .now) (a .o) (2 * a .c))
-
-mul-clean-bucket : tie.Need-mul-clean-bucket Inv-loop μ-loop
-mul-clean-bucket c = search needs
-
-add-clean-bucket : tie.Need-add-clean-bucket Inv-loop μ-loop
-add-clean-bucket c = search needs
-
-clean-bucket-requires : tie.Need-clean-bucket-requires Inv-loop μ-loop
-clean-bucket-requires c κs = search needs
-
-mul-word : tie.Need-mul-word Inv-loop μ-loop
-mul-word c = search needs
-
-add-word : tie.Need-add-word Inv-loop μ-loop
-add-word c = search needs
-
-add-word-2 : tie.Need-add-word-2 Inv-loop μ-loop
-add-word-2 c = search needs
-
-word-requires : tie.Need-word-requires Inv-loop μ-loop
-word-requires c κs = search needs
-
-used-bit-requires : tie.Need-used-bit-requires Inv-loop μ-loop
-used-bit-requires c κs = search needs
 
 -- the buckets up to this one
 next : (c : tie.After-used-bit Inv-loop μ-loop)
@@ -60,12 +33,6 @@ next c =
 add-used : tie.Need-add-used Inv-loop μ-loop
 add-used c = let b = next c in omega (arith, b .few, b .inside)
 
-add-k : tie.Need-add-k Inv-loop μ-loop
-add-k c = search needs
-
-loop-less : tie.Need-loop-less Inv-loop μ-loop
-loop-less c = search needs
-
 loop-again : tie.Need-loop-again Inv-loop μ-loop
 loop-again c = (refl, next c)
 
@@ -78,18 +45,18 @@ check-table-spec =
     (tie.spec
     Inv-loop
     μ-loop
-    mul-n
+    (λ c. search needs)
     loop-holds
-    mul-clean-bucket
-    add-clean-bucket
-    clean-bucket-requires
-    mul-word
-    add-word
-    add-word-2
-    word-requires
-    used-bit-requires
+    (λ c. search needs)
+    (λ c. search needs)
+    (λ c κs. search needs)
+    (λ c. search needs)
+    (λ c. search needs)
+    (λ c. search needs)
+    (λ c κs. search needs)
+    (λ c κs. search needs)
     add-used
-    add-k
-    loop-less
+    (λ c. search needs)
+    (λ c. search needs)
     loop-again
     returns)

@@ -7,17 +7,8 @@ use lib.Dec.{eqb}
 use Rattle.canonical.proofs.tables.clean_bucket.Statement.{statement}
 use Rattle.canonical.proofs.tables.clean_bucket.Tie as tie
 
-add-word : tie.Need-add-word
-add-word c = search needs
-
-word-requires : tie.Need-word-requires
-word-requires c κs = search needs
-
-word-requires-2 : tie.Need-word-requires-2
-word-requires-2 c κs = search needs
-
 returns : tie.Need-returns
 returns c = ap₂ (λ (w : ℕ) (h : ℕ). not (eqb w 0) || eqb h 0) (c .before .word .ensures) (c .word2 .ensures)
 
 pub clean-bucket-spec : {M : Type 1} → statement M
-clean-bucket-spec = tie.close (tie.spec add-word word-requires word-requires-2 returns)
+clean-bucket-spec = tie.close (tie.spec (λ c. search needs) (λ c κs. search needs) (λ c κs. search needs) returns)

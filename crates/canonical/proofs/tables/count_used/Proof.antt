@@ -19,18 +19,6 @@ loop-holds c =
     let a = c .before .args in
     used-start (a .image .now) (a .o) (a .n)
 
-mul-get-u32 : tie.Need-mul-get-u32 Inv-loop μ-loop
-mul-get-u32 c = search needs
-
-add-get-u32 : tie.Need-add-get-u32 Inv-loop μ-loop
-add-get-u32 c = search needs
-
-get-u32-requires : tie.Need-get-u32-requires Inv-loop μ-loop
-get-u32-requires c κs = search needs
-
-used-bit-requires : tie.Need-used-bit-requires Inv-loop μ-loop
-used-bit-requires c κs = search needs
-
 -- the words up to this one
 next : (c : tie.After-used-bit Inv-loop μ-loop)
     → let l = c .before .before .before .loop in
@@ -42,12 +30,6 @@ next c =
 
 add-used : tie.Need-add-used Inv-loop μ-loop
 add-used c = let u = next c in omega (arith, u .few, u .inside)
-
-add-k : tie.Need-add-k Inv-loop μ-loop
-add-k c = search needs
-
-loop-less : tie.Need-loop-less Inv-loop μ-loop
-loop-less c = search needs
 
 loop-again : tie.Need-loop-again Inv-loop μ-loop
 loop-again c = next c
@@ -62,12 +44,12 @@ count-used-spec =
     Inv-loop
     μ-loop
     loop-holds
-    mul-get-u32
-    add-get-u32
-    get-u32-requires
-    used-bit-requires
+    (λ c. search needs)
+    (λ c. search needs)
+    (λ c κs. search needs)
+    (λ c κs. search needs)
     add-used
-    add-k
-    loop-less
+    (λ c. search needs)
+    (λ c. search needs)
     loop-again
     returns)

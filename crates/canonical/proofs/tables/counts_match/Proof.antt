@@ -16,28 +16,10 @@ abbrev μ-loop : tie.MeasureT-loop
 loop-holds : tie.Need-loop-holds Inv-loop μ-loop
 loop-holds c = record { few = omega arith; same = refl }
 
-row-number-requires : tie.Need-row-number-requires Inv-loop μ-loop
-row-number-requires c κs = search needs
-
-mul-twice : tie.Need-mul-twice Inv-loop μ-loop
-mul-twice c = search needs
-
-element-copy-out-twice : tie.Need-element-copy-out-twice Inv-loop μ-loop
-element-copy-out-twice c = search needs
-
-twice-requires : tie.Need-twice-requires Inv-loop μ-loop
-twice-requires c κs = search needs
-
 returns : tie.Need-returns Inv-loop μ-loop
 returns c =
     let l = c .before .before .before .before in
     count-differs (l .before .loop .inv) (l .loop-test .taken) (λ e. c .if1 .taken (c .before .before .before .row-number .ensures .is ∙ e ∙ sym (c .before .twice .ensures)))
-
-add-t : tie.Need-add-t Inv-loop μ-loop
-add-t c = search needs
-
-loop-less : tie.Need-loop-less Inv-loop μ-loop
-loop-less c = search needs
 
 loop-again : tie.Need-loop-again Inv-loop μ-loop
 loop-again c =
@@ -54,12 +36,12 @@ counts-match-spec =
     Inv-loop
     μ-loop
     loop-holds
-    row-number-requires
-    mul-twice
-    element-copy-out-twice
-    twice-requires
+    (λ c κs. search needs)
+    (λ c. search needs)
+    (λ c. search needs)
+    (λ c κs. search needs)
     returns
-    add-t
-    loop-less
+    (λ c. search needs)
+    (λ c. search needs)
     loop-again
     returns-2)

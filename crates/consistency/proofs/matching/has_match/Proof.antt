@@ -18,18 +18,6 @@ returns c =
     let name = a .name .now in
     matches-by image name (a .id) true _ (lt-ltb (length image) 2072 (c .if1 .taken)) refl
 
-name-hash-requires : tie.Need-name-hash-requires
-name-hash-requires c κs = search needs
-
-enum-known-h : tie.Need-enum-known-h
-enum-known-h c = search needs
-
-has-match-hashed-requires : tie.Need-has-match-hashed-requires
-has-match-hashed-requires c κs = search needs
-
-enum-told : tie.Need-enum-told
-enum-told c = search needs
-
 returns-2 : tie.Need-returns-2
 returns-2 c =
     let a = c .before .before .before .before .before .before .before .before .args in
@@ -58,9 +46,9 @@ has-match-spec =
     tie.close
     (tie.spec
     returns
-    name-hash-requires
-    enum-known-h
-    has-match-hashed-requires
-    enum-told
+    (λ c κs. search needs)
+    (λ c. search needs)
+    (λ c κs. search needs)
+    (λ c. search needs)
     returns-2
     returns-3)

@@ -7,9 +7,6 @@ use borrow.Author.Needs.{needs}
 use Rattle.consistency.proofs.matching.has_match_hashed.Statement.{statement}
 use Rattle.consistency.proofs.matching.has_match_hashed.Tie as tie
 
-table-of-requires : tie.Need-table-of-requires
-table-of-requires c κs = search needs
-
 returns : tie.Need-returns
 returns c =
     let of-table = c .before .before in
@@ -31,4 +28,4 @@ returns-2 c =
     c .has-match-in .ensures ∙ matches-read (a .image .now) (a .name .now) (a .h) (t .at) (t .n) (a .id) (found .searched) (found .offset) (found .number)
 
 pub has-match-hashed-spec : {M : Type 1} → statement M
-has-match-hashed-spec = tie.close (tie.spec table-of-requires returns has-match-in-requires returns-2)
+has-match-hashed-spec = tie.close (tie.spec (λ c κs. search needs) returns has-match-in-requires returns-2)

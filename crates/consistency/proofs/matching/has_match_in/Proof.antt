@@ -52,9 +52,6 @@ module _ (c : tie.After-probe-bucket Inv-loop μ-loop) where
       (matches-step (a .image .now) (a .name .now) (a .h) (a .at) (a .n) (of-loop .k) (of-loop .left) s (omega arith) (of-loop .inv .most) (sym e ∙ c .probe-bucket .ensures))
       ∙ of-loop .inv .same
 
-start-requires : tie.Need-start-requires Inv-loop μ-loop
-start-requires c κs = search needs
-
 loop-holds : tie.Need-loop-holds Inv-loop μ-loop
 loop-holds c =
     let a = c .before .before .before .args in
@@ -67,29 +64,14 @@ loop-holds c =
           ∙ ap (anyMatch (a .id)) (matches-start image name (a .h) (a .at) (a .n));
     }
 
-sub-left : tie.Need-sub-left Inv-loop μ-loop
-sub-left c = search needs
-
-mul-probe-bucket : tie.Need-mul-probe-bucket Inv-loop μ-loop
-mul-probe-bucket c = search needs
-
 add-probe-bucket : tie.Need-add-probe-bucket Inv-loop μ-loop
 add-probe-bucket c = omega (arith, c .before .before .before .before .before .pre .inside)
 
 probe-bucket-requires : tie.Need-probe-bucket-requires Inv-loop μ-loop
 probe-bucket-requires c κs = omega (arith, c .before .before .before .before .before .pre .inside)
 
-enum-told : tie.Need-enum-told Inv-loop μ-loop
-enum-told c = search needs
-
-enum-told-2 : tie.Need-enum-told-2 Inv-loop μ-loop
-enum-told-2 c = search needs
-
 returns : tie.Need-returns Inv-loop μ-loop
 returns c = step (c .before .before) ends (ap probeOf (c .enum-told2 .given .1))
-
-enum-known-hit : tie.Need-enum-known-hit Inv-loop μ-loop
-enum-known-hit c = search needs
 
 -- an entry with this id
 returns-2 : tie.Need-returns-2 Inv-loop μ-loop
@@ -99,9 +81,6 @@ returns-2 c =
     let told = of-hit .given .0 .0 in
     this-one (told .id) (wanted probed) (anyMatch (wanted probed) (left-of probed (after probed))) (c .if1 .taken)
     ∙ step probed (hit (record { id = told .id; offset = told .offset })) (ap probeOf (of-hit .given .1))
-
-next-requires : tie.Need-next-requires Inv-loop μ-loop
-next-requires c κs = search needs
 
 loop-less : tie.Need-loop-less Inv-loop μ-loop
 loop-less c = omega arith
@@ -134,18 +113,18 @@ has-match-in-spec =
     (tie.spec
     Inv-loop
     μ-loop
-    start-requires
+    (λ c κs. search needs)
     loop-holds
-    sub-left
-    mul-probe-bucket
+    (λ c. search needs)
+    (λ c. search needs)
     add-probe-bucket
     probe-bucket-requires
-    enum-told
-    enum-told-2
+    (λ c. search needs)
+    (λ c. search needs)
     returns
-    enum-known-hit
+    (λ c. search needs)
     returns-2
-    next-requires
+    (λ c κs. search needs)
     loop-less
     loop-again
     returns-3)

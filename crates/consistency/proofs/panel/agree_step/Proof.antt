@@ -17,20 +17,8 @@ inside c =
     let place = c .before .start .given in
     named (a .image .now) (a .id) (place .0 .0) (place .0 .1 .0) (sym (c .before .before .before .to-str .ensures) ∙ ap namingOf (place .1)) .inside
 
-add-next : tie.Need-add-next
-add-next c = search needs
-
-to-str-requires : tie.Need-to-str-requires
-to-str-requires c κs = search needs
-
-enum-known-start : tie.Need-enum-known-start
-enum-known-start c = search needs
-
 shown-length-requires : tie.Need-shown-length-requires
 shown-length-requires c κs = inside c
-
-enum-told : tie.Need-enum-told
-enum-told c = search needs
 
 returns : tie.Need-returns
 returns c =
@@ -55,11 +43,11 @@ pub agree-step-spec : {M : Type 1} → statement M
 agree-step-spec =
     tie.close
     (tie.spec
-    add-next
-    to-str-requires
-    enum-known-start
+    (λ c. search needs)
+    (λ c κs. search needs)
+    (λ c. search needs)
     shown-length-requires
-    enum-told
+    (λ c. search needs)
     returns
     returns-2
     returns-3)

@@ -10,12 +10,6 @@ use borrow.Author.Needs.{needs}
 use Rattle.consistency.proofs.panel.panel.Statement.{statement}
 use Rattle.consistency.proofs.panel.panel.Tie as tie
 
-panel-place-requires : tie.Need-panel-place-requires
-panel-place-requires c κs = search needs
-
-enum-known-start : tie.Need-enum-known-start
-enum-known-start c = search needs
-
 add-result : tie.Need-add-result
 add-result c =
     let a = c .before .before .before .before .before .args in
@@ -23,30 +17,12 @@ add-result c =
     let in-image = panel-inside (a .image .now) (a .id) (of-start .0 .0) (of-start .0 .1 .0) (sym (c .before .before .before .panel-place .ensures) ∙ ap namingOf (of-start .1)) in
     omega arith
 
-sub-result : tie.Need-sub-result
-sub-result c = search needs
-
-part-result-start : tie.Need-part-result-start
-part-result-start c = search needs
-
 part-result-end : tie.Need-part-result-end
 part-result-end c =
     let a = c .before .before .before .before .before .args in
     let of-start = c .before .start .given in
     let in-image = panel-inside (a .image .now) (a .id) (of-start .0 .0) (of-start .0 .1 .0) (sym (c .before .before .before .panel-place .ensures) ∙ ap namingOf (of-start .1)) in
     omega arith
-
-enum-told : tie.Need-enum-told
-enum-told c = search needs
-
-sub-result-2 : tie.Need-sub-result-2
-sub-result-2 c = search needs
-
-part-result-start-2 : tie.Need-part-result-start-2
-part-result-start-2 c = search needs
-
-part-result-end-2 : tie.Need-part-result-end-2
-part-result-end-2 c = search needs
 
 returns : tie.Need-returns
 returns c =
@@ -66,15 +42,15 @@ pub panel-spec : {M : Type 1} → statement M
 panel-spec =
     tie.close
     (tie.spec
-    panel-place-requires
-    enum-known-start
+    (λ c κs. search needs)
+    (λ c. search needs)
     add-result
-    sub-result
-    part-result-start
+    (λ c. search needs)
+    (λ c. search needs)
     part-result-end
-    enum-told
-    sub-result-2
-    part-result-start-2
-    part-result-end-2
+    (λ c. search needs)
+    (λ c. search needs)
+    (λ c. search needs)
+    (λ c. search needs)
     returns
     returns-2)

@@ -7,20 +7,11 @@ use borrow.Author.Needs.{needs}
 use Rattle.consistency.proofs.panel.panel_place.Statement.{statement}
 use Rattle.consistency.proofs.panel.panel_place.Tie as tie
 
-to-str-requires : tie.Need-to-str-requires
-to-str-requires c κs = search needs
-
-enum-known-start : tie.Need-enum-known-start
-enum-known-start c = search needs
-
 shown-length-requires : tie.Need-shown-length-requires
 shown-length-requires c κs =
     let a = c .before .before .before .before .before .args in
     let place = c .before .start .given in
     named (a .image .now) (a .id) (place .0 .0) (place .0 .1 .0) (sym (c .before .before .before .to-str .ensures) ∙ ap namingOf (place .1)) .inside
-
-enum-told : tie.Need-enum-told
-enum-told c = search needs
 
 returns : tie.Need-returns
 returns c =
@@ -38,9 +29,9 @@ pub panel-place-spec : {M : Type 1} → statement M
 panel-place-spec =
     tie.close
     (tie.spec
-    to-str-requires
-    enum-known-start
+    (λ c κs. search needs)
+    (λ c. search needs)
     shown-length-requires
-    enum-told
+    (λ c. search needs)
     returns
     returns-2)

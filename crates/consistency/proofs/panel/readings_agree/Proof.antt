@@ -16,12 +16,6 @@ Inv-loop image n id₀ id = (id ≤ n) × (all (agreeOn image) id (n - id) ≡ r
 abbrev μ-loop : tie.MeasureT-loop
 μ-loop image n id₀ id = n - id
 
-iter-requires : tie.Need-iter-requires Inv-loop μ-loop
-iter-requires c κs = search needs
-
-size-hint-requires : tie.Need-size-hint-requires Inv-loop μ-loop
-size-hint-requires c κs = search needs
-
 loop-holds : tie.Need-loop-holds Inv-loop μ-loop
 loop-holds c =
     let image = c .before .before .before .args .image .now in
@@ -29,9 +23,6 @@ loop-holds c =
     let whole : n - 0 ≡ n = omega arith in
     let hint = c .size-hint .ensures ∙ ap (upperHint image) (c .before .iter .ensures) in
     (omega arith, ap (all (agreeOn image) 0) whole ∙ agree-hinted image n hint)
-
-agree-step-requires : tie.Need-agree-step-requires Inv-loop μ-loop
-agree-step-requires c κs = search needs
 
 returns : tie.Need-returns Inv-loop μ-loop
 returns c =
@@ -77,10 +68,10 @@ readings-agree-spec =
     (tie.spec
     Inv-loop
     μ-loop
-    iter-requires
-    size-hint-requires
+    (λ c κs. search needs)
+    (λ c κs. search needs)
     loop-holds
-    agree-step-requires
+    (λ c κs. search needs)
     returns
     loop-less
     loop-again

@@ -8,21 +8,6 @@ use borrow.Author.Needs.{needs}
 use Rattle.consistency.proofs.panel.shown_length.Statement.{statement}
 use Rattle.consistency.proofs.panel.shown_length.Tie as tie
 
-add-length-before-zero : tie.Need-add-length-before-zero
-add-length-before-zero c = search needs
-
-sub-length-before-zero : tie.Need-sub-length-before-zero
-sub-length-before-zero c = search needs
-
-part-length-before-zero-start : tie.Need-part-length-before-zero-start
-part-length-before-zero-start c = search needs
-
-part-length-before-zero-end : tie.Need-part-length-before-zero-end
-part-length-before-zero-end c = search needs
-
-length-before-zero-requires : tie.Need-length-before-zero-requires
-length-before-zero-requires c κs = search needs
-
 returns : tie.Need-returns
 returns c =
     let a = c .before .before .before .args in
@@ -33,9 +18,9 @@ pub shown-length-spec : {M : Type 1} → statement M
 shown-length-spec =
     tie.close
     (tie.spec
-    add-length-before-zero
-    sub-length-before-zero
-    part-length-before-zero-start
-    part-length-before-zero-end
-    length-before-zero-requires
+    (λ c. search needs)
+    (λ c. search needs)
+    (λ c. search needs)
+    (λ c. search needs)
+    (λ c κs. search needs)
     returns)

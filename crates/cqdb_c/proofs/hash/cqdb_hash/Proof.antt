@@ -7,15 +7,6 @@ use borrow.Author.Needs.{needs}
 use Rattle.cqdb_c.proofs.hash.cqdb_hash.Statement.{statement}
 use Rattle.cqdb_c.proofs.hash.cqdb_hash.Tie as tie
 
-jhash-requires : tie.Need-jhash-requires
-jhash-requires c κs = search needs
-
-enum-known-h : tie.Need-enum-known-h
-enum-known-h c = search needs
-
-enum-told : tie.Need-enum-told
-enum-told c = search needs
-
 returns : tie.Need-returns
 returns c =
     ap answerOf (ap outcome (sym (c .before .h .given .1)) ∙ c .before .before .before .jhash .ensures)
@@ -24,4 +15,4 @@ returns-2 : tie.Need-returns-2
 returns-2 c = ap answerOf (ap outcome (sym (c .enum-told .given .1)) ∙ c .before .before .jhash .ensures)
 
 pub cqdb-hash-spec : {M : Type 1} → statement M
-cqdb-hash-spec = tie.close (tie.spec jhash-requires enum-known-h enum-told returns returns-2)
+cqdb-hash-spec = tie.close (tie.spec (λ c κs. search needs) (λ c. search needs) (λ c. search needs) returns returns-2)

@@ -6,9 +6,6 @@ use borrow.Author.Needs.{needs}
 use Rattle.cqdb_c.proofs.naming.cqdb_home.Statement.{statement}
 use Rattle.cqdb_c.proofs.naming.cqdb_home.Tie as tie
 
-home-requires : tie.Need-home-requires
-home-requires c κs = search needs
-
 returns : tie.Need-returns
 returns c = ap {B = ℕ} (λ (t : Bool). cond t 1 0) (sym (c .if1 .taken) ∙ c .before .home .ensures)
 
@@ -16,4 +13,4 @@ returns-2 : tie.Need-returns-2
 returns-2 c = ap {B = ℕ} (λ (t : Bool). cond t 1 0) (sym (c .if1 .left) ∙ c .before .home .ensures)
 
 pub cqdb-home-spec : {M : Type 1} → statement M
-cqdb-home-spec = tie.close (tie.spec home-requires returns returns-2)
+cqdb-home-spec = tie.close (tie.spec (λ c κs. search needs) returns returns-2)

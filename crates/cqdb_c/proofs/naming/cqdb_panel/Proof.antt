@@ -9,9 +9,6 @@ use borrow.Author.Needs.{needs}
 use Rattle.cqdb_c.proofs.naming.cqdb_panel.Statement.{statement}
 use Rattle.cqdb_c.proofs.naming.cqdb_panel.Tie as tie
 
-panel-place-requires : tie.Need-panel-place-requires
-panel-place-requires c κs = search needs
-
 place-answer-requires : tie.Need-place-answer-requires
 place-answer-requires c κs =
     let a = c .before .before .args in
@@ -21,4 +18,4 @@ returns : tie.Need-returns
 returns c = c .place-answer .ensures ∙ ap placeAnswerOf (c .before .panel-place .ensures)
 
 pub cqdb-panel-spec : {M : Type 1} → statement M
-cqdb-panel-spec = tie.close (tie.spec panel-place-requires place-answer-requires returns)
+cqdb-panel-spec = tie.close (tie.spec (λ c κs. search needs) place-answer-requires returns)

@@ -5,9 +5,6 @@ use borrow.Author.Needs.{needs}
 use Rattle.cqdb_c.proofs.naming.cqdb_readings_agree.Statement.{statement}
 use Rattle.cqdb_c.proofs.naming.cqdb_readings_agree.Tie as tie
 
-readings-agree-requires : tie.Need-readings-agree-requires
-readings-agree-requires c κs = search needs
-
 returns : tie.Need-returns
 returns c = ap oneIf (sym (c .if1 .taken) ∙ c .before .readings-agree .ensures)
 
@@ -15,4 +12,4 @@ returns-2 : tie.Need-returns-2
 returns-2 c = ap oneIf (sym (c .if1 .left) ∙ c .before .readings-agree .ensures)
 
 pub cqdb-readings-agree-spec : {M : Type 1} → statement M
-cqdb-readings-agree-spec = tie.close (tie.spec readings-agree-requires returns returns-2)
+cqdb-readings-agree-spec = tie.close (tie.spec (λ c κs. search needs) returns returns-2)

@@ -9,9 +9,6 @@ use borrow.Author.Needs.{needs}
 use Rattle.cqdb_c.proofs.naming.cqdb_to_str.Statement.{statement}
 use Rattle.cqdb_c.proofs.naming.cqdb_to_str.Tie as tie
 
-to-str-requires : tie.Need-to-str-requires
-to-str-requires c κs = search needs
-
 place-answer-requires : tie.Need-place-answer-requires
 place-answer-requires c κs =
     let a = c .before .before .args in
@@ -21,4 +18,4 @@ returns : tie.Need-returns
 returns c = c .place-answer .ensures ∙ ap placeAnswerOf (c .before .to-str .ensures)
 
 pub cqdb-to-str-spec : {M : Type 1} → statement M
-cqdb-to-str-spec = tie.close (tie.spec to-str-requires place-answer-requires returns)
+cqdb-to-str-spec = tie.close (tie.spec (λ c κs. search needs) place-answer-requires returns)

@@ -9,18 +9,12 @@ use borrow.Author.Needs.{needs}
 use Rattle.cqdb_c.proofs.naming.place_answer.Statement.{statement}
 use Rattle.cqdb_c.proofs.naming.place_answer.Tie as tie
 
-enum-known-named : tie.Need-enum-known-named
-enum-known-named c = search needs
-
 cast-t5 : tie.Need-cast-t5
 cast-t5 c =
     let of-named = c .before .named .given in
     let length = ap (λ (x : Named). lengthIn (namingOf x)) (of-named .1) in
     let small = c .before .before .before .pre in
     omega arith
-
-enum-told : tie.Need-enum-told
-enum-told c = search needs
 
 returns : tie.Need-returns
 returns c = ap (λ (x : Named). placeAnswerOf (namingOf x)) (sym (c .before .named .given .1))
@@ -29,4 +23,4 @@ returns-2 : tie.Need-returns-2
 returns-2 c = ap (λ (x : Named). placeAnswerOf (namingOf x)) (sym (c .enum-told .given .1))
 
 pub place-answer-spec : {M : Type 1} → statement M
-place-answer-spec = tie.close (tie.spec enum-known-named cast-t5 enum-told returns returns-2)
+place-answer-spec = tie.close (tie.spec (λ c. search needs) cast-t5 (λ c. search needs) returns returns-2)

@@ -7,15 +7,6 @@ use borrow.Author.Needs.{needs}
 use Rattle.cqdb_c.proofs.opening.cqdb_open.Statement.{statement}
 use Rattle.cqdb_c.proofs.opening.cqdb_open.Tie as tie
 
-open-requires : tie.Need-open-requires
-open-requires c κs = search needs
-
-enum-known-opened : tie.Need-enum-known-opened
-enum-known-opened c = search needs
-
-enum-known-opened-2 : tie.Need-enum-known-opened-2
-enum-known-opened-2 c = search needs
-
 returns : tie.Need-returns
 returns c =
     ap openAnswerOf (ap openedOf (sym (c .before .opened .given .1)) ∙ c .before .before .before .«open» .ensures)
@@ -26,4 +17,4 @@ returns-2 c =
 
 pub cqdb-open-spec : {M : Type 1} → statement M
 cqdb-open-spec =
-    tie.close (tie.spec open-requires enum-known-opened enum-known-opened-2 returns returns-2)
+    tie.close (tie.spec (λ c κs. search needs) (λ c. search needs) (λ c. search needs) returns returns-2)

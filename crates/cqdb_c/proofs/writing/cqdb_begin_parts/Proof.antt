@@ -35,32 +35,11 @@ told c =
     (begunOf (c .begin .result)) (sym (tested .before .known .ensures) ∙ not-false _ (tested .if1 .left)) (of-mode-of .ensures)
     (of-repeats-of .ensures) (c .begin .ensures .0) (c .begin .ensures .1)
 
-known-requires : tie.Need-known-requires
-known-requires c κs = search needs
-
 returns : tie.Need-returns
 returns c =
     let a = c .before .before .before .args in
     begin-unknown (a .mode) (a .repeats) (length (a .buf .now)) (lent (a .numbers .now) (a .sizes .now) (a .counts .now))
     (sym (c .before .known .ensures) ∙ not-true _ (c .if1 .taken))
-
-mode-of-requires : tie.Need-mode-of-requires
-mode-of-requires c κs = search needs
-
-repeats-of-requires : tie.Need-repeats-of-requires
-repeats-of-requires c κs = search needs
-
-begin-requires : tie.Need-begin-requires
-begin-requires c κs = search needs
-
-enum-known-begun : tie.Need-enum-known-begun
-enum-known-begun c = search needs
-
-record-of-requires : tie.Need-record-of-requires
-record-of-requires c κs = search needs
-
-enum-known-begun-2 : tie.Need-enum-known-begun-2
-enum-known-begun-2 c = search needs
 
 returns-2 : tie.Need-returns-2
 returns-2 c =
@@ -84,13 +63,13 @@ pub cqdb-begin-parts-spec : {M : Type 1} → statement M
 cqdb-begin-parts-spec =
     tie.close
     (tie.spec
-    known-requires
+    (λ c κs. search needs)
     returns
-    mode-of-requires
-    repeats-of-requires
-    begin-requires
-    enum-known-begun
-    record-of-requires
-    enum-known-begun-2
+    (λ c κs. search needs)
+    (λ c κs. search needs)
+    (λ c κs. search needs)
+    (λ c. search needs)
+    (λ c κs. search needs)
+    (λ c. search needs)
     returns-2
     returns-3)

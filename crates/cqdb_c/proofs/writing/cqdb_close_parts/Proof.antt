@@ -8,31 +8,10 @@ use borrow.Author.Needs.{needs}
 use Rattle.cqdb_c.proofs.writing.cqdb_close_parts.Statement.{statement}
 use Rattle.cqdb_c.proofs.writing.cqdb_close_parts.Tie as tie
 
-known-requires : tie.Need-known-requires
-known-requires c κs = search needs
-
 returns : tie.Need-returns
 returns c =
     let a = c .before .before .before .args in
     close-unknown (cState (a .w) (a .counts .now) (a .buf .now)) (sym (c .before .known .ensures) ∙ not-true _ (c .if1 .taken))
-
-writer-of-requires : tie.Need-writer-of-requires
-writer-of-requires c κs = search needs
-
-close-requires : tie.Need-close-requires
-close-requires c κs = search needs
-
-close-number-requires : tie.Need-close-number-requires
-close-number-requires c κs = search needs
-
-close-size-requires : tie.Need-close-size-requires
-close-size-requires c κs = search needs
-
-record-of-requires : tie.Need-record-of-requires
-record-of-requires c κs = search needs
-
-same-length : tie.Need-same-length
-same-length c = search needs
 
 returns-2 : tie.Need-returns-2
 returns-2 c =
@@ -47,12 +26,12 @@ pub cqdb-close-parts-spec : {M : Type 1} → statement M
 cqdb-close-parts-spec =
     tie.close
     (tie.spec
-    known-requires
+    (λ c κs. search needs)
     returns
-    writer-of-requires
-    close-requires
-    close-number-requires
-    close-size-requires
-    record-of-requires
-    same-length
+    (λ c κs. search needs)
+    (λ c κs. search needs)
+    (λ c κs. search needs)
+    (λ c κs. search needs)
+    (λ c κs. search needs)
+    (λ c. search needs)
     returns-2)

@@ -6,22 +6,10 @@ use Rattle.cqdb_c.proofs.GrownCalls.{grown-unknown, grown-known}
 use Rattle.cqdb_c.proofs.writing.cqdb_grown_parts.Statement.{statement}
 use Rattle.cqdb_c.proofs.writing.cqdb_grown_parts.Tie as tie
 
-known-requires : tie.Need-known-requires
-known-requires c κs = search needs
-
 returns : tie.Need-returns
 returns c =
     let a = c .before .before .args in
     grown-unknown (a .w) (a .length) (sym (c .before .known .ensures) ∙ not-true _ (c .if1 .taken))
-
-writer-of-requires : tie.Need-writer-of-requires
-writer-of-requires c κs = search needs
-
-grown-requires : tie.Need-grown-requires
-grown-requires c κs = search needs
-
-record-of-requires : tie.Need-record-of-requires
-record-of-requires c κs = search needs
 
 returns-2 : tie.Need-returns-2
 returns-2 c =
@@ -35,4 +23,4 @@ returns-2 c =
 pub cqdb-grown-parts-spec : {M : Type 1} → statement M
 cqdb-grown-parts-spec =
     tie.close
-    (tie.spec known-requires returns writer-of-requires grown-requires record-of-requires returns-2)
+    (tie.spec (λ c κs. search needs) returns (λ c κs. search needs) (λ c κs. search needs) (λ c κs. search needs) returns-2)

@@ -8,25 +8,10 @@ use borrow.Author.Needs.{needs}
 use Rattle.cqdb_c.proofs.writing.cqdb_put_parts.Statement.{statement}
 use Rattle.cqdb_c.proofs.writing.cqdb_put_parts.Tie as tie
 
-known-requires : tie.Need-known-requires
-known-requires c κs = search needs
-
 returns : tie.Need-returns
 returns c =
     let a = c .before .before .before .before .args in
     put-unknown (cState (a .w) (a .counts .now) (a .buf .now)) (entryOf (a .name .now) (a .id)) (sym (c .before .known .ensures) ∙ not-true _ (c .if1 .taken))
-
-writer-of-requires : tie.Need-writer-of-requires
-writer-of-requires c κs = search needs
-
-put-requires : tie.Need-put-requires
-put-requires c κs = search needs
-
-record-of-requires : tie.Need-record-of-requires
-record-of-requires c κs = search needs
-
-same-length : tie.Need-same-length
-same-length c = search needs
 
 returns-2 : tie.Need-returns-2
 returns-2 c =
@@ -41,10 +26,10 @@ pub cqdb-put-parts-spec : {M : Type 1} → statement M
 cqdb-put-parts-spec =
     tie.close
     (tie.spec
-    known-requires
+    (λ c κs. search needs)
     returns
-    writer-of-requires
-    put-requires
-    record-of-requires
-    same-length
+    (λ c κs. search needs)
+    (λ c κs. search needs)
+    (λ c κs. search needs)
+    (λ c. search needs)
     returns-2)

@@ -4,23 +4,8 @@ use borrow.Author.Needs.{needs}
 use Rattle.image.proofs.entries.broken.Statement.{statement}
 use Rattle.image.proofs.entries.broken.Tie as tie
 
-add-start : tie.Need-add-start
-add-start c = search needs
-
 returns : tie.Need-returns
 returns c = broken-short (c .before .before .args .image .now) (c .before .before .args .at) (c .if1 .taken)
-
-sub-left : tie.Need-sub-left
-sub-left c = search needs
-
-add-word : tie.Need-add-word
-add-word c = search needs
-
-word-requires : tie.Need-word-requires
-word-requires c κs = search needs
-
-less-one-requires : tie.Need-less-one-requires
-less-one-requires c κs = search needs
 
 returns-2 : tie.Need-returns-2
 returns-2 c =
@@ -31,4 +16,4 @@ returns-2 c =
 pub broken-spec : {M : Type 1} → statement M
 broken-spec =
     tie.close
-    (tie.spec add-start returns sub-left add-word word-requires less-one-requires returns-2)
+    (tie.spec (λ c. search needs) returns (λ c. search needs) (λ c. search needs) (λ c κs. search needs) (λ c κs. search needs) returns-2)

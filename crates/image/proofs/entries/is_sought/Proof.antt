@@ -8,11 +8,5 @@ use Rattle.image.proofs.entries.is_sought.Tie as tie
 returns : tie.Need-returns
 returns c = sym (other-hash (c .before .before .before .pre) (c .if1 .taken))
 
-same-requires : tie.Need-same-requires
-same-requires c κs = search needs
-
-returns-2 : tie.Need-returns-2
-returns-2 c = search needs
-
 pub is-sought-spec : {M : Type 1} → statement M
-is-sought-spec = tie.close (tie.spec returns same-requires returns-2)
+is-sought-spec = tie.close (tie.spec returns (λ c κs. search needs) (λ c. search needs))

@@ -5,15 +5,6 @@ use borrow.Author.Needs.{needs}
 use Rattle.image.proofs.entries.sought_hash.Statement.{statement}
 use Rattle.image.proofs.entries.sought_hash.Tie as tie
 
-name-hash-requires : tie.Need-name-hash-requires
-name-hash-requires c κs = search needs
-
-enum-known-h : tie.Need-enum-known-h
-enum-known-h c = search needs
-
-enum-told : tie.Need-enum-told
-enum-told c = search needs
-
 returns : tie.Need-returns
 returns c =
     let a = c .before .before .before .before .args in
@@ -28,4 +19,4 @@ returns-2 c =
     λ short. told .1
 
 pub sought-hash-spec : {M : Type 1} → statement M
-sought-hash-spec = tie.close (tie.spec name-hash-requires enum-known-h enum-told returns returns-2)
+sought-hash-spec = tie.close (tie.spec (λ c κs. search needs) (λ c. search needs) (λ c. search needs) returns returns-2)

@@ -50,9 +50,6 @@ inside e =
     entry-room (start e .args .buf .now) (loop e .loop .at) (start e .args .end) (n .result) (loop e .loop .inv .rest .inside)
     (start e .pre .inside) (n .ensures .0) (e .if1 .left)
 
-sought-hash-requires : tie.Need-sought-hash-requires Inv-loop μ-loop
-sought-hash-requires c κs = search needs
-
 loop-holds : tie.Need-loop-holds Inv-loop μ-loop
 loop-holds c =
     let s = c .before .before .before in
@@ -82,23 +79,8 @@ name-at-requires c κs = (omega (arith, inside c .0, start c .pre .inside), insi
 word-requires : tie.Need-word-requires Inv-loop μ-loop
 word-requires c κs = omega (arith, inside (c .before) .0, start (c .before) .pre .inside)
 
-cast-larger : tie.Need-cast-larger Inv-loop μ-loop
-cast-larger c = search needs
-
 add-larger : tie.Need-add-larger Inv-loop μ-loop
 add-larger c = omega (arith, c .word .ok)
-
-larger-requires : tie.Need-larger-requires Inv-loop μ-loop
-larger-requires c κs = search needs
-
-name-hash-requires : tie.Need-name-hash-requires Inv-loop μ-loop
-name-hash-requires c κs = search needs
-
-enum-known-h : tie.Need-enum-known-h Inv-loop μ-loop
-enum-known-h c = search needs
-
-enum-told : tie.Need-enum-told Inv-loop μ-loop
-enum-told c = search needs
 
 returns-2 : tie.Need-returns-2 Inv-loop μ-loop
 returns-2 c =
@@ -176,18 +158,18 @@ walk-spec =
     (tie.spec
     Inv-loop
     μ-loop
-    sought-hash-requires
+    (λ c κs. search needs)
     loop-holds
     whole-length-requires
     returns
     name-at-requires
     word-requires
-    cast-larger
+    (λ c. search needs)
     add-larger
-    larger-requires
-    name-hash-requires
-    enum-known-h
-    enum-told
+    (λ c κs. search needs)
+    (λ c κs. search needs)
+    (λ c. search needs)
+    (λ c. search needs)
     returns-2
     raise-requires
     is-sought-requires

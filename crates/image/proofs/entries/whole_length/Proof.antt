@@ -5,21 +5,9 @@ use borrow.Author.Needs.{needs}
 use Rattle.image.proofs.entries.whole_length.Statement.{statement}
 use Rattle.image.proofs.entries.whole_length.Tie as tie
 
-sub-if1 : tie.Need-sub-if1
-sub-if1 c = search needs
-
 returns : tie.Need-returns
 returns c =
     (short-there (c .before .before .args .buf .now) (c .before .before .args .at) (c .before .before .args .end) (c .before .before .pre .0) (c .before .before .pre .1) (c .if1 .taken), omega arith)
-
-add-word : tie.Need-add-word
-add-word c = search needs
-
-word-requires : tie.Need-word-requires
-word-requires c κs = search needs
-
-cast-n : tie.Need-cast-n
-cast-n c = search needs
 
 returns-2 : tie.Need-returns-2
 returns-2 c =
@@ -27,27 +15,12 @@ returns-2 c =
     let start-pre = c .before .before .before .before .pre in
     (none-there (a .buf .now) (a .at) (a .end) (start-pre .0) (start-pre .1) (c .before .before .if1 .left) (c .before .word .result) (c .before .word .ensures) (c .if2 .taken), omega arith)
 
-sub-if3 : tie.Need-sub-if3
-sub-if3 c = search needs
-
-add-if3 : tie.Need-add-if3
-add-if3 c = search needs
-
 returns-3 : tie.Need-returns-3
 returns-3 c =
     let a = c .before .before .before .before .before .args in
     let start-pre = c .before .before .before .before .before .pre in
     let of-if1 = c .before .before .before .if1 in
     (cut-there (a .buf .now) (a .at) (a .end) (start-pre .0) (start-pre .1) (of-if1 .left) (c .before .before .word .result) (c .before .before .word .ensures) (c .before .if2 .left) (c .if3 .taken), omega arith)
-
-add-if4 : tie.Need-add-if4
-add-if4 c = search needs
-
-add-if4-2 : tie.Need-add-if4-2
-add-if4-2 c = search needs
-
-shared-slice-read-if4 : tie.Need-shared-slice-read-if4
-shared-slice-read-if4 c = search needs
 
 -- the start, the first test and the length word, from where the entry ends before `end`
 abbrev start : tie.Else3 → tie.Start
@@ -77,17 +50,17 @@ pub whole-length-spec : {M : Type 1} → statement M
 whole-length-spec =
     tie.close
     (tie.spec
-    sub-if1
+    (λ c. search needs)
     returns
-    add-word
-    word-requires
-    cast-n
+    (λ c. search needs)
+    (λ c κs. search needs)
+    (λ c. search needs)
     returns-2
-    sub-if3
-    add-if3
+    (λ c. search needs)
+    (λ c. search needs)
     returns-3
-    add-if4
-    add-if4-2
-    shared-slice-read-if4
+    (λ c. search needs)
+    (λ c. search needs)
+    (λ c. search needs)
     returns-4
     returns-5)

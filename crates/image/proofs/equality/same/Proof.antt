@@ -23,15 +23,6 @@ returns c =
 loop-holds : tie.Need-loop-holds Inv-loop μ-loop
 loop-holds c = record { inside = search needs; rest = refl }
 
-sub-loop : tie.Need-sub-loop Inv-loop μ-loop
-sub-loop c = search needs
-
-word8-requires : tie.Need-word8-requires Inv-loop μ-loop
-word8-requires c κs = search needs
-
-word8-requires-2 : tie.Need-word8-requires-2 Inv-loop μ-loop
-word8-requires-2 c κs = search needs
-
 -- the start and the loop, from where two words were compared; and what is known of both slices
 abbrev start : tie.After-word82 Inv-loop μ-loop → tie.Start Inv-loop μ-loop
 start c = c .before .before .before .before .before .before .before
@@ -55,9 +46,6 @@ returns-2 c =
     (λ e. c .if2 .taken (d .before .word8 .ensures ∙ e ∙ sym (d .word82 .ensures))))
     ∙ l .inv .rest
 
-add-i : tie.Need-add-i Inv-loop μ-loop
-add-i c = search needs
-
 loop-less : tie.Need-loop-less Inv-loop μ-loop
 loop-less c = omega arith
 
@@ -74,9 +62,6 @@ loop-again c =
           ∙ l .inv .rest;
     }
 
-same-last-requires : tie.Need-same-last-requires Inv-loop μ-loop
-same-last-requires c κs = search needs
-
 returns-3 : tie.Need-returns-3 Inv-loop μ-loop
 returns-3 c = c .same-last .ensures ∙ c .before .before .loop .inv .rest
 
@@ -88,12 +73,12 @@ same-spec =
     μ-loop
     returns
     loop-holds
-    sub-loop
-    word8-requires
-    word8-requires-2
+    (λ c. search needs)
+    (λ c κs. search needs)
+    (λ c κs. search needs)
     returns-2
-    add-i
+    (λ c. search needs)
     loop-less
     loop-again
-    same-last-requires
+    (λ c κs. search needs)
     returns-3)

@@ -6,33 +6,12 @@ use borrow.Author.Needs.{needs}
 use Rattle.image.proofs.equality.same_last.Statement.{statement}
 use Rattle.image.proofs.equality.same_last.Tie as tie
 
-sub-if1 : tie.Need-sub-if1
-sub-if1 c = search needs
-
-same-from-requires : tie.Need-same-from-requires
-same-from-requires c κs = search needs
-
-returns : tie.Need-returns
-returns c = search needs
-
-word-requires : tie.Need-word-requires
-word-requires c κs = search needs
-
-word-requires-2 : tie.Need-word-requires-2
-word-requires-2 c κs = search needs
-
 returns-2 : tie.Need-returns-2
 returns-2 c =
     let a = c .before .before .before .before .before .before .args in
     sym
     (other-word (a .a .now) (a .b .now) (a .from) (omega arith) (omega arith)
     (λ w. c .if2 .taken (c .before .before .word .ensures ∙ w ∙ sym (c .before .word2 .ensures))))
-
-add-same-from : tie.Need-add-same-from
-add-same-from c = search needs
-
-same-from-requires-2 : tie.Need-same-from-requires-2
-same-from-requires-2 c κs = search needs
 
 returns-3 : tie.Need-returns-3
 returns-3 c =
@@ -48,12 +27,12 @@ pub same-last-spec : {M : Type 1} → statement M
 same-last-spec =
     tie.close
     (tie.spec
-    sub-if1
-    same-from-requires
-    returns
-    word-requires
-    word-requires-2
+    (λ c. search needs)
+    (λ c κs. search needs)
+    (λ c. search needs)
+    (λ c κs. search needs)
+    (λ c κs. search needs)
     returns-2
-    add-same-from
-    same-from-requires-2
+    (λ c. search needs)
+    (λ c κs. search needs)
     returns-3)

@@ -10,9 +10,6 @@ use Rattle.image.proofs.probe.start.Tie as tie
 below : (c : tie.Start) → c .args .h / 256 % c .args .n < c .args .n
 below c = mod-lt (c .args .h / 256) {m = c .args .n} (c .pre)
 
-rem-result : tie.Need-rem-result
-rem-result c = search needs
-
 cast-result : tie.Need-cast-result
 cast-result c = omega (arith, below c, c .fits .n)
 
@@ -20,4 +17,4 @@ returns : tie.Need-returns
 returns c = (refl, below c)
 
 pub start-spec : {M : Type 1} → statement M
-start-spec = tie.close (tie.spec rem-result cast-result returns)
+start-spec = tie.close (tie.spec (λ c. search needs) cast-result returns)

@@ -16,20 +16,8 @@ Inv-loop name last i₀ i = ZeroInv name i
 abbrev μ-loop : tie.MeasureT-loop
 μ-loop name last i₀ i = length name - i
 
-zero-in-short-requires : tie.Need-zero-in-short-requires Inv-loop μ-loop
-zero-in-short-requires c κs = search needs
-
 returns : tie.Need-returns Inv-loop μ-loop
 returns c = c .zero-in-short .ensures
-
-sub-last : tie.Need-sub-last Inv-loop μ-loop
-sub-last c = search needs
-
-zero-in-eight-requires : tie.Need-zero-in-eight-requires Inv-loop μ-loop
-zero-in-eight-requires c κs = search needs
-
-zero-in-eight-requires-2 : tie.Need-zero-in-eight-requires-2 Inv-loop μ-loop
-zero-in-eight-requires-2 c κs = search needs
 
 returns-2 : tie.Need-returns-2 Inv-loop μ-loop
 returns-2 c =
@@ -46,9 +34,6 @@ loop-holds c =
     let none = sym (first .ensures) ∙ or-false-first (first .result) (last .result) (c .if2 .left) in
     record { inside = omega arith; rest = none-in-first name 8 none }
 
-zero-in-eight-requires-3 : tie.Need-zero-in-eight-requires-3 Inv-loop μ-loop
-zero-in-eight-requires-3 c κs = search needs
-
 -- the name, from a place in the loop
 abbrev name-of : tie.After-zero-in-eight3 Inv-loop μ-loop → List ℕ
 name-of c = c .before .before .before .before .before .before .before .before .args .name .now
@@ -59,9 +44,6 @@ returns-3 c =
     let of-loop = c .before .before .before .loop in
     let eight = sym (c .before .zero-in-eight3 .ensures) ∙ c .if3 .taken in
     sym (zero-in-front name (of-loop .i) 8 eight) ∙ of-loop .inv .rest
-
-add-i : tie.Need-add-i Inv-loop μ-loop
-add-i c = search needs
 
 loop-less : tie.Need-loop-less Inv-loop μ-loop
 loop-less c = omega arith
@@ -89,16 +71,16 @@ has-zero-spec =
     (tie.spec
     Inv-loop
     μ-loop
-    zero-in-short-requires
+    (λ c κs. search needs)
     returns
-    sub-last
-    zero-in-eight-requires
-    zero-in-eight-requires-2
+    (λ c. search needs)
+    (λ c κs. search needs)
+    (λ c κs. search needs)
     returns-2
     loop-holds
-    zero-in-eight-requires-3
+    (λ c κs. search needs)
     returns-3
-    add-i
+    (λ c. search needs)
     loop-less
     loop-again
     returns-4)

@@ -4,15 +4,6 @@ use borrow.Author.Needs.{needs}
 use Rattle.image.proofs.zero.zero_in_eight.Statement.{statement}
 use Rattle.image.proofs.zero.zero_in_eight.Tie as tie
 
-zero-in-four-requires : tie.Need-zero-in-four-requires
-zero-in-four-requires c κs = search needs
-
-add-zero-in-four : tie.Need-add-zero-in-four
-add-zero-in-four c = search needs
-
-zero-in-four-requires-2 : tie.Need-zero-in-four-requires-2
-zero-in-four-requires-2 c κs = search needs
-
 returns : tie.Need-returns
 returns c =
     let a = c .before .before .before .args in
@@ -22,4 +13,4 @@ returns c =
 
 pub zero-in-eight-spec : {M : Type 1} → statement M
 zero-in-eight-spec =
-    tie.close (tie.spec zero-in-four-requires add-zero-in-four zero-in-four-requires-2 returns)
+    tie.close (tie.spec (λ c κs. search needs) (λ c. search needs) (λ c κs. search needs) returns)

@@ -9,22 +9,10 @@ use Rattle.image.proofs.Zeros.{zero-ends, before-test}
 use Rattle.image.proofs.zero.zero_in_short.Statement.{statement}
 use Rattle.image.proofs.zero.zero_in_short.Tie as tie
 
-length-before-zero-requires : tie.Need-length-before-zero-requires
-length-before-zero-requires c κs = search needs
-
 returns : tie.Need-returns
 returns c =
     let name = c .before .before .before .args .name .now in
     ap (λ (k : ℕ). ltb k (length name)) (c .length-before-zero .ensures .0) ∙ before-test name
-
-zero-in-four-requires : tie.Need-zero-in-four-requires
-zero-in-four-requires c κs = search needs
-
-sub-zero-in-four : tie.Need-sub-zero-in-four
-sub-zero-in-four c = search needs
-
-zero-in-four-requires-2 : tie.Need-zero-in-four-requires-2
-zero-in-four-requires-2 c κs = search needs
 
 returns-2 : tie.Need-returns-2
 returns-2 c =
@@ -37,9 +25,9 @@ pub zero-in-short-spec : {M : Type 1} → statement M
 zero-in-short-spec =
     tie.close
     (tie.spec
-    length-before-zero-requires
+    (λ c κs. search needs)
     returns
-    zero-in-four-requires
-    sub-zero-in-four
-    zero-in-four-requires-2
+    (λ c κs. search needs)
+    (λ c. search needs)
+    (λ c κs. search needs)
     returns-2)

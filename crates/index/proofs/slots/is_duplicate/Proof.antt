@@ -13,27 +13,6 @@ use borrow.Author.Needs.{needs}
 use Rattle.index.proofs.slots.is_duplicate.Statement.{statement}
 use Rattle.index.proofs.slots.is_duplicate.Tie as tie
 
-enum-told : tie.Need-enum-told
-enum-told c = search needs
-
-enum-told-2 : tie.Need-enum-told-2
-enum-told-2 c = search needs
-
-probe-entry-requires : tie.Need-probe-entry-requires
-probe-entry-requires c κs = search needs
-
-enum-told-3 : tie.Need-enum-told-3
-enum-told-3 c = search needs
-
-enum-told-4 : tie.Need-enum-told-4
-enum-told-4 c = search needs
-
-enum-told-5 : tie.Need-enum-told-5
-enum-told-5 c = search needs
-
-returns : tie.Need-returns
-returns c = search needs
-
 -- with repeats off, an entry that is seen as x: a hit or not
 seen : (repeats : Repeats) (r x : Probe) (y : spec.Probe) → repeats ≡ Off → probeOf r ≡ y → r ≡ x → isHit (probeOf x) ≡ (refusesRepeats repeats && isHit y)
 seen repeats r x y off e p =
@@ -58,13 +37,13 @@ pub is-duplicate-spec : {M : Type 1} → statement M
 is-duplicate-spec =
     tie.close
     (tie.spec
-    enum-told
-    enum-told-2
-    probe-entry-requires
-    enum-told-3
-    enum-told-4
-    enum-told-5
-    returns
+    (λ c. search needs)
+    (λ c. search needs)
+    (λ c κs. search needs)
+    (λ c. search needs)
+    (λ c. search needs)
+    (λ c. search needs)
+    (λ c. search needs)
     returns-2
     returns-3
     returns-4)

@@ -58,9 +58,6 @@ returns-2 c =
 hash-at-requires : tie.Need-hash-at-requires Inv-loop μ-loop
 hash-at-requires c κs = c .before .before .before .loop .inv .inside
 
-is-duplicate-requires : tie.Need-is-duplicate-requires Inv-loop μ-loop
-is-duplicate-requires c κs = search needs
-
 add-result : tie.Need-add-result Inv-loop μ-loop
 add-result c = omega arith
 
@@ -120,7 +117,7 @@ probe-spec =
     offset-at-requires
     returns-2
     hash-at-requires
-    is-duplicate-requires
+    (λ c κs. search needs)
     add-result
     returns-3
     add-if5

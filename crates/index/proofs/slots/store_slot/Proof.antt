@@ -5,43 +5,19 @@ use borrow.Author.Needs.{needs}
 use Rattle.index.proofs.slots.store_slot.Statement.{statement}
 use Rattle.index.proofs.slots.store_slot.Tie as tie
 
-mul-slots : tie.Need-mul-slots
-mul-slots c = search needs
-
-mul-slots-2 : tie.Need-mul-slots-2
-mul-slots-2 c = search needs
-
-slice-write-slots : tie.Need-slice-write-slots
-slice-write-slots c = search needs
-
-mul-slots-3 : tie.Need-mul-slots-3
-mul-slots-3 c = search needs
-
-add-slots : tie.Need-add-slots
-add-slots c = search needs
-
-mul-slots-4 : tie.Need-mul-slots-4
-mul-slots-4 c = search needs
-
 slice-write-slots-2 : tie.Need-slice-write-slots-2
 slice-write-slots-2 c = simp length-set (omega (arith, c .pre))
-
-same-length : tie.Need-same-length
-same-length c = search needs
-
-returns : tie.Need-returns
-returns c = search needs
 
 pub store-slot-spec : {M : Type 1} → statement M
 store-slot-spec =
     tie.close
     (tie.spec
-    mul-slots
-    mul-slots-2
-    slice-write-slots
-    mul-slots-3
-    add-slots
-    mul-slots-4
+    (λ c. search needs)
+    (λ c. search needs)
+    (λ c. search needs)
+    (λ c. search needs)
+    (λ c. search needs)
+    (λ c. search needs)
     slice-write-slots-2
-    same-length
-    returns)
+    (λ c. search needs)
+    (λ c. search needs))

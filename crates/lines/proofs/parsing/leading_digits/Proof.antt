@@ -22,9 +22,6 @@ loop-holds c = (omega arith, omega arith)
 shared-slice-read-is-digit : tie.Need-shared-slice-read-is-digit Inv-loop μ-loop
 shared-slice-read-is-digit c = omega arith
 
-is-digit-requires : tie.Need-is-digit-requires Inv-loop μ-loop
-is-digit-requires c κs = search needs
-
 returns : tie.Need-returns Inv-loop μ-loop
 returns c =
     let at = c .before .before .before .before .loop in (
@@ -60,7 +57,7 @@ leading-digits-spec =
     μ-loop
     loop-holds
     shared-slice-read-is-digit
-    is-digit-requires
+    (λ c κs. search needs)
     returns
     add-n
     loop-less

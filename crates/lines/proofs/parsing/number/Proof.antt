@@ -27,9 +27,6 @@ mul-v c =
 shared-slice-read-digit : tie.Need-shared-slice-read-digit Inv-loop μ-loop
 shared-slice-read-digit c = omega arith
 
-digit-requires : tie.Need-digit-requires Inv-loop μ-loop
-digit-requires c κs = search needs
-
 add-v : tie.Need-add-v Inv-loop μ-loop
 add-v c =
     let at = c .before .before .before .loop in
@@ -65,7 +62,7 @@ number-spec =
     loop-holds
     mul-v
     shared-slice-read-digit
-    digit-requires
+    (λ c κs. search needs)
     add-v
     add-i
     loop-less

@@ -13,9 +13,6 @@ use Rattle.lines.proofs.Forms.{form-by}
 use Rattle.lines.proofs.parsing.parse_line.Statement.{statement}
 use Rattle.lines.proofs.parsing.parse_line.Tie as tie
 
-leading-digits-requires : tie.Need-leading-digits-requires
-leading-digits-requires c κs = search needs
-
 returns : tie.Need-returns
 returns c =
     let n = c .before .leading-digits .result in
@@ -34,9 +31,6 @@ returns-3 c =
     let e = List·getD-eq-default line 0 (c .if3 .taken) in
     form-by line n true true false _ (c .before .before .before .leading-digits .ensures .0) (le-leb 1 n (c .before .before .if1 .left)) (le-leb n 10 (c .before .if2 .left))
     (ne-eqb (getD line n 0) 32 (λ f. omega arith)) refl
-
-shared-slice-read-if4 : tie.Need-shared-slice-read-if4
-shared-slice-read-if4 c = search needs
 
 abbrev start : tie.After-shared-slice-known2 → tie.Start
 start c = c .before .before .before .before .before .before
@@ -85,12 +79,6 @@ returns-5 c =
     form-by line n true true true false (of-leading-digits .ensures .0) (le-leb 1 n (of-if1 .left)) (le-leb n 10 (of-if2 .left))
     (eq-eqb (getD line n 0) 32 (of-if4 .left)) (ap (λ (v : ℕ). leb v 4294967295) (sym (c .before .number .ensures)) ∙ lt-leb (c .before .number .result) 4294967295 (c .if5 .taken))
 
-cast-t10 : tie.Need-cast-t10
-cast-t10 c = search needs
-
-add-t5 : tie.Need-add-t5
-add-t5 c = search needs
-
 returns-6 : tie.Need-returns-6
 returns-6 c =
     let a = start (c .before .before .before .before) .args in
@@ -108,15 +96,15 @@ pub parse-line-spec : {M : Type 1} → statement M
 parse-line-spec =
     tie.close
     (tie.spec
-    leading-digits-requires
+    (λ c κs. search needs)
     returns
     returns-2
     returns-3
-    shared-slice-read-if4
+    (λ c. search needs)
     returns-4
     slice-aggregate-number
     number-requires
     returns-5
-    cast-t10
-    add-t5
+    (λ c. search needs)
+    (λ c. search needs)
     returns-6)

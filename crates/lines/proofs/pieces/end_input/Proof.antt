@@ -5,15 +5,9 @@ use Rattle.lines.specs.steps.Pieces.{Gathering, inputEnded}
 use Rattle.lines.proofs.pieces.end_input.Statement.{statement}
 use Rattle.lines.proofs.pieces.end_input.Tie as tie
 
-end-line-requires : tie.Need-end-line-requires
-end-line-requires c κs = search needs
-
-same-length : tie.Need-same-length
-same-length c = search needs
-
 returns : tie.Need-returns
 unfolding inputEnded
 returns c = ap (λ (g : Gathering). g .state) (c .before .before .before .end-line .ensures)
 
 pub end-input-spec : {M : Type 1} → statement M
-end-input-spec = tie.close (tie.spec end-line-requires same-length returns)
+end-input-spec = tie.close (tie.spec (λ c κs. search needs) (λ c. search needs) returns)

@@ -21,12 +21,6 @@ slice-aggregate-put-line c =
     let inside : a .t .have ≤ length (a .room .now) = omega arith in
     sym (length-take-le (a .t .have) (a .room .now) inside)
 
-put-line-requires : tie.Need-put-line-requires
-put-line-requires c κs = search needs
-
-same-length : tie.Need-same-length
-same-length c = search needs
-
 abbrev start : tie.After-buf → tie.Start
 start c = c .before .before .before .before .before .before .before .before .before
 
@@ -38,4 +32,4 @@ returns-2 c =
 
 pub end-line-spec : {M : Type 1} → statement M
 end-line-spec =
-    tie.close (tie.spec returns slice-aggregate-put-line put-line-requires same-length returns-2)
+    tie.close (tie.spec returns slice-aggregate-put-line (λ c κs. search needs) (λ c. search needs) returns-2)

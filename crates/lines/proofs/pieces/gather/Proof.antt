@@ -7,15 +7,6 @@ use borrow.Author.Tests.{lt-ltb, le-ltb}
 use Rattle.lines.proofs.pieces.gather.Statement.{statement}
 use Rattle.lines.proofs.pieces.gather.Tie as tie
 
-slice-write-room : tie.Need-slice-write-room
-slice-write-room c = search needs
-
-add-result : tie.Need-add-result
-add-result c = search needs
-
-same-length : tie.Need-same-length
-same-length c = search needs
-
 returns : tie.Need-returns
 returns c =
     let a = c .before .args in
@@ -27,4 +18,4 @@ returns-2 c =
     (rw (le-ltb (a .have) (length (a .room .now)) (c .if1 .left)), sym (set-out (a .room .now) (a .have) (a .b) (c .if1 .left)))
 
 pub gather-spec : {M : Type 1} → statement M
-gather-spec = tie.close (tie.spec slice-write-room add-result same-length returns returns-2)
+gather-spec = tie.close (tie.spec (λ c. search needs) (λ c. search needs) (λ c. search needs) returns returns-2)

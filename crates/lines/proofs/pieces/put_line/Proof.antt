@@ -10,12 +10,6 @@ use Rattle.lines.proofs.PieceBytes.{put-part}
 use Rattle.lines.proofs.pieces.put_line.Statement.{statement}
 use Rattle.lines.proofs.pieces.put_line.Tie as tie
 
-parse-line-requires : tie.Need-parse-line-requires
-parse-line-requires c κs = search needs
-
-enum-known-id : tie.Need-enum-known-id
-enum-known-id c = search needs
-
 abbrev after-parse-line : tie.After-slice-known2 → tie.After-parse-line
 after-parse-line c = c .before .before .before .before .before .before .before .before .before
 
@@ -43,18 +37,6 @@ part-put-start c =
     let inside = n .inside in
     omega arith
 
-part-put-end : tie.Need-part-put-end
-part-put-end c = search needs
-
-put-requires : tie.Need-put-requires
-put-requires c κs = search needs
-
-enum-told : tie.Need-enum-told
-enum-told c = search needs
-
-same-length : tie.Need-same-length
-same-length c = search needs
-
 returns : tie.Need-returns
 returns c =
     let a = start (c .before .before .before .before .before) .args in
@@ -72,13 +54,13 @@ pub put-line-spec : {M : Type 1} → statement M
 put-line-spec =
     tie.close
     (tie.spec
-    parse-line-requires
-    enum-known-id
+    (λ c κs. search needs)
+    (λ c. search needs)
     sub-put
     part-put-start
-    part-put-end
-    put-requires
-    enum-told
-    same-length
+    (λ c. search needs)
+    (λ c κs. search needs)
+    (λ c. search needs)
+    (λ c. search needs)
     returns
     returns-2)

@@ -5,26 +5,11 @@ use Rattle.lines.proofs.PieceBytes.{byte-feed, byte-more}
 use Rattle.lines.proofs.pieces.take_byte.Statement.{statement}
 use Rattle.lines.proofs.pieces.take_byte.Tie as tie
 
-end-line-requires : tie.Need-end-line-requires
-end-line-requires c κs = search needs
-
-same-length : tie.Need-same-length
-same-length c = search needs
-
-same-length-2 : tie.Need-same-length-2
-same-length-2 c = search needs
-
 returns : tie.Need-returns
 returns c =
     let a = c .before .before .before .before .before .before .before .before .before .args in
     let of-if1 = c .before .before .before .before .before .before .if1 in
     byte-feed (stateWith (a .t .writer) (a .counts .now) (a .buf .now)) (a .room .now) (a .t .have) (a .b) _ (of-if1 .taken) (c .before .before .end-line .ensures)
-
-gather-requires : tie.Need-gather-requires
-gather-requires c κs = search needs
-
-same-length-3 : tie.Need-same-length-3
-same-length-3 c = search needs
 
 returns-2 : tie.Need-returns-2
 returns-2 c =
@@ -37,10 +22,10 @@ pub take-byte-spec : {M : Type 1} → statement M
 take-byte-spec =
     tie.close
     (tie.spec
-    end-line-requires
-    same-length
-    same-length-2
+    (λ c κs. search needs)
+    (λ c. search needs)
+    (λ c. search needs)
     returns
-    gather-requires
-    same-length-3
+    (λ c κs. search needs)
+    (λ c. search needs)
     returns-2)

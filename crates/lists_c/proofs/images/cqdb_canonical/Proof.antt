@@ -6,9 +6,6 @@ use borrow.Author.Needs.{needs}
 use Rattle.lists_c.proofs.images.cqdb_canonical.Statement.{statement}
 use Rattle.lists_c.proofs.images.cqdb_canonical.Tie as tie
 
-is-canonical-requires : tie.Need-is-canonical-requires
-is-canonical-requires c κs = search needs
-
 returns : tie.Need-returns
 returns c = ap {B = ℕ} (λ (t : Bool). cond t 1 0) (sym (c .if1 .taken) ∙ c .before .is-canonical .ensures)
 
@@ -16,4 +13,4 @@ returns-2 : tie.Need-returns-2
 returns-2 c = ap {B = ℕ} (λ (t : Bool). cond t 1 0) (sym (c .if1 .left) ∙ c .before .is-canonical .ensures)
 
 pub cqdb-canonical-spec : {M : Type 1} → statement M
-cqdb-canonical-spec = tie.close (tie.spec is-canonical-requires returns returns-2)
+cqdb-canonical-spec = tie.close (tie.spec (λ c κs. search needs) returns returns-2)

@@ -6,15 +6,6 @@ use Rattle.lists_c.specs.AverageAnswer.{averageAnswerOf}
 use Rattle.lists_c.proofs.lengths.cqdb_average.Statement.{statement}
 use Rattle.lists_c.proofs.lengths.cqdb_average.Tie as tie
 
-average-requires : tie.Need-average-requires
-average-requires c κs = search needs
-
-enum-known-averaged : tie.Need-enum-known-averaged
-enum-known-averaged c = search needs
-
-enum-known-averaged-2 : tie.Need-enum-known-averaged-2
-enum-known-averaged-2 c = search needs
-
 returns : tie.Need-returns
 returns c =
     let average = c .before .before .before .average in
@@ -28,4 +19,4 @@ returns-2 c =
 pub cqdb-average-spec : {M : Type 1} → statement M
 cqdb-average-spec =
     tie.close
-    (tie.spec average-requires enum-known-averaged enum-known-averaged-2 returns returns-2)
+    (tie.spec (λ c κs. search needs) (λ c. search needs) (λ c. search needs) returns returns-2)

@@ -6,25 +6,10 @@ use Rattle.lists_c.specs.LoadAnswer.{loadAnswerOf}
 use Rattle.lists_c.proofs.loads.cqdb_load.Statement.{statement}
 use Rattle.lists_c.proofs.loads.cqdb_load.Tie as tie
 
-load-requires : tie.Need-load-requires
-load-requires c κs = search needs
-
-enum-known-loaded : tie.Need-enum-known-loaded
-enum-known-loaded c = search needs
-
-enum-known-loaded-2 : tie.Need-enum-known-loaded-2
-enum-known-loaded-2 c = search needs
-
-same-length : tie.Need-same-length
-same-length c = search needs
-
 returns : tie.Need-returns
 returns c =
     let load = c .before .before .before .before .before .load in
     (ap loadAnswerOf (ap loadedOf (sym (c .before .loaded .given .1)) ∙ load .ensures .0), load .ensures .1)
-
-same-length-2 : tie.Need-same-length-2
-same-length-2 c = search needs
 
 returns-2 : tie.Need-returns-2
 returns-2 c =
@@ -35,10 +20,10 @@ pub cqdb-load-spec : {M : Type 1} → statement M
 cqdb-load-spec =
     tie.close
     (tie.spec
-    load-requires
-    enum-known-loaded
-    enum-known-loaded-2
-    same-length
+    (λ c κs. search needs)
+    (λ c. search needs)
+    (λ c. search needs)
+    (λ c. search needs)
     returns
-    same-length-2
+    (λ c. search needs)
     returns-2)

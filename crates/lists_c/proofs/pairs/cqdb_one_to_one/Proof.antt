@@ -6,21 +6,6 @@ use borrow.Author.Needs.{needs}
 use Rattle.lists_c.proofs.pairs.cqdb_one_to_one.Statement.{statement}
 use Rattle.lists_c.proofs.pairs.cqdb_one_to_one.Tie as tie
 
-one-to-one-requires : tie.Need-one-to-one-requires
-one-to-one-requires c κs = search needs
-
-enum-told : tie.Need-enum-told
-enum-told c = search needs
-
-enum-known-offset : tie.Need-enum-known-offset
-enum-known-offset c = search needs
-
-enum-known-offset-2 : tie.Need-enum-known-offset-2
-enum-known-offset-2 c = search needs
-
-enum-known-k : tie.Need-enum-known-k
-enum-known-k c = search needs
-
 returns : tie.Need-returns
 returns c =
     ap oneToOneAnswer (ap oneToOneOf (sym (c .enum-told .given .1)) ∙ c .before .before .one-to-one .ensures)
@@ -41,11 +26,11 @@ pub cqdb-one-to-one-spec : {M : Type 1} → statement M
 cqdb-one-to-one-spec =
     tie.close
     (tie.spec
-    one-to-one-requires
-    enum-told
-    enum-known-offset
-    enum-known-offset-2
-    enum-known-k
+    (λ c κs. search needs)
+    (λ c. search needs)
+    (λ c. search needs)
+    (λ c. search needs)
+    (λ c. search needs)
     returns
     returns-2
     returns-3

@@ -4,30 +4,6 @@ use borrow.Author.Needs.{needs}
 use Rattle.load.proofs.states.state_name.Statement.{statement}
 use Rattle.load.proofs.states.state_name.Tie as tie
 
-hex-digit-requires : tie.Need-hex-digit-requires
-hex-digit-requires c κs = search needs
-
-hex-digit-requires-2 : tie.Need-hex-digit-requires-2
-hex-digit-requires-2 c κs = search needs
-
-hex-digit-requires-3 : tie.Need-hex-digit-requires-3
-hex-digit-requires-3 c κs = search needs
-
-hex-digit-requires-4 : tie.Need-hex-digit-requires-4
-hex-digit-requires-4 c κs = search needs
-
-hex-digit-requires-5 : tie.Need-hex-digit-requires-5
-hex-digit-requires-5 c κs = search needs
-
-hex-digit-requires-6 : tie.Need-hex-digit-requires-6
-hex-digit-requires-6 c κs = search needs
-
-hex-digit-requires-7 : tie.Need-hex-digit-requires-7
-hex-digit-requires-7 c κs = search needs
-
-hex-digit-requires-8 : tie.Need-hex-digit-requires-8
-hex-digit-requires-8 c κs = search needs
-
 returns : tie.Need-returns
 unfolding stateName
 returns c =
@@ -45,12 +21,12 @@ pub state-name-spec : {M : Type 1} → statement M
 state-name-spec =
     tie.close
     (tie.spec
-    hex-digit-requires
-    hex-digit-requires-2
-    hex-digit-requires-3
-    hex-digit-requires-4
-    hex-digit-requires-5
-    hex-digit-requires-6
-    hex-digit-requires-7
-    hex-digit-requires-8
+    (λ c κs. search needs)
+    (λ c κs. search needs)
+    (λ c κs. search needs)
+    (λ c κs. search needs)
+    (λ c κs. search needs)
+    (λ c κs. search needs)
+    (λ c κs. search needs)
+    (λ c κs. search needs)
     returns)

@@ -4,9 +4,6 @@ use borrow.Author.Needs.{needs}
 use Rattle.page.proofs.line.digit_or_space.Statement.{statement}
 use Rattle.page.proofs.line.digit_or_space.Tie as tie
 
-digit-requires : tie.Need-digit-requires
-digit-requires c κs = search needs
-
 returns : tie.Need-returns
 returns c = rw (eq-eqb (c .before .args .n) 0 (c .if1 .taken))
 
@@ -14,4 +11,4 @@ returns-2 : tie.Need-returns-2
 returns-2 c = rw (ne-eqb (c .before .before .args .n) 0 (c .before .if1 .left)) (c .digit .ensures)
 
 pub digit-or-space-spec : {M : Type 1} → statement M
-digit-or-space-spec = tie.close (tie.spec digit-requires returns returns-2)
+digit-or-space-spec = tie.close (tie.spec (λ c κs. search needs) returns returns-2)

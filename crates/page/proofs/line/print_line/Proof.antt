@@ -7,23 +7,8 @@ use Rattle.page.proofs.Fields.{line-printed}
 use Rattle.page.proofs.line.print_line.Statement.{statement}
 use Rattle.page.proofs.line.print_line.Tie as tie
 
-print-number-requires : tie.Need-print-number-requires
-print-number-requires c κs = search needs
-
-add-out : tie.Need-add-out
-add-out c = search needs
-
-slice-write-out : tie.Need-slice-write-out
-slice-write-out c = search needs
-
-add-print-field : tie.Need-add-print-field
-add-print-field c = search needs
-
 print-field-requires : tie.Need-print-field-requires
 print-field-requires c κs = simp length-set (omega (arith, c .before .before .before .print-number .kept))
-
-add-out-2 : tie.Need-add-out-2
-add-out-2 c = search needs
 
 abbrev start : tie.After-out2 → tie.Start
 start c = c .before .before .before .before .before .before .before .before .before
@@ -51,12 +36,12 @@ pub print-line-spec : {M : Type 1} → statement M
 print-line-spec =
     tie.close
     (tie.spec
-    print-number-requires
-    add-out
-    slice-write-out
-    add-print-field
+    (λ c κs. search needs)
+    (λ c. search needs)
+    (λ c. search needs)
+    (λ c. search needs)
     print-field-requires
-    add-out-2
+    (λ c. search needs)
     slice-write-out-2
     same-length
     returns)

@@ -6,12 +6,6 @@ use Rattle.page.proofs.Fields.{name-printed}
 use Rattle.page.proofs.line.print_name.Statement.{statement}
 use Rattle.page.proofs.line.print_name.Tie as tie
 
-repeat-requires : tie.Need-repeat-requires
-repeat-requires c κs = search needs
-
-kept-requires : tie.Need-kept-requires
-kept-requires c κs = search needs
-
 abbrev after-repeat : tie.After-mark → tie.After-repeat
 after-repeat c = c .before .before .before .before .before .before .before .before .before
 
@@ -29,15 +23,6 @@ show-all-requires c κs =
     let kept = c .before .before .kept in
     let name = start c .args .name .now in
     omega (arith, length-take (kept .result) name, kept .ensures, c .before .before .before .before .before .repeat .kept)
-
-mark-requires : tie.Need-mark-requires
-mark-requires c κs = search needs
-
-add-out : tie.Need-add-out
-add-out c = search needs
-
-slice-write-out : tie.Need-slice-write-out
-slice-write-out c = search needs
 
 same-length : tie.Need-same-length
 same-length c =
@@ -57,12 +42,12 @@ pub print-name-spec : {M : Type 1} → statement M
 print-name-spec =
     tie.close
     (tie.spec
-    repeat-requires
-    kept-requires
+    (λ c κs. search needs)
+    (λ c κs. search needs)
     slice-aggregate-show-all
     show-all-requires
-    mark-requires
-    add-out
-    slice-write-out
+    (λ c κs. search needs)
+    (λ c. search needs)
+    (λ c. search needs)
     same-length
     returns)

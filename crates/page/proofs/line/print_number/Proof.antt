@@ -17,9 +17,6 @@ Inv-loop out₀ at id n₀ left₀ out n left =
 abbrev μ-loop : tie.MeasureT-loop
 μ-loop out₀ at id n₀ left₀ out n left = left
 
-digit-requires : tie.Need-digit-requires Inv-loop μ-loop
-digit-requires c κs = search needs
-
 add-out : tie.Need-add-out Inv-loop μ-loop
 add-out c = omega arith
 
@@ -31,9 +28,6 @@ loop-holds c = (omega arith, refl, refl)
 
 sub-left : tie.Need-sub-left Inv-loop μ-loop
 sub-left c = omega arith
-
-digit-or-space-requires : tie.Need-digit-or-space-requires Inv-loop μ-loop
-digit-or-space-requires c κs = search needs
 
 add-out-2 : tie.Need-add-out-2 Inv-loop μ-loop
 add-out-2 c = omega arith
@@ -76,12 +70,12 @@ print-number-spec =
     (tie.spec
     Inv-loop
     μ-loop
-    digit-requires
+    (λ c κs. search needs)
     add-out
     slice-write-out
     loop-holds
     sub-left
-    digit-or-space-requires
+    (λ c κs. search needs)
     add-out-2
     slice-write-out-2
     loop-less

@@ -38,9 +38,6 @@ loop-again c =
     let l = c .before .loop in
     (omega arith, simp length-set (l .inv .1), repeat-turn (l .out) (a .at) (l .j) 32 (a .b) (c .loop-test .taken) ∙ l .inv .2)
 
-same-length : tie.Need-same-length Inv-loop μ-loop
-same-length c = search needs
-
 returns : tie.Need-returns Inv-loop μ-loop
 returns c =
     let a = c .before .before .args in
@@ -59,5 +56,5 @@ repeat-spec =
     add-j
     loop-less
     loop-again
-    same-length
+    (λ c. search needs)
     returns)

@@ -25,9 +25,6 @@ loop-holds c = (omega arith, refl, simp add-zero)
 shared-slice-read-show : tie.Need-shared-slice-read-show Inv-loop μ-loop
 shared-slice-read-show c = omega arith
 
-show-requires : tie.Need-show-requires Inv-loop μ-loop
-show-requires c κs = search needs
-
 add-out : tie.Need-add-out Inv-loop μ-loop
 add-out c = omega arith
 
@@ -50,9 +47,6 @@ loop-again c =
       map-turn shown (a .bytes .now) (l .out) (a .at) (l .j) (c .show .result) more (c .show .ensures) ∙ l .inv .2,
     )
 
-same-length : tie.Need-same-length Inv-loop μ-loop
-same-length c = search needs
-
 returns : tie.Need-returns Inv-loop μ-loop
 returns c =
     let a = c .before .before .before .before .args in
@@ -67,11 +61,11 @@ show-all-spec =
     μ-loop
     loop-holds
     shared-slice-read-show
-    show-requires
+    (λ c κs. search needs)
     add-out
     slice-write-out
     add-j
     loop-less
     loop-again
-    same-length
+    (λ c. search needs)
     returns)

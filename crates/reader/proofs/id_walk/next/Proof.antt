@@ -9,12 +9,6 @@ use borrow.Author.Needs.{needs}
 use Rattle.reader.proofs.id_walk.next.Statement.{statement}
 use Rattle.reader.proofs.id_walk.next.Tie as tie
 
-to-str-requires : tie.Need-to-str-requires
-to-str-requires c κs = search needs
-
-enum-known-start : tie.Need-enum-known-start
-enum-known-start c = search needs
-
 add-t8 : tie.Need-add-t8
 add-t8 c =
     let a = c .before .before .before .before .before .args in
@@ -27,9 +21,6 @@ add-t8 c =
           (sym (of-to-str .ensures) ∙ ap namingOf (c .before .start .given .1)) .below,
       word-below image 16 (λ k. of-shared-slice-known .given k .fits),
     )
-
-enum-told : tie.Need-enum-told
-enum-told c = search needs
 
 returns : tie.Need-returns
 unfolding step
@@ -47,4 +38,4 @@ returns-2 c =
 
 pub next-spec : {M : Type 1} → statement M
 next-spec =
-    tie.close (tie.spec to-str-requires enum-known-start add-t8 enum-told returns returns-2)
+    tie.close (tie.spec (λ c κs. search needs) (λ c. search needs) add-t8 (λ c. search needs) returns returns-2)

@@ -7,9 +7,6 @@ use borrow.Author.Needs.{needs}
 use Rattle.reader.proofs.id_walk.size_hint.Statement.{statement}
 use Rattle.reader.proofs.id_walk.size_hint.Tie as tie
 
-no-back-requires : tie.Need-no-back-requires
-no-back-requires c κs = search needs
-
 returns : tie.Need-returns
 returns c =
     let a = c .before .before .before .args in
@@ -27,9 +24,6 @@ returns-2 c =
     let of-if1 = c .before .before .if1 in
     hint-back image (a .walk .next) (c .before .word .result) 0 (sym (of-no-back .ensures) ∙ of-if1 .left) (c .before .word .ensures) (omega arith)
 
-sub-result : tie.Need-sub-result
-sub-result c = search needs
-
 returns-3 : tie.Need-returns-3
 returns-3 c =
     let a = c .before .before .before .before .before .args in
@@ -41,4 +35,4 @@ returns-3 c =
 
 pub size-hint-spec : {M : Type 1} → statement M
 size-hint-spec =
-    tie.close (tie.spec no-back-requires returns word-requires returns-2 sub-result returns-3)
+    tie.close (tie.spec (λ c κs. search needs) returns word-requires returns-2 (λ c. search needs) returns-3)

@@ -10,11 +10,8 @@ use Rattle.reader.proofs.lookup.bucket_after.Tie as tie
 add-result : tie.Need-add-result
 add-result c = omega (arith, c .pre .1)
 
-rem-result : tie.Need-rem-result
-rem-result c = search needs
-
 returns : tie.Need-returns
 returns c = let a = c .args in (refl, mod-lt (a .h / 256 + a .c) {m = a .n} (c .pre .0))
 
 pub bucket-after-spec : {M : Type 1} → statement M
-bucket-after-spec = tie.close (tie.spec add-result rem-result returns)
+bucket-after-spec = tie.close (tie.spec add-result (λ c. search needs) returns)

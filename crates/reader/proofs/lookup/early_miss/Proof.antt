@@ -6,62 +6,11 @@ use borrow.Author.Needs.{needs}
 use Rattle.reader.proofs.lookup.early_miss.Statement.{statement}
 use Rattle.reader.proofs.lookup.early_miss.Tie as tie
 
-mul-first : tie.Need-mul-first
-mul-first c = search needs
-
-add-first : tie.Need-add-first
-add-first c = search needs
-
-word-requires : tie.Need-word-requires
-word-requires c κs = search needs
-
 returns : tie.Need-returns
 returns c = λ l. absurd (omega arith)
 
-next-requires : tie.Need-next-requires
-next-requires c κs = search needs
-
-mul-second : tie.Need-mul-second
-mul-second c = search needs
-
-add-second : tie.Need-add-second
-add-second c = search needs
-
-word-requires-2 : tie.Need-word-requires-2
-word-requires-2 c κs = search needs
-
 returns-2 : tie.Need-returns-2
 returns-2 c = λ l. absurd (omega arith)
-
-next-requires-2 : tie.Need-next-requires-2
-next-requires-2 c κs = search needs
-
-mul-third : tie.Need-mul-third
-mul-third c = search needs
-
-add-third : tie.Need-add-third
-add-third c = search needs
-
-add-word : tie.Need-add-word
-add-word c = search needs
-
-word-requires-3 : tie.Need-word-requires-3
-word-requires-3 c κs = search needs
-
-add-word-2 : tie.Need-add-word-2
-add-word-2 c = search needs
-
-word-requires-4 : tie.Need-word-requires-4
-word-requires-4 c κs = search needs
-
-add-word-3 : tie.Need-add-word-3
-add-word-3 c = search needs
-
-word-requires-5 : tie.Need-word-requires-5
-word-requires-5 c κs = search needs
-
-first-zero-requires : tie.Need-first-zero-requires
-first-zero-requires c κs = search needs
 
 -- the places of the two steps to the next bucket, from the end back
 abbrev third-bucket : tie.After-first-zero → tie.After-next2
@@ -87,23 +36,23 @@ pub early-miss-spec : {M : Type 1} → statement M
 early-miss-spec =
     tie.close
     (tie.spec
-    mul-first
-    add-first
-    word-requires
+    (λ c. search needs)
+    (λ c. search needs)
+    (λ c κs. search needs)
     returns
-    next-requires
-    mul-second
-    add-second
-    word-requires-2
+    (λ c κs. search needs)
+    (λ c. search needs)
+    (λ c. search needs)
+    (λ c κs. search needs)
     returns-2
-    next-requires-2
-    mul-third
-    add-third
-    add-word
-    word-requires-3
-    add-word-2
-    word-requires-4
-    add-word-3
-    word-requires-5
-    first-zero-requires
+    (λ c κs. search needs)
+    (λ c. search needs)
+    (λ c. search needs)
+    (λ c. search needs)
+    (λ c κs. search needs)
+    (λ c. search needs)
+    (λ c κs. search needs)
+    (λ c. search needs)
+    (λ c κs. search needs)
+    (λ c κs. search needs)
     returns-3)

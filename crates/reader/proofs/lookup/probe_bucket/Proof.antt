@@ -8,12 +8,6 @@ use borrow.Author.Needs.{needs}
 use Rattle.reader.proofs.lookup.probe_bucket.Statement.{statement}
 use Rattle.reader.proofs.lookup.probe_bucket.Tie as tie
 
-add-word : tie.Need-add-word
-add-word c = search needs
-
-word-requires : tie.Need-word-requires
-word-requires c κs = search needs
-
 returns : tie.Need-returns
 returns c =
     let a = c .before .before .before .before .args in
@@ -21,9 +15,6 @@ returns c =
     let name = a .name .now in
     probe-bucket-by image name (c .before .word .result) (a .h) (a .at) true _ (c .before .word .ensures) (eq-eqb (c .before .word .result) 0 (c .if1 .taken))
     refl
-
-word-requires-2 : tie.Need-word-requires-2
-word-requires-2 c κs = search needs
 
 returns-2 : tie.Need-returns-2
 returns-2 c =
@@ -34,9 +25,6 @@ returns-2 c =
     let of-if1 = c .before .before .if1 in
     probe-bucket-by image name (of-word .result) (a .h) (a .at) false false (of-word .ensures) (ne-eqb (of-word .result) 0 (of-if1 .left))
     (ne-eqb (word image (a .at)) (a .h) (λ e. c .if2 .taken (c .before .word2 .ensures ∙ e)))
-
-probe-entry-requires : tie.Need-probe-entry-requires
-probe-entry-requires c κs = search needs
 
 returns-3 : tie.Need-returns-3
 returns-3 c =
@@ -54,10 +42,10 @@ pub probe-bucket-spec : {M : Type 1} → statement M
 probe-bucket-spec =
     tie.close
     (tie.spec
-    add-word
-    word-requires
+    (λ c. search needs)
+    (λ c κs. search needs)
     returns
-    word-requires-2
+    (λ c κs. search needs)
     returns-2
-    probe-entry-requires
+    (λ c κs. search needs)
     returns-3)

@@ -12,9 +12,6 @@ use borrow.Author.Needs.{needs}
 use Rattle.reader.proofs.lookup.probe_entry.Statement.{statement}
 use Rattle.reader.proofs.lookup.probe_entry.Tie as tie
 
-broken-requires : tie.Need-broken-requires
-broken-requires c κs = search needs
-
 returns : tie.Need-returns
 returns c =
     let a = c .before .before .before .before .args in
@@ -22,20 +19,11 @@ returns c =
     let name = a .name .now in
     probe-entry-by image name (a .at) true _ (sym (c .before .broken .ensures) ∙ c .if1 .taken) refl
 
-add-start : tie.Need-add-start
-add-start c = search needs
-
-add-word : tie.Need-add-word
-add-word c = search needs
-
 word-requires : tie.Need-word-requires
 word-requires c κs =
     let a = c .before .before .before .before .args in
     let image = a .image .now in
     omega (arith, unbroken image (a .at) (sym (c .before .broken .ensures) ∙ c .if1 .left))
-
-cast-end : tie.Need-cast-end
-cast-end c = search needs
 
 sub-end : tie.Need-sub-end
 sub-end c =
@@ -44,24 +32,12 @@ sub-end c =
     let of-broken = c .before .before .broken in
     omega (arith, unbroken image (a .at) (sym (of-broken .ensures) ∙ c .before .if1 .left), c .word .ensures)
 
-add-end : tie.Need-add-end
-add-end c = search needs
-
-sub-same : tie.Need-sub-same
-sub-same c = search needs
-
-part-same-start : tie.Need-part-same-start
-part-same-start c = search needs
-
 part-same-end : tie.Need-part-same-end
 part-same-end c =
     let a = c .before .before .before .before .before .args in
     let image = a .image .now in
     let of-broken = c .before .before .broken in
     omega (arith, unbroken image (a .at) (sym (of-broken .ensures) ∙ c .before .if1 .left), c .word .ensures)
-
-same-requires : tie.Need-same-requires
-same-requires c κs = search needs
 
 word-requires-2 : tie.Need-word-requires-2
 word-requires-2 c κs =
@@ -101,18 +77,18 @@ pub probe-entry-spec : {M : Type 1} → statement M
 probe-entry-spec =
     tie.close
     (tie.spec
-    broken-requires
+    (λ c κs. search needs)
     returns
-    add-start
-    add-word
+    (λ c. search needs)
+    (λ c. search needs)
     word-requires
-    cast-end
+    (λ c. search needs)
     sub-end
-    add-end
-    sub-same
-    part-same-start
+    (λ c. search needs)
+    (λ c. search needs)
+    (λ c. search needs)
     part-same-end
-    same-requires
+    (λ c κs. search needs)
     word-requires-2
     returns-2
     returns-3)

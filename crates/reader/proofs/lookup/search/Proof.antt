@@ -9,9 +9,6 @@ use borrow.Author.Needs.{needs}
 use Rattle.reader.proofs.lookup.search.Statement.{statement}
 use Rattle.reader.proofs.lookup.search.Tie as tie
 
-start-requires : tie.Need-start-requires
-start-requires c κs = search needs
-
 early-miss-requires : tie.Need-early-miss-requires
 early-miss-requires c κs =
     record { starts = c .start .ensures .0; bucket = c .start .ensures .1; inside = c .before .before .before .pre .inside }
@@ -32,4 +29,4 @@ returns-2 c =
     c .search-rest .ensures ∙ ap left-from (of-start .start .ensures .0) ∙ rest-start (a .image .now) (a .name .now) (a .h) (a .at) (a .n)
 
 pub search-spec : {M : Type 1} → statement M
-search-spec = tie.close (tie.spec start-requires early-miss-requires returns search-rest-requires returns-2)
+search-spec = tie.close (tie.spec (λ c κs. search needs) early-miss-requires returns search-rest-requires returns-2)

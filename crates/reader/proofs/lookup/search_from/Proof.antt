@@ -23,9 +23,6 @@ returns-2 c =
     from-by (a .image .now) (a .name .now) (a .h) (a .c) false true (le-ltb (length (a .image .now)) 2072 (c .before .if1 .left))
     (le-leb 4294967295 (length (a .name .now)) (c .if2 .taken))
 
-table-of-requires : tie.Need-table-of-requires
-table-of-requires c κs = search needs
-
 returns-3 : tie.Need-returns-3
 returns-3 c =
     let t = c .before in
@@ -38,9 +35,6 @@ returns-3 c =
 
 bucket-after-requires : tie.Need-bucket-after-requires
 bucket-after-requires c κs = (omega (arith, c .if3 .left), c .before .before .before .before .before .before .pre)
-
-cast-k : tie.Need-cast-k
-cast-k c = search needs
 
 sub-search-rest : tie.Need-sub-search-rest
 sub-search-rest c = omega (arith, c .before .if3 .left)
@@ -70,10 +64,10 @@ search-from-spec =
     (tie.spec
     returns
     returns-2
-    table-of-requires
+    (λ c κs. search needs)
     returns-3
     bucket-after-requires
-    cast-k
+    (λ c. search needs)
     sub-search-rest
     search-rest-requires
     returns-4)

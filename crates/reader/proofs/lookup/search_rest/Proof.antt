@@ -46,40 +46,19 @@ module _ (c : tie.After-probe-bucket Inv-loop μ-loop) where
 loop-holds : tie.Need-loop-holds Inv-loop μ-loop
 loop-holds c = record { bucket = c .before .before .pre .bucket; most = c .before .before .pre .most; same = refl }
 
-sub-left : tie.Need-sub-left Inv-loop μ-loop
-sub-left c = search needs
-
-sub-read : tie.Need-sub-read Inv-loop μ-loop
-sub-read c = search needs
-
-mul-probe-bucket : tie.Need-mul-probe-bucket Inv-loop μ-loop
-mul-probe-bucket c = search needs
-
 add-probe-bucket : tie.Need-add-probe-bucket Inv-loop μ-loop
 add-probe-bucket c = omega (arith, c .before .before .before .before .pre .inside)
 
 probe-bucket-requires : tie.Need-probe-bucket-requires Inv-loop μ-loop
 probe-bucket-requires c κs = omega (arith, c .before .before .before .before .pre .inside)
 
-enum-told : tie.Need-enum-told Inv-loop μ-loop
-enum-told c = search needs
-
-enum-told-2 : tie.Need-enum-told-2 Inv-loop μ-loop
-enum-told-2 c = search needs
-
 returns : tie.Need-returns Inv-loop μ-loop
 returns c = step (c .before .before) ends (ap probeOf (c .enum-told2 .given .1))
-
-enum-known-hit : tie.Need-enum-known-hit Inv-loop μ-loop
-enum-known-hit c = search needs
 
 returns-2 : tie.Need-returns-2 Inv-loop μ-loop
 returns-2 c =
     let told = c .before .hit .given .0 .0 in
     step (c .before .before .before) (hit (record { id = told .id; offset = told .offset })) (ap probeOf (c .before .hit .given .1))
-
-next-requires : tie.Need-next-requires Inv-loop μ-loop
-next-requires c κs = search needs
 
 loop-less : tie.Need-loop-less Inv-loop μ-loop
 loop-less c = omega arith
@@ -107,17 +86,17 @@ search-rest-spec =
     Inv-loop
     μ-loop
     loop-holds
-    sub-left
-    sub-read
-    mul-probe-bucket
+    (λ c. search needs)
+    (λ c. search needs)
+    (λ c. search needs)
     add-probe-bucket
     probe-bucket-requires
-    enum-told
-    enum-told-2
+    (λ c. search needs)
+    (λ c. search needs)
     returns
-    enum-known-hit
+    (λ c. search needs)
     returns-2
-    next-requires
+    (λ c κs. search needs)
     loop-less
     loop-again
     returns-3)

@@ -5,27 +5,6 @@ use borrow.Author.Needs.{needs}
 use Rattle.reader.proofs.lookup.table_of.Statement.{statement}
 use Rattle.reader.proofs.lookup.table_of.Tie as tie
 
-cast-t : tie.Need-cast-t
-cast-t c = search needs
-
-mul-word : tie.Need-mul-word
-mul-word c = search needs
-
-add-word : tie.Need-add-word
-add-word c = search needs
-
-word-requires : tie.Need-word-requires
-word-requires c κs = search needs
-
-mul-word-2 : tie.Need-mul-word-2
-mul-word-2 c = search needs
-
-add-word-2 : tie.Need-add-word-2
-add-word-2 c = search needs
-
-word-requires-2 : tie.Need-word-requires-2
-word-requires-2 c κs = search needs
-
 -- the two words of the row
 row-of : (c : tie.After-word2)
     → let a = c .before .before .before .args in Row (a .image .now) (a .h) (c .before .word .result) (c .word2 .result)
@@ -33,18 +12,6 @@ row-of c = record { offset = c .before .word .ensures; number = c .word2 .ensure
 
 returns : tie.Need-returns
 returns c = record { unread = λ z. unread-offset (row-of (c .before)) (c .if1 .taken); table = λ z. absurd (omega arith) }
-
-cast-if2 : tie.Need-cast-if2
-cast-if2 c = search needs
-
-cast-if2-2 : tie.Need-cast-if2-2
-cast-if2-2 c = search needs
-
-mul-if2 : tie.Need-mul-if2
-mul-if2 c = search needs
-
-add-if2 : tie.Need-add-if2
-add-if2 c = search needs
 
 returns-2 : tie.Need-returns-2
 returns-2 c =
@@ -71,17 +38,17 @@ pub table-of-spec : {M : Type 1} → statement M
 table-of-spec =
     tie.close
     (tie.spec
-    cast-t
-    mul-word
-    add-word
-    word-requires
-    mul-word-2
-    add-word-2
-    word-requires-2
+    (λ c. search needs)
+    (λ c. search needs)
+    (λ c. search needs)
+    (λ c κs. search needs)
+    (λ c. search needs)
+    (λ c. search needs)
+    (λ c κs. search needs)
     returns
-    cast-if2
-    cast-if2-2
-    mul-if2
-    add-if2
+    (λ c. search needs)
+    (λ c. search needs)
+    (λ c. search needs)
+    (λ c. search needs)
     returns-2
     returns-3)

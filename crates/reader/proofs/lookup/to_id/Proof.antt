@@ -23,24 +23,6 @@ whole l = take-all (length l - 0) l (omega arith)
 of-name : (name : List ℕ) (r : Hashed) → outcome r ≡ hashOutcome (take (length name - 0) name) 0 → outcome r ≡ hashOutcome name 0
 of-name name r h = h ∙ ap (λ (l : List ℕ). hashOutcome l 0) (whole name)
 
-sub-bytes : tie.Need-sub-bytes
-sub-bytes c = search needs
-
-part-bytes-start : tie.Need-part-bytes-start
-part-bytes-start c = search needs
-
-part-bytes-end : tie.Need-part-bytes-end
-part-bytes-end c = search needs
-
-sub-wanted : tie.Need-sub-wanted
-sub-wanted c = search needs
-
-part-wanted-start : tie.Need-part-wanted-start
-part-wanted-start c = search needs
-
-part-wanted-end : tie.Need-part-wanted-end
-part-wanted-end c = search needs
-
 returns : tie.Need-returns
 returns c =
     let a = c .before .before .before .before .before .args in
@@ -48,19 +30,10 @@ returns c =
     let name = a .name .now in
     lookup-by image name true _ (lt-ltb (length image) 2072 (c .if1 .taken)) refl
 
-name-hash-requires : tie.Need-name-hash-requires
-name-hash-requires c κs = search needs
-
-enum-known-h : tie.Need-enum-known-h
-enum-known-h c = search needs
-
 to-id-hashed-requires : tie.Need-to-id-hashed-requires
 to-id-hashed-requires c κs =
     let a = c .before .before .before .before .before .before .before .before .before .args in
     rw (whole (a .image .now)) (c .before .before .before .before .if1 .left)
-
-enum-told : tie.Need-enum-told
-enum-told c = search needs
 
 returns-2 : tie.Need-returns-2
 returns-2 c =
@@ -93,16 +66,16 @@ pub to-id-spec : {M : Type 1} → statement M
 to-id-spec =
     tie.close
     (tie.spec
-    sub-bytes
-    part-bytes-start
-    part-bytes-end
-    sub-wanted
-    part-wanted-start
-    part-wanted-end
+    (λ c. search needs)
+    (λ c. search needs)
+    (λ c. search needs)
+    (λ c. search needs)
+    (λ c. search needs)
+    (λ c. search needs)
     returns
-    name-hash-requires
-    enum-known-h
+    (λ c κs. search needs)
+    (λ c. search needs)
     to-id-hashed-requires
-    enum-told
+    (λ c. search needs)
     returns-2
     returns-3)

@@ -7,9 +7,6 @@ use borrow.Author.Needs.{needs}
 use Rattle.reader.proofs.lookup.to_id_hashed.Statement.{statement}
 use Rattle.reader.proofs.lookup.to_id_hashed.Tie as tie
 
-table-of-requires : tie.Need-table-of-requires
-table-of-requires c κs = search needs
-
 returns : tie.Need-returns
 returns c =
     let of-table = c .before .before in
@@ -31,4 +28,4 @@ returns-2 c =
     c .search .ensures ∙ lookup-read (a .image .now) (a .name .now) (a .h) (t .at) (t .n) (found .searched) (found .offset) (found .number)
 
 pub to-id-hashed-spec : {M : Type 1} → statement M
-to-id-hashed-spec = tie.close (tie.spec table-of-requires returns search-requires returns-2)
+to-id-hashed-spec = tie.close (tie.spec (λ c κs. search needs) returns search-requires returns-2)

@@ -8,12 +8,6 @@ use borrow.Author.Needs.{needs}
 use Rattle.reader.proofs.naming.name_or.Statement.{statement}
 use Rattle.reader.proofs.naming.name_or.Tie as tie
 
-to-str-requires : tie.Need-to-str-requires
-to-str-requires c κs = search needs
-
-enum-known-start : tie.Need-enum-known-start
-enum-known-start c = search needs
-
 add-result : tie.Need-add-result
 add-result c =
     let a = c .before .before .before .before .before .before .args in
@@ -21,21 +15,12 @@ add-result c =
     let place = c .before .start .given in
     omega (arith, named (a .image .now) (a .id) (place .0 .0) (place .0 .1 .0) (sym (of-to-str .ensures) ∙ ap namingOf (place .1)))
 
-sub-result : tie.Need-sub-result
-sub-result c = search needs
-
-part-result-start : tie.Need-part-result-start
-part-result-start c = search needs
-
 part-result-end : tie.Need-part-result-end
 part-result-end c =
     let a = c .before .before .before .before .before .before .args in
     let of-to-str = c .before .before .before .to-str in
     let place = c .before .start .given in
     omega (arith, named (a .image .now) (a .id) (place .0 .0) (place .0 .1 .0) (sym (of-to-str .ensures) ∙ ap namingOf (place .1)))
-
-enum-told : tie.Need-enum-told
-enum-told c = search needs
 
 returns : tie.Need-returns
 returns c =
@@ -55,12 +40,12 @@ pub name-or-spec : {M : Type 1} → statement M
 name-or-spec =
     tie.close
     (tie.spec
-    to-str-requires
-    enum-known-start
+    (λ c κs. search needs)
+    (λ c. search needs)
     add-result
-    sub-result
-    part-result-start
+    (λ c. search needs)
+    (λ c. search needs)
     part-result-end
-    enum-told
+    (λ c. search needs)
     returns
     returns-2)

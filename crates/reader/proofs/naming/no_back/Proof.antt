@@ -10,18 +10,12 @@ use Rattle.reader.proofs.naming.no_back.Tie as tie
 returns : tie.Need-returns
 returns c = simp (lt-ltb (length (c .before .before .args .image .now)) 2072 (c .if1 .taken))
 
-word-requires : tie.Need-word-requires
-word-requires c κs = search needs
-
 returns-2 : tie.Need-returns-2
 returns-2 c =
     let a = c .before .before .before .before .args in
     let image = a .image .now in
     let of-if1 = c .before .before .if1 in
     simp (le-ltb (length image) 2072 (of-if1 .left), eq-eqb (word image 20) 0 (sym (c .before .word .ensures) ∙ c .if2 .taken))
-
-back-leaves-requires : tie.Need-back-leaves-requires
-back-leaves-requires c κs = search needs
 
 returns-3 : tie.Need-returns-3
 returns-3 c =
@@ -33,4 +27,4 @@ returns-3 c =
     ∙ simp (le-ltb (length image) 2072 (of-if1 .left), ne-eqb (word image 20) 0 (λ e. c .before .if2 .left (of-word .ensures ∙ e)))
 
 pub no-back-spec : {M : Type 1} → statement M
-no-back-spec = tie.close (tie.spec returns word-requires returns-2 back-leaves-requires returns-3)
+no-back-spec = tie.close (tie.spec returns (λ c κs. search needs) returns-2 (λ c κs. search needs) returns-3)

@@ -37,9 +37,6 @@ module _ (c : tie.After-word3) where
       (lt-leb (word image-of 16) id-of (omega (arith, c .before .before .before .word .ensures)))
       ez ex
 
-no-back-requires : tie.Need-no-back-requires
-no-back-requires c κs = search needs
-
 returns : tie.Need-returns
 returns c =
     let a = c .before .before .before .args in
@@ -66,15 +63,6 @@ word-requires-2 c κs =
     let of-if1 = c .before .before .if1 in
     omega (arith, back image (sym (of-no-back .ensures) ∙ of-if1 .left))
 
-cast-word : tie.Need-cast-word
-cast-word c = search needs
-
-mul-word : tie.Need-mul-word
-mul-word c = search needs
-
-add-word : tie.Need-add-word
-add-word c = search needs
-
 word-requires-3 : tie.Need-word-requires-3
 word-requires-3 c κs =
     let a = c .before .before .before .before .before .before .args in
@@ -87,30 +75,15 @@ word-requires-3 c κs =
 returns-3 : tie.Need-returns-3
 returns-3 c = answer (c .before) true _ (eq-eqb (at (c .before)) 0 (c .if3 .taken)) refl
 
-broken-requires : tie.Need-broken-requires
-broken-requires c κs = search needs
-
 returns-4 : tie.Need-returns-4
 returns-4 c =
     let entry = c .before .before .before in
     answer entry false true (ne-eqb (at entry) 0 (c .before .before .if3 .left)) (sym (c .before .broken .ensures) ∙ c .if4 .taken)
 
-cast-entry : tie.Need-cast-entry
-cast-entry c = search needs
-
-add-t11 : tie.Need-add-t11
-add-t11 c = search needs
-
-add-word-2 : tie.Need-add-word-2
-add-word-2 c = search needs
-
 word-requires-4 : tie.Need-word-requires-4
 word-requires-4 c κs =
     let entry = c .before .before .before in
     omega (arith, unbroken (image-of entry) (at entry) (sym (c .before .broken .ensures) ∙ c .if4 .left))
-
-cast-t9 : tie.Need-cast-t9
-cast-t9 c = search needs
 
 sub-t8 : tie.Need-sub-t8
 sub-t8 c =
@@ -127,22 +100,22 @@ pub to-str-spec : {M : Type 1} → statement M
 to-str-spec =
     tie.close
     (tie.spec
-    no-back-requires
+    (λ c κs. search needs)
     returns
     word-requires
     returns-2
     word-requires-2
-    cast-word
-    mul-word
-    add-word
+    (λ c. search needs)
+    (λ c. search needs)
+    (λ c. search needs)
     word-requires-3
     returns-3
-    broken-requires
+    (λ c κs. search needs)
     returns-4
-    cast-entry
-    add-t11
-    add-word-2
+    (λ c. search needs)
+    (λ c. search needs)
+    (λ c. search needs)
     word-requires-4
-    cast-t9
+    (λ c. search needs)
     sub-t8
     returns-5)

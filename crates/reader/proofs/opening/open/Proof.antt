@@ -41,9 +41,6 @@ returns c =
     let image = a .image .now in
     opening-by image true _ _ _ _ (lt-ltb (length image) 2072 (c .if1 .taken)) refl refl refl refl
 
-has-letters-requires : tie.Need-has-letters-requires
-has-letters-requires c κs = search needs
-
 returns-2 : tie.Need-returns-2
 returns-2 c =
     let a = c .before .before .before .before .args in
@@ -51,9 +48,6 @@ returns-2 c =
     let of-if1 = c .before .before .if1 in
     opening-by image false false _ _ _ (le-ltb (length image) 2072 (of-if1 .left))
     (sym (c .before .has-letters .ensures) ∙ not-true (c .before .has-letters .result) (c .if2 .taken)) refl refl refl
-
-word-requires : tie.Need-word-requires
-word-requires c κs = search needs
 
 returns-3 : tie.Need-returns-3
 returns-3 c =
@@ -65,12 +59,6 @@ returns-3 c =
     opening-by image false true false _ _ (le-ltb (length image) 2072 (of-if1 .left))
     (sym (of-has-letters .ensures) ∙ not-false (of-has-letters .result) (of-if2 .left))
     (ne-eqb (word image 12) 0x62445371 (λ e. c .if3 .taken (c .before .word .ensures ∙ e))) refl refl
-
-all-tables-requires : tie.Need-all-tables-requires
-all-tables-requires c κs = search needs
-
-some-leaves-requires : tie.Need-some-leaves-requires
-some-leaves-requires c κs = search needs
 
 returns-4 : tie.Need-returns-4
 returns-4 c =
@@ -84,12 +72,6 @@ returns-4 c =
     opening-by image false true true true _ (le-ltb (length image) 2072 (of-if1 .left))
     (sym (of-has-letters .ensures) ∙ not-false (of-has-letters .result) (of-if2 .left))
     (eq-eqb (word image 12) 0x62445371 (sym (of-word .ensures) ∙ of-if3 .left)) (sym (c .before .some-leaves .ensures) ∙ c .if4 .taken) refl
-
-word-requires-2 : tie.Need-word-requires-2
-word-requires-2 c κs = search needs
-
-back-leaves-requires : tie.Need-back-leaves-requires
-back-leaves-requires c κs = search needs
 
 returns-5 : tie.Need-returns-5
 returns-5 c =
@@ -121,15 +103,15 @@ open-spec =
     tie.close
     (tie.spec
     returns
-    has-letters-requires
+    (λ c κs. search needs)
     returns-2
-    word-requires
+    (λ c κs. search needs)
     returns-3
-    all-tables-requires
-    some-leaves-requires
+    (λ c κs. search needs)
+    (λ c κs. search needs)
     returns-4
-    word-requires-2
-    back-leaves-requires
+    (λ c κs. search needs)
+    (λ c κs. search needs)
     returns-5
     returns-6
     returns-7)

@@ -5,14 +5,8 @@ use borrow.Author.Needs.{needs}
 use Rattle.reader.proofs.opening.some_leaves.Statement.{statement}
 use Rattle.reader.proofs.opening.some_leaves.Tie as tie
 
-some-leaves-by-each-requires : tie.Need-some-leaves-by-each-requires
-some-leaves-by-each-requires c κs = search needs
-
-returns : tie.Need-returns
-returns c = search needs
-
 returns-2 : tie.Need-returns-2
 returns-2 c = sym (c .before .before .pre .1 (omega arith))
 
 pub some-leaves-spec : {M : Type 1} → statement M
-some-leaves-spec = tie.close (tie.spec some-leaves-by-each-requires returns returns-2)
+some-leaves-spec = tie.close (tie.spec (λ c κs. search needs) (λ c. search needs) returns-2)

@@ -5,9 +5,6 @@ use borrow.Author.Needs.{needs}
 use Rattle.reader.proofs.opening.with_slack.Statement.{statement}
 use Rattle.reader.proofs.opening.with_slack.Tie as tie
 
-slack-requires : tie.Need-slack-requires
-slack-requires c κs = search needs
-
 returns : tie.Need-returns
 returns c h =
     let rooms = c .before .args .slacks in
@@ -15,4 +12,4 @@ returns c h =
     (omega (arith, h, le-or-l rooms own), c .slack .ensures (omega (arith, h, le-or-r rooms own)))
 
 pub with-slack-spec : {M : Type 1} → statement M
-with-slack-spec = tie.close (tie.spec slack-requires returns)
+with-slack-spec = tie.close (tie.spec (λ c κs. search needs) returns)

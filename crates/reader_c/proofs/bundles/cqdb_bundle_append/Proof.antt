@@ -6,25 +6,10 @@ use borrow.Author.Needs.{needs}
 use Rattle.reader_c.proofs.bundles.cqdb_bundle_append.Statement.{statement}
 use Rattle.reader_c.proofs.bundles.cqdb_bundle_append.Tie as tie
 
-append-requires : tie.Need-append-requires
-append-requires c κs = search needs
-
-enum-known-appended : tie.Need-enum-known-appended
-enum-known-appended c = search needs
-
-enum-known-appended-2 : tie.Need-enum-known-appended-2
-enum-known-appended-2 c = search needs
-
-same-length : tie.Need-same-length
-same-length c = search needs
-
 returns : tie.Need-returns
 returns c =
     let of-append = c .before .before .before .before .before .append in
     (ap appendAnswer (ap appendedOf (sym (c .before .appended .given .1)) ∙ of-append .ensures .0), of-append .ensures .1)
-
-same-length-2 : tie.Need-same-length-2
-same-length-2 c = search needs
 
 returns-2 : tie.Need-returns-2
 returns-2 c =
@@ -35,10 +20,10 @@ pub cqdb-bundle-append-spec : {M : Type 1} → statement M
 cqdb-bundle-append-spec =
     tie.close
     (tie.spec
-    append-requires
-    enum-known-appended
-    enum-known-appended-2
-    same-length
+    (λ c κs. search needs)
+    (λ c. search needs)
+    (λ c. search needs)
+    (λ c. search needs)
     returns
-    same-length-2
+    (λ c. search needs)
     returns-2)

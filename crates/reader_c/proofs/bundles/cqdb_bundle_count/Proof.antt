@@ -6,15 +6,6 @@ use borrow.Author.Needs.{needs}
 use Rattle.reader_c.proofs.bundles.cqdb_bundle_count.Statement.{statement}
 use Rattle.reader_c.proofs.bundles.cqdb_bundle_count.Tie as tie
 
-count-requires : tie.Need-count-requires
-count-requires c κs = search needs
-
-enum-known-counted : tie.Need-enum-known-counted
-enum-known-counted c = search needs
-
-enum-known-counted-2 : tie.Need-enum-known-counted-2
-enum-known-counted-2 c = search needs
-
 returns : tie.Need-returns
 returns c = ap countAnswer (ap countedOf (sym (c .before .counted .given .1)) ∙ c .before .before .before .count .ensures)
 
@@ -23,4 +14,4 @@ returns-2 c = ap countAnswer (ap countedOf (sym (c .before .counted2 .given .1))
 
 pub cqdb-bundle-count-spec : {M : Type 1} → statement M
 cqdb-bundle-count-spec =
-    tie.close (tie.spec count-requires enum-known-counted enum-known-counted-2 returns returns-2)
+    tie.close (tie.spec (λ c κs. search needs) (λ c. search needs) (λ c. search needs) returns returns-2)

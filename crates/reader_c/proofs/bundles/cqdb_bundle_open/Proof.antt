@@ -6,15 +6,6 @@ use borrow.Author.Needs.{needs}
 use Rattle.reader_c.proofs.bundles.cqdb_bundle_open.Statement.{statement}
 use Rattle.reader_c.proofs.bundles.cqdb_bundle_open.Tie as tie
 
-open-requires : tie.Need-open-requires
-open-requires c κs = search needs
-
-enum-known-opened : tie.Need-enum-known-opened
-enum-known-opened c = search needs
-
-enum-known-opened-2 : tie.Need-enum-known-opened-2
-enum-known-opened-2 c = search needs
-
 returns : tie.Need-returns
 returns c = ap openAtAnswer (ap openedAtOf (sym (c .before .opened .given .1)) ∙ c .before .before .before .«open» .ensures)
 
@@ -23,4 +14,4 @@ returns-2 c = ap openAtAnswer (ap openedAtOf (sym (c .before .opened2 .given .1)
 
 pub cqdb-bundle-open-spec : {M : Type 1} → statement M
 cqdb-bundle-open-spec =
-    tie.close (tie.spec open-requires enum-known-opened enum-known-opened-2 returns returns-2)
+    tie.close (tie.spec (λ c κs. search needs) (λ c. search needs) (λ c. search needs) returns returns-2)

@@ -6,15 +6,6 @@ use borrow.Author.Needs.{needs}
 use Rattle.reader_c.proofs.comparing.cqdb_moved.Statement.{statement}
 use Rattle.reader_c.proofs.comparing.cqdb_moved.Tie as tie
 
-moved-requires : tie.Need-moved-requires
-moved-requires c κs = search needs
-
-enum-known-other : tie.Need-enum-known-other
-enum-known-other c = search needs
-
-enum-told : tie.Need-enum-told
-enum-told c = search needs
-
 returns : tie.Need-returns
 returns c =
     ap movedAnswer (ap movedOf (sym (c .before .other .given .1)) ∙ c .before .before .before .moved .ensures)
@@ -24,4 +15,4 @@ returns-2 c =
     ap movedAnswer (ap movedOf (sym (c .enum-told .given .1)) ∙ c .before .before .moved .ensures)
 
 pub cqdb-moved-spec : {M : Type 1} → statement M
-cqdb-moved-spec = tie.close (tie.spec moved-requires enum-known-other enum-told returns returns-2)
+cqdb-moved-spec = tie.close (tie.spec (λ c κs. search needs) (λ c. search needs) (λ c. search needs) returns returns-2)

@@ -12,12 +12,6 @@ use borrow.Author.Needs.{needs}
 use Rattle.reader_c.proofs.comparing.cqdb_next_change.Statement.{statement}
 use Rattle.reader_c.proofs.comparing.cqdb_next_change.Tie as tie
 
-next-change-requires : tie.Need-next-change-requires
-next-change-requires c κs = search needs
-
-enum-known-id : tie.Need-enum-known-id
-enum-known-id c = search needs
-
 name-answer-requires : tie.Need-name-answer-requires
 name-answer-requires c κs =
     let a = c .before .before .before .before .before .before .args in
@@ -33,12 +27,6 @@ name-answer-requires-2 c κs =
     change-short (a .old .now) (a .new .now) (λ (i : ℕ). omega (arith, c .before .before .before .before .before .before .shared-slice-known .given i))
     (λ (i : ℕ). omega (arith, c .before .before .before .before .before .shared-slice-known2 .given i)) (a .from) (at .0 .0) (namingOf (at .0 .1 .0)) (namingOf (at .0 .1 .1 .0))
     (ap changeOf (sym (at .1)) ∙ c .before .before .before .before .next-change .ensures) .1
-
-enum-told : tie.Need-enum-told
-enum-told c = search needs
-
-name-answer-requires-3 : tie.Need-name-answer-requires-3
-name-answer-requires-3 c κs = search needs
 
 returns : tie.Need-returns
 returns c =
@@ -56,11 +44,11 @@ pub cqdb-next-change-spec : {M : Type 1} → statement M
 cqdb-next-change-spec =
     tie.close
     (tie.spec
-    next-change-requires
-    enum-known-id
+    (λ c κs. search needs)
+    (λ c. search needs)
     name-answer-requires
     name-answer-requires-2
-    enum-told
-    name-answer-requires-3
+    (λ c. search needs)
+    (λ c κs. search needs)
     returns
     returns-2)

@@ -9,17 +9,11 @@ use borrow.Author.Needs.{needs}
 use Rattle.reader_c.proofs.comparing.name_answer.Statement.{statement}
 use Rattle.reader_c.proofs.comparing.name_answer.Tie as tie
 
-enum-known-named : tie.Need-enum-known-named
-enum-known-named c = search needs
-
 cast-t5 : tie.Need-cast-t5
 cast-t5 c =
     let length = ap (λ (x : Named). lengthIn (namingOf x)) (c .before .named .given .1) in
     let small = c .before .before .before .pre in
     omega arith
-
-enum-told : tie.Need-enum-told
-enum-told c = search needs
 
 returns : tie.Need-returns
 returns c =
@@ -30,4 +24,4 @@ returns-2 c =
     ap (λ (x : Named). nameAnswer (namingOf x)) (sym (c .enum-told .given .1))
 
 pub name-answer-spec : {M : Type 1} → statement M
-name-answer-spec = tie.close (tie.spec enum-known-named cast-t5 enum-told returns returns-2)
+name-answer-spec = tie.close (tie.spec (λ c. search needs) cast-t5 (λ c. search needs) returns returns-2)

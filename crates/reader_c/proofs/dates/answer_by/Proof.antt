@@ -13,12 +13,6 @@ use Rattle.reader_c.proofs.dates.answer_by.Reads as reads
 use Rattle.reader_c.proofs.dates.answer_by.Lts as lts
 use Rattle.validity.proofs.place_by.Reads as place-by-reads
 
-place-by-requires : tie.Need-place-by-requires
-place-by-requires c κs = search needs
-
-enum-known-start : tie.Need-enum-known-start
-enum-known-start c = search needs
-
 cast-t10 : tie.Need-cast-t10
 cast-t10 c =
     let a = c .before .before .before .before .before .args in
@@ -27,12 +21,6 @@ cast-t10 c =
     let known = c .before .before .before .before .shared-slice-known .given in
     let so = named-so (a .image .now) (a .id) (a .date) (a .s) (of-start .0 .0) (of-start .0 .1 .0) (sym (of-place .ensures) ∙ ap namedOnOf (of-start .1)) in
     omega (arith, named-small (a .image .now) (a .id) (of-start .0 .0) (of-start .0 .1 .0) (λ (i : ℕ). omega (arith, known i)) so)
-
-enum-told : tie.Need-enum-told
-enum-told c = search needs
-
-enum-known-k : tie.Need-enum-known-k
-enum-known-k c = search needs
 
 returns : tie.Need-returns
 returns c = ap onAnswer (ap namedOnOf (sym (c .before .start .given .1)) ∙ c .before .before .before .place-by .ensures)
@@ -47,11 +35,11 @@ pub answer-by-spec : {M : Type 1} → statement M
 answer-by-spec =
     tie.close
     (tie.spec
-    place-by-requires
-    enum-known-start
+    (λ c κs. search needs)
+    (λ c. search needs)
     cast-t10
-    enum-told
-    enum-known-k
+    (λ c. search needs)
+    (λ c. search needs)
     returns
     returns-2
     returns-3)

@@ -9,12 +9,6 @@ use Rattle.reader_c.proofs.ordering.answer.Tie as tie
 use Rattle.reader_c.proofs.ordering.answer.Reads as reads
 use Rattle.reader_c.proofs.ordering.answer.Lts as lts
 
-enum-told : tie.Need-enum-told
-enum-told c = search needs
-
-enum-known-o : tie.Need-enum-known-o
-enum-known-o c = search needs
-
 returns : tie.Need-returns
 returns c = ap (λ (o : Order). orderAnswer (verdictOf o)) (sym (c .enum-told .given .1))
 
@@ -22,4 +16,4 @@ returns-2 : tie.Need-returns-2
 returns-2 c = ap (λ (o : Order). orderAnswer (verdictOf o)) (sym (c .before .o .given .1))
 
 pub answer-spec : {M : Type 1} → statement M
-answer-spec = tie.close (tie.spec enum-told enum-known-o returns returns-2)
+answer-spec = tie.close (tie.spec (λ c. search needs) (λ c. search needs) returns returns-2)

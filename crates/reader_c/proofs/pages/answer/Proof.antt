@@ -7,12 +7,6 @@ use Rattle.reader_c.specs.PageAnswer.{pageAnswerOf}
 use Rattle.reader_c.proofs.pages.answer.Statement.{statement}
 use Rattle.reader_c.proofs.pages.answer.Tie as tie
 
-enum-known-printed : tie.Need-enum-known-printed
-enum-known-printed c = search needs
-
-enum-known-printed-2 : tie.Need-enum-known-printed-2
-enum-known-printed-2 c = search needs
-
 returns : tie.Need-returns
 returns c = ap (λ (p : Printed). pageAnswerOf (printedOf p)) (sym (c .before .printed .given .1))
 
@@ -20,4 +14,4 @@ returns-2 : tie.Need-returns-2
 returns-2 c = ap (λ (p : Printed). pageAnswerOf (printedOf p)) (sym (c .before .printed2 .given .1))
 
 pub answer-spec : {M : Type 1} → statement M
-answer-spec = tie.close (tie.spec enum-known-printed enum-known-printed-2 returns returns-2)
+answer-spec = tie.close (tie.spec (λ c. search needs) (λ c. search needs) returns returns-2)

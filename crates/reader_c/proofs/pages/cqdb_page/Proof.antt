@@ -5,19 +5,10 @@ use Rattle.reader_c.specs.PageAnswer.{pageAnswerOf}
 use Rattle.reader_c.proofs.pages.cqdb_page.Statement.{statement}
 use Rattle.reader_c.proofs.pages.cqdb_page.Tie as tie
 
-page-requires : tie.Need-page-requires
-page-requires c κs = search needs
-
-answer-requires : tie.Need-answer-requires
-answer-requires c κs = search needs
-
-same-length : tie.Need-same-length
-same-length c = search needs
-
 returns : tie.Need-returns
 returns c =
     let printed = c .before .before .before .page in
     (c .answer .ensures ∙ ap pageAnswerOf (printed .ensures .0), printed .ensures .1)
 
 pub cqdb-page-spec : {M : Type 1} → statement M
-cqdb-page-spec = tie.close (tie.spec page-requires answer-requires same-length returns)
+cqdb-page-spec = tie.close (tie.spec (λ c κs. search needs) (λ c κs. search needs) (λ c. search needs) returns)

@@ -5,19 +5,10 @@ use Rattle.reader_c.specs.PageAnswer.{pageAnswerOf}
 use Rattle.reader_c.proofs.pages.cqdb_page_part.Statement.{statement}
 use Rattle.reader_c.proofs.pages.cqdb_page_part.Tie as tie
 
-page-part-requires : tie.Need-page-part-requires
-page-part-requires c κs = search needs
-
-answer-requires : tie.Need-answer-requires
-answer-requires c κs = search needs
-
-same-length : tie.Need-same-length
-same-length c = search needs
-
 returns : tie.Need-returns
 returns c =
     let printed = c .before .before .before .page-part in
     (c .answer .ensures ∙ ap pageAnswerOf (printed .ensures .0), printed .ensures .1)
 
 pub cqdb-page-part-spec : {M : Type 1} → statement M
-cqdb-page-part-spec = tie.close (tie.spec page-part-requires answer-requires same-length returns)
+cqdb-page-part-spec = tie.close (tie.spec (λ c κs. search needs) (λ c κs. search needs) (λ c. search needs) returns)

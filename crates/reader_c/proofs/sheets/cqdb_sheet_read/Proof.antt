@@ -7,27 +7,6 @@ use borrow.Author.Needs.{needs}
 use Rattle.reader_c.proofs.sheets.cqdb_sheet_read.Statement.{statement}
 use Rattle.reader_c.proofs.sheets.cqdb_sheet_read.Tie as tie
 
-read-requires : tie.Need-read-requires
-read-requires c κs = search needs
-
-enum-known-s : tie.Need-enum-known-s
-enum-known-s c = search needs
-
-parts-requires : tie.Need-parts-requires
-parts-requires c κs = search needs
-
-enum-told : tie.Need-enum-told
-enum-told c = search needs
-
-no-sheet-requires : tie.Need-no-sheet-requires
-no-sheet-requires c κs = search needs
-
-enum-told-2 : tie.Need-enum-told-2
-enum-told-2 c = search needs
-
-no-sheet-requires-2 : tie.Need-no-sheet-requires-2
-no-sheet-requires-2 c κs = search needs
-
 returns : tie.Need-returns
 returns c =
     c .parts .ensures
@@ -50,13 +29,13 @@ pub cqdb-sheet-read-spec : {M : Type 1} → statement M
 cqdb-sheet-read-spec =
     tie.close
     (tie.spec
-    read-requires
-    enum-known-s
-    parts-requires
-    enum-told
-    no-sheet-requires
-    enum-told-2
-    no-sheet-requires-2
+    (λ c κs. search needs)
+    (λ c. search needs)
+    (λ c κs. search needs)
+    (λ c. search needs)
+    (λ c κs. search needs)
+    (λ c. search needs)
+    (λ c κs. search needs)
     returns
     returns-2
     returns-3)

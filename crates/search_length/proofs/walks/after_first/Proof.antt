@@ -6,19 +6,10 @@ use borrow.Author.Needs.{needs}
 use Rattle.search_length.proofs.walks.after_first.Statement.{statement}
 use Rattle.search_length.proofs.walks.after_first.Tie as tie
 
-length-word-requires : tie.Need-length-word-requires
-length-word-requires c κs = search needs
-
-add-bytes-from : tie.Need-add-bytes-from
-add-bytes-from c = search needs
-
-bytes-from-requires : tie.Need-bytes-from-requires
-bytes-from-requires c κs = search needs
-
 returns : tie.Need-returns
 returns c =
     let rest = c .before .before .before .args .rest .now in
     c .bytes-from .ensures ∙ ap (λ (k : ℕ). drop (8 + k) rest) (c .before .length-word .ensures .is)
 
 pub after-first-spec : {M : Type 1} → statement M
-after-first-spec = tie.close (tie.spec length-word-requires add-bytes-from bytes-from-requires returns)
+after-first-spec = tie.close (tie.spec (λ c κs. search needs) (λ c. search needs) (λ c κs. search needs) returns)

@@ -23,42 +23,21 @@ in-loop c = c .before .before .before
 abbrev start : tie.In-loop Inv-loop μ-loop → tie.Start Inv-loop μ-loop
 start c = c .before .before .before .before
 
-bytes-from-requires : tie.Need-bytes-from-requires Inv-loop μ-loop
-bytes-from-requires c κs = search needs
-
 loop-holds : tie.Need-loop-holds Inv-loop μ-loop
 loop-holds c =
     let s = c .before .before in
     counting-starts (s .args .image .now) (s .args .counts .now) _ (s .args .n) (c .bytes-from .ensures) (s .pre)
-
-first-name-requires : tie.Need-first-name-requires Inv-loop μ-loop
-first-name-requires c κs = search needs
-
-to-id-requires : tie.Need-to-id-requires Inv-loop μ-loop
-to-id-requires c κs = search needs
-
-buckets-requires : tie.Need-buckets-requires Inv-loop μ-loop
-buckets-requires c κs = search needs
-
-cast-sum : tie.Need-cast-sum Inv-loop μ-loop
-cast-sum c = search needs
 
 add-sum : tie.Need-add-sum Inv-loop μ-loop
 add-sum c =
     let l = in-loop c in
     omega (arith, l .before .loop .inv .sum-small, l .loop-test .taken, c .buckets .ok, start l .fits .n)
 
-bin-of-requires : tie.Need-bin-of-requires Inv-loop μ-loop
-bin-of-requires c κs = search needs
-
 raise-at-requires : tie.Need-raise-at-requires Inv-loop μ-loop
 raise-at-requires c κs =
     let k = c .before .bin-of in
     let l = in-loop (c .before .before) in
     record { inside = k .ensures .inside; small = omega (arith, l .before .loop .inv .small (k .result), l .loop-test .taken, start l .fits .n) }
-
-after-first-requires : tie.Need-after-first-requires Inv-loop μ-loop
-after-first-requires c κs = search needs
 
 sub-left : tie.Need-sub-left Inv-loop μ-loop
 sub-left c = omega arith
@@ -84,16 +63,16 @@ count-lengths-spec =
     (tie.spec
     Inv-loop
     μ-loop
-    bytes-from-requires
+    (λ c κs. search needs)
     loop-holds
-    first-name-requires
-    to-id-requires
-    buckets-requires
-    cast-sum
+    (λ c κs. search needs)
+    (λ c κs. search needs)
+    (λ c κs. search needs)
+    (λ c. search needs)
     add-sum
-    bin-of-requires
+    (λ c κs. search needs)
     raise-at-requires
-    after-first-requires
+    (λ c κs. search needs)
     sub-left
     loop-less
     loop-again

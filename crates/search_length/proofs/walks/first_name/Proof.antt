@@ -8,27 +8,6 @@ use Rattle.search_length.proofs.FirstEntry.{name-cut}
 use Rattle.search_length.proofs.walks.first_name.Statement.{statement}
 use Rattle.search_length.proofs.walks.first_name.Tie as tie
 
-bytes-from-requires : tie.Need-bytes-from-requires
-bytes-from-requires c κs = search needs
-
-length-word-requires : tie.Need-length-word-requires
-length-word-requires c κs = search needs
-
-less-one-requires : tie.Need-less-one-requires
-less-one-requires c κs = search needs
-
-lesser-requires : tie.Need-lesser-requires
-lesser-requires c κs = search needs
-
-sub-result : tie.Need-sub-result
-sub-result c = search needs
-
-part-result-start : tie.Need-part-result-start
-part-result-start c = search needs
-
-part-result-end : tie.Need-part-result-end
-part-result-end c = search needs
-
 returns : tie.Need-returns
 returns c =
     let n = c .before .lesser in
@@ -44,11 +23,11 @@ pub first-name-spec : {M : Type 1} → statement M
 first-name-spec =
     tie.close
     (tie.spec
-    bytes-from-requires
-    length-word-requires
-    less-one-requires
-    lesser-requires
-    sub-result
-    part-result-start
-    part-result-end
+    (λ c κs. search needs)
+    (λ c κs. search needs)
+    (λ c κs. search needs)
+    (λ c κs. search needs)
+    (λ c. search needs)
+    (λ c. search needs)
+    (λ c. search needs)
     returns)

@@ -43,9 +43,6 @@ loop-again c =
       leaves = zero-step (l .buf) _ (l .i) (c .before .before .args .to) (c .loop-test .taken) (l .inv .leaves);
     }
 
-same-length : tie.Need-same-length Inv-loop μ-loop
-same-length c = search needs
-
 returns : tie.Need-returns Inv-loop μ-loop
 returns c = zero-end (c .before .loop .buf) _ (c .before .loop .i) (c .before .before .args .to) (c .loop-test .left) (c .before .loop .inv .leaves)
 
@@ -60,5 +57,5 @@ clear-spec =
     add-i
     loop-less
     loop-again
-    same-length
+    (λ c. search needs)
     returns)

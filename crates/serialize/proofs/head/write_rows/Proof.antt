@@ -33,23 +33,11 @@ mul-wide c = omega arith
 element-copy-out-wide : tie.Need-element-copy-out-wide Inv-loop μ-loop
 element-copy-out-wide c = omega arith
 
-wide-requires : tie.Need-wide-requires Inv-loop μ-loop
-wide-requires c κs = search needs
-
 mul-put-u32 : tie.Need-mul-put-u32 Inv-loop μ-loop
 mul-put-u32 c = omega arith
 
 add-put-u32 : tie.Need-add-put-u32 Inv-loop μ-loop
 add-put-u32 c = omega arith
-
-row-offset-requires : tie.Need-row-offset-requires Inv-loop μ-loop
-row-offset-requires c κs = search needs
-
-low-requires : tie.Need-low-requires Inv-loop μ-loop
-low-requires c κs = search needs
-
-put-u32-requires : tie.Need-put-u32-requires Inv-loop μ-loop
-put-u32-requires c κs = search needs
 
 mul-put-u32-2 : tie.Need-mul-put-u32-2 Inv-loop μ-loop
 mul-put-u32-2 c = omega arith
@@ -59,12 +47,6 @@ add-put-u32-2 c = omega arith
 
 mul-low : tie.Need-mul-low Inv-loop μ-loop
 mul-low c = omega (arith, c .before .before .before .before .before .before .before .wide .ensures)
-
-low-requires-2 : tie.Need-low-requires-2 Inv-loop μ-loop
-low-requires-2 c κs = search needs
-
-put-u32-requires-2 : tie.Need-put-u32-requires-2 Inv-loop μ-loop
-put-u32-requires-2 c κs = search needs
 
 -- the count that was read, where both words of the row are stored
 abbrev counted : tie.After-put-u322 Inv-loop μ-loop → tie.After-wide Inv-loop μ-loop
@@ -101,9 +83,6 @@ loop-again c =
       near = omega (arith, w .wide .ensures, i .inv .near);
     }
 
-same-length : tie.Need-same-length Inv-loop μ-loop
-same-length c = search needs
-
 returns : tie.Need-returns Inv-loop μ-loop
 returns c =
     let z : 256 - c .before .loop .t ≡ 0 = omega arith in
@@ -119,21 +98,21 @@ write-rows-spec =
     loop-holds
     mul-wide
     element-copy-out-wide
-    wide-requires
+    (λ c κs. search needs)
     mul-put-u32
     add-put-u32
-    row-offset-requires
-    low-requires
-    put-u32-requires
+    (λ c κs. search needs)
+    (λ c κs. search needs)
+    (λ c κs. search needs)
     mul-put-u32-2
     add-put-u32-2
     mul-low
-    low-requires-2
-    put-u32-requires-2
+    (λ c κs. search needs)
+    (λ c κs. search needs)
     mul-o
     add-o
     add-t
     loop-less
     loop-again
-    same-length
+    (λ c. search needs)
     returns)

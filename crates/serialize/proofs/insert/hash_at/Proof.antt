@@ -7,18 +7,6 @@ use Rattle.serialize.specs.steps.Insertion.{hashAt}
 use Rattle.serialize.proofs.insert.hash_at.Statement.{statement}
 use Rattle.serialize.proofs.insert.hash_at.Tie as tie
 
-name-at-requires : tie.Need-name-at-requires
-name-at-requires c κs = search needs
-
-name-hash-requires : tie.Need-name-hash-requires
-name-hash-requires c κs = search needs
-
-enum-known-h : tie.Need-enum-known-h
-enum-known-h c = search needs
-
-enum-told : tie.Need-enum-told
-enum-told c = search needs
-
 returns : tie.Need-returns
 returns c =
     let name = c .before .before .before .name-at in
@@ -37,4 +25,4 @@ returns-2 c =
 pub hash-at-spec : {M : Type 1} → statement M
 hash-at-spec =
     tie.close
-    (tie.spec name-at-requires name-hash-requires enum-known-h enum-told returns returns-2)
+    (tie.spec (λ c κs. search needs) (λ c κs. search needs) (λ c. search needs) (λ c. search needs) returns returns-2)

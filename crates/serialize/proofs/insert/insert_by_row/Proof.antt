@@ -4,18 +4,6 @@ use Rattle.serialize.proofs.Insertion.{table-in, row-none, row-inserted
 use Rattle.serialize.proofs.insert.insert_by_row.Statement.{statement}
 use Rattle.serialize.proofs.insert.insert_by_row.Tie as tie
 
-table-at-requires : tie.Need-table-at-requires
-table-at-requires c κs = search needs
-
-bucket-number-requires : tie.Need-bucket-number-requires
-bucket-number-requires c κs = search needs
-
-holds-table-requires : tie.Need-holds-table-requires
-holds-table-requires c κs = search needs
-
-same-length : tie.Need-same-length
-same-length c = search needs
-
 returns : tie.Need-returns
 returns c =
     let a = c .before .before .before .before .before .before .before .before .args in
@@ -24,9 +12,6 @@ returns c =
 
 insert-pair-requires : tie.Need-insert-pair-requires
 insert-pair-requires c κs = table-in (c .before .before .holds-table .ensures) (not-false _ (c .before .if1 .left))
-
-same-length-2 : tie.Need-same-length-2
-same-length-2 c = search needs
 
 returns-2 : tie.Need-returns-2
 returns-2 c =
@@ -40,11 +25,11 @@ pub insert-by-row-spec : {M : Type 1} → statement M
 insert-by-row-spec =
     tie.close
     (tie.spec
-    table-at-requires
-    bucket-number-requires
-    holds-table-requires
-    same-length
+    (λ c κs. search needs)
+    (λ c κs. search needs)
+    (λ c κs. search needs)
+    (λ c. search needs)
     returns
     insert-pair-requires
-    same-length-2
+    (λ c. search needs)
     returns-2)

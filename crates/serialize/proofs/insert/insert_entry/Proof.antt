@@ -3,27 +3,6 @@ use Rattle.serialize.proofs.Insertion.{entry-inserted}
 use Rattle.serialize.proofs.insert.insert_entry.Statement.{statement}
 use Rattle.serialize.proofs.insert.insert_entry.Tie as tie
 
-get-u32-requires : tie.Need-get-u32-requires
-get-u32-requires c κs = search needs
-
-hash-at-requires : tie.Need-hash-at-requires
-hash-at-requires c κs = search needs
-
-cast-insert-by-row : tie.Need-cast-insert-by-row
-cast-insert-by-row c = search needs
-
-insert-by-row-requires : tie.Need-insert-by-row-requires
-insert-by-row-requires c κs = search needs
-
-cast-store-back : tie.Need-cast-store-back
-cast-store-back c = search needs
-
-store-back-requires : tie.Need-store-back-requires
-store-back-requires c κs = search needs
-
-same-length : tie.Need-same-length
-same-length c = search needs
-
 returns : tie.Need-returns
 returns c =
     let read = c .before .before .before .before .before .before .before .before in
@@ -35,11 +14,11 @@ pub insert-entry-spec : {M : Type 1} → statement M
 insert-entry-spec =
     tie.close
     (tie.spec
-    get-u32-requires
-    hash-at-requires
-    cast-insert-by-row
-    insert-by-row-requires
-    cast-store-back
-    store-back-requires
-    same-length
+    (λ c κs. search needs)
+    (λ c κs. search needs)
+    (λ c. search needs)
+    (λ c κs. search needs)
+    (λ c. search needs)
+    (λ c κs. search needs)
+    (λ c. search needs)
     returns)

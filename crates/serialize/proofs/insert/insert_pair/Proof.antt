@@ -7,28 +7,10 @@ use borrow.Author.Needs.{needs}
 use Rattle.serialize.proofs.insert.insert_pair.Statement.{statement}
 use Rattle.serialize.proofs.insert.insert_pair.Tie as tie
 
-cast-first-empty : tie.Need-cast-first-empty
-cast-first-empty c = search needs
-
-rem-first-empty : tie.Need-rem-first-empty
-rem-first-empty c = search needs
-
 first-empty-requires : tie.Need-first-empty-requires
 first-empty-requires c κs =
     let s = c .before .before in
     record { inside = s .pre .inside; begins = mod-lt (s .args .h / 256) (s .pre .some) }
-
-mul-store-pair : tie.Need-mul-store-pair
-mul-store-pair c = search needs
-
-add-store-pair : tie.Need-add-store-pair
-add-store-pair c = search needs
-
-store-pair-requires : tie.Need-store-pair-requires
-store-pair-requires c κs = search needs
-
-same-length : tie.Need-same-length
-same-length c = search needs
 
 returns : tie.Need-returns
 returns c =
@@ -43,11 +25,11 @@ pub insert-pair-spec : {M : Type 1} → statement M
 insert-pair-spec =
     tie.close
     (tie.spec
-    cast-first-empty
-    rem-first-empty
+    (λ c. search needs)
+    (λ c. search needs)
     first-empty-requires
-    mul-store-pair
-    add-store-pair
-    store-pair-requires
-    same-length
+    (λ c. search needs)
+    (λ c. search needs)
+    (λ c κs. search needs)
+    (λ c. search needs)
     returns)

@@ -4,18 +4,6 @@ use borrow.Author.Needs.{needs}
 use Rattle.serialize.proofs.insert.store_pair.Statement.{statement}
 use Rattle.serialize.proofs.insert.store_pair.Tie as tie
 
-store-word-requires : tie.Need-store-word-requires
-store-word-requires c κs = search needs
-
-add-store-word : tie.Need-add-store-word
-add-store-word c = search needs
-
-store-word-requires-2 : tie.Need-store-word-requires-2
-store-word-requires-2 c κs = search needs
-
-same-length : tie.Need-same-length
-same-length c = search needs
-
 returns : tie.Need-returns
 returns c =
     let a = c .before .before .before .before .before .before .before .before .before .args in
@@ -26,4 +14,4 @@ returns c =
 pub store-pair-spec : {M : Type 1} → statement M
 store-pair-spec =
     tie.close
-    (tie.spec store-word-requires add-store-word store-word-requires-2 same-length returns)
+    (tie.spec (λ c κs. search needs) (λ c. search needs) (λ c κs. search needs) (λ c. search needs) returns)

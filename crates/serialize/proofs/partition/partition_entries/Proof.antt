@@ -28,12 +28,6 @@ entry c =
 loop-holds : tie.Need-loop-holds Inv-loop μ-loop
 loop-holds c = record { inside = c .before .pre .low; long = refl; leaves = refl }
 
-whole-length-requires : tie.Need-whole-length-requires Inv-loop μ-loop
-whole-length-requires c κs = search needs
-
-same-length : tie.Need-same-length Inv-loop μ-loop
-same-length c = search needs
-
 returns : tie.Need-returns Inv-loop μ-loop
 returns c =
     partitioned-broken (c .before .before .before .before .loop .inv) (c .before .before .before .loop-test .taken)
@@ -71,9 +65,6 @@ loop-again c =
     (e .before .whole-length .ensures .0) (e .if1 .left)
     (entry e .0) (done .last .1 .1 .1 .0) (done .last .1 .1 .0) (done .kept .1 .1 .0) (done .ensures)
 
-same-length-2 : tie.Need-same-length-2 Inv-loop μ-loop
-same-length-2 c = search needs
-
 returns-2 : tie.Need-returns-2 Inv-loop μ-loop
 returns-2 c = partitioned-all (c .before .loop .inv) (omega arith)
 
@@ -84,8 +75,8 @@ partition-entries-spec =
     Inv-loop
     μ-loop
     loop-holds
-    whole-length-requires
-    same-length
+    (λ c κs. search needs)
+    (λ c. search needs)
     returns
     partition-entry-requires
     add-at
@@ -93,5 +84,5 @@ partition-entries-spec =
     sub-left
     loop-less
     loop-again
-    same-length-2
+    (λ c. search needs)
     returns-2)

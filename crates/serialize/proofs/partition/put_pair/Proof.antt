@@ -3,15 +3,6 @@ use Rattle.serialize.proofs.PartitionSteps.{pair-put, pair-left}
 use Rattle.serialize.proofs.partition.put_pair.Statement.{statement}
 use Rattle.serialize.proofs.partition.put_pair.Tie as tie
 
-add-if1 : tie.Need-add-if1
-add-if1 c = search needs
-
-store-pair-requires : tie.Need-store-pair-requires
-store-pair-requires c κs = search needs
-
-same-length : tie.Need-same-length
-same-length c = search needs
-
 returns : tie.Need-returns
 returns c =
     let a = c .before .before .before .before .before .before .args in
@@ -23,4 +14,4 @@ returns-2 c =
     pair-left (a .buf .now) (a .at) (a .h) (a .offset) (c .if1 .left)
 
 pub put-pair-spec : {M : Type 1} → statement M
-put-pair-spec = tie.close (tie.spec add-if1 store-pair-requires same-length returns returns-2)
+put-pair-spec = tie.close (tie.spec (λ c. search needs) (λ c κs. search needs) (λ c. search needs) returns returns-2)

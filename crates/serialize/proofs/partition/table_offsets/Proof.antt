@@ -31,12 +31,6 @@ mul-wide c = omega arith
 element-copy-out-wide : tie.Need-element-copy-out-wide Inv-loop μ-loop
 element-copy-out-wide c = omega arith
 
-wide-requires : tie.Need-wide-requires Inv-loop μ-loop
-wide-requires c κs = search needs
-
-low-requires : tie.Need-low-requires Inv-loop μ-loop
-low-requires c κs = search needs
-
 mul-places : tie.Need-mul-places Inv-loop μ-loop
 mul-places c = omega arith
 
@@ -84,8 +78,8 @@ table-offsets-spec =
     loop-holds
     mul-wide
     element-copy-out-wide
-    wide-requires
-    low-requires
+    (λ c κs. search needs)
+    (λ c κs. search needs)
     mul-places
     element-write-places
     mul-o

@@ -60,9 +60,6 @@ loop-again c =
       leaves = words-step (a .words .now) (i .buf) (s .store-word .last .0) _ (a .at) (i .i) _ taken refl (s .store-word .ensures) (i .inv .leaves);
     }
 
-same-length : tie.Need-same-length Inv-loop μ-loop
-same-length c = search needs
-
 returns : tie.Need-returns Inv-loop μ-loop
 returns c =
     let i = c .before .loop in
@@ -84,5 +81,5 @@ copy-words-spec =
     add-i
     loop-less
     loop-again
-    same-length
+    (λ c. search needs)
     returns)

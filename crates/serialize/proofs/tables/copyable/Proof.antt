@@ -5,12 +5,6 @@ use borrow.Author.Tests.{le-leb, lt-leb}
 use Rattle.serialize.proofs.tables.copyable.Statement.{statement}
 use Rattle.serialize.proofs.tables.copyable.Tie as tie
 
-mul-if1 : tie.Need-mul-if1
-mul-if1 c = search needs
-
-add-if1 : tie.Need-add-if1
-add-if1 c = search needs
-
 returns : tie.Need-returns
 returns c =
     let a = c .before .args in
@@ -22,4 +16,4 @@ returns-2 c =
     rw (lt-leb (a .o + 16 * a .c) (length (a .buf .now)) (c .if1 .left))
 
 pub copyable-spec : {M : Type 1} → statement M
-copyable-spec = tie.close (tie.spec mul-if1 add-if1 returns returns-2)
+copyable-spec = tie.close (tie.spec (λ c. search needs) (λ c. search needs) returns returns-2)

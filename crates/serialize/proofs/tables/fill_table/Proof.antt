@@ -6,28 +6,10 @@ use borrow.Author.Needs.{needs}
 use Rattle.serialize.proofs.tables.fill_table.Statement.{statement}
 use Rattle.serialize.proofs.tables.fill_table.Tie as tie
 
-copyable-requires : tie.Need-copyable-requires
-copyable-requires c κs = search needs
-
-same-length : tie.Need-same-length
-same-length c = search needs
-
 returns : tie.Need-returns
 returns c =
     let a = c .before .before .before .before .before .args in
     table-left (a .buf .now) (a .o) (a .c) (c .before .copyable .ensures) (not-true _ (c .if1 .taken))
-
-mul-store-bytes : tie.Need-mul-store-bytes
-mul-store-bytes c = search needs
-
-add-store-bytes : tie.Need-add-store-bytes
-add-store-bytes c = search needs
-
-sub-store-bytes : tie.Need-sub-store-bytes
-sub-store-bytes c = search needs
-
-part-store-bytes-start : tie.Need-part-store-bytes-start
-part-store-bytes-start c = search needs
 
 -- what the test says
 fits : (c : tie.Else1) → let a = c .before .before .before .before .before .args in Copyable (a .buf .now) (a .o) (a .c)
@@ -52,12 +34,6 @@ insert-pairs-requires c κs =
       inside = fits e .inside;
     }
 
-same-length-2 : tie.Need-same-length-2
-same-length-2 c = search needs
-
-same-length-3 : tie.Need-same-length-3
-same-length-3 c = search needs
-
 returns-2 : tie.Need-returns-2
 returns-2 c =
     let e = c .before .before .before .before .before .before .before .before .before .before .before in
@@ -72,16 +48,16 @@ pub fill-table-spec : {M : Type 1} → statement M
 fill-table-spec =
     tie.close
     (tie.spec
-    copyable-requires
-    same-length
+    (λ c κs. search needs)
+    (λ c. search needs)
     returns
-    mul-store-bytes
-    add-store-bytes
-    sub-store-bytes
-    part-store-bytes-start
+    (λ c. search needs)
+    (λ c. search needs)
+    (λ c. search needs)
+    (λ c. search needs)
     part-store-bytes-end
     store-bytes-requires
     insert-pairs-requires
-    same-length-2
-    same-length-3
+    (λ c. search needs)
+    (λ c. search needs)
     returns-2)

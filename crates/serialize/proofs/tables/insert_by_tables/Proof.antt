@@ -4,18 +4,6 @@ use borrow.Author.Needs.{needs}
 use Rattle.serialize.proofs.tables.insert_by_tables.Statement.{statement}
 use Rattle.serialize.proofs.tables.insert_by_tables.Tie as tie
 
-table-offsets-requires : tie.Need-table-offsets-requires
-table-offsets-requires c κs = search needs
-
-partition-entries-requires : tie.Need-partition-entries-requires
-partition-entries-requires c κs = search needs
-
-fill-tables-requires : tie.Need-fill-tables-requires
-fill-tables-requires c κs = search needs
-
-same-length : tie.Need-same-length
-same-length c = search needs
-
 returns : tie.Need-returns
 returns c =
     let offsets = c .before .before .before .before .before .before .before .before .before in
@@ -26,4 +14,4 @@ returns c =
 pub insert-by-tables-spec : {M : Type 1} → statement M
 insert-by-tables-spec =
     tie.close
-    (tie.spec table-offsets-requires partition-entries-requires fill-tables-requires same-length returns)
+    (tie.spec (λ c κs. search needs) (λ c κs. search needs) (λ c κs. search needs) (λ c. search needs) returns)

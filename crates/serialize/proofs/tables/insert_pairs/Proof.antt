@@ -11,37 +11,10 @@ Inv-loop buf₀ o c pairs i₀ buf i = Filled buf₀ pairs o c i buf
 abbrev μ-loop : tie.MeasureT-loop
 μ-loop buf₀ o c pairs i₀ buf i = c - i
 
-mul-clear : tie.Need-mul-clear Inv-loop μ-loop
-mul-clear c = search needs
-
-add-clear : tie.Need-add-clear Inv-loop μ-loop
-add-clear c = search needs
-
-clear-requires : tie.Need-clear-requires Inv-loop μ-loop
-clear-requires c κs = search needs
-
 loop-holds : tie.Need-loop-holds Inv-loop μ-loop
 loop-holds c =
     let s = c .before .before .before .before .before .before in
     fill-start (s .args .buf .now) (s .args .o) (s .args .c) (s .pre .inside) _ (c .before .before .clear .ensures) (s .args .pairs .now)
-
-mul-insert-pair : tie.Need-mul-insert-pair Inv-loop μ-loop
-mul-insert-pair c = search needs
-
-mul-word : tie.Need-mul-word Inv-loop μ-loop
-mul-word c = search needs
-
-word-requires : tie.Need-word-requires Inv-loop μ-loop
-word-requires c κs = search needs
-
-mul-word-2 : tie.Need-mul-word-2 Inv-loop μ-loop
-mul-word-2 c = search needs
-
-add-word : tie.Need-add-word Inv-loop μ-loop
-add-word c = search needs
-
-word-requires-2 : tie.Need-word-requires-2 Inv-loop μ-loop
-word-requires-2 c κs = search needs
 
 -- the table lies in the cleared buffer
 abbrev cleared : tie.At-loop Inv-loop μ-loop → tie.After-clear Inv-loop μ-loop
@@ -56,9 +29,6 @@ insert-pair-requires c κs =
       inside = omega (arith, clear .before .before .before .before .pre .inside, clear .clear .kept .0, l .loop .inv .long);
     }
 
-add-i : tie.Need-add-i Inv-loop μ-loop
-add-i c = search needs
-
 loop-less : tie.Need-loop-less Inv-loop μ-loop
 loop-less c = omega arith
 
@@ -70,9 +40,6 @@ loop-again c =
     fill-step (l .loop .inv) (omega (arith, clear .clear .kept .0)) (c .before .before .before .before .before .before .loop-test .taken) _ _
     (c .before .before .before .before .word .ensures) (c .before .before .before .word2 .ensures)
     (c .before .before .insert-pair .kept .0) (c .before .before .insert-pair .ensures)
-
-same-length : tie.Need-same-length Inv-loop μ-loop
-same-length c = search needs
 
 returns : tie.Need-returns Inv-loop μ-loop
 returns c =
@@ -86,19 +53,19 @@ insert-pairs-spec =
     (tie.spec
     Inv-loop
     μ-loop
-    mul-clear
-    add-clear
-    clear-requires
+    (λ c. search needs)
+    (λ c. search needs)
+    (λ c κs. search needs)
     loop-holds
-    mul-insert-pair
-    mul-word
-    word-requires
-    mul-word-2
-    add-word
-    word-requires-2
+    (λ c. search needs)
+    (λ c. search needs)
+    (λ c κs. search needs)
+    (λ c. search needs)
+    (λ c. search needs)
+    (λ c κs. search needs)
     insert-pair-requires
-    add-i
+    (λ c. search needs)
     loop-less
     loop-again
-    same-length
+    (λ c. search needs)
     returns)

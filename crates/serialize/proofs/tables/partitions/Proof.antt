@@ -7,13 +7,10 @@ use Rattle.serialize.proofs.tables.partitions.Tie as tie
 returns : tie.Need-returns
 returns c = partitions-few (c .before .args .counts .now) (c .before .args .entries) (c .if1 .taken)
 
-none-above-requires : tie.Need-none-above-requires
-none-above-requires c κs = search needs
-
 returns-2 : tie.Need-returns-2
 returns-2 c =
     let a = c .before .before .args in
     partitions-many (a .counts .now) (a .entries) (c .none-above .result) (c .before .if1 .left) (c .none-above .ensures)
 
 pub partitions-spec : {M : Type 1} → statement M
-partitions-spec = tie.close (tie.spec returns none-above-requires returns-2)
+partitions-spec = tie.close (tie.spec returns (λ c κs. search needs) returns-2)

@@ -8,12 +8,6 @@ use borrow.Author.Needs.{needs}
 use Rattle.sheet.proofs.reading.id_at.Statement.{statement}
 use Rattle.sheet.proofs.reading.id_at.Tie as tie
 
-mul-get-u32 : tie.Need-mul-get-u32
-mul-get-u32 c = search needs
-
-get-u32-requires : tie.Need-get-u32-requires
-get-u32-requires c κs = search needs
-
 returns : tie.Need-returns
 returns c =
     let a = c .before .before .before .args in
@@ -25,4 +19,4 @@ returns-2 c =
     sym (no-id (length (a .part .now) / 4) (a .part .now) (a .i) (omega arith))
 
 pub id-at-spec : {M : Type 1} → statement M
-id-at-spec = tie.close (tie.spec mul-get-u32 get-u32-requires returns returns-2)
+id-at-spec = tie.close (tie.spec (λ c. search needs) (λ c κs. search needs) returns returns-2)

@@ -65,15 +65,6 @@ inside-2 c = found-inside (file (one c)) (partEnd (references (one c))) (walls c
 inside-3 : (c : tie.After-known-told3) → partEnd (retired c) ≤ length (file (one (two c)))
 inside-3 c = found-inside (file (one (two c))) (partEnd (walls (two c))) (retired c) (found-3 c)
 
-section-at-requires : tie.Need-section-at-requires
-section-at-requires c κs = search needs
-
-enum-known-references : tie.Need-enum-known-references
-enum-known-references c = search needs
-
-enum-told : tie.Need-enum-told
-enum-told c = search needs
-
 returns : tie.Need-returns
 returns c =
     let f = c .before .before .before .before .args .file .now in
@@ -84,12 +75,6 @@ end-of-requires c κs = omega (arith, inside-1 c)
 
 section-at-requires-2 : tie.Need-section-at-requires-2
 section-at-requires-2 c κs = omega (arith, inside-1 (c .before), c .end-of .ensures)
-
-enum-known-walls : tie.Need-enum-known-walls
-enum-known-walls c = search needs
-
-enum-told-2 : tie.Need-enum-told-2
-enum-told-2 c = search needs
 
 returns-2 : tie.Need-returns-2
 returns-2 c =
@@ -104,12 +89,6 @@ end-of-requires-2 c κs = omega (arith, inside-2 c)
 
 section-at-requires-3 : tie.Need-section-at-requires-3
 section-at-requires-3 c κs = omega (arith, inside-2 (c .before), c .end-of2 .ensures)
-
-enum-known-retired : tie.Need-enum-known-retired
-enum-known-retired c = search needs
-
-enum-told-3 : tie.Need-enum-told-3
-enum-told-3 c = search needs
 
 returns-3 : tie.Need-returns-3
 returns-3 c =
@@ -136,19 +115,19 @@ pub read-spec : {M : Type 1} → statement M
 read-spec =
     tie.close
     (tie.spec
-    section-at-requires
-    enum-known-references
-    enum-told
+    (λ c κs. search needs)
+    (λ c. search needs)
+    (λ c. search needs)
     returns
     end-of-requires
     section-at-requires-2
-    enum-known-walls
-    enum-told-2
+    (λ c. search needs)
+    (λ c. search needs)
     returns-2
     end-of-requires-2
     section-at-requires-3
-    enum-known-retired
-    enum-told-3
+    (λ c. search needs)
+    (λ c. search needs)
     returns-3
     end-of-requires-3
     returns-4

@@ -11,35 +11,8 @@ use borrow.Author.Needs.{needs}
 use Rattle.sheet.proofs.writing.put_section.Statement.{statement}
 use Rattle.sheet.proofs.writing.put_section.Tie as tie
 
-cast-low : tie.Need-cast-low
-cast-low c = search needs
-
-cast-high : tie.Need-cast-high
-cast-high c = search needs
-
-slice-write-buf : tie.Need-slice-write-buf
-slice-write-buf c = search needs
-
-add-buf : tie.Need-add-buf
-add-buf c = search needs
-
 slice-write-buf-2 : tie.Need-slice-write-buf-2
 slice-write-buf-2 c = simp length-set (omega arith)
-
-add-put-ids : tie.Need-add-put-ids
-add-put-ids c = search needs
-
-put-ids-requires : tie.Need-put-ids-requires
-put-ids-requires c κs = search needs
-
-add-result : tie.Need-add-result
-add-result c = search needs
-
-mul-result : tie.Need-mul-result
-mul-result c = search needs
-
-add-result-2 : tie.Need-add-result-2
-add-result-2 c = search needs
 
 same-length : tie.Need-same-length
 same-length c = c .before .before .put-ids .kept .0 ∙ simp length-set
@@ -58,15 +31,15 @@ pub put-section-spec : {M : Type 1} → statement M
 put-section-spec =
     tie.close
     (tie.spec
-    cast-low
-    cast-high
-    slice-write-buf
-    add-buf
+    (λ c. search needs)
+    (λ c. search needs)
+    (λ c. search needs)
+    (λ c. search needs)
     slice-write-buf-2
-    add-put-ids
-    put-ids-requires
-    add-result
-    mul-result
-    add-result-2
+    (λ c. search needs)
+    (λ c κs. search needs)
+    (λ c. search needs)
+    (λ c. search needs)
+    (λ c. search needs)
     same-length
     returns)

@@ -69,34 +69,10 @@ by-room c d e =
     let k = le-ltb 65535 (length (lists s .retired)) (omega (arith, c .if3 .left)) in
     writing-by (length (buf s)) (lists s) false false false d n m k e
 
-add-size : tie.Need-add-size
-add-size c = search needs
-
-add-size-2 : tie.Need-add-size-2
-add-size-2 c = search needs
-
-mul-size : tie.Need-mul-size
-mul-size c = search needs
-
-add-size-3 : tie.Need-add-size-3
-add-size-3 c = search needs
-
 returns-4 : tie.Need-returns-4
 returns-4 c =
     let s = c .before .before .before .before .before .before .before .before in
     refused s (by-room (c .before) true (lt-ltb (length (buf s)) (length (sheetBytes (lists s))) (omega (arith, sized (lists s)))))
-
-put-section-requires : tie.Need-put-section-requires
-put-section-requires c κs = search needs
-
-put-section-requires-2 : tie.Need-put-section-requires-2
-put-section-requires-2 c κs = search needs
-
-put-section-requires-3 : tie.Need-put-section-requires-3
-put-section-requires-3 c κs = search needs
-
-same-length : tie.Need-same-length
-same-length c = search needs
 
 returns-5 : tie.Need-returns-5
 returns-5 c =
@@ -123,13 +99,13 @@ write-spec =
     returns
     returns-2
     returns-3
-    add-size
-    add-size-2
-    mul-size
-    add-size-3
+    (λ c. search needs)
+    (λ c. search needs)
+    (λ c. search needs)
+    (λ c. search needs)
     returns-4
-    put-section-requires
-    put-section-requires-2
-    put-section-requires-3
-    same-length
+    (λ c κs. search needs)
+    (λ c κs. search needs)
+    (λ c κs. search needs)
+    (λ c. search needs)
     returns-5)

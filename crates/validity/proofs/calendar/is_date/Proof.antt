@@ -23,9 +23,6 @@ returns-3 : tie.Need-returns-3
 unfolding isDate
 returns-3 c = simp (le-leb _ _ (c .before .before .before .before .if1 .left), le-leb _ _ (c .before .before .if2 .left), lt-leb _ _ (c .if3 .taken))
 
-month-length-requires : tie.Need-month-length-requires
-month-length-requires c κs = search needs
-
 returns-4 : tie.Need-returns-4
 returns-4 c =
     let above = c .before .before in
@@ -33,4 +30,4 @@ returns-4 c =
     ap (leb (d .day)) (c .before .month-length .ensures) ∙ by-last-day d (above .before .before .before .before .if1 .left) (above .before .before .if2 .left) (above .if3 .left)
 
 pub is-date-spec : {M : Type 1} → statement M
-is-date-spec = tie.close (tie.spec returns returns-2 returns-3 month-length-requires returns-4)
+is-date-spec = tie.close (tie.spec returns returns-2 returns-3 (λ c κs. search needs) returns-4)

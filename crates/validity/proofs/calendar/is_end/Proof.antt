@@ -10,9 +10,6 @@ use Rattle.validity.proofs.calendar.is_end.Reads as reads
 use Rattle.validity.proofs.calendar.is_end.Lts as lts
 use Rattle.validity.proofs.calendar.is_date.Reads as is-date-reads
 
-is-date-requires : tie.Need-is-date-requires
-is-date-requires c κs = search needs
-
 returns : tie.Need-returns
 unfolding isEnd
 returns c = simp (sym (c .before .is-date .ensures) ∙ c .if1 .taken)
@@ -32,4 +29,4 @@ returns-4 c =
     by-new-year d (sym (first-test .before .is-date .ensures) ∙ first-test .if1 .left) (c .before .before .before .if2 .left) (c .before .if3 .left)
 
 pub is-end-spec : {M : Type 1} → statement M
-is-end-spec = tie.close (tie.spec is-date-requires returns returns-2 returns-3 returns-4)
+is-end-spec = tie.close (tie.spec (λ c κs. search needs) returns returns-2 returns-3 returns-4)

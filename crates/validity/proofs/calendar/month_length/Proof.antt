@@ -9,9 +9,6 @@ use Rattle.validity.proofs.calendar.month_length.Reads as reads
 use Rattle.validity.proofs.calendar.month_length.Lts as lts
 use Rattle.validity.proofs.calendar.leap.Reads as leap-reads
 
-leap-requires : tie.Need-leap-requires
-leap-requires c κs = search needs
-
 returns : tie.Need-returns
 returns c = months-30 _ _ (c .match .keys2)
 
@@ -40,4 +37,4 @@ returns-7 c =
 pub month-length-spec : {M : Type 1} → statement M
 month-length-spec =
     tie.close
-    (tie.spec leap-requires returns returns-2 returns-3 returns-4 returns-5 returns-6 returns-7)
+    (tie.spec (λ c κs. search needs) returns returns-2 returns-3 returns-4 returns-5 returns-6 returns-7)

@@ -12,16 +12,10 @@ use Rattle.validity.proofs.calendar.earlier.Reads as earlier-reads
 use Rattle.validity.proofs.calendar.is_date.Reads as is-date-reads
 use Rattle.validity.proofs.calendar.is_end.Reads as is-end-reads
 
-is-date-requires : tie.Need-is-date-requires
-is-date-requires c κs = search needs
-
 returns : tie.Need-returns
 returns c =
     let a = c .before .before .before .before .args in
     state-of-by (a .id) (a .date) (a .w) false _ _ _ _ _ (sym (c .before .is-date .ensures) ∙ not-true _ (c .if1 .taken)) refl refl refl refl refl
-
-is-end-requires : tie.Need-is-end-requires
-is-end-requires c κs = search needs
 
 returns-2 : tie.Need-returns-2
 returns-2 c =
@@ -29,9 +23,6 @@ returns-2 c =
     let a = dated .before .before .before .before .args in
     state-of-by (a .id) (a .date) (a .w) true false _ _ _ _ (sym (dated .before .is-date .ensures) ∙ not-false _ (dated .if1 .left))
     (sym (c .before .is-end .ensures) ∙ not-true _ (c .if2 .taken)) refl refl refl refl
-
-earlier-requires : tie.Need-earlier-requires
-earlier-requires c κs = search needs
 
 returns-3 : tie.Need-returns-3
 returns-3 c =
@@ -51,9 +42,6 @@ returns-4 c =
     (sym (ended .before .is-end .ensures) ∙ not-false _ (ended .if2 .left)) (sym (started .before .earlier .ensures) ∙ not-false _ (started .if3 .left))
     (ne-eqb _ _ (c .if4 .taken)) refl refl
 
-earlier-requires-2 : tie.Need-earlier-requires-2
-earlier-requires-2 c κs = search needs
-
 returns-5 : tie.Need-returns-5
 returns-5 c =
     let same = c .before .before in
@@ -64,9 +52,6 @@ returns-5 c =
     state-of-by (a .id) (a .date) (a .w) true true true true true _ (sym (dated .before .is-date .ensures) ∙ not-false _ (dated .if1 .left))
     (sym (ended .before .is-end .ensures) ∙ not-false _ (ended .if2 .left)) (sym (started .before .earlier .ensures) ∙ not-false _ (started .if3 .left))
     (eq-eqb _ _ (same .if4 .left)) (sym (c .before .earlier2 .ensures) ∙ c .if5 .taken) refl
-
-earlier-requires-3 : tie.Need-earlier-requires-3
-earlier-requires-3 c κs = search needs
 
 returns-6 : tie.Need-returns-6
 returns-6 c =
@@ -96,15 +81,15 @@ pub state-of-spec : {M : Type 1} → statement M
 state-of-spec =
     tie.close
     (tie.spec
-    is-date-requires
+    (λ c κs. search needs)
     returns
-    is-end-requires
+    (λ c κs. search needs)
     returns-2
-    earlier-requires
+    (λ c κs. search needs)
     returns-3
     returns-4
-    earlier-requires-2
+    (λ c κs. search needs)
     returns-5
-    earlier-requires-3
+    (λ c κs. search needs)
     returns-6
     returns-7)

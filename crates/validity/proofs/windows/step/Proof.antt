@@ -8,15 +8,6 @@ use Rattle.validity.proofs.windows.step.Lts as lts
 use Rattle.validity.proofs.windows.rank.Reads as rank-reads
 use Rattle.validity.proofs.windows.state_of.Reads as state-of-reads
 
-state-of-requires : tie.Need-state-of-requires
-state-of-requires c κs = search needs
-
-rank-requires : tie.Need-rank-requires
-rank-requires c κs = search needs
-
-rank-requires-2 : tie.Need-rank-requires-2
-rank-requires-2 c κs = search needs
-
 returns : tie.Need-returns
 returns c =
     let ranked = c .before in
@@ -30,4 +21,4 @@ returns-2 c =
     stronger-old s _ _ (ranked .before .before .state-of .ensures) _ _ (ranked .before .rank .ensures) (ranked .rank2 .ensures) (c .if1 .left)
 
 pub step-spec : {M : Type 1} → statement M
-step-spec = tie.close (tie.spec state-of-requires rank-requires rank-requires-2 returns returns-2)
+step-spec = tie.close (tie.spec (λ c κs. search needs) (λ c κs. search needs) (λ c κs. search needs) returns returns-2)

@@ -6,12 +6,6 @@ use borrow.Author.Needs.{needs}
 use Rattle.writer.proofs.c_record.record_of.Statement.{statement}
 use Rattle.writer.proofs.c_record.record_of.Tie as tie
 
-flag-word-requires : tie.Need-flag-word-requires
-flag-word-requires c κs = search needs
-
-repeats-word-requires : tie.Need-repeats-word-requires
-repeats-word-requires c κs = search needs
-
 returns : tie.Need-returns
 returns c =
     let w = c .before .before .args .w in
@@ -21,4 +15,4 @@ returns c =
     (c .repeats-word .ensures)
 
 pub record-of-spec : {M : Type 1} → statement M
-record-of-spec = tie.close (tie.spec flag-word-requires repeats-word-requires returns)
+record-of-spec = tie.close (tie.spec (λ c κs. search needs) (λ c κs. search needs) returns)

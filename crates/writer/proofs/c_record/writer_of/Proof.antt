@@ -7,12 +7,6 @@ use borrow.Author.Needs.{needs}
 use Rattle.writer.proofs.c_record.writer_of.Statement.{statement}
 use Rattle.writer.proofs.c_record.writer_of.Tie as tie
 
-mode-of-requires : tie.Need-mode-of-requires
-mode-of-requires c κs = search needs
-
-repeats-of-requires : tie.Need-repeats-of-requires
-repeats-of-requires c κs = search needs
-
 returns : tie.Need-returns
 returns c =
     let r = c .before .before .args .r in
@@ -22,4 +16,4 @@ returns c =
     (c .repeats-of .ensures)
 
 pub writer-of-spec : {M : Type 1} → statement M
-writer-of-spec = tie.close (tie.spec mode-of-requires repeats-of-requires returns)
+writer-of-spec = tie.close (tie.spec (λ c κs. search needs) (λ c κs. search needs) returns)

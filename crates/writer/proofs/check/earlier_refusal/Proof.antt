@@ -7,15 +7,6 @@ use borrow.Author.Needs.{needs}
 use Rattle.writer.proofs.check.earlier_refusal.Statement.{statement}
 use Rattle.writer.proofs.check.earlier_refusal.Tie as tie
 
-enum-told : tie.Need-enum-told
-enum-told c = search needs
-
-walk-refusal-requires : tie.Need-walk-refusal-requires
-walk-refusal-requires c κs = search needs
-
-enum-told-2 : tie.Need-enum-told-2
-enum-told-2 c = search needs
-
 returns : tie.Need-returns
 returns c =
     let a = c .before .before .before .before .before .args in
@@ -29,4 +20,4 @@ returns-2 c =
 
 pub earlier-refusal-spec : {M : Type 1} → statement M
 earlier-refusal-spec =
-    tie.close (tie.spec enum-told walk-refusal-requires enum-told-2 returns returns-2)
+    tie.close (tie.spec (λ c. search needs) (λ c κs. search needs) (λ c. search needs) returns returns-2)

@@ -25,9 +25,6 @@ returns c =
     let a = c .before .before .before .before .before .before .args in
     not-whole (a .w) (a .counts .now) (a .buf .now) (a .name .now) _ (c .before .before .walk .ensures .whole-is) (not-true _ (c .if1 .taken))
 
-same-counts-requires : tie.Need-same-counts-requires
-same-counts-requires c κs = search needs
-
 returns-2 : tie.Need-returns-2
 returns-2 c =
     let e = c .before .before .before in
@@ -35,12 +32,6 @@ returns-2 c =
     let found = walked e .walk .ensures in
     other-counts (a .w) (a .counts .now) (a .buf .now) (a .name .now) _ (found .whole-is) (whole e) _ (found .counts-are (whole e))
     _ (c .before .same-counts .ensures) (not-true _ (c .if2 .taken))
-
-cast-if3 : tie.Need-cast-if3
-cast-if3 c = search needs
-
-back-in-requires : tie.Need-back-in-requires
-back-in-requires c κs = search needs
 
 returns-3 : tie.Need-returns-3
 returns-3 c =
@@ -76,10 +67,10 @@ walk-refusal-spec =
     (tie.spec
     walk-requires
     returns
-    same-counts-requires
+    (λ c κs. search needs)
     returns-2
-    cast-if3
-    back-in-requires
+    (λ c. search needs)
+    (λ c κs. search needs)
     returns-3
     returns-4
     returns-5)

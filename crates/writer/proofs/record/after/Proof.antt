@@ -21,9 +21,6 @@ add-t9 : tie.Need-add-t9
 unfolding writerWith
 add-t9 c = omega arith
 
-raised-requires : tie.Need-raised-requires
-raised-requires c κs = search needs
-
 cast-t11 : tie.Need-cast-t11
 unfolding writerWith
 cast-t11 c =
@@ -47,4 +44,4 @@ returns c =
     }
 
 pub after-spec : {M : Type 1} → statement M
-after-spec = tie.close (tie.spec add-t7 add-t8 add-t9 raised-requires cast-t11 returns)
+after-spec = tie.close (tie.spec add-t7 add-t8 add-t9 (λ c κs. search needs) cast-t11 returns)

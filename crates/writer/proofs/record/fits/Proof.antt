@@ -18,9 +18,6 @@ returns-3 c =
     let a = c .before .before .before .before .before .before .before .args in
     end-high (a .w) (a .counts .now) (a .buf .now) (c .before .before .before .before .if1 .left) (c .before .before .if2 .left) (c .if3 .taken)
 
-none-above-requires : tie.Need-none-above-requires
-none-above-requires c κs = search needs
-
 returns-4 : tie.Need-returns-4
 returns-4 c =
     let a = c .before .before .before .before .before .before .before .before .args in
@@ -29,4 +26,4 @@ returns-4 c =
     by-counts (a .w) (a .counts .now) (a .buf .now) (of-if1 .left) (of-if2 .left) (c .before .if3 .left) (c .none-above .result) (c .none-above .ensures)
 
 pub fits-spec : {M : Type 1} → statement M
-fits-spec = tie.close (tie.spec returns returns-2 returns-3 none-above-requires returns-4)
+fits-spec = tie.close (tie.spec returns returns-2 returns-3 (λ c κs. search needs) returns-4)

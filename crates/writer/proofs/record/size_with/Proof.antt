@@ -10,30 +10,6 @@ use borrow.Author.Needs.{needs}
 use Rattle.writer.proofs.record.size_with.Statement.{statement}
 use Rattle.writer.proofs.record.size_with.Tie as tie
 
-raised-requires : tie.Need-raised-requires
-raised-requires c κs = search needs
-
-back-in-requires : tie.Need-back-in-requires
-back-in-requires c κs = search needs
-
-add-result : tie.Need-add-result
-add-result c = search needs
-
-add-result-2 : tie.Need-add-result-2
-add-result-2 c = search needs
-
-cast-result : tie.Need-cast-result
-cast-result c = search needs
-
-add-result-3 : tie.Need-add-result-3
-add-result-3 c = search needs
-
-mul-result : tie.Need-mul-result
-mul-result c = search needs
-
-add-result-4 : tie.Need-add-result-4
-add-result-4 c = search needs
-
 mul-result-2 : tie.Need-mul-result-2
 mul-result-2 c =
     let a = c .before .before .before .before .args in
@@ -60,14 +36,14 @@ pub size-with-spec : {M : Type 1} → statement M
 size-with-spec =
     tie.close
     (tie.spec
-    raised-requires
-    back-in-requires
-    add-result
-    add-result-2
-    cast-result
-    add-result-3
-    mul-result
-    add-result-4
+    (λ c κs. search needs)
+    (λ c κs. search needs)
+    (λ c. search needs)
+    (λ c. search needs)
+    (λ c. search needs)
+    (λ c. search needs)
+    (λ c. search needs)
+    (λ c. search needs)
     mul-result-2
     add-result-5
     returns)
