@@ -4,6 +4,7 @@
 ghost use mathlib.Core.Path.{_≡_};
 ghost use Prim.Native.Nat.{_+_, _*_, _<_, _≤_};
 ghost use lib.ListN.{length};
+ghost use lib.Seq.{sets};
 ghost use Rattle.serialize.specs.steps.Insertion.{WalkPre};
 ghost use Rattle.serialize.specs.steps.Partition.{pairsAt, tableStored, InsertPairsPre, FillTablePre};
 ghost use Rattle.serialize.specs.steps.Partition.{copyable, tableFilled, tablesFrom, insertedByTables};
@@ -16,7 +17,6 @@ use super::insert::insert_pair;
 use super::partition::partition_entries;
 use super::partition::table_offsets;
 use image::Mode;
-use image::store::store_bytes;
 use jhash::word::word;
 
 // The table of c entries at o, cleared and filled with c pairs in their order.
@@ -46,6 +46,24 @@ fn copyable(buf: &[u8], o: usize, c: usize) -> bool
     o + 16 * c <= buf.len() && c <= 4608
 }
 
+// The bytes of src stored at the front of a copy, two in a turn. Of one in a turn the compiler would make a call of the
+// C library's memcpy, which nothing proves.
+fn copy_front(copy: &mut [u8], src: &[u8])
+    requires { ⌜ length (now src) ≤ length (now copy) ⌝ }
+    ensures { λ _. ⌜ now (copy .exit) ≡ sets (now (copy .entry)) 0 (now (src .entry)) ⌝ }
+{
+    let n = src.len();
+    let mut j = 0;
+    while j + 1 < n {
+        copy[j] = src[j];
+        copy[j + 1] = src[j + 1];
+        j += 2;
+    }
+    if j < n {
+        copy[j] = src[j];
+    }
+}
+
 // The table of c entries at o, filled from the pairs that stand there. They are copied first.
 fn fill_table(buf: &mut [u8], o: usize, c: usize, copy: &mut [u8])
     requires { ⌜ FillTablePre o c (now copy) ⌝ }
@@ -54,7 +72,7 @@ fn fill_table(buf: &mut [u8], o: usize, c: usize, copy: &mut [u8])
     if !copyable(&*buf, o, c) {
         return;
     }
-    store_bytes(&mut *copy, 0, &buf[o..o + 8 * c]);
+    copy_front(&mut *copy, &buf[o..o + 8 * c]);
     insert_pairs(&mut *buf, o, c, &*copy);
 }
 

@@ -16,11 +16,11 @@ fits : (c : tie.Else1) → let a = c .before .before .before .before .before .ar
 fits c =
     let a = c .before .before .before .before .before .args in copy-fits (a .buf .now) (a .o) (a .c) (c .before .copyable .ensures) (not-false _ (c .if1 .left))
 
-part-store-bytes-end : tie.Need-part-store-bytes-end
-part-store-bytes-end c = let inside = fits (c .before .before) .inside in omega arith
+part-copy-front-end : tie.Need-part-copy-front-end
+part-copy-front-end c = let inside = fits (c .before .before) .inside in omega arith
 
-store-bytes-requires : tie.Need-store-bytes-requires
-store-bytes-requires c κs =
+copy-front-requires : tie.Need-copy-front-requires
+copy-front-requires c κs =
     let few = fits (c .before .before .before) .few in
     simp length-take (omega (arith, c .before .before .before .before .before .before .before .before .pre .copy-long))
 
@@ -30,7 +30,7 @@ insert-pairs-requires c κs =
     let few = fits e .few in
     record {
       few = few;
-      pairs-inside = omega (arith, c .before .before .before .before .store-bytes .kept .0, e .before .before .before .before .before .pre .copy-long);
+      pairs-inside = omega (arith, c .before .before .before .before .copy-front .kept .0, e .before .before .before .before .before .pre .copy-long);
       inside = fits e .inside;
     }
 
@@ -40,7 +40,7 @@ returns-2 c =
     let a = e .before .before .before .before .before .args in
     let inside = fits e .inside in
     let few = fits e .few in
-    let copied = c .before .before .before .before .before .before .before .store-bytes in
+    let copied = c .before .before .before .before .before .before .before .copy-front in
     table-filled (a .buf .now) (a .o) (a .c) (e .before .copyable .ensures) (not-false _ (e .if1 .left)) (copied .last .0)
     (pairs-copied (a .buf .now) (a .copy .now) (a .o) (a .c) (omega arith) (omega (arith, e .before .before .before .before .before .pre .copy-long)) (copied .ensures)) (c .before .before .insert-pairs .ensures)
 
@@ -55,8 +55,8 @@ fill-table-spec =
     (λ c. search needs)
     (λ c. search needs)
     (λ c. search needs)
-    part-store-bytes-end
-    store-bytes-requires
+    part-copy-front-end
+    copy-front-requires
     insert-pairs-requires
     (λ c. search needs)
     (λ c. search needs)
