@@ -14,7 +14,7 @@ use Rattle.image.specs.Image.{Entry, Placed, headSize, entryBytes, entrySize, e
 use Rattle.image.proofs.At.{At}
 use Rattle.image.proofs.Bools.{false-not-true}
 use Rattle.image.proofs.Buckets.{filled-all}
-use Rattle.image.proofs.EntryAt.{EntryAt, storedEntries, all-placed}
+use Rattle.image.proofs.EntryAt.{EntryAt, placed-at, all-placed}
 use Rattle.image.proofs.Equal.{same-true}
 use Rattle.image.proofs.AllOfList.{All, all-map, all-both, all-image}
 use Rattle.image.proofs.Sizes.{placed-append, length-placed}
@@ -57,7 +57,7 @@ pub all-decided : (img name : List ℕ) → length img ≤ 4294967295 → (es : 
 all-decided img name small es stands ids =
     all-map one (placed headSize es)
     (all-both (EntryAt img) (λ (p : Placed). p .entry .id < 2 ^ 32) (placed headSize es)
-    (storedEntries img headSize es (omega arith) stands) (all-placed (λ (e : Entry). e .id < 2 ^ 32) headSize es ids))
+    (placed-at img headSize es (omega arith) stands) (all-placed (λ (e : Entry). e .id < 2 ^ 32) headSize es ids))
   where
     hit-is : (t : Bool) (x : Hit) → isHit (cond t (hit x) pass) ≡ t
     hit-is true x = refl
