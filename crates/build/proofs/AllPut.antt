@@ -7,7 +7,7 @@ use mathlib.Core.List.{List, [], _∷_, _++_, map, append-assoc, append-nil}
 use borrow.Author.Tests.{le-ltb, ltb-false}
 use lib.Dec.{ltb}
 use lib.ListN.{length, getD, take, drop, replicate, length-append}
-use lib.Seq.{drop-drop}
+use lib.Seq.{drop-drop, length-take-le}
 use Rattle.image.specs.declared.Mode.{Mode}
 use Rattle.image.specs.declared.Mode.the-variants.{Twoway, Oneway}
 use Rattle.image.specs.Bytes.{same, cat}
@@ -37,61 +37,44 @@ use Rattle.lists.proofs.WrittenRecord.{written-size, written-recorded}
 use Rattle.lists.proofs.ListPuts.{put-written, fresh-written}
 use Rattle.lists.proofs.ListCloses.{close-accepted, close-closed, closed-buffer}
 use Rattle.lists.proofs.CallLists.{list-answers, list-accepted, list-written}
-use Rattle.bulk_tables.specs.steps.Partition.{at}
 use Rattle.build.specs.Build.{callsOf, listed}
-use Rattle.build.specs.steps.Capacity.{RoomForAll}
+use Rattle.build.specs.Needs.{atMost, idsBack, bytesNeeded}
+use Rattle.build.specs.steps.Capacity.{bytesForAll, RoomForAll}
 use Rattle.build.specs.steps.Steps.{entriesListed}
 use Rattle.bulk_tables.proofs.Offsets.{size-all as size-entries}
-use Rattle.build.proofs.StoredAll.{length-listed}
+use Rattle.lists.proofs.Capacity.{back-rises}
+use Rattle.build.proofs.Listed.{length-listed, names-listed, back-listed, back-words}
 use Rattle.writer.proofs.Closes.{accepted as closable}
 
 -- ---- the entries of all names
-
-entries-names : (xs : List (List ℕ)) (ids : List ℕ) → length xs ≤ length ids → map (λ (e : Entry). e .name) (entriesListed xs ids) ≡ xs
-unfolding callsOf puts
-entries-names [] ids h = refl
-entries-names (x ∷ xs) [] h = absurd (omega arith)
-entries-names (x ∷ xs) (id ∷ ids) h = ap (λ (l : List (List ℕ)). x ∷ l) (entries-names xs ids (omega arith))
-
-entries-back : (xs : List (List ℕ)) (ids : List ℕ) (top : ℕ) → ((i : ℕ) → i < length xs → at ids i < top) → backSize (entriesListed xs ids) ≤ top
-unfolding callsOf puts backSize
-entries-back [] ids top h = omega arith
-entries-back (x ∷ xs) [] top h = omega arith
-entries-back (x ∷ xs) (id ∷ ids) top h =
-    let first : id < top = h 0 (omega arith) in
-    let later = entries-back xs ids top (λ i k. h (suc i) (omega arith)) in
-    omega arith
 
 module _ (bytes ends ids : List ℕ) (good : invalidEnds (length bytes) 0 ends ≡ false) (many : length ends ≤ length ids) where
   pub number-all : length (entriesListed (names bytes ends) ids) ≡ length ends
   number-all = let n = length-names bytes ends in length-listed (names bytes ends) ids (omega arith) ∙ n
 
   pub names-all : map (λ (e : Entry). e .name) (entriesListed (names bytes ends) ids) ≡ names bytes ends
-  names-all = let n = length-names bytes ends in entries-names (names bytes ends) ids (omega arith)
+  names-all = let n = length-names bytes ends in names-listed (names bytes ends) ids (omega arith)
 
   pub end-all : entriesEnd (entriesListed (names bytes ends) ids) ≡ headSize + beginOf ends (length ends) + 9 * length ends
   end-all = size-entries bytes ends good (entriesListed (names bytes ends) ids) names-all
 
 -- ---- the size of their image
 
-back-rises : (mode : Mode) (a b : ℕ) → a ≤ b → backIn mode a ≤ backIn mode b
-back-rises Twoway a b h = h
-back-rises Oneway a b h = omega arith
-
-module _ (mode : Mode) (buffer bytes ends ids : List ℕ) (good : invalidEnds (length bytes) 0 ends ≡ false) (many : length ends ≤ length ids)
-    (roomy : RoomForAll mode ends ids (length buffer)) where
-  size-most : imageSize mode (entriesListed (names bytes ends) ids) ≤ headSize + beginOf ends (length ends) + 25 * length ends + 4 * backIn mode (roomy .top)
-  size-most =
+module _ (mode : Mode) (bytes ends ids : List ℕ) (good : invalidEnds (length bytes) 0 ends ≡ false) (many : length ends ≤ length ids) where
+  pub back-is : backSizeOf mode (entriesListed (names bytes ends) ids) ≡ backIn mode (idsBack (take (length ends) ids))
+  back-is =
       let n = length-names bytes ends in
-      let es = entriesListed (names bytes ends) ids in
-      let back = entries-back (names bytes ends) ids (roomy .top) (λ i h. roomy .ids-below i (omega arith)) in
-      omega (arith, end-all bytes ends ids good many, number-all bytes ends ids good many, back-rises mode (backSize es) (roomy .top) back)
+      ap (backIn mode) (back-listed (names bytes ends) ids (omega arith) ∙ ap (λ (k : ℕ). idsBack (take k ids)) n)
 
-  pub size-within : imageSize mode (entriesListed (names bytes ends) ids) ≤ length buffer
-  size-within = omega (arith, size-most, roomy .within)
+  bytes-are : bytesForAll mode ends ids ≡ atMost (imageSize mode (entriesListed (names bytes ends) ids))
+  unfolding bytesNeeded
+  bytes-are = omega (arith, end-all bytes ends ids good many, number-all bytes ends ids good many, back-is, length-take-le (length ends) ids many)
 
-  pub size-small : imageSize mode (entriesListed (names bytes ends) ids) ≤ 4294967295
-  size-small = omega (arith, size-most, roomy .small)
+  pub size-within : {room : ℕ} → RoomForAll mode ends ids room → imageSize mode (entriesListed (names bytes ends) ids) ≤ room
+  size-within fits = omega (arith, bytes-are, fits .within, fits .small)
+
+  pub size-small : {room : ℕ} → RoomForAll mode ends ids room → imageSize mode (entriesListed (names bytes ends) ids) ≤ 4294967295
+  size-small fits = omega (arith, bytes-are, fits .small)
 
 -- ---- a name among the entries and one more
 
@@ -246,7 +229,7 @@ module _ (mode : Mode) (repeats : Repeats) (n : ℕ) where
 -- ---- the list
 
 module _ (mode : Mode) (repeats : Repeats) (buffer bytes ends ids : List ℕ) (good : invalidEnds (length bytes) 0 ends ≡ false) (many : length ends ≤ length ids)
-    (room : headSize ≤ length buffer) (roomy : RoomForAll mode ends ids (length buffer)) (words : (i : ℕ) → i < length ends → getD ids i 0 < 2 ^ 32)
+    (room : headSize ≤ length buffer) (fits : RoomForAll mode ends ids (length buffer)) (words : (i : ℕ) → i < length ends → getD ids i 0 < 2 ^ 32)
     (zeros : (i : ℕ) → i < length ends → hasZero (nth (names bytes ends) i) ≡ false)
     (apart : refusesRepeats repeats ≡ true → (i j : ℕ) → j < i → i < length ends → same (nth (names bytes ends) j) (nth (names bytes ends) i) ≡ false) where
   abbrev n : ℕ
@@ -267,8 +250,8 @@ module _ (mode : Mode) (repeats : Repeats) (buffer bytes ends ids : List ℕ) (g
       let all = length-names bytes ends in
       record {
         many = omega (arith, all, many);
-        within = size-within mode buffer bytes ends ids good many roomy;
-        small = size-small mode buffer bytes ends ids good many roomy;
+        within = size-within mode bytes ends ids good many fits;
+        small = size-small mode bytes ends ids good many fits;
         words = λ i h. words i (omega arith);
         zeros = λ i h. zeros i (omega arith);
         new = λ off i h. refl;
@@ -317,7 +300,7 @@ module _ (mode : Mode) (repeats : Repeats) (buffer bytes ends ids : List ℕ) (g
 
 -- where the entries of all names stand, finishing finds what it asks for, and these entries
 module _ (mode : Mode) (buffer bytes ends ids : List ℕ) (good : invalidEnds (length bytes) 0 ends ≡ false) (many : length ends ≤ length ids)
-    (roomy : RoomForAll mode ends ids (length buffer)) (words : (i : ℕ) → i < length ends → getD ids i 0 < 2 ^ 32) where
+    (fits : RoomForAll mode ends ids (length buffer)) (words : (i : ℕ) → i < length ends → getD ids i 0 < 2 ^ 32) where
   abbrev all : List Entry
   all = entriesListed (names bytes ends) ids
 
@@ -341,9 +324,9 @@ module _ (mode : Mode) (buffer bytes ends ids : List ℕ) (good : invalidEnds (l
           tables = tables;
           counts = tallies;
           area = ap (λ (k : ℕ). take k (drop headSize buf)) size ∙ area;
-          within = size-within mode buffer bytes ends ids good many roomy;
-          below = size-small mode buffer bytes ends ids good many roomy;
-          ids = entries-back (names bytes ends) ids (2 ^ 32) (λ i h. words i (omega arith));
+          within = size-within mode bytes ends ids good many fits;
+          below = size-small mode bytes ends ids good many fits;
+          ids = omega (arith, back-listed (names bytes ends) ids (omega arith), ap (λ (k : ℕ). idsBack (take k ids)) number, back-words ids (2 ^ 32) (length ends) words);
         }
 
     pub standing-all : storedEntries buf (entriesEnd (entriesListed (names bytes ends) ids)) (length ends) ≡ entriesListed (names bytes ends) ids

@@ -1,5 +1,5 @@
 -- Laws of a whole list in one call.
-pub mod Largest
+pub mod Listed
 pub mod StoredAll
 pub mod Whole
 pub mod AllPut

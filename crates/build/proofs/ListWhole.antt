@@ -15,12 +15,12 @@ use Rattle.packed.specs.Names.{names, invalidEnds}
 use Rattle.packed.proofs.NameEnds.{length-names}
 use Rattle.serialize.specs.Serialize.{storedEntries, serialized}
 use Rattle.serialize.specs.Record.{finishedOf}
-use Rattle.serialize.specs.steps.Preconditions.{PrecomputedTables, PrecomputedPre}
-use Rattle.build.specs.steps.Capacity.{largestTo, RoomForAll}
-use Rattle.build.specs.steps.Steps.{entriesListed}
+use Rattle.serialize.specs.steps.Preconditions.{PrecomputedPre}
+use Rattle.build.specs.Needs.{idsBack}
+use Rattle.build.specs.steps.Stores.{entriesOf, StoreListPost, WriteListPre, WriteListPost}
 use Rattle.packed.proofs.NameEnds.{begin-later}
-use Rattle.build.proofs.Largest.{back-all}
-use Rattle.build.proofs.AllPut.{number-all, names-all, end-all, size-within, size-small, standing-all, stands-all}
+use Rattle.build.proofs.Needed.{sum-small}
+use Rattle.build.proofs.AllPut.{number-all, names-all, end-all, back-is, size-within, size-small, standing-all, stands-all}
 
 -- ---- zeros stored in a buffer
 
@@ -59,83 +59,80 @@ module _ (l : List ℕ) (at m : ℕ) (room : at + m ≤ length l) (l′ : List �
 
 -- ---- the numbers of the image
 
-module _ (mode : Mode) (buffer bytes ends ids : List ℕ) (good : invalidEnds (length bytes) 0 ends ≡ false) (many : length ends ≤ length ids)
-    (roomy : RoomForAll mode ends ids (length buffer)) (words : (i : ℕ) → i < length ends → getD ids i 0 < 2 ^ 32) where
-  abbrev xs : List (List ℕ)
-  xs = names bytes ends
+-- as the code has them
+pub record Numbers (mode : Mode) (buffer bytes ends ids : List ℕ) (end back at size : ℕ) : Type 0 where
+  pub end-is : end ≡ entriesEnd (entriesOf bytes ends ids)
+  pub back-is : back ≡ backSizeOf mode (entriesOf bytes ends ids)
+  pub at-is : at ≡ entriesEnd (entriesOf bytes ends ids) + 16 * length ends
+  pub size-is : size ≡ imageSize mode (entriesOf bytes ends ids)
+  pub within : size ≤ length buffer
+  pub small : size ≤ 4294967295
+
+module _ {mode : Mode} {buffer bytes ends ids counts tables : List ℕ} (pre : WriteListPre mode buffer bytes ends ids counts tables) where
+  abbrev n : ℕ
+  n = length ends
 
   abbrev es : List Entry
-  es = entriesListed (names bytes ends) ids
+  es = entriesOf bytes ends ids
 
-  back-is : 0 < length ends → (r : ℕ) → r ≡ backIn mode (largestTo ids (length ends) + 1) → r ≡ backSizeOf mode es
-  back-is some r e =
-      let n = length-names bytes ends in
-      e
-      ∙ ap (λ (m : ℕ). backIn mode (largestTo ids m + 1)) (sym n)
-      ∙ ap (backIn mode) (sym (back-all xs ids (omega arith) (omega arith)))
+  number : length es ≡ n
+  number = number-all bytes ends ids (pre .packed) (pre .ids-long)
 
-  size-is : imageSize mode es ≡ entriesEnd es + 16 * length ends + 4 * backSizeOf mode es
-  size-is = omega (arith, number-all bytes ends ids good many)
+  pub end-small : 2072 + getD ends (n - 1) 0 + 25 * n ≤ 4294967295
+  end-small = omega (arith, sum-small (pre .ids-long) (pre .fits), begin-later ends n (λ z. omega (arith, z, pre .some)))
 
-  finished-is : finishedOf mode (entriesEnd es) (length ends) (backSizeOf mode es) ≡ imageSize mode es
-  finished-is = omega (arith, number-all bytes ends ids good many, backIn-twice mode (backSize es))
-
-  -- the numbers as the code has them
-  pub record Numbers (end back at size : ℕ) : Type 0 where
-    pub end-is : end ≡ entriesEnd es
-    pub back-is : back ≡ backSizeOf mode es
-    pub at-is : at ≡ entriesEnd es + 16 * length ends
-    pub size-is : size ≡ imageSize mode es
-    pub within : size ≤ length buffer
-    pub small : size ≤ 4294967295
-
-  pub numbers : 0 < length ends → (back : ℕ) → back ≡ backIn mode (largestTo ids (length ends) + 1)
-      → Numbers (2072 + getD ends (length ends - 1) 0 + 9 * length ends) back (2072 + getD ends (length ends - 1) 0 + 9 * length ends + 16 * length ends)
-      (2072 + getD ends (length ends - 1) 0 + 9 * length ends + 16 * length ends + 4 * back)
-  numbers some back e =
-      let n = length ends in
-      let b : back ≡ backSizeOf mode es = back-is some back e in
+  pub numbers : {back : ℕ} → back ≡ backIn mode (idsBack (take (length ends) ids))
+      → let end = 2072 + getD ends (length ends - 1) 0 + 9 * length ends in
+      Numbers mode buffer bytes ends ids end back (end + 16 * length ends) (end + 16 * length ends + 4 * back)
+  numbers {back} e =
+      let b : back ≡ backSizeOf mode es = e ∙ sym (back-is mode bytes ends ids (pre .packed) (pre .ids-long)) in
       let end : 2072 + getD ends (n - 1) 0 + 9 * n ≡ entriesEnd es =
-      omega (arith, end-all bytes ends ids good many, begin-later ends n (λ z. omega arith)) in
-      let size : 2072 + getD ends (n - 1) 0 + 9 * n + 16 * n + 4 * back ≡ imageSize mode es = omega (arith, size-is) in
+      omega (arith, end-all bytes ends ids (pre .packed) (pre .ids-long), begin-later ends n (λ z. omega (arith, z, pre .some))) in
+      let size : 2072 + getD ends (n - 1) 0 + 9 * n + 16 * n + 4 * back ≡ imageSize mode es = omega (arith, number) in
       record {
         end-is = end;
         back-is = b;
         at-is = omega arith;
         size-is = size;
-        within = omega (arith, size-within mode buffer bytes ends ids good many roomy);
-        small = omega (arith, size-small mode buffer bytes ends ids good many roomy);
+        within = omega (arith, size-within mode bytes ends ids (pre .packed) (pre .ids-long) (pre .fits));
+        small = omega (arith, size-small mode bytes ends ids (pre .packed) (pre .ids-long) (pre .fits));
       }
+
+  finished-is : finishedOf mode (entriesEnd es) n (backSizeOf mode es) ≡ imageSize mode es
+  finished-is = omega (arith, number, backIn-twice mode (backSize es))
 
   -- ---- what finishing asks for, and what it leaves
 
-  module _ (counts buf : List ℕ) (long : length buf ≡ length buffer) (area : between buf headSize (entriesEnd (entriesListed (names bytes ends) ids)) ≡ cat entryBytes (entriesListed (names bytes ends) ids))
-      (known : (t : ℕ) → t < 256 → getD counts t 0 ≡ count t (placed headSize (entriesListed (names bytes ends) ids))) (tables : length counts ≡ 256) where
-    is-standing : storedEntries buf (entriesEnd es) (length ends) ≡ es
-    is-standing = standing-all mode buffer bytes ends ids good many roomy words counts buf long area known tables
+  module _ (words : (i : ℕ) → i < length ends → getD ids i 0 < 2 ^ 32) {at : ℕ} {cleared buf : List ℕ} (stored : StoreListPost mode at bytes ends ids cleared buf)
+      (long : length cleared ≡ length buffer) where
+    named : map (λ (e : Entry). e .name) es ≡ names bytes ends
+    named = names-all bytes ends ids (pre .packed) (pre .ids-long)
 
-    pub asked : (end back : ℕ) → end ≡ entriesEnd (entriesListed (names bytes ends) ids) → back ≡ backSizeOf mode (entriesListed (names bytes ends) ids)
-        → (table-words : List ℕ) → ((qs : List Entry) → map (λ (e : Entry). e .name) qs ≡ names bytes ends → PrecomputedTables table-words qs)
-        → between buf (entriesEnd (entriesListed (names bytes ends) ids) + 16 * length ends) (imageSize mode (entriesListed (names bytes ends) ids))
-        ≡ backWords (placed headSize (entriesListed (names bytes ends) ids)) (backSizeOf mode (entriesListed (names bytes ends) ids))
-        → PrecomputedPre mode end (length ends) back counts table-words buf
-    asked end back e f table-words told linked =
-        subst (λ (o : ℕ). PrecomputedPre mode o (length ends) back counts table-words buf) (sym e)
-        (subst (λ (b : ℕ). PrecomputedPre mode (entriesEnd es) (length ends) b counts table-words buf) (sym f)
-        (record {
-          closable = stands-all mode buffer bytes ends ids good many roomy words counts buf long area known tables;
-          tables = told (storedEntries buf (entriesEnd es) (length ends)) (ap (map (λ (e : Entry). e .name)) is-standing ∙ names-all bytes ends ids good many);
+    is-standing : storedEntries buf (entriesEnd es) n ≡ es
+    is-standing =
+        standing-all mode buffer bytes ends ids (pre .packed) (pre .ids-long) (pre .fits) words counts buf (stored .long ∙ long) (stored .area) (pre .counted es named) (pre .tables)
+
+    pub asked : {end back size : ℕ} → Numbers mode buffer bytes ends ids end back at size
+        → PrecomputedPre mode end (length ends) back counts tables buf
+    asked {end} {back} z =
+        subst (λ (o : ℕ). PrecomputedPre mode o n back counts tables buf) (sym (z .end-is))
+        (subst (λ (b : ℕ). PrecomputedPre mode (entriesEnd es) n b counts tables buf) (sym (z .back-is)) (record {
+          closable = stands-all mode buffer bytes ends ids (pre .packed) (pre .ids-long) (pre .fits) words counts buf (stored .long ∙ long) (stored .area) (pre .counted es named) (pre .tables);
+          tables = pre .tabled (storedEntries buf (entriesEnd es) n) (ap (map (λ (e : Entry). e .name)) is-standing ∙ named);
           back-array =
-              ap (between buf (entriesEnd es + 16 * length ends)) finished-is
-              ∙ linked
+              ap₂ (between buf) (sym (z .at-is)) finished-is
+              ∙ stored .linked
               ∙ ap₂ (λ (qs : List Entry) (k : ℕ). backWords (placed headSize qs) k) (sym is-standing) (sym (backIn-twice mode (backSize es)));
         }))
 
-    pub left-image : (end back : ℕ) → end ≡ entriesEnd (entriesListed (names bytes ends) ids) → back ≡ backSizeOf mode (entriesListed (names bytes ends) ids)
-        → drop (imageSize mode (entriesListed (names bytes ends) ids)) buf ≡ drop (imageSize mode (entriesListed (names bytes ends) ids)) buffer → (l : List ℕ)
-        → l ≡ serialized mode end (length ends) back buf → l ≡ image mode es ++ drop (imageSize mode es) buffer
-    left-image end back e f behind l g =
-        g
-        ∙ ap₂ (λ (o b : ℕ). serialized mode o (length ends) b buf) e f
-        ∙ ap₂ (λ (qs : List Entry) (k : ℕ). image mode qs ++ drop k buf) is-standing finished-is
-        ∙ ap (λ (r : List ℕ). image mode es ++ r) behind
+    pub left-image : {end back size : ℕ} → Numbers mode buffer bytes ends ids end back at size → drop size cleared ≡ drop size buffer → {l : List ℕ}
+        → l ≡ serialized mode end (length ends) back buf → WriteListPost mode buffer bytes ends ids size l
+    left-image {end} {back} {size} z behind g =
+        record {
+          size = z .size-is;
+          leaves =
+              g
+              ∙ ap₂ (λ (o b : ℕ). serialized mode o n b buf) (z .end-is) (z .back-is)
+              ∙ ap₂ (λ (qs : List Entry) (k : ℕ). image mode qs ++ drop k buf) is-standing finished-is
+              ∙ ap (λ (r : List ℕ). image mode es ++ r) (stored .behind ∙ subst (λ (k : ℕ). drop k cleared ≡ drop k buffer) (z .size-is) behind);
+        }

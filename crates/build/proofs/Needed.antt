@@ -1,27 +1,31 @@
 -- What a list needs is the size of the image of all its names, so a buffer of so many bytes refuses none for room. Assumes nothing.
-use Prim.Native.Nat.{ℕ, _+_, _*_, _≤_, _<_}
+use Prim.Native.Nat.{ℕ, _+_, _*_, _-_, _≤_, _<_, max}
 use native.Mathlib.Omega.{arith}
-use mathlib.Core.Path.{_≡_, refl, ap}
+use native.Mathlib.Numerals.{add-one}
+use mathlib.Core.Path.{_≡_, refl, sym, ap, _∙_}
 use mathlib.Core.Bool.{false, _||_}
 use mathlib.Core.List.{List, [], _∷_}
 use borrow.Author.Tests.{ltb-false}
 use lib.Dec.{ltb}
-use lib.ListN.{length, getD, length-append}
+use lib.ListN.{length, getD, take, drop, length-append, drop-of-length-le}
+use lib.Seq.{take-all, drop-cons, length-take-le}
 use Rattle.image.specs.declared.Mode.{Mode}
 use Rattle.image.specs.declared.Mode.the-variants.{Twoway, Oneway}
 use Rattle.image.specs.Image.{headSize, backSize, backIn}
 use Rattle.image.proofs.Between.{length-between}
 use Rattle.image.proofs.Bools.{or-false-first, or-false-second}
-use Rattle.packed.specs.Names.{namesFrom, names, invalidEnds, packedBytes}
+use Rattle.packed.specs.Names.{namesFrom, names, invalidEnds, packedBytes, beginOf}
+use Rattle.packed.proofs.NameEnds.{begin-later}
 use Rattle.writer.specs.declared.Repeats.{Repeats}
 use Rattle.lists.specs.Calls.{putsSize, sizeOf, puts, WordIds}
 use Rattle.lists.specs.Demand3.{answersOf}
 use Rattle.lists.proofs.Capacity.{capacity, back-rises}
 use Rattle.build.specs.declared.needs.Needs.{Needs}
 use Rattle.build.specs.Build.{callsOf, listed}
-use Rattle.build.specs.steps.Capacity.{largestTo}
-use Rattle.build.specs.Needs.{atMost, idsBack, bytesNeeded, needed, wordsEach, NeedsHold}
-use Rattle.build.proofs.Largest.{largest-none, largest-cons}
+use Rattle.build.specs.Needs.{atMost, idsBack, bytesNeeded, needed, wordsEach}
+use Rattle.build.specs.theorems.Needs.{NeedsHold}
+use Rattle.build.specs.steps.Capacity.{bytesForAll, RoomForAll, Capacity}
+use Rattle.build.proofs.Listed.{back-listed}
 
 -- ---- the largest id
 
@@ -30,11 +34,26 @@ unfolding idsBack
 no-back [] e = refl
 no-back (id ∷ ids) e = absurd (omega arith)
 
-pub back-largest : (ids : List ℕ) → 0 < length ids → idsBack ids ≡ largestTo ids (length ids) + 1
+-- top is the largest of the first i ids
+pub record LargestTo (ids : List ℕ) (i top : ℕ) : Type 0 where
+  pub inside : i ≤ length ids
+  pub is : max (top + 1) (idsBack (drop i ids)) ≡ idsBack ids
+
+pub largest-start : (ids : List ℕ) → 0 < length ids → LargestTo ids 0 0
 unfolding idsBack
-back-largest [] some = absurd (omega arith)
-back-largest (id ∷ []) some = omega (arith, largest-cons id [] 0, largest-none [])
-back-largest (id ∷ j ∷ ids) some = omega (arith, back-largest (j ∷ ids) (omega arith), largest-cons id (j ∷ ids) (length (j ∷ ids)))
+largest-start [] some = absurd (omega arith)
+largest-start (id ∷ ids) some = record { inside = omega arith; is = omega arith }
+
+pub largest-step : (ids : List ℕ) (i top r : ℕ) → LargestTo ids i top → i < length ids → r ≡ max top (getD ids i 0) → LargestTo ids (i + 1) r
+unfolding idsBack
+largest-step ids i top r s h e =
+    let now = ap idsBack (drop-cons ids i 0 h) in
+    let next = ap (λ (k : ℕ). idsBack (drop k ids)) (add-one i) in
+    record { inside = omega arith; is = omega (arith, s .is, e, now, next) }
+
+pub largest-end : (ids : List ℕ) (i top : ℕ) → LargestTo ids i top → length ids ≤ i → top + 1 ≡ idsBack ids
+unfolding idsBack
+largest-end ids i top s h = omega (arith, s .is, ap idsBack (drop-of-length-le ids {i = i} h))
 
 -- ---- the sums
 
@@ -53,6 +72,27 @@ pub needs-are : (mode : Mode) (size : ℕ) (ids : List ℕ) (b w : ℕ) → b �
     → _≡_ {A = Needs} (record { bytes = b; words = w }) (needed mode size ids)
 unfolding needed
 needs-are mode size ids b w p q = λ i. record { bytes = p i; words = q i }
+
+-- ---- the image of all names has room
+
+-- its size without the back array
+pub sum-small : {mode : Mode} {ends ids : List ℕ} {capacity : ℕ} → length ends ≤ length ids → RoomForAll mode ends ids capacity
+    → headSize + beginOf ends (length ends) + 25 * length ends ≤ 4294967295
+unfolding bytesNeeded
+sum-small {mode} {ends} {ids} many fits = omega (arith, fits .small, length-take-le (length ends) ids many)
+
+pub capacity-known : (mode : Mode) (ends ids : List ℕ) (r : Needs) (capacity words : ℕ) → r ≡ needed mode (getD ends (length ends - 1) 0) (take (length ends) ids)
+    → (length ends ≡ 0 → ⊥) → length ends ≤ length ids → r .bytes ≤ capacity → r .bytes ≤ 4294967295 → r .words ≤ words → Capacity mode ends ids capacity words
+unfolding needed bytesNeeded
+capacity-known mode ends ids r capacity words e some many within small enough =
+    let bytes : r .bytes ≡ bytesForAll mode ends ids =
+    ap (λ (x : Needs). x .bytes) e ∙ ap (λ (size : ℕ). bytesNeeded mode size (take (length ends) ids)) (sym (begin-later ends (length ends) some)) in
+    let all = length-take-le (length ends) ids many in
+    record {
+      fits = record { within = omega (arith, bytes, within); small = omega (arith, bytes, small) };
+      scratch = omega (arith, ap (λ (x : Needs). x .words) e, enough, bytes, small, all);
+      some = omega (arith, some);
+    }
 
 -- ---- the puts of the names
 
@@ -90,7 +130,7 @@ none-refused mode repeats buffer bytes ends ids good word within small =
     let most = size-most mode bytes ends ids good in
     capacity .none-refused mode repeats buffer (listed bytes ends ids) word (omega arith) (omega arith)
 
--- ---- packed names with nothing behind them
+-- ---- names that lie joined with nothing behind them
 
 puts-joined : (xs : List (List ℕ)) (ids : List ℕ) → length xs ≡ length ids → putsSize (puts (callsOf xs ids)) ≡ length (packedBytes xs) + 25 * length ids
 unfolding callsOf puts putsSize packedBytes
@@ -99,17 +139,10 @@ puts-joined [] (id ∷ ids) h = absurd (omega arith)
 puts-joined (x ∷ xs) [] h = absurd (omega arith)
 puts-joined (x ∷ xs) (id ∷ ids) h = omega (arith, puts-joined xs ids (omega arith), length-append x (packedBytes xs))
 
-back-joined : (xs : List (List ℕ)) (ids : List ℕ) → length xs ≡ length ids → backSize (puts (callsOf xs ids)) ≡ idsBack ids
-unfolding callsOf puts backSize idsBack
-back-joined [] [] h = refl
-back-joined [] (id ∷ ids) h = absurd (omega arith)
-back-joined (x ∷ xs) [] h = absurd (omega arith)
-back-joined (x ∷ xs) (id ∷ ids) h = omega (arith, back-joined xs ids (omega arith))
-
 exact : (mode : Mode) (xs : List (List ℕ)) (ids : List ℕ) → length xs ≡ length ids
     → bytesNeeded mode (length (packedBytes xs)) ids ≡ atMost (sizeOf mode (puts (callsOf xs ids)))
 unfolding bytesNeeded sizeOf
-exact mode xs ids h = omega (arith, puts-joined xs ids h, ap (backIn mode) (back-joined xs ids h))
+exact mode xs ids h = omega (arith, puts-joined xs ids h, ap (backIn mode) (back-listed xs ids (omega arith)), ap (λ (l : List ℕ). backIn mode (idsBack l)) (take-all (length xs) ids (omega arith)))
 
 pub needs-hold : NeedsHold
 needs-hold = record { none-refused = none-refused; exact = exact }

@@ -19,7 +19,7 @@ use Rattle.lists.specs.Demand3.{answersOf, afterList, acceptedPuts}
 use Rattle.lists.proofs.Theorem.{calls-answered}
 use Rattle.build.specs.declared.Made.{Made}
 use Rattle.build.specs.Build.{callsOf, listed, buildRefusal, madeOf, building, answersAfter}
-use Rattle.build.specs.Rows.{Row, BuildRowHolds, buildRows}
+use Rattle.build.specs.examples.Rows.{Row, BuildRowHolds, buildRows}
 
 abbrev calls : Row → List Call
 calls r = listed (r .bytes) (r .ends) (r .ids)

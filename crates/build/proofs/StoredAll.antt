@@ -22,30 +22,10 @@ use Rattle.serialize.proofs.PartialImage.{zeros-links}
 use Rattle.serialize.proofs.EntryAdded.{links-more}
 use Rattle.serialize.proofs.InsertStep.{store-in, nextOf, placed-more, next-at}
 use Rattle.packed.specs.Names.{names, nth, beginOf}
-use Rattle.packed.proofs.NameEnds.{length-names, nth-name}
+use Rattle.packed.proofs.NameEnds.{length-names, nth-name, begin-next, placed as ends-placed}
 use Rattle.writer.specs.Put.{entryOf}
-use Rattle.lists.specs.Calls.{puts}
-use Rattle.build.specs.Build.{callsOf}
-use Rattle.build.specs.steps.Steps.{entriesListed}
-
--- ---- the entries of a list
-
-pub length-listed : (xs : List (List ℕ)) (ids : List ℕ) → length xs ≤ length ids → length (entriesListed xs ids) ≡ length xs
-unfolding callsOf puts
-length-listed [] ids h = refl
-length-listed (x ∷ xs) [] h = absurd (omega arith)
-length-listed (x ∷ xs) (id ∷ ids) h = let k : length xs ≤ length ids = omega arith in ap suc (length-listed xs ids k)
-
-nth-listed : (xs : List (List ℕ)) (ids : List ℕ) (i : ℕ) (d : Entry) → length xs ≤ length ids → i < length xs
-    → getD (entriesListed xs ids) i d ≡ entryOf (nth xs i) (getD ids i 0)
-unfolding callsOf puts
-nth-listed [] ids i d h k = absurd (omega arith)
-nth-listed (x ∷ xs) [] i d h k = absurd (omega arith)
-nth-listed (x ∷ xs) (id ∷ ids) zero d h k = refl
-nth-listed (x ∷ xs) (id ∷ ids) (suc i) d h k =
-    let m : length xs ≤ length ids = omega arith in
-    let l : i < length xs = omega arith in
-    nth-listed xs ids i d m l
+use Rattle.build.specs.steps.Stores.{entriesOf, StoreListPre, StoreListPost}
+use Rattle.build.proofs.Listed.{length-listed, nth-listed}
 
 -- ---- parts of a buffer
 
@@ -167,10 +147,6 @@ cat-more : (qs : List Entry) (e : Entry) → cat entryBytes (qs ++ e ∷ []) ≡
 unfolding cat
 cat-more qs e = cat-append entryBytes qs (e ∷ []) ∙ ap (λ (l : List ℕ). cat entryBytes qs ++ l) (append-nil (entryBytes e))
 
-back-most : (mode : Mode) (m n : ℕ) → m ≤ n → backIn mode m ≤ backIn mode n
-back-most Twoway m n h = h
-back-most Oneway m n h = omega arith
-
 module _ (mode : Mode) (es qs rest : List Entry) (e : Entry) (split : es ≡ qs ++ e ∷ rest) where
   sizes : entriesSize es ≡ entriesSize qs + (entrySize e + entriesSize rest)
   unfolding entriesSize
@@ -182,9 +158,6 @@ module _ (mode : Mode) (es qs rest : List Entry) (e : Entry) (split : es ≡ qs 
 
   within : headSize + entriesSize qs + (length (e .name) + 9) ≤ entriesEnd es
   within = omega (arith, sizes)
-
-  link-within : 4 * backIn mode (e .id + 1) ≤ 4 * backSizeOf mode es
-  link-within = let h = id-below in let k = back-most mode (e .id + 1) (backSize es) (omega arith) in omega arith
 
   turn : (buf₀ b b1 b2 : List ℕ) (o at : ℕ) → Storing mode es qs buf₀ b → o ≡ headSize + entriesSize qs → at ≡ entriesEnd es + 16 * length es
       → b1 ≡ sets b o (entryBytes e) → b2 ≡ backStored mode b1 at (e .id) o → Storing mode es (qs ++ e ∷ []) buf₀ b2
@@ -220,127 +193,101 @@ module _ (mode : Mode) (es qs rest : List Entry) (e : Entry) (split : es ≡ qs 
             ∙ ap (λ (l : List Placed). F ++ backWords l n ++ T) (sym (placed-more qs e));
       }
 
--- ---- a turn of a list of names and ids
+-- ---- the loop over names by their ends: before turn i, which stores at o the name that begins at `start`
 
-module _ (mode : Mode) (xs : List (List ℕ)) (ids : List ℕ) (i : ℕ) (many : length xs ≤ length ids) (inside : i < length xs) where
-  es : List Entry
-  es = entriesListed xs ids
+pub record Along (mode : Mode) (bytes ends ids buf₀ buf : List ℕ) (i o start : ℕ) : Type 0 where
+  pub inside : i ≤ length ends
+  pub start-is : start ≡ beginOf ends i
+  pub here : o ≡ headSize + entriesSize (take i (entriesOf bytes ends ids))
+  pub storing : Storing mode (entriesOf bytes ends ids) (take i (entriesOf bytes ends ids)) buf₀ buf
 
-  e : Entry
-  e = entryOf (nth xs i) (getD ids i 0)
-
-  none : Entry
-  none = entryOf [] 0
-
-  short : i < length es
-  unfolding es
-  short = omega (arith, length-listed xs ids many)
-
-  there : getD es i none ≡ e
-  unfolding es e
-  there = nth-listed xs ids i none many inside
-
-  split : es ≡ take i es ++ e ∷ drop (suc i) es
-  split = split-at es i none short ∙ ap (λ (x : Entry). take i es ++ x ∷ drop (suc i) es) there
-
-  more : take (i + 1) es ≡ take i es ++ e ∷ []
-  more = ap (λ (k : ℕ). take k es) (add-one i) ∙ take-suc es i none short ∙ ap (λ (x : Entry). take i es ++ (x ∷ [])) there
-
-  pub entry-within : headSize + entriesSize (take i (entriesListed xs ids)) + (length (nth xs i) + 9) ≤ entriesEnd (entriesListed xs ids)
-  unfolding es e
-  entry-within = within mode es (take i es) (drop (suc i) es) e split
-
-  pub id-within : 4 * backIn mode (getD ids i 0 + 1) ≤ 4 * backSizeOf mode (entriesListed xs ids)
-  unfolding es e
-  id-within = link-within mode es (take i es) (drop (suc i) es) e split
-
-  pub next-offset : headSize + entriesSize (take i (entriesListed xs ids)) + (length (nth xs i) + 9) ≡ headSize + entriesSize (take (i + 1) (entriesListed xs ids))
-  unfolding es e
-  next-offset = omega (arith, next-at (take i es) e, ap entriesSize more)
-
-  pub storing-turn : (buf₀ b b1 b2 : List ℕ) (o at : ℕ) → Storing mode (entriesListed xs ids) (take i (entriesListed xs ids)) buf₀ b
-      → o ≡ headSize + entriesSize (take i (entriesListed xs ids)) → at ≡ entriesEnd (entriesListed xs ids) + 16 * length (entriesListed xs ids)
-      → b1 ≡ sets b o (entryBytes (entryOf (nth xs i) (getD ids i 0))) → b2 ≡ backStored mode b1 at (getD ids i 0) o
-      → Storing mode (entriesListed xs ids) (take (i + 1) (entriesListed xs ids)) buf₀ b2
-  unfolding es e
-  storing-turn buf₀ b b1 b2 o at s eo ea p q =
-      subst (λ (l : List Entry). Storing mode es l buf₀ b2) (sym more)
-      (turn mode es (take i es) (drop (suc i) es) e split buf₀ b b1 b2 o at s eo ea p q)
-
--- ---- the same of names by their ends, as the code goes
-
--- room for an entry with a name of n bytes at o, and for the link of its id
-pub record RoomFor (mode : Mode) (buf : List ℕ) (o at n id : ℕ) : Type 0 where
-  pub entry : o + (n + 9) ≤ length buf
+-- room for an entry with a name of n bytes at o in a buffer of this length; the back array at `at` is in the image too
+pub record RoomFor (o at room n : ℕ) : Type 0 where
+  pub entry : o + (n + 9) ≤ room
   pub small : o + (n + 9) ≤ 4294967295
-  pub link : at + 4 * backIn mode (id + 1) ≤ length buf
+  pub link : at ≤ 4294967295
 
--- before turn i, which stores at o
-pub record Along (mode : Mode) (es : List Entry) (buf₀ buf : List ℕ) (i o : ℕ) : Type 0 where
-  pub here : o ≡ headSize + entriesSize (take i es)
-  pub storing : Storing mode es (take i es) buf₀ buf
+module _ {mode : Mode} {at : ℕ} {bytes ends ids buf₀ : List ℕ} (pre : StoreListPre mode at bytes ends ids buf₀) where
+  abbrev es : List Entry
+  es = entriesOf bytes ends ids
 
-module _ (mode : Mode) (bytes ends ids buf₀ : List ℕ) (at : ℕ) (many : length ends ≤ length ids)
-    (fits : imageSize mode (entriesListed (names bytes ends) ids) ≤ length buf₀)
-    (begins : at ≡ entriesEnd (entriesListed (names bytes ends) ids) + 16 * length ends) where
-  all-many : length (names bytes ends) ≤ length ids
-  all-many = omega (arith, length-names bytes ends)
+  many : length (names bytes ends) ≤ length ids
+  many = omega (arith, length-names bytes ends, pre .ids-long)
 
-  all-long : length (entriesListed (names bytes ends) ids) ≡ length ends
-  all-long = length-listed (names bytes ends) ids all-many ∙ length-names bytes ends
+  all-long : length es ≡ length ends
+  all-long = length-listed (names bytes ends) ids many ∙ length-names bytes ends
 
-  begins-all : at ≡ entriesEnd (entriesListed (names bytes ends) ids) + 16 * length (entriesListed (names bytes ends) ids)
-  begins-all = omega (arith, all-long)
+  begins : at ≡ entriesEnd es + 16 * length es
+  begins = omega (arith, all-long, pre .at-is)
 
-  pub along-start : between buf₀ at (imageSize mode (entriesListed (names bytes ends) ids)) ≡ replicate (4 * backSizeOf mode (entriesListed (names bytes ends) ids)) 0
-      → Along mode (entriesListed (names bytes ends) ids) buf₀ buf₀ 0 headSize
+  pub along-start : Along mode bytes ends ids buf₀ buf₀ 0 headSize 0
   unfolding entriesSize
-  along-start cleared = record { here = refl; storing = storing-start mode (entriesListed (names bytes ends) ids) buf₀ at begins-all fits cleared }
+  along-start =
+      record { inside = omega arith; start-is = refl; here = refl; storing = storing-start mode es buf₀ at begins (pre .within) (pre .cleared) }
 
-  pub along-length : (b : List ℕ) (i o : ℕ) → Along mode (entriesListed (names bytes ends) ids) buf₀ b i o → length b ≡ length buf₀
-  along-length b i o k =
-      let es = entriesListed (names bytes ends) ids in
-      storing-length mode es (take i es) buf₀ b (k .storing) fits
+  module _ {buf : List ℕ} {i o start : ℕ} (k : Along mode bytes ends ids buf₀ buf i o start) where
+    pub along-length : length buf ≡ length buf₀
+    along-length = storing-length mode es (take i es) buf₀ buf (k .storing) (pre .within)
 
-  pub along-end : (b : List ℕ) (i o : ℕ) → length ends ≤ i → Along mode (entriesListed (names bytes ends) ids) buf₀ b i o
-      → Storing mode (entriesListed (names bytes ends) ids) (entriesListed (names bytes ends) ids) buf₀ b
-  along-end b i o h k =
-      let es = entriesListed (names bytes ends) ids in
-      subst (λ (l : List Entry). Storing mode es l buf₀ b) (take-all i es (omega (arith, all-long))) (k .storing)
-
-  pub stored-links : (b : List ℕ) → Storing mode (entriesListed (names bytes ends) ids) (entriesListed (names bytes ends) ids) buf₀ b
-      → between b at (imageSize mode (entriesListed (names bytes ends) ids))
-      ≡ backWords (placed headSize (entriesListed (names bytes ends) ids)) (backSizeOf mode (entriesListed (names bytes ends) ids))
-  stored-links b s = links-stored mode (entriesListed (names bytes ends) ids) buf₀ b s at begins-all
-
-  -- the name of turn i begins at `start`
-  module _ (small : imageSize mode (entriesListed (names bytes ends) ids) ≤ 4294967295) (b : List ℕ) (i o start : ℕ) (below : i < length ends)
-      (from : start ≡ beginOf ends i) (k : Along mode (entriesListed (names bytes ends) ids) buf₀ b i o) where
-    inside-all : i < length (names bytes ends)
-    inside-all = omega (arith, length-names bytes ends)
-
-    named : between bytes start (getD ends i 0) ≡ nth (names bytes ends) i
-    named = ap (λ (s : ℕ). between bytes s (getD ends i 0)) from ∙ sym (nth-name bytes ends i below)
-
-    pub along-room : RoomFor mode b o at (length (between bytes start (getD ends i 0))) (getD ids i 0)
-    along-room =
-        let w = entry-within mode (names bytes ends) ids i all-many inside-all in
-        let l = id-within mode (names bytes ends) ids i all-many inside-all in
-        let n = ap length named in
-        let e = k .here in
-        let same = along-length b i o k in
-        let g = all-long in
-        record { entry = omega arith; small = omega arith; link = omega arith }
-
-    pub along-turn : (b1 b2 : List ℕ) → b1 ≡ sets b o (entryBytes (entryOf (between bytes start (getD ends i 0)) (getD ids i 0)))
-        → b2 ≡ backStored mode b1 at (getD ids i 0) o
-        → Along mode (entriesListed (names bytes ends) ids) buf₀ b2 (i + 1) (o + (length (between bytes start (getD ends i 0)) + 9))
-    along-turn b1 b2 p q =
+    pub along-end : length ends ≤ i → StoreListPost mode at bytes ends ids buf₀ buf
+    along-end h =
+        let done = subst (λ (l : List Entry). Storing mode es l buf₀ buf) (take-all i es (omega (arith, all-long))) (k .storing) in
         record {
-          here =
-              ap₂ (λ (m : ℕ) (l : List ℕ). m + (length l + 9)) (k .here) named
-              ∙ next-offset mode (names bytes ends) ids i all-many inside-all;
-          storing =
-              storing-turn mode (names bytes ends) ids i all-many inside-all buf₀ b b1 b2 o at (k .storing) (k .here) begins-all
-              (p ∙ ap (λ (l : List ℕ). sets b o (entryBytes (entryOf l (getD ids i 0)))) named) q;
+          area = area-stored mode es buf₀ buf done;
+          linked = links-stored mode es buf₀ buf done at begins;
+          behind = behind-kept mode es buf₀ buf done;
+          long = along-length;
         }
+
+    module _ (below : i < length ends) where
+      abbrev name : List ℕ
+      name = between bytes start (getD ends i 0)
+
+      abbrev e : Entry
+      e = entryOf (nth (names bytes ends) i) (getD ids i 0)
+
+      -- where the name lies
+      pub name-placed : (start ≤ getD ends i 0) × (getD ends i 0 ≤ length bytes)
+      name-placed = let p = ends-placed (length bytes) ends i (pre .packed) below in (omega (arith, p .rises, k .start-is), p .inside)
+
+      named : name ≡ nth (names bytes ends) i
+      named = ap (λ (s : ℕ). between bytes s (getD ends i 0)) (k .start-is) ∙ sym (nth-name bytes ends i below)
+
+      there : getD es i (entryOf [] 0) ≡ e
+      there = nth-listed (names bytes ends) ids i (entryOf [] 0) many (omega (arith, length-names bytes ends))
+
+      split : es ≡ take i es ++ e ∷ drop (suc i) es
+      split = split-at es i (entryOf [] 0) (omega (arith, all-long)) ∙ ap (λ (x : Entry). take i es ++ x ∷ drop (suc i) es) there
+
+      more : take (i + 1) es ≡ take i es ++ e ∷ []
+      more = ap (λ (m : ℕ). take m es) (add-one i) ∙ take-suc es i (entryOf [] 0) (omega (arith, all-long)) ∙ ap (λ (x : Entry). take i es ++ (x ∷ [])) there
+
+      pub along-room : RoomFor o at (length buf) (length (between bytes start (getD ends i 0)))
+      along-room =
+          let w = within mode es (take i es) (drop (suc i) es) e split in
+          let n = ap length named in
+          let h = k .here in
+          let same = along-length in
+          let g = all-long in
+          let fits = pre .within in
+          let small = pre .small in
+          let at-is = pre .at-is in
+          record { entry = omega arith; small = omega arith; link = omega arith }
+
+      pub along-turn : {b1 b2 : List ℕ} → b1 ≡ sets buf o (entryBytes (entryOf (between bytes start (getD ends i 0)) (getD ids i 0)))
+          → b2 ≡ backStored mode b1 at (getD ids i 0) o
+          → Along mode bytes ends ids buf₀ b2 (i + 1) (o + (length (between bytes start (getD ends i 0)) + 9)) (getD ends i 0)
+      along-turn {b1} {b2} p q =
+          record {
+            inside = omega arith;
+            start-is = sym (begin-next ends i);
+            here =
+                ap₂ (λ (m : ℕ) (l : List ℕ). m + (length l + 9)) (k .here) named ∙ next-offset (take i es) e (take (i + 1) es) more;
+            storing =
+                subst (λ (l : List Entry). Storing mode es l buf₀ b2) (sym more)
+                (turn mode es (take i es) (drop (suc i) es) e split buf₀ buf b1 b2 o at (k .storing) (k .here) begins
+                (p ∙ ap (λ (l : List ℕ). sets buf o (entryBytes (entryOf l (getD ids i 0)))) named) q);
+          }
+        where
+          next-offset : (qs : List Entry) (x : Entry) (rs : List Entry) → rs ≡ qs ++ x ∷ [] → headSize + entriesSize qs + (length (x .name) + 9) ≡ headSize + entriesSize rs
+          next-offset qs x rs f = omega (arith, next-at qs x, ap entriesSize f)

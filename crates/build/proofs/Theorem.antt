@@ -11,7 +11,7 @@ use Rattle.writer.specs.Close.{closedSize, afterClose}
 use Rattle.lists.specs.Demand3.{afterList, imageOf}
 use Rattle.lists.proofs.Theorem.{one-list, calls-answered}
 use Rattle.build.specs.Build.{listed, buildRefusal, madeOf, bufferAfter}
-use Rattle.build.specs.Theorem.{BuildHolds}
+use Rattle.build.specs.theorems.Builds.{BuildHolds}
 use Rattle.build.proofs.Whole.{refused-some, refused-build}
 
 imaged : (mode : Mode) (repeats : Repeats) (buffer bytes ends ids : List ℕ) (places : ℕ) → buildRefusal bytes ends (length ids) places (length buffer) ≡ 0

@@ -1,6 +1,6 @@
--- A whole list in one call: what it gives, and what its steps tell.
+-- A whole list in one call: what it gives, what it needs, and what describes the steps of the code.
 pub mod Build
-pub mod Theorem
-pub mod Rows
 pub mod Needs
+pub mod theorems
+pub mod examples
 pub mod steps

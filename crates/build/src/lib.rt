@@ -12,7 +12,6 @@ use capacity::has_capacity;
 use image::Mode;
 use image::scratch::clear;
 use packed::invalid_ends;
-use singly::has_slots;
 use singly::index_words;
 use singly::put_list;
 use stored::write_list;
@@ -102,8 +101,8 @@ fn refuses(repeats: Repeats) -> bool
 }
 
 // Bulk path: builds all tables in the scratch memory, then writes the image in one pass. Returns the image's size, or 0
-// if a name is refused or may be, or if memory is short: then the buffer is as it was, and `refusals` has the names'
-// hashes if the scratch memory has a slot for each name.
+// if a name is refused or may be, or if memory is short: then the buffer is as it was. Until the refusals are known,
+// their places have the names' hashes.
 fn build_bulk(
     mode: Mode,
     repeats: Repeats,
@@ -117,18 +116,15 @@ fn build_bulk(
     requires { ⌜ ListPre (now buf) (now bytes) (now ends) (now ids) (now refusals) ⌝ }
     ensures { λ r. ⌜
         BulkTried mode repeats (now (buf .entry)) (now (bytes .entry)) (now (ends .entry)) (now (ids .entry))
-        (now (refusals .entry)) (length (now (scratch .entry))) r (now (buf .exit)) (now (refusals .exit))
+        (now (refusals .entry)) r (now (buf .exit)) (now (refusals .exit))
         ⌝ }
 {
     let n = ends.len();
-    if !has_slots(n, scratch.len()) {
+    if !has_capacity(mode, ends, ids, buf.len(), scratch.len()) {
         return 0;
     }
     let mut counts = [0; 256];
     if !hash_all(bytes, ends, &mut *refusals, &mut counts) {
-        return 0;
-    }
-    if !has_capacity(mode, ends, ids, buf.len(), scratch.len()) {
         return 0;
     }
     let distinct = refuses(repeats);

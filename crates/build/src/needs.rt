@@ -1,15 +1,15 @@
-// What a list needs: the bytes of a buffer in which no put is refused for room, and the words of lent memory for the
-// fast way.
+// What a list needs: the bytes of a buffer in which no put is refused for room, and the words of scratch memory for the
+// bulk path.
 ghost use mathlib.Core.Path.{_≡_};
-ghost use Prim.Native.Nat.{_+_, _*_, _≤_, _^_, min};
+ghost use Prim.Native.Nat.{_+_, _*_, _≤_, _<_, _^_, min, max};
+ghost use lib.ListN.{length};
 ghost use Rattle.build.specs.Needs.{atMost, wordsEach, idsBack, bytesNeeded, needed};
-use super::capacity::largest;
 use image::Mode;
 
-// The words of lent memory for each name; `wordsEach` is the same number.
-const WORDS_EACH: u64 = 7;
+// The words of scratch memory for each name; `wordsEach` is the same number.
+const WORDS_EACH: u64 = 6;
 
-// How many bytes, and how many words of lent memory.
+// How many bytes, and how many words of scratch memory.
 pub struct Needs {
     pub bytes: u64,
     pub words: u64,
@@ -35,7 +35,7 @@ fn bytes_each(n: u64) -> u64
     25 * n
 }
 
-// The words of lent memory for n names, 2^64 - 1 where it is more.
+// The words of scratch memory for n names, 2^64 - 1 where it is more.
 fn words_for(n: u64) -> u64
     ensures { λ r. ⌜ r ≡ atMost (wordsEach * n) ⌝ }
 {
@@ -45,14 +45,35 @@ fn words_for(n: u64) -> u64
     WORDS_EACH * n
 }
 
+// The larger of two ids.
+fn larger(a: u32, b: u32) -> u32
+    ensures { λ r. ⌜ r ≡ max a b ⌝ }
+{
+    if a < b { b } else { a }
+}
+
+// The largest of these ids.
+fn largest(ids: &[u32]) -> u32
+    requires { ⌜ 0 < length (now ids) ⌝ }
+    ensures { λ r. ⌜ r + 1 ≡ idsBack (now (ids .entry)) ⌝ }
+{
+    let mut top = 0;
+    let mut i = 0;
+    while i < ids.len() {
+        top = larger(top, ids[i]);
+        i += 1;
+    }
+    top
+}
+
 // The largest id plus 1, 0 without any.
-fn back_of(ids: &[u32]) -> u64
+pub(crate) fn back_of(ids: &[u32]) -> u64
     ensures { λ r. ⌜ (r ≡ idsBack (now (ids .entry))) × (r ≤ 2 ^ 32) ⌝ }
 {
     if ids.len() == 0 {
         return 0;
     }
-    largest(ids, ids.len()) as u64 + 1
+    largest(ids) as u64 + 1
 }
 
 // The bytes of the image of all names, which have `size` bytes together, 2^64 - 1 where it is more.

@@ -2,26 +2,12 @@
 // the rule's own put, which with repeats off walks all earlier entries.
 ghost use Rattle.writer.specs.State.{stateWith};
 ghost use Rattle.writer.specs.Put.{entryOf};
-ghost use Rattle.build.specs.steps.Steps.{HasSlots, IndexWords};
-ghost use Rattle.build.specs.steps.Steps.{PutPre, PutPost, PutListPre, PutListPost};
+ghost use Rattle.build.specs.steps.Steps.{IndexWords, PutPre, PutPost, PutListPre, PutListPost};
 use index::put_indexed;
 use packed::name_of;
 use writer::CQDBWriter;
 use writer::PutAnswer;
 use writer::Repeats;
-
-// Has the scratch memory a slot of two words for each of n names, whose count is a word?
-pub(crate) fn has_slots(n: usize, words: usize) -> bool
-    ensures { λ r. ⌜ HasSlots n words r ⌝ }
-{
-    if words / 2 < n {
-        return false;
-    }
-    if 4294967295 < n {
-        return false;
-    }
-    true
-}
 
 // How many words of the scratch memory are the index of n names: two slots of two words a name, or what there is. 0
 // where there is less than a slot a name, and with repeats on, where no put looks for its name.
@@ -31,7 +17,7 @@ pub(crate) fn index_words(repeats: Repeats, n: usize, words: usize) -> usize
     match repeats {
         Repeats::On => 0,
         Repeats::Off => {
-            if !has_slots(n, words) {
+            if words / 2 < n {
                 return 0;
             }
             if words / 4 < n {

@@ -1,26 +1,10 @@
 // The image of a list, all of whose names are put: its entries stored in one pass, each with its link in the back
 // array, and head, rows and tables around them.
-ghost use mathlib.Core.Path.{_≡_};
-ghost use Prim.Native.Nat.{_+_, _*_, _≤_};
-ghost use lib.ListN.{length};
-ghost use Rattle.image.specs.Image.{backIn};
-ghost use Rattle.serialize.specs.steps.Insertion.{backStored};
 ghost use Rattle.build.specs.steps.Stores.{StoreListPre, StoreListPost, WriteListPre, WriteListPost};
-use super::capacity::largest;
+use super::needs::back_of;
 use image::Mode;
-use image::store::store_word;
+use serialize::insert::store_back;
 use writer::entry::store;
-
-// The link of an id, for which the back array at `links` has room; a one-way image has none.
-fn store_link(mode: Mode, buf: &mut [u8], links: usize, id: u32, at: u32)
-    requires { ⌜ links + 4 * backIn mode (id + 1) ≤ length (now buf) ⌝ }
-    ensures { λ _. ⌜ now (buf .exit) ≡ backStored mode (now (buf .entry)) links id at ⌝ }
-{
-    match mode {
-        Mode::Twoway => store_word(&mut *buf, links + 4 * (id as usize), at),
-        Mode::Oneway => {}
-    }
-}
 
 // The entries of all names one behind the other from 2,072 on, and in a two-way image the offset of each under its id
 // in the back array, which begins at `at` and was cleared.
@@ -46,7 +30,7 @@ pub(crate) fn store_list(
         let name = &bytes[start..end];
         let id = ids[i];
         store(&mut *buf, o, name, id);
-        store_link(mode, &mut *buf, at, id, o as u32);
+        store_back(mode, &mut *buf, at, id, o as u32);
         o += name.len() + 9;
         start = end;
         i += 1;
@@ -72,7 +56,7 @@ pub(crate) fn write_list(
 {
     let n = ends.len();
     let end = 2072 + ends[n - 1] + 9 * (n as u64);
-    let back = serialize::size::back_in(mode, largest(ids, n) as u64 + 1);
+    let back = serialize::size::back_in(mode, back_of(&ids[..n]));
     let at = end + 16 * (n as u64);
     let size = at + 4 * back;
     serialize::head::clear(&mut *buf, at as usize, size as usize);

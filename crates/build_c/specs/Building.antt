@@ -1,5 +1,5 @@
--- What cqdb_build_parts answers: the call of `build`, whose numbers stand in a struct. A mode or a repeats mode that
--- is neither 0 nor 1 gives 2 before all else, as cqdb_begin does, and nothing is written.
+-- What cqdb_build_parts answers: the call of `build`, whose numbers stand in a struct. A mode or a repeats mode that is
+-- neither 0 nor 1 gives 2 before all else, as cqdb_begin does, and nothing is written.
 use Prim.Native.Nat.{ℕ}
 use mathlib.Core.Bool.{cond}
 use mathlib.Core.List.{List}

@@ -29,23 +29,21 @@ pub extern "C" fn cqdb_build_parts(
     ends: &[u64],
     ids: &[u32],
     refusals: &mut [u32],
-    work: &mut [u32],
+    scratch: &mut [u32],
 ) -> BuildAnswer
     ensures answer { λ r. ⌜
         r ≡ buildAnswer mode repeats (now (buf .entry)) (now (names .entry)) (now (ends .entry)) (now (ids .entry))
         (length (now (refusals .entry)))
         ⌝ }
     ensures leaves { λ _. ⌜
-        now (buf .exit)
-        ≡ bufferBuilt mode repeats (now (buf .entry)) (now (names .entry)) (now (ends .entry)) (now (ids .entry))
-        (length (now (refusals .entry)))
+        now (buf .exit) ≡ bufferBuilt mode repeats (now (buf .entry)) (now (names .entry)) (now (ends .entry))
+        (now (ids .entry)) (length (now (refusals .entry)))
         ⌝ }
     ensures answers { λ _. ⌜
-        now (refusals .exit)
-        ≡ answersBuilt mode repeats (now (buf .entry)) (now (names .entry)) (now (ends .entry)) (now (ids .entry))
-        (now (refusals .entry))
+        now (refusals .exit) ≡ answersBuilt mode repeats (now (buf .entry)) (now (names .entry))
+        (now (ends .entry)) (now (ids .entry)) (now (refusals .entry))
         ⌝ }
-    ensures untouched { λ r. ⌜ (0 < r .refusal → now (work .exit) ≡ now (work .entry)) ⌝ }
+    ensures untouched { λ r. ⌜ (0 < r .refusal → now (scratch .exit) ≡ now (scratch .entry)) ⌝ }
 {
     if !known(mode, repeats) {
         return BuildAnswer {
@@ -62,7 +60,7 @@ pub extern "C" fn cqdb_build_parts(
         ends,
         ids,
         &mut *refusals,
-        &mut *work,
+        &mut *scratch,
     );
     match built {
         Built::Image(made) => BuildAnswer {

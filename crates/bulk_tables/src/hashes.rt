@@ -5,8 +5,8 @@ use image::zero::has_zero;
 use packed::key;
 use packed::name_of;
 
-// Stores the hash of each name and counts the names of each table, from counts that are 0. Returns whether no name
-// has a zero byte.
+// Stores the hash of each name and counts the names of each table, from counts that are 0. Returns whether no name has
+// a zero byte.
 pub fn hash_all(bytes: &[u8], ends: &[u64], hashes: &mut [u32], counts: &mut [u32; 256]) -> bool
     requires { ⌜ HashAllPre (now bytes) (now ends) (now hashes) (now counts) ⌝ }
     ensures { λ r. ⌜

@@ -69,7 +69,7 @@ fn insert_by_row(buf: &mut [u8], h: u32, at: u32)
 }
 
 // An id's offset stored in the back array, which begins at `back_offset`; a one-way image has none.
-pub(super) fn store_back(mode: Mode, buf: &mut [u8], back_offset: usize, id: u32, at: u32)
+pub fn store_back(mode: Mode, buf: &mut [u8], back_offset: usize, id: u32, at: u32)
     requires { ⌜ «back_offset» < 4294967296 ⌝ }
     ensures { λ _. ⌜ now (buf .exit) ≡ backStored mode (now (buf .entry)) «back_offset» id at ⌝ }
 {

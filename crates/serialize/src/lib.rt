@@ -10,7 +10,7 @@ use image::Mode;
 
 pub mod counts; // counts.rt: none_above
 pub mod head; // head.rt: clear
-mod insert;
+pub mod insert;
 mod partition;
 mod precomputed;
 pub mod size; // size.rt: the finished size and its parts

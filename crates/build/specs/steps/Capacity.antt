@@ -1,27 +1,22 @@
--- Whether an image of all names has room. No rule stands here: proofs/ joins it to the rules.
-use Prim.Native.Nat.{ℕ, zero, suc, _+_, _*_, _≤_, _<_, max}
+-- Whether an image of all names has room.
+use Prim.Native.Nat.{ℕ, _*_, _≤_, _<_}
 use mathlib.Core.List.{List}
-use lib.ListN.{length}
-use Rattle.image.specs.Image.{headSize, backIn}
+use lib.ListN.{length, take}
 use Rattle.image.specs.declared.Mode.{Mode}
 use Rattle.packed.specs.Names.{beginOf}
-use Rattle.bulk_tables.specs.steps.Partition.{at}
+use Rattle.build.specs.Needs.{bytesNeeded}
 
--- the largest of the first n ids, 0 without any
-unfoldable pub largestTo : List ℕ → ℕ → ℕ
-largestTo ids zero = 0
-largestTo ids (suc n) = max (largestTo ids n) (at ids n)
+-- the bytes that an image of all names needs
+abbrev pub bytesForAll : Mode → List ℕ → List ℕ → ℕ
+bytesForAll mode ends ids = bytesNeeded mode (beginOf ends (length ends)) (take (length ends) ids)
 
--- a buffer of `room` bytes has room for the image of all names: `top` is above every id
+-- a buffer of `room` bytes has them
 pub record RoomForAll (mode : Mode) (ends ids : List ℕ) (room : ℕ) : Type 0 where
-  pub top : ℕ
-  pub ids-below : (i : ℕ) → i < length ends → at ids i < top
-  pub within : headSize + beginOf ends (length ends) + 25 * length ends + 4 * backIn mode top ≤ room
-  pub small : headSize + beginOf ends (length ends) + 25 * length ends + 4 * backIn mode top ≤ 4294967295
+  pub within : bytesForAll mode ends ids ≤ room
+  pub small : bytesForAll mode ends ids ≤ 4294967295
 
 -- the bulk path can be tried: besides there are 6 words of scratch memory a name, and a name
 pub record Capacity (mode : Mode) (ends ids : List ℕ) (room words : ℕ) : Type 0 where
   pub fits : RoomForAll mode ends ids room
-  pub few : length ends ≤ 171798691
   pub scratch : 6 * length ends ≤ words
   pub some : 0 < length ends

@@ -1,7 +1,7 @@
 -- What the functions behind a whole list ask and give. No rule stands here: proofs/ joins it to the rules.
 use Prim.Native.Nat.{ℕ, _+_, _/_, _≤_, _<_}
 use mathlib.Core.Path.{_≡_}
-use mathlib.Core.Bool.{Bool, true, false}
+use mathlib.Core.Bool.{false}
 use mathlib.Core.List.{List, _++_}
 use lib.ListN.{length, drop}
 use Rattle.image.specs.Image.{Entry, headSize}
@@ -14,7 +14,6 @@ use Rattle.writer.specs.Put.{putRefusal, afterPut}
 use Rattle.writer.specs.Close.{closedSize, afterClose}
 use Rattle.lists.specs.Calls.{puts}
 use Rattle.lists.specs.Demand3.{answersOf, afterList}
-use Rattle.bulk_tables.specs.steps.Contracts.{HashesAre}
 use Rattle.index.specs.Index.{slotCount, Right}
 use Rattle.build.specs.declared.Made.{Made}
 use Rattle.build.specs.declared.Built.{Built}
@@ -39,31 +38,19 @@ pub record ListBuilt (mode : Mode) (repeats : Repeats) (buffer bytes ends ids re
   pub leaves : bufferThen ≡ bufferAfter mode repeats buffer bytes ends ids (length refusals)
   pub answers : refusalsThen ≡ answersAfter mode repeats buffer bytes ends ids refusals
 
--- the scratch memory has a slot of two words for each of n names, whose count is a word
-pub record Slots (n words : ℕ) : Type 0 where
-  pub enough : n ≤ words / 2
-  pub count-fits : n ≤ 4294967295
-
-pub record HasSlots (n words : ℕ) (r : Bool) : Type 0 where
-  pub when-true : r ≡ true → Slots n words
-  pub when-false : r ≡ false → Slots n words → ⊥
-
--- the bulk path: r is the size of the image of all names, or 0, and then the buffer is as it was, and if there are
--- slots, the hashes of the names are where their refusals will be
-pub record BulkTried (mode : Mode) (repeats : Repeats) (buffer bytes ends ids refusals : List ℕ) (words : ℕ)
+-- the bulk path: r is the size of the image of all names, or 0, and then the buffer is as it was
+pub record BulkTried (mode : Mode) (repeats : Repeats) (buffer bytes ends ids refusals : List ℕ)
     (r : ℕ) (bufferThen refusalsThen : List ℕ) : Type 0 where
   pub count-fits : 0 < r → length ends ≤ 4294967295
   pub built : 0 < r → ListBuilt mode repeats buffer bytes ends ids refusals
       (Image (record { size = r; accepted = length ends })) bufferThen refusalsThen
   pub kept : r ≡ 0 → bufferThen ≡ buffer
   pub rest : r ≡ 0 → drop (length ends) refusalsThen ≡ drop (length ends) refusals
-  pub hashed : r ≡ 0 → Slots (length ends) words → HashesAre bytes ends refusalsThen
 
 -- how many words of the scratch memory are the index of n names: none, or at least a slot for each name
 pub record IndexWords (n words r : ℕ) : Type 0 where
   pub within : r ≤ words
   pub enough : 0 < r → n ≤ r / 2
-  pub slots : 0 < r → Slots n words
 
 -- a put by the index, where there is one: it is right, and a slot is empty
 pub record PutPre (s : State) (slots : List ℕ) : Type 0 where

@@ -43,10 +43,6 @@ pub record HashAllPre (bytes ends hashes counts : List ℕ) : Type 0 where
   pub rows : length counts ≡ 256
   pub counts-zero : (t : ℕ) → t < 256 → at counts t ≡ 0
 
--- the hashes of all names
-abbrev pub HashesAre : List ℕ → List ℕ → List ℕ → Type 0
-HashesAre bytes ends hashes = (i : ℕ) → i < length ends → at hashes i ≡ key (nth (names bytes ends) i)
-
 -- of the first i names
 pub record Hashed (bytes ends hashes counts : List ℕ) (i : ℕ) : Type 0 where
   pub hashes-are : (j : ℕ) → j < i → at hashes j ≡ key (nth (names bytes ends) j)

@@ -4,7 +4,7 @@ use native.Mathlib.Omega.{arith}
 use mathlib.Core.Path.{_≡_}
 use borrow.Author.Needs.{needs}
 use Rattle.build.specs.Needs.{idsBack}
-use Rattle.build.proofs.Needed.{no-back, back-largest}
+use Rattle.build.proofs.Needed.{no-back}
 use Rattle.build.proofs.needs.back_of.Statement.{statement}
 use Rattle.build.proofs.needs.back_of.Tie as tie
 
@@ -15,7 +15,7 @@ returns-2 : tie.Need-returns-2
 returns-2 c =
     let ids = c .before .before .before .args .ids .now in
     let top = c .largest .result in
-    let is : top + 1 ≡ idsBack ids = omega (arith, c .largest .ensures, back-largest ids (omega (arith, c .before .if1 .left))) in
+    let is : top + 1 ≡ idsBack ids = c .largest .ensures in
     let word : top + 1 ≤ 2 ^ 32 = omega arith in
     (is, word)
 

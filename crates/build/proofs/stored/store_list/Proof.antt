@@ -1,143 +1,76 @@
 -- `build::stored::store_list` meets its contract. The loop's invariant: the entries so far stand one behind the other, and their links in the back array.
 -- Assumes nothing.
-use Prim.Native.Nat.{_-_, _≤_}
+use Prim.Native.Nat.{_-_}
 use native.Mathlib.Omega.{arith}
-use mathlib.Core.Path.{_≡_, refl, sym}
-use lib.ListN.{length}
-use Rattle.packed.specs.Names.{names, beginOf}
-use Rattle.packed.proofs.NameEnds.{placed}
-use Rattle.build.specs.steps.Steps.{entriesListed}
-use Rattle.packed.proofs.NameEnds.{begin-next}
-use Rattle.build.proofs.StoredAll.{Along, along-start, along-length, along-end, along-room, along-turn, area-stored, stored-links, behind-kept}
+use lib.ListN.{length, getD}
+use borrow.Author.Needs.{needs}
+use Rattle.image.specs.Stored.{between}
+use Rattle.build.proofs.StoredAll.{Along, RoomFor, along-start, along-length, along-end, along-room, along-turn, name-placed}
 use Rattle.build.proofs.stored.store_list.Statement.{statement}
 use Rattle.build.proofs.stored.store_list.Tie as tie
 
 abbrev Inv-loop : tie.InvT-loop
-Inv-loop mode at bytes ends ids buf₀ o₀ start₀ i₀ buf o start i =
-    (i ≤ length ends) × (start ≡ beginOf ends i) × Along mode (entriesListed (names bytes ends) ids) buf₀ buf i o
+Inv-loop mode at bytes ends ids buf₀ o₀ start₀ i₀ buf o start i = Along mode bytes ends ids buf₀ buf i o start
 
 abbrev μ-loop : tie.MeasureT-loop
 μ-loop mode at bytes ends ids buf₀ o₀ start₀ i₀ buf o start i = length ends - i
 
+-- ---- places in the code, each told from a later one
+
+abbrev start : tie.At-loop Inv-loop μ-loop → tie.Start Inv-loop μ-loop
+start c = c .before .before .before .before .before
+
+abbrev entered : tie.After-store-arg Inv-loop μ-loop → tie.In-loop Inv-loop μ-loop
+entered c = c .before .before .before .before
+
+abbrev stored : tie.After-slice-known3 Inv-loop μ-loop → tie.After-store Inv-loop μ-loop
+stored c = c .before .before .before .before .before .before
+
+-- ---- the needs
+
 loop-holds : tie.Need-loop-holds Inv-loop μ-loop
-loop-holds c =
-    let s = c .before .before .before .before in
-    let a = s .args in
-    (omega arith, refl, along-start (a .mode) (a .bytes .now) (a .ends .now) (a .ids .now) (a .buf .now) (a .at) (s .pre .ids-long) (s .pre .within) (s .pre .at-is) (s .pre .cleared))
-
-mul-end : tie.Need-mul-end Inv-loop μ-loop
-mul-end c = omega (arith, c .loop-test .taken, c .before .before .before .before .before .before .pre .few)
-
-shared-slice-read-end : tie.Need-shared-slice-read-end Inv-loop μ-loop
-shared-slice-read-end c = c .before .loop-test .taken
+loop-holds c = along-start (c .before .before .before .before .pre)
 
 sub-name : tie.Need-sub-name Inv-loop μ-loop
-sub-name c =
-    let s = c .before .before .before .before .before .before .before in
-    let a = s .args in
-    let l = c .before .before .loop in
-    let p = placed (length (a .bytes .now)) (a .ends .now) (l .i) (s .pre .packed) (c .before .loop-test .taken) in
-    omega (arith, p .rises, p .inside, l .inv .1)
+sub-name c = let l = c .before .before in name-placed (start l .pre) (l .loop .inv) (c .before .loop-test .taken) .0
 
 part-name-start : tie.Need-part-name-start Inv-loop μ-loop
-part-name-start c =
-    let s = c .before .before .before .before .before .before .before in
-    let a = s .args in
-    let l = c .before .before .loop in
-    let p = placed (length (a .bytes .now)) (a .ends .now) (l .i) (s .pre .packed) (c .before .loop-test .taken) in
-    omega (arith, p .rises, p .inside, l .inv .1)
+part-name-start c = let l = c .before .before in name-placed (start l .pre) (l .loop .inv) (c .before .loop-test .taken) .0
 
 part-name-end : tie.Need-part-name-end Inv-loop μ-loop
-part-name-end c =
-    let s = c .before .before .before .before .before .before .before in
-    let a = s .args in
-    let l = c .before .before .loop in
-    let p = placed (length (a .bytes .now)) (a .ends .now) (l .i) (s .pre .packed) (c .before .loop-test .taken) in
-    omega (arith, p .rises, p .inside, l .inv .1)
+part-name-end c = let l = c .before .before in name-placed (start l .pre) (l .loop .inv) (c .before .loop-test .taken) .1
 
-mul-id : tie.Need-mul-id Inv-loop μ-loop
-mul-id c = omega (arith, c .before .before .loop-test .taken, c .before .before .before .before .before .before .before .before .pre .few)
-
-shared-slice-read-id : tie.Need-shared-slice-read-id Inv-loop μ-loop
-shared-slice-read-id c = omega (arith, c .before .before .before .loop-test .taken, c .before .before .before .before .before .before .before .before .before .pre .ids-long)
+-- there is room for the entry and its link
+room : (c : tie.After-store-arg Inv-loop μ-loop) → let l = entered c .before .loop in let a = start (entered c .before) .args in
+    RoomFor (l .o) (a .at) (length (l .buf)) (length (between (a .bytes .now) (l .start) (getD (a .ends .now) (l .i) 0)))
+room c = let e = entered c in along-room (start (e .before) .pre) (e .before .loop .inv) (e .loop-test .taken)
 
 store-requires : tie.Need-store-requires Inv-loop μ-loop
-store-requires c κs =
-    let s = c .before .before .before .before .before .before .before .before .before .before in
-    let a = s .args in
-    let l = c .before .before .before .before .before .loop in
-    let room = along-room (a .mode) (a .bytes .now) (a .ends .now) (a .ids .now) (a .buf .now) (a .at) (s .pre .ids-long) (s .pre .within) (s .pre .at-is) (s .pre .small) (l .buf) (l .i) (l .o) (l .start) (c .before .before .before .before .loop-test .taken) (l .inv .1) (l .inv .2) in
-    (room .entry, omega (arith, room .small))
+store-requires c κs = (room c .entry, omega (arith, room c .small))
 
-cast-store-link : tie.Need-cast-store-link Inv-loop μ-loop
-cast-store-link c =
-    let s = c .before .before .before .before .before .before .before .before .before .before .before .before .before .before in
-    let a = s .args in
-    let l = c .before .before .before .before .before .before .before .before .before .loop in
-    let room = along-room (a .mode) (a .bytes .now) (a .ends .now) (a .ids .now) (a .buf .now) (a .at) (s .pre .ids-long) (s .pre .within) (s .pre .at-is) (s .pre .small) (l .buf) (l .i) (l .o) (l .start) (c .before .before .before .before .before .before .before .before .loop-test .taken) (l .inv .1) (l .inv .2) in
-    omega (arith, room .small)
+cast-store-back : tie.Need-cast-store-back Inv-loop μ-loop
+cast-store-back c = omega (arith, room (c .before .before .before .before) .small)
 
-store-link-requires : tie.Need-store-link-requires Inv-loop μ-loop
-store-link-requires c κs =
-    let s = c .before .before .before .before .before .before .before .before .before .before .before .before .before .before in
-    let a = s .args in
-    let l = c .before .before .before .before .before .before .before .before .before .loop in
-    let room = along-room (a .mode) (a .bytes .now) (a .ends .now) (a .ids .now) (a .buf .now) (a .at) (s .pre .ids-long) (s .pre .within) (s .pre .at-is) (s .pre .small) (l .buf) (l .i) (l .o) (l .start) (c .before .before .before .before .before .before .before .before .loop-test .taken) (l .inv .1) (l .inv .2) in
-    omega (arith, room .link, c .before .before .before .store .kept)
+store-back-requires : tie.Need-store-back-requires Inv-loop μ-loop
+store-back-requires c κs = omega (arith, room (c .before .before .before .before) .link)
 
 add-o : tie.Need-add-o Inv-loop μ-loop
-add-o c =
-    let s = c .before .before .before .before .before .before .before .before .before .before .before .before .before .before .before .before .before in
-    let a = s .args in
-    let l = c .before .before .before .before .before .before .before .before .before .before .before .before .loop in
-    let room = along-room (a .mode) (a .bytes .now) (a .ends .now) (a .ids .now) (a .buf .now) (a .at) (s .pre .ids-long) (s .pre .within) (s .pre .at-is) (s .pre .small) (l .buf) (l .i) (l .o) (l .start) (c .before .before .before .before .before .before .before .before .before .before .before .loop-test .taken) (l .inv .1) (l .inv .2) in
-    omega (arith, room .small)
+add-o c = omega (arith, room (stored c .before) .small)
 
 add-o-2 : tie.Need-add-o-2 Inv-loop μ-loop
-add-o-2 c =
-    let s = c .before .before .before .before .before .before .before .before .before .before .before .before .before .before .before .before .before in
-    let a = s .args in
-    let l = c .before .before .before .before .before .before .before .before .before .before .before .before .loop in
-    let room = along-room (a .mode) (a .bytes .now) (a .ends .now) (a .ids .now) (a .buf .now) (a .at) (s .pre .ids-long) (s .pre .within) (s .pre .at-is) (s .pre .small) (l .buf) (l .i) (l .o) (l .start) (c .before .before .before .before .before .before .before .before .before .before .before .loop-test .taken) (l .inv .1) (l .inv .2) in
-    omega (arith, room .small)
-
-add-i : tie.Need-add-i Inv-loop μ-loop
-add-i c = omega (arith, c .before .before .before .before .before .before .before .before .before .before .before .loop-test .taken, c .before .before .before .before .before .before .before .before .before .before .before .before .before .before .before .before .before .pre .few)
-
-loop-less : tie.Need-loop-less Inv-loop μ-loop
-loop-less c = omega (arith, c .before .before .before .before .before .before .before .before .before .before .before .loop-test .taken)
+add-o-2 c = omega (arith, room (stored c .before) .small)
 
 loop-again : tie.Need-loop-again Inv-loop μ-loop
 loop-again c =
-    let s = c .before .before .before .before .before .before .before .before .before .before .before .before .before .before .before .before .before in
-    let a = s .args in
-    let l = c .before .before .before .before .before .before .before .before .before .before .before .before .loop in
-    let below = c .before .before .before .before .before .before .before .before .before .before .before .loop-test .taken in (
-      omega (arith, below),
-      sym (begin-next (a .ends .now) (l .i)),
-      along-turn (a .mode) (a .bytes .now) (a .ends .now) (a .ids .now) (a .buf .now) (a .at) (s .pre .ids-long) (s .pre .within) (s .pre .at-is) (s .pre .small) (l .buf) (l .i) (l .o) (l .start) below (l .inv .1) (l .inv .2) _ _ (c .before .before .before .before .before .before .store .ensures) (c .before .before .store-link .ensures),
-    )
+    let d = stored c in
+    let e = entered (d .before) in
+    along-turn (start (e .before) .pre) (e .before .loop .inv) (e .loop-test .taken) (d .store .ensures) (c .before .before .store-back .ensures)
 
 same-length : tie.Need-same-length Inv-loop μ-loop
-same-length c =
-    let s = c .before .before .before .before .before .before in
-    let a = s .args in
-    let l = c .before .loop in
-    along-length (a .mode) (a .bytes .now) (a .ends .now) (a .ids .now) (a .buf .now) (a .at) (s .pre .ids-long) (s .pre .within) (s .pre .at-is) (l .buf) (l .i) (l .o) (l .inv .2)
+same-length c = along-length (start (c .before) .pre) (c .before .loop .inv)
 
 returns : tie.Need-returns Inv-loop μ-loop
-returns c =
-    let s = c .before .before .before .before .before .before in
-    let a = s .args in
-    let l = c .before .loop in
-    let es = entriesListed (names (a .bytes .now) (a .ends .now)) (a .ids .now) in
-    let done = along-end (a .mode) (a .bytes .now) (a .ends .now) (a .ids .now) (a .buf .now) (a .at) (s .pre .ids-long) (s .pre .within) (s .pre .at-is) (l .buf) (l .i) (l .o) (c .loop-test .left) (l .inv .2) in
-    record {
-      area = area-stored (a .mode) es (a .buf .now) (l .buf) done;
-      linked = stored-links (a .mode) (a .bytes .now) (a .ends .now) (a .ids .now) (a .buf .now) (a .at) (s .pre .ids-long) (s .pre .within) (s .pre .at-is) (l .buf) done;
-      behind = behind-kept (a .mode) es (a .buf .now) (l .buf) done;
-      long = along-length (a .mode) (a .bytes .now) (a .ends .now) (a .ids .now) (a .buf .now) (a .at) (s .pre .ids-long) (s .pre .within) (s .pre .at-is) (l .buf) (l .i) (l .o) (l .inv .2);
-    }
+returns c = along-end (start (c .before) .pre) (c .before .loop .inv) (omega (arith, c .loop-test .left))
 
 pub store-list-spec : {M : Type 1} → statement M
 store-list-spec =
@@ -146,20 +79,20 @@ store-list-spec =
     Inv-loop
     μ-loop
     loop-holds
-    mul-end
-    shared-slice-read-end
+    (λ c. search needs)
+    (λ c. search needs)
     sub-name
     part-name-start
     part-name-end
-    mul-id
-    shared-slice-read-id
+    (λ c. search needs)
+    (λ c. search needs)
     store-requires
-    cast-store-link
-    store-link-requires
+    cast-store-back
+    store-back-requires
     add-o
     add-o-2
-    add-i
-    loop-less
+    (λ c. search needs)
+    (λ c. search needs)
     loop-again
     same-length
     returns)

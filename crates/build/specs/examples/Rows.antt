@@ -38,9 +38,11 @@ abbrev pub buildRows : List Row
 buildRows =
     -- A, B, A again and a name with a zero byte, with repeats off and on
     row Off 4096 (65 ∷ 66 ∷ 65 ∷ 67 ∷ 0 ∷ []) (1 ∷ 2 ∷ 3 ∷ 5 ∷ []) (0 ∷ 1 ∷ 2 ∷ 3 ∷ [])
-    (0 ∷ 0 ∷ 16 ∷ 13 ∷ []) (made 2132 2)
+    (0 ∷ 0 ∷ 16 ∷ 13 ∷ [])
+    (made 2132 2)
     ∷ row On 4096 (65 ∷ 66 ∷ 65 ∷ 67 ∷ 0 ∷ []) (1 ∷ 2 ∷ 3 ∷ 5 ∷ []) (0 ∷ 1 ∷ 2 ∷ 3 ∷ [])
-    (0 ∷ 0 ∷ 0 ∷ 13 ∷ []) (made 2162 3)
+    (0 ∷ 0 ∷ 0 ∷ 13 ∷ [])
+    (made 2162 3)
     -- a name refused for its zero byte is not held, and one without room is not either
     ∷ row Off 4096 (97 ∷ 0 ∷ 97 ∷ 0 ∷ []) (2 ∷ 4 ∷ []) (0 ∷ 0 ∷ []) (13 ∷ 13 ∷ []) (made 2072 0)
     ∷ row Off 2102 (66 ∷ 66 ∷ 66 ∷ []) (1 ∷ 2 ∷ 3 ∷ []) (1000 ∷ 0 ∷ 0 ∷ [])

@@ -1,5 +1,5 @@
 -- What is proved of a whole list besides the call's promise (`build-holds` in proofs/Theorem). No definition here
--- speaks of the lent memory: the answers, the size and the bytes do not depend on it.
+-- speaks of the scratch memory: the answers, the size and the bytes do not depend on it.
 use Prim.Native.Nat.{ℕ, _≤_}
 use mathlib.Core.Path.{_≡_}
 use mathlib.Core.List.{List}

@@ -1,0 +1,3 @@
+-- What is proved of the rules: statements alone, whose proofs stand in proofs/.
+pub mod Builds
+pub mod Needs
