@@ -38,7 +38,7 @@
      name_on                         10, and each window is read once
      next_change                     3 for each id from the first one to the change
      moved                           13 to 19
-     round                           13 for each name                                                11
+     round                           13 for each name                                                14
      name_round                      1.2 for each id
      readings_agree                  3 for each id below the back size
      page, page_part                 7 for each line
@@ -54,7 +54,7 @@
      close                           11, 16 for each entry                                           39
      grown                           12
      build_needs                     0.2 for each id
-     build, 7 words for each name    13, 18 for each name                                            4
+     build, 6 words for each name    13, 18 for each name                                            4
      build, 3 words for each name    20, 38 for each name                                            41
      build, no words, repeats on     23, 32 for each name                                            41
      build, no words, repeats off    as put                                                          41

@@ -55,7 +55,7 @@ static void built(size_t words, uint32_t repeats) {
     cqdb_build_answer a = cqdb_build(CQDB_TWOWAY, repeats, buf, sizeof buf, names, sizeof names, ends, ids, NAMES, refusals, NAMES, work, words);
     kept = a.accepted == NAMES ? a.size : 0;
 }
-static void build_7(void) { built(7 * NAMES, CQDB_REPEATS_OFF); }
+static void build_6(void) { built(6 * NAMES, CQDB_REPEATS_OFF); }
 static void build_3(void) { built(3 * NAMES, CQDB_REPEATS_OFF); }
 static void build_on(void) { built(0, CQDB_REPEATS_ON); }
 static void build_off(void) { built(0, CQDB_REPEATS_OFF); }
@@ -81,7 +81,7 @@ static const struct {
              {"size_hint", size_hint}, {"home", home}, {"canonical", canonical}, {"one_to_one", one_to_one}, {"average", average}, {"lengths", lengths}, {"page", print}, {"page_part", page_part}, {"grown", grown},
              {"build_needs", build_needs},
              {"round", round_}, {"name_round", name_round}, {"begin", begin}, {"put, repeats on", put_on}, {"put, repeats off", put_off},
-             {"index", index_}, {"put_indexed", put_indexed}, {"index_words", index_words}, {"close", close_}, {"build, 7 words for each name", build_7}, {"build, 3 words for each name", build_3},
+             {"index", index_}, {"put_indexed", put_indexed}, {"index_words", index_words}, {"close", close_}, {"build, 6 words for each name", build_6}, {"build, 3 words for each name", build_3},
              {"build, no words, repeats on", build_on}, {"build, no words, repeats off", build_off}, {"load", load}, {"name_on", name_on},
              {"next_change", next_change}, {"moved", moved}, {"bundle_append", bundle_append}, {"bundle_open", bundle_open}, {"bundle_count", bundle_count}, {"sheet_write", sheet_write},
              {"sheet_read", sheet_read}, {"references_first", references_first}};
@@ -123,7 +123,7 @@ int main(void) {
         ends[i] = 9 * ((uint64_t)i + 1);
         ids[i] = i;
     }
-    build_7();
+    build_6();
     size = (size_t)kept;
     memcpy(image, buf, size);
     memcpy(file, buf, size);

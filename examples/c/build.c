@@ -82,7 +82,7 @@ int main(void) {
     static uint8_t buf[4096], single[4096];
     uint32_t refusals[5] = {9, 9, 9, 9, 9}, work[24];
     cqdb_build_needs_answer needs = cqdb_build_needs(CQDB_TWOWAY, sizeof(names), ids, 4);
-    expect(needs.bytes == 2072 + 5 + 4 * 25 + 4 * 4 && needs.words == 28, "the list needs these bytes and words");
+    expect(needs.bytes == 2072 + 5 + 4 * 25 + 4 * 4 && needs.words == 24, "the list needs these bytes and words");
 
     memset(work, 0xff, sizeof(work));
     cqdb_build_answer a = cqdb_build(CQDB_TWOWAY, CQDB_REPEATS_OFF, buf, needs.bytes, names, sizeof(names), ends, ids, 4, refusals, 5, work, 24);

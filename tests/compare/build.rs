@@ -134,10 +134,10 @@ fn accepted_list(random: &mut Random, names: &Names, tally: &mut Tally) -> usize
         3 * n,
         (4 * n).saturating_sub(1),
         4 * n,
-        (7 * n).saturating_sub(1),
-        7 * n,
-        7 * n,
-        7 * n + 7,
+        (6 * n).saturating_sub(1),
+        6 * n,
+        6 * n,
+        6 * n + 7,
     ]);
     let mut work = words(random, much);
     let list = List::new(&puts);
@@ -193,7 +193,7 @@ fn refused_list(random: &mut Random, names: &Names, tally: &mut Tally) {
         }
         due = 2;
     }
-    let (buf, answers, work) = (random.bytes(len), words(random, places), words(random, 7 * n));
+    let (buf, answers, work) = (random.bytes(len), words(random, places), words(random, 6 * n));
     let mut after = work.clone();
     let given = built(mode, repeats, buf.clone(), list.joined(), answers.clone(), &mut after);
     let answer = BuildAnswer { refusal: due, size: 0, accepted: 0 };
