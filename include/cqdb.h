@@ -54,7 +54,7 @@
      close                           11, 16 for each entry                                           39
      grown                           12
      build_needs                     0.2 for each id
-     build, 6 words for each name    13, 18 for each name                                            4
+     build, 6 words for each name    13, 18 for each name                                            39
      build, 3 words for each name    20, 38 for each name                                            41
      build, no words, repeats on     23, 32 for each name                                            41
      build, no words, repeats off    as put                                                          41
