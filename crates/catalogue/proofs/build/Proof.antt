@@ -12,11 +12,23 @@ returns c =
     let a = c .before .before .before .before .before .before .before .before .args in
     λ big enough. begin-accepted (a .buf .now) big _ (ap begunOf (sym (c .enum-told .given .1)) ∙ c .before .before .begin .ensures .0)
 
+abbrev after-put-input-from-close : tie.After-close → tie.After-put-input
+after-put-input-from-close c = c .before .before .before .before .before .before .before .before .before
+
+abbrev after-begin-from-buf : tie.After-buf → tie.After-begin
+after-begin-from-buf c = c .before .before .before .before .before .before .before .before .before
+
+abbrev after-fresh-from-room : tie.After-room → tie.After-fresh
+after-fresh-from-room c = c .before .before .before .before .before .before .before .before .before
+
+abbrev start-from-known-told : tie.After-known-told → tie.Start
+start-from-known-told c = c .before .before .before .before .before .before .before .before .before
+
 abbrev after-put-input : tie.After-close → tie.After-put-input
-after-put-input c = c .before .before .before .before .before .before .before .before .before
+after-put-input c = after-put-input-from-close c
 
 abbrev after-begin : tie.After-buf → tie.After-begin
-after-begin c = c .before .before .before .before .before .before .before .before .before
+after-begin c = after-begin-from-buf c
 
 abbrev after-begin-from-slice-known4 : tie.After-slice-known4 → tie.After-begin
 after-begin-from-slice-known4 c = after-begin (c .before)
@@ -25,13 +37,13 @@ abbrev after-begin-from-close-arg2 : tie.After-close-arg2 → tie.After-begin
 after-begin-from-close-arg2 c = after-begin-from-slice-known4 (c .before .before .before .before .before .before)
 
 abbrev after-fresh : tie.After-room → tie.After-fresh
-after-fresh c = c .before .before .before .before .before .before .before .before .before
+after-fresh c = after-fresh-from-room c
 
 abbrev after-fresh-from-close-arg2 : tie.After-close-arg2 → tie.After-fresh
 after-fresh-from-close-arg2 c = after-fresh (c .before .before .before .before .before)
 
 abbrev start : tie.After-known-told → tie.Start
-start c = c .before .before .before .before .before .before .before .before .before
+start c = start-from-known-told c
 
 abbrev start-from-put-input-arg : tie.After-put-input-arg → tie.Start
 start-from-put-input-arg c = start (c .before)

@@ -5,11 +5,17 @@ use borrow.Author.Needs.{needs}
 use Rattle.catalogue.proofs.main.Statement.{statement}
 use Rattle.catalogue.proofs.main.Tie as tie
 
+abbrev after-large-buffer2-from-piece2 : tie.After-piece2 → tie.After-large-buffer2
+after-large-buffer2-from-piece2 c = c .before .before .before .before .before .before .before .before .before
+
+abbrev after-large-buffer-from-room2 : tie.After-room2 → tie.After-large-buffer
+after-large-buffer-from-room2 c = c .before .before .before .before .before .before .before .before .before
+
 abbrev after-large-buffer2 : tie.After-piece2 → tie.After-large-buffer2
-after-large-buffer2 c = c .before .before .before .before .before .before .before .before .before
+after-large-buffer2 c = after-large-buffer2-from-piece2 c
 
 abbrev after-large-buffer : tie.After-room2 → tie.After-large-buffer
-after-large-buffer c = c .before .before .before .before .before .before .before .before .before
+after-large-buffer c = after-large-buffer-from-room2 c
 
 print-image-requires : tie.Need-print-image-requires
 print-image-requires c κs =

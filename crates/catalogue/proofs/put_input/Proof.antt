@@ -32,14 +32,20 @@ loop-less c = omega arith
 abbrev at-loop : tie.After-slice-known7 Inv-loop μ-loop → tie.At-loop Inv-loop μ-loop
 at-loop c = c .before .before .before .before .before .before .before
 
+abbrev at-loop-from-take-piece-arg-2 : tie.After-take-piece-arg Inv-loop μ-loop → tie.At-loop Inv-loop μ-loop
+at-loop-from-take-piece-arg-2 c = c .before .before .before .before .before .before .before .before .before
+
+abbrev start-from-end-input : tie.After-end-input Inv-loop μ-loop → tie.Start Inv-loop μ-loop
+start-from-end-input c = c .before .before .before .before .before .before .before .before .before
+
 abbrev at-loop-from-take-piece-arg : tie.After-take-piece-arg Inv-loop μ-loop → tie.At-loop Inv-loop μ-loop
-at-loop-from-take-piece-arg c = c .before .before .before .before .before .before .before .before .before
+at-loop-from-take-piece-arg c = at-loop-from-take-piece-arg-2 c
 
 abbrev at-loop-from-take-piece-arg3 : tie.After-take-piece-arg3 Inv-loop μ-loop → tie.At-loop Inv-loop μ-loop
 at-loop-from-take-piece-arg3 c = at-loop-from-take-piece-arg (c .before .before)
 
 abbrev start : tie.After-end-input Inv-loop μ-loop → tie.Start Inv-loop μ-loop
-start c = c .before .before .before .before .before .before .before .before .before
+start c = start-from-end-input c
 
 loop-again : tie.Need-loop-again Inv-loop μ-loop
 loop-again c =

@@ -8,8 +8,14 @@ use borrow.Author.Needs.{needs}
 use Rattle.changes.proofs.differs.Statement.{statement}
 use Rattle.changes.proofs.differs.Tie as tie
 
+abbrev after-to-str-from-known-told2 : tie.After-known-told2 → tie.After-to-str
+after-to-str-from-known-told2 c = c .before .before .before .before .before .before .before
+
+abbrev start-from-to-str2-2 : tie.After-to-str2 → tie.Start
+start-from-to-str2-2 c = c .before .before .before .before .before .before .before
+
 abbrev after-to-str : tie.After-known-told2 → tie.After-to-str
-after-to-str c = c .before .before .before .before .before .before .before
+after-to-str c = after-to-str-from-known-told2 c
 
 abbrev after-start : tie.After-same → tie.After-start
 after-start c = c .before .before .before .before .before .before .before .before
@@ -18,7 +24,7 @@ abbrev start : tie.After-to-str3 → tie.Start
 start c = c .before .before .before .before .before .before
 
 abbrev start-from-to-str2 : tie.After-to-str2 → tie.Start
-start-from-to-str2 c = c .before .before .before .before .before .before .before
+start-from-to-str2 c = start-from-to-str2-2 c
 
 add-same : tie.Need-add-same
 add-same c =

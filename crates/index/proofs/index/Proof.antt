@@ -19,10 +19,22 @@ returns-2 c =
     let r = c .before .before .before .close-refusal in
     index-full (stateWith (a .w) (a .counts .now) (a .buf .now)) (a .slots .now) (r .result) (r .ensures) (c .before .before .if1 .left) (c .if2 .taken)
 
+abbrev after-close-refusal : tie.After-fill-arg → tie.After-close-refusal
+after-close-refusal c = c .before .before .before .before .before .before .before .before
+
+abbrev start : tie.After-slots → tie.Start
+start c = c .before .before .before .before .before .before .before .before .before
+
+abbrev else2 : tie.After-slice-known3 → tie.Else2
+else2 c = c .before .before .before .before .before .before .before .before
+
+abbrev else1 : tie.After-slots2 → tie.Else1
+else1 c = c .before .before .before .before .before .before .before .before .before
+
 fill-requires : tie.Need-fill-requires
 fill-requires c κs =
-    let a = c .before .before .before .before .before .before .before .before .before .before .before .args in
-    let r = c .before .before .before .before .before .before .before .before .close-refusal in
+    let a = start (c .before .before) .args in
+    let r = after-close-refusal c .close-refusal in
     let cleared = c .before .before .before .clear in
     let kept = cleared .kept .0 in
     fillable (a .w) (a .counts .now) (a .buf .now) (cleared .last .0) (sym (r .ensures) ∙ c .before .before .before .before .before .before .before .if1 .left)
@@ -30,11 +42,11 @@ fill-requires c κs =
 
 returns-3 : tie.Need-returns-3
 returns-3 c =
-    let a = c .before .before .before .before .before .before .before .before .before .before .before .before .before .before .args in
-    let r = c .before .before .before .before .before .before .before .before .before .before .before .close-refusal in
+    let a = start (c .before .before .before .before .before) .args in
+    let r = after-close-refusal (c .before .before .before) .close-refusal in
     let cleared = c .before .before .before .before .before .before .clear in
-    let left = c .before .before .before .before .before .before .before .before .if2 .left in
-    let none = c .before .before .before .before .before .before .before .before .before .before .if1 .left in
+    let left = else2 c .if2 .left in
+    let none = else1 (c .before) .if1 .left in
     index-made (stateWith (a .w) (a .counts .now) (a .buf .now)) (a .slots .now) (r .result) (r .ensures) none (cleared .last .0) _ (cleared .kept .0)
     (λ i h. cleared .ensures .1 i h) (c .before .before .fill .ensures) (omega (arith, left))
 

@@ -27,9 +27,12 @@ returns-2 c =
     let w = c .before .whole in
     refuses-broken buf (a .end) image (c .before .before .before .if1 .left) (sym (w .ensures) ∙ not-true (w .result) (c .if2 .taken))
 
+abbrev start-from-unfit : tie.After-unfit → tie.Start
+start-from-unfit c = c .before .before .before .before .before .before .before
+
 returns-3 : tie.Need-returns-3
 returns-3 c =
-    let a = c .before .before .before .before .before .before .before .before .args in
+    let a = start-from-unfit (c .before) .args in
     let buf = a .buf .now in
     let image = a .image .now in
     let w = c .before .before .before .whole in
@@ -37,7 +40,7 @@ returns-3 c =
     refuses-unfit buf (a .end) image (c .before .before .before .before .before .if1 .left) walked (sym (c .before .unfit .ensures) ∙ c .if3 .taken)
 
 abbrev start : tie.Else3 → tie.Start
-start c = c .before .before .before .before .before .before .before .before
+start c = start-from-unfit (c .before)
 
 returns-4 : tie.Need-returns-4
 returns-4 c =

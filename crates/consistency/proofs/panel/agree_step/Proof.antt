@@ -20,16 +20,19 @@ inside c =
 shown-length-requires : tie.Need-shown-length-requires
 shown-length-requires c κs = inside c
 
+abbrev start : tie.After-shown-length → tie.Start
+start c = c .before .before .before .before .before .before
+
 returns : tie.Need-returns
 returns c =
-    let a = c .before .before .before .before .before .before .before .args in
+    let a = start (c .before) .args in
     let place = c .before .before .before .start .given in
     let told = ap namingOf (sym (place .1)) ∙ c .before .before .before .before .before .to-str .ensures in
     agree-step-same (a .image .now) (a .id) (place .0 .0) (place .0 .1 .0) told (inside (c .before .before)) (c .before .shown-length .result) (c .before .shown-length .ensures) (c .if1 .taken)
 
 returns-2 : tie.Need-returns-2
 returns-2 c =
-    let a = c .before .before .before .before .before .before .before .args in
+    let a = start (c .before) .args in
     let place = c .before .before .before .start .given in
     let told = ap namingOf (sym (place .1)) ∙ c .before .before .before .before .before .to-str .ensures in
     agree-step-differs (a .image .now) (a .id) (place .0 .0) (place .0 .1 .0) told (inside (c .before .before)) (c .before .shown-length .result) (c .before .shown-length .ensures) (c .if1 .left)

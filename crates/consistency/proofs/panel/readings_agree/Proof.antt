@@ -24,9 +24,12 @@ loop-holds c =
     let hint = c .size-hint .ensures ∙ ap (upperHint image) (c .before .iter .ensures) in
     (omega arith, ap (all (agreeOn image) 0) whole ∙ agree-hinted image n hint)
 
+abbrev start : tie.After-agree-step Inv-loop μ-loop → tie.Start Inv-loop μ-loop
+start c = c .before .before .before .before .before .before
+
 returns : tie.Need-returns Inv-loop μ-loop
 returns c =
-    let image = c .before .before .before .before .before .before .before .args .image .now in
+    let image = start (c .before) .args .image .now in
     let of-loop = c .before .before .before .loop in
     let n = c .before .before .before .before .size-hint .result in
     let less = c .before .before .loop-test .taken in
@@ -36,7 +39,7 @@ returns c =
 
 loop-less : tie.Need-loop-less Inv-loop μ-loop
 loop-less c =
-    let image = c .before .before .before .before .before .before .before .args .image .now in
+    let image = start (c .before) .args .image .now in
     let of-loop = c .before .before .before .loop in
     let look = c .before .agree-step in
     let less = c .before .before .loop-test .taken in
@@ -45,7 +48,7 @@ loop-less c =
 
 loop-again : tie.Need-loop-again Inv-loop μ-loop
 loop-again c =
-    let image = c .before .before .before .before .before .before .before .args .image .now in
+    let image = start (c .before) .args .image .now in
     let of-loop = c .before .before .before .loop in
     let n = c .before .before .before .before .size-hint .result in
     let less = c .before .before .loop-test .taken in

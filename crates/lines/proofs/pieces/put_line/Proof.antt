@@ -13,11 +13,17 @@ use Rattle.lines.proofs.pieces.put_line.Tie as tie
 abbrev after-parse-line : tie.After-slice-known2 → tie.After-parse-line
 after-parse-line c = c .before .before .before .before .before .before .before .before .before
 
+abbrev after-id-from-result : tie.After-result → tie.After-id
+after-id-from-result c = c .before .before .before .before .before .before .before .before
+
+abbrev start-from-put-arg2 : tie.After-put-arg2 → tie.Start
+start-from-put-arg2 c = c .before .before .before .before .before .before .before .before
+
 abbrev after-id : tie.After-result → tie.After-id
-after-id c = c .before .before .before .before .before .before .before .before
+after-id c = after-id-from-result c
 
 abbrev start : tie.After-put-arg2 → tie.Start
-start c = c .before .before .before .before .before .before .before .before
+start c = start-from-put-arg2 c
 
 sub-put : tie.Need-sub-put
 sub-put c =

@@ -31,11 +31,20 @@ add-i c = omega arith
 loop-less : tie.Need-loop-less Inv-loop μ-loop
 loop-less c = omega arith
 
+abbrev at-loop-from-room : tie.After-room Inv-loop μ-loop → tie.At-loop Inv-loop μ-loop
+at-loop-from-room c = c .before .before .before .before .before .before .before .before .before
+
+abbrev in-loop : tie.After-slice-known4 Inv-loop μ-loop → tie.In-loop Inv-loop μ-loop
+in-loop c = c .before .before .before .before .before .before .before .before .before
+
+abbrev start-from-shared-slice-known2 : tie.After-shared-slice-known2 Inv-loop μ-loop → tie.Start Inv-loop μ-loop
+start-from-shared-slice-known2 c = c .before .before .before .before .before .before .before .before .before
+
 abbrev at-loop : tie.After-room Inv-loop μ-loop → tie.At-loop Inv-loop μ-loop
-at-loop c = c .before .before .before .before .before .before .before .before .before
+at-loop c = at-loop-from-room c
 
 abbrev start : tie.After-shared-slice-known2 Inv-loop μ-loop → tie.Start Inv-loop μ-loop
-start c = c .before .before .before .before .before .before .before .before .before
+start c = start-from-shared-slice-known2 c
 
 loop-again : tie.Need-loop-again Inv-loop μ-loop
 loop-again c =
@@ -43,7 +52,7 @@ loop-again c =
     let piece = start (c .before .before .before .before .before) .args .piece .now in (
       omega arith,
       ap (λ (g : Gathering). takePiece g (drop (at .i + 1) piece)) (c .before .before .before .before .take-byte .ensures)
-          ∙ sym (piece-turn (gathering (at .after) (at .counts) (at .buf) (at .room)) piece (at .i) (c .before .before .before .before .before .before .before .before .before .loop-test .taken))
+          ∙ sym (piece-turn (gathering (at .after) (at .counts) (at .buf) (at .room)) piece (at .i) (in-loop c .loop-test .taken))
           ∙ at .inv .1,
       search needs,
       search needs,

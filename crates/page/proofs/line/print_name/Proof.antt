@@ -6,11 +6,17 @@ use Rattle.page.proofs.Fields.{name-printed}
 use Rattle.page.proofs.line.print_name.Statement.{statement}
 use Rattle.page.proofs.line.print_name.Tie as tie
 
+abbrev after-repeat-from-mark : tie.After-mark → tie.After-repeat
+after-repeat-from-mark c = c .before .before .before .before .before .before .before .before .before
+
+abbrev start-from-show-all-arg2 : tie.After-show-all-arg2 → tie.Start
+start-from-show-all-arg2 c = c .before .before .before .before .before .before .before .before .before
+
 abbrev after-repeat : tie.After-mark → tie.After-repeat
-after-repeat c = c .before .before .before .before .before .before .before .before .before
+after-repeat c = after-repeat-from-mark c
 
 abbrev start : tie.After-show-all-arg2 → tie.Start
-start c = c .before .before .before .before .before .before .before .before .before
+start c = start-from-show-all-arg2 c
 
 slice-aggregate-show-all : tie.Need-slice-aggregate-show-all
 slice-aggregate-show-all c =

@@ -39,9 +39,12 @@ part-same-end c =
     let of-broken = c .before .before .broken in
     omega (arith, unbroken image (a .at) (sym (of-broken .ensures) ∙ c .before .if1 .left), c .word .ensures)
 
+abbrev start : tie.After-same → tie.Start
+start c = c .before .before .before .before .before .before .before
+
 word-requires-2 : tie.Need-word-requires-2
 word-requires-2 c κs =
-    let a = c .before .before .before .before .before .before .before .before .args in
+    let a = start (c .before) .args in
     let image = a .image .now in
     let of-broken = c .before .before .before .before .before .broken in
     let of-if1 = c .before .before .before .before .if1 in
@@ -63,7 +66,7 @@ returns-2 c =
 
 returns-3 : tie.Need-returns-3
 returns-3 c =
-    let a = c .before .before .before .before .before .before .before .before .args in
+    let a = start (c .before) .args in
     let image = a .image .now in
     let name = a .name .now in
     let of-broken = c .before .before .before .before .before .broken in

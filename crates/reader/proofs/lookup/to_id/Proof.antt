@@ -35,9 +35,12 @@ to-id-hashed-requires c κs =
     let a = c .before .before .before .before .before .before .before .before .before .args in
     rw (whole (a .image .now)) (c .before .before .before .before .if1 .left)
 
+abbrev start : tie.After-known-told → tie.Start
+start c = c .before .before .before .before .before .before .before .before .before
+
 returns-2 : tie.Need-returns-2
 returns-2 c =
-    let a = c .before .before .before .before .before .before .before .before .before .before .args in
+    let a = start (c .before) .args in
     let image = a .image .now in
     let name = a .name .now in
     let of-hash = c .before .before .before .before .name-hash in

@@ -17,14 +17,20 @@ use borrow.Author.Needs.{needs}
 use Rattle.reader.proofs.opening.open.Statement.{statement}
 use Rattle.reader.proofs.opening.open.Tie as tie
 
+abbrev else1 : tie.After-some-leaves → tie.Else1
+else1 c = c .before .before .before .before .before .before
+
+abbrev start : tie.After-some-leaves → tie.Start
+start c = else1 c .before .before
+
 -- where no table leaves the image, the back array alone decides
 abbrev image-of : tie.Else4 → List ℕ
-image-of c = c .before .before .before .before .before .before .before .before .before .args .image .now
+image-of c = start (c .before) .args .image .now
 
 passed : (c : tie.Else4) (b : Bool) → (ltb 0 (backOffsetAt (image-of c)) && backLeaves (image-of c)) ≡ b
     → cond b (refusal 8) (value (halves (image-of c) 0 256 % 2 ^ 32)) ≡ opening (image-of c)
 passed c b e =
-    let of-if1 = c .before .before .before .before .before .before .before .if1 in
+    let of-if1 = else1 (c .before) .if1 in
     let of-has-letters = c .before .before .before .before .before .before .has-letters in
     let of-if2 = c .before .before .before .before .before .if2 in
     let of-word = c .before .before .before .before .word in
@@ -62,9 +68,9 @@ returns-3 c =
 
 returns-4 : tie.Need-returns-4
 returns-4 c =
-    let a = c .before .before .before .before .before .before .before .before .before .args in
+    let a = start (c .before) .args in
     let image = a .image .now in
-    let of-if1 = c .before .before .before .before .before .before .before .if1 in
+    let of-if1 = else1 (c .before) .if1 in
     let of-has-letters = c .before .before .before .before .before .before .has-letters in
     let of-if2 = c .before .before .before .before .before .if2 in
     let of-word = c .before .before .before .before .word in

@@ -19,14 +19,20 @@ fits c =
 part-copy-front-end : tie.Need-part-copy-front-end
 part-copy-front-end c = let inside = fits (c .before .before) .inside in omega arith
 
+abbrev start : tie.After-copy-front-arg2 → tie.Start
+start c = c .before .before .before .before .before .before .before .before
+
+abbrev else1 : tie.After-insert-pairs-arg2 → tie.Else1
+else1 c = c .before .before .before .before .before .before .before .before
+
 copy-front-requires : tie.Need-copy-front-requires
 copy-front-requires c κs =
     let few = fits (c .before .before .before) .few in
-    simp length-take (omega (arith, c .before .before .before .before .before .before .before .before .pre .copy-long))
+    simp length-take (omega (arith, start c .pre .copy-long))
 
 insert-pairs-requires : tie.Need-insert-pairs-requires
 insert-pairs-requires c κs =
-    let e = c .before .before .before .before .before .before .before .before in
+    let e = else1 c in
     let few = fits e .few in
     record {
       few = few;
@@ -36,7 +42,7 @@ insert-pairs-requires c κs =
 
 returns-2 : tie.Need-returns-2
 returns-2 c =
-    let e = c .before .before .before .before .before .before .before .before .before .before .before in
+    let e = else1 (c .before .before .before) in
     let a = e .before .before .before .before .before .args in
     let inside = fits e .inside in
     let few = fits e .few in

@@ -5,9 +5,15 @@ use borrow.Author.Needs.{needs}
 use Rattle.serialize.proofs.tables.insert_all.Statement.{statement}
 use Rattle.serialize.proofs.tables.insert_all.Tie as tie
 
+abbrev then1 : tie.After-slice-known3 → tie.Then1
+then1 c = c .before .before .before .before .before .before .before .before
+
+abbrev else1 : tie.After-slice-known5 → tie.Else1
+else1 c = c .before .before .before .before .before .before .before .before
+
 returns : tie.Need-returns
 returns c =
-    let way = c .before .before .before .before .before .before .before .before in
+    let way = then1 c in
     let a = way .before .before .before .args in
     filled-by-tables (a .mode) (a .back-offset) (a .end) (a .entries) (a .size) (a .counts .now) (a .buf .now)
     (sym (way .before .partitions .ensures) ∙ way .if1 .taken) (c .before .before .before .before .before .before .clear .ensures)
@@ -15,7 +21,7 @@ returns c =
 
 returns-2 : tie.Need-returns-2
 returns-2 c =
-    let way = c .before .before .before .before .before .before .before .before in
+    let way = else1 c in
     let a = way .before .before .before .args in
     filled-singly (a .mode) (a .back-offset) (a .end) (a .entries) (a .size) (a .counts .now) (a .buf .now)
     (sym (way .before .partitions .ensures) ∙ way .if1 .left) (c .before .before .before .before .before .before .clear2 .ensures)

@@ -40,14 +40,20 @@ returns-2 c =
     let n = le-ltb 65535 (length (lists s .references)) (omega (arith, c .before .if1 .left)) in
     refused s (writing-by (length (buf s)) (lists s) false true _ _ n (lt-ltb 65535 (length (lists s .walls)) (omega (arith, c .if2 .taken))) refl refl)
 
+abbrev after-put-section-from-buf3 : tie.After-buf3 → tie.After-put-section
+after-put-section-from-buf3 c = c .before .before .before .before .before .before .before .before .before
+
+abbrev else4-from-put-section-arg3 : tie.After-put-section-arg3 → tie.Else4
+else4-from-put-section-arg3 c = c .before .before .before .before .before .before .before .before .before
+
 abbrev after-put-section : tie.After-buf3 → tie.After-put-section
-after-put-section c = c .before .before .before .before .before .before .before .before .before
+after-put-section c = after-put-section-from-buf3 c
 
 abbrev start-from-else2 : tie.Else2 → tie.Start
 start-from-else2 c = c .before .before .before .before .before .before
 
 abbrev else4 : tie.After-put-section-arg3 → tie.Else4
-else4 c = c .before .before .before .before .before .before .before .before .before
+else4 c = else4-from-put-section-arg3 c
 
 returns-3 : tie.Need-returns-3
 returns-3 c =
