@@ -89,8 +89,8 @@ fn series(costs: &[(usize, Costs)], of: impl Fn(&Costs) -> &[Option<f64>; 3], na
 fn main() {
     let numbers = [(256, 3000), (1 << 10, 1000), (1 << 12, 400), (1 << 14, 100), (1 << 16, 30), (1 << 18, 12), (1 << 20, 7)];
     let costs: Vec<(usize, Costs)> = numbers.into_iter().map(|(n, repetitions)| (n, measure(n, repetitions))).collect();
-    let lookups = series(&costs, |costs| &costs.lookups, ["ours", "the Rust", "tinycdb"]);
-    let builds = series(&costs, |costs| &costs.builds, ["ours, one call", "the Rust", "tinycdb, into a file"]);
+    let lookups = series(&costs, |costs| &costs.lookups, ["Lithwennog", "the Rust", "tinycdb"]);
+    let builds = series(&costs, |costs| &costs.builds, ["Lithwennog, one call", "the Rust", "tinycdb, into a file"]);
     print!("{}", chart::svg(&[
         Panel { title: "Looking up a present name", series: lookups },
         Panel { title: "Building, for each name", series: builds },
