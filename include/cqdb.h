@@ -535,7 +535,7 @@ cqdb_build_answer cqdb_build_parts(uint32_t mode, uint32_t repeats, uint8_t *buf
 
    The words at work are scratch memory, lent for speed: how many there are, and what they hold, changes no answer, and what they
    hold afterwards is unspecified. What a list of n names costs, by the words and by the list:
-   - 7n words, and room in the buffer for all names: linear. All tables are made first, then the image is written in one pass. Where
+   - 6n words, and room in the buffer for all names: linear. All tables are made first, then the image is written in one pass. Where
      a name is refused, the names are put one by one instead. That is linear, too: when measured, 2.1 times the time of a list
      whose names are all accepted at 4,096 names, 2.4 times at 100,000, some four times at 1,000,000.
    - 4n words: linear. Each put looks into an index of the names. There is an index from 2n words on, but the fuller it gets the

@@ -14,9 +14,8 @@ use Rattle.image.proofs.AllOfList.{All}
 use Rattle.image.proofs.Sizes.{length-image}
 use Rattle.writer.specs.declared.Repeats.{Repeats}
 use Rattle.writer.specs.declared.Repeats.the-variants.{On}
-use Rattle.lists.specs.Calls.{Call, put, acceptedOne, putsSize, sizeOf, putDue, acceptedFrom, accepted, WordIds}
+use Rattle.lists.specs.Calls.{Call, put, acceptedOne, putsSize, sizeOf, putDue, acceptedFrom, accepted, WordIds, putAll}
 use Rattle.lists.specs.Demand3.{acceptedPuts, imageOf}
-use Rattle.lists.specs.theorems.RepeatsOff.{putAll}
 use Rattle.lists.proofs.Appended.{sizeOf-is}
 use Rattle.lists.proofs.CallLists.{list-written, list-accepted}
 use Rattle.lists.proofs.OneMoreClose.{list-image, list-below}

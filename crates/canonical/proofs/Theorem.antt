@@ -20,9 +20,8 @@ use Rattle.consistency.specs.Panel.{readingsAgree}
 use Rattle.consistency.specs.Home.{home}
 use Rattle.lookup_laws.specs.Answer.{foundId, nameGiven, hasName, ofName, firstId, isNamed}
 use Rattle.writer.specs.declared.Repeats.the-variants.{On}
-use Rattle.lists.specs.Calls.{WordIds}
+use Rattle.lists.specs.Calls.{WordIds, putAll}
 use Rattle.lists.specs.Demand3.{imageOf}
-use Rattle.lists.specs.theorems.RepeatsOff.{putAll}
 use Rattle.lists.proofs.ImageRead.{Read}
 use Rattle.lists.proofs.ReadingAnswered.{list-read}
 use Rattle.lists.proofs.Readings.{readings}

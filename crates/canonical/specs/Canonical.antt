@@ -17,7 +17,7 @@ use Rattle.image.specs.declared.Mode.the-variants.{Twoway, Oneway}
 use Rattle.reader.specs.Open.{opening}
 use Rattle.writer.specs.declared.Repeats.the-variants.{On}
 use Rattle.lists.specs.Demand3.{imageOf}
-use Rattle.lists.specs.theorems.RepeatsOff.{putAll}
+use Rattle.lists.specs.Calls.{putAll}
 
 -- a put that a writer can be given and accepts: its name is a string of bytes, none of them zero, its id is a word
 pub record ValidPut (e : Entry) : Type 0 where

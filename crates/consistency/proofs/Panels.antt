@@ -12,7 +12,8 @@ use Rattle.image.specs.Zero.{hasZero, beforeZero}
 use Rattle.image.proofs.AllOfRange.{all-true, all-step}
 use Rattle.image.proofs.Zeros.{before-front, before-short, before-free, before-longest, before-all, before-less, readings-same}
 use Rattle.reader.specs.Naming.{Naming, place, unnamed, noBack, naming}
-use Rattle.consistency.specs.Panel.{cutAtZero, panel, reading, LongestFront, PanelReads, agreeOn, readingsAgree}
+use Rattle.consistency.specs.Panel.{cutAtZero, panel, reading, agreeOn, readingsAgree}
+use Rattle.consistency.specs.theorems.PanelReads.{LongestFront, PanelReads}
 use Rattle.reader.specs.IdWalk.{upperHint}
 use Rattle.reader.proofs.Namings.{named, never}
 

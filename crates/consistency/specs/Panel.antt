@@ -1,12 +1,11 @@
 -- The panel's reading of names, and whether it agrees with the recogniser's: 02 (v).
-use Prim.Native.Nat.{ℕ, _≤_}
-use mathlib.Core.Path.{_≡_}
-use mathlib.Core.Bool.{Bool, false}
+use Prim.Native.Nat.{ℕ}
+use mathlib.Core.Bool.{Bool}
 use mathlib.Core.List.{List, []}
 use lib.ListN.{length, take, drop}
 use Rattle.image.specs.Bytes.{same, all}
 use Rattle.image.specs.Head.{backSizeAt}
-use Rattle.image.specs.Zero.{hasZero, beforeZero}
+use Rattle.image.specs.Zero.{beforeZero}
 use Rattle.reader.specs.Slices.{Slice, subslice}
 use Rattle.reader.specs.Naming.{Naming, place, unnamed, naming, sliceOr}
 
@@ -27,17 +26,6 @@ panelSlice image id = sliceOr image (subslice image 0 0) (panel (image .bytes) i
 abbrev pub reading : List ℕ → Naming → List ℕ
 reading image (place s n) = take n (drop s image)
 reading image unnamed = []
-
--- a reading is the longest front of a name without a zero byte
-pub record LongestFront (name front : List ℕ) : Type 0 where
-  pub is-front : front ≡ take (length front) name
-  pub zero-free : hasZero front ≡ false
-  pub longest : (k : ℕ) → k ≤ length name → hasZero (take k name) ≡ false → k ≤ length front
-
--- the panel shows only what precedes the first zero: its reading of every id, in every image, is that front of the name
-pub record PanelReads : Type 0 where
-  pub shown : (image : List ℕ) (id : ℕ)
-      → LongestFront (reading image (naming image id)) (reading image (panel image id))
 
 -- both readings agree on an id: the panel's, and the recogniser's, which is the whole name
 abbrev pub agreeOn : List ℕ → ℕ → Bool

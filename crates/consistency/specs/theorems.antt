@@ -1,2 +1,3 @@
 -- Statements of theorems: what is proved of the rules.
 pub mod Homes
+pub mod PanelReads

@@ -1,4 +1,4 @@
--- A rotation is a product by a power of two, split at 2 ^ 32, its two halves added (`specs/Rotation`). Assumes nothing.
+-- A rotation is a product by a power of two, split at 2 ^ 32, its two halves added (`specs/theorems/Rotation`). Assumes nothing.
 use mathlib.Core.Path.{_≡_, sym, ap, ap₂, _∙_, subst}
 use Prim.Native.Nat.{ℕ, _+_, _-_, _*_, _/_, _%_, _^_, _<_}
 use native.Mathlib.Nat.{add-comm, add-zero, le-of-lt, lt-trans, lt-of-le-of-lt, mod-lt, mod-eq-of-lt, mul-mod-left, mul-div-mul-right, sub-add-cancel}
@@ -6,7 +6,7 @@ use native.Mathlib.Omega.{arith}
 use lib.Bits.{bitOr, or-shifted, or-lt}
 use lib.Pow.{pow-add, pow-pos, pow-lt, mod-pow-add, shl-lt, shl-shr, shr-le, shr-lt}
 use Rattle.jhash.specs.Lookup3.{rotl32}
-use Rattle.jhash.specs.Rotation.{halvesAdded, RotationAdds}
+use Rattle.jhash.specs.theorems.Rotation.{halvesAdded, RotationAdds}
 
 -- the lower half of the product is a multiple of the power
 lower : (x j k : ℕ) → x * 2 ^ k % 2 ^ (j + k) ≡ x % 2 ^ j * 2 ^ k

@@ -2,6 +2,6 @@
 pub mod Word
 pub mod Outcome
 pub mod Lookup3
-pub mod Rotation
+pub mod theorems
 pub mod steps
 pub mod NameHash

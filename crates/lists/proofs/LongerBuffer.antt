@@ -16,9 +16,8 @@ use Rattle.writer.specs.Put.{putRefusal, appended}
 use Rattle.writer.specs.Grown.{withLength}
 use Rattle.writer.proofs.Puts.{accepted-leaves}
 use Rattle.writer.proofs.Longer.{longer-accepted}
-use Rattle.lists.specs.Calls.{Call, after, accepted, WordIds}
+use Rattle.lists.specs.Calls.{Call, after, accepted, WordIds, putAll}
 use Rattle.lists.specs.Demand3.{afterList, acceptedPuts}
-use Rattle.lists.specs.theorems.RepeatsOff.{putAll}
 use Rattle.lists.specs.theorems.LongerBuffer.{movedTo, Longer, GrownList, LongerBuffer}
 use Rattle.lists.proofs.ListWritten.{Written}
 use Rattle.lists.proofs.Appended.{entriesSize-snoc}

@@ -12,8 +12,7 @@ use Rattle.image.specs.Image.{Entry, backSize, containsName}
 use Rattle.image.specs.Zero.{hasZero}
 use Rattle.writer.specs.declared.Repeats.{Repeats}
 use Rattle.writer.specs.State.{refusesRepeats, tooLarge}
-use Rattle.lists.specs.Calls.{Call, put, close, acceptedBy, sizeOf, putDue, acceptedFrom, dueFrom, accepted, due, WordIds}
-use Rattle.lists.specs.theorems.RepeatsOff.{putAll}
+use Rattle.lists.specs.Calls.{Call, put, close, acceptedBy, sizeOf, putDue, acceptedFrom, dueFrom, accepted, due, WordIds, putAll}
 use Rattle.lists.proofs.Appended.{sizeOf-is}
 use Rattle.lists.proofs.ListPuts.{due-free, due-new, due-room}
 use Rattle.lists.proofs.CallLists.{accepted-by-due}

@@ -16,9 +16,9 @@ use Rattle.image.proofs.Bools.{or-false-first, or-false-second}
 use Rattle.lookup_laws.specs.Answer.{ofName, firstId}
 use Rattle.writer.specs.declared.Repeats.{Repeats}
 use Rattle.writer.specs.declared.Repeats.the-variants.{Off}
-use Rattle.lists.specs.Calls.{Call, put, close, putDue, acceptedFrom, accepted, WordIds}
+use Rattle.lists.specs.Calls.{Call, put, close, putDue, acceptedFrom, accepted, WordIds, putAll}
 use Rattle.lists.specs.Demand3.{acceptedPuts, imageOf}
-use Rattle.lists.specs.theorems.RepeatsOff.{putAll, ListOff, RepeatsOff}
+use Rattle.lists.specs.theorems.RepeatsOff.{ListOff, RepeatsOff}
 use Rattle.lists.proofs.ListPuts.{due-new, due-either}
 use Rattle.lists.proofs.Members.{only-entry}
 use Rattle.lists.proofs.CallLists.{list-accepted, list-written}

@@ -22,6 +22,11 @@ pub data Call : Type 0 where
   put : Entry → Call
   close : Call
 
+-- a list of puts, one for each of these entries
+unfoldable pub putAll : List Entry → List Call
+putAll [] = []
+putAll (e ∷ es) = put e ∷ putAll es
+
 -- what a call leaves, and the number of its refusal (0: none), by the rules of "Writing" and "When a call is refused"
 abbrev pub afterCall : State → Call → State
 afterCall s (put e) = afterPut s e

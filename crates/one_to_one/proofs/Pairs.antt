@@ -19,7 +19,7 @@ use Rattle.image.proofs.AllOfList.{All, all-map}
 use Rattle.reader.specs.Lookup.{lookup}
 use Rattle.lookup_laws.specs.Answer.{foundId, nameGiven, ofName, ofId, firstId, lastName}
 use Rattle.writer.specs.declared.Repeats.the-variants.{On}
-use Rattle.lists.specs.theorems.RepeatsOff.{putAll}
+use Rattle.lists.specs.Calls.{putAll}
 use Rattle.lists.proofs.ImageRead.{Read, namedIn}
 use Rattle.lists.proofs.ReadingAnswered.{list-read}
 use Rattle.canonical.specs.Canonical.{canonical, putsIn, modeIn}

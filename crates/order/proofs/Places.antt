@@ -1,4 +1,4 @@
--- The rule by places (`specs/Places`), one id of the round and one pair of the list at a time; so it is the rule that is computed. Assumes nothing.
+-- The rule by places (`specs/theorems/Places`), one id of the round and one pair of the list at a time; so it is the rule that is computed. Assumes nothing.
 use mathlib.Core.Path.{_≡_, refl, sym, ap, subst, _∙_}
 use mathlib.Core.Logic.{_↔_, _⊎_, inl, inr}
 use Prim.Native.Nat.{ℕ, zero, suc, _+_, _<_}
@@ -8,7 +8,7 @@ use mathlib.Core.Bool.{Bool, true, false, true≢false}
 use mathlib.Core.List.{List, [], _∷_}
 use mathlib.Core.Option.{none, some}
 use Rattle.order.specs.Rule.{occurs, kept, allKept, failsAt, orderedFrom}
-use Rattle.order.specs.Places.{At, FirstAt, PairKept, AllKept, FailsFirst}
+use Rattle.order.specs.theorems.Places.{At, FirstAt, PairKept, AllKept, FailsFirst}
 use Rattle.order.specs.declared.Pair.{Pair}
 use Rattle.order.proofs.PairLaws.{at-wall, at-reference, at-other, ordered-kept, ordered-fails}
 

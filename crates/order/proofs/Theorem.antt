@@ -8,7 +8,7 @@ use mathlib.Core.Bool.{false, true≢false}
 use mathlib.Core.List.{List, [], _∷_, _++_}
 use mathlib.Core.Option.{some}
 use Rattle.order.specs.Rule.{occurs, kept, allKept, failsAt, ordered}
-use Rattle.order.specs.Places.{At, Occurs, PairKept, AllKept, FailsFirst}
+use Rattle.order.specs.theorems.Places.{At, Occurs, PairKept, AllKept, FailsFirst}
 use Rattle.order.specs.theorems.ReferencesFirst.{ReferencesFirst, twice}
 use Rattle.order.specs.declared.Pair.{Pair}
 use Rattle.order.proofs.PairLaws.{at-wall, at-reference, at-other}

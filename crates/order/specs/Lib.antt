@@ -1,6 +1,5 @@
 -- What the functions answer, and what is proved of it.
 pub mod Rule
 pub mod Cases
-pub mod Places
 pub mod theorems
 pub mod examples

@@ -18,9 +18,8 @@ use Rattle.consistency.specs.Home.{home}
 use Rattle.lookup_laws.specs.Answer.{foundId, nameGiven}
 use Rattle.writer.specs.declared.Repeats.{Repeats}
 use Rattle.writer.specs.declared.Repeats.the-variants.{On}
-use Rattle.lists.specs.Calls.{Call, WordIds}
+use Rattle.lists.specs.Calls.{Call, WordIds, putAll}
 use Rattle.lists.specs.Demand3.{acceptedPuts, imageOf}
-use Rattle.lists.specs.theorems.RepeatsOff.{putAll}
 use Rattle.canonical.specs.Canonical.{Canonical, putsIn, modeIn, canonical}
 
 -- ---- a canonical image

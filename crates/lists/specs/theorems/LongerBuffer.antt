@@ -12,9 +12,8 @@ use Rattle.writer.specs.declared.Repeats.{Repeats}
 use Rattle.writer.specs.State.{State, stateWith}
 use Rattle.writer.specs.Close.{entryArea}
 use Rattle.writer.specs.Grown.{grownRefusal, grownWriter}
-use Rattle.lists.specs.Calls.{Call, after, WordIds}
+use Rattle.lists.specs.Calls.{Call, after, WordIds, putAll}
 use Rattle.lists.specs.Demand3.{afterList, acceptedPuts}
-use Rattle.lists.specs.theorems.RepeatsOff.{putAll}
 
 -- the record with the length of another buffer, and that buffer
 abbrev pub movedTo : List ℕ → State → State

@@ -13,13 +13,8 @@ use Rattle.lookup_laws.specs.Answer.{foundId, ofName}
 use Rattle.writer.specs.declared.Repeats.{Repeats}
 use Rattle.writer.specs.declared.Repeats.the-variants.{Off}
 use Rattle.writer.specs.Put.{entryOf}
-use Rattle.lists.specs.Calls.{Call, put, WordIds}
+use Rattle.lists.specs.Calls.{Call, putAll, WordIds}
 use Rattle.lists.specs.Demand3.{acceptedPuts, imageOf}
-
--- a list of puts, one for each of these entries
-unfoldable pub putAll : List Entry → List Call
-putAll [] = []
-putAll (e ∷ es) = put e ∷ putAll es
 
 -- what is said of one list with repeats off
 pub record ListOff (mode : Mode) (buffer : List ℕ) (cs : List Call) : Type 0 where

@@ -12,9 +12,8 @@ use Rattle.image.specs.Image.{Entry, headSize}
 use Rattle.writer.specs.declared.Repeats.the-variants.{On}
 use Rattle.writer.specs.Close.{closing}
 use Rattle.writer.specs.Put.{putRefusal}
-use Rattle.lists.specs.Calls.{Call}
+use Rattle.lists.specs.Calls.{Call, putAll}
 use Rattle.lists.specs.Demand3.{afterList, acceptedPuts, imageOf, OneList}
-use Rattle.lists.specs.theorems.RepeatsOff.{putAll}
 use Rattle.load.specs.States.{stateAfter, stateName, loadEntry}
 use Rattle.load.specs.Load.{loadPut, loading, afterLoad}
 

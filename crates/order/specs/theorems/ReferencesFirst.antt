@@ -6,7 +6,7 @@ use mathlib.Core.Logic.{_↔_}
 use mathlib.Core.Bool.{true, false}
 use mathlib.Core.List.{List, [], _∷_, _++_}
 use Rattle.order.specs.Rule.{kept, allKept, failsAt, ordered}
-use Rattle.order.specs.Places.{At, Occurs, PairKept, AllKept, FailsFirst}
+use Rattle.order.specs.theorems.Places.{At, Occurs, PairKept, AllKept, FailsFirst}
 use Rattle.order.specs.declared.Pair.{Pair}
 
 -- a pair of an id with itself

@@ -1,0 +1,2 @@
+-- What is proved of the rules: statements alone, whose proofs stand in proofs/.
+pub mod Rotation
