@@ -24,45 +24,59 @@
    One that is cut short ends the process at the first byte behind its new end, by the signal SIGBUS. So write a new file beside
    the old one and rename it; examples/c/build_file.c does, and examples/c/ask_file.c maps one.
 
-   What the calls cost. The times are examples, in ns on an AMD EPYC with names of 9 bytes and 4,096 entries; a second number is for
-   100,000 entries. Lookups in images that exceed the processor's caches take up to 110. The stack is rounded up, in KB of 1,024
-   bytes; calls without a number take less than 1 KB.
+   What the calls cost. The times are those of one run of `bench/run costs` on an AMD EPYC, in ns, with names of 9 bytes, for
+   4,096 and for 100,000 entries; calls that do not depend on the number of entries have the first number alone. Calls on images that
+   exceed the processor's caches take longer (docs/BENCHMARKS.md has 1,000,000 entries). A put with repeats off takes a put's time and
+   that of each earlier entry, so cqdb_put_indexed or cqdb_build is for long lists. The stack is rounded up, in KB of 1,024 bytes;
+   calls without a number take less than 1 KB.
 
-     call                            time                                                            stack
-     version_number                  1
-     hash                            4; 390 for a name of 1,024 bytes
-     open, bundle_open               90; bundle_open: and a step for each image before it
-     to_id, home                     10 to 20, by the buckets that are read
-     to_str, panel                   3 to 5
-     size_hint, page_length          3
-     name_on                         10, and each window is read once
-     next_change                     3 for each id from the first one to the change
-     moved                           13 to 19
-     round                           13 for each name                                                14
-     name_round                      1.2 for each id
-     readings_agree                  3 for each id below the back size
-     page, page_part                 7 for each line
-     canonical                       13, 18 for each entry                                           6
-     one_to_one                      as average                                                      6
-     average, lengths                25, 86 for each entry                                           6
-     begin                           16
-     put, repeats on                 22
-     put, repeats off                22, and 4.5 for each earlier entry: n puts take 2.2 x n x n      2
-     put_indexed                     16, 23, with either choice of repeats; 4 words for each name
-     index                           11, 18 for each entry                                           2
-     index_words                     2
-     close                           11, 16 for each entry                                           39
-     grown                           12
-     build_needs                     0.2 for each id
-     build, 6 words for each name    13, 18 for each name                                            39
-     build, 3 words for each name    20, 38 for each name                                            41
-     build, no words, repeats on     23, 32 for each name                                            41
-     build, no words, repeats off    as put                                                          41
-     load                            130,000                                                         39
-     bundle_count                    a step for each image
-     bundle_append                   a copy of the image, and a step for each image before it
-     sheet_read, sheet_write         4; 0.6 for each id
-     references_first                up to a step for each pair and id of the round
+     call                            time for each                            4,096   100,000   stack
+     average                         entry                                       26        72       6
+     begin                           call                                        14
+     build, 3 words for each name    name                                        21        43      39
+     build, 6 words for each name    name                                        12        18      39
+     build, no words, repeats off    name and earlier name                      5.1                39
+     build, no words, repeats on     name                                        27        35      39
+     build_needs                     id                                         0.2       0.2
+     bundle_append                   image in the file                          2.1
+     bundle_append                   image of 157,720 bytes, its copy         2,684
+     bundle_count                    image                                      1.9
+     bundle_open                     image up to the one that is opened         2.4
+     canonical                       entry                                       13        18       6
+     close                           entry                                       11        16      39
+     grown                           call                                       3.0
+     hash                            name of 9 bytes                            3.5
+     hash                            name of 1,024 bytes                        300
+     home                            call                                        12        41
+     index                           entry                                      9.9        18       2
+     index_words                     call                                       1.3
+     lengths                         entry                                       26        42       6
+     load                            load of 4,096 entries                  124,265                39
+     moved                           call                                        15        45
+     name_on                         call with one window                        10
+     name_on                         window of a thousand                       3.2
+     name_round                      id                                         1.3       2.7
+     next_change                     id up to the change                        2.9       2.9
+     one_to_one                      entry                                       27        42       6
+     open                            call                                        88        88
+     page                            line                                       6.9       7.8
+     page_length                     call                                       1.6       1.6
+     page_part                       line                                       6.9       7.8
+     panel                           call                                       5.4       9.3
+     put, repeats off                earlier entry                              4.1       4.1       2
+     put, repeats on                 call                                        23        24
+     put_indexed                     call                                        14        24
+     readings_agree                  id below the back size                     3.1       3.1
+     references_first                pair and id of the round, at most          0.5
+     round                           name that is found                          13        17      14
+     round                           name that is absent                         14        16
+     sheet_read                      call                                       2.7
+     sheet_write                     id                                         0.5
+     size_hint                       call                                       1.4       1.4
+     to_id                           name that is found                          10        24
+     to_id                           name that is absent                        9.1        17
+     to_str                          call                                       1.6       3.3
+     version_number                  call                                       1.3
 
    When an image can be read: from the cqdb_close that made it to the next accepted cqdb_put in the same buffer, or from a
    copy. That put writes where the close had placed the tables, so until the next close the buffer is no image, though
@@ -536,8 +550,8 @@ cqdb_build_answer cqdb_build_parts(uint32_t mode, uint32_t repeats, uint8_t *buf
    The words at work are scratch memory, lent for speed: how many there are, and what they hold, changes no answer, and what they
    hold afterwards is unspecified. What a list of n names costs, by the words and by the list:
    - 6n words, and room in the buffer for all names: linear. All tables are made first, then the image is written in one pass. Where
-     a name is refused, the names are put one by one instead. That is linear, too: when measured, 2.1 times the time of a list
-     whose names are all accepted at 4,096 names, 2.4 times at 100,000, some four times at 1,000,000.
+     a name is refused, the names are put one by one instead. That is linear, too: two to four times the time of a list whose names
+     are all accepted (docs/BENCHMARKS.md).
    - 4n words: linear. Each put looks into an index of the names. There is an index from 2n words on, but the fuller it gets the
      more slots a put reads: with 2n words 100,000 names took 7 times as long as with 4n.
    - Fewer than 2n words: with repeats on linear, since no put looks for its name; with repeats off quadratic, since each put walks

@@ -1,0 +1,98 @@
+// What writing a list costs, and the checks of a whole image (bench/costs.rs).
+use crate::archive::{self, Counts, Record};
+use crate::{least, least_of, Cost, List};
+use std::hint::black_box;
+use std::time::Instant;
+
+// Begin and all puts, with repeats on or off.
+fn puts(list: &List, repeats: u32, counts: &mut Counts, buf: &mut [u8]) -> Record {
+    let mut record = archive::begin(0, repeats, counts, buf).record;
+    for (name, id) in list.each() {
+        record = archive::put(record, counts, buf, name, id).record;
+    }
+    assert_eq!(record.entries as usize, list.n);
+    record
+}
+
+// All puts by an index that was made before the first one.
+fn puts_indexed(list: &List, buf: &mut [u8], slots: &mut [u32]) -> f64 {
+    let mut counts = [0; 256];
+    least_of(list.n, || {
+        let mut record = archive::begin(0, 0, &mut counts, buf).record;
+        assert_eq!(archive::index(record, &counts, buf, slots), 0);
+        let begin = Instant::now();
+        for (name, id) in list.each() {
+            assert_eq!(archive::put_indexed(&mut record, &mut counts, buf, slots, name, id), 0);
+        }
+        begin.elapsed()
+    })
+}
+
+fn writing(list: &List) -> Vec<Cost> {
+    let mut counts = [0; 256];
+    let mut buf = vec![0; list.image.len()];
+    let mut slots = vec![0; archive::index_words(list.n)];
+    let indexed = puts_indexed(list, &mut buf, &mut slots);
+    let single = least(list.n, || {
+        black_box(puts(list, 1, &mut counts, &mut buf));
+    });
+    let record = puts(list, 1, &mut counts, &mut buf);
+    let close = least(list.n, || assert_eq!(archive::close(record, &counts, &mut buf).refusal, 0));
+    assert!(buf == list.image, "the image of the list");
+    let index = least(list.n, || assert_eq!(archive::index(record, &counts, &buf, &mut slots), 0));
+    // One more name walks all entries, and is refused for want of room.
+    let off = Record { repeats: 0, ..record };
+    let walk =
+        least(list.n, || assert_eq!(archive::put(off, &mut counts, &mut buf, black_box(b"absent"), 0).refusal, 3));
+    vec![
+        ("put, repeats on", "call", single),
+        ("put, repeats off", "earlier entry", walk),
+        ("put_indexed", "call", indexed),
+        ("index", "entry", index),
+        ("close", "entry", close),
+    ]
+}
+
+// A whole list in one call, with so many words of lent memory.
+fn built(list: &List, repeats: u32, words: usize) -> f64 {
+    let (mut buf, mut refusals, mut work) = (vec![0; list.image.len()], vec![0; list.n], vec![0; words]);
+    least(list.n, || {
+        let answer = archive::build(0, repeats, black_box(&mut buf), list.joined(), &mut refusals, &mut work);
+        assert_eq!(answer.accepted as usize, list.n);
+    })
+}
+
+fn building(list: &List) -> Vec<Cost> {
+    let needs = || {
+        black_box(archive::build_needs(0, list.names.len(), black_box(&list.ids)));
+    };
+    vec![
+        ("build_needs", "id", least(list.n, needs)),
+        ("build, 6 words for each name", "name", built(list, 0, 6 * list.n)),
+        ("build, 3 words for each name", "name", built(list, 0, 3 * list.n)),
+        ("build, no words, repeats on", "name", built(list, 1, 0)),
+    ]
+}
+
+/// Each of n names is compared with n / 2 earlier ones: for a short list.
+pub fn walked(list: &List) -> Cost {
+    ("build, no words, repeats off", "name and earlier name", built(list, 0, 0) * 2.0 / list.n as f64)
+}
+
+fn checking(list: &List) -> Vec<Cost> {
+    let image = &list.image;
+    let mut counts = [0; 16];
+    vec![
+        ("canonical", "entry", least(list.n, || assert_eq!(archive::canonical(black_box(image)), 1))),
+        ("one_to_one", "entry", least(list.n, || assert_eq!(archive::one_to_one(black_box(image)).ok, 1))),
+        ("average", "entry", least(list.n, || assert_eq!(archive::average(black_box(image)).refusal, 0))),
+        ("lengths", "entry", least(list.n, || assert_eq!(archive::lengths(black_box(image), &mut counts), 0))),
+    ]
+}
+
+pub fn run(list: &List) -> Vec<Cost> {
+    let mut costs = writing(list);
+    costs.extend(building(list));
+    costs.extend(checking(list));
+    costs
+}
