@@ -11,7 +11,7 @@ use Rattle.image.proofs.Equal.{same-self, same-true, same-false}
 use Rattle.reader.specs.Lookup.{lookup}
 use Rattle.reader.specs.Cases.{reads}
 use Rattle.batch.specs.RoundNames.{among, newOnly, differentFrom, different, nth}
-use Rattle.batch.specs.Round.{bucketsOf}
+use Rattle.batch.specs.Round.{bucketsRead}
 use Rattle.batch.specs.theorems.Theorem.{Distinct, OnceEach}
 
 -- ---- among
@@ -102,18 +102,18 @@ once-each xs = record { no-two = fresh-from xs [] .no-two; same-names = λ x. ke
 -- ---- the buckets
 
 module _ (image : List ℕ) where
-  fewer-one : (x : List ℕ) (ys : List (List ℕ)) (n : ℕ) (t : Bool) → bucketsOf image ys ≤ n → bucketsOf image (newOnly t x ys) ≤ reads (lookup image x) + n
-  unfolding bucketsOf
+  fewer-one : (x : List ℕ) (ys : List (List ℕ)) (n : ℕ) (t : Bool) → bucketsRead image ys ≤ n → bucketsRead image (newOnly t x ys) ≤ reads (lookup image x) + n
+  unfolding bucketsRead
   fewer-one x ys n true h = omega arith
   fewer-one x ys n false h = omega arith
 
-  fewer-from : (xs seen : List (List ℕ)) → bucketsOf image (differentFrom seen xs) ≤ bucketsOf image xs
-  unfolding bucketsOf differentFrom
+  fewer-from : (xs seen : List (List ℕ)) → bucketsRead image (differentFrom seen xs) ≤ bucketsRead image xs
+  unfolding bucketsRead differentFrom
   fewer-from [] seen = omega arith
   fewer-from (x ∷ xs) seen =
-      fewer-one x (differentFrom (seen ++ x ∷ []) xs) (bucketsOf image xs) (among x seen) (fewer-from xs (seen ++ x ∷ []))
+      fewer-one x (differentFrom (seen ++ x ∷ []) xs) (bucketsRead image xs) (among x seen) (fewer-from xs (seen ++ x ∷ []))
 
-  pub not-above : (xs : List (List ℕ)) → bucketsOf image (different xs) ≤ bucketsOf image xs
+  pub not-above : (xs : List (List ℕ)) → bucketsRead image (different xs) ≤ bucketsRead image xs
   unfolding different
   not-above xs = fewer-from xs []
 
@@ -131,6 +131,6 @@ all-from (x ∷ xs) seen new two =
         ∙ ap (λ (t : Bool). t || same x (nth xs i)) (new (suc i) (omega arith))
         ∙ same-false x (nth xs i) (λ p. two 0 (suc i) (omega arith) (omega arith) p)
 
-pub all-different : (image : List ℕ) (xs : List (List ℕ)) → Distinct xs → bucketsOf image (different xs) ≡ bucketsOf image xs
+pub all-different : (image : List ℕ) (xs : List (List ℕ)) → Distinct xs → bucketsRead image (different xs) ≡ bucketsRead image xs
 unfolding different among
-all-different image xs two = ap (bucketsOf image) (all-from xs [] (λ i h. refl) two)
+all-different image xs two = ap (bucketsRead image) (all-from xs [] (λ i h. refl) two)

@@ -1,14 +1,27 @@
--- Duplicates: keys, links by slots, the walk along a chain, and the equal names found. Assumes nothing.
-use Prim.Native.Nat.{ℕ, _+_, _-_, _%_, _≤_, _<_}
+-- Duplicates: keys, the slots that hold names, and the equal names found. Assumes nothing.
+use Prim.Native.Nat.{ℕ, _+_, _-_, _≤_, _<_}
 use native.Mathlib.Omega.{arith}
-use native.Mathlib.Decide.{ℕ-discrete, decLt}
+use native.Mathlib.Numerals.{add-one}
+use native.Mathlib.Decide.{ℕ-discrete}
 use mathlib.Core.Path.{_≡_, sym, ap, subst, _∙_}
-use mathlib.Core.List.{List}
-use lib.ListN.{length, getD, set}
+use mathlib.Core.Bool.{Bool, true, false}
+use mathlib.Core.List.{List, [], _∷_, _++_, map, map-append}
+use lib.ListN.{length, getD, set, length-set, length-map, length-append}
 use lib.Seq.{getD-set-same, getD-set-other}
+use Rattle.image.specs.Bytes.{same}
+use Rattle.image.specs.Tables.{Bucket, empty, start, probeSequence, firstEmpty, insertAll, filled}
+use Rattle.image.proofs.AllOfList.{All, all-map, all-image, all-append, all-middle}
+use Rattle.image.proofs.Bools.{false-not-true}
+use Rattle.image.proofs.Buckets.{getD-empties, filled-all}
+use Rattle.image.proofs.Equal.{same-true, same-self}
+use Rattle.image.proofs.Sizes.{length-filled}
+use Rattle.lookup_laws.specs.steps.HasMatch.{hasMatch}
+use Rattle.lookup_laws.proofs.TableContents.{NotEmpty}
 use Rattle.batch.specs.RoundNames.{nth}
-use Rattle.batch.specs.steps.Duplicates.{Flag, Listed, key, Keys, slot, Last, Linked, EqualBefore, Deduplicated}
+use Rattle.batch.specs.steps.Slots.{bucketOfNumber, slotIn, SlotsHold}
+use Rattle.batch.specs.steps.Duplicates.{IfZero, Listed, key, Keys, EqualBefore, FoundOrInserted, Deduplicated}
 use Rattle.batch.proofs.IndexLists.{listed-old, listed-new, each-step}
+use Rattle.batch.proofs.SlotSearch.{none-empty, none-equal, filled-next}
 
 -- ---- keys
 
@@ -23,98 +36,155 @@ keys-step xs keys i v h k e j l =
       | no p ↦ getD-set-other keys i j v 0 p ∙ k j (omega arith)
     ]
 
--- equal names have one slot
-one-slot : (xs : List (List ℕ)) (keys : List ℕ) (j i : ℕ) → Keys xs keys → j < length xs → i < length xs → nth xs j ≡ nth xs i → slot keys j ≡ slot keys i
-one-slot xs keys j i k p q e = ap (λ (v : ℕ). v % 4096) (k j p ∙ ap key e ∙ sym (k i q))
+-- another key, another name
+pub other-key : (xs : List (List ℕ)) (keys : List ℕ) → Keys xs keys → (j i : ℕ) → j < length xs → i < length xs
+    → (getD keys j 0 ≡ getD keys i 0 → ⊥) → nth xs j ≡ nth xs i → ⊥
+other-key xs keys ks j i p q other e = other (ks j p ∙ ap key e ∙ sym (ks i q))
 
--- ---- links
+-- ---- slots
 
--- what each slot holds of the first i keys
-abbrev pub Slots : List ℕ → ℕ → List ℕ → Type 0
-Slots keys i slots = (s : ℕ) → s < 4096 → Last keys i s (getD slots s 0)
+none-filled : (n k : ℕ) → getD (filled n []) k empty ≡ empty
+unfolding filled insertAll
+none-filled n k = getD-empties n k
 
-pub slots-none : (keys slots : List ℕ) → ((s : ℕ) → s < 4096 → getD slots s 0 ≡ 0) → Slots keys 0 slots
-slots-none keys slots z s h =
-    let e = z s h in
-    record { below = omega arith; there = λ p. absurd (omega arith); none-after = λ j p q r. absurd (omega arith) }
-
-last-more : (keys : List ℕ) (i s p : ℕ) → Last keys i s p → (slot keys i ≡ s → ⊥) → Last keys (i + 1) s p
-last-more keys i s p l other =
+pub slots-empty : (xs : List (List ℕ)) (keys slots : List ℕ) → length slots ≡ 4096 → ((k : ℕ) → k < 4096 → getD slots k 0 ≡ 0) → SlotsHold xs keys slots 0
+slots-empty xs keys slots size clear =
     record {
-      below = omega (arith, l .below);
-      there = l .there;
-      none-after = λ j a b e. elim (decLt j i) [ yes q ↦ l .none-after j a q e | no q ↦ other (at j (omega arith) e) ];
+      held = [];
+      size = size;
+      filled-with = record { each = λ k l. ap (bucketOfNumber keys) (clear k l) ∙ sym (none-filled 4096 k) };
+      few = omega arith;
+      below = tt;
+      covers = λ y none j l. absurd (omega arith);
     }
-  where
-    at : (j : ℕ) → j ≡ i → slot keys j ≡ s → slot keys i ≡ s
-    at j p e = ap (slot keys) (sym p) ∙ e
 
-last-new : (keys : List ℕ) (i : ℕ) → Last keys (i + 1) (slot keys i) (i + 1)
-last-new keys i =
-    let k : i + 1 - 1 ≡ i = omega arith in
-    record { below = omega arith; there = λ p. ap (slot keys) k; none-after = λ j a b q. absurd (omega arith) }
+all-before : {A : Type 0} (P : A → Type 0) (xs ys : List A) → All P (xs ++ ys) → All P xs
+all-before P [] ys all = tt
+all-before P (x ∷ xs) ys all = (all .0, all-before P xs ys (all .1))
 
-pub slots-step : (keys slots : List ℕ) (i : ℕ) → length slots ≡ 4096 → Slots keys i slots → Slots keys (i + 1) (set slots (slot keys i) (i + 1))
-slots-step keys slots i size all t h =
-    let s = slot keys i in
-    elim (ℕ-discrete t s) [
-      | yes p ↦
-          subst (λ (k : ℕ). Last keys (i + 1) k (getD (set slots s (i + 1)) k 0)) (sym p)
-          (subst (λ (y : ℕ). Last keys (i + 1) s y) (sym (getD-set-same slots s (i + 1) 0 (omega arith))) (last-new keys i))
-      | no p ↦
-          subst (λ (y : ℕ). Last keys (i + 1) t y) (sym (getD-set-other slots s t (i + 1) 0 p)) (last-more keys i t (getD slots t 0) (all t h) (λ q. p (sym q)))
-    ]
+-- the key of a name, from its number
+pub key-of : (keys : List ℕ) (u : ℕ) → getD (0 ∷ keys) (u + 1) 0 ≡ getD keys u 0
+key-of keys u = ap (λ (q : ℕ). getD (0 ∷ keys) q 0) (add-one u)
 
-pub linked-step : (keys links : List ℕ) (i v : ℕ) → i < length links → Linked keys i links → Last keys i (slot keys i) v → Linked keys (i + 1) (set links i v)
-linked-step keys links i v h all l j k =
-    elim (ℕ-discrete j i) [
-      | yes p ↦
-          subst (λ (m : ℕ). Last keys m (slot keys m) (getD (set links i v) m 0)) (sym p)
-          (subst (λ (y : ℕ). Last keys i (slot keys i) y) (sym (getD-set-same links i v 0 h)) l)
-      | no p ↦ subst (λ (y : ℕ). Last keys j (slot keys j) y) (sym (getD-set-other links i j v 0 p)) (all j (omega arith))
-    ]
+-- the i-th name: does the name with a number equal it?
+abbrev pub equalTo : List (List ℕ) → ℕ → ℕ → Bool
+equalTo xs i q = same (nth xs (q - 1)) (nth xs i)
 
--- ---- the walk along a chain
+module _ {xs : List (List ℕ)} {keys slots : List ℕ} {i : ℕ} (ks : Keys xs keys) (inside : i < length xs) (few : length xs ≤ 512)
+    (s : SlotsHold xs keys slots i) where
+  abbrev h : ℕ
+  h = getD keys i 0
 
--- from number q on no name before the i-th equals it, and q has its slot
-pub record Walked (xs : List (List ℕ)) (keys : List ℕ) (i q : ℕ) : Type 0 where
-  pub below : q ≤ i
-  pub there : 0 < q → slot keys (q - 1) ≡ slot keys i
-  pub none-after : (j : ℕ) → q ≤ j → j < i → nth xs j ≡ nth xs i → ⊥
+  abbrev v : ℕ → Bool
+  v = equalTo xs i
 
-module _ (xs : List (List ℕ)) (keys : List ℕ) (i : ℕ) (ks : Keys xs keys) (inside : i < length xs) where
-  pub walk-start : (q : ℕ) → Last keys i (slot keys i) q → Walked xs keys i q
-  walk-start q l =
-      record { below = l .below; there = l .there; none-after = λ j a b e. l .none-after j a b (one-slot xs keys j i ks (omega arith) inside e) }
+  abbrev bucket : ℕ → Bucket
+  bucket u = bucketOfNumber keys (u + 1)
 
-  pub walk-step : (q p : ℕ) → 0 < q → Walked xs keys i q → (nth xs (q - 1) ≡ nth xs i → ⊥) → Last keys (q - 1) (slot keys (q - 1)) p → Walked xs keys i p
-  walk-step q p h w other l =
+  abbrev bs : List Bucket
+  bs = map bucket (s .held)
+
+  occupied : All NotEmpty bs
+  occupied = all-image NotEmpty bucket (λ u l z. omega arith) (s .held) (s .below)
+
+  fit : length bs ≤ i
+  fit = omega (arith, length-map (s .held) bucket, s .few)
+
+  -- a slot has the number of a name before the i-th
+  pub slot-below : (k : ℕ) → k < 4096 → getD slots k 0 ≤ i
+  slot-below k l =
+      subst (λ (b : Bucket). b .at ≤ i) (sym (s .filled-with .each k l))
+      (filled-all (λ (b : Bucket). b .at ≤ i) 4096 bs (omega arith) (all-image (λ (b : Bucket). b .at ≤ i) bucket (λ u l. omega arith) (s .held) (s .below)) k)
+
+  pub some-empty : All (λ (k : ℕ). NotEmpty (slotIn keys slots k)) (probeSequence 4096 4096 (start h 4096)) → ⊥
+  some-empty all = omega (arith, fit, none-empty (s .filled-with) (omega arith) h (omega (arith, fit)) occupied all)
+
+  pub found-equal : (q : ℕ) → 0 < q → q ≤ i → equalTo xs i q ≡ true → FoundOrInserted xs keys slots i q
+  found-equal q some low is =
+      let e = same-true (nth xs (q - 1)) (nth xs i) is in
       record {
-        below = omega (arith, l .below, w .below);
-        there = λ z. l .there z ∙ w .there h;
-        none-after = λ j a b e. by j a b e (decLt j (q - 1)) (ℕ-discrete j (q - 1));
+        equal = record { below = low; there = λ p. e; none = λ z. absurd (omega arith) };
+        holds =
+            record {
+              held = s .held;
+              size = s .size;
+              filled-with = s .filled-with;
+              few = omega (arith, s .few);
+              below = all-map (λ u l. omega arith) (s .held) (s .below);
+              covers = λ y none j l z. elim (ℕ-discrete j i) [
+                | yes p ↦ s .covers y none (q - 1) (omega arith) (e ∙ ap (nth xs) (sym p) ∙ z)
+                | no p ↦ s .covers y none j (omega arith) z
+              ];
+            };
       }
-    where
-      by : (j : ℕ) → p ≤ j → j < i → nth xs j ≡ nth xs i → Dec (j < q - 1) → Dec (j ≡ q - 1) → ⊥
-      by j a b e (yes u) v = l .none-after j a u (one-slot xs keys j i ks (omega arith) inside e ∙ sym (w .there h))
-      by j a b e (no u) (yes v) = other (ap (nth xs) (sym v) ∙ e)
-      by j a b e (no u) (no v) = w .none-after j (omega arith) b e
 
-  pub walk-end : (q : ℕ) → q ≤ 0 → Walked xs keys i q → EqualBefore xs i 0
-  walk-end q h w =
-      record { below = omega arith; there = λ p. absurd (omega arith); none = λ z j b e. w .none-after j (omega arith) b e }
+  -- what the search says of the buckets, said of the names
+  differ : (us : List ℕ) → All (λ (u : ℕ). u < i) us → All (λ (b : Bucket). b .hash ≡ h → v (b .at) ≡ false) (map bucket us)
+      → All (λ (u : ℕ). nth xs u ≡ nth xs i → ⊥) us
+  differ [] low others = tt
+  differ (u ∷ us) low others = (
+    λ e.
+        let back : u + 1 - 1 ≡ u = omega arith in
+        let is : v (u + 1) ≡ true = ap (λ (n : ℕ). same (nth xs n) (nth xs i)) back ∙ ap (λ (x : List ℕ). same x (nth xs i)) e ∙ same-self (nth xs i) in
+        false-not-true (sym (others .0 (key-of keys u ∙ ks u (omega (arith, low .0)) ∙ ap key e ∙ sym (ks i inside))) ∙ is),
+    differ us (low .1) (others .1),
+  )
 
-  pub walk-found : (q : ℕ) → 0 < q → Walked xs keys i q → nth xs (q - 1) ≡ nth xs i → EqualBefore xs i q
-  walk-found q h w e = record { below = w .below; there = λ p. e; none = λ z. absurd (omega arith) }
+  module _ (k : ℕ) (here : k < 4096) (first : k ≡ firstEmpty (λ (j : ℕ). slotIn keys slots j .at) (probeSequence 4096 4096 (start h 4096))) where
+    stored : (j : ℕ) → j < 4096 → slotIn keys (set slots k (i + 1)) j ≡ getD (filled 4096 (map bucket (s .held ++ (i ∷ [])))) j empty
+    stored j l =
+        let more : filled 4096 (map bucket (s .held ++ (i ∷ []))) ≡ set (filled 4096 bs) k (bucket i) =
+        ap (filled 4096) (map-append bucket (s .held) (i ∷ []))
+        ∙ filled-next (s .filled-with) (omega arith) h (bucket i) (key-of keys i) k first in
+        elim (ℕ-discrete j k) [
+          | yes e ↦
+              ap (slotIn keys (set slots k (i + 1))) e
+              ∙ ap (bucketOfNumber keys) (getD-set-same slots k (i + 1) 0 (omega (arith, s .size)))
+              ∙ sym (getD-set-same (filled 4096 bs) k (bucket i) empty (omega (arith, length-filled 4096 bs)))
+              ∙ ap (λ (n : ℕ). getD (set (filled 4096 bs) k (bucket i)) n empty) (sym e)
+          | no e ↦
+              ap (bucketOfNumber keys) (getD-set-other slots k j (i + 1) 0 e)
+              ∙ s .filled-with .each j l
+              ∙ sym (getD-set-other (filled 4096 bs) k j (bucket i) empty e)
+        ]
+        ∙ ap (λ (t : List Bucket). getD t j empty) (sym more)
 
-  -- another key, another name
-  pub other-key : (j : ℕ) → j < length xs → (getD keys j 0 ≡ getD keys i 0 → ⊥) → nth xs j ≡ nth xs i → ⊥
-  other-key j h other e = other (ks j h ∙ ap key e ∙ sym (ks i inside))
+    pub inserted-here : hasMatch (slotIn keys slots) h (equalTo xs i) (probeSequence 4096 4096 (start h 4096)) ≡ false
+        → FoundOrInserted xs keys (set slots k (i + 1)) i 0
+    inserted-here none =
+        let others = differ (s .held) (s .below) (none-equal (s .filled-with) (omega arith) h v (omega (arith, fit)) occupied none) in
+        record {
+          equal = record { below = omega arith; there = λ p. absurd (omega arith); none = λ z j l e. s .covers (nth xs i) others j l e };
+          holds =
+              record {
+                held = s .held ++ (i ∷ []);
+                size = length-set slots k (i + 1) ∙ s .size;
+                filled-with = record { each = stored };
+                few = omega (arith, length-append (s .held) (i ∷ []), s .few);
+                below = all-append (λ (u : ℕ). u < i + 1) (s .held) (i ∷ []) (all-map (λ u l. omega arith) (s .held) (s .below)) (omega arith, tt);
+                covers = λ y all j l z. elim (ℕ-discrete j i) [
+                  | yes p ↦ all-middle (λ (u : ℕ). nth xs u ≡ y → ⊥) (s .held) [] i all (ap (nth xs) (sym p) ∙ z)
+                  | no p ↦ s .covers y (all-before (λ (u : ℕ). nth xs u ≡ y → ⊥) (s .held) (i ∷ []) all) j (omega arith) z
+                ];
+              };
+        }
 
--- ---- one name more, whose equal one before it has the number q
+-- ---- the equal names found
+
+pub deduplicated-none : (xs : List (List ℕ)) (equals list : List ℕ) → Deduplicated xs equals list 0 0
+deduplicated-none xs equals list =
+    record {
+      equal = λ j h. absurd (omega arith);
+      count = omega arith;
+      below = λ x h. absurd (omega arith);
+      listed = λ j h. absurd (omega arith);
+      all-unique = λ h j k. absurd (omega arith);
+    }
+
+-- one name more, whose equal one before it has the number q
 
 module _ {xs : List (List ℕ)} {equals list : List ℕ} {i m q r : ℕ} (room : i < length equals) (room' : m < length list) (new : EqualBefore xs i q)
-    (flag : Flag (q ≡ 0) r) (old : Deduplicated xs equals list i m) where
+    (one : IfZero q 1 r) (old : Deduplicated xs equals list i m) where
   -- what holds of the names before it, and of it
   each : (P : ℕ → ℕ → Type 0) → ((j : ℕ) → j < i → P j (getD equals j 0)) → P i q → (j : ℕ) → j < i + 1 → P j (getD (set equals i q) j 0)
   each P before this j h =
@@ -123,15 +193,20 @@ module _ {xs : List (List ℕ)} {equals list : List ℕ} {i m q r : ℕ} (room :
         | no e ↦ subst (P j) (sym (getD-set-other equals i j q 0 e)) (before j (omega arith))
       ]
 
+  small : r ≤ 1
+  small = elim (ℕ-discrete q 0) [ yes z ↦ omega (arith, one .own z) | no z ↦ omega (arith, one .none (omega arith)) ]
+
+  zero : 0 < r → q ≡ 0
+  zero h = elim (ℕ-discrete q 0) [ yes z ↦ z | no z ↦ absurd (omega (arith, one .none (omega arith))) ]
+
   pub deduplicated-step : Deduplicated xs (set equals i q) (set list m i) (i + 1) (m + r)
   deduplicated-step =
       record {
         equal = each (EqualBefore xs) (old .equal) new;
-        count = omega (arith, flag .small, old .count);
-        below = each-step (λ (v : ℕ). v < i + 1) list m (m + r) i room' (omega (arith, flag .small)) (λ z h. omega (arith, old .below z h)) (λ h. omega arith);
+        count = omega (arith, small, old .count);
+        below = each-step (λ (v : ℕ). v < i + 1) list m (m + r) i room' (omega (arith, small)) (λ z h. omega (arith, old .below z h)) (λ h. omega arith);
         listed = each (λ (j v : ℕ). v ≡ 0 → Listed (set list m i) (m + r) j)
             (λ j h u. listed-old list m (m + r) i j (omega arith) (old .listed j h u))
-            (λ u. listed-new list m (m + r) i room' (omega (arith, flag .yes u)));
-        all-unique = λ h.
-            each (λ (j v : ℕ). v ≡ 0) (old .all-unique (omega (arith, flag .small))) (flag .set (omega (arith, flag .small, old .count)));
+            (λ u. listed-new list m (m + r) i room' (omega (arith, one .own u)));
+        all-unique = λ h. each (λ (j v : ℕ). v ≡ 0) (old .all-unique (omega (arith, small))) (zero (omega (arith, old .count)));
       }

@@ -1,5 +1,6 @@
 -- Laws of a round.
 pub mod IndexLists
+pub mod SlotSearch
 pub mod Duplicates
 pub mod AnswerPlaces
 pub mod Lookups

@@ -1,7 +1,6 @@
 -- What the next bucket of a search says, for all names that have the hash at once. Assumes nothing.
 use Prim.Native.Nat.{ℕ, _+_, _*_, _-_, _/_, _%_, _≤_, _<_}
 use native.Mathlib.Omega.{arith}
-use native.Mathlib.Decide.{ℕ-discrete}
 use native.Mathlib.Nat.{mod-add-mod}
 use mathlib.Core.Path.{_≡_, refl, sym, ap, _∙_}
 use mathlib.Core.Bool.{Bool, true, false, _||_}
@@ -11,13 +10,13 @@ use lib.Dec.{eqb}
 use lib.ListN.{length}
 use Rattle.image.specs.Bytes.{word}
 use Rattle.image.specs.Tables.{tableOf, next}
+use Rattle.image.specs.Image.{headSize}
 use Rattle.image.specs.Head.{tableAt, bucketNumber}
 use Rattle.image.proofs.Bools.{false-not-true, or-false-first, or-false-second}
 use Rattle.reader.specs.Lookup.{Probe, pass, ends, probeEntry, probeBucket, decide, unsearched, lookupHash}
 use Rattle.reader.specs.steps.Resume.{searchRest, bucketAfter, searchFrom}
 use Rattle.reader.proofs.Searches.{probe-bucket-by, rest-step, from-over, from-read, from-start}
-use Rattle.batch.specs.steps.Duplicates.{Flag}
-use Rattle.batch.specs.steps.Probing.{Open, Decided, Probed}
+use Rattle.batch.specs.steps.Probing.{Open, Decided, Passes, Probed}
 
 -- ---- whether a bucket is passed
 
@@ -26,22 +25,24 @@ left-one true b t f = refl
 left-one false b t f = absurd (false-not-true (sym f ∙ t))
 
 module _ (hash h offset : ℕ) where
-  -- another hash, and not empty
-  abbrev Passes : Type 0
-  Passes = (hash ≡ h → ⊥) × (0 < offset)
-
-  pub not-passed : (eqb hash h || eqb offset 0) ≡ true → Flag Passes 0
+  pub not-passed : (eqb hash h || eqb offset 0) ≡ true → Passes hash h offset 0
   not-passed t =
       record {
         small = omega arith;
-        yes = λ p. absurd (p .0 (eqb-true hash h (left-one (eqb hash h) (eqb offset 0) t (ne-eqb offset 0 (λ z. omega (arith, p .1))))));
-        set = λ e. absurd (omega arith);
+        other = λ e. absurd (omega arith);
+        taken = λ e. absurd (omega arith);
+        stops = λ e some. eqb-true hash h (left-one (eqb hash h) (eqb offset 0) t (ne-eqb offset 0 (λ z. omega arith)));
       }
 
-  pub is-passed : (eqb hash h || eqb offset 0) ≡ false → Flag Passes 1
+  pub is-passed : (eqb hash h || eqb offset 0) ≡ false → Passes hash h offset 1
   is-passed t =
       let some : offset ≡ 0 → ⊥ = eqb-false offset 0 (or-false-second (eqb hash h) (eqb offset 0) t) in
-      record { small = omega arith; yes = λ p. refl; set = λ e. (eqb-false hash h (or-false-first (eqb hash h) (eqb offset 0) t), omega arith) }
+      record {
+        small = omega arith;
+        other = λ e. eqb-false hash h (or-false-first (eqb hash h) (eqb offset 0) t);
+        taken = λ e. omega arith;
+        stops = λ e. absurd (omega arith);
+      }
 
 -- ---- where a search stands
 
@@ -57,7 +58,7 @@ open-past image h c m none some l before name =
 
 -- the bucket that the search for h reads after c others: bucket k of the table of n buckets at `at`
 pub record BucketRead (image : List ℕ) (h c at n k hash offset : ℕ) : Type 0 where
-  pub head : 2072 ≤ length image
+  pub head : headSize ≤ length image
   pub searched : unsearched image (tableOf h) ≡ false
   pub table : at ≡ tableAt image (tableOf h)
   pub number : n ≡ bucketNumber image (tableOf h)
@@ -109,10 +110,10 @@ module _ {image : List ℕ} {h c at n k hash offset : ℕ} (b : BucketRead image
   decides name e = ap (λ (s : Probe). decide s (c + 1) (searchFrom image name h (c + 1))) e ∙ by-bucket name
 
   -- another hash: the search goes on
-  passed-on : (hash ≡ h → ⊥) × (0 < offset) → Open image h (c + 1)
-  passed-on p name =
-      let other : eqb (word image place) h ≡ false = ne-eqb (word image place) h (λ e. p .0 (hash-here ∙ e)) in
-      decides {s = pass} name (probe-bucket-by image name offset h place false false offset-here (ne-eqb offset 0 (λ z. omega (arith, p .1))) other)
+  passed-on : (hash ≡ h → ⊥) → 0 < offset → Open image h (c + 1)
+  passed-on differs some name =
+      let other : eqb (word image place) h ≡ false = ne-eqb (word image place) h (λ e. differs (hash-here ∙ e)) in
+      decides {s = pass} name (probe-bucket-by image name offset h place false false offset-here (ne-eqb offset 0 (λ z. omega arith)) other)
 
   -- an empty bucket, or one with the hash
   decided-here : (0 < offset → hash ≡ h) → Decided image h (c + 1) offset
@@ -126,10 +127,10 @@ module _ {image : List ℕ} {h c at n k hash offset : ℕ} (b : BucketRead image
             (eq-eqb (word image place) h (sym hash-here ∙ same some)));
       }
 
-  pub probed : {on : ℕ} → Flag ((hash ≡ h → ⊥) × (0 < offset)) on → Probed image h (c + 1) offset on
-  probed {on} flag =
+  pub probed : {on : ℕ} → Passes hash h offset on → Probed image h (c + 1) offset on
+  probed p =
       record {
-        small = flag .small;
-        is-open = λ e. passed-on (flag .set e);
-        decided = λ z. decided-here (λ some. elim (ℕ-discrete hash h) [ yes e ↦ e | no e ↦ absurd (omega (arith, flag .yes (e, some))) ]);
+        small = p .small;
+        is-open = λ e. passed-on (p .other e) (p .taken e);
+        decided = λ z. decided-here (p .stops z);
       }

@@ -5,13 +5,13 @@ use mathlib.Core.Path.{_≡_, sym, ap}
 use mathlib.Core.Bool.{Bool, cond, _||_}
 use mathlib.Core.List.{List, []}
 use lib.Dec.{ltb}
-use lib.ListN.{length, getD}
+use lib.ListN.{length}
 use Rattle.jhash.specs.Outcome.{Outcome, value, refusal}
 use Rattle.reader.specs.Lookup.{lookup}
 use Rattle.batch.specs.RoundNames.{names, invalidEnds}
 use Rattle.batch.specs.Round.{answerWords, roundWords, roundBuckets, rounding, leftBy, afterRound}
 use Rattle.batch.specs.steps.Duplicates.{Deduplicated}
-use Rattle.batch.specs.steps.Answers.{Right, UniqueAnswered}
+use Rattle.batch.specs.steps.Answers.{Right, ListedRight, UniqueAnswered}
 use Rattle.batch.proofs.IndexLists.{listed-has}
 use Rattle.batch.proofs.AnswerPlaces.{placed-words, length-words}
 
@@ -39,6 +39,6 @@ all-words image xs l size places right =
 
 -- the listed names have their answers, and they are the unique ones
 pub unique-answered : {image : List ℕ} {xs : List (List ℕ)} {equals list answers : List ℕ} {n m : ℕ} → length xs ≡ n
-    → Deduplicated xs equals list n m → ((x : ℕ) → x < m → Right image xs answers (getD list x 0)) → UniqueAnswered image xs equals answers n
+    → Deduplicated xs equals list n m → ListedRight image xs list answers m → UniqueAnswered image xs equals answers n
 unique-answered {image} {xs} {answers = answers} size names stored =
     record { size = size; equal = names .equal; right = λ i h u. listed-has (Right image xs answers) stored (names .listed i h u) }

@@ -13,7 +13,7 @@ use Rattle.image.proofs.Equal.{same-self, same-false}
 use Rattle.reader.specs.Lookup.{Lookup, found, nothing, lookup}
 use Rattle.reader.specs.Cases.{reads}
 use Rattle.batch.specs.RoundNames.{among, newOnly, differentFrom, different, nth}
-use Rattle.batch.specs.Round.{answerWords, bucketsOf, roundBuckets}
+use Rattle.batch.specs.Round.{answerWords, bucketsRead, roundBuckets}
 use Rattle.batch.specs.steps.Answers.{UniqueAnswered}
 
 -- ---- whether a name is among those before it
@@ -40,7 +40,7 @@ among-none x (y ∷ ys) h =
 
 -- the buckets of the different names from the i-th on
 abbrev pub bucketsFrom : List ℕ → List (List ℕ) → ℕ → ℕ
-bucketsFrom image xs i = bucketsOf image (differentFrom (take i xs) (drop i xs))
+bucketsFrom image xs i = bucketsRead image (differentFrom (take i xs) (drop i xs))
 
 pub sum-start : (image : List ℕ) (xs : List (List ℕ)) → 0 + bucketsFrom image xs 0 ≡ roundBuckets image xs
 unfolding different
@@ -67,19 +67,19 @@ module _ {image : List ℕ} {xs : List (List ℕ)} {equals answers : List ℕ} {
 
   -- one name more
   more : (i : ℕ) → i < n → (t : Bool) → among (nth xs i) (take i xs) ≡ t
-      → bucketsFrom image xs i ≡ bucketsOf image (newOnly t (nth xs i) (differentFrom (take (i + 1) xs) (drop (i + 1) xs)))
+      → bucketsFrom image xs i ≡ bucketsRead image (newOnly t (nth xs i) (differentFrom (take (i + 1) xs) (drop (i + 1) xs)))
   unfolding differentFrom
   more i h t e =
       let inside : i < length xs = omega (arith, u .size) in
       let s : suc i ≡ i + 1 = sym (add-one i) in
-      ap (λ (l : List (List ℕ)). bucketsOf image (differentFrom (take i xs) l)) (drop-cons xs i [] inside)
-      ∙ ap (λ (b : Bool). bucketsOf image (newOnly b (nth xs i) (differentFrom (take i xs ++ nth xs i ∷ []) (drop (suc i) xs)))) e
-      ∙ ap (λ (seen : List (List ℕ)). bucketsOf image (newOnly t (nth xs i) (differentFrom seen (drop (suc i) xs)))) (sym (take-suc xs i [] inside))
-      ∙ ap (λ (k : ℕ). bucketsOf image (newOnly t (nth xs i) (differentFrom (take k xs) (drop k xs)))) s
+      ap (λ (l : List (List ℕ)). bucketsRead image (differentFrom (take i xs) l)) (drop-cons xs i [] inside)
+      ∙ ap (λ (b : Bool). bucketsRead image (newOnly b (nth xs i) (differentFrom (take i xs ++ nth xs i ∷ []) (drop (suc i) xs)))) e
+      ∙ ap (λ (seen : List (List ℕ)). bucketsRead image (newOnly t (nth xs i) (differentFrom seen (drop (suc i) xs)))) (sym (take-suc xs i [] inside))
+      ∙ ap (λ (k : ℕ). bucketsRead image (newOnly t (nth xs i) (differentFrom (take k xs) (drop k xs)))) s
 
   pub sum-step : (i s b : ℕ) → i < n → (getD equals i 0 ≡ 0 → b ≡ getD answers (4 * i + 2) 0) → (0 < getD equals i 0 → b ≡ 0)
       → s + bucketsFrom image xs i ≡ roundBuckets image xs → s + b + bucketsFrom image xs (i + 1) ≡ roundBuckets image xs
-  unfolding bucketsOf
+  unfolding bucketsRead
   sum-step i s b h own none all =
       elim (ℕ-discrete (getD equals i 0) 0) [
         | yes z ↦
@@ -89,8 +89,8 @@ module _ {image : List ℕ} {xs : List (List ℕ)} {equals answers : List ℕ} {
       ]
 
   pub sum-end : (i s : ℕ) → n ≤ i → s + bucketsFrom image xs i ≡ roundBuckets image xs → s ≡ roundBuckets image xs
-  unfolding bucketsOf differentFrom
+  unfolding bucketsRead differentFrom
   sum-end i s h all =
       let none : bucketsFrom image xs i ≡ 0 =
-      ap (λ (l : List (List ℕ)). bucketsOf image (differentFrom (take i xs) l)) (drop-of-length-le xs {i = i} (omega (arith, u .size))) in
+      ap (λ (l : List (List ℕ)). bucketsRead image (differentFrom (take i xs) l)) (drop-of-length-le xs {i = i} (omega (arith, u .size))) in
       omega arith

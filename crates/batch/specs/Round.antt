@@ -22,13 +22,13 @@ unfoldable pub roundWords : List ℕ → List (List ℕ) → List ℕ
 roundWords image xs = cat (λ (x : List ℕ). answerWords (lookup image x)) xs
 
 -- the buckets that single lookups of some names read
-unfoldable pub bucketsOf : List ℕ → List (List ℕ) → ℕ
-bucketsOf image [] = 0
-bucketsOf image (x ∷ xs) = reads (lookup image x) + bucketsOf image xs
+unfoldable pub bucketsRead : List ℕ → List (List ℕ) → ℕ
+bucketsRead image [] = 0
+bucketsRead image (x ∷ xs) = reads (lookup image x) + bucketsRead image xs
 
 -- "The call's bucket count is the sum over the different names"
 abbrev pub roundBuckets : List ℕ → List (List ℕ) → ℕ
-roundBuckets image xs = bucketsOf image (different xs)
+roundBuckets image xs = bucketsRead image (different xs)
 
 -- "Over 512 names, or ends that fall or pass the bytes, give 14"; "then an answer list shorter than the names gives 15"
 unfoldable pub rounding : List ℕ → List ℕ → List ℕ → ℕ → Outcome ℕ

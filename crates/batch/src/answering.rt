@@ -1,24 +1,26 @@
 // The answers of a round in their places, four words each.
 ghost use mathlib.Core.Path.{_≡_};
 ghost use mathlib.Core.List.{[], _∷_};
-ghost use Prim.Native.Nat.{ℕ, _+_, _*_, _≤_, _<_};
-ghost use lib.ListN.{length, getD};
+ghost use Prim.Native.Nat.{_≤_};
 ghost use Rattle.reader.specs.Cases.{lookupOf};
 ghost use Rattle.reader.specs.Lookup.{lookupBy};
 ghost use Rattle.batch.specs.RoundNames.{names};
 ghost use Rattle.batch.specs.Round.{answerWords};
-ghost use Rattle.batch.specs.steps.Answers.{putWords, wordsIn, HasPlace, Right, PutDecidedPre};
-ghost use Rattle.batch.specs.steps.Answers.{PassCount, ListedNames, DecidedNames, OpenNames, Answered};
-ghost use Rattle.batch.specs.steps.Answers.{SumPre, IfZero, SumsUnique, CopyPre, AllAnswered, Source};
+ghost use Rattle.batch.specs.steps.Answers.{putWords, wordsIn, HasPlace, CopyAnswerPre, PutDecidedPre};
+ghost use Rattle.batch.specs.steps.Answers.{PassCount, ListedNames, ListedRight, DecidedNames, OpenNames};
+ghost use Rattle.batch.specs.steps.Answers.{Answered, EqualsPre, SumsUnique, AllAnswered, Source};
+use super::deduplicate::if_zero;
 use super::probing::pass;
+use image::HEAD_SIZE;
 use packed::name_of;
 use reader::Probe;
 use reader::ToId;
 use reader::lookup::probe_entry;
 use reader::lookup::search_from;
 
-// How many buckets the passes read for each name.
-const PASSES: u32 = 5;
+// How many buckets the passes read for each name. In tables half full, of 512 searches that find nothing 35 are open
+// after five buckets and 8 after eight.
+const PASSES: u32 = 8;
 
 // Stores four words in the i-th place.
 pub(crate) fn put_words(
@@ -58,7 +60,7 @@ fn put_answer(answers: &mut [u32], i: usize, answer: ToId)
 
 // Copies the answer of one place to another.
 fn copy_answer(answers: &mut [u32], from: usize, to: usize)
-    requires { ⌜ HasPlace (now answers) from × HasPlace (now answers) to ⌝ }
+    requires { ⌜ CopyAnswerPre (now answers) from to ⌝ }
     ensures { λ _. ⌜
         now (answers .exit) ≡ putWords (now (answers .entry)) to (wordsIn (now (answers .entry)) from)
         ⌝ }
@@ -170,14 +172,14 @@ fn find_open(
 fn pass_count(image: &[u8], bytes: &[u8]) -> u32
     ensures { λ r. ⌜ PassCount (now (image .entry)) (now (bytes .entry)) r ⌝ }
 {
-    if image.len() < 2072 {
+    if image.len() < HEAD_SIZE {
         return 0;
     }
     if 4294967295 <= bytes.len() { 0 } else { PASSES }
 }
 
-// Stores the answers of the first m names listed in `live`: five passes, and then each search that is still open goes
-// on by itself.
+// Stores the answers of the first m names listed in `live`: passes, and then each search that is still open goes on by
+// itself.
 pub(crate) fn find_all(
     image: &[u8],
     bytes: &[u8],
@@ -189,9 +191,8 @@ pub(crate) fn find_all(
 )
     requires { ⌜ ListedNames (now bytes) (now ends) (now keys) (now live) (now answers) m ⌝ }
     ensures { λ _. ⌜
-        ((x : ℕ) → x < m
-        → Right (now (image .entry)) (names (now (bytes .entry)) (now (ends .entry))) (now (answers .exit))
-        (getD (now (live .entry)) x 0))
+        ListedRight (now (image .entry)) (names (now (bytes .entry)) (now (ends .entry))) (now (live .entry))
+        (now (answers .exit)) m
         ⌝ }
 {
     let mut done: [u16; 512] = [0; 512];
@@ -218,32 +219,17 @@ pub(crate) fn find_all(
     find_open(image, bytes, ends, keys, &*live, q, c, &mut *answers);
 }
 
-// x where q is 0, else 0.
-fn if_zero(q: u16, x: u32) -> u32
-    ensures { λ r. ⌜ IfZero q x r ⌝ }
-{
-    if q == 0 { x } else { 0 }
-}
-
-// The buckets that the answer in the i-th place counts.
-fn buckets_at(answers: &[u32], i: usize) -> u32
-    requires { ⌜ HasPlace (now answers) i ⌝ }
-    ensures { λ r. ⌜ r ≡ getD (now (answers .entry)) (4 * i + 2) 0 ⌝ }
-{
-    answers[4 * i + 2]
-}
-
 // The buckets read over the unique ones of n names, from the answers in their places. Their order does not follow the
 // passes', so they are added up here. There is no branch.
 pub(crate) fn sum_buckets(equals: &[u16], n: usize, answers: &[u32]) -> u64
-    requires { ⌜ SumPre (now equals) (now answers) n ⌝ }
+    requires { ⌜ EqualsPre (now equals) (now answers) n ⌝ }
     ensures { λ r. ⌜ SumsUnique (now (equals .entry)) (now (answers .entry)) n r ⌝ }
 {
     let mut sum: u64 = 0;
     let mut i: usize = 0;
     while i < n {
         let q = equals[i];
-        sum += if_zero(q, buckets_at(answers, i)) as u64;
+        sum += if_zero(q, answers[4 * i + 2]) as u64;
         i += 1;
     }
     sum
@@ -260,7 +246,7 @@ fn source(i: usize, q: usize) -> usize
 // Copies to each of n places the answer of the equal name before; a unique name's is copied to where it stands, so
 // there is no branch.
 pub(crate) fn copy_duplicates(equals: &[u16], n: usize, answers: &mut [u32])
-    requires { ⌜ CopyPre (now equals) (now answers) n ⌝ }
+    requires { ⌜ EqualsPre (now equals) (now answers) n ⌝ }
     ensures { λ _. ⌜ AllAnswered (now (equals .entry)) n (now (answers .entry)) (now (answers .exit)) ⌝ }
 {
     let mut i: usize = 0;

@@ -1,18 +1,20 @@
-// Duplicates among the names of a round, found by hash slots on the stack. Names whose keys share a slot are chained,
-// each to the last before it. Along a chain names are compared where the whole keys are equal: different names can have
-// one hash.
+// Duplicates among the names of a round, found by open addressing in slots on the stack, as in an index. A slot has the
+// number of a name, counted from 1, or 0 where it is empty. A search goes along the slots from (hash / 256) modulo
+// their number on, and compares names where the whole keys are equal: different names can have one hash.
 ghost use mathlib.Core.Path.{_≡_};
 ghost use lib.ListN.{length};
 ghost use Rattle.image.specs.Bytes.{same};
 ghost use Rattle.batch.specs.RoundNames.{names, nth};
-ghost use Rattle.batch.specs.steps.Duplicates.{Flag, Keys, HashAllPre, ComparePre};
-ghost use Rattle.batch.specs.steps.Duplicates.{EqualBefore, EqualBeforePre, Deduplicated, DeduplicatePre};
+ghost use Rattle.batch.specs.steps.Duplicates.{Keys, HashAllPre, ComparePre, IfZero};
+ghost use Rattle.batch.specs.steps.Duplicates.{FindOrInsertPre, FoundOrInserted, Deduplicated, DeduplicatePre};
 use image::equality::same;
+use image::probe::next;
+use image::probe::start;
 use packed::key;
 use packed::name_of;
 
-// Eight for each name of a whole round, so that few names share one.
-const SLOTS: u32 = 4096;
+// Eight for each name of a whole round, so that few searches meet another name.
+const SLOTS: usize = 4096;
 
 // Stores the keys of all names.
 pub(crate) fn hash_all(bytes: &[u8], ends: &[u64], keys: &mut [u32])
@@ -40,27 +42,37 @@ fn equal_names(bytes: &[u8], ends: &[u64], keys: &[u32], j: usize, i: usize) -> 
     same(name_of(bytes, ends, j), name_of(bytes, ends, i))
 }
 
-// The number, counted from 1, of a name before the i-th that equals it; 0 where there is none.
-fn equal_before(bytes: &[u8], ends: &[u64], keys: &[u32], links: &[u16], i: usize) -> u16
-    requires { ⌜ EqualBeforePre (now bytes) (now ends) (now keys) (now links) i ⌝ }
-    ensures { λ r. ⌜ EqualBefore (names (now (bytes .entry)) (now (ends .entry))) i r ⌝ }
+// The number, counted from 1, of a name before the i-th that equals it. 0 where there is none: then the i-th name's own
+// number is stored in the first empty slot.
+fn find_or_insert(bytes: &[u8], ends: &[u64], keys: &[u32], slots: &mut [u16], i: usize) -> u16
+    requires { ⌜ FindOrInsertPre (now bytes) (now ends) (now keys) (now slots) i ⌝ }
+    ensures { λ r. ⌜
+        FoundOrInserted (names (now (bytes .entry)) (now (ends .entry))) (now (keys .entry)) (now (slots .exit)) i r
+        ⌝ }
 {
-    let mut q = links[i];
-    while 0 < q {
-        let j = (q - 1) as usize;
-        if equal_names(bytes, ends, keys, j, i) {
+    let mut k = start(keys[i], SLOTS as u32);
+    let mut left = SLOTS;
+    while 0 < left {
+        let q = slots[k];
+        if q == 0 {
+            slots[k] = (i + 1) as u16;
+            return 0;
+        }
+        if equal_names(bytes, ends, keys, (q - 1) as usize, i) {
             return q;
         }
-        q = links[j];
+        k = next(k, SLOTS);
+        left -= 1;
     }
+    // Not reached: there are more slots than names.
     0
 }
 
-// 1 for 0, 0 for all others.
-fn one_if_zero(q: u16) -> usize
-    ensures { λ r. ⌜ Flag (q ≡ 0) r ⌝ }
+// x where q is 0, else 0.
+pub(crate) fn if_zero(q: u16, x: u32) -> u32
+    ensures { λ r. ⌜ IfZero q x r ⌝ }
 {
-    if q == 0 { 1 } else { 0 }
+    if q == 0 { x } else { 0 }
 }
 
 // Stores for each name the number of an equal one before it, or 0, and lists the indexes of the unique names, those
@@ -79,17 +91,13 @@ pub(crate) fn deduplicate(
         ⌝ }
 {
     let mut slots: [u16; 4096] = [0; 4096];
-    let mut links: [u16; 512] = [0; 512];
     let mut m: usize = 0;
     let mut i: usize = 0;
     while i < ends.len() {
-        let s = (keys[i] % SLOTS) as usize;
-        links[i] = slots[s];
-        slots[s] = (i + 1) as u16;
-        let q = equal_before(bytes, ends, keys, &links, i);
+        let q = find_or_insert(bytes, ends, keys, &mut slots, i);
         equals[i] = q;
         list[m] = i as u16;
-        m += one_if_zero(q);
+        m += if_zero(q, 1) as usize;
         i += 1;
     }
     m

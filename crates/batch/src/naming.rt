@@ -1,17 +1,16 @@
 // Ids in and names out: the places of the names of a whole round.
 ghost use mathlib.Core.Path.{_≡_};
-ghost use Prim.Native.Nat.{_*_, _/_, _<_};
+ghost use Prim.Native.Nat.{_*_, _/_};
 ghost use lib.ListN.{length};
 ghost use Rattle.reader.specs.Cases.{namingOf};
-ghost use Rattle.reader.specs.Naming.{lengthIn};
 ghost use Rattle.batch.specs.NameRound.{placeWords, nameWords, nameRefusal, afterNames};
-ghost use Rattle.batch.specs.steps.Answers.{putWords, HasPlace};
+ghost use Rattle.batch.specs.steps.Answers.{putWords, PutPlacePre};
 use super::answering::put_words;
 use reader::Named;
 
 // Stores the place of a name, or nothing, in four words, where the name's length is below 2^32.
 fn put_place(answers: &mut [u32], i: usize, named: Named)
-    requires { ⌜ HasPlace (now answers) i × (lengthIn (namingOf named) < 4294967296) ⌝ }
+    requires { ⌜ PutPlacePre (now answers) i (namingOf named) ⌝ }
     ensures { λ _. ⌜ now (answers .exit) ≡ putWords (now (answers .entry)) i (placeWords (namingOf named)) ⌝ }
 {
     match named {

@@ -1,10 +1,8 @@
 // A pass of a round: each search that is still open reads its next bucket. Where a bucket is there to be read the pass
 // has no branch that depends on the names, so that none is mispredicted and the reads of many names are under way at
 // once.
-ghost use mathlib.Core.Path.{_≡_};
-ghost use Prim.Native.Nat.{_+_, _-_, _<_};
-ghost use Rattle.batch.specs.steps.Duplicates.{Flag};
-ghost use Rattle.batch.specs.steps.Probing.{ProbePre, Probed, PassPre, Partition};
+ghost use Prim.Native.Nat.{_+_, _-_};
+ghost use Rattle.batch.specs.steps.Probing.{Passes, ProbePre, Probed, PassPre, Partition};
 use jhash::word::word;
 use reader::lookup::bucket_after;
 use reader::lookup::table_of;
@@ -17,7 +15,7 @@ struct BucketProbe {
 
 // 1 where a search for the hash h passes a bucket with this hash and offset: another hash, and not empty. Else 0.
 fn passes(hash: u32, h: u32, offset: u32) -> usize
-    ensures { λ r. ⌜ Flag ((hash ≡ h → ⊥) × (0 < offset)) r ⌝ }
+    ensures { λ r. ⌜ Passes hash h offset r ⌝ }
 {
     if (hash == h) | (offset == 0) { 0 } else { 1 }
 }

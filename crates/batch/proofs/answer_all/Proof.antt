@@ -7,7 +7,7 @@ use borrow.Author.Needs.{needs}
 use Rattle.packed.proofs.NameEnds.{length-names}
 use Rattle.batch.specs.RoundNames.{names}
 use Rattle.batch.specs.steps.Duplicates.{KeyedNames}
-use Rattle.batch.specs.steps.Answers.{UniqueAnswered}
+use Rattle.batch.specs.steps.Answers.{UniqueAnswered, EqualsPre}
 use Rattle.batch.proofs.RoundAnswers.{all-words, unique-answered}
 use Rattle.batch.proofs.answer_all.Statement.{statement}
 use Rattle.batch.proofs.answer_all.Tie as tie
@@ -42,10 +42,26 @@ keyed c =
       keyed = c .hash-all .ensures;
     }
 
+-- the numbers of equal names, and the answers
+abbrev equals : tie.After-find-all → List ℕ
+equals c = deduplicated c .deduplicate .last .1 .1 .1 .0
+
+abbrev answers : tie.After-find-all → List ℕ
+answers c = c .find-all .last .1 .1 .1 .1 .1 .1 .0
+
+equal-names : (c : tie.After-find-all) → EqualsPre (equals c) (answers c) (length (begun c .args .ends .now))
+equal-names c =
+    let s = begun c in
+    let d = deduplicated c .deduplicate in
+    record {
+      few = s .pre .few;
+      inside = omega (arith, d .kept, length-replicate {A = ℕ} 512 0, s .pre .few);
+      places = omega (arith, c .find-all .kept, s .pre .places);
+      earlier = λ i h. d .ensures .equal i h .below;
+    }
+
 -- the unique names have their answers
-answered : (c : tie.After-find-all)
-    → UniqueAnswered (begun c .args .image .now) (names-in c) (deduplicated c .deduplicate .last .1 .1 .1 .0) (c .find-all .last .1 .1 .1 .1 .1 .1 .0)
-    (length (begun c .args .ends .now))
+answered : (c : tie.After-find-all) → UniqueAnswered (begun c .args .image .now) (names-in c) (equals c) (answers c) (length (begun c .args .ends .now))
 answered c =
     unique-answered (length-names (begun c .args .bytes .now) (begun c .args .ends .now)) (deduplicated c .deduplicate .ensures) (c .find-all .ensures)
 
@@ -73,25 +89,10 @@ find-all-requires c κs =
     }
 
 sum-buckets-requires : tie.Need-sum-buckets-requires
-sum-buckets-requires c κs =
-    let f = c .before .before .before .before .before in
-    let s = begun f in
-    record {
-      few = s .pre .few;
-      inside = omega (arith, deduplicated f .deduplicate .kept, length-replicate {A = ℕ} 512 0, s .pre .few);
-      places = omega (arith, f .find-all .kept, s .pre .places);
-    }
+sum-buckets-requires c κs = equal-names (c .before .before .before .before .before)
 
 copy-duplicates-requires : tie.Need-copy-duplicates-requires
-copy-duplicates-requires c κs =
-    let f = found (c .before .before .before) in
-    let s = begun f in
-    let d = deduplicated f .deduplicate in
-    record {
-      inside = omega (arith, d .kept, length-replicate {A = ℕ} 512 0, s .pre .few);
-      places = omega (arith, f .find-all .kept, s .pre .places);
-      earlier = λ i h. d .ensures .equal i h .below;
-    }
+copy-duplicates-requires c κs = equal-names (found (c .before .before .before))
 
 returns : tie.Need-returns
 returns c =

@@ -4,7 +4,9 @@ use mathlib.Core.Path.{_≡_}
 use mathlib.Core.Bool.{false}
 use mathlib.Core.List.{List, [], _∷_}
 use lib.ListN.{length, getD, set}
+use Rattle.image.specs.Image.{headSize}
 use Rattle.reader.specs.Lookup.{lookup}
+use Rattle.reader.specs.Naming.{Naming, lengthIn}
 use Rattle.batch.specs.RoundNames.{names, invalidEnds, nth}
 use Rattle.batch.specs.Round.{answerWords, roundWords, roundBuckets}
 use Rattle.batch.specs.steps.Duplicates.{KeyedNames, EqualBefore, IsUnique}
@@ -22,6 +24,15 @@ wordsIn l i = getD l (4 * i) 0 ∷ getD l (4 * i + 1) 0 ∷ getD l (4 * i + 2) 0
 -- there is an i-th place
 abbrev pub HasPlace : List ℕ → ℕ → Type 0
 HasPlace l i = 4 * i + 4 ≤ length l
+
+pub record CopyAnswerPre (answers : List ℕ) (from to : ℕ) : Type 0 where
+  pub source : HasPlace answers from
+  pub target : HasPlace answers to
+
+-- a name's length is a word
+pub record PutPlacePre (answers : List ℕ) (i : ℕ) (x : Naming) : Type 0 where
+  pub inside : HasPlace answers i
+  pub short : lengthIn x < 4294967296
 
 -- a place holds these words
 abbrev pub Has : List ℕ → ℕ → List ℕ → Type 0
@@ -45,8 +56,8 @@ pub record AnsweredAll (image : List ℕ) (xs : List (List ℕ)) (answers : List
 
 -- passes are made only over an image with a head, for names that are not too long
 pub record PassCount (image bytes : List ℕ) (r : ℕ) : Type 0 where
-  pub few : r ≤ 5
-  pub head : 0 < r → 2072 ≤ length image
+  pub few : r ≤ 8
+  pub head : 0 < r → headSize ≤ length image
   pub short : 0 < r → length bytes < 4294967295
 
 pub record PutDecidedPre (image name answers : List ℕ) (h offset c i : ℕ) : Type 0 where
@@ -77,10 +88,14 @@ pub record OpenNames (image bytes ends keys list answers : List ℕ) (m c : ℕ)
   pub small : c ≤ 512
   pub is-open : (x : ℕ) → x < m → Open image (getD keys (getD list x 0) 0) c
 
--- the first m listed names have their answers, and what was right stays so
+-- the first m listed names have their answers
+abbrev pub ListedRight : List ℕ → List (List ℕ) → List ℕ → List ℕ → ℕ → Type 0
+ListedRight image xs list answers m = (x : ℕ) → x < m → Right image xs answers (getD list x 0)
+
+-- and what was right stays so
 pub record Answered (image bytes ends list before after : List ℕ) (m : ℕ) : Type 0 where
   pub stays : (i : ℕ) → Right image (names bytes ends) before i → Right image (names bytes ends) after i
-  pub stored : (x : ℕ) → x < m → Right image (names bytes ends) after (getD list x 0)
+  pub stored : ListedRight image (names bytes ends) list after m
 
 -- ---- duplicates
 
@@ -90,26 +105,18 @@ pub record UniqueAnswered (image : List ℕ) (xs : List (List ℕ)) (equals answ
   pub equal : (i : ℕ) → i < n → EqualBefore xs i (getD equals i 0)
   pub right : (i : ℕ) → i < n → IsUnique equals i → Right image xs answers i
 
-pub record SumPre (equals answers : List ℕ) (n : ℕ) : Type 0 where
+-- for each of n names the number of an equal one before it, counted from 1, or 0; and the names' places
+pub record EqualsPre (equals answers : List ℕ) (n : ℕ) : Type 0 where
   pub few : n ≤ 512
   pub inside : n ≤ length equals
   pub places : 4 * n ≤ length answers
-
--- x where q is 0, else 0
-pub record IfZero (q x r : ℕ) : Type 0 where
-  pub own : q ≡ 0 → r ≡ x
-  pub none : 0 < q → r ≡ 0
+  pub earlier : (i : ℕ) → i < n → getD equals i 0 ≤ i
 
 -- the sum of the buckets read, each name counted once
 abbrev pub SumsUnique : List ℕ → List ℕ → ℕ → ℕ → Type 0
 SumsUnique equals answers n r =
     (image : List ℕ) (xs : List (List ℕ)) → UniqueAnswered image xs equals answers n
     → r ≡ roundBuckets image xs
-
-pub record CopyPre (equals answers : List ℕ) (n : ℕ) : Type 0 where
-  pub inside : n ≤ length equals
-  pub places : 4 * n ≤ length answers
-  pub earlier : (i : ℕ) → i < n → getD equals i 0 ≤ i
 
 -- with the answers of unique names in `before`, all names have theirs
 abbrev pub AllAnswered : List ℕ → ℕ → List ℕ → List ℕ → Type 0

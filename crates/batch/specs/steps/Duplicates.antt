@@ -1,17 +1,17 @@
 -- What the steps that find duplicates ask and promise. Equal names are searched for once.
-use Prim.Native.Nat.{ℕ, _+_, _-_, _%_, _≤_, _<_}
+use Prim.Native.Nat.{ℕ, _+_, _-_, _≤_, _<_}
 use mathlib.Core.Path.{_≡_}
 use mathlib.Core.Bool.{false}
 use mathlib.Core.List.{List}
 use lib.ListN.{length, getD}
 unfoldable pub use Rattle.packed.specs.Keys.{key}
 use Rattle.batch.specs.RoundNames.{names, invalidEnds, nth}
+use Rattle.batch.specs.steps.Slots.{SlotsHold}
 
--- a flag: 1 exactly where P holds, else 0
-pub record Flag (P : Type 0) (r : ℕ) : Type 0 where
-  pub small : r ≤ 1
-  pub yes : P → r ≡ 1
-  pub set : r ≡ 1 → P
+-- x where q is 0, else 0
+pub record IfZero (q x r : ℕ) : Type 0 where
+  pub own : q ≡ 0 → r ≡ x
+  pub none : 0 < q → r ≡ 0
 
 -- ---- lists of numbers
 
@@ -38,22 +38,6 @@ pub record KeyedNames (bytes ends keys : List ℕ) : Type 0 where
   pub capacity : length ends ≤ length keys
   pub keyed : Keys (names bytes ends) keys
 
--- ---- chains of names whose keys have one slot
-
--- the slot of the i-th key
-abbrev pub slot : List ℕ → ℕ → ℕ
-slot keys i = getD keys i 0 % 4096
-
--- p is the number, counted from 1, of the last of the first i keys whose slot is s; 0 where there is none
-pub record Last (keys : List ℕ) (i s p : ℕ) : Type 0 where
-  pub below : p ≤ i
-  pub there : 0 < p → slot keys (p - 1) ≡ s
-  pub none-after : (j : ℕ) → p ≤ j → j < i → slot keys j ≡ s → ⊥
-
--- each of the first n keys is linked to the last before it in its slot
-abbrev pub Linked : List ℕ → ℕ → List ℕ → Type 0
-Linked keys n links = (i : ℕ) → i < n → Last keys i (slot keys i) (getD links i 0)
-
 -- ---- equal names
 
 pub record ComparePre (bytes ends keys : List ℕ) (j i : ℕ) : Type 0 where
@@ -67,11 +51,16 @@ pub record EqualBefore (xs : List (List ℕ)) (i q : ℕ) : Type 0 where
   pub there : 0 < q → nth xs (q - 1) ≡ nth xs i
   pub none : q ≡ 0 → (j : ℕ) → j < i → nth xs j ≡ nth xs i → ⊥
 
-pub record EqualBeforePre (bytes ends keys links : List ℕ) (i : ℕ) : Type 0 where
+-- the slots hold the names before the i-th
+pub record FindOrInsertPre (bytes ends keys slots : List ℕ) (i : ℕ) : Type 0 where
+  pub holds : SlotsHold (names bytes ends) keys slots i
   pub names : KeyedNames bytes ends keys
   pub inside : i < length ends
-  pub capacity : length ends ≤ length links
-  pub linked : Linked keys (i + 1) links
+
+-- r is the number of a name before the i-th that equals it, or 0, and the slots hold the i-th too
+pub record FoundOrInserted (xs : List (List ℕ)) (keys slots : List ℕ) (i r : ℕ) : Type 0 where
+  pub equal : EqualBefore xs i r
+  pub holds : SlotsHold xs keys slots (i + 1)
 
 pub record DeduplicatePre (bytes ends keys equals list : List ℕ) : Type 0 where
   pub names : KeyedNames bytes ends keys

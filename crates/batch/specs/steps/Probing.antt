@@ -22,6 +22,13 @@ pub record Decided (image : List ℕ) (h c e : ℕ) : Type 0 where
   pub by-entry : 0 < e → (name : List ℕ)
       → decide (probeEntry image name e) c (searchFrom image name h c) ≡ lookupHash image name h
 
+-- r is 1 where a search for the hash h passes a bucket, one of another hash that is not empty; else 0
+pub record Passes (hash h offset r : ℕ) : Type 0 where
+  pub small : r ≤ 1
+  pub other : r ≡ 1 → hash ≡ h → ⊥
+  pub taken : r ≡ 1 → 0 < offset
+  pub stops : r ≡ 0 → 0 < offset → hash ≡ h
+
 pub record ProbePre (image : List ℕ) (h c : ℕ) : Type 0 where
   pub head : headSize ≤ length image
   pub small : c < 512

@@ -9,7 +9,7 @@ use Rattle.jhash.specs.Outcome.{value, refusal}
 use Rattle.reader.specs.Lookup.{lookup}
 use Rattle.reader.specs.Naming.{naming}
 use Rattle.batch.specs.RoundNames.{names, invalidEnds, among, different, packedBytes, endsFrom, nth}
-use Rattle.batch.specs.Round.{answerWords, bucketsOf, roundBuckets, rounding, afterRound}
+use Rattle.batch.specs.Round.{answerWords, bucketsRead, roundBuckets, rounding, afterRound}
 use Rattle.batch.specs.NameRound.{placeWords, nameRefusal, afterNames}
 
 -- no two of the names are equal
@@ -48,12 +48,12 @@ pub record RoundHolds : Type 0 where
       → placeAt (afterRound image bytes ends answers) i ≡ placeAt (afterRound image bytes' ends' answers') j
   -- "The call's bucket count is the sum over the different names"
   pub counted : (image bytes ends answers : List ℕ) (a : Accepted image bytes ends answers)
-      → a .count ≡ bucketsOf image (different (names bytes ends))
+      → a .count ≡ bucketsRead image (different (names bytes ends))
   pub once-each : (xs : List (List ℕ)) → OnceEach xs
   -- "so never above that of single calls"; with all names different it is that sum
-  pub not-above : (image : List ℕ) (xs : List (List ℕ)) → roundBuckets image xs ≤ bucketsOf image xs
+  pub not-above : (image : List ℕ) (xs : List (List ℕ)) → roundBuckets image xs ≤ bucketsRead image xs
   pub all-different : (image : List ℕ) (xs : List (List ℕ)) → Distinct xs
-      → roundBuckets image xs ≡ bucketsOf image xs
+      → roundBuckets image xs ≡ bucketsRead image xs
   -- "answer places past the last name keep their content"; a refusal writes nothing
   pub past-kept : (image bytes ends answers : List ℕ) → Accepted image bytes ends answers
       → drop (4 * length ends) (afterRound image bytes ends answers) ≡ drop (4 * length ends) answers

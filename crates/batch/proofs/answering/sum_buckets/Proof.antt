@@ -2,7 +2,7 @@
 -- nothing.
 use Prim.Native.Nat.{ℕ, _+_, _*_, _-_, _≤_}
 use native.Mathlib.Omega.{arith}
-use mathlib.Core.Path.{_≡_, _∙_}
+use mathlib.Core.Path.{_≡_}
 use mathlib.Core.List.{List}
 use borrow.Author.Needs.{needs}
 use Rattle.batch.specs.Round.{roundBuckets}
@@ -35,7 +35,7 @@ loop-again c =
       inside = omega arith;
       small = omega (arith, c .if-zero .ok, l .inv .small);
       whole = λ image xs u.
-          sum-step u (l .i) (l .sum) (c .if-zero .result) (omega arith) (λ z. c .if-zero .ensures .own z ∙ c .before .buckets-at .ensures)
+          sum-step u (l .i) (l .sum) (c .if-zero .result) (omega arith) (c .if-zero .ensures .own)
           (c .if-zero .ensures .none) (l .inv .whole image xs u);
     }
 
@@ -52,7 +52,10 @@ sum-buckets-spec =
     loop-holds
     (λ c. search needs)
     (λ c. search needs)
-    (λ c κs. search needs)
+    (λ c. search needs)
+    (λ c. search needs)
+    (λ c. search needs)
+    (λ c. search needs)
     (λ c κs. search needs)
     (λ c. search needs)
     add-sum

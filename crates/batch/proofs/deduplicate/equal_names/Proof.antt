@@ -13,22 +13,25 @@ use Rattle.batch.proofs.Duplicates.{other-key}
 use Rattle.batch.proofs.deduplicate.equal_names.Statement.{statement}
 use Rattle.batch.proofs.deduplicate.equal_names.Tie as tie
 
+abbrev start : tie.After-shared-slice-known5 → tie.Start
+start c = c .before .before .before .before .before
+
 returns : tie.Need-returns
 returns c =
-    let s = c .before .before .before .before .before .before in
+    let s = start (c .before) in
     let xs = names (s .args .bytes .now) (s .args .ends .now) in
     let size = length-names (s .args .bytes .now) (s .args .ends .now) in
     let i : s .args .i < length xs = omega (arith, s .pre .second) in
     let j : s .args .j < length xs = omega (arith, s .pre .first) in
     sym
     (same-false (nth xs (s .args .j)) (nth xs (s .args .i))
-    (other-key xs (s .args .keys .now) (s .args .i) (s .pre .names .keyed) i (s .args .j) j (c .if1 .taken)))
+    (other-key xs (s .args .keys .now) (s .pre .names .keyed) (s .args .j) (s .args .i) j i (c .if1 .taken)))
 
 returns-2 : tie.Need-returns-2
 returns-2 c =
     let name-i = c .before in
     let name-j = name-i .before in
-    let s = name-j .before .before .before .before .before .before .before in
+    let s = start (name-j .before .before) in
     c .same .ensures
     ∙ ap (λ (l : List ℕ). same l (name-i .name-of2 .result .now)) (name-j .name-of .ensures)
     ∙ ap (same (nth (names (s .args .bytes .now) (s .args .ends .now)) (s .args .j))) (name-i .name-of2 .ensures)

@@ -39,12 +39,14 @@ loop-holds c = record { inside = omega arith; long = refl; stored = λ j h. absu
 put-place-requires : tie.Need-put-place-requires Inv-loop μ-loop
 put-place-requires c κs =
     let at = entered c in
-    let s = start at in (
-      omega (arith, s .pre, at .loop .inv .long, c .before .before .before .loop-test .taken),
-      rw (c .to-str .ensures)
+    let s = start at in
+    record {
+      inside = omega (arith, s .pre, at .loop .inv .long, c .before .before .before .loop-test .taken);
+      short =
+          rw (c .to-str .ensures)
           (naming-small (s .args .image .now) (getD (s .args .ids .now) (at .loop .i) 0)
-          (λ (i : ℕ). omega (arith, at .before .before .before .shared-slice-known .given i))),
-    )
+          (λ (i : ℕ). omega (arith, at .before .before .before .shared-slice-known .given i)));
+    }
 
 loop-again : tie.Need-loop-again Inv-loop μ-loop
 loop-again c =

@@ -14,7 +14,7 @@ use Rattle.batch.proofs.naming.put_place.Tie as tie
 cast-put-words : tie.Need-cast-put-words
 cast-put-words c =
     let known = c .before .before in
-    let small = subst (λ (x : Named). lengthIn (namingOf x) < 4294967296) (known .named .given .1) (known .before .before .before .pre .1) in
+    let small = subst (λ (x : Named). lengthIn (namingOf x) < 4294967296) (known .named .given .1) (known .before .before .before .pre .short) in
     omega (arith, small)
 
 returns : tie.Need-returns
