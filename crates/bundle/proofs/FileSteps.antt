@@ -11,12 +11,18 @@ use lib.ListN.{length}
 use Rattle.jhash.specs.Outcome.{Outcome, refusal}
 use Rattle.image.proofs.Bools.{or-false-first, or-false-second}
 use Rattle.bundle.specs.FileWalk.{sizeAt, breaks, fileStep}
+use Rattle.bundle.specs.steps.Contracts.{SizeRead}
 
 -- an image begins at the place: its size word is there, is at least 2,072, and does not lead past the file's end
 pub record Begins (file : List ℕ) (at : ℕ) : Type 0 where
   pub head : at + 8 ≤ length file
   pub large : 2072 ≤ sizeAt file at
   pub inside : at + sizeAt file at ≤ length file
+
+-- an image of this size begins at the place
+pub record ImageThere (file : List ℕ) (at size : ℕ) : Type 0 where
+  pub begins : Begins file at
+  pub size-is : sizeAt file at ≡ size
 
 pub data Met (file : List ℕ) (at : ℕ) : Type 0 where
   ended : at ≡ length file → Met file at
@@ -68,34 +74,44 @@ module _ (file : List ℕ) (at : ℕ) where
         rw (ne-eqb at (length file) n, begins-unbroken b)
 
   -- the size of the image that begins there, 0 where the walk breaks off: as the code reads it, w is the size word
-  pub size-short : at ≤ length file → length file - at < 8 → 0 ≡ cond (breaks file at) 0 (sizeAt file at)
-  size-short h k = simp (lt-ltb (length file) (at + 8) (omega arith))
+  pub size-short : at ≤ length file → length file - at < 8 → SizeRead file at 0
+  size-short h k = record { size = simp (lt-ltb (length file) (at + 8) (omega arith)); inside = omega arith }
 
-  pub size-small : (w : ℕ) → at ≤ length file → 8 ≤ length file - at → w ≡ sizeAt file at → w < 2072 → 0 ≡ cond (breaks file at) 0 (sizeAt file at)
-  size-small w h k e l = simp (le-ltb (length file) (at + 8) (omega arith), lt-ltb (sizeAt file at) 2072 (omega arith))
+  pub size-small : (w : ℕ) → at ≤ length file → 8 ≤ length file - at → w ≡ sizeAt file at → w < 2072 → SizeRead file at 0
+  size-small w h k e l =
+      record {
+        size = simp (le-ltb (length file) (at + 8) (omega arith), lt-ltb (sizeAt file at) 2072 (omega arith));
+        inside = omega arith;
+      }
 
   pub size-past : (w : ℕ) → at ≤ length file → 8 ≤ length file - at → w ≡ sizeAt file at → 2072 ≤ w → length file - at < w
-      → 0 ≡ cond (breaks file at) 0 (sizeAt file at)
+      → SizeRead file at 0
   size-past w h k e l p =
-      simp
-      (le-ltb (length file) (at + 8) (omega arith), le-ltb (sizeAt file at) 2072 (omega arith), lt-ltb (length file) (at + sizeAt file at) (omega arith))
+      let whole = le-ltb (length file) (at + 8) (omega arith) in
+      let large = le-ltb (sizeAt file at) 2072 (omega arith) in
+      let past = lt-ltb (length file) (at + sizeAt file at) (omega arith) in
+      record { size = simp (whole, large, past); inside = omega arith }
 
   pub size-fine : (w : ℕ) → at ≤ length file → 8 ≤ length file - at → w ≡ sizeAt file at → 2072 ≤ w → w ≤ length file - at
-      → w ≡ cond (breaks file at) 0 (sizeAt file at)
+      → SizeRead file at w
   size-fine w h k e l p =
-      e ∙ ap (λ (b : Bool). cond b 0 (sizeAt file at)) (sym (begins-unbroken (record { head = omega arith; large = omega arith; inside = omega arith })))
+      let begins : Begins file at = record { head = omega arith; large = omega arith; inside = omega arith } in
+      record {
+        size = e ∙ ap (λ (b : Bool). cond b 0 (sizeAt file at)) (sym (begins-unbroken begins));
+        inside = omega arith;
+      }
 
   -- what that number says
-  pub none-there : 0 ≡ cond (breaks file at) 0 (sizeAt file at) → breaks file at ≡ true
-  none-there e = go (breaks file at) refl e
+  pub none-there : (w : ℕ) → SizeRead file at w → w ≡ 0 → breaks file at ≡ true
+  none-there w r z = go (breaks file at) refl (sym z ∙ r .size)
     where
       go : (b : Bool) → breaks file at ≡ b → 0 ≡ cond b 0 (sizeAt file at) → b ≡ true
       go true p q = refl
       go false p q = let l = unbroken p .large in absurd (omega arith)
 
-  pub some-there : (w : ℕ) → w ≡ cond (breaks file at) 0 (sizeAt file at) → (w ≡ 0 → ⊥) → Begins file at × (sizeAt file at ≡ w)
-  some-there w e n = go (breaks file at) refl e
+  pub some-there : (w : ℕ) → SizeRead file at w → (w ≡ 0 → ⊥) → ImageThere file at w
+  some-there w r n = go (breaks file at) refl (r .size)
     where
-      go : (b : Bool) → breaks file at ≡ b → w ≡ cond b 0 (sizeAt file at) → Begins file at × (sizeAt file at ≡ w)
+      go : (b : Bool) → breaks file at ≡ b → w ≡ cond b 0 (sizeAt file at) → ImageThere file at w
       go true p q = absurd (n q)
-      go false p q = (unbroken p, sym q)
+      go false p q = record { begins = unbroken p; size-is = sym q }

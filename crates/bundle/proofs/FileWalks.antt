@@ -6,7 +6,7 @@ use mathlib.Core.Bool.{true}
 use mathlib.Core.List.{List}
 use lib.ListN.{length}
 use Rattle.jhash.specs.Outcome.{Outcome, value, refusal}
-use Rattle.bundle.specs.FileWalk.{Place, sizeAt, breaks, placeFrom, countFrom, counting}
+use Rattle.bundle.specs.FileWalk.{Place, sizeAt, breaks, placeFrom, countImagesFrom, counting}
 use Rattle.bundle.proofs.FileSteps.{Begins, step-ended, step-broke, step-began}
 
 module _ (file : List ℕ) (at : ℕ) where
@@ -28,22 +28,22 @@ module _ (file : List ℕ) (at : ℕ) where
   unfolding placeFrom
   place-next k b = step-began file at (refusal 11) (placeFrom file (at + sizeAt file at) k) b
 
-  pub count-ended : (m n : ℕ) → at ≡ length file → countFrom m file at n ≡ value n
-  unfolding countFrom
+  pub count-ended : (m n : ℕ) → at ≡ length file → countImagesFrom m file at n ≡ value n
+  unfolding countImagesFrom
   count-ended zero n e = step-ended file at (value n) (refusal 10) e
-  count-ended (suc m) n e = step-ended file at (value n) (countFrom m file (at + sizeAt file at) (suc n)) e
+  count-ended (suc m) n e = step-ended file at (value n) (countImagesFrom m file (at + sizeAt file at) (suc n)) e
 
-  pub count-broke : (m n : ℕ) → (at ≡ length file → ⊥) → breaks file at ≡ true → countFrom m file at n ≡ refusal 10
-  unfolding countFrom
+  pub count-broke : (m n : ℕ) → (at ≡ length file → ⊥) → breaks file at ≡ true → countImagesFrom m file at n ≡ refusal 10
+  unfolding countImagesFrom
   count-broke zero n e b = step-broke file at (value n) (refusal 10) e b
-  count-broke (suc m) n e b = step-broke file at (value n) (countFrom m file (at + sizeAt file at) (suc n)) e b
+  count-broke (suc m) n e b = step-broke file at (value n) (countImagesFrom m file (at + sizeAt file at) (suc n)) e b
 
-  pub count-next : (m n : ℕ) → Begins file at → countFrom (suc m) file at n ≡ countFrom m file (at + sizeAt file at) (suc n)
-  unfolding countFrom
-  count-next m n b = step-began file at (value n) (countFrom m file (at + sizeAt file at) (suc n)) b
+  pub count-next : (m n : ℕ) → Begins file at → countImagesFrom (suc m) file at n ≡ countImagesFrom m file (at + sizeAt file at) (suc n)
+  unfolding countImagesFrom
+  count-next m n b = step-began file at (value n) (countImagesFrom m file (at + sizeAt file at) (suc n)) b
 
-  pub count-over : (n : ℕ) → Begins file at → countFrom 0 file at n ≡ refusal 10
-  unfolding countFrom
+  pub count-over : (n : ℕ) → Begins file at → countImagesFrom 0 file at n ≡ refusal 10
+  unfolding countImagesFrom
   count-over n b = step-began file at (value n) (refusal 10) b
 
 -- a step of the code's loop over positions, where size is that of the image at `at`
@@ -61,7 +61,7 @@ pub record Counting (file : List ℕ) (at n : ℕ) (x : Outcome ℕ) : Type 0 wh
   pub few : n ≤ at
   pub most : ℕ
   pub enough : length file - at < 2072 * suc most
-  pub rest : countFrom most file at n ≡ x
+  pub rest : countImagesFrom most file at n ≡ x
 
 pub counting-starts : (file : List ℕ) → Counting file 0 0 (counting file)
 counting-starts file = record {
@@ -76,7 +76,7 @@ pub counting-turn : (file : List ℕ) (at n size : ℕ) (x : Outcome ℕ) → Be
     → Counting file (at + size) (n + 1) x
 counting-turn file at n size x b e c = go (c .most) (c .enough) (c .rest)
   where
-    go : (m : ℕ) → length file - at < 2072 * suc m → countFrom m file at n ≡ x → Counting file (at + size) (n + 1) x
+    go : (m : ℕ) → length file - at < 2072 * suc m → countImagesFrom m file at n ≡ x → Counting file (at + size) (n + 1) x
     go zero h r = let i = b .inside in let l = b .large in absurd (omega arith)
     go (suc m) h r =
         let i = b .inside in
@@ -89,6 +89,6 @@ counting-turn file at n size x b e c = go (c .most) (c .enough) (c .rest)
           most = m;
           enough = omega arith;
           rest =
-              ap (λ (w : ℕ). countFrom m file (at + w) (n + 1)) (sym e) ∙ ap (countFrom m file (at + sizeAt file at)) s
+              ap (λ (w : ℕ). countImagesFrom m file (at + w) (n + 1)) (sym e) ∙ ap (countImagesFrom m file (at + sizeAt file at)) s
               ∙ sym (count-next file at m n b) ∙ r;
         }

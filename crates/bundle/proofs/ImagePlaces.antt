@@ -10,7 +10,7 @@ use Rattle.jhash.proofs.ValueOrRefusal.{no-value, same-value}
 use Rattle.bundle.specs.FileWalk.{Place, sizeAt, placeFrom, placeOfImage}
 use Rattle.reader.specs.Open.{opening}
 use Rattle.reader.specs.Slices.{Slice, subslice}
-use Rattle.bundle.specs.Opening.{partOrNone, returnedPart, imageOr, withNum, openIn, openingAt}
+use Rattle.bundle.specs.Opening.{imageOrEmpty, returnedPart, imageOr, withNum, openIn, openingAt}
 use Rattle.bundle.proofs.FileSteps.{Begins, Met, ended, broke, began, met}
 use Rattle.bundle.proofs.FileWalks.{place-ended, place-broke, place-here, place-next}
 
@@ -59,10 +59,10 @@ module _ (file : Slice) (k : ℕ) where
       → subslice file start (start + size - start) ≡ returnedPart file k
   part-there start size e =
       let d : start + size - start ≡ size = omega arith in
-      ap (subslice file start) d ∙ ap (partOrNone file) (sym e)
+      ap (subslice file start) d ∙ ap (imageOrEmpty file) (sym e)
 
   pub no-part : (n : ℕ) → placeOfImage (file .bytes) k ≡ refusal n → subslice file 0 0 ≡ returnedPart file k
-  no-part n e = ap (partOrNone file) (sym e)
+  no-part n e = ap (imageOrEmpty file) (sym e)
 
 -- opening: by the walk, then by the checks of opening on the cut part
 module _ (file : List ℕ) (k : ℕ) where

@@ -3,10 +3,10 @@ pub mod FileSteps
 pub mod FileWalks
 pub mod ImagePlaces
 pub mod Appends
-pub mod Holding
-pub mod Agreeing
-pub mod Growing
-pub mod Accepting
-pub mod Listing
+pub mod WholeFiles
+pub mod EqualFronts
+pub mod OneImageMore
+pub mod AcceptedAppend
+pub mod AppendLists
 pub mod Theorem
 pub mod Rows

@@ -2,7 +2,7 @@
 use mathlib.Core.Path.{_≡_, refl}
 use mathlib.Core.List.{map}
 use Rattle.image.specs.Bytes.{word, le32}
-use Rattle.bundle.specs.FileWalk.{fileStep, placeFrom, placeOfImage, countFrom, counting}
+use Rattle.bundle.specs.FileWalk.{fileStep, placeFrom, placeOfImage, countImagesFrom, counting}
 use Rattle.bundle.specs.Append.{appendRefusal, appending}
 use Rattle.bundle.specs.examples.Rows.{Walk, Count, Append, sized, blank, walks, countings, appends}
 
@@ -13,5 +13,5 @@ pub record Rows : Type 0 where
   pub appends-hold : map (λ (r : Append). appending (r .buffer) (r .size) (r .image)) appends ≡ map (λ (r : Append). r .answer) appends
 
 pub rows-hold : Rows
-unfolding word le32 fileStep placeFrom countFrom appendRefusal appending sized blank walks countings appends
+unfolding word le32 fileStep placeFrom countImagesFrom appendRefusal appending sized blank walks countings appends
 rows-hold = record { walks-hold = refl; countings-hold = refl; appends-hold = refl }

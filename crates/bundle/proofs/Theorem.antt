@@ -16,16 +16,16 @@ use Rattle.image.specs.Bytes.{word}
 use Rattle.jhash.specs.Outcome.{Outcome, value, refusal}
 use Rattle.reader.specs.Slices.{Slice}
 use Rattle.bundle.specs.FileWalk.{Place, placeOfImage}
-use Rattle.bundle.specs.Opening.{imagePart, imageOr, partOrNone}
+use Rattle.bundle.specs.Opening.{imagePart, imageOr, imageOrEmpty}
 use Rattle.bundle.specs.Append.{unfit}
 use Rattle.bundle.specs.AppendList.{bytes, emptyFile, acceptedImages}
 use Rattle.bundle.specs.theorems.Bundles.{imageEnd, left, Bundles}
 use Rattle.bundle.proofs.ImagePlaces.{opens-alone, for-good}
-use Rattle.bundle.proofs.Holding.{count-holds, count-broken, holds-count, broken-count}
-use Rattle.bundle.proofs.Agreeing.{place-same, exact}
+use Rattle.bundle.proofs.WholeFiles.{count-holds, count-broken, holds-count, broken-count}
+use Rattle.bundle.proofs.EqualFronts.{place-same, exact}
 use Rattle.bundle.proofs.Appends.{was-refused}
-use Rattle.bundle.proofs.Accepting.{accepting}
-use Rattle.bundle.proofs.Listing.{good-left, next-decided}
+use Rattle.bundle.proofs.AcceptedAppend.{accepting}
+use Rattle.bundle.proofs.AppendLists.{good-left, next-decided}
 
 -- a file whose first e bytes are those of another that has so many
 reaches : (a b : List ℕ) (e : ℕ) → take e a ≡ take e b → e ≤ length a → e ≤ length b
@@ -38,12 +38,12 @@ too-large image bytes h =
     ap (λ (b : Bool). ltb (length image) 2072 || not b) (ne-eqb (word image 4) (length image) n) ∙ or-true (ltb (length image) 2072)
 
 -- the returned part, by what the walk gives
-is-returned : (file : Slice) (o : Outcome Place) (image : List ℕ) → imageOr (file .bytes) o ≡ value image → partOrNone file o .bytes ≡ image
+is-returned : (file : Slice) (o : Outcome Place) (image : List ℕ) → imageOr (file .bytes) o ≡ value image → imageOrEmpty file o .bytes ≡ image
 is-returned file (value p) image e = same-value (imagePart (file .bytes) p) image e
 is-returned file (refusal k) image e = absurd (no-value k image e)
 
 returned-empty : (file : Slice) (k : ℕ) (o : Outcome Place) → placeOfImage (file .bytes) k ≡ o
-    → (length (partOrNone file o .bytes) ≡ 0) ↔ ((r : ℕ) × (o ≡ refusal r))
+    → (length (imageOrEmpty file o .bytes) ≡ 0) ↔ ((r : ℕ) × (o ≡ refusal r))
 returned-empty file k (value p) e =
     let x = exact (file .bytes) k p e in
     ((λ n. absurd (omega (arith, x .as-long, x .large, n))), λ r. absurd (no-value (r .0) p (sym (r .1))))

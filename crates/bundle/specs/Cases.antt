@@ -2,7 +2,7 @@
 use Prim.Native.Nat.{ℕ}
 use Rattle.jhash.specs.Outcome.{Outcome, value, refusal}
 use Rattle.bundle.specs.FileWalk.{Place}
-use Rattle.bundle.specs.Opening.{Wall}
+use Rattle.bundle.specs.Opening.{OpenedImage}
 use Rattle.bundle.specs.declared.Placed.{Placed}
 use Rattle.bundle.specs.declared.Placed.the-variants as placed
 use Rattle.bundle.specs.declared.OpenedAt.{OpenedAt}
@@ -18,7 +18,7 @@ placedOf (placed.Image start size) = value (record { start = start; size = size 
 placedOf (placed.Refused k) = refusal k
 
 -- num, and where the image stands; or a refusal
-abbrev pub openedAtOf : OpenedAt → Outcome Wall
+abbrev pub openedAtOf : OpenedAt → Outcome OpenedImage
 openedAtOf (opened.Image num start size) = value (record { num = num; place = record { start = start; size = size } })
 openedAtOf (opened.Refused k) = refusal k
 

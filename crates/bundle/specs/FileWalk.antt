@@ -39,11 +39,11 @@ abbrev pub placeOfImage : List ℕ → ℕ → Outcome Place
 placeOfImage file position = placeFrom file 0 position
 
 -- a walk of the whole file: n and the number of images from a place on, or 10. At most m images are to come
-unfoldable pub countFrom : ℕ → List ℕ → ℕ → ℕ → Outcome ℕ
+unfoldable pub countImagesFrom : ℕ → List ℕ → ℕ → ℕ → Outcome ℕ
 unfolding fileStep
-countFrom zero file at n = fileStep file at (value n) (refusal 10)
-countFrom (suc m) file at n = fileStep file at (value n) (countFrom m file (at + sizeAt file at) (suc n))
+countImagesFrom zero file at n = fileStep file at (value n) (refusal 10)
+countImagesFrom (suc m) file at n = fileStep file at (value n) (countImagesFrom m file (at + sizeAt file at) (suc n))
 
 -- the number of images in a file. Each has at least 2,072 bytes, so m is large enough
 abbrev pub counting : List ℕ → Outcome ℕ
-counting file = countFrom (length file / headSize) file 0 0
+counting file = countImagesFrom (length file / headSize) file 0 0

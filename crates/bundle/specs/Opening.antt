@@ -21,26 +21,26 @@ imageAt file position = imageOr file (placeOfImage file position)
 
 -- as a returned part: of the lent file's own bytes those from where the image begins; empty where there is no image
 -- at the position
-abbrev pub partOrNone : slices.Slice → Outcome Place → slices.Slice
-partOrNone file (value p) = slices.subslice file (p .start) (p .size)
-partOrNone file (refusal k) = slices.subslice file 0 0
+abbrev pub imageOrEmpty : slices.Slice → Outcome Place → slices.Slice
+imageOrEmpty file (value p) = slices.subslice file (p .start) (p .size)
+imageOrEmpty file (refusal k) = slices.subslice file 0 0
 
 abbrev pub returnedPart : slices.Slice → ℕ → slices.Slice
-returnedPart file position = partOrNone file (placeOfImage (file .bytes) position)
+returnedPart file position = imageOrEmpty file (placeOfImage (file .bytes) position)
 
 -- what opening gives: num, and where the image stands
-pub record Wall : Type 0 where
+pub record OpenedImage : Type 0 where
   pub num : ℕ
   pub place : Place
 
-abbrev pub withNum : Place → Outcome ℕ → Outcome Wall
+abbrev pub withNum : Place → Outcome ℕ → Outcome OpenedImage
 withNum p (value n) = value (record { num = n; place = p })
 withNum p (refusal k) = refusal k
 
 -- 10 and 11 "come before 01's opening checks", which are those of the part alone
-abbrev pub openIn : List ℕ → Outcome Place → Outcome Wall
+abbrev pub openIn : List ℕ → Outcome Place → Outcome OpenedImage
 openIn file (value p) = withNum p (opening (imagePart file p))
 openIn file (refusal k) = refusal k
 
-abbrev pub openingAt : List ℕ → ℕ → Outcome Wall
+abbrev pub openingAt : List ℕ → ℕ → Outcome OpenedImage
 openingAt file position = openIn file (placeOfImage file position)

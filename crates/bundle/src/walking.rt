@@ -1,12 +1,12 @@
 // The walk over a bundle's images from the front, by their size words; letters are not looked at.
 ghost use mathlib.Core.Path.{_≡_};
-ghost use mathlib.Core.Bool.{cond};
-ghost use Prim.Native.Nat.{_+_, _≤_};
+ghost use Prim.Native.Nat.{_≤_};
 ghost use lib.ListN.{length};
-ghost use Rattle.bundle.specs.FileWalk.{sizeAt, breaks, placeOfImage, counting};
+ghost use Rattle.bundle.specs.FileWalk.{placeOfImage, counting};
 ghost use Rattle.reader.specs.Slices.{slice};
 ghost use Rattle.bundle.specs.Opening.{returnedPart, openingAt};
 ghost use Rattle.bundle.specs.Cases.{placedOf, openedAtOf, countedOf};
+ghost use Rattle.bundle.specs.steps.Contracts.{SizeRead};
 use super::Counted;
 use super::HEAD_SIZE;
 use super::OpenedAt;
@@ -17,10 +17,7 @@ use reader::Opened;
 // The size of the image that begins at `at`; 0 where the walk breaks off there.
 fn size_at(file: &[u8], at: usize) -> usize
     requires { ⌜ at ≤ length (now file) ⌝ }
-    ensures { λ r. ⌜
-        (r ≡ cond (breaks (now (file .entry)) at) 0 (sizeAt (now (file .entry)) at))
-        × (at + r ≤ length (now (file .entry)))
-        ⌝ }
+    ensures { λ r. ⌜ SizeRead (now (file .entry)) at r ⌝ }
 {
     if file.len() - at < 8 {
         return 0;

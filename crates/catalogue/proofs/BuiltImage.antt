@@ -1,10 +1,10 @@
 -- From begin over the puts of an input to close: the image that the program prints from. Assumes nothing.
 use Prim.Native.Nat.{ℕ, _≤_}
 use native.Mathlib.Omega.{arith}
-use mathlib.Core.Path.{_≡_, ap, _∙_}
+use mathlib.Core.Path.{_≡_, sym, ap, _∙_}
 use mathlib.Core.List.{List}
 use lib.ListN.{length, take, length-take}
-use Rattle.jhash.specs.Outcome.{value, refusal}
+use Rattle.jhash.specs.Outcome.{Outcome, value, refusal}
 use Rattle.image.specs.declared.Mode.the-variants.{Twoway}
 use Rattle.image.specs.Image.{headSize}
 use Rattle.writer.specs.declared.Repeats.the-variants.{Off}
@@ -32,8 +32,10 @@ module _ (buffer : List ℕ) (room : headSize ≤ length buffer) where
       let cleared = f ∙ list-counts Twoway Off buffer room given in
       λ i. record { writer = same i; counts = cleared i; buffer = buffer }
 
-  pub begin-accepted : {P : Type 0} (n : ℕ) → refusal n ≡ beginning Twoway Off (length buffer) → P
-  begin-accepted n e = let z : _≡_ {A = ℕ} 0 1 = cc (e ∙ list-begins Twoway Off buffer room) in absurd (omega arith)
+  pub begin-accepted : {P Q : Type 0} (n : ℕ) (b : Outcome CQDBWriter) → b ≡ refusal n
+      → (b ≡ beginning Twoway Off (length buffer)) × P → Q
+  begin-accepted n b is begun =
+      let z : _≡_ {A = ℕ} 0 1 = cc (sym is ∙ begun .0 ∙ list-begins Twoway Off buffer room) in absurd (omega arith)
 
   begin-length : (w : CQDBWriter) → value w ≡ beginning Twoway Off (length buffer) → w .length ≡ length buffer
   unfolding fresh
@@ -48,7 +50,7 @@ module _ (buffer : List ℕ) (room : headSize ≤ length buffer) (input : List �
   closes : closing s ≡ value (closedSize s)
   closes = rw so (list-gives Twoway Off buffer room (inputCalls input) (two-way (inputCalls input)))
 
-  close-accepted : {P : Type 0} (n : ℕ) → refusal n ≡ closing s → P
+  close-accepted : {Q : Type 0} (n : ℕ) → refusal n ≡ closing s → Q
   close-accepted n f = let z : _≡_ {A = ℕ} 0 1 = cc (f ∙ closes) in absurd (omega arith)
 
   close-built : (n : ℕ) (t : State) → value n ≡ closing s → t ≡ afterClose s → Built (length buffer) (s .writer .entries) n (t .buffer)
@@ -70,20 +72,27 @@ module _ (buffer : List ℕ) (room : headSize ≤ length buffer) (input : List �
       inside : {k : ℕ} → value n ≡ value k → n ≡ k
       inside p = cc
 
--- all of it, in a room for lines that is no shorter than the buffer
-module _ (buffer room given counts : List ℕ) (w : CQDBWriter) (e : value w ≡ beginning Twoway Off (length buffer)) (f : counts ≡ countsBegun (length buffer) given)
-    (s : State) (put : w .length ≤ length room → Left (stateWith w counts buffer) s) (big : headSize ≤ length buffer) (enough : length buffer ≤ length room) where
+-- all of it, in a room for lines that is no shorter than the buffer: begin answers b, the record w, and leaves these
+-- counts; the puts leave s; close answers d and leaves t
+module _ (buffer room given counts : List ℕ) (w : CQDBWriter) (b : Outcome CQDBWriter) (is : b ≡ value w)
+    (begun : (b ≡ beginning Twoway Off (length buffer)) × (counts ≡ countsBegun (length buffer) given)) (s : State)
+    (put : w .length ≤ length room → Left (stateWith w counts buffer) s) (big : headSize ≤ length buffer)
+    (enough : length buffer ≤ length room) where
+  begin-value : value w ≡ beginning Twoway Off (length buffer)
+  begin-value = sym is ∙ begun .0
+
   put-left : Left (stateWith w counts buffer) s
-  put-left = let same = begin-length buffer big w e in put (omega arith)
+  put-left = let same = begin-length buffer big w begin-value in put (omega arith)
 
   from-fresh : s ≡ afterInput (fresh Twoway Off buffer) (put-left .input)
-  from-fresh = put-left .left ∙ ap (λ (x : State). afterInput x (put-left .input)) (begin-fresh buffer big w given counts e f)
+  from-fresh = put-left .left ∙ ap (λ (x : State). afterInput x (put-left .input)) (begin-fresh buffer big w given counts begin-value (begun .1))
 
-  pub built : (n : ℕ) (t : State) → value n ≡ closing s → t ≡ afterClose s → Built (length buffer) (s .writer .entries) n (t .buffer)
-  built = close-built buffer big (put-left .input) s from-fresh
+  pub built : (n : ℕ) (d : Outcome ℕ) (t : State) → d ≡ value n → (d ≡ closing s) × (t ≡ afterClose s)
+      → Built (length buffer) (s .writer .entries) n (t .buffer)
+  built n d t gave close = close-built buffer big (put-left .input) s from-fresh n t (sym gave ∙ close .0) (close .1)
 
-  pub never-refused : {P : Type 0} (n : ℕ) → refusal n ≡ closing s → P
-  never-refused = close-accepted buffer big (put-left .input) s from-fresh
+  pub never-refused : {P Q : Type 0} (n : ℕ) (d : Outcome ℕ) → d ≡ refusal n → (d ≡ closing s) × P → Q
+  never-refused n d gave close = close-accepted buffer big (put-left .input) s from-fresh n (sym gave ∙ close .0)
 
 -- the image lies in the buffer
 pub built-inside : (n entries k : ℕ) (buffer : List ℕ) → Built n entries k buffer → k ≤ length buffer

@@ -49,7 +49,8 @@ walk n input m h =
     let buffer : List ℕ = replicate n 0 in
     let e : length buffer ≡ n = length-replicate n 0 in
     let room : headSize ≤ length buffer = omega arith in
-    items-by (image Twoway (accepted Twoway Off n (inputCalls input))) (accepted Twoway Off n (inputCalls input)) (rw e at (image-named buffer (inputCalls input) room)) 0 m
+    let es = accepted Twoway Off n (inputCalls input) in
+    items-by (image Twoway es) es (rw e at (image-named buffer (inputCalls input) room)) 0 m
 
 -- ---- the example, computed of the rules
 

@@ -15,14 +15,14 @@ use Rattle.image.proofs.Bools.{false-not-true}
 use Rattle.image.proofs.Equal.{same-self, same-true}
 use Rattle.reader.specs.Naming.{Naming, place, unnamed, noBack, namingAt, naming, bytesAt, nameGiven}
 use Rattle.reader.specs.IdWalk.{upperHint}
-use Rattle.changes.specs.Changes.{upper, sameNames, differs}
+use Rattle.changes.specs.Changes.{upper, equalNamings, differs}
 
 -- ---- the test by the two namings
 
 differs-by : (old new : List ℕ) (id : ℕ) (a b : Naming) → a ≡ naming old id → b ≡ naming new id
-    → not (sameNames (bytesAt old a) (bytesAt new b)) ≡ differs old new id
+    → not (equalNamings (bytesAt old a) (bytesAt new b)) ≡ differs old new id
 unfolding differs
-differs-by old new id a b e f = λ i. not (sameNames (bytesAt old (e i)) (bytesAt new (f i)))
+differs-by old new id a b e f = λ i. not (equalNamings (bytesAt old (e i)) (bytesAt new (f i)))
 
 -- two names: their bytes decide
 pub both-named : (old new : List ℕ) (id s n t m : ℕ) (r : Bool) → place s n ≡ naming old id → place t m ≡ naming new id
@@ -44,14 +44,14 @@ neither-named old new id e f = differs-by old new id unnamed unnamed e f
 
 -- ---- what the test tells
 
-same-names-self : (a : Option (List ℕ)) → sameNames a a ≡ true
+same-names-self : (a : Option (List ℕ)) → equalNamings a a ≡ true
 same-names-self none = refl
 same-names-self (some a) = same-self a
 
-equal-same : (a b : Option (List ℕ)) → a ≡ b → sameNames a b ≡ true
-equal-same a b e = ap (sameNames a) (sym e) ∙ same-names-self a
+equal-same : (a b : Option (List ℕ)) → a ≡ b → equalNamings a b ≡ true
+equal-same a b e = ap (equalNamings a) (sym e) ∙ same-names-self a
 
-same-equal : (a b : Option (List ℕ)) → sameNames a b ≡ true → a ≡ b
+same-equal : (a b : Option (List ℕ)) → equalNamings a b ≡ true → a ≡ b
 same-equal none none e = refl
 same-equal none (some b) e = absurd (false-not-true e)
 same-equal (some a) none e = absurd (false-not-true e)
@@ -70,10 +70,10 @@ differs-exactly old new id = ((λ e q. false-not-true (sym (alike-exactly old ne
     go h false e = absurd (h (alike-exactly old new id .0 e))
 
 -- the order of the images does not matter
-same-names-sym : (a b : Option (List ℕ)) → sameNames a b ≡ sameNames b a
-same-names-sym a b = go (sameNames a b) (sameNames b a) refl refl
+same-names-sym : (a b : Option (List ℕ)) → equalNamings a b ≡ equalNamings b a
+same-names-sym a b = go (equalNamings a b) (equalNamings b a) refl refl
   where
-    go : (s t : Bool) → sameNames a b ≡ s → sameNames b a ≡ t → s ≡ t
+    go : (s t : Bool) → equalNamings a b ≡ s → equalNamings b a ≡ t → s ≡ t
     go true true p q = refl
     go false false p q = refl
     go true false p q = absurd (false-not-true (sym q ∙ equal-same b a (sym (same-equal a b p))))

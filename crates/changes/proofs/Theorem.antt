@@ -9,7 +9,7 @@ use mathlib.Core.List.{List}
 use mathlib.Core.Option.{Option, none, some}
 use Rattle.reader.specs.Naming.{nameGiven}
 use Rattle.changes.specs.Changes.{upper, differs, firstAmong, firstChange, unchanged, changeAt, nextChange}
-use Rattle.changes.specs.theorems.Theorem.{First, exchanged, Compared}
+use Rattle.changes.specs.theorems.Theorem.{FirstDiffering, exchanged, Compared}
 use Rattle.changes.proofs.Namings.{alike-exactly, differs-exactly, differs-sym, upper-sym, none-above}
 use Rattle.changes.proofs.Search as search
 use Rattle.changes.proofs.Moves.{moved-exactly}
@@ -21,7 +21,7 @@ module _ (old new : List ℕ) where
   as-search : (from : ℕ) → firstAmong old new from (u - from) ≡ firstChange old new from
   as-search from = search.starts old new from u refl
 
-  first-forth : (from k : ℕ) → firstChange old new from ≡ some k → First old new from k
+  first-forth : (from k : ℕ) → firstChange old new from ≡ some k → FirstDiffering old new from k
   first-forth from k e =
       let w = search.found-first old new (u - from) from k (as-search from ∙ e) in
       record {
@@ -31,7 +31,7 @@ module _ (old new : List ℕ) where
         alike-before = λ i p q. alike-exactly old new i .0 (w .alike-before i p q);
       }
 
-  first-back : (from k : ℕ) → First old new from k → firstChange old new from ≡ some k
+  first-back : (from k : ℕ) → FirstDiffering old new from k → firstChange old new from ≡ some k
   first-back from k f =
       sym (as-search from)
       ∙ search.first-found old new (u - from) from k (record {

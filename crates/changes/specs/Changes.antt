@@ -11,16 +11,16 @@ use Rattle.reader.specs.IdWalk.{upperHint}
 unfoldable pub upper : List ℕ → List ℕ → ℕ
 upper old new = max (upperHint old 0) (upperHint new 0)
 
--- are two namings alike: both nothing, or names of the same bytes?
-abbrev pub sameNames : Option (List ℕ) → Option (List ℕ) → Bool
-sameNames none none = true
-sameNames none (some b) = false
-sameNames (some a) none = false
-sameNames (some a) (some b) = same a b
+-- are two namings equal: both nothing, or names of the same bytes?
+abbrev pub equalNamings : Option (List ℕ) → Option (List ℕ) → Bool
+equalNamings none none = true
+equalNamings none (some b) = false
+equalNamings (some a) none = false
+equalNamings (some a) (some b) = same a b
 
 -- do the two name the id differently: by a name against another, or a name against nothing?
 unfoldable pub differs : List ℕ → List ℕ → ℕ → Bool
-differs old new id = not (sameNames (nameGiven old id) (nameGiven new id))
+differs old new id = not (equalNamings (nameGiven old id) (nameGiven new id))
 
 -- the first of m ids from `from` on that they name differently, or none
 unfoldable pub firstAmong : List ℕ → List ℕ → ℕ → ℕ → Option ℕ

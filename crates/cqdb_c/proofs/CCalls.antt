@@ -19,29 +19,30 @@ use Rattle.writer.specs.declared.c_record.Record.{Record}
 use Rattle.writer.specs.Numbers.{known, modeOf, repeatsOf}
 use Rattle.writer.specs.CRecord.{writerOf, recordOf, CState, cState, knownIn, stateOf, cStateOf}
 use Rattle.writer.proofs.CRecords.{back-and-forth}
-use Rattle.cqdb_c.specs.Writing.{Lent, lent, numbersOf, sizesOf, beginningOf, numberIn, lentIn, leftByBegin, putNumber, leftByPut, closingOf, refusalIn, sizeIn, leftByClose}
+use Rattle.cqdb_c.specs.Writing.{LentWriter, lentWriter, numbersOf, sizesOf, beginningOf, numberIn, lentIn, leftByBegin}
+use Rattle.cqdb_c.specs.Writing.{putNumber, leftByPut, closingOf, refusalIn, sizeIn, leftByClose}
 
 -- begin with a mode or a repeats mode above 1
-pub begin-unknown : (mode repeats n : ℕ) (l : Lent) → known mode repeats ≡ false
+pub begin-unknown : (mode repeats n : ℕ) (l : LentWriter) → known mode repeats ≡ false
     → (2 ≡ numberIn (beginningOf mode repeats n)) × (l ≡ leftByBegin mode repeats n l)
 unfolding beginningOf leftByBegin
 begin-unknown mode repeats n l over = rw over (refl, refl)
 
 -- what the code leaves where the writer's begin answers b and leaves the counts after
-abbrev pub stored : Outcome CQDBWriter → Lent → List ℕ → Lent
-stored (value w) l after = lent (numbersOf (recordOf w)) (sizesOf (recordOf w)) after
-stored (refusal k) l after = lent (l .numbers) (l .sizes) after
+abbrev pub stored : Outcome CQDBWriter → LentWriter → List ℕ → LentWriter
+stored (value w) l after = lentWriter (numbersOf (recordOf w)) (sizesOf (recordOf w)) after
+stored (refusal k) l after = lentWriter (l .numbers) (l .sizes) after
 
 -- begin with known ones: b is what the writer's begin answers, and after the counts that it leaves
-pub begin-known : (mode repeats n : ℕ) (l : Lent) (after : List ℕ) (m : Mode) (r : Repeats) (b : Outcome CQDBWriter) →
-    known mode repeats ≡ true → m ≡ modeOf mode → r ≡ repeatsOf repeats → b ≡ beginning m r n → after ≡ countsBegun n (l .counts) →
+pub begin-known : (mode repeats n : ℕ) (l : LentWriter) (after : List ℕ) (m : Mode) (r : Repeats) (b : Outcome CQDBWriter) →
+    known mode repeats ≡ true → m ≡ modeOf mode → r ≡ repeatsOf repeats → (b ≡ beginning m r n) × (after ≡ countsBegun n (l .counts)) →
     (numberIn b ≡ numberIn (beginningOf mode repeats n)) × (stored b l after ≡ leftByBegin mode repeats n l)
 unfolding beginningOf leftByBegin beginning countsBegun
-begin-known mode repeats n l after m r b fine f g e left =
-    let is : b ≡ beginning (modeOf mode) (repeatsOf repeats) n = e ∙ ap₂ (λ (x : Mode) (y : Repeats). beginning x y n) f g in
+begin-known mode repeats n l after m r b fine f g begun =
+    let is : b ≡ beginning (modeOf mode) (repeatsOf repeats) n = begun .0 ∙ ap₂ (λ (x : Mode) (y : Repeats). beginning x y n) f g in
     rw fine (
       ap numberIn is,
-      ap₂ (λ (x : Outcome CQDBWriter) (cs : List ℕ). stored x l cs) is left ∙ same (eqb (beginRefusal n) 0),
+      ap₂ (λ (x : Outcome CQDBWriter) (cs : List ℕ). stored x l cs) is (begun .1) ∙ same (eqb (beginRefusal n) 0),
     )
   where
     rule : (b : Bool) → Outcome CQDBWriter
@@ -59,16 +60,16 @@ put-unknown h e over = rw over (refl, refl)
 -- put with one of 01's: the writer's record v goes in, w' comes back
 pub put-known : (h : CState) (e : Entry) (v w' : CQDBWriter) (r : Record) (counts buffer : List ℕ) (k : ℕ) →
     knownIn h ≡ true → v ≡ writerOf (h .writer) →
-    k ≡ putRefusal (stateWith v (h .counts) (h .buffer)) e →
-    stateWith w' counts buffer ≡ afterPut (stateWith v (h .counts) (h .buffer)) e →
+    (k ≡ putRefusal (stateWith v (h .counts) (h .buffer)) e)
+    × (stateWith w' counts buffer ≡ afterPut (stateWith v (h .counts) (h .buffer)) e) →
     r ≡ recordOf w' →
     (k ≡ putNumber h e) × (cState r counts buffer ≡ leftByPut h e)
 unfolding putNumber leftByPut
-put-known h e v w' r counts buffer k fine is answer leaves back =
+put-known h e v w' r counts buffer k fine is put back =
     let same : stateWith v (h .counts) (h .buffer) ≡ stateOf h = ap (λ (w : CQDBWriter). stateWith w (h .counts) (h .buffer)) is in
     rw fine (
-      answer ∙ ap (λ (s : State). putRefusal s e) same,
-      ap (λ (x : Record). cState x counts buffer) back ∙ ap cStateOf (leaves ∙ ap (λ (s : State). afterPut s e) same),
+      put .0 ∙ ap (λ (s : State). putRefusal s e) same,
+      ap (λ (x : Record). cState x counts buffer) back ∙ ap cStateOf (put .1 ∙ ap (λ (s : State). afterPut s e) same),
     )
 
 -- close with a record that is none of 01's
@@ -80,21 +81,21 @@ close-unknown h over = rw over (refl, (refl, refl))
 -- close with one of 01's: the writer's record v goes in, w' comes back, and d is what the writer's close answers
 pub close-known : (h : CState) (v w' : CQDBWriter) (r : Record) (buffer : List ℕ) (d : Outcome ℕ) (k n : ℕ) →
     knownIn h ≡ true → v ≡ writerOf (h .writer) →
-    d ≡ closing (stateWith v (h .counts) (h .buffer)) →
-    stateWith w' (h .counts) buffer ≡ afterClose (stateWith v (h .counts) (h .buffer)) →
+    (d ≡ closing (stateWith v (h .counts) (h .buffer)))
+    × (stateWith w' (h .counts) buffer ≡ afterClose (stateWith v (h .counts) (h .buffer))) →
     k ≡ refusalIn d → n ≡ sizeIn d → r ≡ recordOf w' →
     (k ≡ refusalIn (closingOf h)) × ((n ≡ sizeIn (closingOf h)) × (cState r (h .counts) buffer ≡ leftByClose h))
 unfolding closingOf leftByClose
-close-known h v w' r buffer d k n fine is answer leaves number told back =
+close-known h v w' r buffer d k n fine is close number told back =
     let same : stateWith v (h .counts) (h .buffer) ≡ stateOf h = ap (λ (w : CQDBWriter). stateWith w (h .counts) (h .buffer)) is in
-    let d-is : d ≡ closing (stateOf h) = answer ∙ ap closing same in
+    let d-is : d ≡ closing (stateOf h) = close .0 ∙ ap closing same in
     rw fine (
       number ∙ ap refusalIn d-is,
-      (told ∙ ap sizeIn d-is, ap (λ (x : Record). cState x (h .counts) buffer) back ∙ ap cStateOf (leaves ∙ ap afterClose same)),
+      (told ∙ ap sizeIn d-is, ap (λ (x : Record). cState x (h .counts) buffer) back ∙ ap cStateOf (close .1 ∙ ap afterClose same)),
     )
 
 -- no refusal changes the record, the counts or a byte: begin
-pub begin-refused : (mode repeats n : ℕ) (l : Lent) → (numberIn (beginningOf mode repeats n) ≡ 0 → ⊥) → leftByBegin mode repeats n l ≡ l
+pub begin-refused : (mode repeats n : ℕ) (l : LentWriter) → (numberIn (beginningOf mode repeats n) ≡ 0 → ⊥) → leftByBegin mode repeats n l ≡ l
 unfolding leftByBegin
 begin-refused mode repeats n l = go (beginningOf mode repeats n)
   where
@@ -120,7 +121,8 @@ pub close-refused : (h : CState) → (refusalIn (closingOf h) ≡ 0 → ⊥) →
 unfolding closingOf leftByClose closing afterClose
 close-refused h = go (knownIn h) refl
   where
-    go : (t : Bool) → knownIn h ≡ t → (refusalIn (cond t (closing (stateOf h)) (refusal 2)) ≡ 0 → ⊥) → cond t (cStateOf (afterClose (stateOf h))) h ≡ h
+    go : (t : Bool) → knownIn h ≡ t → (refusalIn (cond t (closing (stateOf h)) (refusal 2)) ≡ 0 → ⊥)
+        → cond t (cStateOf (afterClose (stateOf h))) h ≡ h
     go true fine refused = by (eqb (closeRefusal (stateOf h)) 0) refused ∙ back-and-forth h fine
       where
         by : (b : Bool) → (refusalIn (cond b (value (closedSize (stateOf h))) (refusal (closeRefusal (stateOf h)))) ≡ 0 → ⊥) →

@@ -19,12 +19,12 @@ grown-unknown r n over = rw over (refl, refl)
 
 -- one of 01's: the writer's record v goes in, w comes back
 pub grown-known : (r : Record) (n : ℕ) (v w : CQDBWriter) (left : Record) (k : ℕ) → known (r .mode) (r .repeats) ≡ true → v ≡ writerOf r
-    → k ≡ grownRefusal v n → w ≡ grownWriter v n → left ≡ recordOf w → (k ≡ grownNumber r n) × (left ≡ recordGrown r n)
+    → (k ≡ grownRefusal v n) × (w ≡ grownWriter v n) → left ≡ recordOf w → (k ≡ grownNumber r n) × (left ≡ recordGrown r n)
 unfolding grownNumber recordGrown
-grown-known r n v w left k fine is answer leaves back =
+grown-known r n v w left k fine is grown back =
     rw fine (
-      answer ∙ ap (λ (x : CQDBWriter). grownRefusal x n) is,
-      back ∙ ap recordOf (leaves ∙ ap (λ (x : CQDBWriter). grownWriter x n) is),
+      grown .0 ∙ ap (λ (x : CQDBWriter). grownRefusal x n) is,
+      back ∙ ap recordOf (grown .1 ∙ ap (λ (x : CQDBWriter). grownWriter x n) is),
     )
 
 -- a refusal changes nothing

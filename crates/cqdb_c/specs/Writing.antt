@@ -16,13 +16,13 @@ use Rattle.writer.specs.CRecord.{recordOf, CState, knownIn, stateOf, cStateOf}
 
 -- C's writer, lent in place: the record's numbers (mode, repeats, entries, back size) and sizes (length, end), and
 -- the table counts
-pub record Lent : Type 0 where
+pub record LentWriter : Type 0 where
   pub numbers : List ℕ
   pub sizes : List ℕ
   pub counts : List ℕ
 
-abbrev pub lent : List ℕ → List ℕ → List ℕ → Lent
-lent numbers sizes counts = record { numbers = numbers; sizes = sizes; counts = counts }
+abbrev pub lentWriter : List ℕ → List ℕ → List ℕ → LentWriter
+lentWriter numbers sizes counts = record { numbers = numbers; sizes = sizes; counts = counts }
 
 -- the record's parts
 abbrev pub numbersOf : Record → List ℕ
@@ -40,11 +40,11 @@ numberIn (value w) = 0
 numberIn (refusal k) = k
 
 -- what begin leaves: the fresh record with counts of 0, or where it is refused what was there
-abbrev pub lentIn : Outcome CQDBWriter → Lent → Lent
-lentIn (value w) l = lent (numbersOf (recordOf w)) (sizesOf (recordOf w)) (replicate 256 0)
+abbrev pub lentIn : Outcome CQDBWriter → LentWriter → LentWriter
+lentIn (value w) l = lentWriter (numbersOf (recordOf w)) (sizesOf (recordOf w)) (replicate 256 0)
 lentIn (refusal k) l = l
 
-unfoldable pub leftByBegin : ℕ → ℕ → ℕ → Lent → Lent
+unfoldable pub leftByBegin : ℕ → ℕ → ℕ → LentWriter → LentWriter
 leftByBegin mode repeats n l = lentIn (beginningOf mode repeats n) l
 
 -- the rule of put: the refusal's number, 0 when accepted; and what put leaves

@@ -13,7 +13,7 @@ ghost use lib.ListN.{length};
 ghost use Rattle.writer.specs.Put.{entryOf};
 ghost use Rattle.writer.specs.Close.{closedOf};
 ghost use Rattle.writer.specs.CRecord.{cState};
-ghost use Rattle.cqdb_c.specs.Writing.{beginningOf, numberIn, lent, leftByBegin, putNumber, leftByPut};
+ghost use Rattle.cqdb_c.specs.Writing.{beginningOf, numberIn, lentWriter, leftByBegin, putNumber, leftByPut};
 ghost use Rattle.cqdb_c.specs.Writing.{closingOf, refusalIn, sizeIn, leftByClose};
 ghost use Rattle.cqdb_c.specs.Grown.{grownNumber, recordGrown};
 
@@ -45,9 +45,9 @@ pub extern "C" fn cqdb_begin_parts(
 ) -> u32
     ensures answer { λ r. ⌜ r ≡ numberIn (beginningOf mode repeats (length (now (buf .entry)))) ⌝ }
     ensures leaves { λ r. ⌜
-        lent (now (numbers .exit)) (now (sizes .exit)) (now (counts .exit))
+        lentWriter (now (numbers .exit)) (now (sizes .exit)) (now (counts .exit))
         ≡ leftByBegin mode repeats (length (now (buf .entry)))
-        (lent (now (numbers .entry)) (now (sizes .entry)) (now (counts .entry)))
+        (lentWriter (now (numbers .entry)) (now (sizes .entry)) (now (counts .entry)))
         ⌝ }
 {
     if !known(mode, repeats) {

@@ -14,12 +14,13 @@ use Rattle.lines.specs.Lines.{entry, parseLine, afterPutLine}
 use Rattle.lines.specs.steps.Pieces.{Gathering, haveAfter, gathered, lineEnded, takeByte, takePiece}
 use Rattle.lines.proofs.Skipped.{after-entry}
 
--- a line's put, of the part of the line that is the name
-pub put-part : (s : State) (line : List ℕ) (id at : ℕ) → parseLine line ≡ entry id at
-    → afterPut s (entryOf (take (length line - at) (drop at line)) id) ≡ afterPutLine s line
-put-part s line id at e =
+-- a line's put, of the part of the line that is the name: it leaves `after`
+pub put-part : {P : Type 0} (s after : State) (line : List ℕ) (id at : ℕ) → parseLine line ≡ entry id at
+    → P × (after ≡ afterPut s (entryOf (take (length line - at) (drop at line)) id)) → after ≡ afterPutLine s line
+put-part s after line id at e put =
     let l = length-drop at line in
-    ap (λ (name : List ℕ). afterPut s (entryOf name id)) (take-all (length line - at) (drop at line) (omega arith))
+    put .1
+    ∙ ap (λ (name : List ℕ). afterPut s (entryOf name id)) (take-all (length line - at) (drop at line) (omega arith))
     ∙ sym (after-entry s line id at e)
 
 -- the line at hand, ended: put where it has room, dropped where it has not
@@ -31,7 +32,8 @@ module _ (s : State) (room : List ℕ) (have : ℕ) where
       ap {B = Gathering} (λ (x : State). record { state = x; room = room; have = 0 })
       (e ∙ sym (ap (λ (b : Bool). cond b (afterPutLine s (take have room)) s) (lt-ltb have (length room) h)))
 
-  pub ended-dropped : length room ≤ have → _≡_ {A = Gathering} (record { state = s; room = room; have = 0 }) (lineEnded (record { state = s; room = room; have = have }))
+  pub ended-dropped : length room ≤ have
+      → _≡_ {A = Gathering} (record { state = s; room = room; have = 0 }) (lineEnded (record { state = s; room = room; have = have }))
   unfolding lineEnded
   ended-dropped h =
       ap {B = Gathering} (λ (x : State). record { state = x; room = room; have = 0 })

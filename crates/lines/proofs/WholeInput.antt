@@ -71,7 +71,9 @@ holds-more g p b h = go (ltb (g .have) (length (g .room))) refl
         record {
           short = λ l. (
             omega arith,
-            ap (λ (m : ℕ). take m (set (g .room) (g .have) b)) (add-one (g .have)) ∙ take-suc-set (g .room) (g .have) b k ∙ ap (λ (x : List ℕ). x ++ (b ∷ [])) (s .1),
+            ap (λ (m : ℕ). take m (set (g .room) (g .have) b)) (add-one (g .have))
+                ∙ take-suc-set (g .room) (g .have) b k
+                ∙ ap (λ (x : List ℕ). x ++ (b ∷ [])) (s .1),
           );
           long = λ l. omega arith;
           enough = omega arith;

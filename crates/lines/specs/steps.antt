@@ -1,2 +1,3 @@
 -- What describes the steps of code. No rule stands here, and nobody has to believe it: proofs/ joins it to the rules.
 pub mod Pieces
+pub mod Contracts

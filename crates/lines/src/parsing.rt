@@ -1,8 +1,9 @@
 // A line taken apart.
 ghost use mathlib.Core.Path.{_≡_};
-ghost use Prim.Native.Nat.{_-_, _<_, _≤_};
+ghost use Prim.Native.Nat.{_≤_};
 ghost use lib.ListN.{length};
-ghost use Rattle.lines.specs.Lines.{isDigit, leadingDigits, decimal, parseLine, formOf};
+ghost use Rattle.lines.specs.Lines.{isDigit, decimal, parseLine, formOf};
+ghost use Rattle.lines.specs.steps.Contracts.{DigitsCounted, DigitValue};
 use super::Line;
 
 // Is this one of the digits 0 to 9?
@@ -14,7 +15,7 @@ fn is_digit(b: u8) -> bool
 
 // How many digits a line begins with.
 fn leading_digits(line: &[u8]) -> usize
-    ensures { λ r. ⌜ (r ≡ leadingDigits (now (line .entry))) × (r ≤ length (now (line .entry))) ⌝ }
+    ensures { λ r. ⌜ DigitsCounted (now (line .entry)) r ⌝ }
 {
     let mut n = 0;
     while n < line.len() {
@@ -28,7 +29,7 @@ fn leading_digits(line: &[u8]) -> usize
 
 // What a digit stands for.
 fn digit(b: u8) -> u64
-    ensures { λ r. ⌜ (r ≡ b - 48) × (r < 208) ⌝ }
+    ensures { λ r. ⌜ DigitValue b r ⌝ }
 {
     if b < 48 { 0 } else { (b - 48) as u64 }
 }

@@ -1,10 +1,10 @@
 // Lines put one after the other, of an input that comes in pieces. The line at hand is gathered in a lent room; one
 // that fills the room is dropped.
 ghost use mathlib.Core.Path.{_≡_};
-ghost use lib.ListN.{set};
 ghost use Rattle.writer.specs.State.{stateWith};
 ghost use Rattle.lines.specs.Lines.{afterPutLine};
-ghost use Rattle.lines.specs.steps.Pieces.{gathering, haveAfter, lineEnded, takeByte, takePiece, inputEnded};
+ghost use Rattle.lines.specs.steps.Pieces.{gathering, lineEnded, takeByte, takePiece, inputEnded};
+ghost use Rattle.lines.specs.steps.Contracts.{ByteGathered};
 use super::Intake;
 use super::Line;
 use super::parsing::parse_line;
@@ -28,8 +28,7 @@ pub fn put_line(w: CQDBWriter, counts: &mut [u32; 256], buf: &mut [u8], line: &[
 
 // One byte more of the line at hand is stored, while there is room; gives how many have come.
 fn gather(have: usize, room: &mut [u8], b: u8) -> usize
-    ensures counted { λ r. ⌜ r ≡ haveAfter (now (room .entry)) have ⌝ }
-    ensures stored { λ r. ⌜ now (room .exit) ≡ set (now (room .entry)) have b ⌝ }
+    ensures { λ r. ⌜ ByteGathered (now (room .entry)) have b (now (room .exit)) r ⌝ }
 {
     if have < room.len() {
         room[have] = b;

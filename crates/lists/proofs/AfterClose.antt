@@ -25,7 +25,8 @@ use Rattle.lists.proofs.CallLists.{two-way, after-append, accepted-afte
 use Rattle.lists.proofs.OneMoreClose.{list-gives, list-twice}
 use Rattle.lists.proofs.Theorem.{calls-imaged, list-answered}
 
-module _ (repeats : Repeats) (buffer : List ℕ) (cs : List Call) (size : ℕ) (room : headSize ≤ length buffer) (gave : closing (afterList Twoway repeats buffer cs) ≡ value size) where
+module _ (repeats : Repeats) (buffer : List ℕ) (cs : List Call) (size : ℕ) (room : headSize ≤ length buffer)
+    (gave : closing (afterList Twoway repeats buffer cs) ≡ value size) where
   -- the size that the close gave is that of the image
   size-is : size ≡ closedSize (afterList Twoway repeats buffer cs)
   size-is = same-value _ _ (sym gave ∙ list-gives Twoway repeats buffer room cs (two-way cs))
@@ -83,7 +84,8 @@ module _ (repeats : Repeats) (buffer : List ℕ) (cs more : List Call) (room : h
   there-written : Written Twoway repeats (length buffer) (accepted Twoway repeats (length buffer) cs) there
   unfolding there
   there-written =
-      close-written Twoway repeats (length buffer) (accepted Twoway repeats (length buffer) cs) (afterList Twoway repeats buffer cs) (list-written Twoway repeats buffer room cs (two-way cs))
+      close-written Twoway repeats (length buffer) (accepted Twoway repeats (length buffer) cs) (afterList Twoway repeats buffer cs)
+      (list-written Twoway repeats buffer room cs (two-way cs))
 
   no-more : acceptedPuts Twoway repeats buffer (cs ++ (close ∷ more)) ≡ acceptedPuts Twoway repeats buffer cs
       → acceptedFrom Twoway repeats (length buffer) (accepted Twoway repeats (length buffer) cs) more ≡ accepted Twoway repeats (length buffer) cs
@@ -98,7 +100,8 @@ module _ (repeats : Repeats) (buffer : List ℕ) (cs more : List Call) (room : h
   unfolding after there
   kept h =
       after-append (fresh Twoway repeats buffer) cs (close ∷ more)
-      ∙ none-changes Twoway repeats (length buffer) (accepted Twoway repeats (length buffer) cs) there there-written (list-twice Twoway repeats buffer room cs (two-way cs)) more (no-more h)
+      ∙ none-changes Twoway repeats (length buffer) (accepted Twoway repeats (length buffer) cs) there there-written
+      (list-twice Twoway repeats buffer room cs (two-way cs)) more (no-more h)
       ∙ sym (after-append (fresh Twoway repeats buffer) cs (close ∷ []))
 
 pub close-readable : CloseReadable

@@ -58,7 +58,8 @@ accepted-append mode repeats n es [] ds = refl
 accepted-append mode repeats n es (c ∷ cs) ds = accepted-append mode repeats n (acceptedAfter mode repeats n es c) cs ds
 
 -- a close accepts no put
-pub accepted-after-close : (mode : Mode) (repeats : Repeats) (n : ℕ) (cs ds : List Call) → accepted mode repeats n (cs ++ (close ∷ ds)) ≡ acceptedFrom mode repeats n (accepted mode repeats n cs) ds
+pub accepted-after-close : (mode : Mode) (repeats : Repeats) (n : ℕ) (cs ds : List Call)
+    → accepted mode repeats n (cs ++ (close ∷ ds)) ≡ acceptedFrom mode repeats n (accepted mode repeats n cs) ds
 unfolding accepted acceptedFrom
 accepted-after-close mode repeats n cs ds =
     accepted-append mode repeats n [] cs (close ∷ ds)
@@ -81,7 +82,8 @@ unfolding due
 due-permitted mode repeats n cs = permitted-from mode repeats n [] cs
 
 -- the accepted puts are those whose answer is no refusal
-accepted-from : (mode : Mode) (repeats : Repeats) (n : ℕ) (es : List Entry) (cs : List Call) → acceptedFrom mode repeats n es cs ≡ es ++ acceptedBy cs (dueFrom mode repeats n es cs)
+accepted-from : (mode : Mode) (repeats : Repeats) (n : ℕ) (es : List Entry) (cs : List Call)
+    → acceptedFrom mode repeats n es cs ≡ es ++ acceptedBy cs (dueFrom mode repeats n es cs)
 unfolding acceptedFrom acceptedBy dueFrom
 accepted-from mode repeats n es [] = sym (append-nil es)
 accepted-from mode repeats n es (c ∷ cs) =
@@ -104,11 +106,13 @@ pub begin-accepts : (n : ℕ) → headSize ≤ n → beginRefusal n ≡ 0
 begin-accepts n room = rw (le-ltb n headSize room)
 
 -- begin gives the record of a fresh state, and clears what was lent for its counts
-pub list-begins : (mode : Mode) (repeats : Repeats) (buffer : List ℕ) → headSize ≤ length buffer → beginning mode repeats (length buffer) ≡ value (fresh mode repeats buffer .writer)
+pub list-begins : (mode : Mode) (repeats : Repeats) (buffer : List ℕ) → headSize ≤ length buffer
+    → beginning mode repeats (length buffer) ≡ value (fresh mode repeats buffer .writer)
 unfolding beginning fresh
 list-begins mode repeats buffer room = rw (begin-accepts (length buffer) room)
 
-pub list-counts : (mode : Mode) (repeats : Repeats) (buffer : List ℕ) → headSize ≤ length buffer → (given : List ℕ) → countsBegun (length buffer) given ≡ fresh mode repeats buffer .counts
+pub list-counts : (mode : Mode) (repeats : Repeats) (buffer : List ℕ) → headSize ≤ length buffer
+    → (given : List ℕ) → countsBegun (length buffer) given ≡ fresh mode repeats buffer .counts
 unfolding countsBegun fresh
 list-counts mode repeats buffer room given = rw (begin-accepts (length buffer) room)
 

@@ -46,7 +46,8 @@ module _ (mode : Mode) (repeats : Repeats) (n size top : ℕ) (within : 2072 + s
       let higher = back-rises mode (backSize next) top (omega (arith, backSize-snoc es e)) in
       let least = putsSize-snoc es e in
       capacity-due (hasZero (e .name)) (containsName (e .name) es && refusesRepeats repeats) (tooLarge n (sizeOf mode next))
-      (ap₂ {C = Bool} (λ (a b : Bool). a || b) (le-ltb n (sizeOf mode next) (omega (arith, higher, least))) (le-ltb 4294967295 (sizeOf mode next) (omega (arith, higher, least))))
+      (ap₂ {C = Bool} (λ (a b : Bool). a || b) (le-ltb n (sizeOf mode next) (omega (arith, higher, least)))
+      (le-ltb 4294967295 (sizeOf mode next) (omega (arith, higher, least))))
       d
 
   -- after the put, accepted or not

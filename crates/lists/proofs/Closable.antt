@@ -37,20 +37,27 @@ module _ (s : State) (bytes : AllBytes (s .buffer)) (closes : closeRefusal s ≡
   f : Fitting (s .writer) (s .counts) (s .buffer)
   f = fitting (s .writer) (s .counts) (s .buffer) (a .fit)
 
+  -- the tests of a consistent record, each of them true
+  abbrev counted : Bool
+  counted = whole (s .writer .entries) (entryArea s) && countsAgree (s .counts) (recorded s)
+
+  abbrev backed : Bool
+  backed = eqb (s .writer .back) (backIn (s .writer .mode) (backSize (recorded s)))
+
   entire : whole (s .writer .entries) (entryArea s) ≡ true
   entire =
       and-first (whole (s .writer .entries) (entryArea s)) (countsAgree (s .counts) (recorded s))
-      (and-first (whole (s .writer .entries) (entryArea s) && countsAgree (s .counts) (recorded s)) (eqb (s .writer .back) (backIn (s .writer .mode) (backSize (recorded s)))) (a .all))
+      (and-first counted backed (a .all))
 
   agree : countsAgree (s .counts) (recorded s) ≡ true
   agree =
       and-second (whole (s .writer .entries) (entryArea s)) (countsAgree (s .counts) (recorded s))
-      (and-first (whole (s .writer .entries) (entryArea s) && countsAgree (s .counts) (recorded s)) (eqb (s .writer .back) (backIn (s .writer .mode) (backSize (recorded s)))) (a .all))
+      (and-first counted backed (a .all))
 
   back-is : s .writer .back ≡ backIn (s .writer .mode) (backSize (recorded s))
   back-is =
       eqb-true (s .writer .back) (backIn (s .writer .mode) (backSize (recorded s)))
-      (and-second (whole (s .writer .entries) (entryArea s) && countsAgree (s .counts) (recorded s)) (eqb (s .writer .back) (backIn (s .writer .mode) (backSize (recorded s)))) (a .all))
+      (and-second counted backed (a .all))
 
   pub area-is : entryArea s ≡ cat entryBytes (recorded s)
   area-is = area-kept (s .writer .end) (s .writer .entries) (s .buffer) bytes entire
@@ -59,7 +66,9 @@ module _ (s : State) (bytes : AllBytes (s .buffer)) (closes : closeRefusal s ≡
   ends = stored-end (s .writer .end) (s .writer .entries) (s .buffer) bytes entire (f .low) (omega (arith, f .high, f .same-length))
 
   pub ids-are : All (λ (e : Entry). e .id < 2 ^ 32) (recorded s)
-  ids-are = ids-words (s .writer .entries) (entryArea s) (bytes-take (s .writer .end - headSize) (drop headSize (s .buffer)) (bytes-drop headSize (s .buffer) bytes))
+  ids-are =
+      ids-words (s .writer .entries) (entryArea s)
+      (bytes-take (s .writer .end - headSize) (drop headSize (s .buffer)) (bytes-drop headSize (s .buffer) bytes))
 
   pub number : length (recorded s) ≡ s .writer .entries
   number = length-entriesIn (s .writer .entries) (entryArea s)

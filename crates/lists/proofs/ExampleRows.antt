@@ -11,7 +11,8 @@ use borrow.Author.Tests.{ne-eqb}
 use Rattle.jhash.specs.Outcome.{value}
 use Rattle.image.specs.declared.Mode.{Mode}
 use Rattle.image.specs.Bytes.{word, filter, range, same}
-use Rattle.image.specs.Image.{Entry, Placed, headSize, entrySize, entriesSize, placed, hasId, placedOfId, lastFrom, backWord, backSize, backSizeOf, backOffset, imageSize, containsName, image}
+use Rattle.image.specs.Image.{Entry, Placed, headSize, entrySize, entriesSize, placed, hasId, placedOfId, lastFrom, backWord}
+use Rattle.image.specs.Image.{backSize, backSizeOf, backOffset, imageSize, containsName, image}
 use Rattle.image.specs.Head.{backOffsetAt}
 use Rattle.image.specs.Zero.{hasZero}
 use Rattle.lookup_laws.specs.Answer.{ofName, firstId, isNamed, ofId}
@@ -70,7 +71,8 @@ module _ (mode : Mode) (es : List Entry) (small : imageSize mode es ≤ 42949672
   back-array : backArray (image mode es) ≡ map (backWord (placed headSize es)) (range 0 (backSizeOf mode es))
   back-array =
       rw (backOffsetAt-image mode es small, backSizeAt-image mode es small)
-      (map-range (λ (i : ℕ). word (image mode es) (backOffset mode es + 4 * i)) (backWord (placed headSize es)) 0 (backSizeOf mode es) (λ i p. link-word i (omega arith)))
+      (map-range (λ (i : ℕ). word (image mode es) (backOffset mode es + 4 * i)) (backWord (placed headSize es)) 0 (backSizeOf mode es)
+      (λ i p. link-word i (omega arith)))
 
 -- ---- what is computed of a row
 
@@ -92,7 +94,14 @@ Computed r =
 
 -- it holds of every buffer of that length
 module _ (r : Row) (c : Computed r) where
-  image-holds : (img : List ℕ) → img ≡ image (r .mode) (entries r) → imageSize (r .mode) (entries r) ≤ 4294967295 → Read (r .mode) (entries r) img → ImageHolds r img
+  room : headSize ≤ r .bytes
+  room = c .0
+
+  words : WordIds (r .mode) (r .calls)
+  words = c .1
+
+  image-holds : (img : List ℕ) → img ≡ image (r .mode) (entries r) → imageSize (r .mode) (entries r) ≤ 4294967295
+      → Read (r .mode) (entries r) img → ImageHolds r img
   image-holds img is small read =
       record {
         opened = read .names .opened ∙ ap value (c .4);
@@ -105,17 +114,21 @@ module _ (r : Row) (c : Computed r) where
   holds-in : (buffer : List ℕ) → length buffer ≡ r .bytes → RowHolds r buffer
   unfolding imageOf
   holds-in buffer long =
-      let fits : headSize ≤ length buffer = omega (arith, c .0) in
-      let same-entries : accepted (r .mode) (r .repeats) (length buffer) (r .calls) ≡ entries r = ap (λ (n : ℕ). accepted (r .mode) (r .repeats) n (r .calls)) long in
+      let fits : headSize ≤ length buffer = omega (arith, room) in
+      let same-entries : accepted (r .mode) (r .repeats) (length buffer) (r .calls) ≡ entries r =
+      ap (λ (n : ℕ). accepted (r .mode) (r .repeats) n (r .calls)) long in
       record {
-        answered = list-answers (r .mode) (r .repeats) buffer fits (r .calls) (c .1) ∙ ap (λ (n : ℕ). due (r .mode) (r .repeats) n (r .calls)) long ∙ c .2;
-        closes = list-gives (r .mode) (r .repeats) buffer fits (r .calls) (c .1)
-            ∙ ap value (list-formula (r .mode) (r .repeats) buffer fits (r .calls) (c .1) ∙ ap (sizeOf (r .mode)) same-entries ∙ c .3);
+        answered =
+            list-answers (r .mode) (r .repeats) buffer fits (r .calls) words
+            ∙ ap (λ (n : ℕ). due (r .mode) (r .repeats) n (r .calls)) long
+            ∙ c .2;
+        closes = list-gives (r .mode) (r .repeats) buffer fits (r .calls) words
+            ∙ ap value (list-formula (r .mode) (r .repeats) buffer fits (r .calls) words ∙ ap (sizeOf (r .mode)) same-entries ∙ c .3);
         imaged =
             image-holds (imageOf (r .mode) (r .repeats) buffer (r .calls))
-            (list-image (r .mode) (r .repeats) buffer fits (r .calls) (c .1) ∙ ap (image (r .mode)) same-entries)
-            (rw same-entries at (list-below (r .mode) (r .repeats) buffer fits (r .calls) (c .1)))
-            (rw same-entries at (list-read (r .mode) (r .repeats) buffer fits (r .calls) (c .1)));
+            (list-image (r .mode) (r .repeats) buffer fits (r .calls) words ∙ ap (image (r .mode)) same-entries)
+            (rw same-entries at (list-below (r .mode) (r .repeats) buffer fits (r .calls) words))
+            (rw same-entries at (list-read (r .mode) (r .repeats) buffer fits (r .calls) words));
       }
 
 -- ---- the rows

@@ -9,7 +9,8 @@ use lib.Seq.{drop-at, take-at}
 use borrow.Author.Tests.{le-ltb}
 use Rattle.image.specs.declared.Mode.{Mode}
 use Rattle.image.specs.Bytes.{cat}
-use Rattle.image.specs.Image.{Entry, headSize, entryBytes, entriesSize, entriesEnd, placed, backSizeOf, imageSize, headWords, tableRows, tables, backWords, image}
+use Rattle.image.specs.Image.{Entry, headSize, entryBytes, entriesSize, entriesEnd, placed, backSizeOf, imageSize}
+use Rattle.image.specs.Image.{headWords, tableRows, tables, backWords, image}
 use Rattle.image.proofs.Sizes.{length-entries, length-headWords, length-tableRows, length-image}
 use Rattle.writer.specs.declared.Repeats.{Repeats}
 use Rattle.writer.specs.State.{State, fits, finishedSize, tooLarge}
@@ -29,7 +30,8 @@ image-split mode es rest = simp append-assoc
 
 head-length : (mode : Mode) (es : List Entry) → length (headWords mode es ++ tableRows (entriesEnd es) (placed headSize es)) ≡ headSize
 head-length mode es =
-    omega (arith, length-append (headWords mode es) (tableRows (entriesEnd es) (placed headSize es)), length-headWords mode es, length-tableRows (entriesEnd es) (placed headSize es))
+    let both = length-append (headWords mode es) (tableRows (entriesEnd es) (placed headSize es)) in
+    omega (arith, both, length-headWords mode es, length-tableRows (entriesEnd es) (placed headSize es))
 
 pub area-in-image : (mode : Mode) (es : List Entry) (rest : List ℕ) → take (entriesSize es) (drop headSize (image mode es ++ rest)) ≡ cat entryBytes es
 area-in-image mode es rest =
@@ -51,7 +53,8 @@ module _ (mode : Mode) (repeats : Repeats) (n : ℕ) (es : List Entry) (s : Stat
   pub close-accepted : closeRefusal s ≡ 0
   unfolding closeRefusal
   close-accepted =
-      decided (fits s) (consistent s) (tooLarge (s .writer .length) (finishedSize (s .writer))) (written-fits mode repeats n es s w) (written-consistent mode repeats n es s w) size-right
+      decided (fits s) (consistent s) (tooLarge (s .writer .length) (finishedSize (s .writer))) (written-fits mode repeats n es s w)
+      (written-consistent mode repeats n es s w) size-right
     where
       decided : (f c t : Bool) → f ≡ true → c ≡ true → t ≡ false → _≡_ {A = ℕ} (cond (not f) 2 (cond (c && not t) 0 4)) 0
       decided f c t p q r = rw (p, q, r) refl
@@ -65,7 +68,8 @@ module _ (mode : Mode) (repeats : Repeats) (n : ℕ) (es : List Entry) (s : Stat
   pub closed-buffer : closed s .buffer ≡ image mode es ++ drop (imageSize mode es) (s .buffer)
   unfolding closed
   closed-buffer =
-      ap₂ (λ (l : List ℕ) (k : ℕ). l ++ drop k (s .buffer)) (ap₂ image (w .mode-is) (written-recorded mode repeats n es s w)) (written-size mode repeats n es s w)
+      ap₂ (λ (l : List ℕ) (k : ℕ). l ++ drop k (s .buffer)) (ap₂ image (w .mode-is) (written-recorded mode repeats n es s w))
+      (written-size mode repeats n es s w)
 
   -- the image is the buffer's first bytes, as many as the size that close gives
   pub close-image : take (closedSize s) (afterClose s .buffer) ≡ image mode es
@@ -77,7 +81,8 @@ module _ (mode : Mode) (repeats : Repeats) (n : ℕ) (es : List Entry) (s : Stat
   closed-length =
       ap length closed-buffer
       ∙ length-append (image mode es) (drop (imageSize mode es) (s .buffer))
-      ∙ sum (length (image mode es)) (length (drop (imageSize mode es) (s .buffer))) (imageSize mode es) (length (s .buffer)) (length-image mode es) (length-drop (imageSize mode es) (s .buffer)) (w .length-kept) (w .within)
+      ∙ sum (length (image mode es)) (length (drop (imageSize mode es) (s .buffer))) (imageSize mode es) (length (s .buffer))
+      (length-image mode es) (length-drop (imageSize mode es) (s .buffer)) (w .length-kept) (w .within)
     where
       sum : (a b k l : ℕ) → a ≡ k → b ≡ l - k → l ≡ n → k ≤ n → a + b ≡ n
       sum a b k l p q r h = omega arith

@@ -57,10 +57,13 @@ module _ (mode : Mode) (repeats : Repeats) (n : ℕ) (es : List Entry) (s : Stat
       let zero = hasZero (e .name) in
       let held = containsName (e .name) (recorded s) in
       let full = tooLarge (s .writer .length) (finishedSize (writerAfter (s .writer) e)) in
-      checked (fits s) zero (consistent s) held (refusesRepeats (s .writer .repeats)) full (written-fits mode repeats n es s w) (written-consistent mode repeats n es s w)
-      ∙ ap (λ (l : List Entry). cond zero 13 (cond (containsName (e .name) l && refusesRepeats (s .writer .repeats)) 16 (cond full 3 0))) (written-recorded mode repeats n es s w)
+      checked (fits s) zero (consistent s) held (refusesRepeats (s .writer .repeats)) full (written-fits mode repeats n es s w)
+      (written-consistent mode repeats n es s w)
+      ∙ ap (λ (l : List Entry). cond zero 13 (cond (containsName (e .name) l && refusesRepeats (s .writer .repeats)) 16 (cond full 3 0)))
+      (written-recorded mode repeats n es s w)
       ∙ ap (λ (r : Repeats). cond zero 13 (cond (containsName (e .name) es && refusesRepeats r) 16 (cond full 3 0))) (w .repeats-is)
-      ∙ ap₂ (λ (capacity size : ℕ). cond zero 13 (cond (containsName (e .name) es && refusesRepeats repeats) 16 (cond (tooLarge capacity size) 3 0))) (w .length-is) finished-then
+      ∙ ap₂ (λ (capacity size : ℕ). cond zero 13 (cond (containsName (e .name) es && refusesRepeats repeats) 16 (cond (tooLarge capacity size) 3 0)))
+      (w .length-is) finished-then
     where
       checked : (f z c h r t : Bool) → f ≡ true → c ≡ true
           → _≡_ {A = ℕ} (cond (not f) 2 (cond z 13 (cond (not c && r) 4 (cond (h && r) 16 (cond t 3 0))))) (cond z 13 (cond (h && r) 16 (cond t 3 0)))
@@ -158,7 +161,8 @@ ids-then : (mode : Mode) (es : List Entry) (e : Entry) → WordId mode (put e) �
 ids-then Twoway es e word h small = omega arith
 ids-then Oneway es e word h small = omega (arith, backSize-snoc es e)
 
-module _ (mode : Mode) (repeats : Repeats) (n : ℕ) (es : List Entry) (s : State) (w : Written mode repeats n es s) (e : Entry) (capacity : putDue mode repeats n es e ≡ 0) where
+module _ (mode : Mode) (repeats : Repeats) (n : ℕ) (es : List Entry) (s : State) (w : Written mode repeats n es s) (e : Entry)
+    (capacity : putDue mode repeats n es e ≡ 0) where
   within-then : imageSize mode (es ++ (e ∷ [])) ≤ n
   within-then = due-room mode repeats n es e capacity .0
 
@@ -230,13 +234,15 @@ module _ (mode : Mode) (repeats : Repeats) (n : ℕ) (es : List Entry) (s : Stat
       due : putRefusal s e ≡ putDue mode repeats n es e
       due = put-due mode repeats n es s w e
 
-      go : (b : Bool) → eqb (putDue mode repeats n es e) 0 ≡ b → Written mode repeats n (es ++ cond b (e ∷ []) []) (cond (eqb (putRefusal s e) 0) (appended s e) s)
+      go : (b : Bool) → eqb (putDue mode repeats n es e) 0 ≡ b
+          → Written mode repeats n (es ++ cond b (e ∷ []) []) (cond (eqb (putRefusal s e) 0) (appended s e) s)
       go true d = rw (due, d) (appended-written mode repeats n es s w e (eqb-true (putDue mode repeats n es e) 0 d) word)
       go false d = rw (due, d, append-nil es) w
 
 -- ---- a fresh record
 
-pub fresh-written : (mode : Mode) (repeats : Repeats) (buffer : List ℕ) → headSize ≤ length buffer → Written mode repeats (length buffer) [] (fresh mode repeats buffer)
+pub fresh-written : (mode : Mode) (repeats : Repeats) (buffer : List ℕ) → headSize ≤ length buffer
+    → Written mode repeats (length buffer) [] (fresh mode repeats buffer)
 unfolding fresh entriesSize placed ofTable backSize cat Rattle.image.specs.Bytes.filter
 fresh-written mode repeats buffer capacity =
     record {

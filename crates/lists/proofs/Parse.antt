@@ -88,8 +88,10 @@ module _ (e : Entry) (rest : List ℕ) (ok : WordSized e) where
 
   pub first-whole : firstWhole (entryBytes e ++ rest) ≡ true
   first-whole =
-      simp
-      (le-leb 8 (length (entryBytes e ++ rest)) (omega (arith, laid-size)), le-leb 1 (word (entryBytes e ++ rest) 4) (omega (arith, laid-length)), le-leb (8 + word (entryBytes e ++ rest) 4) (length (entryBytes e ++ rest)) (omega (arith, laid-size, laid-length)), eq-eqb (getD (entryBytes e ++ rest) (7 + word (entryBytes e ++ rest) 4) 0) 0 last-byte)
+      let head = le-leb 8 (length (entryBytes e ++ rest)) (omega (arith, laid-size)) in
+      let named = le-leb 1 (word (entryBytes e ++ rest) 4) (omega (arith, laid-length)) in
+      let inside = le-leb (8 + word (entryBytes e ++ rest) 4) (length (entryBytes e ++ rest)) (omega (arith, laid-size, laid-length)) in
+      simp (head, named, inside, eq-eqb (getD (entryBytes e ++ rest) (7 + word (entryBytes e ++ rest) 4) 0) 0 last-byte)
 
 -- what was written is read back
 pub parsed : (es : List Entry) → AllWordSized es → entriesIn (length es) (cat entryBytes es) ≡ es

@@ -60,13 +60,15 @@ again-there mode r q n m no-more es [] h = tt
 again-there mode r q n m no-more es (f ∷ fs) h = (no-more es f (h .0), again-there mode r q n m no-more (es ++ (f ∷ [])) fs (h .1))
 
 -- a longer buffer refuses no more
-pub due-longer : (mode : Mode) (repeats : Repeats) (n m : ℕ) → n ≤ m → (es : List Entry) (e : Entry) → putDue mode repeats n es e ≡ 0 → putDue mode repeats m es e ≡ 0
+pub due-longer : (mode : Mode) (repeats : Repeats) (n m : ℕ) → n ≤ m → (es : List Entry) (e : Entry)
+    → putDue mode repeats n es e ≡ 0 → putDue mode repeats m es e ≡ 0
 unfolding putDue
 due-longer mode repeats n m more es e d =
     let size : ℕ = sizeOf mode (es ++ (e ∷ [])) in
     let room = due-room mode repeats n es e d in
     let is = sizeOf-is mode (es ++ (e ∷ [])) in
-    decided (hasZero (e .name)) (containsName (e .name) es && refusesRepeats repeats) (tooLarge m size) (due-free mode repeats n es e d) (due-new mode repeats n es e d)
+    decided (hasZero (e .name)) (containsName (e .name) es && refusesRepeats repeats) (tooLarge m size) (due-free mode repeats n es e d)
+    (due-new mode repeats n es e d)
     (ap₂ {C = Bool} (λ (a b : Bool). a || b) (le-ltb m size (omega (arith, room .0, is))) (le-ltb 4294967295 size (omega (arith, room .1, is))))
   where
     decided : (z h t : Bool) → z ≡ false → h ≡ false → t ≡ false → _≡_ {A = ℕ} (cond z 13 (cond h 16 (cond t 3 0))) 0

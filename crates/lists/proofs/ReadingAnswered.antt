@@ -98,4 +98,5 @@ pub list-read : (mode : Mode) (repeats : Repeats) (buffer : List ℕ) → headSi
 unfolding imageOf
 list-read mode repeats buffer room cs word =
     rw (list-image mode repeats buffer room cs word)
-    (read-image (accepted mode repeats (length buffer) cs) (list-written mode repeats buffer room cs word .ids) mode (list-below mode repeats buffer room cs word))
+    (read-image (accepted mode repeats (length buffer) cs) (list-written mode repeats buffer room cs word .ids) mode
+    (list-below mode repeats buffer room cs word))

@@ -33,7 +33,8 @@ Free e = hasZero (e .name) ≡ false
 
 -- ---- the accepted puts
 
-one-free : (mode : Mode) (repeats : Repeats) (n : ℕ) (es : List Entry) (e : Entry) (b : Bool) → eqb (putDue mode repeats n es e) 0 ≡ b → All Free (cond b (e ∷ []) [])
+one-free : (mode : Mode) (repeats : Repeats) (n : ℕ) (es : List Entry) (e : Entry) (b : Bool)
+    → eqb (putDue mode repeats n es e) 0 ≡ b → All Free (cond b (e ∷ []) [])
 one-free mode repeats n es e true d = (due-free mode repeats n es e (eqb-true (putDue mode repeats n es e) 0 d), tt)
 one-free mode repeats n es e false d = tt
 
@@ -41,7 +42,8 @@ free-from : (mode : Mode) (repeats : Repeats) (n : ℕ) (es : List Entry) (cs : 
 unfolding acceptedFrom
 free-from mode repeats n es [] all = all
 free-from mode repeats n es (put e ∷ cs) all =
-    free-from mode repeats n _ cs (all-append Free es (acceptedOne (put e) (putDue mode repeats n es e)) all (one-free mode repeats n es e (eqb (putDue mode repeats n es e) 0) refl))
+    let one = one-free mode repeats n es e (eqb (putDue mode repeats n es e) 0) refl in
+    free-from mode repeats n _ cs (all-append Free es (acceptedOne (put e) (putDue mode repeats n es e)) all one)
 free-from mode repeats n es (close ∷ cs) all = free-from mode repeats n _ cs (all-append Free es [] all tt)
 
 pub accepted-free : (mode : Mode) (repeats : Repeats) (n : ℕ) (cs : List Call) → All Free (accepted mode repeats n cs)
@@ -82,7 +84,8 @@ image-agrees mode es img r all =
 module _ (mode : Mode) (repeats : Repeats) (buffer : List ℕ) (room : headSize ≤ length buffer) (cs : List Call) (word : WordIds mode cs) where
   list-agrees : readingsAgree (imageOf mode repeats buffer cs) ≡ true
   list-agrees =
-      image-agrees mode (accepted mode repeats (length buffer) cs) (imageOf mode repeats buffer cs) (list-read mode repeats buffer room cs word) (accepted-free mode repeats (length buffer) cs)
+      image-agrees mode (accepted mode repeats (length buffer) cs) (imageOf mode repeats buffer cs)
+      (list-read mode repeats buffer room cs word) (accepted-free mode repeats (length buffer) cs)
 
 pub readings : Readings
 readings =

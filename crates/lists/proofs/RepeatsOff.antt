@@ -36,7 +36,8 @@ none-named name (e ∷ es) h =
     ∙ none-named name es (or-false-second (hasName name e) (containsName name es) h)
 
 -- one put more of a name that is new
-one-more : (name : List ℕ) (es : List Entry) (e : Entry) → containsName (e .name) es ≡ false → length (ofName name es) ≤ 1 → length (ofName name (es ++ (e ∷ []))) ≤ 1
+one-more : (name : List ℕ) (es : List Entry) (e : Entry) → containsName (e .name) es ≡ false → length (ofName name es) ≤ 1
+    → length (ofName name (es ++ (e ∷ []))) ≤ 1
 unfolding ofName
 one-more name es e new once = go (hasName name e) refl
   where

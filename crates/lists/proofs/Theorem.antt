@@ -83,7 +83,8 @@ module _ (repeats : Repeats) (buffer : List ℕ) (cs : List Call) (room : headSi
         closed-twice = list-twice Twoway repeats buffer room cs (two-way cs);
       }
 
-pub two-lists : (repeats₁ : Repeats) (buffer₁ : List ℕ) (cs₁ : List Call) (repeats₂ : Repeats) (buffer₂ : List ℕ) (cs₂ : List Call) → headSize ≤ length buffer₁ → headSize ≤ length buffer₂
+pub two-lists : (repeats₁ : Repeats) (buffer₁ : List ℕ) (cs₁ : List Call) (repeats₂ : Repeats) (buffer₂ : List ℕ) (cs₂ : List Call)
+    → headSize ≤ length buffer₁ → headSize ≤ length buffer₂
     → TwoLists repeats₁ buffer₁ cs₁ repeats₂ buffer₂ cs₂
 two-lists repeats₁ buffer₁ cs₁ repeats₂ buffer₂ cs₂ room₁ room₂ =
     let one = list-answered repeats₁ buffer₁ cs₁ room₁ in

@@ -1,8 +1,8 @@
 -- Laws of the load, and its theorem.
 pub mod StateNames
 pub mod PutTurns
-pub mod Begun
-pub mod Entered
-pub mod Behind
+pub mod BeginAnswers
+pub mod AcceptedEntries
+pub mod BytesBehind
 pub mod Theorem
 pub mod Rows

@@ -37,23 +37,24 @@ unfolding loadEntry stateAfter
 entry-is seed i state next name at step is =
     ap (λ (bytes : List ℕ). entryOf bytes i) (is ∙ ap stateName (step ∙ ap (λ (s : ℕ). nextState s) at))
 
-module _ (seed i r : ℕ) (s after : State) (e : Entry) (is : e ≡ loadEntry seed i) (answered : r ≡ putRefusal s e) (leaves : after ≡ afterPut s e) where
+module _ (seed i r : ℕ) (s after : State) (e : Entry) (is : e ≡ loadEntry seed i)
+    (put : (r ≡ putRefusal s e) × (after ≡ afterPut s e)) where
   -- it is accepted, and the next follows
   pub turn-goes-on : i < 4096 → r ≡ 0 → putFrom seed (4096 - (i + 1)) (i + 1) after ≡ putFrom seed (4096 - i) i s
   turn-goes-on few zero-is =
-      let due : putRefusal s (loadEntry seed i) ≡ 0 = ap (putRefusal s) (sym is) ∙ sym answered ∙ zero-is in
+      let due : putRefusal s (loadEntry seed i) ≡ 0 = ap (putRefusal s) (sym is) ∙ sym (put .0) ∙ zero-is in
       let left : 4096 - i ≡ suc (4096 - (i + 1)) = omega arith in
       let next : i + 1 ≡ suc i = omega arith in
-      ap₂ (λ (k : ℕ) (t : State). putFrom seed (4096 - (i + 1)) k t) next (leaves ∙ ap (afterPut s) is)
+      ap₂ (λ (k : ℕ) (t : State). putFrom seed (4096 - (i + 1)) k t) next (put .1 ∙ ap (afterPut s) is)
       ∙ sym (put-accepted seed (4096 - (i + 1)) i s due)
       ∙ ap (λ (m : ℕ). putFrom seed m i s) (sym left)
 
   -- it is refused, and the load ends
   pub turn-ends : i < 4096 → (r ≡ 0 → ⊥) → after ≡ putFrom seed (4096 - i) i s
   turn-ends few some =
-      let due : putRefusal s (loadEntry seed i) ≡ 0 → ⊥ = λ z. some (answered ∙ ap (putRefusal s) is ∙ z) in
+      let due : putRefusal s (loadEntry seed i) ≡ 0 → ⊥ = λ z. some (put .0 ∙ ap (putRefusal s) is ∙ z) in
       let left : 4096 - i ≡ suc (4096 - (i + 1)) = omega arith in
-      leaves
+      put .1
       ∙ ap (afterPut s) is
       ∙ refused-leaves s seed i due
       ∙ sym (put-refused seed (4096 - (i + 1)) i s due)

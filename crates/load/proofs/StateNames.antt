@@ -30,8 +30,14 @@ digit-nonzero d = go (ltb d 10)
 pub name-free : (s : ℕ) → hasZero (stateName s) ≡ false
 unfolding stateName hasZero
 name-free s =
-    rw
-    (digit-nonzero (s / 268435456 % 16), digit-nonzero (s / 16777216 % 16), digit-nonzero (s / 1048576 % 16), digit-nonzero (s / 65536 % 16), digit-nonzero (s / 4096 % 16), digit-nonzero (s / 256 % 16), digit-nonzero (s / 16 % 16), digit-nonzero (s % 16))
+    let d7 = digit-nonzero (s / 268435456 % 16) in
+    let d6 = digit-nonzero (s / 16777216 % 16) in
+    let d5 = digit-nonzero (s / 1048576 % 16) in
+    let d4 = digit-nonzero (s / 65536 % 16) in
+    let d3 = digit-nonzero (s / 4096 % 16) in
+    let d2 = digit-nonzero (s / 256 % 16) in
+    let d1 = digit-nonzero (s / 16 % 16) in
+    rw (d7, d6, d5, d4, d3, d2, d1, digit-nonzero (s % 16))
 
 -- a digit reads back
 abbrev digitRead : ℕ → ℕ
@@ -66,4 +72,9 @@ pub digits-read : (s : ℕ) → s < 2 ^ 32 → hexFrom 0 (drop 1 (stateName s)) 
 unfolding stateName hexFrom
 digits-read s h =
     let back : (d : ℕ) → digitRead (hexDigit (d % 16)) ≡ d % 16 = λ d. digit-read (d % 16) (mod-lt d {m = 16} (omega arith)) in
-    rw (back (s / 268435456), back (s / 16777216), back (s / 1048576), back (s / 65536), back (s / 4096), back (s / 256), back (s / 16), back s) (word-digits s h)
+    let d7 = back (s / 268435456) in
+    let d6 = back (s / 16777216) in
+    let d5 = back (s / 1048576) in
+    let d4 = back (s / 65536) in
+    let d3 = back (s / 4096) in
+    rw (d7, d6, d5, d4, d3, back (s / 256), back (s / 16), back s) (word-digits s h)

@@ -27,9 +27,9 @@ use Rattle.load.specs.States.{loadEntry}
 use Rattle.load.specs.Load.{loadPut, loading, afterLoad}
 use Rattle.load.specs.theorems.Rebuilt.{firstEntries, firstPuts, roomFor, Load, Rebuilt}
 use Rattle.load.proofs.StateNames.{nine-bytes, state-word, digits-read}
-use Rattle.load.proofs.Begun.{accepted-load}
-use Rattle.load.proofs.Entered.{first-size, first-number, accepted-first, stops-at, reached}
-use Rattle.load.proofs.Behind.{puts-behind}
+use Rattle.load.proofs.BeginAnswers.{accepted-load}
+use Rattle.load.proofs.AcceptedEntries.{first-size, first-number, accepted-first, stops-at, reached}
+use Rattle.load.proofs.BytesBehind.{puts-behind}
 
 module _ (seed : ℕ) (buffer : List ℕ) (room : headSize ≤ length buffer) where
   abbrev k : ℕ
@@ -58,7 +58,7 @@ module _ (seed : ℕ) (buffer : List ℕ) (room : headSize ≤ length buffer) wh
   begins = rw (begin-accepts (length buffer) room)
 
   bytes-left : afterLoad seed buffer ≡ afterClose left .buffer
-  bytes-left = sym (accepted-load seed buffer begins .1) ∙ ap (λ (s : State). afterClose s .buffer) listed
+  bytes-left = sym (accepted-load seed buffer begins .leaves) ∙ ap (λ (s : State). afterClose s .buffer) listed
 
   entries-left : left .writer .entries ≡ k
   entries-left = stands .entries ∙ ap length (accepted-first seed buffer room k (omega arith)) ∙ first-number seed k
@@ -71,7 +71,8 @@ module _ (seed : ℕ) (buffer : List ℕ) (room : headSize ≤ length buffer) wh
   behind : drop (headSize + 38 * k) (afterLoad seed buffer) ≡ drop (headSize + 38 * k) buffer
   behind =
       let es : List Entry = accepted Twoway On (length buffer) (firstPuts seed k) in
-      let size : imageSize Twoway es ≡ headSize + 38 * k = sym (sizeOf-is Twoway es) ∙ ap (sizeOf Twoway) (accepted-first seed buffer room k (omega arith)) ∙ first-size seed k in
+      let size : imageSize Twoway es ≡ headSize + 38 * k =
+      sym (sizeOf-is Twoway es) ∙ ap (sizeOf Twoway) (accepted-first seed buffer room k (omega arith)) ∙ first-size seed k in
       let bytes : afterLoad seed buffer ≡ image Twoway es ++ drop (imageSize Twoway es) (left .buffer) =
       bytes-left
       ∙ ap (λ (s : State). s .buffer) (close-closed Twoway On (length buffer) es left stands)
@@ -84,11 +85,17 @@ module _ (seed : ℕ) (buffer : List ℕ) (room : headSize ≤ length buffer) wh
   pub loaded : Load seed buffer (roomFor (length buffer))
   loaded =
       record {
-        given = sym (accepted-load seed buffer begins .0) ∙ ap (λ (s : State). value (s .writer .entries)) listed ∙ ap (λ (n : ℕ). value n) entries-left;
+        given =
+            sym (accepted-load seed buffer begins .gives)
+            ∙ ap (λ (s : State). value (s .writer .entries)) listed
+            ∙ ap (λ (n : ℕ). value n) entries-left;
         listed = listed;
         all-accepted = all-accepted;
         demand3 = one-list On buffer (firstPuts seed k) room;
-        closes = ap closing listed ∙ calls-answered Twoway On buffer (firstPuts seed k) room (two-way (firstPuts seed k)) .closes ∙ ap (λ (n : ℕ). value n) sized;
+        closes =
+            ap closing listed
+            ∙ calls-answered Twoway On buffer (firstPuts seed k) room (two-way (firstPuts seed k)) .closes
+            ∙ ap (λ (n : ℕ). value n) sized;
         imaged = imaged;
         kept = behind;
         stops = λ few. ap (λ (s : State). putRefusal s (loadEntry seed k)) listed ∙ stops-at seed buffer room few;

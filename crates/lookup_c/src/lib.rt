@@ -1,5 +1,6 @@
 // Looking up a name, for C. A crate of its own, so that the compiler inlines search and hash: beside the home check,
-// which searches too, and the writer, which hashes, it would not.
+// which searches too, and the writer, which hashes, it would not. By itself a lookup takes 3 to 18 % less time than in
+// one crate with both (docs/DECISIONS.md, "Why several export crates?").
 use reader::ToId;
 ghost use mathlib.Core.Path.{_≡_};
 ghost use Rattle.lookup_c.specs.IdAnswers.{idAnswer};

@@ -1,3 +1,4 @@
 -- Packed names: end to end in one buffer, with the list of their end offsets.
 pub mod Names
 pub mod Keys
+pub mod steps

@@ -1,11 +1,12 @@
-// Packed names: end to end in one buffer, with the list of their end offsets.
+// Packed names: end to end in one buffer, with the list of their end offsets. The calls that take many names at once
+// take them in this form: rounds (`batch`) and whole lists (`bulk_tables`, `build`).
 ghost use mathlib.Core.Path.{_≡_};
-ghost use mathlib.Core.Bool.{false};
 ghost use mathlib.Core.List.{[]};
 ghost use Prim.Native.Nat.{_<_};
 ghost use lib.ListN.{length, getD};
 ghost use Rattle.packed.specs.Names.{names, invalidEnds, beginOf};
 ghost use Rattle.packed.specs.Keys.{key};
+ghost use Rattle.packed.specs.steps.Contracts.{NameOfPre};
 use jhash::Hashed;
 
 // Do the ends fall, or pass `size` bytes? The loop reads each of them and ends at none, so the compiler makes no branch
@@ -35,7 +36,7 @@ fn begin_of(ends: &[u64], i: usize) -> u64
 
 // The i-th name, counted from 0.
 pub fn name_of<'a>(bytes: &'a [u8], ends: &[u64], i: usize) -> &'a [u8]
-    requires { ⌜ (i < length (now ends)) × (invalidEnds (length (now bytes)) 0 (now ends) ≡ false) ⌝ }
+    requires { ⌜ NameOfPre (now bytes) (now ends) i ⌝ }
     ensures { λ r. ⌜ now r ≡ getD (names (now (bytes .entry)) (now (ends .entry))) i [] ⌝ }
 {
     let start = begin_of(ends, i) as usize;

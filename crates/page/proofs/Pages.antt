@@ -18,6 +18,7 @@ use Rattle.reader.specs.Naming.{nameGiven}
 use Rattle.reader.specs.IdWalk.{upperHint}
 use Rattle.page.specs.Page.{line, lines, page}
 use Rattle.page.specs.Call.{printingLines, afterLines, printing, afterPage, partLines, partPrinting, afterPart}
+use Rattle.page.specs.steps.Contracts.{FrontPrinted}
 use Rattle.page.proofs.Fields.{length-line}
 
 module _ (name : ℕ → Option (List ℕ)) where
@@ -75,13 +76,14 @@ module _ (name : ℕ → Option (List ℕ)) where
 -- ---- the call, for n lines from `first` on
 
 module _ (name : ℕ → Option (List ℕ)) (first n : ℕ) (out : List ℕ) where
-  pub too-short : length out < 45 * n → (refusal 12 ≡ printingLines n (length out)) × (out ≡ afterLines name first n out)
+  pub too-short : length out < 45 * n → FrontPrinted name first n out out (refusal 12)
   unfolding printingLines afterLines
   too-short h =
-      let t : ltb (length out) (45 * n) ≡ true = lt-ltb (length out) (45 * n) h in (
-        sym (ap (λ (b : Bool). cond b (refusal 12) (value (45 * n))) t),
-        sym (ap (λ (b : Bool). cond b out (lines name first n ++ drop (45 * n) out)) t),
-      )
+      let t : ltb (length out) (45 * n) ≡ true = lt-ltb (length out) (45 * n) h in
+      record {
+        answer = sym (ap (λ (b : Bool). cond b (refusal 12) (value (45 * n))) t);
+        bytes = sym (ap (λ (b : Bool). cond b out (lines name first n ++ drop (45 * n) out)) t);
+      }
 
   -- the lines stand in front of what was behind them
   in-front : 45 * n ≤ length out → sets out 0 (lines name first n) ≡ lines name first n ++ drop (45 * n) out
@@ -91,27 +93,32 @@ module _ (name : ℕ → Option (List ℕ)) (first n : ℕ) (out : List ℕ) whe
       sets-eq (lines name first n) out 0 (omega arith) ∙ ap (λ (m : ℕ). lines name first n ++ drop m out) k
 
   pub all-printed : (out₁ : List ℕ) → 45 * n ≤ length out → out₁ ≡ sets out 0 (lines name first n)
-      → (value (45 * n) ≡ printingLines n (length out)) × (out₁ ≡ afterLines name first n out)
+      → FrontPrinted name first n out out₁ (value (45 * n))
   unfolding printingLines afterLines
   all-printed out₁ h p =
-      let f : ltb (length out) (45 * n) ≡ false = le-ltb (length out) (45 * n) h in (
-        sym (ap (λ (b : Bool). cond b (refusal 12) (value (45 * n))) f),
-        p ∙ in-front h ∙ sym (ap (λ (b : Bool). cond b out (lines name first n ++ drop (45 * n) out)) f),
-      )
+      let f : ltb (length out) (45 * n) ≡ false = le-ltb (length out) (45 * n) h in
+      record {
+        answer = sym (ap (λ (b : Bool). cond b (refusal 12) (value (45 * n))) f);
+        bytes = p ∙ in-front h ∙ sym (ap (λ (b : Bool). cond b out (lines name first n ++ drop (45 * n) out)) f);
+      }
 
 -- ---- the calls, for an image of that back size
 
 pub whole-page : (image out out₁ : List ℕ) (size : ℕ) (r : Outcome ℕ) → size ≡ upperHint image 0
-    → r ≡ printingLines size (length out) → out₁ ≡ afterLines (nameGiven image) 0 size out
+    → FrontPrinted (nameGiven image) 0 size out out₁ r
     → (r ≡ printing image (length out)) × (out₁ ≡ afterPage image out)
 unfolding printing afterPage
-whole-page image out out₁ size r e p q =
-    (p ∙ ap (λ (k : ℕ). printingLines k (length out)) e, q ∙ ap (λ (k : ℕ). afterLines (nameGiven image) 0 k out) e)
+whole-page image out out₁ size r e p = (
+  p .answer ∙ ap (λ (k : ℕ). printingLines k (length out)) e,
+  p .bytes ∙ ap (λ (k : ℕ). afterLines (nameGiven image) 0 k out) e,
+)
 
-pub part-of-page : (image out out₁ : List ℕ) (first count size n : ℕ) (r : Outcome ℕ) → size ≡ upperHint image 0 → n ≡ min count (size - first)
-    → r ≡ printingLines n (length out) → out₁ ≡ afterLines (nameGiven image) first n out
+pub part-of-page : (image out out₁ : List ℕ) (first count size n : ℕ) (r : Outcome ℕ) → size ≡ upperHint image 0
+    → n ≡ min count (size - first) → FrontPrinted (nameGiven image) first n out out₁ r
     → (r ≡ partPrinting image first count (length out)) × (out₁ ≡ afterPart image first count out)
 unfolding partPrinting afterPart
-part-of-page image out out₁ first count size n r e m p q =
-    let w : n ≡ partLines image first count = m ∙ ap (λ (k : ℕ). min count (k - first)) e in
-    (p ∙ ap (λ (k : ℕ). printingLines k (length out)) w, q ∙ ap (λ (k : ℕ). afterLines (nameGiven image) first k out) w)
+part-of-page image out out₁ first count size n r e m p =
+    let w : n ≡ partLines image first count = m ∙ ap (λ (k : ℕ). min count (k - first)) e in (
+      p .answer ∙ ap (λ (k : ℕ). printingLines k (length out)) w,
+      p .bytes ∙ ap (λ (k : ℕ). afterLines (nameGiven image) first k out) w,
+    )

@@ -19,7 +19,7 @@ use Rattle.image.proofs.At.{At, at-whole, at-same, at-equal, at-part, at-take}
 use Rattle.reader.specs.Naming.{nameGiven}
 use Rattle.reader.specs.IdWalk.{upperHint}
 use Rattle.page.specs.Page.{idField, nameField, line, lines, page}
-use Rattle.page.specs.Call.{pageOf, pageLength, printing, afterPage, partOf}
+use Rattle.page.specs.Call.{pageOf, pageLength, printing, afterPage, pagePart}
 use Rattle.page.specs.theorems.PrintedPage.{PrintedPage, Plain, readFrom}
 use Rattle.page.proofs.Fields.{length-number, length-field, length-line}
 use Rattle.page.proofs.Pages.{length-page, lines-split, behind-part}
@@ -90,14 +90,14 @@ alike a b e h =
 
 -- ---- the page in parts
 
-whole : (image : List ℕ) (count : ℕ) → upperHint image 0 ≤ count → partOf image 0 count ≡ pageOf image
-unfolding partOf pageOf
+whole : (image : List ℕ) (count : ℕ) → upperHint image 0 ≤ count → pagePart image 0 count ≡ pageOf image
+unfolding pagePart pageOf
 whole image count h =
     let e : min count (upperHint image 0 - 0) ≡ upperHint image 0 = omega arith in
     ap (lines (nameGiven image) 0) e
 
-joined : (image : List ℕ) (first a b : ℕ) → partOf image first (a + b) ≡ partOf image first a ++ partOf image (first + a) b
-unfolding partOf
+joined : (image : List ℕ) (first a b : ℕ) → pagePart image first (a + b) ≡ pagePart image first a ++ pagePart image (first + a) b
+unfolding pagePart
 joined image first a b =
     let size = upperHint image 0 in
     let f = nameGiven image in

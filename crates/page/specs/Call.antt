@@ -47,9 +47,9 @@ afterPage image out = afterLines (nameGiven image) 0 (upperHint image 0) out
 abbrev pub partLines : List ℕ → ℕ → ℕ → ℕ
 partLines image first count = min count (upperHint image 0 - first)
 
-unfoldable pub partOf : List ℕ → ℕ → ℕ → List ℕ
+unfoldable pub pagePart : List ℕ → ℕ → ℕ → List ℕ
 unfolding lines
-partOf image first count = lines (nameGiven image) first (partLines image first count)
+pagePart image first count = lines (nameGiven image) first (partLines image first count)
 
 unfoldable pub partPrinting : List ℕ → ℕ → ℕ → ℕ → Outcome ℕ
 unfolding printingLines

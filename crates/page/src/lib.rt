@@ -1,12 +1,12 @@
 // A printed catalogue: a line of 45 bytes for every id below back size.
 ghost use mathlib.Core.Path.{_≡_};
-ghost use Prim.Native.Nat.{_+_, _*_, _-_, _≤_, _<_, min};
+ghost use Prim.Native.Nat.{_+_, _-_, _<_, min};
 ghost use lib.ListN.{length};
 ghost use lib.Seq.{sets};
 ghost use Rattle.reader.specs.Naming.{nameGiven};
 ghost use Rattle.page.specs.Page.{lines};
-ghost use Rattle.page.specs.Call.{pageLength, printingLines, afterLines};
-ghost use Rattle.page.specs.Call.{printing, afterPage, partPrinting, afterPart, printedOf};
+ghost use Rattle.page.specs.Call.{pageLength, printing, afterPage, partPrinting, afterPart, printedOf};
+ghost use Rattle.page.specs.steps.Contracts.{PrintLinesPre, FrontPrinted};
 use line::print_line;
 use reader::Iter;
 use reader::id_walk::size_hint;
@@ -28,8 +28,7 @@ pub fn page_length(image: &[u8]) -> u64
 
 // The lines of `count` ids from `first` on, one after the other.
 fn print_lines(out: &mut [u8], image: &[u8], first: u32, count: u32)
-    requires room { ⌜ 45 * count ≤ length (now out) ⌝ }
-    requires ids { ⌜ first + count < 4294967296 ⌝ }
+    requires { ⌜ PrintLinesPre (now out) first count ⌝ }
     ensures { λ _. ⌜
         now (out .exit) ≡ sets (now (out .entry)) 0 (lines (nameGiven (now (image .entry))) first count)
         ⌝ }
@@ -44,9 +43,8 @@ fn print_lines(out: &mut [u8], image: &[u8], first: u32, count: u32)
 // The same, to the front of `out`. Refused where `out` is shorter, and nothing is written.
 fn print_front(out: &mut [u8], image: &[u8], first: u32, count: u32) -> Printed
     requires { ⌜ first + count < 4294967296 ⌝ }
-    ensures answer { λ r. ⌜ printedOf r ≡ printingLines count (length (now (out .entry))) ⌝ }
-    ensures bytes { λ r. ⌜
-        now (out .exit) ≡ afterLines (nameGiven (now (image .entry))) first count (now (out .entry))
+    ensures { λ r. ⌜
+        FrontPrinted (nameGiven (now (image .entry))) first count (now (out .entry)) (now (out .exit)) (printedOf r)
         ⌝ }
 {
     let length = 45 * (count as u64);

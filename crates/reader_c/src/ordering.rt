@@ -13,6 +13,7 @@ pub struct OrderAnswer {
     pub pair: u64,
 }
 
+// The verdict as a struct.
 pub fn answer(o: Order) -> OrderAnswer
     ensures { λ r. ⌜ r ≡ orderAnswer (verdictOf o) ⌝ }
 {

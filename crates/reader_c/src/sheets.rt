@@ -5,7 +5,7 @@ use sheet::Written;
 ghost use mathlib.Core.Path.{_≡_};
 ghost use lib.ListN.{length};
 ghost use Rattle.sheet.specs.SheetReading.{readSheet};
-ghost use Rattle.sheet.specs.SheetWriting.{lent, writing, afterWriting};
+ghost use Rattle.sheet.specs.SheetWriting.{sectionLists, writing, afterWriting};
 ghost use Rattle.reader_c.specs.SheetAnswers.{sheetAnswer, lengthAnswer, partsAnswer, noSheet};
 
 // The refusal's number, 0 when the file was accepted; then, for references, wall prisms and retired prisms, the
@@ -72,12 +72,12 @@ pub extern "C" fn cqdb_sheet_write(
     ensures answer { λ r. ⌜
         r ≡ lengthAnswer
         (writing (length (now (buf .entry)))
-        (lent (now (references .entry)) (now (walls .entry)) (now (retired .entry))))
+        (sectionLists (now (references .entry)) (now (walls .entry)) (now (retired .entry))))
         ⌝ }
     ensures leaves { λ r. ⌜
         now (buf .exit)
         ≡ afterWriting (now (buf .entry))
-        (lent (now (references .entry)) (now (walls .entry)) (now (retired .entry)))
+        (sectionLists (now (references .entry)) (now (walls .entry)) (now (retired .entry)))
         ⌝ }
 {
     let written = sheet::write(&mut *buf, references, walls, retired);

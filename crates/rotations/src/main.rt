@@ -1,12 +1,14 @@
 // Rotates 131,072 words by each amount from 0 to 31 and prints a line for each amount: the amount, how many answers
 // were not lookup3's own `rot` (two shifts joined), and the sum of the answers. `jhash` is asked with an amount that
-// the compiler does not know, so its table is read; and once more with 32 more, which has to give the same.
+// the compiler does not know, so its table is read; and once more with 32 more, which has to give the same. The hash
+// rotates by constants, so this program alone reads the table; tests/compare/rotation.rs compares its lines with Rust's
+// own `rotate_left`.
 use libc::STDOUT_FILENO;
 
 const WORDS: u32 = 131072;
 
 // What became of the words at one amount.
-struct Seen {
+struct Tally {
     different: u64,
     sum: u64,
 }
@@ -28,7 +30,7 @@ fn shifted(x: u32, k: u32) -> u32 {
 }
 
 // One word more. The sums stay far below 2^64.
-fn with_word(seen: Seen, x: u32, k: u32) -> Seen {
+fn with_word(tally: Tally, x: u32, k: u32) -> Tally {
     let r = jhash::rotate_left(x, k);
     let again = jhash::rotate_left(x, std::num::wrapping_add_u32(k, 32));
     let wrong = if r == shifted(x, k) && r == again {
@@ -36,38 +38,40 @@ fn with_word(seen: Seen, x: u32, k: u32) -> Seen {
     } else {
         1
     };
-    Seen {
-        different: std::num::wrapping_add_u64(seen.different, wrong),
-        sum: std::num::wrapping_add_u64(seen.sum, r as u64),
+    Tally {
+        different: std::num::wrapping_add_u64(tally.different, wrong),
+        sum: std::num::wrapping_add_u64(tally.sum, r as u64),
     }
 }
 
 // All words at one amount.
-fn at_amount(k: u32) -> Seen {
-    let mut seen = Seen {
+fn at_amount(k: u32) -> Tally {
+    let mut tally = Tally {
         different: 0,
         sum: 0,
     };
     let mut x = 0;
     let mut i = 0;
     while i < WORDS {
-        seen = with_word(seen, x, k);
+        tally = with_word(tally, x, k);
         x = next(x);
         i = i + 1;
     }
-    seen
+    tally
 }
 
+// A number, and the bytes behind it.
 fn print_number(n: u64, end: &[u8]) {
     io::print_decimal(STDOUT_FILENO, n);
     io::write_all(STDOUT_FILENO, end);
 }
 
+// The line of one amount.
 fn print_amount(k: u32) {
-    let seen = at_amount(k);
+    let tally = at_amount(k);
     print_number(k as u64, b" ");
-    print_number(seen.different, b" ");
-    print_number(seen.sum, b"\n");
+    print_number(tally.different, b" ");
+    print_number(tally.sum, b"\n");
 }
 
 fn main() {

@@ -11,6 +11,7 @@ use Rattle.image.proofs.Words.{word-drop, word-le32, length-le32, le32-bytes}
 use Rattle.image.proofs.Lists.{length-cat}
 use Rattle.sheet.specs.Format.{countAt, countBytes, ids, idBytes}
 use Rattle.sheet.specs.theorems.RoundSheet.{Below}
+use Rattle.sheet.specs.steps.Contracts.{CountRead}
 
 -- a byte, or the 0 past the end
 byte-below : (s : List ℕ) (i : ℕ) → Below 256 s → getD s i 0 < 256
@@ -43,9 +44,9 @@ count-back n rest h = omega arith
 
 -- a count from its two bytes
 pub count-of : (s : List ℕ) (o a b : ℕ) → (a ≡ getD s o 0) × (a < 256) → (b ≡ getD s (o + 1) 0) × (b < 256)
-    → (a + b * 256 ≡ countAt s o) × (a + b * 256 < 65536)
+    → CountRead s o (a + b * 256)
 unfolding countAt
-count-of s o a b (ea, ha) (eb, hb) = (omega arith, omega arith)
+count-of s o a b (ea, ha) (eb, hb) = record { count = omega arith; bound = omega arith }
 
 pub count-below : (s : List ℕ) (o : ℕ) → Below 256 s → countAt s o ≤ 65535
 unfolding countAt

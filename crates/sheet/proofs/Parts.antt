@@ -9,7 +9,7 @@ use lib.ListN.{length, take, drop, length-drop}
 use lib.Seq.{take-all}
 use Rattle.jhash.specs.Outcome.{value, refusal}
 use Rattle.reader.specs.Slices.{Slice, subslice}
-use Rattle.sheet.specs.SheetReading.{partOf, partAt, readSheet, sectionOf, partOrNone, sectionPart, cutPart}
+use Rattle.sheet.specs.SheetReading.{partBytes, partAt, readSheet, sectionOf, sectionOrEmpty, sectionPart, cutPart}
 use Rattle.sheet.specs.declared.Place.{Place}
 use Rattle.sheet.specs.declared.Sheet.{Sheet}
 use Rattle.sheet.specs.declared.Which.{Which}
@@ -44,7 +44,7 @@ module _ (file : Slice) (p : Place) where
       left : List ℕ
       left = drop (p .start) (file .bytes)
 
-      same : take (size - p .start) left ≡ partOf (file .bytes) p
+      same : take (size - p .start) left ≡ partBytes (file .bytes) p
       same =
           let e : length left ≡ size - p .start = length-drop (p .start) (file .bytes) in
           take-all (size - p .start) left (omega arith) ∙ sym (take-all (4 * p .count) left (omega arith))
@@ -62,7 +62,7 @@ section-starts file which = of-whole (λ (s : Sheet). sectionOf s which .start �
 module _ (file : Slice) (which : Which) where
   pub section-there : (s : Sheet) → readSheet (file .bytes) ≡ value s → cutPart file (sectionOf s which) ≡ sectionPart file which
   section-there s e =
-      sym (part-inside file (sectionOf s which) (section-starts (file .bytes) which s e)) ∙ ap (partOrNone file which) (sym e)
+      sym (part-inside file (sectionOf s which) (section-starts (file .bytes) which s e)) ∙ ap (sectionOrEmpty file which) (sym e)
 
   pub no-section : (n : ℕ) → readSheet (file .bytes) ≡ refusal n → subslice file 0 0 ≡ sectionPart file which
-  no-section n e = ap (partOrNone file which) (sym e)
+  no-section n e = ap (sectionOrEmpty file which) (sym e)

@@ -12,7 +12,7 @@ use lib.Seq.{take-all, take-at, drop-at, take-add, drop-drop, drop-append-seam, 
 use Rattle.jhash.specs.Outcome.{value, refusal}
 use Rattle.jhash.proofs.ValueOrRefusal.{no-value}
 use Rattle.sheet.specs.Format.{countAt, countBytes, ids, idBytes, sectionBytes}
-use Rattle.sheet.specs.SheetReading.{partEnd, partOf, idsIn, sectionAt}
+use Rattle.sheet.specs.SheetReading.{partEnd, partBytes, idsIn, sectionAt}
 use Rattle.sheet.specs.theorems.RoundSheet.{Below, Holdable, HoldsIds}
 use Rattle.sheet.specs.declared.Place.{Place}
 use Rattle.sheet.proofs.CountsAndIds.{below-drop, below-take, length-countBytes, count-back, count-below, count-drop, count-bytes}
@@ -105,7 +105,7 @@ module _ (front xs rest : List ℕ) where
       lies around (length front) (omega (arith, length-section xs))
       ∙ ap (λ (n : ℕ). value (record { start = length front + 2; count = n })) c
 
-  pub part-reads : partOf around behind ≡ idBytes xs
+  pub part-reads : partBytes around behind ≡ idBytes xs
   part-reads =
       ap (take (4 * length xs))
       (drop-append-add front (sectionBytes xs ++ rest) 2
@@ -117,7 +117,7 @@ module _ (front xs rest : List ℕ) where
 
 module _ (file : List ℕ) (o : ℕ) (p : Place) (l : Lies file o p) where
   abbrev held : List ℕ
-  held = partOf file p
+  held = partBytes file p
 
   part-length : length held ≡ 4 * p .count
   part-length = simp (length-take, length-drop) (omega (arith, l .inside))

@@ -8,7 +8,7 @@ use lib.ListN.{length, take, drop, length-append, take-append-drop}
 use lib.Seq.{take-add}
 use Rattle.jhash.specs.Outcome.{Outcome, value, refusal}
 use Rattle.sheet.specs.Format.{sectionBytes, Lists, sheetBytes}
-use Rattle.sheet.specs.SheetReading.{partEnd, partOf, idsIn, sectionAt, andThen, sections, listsOf}
+use Rattle.sheet.specs.SheetReading.{partEnd, partBytes, idsIn, sectionAt, andThen, sections, listsOf}
 use Rattle.sheet.specs.theorems.RoundSheet.{Below, Fits}
 use Rattle.sheet.specs.declared.Place.{Place}
 use Rattle.sheet.specs.declared.Sheet.{Sheet}
@@ -156,22 +156,22 @@ module _ (l : Lists) (rest : List ℕ) where
     pub lists-read : listsOf file (sheet pa pb pc) ≡ l
     lists-read = λ i. record { references = ra i; walls = rb i; retired = rc i }
       where
-        ra : idsIn (partOf file pa) ≡ l .references
+        ra : idsIn (partBytes file pa) ≡ l .references
         ra =
-            ap idsIn (ap (λ (f : List ℕ). partOf f pa) at-front ∙ part-reads [] (l .references) (b ++ (c ++ rest)))
+            ap idsIn (ap (λ (f : List ℕ). partBytes f pa) at-front ∙ part-reads [] (l .references) (b ++ (c ++ rest)))
             ∙ ids-of (l .references) (fits .references .words)
 
-        rb : idsIn (partOf file pb) ≡ l .walls
+        rb : idsIn (partBytes file pb) ≡ l .walls
         rb =
             ap idsIn
-            (ap₂ (λ (f : List ℕ) (n : ℕ). partOf f (record { start = n + 2; count = length (l .walls) })) at-walls (sym end-a)
+            (ap₂ (λ (f : List ℕ) (n : ℕ). partBytes f (record { start = n + 2; count = length (l .walls) })) at-walls (sym end-a)
             ∙ part-reads a (l .walls) (c ++ rest))
             ∙ ids-of (l .walls) (fits .walls .words)
 
-        rc : idsIn (partOf file pc) ≡ l .retired
+        rc : idsIn (partBytes file pc) ≡ l .retired
         rc =
             ap idsIn
-            (ap₂ (λ (f : List ℕ) (n : ℕ). partOf f (record { start = n + 2; count = length (l .retired) })) at-retired (sym end-b)
+            (ap₂ (λ (f : List ℕ) (n : ℕ). partBytes f (record { start = n + 2; count = length (l .retired) })) at-retired (sym end-b)
             ∙ part-reads (a ++ b) (l .retired) rest)
             ∙ ids-of (l .retired) (fits .retired .words)
 

@@ -3,5 +3,6 @@ pub mod Format
 pub mod SheetReading
 pub mod SheetWriting
 pub mod Cases
+pub mod steps
 pub mod theorems
 pub mod examples

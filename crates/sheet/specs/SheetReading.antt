@@ -18,8 +18,8 @@ abbrev pub partEnd : Place → ℕ
 partEnd p = p .start + 4 * p .count
 
 -- the part itself, and the ids in a part
-abbrev pub partOf : List ℕ → Place → List ℕ
-partOf file p = take (4 * p .count) (drop (p .start) file)
+abbrev pub partBytes : List ℕ → Place → List ℕ
+partBytes file p = take (4 * p .count) (drop (p .start) file)
 
 abbrev pub idsIn : List ℕ → List ℕ
 idsIn part = ids (length part / 4) part
@@ -62,12 +62,12 @@ sectionOf s Retired = s .retired
 abbrev pub partAt : slices.Slice → Place → slices.Slice
 partAt file p = slices.subslice file (p .start) (4 * p .count)
 
-abbrev pub partOrNone : slices.Slice → Which → Outcome Sheet → slices.Slice
-partOrNone file which (value s) = partAt file (sectionOf s which)
-partOrNone file which (refusal n) = slices.subslice file 0 0
+abbrev pub sectionOrEmpty : slices.Slice → Which → Outcome Sheet → slices.Slice
+sectionOrEmpty file which (value s) = partAt file (sectionOf s which)
+sectionOrEmpty file which (refusal n) = slices.subslice file 0 0
 
 abbrev pub sectionPart : slices.Slice → Which → slices.Slice
-sectionPart file which = partOrNone file which (readSheet (file .bytes))
+sectionPart file which = sectionOrEmpty file which (readSheet (file .bytes))
 
 -- the part at any place, also one that no reader gave: what of it lies past the end is left out; empty where it starts
 -- past the end
@@ -78,9 +78,9 @@ cutPart file p = cond (ltb (length (file .bytes)) (p .start)) (slices.subslice f
 abbrev pub listsOf : List ℕ → Sheet → Lists
 listsOf file s =
     record {
-      references = idsIn (partOf file (s .references));
-      walls = idsIn (partOf file (s .walls));
-      retired = idsIn (partOf file (s .retired));
+      references = idsIn (partBytes file (s .references));
+      walls = idsIn (partBytes file (s .walls));
+      retired = idsIn (partBytes file (s .retired));
     }
 
 unfoldable pub readLists : List ℕ → Outcome Lists

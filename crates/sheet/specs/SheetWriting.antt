@@ -8,8 +8,8 @@ use Rattle.jhash.specs.Outcome.{Outcome, value, refusal}
 use Rattle.sheet.specs.Format.{Lists, sheetBytes}
 
 -- the lists that are lent
-abbrev pub lent : List ℕ → List ℕ → List ℕ → Lists
-lent references walls retired = record { references = references; walls = walls; retired = retired }
+abbrev pub sectionLists : List ℕ → List ℕ → List ℕ → Lists
+sectionLists references walls retired = record { references = references; walls = walls; retired = retired }
 
 -- does a list pass 65,535?
 abbrev pub passes : List ℕ → Bool

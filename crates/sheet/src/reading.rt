@@ -2,11 +2,11 @@
 ghost use mathlib.Core.Path.{_≡_};
 ghost use Prim.Native.Nat.{_+_, _<_, _≤_};
 ghost use lib.ListN.{length, getD};
-ghost use Rattle.sheet.specs.Format.{countAt};
 ghost use Rattle.reader.specs.Slices.{slice};
-ghost use Rattle.sheet.specs.SheetReading.{partEnd, idsIn, sectionAt, readSheet, sectionOf, sectionPart};
-ghost use Rattle.sheet.specs.SheetReading.{cutPart};
+ghost use Rattle.sheet.specs.SheetReading.{partEnd, idsIn, sectionAt, readSheet};
+ghost use Rattle.sheet.specs.SheetReading.{sectionOf, sectionPart, cutPart};
 ghost use Rattle.sheet.specs.Cases.{foundOf, readOf};
+ghost use Rattle.sheet.specs.steps.Contracts.{CountRead};
 use super::Found;
 use super::Place;
 use super::ReadAnswer;
@@ -17,7 +17,7 @@ use jhash::word::wide;
 // The 16-bit count at `at`.
 fn count_at(file: &[u8], at: usize) -> u32
     requires { ⌜ at + 2 ≤ length (now file) ⌝ }
-    ensures { λ r. ⌜ (r ≡ countAt (now (file .entry)) at) × (r < 65536) ⌝ }
+    ensures { λ r. ⌜ CountRead (now (file .entry)) at r ⌝ }
 {
     let low = wide(file[at]);
     let high = wide(file[at + 1]);

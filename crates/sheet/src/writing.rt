@@ -1,11 +1,12 @@
 // The writer: three lent lists of ids into a lent buffer.
 ghost use mathlib.Core.Path.{_≡_};
-ghost use Prim.Native.Nat.{_+_, _*_, _<_, _≤_};
+ghost use Prim.Native.Nat.{_+_, _*_, _≤_};
 ghost use lib.ListN.{length};
 ghost use lib.Seq.{sets};
-ghost use Rattle.sheet.specs.Format.{idBytes, sectionBytes};
-ghost use Rattle.sheet.specs.SheetWriting.{lent, writing, afterWriting};
+ghost use Rattle.sheet.specs.Format.{idBytes};
+ghost use Rattle.sheet.specs.SheetWriting.{sectionLists, writing, afterWriting};
 ghost use Rattle.sheet.specs.Cases.{writtenOf};
+ghost use Rattle.sheet.specs.steps.Contracts.{PutSectionPre, SectionStored};
 use super::Written;
 
 // The bytes of ids stored from `at` on.
@@ -22,9 +23,8 @@ fn put_ids(buf: &mut [u8], at: usize, ids: &[u32])
 
 // A section stored from `at` on: the count and the ids. Gives where it ends.
 fn put_section(buf: &mut [u8], at: usize, ids: &[u32]) -> usize
-    requires { ⌜ (at + 2 + 4 * length (now ids) ≤ length (now buf)) × (length (now ids) < 65536) ⌝ }
-    ensures end { λ r. ⌜ r ≡ at + 2 + 4 * length (now (ids .entry)) ⌝ }
-    ensures stored { λ _. ⌜ now (buf .exit) ≡ sets (now (buf .entry)) at (sectionBytes (now (ids .entry))) ⌝ }
+    requires { ⌜ PutSectionPre (now buf) at (now ids) ⌝ }
+    ensures { λ r. ⌜ SectionStored (now (buf .entry)) at (now (ids .entry)) (now (buf .exit)) r ⌝ }
 {
     let count = ids.len();
     let low = (count % 256) as u8;
@@ -39,12 +39,12 @@ fn put_section(buf: &mut [u8], at: usize, ids: &[u32]) -> usize
 pub fn write(buf: &mut [u8], references: &[u32], walls: &[u32], retired: &[u32]) -> Written
     ensures answer { λ r. ⌜
         writtenOf r ≡ writing (length (now (buf .entry)))
-        (lent (now (references .entry)) (now (walls .entry)) (now (retired .entry)))
+        (sectionLists (now (references .entry)) (now (walls .entry)) (now (retired .entry)))
         ⌝ }
     ensures leaves { λ r. ⌜
         now (buf .exit)
         ≡ afterWriting (now (buf .entry))
-        (lent (now (references .entry)) (now (walls .entry)) (now (retired .entry)))
+        (sectionLists (now (references .entry)) (now (walls .entry)) (now (retired .entry)))
         ⌝ }
 {
     let n = references.len();

@@ -181,7 +181,9 @@ module _ (R : Lft → RattleType) where
       abbrev to-stand : WindowStateContract 𝓤 H A mem run .Ghost
       to-stand = (((ρ, tt), (s, tt), tt, (y, (id, (date, tt))), stand-passed), tt)
 
-      stand-asked : ent 𝓤 (onEntry 𝓤 H A window_state.signature (ρ, tt) (s, tt) (y, (id, (date, tt))) stand-passed) (WindowStateContract 𝓤 H A mem run .pre to-stand)
+      stand-asked :
+          ent 𝓤 (onEntry 𝓤 H A window_state.signature (ρ, tt) (s, tt) (y, (id, (date, tt))) stand-passed)
+          (WindowStateContract 𝓤 H A mem run .pre to-stand)
       stand-asked =
           qed W
           ((‵ (flft ρ s) ⊛ ‵ ftrue)

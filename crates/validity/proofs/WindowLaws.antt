@@ -10,7 +10,7 @@ use Rattle.reader.specs.Slices.{Slice, subslice}
 use Rattle.reader.specs.Naming.{Naming, unnamed, naming, sliceOr}
 use Rattle.validity.specs.Calendar.{isDate}
 use Rattle.validity.specs.Rule.{someWindow, invalidDates, inverted, holdsDate, inSeason, namingOn, namedIn, namePartOn}
-use Rattle.validity.specs.steps.Fold.{stateOf, stronger, stepped, folded}
+use Rattle.validity.specs.steps.Fold.{oneWindowState, stronger, stepped, folded}
 use Rattle.validity.specs.Windows.{windowState, answerBy, placeBy, partBy}
 use Rattle.validity.specs.declared.Date.{Date}
 use Rattle.validity.specs.declared.Window.{Window}
@@ -51,7 +51,7 @@ module _ (id : ℕ) (date : Date) where
 
   folded-form : (a b c : Bool) (ws : List Window)
       → folded id date (form a b c) ws ≡ form (a || someWindow invalidDates ws) (b || someWindow inverted ws) (c || someWindow (holdsDate id date) ws)
-  unfolding folded someWindow stateOf
+  unfolding folded someWindow oneWindowState
   folded-form a b c [] = λ i. form (none-more a i) (none-more b i) (none-more c i)
   folded-form a b c (w ∷ ws) =
       ap (λ (s : WindowState). folded id date s ws) (stepped-form w)

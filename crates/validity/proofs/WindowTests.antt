@@ -12,7 +12,7 @@ use Rattle.reader.specs.Naming.{Naming, place, unnamed, naming, sliceOr}
 use Rattle.reader.proofs.Namings.{never}
 use Rattle.validity.specs.Calendar.{isDate, isEnd, earlier}
 use Rattle.validity.specs.Rule.{invalidDates, inverted, holdsDate, namedIn}
-use Rattle.validity.specs.steps.Fold.{stateOf, rank, stronger}
+use Rattle.validity.specs.steps.Fold.{oneWindowState, rank, stronger}
 use Rattle.validity.specs.Windows.{answerBy, placeBy, partBy}
 use Rattle.validity.specs.declared.Date.{Date}
 use Rattle.validity.specs.declared.Window.{Window}
@@ -23,8 +23,8 @@ use Rattle.validity.specs.declared.WindowState.the-variants.{Inactive, A
 pub state-of-by : (id : ℕ) (date : Date) (w : Window) (f e b i p q : Bool)
     → isDate (w .first) ≡ f → isEnd (w .end) ≡ e → earlier (w .first) (w .end) ≡ b → eqb (w .id) id ≡ i
     → earlier date (w .first) ≡ p → earlier date (w .end) ≡ q
-    → cond (not f || not e) InvalidDate (cond (not b) Inverted (cond (i && not p && q) Active Inactive)) ≡ stateOf id date w
-unfolding stateOf invalidDates inverted holdsDate
+    → cond (not f || not e) InvalidDate (cond (not b) Inverted (cond (i && not p && q) Active Inactive)) ≡ oneWindowState id date w
+unfolding oneWindowState invalidDates inverted holdsDate
 state-of-by id date w f e b i p q ef ee eb ei ep eq =
     sym (λ k. cond (not (ef k) || not (ee k)) InvalidDate (cond (not (eb k)) Inverted (cond (ei k && not (ep k) && eq k) Active Inactive)))
 

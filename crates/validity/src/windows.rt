@@ -1,7 +1,7 @@
 // What windows say of an id on a date.
 ghost use mathlib.Core.Path.{_≡_};
 ghost use Rattle.validity.specs.Windows.{windowState};
-ghost use Rattle.validity.specs.steps.Fold.{stateOf, rank, stepped};
+ghost use Rattle.validity.specs.steps.Fold.{oneWindowState, rank, stepped};
 use super::Date;
 use super::Window;
 use super::WindowState;
@@ -11,7 +11,7 @@ use super::calendar::is_end;
 
 // What one window says.
 fn state_of(w: Window, id: u32, date: Date) -> WindowState
-    ensures { λ r. ⌜ r ≡ stateOf id date w ⌝ }
+    ensures { λ r. ⌜ r ≡ oneWindowState id date w ⌝ }
 {
     let first = w.first;
     let end = w.end;

@@ -1,5 +1,5 @@
 -- `catalogue::build` meets its contract. Assumes nothing.
-use mathlib.Core.Path.{sym, ap, _∙_}
+use mathlib.Core.Path.{ap}
 use Rattle.writer.specs.State.{begunOf}
 use Rattle.writer.specs.Close.{closedOf}
 use Rattle.catalogue.proofs.BuiltImage.{begin-accepted, built, never-refused}
@@ -7,76 +7,44 @@ use borrow.Author.Needs.{needs}
 use Rattle.catalogue.proofs.build.Statement.{statement}
 use Rattle.catalogue.proofs.build.Tie as tie
 
+-- the places on the way, each from a later one
+abbrev start : tie.After-begin → tie.Start
+start c = c .before .before .before .before .before .before
+
+abbrev begun : tie.After-fresh → tie.After-begin
+begun c = c .before .before
+
+abbrev fresh : tie.After-put-input → tie.After-fresh
+fresh c = c .before .before .before .before .before .before
+
+abbrev put : tie.After-close → tie.After-put-input
+put c = c .before .before .before .before .before .before .before .before .before
+
 returns : tie.Need-returns
 returns c =
-    let a = c .before .before .before .before .before .before .before .before .args in
-    λ big enough. begin-accepted (a .buf .now) big _ (ap begunOf (sym (c .enum-told .given .1)) ∙ c .before .before .begin .ensures .0)
-
-abbrev after-put-input-from-close : tie.After-close → tie.After-put-input
-after-put-input-from-close c = c .before .before .before .before .before .before .before .before .before
-
-abbrev after-begin-from-buf : tie.After-buf → tie.After-begin
-after-begin-from-buf c = c .before .before .before .before .before .before .before .before .before
-
-abbrev after-fresh-from-room : tie.After-room → tie.After-fresh
-after-fresh-from-room c = c .before .before .before .before .before .before .before .before .before
-
-abbrev start-from-known-told : tie.After-known-told → tie.Start
-start-from-known-told c = c .before .before .before .before .before .before .before .before .before
-
-abbrev after-put-input : tie.After-close → tie.After-put-input
-after-put-input c = after-put-input-from-close c
-
-abbrev after-begin : tie.After-buf → tie.After-begin
-after-begin c = after-begin-from-buf c
-
-abbrev after-begin-from-slice-known4 : tie.After-slice-known4 → tie.After-begin
-after-begin-from-slice-known4 c = after-begin (c .before)
-
-abbrev after-begin-from-close-arg2 : tie.After-close-arg2 → tie.After-begin
-after-begin-from-close-arg2 c = after-begin-from-slice-known4 (c .before .before .before .before .before .before)
-
-abbrev after-fresh : tie.After-room → tie.After-fresh
-after-fresh c = after-fresh-from-room c
-
-abbrev after-fresh-from-close-arg2 : tie.After-close-arg2 → tie.After-fresh
-after-fresh-from-close-arg2 c = after-fresh (c .before .before .before .before .before)
-
-abbrev start : tie.After-known-told → tie.Start
-start c = start-from-known-told c
-
-abbrev start-from-put-input-arg : tie.After-put-input-arg → tie.Start
-start-from-put-input-arg c = start (c .before)
-
-abbrev start-from-slice-known4 : tie.After-slice-known4 → tie.Start
-start-from-slice-known4 c = start-from-put-input-arg (c .before .before .before .before .before .before)
-
-abbrev start-from-close-arg2 : tie.After-close-arg2 → tie.Start
-start-from-close-arg2 c = start-from-slice-known4 (c .before .before .before .before .before .before)
+    let s = c .before .before in
+    λ big enough. begin-accepted (start s .args .buf .now) big _ _ (ap begunOf (c .enum-told .given .1)) (s .begin .ensures)
 
 returns-2 : tie.Need-returns-2
 returns-2 c =
-    let a = start-from-close-arg2 (c .before .before .before .before .before) .args in
-    let b = after-begin-from-close-arg2 (c .before .before .before .before .before) .begin in
-    let of-fresh = after-fresh-from-close-arg2 (c .before .before .before .before .before) .fresh in
-    let of-put-input = after-put-input (c .before .before .before .before) .put-input in
-    let of-close = c .before .before .before .before .close in
-    let w = of-fresh .given in
+    let closed = c .before .before .before .before in
+    let w = fresh (put closed) in
+    let b = begun w in
+    let a = start b .args in
     λ big enough.
-    never-refused (a .buf .now) (a .room .now) (a .counts .now) _ (w .0 .0) (ap begunOf (sym (w .1)) ∙ b .ensures .0) (b .ensures .1) _ (of-put-input .ensures) big enough
-    _ (ap closedOf (sym (c .enum-told2 .given .1)) ∙ of-close .ensures .0)
+    never-refused (a .buf .now) (a .room .now) (a .counts .now) _ (w .fresh .given .0 .0) _ (ap begunOf (w .fresh .given .1))
+    (b .begin .ensures) _ (put closed .put-input .ensures) big enough _ _ (ap closedOf (c .enum-told2 .given .1)) (closed .close .ensures)
 
 returns-3 : tie.Need-returns-3
 returns-3 c =
-    let a = start-from-close-arg2 (c .before .before .before .before .before .before) .args in
-    let b = after-begin-from-close-arg2 (c .before .before .before .before .before .before) .begin in
-    let of-fresh = after-fresh-from-close-arg2 (c .before .before .before .before .before .before) .fresh in
-    let of-put-input = after-put-input (c .before .before .before .before .before) .put-input in
-    let of-close = c .before .before .before .before .before .close in
-    let w = of-fresh .given in
+    let closed = c .before .before .before .before .before in
+    let w = fresh (put closed) in
+    let b = begun w in
+    let a = start b .args in
+    let given = c .before .answer .given in
     λ big enough.
-    built (a .buf .now) (a .room .now) (a .counts .now) _ (w .0 .0) (ap begunOf (sym (w .1)) ∙ b .ensures .0) (b .ensures .1) _ (of-put-input .ensures) big enough
-    (c .before .answer .given .0 .0) _ (ap closedOf (sym (c .before .answer .given .1)) ∙ of-close .ensures .0) (of-close .ensures .1)
+    built (a .buf .now) (a .room .now) (a .counts .now) _ (w .fresh .given .0 .0) _ (ap begunOf (w .fresh .given .1))
+    (b .begin .ensures) _ (put closed .put-input .ensures) big enough (given .0 .0) _ _ (ap closedOf (given .1)) (closed .close .ensures)
 
 pub build-spec : {M : Type 1} → statement M
 build-spec =

@@ -4,7 +4,7 @@ use native.Mathlib.Omega.{arith}
 use mathlib.Core.Path.{sym, ap, _∙_}
 use borrow.Author.Needs.{needs}
 use Rattle.reader.specs.Cases.{steppedOf}
-use Rattle.catalogue.proofs.InputRead.{stepping}
+use Rattle.catalogue.proofs.InputRead.{Stepping, stepping}
 use Rattle.catalogue.proofs.print_walk.Statement.{statement}
 use Rattle.catalogue.proofs.print_walk.Tie as tie
 
@@ -20,39 +20,30 @@ loop-holds c = tt
 returns : tie.Need-returns Inv-loop μ-loop
 returns c = tt
 
-abbrev start : tie.After-known-told Inv-loop μ-loop → tie.Start Inv-loop μ-loop
-start c = c .before .before .before .before .before .before .before
+abbrev start : tie.At-loop Inv-loop μ-loop → tie.Start Inv-loop μ-loop
+start c = c .before .before .before
+
+abbrev at-loop : tie.After-id Inv-loop μ-loop → tie.At-loop Inv-loop μ-loop
+at-loop c = c .before .before .before
+
+-- the step that gave the item: its name lies in the image, and the walk goes on at the next id
+step-here : (c : tie.After-id Inv-loop μ-loop)
+    → let g = c .id .given .0 in
+    Stepping (start (at-loop c) .args .image .now) (at-loop c .loop .walk .next) (g .1 .0) (g .1 .1 .0) (g .1 .1 .1 .0 .next)
+step-here c =
+    let g = c .id .given .0 in
+    let n = at-loop c .loop .walk .next in
+    stepping (start (at-loop c) .args .image .now) n (g .0) (g .1 .0) (g .1 .1 .0) (g .1 .1 .1 .0 .next)
+    (sym (c .before .before .next .ensures) ∙ ap steppedOf (c .id .given .1))
 
 add-print-line : tie.Need-add-print-line Inv-loop μ-loop
-add-print-line c =
-    let a = start c .args in
-    let of-loop = c .before .before .before .before .loop in
-    let of-next = c .before .before .before .next in
-    let g = c .before .id .given in
-    let s = stepping (a .image .now) (of-loop .walk .next) (g .0 .0) (g .0 .1 .0) (g .0 .1 .1 .0) (g .0 .1 .1 .1 .0 .next) (sym (of-next .ensures) ∙ ap steppedOf (g .1)) in
-    let inside = s .inside in
-    omega arith
+add-print-line c = omega (arith, step-here (c .before) .inside)
 
 part-print-line-end : tie.Need-part-print-line-end Inv-loop μ-loop
-part-print-line-end c =
-    let a = start c .args in
-    let of-loop = c .before .before .before .before .loop in
-    let of-next = c .before .before .before .next in
-    let g = c .before .id .given in
-    let s = stepping (a .image .now) (of-loop .walk .next) (g .0 .0) (g .0 .1 .0) (g .0 .1 .1 .0) (g .0 .1 .1 .1 .0 .next) (sym (of-next .ensures) ∙ ap steppedOf (g .1)) in
-    let inside = s .inside in
-    omega arith
+part-print-line-end c = omega (arith, step-here (c .before) .inside)
 
 loop-less : tie.Need-loop-less Inv-loop μ-loop
-loop-less c =
-    let a = c .before .before .before .before .before .before .before .before .before .args in
-    let of-loop = c .before .before .before .before .before .before .loop in
-    let of-next = c .before .before .before .before .before .next in
-    let of-id = c .before .before .before .id in
-    let g = of-id .given in
-    let s = stepping (a .image .now) (of-loop .walk .next) (g .0 .0) (g .0 .1 .0) (g .0 .1 .1 .0) (g .0 .1 .1 .1 .0 .next) (sym (of-next .ensures) ∙ ap steppedOf (g .1)) in
-    let onward = s .onward in
-    omega arith
+loop-less c = omega (arith, step-here (c .before .before .before) .onward)
 
 loop-again : tie.Need-loop-again Inv-loop μ-loop
 loop-again c = tt

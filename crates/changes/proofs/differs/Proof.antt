@@ -1,6 +1,9 @@
 -- `changes::differs` meets its contract. By the namings of the id in the two images. Assumes nothing.
+use Prim.Native.Nat.{_+_, _≤_}
 use native.Mathlib.Omega.{arith}
-use mathlib.Core.Path.{sym, ap, _∙_}
+use mathlib.Core.Path.{_≡_, sym, ap, _∙_}
+use lib.ListN.{length}
+use Rattle.reader.specs.Naming.{place, unnamed, naming}
 use Rattle.reader.specs.Cases.{namingOf}
 use Rattle.reader.proofs.Namings.{named}
 use Rattle.changes.proofs.Namings.{both-named, name-gone, name-added, neither-named}
@@ -8,75 +11,96 @@ use borrow.Author.Needs.{needs}
 use Rattle.changes.proofs.differs.Statement.{statement}
 use Rattle.changes.proofs.differs.Tie as tie
 
-abbrev after-to-str-from-known-told2 : tie.After-known-told2 → tie.After-to-str
-after-to-str-from-known-told2 c = c .before .before .before .before .before .before .before
+-- the places on the way, each from a later one
+abbrev start : tie.After-to-str → tie.Start
+start c = c .before .before .before
 
-abbrev start-from-to-str2-2 : tie.After-to-str2 → tie.Start
-start-from-to-str2-2 c = c .before .before .before .before .before .before .before
+abbrev looked : tie.After-start → tie.After-to-str
+looked c = c .before .before
 
-abbrev after-to-str : tie.After-known-told2 → tie.After-to-str
-after-to-str c = after-to-str-from-known-told2 c
+abbrev old-named : tie.After-to-str2 → tie.After-start
+old-named c = c .before .before
 
-abbrev after-start : tie.After-same → tie.After-start
-after-start c = c .before .before .before .before .before .before .before .before
+abbrev new-looked : tie.After-from → tie.After-to-str2
+new-looked c = c .before .before
 
-abbrev start : tie.After-to-str3 → tie.Start
-start c = c .before .before .before .before .before .before
+abbrev old-unnamed : tie.After-to-str3 → tie.After-enum-told2
+old-unnamed c = c .before
 
-abbrev start-from-to-str2 : tie.After-to-str2 → tie.Start
-start-from-to-str2 c = start-from-to-str2-2 c
+-- what the old and the new image name the id, in each case of the two answers
+old-name : (c : tie.After-start)
+    → let a = start (looked c) .args in
+    let p = c .start .given .0 in
+    place (p .0) (p .1 .0) ≡ naming (a .old .now) (a .id)
+old-name c = ap namingOf (sym (c .start .given .1)) ∙ looked c .to-str .ensures
+
+old-nothing : (c : tie.After-enum-told2)
+    → let a = start (c .before .before) .args in unnamed ≡ naming (a .old .now) (a .id)
+old-nothing c = ap namingOf (sym (c .enum-told2 .given .1)) ∙ c .before .before .to-str .ensures
+
+new-name : (c : tie.After-from)
+    → let a = start (looked (old-named (new-looked c))) .args in
+    let p = c .from .given .0 in
+    place (p .0) (p .1 .0) ≡ naming (a .new .now) (a .id)
+new-name c = ap namingOf (sym (c .from .given .1)) ∙ new-looked c .to-str2 .ensures
+
+old-inside : (c : tie.After-start) → let p = c .start .given .0 in p .0 + p .1 .0 ≤ length (start (looked c) .args .old .now)
+old-inside c =
+    let a = start (looked c) .args in
+    let p = c .start .given .0 in
+    named (a .old .now) (a .id) (p .0) (p .1 .0) (sym (old-name c)) .inside
+
+new-inside : (c : tie.After-from)
+    → let p = c .from .given .0 in p .0 + p .1 .0 ≤ length (start (looked (old-named (new-looked c))) .args .new .now)
+new-inside c =
+    let a = start (looked (old-named (new-looked c))) .args in
+    let p = c .from .given .0 in
+    named (a .new .now) (a .id) (p .0) (p .1 .0) (sym (new-name c)) .inside
 
 add-same : tie.Need-add-same
-add-same c =
-    let a = start-from-to-str2 (c .before .before .before) .args in
-    let p = c .before .before .before .before .before .start .given in
-    omega (arith, named (a .old .now) (a .id) (p .0 .0) (p .0 .1 .0) (sym (after-to-str c .to-str .ensures) ∙ ap namingOf (p .1)))
+add-same c = omega (arith, old-inside (old-named (new-looked (c .before))))
 
 part-same-end : tie.Need-part-same-end
-part-same-end c =
-    let a = start-from-to-str2 (c .before .before .before) .args in
-    let p = c .before .before .before .before .before .start .given in
-    omega (arith, named (a .old .now) (a .id) (p .0 .0) (p .0 .1 .0) (sym (after-to-str c .to-str .ensures) ∙ ap namingOf (p .1)))
+part-same-end c = omega (arith, old-inside (old-named (new-looked (c .before))))
 
 add-same-2 : tie.Need-add-same-2
-add-same-2 c =
-    let a = start-from-to-str2 (c .before .before .before .before) .args in
-    let p = c .before .before .from .given in
-    omega (arith, named (a .new .now) (a .id) (p .0 .0) (p .0 .1 .0) (sym (c .before .before .before .before .to-str2 .ensures) ∙ ap namingOf (p .1)))
+add-same-2 c = omega (arith, new-inside (c .before .before))
 
 part-same-end-2 : tie.Need-part-same-end-2
-part-same-end-2 c =
-    let a = start-from-to-str2 (c .before .before .before .before) .args in
-    let p = c .before .before .from .given in
-    omega (arith, named (a .new .now) (a .id) (p .0 .0) (p .0 .1 .0) (sym (c .before .before .before .before .to-str2 .ensures) ∙ ap namingOf (p .1)))
+part-same-end-2 c = omega (arith, new-inside (c .before .before))
 
 returns : tie.Need-returns
 returns c =
-    let a = start-from-to-str2 (c .before .before .before .before .before .before) .args in
-    let p = after-start c .start .given in
-    let q = c .before .before .before .before .from .given in
-    both-named (a .old .now) (a .new .now) (a .id) (p .0 .0) (p .0 .1 .0) (q .0 .0) (q .0 .1 .0) _
-    (ap namingOf (sym (p .1)) ∙ after-to-str (c .before .before .before) .to-str .ensures) (ap namingOf (sym (q .1)) ∙ c .before .before .before .before .before .before .to-str2 .ensures) (c .same .ensures)
+    let d = c .before .before .before .before in
+    let o = old-named (new-looked d) in
+    let a = start (looked o) .args in
+    let p = o .start .given .0 in
+    let q = d .from .given .0 in
+    both-named (a .old .now) (a .new .now) (a .id) (p .0) (p .1 .0) (q .0) (q .1 .0) _ (old-name o) (new-name d) (c .same .ensures)
 
 returns-2 : tie.Need-returns-2
 returns-2 c =
-    let a = start-from-to-str2 (c .before .before) .args in
-    let p = c .before .before .before .before .start .given in
-    name-gone (a .old .now) (a .new .now) (a .id) (p .0 .0) (p .0 .1 .0)
-    (ap namingOf (sym (p .1)) ∙ c .before .before .before .before .before .before .to-str .ensures) (ap namingOf (sym (c .enum-told .given .1)) ∙ c .before .before .to-str2 .ensures)
+    let d = c .before .before in
+    let o = old-named d in
+    let a = start (looked o) .args in
+    let p = o .start .given .0 in
+    name-gone (a .old .now) (a .new .now) (a .id) (p .0) (p .1 .0) (old-name o)
+    (ap namingOf (sym (c .enum-told .given .1)) ∙ d .to-str2 .ensures)
 
 returns-3 : tie.Need-returns-3
 returns-3 c =
-    let a = start (c .before .before .before) .args in
+    let d = c .before .before .before in
+    let a = start (old-unnamed d .before .before) .args in
     let q = c .before .start2 .given in
-    name-added (a .old .now) (a .new .now) (a .id) (q .0 .0) (q .0 .1 .0)
-    (ap namingOf (sym (c .before .before .before .before .enum-told2 .given .1)) ∙ c .before .before .before .before .before .before .to-str .ensures) (ap namingOf (sym (q .1)) ∙ c .before .before .before .to-str3 .ensures)
+    name-added (a .old .now) (a .new .now) (a .id) (q .0 .0) (q .0 .1 .0) (old-nothing (old-unnamed d))
+    (ap namingOf (sym (q .1)) ∙ d .to-str3 .ensures)
 
 returns-4 : tie.Need-returns-4
 returns-4 c =
-    let a = start (c .before .before) .args in
-    neither-named (a .old .now) (a .new .now) (a .id)
-    (ap namingOf (sym (c .before .before .before .enum-told2 .given .1)) ∙ c .before .before .before .before .before .to-str .ensures) (ap namingOf (sym (c .enum-told3 .given .1)) ∙ c .before .before .to-str3 .ensures)
+    let d = c .before .before in
+    let a = start (old-unnamed d .before .before) .args in
+    neither-named (a .old .now) (a .new .now) (a .id) (old-nothing (old-unnamed d))
+    (ap namingOf (sym (c .enum-told3 .given .1)) ∙ d .to-str3 .ensures)
 
 pub differs-spec : {M : Type 1} → statement M
 differs-spec =

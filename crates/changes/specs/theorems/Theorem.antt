@@ -14,7 +14,7 @@ use Rattle.changes.specs.Changes.{upper, differs, firstChange, Change, c
 use Rattle.changes.specs.Moves.{moved}
 
 -- k is the first id from `from` on that the two images name differently
-pub record First (old new : List ℕ) (from k : ℕ) : Type 0 where
+pub record FirstDiffering (old new : List ℕ) (from k : ℕ) : Type 0 where
   pub from-there : from ≤ k
   pub below : k < upper old new
   pub unlike : ¬ (nameGiven old k ≡ nameGiven new k)
@@ -51,7 +51,7 @@ pub record Compared : Type 0 where
       → (differs old new id ≡ false) ↔ (nameGiven old id ≡ nameGiven new id)
   -- the id of an answer is the first that differs; where none is answered, no id from there on differs, however large
   pub first-exactly : (old new : List ℕ) (from k : ℕ)
-      → (firstChange old new from ≡ some k) ↔ First old new from k
+      → (firstChange old new from ≡ some k) ↔ FirstDiffering old new from k
   pub none-exactly : (old new : List ℕ) (from : ℕ)
       → (firstChange old new from ≡ none) ↔ ((id : ℕ) → from ≤ id → nameGiven old id ≡ nameGiven new id)
   -- at the upper bound and above it both name nothing

@@ -1,34 +1,41 @@
 -- `load::load` meets its contract. Assumes nothing.
-use mathlib.Core.Path.{sym, ap, _∙_}
-use Rattle.jhash.specs.Outcome.{value}
-use Rattle.writer.specs.State.{State, begunOf}
-use Rattle.writer.specs.Close.{afterClose}
+use mathlib.Core.Path.{ap, _∙_}
+use Rattle.writer.specs.State.{begunOf}
 use Rattle.load.specs.Load.{putFrom, loadPut}
-use Rattle.load.proofs.Begun.{refused-load, begun-fresh, accepted-load}
+use Rattle.load.proofs.BeginAnswers.{refused-load, begun-fresh, closed-load}
 use borrow.Author.Needs.{needs}
 use Rattle.load.proofs.load.Statement.{statement}
 use Rattle.load.proofs.load.Tie as tie
 
+-- the places on the way, each from a later one
+abbrev start : tie.After-begin → tie.Start
+start c = c .before .before .before .before
+
+abbrev begun : tie.After-fresh → tie.After-begin
+begun c = c .before .before
+
+abbrev fresh : tie.After-put-entries → tie.After-fresh
+fresh c = c .before .before .before .before
+
+abbrev put : tie.After-close → tie.After-put-entries
+put c = c .before .before .before .before .before
+
 returns : tie.Need-returns
 returns c =
-    let begun = c .before .before .before in
-    let a = begun .before .before .before .before .args in
-    refused-load (a .seed) (a .buf .now) _ (sym (begun .begin .ensures .0) ∙ ap begunOf (c .before .k .given .1))
+    let s = c .before .before .before in
+    let a = start s .args in
+    refused-load (a .seed) (a .buf .now) _ _ (s .begin .ensures) (ap begunOf (c .before .k .given .1))
 
 returns-2 : tie.Need-returns-2
 unfolding loadPut
 returns-2 c =
     let closed = c .before .before in
-    let put = closed .before .before .before .before .before in
-    let known = put .before .before .before .before in
-    let begun = known .before .before in
-    let a = begun .before .before .before .before .args in
-    let fresh = begun-fresh (a .seed) (a .buf .now) _ _ _ (ap begunOf (sym (known .fresh .given .1)) ∙ begun .begin .ensures .0) (begun .begin .ensures .1) in
-    let done = accepted-load (a .seed) (a .buf .now) (fresh .0) in
-    let is = put .put-entries .ensures ∙ ap (putFrom (a .seed) 4096 0) (fresh .1) in (
-      ap (λ (s : State). value (s .writer .entries)) is ∙ done .0,
-      ap (λ (s : State). s .buffer) (closed .close .ensures .1) ∙ ap (λ (s : State). afterClose s .buffer) is ∙ done .1,
-    )
+    let w = fresh (put closed) in
+    let s = begun w in
+    let a = start s .args in
+    let f = begun-fresh (a .seed) (a .buf .now) _ _ _ _ (s .begin .ensures) (ap begunOf (w .fresh .given .1)) in
+    let is = put closed .put-entries .ensures ∙ ap (putFrom (a .seed) 4096 0) (f .is-fresh) in
+    closed-load (a .seed) (a .buf .now) _ _ (f .accepts) is (closed .close .ensures)
 
 pub load-spec : {M : Type 1} → statement M
 load-spec =

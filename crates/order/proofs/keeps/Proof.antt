@@ -17,14 +17,18 @@ use Rattle.order.proofs.keeps.Lts as lts
 abbrev pair : ℕ → ℕ → Pair
 pair reference wall = record { reference = reference; wall = wall }
 
+record Inv (round : List ℕ) (p : Pair) (i : ℕ) : Type 0 where
+  pub inside : i ≤ length round
+  pub decides : kept p (drop i round) ≡ kept p round
+
 abbrev Inv-loop : tie.InvT-loop
-Inv-loop round reference wall i₀ i = (i ≤ length round) × (kept (pair reference wall) (drop i round) ≡ kept (pair reference wall) round)
+Inv-loop round reference wall i₀ i = Inv round (pair reference wall) i
 
 abbrev μ-loop : tie.MeasureT-loop
 μ-loop round reference wall i₀ i = length round - i
 
 loop-holds : tie.Need-loop-holds Inv-loop μ-loop
-loop-holds c = (omega arith, refl)
+loop-holds c = record { inside = omega arith; decides = refl }
 
 shared-slice-read-id : tie.Need-shared-slice-read-id Inv-loop μ-loop
 shared-slice-read-id c = omega arith
@@ -34,7 +38,7 @@ returns : tie.Need-returns Inv-loop μ-loop
 returns c =
     let turn = c .before .before .before in
     sym (kept-wall (turn .before .args .p) (turn .before .args .round .now) (turn .loop .i) (c .before .before .loop-test .taken) (c .if1 .taken))
-    ∙ turn .loop .inv .1
+    ∙ turn .loop .inv .decides
 
 -- the reference comes first
 returns-2 : tie.Need-returns-2 Inv-loop μ-loop
@@ -42,7 +46,7 @@ returns-2 c =
     let turn = c .before .before .before .before in
     let inside = c .before .before .before .loop-test .taken in
     sym (kept-reference (turn .before .args .p) (turn .before .args .round .now) (turn .loop .i) inside (c .before .if1 .left) (c .if2 .taken))
-    ∙ turn .loop .inv .1
+    ∙ turn .loop .inv .decides
 
 add-i : tie.Need-add-i Inv-loop μ-loop
 add-i c = omega arith
@@ -57,13 +61,16 @@ loop-again c =
     let p : Pair = turn .before .args .p in
     let round : List ℕ = turn .before .args .round .now in
     let on = kept-on p round (turn .loop .i) (c .before .before .before .loop-test .taken) (c .before .if1 .left) (c .if2 .left) in
-    (omega arith, ap (λ (k : ℕ). kept p (drop k round)) (add-one (turn .loop .i)) ∙ sym on ∙ turn .loop .inv .1)
+    record {
+      inside = omega arith;
+      decides = ap (λ (k : ℕ). kept p (drop k round)) (add-one (turn .loop .i)) ∙ sym on ∙ turn .loop .inv .decides;
+    }
 
 -- neither occurs
 returns-3 : tie.Need-returns-3 Inv-loop μ-loop
 returns-3 c =
     let turn = c .before in
-    sym (kept-end (turn .before .args .p) (turn .before .args .round .now) (turn .loop .i) (c .loop-test .left)) ∙ turn .loop .inv .1
+    sym (kept-end (turn .before .args .p) (turn .before .args .round .now) (turn .loop .i) (c .loop-test .left)) ∙ turn .loop .inv .decides
 
 pub keeps-spec : {M : Type 1} → statement M
 keeps-spec =

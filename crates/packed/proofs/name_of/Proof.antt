@@ -18,7 +18,7 @@ placed-here : (c : tie.After-begin-of)
     → let a = start c .args in Placed (length (a .bytes .now)) (beginOf (a .ends .now) (a .i)) (getD (a .ends .now) (a .i) 0)
 placed-here c =
     let s = start c in
-    placed (length (s .args .bytes .now)) (s .args .ends .now) (s .args .i) (s .pre .1) (s .pre .0)
+    placed (length (s .args .bytes .now)) (s .args .ends .now) (s .args .i) (s .pre .ends-rise) (s .pre .inside)
 
 sub-result : tie.Need-sub-result
 sub-result c = omega (arith, placed-here (c .before), c .before .begin-of .ensures)
@@ -34,7 +34,7 @@ returns c =
     let z = c .before .before in
     let s = start z in
     ap (λ (b : ℕ). between (s .args .bytes .now) b (getD (s .args .ends .now) (s .args .i) 0)) (z .begin-of .ensures)
-    ∙ sym (nth-name (s .args .bytes .now) (s .args .ends .now) (s .args .i) (s .pre .0))
+    ∙ sym (nth-name (s .args .bytes .now) (s .args .ends .now) (s .args .i) (s .pre .inside))
 
 pub name-of-spec : {M : Type 1} → statement M
 name-of-spec =

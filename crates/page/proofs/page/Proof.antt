@@ -7,18 +7,11 @@ use Rattle.page.proofs.page.Tie as tie
 
 returns : tie.Need-returns
 returns c =
-    let a = c .before .before .before .before .before .before .before .args in
-    let hint = c .before .before .before .before .size-hint in
-    let printed = c .before .before .print-front in
-    whole-page
-    (a .image .now)
-    (a .out .now)
-    (printed .last .0)
-    (hint .result)
-    (printedOf (printed .result))
-    (hint .ensures)
-    (printed .ensures .0)
-    (printed .ensures .1)
+    let printed = c .before .before in
+    let hint = printed .before .before in
+    let a = hint .before .before .before .args in
+    whole-page (a .image .now) (a .out .now) (printed .print-front .last .0) (hint .size-hint .result)
+    (printedOf (printed .print-front .result)) (hint .size-hint .ensures) (printed .print-front .ensures)
 
 pub page-spec : {M : Type 1} → statement M
 page-spec = tie.close (tie.spec (λ c κs. search needs) (λ c κs. search needs) (λ c. search needs) returns)

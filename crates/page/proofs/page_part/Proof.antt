@@ -11,23 +11,13 @@ print-front-requires c κs = omega arith
 
 returns : tie.Need-returns
 returns c =
-    let a = c .before .before .before .before .before .before .before .before .args in
-    let hint = c .before .before .before .before .before .size-hint in
-    let below = c .before .before .before .before .ids-below in
-    let printed = c .before .before .print-front in
-    part-of-page
-    (a .image .now)
-    (a .out .now)
-    (printed .last .0)
-    (a .first)
-    (a .count)
-    (hint .result)
-    (below .result)
-    (printedOf (printed .result))
-    (hint .ensures)
-    (below .ensures)
-    (printed .ensures .0)
-    (printed .ensures .1)
+    let printed = c .before .before in
+    let below = printed .before .before in
+    let hint = below .before in
+    let a = hint .before .before .before .args in
+    part-of-page (a .image .now) (a .out .now) (printed .print-front .last .0) (a .first) (a .count) (hint .size-hint .result)
+    (below .ids-below .result) (printedOf (printed .print-front .result)) (hint .size-hint .ensures) (below .ids-below .ensures)
+    (printed .print-front .ensures)
 
 pub page-part-spec : {M : Type 1} → statement M
 page-part-spec =

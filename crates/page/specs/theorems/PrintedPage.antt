@@ -12,7 +12,7 @@ use Rattle.jhash.specs.Outcome.{refusal}
 use Rattle.reader.specs.Naming.{nameGiven}
 use Rattle.reader.specs.IdWalk.{upperHint}
 use Rattle.page.specs.Page.{line}
-use Rattle.page.specs.Call.{pageOf, pageLength, printing, afterPage, partOf}
+use Rattle.page.specs.Call.{pageOf, pageLength, printing, afterPage, pagePart}
 
 -- bytes 32 to 126 print as themselves
 abbrev pub Plain : ℕ → Type 0
@@ -45,9 +45,9 @@ pub record PrintedPage : Type 0 where
       → pageOf a ≡ pageOf b
   -- the page in parts: one of as many ids as there are is the whole page, and two that follow each other are the part
   -- of both
-  pub whole : (image : List ℕ) (count : ℕ) → upperHint image 0 ≤ count → partOf image 0 count ≡ pageOf image
+  pub whole : (image : List ℕ) (count : ℕ) → upperHint image 0 ≤ count → pagePart image 0 count ≡ pageOf image
   pub joined : (image : List ℕ) (first a b : ℕ)
-      → partOf image first (a + b) ≡ partOf image first a ++ partOf image (first + a) b
+      → pagePart image first (a + b) ≡ pagePart image first a ++ pagePart image (first + a) b
   -- an output with room holds the page in front, and "bytes past the page keep their content"; one that is refused is
   -- "unwritten"
   pub in-front : (image out : List ℕ) → pageLength image ≤ length out

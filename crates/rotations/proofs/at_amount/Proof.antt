@@ -5,10 +5,10 @@ use Rattle.rotations.proofs.at_amount.Statement.{statement}
 use Rattle.rotations.proofs.at_amount.Tie as tie
 
 abbrev Inv-loop : tie.InvT-loop
-Inv-loop k seen₀ x₀ i₀ seen x i = Unit {0}
+Inv-loop k tally₀ x₀ i₀ tally x i = Unit {0}
 
 abbrev μ-loop : tie.MeasureT-loop
-μ-loop k seen₀ x₀ i₀ seen x i = 131072 - i
+μ-loop k tally₀ x₀ i₀ tally x i = 131072 - i
 
 loop-holds : tie.Need-loop-holds Inv-loop μ-loop
 loop-holds c = tt

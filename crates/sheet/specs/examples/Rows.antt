@@ -6,7 +6,7 @@ use lib.ListN.{length}
 use Rattle.jhash.specs.Outcome.{Outcome, value, refusal}
 use Rattle.sheet.specs.Format.{Lists}
 use Rattle.sheet.specs.SheetReading.{readLists}
-use Rattle.sheet.specs.SheetWriting.{lent, writing, afterWriting}
+use Rattle.sheet.specs.SheetWriting.{sectionLists, writing, afterWriting}
 
 -- a file, and the lists that it reads as
 pub record ReadRow : Type 0 where
@@ -23,17 +23,17 @@ readRows =
     ∷ reads (0 ∷ 0 ∷ 0 ∷ 0 ∷ []) (refusal 19)
     ∷ reads (0 ∷ 0 ∷ 0 ∷ 0 ∷ 0 ∷ []) (refusal 19)
     -- three empty sections; one byte more
-    ∷ reads (0 ∷ 0 ∷ 0 ∷ 0 ∷ 0 ∷ 0 ∷ []) (value (lent [] [] []))
+    ∷ reads (0 ∷ 0 ∷ 0 ∷ 0 ∷ 0 ∷ 0 ∷ []) (value (sectionLists [] [] []))
     ∷ reads (0 ∷ 0 ∷ 0 ∷ 0 ∷ 0 ∷ 0 ∷ 0 ∷ []) (refusal 20)
     -- the one id of a wall prism, and with its last byte cut off
-    ∷ reads (0 ∷ 0 ∷ 1 ∷ 0 ∷ 1 ∷ 2 ∷ 3 ∷ 4 ∷ 0 ∷ 0 ∷ []) (value (lent [] (0x04030201 ∷ []) []))
+    ∷ reads (0 ∷ 0 ∷ 1 ∷ 0 ∷ 1 ∷ 2 ∷ 3 ∷ 4 ∷ 0 ∷ 0 ∷ []) (value (sectionLists [] (0x04030201 ∷ []) []))
     ∷ reads (0 ∷ 0 ∷ 1 ∷ 0 ∷ 1 ∷ 2 ∷ 3 ∷ []) (refusal 19)
     -- a count of 256 and no id: the count's second byte counts 256
     ∷ reads (0 ∷ 1 ∷ 0 ∷ 0 ∷ 0 ∷ 0 ∷ []) (refusal 19)
     -- all three sections, and the largest id
     ∷ reads (1 ∷ 0 ∷ 7 ∷ 0 ∷ 0 ∷ 0 ∷ 2 ∷ 0 ∷ 8 ∷ 0 ∷ 0 ∷ 0 ∷ 9 ∷ 0 ∷ 0 ∷ 0 ∷ 1 ∷ 0
     ∷ 255 ∷ 255 ∷ 255 ∷ 255 ∷ [])
-    (value (lent (7 ∷ []) (8 ∷ 9 ∷ []) (4294967295 ∷ [])))
+    (value (sectionLists (7 ∷ []) (8 ∷ 9 ∷ []) (4294967295 ∷ [])))
     ∷ []
 
 -- a buffer, the lists, what the writer gives, and the buffer afterwards
@@ -49,14 +49,14 @@ writes buffer lists gives leaves = record { buffer = buffer; lists = lists; give
 abbrev pub writeRows : List WriteRow
 writeRows =
     -- no ids: one byte short, exactly full, a byte to spare
-    writes (9 ∷ 9 ∷ 9 ∷ 9 ∷ 9 ∷ []) (lent [] [] []) (refusal 21) (9 ∷ 9 ∷ 9 ∷ 9 ∷ 9 ∷ [])
-    ∷ writes (9 ∷ 9 ∷ 9 ∷ 9 ∷ 9 ∷ 9 ∷ []) (lent [] [] []) (value 6)
+    writes (9 ∷ 9 ∷ 9 ∷ 9 ∷ 9 ∷ []) (sectionLists [] [] []) (refusal 21) (9 ∷ 9 ∷ 9 ∷ 9 ∷ 9 ∷ [])
+    ∷ writes (9 ∷ 9 ∷ 9 ∷ 9 ∷ 9 ∷ 9 ∷ []) (sectionLists [] [] []) (value 6)
     (0 ∷ 0 ∷ 0 ∷ 0 ∷ 0 ∷ 0 ∷ [])
-    ∷ writes (9 ∷ 9 ∷ 9 ∷ 9 ∷ 9 ∷ 9 ∷ 9 ∷ []) (lent [] [] []) (value 6)
+    ∷ writes (9 ∷ 9 ∷ 9 ∷ 9 ∷ 9 ∷ 9 ∷ 9 ∷ []) (sectionLists [] [] []) (value 6)
     (0 ∷ 0 ∷ 0 ∷ 0 ∷ 0 ∷ 0 ∷ 9 ∷ [])
     -- an id in each of two sections
     ∷ writes (9 ∷ 9 ∷ 9 ∷ 9 ∷ 9 ∷ 9 ∷ 9 ∷ 9 ∷ 9 ∷ 9 ∷ 9 ∷ 9 ∷ 9 ∷ 9 ∷ 9 ∷ [])
-    (lent (0x04030201 ∷ []) [] (4294967295 ∷ [])) (value 14)
+    (sectionLists (0x04030201 ∷ []) [] (4294967295 ∷ [])) (value 14)
     (1 ∷ 0 ∷ 1 ∷ 2 ∷ 3 ∷ 4 ∷ 0 ∷ 0 ∷ 1 ∷ 0 ∷ 255 ∷ 255 ∷ 255 ∷ 255 ∷ 9 ∷ [])
     ∷ []
 

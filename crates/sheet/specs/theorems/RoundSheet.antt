@@ -7,7 +7,7 @@ use mathlib.Core.List.{List, [], _++_}
 use lib.ListN.{length, getD, take}
 use Rattle.jhash.specs.Outcome.{value, refusal}
 use Rattle.sheet.specs.Format.{Lists, sheetBytes}
-use Rattle.sheet.specs.SheetReading.{partEnd, partOf, idsIn, readSheet, readLists}
+use Rattle.sheet.specs.SheetReading.{partEnd, partBytes, idsIn, readSheet, readLists}
 use Rattle.sheet.specs.SheetWriting.{writing, afterWriting}
 use Rattle.sheet.specs.declared.Place.{Place}
 use Rattle.sheet.specs.declared.Sheet.{Sheet}
@@ -37,8 +37,8 @@ pub record PartsPlaced (file : List ℕ) (s : Sheet) : Type 0 where
 
 -- a part has four bytes for each of its ids, and as many ids as its section's count
 pub record HoldsIds (file : List ℕ) (p : Place) : Type 0 where
-  pub bytes : length (partOf file p) ≡ 4 * p .count
-  pub number : length (idsIn (partOf file p)) ≡ p .count
+  pub bytes : length (partBytes file p) ≡ 4 * p .count
+  pub number : length (idsIn (partBytes file p)) ≡ p .count
 
 -- left-over bytes: the file begins with a sheet and goes on
 abbrev pub GoesOn : List ℕ → Type 0

@@ -11,8 +11,8 @@ use Rattle.validity.specs.declared.WindowState.{WindowState}
 use Rattle.validity.specs.declared.WindowState.the-variants.{Inactive, Active, Inverted, InvalidDate}
 
 -- what one window says
-unfoldable pub stateOf : ℕ → Date → Window → WindowState
-stateOf id date w =
+unfoldable pub oneWindowState : ℕ → Date → Window → WindowState
+oneWindowState id date w =
     cond (invalidDates w) InvalidDate (cond (inverted w) Inverted (cond (holdsDate id date w) Active Inactive))
 
 -- nothing, holds, 23, 22
@@ -27,7 +27,7 @@ abbrev pub stronger : WindowState → WindowState → WindowState
 stronger s t = cond (ltb (rank s) (rank t)) t s
 
 abbrev pub stepped : ℕ → Date → WindowState → Window → WindowState
-stepped id date s w = stronger s (stateOf id date w)
+stepped id date s w = stronger s (oneWindowState id date w)
 
 -- from s on over the windows
 unfoldable pub folded : ℕ → Date → WindowState → List Window → WindowState

@@ -35,7 +35,8 @@ cast-i : tie.Need-cast-i Inv-loop μ-loop
 cast-i c = omega (arith, below (c .before))
 
 name-of-requires : tie.Need-name-of-requires Inv-loop μ-loop
-name-of-requires c κs = (below (c .before), start (c .before .before) .pre .listed .names .valid)
+name-of-requires c κs =
+    record { inside = below (c .before); ends-rise = start (c .before .before) .pre .listed .names .valid }
 
 mul-search-from : tie.Need-mul-search-from Inv-loop μ-loop
 mul-search-from c = omega (arith, below (c .before .before))

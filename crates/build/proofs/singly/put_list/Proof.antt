@@ -47,7 +47,7 @@ loop-holds c =
     record { inside = omega arith; buffer-length = refl; slots-length = refl; puts = puts-start (s .pre .begun) (s .pre .right) }
 
 name-of-requires : tie.Need-name-of-requires Inv-loop μ-loop
-name-of-requires c κs = (c .loop-test .taken, start c .pre .list .packed)
+name-of-requires c κs = record { inside = c .loop-test .taken; ends-rise = start c .pre .list .packed }
 
 mul-put-name : tie.Need-mul-put-name Inv-loop μ-loop
 mul-put-name c =

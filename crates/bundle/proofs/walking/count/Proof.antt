@@ -1,7 +1,8 @@
 -- `bundle::walking::count` meets its contract. Assumes nothing.
-use Prim.Native.Nat.{_-_}
+use Prim.Native.Nat.{ℕ, _-_}
 use native.Mathlib.Omega.{arith}
 use mathlib.Core.Path.{_≡_, sym, _∙_}
+use mathlib.Core.List.{List}
 use lib.ListN.{length}
 use Rattle.bundle.specs.FileWalk.{counting}
 use Rattle.bundle.proofs.FileSteps.{none-there, some-there}
@@ -21,35 +22,43 @@ loop-holds c = counting-starts (c .before .args .file .now)
 size-at-requires : tie.Need-size-at-requires Inv-loop μ-loop
 size-at-requires c κs = c .before .loop .inv .inside
 
+abbrev at-loop : tie.After-size-at Inv-loop μ-loop → tie.At-loop Inv-loop μ-loop
+at-loop c = c .before .before
+
+abbrev file : tie.At-loop Inv-loop μ-loop → List ℕ
+file c = c .before .before .args .file .now
+
 returns : tie.Need-returns Inv-loop μ-loop
 returns c =
-    let file = c .before .before .before .before .before .args .file .now in
-    let i = c .before .before .before .loop in
-    let there = none-there file (i .at) (sym (c .if1 .taken) ∙ c .before .size-at .ensures .0) in
-    sym (count-broke file (i .at) (i .inv .most) (i .images) (λ e. omega arith) there) ∙ i .inv .rest
+    let s = at-loop (c .before) in
+    let i = s .loop in
+    let size = c .before .size-at in
+    let there = none-there (file s) (i .at) (size .result) (size .ensures) (c .if1 .taken) in
+    sym (count-broke (file s) (i .at) (i .inv .most) (i .images) (λ e. omega arith) there) ∙ i .inv .rest
 
 add-images : tie.Need-add-images Inv-loop μ-loop
-add-images c = omega (arith, c .before .before .before .loop .inv .few)
+add-images c = omega (arith, at-loop (c .before) .loop .inv .few)
 
 add-at : tie.Need-add-at Inv-loop μ-loop
-add-at c = omega (arith, c .before .size-at .ensures .1)
+add-at c = omega (arith, c .before .size-at .ensures .inside)
 
 loop-less : tie.Need-loop-less Inv-loop μ-loop
-loop-less c = omega (arith, c .before .size-at .ensures .1)
+loop-less c = omega (arith, c .before .size-at .ensures .inside)
 
 loop-again : tie.Need-loop-again Inv-loop μ-loop
 loop-again c =
-    let file = c .before .before .before .before .before .args .file .now in
-    let i = c .before .before .before .loop in
-    let b = some-there file (i .at) (c .before .size-at .result) (c .before .size-at .ensures .0) (c .if1 .left) in
-    counting-turn file (i .at) (i .images) (c .before .size-at .result) (counting file) (b .0) (b .1) (i .inv)
+    let s = at-loop (c .before) in
+    let i = s .loop in
+    let size = c .before .size-at in
+    let there = some-there (file s) (i .at) (size .result) (size .ensures) (c .if1 .left) in
+    counting-turn (file s) (i .at) (i .images) (size .result) (counting (file s)) (there .begins) (there .size-is) (i .inv)
 
 returns-2 : tie.Need-returns-2 Inv-loop μ-loop
 returns-2 c =
-    let file = c .before .before .before .args .file .now in
-    let i = c .before .loop in
-    let e : i .at ≡ length file = omega (arith, i .inv .inside) in
-    sym (count-ended file (i .at) (i .inv .most) (i .images) e) ∙ i .inv .rest
+    let s = c .before in
+    let i = s .loop in
+    let e : i .at ≡ length (file s) = omega (arith, i .inv .inside) in
+    sym (count-ended (file s) (i .at) (i .inv .most) (i .images) e) ∙ i .inv .rest
 
 pub count-spec : {M : Type 1} → statement M
 count-spec =

@@ -2,66 +2,91 @@
 use Prim.Native.Nat.{ℕ, _-_, _≤_}
 use native.Mathlib.Omega.{arith}
 use mathlib.Core.Path.{_≡_, refl, sym, ap, _∙_}
+use mathlib.Core.List.{List}
 use lib.ListN.{length}
 use Rattle.jhash.specs.Outcome.{value}
 use Rattle.bundle.specs.FileWalk.{placeFrom, placeOfImage}
-use Rattle.bundle.proofs.FileSteps.{none-there, some-there}
+use Rattle.bundle.proofs.FileSteps.{ImageThere, none-there, some-there}
 use Rattle.bundle.proofs.FileWalks.{place-broke, place-ended, place-here, place-turn}
 use Rattle.bundle.proofs.walking.place.Statement.{statement}
 use Rattle.bundle.proofs.walking.place.Tie as tie
 
+record Inv (file : List ℕ) (position at left : ℕ) : Type 0 where
+  pub inside : at ≤ length file
+  pub rest : placeFrom file at left ≡ placeOfImage file position
+
 abbrev Inv-loop : tie.InvT-loop
-Inv-loop file position at₀ left₀ at left = (at ≤ length file) × (placeFrom file at left ≡ placeOfImage file position)
+Inv-loop file position at₀ left₀ at left = Inv file position at left
 
 abbrev μ-loop : tie.MeasureT-loop
 μ-loop file position at₀ left₀ at left = length file - at
 
 loop-holds : tie.Need-loop-holds Inv-loop μ-loop
-loop-holds c = (omega arith, refl)
+loop-holds c = record { inside = omega arith; rest = refl }
 
 size-at-requires : tie.Need-size-at-requires Inv-loop μ-loop
-size-at-requires c κs = c .before .loop .inv .0
+size-at-requires c κs = c .before .loop .inv .inside
+
+abbrev at-loop : tie.After-size-at Inv-loop μ-loop → tie.At-loop Inv-loop μ-loop
+at-loop c = c .before .before
+
+abbrev file : tie.At-loop Inv-loop μ-loop → List ℕ
+file c = c .before .before .args .file .now
 
 returns : tie.Need-returns Inv-loop μ-loop
 returns c =
-    let file = c .before .before .before .before .before .args .file .now in
-    let i = c .before .before .before .loop in
-    let there = none-there file (i .at) (sym (c .if1 .taken) ∙ c .before .size-at .ensures .0) in
-    sym (place-broke file (i .at) (i .left) (λ e. omega arith) there) ∙ i .inv .1
+    let s = at-loop (c .before) in
+    let i = s .loop in
+    let size = c .before .size-at in
+    let there = none-there (file s) (i .at) (size .result) (size .ensures) (c .if1 .taken) in
+    sym (place-broke (file s) (i .at) (i .left) (λ e. omega arith) there) ∙ i .inv .rest
+
+-- the image that the walk has come to
+there : (c : tie.Else1 Inv-loop μ-loop)
+    → let s = at-loop (c .before) in ImageThere (file s) (s .loop .at) (c .before .size-at .result)
+there c =
+    let s = at-loop (c .before) in
+    let size = c .before .size-at in
+    some-there (file s) (s .loop .at) (size .result) (size .ensures) (c .if1 .left)
 
 returns-2 : tie.Need-returns-2 Inv-loop μ-loop
 returns-2 c =
-    let file = c .before .before .before .before .before .before .args .file .now in
-    let i = c .before .before .before .before .loop in
-    let size = c .before .before .size-at .result in
-    let b = some-there file (i .at) size (c .before .before .size-at .ensures .0) (c .before .if1 .left) in
-    ap (λ (w : ℕ). value (record { start = i .at; size = w })) (sym (b .1)) ∙ sym (place-here file (i .at) (b .0))
-    ∙ ap (placeFrom file (i .at)) (sym (c .if2 .taken)) ∙ i .inv .1
+    let s = at-loop (c .before .before) in
+    let i = s .loop in
+    let image = there (c .before) in
+    ap (λ (w : ℕ). value (record { start = i .at; size = w })) (sym (image .size-is))
+    ∙ sym (place-here (file s) (i .at) (image .begins))
+    ∙ ap (placeFrom (file s) (i .at)) (sym (c .if2 .taken))
+    ∙ i .inv .rest
 
 sub-left : tie.Need-sub-left Inv-loop μ-loop
 sub-left c = omega arith
 
 add-at : tie.Need-add-at Inv-loop μ-loop
-add-at c = omega (arith, c .before .before .size-at .ensures .1)
+add-at c = omega (arith, c .before .before .size-at .ensures .inside)
 
 loop-less : tie.Need-loop-less Inv-loop μ-loop
-loop-less c = omega (arith, c .before .before .size-at .ensures .1)
+loop-less c = omega (arith, c .before .before .size-at .ensures .inside)
 
 loop-again : tie.Need-loop-again Inv-loop μ-loop
 loop-again c =
-    let start = c .before .before .before .before .before .before in
-    let file = start .args .file .now in
-    let i = c .before .before .before .before .loop in
-    let size = c .before .before .size-at .result in
-    let b = some-there file (i .at) size (c .before .before .size-at .ensures .0) (c .before .if1 .left) in
-    (c .before .before .size-at .ensures .1, place-turn file (i .at) size (i .left) (placeOfImage file (start .args .position)) (b .0) (b .1) (c .if2 .left) (i .inv .1))
+    let s = at-loop (c .before .before) in
+    let i = s .loop in
+    let image = there (c .before) in
+    let size = c .before .before .size-at in
+    record {
+      inside = size .ensures .inside;
+      rest =
+          place-turn (file s) (i .at) (size .result) (i .left) (placeOfImage (file s) (s .before .before .args .position))
+          (image .begins) (image .size-is) (c .if2 .left) (i .inv .rest);
+    }
 
 returns-3 : tie.Need-returns-3 Inv-loop μ-loop
 returns-3 c =
-    let file = c .before .before .before .args .file .now in
-    let i = c .before .loop in
-    let e : i .at ≡ length file = omega (arith, i .inv .0) in
-    sym (place-ended file (i .at) (i .left) e) ∙ i .inv .1
+    let s = c .before in
+    let i = s .loop in
+    let e : i .at ≡ length (file s) = omega (arith, i .inv .inside) in
+    sym (place-ended (file s) (i .at) (i .left) e) ∙ i .inv .rest
 
 pub place-spec : {M : Type 1} → statement M
 place-spec =

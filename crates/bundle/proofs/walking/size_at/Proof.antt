@@ -5,34 +5,33 @@ use borrow.Author.Needs.{needs}
 use Rattle.bundle.proofs.walking.size_at.Statement.{statement}
 use Rattle.bundle.proofs.walking.size_at.Tie as tie
 
+abbrev start : tie.Else1 → tie.Start
+start c = c .before .before
+
 returns : tie.Need-returns
 returns c =
-    let start = c .before .before in
-    let says = size-short (start .args .file .now) (start .args .at) (start .pre) (c .if1 .taken) in
-    (says, omega (arith, start .pre))
+    let s = c .before .before in
+    size-short (s .args .file .now) (s .args .at) (s .pre) (c .if1 .taken)
 
 returns-2 : tie.Need-returns-2
 returns-2 c =
-    let start = c .before .before .before .before in
-    let of-word = c .before .word in
-    let says = size-small (start .args .file .now) (start .args .at) (of-word .result) (start .pre) (c .before .before .if1 .left) (of-word .ensures) (c .if2 .taken) in
-    (says, omega (arith, start .pre))
+    let d = c .before in
+    let s = start (d .before) in
+    size-small (s .args .file .now) (s .args .at) (d .word .result) (s .pre) (d .before .if1 .left) (d .word .ensures) (c .if2 .taken)
 
 returns-3 : tie.Need-returns-3
 returns-3 c =
-    let start = c .before .before .before .before .before in
-    let of-word = c .before .before .word in
-    let says = size-past (start .args .file .now) (start .args .at) (of-word .result) (start .pre) (c .before .before .before .if1 .left) (of-word .ensures)
-    (c .before .if2 .left) (omega (arith, c .before .if2 .left, c .if3 .taken)) in
-    (says, omega (arith, start .pre))
+    let d = c .before .before in
+    let s = start (d .before) in
+    size-past (s .args .file .now) (s .args .at) (d .word .result) (s .pre) (d .before .if1 .left) (d .word .ensures)
+    (c .before .if2 .left) (omega (arith, c .before .if2 .left, c .if3 .taken))
 
 returns-4 : tie.Need-returns-4
 returns-4 c =
-    let start = c .before .before .before .before .before in
-    let of-word = c .before .before .word in
-    let says = size-fine (start .args .file .now) (start .args .at) (of-word .result) (start .pre) (c .before .before .before .if1 .left) (of-word .ensures)
-    (c .before .if2 .left) (omega (arith, c .before .if2 .left, c .if3 .left)) in
-    (says, omega (arith, start .pre))
+    let d = c .before .before in
+    let s = start (d .before) in
+    size-fine (s .args .file .now) (s .args .at) (d .word .result) (s .pre) (d .before .if1 .left) (d .word .ensures)
+    (c .before .if2 .left) (omega (arith, c .before .if2 .left, c .if3 .left))
 
 pub size-at-spec : {M : Type 1} → statement M
 size-at-spec =

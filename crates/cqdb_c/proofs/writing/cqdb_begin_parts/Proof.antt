@@ -7,7 +7,7 @@ use borrow.Author.Tests.{not-true, not-false}
 use Rattle.writer.specs.declared.Begun.{Begun}
 use Rattle.writer.specs.State.{begunOf}
 use Rattle.writer.specs.declared.c_record.Record.{Record}
-use Rattle.cqdb_c.specs.Writing.{Lent, lent, numbersOf, sizesOf, beginningOf, numberIn, leftByBegin}
+use Rattle.cqdb_c.specs.Writing.{LentWriter, lentWriter, numbersOf, sizesOf, beginningOf, numberIn, leftByBegin}
 use Rattle.cqdb_c.proofs.CCalls.{begin-unknown, begin-known, stored}
 use borrow.Author.Needs.{needs}
 use Rattle.cqdb_c.proofs.writing.cqdb_begin_parts.Statement.{statement}
@@ -17,8 +17,8 @@ abbrev start : tie.After-begin → tie.Start
 start c = c .before .before .before .before .before .before .before
 
 -- the writer as it was lent, and as begin leaves it
-abbrev given : tie.After-begin → Lent
-given c = let a = start c .args in lent (a .numbers .now) (a .sizes .now) (a .counts .now)
+abbrev given : tie.After-begin → LentWriter
+given c = let a = start c .args in lentWriter (a .numbers .now) (a .sizes .now) (a .counts .now)
 
 abbrev counts-after : tie.After-begin → List ℕ
 counts-after c = c .begin .last .1 .1 .0
@@ -33,12 +33,12 @@ told c =
     let tested = c .before .before .before .before in
     begin-known (a .mode) (a .repeats) (length (a .buf .now)) (given c) (counts-after c) (of-mode-of .result) (of-repeats-of .result)
     (begunOf (c .begin .result)) (sym (tested .before .known .ensures) ∙ not-false _ (tested .if1 .left)) (of-mode-of .ensures)
-    (of-repeats-of .ensures) (c .begin .ensures .0) (c .begin .ensures .1)
+    (of-repeats-of .ensures) (c .begin .ensures)
 
 returns : tie.Need-returns
 returns c =
     let a = c .before .before .before .args in
-    begin-unknown (a .mode) (a .repeats) (length (a .buf .now)) (lent (a .numbers .now) (a .sizes .now) (a .counts .now))
+    begin-unknown (a .mode) (a .repeats) (length (a .buf .now)) (lentWriter (a .numbers .now) (a .sizes .now) (a .counts .now))
     (sym (c .before .known .ensures) ∙ not-true _ (c .if1 .taken))
 
 returns-2 : tie.Need-returns-2
@@ -46,7 +46,7 @@ returns-2 c =
     let d = c .before .before .before .before .before .before in
     let is = sym (c .before .before .before .before .begun .given .1) in (
       ap (λ (b : Begun). numberIn (begunOf b)) is ∙ told d .0,
-      ap (λ (r : Record). lent (numbersOf r) (sizesOf r) (counts-after d)) (c .before .before .record-of .ensures)
+      ap (λ (r : Record). lentWriter (numbersOf r) (sizesOf r) (counts-after d)) (c .before .before .record-of .ensures)
           ∙ ap (λ (b : Begun). stored (begunOf b) (given d) (counts-after d)) is
           ∙ told d .1,
     )

@@ -20,7 +20,7 @@ returns-2 c =
     let a = known .before .before .before .args in
     let done = c .before .before .before .before .before .before .close in
     close-known (cState (a .w) (a .counts .now) (a .buf .now)) _ _ _ _ _ _ _ (sym (known .before .known .ensures) ∙ not-false _ (known .if1 .left))
-    (given .writer-of .ensures) (done .ensures .0) (done .ensures .1) (c .before .before .close-number .ensures) (c .before .close-size .ensures) (c .record-of .ensures)
+    (given .writer-of .ensures) (done .ensures) (c .before .before .close-number .ensures) (c .before .close-size .ensures) (c .record-of .ensures)
 
 pub cqdb-close-parts-spec : {M : Type 1} → statement M
 cqdb-close-parts-spec =

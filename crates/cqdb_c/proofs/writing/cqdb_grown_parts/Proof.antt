@@ -18,7 +18,7 @@ returns-2 c =
     let a = known .before .before .args in
     let done = c .before .before .grown in
     grown-known (a .w) (a .length) _ _ _ _ (sym (known .before .known .ensures) ∙ not-false _ (known .if1 .left)) (given .writer-of .ensures)
-    (done .ensures .0) (done .ensures .1) (c .record-of .ensures)
+    (done .ensures) (c .record-of .ensures)
 
 pub cqdb-grown-parts-spec : {M : Type 1} → statement M
 cqdb-grown-parts-spec =

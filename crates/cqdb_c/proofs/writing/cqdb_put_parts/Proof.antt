@@ -20,7 +20,7 @@ returns-2 c =
     let a = known .before .before .before .before .args in
     let done = c .before .before .before .before .put in
     put-known (cState (a .w) (a .counts .now) (a .buf .now)) (entryOf (a .name .now) (a .id)) _ _ _ _ _ _
-    (sym (known .before .known .ensures) ∙ not-false _ (known .if1 .left)) (given .writer-of .ensures) (done .ensures .0) (done .ensures .1) (c .record-of .ensures)
+    (sym (known .before .known .ensures) ∙ not-false _ (known .if1 .left)) (given .writer-of .ensures) (done .ensures) (c .record-of .ensures)
 
 pub cqdb-put-parts-spec : {M : Type 1} → statement M
 cqdb-put-parts-spec =

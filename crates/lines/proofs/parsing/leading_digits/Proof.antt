@@ -1,7 +1,8 @@
 -- `lines::parsing::leading_digits` meets its contract: the digits passed and those still to come are all that the line begins with. Assumes nothing.
-use Prim.Native.Nat.{_+_, _-_, _≤_}
+use Prim.Native.Nat.{ℕ, _+_, _-_, _≤_}
 use native.Mathlib.Omega.{arith}
 use mathlib.Core.Path.{_≡_, sym, _∙_}
+use mathlib.Core.List.{List}
 use lib.ListN.{length, drop}
 use borrow.Author.Needs.{needs}
 use borrow.Author.Tests.{not-true, not-false}
@@ -10,25 +11,36 @@ use Rattle.lines.proofs.Decimals.{digit-passed, digits-stop, digits-end
 use Rattle.lines.proofs.parsing.leading_digits.Statement.{statement}
 use Rattle.lines.proofs.parsing.leading_digits.Tie as tie
 
+record Inv (line : List ℕ) (n : ℕ) : Type 0 where
+  pub inside : n ≤ length line
+  pub count : n + leadingDigits (drop n line) ≡ leadingDigits line
+
 abbrev Inv-loop : tie.InvT-loop
-Inv-loop line n₀ n = (n ≤ length line) × (n + leadingDigits (drop n line) ≡ leadingDigits line)
+Inv-loop line n₀ n = Inv line n
 
 abbrev μ-loop : tie.MeasureT-loop
 μ-loop line n₀ n = length line - n
 
 loop-holds : tie.Need-loop-holds Inv-loop μ-loop
-loop-holds c = (omega arith, omega arith)
+loop-holds c = record { inside = omega arith; count = omega arith }
 
 shared-slice-read-is-digit : tie.Need-shared-slice-read-is-digit Inv-loop μ-loop
 shared-slice-read-is-digit c = omega arith
 
+abbrev in-loop : tie.After-is-digit Inv-loop μ-loop → tie.In-loop Inv-loop μ-loop
+in-loop c = c .before .before
+
 returns : tie.Need-returns Inv-loop μ-loop
 returns c =
-    let at = c .before .before .before .before .loop in (
-      digits-stop (c .before .before .before .before .before .before .args .line .now) (at .n) (at .inv .1) (c .before .before .before .loop-test .taken)
-          (sym (c .before .is-digit .ensures) ∙ not-true (c .before .is-digit .result) (c .if1 .taken)),
-      at .inv .0,
-    )
+    let s = in-loop (c .before) in
+    let at = s .before .loop in
+    let tested = c .before .is-digit in
+    record {
+      count =
+          digits-stop (s .before .before .before .args .line .now) (at .n) (at .inv .count) (s .loop-test .taken)
+          (sym (tested .ensures) ∙ not-true (tested .result) (c .if1 .taken));
+      inside = at .inv .inside;
+    }
 
 add-n : tie.Need-add-n Inv-loop μ-loop
 add-n c = omega arith
@@ -38,16 +50,23 @@ loop-less c = omega arith
 
 loop-again : tie.Need-loop-again Inv-loop μ-loop
 loop-again c =
-    let at = c .before .before .before .before .loop in (
-      omega arith,
-      digit-passed (c .before .before .before .before .before .before .args .line .now) (at .n) (at .inv .1) (c .before .before .before .loop-test .taken)
-          (sym (c .before .is-digit .ensures) ∙ not-false (c .before .is-digit .result) (c .if1 .left)),
-    )
+    let s = in-loop (c .before) in
+    let at = s .before .loop in
+    let tested = c .before .is-digit in
+    record {
+      inside = omega arith;
+      count =
+          digit-passed (s .before .before .before .args .line .now) (at .n) (at .inv .count) (s .loop-test .taken)
+          (sym (tested .ensures) ∙ not-false (tested .result) (c .if1 .left));
+    }
 
 returns-2 : tie.Need-returns-2 Inv-loop μ-loop
 returns-2 c =
     let at = c .before .loop in
-    (digits-end (c .before .before .before .args .line .now) (at .n) (at .inv .1) (c .loop-test .left), at .inv .0)
+    record {
+      count = digits-end (c .before .before .before .args .line .now) (at .n) (at .inv .count) (c .loop-test .left);
+      inside = at .inv .inside;
+    }
 
 pub leading-digits-spec : {M : Type 1} → statement M
 leading-digits-spec =

@@ -10,12 +10,15 @@ use Rattle.lines.proofs.pieces.gather.Tie as tie
 returns : tie.Need-returns
 returns c =
     let a = c .before .args in
-    (rw (lt-ltb (a .have) (length (a .room .now)) (c .if1 .taken)), refl)
+    record { counted = rw (lt-ltb (a .have) (length (a .room .now)) (c .if1 .taken)); stored = refl }
 
 returns-2 : tie.Need-returns-2
 returns-2 c =
     let a = c .before .args in
-    (rw (le-ltb (a .have) (length (a .room .now)) (c .if1 .left)), sym (set-out (a .room .now) (a .have) (a .b) (c .if1 .left)))
+    record {
+      counted = rw (le-ltb (a .have) (length (a .room .now)) (c .if1 .left));
+      stored = sym (set-out (a .room .now) (a .have) (a .b) (c .if1 .left));
+    }
 
 pub gather-spec : {M : Type 1} → statement M
 gather-spec = tie.close (tie.spec (λ c. search needs) (λ c. search needs) (λ c. search needs) returns returns-2)

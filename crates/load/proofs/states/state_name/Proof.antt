@@ -14,8 +14,11 @@ returns c =
     let c3 = c4 .before in
     let c2 = c3 .before in
     let c1 = c2 .before in
-    rw
-    (c1 .hex-digit .ensures, c2 .hex-digit2 .ensures, c3 .hex-digit3 .ensures, c4 .hex-digit4 .ensures, c5 .hex-digit5 .ensures, c6 .hex-digit6 .ensures, c7 .hex-digit7 .ensures, c .hex-digit8 .ensures)
+    let d1 = c1 .hex-digit .ensures in
+    let d2 = c2 .hex-digit2 .ensures in
+    let d3 = c3 .hex-digit3 .ensures in
+    let d4 = c4 .hex-digit4 .ensures in
+    rw (d1, d2, d3, d4, c5 .hex-digit5 .ensures, c6 .hex-digit6 .ensures, c7 .hex-digit7 .ensures, c .hex-digit8 .ensures)
 
 pub state-name-spec : {M : Type 1} → statement M
 state-name-spec =

@@ -1,48 +1,47 @@
 -- `page::line::print_name` meets its contract. Assumes nothing.
 use native.Mathlib.Omega.{arith}
-use lib.ListN.{length-set, length-take}
+use mathlib.Core.Path.{_≡_, sym}
+use lib.ListN.{length, take, length-set, length-take}
 use borrow.Author.Needs.{needs}
 use Rattle.page.proofs.Fields.{name-printed}
 use Rattle.page.proofs.line.print_name.Statement.{statement}
 use Rattle.page.proofs.line.print_name.Tie as tie
 
-abbrev after-repeat-from-mark : tie.After-mark → tie.After-repeat
-after-repeat-from-mark c = c .before .before .before .before .before .before .before .before .before
+-- the places on the way, each from a later one
+abbrev start : tie.After-repeat → tie.Start
+start c = c .before .before .before .before
 
-abbrev start-from-show-all-arg2 : tie.After-show-all-arg2 → tie.Start
-start-from-show-all-arg2 c = c .before .before .before .before .before .before .before .before .before
+abbrev spaced : tie.After-kept → tie.After-repeat
+spaced c = c .before .before .before
 
-abbrev after-repeat : tie.After-mark → tie.After-repeat
-after-repeat c = after-repeat-from-mark c
+abbrev cut : tie.After-show-all → tie.After-kept
+cut c = c .before .before .before
 
-abbrev start : tie.After-show-all-arg2 → tie.Start
-start c = start-from-show-all-arg2 c
+-- the part of the name that is printed has as many bytes as are kept
+part-length : (c : tie.After-kept) → length (take (c .kept .result) (start (spaced c) .args .name .now)) ≡ c .kept .result
+part-length c = omega (arith, length-take (c .kept .result) (start (spaced c) .args .name .now), c .kept .ensures)
 
 slice-aggregate-show-all : tie.Need-slice-aggregate-show-all
-slice-aggregate-show-all c =
-    let kept = c .before .before .kept in
-    let name = start c .args .name .now in
-    omega (arith, length-take (kept .result) name, kept .ensures)
+slice-aggregate-show-all c = sym (part-length (c .before .before))
 
 show-all-requires : tie.Need-show-all-requires
 show-all-requires c κs =
-    let kept = c .before .before .kept in
-    let name = start c .args .name .now in
-    omega (arith, length-take (kept .result) name, kept .ensures, c .before .before .before .before .before .repeat .kept)
+    let d = c .before .before in
+    omega (arith, part-length d, d .kept .ensures, spaced d .repeat .kept)
 
 same-length : tie.Need-same-length
 same-length c =
-    let spaces = after-repeat c .repeat in
-    simp length-set (omega (arith, c .before .before .before .show-all .kept, spaces .kept))
+    let d = c .before .before .before in
+    simp length-set (omega (arith, d .show-all .kept, spaced (cut d) .repeat .kept))
 
 returns : tie.Need-returns
 returns c =
-    let a = start (c .before .before .before .before) .args in
-    let spaces = after-repeat c .repeat in
-    let kept = c .before .before .before .before .before .before .kept in
-    let shown = c .before .before .before .show-all in
-    name-printed (a .name .now) (a .out .now) (spaces .last .0) (shown .last .0) (a .at) (kept .result) (c .mark .result)
-    (kept .ensures) (c .mark .ensures) (spaces .ensures) (shown .ensures)
+    let d = c .before .before .before in
+    let spaces = spaced (cut d) .repeat in
+    let a = start (spaced (cut d)) .args in
+    let kept = cut d .kept in
+    name-printed (a .name .now) (a .out .now) (spaces .last .0) (d .show-all .last .0) (a .at) (kept .result) (c .mark .result)
+    (kept .ensures) (c .mark .ensures) (spaces .ensures) (d .show-all .ensures)
 
 pub print-name-spec : {M : Type 1} → statement M
 print-name-spec =

@@ -22,7 +22,7 @@ returns-3 : tie.Need-returns-3
 returns-3 c =
     let a = c .before .before .before .before .args in
     let n = c .before .count-at in
-    ap (λ (k : ℕ). value (record { start = a .at + 2; count = k })) (n .ensures .0)
+    ap (λ (k : ℕ). value (record { start = a .at + 2; count = k })) (n .ensures .count)
     ∙ sym (lies (a .file .now) (a .at) (omega (arith, n .ensures)))
 
 pub section-at-spec : {M : Type 1} → statement M

@@ -12,15 +12,19 @@ use Rattle.sheet.proofs.SheetStored.{put-turn, put-end}
 use Rattle.sheet.proofs.writing.put_ids.Statement.{statement}
 use Rattle.sheet.proofs.writing.put_ids.Tie as tie
 
+record Inv (buf₀ : List ℕ) (at : ℕ) (ids buf : List ℕ) (i : ℕ) : Type 0 where
+  pub inside : i ≤ length ids
+  pub buf-length : length buf ≡ length buf₀
+  pub whole : sets buf (at + 4 * i) (idBytes (drop i ids)) ≡ sets buf₀ at (idBytes ids)
+
 abbrev Inv-loop : tie.InvT-loop
-Inv-loop buf₀ at ids i₀ buf i =
-    (i ≤ length ids) × (length buf ≡ length buf₀) × (sets buf (at + 4 * i) (idBytes (drop i ids)) ≡ sets buf₀ at (idBytes ids))
+Inv-loop buf₀ at ids i₀ buf i = Inv buf₀ at ids buf i
 
 abbrev μ-loop : tie.MeasureT-loop
 μ-loop buf₀ at ids i₀ buf i = length ids - i
 
 loop-holds : tie.Need-loop-holds Inv-loop μ-loop
-loop-holds c = (omega arith, refl, simp (mul-zero, add-zero))
+loop-holds c = record { inside = omega arith; buf-length = refl; whole = simp (mul-zero, add-zero) }
 
 mul-put-u32 : tie.Need-mul-put-u32 Inv-loop μ-loop
 mul-put-u32 c = omega arith
@@ -40,23 +44,32 @@ add-i c = omega arith
 loop-less : tie.Need-loop-less Inv-loop μ-loop
 loop-less c = omega arith
 
+abbrev start : tie.At-loop Inv-loop μ-loop → tie.Start Inv-loop μ-loop
+start c = c .before .before .before
+
+abbrev at-loop : tie.After-put-u32 Inv-loop μ-loop → tie.At-loop Inv-loop μ-loop
+at-loop c = c .before .before .before .before
+
 loop-again : tie.Need-loop-again Inv-loop μ-loop
 loop-again c =
-    let a = c .before .before .before .before .before .before .before .before .before .args in
-    let l = c .before .before .before .before .before .before .loop in
-    let put = c .before .before .put-u32 in (
-      omega arith,
-      put .kept .0 ∙ l .inv .1,
-      ap (λ (b : List ℕ). sets b (a .at + 4 * (l .i + 1)) (idBytes (drop (l .i + 1) (a .ids .now)))) (put .ensures)
+    let d = c .before .before in
+    let s = at-loop d in
+    let a = start s .args in
+    let l = s .loop in
+    record {
+      inside = omega arith;
+      buf-length = d .put-u32 .kept .0 ∙ l .inv .buf-length;
+      whole =
+          ap (λ (b : List ℕ). sets b (a .at + 4 * (l .i + 1)) (idBytes (drop (l .i + 1) (a .ids .now)))) (d .put-u32 .ensures)
           ∙ put-turn (a .ids .now) (l .buf) (a .at) (l .i) (omega arith)
-          ∙ l .inv .2,
-    )
+          ∙ l .inv .whole;
+    }
 
 returns : tie.Need-returns Inv-loop μ-loop
 returns c =
-    let a = c .before .before .before .before .args in
+    let a = start (c .before) .args in
     let l = c .before .loop in
-    sym (put-end (a .ids .now) (l .buf) (a .at) (l .i) (omega arith) (a .at + 4 * l .i)) ∙ l .inv .2
+    sym (put-end (a .ids .now) (l .buf) (a .at) (l .i) (omega arith) (a .at + 4 * l .i)) ∙ l .inv .whole
 
 pub put-ids-spec : {M : Type 1} → statement M
 put-ids-spec =

@@ -20,12 +20,14 @@ same-length c = c .before .before .put-ids .kept .0 ∙ simp length-set
 returns : tie.Need-returns
 returns c =
     let a = c .before .before .before .before .before .before .args in
-    let ids = a .ids .now in (
-      refl,
-      c .before .before .put-ids .ensures
+    let ids = a .ids .now in
+    record {
+      end = refl;
+      stored =
+          c .before .before .put-ids .ensures
           ∙ ap (λ (b : List ℕ). sets b (a .at + 2) (idBytes ids)) (put-count (a .buf .now) (a .at) (length ids))
-          ∙ put-whole ids (a .buf .now) (a .at),
-    )
+          ∙ put-whole ids (a .buf .now) (a .at);
+    }
 
 pub put-section-spec : {M : Type 1} → statement M
 put-section-spec =

@@ -25,9 +25,12 @@ returns-3 c = simp (le-leb _ _ (c .before .before .before .before .if1 .left), l
 
 returns-4 : tie.Need-returns-4
 returns-4 c =
-    let above = c .before .before in
-    let d = above .before .before .before .before .before .before .args .d in
-    ap (leb (d .day)) (c .before .month-length .ensures) ∙ by-last-day d (above .before .before .before .before .if1 .left) (above .before .before .if2 .left) (above .if3 .left)
+    let from-1 = c .before .before in
+    let to-2199 = from-1 .before .before in
+    let from-1900 = to-2199 .before .before in
+    let d = from-1900 .before .before .args .d in
+    ap (leb (d .day)) (c .before .month-length .ensures)
+    ∙ by-last-day d (from-1900 .if1 .left) (to-2199 .if2 .left) (from-1 .if3 .left)
 
 pub is-date-spec : {M : Type 1} → statement M
 is-date-spec = tie.close (tie.spec returns returns-2 returns-3 (λ c κs. search needs) returns-4)

@@ -20,7 +20,11 @@ returns-2 c = simp (sym (c .before .before .before .is-date .ensures) ∙ c .bef
 
 returns-3 : tie.Need-returns-3
 unfolding isEnd
-returns-3 c = simp (sym (c .before .before .before .before .before .is-date .ensures) ∙ c .before .before .before .before .if1 .left, eq-eqb _ _ (c .before .before .if2 .left), ne-eqb _ _ (c .if3 .taken))
+returns-3 c =
+    let same-year = c .before .before in
+    let first-test = same-year .before .before in
+    let no-date = sym (first-test .before .is-date .ensures) ∙ first-test .if1 .left in
+    simp (no-date, eq-eqb _ _ (same-year .if2 .left), ne-eqb _ _ (c .if3 .taken))
 
 returns-4 : tie.Need-returns-4
 returns-4 c =

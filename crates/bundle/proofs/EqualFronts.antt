@@ -15,7 +15,7 @@ use Rattle.bundle.specs.theorems.Bundles.{Exact, imageEnd, HoldsImages}
 use Rattle.bundle.proofs.FileSteps.{Begins, Met, ended, broke, began, met}
 use Rattle.bundle.proofs.FileWalks.{place-ended, place-broke, place-here, place-next}
 use Rattle.bundle.proofs.ImagePlaces.{stands}
-use Rattle.bundle.proofs.Holding.{none-ends, some-begins, holds-next}
+use Rattle.bundle.proofs.WholeFiles.{none-ends, some-begins, holds-next}
 
 module _ (a b : List ℕ) (e : ℕ) (same : take e a ≡ take e b) (in-b : e ≤ length b) where
   -- an image of a that ends before e is one of b

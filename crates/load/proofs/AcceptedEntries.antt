@@ -94,7 +94,8 @@ module _ (seed : ℕ) (buffer : List ℕ) (room : headSize ≤ length buffer) wh
 
   -- what the next entry is answered after the first k
   answered : (k : ℕ) → k ≤ roomFor (length buffer)
-      → putRefusal (afterList Twoway On buffer (firstPuts seed k)) (loadEntry seed k) ≡ putDue Twoway On (length buffer) (firstEntries seed k) (loadEntry seed k)
+      → putRefusal (afterList Twoway On buffer (firstPuts seed k)) (loadEntry seed k)
+      ≡ putDue Twoway On (length buffer) (firstEntries seed k) (loadEntry seed k)
   answered k h =
       put-due Twoway On (length buffer) (accepted Twoway On (length buffer) (firstPuts seed k)) (afterList Twoway On buffer (firstPuts seed k))
       (list-written Twoway On buffer room (firstPuts seed k) (two-way (firstPuts seed k))) (loadEntry seed k)

@@ -7,8 +7,8 @@ use Rattle.jhash.specs.Outcome.{value}
 use Rattle.bundle.specs.Append.{appending, afterAppend}
 use Rattle.bundle.specs.theorems.Bundles.{Accepts}
 use Rattle.bundle.proofs.Appends.{passed, was-accepted, writes, file-joined, whole-counts}
-use Rattle.bundle.proofs.Holding.{holds-count}
-use Rattle.bundle.proofs.Growing.{grown}
+use Rattle.bundle.proofs.WholeFiles.{holds-count}
+use Rattle.bundle.proofs.OneImageMore.{grown}
 
 pub accepting : (buf : List ℕ) (n : ℕ) (image : List ℕ) (m : ℕ) → appending buf n image ≡ value m → Accepts buf n image m
 accepting buf n image m e =

@@ -21,9 +21,9 @@ use Rattle.bundle.specs.AppendList.{File, bytes, emptyFile, appendTo, si
 use Rattle.bundle.specs.theorems.Bundles.{HoldsImages, Grown, Accepts, left}
 use Rattle.bundle.proofs.FileWalks.{place-ended}
 use Rattle.bundle.proofs.ImagePlaces.{for-good}
-use Rattle.bundle.proofs.Holding.{count-holds}
+use Rattle.bundle.proofs.WholeFiles.{count-holds}
 use Rattle.bundle.proofs.Appends.{was-refused, was-sets}
-use Rattle.bundle.proofs.Accepting.{accepting}
+use Rattle.bundle.proofs.AcceptedAppend.{accepting}
 
 -- ---- positions of a list
 
@@ -130,7 +130,8 @@ module _ (room : ℕ) (f : File) (xs : List (List ℕ)) (good : Good room f xs) 
 
 -- ---- lists
 
-pub good-all : (room : ℕ) (images : List (List ℕ)) (f : File) (xs : List (List ℕ)) → Good room f xs → Good room (afterAll f images) (xs ++ acceptedImages f images)
+pub good-all : (room : ℕ) (images : List (List ℕ)) (f : File) (xs : List (List ℕ)) → Good room f xs
+    → Good room (afterAll f images) (xs ++ acceptedImages f images)
 unfolding afterAll acceptedImages
 good-all room [] f xs g = rw (append-nil xs) g
 good-all room (x ∷ images) f xs g = go (appendTo f x) refl (λ ys h. good-all room images (afterOne f x) ys h)

@@ -16,7 +16,7 @@ use Rattle.lists.specs.Demand3.{afterList}
 use Rattle.lists.proofs.CallLists.{two-way, list-written}
 use Rattle.load.specs.States.{loadEntry}
 use Rattle.load.specs.theorems.Rebuilt.{firstPuts, roomFor}
-use Rattle.load.proofs.Entered.{entry-bytes, first-bytes, accepted-first, after-next}
+use Rattle.load.proofs.AcceptedEntries.{entry-bytes, first-bytes, accepted-first, after-next}
 
 -- bytes that are the same from a place on are the same from every later one
 further : (a m : ℕ) (l r : List ℕ) → a ≤ m → drop a l ≡ drop a r → drop m l ≡ drop m r
@@ -31,14 +31,17 @@ module _ (seed : ℕ) (buffer : List ℕ) (room : headSize ≤ length buffer) (m
   end-is : (k : ℕ) → k ≤ roomFor (length buffer) → left k .writer .end ≡ headSize + 18 * k
   end-is k h =
       let w = list-written Twoway On buffer room (firstPuts seed k) (two-way (firstPuts seed k)) in
-      let size : entriesSize (accepted Twoway On (length buffer) (firstPuts seed k)) ≡ 18 * k = ap entriesSize (accepted-first seed buffer room k h) ∙ first-bytes seed k in
+      let size : entriesSize (accepted Twoway On (length buffer) (firstPuts seed k)) ≡ 18 * k =
+      ap entriesSize (accepted-first seed buffer room k h) ∙ first-bytes seed k in
       omega (arith, w .end)
 
-  pub puts-behind : (k : ℕ) → k ≤ roomFor (length buffer) → headSize + 18 * k ≤ m → drop m (afterList Twoway On buffer (firstPuts seed k) .buffer) ≡ drop m buffer
+  pub puts-behind : (k : ℕ) → k ≤ roomFor (length buffer) → headSize + 18 * k ≤ m
+      → drop m (afterList Twoway On buffer (firstPuts seed k) .buffer) ≡ drop m buffer
   unfolding firstPuts after fresh
   puts-behind zero low h = refl
   puts-behind (suc k) low h =
       let e : Entry = loadEntry seed k in
       ap (λ (s : State). drop m (s .buffer)) (after-next seed buffer room k)
-      ∙ further (left k .writer .end + entrySize e) m (afterPut (left k) e .buffer) (left k .buffer) (omega (arith, end-is k (omega arith), entry-bytes seed k)) (put-keeps-behind (left k) e)
+      ∙ further (left k .writer .end + entrySize e) m (afterPut (left k) e .buffer) (left k .buffer)
+      (omega (arith, end-is k (omega arith), entry-bytes seed k)) (put-keeps-behind (left k) e)
       ∙ puts-behind k (omega arith) (omega arith)

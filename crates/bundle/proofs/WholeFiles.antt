@@ -7,7 +7,7 @@ use mathlib.Core.List.{List}
 use lib.ListN.{length}
 use Rattle.jhash.specs.Outcome.{value, refusal}
 use Rattle.jhash.proofs.ValueOrRefusal.{no-value, same-value, same-refusal}
-use Rattle.bundle.specs.FileWalk.{Place, sizeAt, placeFrom, placeOfImage, countFrom, counting}
+use Rattle.bundle.specs.FileWalk.{Place, sizeAt, placeFrom, placeOfImage, countImagesFrom, counting}
 use Rattle.bundle.specs.theorems.Bundles.{HoldsImages}
 use Rattle.bundle.proofs.FileSteps.{Begins, Met, ended, broke, began, met}
 use Rattle.bundle.proofs.FileWalks.{place-ended, place-broke, place-here, place-next, count-ended, count-broke, count-next, count-over}
@@ -66,7 +66,7 @@ module _ (file : List ℕ) where
       comes-here at (met file at) (λ b. comes-next at b (comes m (at + sizeAt file at) (omega (arith, h, b .inside, b .large))))
 
   -- what is counted in each case
-  counts : (n m at c : ℕ) → HoldsImages file at n → length file - at < 2072 * suc m → countFrom m file at c ≡ value (c + n)
+  counts : (n m at c : ℕ) → HoldsImages file at n → length file - at < 2072 * suc m → countImagesFrom m file at c ≡ value (c + n)
   counts zero m at c f h =
       let z : c ≡ c + 0 = omega arith in
       count-ended file at m c (none-ends at f) ∙ ap value z
@@ -76,13 +76,13 @@ module _ (file : List ℕ) where
       let s : suc c + n ≡ c + suc n = omega arith in
       count-next file at m c b ∙ counts n m (at + sizeAt file at) (suc c) (holds-next at n b f) (omega (arith, h, b .inside, b .large)) ∙ ap value s
 
-  broken-here : (k m at c : ℕ) → placeFrom file at k ≡ refusal 10 → Met file at → (Begins file at → countFrom m file at c ≡ refusal 10)
-      → countFrom m file at c ≡ refusal 10
+  broken-here : (k m at c : ℕ) → placeFrom file at k ≡ refusal 10 → Met file at → (Begins file at → countImagesFrom m file at c ≡ refusal 10)
+      → countImagesFrom m file at c ≡ refusal 10
   broken-here k m at c e (ended q) more = absurd (ten-eleven (same-refusal 10 11 (sym e ∙ place-ended file at k q)))
   broken-here k m at c e (broke n b) more = count-broke file at m c n b
   broken-here k m at c e (began b) more = more b
 
-  breaks-off : (k m at c : ℕ) → placeFrom file at k ≡ refusal 10 → countFrom m file at c ≡ refusal 10
+  breaks-off : (k m at c : ℕ) → placeFrom file at k ≡ refusal 10 → countImagesFrom m file at c ≡ refusal 10
   breaks-off zero m at c e =
       broken-here 0 m at c e (met file at) (λ b. absurd (no-value 10 (record { start = at; size = sizeAt file at }) (sym e ∙ place-here file at b)))
   breaks-off (suc k) zero at c e = broken-here (suc k) 0 at c e (met file at) (λ b. count-over file at c b)

@@ -20,7 +20,7 @@ use Rattle.bundle.specs.Append.{unfit}
 use Rattle.bundle.specs.theorems.Bundles.{HoldsImages, Grown}
 use Rattle.bundle.proofs.FileSteps.{Begins}
 use Rattle.bundle.proofs.FileWalks.{place-ended, place-here, place-next}
-use Rattle.bundle.proofs.Agreeing.{place-same, part-same, past, exact}
+use Rattle.bundle.proofs.EqualFronts.{place-same, part-same, past, exact}
 
 -- what is asked of a new image
 pub fit : (image : List ℕ) → unfit image ≡ false → (2072 ≤ length image) × (word image 4 ≡ length image)
