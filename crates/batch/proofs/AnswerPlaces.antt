@@ -10,7 +10,7 @@ use Rattle.image.specs.Bytes.{cat}
 use Rattle.reader.specs.Lookup.{Lookup, found, nothing, lookupBy, lookup}
 use Rattle.reader.proofs.Searches.{lookup-own}
 use Rattle.packed.proofs.NameEnds.{length-names}
-use Rattle.packed.proofs.Keys.{key-short}
+use Rattle.jhash.proofs.Outcomes.{key-short}
 use Rattle.batch.specs.RoundNames.{names, nth}
 use Rattle.batch.specs.Round.{answerWords}
 use Rattle.batch.specs.steps.Duplicates.{key, IsUnique}

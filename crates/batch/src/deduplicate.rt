@@ -10,7 +10,7 @@ ghost use Rattle.batch.specs.steps.Duplicates.{FindOrInsertPre, FoundOrI
 use image::equality::same;
 use image::probe::next;
 use image::probe::start;
-use packed::key;
+use jhash::key;
 use packed::name_of;
 
 // Eight for each name of a whole round, so that few searches meet another name.
@@ -50,7 +50,7 @@ fn find_or_insert(bytes: &[u8], ends: &[u64], keys: &[u32], slots: &mut [u16], i
         FoundOrInserted (names (now (bytes .entry)) (now (ends .entry))) (now (keys .entry)) (now (slots .exit)) i r
         ⌝ }
 {
-    let mut k = start(keys[i], SLOTS as u32);
+    let mut k = start(keys[i], SLOTS);
     let mut left = SLOTS;
     while 0 < left {
         let q = slots[k];

@@ -10,7 +10,7 @@ use Rattle.image.specs.Bytes.{same}
 use Rattle.image.specs.Tables.{tableOf}
 use Rattle.image.proofs.Equal.{same-true}
 use Rattle.packed.specs.Names.{names, nth}
-use Rattle.packed.specs.Keys.{key}
+use Rattle.jhash.specs.NameHash.{key}
 use Rattle.bulk_tables.specs.steps.Partition.{at, tableIn, countOfTable, firstPlace, sortedPlace}
 use Rattle.bulk_tables.specs.steps.BulkTables.{pairIn, NoDuplicates}
 use Rattle.bulk_tables.specs.steps.Contracts.{BuildTablesPre, PairsAre}

@@ -14,7 +14,7 @@ use Rattle.image.specs.Image.{Entry, Placed, headSize, placed, inTable, ofTable
 use Rattle.image.proofs.Lists.{filter-yes, filter-no}
 use Rattle.image.proofs.Sizes.{placed-append, ofTable-append, count-nil}
 use Rattle.packed.specs.Names.{names, nth}
-use Rattle.packed.proofs.Keys.{key-short}
+use Rattle.jhash.proofs.Outcomes.{key-short}
 use Rattle.bulk_tables.specs.steps.Partition.{at, tableIn, countOfTable, prefixSum, firstPlace, sortedPlace}
 use Rattle.bulk_tables.specs.steps.BulkTables.{entryOffset, pairIn, pairsIn}
 use Rattle.bulk_tables.specs.steps.Contracts.{BuildTablesPre, PairsAre}

@@ -2,7 +2,7 @@
 ghost use Rattle.bulk_tables.specs.steps.Contracts.{HashAllPre, AllHashed};
 use image::entries::raise;
 use image::zero::has_zero;
-use packed::key;
+use jhash::key;
 use packed::name_of;
 
 // Stores the hash of each name and counts the names of each table, from counts that are 0. Returns whether no name has

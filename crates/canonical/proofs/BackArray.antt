@@ -12,8 +12,8 @@ use borrow.Author.Tests.{eq-eqb, ne-eqb, le-leb, lt-leb}
 use Rattle.image.specs.Bytes.{filter}
 use Rattle.image.specs.Image.{Placed, placedOfId, lastFrom, backWord}
 use Rattle.image.proofs.AllOfList.{All}
-use Rattle.canonical.specs.steps.HiddenBuckets.{countFrom, Rising, selfLinks, BackArrayMatches}
-use Rattle.canonical.proofs.CountAtLeast.{countFrom-in, countFrom-only, countFrom-mono, countFrom-same, countFrom-one, countFrom-none}
+use Rattle.canonical.specs.steps.HiddenBuckets.{countAtLeast, Rising, selfLinks, BackArrayMatches}
+use Rattle.canonical.proofs.CountAtLeast.{countAtLeast-in, countAtLeast-only, countAtLeast-mono, countAtLeast-same, countAtLeast-one, countAtLeast-none}
 
 -- the offsets of entries
 abbrev pub offsets : List Placed → List ℕ
@@ -54,7 +54,7 @@ inside l i h =
 -- ---- linked links are right
 
 module _ (l : List ℕ) where
-  self-most : (a : ℕ) (ps : List Placed) → 0 < a → Rising a (offsets ps) → selfLinks l ps ≤ countFrom a l
+  self-most : (a : ℕ) (ps : List Placed) → 0 < a → Rising a (offsets ps) → selfLinks l ps ≤ countAtLeast a l
   unfolding selfLinks
   self-most a [] p r = omega arith
   self-most a (q ∷ ps) p r =
@@ -62,8 +62,8 @@ module _ (l : List ℕ) where
       let rest = self-most (suc (q .at)) ps (omega arith) (r .1) in
       elim (ℕ-discrete (getD l (q .entry .id) 0) (q .at)) [
         | yes e ↦
-            omega (arith, self-yes l q ps e, countFrom-in a (suc (q .at)) l (q .entry .id) (inside l (q .entry .id) (omega arith)) (omega arith) (omega arith))
-        | no d ↦ omega (arith, self-no l q ps d, countFrom-mono a (suc (q .at)) l (omega arith))
+            omega (arith, self-yes l q ps e, countAtLeast-in a (suc (q .at)) l (q .entry .id) (inside l (q .entry .id) (omega arith)) (omega arith) (omega arith))
+        | no d ↦ omega (arith, self-no l q ps d, countAtLeast-mono a (suc (q .at)) l (omega arith))
       ]
 
   -- a link that points from a on, else what was before
@@ -77,35 +77,35 @@ module _ (l : List ℕ) where
   from-no a i x h = rw (lt-leb a (getD l i 0) h)
 
   -- where the counts agree, no other link points from a to the first entry
-  exact : (a : ℕ) (q : Placed) (ps : List Placed) → 0 < a → a ≤ q .at → Rising (suc (q .at)) (offsets ps) → countFrom a l ≡ selfLinks l (q ∷ ps)
-      → (countFrom (suc (q .at)) l ≡ selfLinks l ps)
+  exact : (a : ℕ) (q : Placed) (ps : List Placed) → 0 < a → a ≤ q .at → Rising (suc (q .at)) (offsets ps) → countAtLeast a l ≡ selfLinks l (q ∷ ps)
+      → (countAtLeast (suc (q .at)) l ≡ selfLinks l ps)
       × ((i : ℕ) → i < length l → a ≤ getD l i 0 → getD l i 0 < suc (q .at) → (i ≡ q .entry .id) × (getD l i 0 ≡ q .at))
   exact a q ps p le r e =
       let least = self-most (suc (q .at)) ps (omega arith) r in
-      let mono = countFrom-mono a (suc (q .at)) l (omega arith) in
+      let mono = countAtLeast-mono a (suc (q .at)) l (omega arith) in
       elim (ℕ-discrete (getD l (q .entry .id) 0) (q .at)) [
         | yes t ↦
             let one = self-yes l q ps t in
             let k = inside l (q .entry .id) (omega arith) in
-            let more = countFrom-in a (suc (q .at)) l (q .entry .id) k (omega arith) (omega arith) in
-            let f : countFrom (suc (q .at)) l ≡ selfLinks l ps = omega arith in (
+            let more = countAtLeast-in a (suc (q .at)) l (q .entry .id) k (omega arith) (omega arith) in
+            let f : countAtLeast (suc (q .at)) l ≡ selfLinks l ps = omega arith in (
               f,
-              λ i h u v. let same : i ≡ q .entry .id = countFrom-only a (suc (q .at)) l i (q .entry .id) (omega arith) h k u v (omega arith) (omega arith) in
+              λ i h u v. let same : i ≡ q .entry .id = countAtLeast-only a (suc (q .at)) l i (q .entry .id) (omega arith) h k u v (omega arith) (omega arith) in
                   (same, ap (λ (j : ℕ). getD l j 0) same ∙ t),
             )
         | no t ↦
             let one = self-no l q ps t in
-            let f : countFrom (suc (q .at)) l ≡ selfLinks l ps = omega arith in
-            (f, λ i h u v. absurd (omega (arith, countFrom-in a (suc (q .at)) l i h u v)))
+            let f : countAtLeast (suc (q .at)) l ≡ selfLinks l ps = omega arith in
+            (f, λ i h u v. absurd (omega (arith, countAtLeast-in a (suc (q .at)) l i h u v)))
       ]
 
   after-from : (a : ℕ) (ps : List Placed) → 0 < a → Rising a (offsets ps) → All (λ (p : Placed). p .at ≤ getD l (p .entry .id) 0) ps
-      → countFrom a l ≡ selfLinks l ps → (i x : ℕ) → i < length l → after i x ps ≡ from a i x
+      → countAtLeast a l ≡ selfLinks l ps → (i x : ℕ) → i < length l → after i x ps ≡ from a i x
   unfolding selfLinks
   after-from a [] p r s e i x h =
       elim (decLt (getD l i 0) a) [
         | yes k ↦ after-none i x ∙ sym (from-no a i x k)
-        | no k ↦ absurd (omega (arith, countFrom-in a (suc (getD l i 0)) l i h (omega arith) (omega arith)))
+        | no k ↦ absurd (omega (arith, countAtLeast-in a (suc (getD l i 0)) l i h (omega arith) (omega arith)))
       ]
   after-from a (q ∷ ps) p r s e i x h =
       let le = r .0 in
@@ -160,10 +160,10 @@ after-cases a (q ∷ ps) r i x =
 module _ (l : List ℕ) where
   linked-from : (a : ℕ) (ps : List Placed) (before : ℕ → ℕ) → 0 < a → Rising a (offsets ps) → All (λ (p : Placed). p .entry .id < length l) ps
       → ((i : ℕ) → before i < a) → ((i : ℕ) → i < length l → getD l i 0 ≡ after i (before i) ps)
-      → All (λ (p : Placed). p .at ≤ getD l (p .entry .id) 0) ps × (countFrom a l ≡ selfLinks l ps)
+      → All (λ (p : Placed). p .at ≤ getD l (p .entry .id) 0) ps × (countAtLeast a l ≡ selfLinks l ps)
   unfolding selfLinks
   linked-from a [] before p r ids low is =
-      (tt, countFrom-none a l (λ i h. omega (arith, is i h, after-none i (before i), low i)))
+      (tt, countAtLeast-none a l (λ i h. omega (arith, is i h, after-none i (before i), low i)))
   linked-from a (q ∷ ps) before p r ids low is =
       let le = r .0 in
       let (ahead, used) = linked-from (suc (q .at)) ps next (omega arith) (r .1) (ids .1) next-low next-is in
@@ -215,14 +215,14 @@ module _ (l : List ℕ) where
             | inr g ↦ absurd (omega arith)
           ]
 
-      count : countFrom (suc (q .at)) l ≡ selfLinks l ps → Dec (getD l (q .entry .id) 0 ≡ q .at) → countFrom a l ≡ selfLinks l (q ∷ ps)
+      count : countAtLeast (suc (q .at)) l ≡ selfLinks l ps → Dec (getD l (q .entry .id) 0 ≡ q .at) → countAtLeast a l ≡ selfLinks l (q ∷ ps)
       count used (yes e) =
           let le = r .0 in
-          let more = countFrom-one a (suc (q .at)) l (q .entry .id) (ids .0) (omega arith) (omega arith) (λ i h u v. mine i h u v .0) in
+          let more = countAtLeast-one a (suc (q .at)) l (q .entry .id) (ids .0) (omega arith) (omega arith) (λ i h u v. mine i h u v .0) in
           omega (arith, self-yes l q ps e)
       count used (no d) =
           let le = r .0 in
-          let same = countFrom-same a (suc (q .at)) l (omega arith) (λ i h u v. d (ap (λ (j : ℕ). getD l j 0) (sym (mine i h u v .0)) ∙ mine i h u v .1)) in
+          let same = countAtLeast-same a (suc (q .at)) l (omega arith) (λ i h u v. d (ap (λ (j : ℕ). getD l j 0) (sym (mine i h u v .0)) ∙ mine i h u v .1)) in
           omega (arith, self-no l q ps d)
 
 pub links-match : (l : List ℕ) (ps : List Placed) → Rising 1 (offsets ps) → All (λ (p : Placed). p .entry .id < length l) ps

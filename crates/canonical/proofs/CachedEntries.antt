@@ -1,10 +1,10 @@
 -- The cache of the next entries: their hashes, and the first buckets of their probe sequences. Assumes nothing.
-use Prim.Native.Nat.{ℕ, zero, suc, _+_, _*_, _-_, _/_, _%_, _≤_, _<_}
+use Prim.Native.Nat.{ℕ, zero, suc, _+_, _*_, _-_, _/_, _≤_, _<_}
 use native.Mathlib.Omega.{arith}
 use native.Mathlib.Nat.{mod-lt}
 use native.Mathlib.Decide.{decLt, ℕ-discrete}
 use mathlib.Core.Path.{_≡_, refl, sym, ap, ap₂, subst, _∙_}
-use mathlib.Core.Bool.{Bool, true, false, cond}
+use mathlib.Core.Bool.{Bool, false, cond}
 use mathlib.Core.List.{List}
 use lib.ListN.{length, getD, set, length-set}
 use lib.Seq.{getD-set-same, getD-set-other}
@@ -15,29 +15,23 @@ use Rattle.image.specs.Bytes.{word}
 use Rattle.image.specs.Head.{tableAt, bucketNumber}
 use Rattle.image.specs.Stored.{between}
 use Rattle.image.specs.steps.EntryLength.{wholeLength}
-use Rattle.image.specs.Tables.{tableOf, start, next, probeSequence, firstEmpty}
+use Rattle.image.specs.Tables.{tableOf, start}
+use Rattle.image.specs.steps.Contracts.{BucketIs, offsetAt, hidden, firstEmptyBefore}
+use Rattle.image.proofs.FirstEmpty.{probing-here}
 use Rattle.image.proofs.Between.{entry-room}
-use Rattle.canonical.specs.steps.Cache.{firstPlace, CachedFrom, Cached}
-use Rattle.canonical.specs.steps.Checks.{hidden, inItsBucket, nameAt}
-use Rattle.canonical.specs.steps.Contracts.{BatchPre, Batch, BucketsRead, FirstEmpty, CachedBucket}
+use Rattle.canonical.specs.steps.Cache.{firstBucketAt, CachedFrom, Cached}
+use Rattle.canonical.specs.steps.Checks.{inItsBucket, entryName}
+use Rattle.canonical.specs.steps.Contracts.{BatchPre, Batch, BucketsRead, CachedBucket}
 use Rattle.canonical.proofs.EntryBuckets.{bucket-none, bucket-other, bucket-last}
 
 -- ---- the first bucket of a search
 
 -- if it has the entry's own offset, the search ends there
-first-bucket : (img : List ℕ) (o n k at : ℕ) → 0 < n → word img (o + 8 * k + 4) ≡ at
-    → k ≡ firstEmpty (λ (i : ℕ). hidden at (word img (o + 8 * i + 4))) (probeSequence n n k)
-unfolding firstEmpty probeSequence
-first-bucket img o n k at p e =
-    let s : n ≡ suc (n - 1) = omega arith in
-    sym
-    (ap (λ (m : ℕ). firstEmpty (λ (i : ℕ). hidden at (word img (o + 8 * i + 4))) (probeSequence n m k)) s
-    ∙ ap (λ (b : Bool). cond b k (firstEmpty (λ (i : ℕ). hidden at (word img (o + 8 * i + 4))) (probeSequence n (n - 1) (next n k)))) free)
-  where
-    free : eqb (hidden at (word img (o + 8 * k + 4))) 0 ≡ true
-    free =
-        let w = word img (o + 8 * k + 4) in
-        eq-eqb (hidden at w) 0 (ap (λ (b : Bool). cond b w 0) (le-ltb w at (omega arith)))
+first-bucket : (img : List ℕ) (o n k at : ℕ) → k < n → word img (o + 8 * k + 4) ≡ at → BucketIs (firstEmptyBefore img o n k at) n k
+first-bucket img o n k at l e =
+    let w = word img (o + 8 * k + 4) in
+    probing-here {at = λ (i : ℕ). hidden at (offsetAt img o i)} {k = k} (record { inside = l; same = refl }) (omega arith)
+    (ap (λ (b : Bool). cond b w 0) (le-ltb w at (omega arith)))
 
 module _ (img : List ℕ) (h : ℕ) where
   abbrev O : ℕ
@@ -46,21 +40,21 @@ module _ (img : List ℕ) (h : ℕ) where
   abbrev N : ℕ
   N = bucketNumber img (tableOf h)
 
-  place-none : N ≡ 0 → firstPlace img h ≡ 0
-  unfolding firstPlace
+  place-none : N ≡ 0 → firstBucketAt img h ≡ 0
+  unfolding firstBucketAt
   place-none z = ap (λ (b : Bool). cond b 0 (O + 8 * start h N + 4)) (eq-eqb N 0 z)
 
-  place-some : (N ≡ 0 → ⊥) → firstPlace img h ≡ O + 8 * start h N + 4
-  unfolding firstPlace
+  place-some : (N ≡ 0 → ⊥) → firstBucketAt img h ≡ O + 8 * start h N + 4
+  unfolding firstBucketAt
   place-some d = ap (λ (b : Bool). cond b 0 (O + 8 * start h N + 4)) (ne-eqb N 0 d)
 
   -- the place as it is computed
-  pub place-zero : (n : ℕ) → n ≡ N → n ≡ 0 → 0 ≡ firstPlace img h
+  pub place-zero : (n : ℕ) → n ≡ N → n ≡ 0 → 0 ≡ firstBucketAt img h
   place-zero n e z = sym (place-none (sym e ∙ z))
 
-  pub place-said : (o n : ℕ) → o ≡ O → n ≡ N → (n ≡ 0 → ⊥) → o + 8 * (h / 256 % n) + 4 ≡ firstPlace img h
-  place-said o n eo en d =
-      ap₂ (λ (x : ℕ) (y : ℕ). x + 8 * (h / 256 % y) + 4) eo en ∙ sym (place-some (λ z. d (en ∙ z)))
+  pub place-said : (o n s : ℕ) → o ≡ O → n ≡ N → (n ≡ 0 → ⊥) → s ≡ start h n → o + 8 * s + 4 ≡ firstBucketAt img h
+  place-said o n s eo en d es =
+      ap (λ (x : ℕ). o + 8 * x + 4) es ∙ ap₂ (λ (x : ℕ) (y : ℕ). x + 8 * start h y + 4) eo en ∙ sym (place-some (λ z. d (en ∙ z)))
 
   module _ {place first : ℕ} (b : CachedBucket img h place first) where
     pub cached-none : (at : ℕ) → place ≡ 0 → false ≡ inItsBucket img h at
@@ -88,10 +82,12 @@ module _ (img : List ℕ) (h : ℕ) where
           let m : place - 4 ≡ O + 8 * k = omega arith in
           let u : w ≡ word img (O + 8 * k) = ew ∙ ap (word img) m in
           let d = some in
-          let f : FirstEmpty img O N k at k = record { is = first-bucket img O N k at (positive N d) (sym v ∙ y); inside = mod-lt (h / 256) (positive N d) } in
+          let l = mod-lt (h / 256) (positive N d) in
+          let b : BucketIs k N k = record { is = refl; inside = l } in
+          let f = first-bucket img O N k at l (sym v ∙ y) in
           elim (ℕ-discrete w h) [
-            | yes z ↦ eq-eqb w h z ∙ sym (eq-eqb first at y) ∙ bucket-last img h at refl refl d f w u first z v
-            | no z ↦ ne-eqb w h z ∙ bucket-other img h at refl refl d f w u z
+            | yes z ↦ eq-eqb w h z ∙ sym (eq-eqb first at y) ∙ bucket-last img h at refl refl d b f w u first z v
+            | no z ↦ ne-eqb w h z ∙ bucket-other img h at refl refl d b f w u z
           ]
         where
           positive : (n : ℕ) → (n ≡ 0 → ⊥) → 0 < n
@@ -110,21 +106,21 @@ module _ (img : List ℕ) (end : ℕ) (hs ps : List ℕ) (at i : ℕ) where
   from-broken (suc m) z = λ nz. absurd (nz z)
 
   module _ (m n : ℕ) (e : n ≡ wholeLength (between img at end)) where
-    from-more : getD hs i 0 ≡ hashOf (nameAt img at n) → getD ps i 0 ≡ firstPlace img (getD hs i 0)
+    from-more : getD hs i 0 ≡ hashOf (entryName img at n) → getD ps i 0 ≡ firstBucketAt img (getD hs i 0)
         → CachedFrom img end hs ps (at + (8 + n)) (i + 1) m → CachedFrom img end hs ps at i (suc m)
     unfolding CachedFrom
     from-more a b x = λ nz. (
-      a ∙ ap (λ (k : ℕ). hashOf (nameAt img at k)) e,
+      a ∙ ap (λ (k : ℕ). hashOf (entryName img at k)) e,
       b,
       subst (λ (k : ℕ). CachedFrom img end hs ps (at + (8 + k)) (i + 1) m) e x,
     )
 
     from-first : CachedFrom img end hs ps at i (suc m) → (n ≡ 0 → ⊥)
-        → (getD hs i 0 ≡ hashOf (nameAt img at n)) × (getD ps i 0 ≡ firstPlace img (getD hs i 0)) × CachedFrom img end hs ps (at + (8 + n)) (i + 1) m
+        → (getD hs i 0 ≡ hashOf (entryName img at n)) × (getD ps i 0 ≡ firstBucketAt img (getD hs i 0)) × CachedFrom img end hs ps (at + (8 + n)) (i + 1) m
     unfolding CachedFrom
     from-first x nz =
         let y = x (λ z. nz (e ∙ z)) in (
-          y .0 ∙ ap (λ (k : ℕ). hashOf (nameAt img at k)) (sym e),
+          y .0 ∙ ap (λ (k : ℕ). hashOf (entryName img at k)) (sym e),
           y .1,
           subst (λ (k : ℕ). CachedFrom img end hs ps (at + (8 + k)) (i + 1) m) (sym e) (y .2),
         )
@@ -151,7 +147,7 @@ hashing-start {img} {from} {end} p = record {
 
 module _ {img : List ℕ} {end from : ℕ} {hashes places : List ℕ} {at i : ℕ} (p : Hashing img end from hashes places at i) where
   pub hashing-next : end ≤ length img → (n : ℕ) (e : n ≡ wholeLength (between img at end)) (nz : n ≡ 0 → ⊥) → i < 256
-      → (h place : ℕ) → h ≡ hashOf (nameAt img at n) → place ≡ firstPlace img h
+      → (h place : ℕ) → h ≡ hashOf (entryName img at n) → place ≡ firstBucketAt img h
       → Hashing img end from (set hashes i h) (set places i place) (at + (8 + n)) (i + 1)
   hashing-next l n e nz q h place eh ep = record {
     few = omega arith;
@@ -162,7 +158,7 @@ module _ {img : List ℕ} {end from : ℕ} {hashes places : List ℕ} {at i : �
         let s : i + suc m ≡ i + 1 + m = omega arith in
         let a : getD hs i 0 ≡ h = x i (omega arith) ∙ getD-set-same hashes i h 0 (omega (arith, p .hashes-long)) in
         let b : getD ps i 0 ≡ place = y i (omega arith) ∙ getD-set-same places i place 0 (omega (arith, p .places-long)) in
-        let one = from-more img end hs ps at i m n e (a ∙ eh) (b ∙ ep ∙ ap (firstPlace img) (sym a)) z in
+        let one = from-more img end hs ps at i m n e (a ∙ eh) (b ∙ ep ∙ ap (firstBucketAt img) (sym a)) z in
         subst (CachedFrom img end hs ps from 0) s
         (p .joins hs ps (λ k r. x k (omega arith) ∙ getD-set-other hashes i k h 0 (λ w. omega arith))
         (λ k r. y k (omega arith) ∙ getD-set-other places i k place 0 (λ w. omega arith)) (suc m) one);
@@ -227,13 +223,13 @@ cached-new {img} {at} {end} {hashes} {places} b r =
 
 module _ {img : List ℕ} {end : ℕ} {hashes places firsts : List ℕ} {at cached : ℕ} (s : Cached img end hashes places firsts at cached) (some : 0 < cached) (n : ℕ)
     (e : n ≡ wholeLength (between img at end)) (nz : n ≡ 0 → ⊥) where
-  own : (getD hashes (256 - cached) 0 ≡ hashOf (nameAt img at n)) × (getD places (256 - cached) 0 ≡ firstPlace img (getD hashes (256 - cached) 0))
+  own : (getD hashes (256 - cached) 0 ≡ hashOf (entryName img at n)) × (getD places (256 - cached) 0 ≡ firstBucketAt img (getD hashes (256 - cached) 0))
       × CachedFrom img end hashes places (at + (8 + n)) (256 - cached + 1) (cached - 1)
   own =
       let q : cached ≡ suc (cached - 1) = omega arith in
       from-first img end hashes places at (256 - cached) (cached - 1) n e (subst (CachedFrom img end hashes places at (256 - cached)) q (s .entries)) nz
 
-  pub cached-hash : getD hashes (256 - cached) 0 ≡ hashOf (nameAt img at n)
+  pub cached-hash : getD hashes (256 - cached) 0 ≡ hashOf (entryName img at n)
   cached-hash = own .0
 
   pub cached-bucket : CachedBucket img (getD hashes (256 - cached) 0) (getD places (256 - cached) 0) (getD firsts (256 - cached) 0)

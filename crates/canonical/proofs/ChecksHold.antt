@@ -29,9 +29,9 @@ use Rattle.canonical.specs.steps.HiddenBuckets.{putBucket, TableMatches}
 use Rattle.image.specs.Zero.{hasZero}
 use Rattle.canonical.specs.steps.Made.{Storable, Made}
 use Rattle.canonical.specs.Canonical.{modeIn}
-use Rattle.canonical.specs.steps.InPlace.{bucketsAt}
+use Rattle.canonical.specs.steps.InPlace.{bucketsInPlace}
 use Rattle.canonical.proofs.InPlace.{LinksIn, InPlace}
-use Rattle.canonical.specs.steps.Checks.{endIn, areaIn, entriesOf, tableOk, rowCount, rowsOk, countsMatch, nameOk, notBefore, inItsBucket, twoWay, entryOk, entriesOk, linksCounted, Checked}
+use Rattle.canonical.specs.steps.Checks.{endIn, areaIn, checkedEntries, tableOk, rowCount, rowsOk, countsMatch, nameOk, notBefore, inItsBucket, twoWay, entryOk, entriesOk, linksCounted, Checked}
 use Rattle.canonical.proofs.ReadBack.{all-wordly, ids-of, flag-of-image}
 use Rattle.canonical.proofs.TableChecks.{table-checked, Row, rows-checked, counts-checked, row-count}
 use Rattle.canonical.proofs.EntryChecks.{bucket-checked, entries-checked, from-tables, all-unimage, ahead-checked, links-checked}
@@ -97,7 +97,7 @@ module _ (mode : Mode) (es : List Entry) (each : All Storable es) (fits : imageS
       let e : endIn (image mode es) n - headSize ≡ length (cat entryBytes es) = omega (arith, ends, length-entries es) in
       ap (λ (k : ℕ). take k (drop headSize (image mode es))) e ∙ at-take a
 
-  entries-are : entriesOf img n ≡ es
+  entries-are : checkedEntries img n ≡ es
   unfolding n
   entries-are = ap (entriesIn (length es)) area-is ∙ parsed es (all-wordly es (ids-of es each) (omega arith))
 
@@ -129,7 +129,7 @@ module _ (mode : Mode) (es : List Entry) (each : All Storable es) (fits : imageS
   unfolding pos entriesBefore
   pos-zero = omega (arith, ends)
 
-  right : (t : ℕ) → t < 256 → TableMatches (2 * count t ps) (bucketsAt img (pos t) (2 * count t ps)) (map bucketOf (ofTable t ps))
+  right : (t : ℕ) → t < 256 → TableMatches (2 * count t ps) (bucketsInPlace img (pos t) (2 * count t ps)) (map bucketOf (ofTable t ps))
   unfolding pos ps
   right t h = ip .tables t h
 
@@ -152,20 +152,20 @@ module _ (mode : Mode) (es : List Entry) (each : All Storable es) (fits : imageS
 
   -- ---- entries
 
-  table-read : (t : ℕ) → t < 256 → bucketsAt img (pos t) (2 * count t ps) ≡ bucketsAt img (tableAt img t) (bucketNumber img t)
-  unfolding bucketsAt range
+  table-read : (t : ℕ) → t < 256 → bucketsInPlace img (pos t) (2 * count t ps) ≡ bucketsInPlace img (tableAt img t) (bucketNumber img t)
+  unfolding bucketsInPlace range
   table-read t h =
       sym
-      (ap₂ (bucketsAt img) (offset t h) (numbers t h)
+      (ap₂ (bucketsInPlace img) (offset t h) (numbers t h)
       ∙ elim (ℕ-discrete (count t ps) 0) [
         | yes e ↦
-            ap (λ (k : ℕ). bucketsAt img (cond (eqb (count t ps) 0) 0 (pos t)) (2 * k)) e ∙ sym (ap (λ (k : ℕ). bucketsAt img (pos t) (2 * k)) e)
-        | no d ↦ ap (λ (b : Bool). bucketsAt img (cond b 0 (pos t)) (2 * count t ps)) (ne-eqb (count t ps) 0 d)
+            ap (λ (k : ℕ). bucketsInPlace img (cond (eqb (count t ps) 0) 0 (pos t)) (2 * k)) e ∙ sym (ap (λ (k : ℕ). bucketsInPlace img (pos t) (2 * k)) e)
+        | no d ↦ ap (λ (b : Bool). bucketsInPlace img (cond b 0 (pos t)) (2 * count t ps)) (ne-eqb (count t ps) 0 d)
       ])
 
   abbrev There : ℕ → Placed → Type 0
   There t p =
-      getD (bucketsAt img (tableAt img t) (bucketNumber img t)) (putBucket (bucketNumber img t) (bucketsAt img (tableAt img t) (bucketNumber img t)) (bucketOf p)) empty
+      getD (bucketsInPlace img (tableAt img t) (bucketNumber img t)) (putBucket (bucketNumber img t) (bucketsInPlace img (tableAt img t) (bucketNumber img t)) (bucketOf p)) empty
       ≡ bucketOf p
 
   there : (t : ℕ) → t < 256 → All (There t) (ofTable t ps)
@@ -173,7 +173,7 @@ module _ (mode : Mode) (es : List Entry) (each : All Storable es) (fits : imageS
       let e = sym (numbers t h) in
       let r = rw (table-read t h, e) at (right t h) in
       all-unimage
-      (λ (b : Bucket). getD (bucketsAt img (tableAt img t) (bucketNumber img t)) (putBucket (bucketNumber img t) (bucketsAt img (tableAt img t) (bucketNumber img t)) b) empty ≡ b)
+      (λ (b : Bucket). getD (bucketsInPlace img (tableAt img t) (bucketNumber img t)) (putBucket (bucketNumber img t) (bucketsInPlace img (tableAt img t) (bucketNumber img t)) b) empty ≡ b)
       bucketOf (ofTable t ps) (r .stand)
 
   links-at : endIn img n + 16 * n ≡ entriesEnd es + 16 * length es

@@ -28,10 +28,10 @@ use Rattle.canonical.specs.steps.HiddenBuckets.{putBucket, TableMatches}
 use Rattle.image.specs.Zero.{hasZero}
 use Rattle.canonical.specs.steps.Made.{Storable, Made}
 use Rattle.canonical.specs.Canonical.{modeIn}
-use Rattle.canonical.specs.steps.InPlace.{bucketsAt}
+use Rattle.canonical.specs.steps.InPlace.{bucketsInPlace}
 use Rattle.canonical.proofs.InPlace.{LinksIn, InPlace}
-use Rattle.canonical.specs.steps.Checks.{endIn, areaIn, entriesOf, tableOk, rowCount, rowsOk, nameOk, notBefore, inItsBucket, twoWay, entryOk, linksCounted, Checked}
-use Rattle.canonical.proofs.Concatenation.{length-bucketsAt}
+use Rattle.canonical.specs.steps.Checks.{endIn, areaIn, checkedEntries, tableOk, rowCount, rowsOk, nameOk, notBefore, inItsBucket, twoWay, entryOk, linksCounted, Checked}
+use Rattle.canonical.proofs.Concatenation.{length-bucketsInPlace}
 use Rattle.canonical.proofs.TableChecks.{opens, table-facts, Row, rows-facts, counts-facts, row-count}
 use Rattle.canonical.proofs.EntryChecks.{bucket-facts, entries-facts, to-table, links-facts}
 use Rattle.canonical.proofs.InPlaceImage.{in-place-image}
@@ -62,7 +62,7 @@ links-of img es true o b p e a h =
 
 module _ (img : List ℕ) (n : ℕ) (bytes : AllBytes img) (c : Checked img n) where
   es : List Entry
-  es = entriesOf img n
+  es = checkedEntries img n
 
   ps : List Placed
   ps = placed headSize es
@@ -149,14 +149,14 @@ module _ (img : List ℕ) (n : ℕ) (bytes : AllBytes img) (c : Checked img n) w
   -- ---- tables
 
   -- the buckets that a search reads are those where the table belongs
-  table-read : (t : ℕ) → t < 256 → bucketsAt img (tableAt img t) (bucketNumber img t) ≡ bucketsAt img (pos t) (2 * count t ps)
-  unfolding bucketsAt range tableOffset pos
+  table-read : (t : ℕ) → t < 256 → bucketsInPlace img (tableAt img t) (bucketNumber img t) ≡ bucketsInPlace img (pos t) (2 * count t ps)
+  unfolding bucketsInPlace range tableOffset pos
   table-read t h =
-      ap₂ (bucketsAt img) (offset t h) (numbers t h)
+      ap₂ (bucketsInPlace img) (offset t h) (numbers t h)
       ∙ elim (ℕ-discrete (count t ps) 0) [
         | yes e ↦
-            ap (λ (k : ℕ). bucketsAt img (tableOffset (entriesEnd es) ps t) (2 * k)) e ∙ sym (ap (λ (k : ℕ). bucketsAt img (pos t) (2 * k)) e)
-        | no d ↦ ap (λ (b : Bool). bucketsAt img (cond b 0 (pos t)) (2 * count t ps)) (ne-eqb (count t ps) 0 d)
+            ap (λ (k : ℕ). bucketsInPlace img (tableOffset (entriesEnd es) ps t) (2 * k)) e ∙ sym (ap (λ (k : ℕ). bucketsInPlace img (pos t) (2 * k)) e)
+        | no d ↦ ap (λ (b : Bool). bucketsInPlace img (cond b 0 (pos t)) (2 * count t ps)) (ne-eqb (count t ps) 0 d)
       ]
 
   abbrev Ok : Placed → Type 0
@@ -172,22 +172,22 @@ module _ (img : List ℕ) (n : ℕ) (bytes : AllBytes img) (c : Checked img n) w
   abbrev Stands : ℕ → List Bucket → Bucket → Type 0
   Stands k table b = getD table (putBucket k table b) empty ≡ b
 
-  stand : (t : ℕ) → t < 256 → All (Stands (2 * count t ps) (bucketsAt img (pos t) (2 * count t ps))) (map bucketOf (ofTable t ps))
+  stand : (t : ℕ) → t < 256 → All (Stands (2 * count t ps) (bucketsInPlace img (pos t) (2 * count t ps))) (map bucketOf (ofTable t ps))
   stand t h =
-      all-image (Stands (2 * count t ps) (bucketsAt img (pos t) (2 * count t ps))) bucketOf one (ofTable t ps)
+      all-image (Stands (2 * count t ps) (bucketsInPlace img (pos t) (2 * count t ps))) bucketOf one (ofTable t ps)
       (to-table Ok t ps checks)
     where
       one : (p : Placed) → Ok p × (tableOf (hashOf (p .entry .name)) ≡ t)
-          → Stands (2 * count t ps) (bucketsAt img (pos t) (2 * count t ps)) (bucketOf p)
+          → Stands (2 * count t ps) (bucketsInPlace img (pos t) (2 * count t ps)) (bucketOf p)
       one p (r, e) =
           let s = and-second (not (hasZero (p .entry .name))) (inItsBucket img (hashOf (p .entry .name)) (p .at)) (name-of p r) in
           let d = rw e at (bucket-facts img (bucketOf p) s) in
           rw (table-read t h, numbers t h) at d
 
-  right : (t : ℕ) → t < 256 → TableMatches (2 * count t ps) (bucketsAt img (pos t) (2 * count t ps)) (map bucketOf (ofTable t ps))
+  right : (t : ℕ) → t < 256 → TableMatches (2 * count t ps) (bucketsInPlace img (pos t) (2 * count t ps)) (map bucketOf (ofTable t ps))
   right t h =
       record {
-        sized = length-bucketsAt img (pos t) (2 * count t ps);
+        sized = length-bucketsInPlace img (pos t) (2 * count t ps);
         zeros = table-facts img (pos t) (count t ps) (table-there t h) .0;
         used = table-facts img (pos t) (count t ps) (table-there t h) .1 ∙ sym (length-map (ofTable t ps) bucketOf);
         stand = stand t h;

@@ -11,7 +11,7 @@ use Rattle.image.proofs.EntryArea.{AllBytes, bytes-drop, front-word}
 use Rattle.image.proofs.At.{At, at-same}
 use Rattle.image.proofs.Lists.{length-range, getD-range}
 use Rattle.image.proofs.Words.{word-drop, length-le32}
-use Rattle.canonical.specs.steps.InPlace.{bucketAt, bucketsAt, wordsAt}
+use Rattle.canonical.specs.steps.InPlace.{bucketAt, bucketsInPlace, wordsAt}
 
 pub at-nothing : (img : List ℕ) (o : ℕ) → At img o []
 at-nothing img o = record { post = drop o img; stands = refl }
@@ -86,13 +86,13 @@ getD-run {A} f n k d h =
     getD-map-in g (k ∷ ks) zero d h = refl
     getD-map-in g (k ∷ ks) (suc j) d h = getD-map-in g ks j d (omega arith)
 
-pub getD-bucketsAt : (img : List ℕ) (o n k : ℕ) → k < n → getD (bucketsAt img o n) k empty ≡ bucketAt img (o + 8 * k)
-unfolding bucketsAt
-getD-bucketsAt img o n k h = getD-run (λ (k : ℕ). bucketAt img (o + 8 * k)) n k empty h
+pub getD-bucketsInPlace : (img : List ℕ) (o n k : ℕ) → k < n → getD (bucketsInPlace img o n) k empty ≡ bucketAt img (o + 8 * k)
+unfolding bucketsInPlace
+getD-bucketsInPlace img o n k h = getD-run (λ (k : ℕ). bucketAt img (o + 8 * k)) n k empty h
 
-pub length-bucketsAt : (img : List ℕ) (o n : ℕ) → length (bucketsAt img o n) ≡ n
-unfolding bucketsAt
-length-bucketsAt img o n = length-map (range 0 n) (λ (k : ℕ). bucketAt img (o + 8 * k)) ∙ length-range 0 n
+pub length-bucketsInPlace : (img : List ℕ) (o n : ℕ) → length (bucketsInPlace img o n) ≡ n
+unfolding bucketsInPlace
+length-bucketsInPlace img o n = length-map (range 0 n) (λ (k : ℕ). bucketAt img (o + 8 * k)) ∙ length-range 0 n
 
 pub getD-wordsAt : (img : List ℕ) (o n k : ℕ) → k < n → getD (wordsAt img o n) k 0 ≡ word img (o + 4 * k)
 unfolding wordsAt

@@ -1,37 +1,31 @@
 -- What the checks of entries and links say. Assumes nothing.
-use Prim.Native.Nat.{ℕ, suc, _+_, _*_, _/_, _≤_, _<_}
+use Prim.Native.Nat.{ℕ, _+_, _*_, _/_, _≤_, _<_}
 use native.Mathlib.Omega.{arith}
 use native.Mathlib.Nat.{mod-lt}
 use native.Mathlib.Decide.{ℕ-discrete}
 use mathlib.Core.Path.{_≡_, refl, sym, ap, ap₂, _∙_}
 use mathlib.Core.Bool.{Bool, true, false, cond, not, _&&_}
 use mathlib.Core.List.{List, [], _∷_, map}
-use lib.ListN.{length, getD}
+use lib.ListN.{getD}
 use lib.Dec.{eqb, ltb}
 use borrow.Author.Tests.{eqb-true, eqb-false, eq-eqb, ne-eqb, le-ltb, ltb-false, not-true}
 use Rattle.jhash.specs.NameHash.{hashOf}
 use Rattle.image.specs.Bytes.{word, filter}
 use Rattle.image.specs.Head.{tableAt, bucketNumber}
 use Rattle.image.specs.Image.{Placed, inTable, ofTable}
-use Rattle.image.specs.Tables.{Bucket, empty, atOf, tableOf, start, probeSequence, firstEmpty}
+use Rattle.image.specs.Tables.{Bucket, empty, atOf, tableOf, start, probeSequence}
 use Rattle.image.proofs.Bools.{false-not-true, and-first, and-second, and-both}
 use Rattle.image.proofs.AllOfList.{All, all-map, all-both}
-use Rattle.image.proofs.Buckets.{length-probeSequence}
-use Rattle.lookup_laws.proofs.ProbeSequence.{probeSequence-at}
-use Rattle.canonical.specs.steps.HiddenBuckets.{countFrom, hide, hideFrom, putBucket, selfLinks, BackArrayMatches}
+use Rattle.image.specs.steps.Contracts.{offsetAt, hidden}
+use Rattle.image.proofs.Buckets.{firstEmpty-ext}
+use Rattle.canonical.specs.steps.HiddenBuckets.{countAtLeast, hide, hideFrom, putBucket, selfLinks, BackArrayMatches}
 use Rattle.canonical.proofs.HiddenBuckets.{getD-hideFrom, putBucket-in}
 use Rattle.canonical.proofs.FilledTable.{first-below, order-inside}
-use Rattle.canonical.specs.steps.InPlace.{bucketAt, bucketsAt, wordsAt}
-use Rattle.canonical.specs.steps.Checks.{hidden, slotIn, inItsBucket, nameOk, notBefore, entryOk, entriesOk, selfLinksIn, linksCounted}
-use Rattle.canonical.proofs.Concatenation.{getD-bucketsAt, length-bucketsAt, getD-wordsAt}
+use Rattle.canonical.specs.steps.InPlace.{bucketAt, bucketsInPlace, wordsAt}
+use Rattle.canonical.specs.steps.Checks.{slotIn, inItsBucket, nameOk, notBefore, entryOk, entriesOk, selfLinksIn, linksCounted}
+use Rattle.canonical.proofs.Concatenation.{getD-bucketsInPlace, length-bucketsInPlace, getD-wordsAt}
 
 -- ---- an entry in its table
-
-first-alike : (f g : ℕ → ℕ) (ks : List ℕ) → ((i : ℕ) → i < length ks → f (getD ks i 0) ≡ g (getD ks i 0)) → firstEmpty f ks ≡ firstEmpty g ks
-unfolding firstEmpty
-first-alike f g [] h = refl
-first-alike f g (k ∷ ks) h =
-    ap₂ (λ (x : ℕ) (r : ℕ). cond (eqb x 0) k r) (h 0 (omega arith)) (first-alike f g ks (λ i l. h (suc i) (omega arith)))
 
 hide-at : (a : ℕ) (b : Bucket) → hide a b .at ≡ hidden a (b .at)
 hide-at a b = go (ltb (b .at) a)
@@ -49,7 +43,7 @@ module _ (img : List ℕ) (b : Bucket) where
   n = bucketNumber img (tableOf (b .hash))
 
   T : List Bucket
-  T = bucketsAt img (tableAt img (tableOf (b .hash))) (bucketNumber img (tableOf (b .hash)))
+  T = bucketsInPlace img (tableAt img (tableOf (b .hash))) (bucketNumber img (tableOf (b .hash)))
 
   module _ (some : 0 < n) where
     place-below : putBucket n T b < n
@@ -59,23 +53,19 @@ module _ (img : List ℕ) (b : Bucket) where
     unfolding slotIn o n T
     slot-is =
         ap (λ (k : ℕ). o + 8 * k)
-        (sym (first-alike (atOf (hideFrom (b .at) T)) (λ (k : ℕ). hidden (b .at) (word img (o + 8 * k + 4))) (probeSequence n n (start (b .hash) n)) each))
+        (sym (firstEmpty-ext (atOf (hideFrom (b .at) T)) (λ (k : ℕ). hidden (b .at) (offsetAt img o k)) n one n (start (b .hash) n) (mod-lt (b .hash / 256) some)))
       where
-        one : (k : ℕ) → k < n → atOf (hideFrom (b .at) T) k ≡ hidden (b .at) (word img (o + 8 * k + 4))
+        one : (k : ℕ) → k < n → atOf (hideFrom (b .at) T) k ≡ hidden (b .at) (offsetAt img o k)
         one k h =
-            ap (λ (x : Bucket). x .at) (getD-hideFrom (b .at) T k ∙ ap (hide (b .at)) (getD-bucketsAt img o n k h)) ∙ hide-at (b .at) (bucketAt img (o + 8 * k))
-
-        each : (i : ℕ) → i < length (probeSequence n n (start (b .hash) n))
-            → atOf (hideFrom (b .at) T) (getD (probeSequence n n (start (b .hash) n)) i 0) ≡ hidden (b .at) (word img (o + 8 * getD (probeSequence n n (start (b .hash) n)) i 0 + 4))
-        each i h = one (getD (probeSequence n n (start (b .hash) n)) i 0) (order-inside (b .hash) n some i h)
+            ap (λ (x : Bucket). x .at) (getD-hideFrom (b .at) T k ∙ ap (hide (b .at)) (getD-bucketsInPlace img o n k h)) ∙ hide-at (b .at) (bucketAt img (o + 8 * k))
 
     read : getD T (putBucket n T b) empty ≡ bucketAt img (slotIn img (b .hash) (b .at))
     unfolding T o n
-    read = getD-bucketsAt img o n (putBucket n T b) place-below ∙ ap (bucketAt img) (sym slot-is)
+    read = getD-bucketsInPlace img o n (putBucket n T b) place-below ∙ ap (bucketAt img) (sym slot-is)
 
   pub bucket-facts : inItsBucket img (b .hash) (b .at) ≡ true
-      → getD (bucketsAt img (tableAt img (tableOf (b .hash))) (bucketNumber img (tableOf (b .hash))))
-      (putBucket (bucketNumber img (tableOf (b .hash))) (bucketsAt img (tableAt img (tableOf (b .hash))) (bucketNumber img (tableOf (b .hash)))) b) empty ≡ b
+      → getD (bucketsInPlace img (tableAt img (tableOf (b .hash))) (bucketNumber img (tableOf (b .hash))))
+      (putBucket (bucketNumber img (tableOf (b .hash))) (bucketsInPlace img (tableAt img (tableOf (b .hash))) (bucketNumber img (tableOf (b .hash)))) b) empty ≡ b
   unfolding inItsBucket T o n
   bucket-facts h =
       let s = slotIn img (b .hash) (b .at) in
@@ -98,14 +88,14 @@ module _ (img : List ℕ) (b : Bucket) where
       two e f = λ i. record { hash = e i; at = f i }
 
   pub bucket-checked : 0 < b .at
-      → getD (bucketsAt img (tableAt img (tableOf (b .hash))) (bucketNumber img (tableOf (b .hash))))
-      (putBucket (bucketNumber img (tableOf (b .hash))) (bucketsAt img (tableAt img (tableOf (b .hash))) (bucketNumber img (tableOf (b .hash)))) b) empty ≡ b
+      → getD (bucketsInPlace img (tableAt img (tableOf (b .hash))) (bucketNumber img (tableOf (b .hash))))
+      (putBucket (bucketNumber img (tableOf (b .hash))) (bucketsInPlace img (tableAt img (tableOf (b .hash))) (bucketNumber img (tableOf (b .hash)))) b) empty ≡ b
       → inItsBucket img (b .hash) (b .at) ≡ true
   unfolding inItsBucket T o n
   bucket-checked pos e =
       let s = slotIn img (b .hash) (b .at) in
       let l = putBucket-in n T b pos e in
-      let some : 0 < n = omega (arith, length-bucketsAt img o n) in
+      let some : 0 < n = omega (arith, length-bucketsInPlace img o n) in
       let f = sym (read some) ∙ e in
       let p = not (eqb n 0) in
       let q = eqb (word img s) (b .hash) in
@@ -197,8 +187,8 @@ module _ (img : List ℕ) (o n : ℕ) where
       → BackArrayMatches (wordsAt img o n) ps
   links-facts ps ids a h = record {
     ahead = ahead-facts ps ids a;
-    used = eqb-true (countFrom 1 (wordsAt img o n)) (selfLinksIn img o ps) h ∙ sym (selfLinks-same ps ids);
+    used = eqb-true (countAtLeast 1 (wordsAt img o n)) (selfLinksIn img o ps) h ∙ sym (selfLinks-same ps ids);
   }
 
   pub links-checked : (ps : List Placed) → All Id ps → BackArrayMatches (wordsAt img o n) ps → linksCounted img o n ps ≡ true
-  links-checked ps ids k = eq-eqb (countFrom 1 (wordsAt img o n)) (selfLinksIn img o ps) (k .used ∙ selfLinks-same ps ids)
+  links-checked ps ids k = eq-eqb (countAtLeast 1 (wordsAt img o n)) (selfLinksIn img o ps) (k .used ∙ selfLinks-same ps ids)

@@ -15,7 +15,7 @@ use Rattle.image.specs.Tally.{raisedCounts}
 use Rattle.image.proofs.Between.{Front, front, entry-room}
 use Rattle.image.proofs.Bools.{false-not-true}
 use Rattle.image.proofs.EntryWalk.{Rest, first-id, first-name, entries-rest, walk-start, walk-step, walk-broken, walk-end}
-use Rattle.canonical.specs.steps.Checks.{nameAt, nameOk, notBefore, entriesOk, selfLinksIn, placedFrom}
+use Rattle.canonical.specs.steps.Checks.{entryName, nameOk, notBefore, entriesOk, selfLinksIn, placedFrom}
 use Rattle.canonical.specs.steps.Contracts.{OneIf, CheckEntriesPre, EntriesFound}
 
 -- what the entries from `at` on add to what was found before them is the whole
@@ -62,7 +62,7 @@ module _ {img : List ℕ} {end entries : ℕ} {two : Bool} {o : ℕ} {counts₀ 
     pub entering-inside : (at + (8 + n) ≤ end) × (1 ≤ n)
     entering-inside = entry-room img at end n (e .rest .inside) k is nz
 
-    name-is : firstEntry (between img at end) .name ≡ nameAt img at n
+    name-is : firstEntry (between img at end) .name ≡ entryName img at n
     name-is = first-name img at end n (left - 1) (e .rest .inside) k there
 
     size-is : entrySize (firstEntry (between img at end)) ≡ 8 + n
@@ -88,7 +88,7 @@ module _ {img : List ℕ} {end entries : ℕ} {two : Bool} {o : ℕ} {counts₀ 
       link-is =
           ap (λ (i : ℕ). word img (o + 4 * i)) (first-id img at end n (left - 1) (e .rest .inside) k there ∙ sym ei) ∙ sym ew
 
-      module _ (p q : Bool) (ep : p ≡ notBefore two at w) (eq : q ≡ nameOk img at (nameAt img at n)) where
+      module _ (p q : Bool) (ep : p ≡ notBefore two at w) (eq : q ≡ nameOk img at (entryName img at n)) where
         entries-step : entriesOk img two o (placedFrom img end left at) ≡ (p && q && entriesOk img two o later)
         unfolding entriesOk
         entries-step =
@@ -107,12 +107,12 @@ module _ {img : List ℕ} {end entries : ℕ} {two : Bool} {o : ℕ} {counts₀ 
             no-second true b h = h
             no-second false b h = refl
 
-        pub entering-next : (p && q) ≡ true → (h b : ℕ) (counts₁ : List ℕ) → h ≡ hashOf (nameAt img at n) → n < 4294967296 → id < 4294967296
+        pub entering-next : (p && q) ≡ true → (h b : ℕ) (counts₁ : List ℕ) → h ≡ hashOf (entryName img at n) → n < 4294967296 → id < 4294967296
             → OneIf w at b → counts₁ ≡ raisedCounts counts h
             → Entering img end entries two o counts₀ (at + (8 + n)) (left - 1) (max back (id + 1)) (linked + b) counts₁
         unfolding later selfLinksIn
         entering-next y h b counts₁ eh small idsmall one ec = record {
-          rest = walk-step img end entries counts₀ at left back counts k (e .rest) some n h id (nameAt img at n) counts₁ there small idsmall refl eh ei ec;
+          rest = walk-step img end entries counts₀ at left back counts k (e .rest) some n h id (entryName img at n) counts₁ there small idsmall refl eh ei ec;
           valid-same = sym (entries-step ∙ ap (λ (b : Bool). b && entriesOk img two o later) y) ∙ e .valid-same;
           linked-same =
               let t : selfLinksIn img o (placedFrom img end left at) ≡ cond (eqb w at) 1 0 + selfLinksIn img o later =

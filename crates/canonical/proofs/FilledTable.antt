@@ -16,8 +16,8 @@ use Rattle.image.proofs.AllOfList.{All}
 use Rattle.image.proofs.Sizes.{length-insert}
 use Rattle.image.proofs.Buckets.{length-probeSequence}
 use Rattle.lookup_laws.proofs.ProbeSequence.{probeSequence-at, place-of}
-use Rattle.canonical.specs.steps.HiddenBuckets.{countFrom, Rising, bucketOffsets, hide, hideFrom, putBucket, TableMatches}
-use Rattle.canonical.proofs.CountAtLeast.{countFrom-none, countFrom-set, countFrom-room, rising-less}
+use Rattle.canonical.specs.steps.HiddenBuckets.{countAtLeast, Rising, bucketOffsets, hide, hideFrom, putBucket, TableMatches}
+use Rattle.canonical.proofs.CountAtLeast.{countAtLeast-none, countAtLeast-set, countAtLeast-room, rising-less}
 use Rattle.canonical.proofs.HiddenBuckets.{hide-shows, hide-hides, hide-empty, getD-hideFrom, length-hideFrom, getD-bucketOffsets, length-bucketOffsets, hideFrom-is}
 
 -- ---- the first empty bucket of a search
@@ -59,7 +59,7 @@ bucketOffsets-set (c ∷ table) (suc k) b = ap (λ (l : List ℕ). c .at ∷ l) 
 pub record Inserted (n : ℕ) (table : List Bucket) (m a : ℕ) : Type 0 where
   pub sized : length table ≡ n
   pub zeros : (k : ℕ) → atOf table k ≡ 0 → getD table k empty ≡ empty
-  pub used : countFrom 1 (bucketOffsets table) ≡ m
+  pub used : countAtLeast 1 (bucketOffsets table) ≡ m
   pub below : (k : ℕ) → atOf table k < a
 
 module _ (n : ℕ) (table : List Bucket) (m a : ℕ) (b : Bucket) (t : Inserted n table m a) (room : m < n) (pos : 0 < a) (le : a ≤ b .at) where
@@ -76,7 +76,7 @@ module _ (n : ℕ) (table : List Bucket) (m a : ℕ) (b : Bucket) (t : Inserted 
   slot-empty : atOf table slot ≡ 0
   unfolding slot
   slot-empty =
-      let (j, h, z) = countFrom-room (bucketOffsets table) (omega (arith, t .used, t .sized, length-bucketOffsets table)) in
+      let (j, h, z) = countAtLeast-room (bucketOffsets table) (omega (arith, t .used, t .sized, length-bucketOffsets table)) in
       let k : j < n = omega (arith, length-bucketOffsets table, t .sized) in
       let (i, l, e) = place-of n (start (b .hash) n) j start-below k in
       first-found (atOf table) (probeSequence n n (start (b .hash) n)) i (rw (length-probeSequence n n (start (b .hash) n)) l)
@@ -132,11 +132,11 @@ module _ (n : ℕ) (table : List Bucket) (m a : ℕ) (b : Bucket) (t : Inserted 
             | no d ↦ kept k d ∙ t .zeros k (sym (ap (λ (x : Bucket). x .at) (kept k d)) ∙ z)
           ]
 
-      used : countFrom 1 (bucketOffsets (insert n table b)) ≡ suc m
+      used : countAtLeast 1 (bucketOffsets (insert n table b)) ≡ suc m
       used =
-          ap (countFrom 1) bucketOffsets-insert
-          ∙ countFrom-set (bucketOffsets table) slot (b .at) (rw (length-bucketOffsets table) there) (getD-bucketOffsets table slot ∙ slot-empty) (omega arith)
-          ∙ one (countFrom 1 (bucketOffsets table)) (t .used)
+          ap (countAtLeast 1) bucketOffsets-insert
+          ∙ countAtLeast-set (bucketOffsets table) slot (b .at) (rw (length-bucketOffsets table) there) (getD-bucketOffsets table slot ∙ slot-empty) (omega arith)
+          ∙ one (countAtLeast 1 (bucketOffsets table)) (t .used)
         where
           one : (x : ℕ) → x ≡ m → x + 1 ≡ suc m
           one x e = omega arith
@@ -217,7 +217,7 @@ inserted-none : (n : ℕ) → Inserted n (replicate n empty) 0 1
 inserted-none n = record {
   sized = length-replicate n empty;
   zeros = λ k z. getD-empties n k;
-  used = countFrom-none 1 (bucketOffsets (replicate n empty)) (λ i h. let e = getD-bucketOffsets (replicate n empty) i in let f = none i in omega arith);
+  used = countAtLeast-none 1 (bucketOffsets (replicate n empty)) (λ i h. let e = getD-bucketOffsets (replicate n empty) i in let f = none i in omega arith);
   below = λ k. let f = none k in omega arith;
 }
   where

@@ -12,8 +12,8 @@ use borrow.Author.Tests.{lt-ltb, le-ltb}
 use Rattle.image.specs.Tables.{Bucket, empty, atOf, start, probeSequence, firstEmpty, insert, insertAll, filled}
 use Rattle.image.proofs.Buckets.{getD-empties}
 use Rattle.image.proofs.AllOfList.{All}
-use Rattle.canonical.specs.steps.HiddenBuckets.{countFrom, Rising, bucketOffsets, hide, hideFrom, putBucket, TableMatches}
-use Rattle.canonical.proofs.CountAtLeast.{countFrom-in, countFrom-only}
+use Rattle.canonical.specs.steps.HiddenBuckets.{countAtLeast, Rising, bucketOffsets, hide, hideFrom, putBucket, TableMatches}
+use Rattle.canonical.proofs.CountAtLeast.{countAtLeast-in, countAtLeast-only}
 
 -- ---- hiding
 
@@ -70,18 +70,18 @@ module _ (n : ℕ) (table : List Bucket) (b : Bucket) (pos : 0 < b .at) (stands 
   pub putBucket-at : atOf table (putBucket n table b) ≡ b .at
   putBucket-at = ap (λ (x : Bucket). x .at) stands
 
-  pub putBucket-count : (a : ℕ) → a ≤ b .at → countFrom (suc (b .at)) (bucketOffsets table) + 1 ≤ countFrom a (bucketOffsets table)
+  pub putBucket-count : (a : ℕ) → a ≤ b .at → countAtLeast (suc (b .at)) (bucketOffsets table) + 1 ≤ countAtLeast a (bucketOffsets table)
   putBucket-count a h =
       let e = getD-bucketOffsets table (putBucket n table b) ∙ putBucket-at in
-      countFrom-in a (suc (b .at)) (bucketOffsets table) (putBucket n table b) (rw (length-bucketOffsets table) putBucket-in) (omega arith) (omega arith)
+      countAtLeast-in a (suc (b .at)) (bucketOffsets table) (putBucket n table b) (rw (length-bucketOffsets table) putBucket-in) (omega arith) (omega arith)
 
   -- no other bucket has an offset from a to its own
-  module _ (a : ℕ) (le : a ≤ b .at) (one : countFrom a (bucketOffsets table) ≤ countFrom (suc (b .at)) (bucketOffsets table) + 1) where
+  module _ (a : ℕ) (le : a ≤ b .at) (one : countAtLeast a (bucketOffsets table) ≤ countAtLeast (suc (b .at)) (bucketOffsets table) + 1) where
     only : (k : ℕ) → k < length table → a ≤ atOf table k → atOf table k < suc (b .at) → k ≡ putBucket n table b
     only k h p q =
         let e = getD-bucketOffsets table k in
         let f = getD-bucketOffsets table (putBucket n table b) ∙ putBucket-at in
-        countFrom-only a (suc (b .at)) (bucketOffsets table) k (putBucket n table b) one (rw (length-bucketOffsets table) h) (rw (length-bucketOffsets table) putBucket-in)
+        countAtLeast-only a (suc (b .at)) (bucketOffsets table) k (putBucket n table b) one (rw (length-bucketOffsets table) h) (rw (length-bucketOffsets table) putBucket-in)
         (omega arith) (omega arith) (omega arith) (omega arith)
 
     same-hidden : hideFrom a table ≡ hideFrom (b .at) table
@@ -139,7 +139,7 @@ abbrev Stands : ℕ → List Bucket → Bucket → Type 0
 Stands n table b = getD table (putBucket n table b) empty ≡ b
 
 at-least : (n : ℕ) (table : List Bucket) (a : ℕ) (bs : List Bucket) → 0 < a → Rising a (bucketOffsets bs) → All (Stands n table) bs
-    → length bs ≤ countFrom a (bucketOffsets table)
+    → length bs ≤ countAtLeast a (bucketOffsets table)
 at-least n table a [] p r s = omega arith
 at-least n table a (b ∷ bs) p r s =
     let rest = at-least n table (suc (b .at)) bs (omega arith) (r .1) (s .1) in
@@ -147,7 +147,7 @@ at-least n table a (b ∷ bs) p r s =
     omega (arith, putBucket-count n table b (omega arith) (s .0) a h)
 
 filled-from : (n : ℕ) (table : List Bucket) (a : ℕ) (bs : List Bucket) → 0 < a → Rising a (bucketOffsets bs) → All (Stands n table) bs
-    → countFrom a (bucketOffsets table) ≡ length bs → insertAll n (hideFrom a table) bs ≡ table
+    → countAtLeast a (bucketOffsets table) ≡ length bs → insertAll n (hideFrom a table) bs ≡ table
 unfolding insertAll
 filled-from n table a [] p r s e = hideFrom-is a table table refl (λ k h. hide-shows a (getD table k empty) (below k h))
   where
@@ -157,7 +157,7 @@ filled-from n table a [] p r s e = hideFrom-is a table table refl (λ k h. hide-
           | yes q ↦ q
           | no q ↦
               let f = getD-bucketOffsets table k in
-              absurd (omega (arith, countFrom-in a (suc (atOf table k)) (bucketOffsets table) k (rw (length-bucketOffsets table) h) (omega arith) (omega arith)))
+              absurd (omega (arith, countAtLeast-in a (suc (atOf table k)) (bucketOffsets table) k (rw (length-bucketOffsets table) h) (omega arith) (omega arith)))
         ]
 filled-from n table a (b ∷ bs) p r s e =
     let h = r .0 in

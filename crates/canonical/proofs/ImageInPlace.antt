@@ -23,9 +23,9 @@ use Rattle.canonical.specs.steps.HiddenBuckets.{bucketOffsets, TableMatc
 use Rattle.canonical.proofs.CountAtLeast.{rising-less}
 use Rattle.canonical.proofs.FilledTable.{filled-matches}
 use Rattle.canonical.proofs.BackArray.{offsets, links-match}
-use Rattle.canonical.specs.steps.InPlace.{bucketsAt, wordsAt}
+use Rattle.canonical.specs.steps.InPlace.{bucketsInPlace, wordsAt}
 use Rattle.canonical.proofs.InPlace.{LinksIn, InPlace}
-use Rattle.canonical.proofs.Concatenation.{getD-bucketsAt, length-bucketsAt, getD-wordsAt, length-wordsAt}
+use Rattle.canonical.proofs.Concatenation.{getD-bucketsInPlace, length-bucketsInPlace, getD-wordsAt, length-wordsAt}
 use Rattle.canonical.proofs.RisingOffsets.{rises, rises-table}
 
 -- every link is a word
@@ -61,20 +61,20 @@ module _ (mode : Mode) (es : List Entry) (fits : imageSize mode es ≤ 429496729
   start-of : ℕ → ℕ
   start-of t = entriesEnd es + 16 * entriesBefore t ps
 
-  table-read : (t : ℕ) → t < 256 → bucketsAt img (start-of t) (2 * count t ps) ≡ table t ps
+  table-read : (t : ℕ) → t < 256 → bucketsInPlace img (start-of t) (2 * count t ps) ≡ table t ps
   unfolding img ps start-of bucketBytes
   table-read t h =
-      ext-getD empty (bucketsAt (image mode es) (start-of t) (2 * count t ps)) (table t ps)
-      (length-bucketsAt (image mode es) (start-of t) (2 * count t ps) ∙ sym (length-table t ps)) each
+      ext-getD empty (bucketsInPlace (image mode es) (start-of t) (2 * count t ps)) (table t ps)
+      (length-bucketsInPlace (image mode es) (start-of t) (2 * count t ps) ∙ sym (length-table t ps)) each
     where
-      each : (k : ℕ) → k < length (bucketsAt (image mode es) (start-of t) (2 * count t ps))
-          → getD (bucketsAt (image mode es) (start-of t) (2 * count t ps)) k empty ≡ getD (table t ps) k empty
+      each : (k : ℕ) → k < length (bucketsInPlace (image mode es) (start-of t) (2 * count t ps))
+          → getD (bucketsInPlace (image mode es) (start-of t) (2 * count t ps)) k empty ≡ getD (table t ps) k empty
       each k l =
-          let m : k < 2 * count t ps = rw (length-bucketsAt (image mode es) (start-of t) (2 * count t ps)) at l in
+          let m : k < 2 * count t ps = rw (length-bucketsInPlace (image mode es) (start-of t) (2 * count t ps)) at l in
           let b = getD (table t ps) k empty in
           let a = bucket-at mode es fits t k h m in
           let w = bucket-words t k in
-          getD-bucketsAt (image mode es) (start-of t) (2 * count t ps) k m
+          getD-bucketsInPlace (image mode es) (start-of t) (2 * count t ps) k m
           ∙ two (word (image mode es) (start-of t + 8 * k)) (word (image mode es) (start-of t + 8 * k + 4)) b
           (at-word (b .hash) (at-left (le32 (b .hash)) (le32 (b .at)) a) (w .0))
           (at-word (b .at) (at-second (b .hash) (b .at) a) (w .1))
@@ -82,7 +82,7 @@ module _ (mode : Mode) (es : List Entry) (fits : imageSize mode es ≤ 429496729
           two : (x y : ℕ) (b : Bucket) → x ≡ b .hash → y ≡ b .at → _≡_ {A = Bucket} (record { hash = x; at = y }) b
           two x y b e f = λ i. record { hash = e i; at = f i }
 
-  right : (t : ℕ) → t < 256 → TableMatches (2 * count t ps) (bucketsAt img (start-of t) (2 * count t ps)) (map bucketOf (ofTable t ps))
+  right : (t : ℕ) → t < 256 → TableMatches (2 * count t ps) (bucketsInPlace img (start-of t) (2 * count t ps)) (map bucketOf (ofTable t ps))
   unfolding table ps
   right t h =
       rw (table-read t h)

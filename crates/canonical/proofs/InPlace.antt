@@ -12,7 +12,7 @@ use Rattle.image.specs.declared.Mode.the-variants.{Twoway, Oneway}
 use Rattle.image.proofs.At.{At}
 use Rattle.reader.specs.Open.{hasLetters}
 use Rattle.canonical.specs.steps.HiddenBuckets.{TableMatches, BackArrayMatches}
-use Rattle.canonical.specs.steps.InPlace.{bucketsAt, wordsAt}
+use Rattle.canonical.specs.steps.InPlace.{bucketsInPlace, wordsAt}
 
 -- the links of a two-way image; a one-way image has none
 abbrev pub LinksIn : Mode → List ℕ → List Entry → Type 0
@@ -32,6 +32,6 @@ pub record InPlace (img : List ℕ) (mode : Mode) (es : List Entry) : Type 0 whe
   pub entries : At img headSize (cat entryBytes es)
   pub tables : (t : ℕ) → t < 256
       → TableMatches (2 * count t (placed headSize es))
-      (bucketsAt img (entriesEnd es + 16 * entriesBefore t (placed headSize es)) (2 * count t (placed headSize es)))
+      (bucketsInPlace img (entriesEnd es + 16 * entriesBefore t (placed headSize es)) (2 * count t (placed headSize es)))
       (map bucketOf (ofTable t (placed headSize es)))
   pub linked : LinksIn mode img es

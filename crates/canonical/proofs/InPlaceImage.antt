@@ -24,9 +24,9 @@ use Rattle.canonical.specs.steps.HiddenBuckets.{bucketOffsets}
 use Rattle.canonical.proofs.CountAtLeast.{rising-less}
 use Rattle.canonical.proofs.HiddenBuckets.{matching-filled}
 use Rattle.canonical.proofs.BackArray.{offsets, matching-link}
-use Rattle.canonical.specs.steps.InPlace.{bucketsAt, wordsAt}
+use Rattle.canonical.specs.steps.InPlace.{bucketsInPlace, wordsAt}
 use Rattle.canonical.proofs.InPlace.{LinksIn, InPlace}
-use Rattle.canonical.proofs.Concatenation.{at-nothing, at-join, at-all, at-cat, at-parts, at-le32, at-two, getD-bucketsAt, getD-wordsAt, length-wordsAt}
+use Rattle.canonical.proofs.Concatenation.{at-nothing, at-join, at-all, at-cat, at-parts, at-le32, at-two, getD-bucketsInPlace, getD-wordsAt, length-wordsAt}
 use Rattle.canonical.proofs.RisingOffsets.{rises, rises-table}
 
 abbrev letters : List ℕ
@@ -119,10 +119,10 @@ module _ (img : List ℕ) (mode : Mode) (es : List Entry) (bytes : AllBytes img)
   start-of : ℕ → ℕ
   start-of t = entriesEnd es + 16 * entriesBefore t ps
 
-  table-is : (t : ℕ) → t < 256 → bucketsAt img (start-of t) (2 * count t ps) ≡ table t ps
+  table-is : (t : ℕ) → t < 256 → bucketsInPlace img (start-of t) (2 * count t ps) ≡ table t ps
   unfolding table ps start-of
   table-is t h =
-      matching-filled (2 * count t ps) (bucketsAt img (entriesEnd es + 16 * entriesBefore t ps) (2 * count t ps)) (map bucketOf (ofTable t ps))
+      matching-filled (2 * count t ps) (bucketsInPlace img (entriesEnd es + 16 * entriesBefore t ps) (2 * count t ps)) (map bucketOf (ofTable t ps))
       (rising-less 1 headSize (bucketOffsets (map bucketOf (ofTable t ps))) (omega arith) (rises-table t headSize ps (rises headSize es))) (ip .tables t h)
 
   one-table : (t : ℕ) → t < 256 → At img (start-of t) (tableBytes ps t)
@@ -132,7 +132,7 @@ module _ (img : List ℕ) (mode : Mode) (es : List Entry) (bytes : AllBytes img)
       each : (k : ℕ) → k < length (table t ps) → At img (start-of t + 8 * k) (bucketBytes (getD (table t ps) k empty))
       each k l =
           let m : k < 2 * count t ps = rw (length-table t ps) at l in
-          at-equal (ap bucketBytes (sym (getD-bucketsAt img (start-of t) (2 * count t ps) k m) ∙ ap (λ (b : List Bucket). getD b k empty) (table-is t h)))
+          at-equal (ap bucketBytes (sym (getD-bucketsInPlace img (start-of t) (2 * count t ps) k m) ∙ ap (λ (b : List Bucket). getD b k empty) (table-is t h)))
           (at-two img (start-of t + 8 * k) (word img (start-of t + 8 * k)) (word img (start-of t + 8 * k + 4)) bytes
           (omega (arith, long, many, before-most ps t h)) refl refl)
 

@@ -4,6 +4,7 @@ pub mod HiddenBuckets
 pub mod FilledTable
 pub mod BackArray
 pub mod ReadBack
+pub mod EntriesAhead
 pub mod InPlace
 pub mod Concatenation
 pub mod RisingOffsets

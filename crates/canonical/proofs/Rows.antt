@@ -19,7 +19,7 @@ use Rattle.lists.specs.Calls.{acceptedFrom, accepted, putDue, putsSize, sizeOf,
 use Rattle.lists.proofs.CallLists.{list-accepted}
 use Rattle.canonical.specs.Canonical.{canonical}
 use Rattle.jhash.specs.Word.{AllBytes}
-use Rattle.canonical.specs.examples.Rows.{Row, Holds, rows, HeadOnly, headOnlyRows}
+use Rattle.canonical.specs.examples.Rows.{Row, Holds, canonicalRows, HeadOnly, headOnlyRows}
 use Rattle.canonical.specs.steps.Checks.{endIn}
 use Rattle.canonical.proofs.ReadBack.{canonical-yes, canonical-only}
 use Rattle.canonical.proofs.ChecksHold.{canonical-checked}
@@ -40,7 +40,7 @@ holds-in r c buffer long =
           ∙ c .2,
     )
 
-computed : All Computed rows
+computed : All Computed canonicalRows
 unfolding accepted acceptedFrom putDue hasZero containsName same sizeOf putsSize backSize
 computed = (
   (lit≤ tt, tt, refl),
@@ -53,8 +53,8 @@ computed = (
   ),
 )
 
-pub rows-hold : All Holds rows
-rows-hold = all-map holds-in rows computed
+pub rows-hold : All Holds canonicalRows
+rows-hold = all-map holds-in canonicalRows computed
 
 -- ---- bytes without an entry: what is read of them is computed, not the decision
 

@@ -11,14 +11,14 @@ use borrow.Author.Tests.{lt-ltb, ltb-false, eqb-true, eq-eqb, ne-eqb}
 use Rattle.jhash.specs.Outcome.{Outcome, value, refusal}
 use Rattle.image.specs.Bytes.{word, range, all}
 use Rattle.image.specs.Head.{tableAt, bucketNumber, backOffsetAt, tableLeaves, backLeaves}
-use Rattle.image.specs.Tables.{Bucket, empty, atOf, probeSequence}
+use Rattle.image.specs.Tables.{Bucket, empty, atOf}
 use Rattle.image.proofs.AllOfRange.{all-each, all-true}
 use Rattle.image.proofs.Bools.{and-first, and-second, and-both, or-false-first, or-false-second}
 use Rattle.reader.specs.Open.{opening, hasLetters, someLeaves, halves}
-use Rattle.canonical.specs.steps.HiddenBuckets.{countFrom, bucketOffsets}
-use Rattle.canonical.specs.steps.InPlace.{bucketAt, bucketsAt}
+use Rattle.canonical.specs.steps.HiddenBuckets.{countAtLeast, bucketOffsets}
+use Rattle.canonical.specs.steps.InPlace.{bucketAt, bucketsInPlace}
 use Rattle.canonical.specs.steps.Checks.{clean, usedIn, tableOk, rowCount, rowsOk, countsMatch, TablesInside}
-use Rattle.canonical.proofs.Concatenation.{getD-bucketsAt, length-bucketsAt}
+use Rattle.canonical.proofs.Concatenation.{getD-bucketsInPlace, length-bucketsInPlace}
 
 -- ---- opening
 
@@ -65,14 +65,14 @@ opened-inside img n e t h some = none-leaves img 0 256 t (opens img n e .tables)
 -- ---- one table
 
 module _ (img : List ℕ) (o c : ℕ) where
-  used-is : countFrom 1 (bucketOffsets (bucketsAt img o (2 * c))) ≡ usedIn img o 0 (2 * c)
-  unfolding bucketsAt usedIn
-  used-is = ap (countFrom 1) (map-map (λ (b : Bucket). b .at) (λ (k : ℕ). bucketAt img (o + 8 * k)) (range 0 (2 * c)))
+  used-is : countAtLeast 1 (bucketOffsets (bucketsInPlace img o (2 * c))) ≡ usedIn img o 0 (2 * c)
+  unfolding bucketsInPlace usedIn
+  used-is = ap (countAtLeast 1) (map-map (λ (b : Bucket). b .at) (λ (k : ℕ). bucketAt img (o + 8 * k)) (range 0 (2 * c)))
 
   abbrev Zeros : Type 0
-  Zeros = (k : ℕ) → atOf (bucketsAt img o (2 * c)) k ≡ 0 → getD (bucketsAt img o (2 * c)) k empty ≡ empty
+  Zeros = (k : ℕ) → atOf (bucketsInPlace img o (2 * c)) k ≡ 0 → getD (bucketsInPlace img o (2 * c)) k empty ≡ empty
 
-  pub table-facts : tableOk img o c ≡ true → Zeros × (countFrom 1 (bucketOffsets (bucketsAt img o (2 * c))) ≡ c)
+  pub table-facts : tableOk img o c ≡ true → Zeros × (countAtLeast 1 (bucketOffsets (bucketsInPlace img o (2 * c))) ≡ c)
   unfolding tableOk
   table-facts h =
       let a = all (clean img o) 0 (2 * c) in
@@ -82,13 +82,13 @@ module _ (img : List ℕ) (o c : ℕ) where
       either : (a h : ℕ) → (not (eqb a 0) || eqb h 0) ≡ true → a ≡ 0 → h ≡ 0
       either a h t z = eqb-true h 0 (rw (eq-eqb a 0 z) at t)
 
-      zero : all (clean img o) 0 (2 * c) ≡ true → (k : ℕ) → atOf (bucketsAt img o (2 * c)) k ≡ 0 → Dec (k < 2 * c)
-          → getD (bucketsAt img o (2 * c)) k empty ≡ empty
-      zero t k z (no l) = List·getD-eq-default (bucketsAt img o (2 * c)) empty {n = k} (omega (arith, length-bucketsAt img o (2 * c)))
+      zero : all (clean img o) 0 (2 * c) ≡ true → (k : ℕ) → atOf (bucketsInPlace img o (2 * c)) k ≡ 0 → Dec (k < 2 * c)
+          → getD (bucketsInPlace img o (2 * c)) k empty ≡ empty
+      zero t k z (no l) = List·getD-eq-default (bucketsInPlace img o (2 * c)) empty {n = k} (omega (arith, length-bucketsInPlace img o (2 * c)))
       zero t k z (yes l) =
           let e : 0 + k ≡ k = omega arith in
           let t : clean img o k ≡ true = ap (clean img o) (sym e) ∙ all-each (clean img o) 0 (2 * c) k t l in
-          let g = getD-bucketsAt img o (2 * c) k l in
+          let g = getD-bucketsInPlace img o (2 * c) k l in
           let a : word img (o + 8 * k + 4) ≡ 0 = sym (ap (λ (b : Bucket). b .at) g) ∙ z in
           let b : word img (o + 8 * k) ≡ 0 = either (word img (o + 8 * k + 4)) (word img (o + 8 * k)) t a in
           g ∙ two a b
@@ -96,7 +96,7 @@ module _ (img : List ℕ) (o c : ℕ) where
           two : word img (o + 8 * k + 4) ≡ 0 → word img (o + 8 * k) ≡ 0 → bucketAt img (o + 8 * k) ≡ empty
           two a b = λ i. record { hash = b i; at = a i }
 
-  pub table-checked : Zeros → countFrom 1 (bucketOffsets (bucketsAt img o (2 * c))) ≡ c → tableOk img o c ≡ true
+  pub table-checked : Zeros → countAtLeast 1 (bucketOffsets (bucketsInPlace img o (2 * c))) ≡ c → tableOk img o c ≡ true
   unfolding tableOk
   table-checked z u =
       and-both (all (clean img o) 0 (2 * c)) (eqb (usedIn img o 0 (2 * c)) c)
@@ -105,7 +105,7 @@ module _ (img : List ℕ) (o c : ℕ) where
     where
       each : (k : ℕ) → k < 2 * c → clean img o k ≡ true
       each k l =
-          let g = getD-bucketsAt img o (2 * c) k l in
+          let g = getD-bucketsInPlace img o (2 * c) k l in
           elim (ℕ-discrete (word img (o + 8 * k + 4)) 0) [
             | yes a ↦
                 let b : word img (o + 8 * k) ≡ 0 = sym (ap (λ (b : Bucket). b .hash) g) ∙ ap (λ (b : Bucket). b .hash) (z k (ap (λ (b : Bucket). b .at) g ∙ a)) in
@@ -145,6 +145,22 @@ module _ (img : List ℕ) where
   row-checked o t m r h =
       let k = rowCount img t in
       rw (eq-eqb (bucketNumber img t) (2 * k) (r .number), eq-eqb (tableAt img t) (cond (eqb k 0) 0 o) (r .offset), r .table) h
+
+  -- the tables from t on that have buckets lie in the image
+  pub rows-held : TablesInside img → (o t m : ℕ) → 0 < o → t + m ≤ 256 → rowsOk img o t m ≡ true
+      → (u : ℕ) → t ≤ u → u < t + m → 0 < bucketNumber img u → tableAt img u + 8 * bucketNumber img u ≤ length img
+  rows-held inside o t zero pos k h u l r some = absurd (omega arith)
+  rows-held inside o t (suc m) pos k h u l r some =
+      let (row, rest) = row-facts o t m h in
+      elim (ℕ-discrete u t) [
+        | yes e ↦ inside u (omega arith) (rw e (there row (rw e at some)))
+        | no d ↦ rows-held inside (o + 16 * rowCount img t) (suc t) m (omega arith) (omega arith) rest u (omega arith) (omega arith) some
+      ]
+    where
+      there : Row img o t → 0 < bucketNumber img t → 0 < tableAt img t
+      there row b =
+          let e : tableAt img t ≡ o = row .offset ∙ ap (λ (z : Bool). cond z 0 o) (ne-eqb (rowCount img t) 0 (λ z. omega (arith, row .number))) in
+          omega arith
 
   module _ (pos : ℕ → ℕ) (grow : (t : ℕ) → t < 256 → pos (suc t) ≡ pos t + 16 * rowCount img t) where
     pub rows-facts : (t m : ℕ) → t + m ≤ 256 → rowsOk img (pos t) t m ≡ true → (i : ℕ) → i < m → Row img (pos (t + i)) (t + i)

@@ -11,7 +11,7 @@ use borrow.Author.Tests.{eq-eqb, ne-eqb}
 use Rattle.image.specs.Bytes.{word, range, all}
 use Rattle.image.specs.Head.{tableAt, bucketNumber}
 use Rattle.image.proofs.AllOfRange.{all-step, all-more, all-end}
-use Rattle.canonical.specs.steps.HiddenBuckets.{bit, countFrom}
+use Rattle.canonical.specs.steps.HiddenBuckets.{bit, countAtLeast}
 use Rattle.canonical.specs.steps.InPlace.{wordsAt}
 use Rattle.canonical.specs.steps.Checks.{clean, usedIn, tableOk, rowCount, rowsOk, countsMatch, TablesInside}
 use Rattle.canonical.specs.steps.Contracts.{CheckRowsPre}
@@ -20,17 +20,17 @@ use Rattle.canonical.specs.steps.Contracts.{CheckRowsPre}
 
 module _ (f : ℕ → ℕ) where
   run : ℕ → ℕ → ℕ
-  run k m = countFrom 1 (map f (range k m))
+  run k m = countAtLeast 1 (map f (range k m))
 
   run-turn : (k n : ℕ) → k < n → run k (n - k) ≡ bit 1 (f k) + run (k + 1) (n - (k + 1))
-  unfolding run countFrom range
+  unfolding run countAtLeast range
   run-turn k n h =
       let p : n - k ≡ suc (n - (k + 1)) = omega arith in
       let q : suc k ≡ k + 1 = omega arith in
       ap (λ (m : ℕ). run k m) p ∙ ap (λ (j : ℕ). bit 1 (f k) + run j (n - (k + 1))) q
 
-  pub run-next : (k n u b x : ℕ) → k < n → b ≡ bit 1 (f k) → u + countFrom 1 (map f (range k (n - k))) ≡ x
-      → u + b + countFrom 1 (map f (range (k + 1) (n - (k + 1)))) ≡ x
+  pub run-next : (k n u b x : ℕ) → k < n → b ≡ bit 1 (f k) → u + countAtLeast 1 (map f (range k (n - k))) ≡ x
+      → u + b + countAtLeast 1 (map f (range (k + 1) (n - (k + 1)))) ≡ x
   unfolding run
   run-next k n u b x h z e = let t = run-turn k n h in omega arith
 
@@ -41,11 +41,11 @@ module _ (f : ℕ → ℕ) where
       go true = omega arith
       go false = omega arith
 
-  pub run-end : (k n u x : ℕ) → k ≡ n → u + countFrom 1 (map f (range k (n - k))) ≡ x → u ≡ x
-  unfolding countFrom range
+  pub run-end : (k n u x : ℕ) → k ≡ n → u + countAtLeast 1 (map f (range k (n - k))) ≡ x → u ≡ x
+  unfolding countAtLeast range
   run-end k n u x h e =
       let z : n - k ≡ 0 = omega arith in
-      let r : countFrom 1 (map f (range k (n - k))) ≡ 0 = ap (λ (m : ℕ). countFrom 1 (map f (range k m))) z in
+      let r : countAtLeast 1 (map f (range k (n - k))) ≡ 0 = ap (λ (m : ℕ). countAtLeast 1 (map f (range k m))) z in
       omega arith
 
 -- ---- the buckets of a table
@@ -188,7 +188,7 @@ module _ {img counts : List ℕ} {t : ℕ} (r : Counts img counts t) where
 pub record Used (img : List ℕ) (o n k used : ℕ) : Type 0 where
   pub inside : k ≤ n
   pub few : used ≤ k
-  pub same : used + countFrom 1 (map (λ (j : ℕ). word img (o + 4 * j)) (range k (n - k))) ≡ countFrom 1 (wordsAt img o n)
+  pub same : used + countAtLeast 1 (map (λ (j : ℕ). word img (o + 4 * j)) (range k (n - k))) ≡ countAtLeast 1 (wordsAt img o n)
 
 pub used-start : (img : List ℕ) (o n : ℕ) → Used img o n 0 0
 unfolding wordsAt
@@ -197,7 +197,7 @@ used-start img o n = record {
   few = omega arith;
   same =
       let z : n - 0 ≡ n = omega arith in
-      let e = ap (λ (m : ℕ). countFrom 1 (map (λ (k : ℕ). word img (o + 4 * k)) (range 0 m))) z in
+      let e = ap (λ (m : ℕ). countAtLeast 1 (map (λ (k : ℕ). word img (o + 4 * k)) (range 0 m))) z in
       omega arith;
 }
 
@@ -206,8 +206,8 @@ module _ {img : List ℕ} {o n k used : ℕ} (u : Used img o n k used) where
   used-next b more e = record {
     inside = omega arith;
     few = let m = bit-most (λ (j : ℕ). word img (o + 4 * j)) k b e in omega (arith, u .few);
-    same = run-next (λ (j : ℕ). word img (o + 4 * j)) k n used b (countFrom 1 (wordsAt img o n)) more e (u .same);
+    same = run-next (λ (j : ℕ). word img (o + 4 * j)) k n used b (countAtLeast 1 (wordsAt img o n)) more e (u .same);
   }
 
-  pub used-end : n ≤ k → used ≡ countFrom 1 (wordsAt img o n)
-  used-end h = run-end (λ (j : ℕ). word img (o + 4 * j)) k n used (countFrom 1 (wordsAt img o n)) (omega (arith, u .inside)) (u .same)
+  pub used-end : n ≤ k → used ≡ countAtLeast 1 (wordsAt img o n)
+  used-end h = run-end (λ (j : ℕ). word img (o + 4 * j)) k n used (countAtLeast 1 (wordsAt img o n)) (omega (arith, u .inside)) (u .same)

@@ -2,65 +2,27 @@
 // a two-way image its id's link does not point before it. The table before a put is the finished one without the
 // entries from that put on, which are those with an offset from its own on.
 ghost use mathlib.Core.Path.{_≡_};
-ghost use Prim.Native.Nat.{_+_, _*_};
-ghost use Rattle.image.specs.Bytes.{word};
-ghost use Rattle.canonical.specs.steps.Checks.{hidden, inItsBucket, nameAt, nameOk, notBefore};
-ghost use Rattle.canonical.specs.steps.Contracts.{BucketPre, ProbePre, FirstEmpty};
-ghost use Rattle.canonical.specs.steps.Contracts.{CachedBucket, CheckEntryPre, OneIf};
+ghost use Rattle.canonical.specs.steps.Checks.{TablesHeld, inItsBucket, entryName, nameOk, notBefore};
+ghost use Rattle.canonical.specs.steps.Contracts.{InBucketPre, CheckEntryPre, OneIf};
 ghost use Rattle.canonical.specs.steps.Contracts.{CheckEntriesPre, EntriesFound};
 use super::prefetch::prefetch;
-use super::tables::size_at;
+use image::HEAD_SIZE;
 use image::entries::larger;
 use image::entries::name_at;
 use image::entries::raise;
 use image::entries::whole_length;
 use image::get_u32;
+use image::probe::first_empty_before;
+use image::probe::start;
 use image::rows::bucket_number;
 use image::rows::table_at;
+use image::size_at;
 use image::zero::has_zero;
-
-// An offset, or 0 if it is `at` or more.
-fn hide(at: u32, w: u32) -> u32
-    ensures { λ r. ⌜ r ≡ hidden at w ⌝ }
-{
-    if w < at { w } else { 0 }
-}
-
-// The hash word of bucket k of the table at o.
-fn hash_at(image: &[u8], o: usize, k: usize) -> u32
-    requires { ⌜ BucketPre o k ⌝ }
-    ensures { λ r. ⌜ r ≡ word (now (image .entry)) (o + 8 * k) ⌝ }
-{
-    get_u32(image, o + 8 * k)
-}
-
-// The offset word of bucket k of the table at o.
-fn offset_at(image: &[u8], o: usize, k: usize) -> u32
-    requires { ⌜ BucketPre o k ⌝ }
-    ensures { λ r. ⌜ r ≡ word (now (image .entry)) (o + 8 * k + 4) ⌝ }
-{
-    get_u32(image, o + 8 * k + 4)
-}
-
-// The first of the n buckets at o, from bucket k on, that holds no entry before `at`; bucket 0 if all do.
-fn first_empty(image: &[u8], o: usize, n: usize, k: usize, at: u32) -> usize
-    requires { ⌜ ProbePre o n k ⌝ }
-    ensures { λ r. ⌜ FirstEmpty (now (image .entry)) o n k at r ⌝ }
-{
-    let mut i = k;
-    let mut left = n;
-    while left > 0 {
-        if hide(at, offset_at(image, o, i)) == 0 {
-            return i;
-        }
-        i = if i + 1 < n { i + 1 } else { 0 };
-        left -= 1;
-    }
-    0
-}
+use jhash::word::word;
 
 // Is an entry of hash h at `at` in the bucket that its put took?
 fn in_its_bucket(image: &[u8], h: u32, at: u32) -> bool
+    requires { ⌜ TablesHeld (now image) ⌝ }
     ensures { λ r. ⌜ r ≡ inItsBucket (now (image .entry)) h at ⌝ }
 {
     let o = table_at(image, h);
@@ -68,16 +30,16 @@ fn in_its_bucket(image: &[u8], h: u32, at: u32) -> bool
     if n == 0 {
         return false;
     }
-    let k = first_empty(image, o, n, (h / 256) as usize % n, at);
-    if hash_at(image, o, k) != h {
+    let k = first_empty_before(image, o, n, start(h, n), at as u64);
+    if word(image, o + 8 * k) != h {
         return false;
     }
-    offset_at(image, o, k) == at
+    word(image, o + 8 * k + 4) == at
 }
 
 // The same, by the cached place and word of the first bucket of its probe sequence: most entries are in that bucket.
 fn in_bucket_cached(image: &[u8], h: u32, at: u32, place: usize, first: u32) -> bool
-    requires { ⌜ CachedBucket (now image) h place first ⌝ }
+    requires { ⌜ InBucketPre (now image) h place first ⌝ }
     ensures { λ r. ⌜ r ≡ inItsBucket (now (image .entry)) h at ⌝ }
 {
     if place == 0 {
@@ -92,7 +54,7 @@ fn in_bucket_cached(image: &[u8], h: u32, at: u32, place: usize, first: u32) -> 
 // Has the name of the entry at `at`, whose length word is n, no zero byte, and is the entry in its bucket?
 fn check_entry(image: &[u8], at: usize, n: usize, h: u32, place: usize, first: u32) -> bool
     requires { ⌜ CheckEntryPre (now image) at n h place first ⌝ }
-    ensures { λ r. ⌜ r ≡ nameOk (now (image .entry)) at (nameAt (now (image .entry)) at n) ⌝ }
+    ensures { λ r. ⌜ r ≡ nameOk (now (image .entry)) at (entryName (now (image .entry)) at n) ⌝ }
 {
     if has_zero(name_at(image, at, n)) {
         return false;
@@ -135,7 +97,7 @@ pub(super) fn check_entries(
         EntriesFound (now (image .entry)) end entries two o (now (counts .entry)) (now (counts .exit)) r
         ⌝ }
 {
-    let mut at: usize = 2072;
+    let mut at = HEAD_SIZE;
     let mut left = entries;
     let mut back: u64 = 0;
     let mut linked: u64 = 0;

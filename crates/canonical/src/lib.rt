@@ -10,13 +10,14 @@ ghost use Rattle.canonical.specs.Canonical.{canonical};
 ghost use Rattle.canonical.specs.steps.Checks.{bodyOk};
 ghost use Rattle.canonical.specs.steps.Contracts.{CheckBodyPre};
 use entries::check_entries;
+use image::HEAD_SIZE;
 use image::get_u32;
+use image::size_at;
 use reader::Opened;
 use tables::check_rows;
 use tables::count_used;
 use tables::counts_match;
 use tables::offset_of;
-use tables::size_at;
 
 mod entries; // entries.rt: one walk over the entries, each compared with its bucket and its link
 mod prefetch; // prefetch.rt: hashes and first buckets of the next entries
@@ -73,7 +74,7 @@ fn check_opened(image: &[u8], n: u32) -> bool
     }
     let back = size_at(image, 16);
     let behind = 16 * (n as usize) + 4 * back;
-    if size < 2072 + behind {
+    if size < HEAD_SIZE + behind {
         return false;
     }
     let end = size - behind;

@@ -3,25 +3,27 @@
 // of an image of 1,000,000 entries takes 22 % less time than with a plain loop, and of 4,096 entries 7 % less (both
 // in C, on a Xeon).
 ghost use mathlib.Core.Path.{_≡_};
-ghost use Rattle.canonical.specs.steps.Cache.{firstPlace};
+ghost use Rattle.canonical.specs.steps.Cache.{firstBucketAt};
 ghost use Rattle.canonical.specs.steps.Contracts.{BatchPre, Batch, BucketsPre, BucketsRead};
 ghost use Rattle.canonical.specs.steps.Contracts.{PrefetchPre, Prefetched};
 use image::entries::name_at;
 use image::entries::whole_length;
 use image::get_u32;
+use image::probe::start;
 use image::rows::bucket_number;
 use image::rows::table_at;
+use jhash::key;
 
 // The place of the offset word of the first bucket in a hash's probe sequence; 0 if its table has no bucket.
 fn first_place(image: &[u8], h: u32) -> usize
-    ensures { λ r. ⌜ r ≡ firstPlace (now (image .entry)) h ⌝ }
+    ensures { λ r. ⌜ r ≡ firstBucketAt (now (image .entry)) h ⌝ }
 {
     let o = table_at(image, h);
     let n = bucket_number(image, h);
     if n == 0 {
         return 0;
     }
-    o + 8 * ((h / 256) as usize % n) + 4
+    o + 8 * start(h, n) + 4
 }
 
 // Stores hash and first place of the next 256 entries from `from` on. Stops at an entry that is not whole.
@@ -42,9 +44,7 @@ fn hash_batch(
         if n == 0 {
             return;
         }
-        let jhash::Hashed::Hash(h) = jhash::name_hash(name_at(image, at, n)) else {
-            return;
-        };
+        let h = key(name_at(image, at, n));
         let place = first_place(image, h);
         hashes[i] = h;
         places[i] = place;

@@ -5,18 +5,13 @@ ghost use Prim.Native.Nat.{_+_, _*_, _<_, _≤_};
 ghost use lib.Dec.{eqb};
 ghost use lib.ListN.{length};
 ghost use Rattle.image.specs.Bytes.{word};
-ghost use Rattle.canonical.specs.steps.HiddenBuckets.{bit, countFrom};
+ghost use Rattle.image.specs.steps.Contracts.{SizeRead};
+ghost use Rattle.canonical.specs.steps.HiddenBuckets.{bit, countAtLeast};
 ghost use Rattle.canonical.specs.steps.InPlace.{wordsAt};
 ghost use Rattle.canonical.specs.steps.Checks.{tableOk, rowsOk, countsMatch};
-ghost use Rattle.canonical.specs.steps.Contracts.{SizeRead, CheckTablePre, CheckRowsPre, WordsPre};
+ghost use Rattle.canonical.specs.steps.Contracts.{CheckTablePre, CheckRowsPre, WordsPre};
 use image::get_u32;
-
-// The word at a place, as a size; bytes past the end count as 0.
-pub(super) fn size_at(image: &[u8], at: usize) -> usize
-    ensures { λ r. ⌜ SizeRead (now (image .entry)) at r ⌝ }
-{
-    get_u32(image, at) as usize
-}
+use image::size_at;
 
 // The number of buckets of table t, by its row.
 fn row_number(image: &[u8], t: usize) -> usize
@@ -125,7 +120,7 @@ pub(super) fn counts_match(image: &[u8], counts: &[u32; 256]) -> bool
 // How many of the n words at o are not 0.
 pub(super) fn count_used(image: &[u8], o: usize, n: usize) -> usize
     requires { ⌜ WordsPre o n ⌝ }
-    ensures { λ r. ⌜ r ≡ countFrom 1 (wordsAt (now (image .entry)) o n) ⌝ }
+    ensures { λ r. ⌜ r ≡ countAtLeast 1 (wordsAt (now (image .entry)) o n) ⌝ }
 {
     let mut used: usize = 0;
     let mut k: usize = 0;

@@ -19,7 +19,7 @@ fn has_match_in(image: &[u8], name: &[u8], h: u32, at: u32, n: u32, id: u32) -> 
     requires { ⌜ TableIn (now image) at n ⌝ }
     ensures { λ r. ⌜ r ≡ anyMatch id (matchesIn (now (image .entry)) (now (name .entry)) h at n) ⌝ }
 {
-    let mut k = start(h, n);
+    let mut k = start(h, n as usize);
     let mut left = n;
     while 0 < left {
         left -= 1;

@@ -10,6 +10,7 @@ use borrow.Author.Tests.{le-leb, lt-leb, eq-eqb, ne-eqb}
 use Rattle.image.specs.Bytes.{word}
 use Rattle.image.specs.Stored.{firstWhole, between}
 use Rattle.image.specs.steps.EntryLength.{wholeLength}
+use Rattle.image.specs.steps.Contracts.{WholeLengthPre, WholeLength}
 use Rattle.image.proofs.EntryArea.{whole-first}
 
 pub length-between : (buf : List ℕ) (at end : ℕ) → at ≤ end → end ≤ length buf → length (between buf at end) ≡ end - at
@@ -146,44 +147,50 @@ not-whole bytes e = go (firstWhole bytes) refl e
 
 -- ---- the same, as code reads it in place: n is the length word
 
-module _ (buf : List ℕ) (at end : ℕ) (h : at ≤ end) (k : end ≤ length buf) where
+module _ {buf : List ℕ} {at end : ℕ} (pre : WholeLengthPre buf at end) where
   size : length (between buf at end) ≡ end - at
-  size = length-between buf at end h k
+  size = length-between buf at end (pre .from) (pre .inside)
 
-  length-there : 8 ≤ end - at → (n : ℕ) → n ≡ word buf (at + 4) → word (between buf at end) 4 ≡ n
-  length-there e n q = word-between buf at end 4 (omega arith) ∙ sym q
+  pub short-there : end - at < 8 → WholeLength buf at end 0
+  short-there e = let s = size in record { is = too-short (between buf at end) (omega arith); small = omega arith }
 
-  pub short-there : end - at < 8 → 0 ≡ wholeLength (between buf at end)
-  short-there e = let s = size in too-short (between buf at end) (omega arith)
+  module _ (e : 8 ≤ end - at) (n : ℕ) (q : n ≡ word buf (at + 4)) where
+    length-there : word (between buf at end) 4 ≡ n
+    length-there = word-between buf at end 4 (omega arith) ∙ sym q
 
-  pub none-there : 8 ≤ end - at → (n : ℕ) → n ≡ word buf (at + 4) → n ≡ 0 → 0 ≡ wholeLength (between buf at end)
-  none-there e n q z = let s = size in no-length (between buf at end) (omega arith) (length-there e n q ∙ z)
+    pub none-there : n ≡ 0 → WholeLength buf at end 0
+    none-there z =
+        let s = size in record { is = no-length (between buf at end) (omega arith) (length-there ∙ z); small = omega arith }
 
-  pub cut-there : 8 ≤ end - at → (n : ℕ) → n ≡ word buf (at + 4) → (n ≡ 0 → ⊥) → end - at < 8 + n → 0 ≡ wholeLength (between buf at end)
-  cut-there e n q z l =
-      let s = size in
-      let w = length-there e n q in
-      cut (between buf at end) (omega arith) (omega arith) (omega arith)
+    module _ (z : n ≡ 0 → ⊥) where
+      pub cut-there : end - at < 8 + n → WholeLength buf at end 0
+      cut-there l =
+          let s = size in
+          let w = length-there in
+          record { is = cut (between buf at end) (omega arith) (omega arith) (omega arith); small = omega arith }
 
-  last-there : 8 ≤ end - at → (n : ℕ) → n ≡ word buf (at + 4) → 8 + n ≤ end - at
-      → getD (between buf at end) (7 + word (between buf at end) 4) 0 ≡ getD buf (at + 7 + n) 0
-  last-there e n q l =
-      let a : at + (7 + n) ≡ at + 7 + n = omega arith in
-      ap (λ (i : ℕ). getD (between buf at end) (7 + i) 0) (length-there e n q)
-      ∙ getD-between buf at end (7 + n) (omega arith)
-      ∙ ap (λ (i : ℕ). getD buf i 0) a
+      module _ (l : 8 + n ≤ end - at) where
+        last-there : getD (between buf at end) (7 + word (between buf at end) 4) 0 ≡ getD buf (at + 7 + n) 0
+        last-there =
+            let a : at + (7 + n) ≡ at + 7 + n = omega arith in
+            ap (λ (i : ℕ). getD (between buf at end) (7 + i) 0) length-there
+            ∙ getD-between buf at end (7 + n) (omega arith)
+            ∙ ap (λ (i : ℕ). getD buf i 0) a
 
-  pub open-there : 8 ≤ end - at → (n : ℕ) → n ≡ word buf (at + 4) → (n ≡ 0 → ⊥) → 8 + n ≤ end - at → (getD buf (at + 7 + n) 0 ≡ 0 → ⊥)
-      → 0 ≡ wholeLength (between buf at end)
-  open-there e n q z l m =
-      let s = size in
-      let w = length-there e n q in
-      let g = last-there e n q l in
-      no-zero (between buf at end) (omega arith) (omega arith) (omega arith) (λ y. m (sym g ∙ y))
+        pub open-there : (getD buf (at + 7 + n) 0 ≡ 0 → ⊥) → WholeLength buf at end 0
+        open-there m =
+            let s = size in
+            let w = length-there in
+            record {
+              is = no-zero (between buf at end) (omega arith) (omega arith) (omega arith) (λ y. m (sym last-there ∙ y));
+              small = omega arith;
+            }
 
-  pub whole-there : 8 ≤ end - at → (n : ℕ) → n ≡ word buf (at + 4) → (n ≡ 0 → ⊥) → 8 + n ≤ end - at → getD buf (at + 7 + n) 0 ≡ 0
-      → n ≡ wholeLength (between buf at end)
-  whole-there e n q z l m =
-      let s = size in
-      let w = length-there e n q in
-      sym w ∙ is-whole (between buf at end) (omega arith) (omega arith) (omega arith) (last-there e n q l ∙ m)
+        pub whole-there : n < 4294967296 → getD buf (at + 7 + n) 0 ≡ 0 → WholeLength buf at end n
+        whole-there small m =
+            let s = size in
+            let w = length-there in
+            record {
+              is = sym w ∙ is-whole (between buf at end) (omega arith) (omega arith) (omega arith) (last-there ∙ m);
+              small = small;
+            }

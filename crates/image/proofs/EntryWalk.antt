@@ -9,7 +9,7 @@ use lib.ListN.{length, getD, take, drop, set}
 use lib.Seq.{getD-set-same, getD-set-other, set-out}
 use lib.Dec.{eqb}
 use borrow.Author.Tests.{eq-eqb, ne-eqb}
-use Rattle.jhash.specs.NameHash.{hashOf}
+use Rattle.jhash.specs.NameHash.{hashOf, key}
 use Rattle.image.specs.Bytes.{word, same}
 use Rattle.image.specs.Tables.{tableOf}
 use Rattle.image.specs.Image.{Entry, backSize, hasName, containsName}
@@ -147,10 +147,10 @@ containsName-cons : (name : List ℕ) (e : Entry) (es : List Entry) → contains
 unfolding containsName
 containsName-cons name e es = refl
 
--- a name of another hash is another name
-pub other-hash : {name sought : List ℕ} {h want : ℕ} → ComparePre name h sought want → (h ≡ want → ⊥) → same name sought ≡ false
-other-hash {name} {sought} p differ =
-    same-false name sought (λ e. differ (p .hash ∙ ap hashOf e ∙ sym (p .wanted (omega (arith, p .short, ap length e)))))
+-- a name of another key is another name
+pub other-key : {name sought : List ℕ} {h want : ℕ} → ComparePre name h sought want → (h ≡ want → ⊥) → same name sought ≡ false
+other-key {name} {sought} p differ =
+    same-false name sought (λ e. differ (p .named ∙ ap key e ∙ sym (p .wanted)))
 
 -- the loop of the walk
 pub record WalkInv (buf : List ℕ) (end entries : ℕ) (counts₀ sought counts : List ℕ) (at left back : ℕ) (contains : Bool) : Type 0 where

@@ -1,28 +1,44 @@
 -- The first empty bucket of a search, bucket by bucket. Assumes nothing.
-use Prim.Native.Nat.{ℕ, suc, _-_, _<_}
+use Prim.Native.Nat.{ℕ, _-_, _<_}
 use native.Mathlib.Omega.{arith}
 use mathlib.Core.Path.{_≡_, sym, ap, _∙_}
 use mathlib.Core.Bool.{Bool, cond}
-use mathlib.Core.List.{List, _∷_}
-use borrow.Author.Tests.{eq-eqb, ne-eqb}
+use mathlib.Core.List.{List}
+use lib.Dec.{eqb}
+use borrow.Author.Tests.{eq-eqb, ne-eqb, lt-ltb}
+use Rattle.jhash.specs.Word.{AllBytes}
+use Rattle.jhash.proofs.WordRead.{word-below}
 use Rattle.image.specs.Tables.{next, probeSequence, firstEmpty}
-use Rattle.image.proofs.Buckets.{probeSequence-step}
+use Rattle.image.specs.steps.Contracts.{BucketIs, offsetAt, hidden, firstEmptyBefore}
+use Rattle.image.proofs.Buckets.{probeSequence-step, firstEmpty-ext}
 
-pub empty-here : (at : ℕ → ℕ) (n left i x : ℕ) → 0 < left → at i ≡ 0 → firstEmpty at (probeSequence n left i) ≡ x → i ≡ x
-unfolding firstEmpty
-empty-here at n left i x h z p =
-    sym
-    (sym p ∙ ap (λ (l : List ℕ). firstEmpty at l) (probeSequence-step n left i h)
-    ∙ ap (λ (b : Bool). cond b i (firstEmpty at (probeSequence n (left - 1) (next n i)))) (eq-eqb (at i) 0 z))
+-- the first empty bucket is to be found among the `left` buckets from i on
+pub record Probing (at : ℕ → ℕ) (n k i left : ℕ) : Type 0 where
+  pub inside : i < n
+  pub same : firstEmpty at (probeSequence n left i) ≡ firstEmpty at (probeSequence n n k)
 
-pub empty-later : (at : ℕ → ℕ) (n left i x : ℕ) → 0 < left → (at i ≡ 0 → ⊥) → firstEmpty at (probeSequence n left i) ≡ x
-    → firstEmpty at (probeSequence n (left - 1) (next n i)) ≡ x
-unfolding firstEmpty
-empty-later at n left i x h z p =
-    sym (ap (λ (b : Bool). cond b i (firstEmpty at (probeSequence n (left - 1) (next n i)))) (ne-eqb (at i) 0 z))
-    ∙ sym (ap (λ (l : List ℕ). firstEmpty at l) (probeSequence-step n left i h))
-    ∙ p
+module _ {at : ℕ → ℕ} {n k i left : ℕ} (p : Probing at n k i left) where
+  -- there is no bucket left
+  pub probing-none : left ≡ 0 → BucketIs (firstEmpty at (probeSequence n n k)) n 0
+  unfolding firstEmpty probeSequence
+  probing-none z = record { is = rw z at (p .same); inside = omega (arith, p .inside) }
 
-pub empty-none : (at : ℕ → ℕ) (n i x : ℕ) → firstEmpty at (probeSequence n 0 i) ≡ x → 0 ≡ x
-unfolding firstEmpty probeSequence
-empty-none at n i x p = p
+  -- one turn: the buckets from i on, by bucket i and those after it
+  module _ (more : 0 < left) where
+    turn : cond (eqb (at i) 0) i (firstEmpty at (probeSequence n (left - 1) (next n i))) ≡ firstEmpty at (probeSequence n n k)
+    unfolding firstEmpty
+    turn = sym (ap (firstEmpty at) (probeSequence-step n left i more)) ∙ p .same
+
+    pub probing-here : at i ≡ 0 → BucketIs (firstEmpty at (probeSequence n n k)) n i
+    probing-here z = record { is = rw (eq-eqb (at i) 0 z) at turn; inside = p .inside }
+
+    -- the next bucket is j
+    pub probing-next : (at i ≡ 0 → ⊥) → (j : ℕ) → BucketIs (next n i) n j → Probing at n k j (left - 1)
+    probing-next d j e = record { inside = e .inside; same = rw (e .is) (rw (ne-eqb (at i) 0 d) at turn) }
+
+-- no word is hidden from 4,294,967,296 on
+pub none-hidden : (buf : List ℕ) (o n k : ℕ) → AllBytes buf → k < n
+    → firstEmptyBefore buf o n k 4294967296 ≡ firstEmpty (offsetAt buf o) (probeSequence n n k)
+none-hidden buf o n k bytes h =
+    firstEmpty-ext (λ (i : ℕ). hidden 4294967296 (offsetAt buf o i)) (offsetAt buf o) n
+    (λ i l. ap (λ (b : Bool). cond b (offsetAt buf o i) 0) (lt-ltb (offsetAt buf o i) 4294967296 (word-below buf _ bytes))) n k h

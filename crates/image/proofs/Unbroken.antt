@@ -11,6 +11,7 @@ use lib.ListN.{length}
 use Rattle.image.specs.Bytes.{word}
 use Rattle.image.proofs.Bools.{or-false-first, or-false-second}
 use Rattle.image.specs.Stored.{broken}
+use Rattle.image.specs.steps.Contracts.{LessOne}
 
 -- the cases of `broken`, for a length word w
 module _ (image : List ℕ) (at : ℕ) where
@@ -33,11 +34,11 @@ module _ (image : List ℕ) (at : ℕ) where
       ]
 
   pub broken-rest : (w r : ℕ) → at + 8 ≤ length image → length image < 18446744073709551615 → w ≡ word image (at + 4)
-      → (w ≡ 0 → r ≡ 18446744073709551615) → (0 < w → r ≡ w - 1) → ltb (length image - (at + 8)) r ≡ broken image at
-  broken-rest w r h l e z p =
+      → LessOne w r → ltb (length image - (at + 8)) r ≡ broken image at
+  broken-rest w r h l e less =
       elim (ℕ-discrete w 0) [
-        | yes q ↦ rw (z q) (lt-ltb (length image - (at + 8)) 18446744073709551615 (omega (arith, l)) ∙ broken-none w h e q)
-        | no q ↦ rw (p (omega (arith, q))) (shifted (w - 1) h ∙ broken-name w h e q)
+        | yes q ↦ rw (less .none q) (lt-ltb (length image - (at + 8)) 18446744073709551615 (omega (arith, l)) ∙ broken-none w h e q)
+        | no q ↦ rw (less .some (omega (arith, q))) (shifted (w - 1) h ∙ broken-name w h e q)
       ]
 
 pub record Unbroken (image : List ℕ) (at : ℕ) : Type 0 where

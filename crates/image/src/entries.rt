@@ -1,21 +1,21 @@
 // The entries in some bytes: whether the one at a place is broken, or whole, its name, and a walk over them that counts
 // them by table and says whether one has a given name.
 ghost use mathlib.Core.Path.{_≡_};
-ghost use Prim.Native.Nat.{_+_, _-_, _<_, _≤_, max};
-ghost use lib.ListN.{length, getD, take, drop};
-ghost use Rattle.jhash.specs.NameHash.{hashOf};
+ghost use Prim.Native.Nat.{_<_, max};
+ghost use lib.ListN.{getD};
 ghost use Rattle.image.specs.Bytes.{same};
 ghost use Rattle.image.specs.Tables.{tableOf};
-ghost use Rattle.image.specs.Stored.{broken, between};
+ghost use Rattle.image.specs.Stored.{broken};
 ghost use Rattle.image.specs.Tally.{raisedCounts};
-ghost use Rattle.image.specs.steps.EntryLength.{wholeLength};
+ghost use Rattle.image.specs.steps.Contracts.{LessOne, WholeLengthPre, WholeLength, NameAtPre, NameRead};
 ghost use Rattle.image.specs.steps.Walk.{ComparePre, WalkPre, WalkedEntries};
 use super::HEAD_SIZE;
+use jhash::key;
 use jhash::word::word;
 
 // A length word minus 1; of 0 the largest number of all, which exceeds the length of any image.
 fn less_one(len: u32) -> u64
-    ensures { λ r. ⌜ ((len ≡ 0 → r ≡ 18446744073709551615) × (0 < len → r ≡ len - 1)) ⌝ }
+    ensures { λ r. ⌜ LessOne len r ⌝ }
 {
     std::num::wrapping_sub_u64(len as u64, 1)
 }
@@ -60,8 +60,8 @@ pub struct Walked {
 
 // The length word of the entry at `at`, 0 where it is not whole before `end`.
 pub fn whole_length(buf: &[u8], at: usize, end: usize) -> usize
-    requires { ⌜ (at ≤ end) × (end ≤ length (now buf)) ⌝ }
-    ensures { λ r. ⌜ (r ≡ wholeLength (between (now (buf .entry)) at end)) × (r < 4294967296) ⌝ }
+    requires { ⌜ WholeLengthPre (now buf) at end ⌝ }
+    ensures { λ r. ⌜ WholeLength (now (buf .entry)) at end r ⌝ }
 {
     if end - at < 8 {
         return 0;
@@ -81,24 +81,14 @@ pub fn whole_length(buf: &[u8], at: usize, end: usize) -> usize
 
 // The name of the whole entry at `at`, whose length word is n.
 pub fn name_at<'a>(buf: &'a [u8], at: usize, n: usize) -> &'a [u8]
-    requires { ⌜ (at + (8 + n) ≤ length (now buf)) × (1 ≤ n) ⌝ }
-    ensures { λ r. ⌜ (now r ≡ take (n - 1) (drop (at + 8) (now (buf .entry)))) × (length (now r) ≡ n - 1) ⌝ }
+    requires { ⌜ NameAtPre (now buf) at n ⌝ }
+    ensures { λ r. ⌜ NameRead (now (buf .entry)) at n (now r) ⌝ }
 {
     &buf[at + 8..at + 7 + n]
 }
 
-// The hash of a name that is sought; 0 for one that is too long for an entry.
-fn sought_hash(sought: &[u8]) -> u32
-    ensures { λ r. ⌜ (length (now (sought .entry)) < 4294967295 → r ≡ hashOf (now (sought .entry))) ⌝ }
-{
-    let jhash::Hashed::Hash(h) = jhash::name_hash(sought) else {
-        return 0;
-    };
-    h
-}
-
-// Whether an entry's name, which has hash h, is the one that is sought. The entry is hashed for the counts anyway, so
-// its bytes are compared only where the hashes are equal.
+// Whether an entry's name, whose key is h, is the one that is sought, whose key is `want`. The entry is hashed for the
+// counts anyway, so its bytes are compared only where the keys are equal.
 fn is_sought(name: &[u8], h: u32, sought: &[u8], want: u32) -> bool
     requires { ⌜ ComparePre (now name) h (now sought) want ⌝ }
     ensures { λ r. ⌜ r ≡ same (now (name .entry)) (now (sought .entry)) ⌝ }
@@ -121,7 +111,7 @@ pub fn walk(buf: &[u8], end: usize, entries: u32, counts: &mut [u32; 256], sough
     let mut left = entries;
     let mut back: u64 = 0;
     let mut contains = false;
-    let want = sought_hash(sought);
+    let want = key(sought);
     while left > 0 {
         let n = whole_length(buf, at, end);
         if n == 0 {
@@ -133,13 +123,7 @@ pub fn walk(buf: &[u8], end: usize, entries: u32, counts: &mut [u32; 256], sough
         }
         let name = name_at(buf, at, n);
         back = larger(back, word(buf, at) as u64 + 1);
-        let jhash::Hashed::Hash(h) = jhash::name_hash(name) else {
-            return Walked {
-                whole: false,
-                back: 0,
-                contains: false,
-            };
-        };
+        let h = key(name);
         raise(&mut *counts, h);
         contains = contains | is_sought(name, h, sought, want);
         at += 8 + n;

@@ -3,6 +3,7 @@ ghost use mathlib.Core.Path.{_≡_};
 ghost use Prim.Native.Nat.{_+_, _*_, _≤_};
 ghost use lib.ListN.{length, drop};
 ghost use Rattle.image.specs.Bytes.{word, same};
+ghost use Rattle.image.specs.steps.Contracts.{SameFromPre};
 use jhash::word::word;
 
 // The two words at `at` as one number, the second above the first. The compiler makes one load of it.
@@ -15,7 +16,7 @@ fn word8(s: &[u8], at: usize) -> u64
 
 // Are two byte strings of one length equal from `from` on?
 fn same_from(a: &[u8], b: &[u8], from: usize) -> bool
-    requires { ⌜ (length (now a) ≡ length (now b)) × (from ≤ length (now a)) ⌝ }
+    requires { ⌜ SameFromPre (now a) (now b) from ⌝ }
     ensures { λ r. ⌜ r ≡ same (drop from (now (a .entry))) (drop from (now (b .entry))) ⌝ }
 {
     let mut i = from;
@@ -30,7 +31,7 @@ fn same_from(a: &[u8], b: &[u8], from: usize) -> bool
 
 // The same, with four bytes at once if there are as many: for the last bytes, fewer than eight.
 fn same_last(a: &[u8], b: &[u8], from: usize) -> bool
-    requires { ⌜ (length (now a) ≡ length (now b)) × (from ≤ length (now a)) ⌝ }
+    requires { ⌜ SameFromPre (now a) (now b) from ⌝ }
     ensures { λ r. ⌜ r ≡ same (drop from (now (a .entry))) (drop from (now (b .entry))) ⌝ }
 {
     if a.len() - from < 4 {

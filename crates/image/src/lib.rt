@@ -6,6 +6,7 @@ ghost use lib.ListN.{length, set};
 ghost use lib.Seq.{sets};
 ghost use Rattle.image.specs.Bytes.{word, le32};
 ghost use Rattle.image.specs.Image.{flagWord};
+ghost use Rattle.image.specs.steps.Contracts.{SizeRead};
 use jhash::word::word;
 use jhash::word::word_near_end;
 use store::store_word;
@@ -48,6 +49,13 @@ pub fn get_u32(s: &[u8], at: usize) -> u32
         return word_near_end(s, at);
     }
     word(s, at)
+}
+
+// The same as a size.
+pub fn size_at(s: &[u8], at: usize) -> usize
+    ensures { λ r. ⌜ SizeRead (now (s .entry)) at r ⌝ }
+{
+    get_u32(s, at) as usize
 }
 
 // A byte stored at `at`; past the end nothing is stored.

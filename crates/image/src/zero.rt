@@ -2,7 +2,8 @@
 ghost use mathlib.Core.Path.{_≡_};
 ghost use Prim.Native.Nat.{_+_, _≤_, _<_};
 ghost use lib.ListN.{length, take, drop};
-ghost use Rattle.image.specs.Zero.{hasZero, beforeZero};
+ghost use Rattle.image.specs.Zero.{hasZero};
+ghost use Rattle.image.specs.steps.Contracts.{LengthBeforeZero};
 
 // Is one of the four bytes at `at` zero? The compiler looks at all four at once.
 fn zero_in_four(s: &[u8], at: usize) -> bool
@@ -55,7 +56,7 @@ pub fn has_zero(name: &[u8]) -> bool
 
 // How many bytes of a name precede its first zero byte; all of them where it has none.
 pub fn length_before_zero(name: &[u8]) -> usize
-    ensures { λ r. ⌜ (r ≡ length (beforeZero (now (name .entry)))) × (r ≤ length (now (name .entry))) ⌝ }
+    ensures { λ r. ⌜ LengthBeforeZero (now (name .entry)) r ⌝ }
 {
     let mut i: usize = 0;
     while i < name.len() {

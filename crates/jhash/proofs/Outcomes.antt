@@ -2,7 +2,7 @@
 -- Assumes nothing.
 use mathlib.Core.Path.{_≡_, sym, ap, _∙_}
 use mathlib.Core.List.{List, [], _∷_, _++_}
-use mathlib.Core.Bool.{true, false}
+use mathlib.Core.Bool.{Bool, true, false, cond}
 use Prim.Native.Nat.{ℕ, zero, suc, _+_, _≤_, _<_, _^_}
 use native.Mathlib.Omega.{arith}
 use native.Mathlib.Decide.{decLt}
@@ -11,7 +11,7 @@ use lib.Dec.{ltb}
 use lib.ListN.{length, drop}
 use Rattle.jhash.specs.Lookup3.{added, mix, final, hashBlocks, hashRest, initial}
 use Rattle.jhash.specs.Outcome.{value, refusal}
-use Rattle.jhash.specs.NameHash.{nameHash, hashOf, outcome, hashOutcome}
+use Rattle.jhash.specs.NameHash.{nameHash, hashOf, outcome, hashOutcome, key}
 use Rattle.jhash.specs.declared.Words.{Words}
 use Rattle.jhash.specs.declared.Hashed.{Hashed}
 use Rattle.jhash.specs.declared.Hashed.the-variants.{Hash, Refused}
@@ -86,3 +86,13 @@ result-refused name start r promise is =
           absurd (zero-one z)
       | no long ↦ omega arith
     ]
+
+-- ---- the key of a name, short or too long
+
+pub key-short : (name : List ℕ) → length name < 4294967295 → key name ≡ hashOf name
+unfolding key
+key-short name h = ap (λ (t : Bool). cond t (hashOf name) 0) (lt-ltb (length name) 4294967295 h)
+
+pub key-long : (name : List ℕ) → 4294967295 ≤ length name → key name ≡ 0
+unfolding key
+key-long name h = ap (λ (t : Bool). cond t (hashOf name) 0) (le-ltb (length name) 4294967295 h)

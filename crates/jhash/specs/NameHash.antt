@@ -27,3 +27,7 @@ outcome Refused = refusal 9
 -- The rule: refusal 9 when the name has 4,294,967,295 bytes or more, otherwise its hash.
 unfoldable pub hashOutcome : List ℕ → ℕ → Outcome ℕ
 hashOutcome name start = cond (ltb (length name) 4294967295) (value (nameHash name start)) (refusal 9)
+
+-- The key of a name, by which names are told apart: its hash, 0 where it is too long to have one.
+unfoldable pub key : List ℕ → ℕ
+key name = cond (ltb (length name) 4294967295) (hashOf name) 0

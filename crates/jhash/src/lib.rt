@@ -7,7 +7,7 @@ ghost use lib.ListN.{length};
 ghost use Rattle.jhash.specs.Lookup3.{sub32, rotl32, plus, added, mix, finalWord, final};
 ghost use Rattle.jhash.specs.Lookup3.{equalWords, initialWord, hashRest};
 ghost use Rattle.jhash.specs.steps.Rounds.{mixRound, finalStep};
-ghost use Rattle.jhash.specs.NameHash.{outcome, hashOutcome};
+ghost use Rattle.jhash.specs.NameHash.{outcome, hashOutcome, key};
 use word::word;
 use word::word_near_end;
 
@@ -97,7 +97,7 @@ fn minus(x: u32, y: u32) -> u32
 // One round of mixing; the words change their names for the next round. The rotation comes first and the sum last, and
 // the compiler keeps that order: the next round waits for the rotated word and the difference, not for the sum.
 fn mix_round(w: Words, k: u32) -> Words
-    requires { ⌜ (0 < k) × (k < 32) ⌝ }
+    requires { ⌜ k < 32 ⌝ }
     ensures { λ r. ⌜ r ≡ mixRound w k ⌝ }
 {
     let rotated = rotate_left(w.c, k);
@@ -119,7 +119,7 @@ fn jhash_mix(w: Words) -> Words
 
 // The word that a finishing step changes.
 fn final_word(w: Words, k: u32) -> u32
-    requires { ⌜ (0 < k) × (k < 32) ⌝ }
+    requires { ⌜ k < 32 ⌝ }
     ensures { λ r. ⌜ r ≡ finalWord (w .c) (w .b) k ⌝ }
 {
     minus(w.c ^ w.b, rotate_left(w.b, k))
@@ -127,7 +127,7 @@ fn final_word(w: Words, k: u32) -> u32
 
 // One finishing step; the words change their names for the next step.
 fn final_step(w: Words, k: u32) -> Words
-    requires { ⌜ (0 < k) × (k < 32) ⌝ }
+    requires { ⌜ k < 32 ⌝ }
     ensures { λ r. ⌜ r ≡ finalStep w k ⌝ }
 {
     Words {
@@ -232,4 +232,14 @@ pub fn name_hash(name: &[u8]) -> Hashed
         return Hashed::Refused;
     }
     Hashed::Hash(hash_from(name, initial_word(name, 0)))
+}
+
+// The key of a name: its hash, 0 where it is too long to have one.
+pub fn key(name: &[u8]) -> u32
+    ensures { λ r. ⌜ r ≡ key (now (name .entry)) ⌝ }
+{
+    match name_hash(name) {
+        Hashed::Hash(h) => h,
+        Hashed::Refused => 0,
+    }
 }

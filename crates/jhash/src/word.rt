@@ -5,17 +5,18 @@ ghost use mathlib.Core.Path.{_≡_};
 ghost use Prim.Native.Nat.{_+_, _<_, _≤_};
 ghost use lib.ListN.{length, getD};
 ghost use Rattle.jhash.specs.Word.{word};
+ghost use Rattle.jhash.specs.steps.Reads.{ByteRead};
 
 // A byte as a word.
 pub fn wide(x: u8) -> u32
-    ensures { λ r. ⌜ (r ≡ x) × (r < 256) ⌝ }
+    ensures { λ r. ⌜ ByteRead x r ⌝ }
 {
     x as u32
 }
 
 // The byte at `at`, 0 past the end.
 fn byte_or_zero(s: &[u8], at: usize) -> u32
-    ensures { λ r. ⌜ (r ≡ getD (now (s .entry)) at 0) × (r < 256) ⌝ }
+    ensures { λ r. ⌜ ByteRead (getD (now (s .entry)) at 0) r ⌝ }
 {
     if at < s.len() { wide(s[at]) } else { 0 }
 }

@@ -10,15 +10,15 @@ use Rattle.jhash.specs.Word.{AllBytes}
 use Rattle.reader.specs.Open.{opening}
 use Rattle.canonical.specs.Canonical.{canonical}
 use Rattle.canonical.proofs.Theorem.{theorem}
-use Rattle.one_to_one.specs.OneToOne.{Failure, firstIn, oneToOne}
+use Rattle.one_to_one.specs.OneToOne.{Failure, firstFailureIn, oneToOne}
 
 pub refused : (img : List ℕ) → canonical img ≡ false → oneToOne img ≡ refusal 17
 unfolding oneToOne
-refused img h = ap (λ (t : Bool). cond t (value (firstIn img)) (refusal 17)) h
+refused img h = ap (λ (t : Bool). cond t (value (firstFailureIn img)) (refusal 17)) h
 
-pub answered : (img : List ℕ) → canonical img ≡ true → oneToOne img ≡ value (firstIn img)
+pub answered : (img : List ℕ) → canonical img ≡ true → oneToOne img ≡ value (firstFailureIn img)
 unfolding oneToOne
-answered img h = ap (λ (t : Bool). cond t (value (firstIn img)) (refusal 17)) h
+answered img h = ap (λ (t : Bool). cond t (value (firstFailureIn img)) (refusal 17)) h
 
 -- what the answer says of the image where it is not refused
 pub accepted : (img : List ℕ) (a : Option Failure) → oneToOne img ≡ value a → canonical img ≡ true
@@ -28,7 +28,7 @@ accepted img a h = go (canonical img) refl
     go true e = refl
     go false e = let r = refused img e in let z : _≡_ {A = ℕ} 0 1 = cc in absurd (omega arith)
 
-pub first-is : (img : List ℕ) (a : Option Failure) → oneToOne img ≡ value a → firstIn img ≡ a
+pub first-is : (img : List ℕ) (a : Option Failure) → oneToOne img ≡ value a → firstFailureIn img ≡ a
 first-is img a h = let r = answered img (accepted img a h) in cc
 
 -- a canonical image opens

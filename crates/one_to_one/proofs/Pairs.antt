@@ -26,7 +26,7 @@ use Rattle.canonical.specs.Canonical.{canonical, putsIn, modeIn}
 use Rattle.canonical.specs.steps.Made.{Made}
 use Rattle.canonical.proofs.ListImages.{words, accepted-all, made-closes, made-room}
 use Rattle.canonical.proofs.ReadBack.{made-puts, made-mode, canonical-yes}
-use Rattle.one_to_one.specs.OneToOne.{isId, isName, asked, kindOf, kindIn, Failure, firstFailure, firstIn, oneToOne}
+use Rattle.one_to_one.specs.OneToOne.{isId, isName, asked, kindOf, kindIn, Failure, firstFailure, firstFailureIn, oneToOne}
 use Rattle.one_to_one.specs.theorems.Theorem.{Paired, FindsOther, GivesOther, Fails, Inverse, kindAmong, SameId, SameName, OneId, OneName}
 use Rattle.one_to_one.proofs.Answers.{answered, accepted, first-is}
 use Rattle.one_to_one.proofs.Failures.{none-fails, all-pass, same-kinds}
@@ -79,11 +79,11 @@ module _ (img : List ℕ) (e : Entry) where
 
 -- yes, by the entries of the image
 pub yes-paired : (img : List ℕ) → oneToOne img ≡ value none → All (Paired img) (putsIn img)
-unfolding firstIn
+unfolding firstFailureIn
 yes-paired img h = all-map (paired img) (putsIn img) (all-pass (kindIn img) headSize (putsIn img) (first-is img none h))
 
 pub paired-yes : (img : List ℕ) → canonical img ≡ true → All (Paired img) (putsIn img) → oneToOne img ≡ value none
-unfolding firstIn
+unfolding firstFailureIn
 paired-yes img own all =
     answered img own
     ∙ ap {B = Outcome (Option Failure)} value (none-fails (kindIn img) headSize (putsIn img) (all-map (paired-zero img) (putsIn img) all))
@@ -115,7 +115,7 @@ module _ (img : List ℕ) (m : Made img) where
       go Oneway h = refl
 
   pub by-puts : oneToOne img ≡ value (firstFailure (kindAmong (m .mode) (m .puts)) headSize (m .puts))
-  unfolding firstIn
+  unfolding firstFailureIn
   by-puts =
       answered img (canonical-yes img m)
       ∙ ap {B = Outcome (Option Failure)} value

@@ -16,7 +16,7 @@ use Rattle.canonical.specs.Canonical.{canonical}
 use Rattle.canonical.specs.steps.Made.{Storable}
 use Rattle.one_to_one.specs.OneToOne.{Failure, firstFailure}
 use Rattle.one_to_one.specs.theorems.Theorem.{kindAmong}
-use Rattle.one_to_one.specs.examples.Rows.{Row, Answers, rows, NoBytes}
+use Rattle.one_to_one.specs.examples.Rows.{Row, Answers, oneToOneRows, NoBytes}
 use Rattle.one_to_one.proofs.Answers.{refused, never-refused}
 use Rattle.one_to_one.proofs.Pairs.{by-puts}
 
@@ -36,7 +36,7 @@ holds r c =
     by-puts (image (r .mode) (r .puts)) (record { mode = r .mode; puts = r .puts; each = each; fits = c .1; is = refl })
     ∙ ap {B = Outcome (Option Failure)} value (c .2)
 
-computed : All Computed rows
+computed : All Computed oneToOneRows
 unfolding entriesSize backSize hasZero firstFailure ofName ofId filter same
 computed = (
   (tt, lit≤ tt, refl),
@@ -64,8 +64,8 @@ computed = (
   ),
 )
 
-pub rows-hold : All Answers rows
-rows-hold = all-map holds rows computed
+pub rows-hold : All Answers oneToOneRows
+rows-hold = all-map holds oneToOneRows computed
 
 -- no byte at all does not open
 pub no-bytes : NoBytes

@@ -21,7 +21,7 @@ use Rattle.canonical.specs.Canonical.{putsIn}
 use Rattle.canonical.specs.steps.Made.{Made}
 use Rattle.canonical.proofs.ListImages.{list-made, list-puts, list-mode}
 use Rattle.canonical.proofs.ReadBack.{made-puts, made-mode, canonical-only}
-use Rattle.one_to_one.specs.OneToOne.{kindIn, Failure, firstFailure, firstIn, oneToOne}
+use Rattle.one_to_one.specs.OneToOne.{kindIn, Failure, firstFailure, firstFailureIn, oneToOne}
 use Rattle.one_to_one.specs.theorems.Theorem.{Fails, First, OneId, OneName, OfList, Theorem}
 use Rattle.one_to_one.proofs.Answers.{refused, answered, accepted, first-is}
 use Rattle.one_to_one.proofs.Failures.{failure, after-passed}
@@ -96,7 +96,7 @@ module _ (mode : Mode) (repeats : Repeats) (buffer : List ℕ) (cs : List Call) 
       }
 
 pub one-to-one : Theorem
-unfolding firstIn firstFailure
+unfolding firstFailureIn firstFailure
 one-to-one =
     record {
       refused = refused;

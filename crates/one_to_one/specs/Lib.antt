@@ -2,4 +2,3 @@
 pub mod OneToOne
 pub mod theorems
 pub mod examples
-pub mod steps

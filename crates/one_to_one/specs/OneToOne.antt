@@ -51,12 +51,12 @@ firstFailure kind o [] = none
 firstFailure kind o (e ∷ es) =
     cond (eqb (kind e) 0) (firstFailure kind (o + entrySize e) es) (some (record { kind = kind e; offset = o }))
 
-unfoldable pub firstIn : List ℕ → Option Failure
-firstIn img = firstFailure (kindIn img) headSize (putsIn img)
+unfoldable pub firstFailureIn : List ℕ → Option Failure
+firstFailureIn img = firstFailure (kindIn img) headSize (putsIn img)
 
 -- the answer: refused with 17 where 02 (ix) says no; otherwise yes, or the first failure
 unfoldable pub oneToOne : List ℕ → Outcome (Option Failure)
-oneToOne img = cond (canonical img) (value (firstIn img)) (refusal 17)
+oneToOne img = cond (canonical img) (value (firstFailureIn img)) (refusal 17)
 
 -- the number and the values of each case of the answer
 abbrev pub oneToOneOf : OneToOne → Outcome (Option Failure)

@@ -5,11 +5,13 @@ ghost use Rattle.jhash.specs.Outcome.{value};
 ghost use Rattle.image.specs.declared.Mode.the-variants.{Twoway, Oneway};
 ghost use Rattle.reader.specs.Lookup.{lookup};
 ghost use Rattle.lookup_laws.specs.Answer.{foundId, nameGiven};
-ghost use Rattle.one_to_one.specs.OneToOne.{isId, isName, asked, firstIn, oneToOne, oneToOneOf};
-ghost use Rattle.one_to_one.specs.steps.Contracts.{CanonicalImage};
+ghost use Rattle.canonical.specs.steps.Contracts.{CanonicalImage};
+ghost use Rattle.one_to_one.specs.OneToOne.{isId, isName, asked, firstFailureIn, oneToOne, oneToOneOf};
+use image::HEAD_SIZE;
 use image::entries::name_at;
 use image::equality::same;
 use image::get_u32;
+use image::size_at;
 use reader::Named;
 use reader::Opened;
 use reader::ToId;
@@ -51,13 +53,13 @@ fn gives_name(image: &[u8], twoway: bool, id: u32, name: &[u8]) -> bool
 // The first of the n entries of a canonical image that fails.
 fn first_failure(image: &[u8], n: u32) -> OneToOne
     requires { ⌜ CanonicalImage (now image) n ⌝ }
-    ensures { λ r. ⌜ oneToOneOf r ≡ value (firstIn (now (image .entry))) ⌝ }
+    ensures { λ r. ⌜ oneToOneOf r ≡ value (firstFailureIn (now (image .entry))) ⌝ }
 {
     let twoway = get_u32(image, 8) == 0;
-    let mut at: usize = 2072;
+    let mut at = HEAD_SIZE;
     let mut left = n;
     while left > 0 {
-        let len = get_u32(image, at + 4) as usize;
+        let len = size_at(image, at + 4);
         let name = name_at(image, at, len);
         let id = get_u32(image, at);
         if !finds_id(image, name, id) {

@@ -1,3 +1,2 @@
 -- Laws of packed names.
 pub mod NameEnds
-pub mod Keys

@@ -1,4 +1,3 @@
 -- Packed names: end to end in one buffer, with the list of their end offsets.
 pub mod Names
-pub mod Keys
 pub mod steps

@@ -5,9 +5,7 @@ ghost use mathlib.Core.List.{[]};
 ghost use Prim.Native.Nat.{_<_};
 ghost use lib.ListN.{length, getD};
 ghost use Rattle.packed.specs.Names.{names, invalidEnds, beginOf};
-ghost use Rattle.packed.specs.Keys.{key};
 ghost use Rattle.packed.specs.steps.Contracts.{NameOfPre};
-use jhash::Hashed;
 
 // Do the ends fall, or pass `size` bytes? The loop reads each of them and ends at none, so the compiler makes no branch
 // of the tests.
@@ -42,14 +40,4 @@ pub fn name_of<'a>(bytes: &'a [u8], ends: &[u64], i: usize) -> &'a [u8]
     let start = begin_of(ends, i) as usize;
     let end = ends[i] as usize;
     &bytes[start..end]
-}
-
-// The key of a name: its hash, 0 where it is too long to have one.
-pub fn key(name: &[u8]) -> u32
-    ensures { λ r. ⌜ r ≡ key (now (name .entry)) ⌝ }
-{
-    match jhash::name_hash(name) {
-        Hashed::Hash(h) => h,
-        Hashed::Refused => 0,
-    }
 }

@@ -3,11 +3,12 @@ ghost use mathlib.Core.Path.{_≡_};
 ghost use Prim.Native.Nat.{ℕ, _+_, _/_, _<_, _≤_};
 ghost use mathlib.Core.List.{List};
 ghost use lib.ListN.{length};
-ghost use Rattle.image.specs.Tables.{start};
+ghost use Rattle.image.specs.steps.Contracts.{BucketIs};
 ghost use Rattle.reader.specs.Lookup.{nothing, probeEntry, probeBucket, searchTable, lookupHash, lookup};
 ghost use Rattle.reader.specs.Cases.{probeOf, lookupOf};
 ghost use Rattle.reader.specs.steps.Resume.{searchRest, bucketAfter, lookupFrom};
 ghost use Rattle.reader.specs.steps.Search.{TableIn, RestPre, EarlyMissPre, FirstZero, TableFound};
+ghost use Rattle.reader.specs.steps.Search.{BucketAfterPre};
 use super::Found;
 use super::Hit;
 use super::Probe;
@@ -138,7 +139,7 @@ fn search(image: &[u8], name: &[u8], h: u32, at: u32, n: u32) -> ToId
     requires { ⌜ TableIn (now image) at n ⌝ }
     ensures { λ r. ⌜ lookupOf r ≡ searchTable (now (image .entry)) (now (name .entry)) h at n ⌝ }
 {
-    let k = start(h, n);
+    let k = start(h, n as usize);
     let ended_after = early_miss(image, h, at, n as usize, k);
     if ended_after != 0 {
         return ToId::Nothing {
@@ -199,8 +200,8 @@ pub fn to_id(image: &[u8], name: &[u8]) -> ToId
 
 // The bucket that a search in a table of n buckets reads after c others.
 pub fn bucket_after(h: u32, c: u32, n: u32) -> u32
-    requires { ⌜ (0 < n) × (h / 256 + c < 4294967296) ⌝ }
-    ensures { λ r. ⌜ (r ≡ bucketAfter h n c) × (r < n) ⌝ }
+    requires { ⌜ BucketAfterPre h c n ⌝ }
+    ensures { λ r. ⌜ BucketIs (bucketAfter h n c) n r ⌝ }
 {
     (h / 256 + c) % n
 }

@@ -7,7 +7,7 @@ ghost use lib.ListN.{length};
 ghost use Rattle.image.specs.Head.{backLeaves};
 ghost use Rattle.reader.specs.Open.{hasLetters, someLeaves, opening};
 ghost use Rattle.reader.specs.Cases.{openedOf};
-ghost use Rattle.reader.specs.steps.Tables.{TableAdded, AllTables};
+ghost use Rattle.reader.specs.steps.Tables.{TableAdded, AllTables, SomeLeavesPre};
 use super::Opened;
 use image::HEAD_SIZE;
 use jhash::word::word;
@@ -103,7 +103,7 @@ fn some_leaves_by_each(image: &[u8]) -> bool
 // The same, where the bitwise or of the slacks is known. From 2^63 on it decides nothing: a table that leaves may have
 // offset 0.
 fn some_leaves(image: &[u8], slacks: u64) -> bool
-    requires { ⌜ (2072 ≤ length (now image)) × (slacks < 2 ^ 63 → someLeaves (now image) 0 256 ≡ false) ⌝ }
+    requires { ⌜ SomeLeavesPre (now image) slacks ⌝ }
     ensures { λ r. ⌜ r ≡ someLeaves (now (image .entry)) 0 256 ⌝ }
 {
     if 9223372036854775808 <= slacks {

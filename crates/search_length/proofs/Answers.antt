@@ -5,24 +5,21 @@ use native.Mathlib.Decide.{decLt}
 use mathlib.Core.Path.{_≡_, refl, sym, ap, ap₂, _∙_}
 use mathlib.Core.Bool.{Bool, true, false, cond}
 use mathlib.Core.List.{List}
-use lib.ListN.{length, drop, replicate}
 use lib.Dec.{eqb}
 use borrow.Author.Tests.{eq-eqb, ne-eqb}
 use Rattle.jhash.specs.Outcome.{Outcome, value, refusal}
-use Rattle.image.specs.Image.{headSize}
-use Rattle.image.specs.Stored.{entriesIn}
-use Rattle.image.proofs.EntryArea.{length-entriesIn}
 use Rattle.image.proofs.Bools.{false-not-true}
 use Rattle.reader.specs.Open.{opening}
-use Rattle.canonical.specs.Canonical.{canonical, counted, putsIn}
-use Rattle.search_length.specs.SearchLengths.{totalOf, lengthsFrom}
+use Rattle.canonical.specs.Canonical.{canonical, counted}
+use Rattle.canonical.specs.steps.Contracts.{CanonicalImage}
+use Rattle.canonical.proofs.EntriesAhead.{puts-number}
 use Rattle.search_length.specs.declared.Mean.{Mean}
 use Rattle.search_length.specs.steps.Contracts.{Counted, Lengths}
-use Rattle.search_length.specs.Average.{entryCount, total, firstRefusal, averageRefusal, averageOf, averaging, lengthsOf, afterLengths}
+use Rattle.search_length.specs.Average.{entryCount, firstRefusal, averageRefusal, averageOf, averaging, lengthsOf, afterLengths}
 
--- no refusal: there are entries
-pub first-zero : (own : Bool) (n : ℕ) → firstRefusal own n ≡ 0 → 0 < n
-first-zero true n e = go (eqb n 0) refl e
+-- no refusal: the image is canonical, and there are entries
+pub first-zero : (own : Bool) (n : ℕ) → firstRefusal own n ≡ 0 → (own ≡ true) × (0 < n)
+first-zero true n e = (refl, go (eqb n 0) refl e)
   where
     go : (t : Bool) → eqb n 0 ≡ t → _≡_ {A = ℕ} (cond t 18 0) 0 → 0 < n
     go true a b = absurd (omega arith)
@@ -36,13 +33,8 @@ first-zero true n e = go (eqb n 0) refl e
 first-zero false n e = absurd (omega arith)
 
 module _ (image : List ℕ) (n : ℕ) (number : n ≡ counted (opening image)) where
-  -- the entries that the image holds are so many
-  entries-are : entriesIn n (drop headSize image) ≡ putsIn image
-  unfolding putsIn
-  entries-are = ap (λ (k : ℕ). entriesIn k (drop headSize image)) number
-
   number-is : n ≡ entryCount image
-  number-is = sym (length-entriesIn n (drop headSize image)) ∙ ap length entries-are
+  number-is = number ∙ sym (puts-number image)
 
   -- the refusal, or none
   refusal-is : (own : Bool) (r : ℕ) → own ≡ canonical image → r ≡ firstRefusal own n → r ≡ averageRefusal image
@@ -57,15 +49,17 @@ module _ (image : List ℕ) (n : ℕ) (number : n ≡ counted (opening image)) w
         ap (λ (k : ℕ). refusal k) e ∙ ap (λ (t : Bool). cond t (value (averageOf image)) (refusal (averageRefusal image))) (sym (ap (λ (k : ℕ). eqb k 0) (sym e) ∙ ne-eqb r 0 d))
 
     pub some-entries : r ≡ 0 → 0 < n
-    some-entries z = first-zero own n (sym b ∙ z)
+    some-entries z = first-zero own n (sym b ∙ z) .1
 
-    pub averaged : (counts : List ℕ) (sum : ℕ) → r ≡ 0 → Counted image n counts sum
+    pub accepted : r ≡ 0 → CanonicalImage image n
+    accepted z = record { canonical = sym a ∙ first-zero own n (sym b ∙ z) .0; number = number }
+
+    pub averaged : (counts : List ℕ) (sum : ℕ) → r ≡ 0 → Counted image counts sum
         → value (record { entries = n; quotient = sum / n; remainder = sum % n }) ≡ averaging image
-    unfolding averaging total
+    unfolding averaging
     averaged counts sum z c =
         let e = refusal-is own r a b in
-        let t : sum ≡ total image = c .total ∙ ap (totalOf image) entries-are in
-        ap₂ mean t number-is
+        ap₂ mean (c .total) number-is
         ∙ ap (λ (q : Bool). cond q (value (averageOf image)) (refusal (averageRefusal image))) (sym (ap (λ (k : ℕ). eqb k 0) (sym e) ∙ eq-eqb r 0 z))
       where
         mean : ℕ → ℕ → Outcome Mean
@@ -78,12 +72,11 @@ module _ (image : List ℕ) (n : ℕ) (number : n ≡ counted (opening image)) w
         let e = refusal-is own r a b in
         record { answer = e; leaves = ap (λ (t : Bool). cond t (lengthsOf image) counts) (sym (ap (λ (k : ℕ). eqb k 0) (sym e) ∙ ne-eqb r 0 d)) }
 
-    pub filled-lengths : (counts after : List ℕ) (sum : ℕ) → r ≡ 0 → Counted image n after sum → Lengths image counts after 0
-    unfolding afterLengths lengthsOf
+    pub filled-lengths : (counts after : List ℕ) (sum : ℕ) → r ≡ 0 → Counted image after sum → Lengths image counts after 0
+    unfolding afterLengths
     filled-lengths counts after sum z c =
         let e = refusal-is own r a b in
-        let f : after ≡ lengthsOf image = c .lengths ∙ ap (lengthsFrom image (replicate 16 0)) entries-are in
         record {
           answer = sym z ∙ e;
-          leaves = f ∙ ap (λ (t : Bool). cond t (lengthsOf image) counts) (sym (ap (λ (k : ℕ). eqb k 0) (sym e) ∙ eq-eqb r 0 z));
+          leaves = c .lengths ∙ ap (λ (t : Bool). cond t (lengthsOf image) counts) (sym (ap (λ (k : ℕ). eqb k 0) (sym e) ∙ eq-eqb r 0 z));
         }

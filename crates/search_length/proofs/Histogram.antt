@@ -2,16 +2,17 @@
 use Prim.Native.Nat.{ℕ, zero, suc, _+_, _*_, _-_, _≤_, _<_}
 use native.Mathlib.Omega.{arith}
 use native.Mathlib.Decide.{ℕ-discrete}
-use mathlib.Core.Path.{_≡_, refl, sym, ap, ap₂, _∙_}
+use mathlib.Core.Path.{_≡_, refl, sym, ap, _∙_}
 use mathlib.Core.Bool.{Bool, cond}
 use mathlib.Core.List.{List, [], _∷_}
-use lib.ListN.{length, getD, drop, replicate, length-set}
+use lib.ListN.{length, getD, replicate, length-set}
 use lib.Seq.{getD-set-same, getD-set-other}
 use lib.Dec.{eqb}
 use borrow.Author.Tests.{eq-eqb, ne-eqb}
-use Rattle.image.specs.Image.{Entry, headSize}
-use Rattle.image.specs.Stored.{entriesIn, firstEntry, afterFirst}
+use Rattle.image.specs.Image.{Entry}
+use Rattle.canonical.specs.Canonical.{putsIn}
 use Rattle.search_length.specs.SearchLengths.{searchLength, totalOf, binOf, lengthsFrom, inBin}
+use Rattle.search_length.specs.Average.{total, lengthsOf}
 use Rattle.search_length.specs.steps.Contracts.{Counted}
 use Rattle.image.specs.Tally.{oneMore}
 use Rattle.search_length.specs.theorems.AverageSearch.{sum}
@@ -45,12 +46,12 @@ place-small n = omega arith
 
 -- ---- the walk
 
--- what the entries left in `rest` add to the counts and the sum is the whole
-pub record Counting (img : List ℕ) (n : ℕ) (counts rest : List ℕ) (left sum : ℕ) : Type 0 where
-  pub same : lengthsFrom img counts (entriesIn left rest) ≡ lengthsFrom img (replicate 16 0) (entriesIn n (drop headSize img))
+-- what the entries ahead, `left` of n, add to the counts and the sum is the whole
+pub record Counting (img : List ℕ) (n : ℕ) (counts : List ℕ) (left sum : ℕ) (es : List Entry) : Type 0 where
+  pub same : lengthsFrom img counts es ≡ lengthsOf img
   pub small : (t : ℕ) → getD counts t 0 + left ≤ n
   pub sixteen : length counts ≡ 16
-  pub total : sum + totalOf img (entriesIn left rest) ≡ totalOf img (entriesIn n (drop headSize img))
+  pub whole : sum + totalOf img es ≡ total img
   pub sum-small : sum + left * 4294967295 ≤ n * 4294967295
 
 pub zeros : (n t : ℕ) → _≡_ {A = ℕ} (getD (replicate n 0) t 0) 0
@@ -61,41 +62,33 @@ zeros (suc n) (suc t) = zeros n t
 pub long : _≡_ {A = ℕ} (length (replicate {A = ℕ} 16 0)) 16
 long = refl
 
-pub counting-starts : (img counts rest : List ℕ) (n : ℕ) → rest ≡ drop headSize img → counts ≡ replicate 16 0 → Counting img n counts rest n 0
-counting-starts img counts rest n e z = record {
-  same = ap₂ (λ (c l : List ℕ). lengthsFrom img c (entriesIn n l)) z e;
+pub counting-starts : (img counts : List ℕ) (n : ℕ) → counts ≡ replicate 16 0 → Counting img n counts n 0 (putsIn img)
+unfolding lengthsOf total
+counting-starts img counts n z = record {
+  same = ap (λ (c : List ℕ). lengthsFrom img c (putsIn img)) z;
   small = λ t. omega (arith, ap (λ (c : List ℕ). getD c t 0) z, zeros 16 t);
   sixteen = ap length z ∙ long;
-  total = let f = ap (λ (l : List ℕ). totalOf img (entriesIn n l)) e in omega arith;
+  whole = omega arith;
   sum-small = omega arith;
 }
 
-module _ {img : List ℕ} {n : ℕ} {counts rest : List ℕ} {left sum : ℕ} (c : Counting img n counts rest left sum) where
-  pub counting-next : 0 < left → (r : ℕ) (counted behind : List ℕ) → r < 4294967296 → r ≡ searchLength img (firstEntry rest)
-      → counted ≡ oneMore counts (binOf r) → behind ≡ afterFirst rest → Counting img n counted behind (left - 1) (sum + r)
-  unfolding lengthsFrom totalOf entriesIn
-  counting-next h r counted behind small a m b =
-      let l : left ≡ suc (left - 1) = omega arith in
-      let d : counted ≡ oneMore counts (binOf (searchLength img (firstEntry rest))) = m ∙ ap (λ (k : ℕ). oneMore counts (binOf k)) a in
-      let t : totalOf img (entriesIn left rest) ≡ searchLength img (firstEntry rest) + totalOf img (entriesIn (left - 1) (afterFirst rest)) =
-      ap (λ (j : ℕ). totalOf img (entriesIn j rest)) l in
-      let u = ap (λ (x : List ℕ). totalOf img (entriesIn (left - 1) x)) b in
+module _ {img : List ℕ} {n : ℕ} {counts : List ℕ} {left sum : ℕ} where
+  pub counting-next : {e : Entry} {es : List Entry} → Counting img n counts left sum (e ∷ es) → 0 < left → (r : ℕ) (counted : List ℕ) → r < 4294967296
+      → r ≡ searchLength img e → counted ≡ oneMore counts (binOf r) → Counting img n counted (left - 1) (sum + r) es
+  unfolding lengthsFrom totalOf
+  counting-next {e} {es} c h r counted small a m =
+      let d : counted ≡ oneMore counts (binOf (searchLength img e)) = m ∙ ap (λ (k : ℕ). oneMore counts (binOf k)) a in
       record {
-        same =
-            ap₂ (λ (x y : List ℕ). lengthsFrom img x (entriesIn (left - 1) y)) d b
-            ∙ sym (ap (λ (j : ℕ). lengthsFrom img counts (entriesIn j rest)) l)
-            ∙ c .same;
+        same = ap (λ (x : List ℕ). lengthsFrom img x es) d ∙ c .same;
         small = λ t. omega (arith, ap (λ (x : List ℕ). getD x t 0) m, more-most counts (binOf r) t (omega (arith, c .sixteen, place-small r)), c .small t);
         sixteen = ap length m ∙ more-length counts (binOf r) ∙ c .sixteen;
-        total = omega (arith, c .total);
+        whole = omega (arith, c .whole, a);
         sum-small = omega (arith, c .sum-small);
       }
 
-  pub counting-ends : left ≡ 0 → Counted img n counts sum
-  unfolding lengthsFrom totalOf entriesIn
-  counting-ends z =
-      let e : totalOf img (entriesIn left rest) ≡ 0 = ap (λ (k : ℕ). totalOf img (entriesIn k rest)) z in
-      record { lengths = ap (λ (k : ℕ). lengthsFrom img counts (entriesIn k rest)) (sym z) ∙ c .same; total = omega (arith, c .total) }
+  pub counting-ends : Counting img n counts left sum [] → Counted img counts sum
+  unfolding lengthsFrom totalOf
+  counting-ends c = record { lengths = c .same; total = omega (arith, c .whole) }
 
 -- ---- what the counts are
 

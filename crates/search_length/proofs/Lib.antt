@@ -1,5 +1,4 @@
 -- Laws of the average search length.
-pub mod FirstEntry
 pub mod Histogram
 pub mod Answers
 pub mod EntriesFound

@@ -122,7 +122,7 @@ given img m e = go (eqb (averageRefusal img) 0) refl e
 -- no refusal: there are entries
 some-entries : (img : List ℕ) → averageRefusal img ≡ 0 → 0 < entryCount img
 unfolding averageRefusal
-some-entries img e = first-zero (canonical img) (entryCount img) e
+some-entries img e = first-zero (canonical img) (entryCount img) e .1
 
 divides : (s n : ℕ) → 0 < n → (s / n * n + s % n ≡ s) × (s % n < n)
 divides s n h = (div-add-mod' s n, mod-lt s {m = n} h)

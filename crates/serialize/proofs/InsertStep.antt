@@ -28,7 +28,8 @@ use Rattle.image.proofs.Parts.{placedIn, before-most, offset-word, number-word,
 use Rattle.image.proofs.EntryAt.{id-word, length-word, name-bytes, ids-below}
 use Rattle.image.specs.Stored.{between}
 use Rattle.image.specs.steps.EntryLength.{wholeLength}
-use Rattle.serialize.specs.steps.Insertion.{offsetAt, holdsTable, inserted, insertedByRow, hashAt, backStored, entryInserted}
+use Rattle.image.specs.steps.Contracts.{offsetAt}
+use Rattle.serialize.specs.steps.Insertion.{holdsTable, inserted, insertedByRow, hashAt, backStored, entryInserted}
 use Rattle.image.proofs.Between.{is-whole}
 use Rattle.serialize.proofs.PartialImage.{tableWith, tablesWith, length-tableWith, length-tablesWith, upToEntries, length-upToEntries, partial}
 use Rattle.serialize.proofs.PartialImage.{rows-there, tables-there, entries-from}

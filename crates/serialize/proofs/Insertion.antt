@@ -1,9 +1,8 @@
 -- A pair inserted into its table, an entry into its table and the back array, and entries one after the other.
 -- Assumes nothing.
-use Prim.Native.Nat.{ℕ, suc, _+_, _-_, _*_, _/_, _%_, _≤_, _<_}
+use Prim.Native.Nat.{ℕ, suc, _+_, _-_, _*_, _%_, _≤_, _<_}
 use native.Mathlib.Omega.{arith}
-use native.Mathlib.Nat.{mod-lt}
-use mathlib.Core.Path.{_≡_, refl, sym, ap, ap₂, _∙_}
+use mathlib.Core.Path.{_≡_, sym, ap, ap₂, _∙_}
 use mathlib.Core.Bool.{Bool, true, false, cond}
 use mathlib.Core.List.{List, _++_}
 use lib.ListN.{length}
@@ -17,13 +16,11 @@ use Rattle.image.proofs.Bools.{and-first, and-second}
 use Rattle.image.proofs.Stores.{sets-then}
 use Rattle.image.proofs.Between.{entry-room}
 use Rattle.image.specs.Stored.{between}
+use Rattle.image.specs.Tables.{start, probeSequence, firstEmpty}
 use Rattle.image.specs.steps.EntryLength.{wholeLength}
-use Rattle.serialize.specs.steps.Insertion.{EmptyBucket, TableIn, holdsTable, inserted, PairInserted, insertedByRow, EntryPre, hashAt}
+use Rattle.image.specs.steps.Contracts.{BucketIs, offsetAt}
+use Rattle.serialize.specs.steps.Insertion.{TableIn, holdsTable, inserted, PairInserted, insertedByRow, EntryPre, hashAt}
 use Rattle.serialize.specs.steps.Insertion.{backStored, entryInserted, WalkPre, insertedFrom}
-
--- a search among some buckets begins at one of them
-pub start-below : (x n : ℕ) → (n ≡ 0 → ⊥) → x % n < n
-start-below x n h = mod-lt x (omega arith)
 
 -- ---- a pair
 
@@ -32,10 +29,12 @@ pair-stored b b1 b2 at h v p q =
     q ∙ ap (λ (l : List ℕ). sets l (at + 4) (le32 v)) p
     ∙ sets-then (le32 h) (le32 v) b at (at + 4) (omega (arith, length-le32 h))
 
-pub pair-inserted : (buf : List ℕ) (o n h at k : ℕ) {buf′ : List ℕ} → EmptyBucket buf o n (h / 256 % n) k
+pub pair-inserted : (buf : List ℕ) (o n h at i k : ℕ) {buf′ : List ℕ} → BucketIs (start h n) n i → BucketIs (firstEmpty (offsetAt buf o) (probeSequence n n i)) n k
     → buf′ ≡ sets buf (o + 8 * k) (le32 h ++ le32 at) → buf′ ≡ inserted buf o n h at
 unfolding inserted
-pair-inserted buf o n h at k e p = p ∙ ap (λ (i : ℕ). sets buf (o + 8 * i) (le32 h ++ le32 at)) (e .is)
+pair-inserted buf o n h at i k s e p =
+    p
+    ∙ ap (λ (j : ℕ). sets buf (o + 8 * j) (le32 h ++ le32 at)) (e .is ∙ ap (λ (j : ℕ). firstEmpty (offsetAt buf o) (probeSequence n n j)) (s .is))
 
 pub table-in : {buf : List ℕ} {o n : ℕ} {b : Bool} → b ≡ holdsTable buf o n → b ≡ true → TableIn buf o n
 table-in {buf} {o} {n} e holds =

@@ -1,11 +1,12 @@
 // The head of an image, and the space behind the entries cleared.
 ghost use mathlib.Core.Path.{_≡_};
 ghost use mathlib.Core.Bool.{cond};
-ghost use Prim.Native.Nat.{_-_, _%_, _<_, _≤_};
-ghost use lib.ListN.{length, replicate};
+ghost use Prim.Native.Nat.{_-_, _%_};
+ghost use lib.ListN.{replicate};
 ghost use lib.Seq.{sets};
 ghost use lib.Dec.{eqb};
 ghost use Rattle.image.specs.Image.{headBytes};
+ghost use Rattle.serialize.specs.steps.Contracts.{CountRead, ClearPre};
 ghost use Rattle.serialize.specs.steps.Written.{rowsFrom};
 
 // The letters CQDB as a word.
@@ -35,7 +36,7 @@ pub(super) fn low(x: u64) -> u32
 
 // A count in 64 bits.
 pub(super) fn wide(x: u32) -> u64
-    ensures { λ r. ⌜ (r ≡ x) × (r < 4294967296) ⌝ }
+    ensures { λ r. ⌜ CountRead x r ⌝ }
 {
     x as u64
 }
@@ -64,7 +65,7 @@ pub(super) fn write_rows(buf: &mut [u8], counts: &[u32; 256], end: u32)
 
 // Zeros from one place to another. An internal function for the crates above.
 pub fn clear(buf: &mut [u8], from: usize, to: usize)
-    requires { ⌜ (from ≤ to) × (to ≤ length (now buf)) ⌝ }
+    requires { ⌜ ClearPre (now buf) from to ⌝ }
     ensures { λ _. ⌜ now (buf .exit) ≡ sets (now (buf .entry)) from (replicate (to - from) 0) ⌝ }
 {
     let mut i = from;

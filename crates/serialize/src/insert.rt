@@ -5,10 +5,13 @@ ghost use Prim.Native.Nat.{_+_, _<_, _≤_};
 ghost use lib.ListN.{length};
 ghost use lib.Seq.{sets};
 ghost use Rattle.image.specs.Bytes.{le32};
-ghost use Rattle.serialize.specs.steps.Insertion.{ProbePre, EmptyBucket, TableIn, PairInserted, holdsTable};
-ghost use Rattle.serialize.specs.steps.Insertion.{insertedByRow, backStored, hashAt, EntryPre, WalkPre};
-ghost use Rattle.serialize.specs.steps.Insertion.{entryInserted, insertedFrom};
+ghost use Rattle.serialize.specs.steps.Insertion.{TableIn, PairInserted, holdsTable, HoldsTablePre};
+ghost use Rattle.serialize.specs.steps.Insertion.{insertedByRow, backStored, hashAt, EntryPre, InsertEntryPre};
+ghost use Rattle.serialize.specs.steps.Insertion.{WalkPre, entryInserted, insertedFrom};
+use image::HEAD_SIZE;
 use image::Mode;
+use image::probe::first_empty;
+use image::probe::start;
 use image::rows::bucket_number;
 use image::rows::table_at;
 use image::store::store_word;
@@ -22,35 +25,18 @@ pub(super) fn store_pair(buf: &mut [u8], at: usize, h: u32, offset: u32)
     store_word(&mut *buf, at + 4, offset);
 }
 
-// The first empty of the n buckets at o, from bucket k on; bucket 0 where none is empty.
-fn first_empty(buf: &[u8], o: usize, n: usize, k: usize) -> usize
-    requires { ⌜ ProbePre (now buf) o n k ⌝ }
-    ensures { λ r. ⌜ EmptyBucket (now (buf .entry)) o n k r ⌝ }
-{
-    let mut i = k;
-    let mut left = n;
-    while left > 0 {
-        if jhash::word::word(buf, o + 8 * i + 4) == 0 {
-            return i;
-        }
-        i = if i + 1 < n { i + 1 } else { 0 };
-        left -= 1;
-    }
-    0
-}
-
 // A pair stored in the first empty bucket of its search among the n buckets at o.
 pub(super) fn insert_pair(buf: &mut [u8], o: usize, n: usize, h: u32, at: u32)
     requires { ⌜ TableIn (now buf) o n ⌝ }
     ensures { λ _. ⌜ PairInserted (now (buf .entry)) o n h at (now (buf .exit)) ⌝ }
 {
-    let k = first_empty(&*buf, o, n, (h / 256) as usize % n);
+    let k = first_empty(&*buf, o, n, start(h, n));
     store_pair(&mut *buf, o + 8 * k, h, at);
 }
 
 // Whether there are buckets, and the n of them at o lie in the buffer.
 fn holds_table(buf: &[u8], o: usize, n: usize) -> bool
-    requires { ⌜ (o < 4294967296) × (n < 4294967296) ⌝ }
+    requires { ⌜ HoldsTablePre o n ⌝ }
     ensures { λ r. ⌜ r ≡ holdsTable (now (buf .entry)) o n ⌝ }
 {
     1 <= n && o + 8 * n <= buf.len()
@@ -84,15 +70,12 @@ pub(super) fn hash_at(buf: &[u8], at: usize, n: usize) -> u32
     requires { ⌜ EntryPre at n (now buf) ⌝ }
     ensures { λ r. ⌜ r ≡ hashAt (now (buf .entry)) at n ⌝ }
 {
-    let jhash::Hashed::Hash(h) = jhash::name_hash(image::entries::name_at(buf, at, n)) else {
-        return 0;
-    };
-    h
+    jhash::key(image::entries::name_at(buf, at, n))
 }
 
 // The entry at `at`, whose length word is n, inserted into its table and the back array.
 fn insert_entry(mode: Mode, back_offset: usize, buf: &mut [u8], at: usize, n: usize)
-    requires { ⌜ EntryPre at n (now buf) × («back_offset» < 4294967296) ⌝ }
+    requires { ⌜ InsertEntryPre «back_offset» at n (now buf) ⌝ }
     ensures { λ _. ⌜ now (buf .exit) ≡ entryInserted mode «back_offset» (now (buf .entry)) at n ⌝ }
 {
     let id = image::get_u32(&*buf, at);
@@ -112,7 +95,7 @@ pub(super) fn insert_entries(
     requires { ⌜ WalkPre «back_offset» end (now buf) ⌝ }
     ensures { λ _. ⌜ now (buf .exit) ≡ insertedFrom mode «back_offset» end entries 2072 (now (buf .entry)) ⌝ }
 {
-    let mut at = 2072;
+    let mut at = HEAD_SIZE;
     let mut left = entries;
     while left > 0 {
         let n = image::entries::whole_length(&*buf, at, end);

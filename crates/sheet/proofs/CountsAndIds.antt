@@ -6,6 +6,7 @@ use mathlib.Core.Path.{_≡_, refl, ap, ap₂, _∙_}
 use mathlib.Core.List.{List, [], _∷_, _++_}
 use lib.ListN.{length, getD, take, drop, length-take, length-drop, List·getD-eq-default}
 use lib.Seq.{getD-drop, getD-take}
+use Rattle.jhash.specs.steps.Reads.{ByteRead}
 use Rattle.image.specs.Bytes.{word, le32, cat}
 use Rattle.image.proofs.Words.{word-drop, word-le32, length-le32, le32-bytes}
 use Rattle.image.proofs.Lists.{length-cat}
@@ -43,10 +44,10 @@ unfolding countAt countBytes
 count-back n rest h = omega arith
 
 -- a count from its two bytes
-pub count-of : (s : List ℕ) (o a b : ℕ) → (a ≡ getD s o 0) × (a < 256) → (b ≡ getD s (o + 1) 0) × (b < 256)
+pub count-of : (s : List ℕ) (o a b : ℕ) → ByteRead (getD s o 0) a → ByteRead (getD s (o + 1) 0) b
     → CountRead s o (a + b * 256)
 unfolding countAt
-count-of s o a b (ea, ha) (eb, hb) = record { count = omega arith; bound = omega arith }
+count-of s o a b low high = record { count = omega (arith, low .is, high .is); bound = omega (arith, low .small, high .small) }
 
 pub count-below : (s : List ℕ) (o : ℕ) → Below 256 s → countAt s o ≤ 65535
 unfolding countAt

@@ -4,7 +4,7 @@ use mathlib.Core.Path.{_≡_}
 use mathlib.Core.Bool.{false}
 use mathlib.Core.List.{List}
 use lib.ListN.{length, getD}
-unfoldable pub use Rattle.packed.specs.Keys.{key}
+unfoldable pub use Rattle.jhash.specs.NameHash.{key}
 use Rattle.batch.specs.RoundNames.{names, invalidEnds, nth}
 use Rattle.batch.specs.steps.Slots.{SlotsHold}
 

@@ -9,7 +9,7 @@ use Rattle.image.specs.Zero.{hasZero}
 use Rattle.image.specs.Tables.{tableOf, start, probeSequence, firstEmpty}
 use Rattle.image.specs.Image.{Entry, headSize, placed, count, tables}
 use Rattle.packed.specs.Names.{names, invalidEnds, nth}
-use Rattle.packed.specs.Keys.{key}
+use Rattle.jhash.specs.NameHash.{key}
 use Rattle.lookup_laws.specs.steps.HasMatch.{hasMatch}
 use Rattle.bulk_tables.specs.steps.Layout.{maxWord, maxNames, scratchWords, bucketsAt, pairsAt, pairStored}
 use Rattle.bulk_tables.specs.steps.Partition.{at, tableOfName, tableIn, countOfTable, prefixSum}

@@ -6,7 +6,7 @@ use lib.ListN.{getD}
 use lib.Dec.{eqb}
 use Rattle.image.specs.Tables.{tableOf}
 use Rattle.packed.specs.Names.{nth}
-use Rattle.packed.specs.Keys.{key}
+use Rattle.jhash.specs.NameHash.{key}
 
 -- the i-th word
 abbrev pub at : List ℕ → ℕ → ℕ

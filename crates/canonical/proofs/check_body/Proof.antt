@@ -15,6 +15,7 @@ use Rattle.image.specs.declared.Mode.the-variants.{Twoway, Oneway}
 use Rattle.writer.proofs.Agree.{zeros}
 use Rattle.canonical.specs.Canonical.{modeIn}
 use Rattle.canonical.specs.steps.Checks.{rowsOk, countsMatch, twoWay, entriesOk, placedFrom}
+use Rattle.canonical.proofs.TableChecks.{rows-held}
 use Rattle.canonical.proofs.Decision.{body-rows, body-entries, body-counts, body-back, body-oneway, body-twoway}
 use Rattle.canonical.proofs.check_body.Statement.{statement}
 use Rattle.canonical.proofs.check_body.Tie as tie
@@ -85,8 +86,14 @@ returns c =
 
 check-entries-requires : tie.Need-check-entries-requires
 check-entries-requires c κs =
-    let s = start (c .before .before) in
-    record { area = s .pre .area; links = omega (arith, s .pre .area .small, s .fits .n); zeros = zeros 256 }
+    let e = c .before .before in
+    let s = start e in
+    record {
+      area = s .pre .area;
+      links = omega (arith, s .pre .area .small, s .fits .n);
+      tables = λ t h. rows-held (image e) (s .pre .tables) (s .args .end) 0 256 (omega (arith, s .pre .area .from)) (omega arith) (rows e) t (omega arith) (omega (arith, h));
+      zeros = zeros 256;
+    }
 
 returns-2 : tie.Need-returns-2
 returns-2 c =

@@ -42,8 +42,8 @@ Z id = entryOf (97 ∷ 0 ∷ 98 ∷ []) id
 abbrev row : Mode → Repeats → ℕ → List Call → List Entry → Row
 row mode repeats bytes calls puts = record { mode = mode; repeats = repeats; bytes = bytes; calls = calls; puts = puts }
 
-abbrev pub rows : List Row
-rows =
+abbrev pub canonicalRows : List Row
+canonicalRows =
     -- no put; only a close
     row Twoway Off 2072 [] []
     ∷ row Oneway On 2072 (close ∷ []) []

@@ -11,11 +11,11 @@ use Rattle.image.specs.Head.{tableAt, bucketNumber}
 use Rattle.image.specs.Stored.{between}
 use Rattle.image.specs.steps.EntryLength.{wholeLength}
 use Rattle.image.specs.Tables.{tableOf, start}
-use Rattle.canonical.specs.steps.Checks.{nameAt}
+use Rattle.canonical.specs.steps.Checks.{entryName}
 
 -- the place of the offset word of the first bucket in a hash's probe sequence, 0 if its table has no bucket
-unfoldable pub firstPlace : List ℕ → ℕ → ℕ
-firstPlace img h =
+unfoldable pub firstBucketAt : List ℕ → ℕ → ℕ
+firstBucketAt img h =
     let n = bucketNumber img (tableOf h) in
     cond (eqb n 0) 0 (tableAt img (tableOf h) + 8 * start h n + 4)
 
@@ -25,7 +25,7 @@ CachedFrom img end hashes places at i zero = Unit {0}
 CachedFrom img end hashes places at i (suc m) =
     let n = wholeLength (between img at end) in
     (n ≡ 0 → ⊥)
-    → (getD hashes i 0 ≡ hashOf (nameAt img at n)) × (getD places i 0 ≡ firstPlace img (getD hashes i 0))
+    → (getD hashes i 0 ≡ hashOf (entryName img at n)) × (getD places i 0 ≡ firstBucketAt img (getD hashes i 0))
     × CachedFrom img end hashes places (at + (8 + n)) (i + 1) m
 
 -- the last `cached` of 256 elements are of the entries from `at` on, and the words at their first places were read

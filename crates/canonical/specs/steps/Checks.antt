@@ -12,11 +12,12 @@ use Rattle.image.specs.Bytes.{word, range, all}
 use Rattle.image.specs.Head.{tableAt, bucketNumber, backSizeAt, backOffsetAt}
 use Rattle.image.specs.Image.{Entry, Placed, headSize, placed, backSize, backIn}
 use Rattle.image.specs.Stored.{whole, entriesIn, between}
-use Rattle.image.specs.Tables.{tableOf, start, probeSequence, firstEmpty}
+use Rattle.image.specs.Tables.{tableOf, start}
 use Rattle.image.specs.Tally.{tallied}
 use Rattle.image.specs.Zero.{hasZero}
+use Rattle.image.specs.steps.Contracts.{firstEmptyBefore}
 use Rattle.reader.specs.Open.{opening}
-use Rattle.canonical.specs.steps.HiddenBuckets.{countFrom}
+use Rattle.canonical.specs.steps.HiddenBuckets.{countAtLeast}
 use Rattle.canonical.specs.Canonical.{modeIn}
 use Rattle.canonical.specs.steps.InPlace.{wordsAt}
 
@@ -29,16 +30,16 @@ endIn img n = length img - (16 * n + 4 * backSizeAt img)
 abbrev pub areaIn : List ℕ → ℕ → List ℕ
 areaIn img n = between img headSize (endIn img n)
 
-abbrev pub entriesOf : List ℕ → ℕ → List Entry
-entriesOf img n = entriesIn n (areaIn img n)
+abbrev pub checkedEntries : List ℕ → ℕ → List Entry
+checkedEntries img n = entriesIn n (areaIn img n)
 
 -- the m entries from `at` to `end`, with their offsets
 abbrev pub placedFrom : List ℕ → ℕ → ℕ → ℕ → List Placed
 placedFrom img end m at = placed at (entriesIn m (between img at end))
 
 -- the name of the entry at `at` whose length word is n
-abbrev pub nameAt : List ℕ → ℕ → ℕ → List ℕ
-nameAt img at n = take (n - 1) (drop (at + 8) img)
+abbrev pub entryName : List ℕ → ℕ → ℕ → List ℕ
+entryName img at n = take (n - 1) (drop (at + 8) img)
 
 -- ---- the rows and the tables
 
@@ -46,12 +47,17 @@ nameAt img at n = take (n - 1) (drop (at + 8) img)
 abbrev pub TablesInside : List ℕ → Type 0
 TablesInside img = (t : ℕ) → t < 256 → 0 < tableAt img t → tableAt img t + 8 * bucketNumber img t ≤ length img
 
+-- so no table with buckets does: its row's check gives it an offset above 0
+abbrev pub TablesHeld : List ℕ → Type 0
+TablesHeld img =
+    (t : ℕ) → t < 256 → 0 < bucketNumber img t → tableAt img t + 8 * bucketNumber img t ≤ length img
+
 -- of the 2c buckets at o the empty ones are zero, and c are used
 abbrev pub clean : List ℕ → ℕ → ℕ → Bool
 clean img o k = not (eqb (word img (o + 8 * k + 4)) 0) || eqb (word img (o + 8 * k)) 0
 
 unfoldable pub usedIn : List ℕ → ℕ → ℕ → ℕ → ℕ
-usedIn img o k m = countFrom 1 (map (λ (k : ℕ). word img (o + 8 * k + 4)) (range k m))
+usedIn img o k m = countAtLeast 1 (map (λ (k : ℕ). word img (o + 8 * k + 4)) (range k m))
 
 unfoldable pub tableOk : List ℕ → ℕ → ℕ → Bool
 tableOk img o c = all (clean img o) 0 (2 * c) && eqb (usedIn img o 0 (2 * c)) c
@@ -75,16 +81,12 @@ countsMatch img counts = all (λ (t : ℕ). eqb (bucketNumber img t) (2 * getD c
 
 -- ---- each entry in its table
 
--- the offset of a bucket, 0 from a on
-abbrev pub hidden : ℕ → ℕ → ℕ
-hidden a w = cond (ltb w a) w 0
-
 -- the bucket that the put at `at` took: the first of its probe sequence that is empty or has an offset from `at` on
 unfoldable pub slotIn : List ℕ → ℕ → ℕ → ℕ
 slotIn img h at =
     let o = tableAt img (tableOf h) in
     let n = bucketNumber img (tableOf h) in
-    o + 8 * firstEmpty (λ (k : ℕ). hidden at (word img (o + 8 * k + 4))) (probeSequence n n (start h n))
+    o + 8 * firstEmptyBefore img o n (start h n) at
 
 unfoldable pub inItsBucket : List ℕ → ℕ → ℕ → Bool
 inItsBucket img h at =
@@ -120,7 +122,7 @@ selfLinksIn img o (p ∷ ps) = cond (eqb (word img (o + 4 * p .entry .id)) (p .a
 
 -- as many of the n links are above 0
 abbrev pub linksCounted : List ℕ → ℕ → ℕ → List Placed → Bool
-linksCounted img o n ps = eqb (countFrom 1 (wordsAt img o n)) (selfLinksIn img o ps)
+linksCounted img o n ps = eqb (countAtLeast 1 (wordsAt img o n)) (selfLinksIn img o ps)
 
 -- ---- all of them
 
@@ -142,11 +144,11 @@ pub record Checked (img : List ℕ) (n : ℕ) : Type 0 where
   pub room : headSize + (16 * n + 4 * backSizeAt img) ≤ length img
   pub back-offset : backOffsetAt img ≡ cond (eqb (backSizeAt img) 0) 0 (endIn img n + 16 * n)
   pub wholes : whole n (areaIn img n) ≡ true
-  pub back-size : backSizeAt img ≡ backIn (modeIn img) (backSize (entriesOf img n))
+  pub back-size : backSizeAt img ≡ backIn (modeIn img) (backSize (checkedEntries img n))
   pub rows : rowsOk img (endIn img n) 0 256 ≡ true
-  pub counts : countsMatch img (tallied (replicate 256 0) (entriesOf img n)) ≡ true
-  pub entries : entriesOk img (twoWay img) (endIn img n + 16 * n) (placed headSize (entriesOf img n)) ≡ true
+  pub counts : countsMatch img (tallied (replicate 256 0) (checkedEntries img n)) ≡ true
+  pub entries : entriesOk img (twoWay img) (endIn img n + 16 * n) (placed headSize (checkedEntries img n)) ≡ true
   pub links :
       cond (twoWay img)
-      (linksCounted img (endIn img n + 16 * n) (backSizeAt img) (placed headSize (entriesOf img n))) true
+      (linksCounted img (endIn img n + 16 * n) (backSizeAt img) (placed headSize (checkedEntries img n))) true
       ≡ true

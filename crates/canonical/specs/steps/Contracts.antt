@@ -9,17 +9,14 @@ use Rattle.jhash.specs.NameHash.{hashOf}
 use Rattle.image.specs.Bytes.{word}
 use Rattle.image.specs.Image.{backSize}
 use Rattle.image.specs.Stored.{whole, entriesIn, between}
-use Rattle.image.specs.Tables.{probeSequence, firstEmpty}
 use Rattle.image.specs.Tally.{tallied}
+use Rattle.reader.specs.Open.{opening}
+use Rattle.canonical.specs.Canonical.{counted, canonical}
 use Rattle.canonical.specs.declared.entries.EntriesChecked.{EntriesChecked}
-use Rattle.canonical.specs.steps.Cache.{firstPlace, CachedFrom, Cached}
-use Rattle.canonical.specs.steps.Checks.{nameAt, hidden, entriesOk, selfLinksIn, placedFrom, TablesInside}
+use Rattle.canonical.specs.steps.Cache.{firstBucketAt, CachedFrom, Cached}
+use Rattle.canonical.specs.steps.Checks.{entryName, entriesOk, selfLinksIn, placedFrom, TablesInside, TablesHeld}
 
 -- ---- words and tables
-
-pub record SizeRead (img : List ℕ) (at r : ℕ) : Type 0 where
-  pub is : r ≡ word img at
-  pub small : r < 4294967296
 
 -- n words from o on
 pub record WordsPre (o n : ℕ) : Type 0 where
@@ -71,32 +68,21 @@ pub record Prefetched (img : List ℕ) (at end cached : ℕ) (hashes places firs
 
 -- ---- entries
 
--- bucket k of the table at o
-pub record BucketPre (o k : ℕ) : Type 0 where
-  pub place : o < 4294967296
-  pub bucket : k < 4294967296
-
--- a probe sequence of n buckets at o from bucket k on
-pub record ProbePre (o n k : ℕ) : Type 0 where
-  pub start : k < n
-  pub place : o < 4294967296
-  pub number : n < 4294967296
-
-pub record FirstEmpty (img : List ℕ) (o n k at r : ℕ) : Type 0 where
-  pub is : r ≡ firstEmpty (λ (i : ℕ). hidden at (word img (o + 8 * i + 4))) (probeSequence n n k)
-  pub inside : r < n
-
 -- the place of the first bucket of a hash's probe sequence, and the word there
 pub record CachedBucket (img : List ℕ) (h place first : ℕ) : Type 0 where
-  pub place-is : place ≡ firstPlace img h
+  pub place-is : place ≡ firstBucketAt img h
   pub first-is : first ≡ word img place
+
+pub record InBucketPre (img : List ℕ) (h place first : ℕ) : Type 0 where
+  pub bucket : CachedBucket img h place first
+  pub tables : TablesHeld img
 
 pub record CheckEntryPre (img : List ℕ) (at n h place first : ℕ) : Type 0 where
   pub inside : at + (8 + n) ≤ length img
   pub some : 1 ≤ n
   pub small : at < 4294967296
-  pub hash : h ≡ hashOf (nameAt img at n)
-  pub bucket : CachedBucket img h place first
+  pub hash : h ≡ hashOf (entryName img at n)
+  pub cached : InBucketPre img h place first
 
 pub record OneIf (w at r : ℕ) : Type 0 where
   pub is : r ≡ cond (eqb w at) 1 0
@@ -105,6 +91,7 @@ pub record OneIf (w at r : ℕ) : Type 0 where
 pub record CheckEntriesPre (img : List ℕ) (end o : ℕ) (counts : List ℕ) : Type 0 where
   pub area : Area img 2072 end
   pub links : o < 2 ^ 48
+  pub tables : TablesHeld img
   pub zeros : (t : ℕ) → getD counts t 0 ≡ 0
 
 pub record EntriesFound (img : List ℕ) (end entries : ℕ) (two : Bool) (o : ℕ) (counts₀ counts : List ℕ)
@@ -119,3 +106,10 @@ pub record CheckBodyPre (img : List ℕ) (end back : ℕ) : Type 0 where
   pub area : Area img 2072 end
   pub back-small : back < 4294967296
   pub tables : TablesInside img
+
+-- ---- for the crates above
+
+-- a canonical image, which has n entries
+pub record CanonicalImage (img : List ℕ) (n : ℕ) : Type 0 where
+  pub canonical : canonical img ≡ true
+  pub number : n ≡ counted (opening img)

@@ -15,9 +15,9 @@ use Rattle.image.specs.Bytes.{Each}
 abbrev pub bit : ℕ → ℕ → ℕ
 bit a x = cond (leb a x) 1 0
 
-unfoldable pub countFrom : ℕ → List ℕ → ℕ
-countFrom a [] = 0
-countFrom a (x ∷ xs) = bit a x + countFrom a xs
+unfoldable pub countAtLeast : ℕ → List ℕ → ℕ
+countAtLeast a [] = 0
+countAtLeast a (x ∷ xs) = bit a x + countAtLeast a xs
 
 -- each number is larger than the one before, and the first is a or more
 abbrev pub Rising : ℕ → List ℕ → Type 0
@@ -46,7 +46,7 @@ pub record TableMatches (n : ℕ) (table bs : List Bucket) : Type 0 where
   -- both words of an empty bucket are 0
   pub zeros : (k : ℕ) → atOf table k ≡ 0 → getD table k empty ≡ empty
   -- there are as many used buckets as entries
-  pub used : countFrom 1 (bucketOffsets table) ≡ length bs
+  pub used : countAtLeast 1 (bucketOffsets table) ≡ length bs
   -- the bucket that each put took holds its entry
   pub stand : Each (λ (b : Bucket). getD table (putBucket n table b) empty ≡ b) bs
 
@@ -60,4 +60,4 @@ pub record BackArrayMatches (links : List ℕ) (ps : List Placed) : Type 0 where
   -- the link of each entry's id points to it or behind it
   pub ahead : Each (λ (p : Placed). p .at ≤ getD links (p .entry .id) 0) ps
   -- there are as many links above 0 as entries that their own link points to
-  pub used : countFrom 1 links ≡ selfLinks links ps
+  pub used : countAtLeast 1 links ≡ selfLinks links ps

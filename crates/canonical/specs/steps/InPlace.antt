@@ -9,8 +9,8 @@ abbrev pub bucketAt : List ℕ → ℕ → Bucket
 bucketAt img o = record { hash = word img o; at = word img (o + 4) }
 
 -- the n buckets from o on
-unfoldable pub bucketsAt : List ℕ → ℕ → ℕ → List Bucket
-bucketsAt img o n = map (λ (k : ℕ). bucketAt img (o + 8 * k)) (range 0 n)
+unfoldable pub bucketsInPlace : List ℕ → ℕ → ℕ → List Bucket
+bucketsInPlace img o n = map (λ (k : ℕ). bucketAt img (o + 8 * k)) (range 0 n)
 
 -- the n words from o on
 unfoldable pub wordsAt : List ℕ → ℕ → ℕ → List ℕ

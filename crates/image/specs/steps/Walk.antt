@@ -1,20 +1,19 @@
 -- What the walk over entries needs and promises.
-use Prim.Native.Nat.{ℕ, _≤_, _<_}
+use Prim.Native.Nat.{ℕ, _≤_}
 use mathlib.Core.Path.{_≡_}
 use mathlib.Core.Bool.{true}
 use mathlib.Core.List.{List}
 use lib.ListN.{length, getD}
-use Rattle.jhash.specs.NameHash.{hashOf}
+use Rattle.jhash.specs.NameHash.{key}
 use Rattle.image.specs.Image.{Entry, headSize, backSize, containsName}
 use Rattle.image.specs.Stored.{whole, entriesIn, between}
 use Rattle.image.specs.Tally.{tallied}
 use Rattle.image.specs.declared.entries.Walked.{Walked}
 
--- h is the hash of a name that an entry can have; so is `want` the hash of the sought one, where an entry can have it
+-- the keys of an entry's name and of the name that is sought
 pub record ComparePre (name : List ℕ) (h : ℕ) (sought : List ℕ) (want : ℕ) : Type 0 where
-  pub short : length name < 4294967295
-  pub hash : h ≡ hashOf name
-  pub wanted : length sought < 4294967295 → want ≡ hashOf sought
+  pub named : h ≡ key name
+  pub wanted : want ≡ key sought
 
 -- the entries end inside the buffer, and no count was raised yet
 pub record WalkPre (buf : List ℕ) (end : ℕ) (counts : List ℕ) : Type 0 where

@@ -40,9 +40,9 @@ read : (p : tie.After-first-empty Inv-loop μ-loop)
     (now (naming p .name-at .result)) (h p)
 read p =
     record {
-      is = measuring p .whole-length .ensures .0;
-      named = naming p .name-at .ensures .0;
-      sized = naming p .name-at .ensures .1;
+      is = measuring p .whole-length .ensures .is;
+      named = naming p .name-at .ensures .is;
+      sized = naming p .name-at .ensures .size;
       hash =
           result-name-hash (now (naming p .name-at .result)) (hashing p .name-hash .result) (h p) (hashing p .name-hash .ensures)
           (p .before .before .before .h .given .1) .1;
@@ -52,7 +52,7 @@ loop-holds : tie.Need-loop-holds Inv-loop μ-loop
 loop-holds c = filling-start (c .before .before .pre)
 
 whole-length-requires : tie.Need-whole-length-requires Inv-loop μ-loop
-whole-length-requires c κs = (c .before .loop .inv .inside, begun c .pre .inside)
+whole-length-requires c κs = record { from = c .before .loop .inv .inside; inside = begun c .pre .inside }
 
 same-length : tie.Need-same-length Inv-loop μ-loop
 same-length c = c .before .before .before .loop .inv .long
@@ -61,7 +61,7 @@ returns : tie.Need-returns Inv-loop μ-loop
 returns c =
     let n = c .before .whole-length in
     let t = c .before .before in
-    absurd (not-broken (begun t .pre) (t .before .loop .inv) (t .loop-test .taken) (n .result) (n .ensures .0) (c .if1 .taken))
+    absurd (not-broken (begun t .pre) (t .before .loop .inv) (t .loop-test .taken) (n .result) (n .ensures .is) (c .if1 .taken))
 
 name-at-requires : tie.Need-name-at-requires Inv-loop μ-loop
 name-at-requires c κs =
@@ -69,8 +69,8 @@ name-at-requires c κs =
     let t = c .before .before in
     let s = begun t in
     let l = t .before .loop in
-    let room = entry-room (s .args .buf .now) (l .at) (s .args .end) (n .result) (l .inv .inside) (s .pre .inside) (n .ensures .0) (c .if1 .left) in
-    (omega (arith, room .0, s .pre .inside), room .1)
+    let room = entry-room (s .args .buf .now) (l .at) (s .args .end) (n .result) (l .inv .inside) (s .pre .inside) (n .ensures .is) (c .if1 .left) in
+    record { inside = omega (arith, room .0, s .pre .inside); some = room .1 }
 
 same-length-2 : tie.Need-same-length-2 Inv-loop μ-loop
 same-length-2 c =
@@ -83,7 +83,7 @@ returns-2 c =
     let named = hashed .before .name-at in
     let n = hashed .before .before .before .whole-length in
     let long = result-refused (now (named .result)) 0 (hashed .name-hash .result) (hashed .name-hash .ensures) (c .enum-told .given .1) in
-    absurd (omega (arith, long, named .ensures .1, n .ensures .1))
+    absurd (omega (arith, long, named .ensures .size, n .ensures .small))
 
 cast-store-slot : tie.Need-cast-store-slot Inv-loop μ-loop
 cast-store-slot c =
@@ -101,13 +101,13 @@ abbrev probing : tie.After-store-slot Inv-loop μ-loop → tie.After-first-empty
 probing q = q .before .before
 
 add-at : tie.Need-add-at Inv-loop μ-loop
-add-at c = omega (arith, measuring (probing (c .before .before)) .whole-length .ensures .1)
+add-at c = omega (arith, measuring (probing (c .before .before)) .whole-length .ensures .small)
 
 add-at-2 : tie.Need-add-at-2 Inv-loop μ-loop
 add-at-2 c =
     let n = measuring (probing (c .before .before)) in
     let t = n .before in
-    omega (arith, n .whole-length .ensures .1, t .before .loop .inv .inside, begun t .pre .small)
+    omega (arith, n .whole-length .ensures .small, t .before .loop .inv .inside, begun t .pre .small)
 
 sub-left : tie.Need-sub-left Inv-loop μ-loop
 sub-left c = omega (arith, turn (probing (c .before .before)) .loop-test .taken)

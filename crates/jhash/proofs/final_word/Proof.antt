@@ -12,7 +12,7 @@ returns c =
     let start = c .before .before .before in
     let w = start .args .w in
     c .minus .ensures
-    ∙ ap (sub32 (bitXor (w .c) (w .b))) (by-amount (w .b) (start .args .k) (c .before .rotate-left .ensures) (start .pre .1))
+    ∙ ap (sub32 (bitXor (w .c) (w .b))) (by-amount (w .b) (start .args .k) (c .before .rotate-left .ensures) (start .pre))
 
 pub final-word-spec : {M : Type 1} → statement M
 final-word-spec = tie.close (tie.spec (λ c κs. search needs) (λ c κs. search needs) returns)

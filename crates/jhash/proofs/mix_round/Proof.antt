@@ -11,7 +11,7 @@ unfolding mixRound
 returns c =
     let start = c .before .before .before in
     let w = start .args .w in
-    let rotated = by-amount (w .c) (start .args .k) (c .before .before .rotate-left .ensures) (start .pre .1) in
+    let rotated = by-amount (w .c) (start .args .k) (c .before .before .rotate-left .ensures) (start .pre) in
     λ i. record {
       a = w .b;
       b = c .wrapping-add-u32 .ensures i;

@@ -4,6 +4,7 @@ use native.Mathlib.Omega.{arith}
 use mathlib.Core.Path.{sym, ap, _∙_}
 use borrow.Author.Tests.{not-true, not-false}
 use Rattle.reader.specs.Cases.{openedOf}
+use Rattle.canonical.specs.Canonical.{counted}
 use Rattle.one_to_one.proofs.Answers.{refused, answered, never-refused}
 use borrow.Author.Needs.{needs}
 use Rattle.one_to_one.proofs.one_to_one.Statement.{statement}
@@ -20,7 +21,7 @@ first-failure-requires c κs =
     let own = opened .before .before .is-canonical in
     record {
       canonical = sym (own .ensures) ∙ not-false (own .result) (opened .before .if1 .left);
-      opens = sym (opened .«open» .ensures) ∙ ap openedOf (c .before .n .given .1);
+      number = ap counted (ap openedOf (sym (c .before .n .given .1)) ∙ opened .«open» .ensures);
     }
 
 returns-2 : tie.Need-returns-2

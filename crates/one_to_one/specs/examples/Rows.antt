@@ -36,8 +36,8 @@ crane id = record { name = 99 ∷ 114 ∷ 97 ∷ 110 ∷ 101 ∷ []; id = id }
 abbrev mole : ℕ → Entry
 mole id = record { name = 109 ∷ 111 ∷ 108 ∷ 101 ∷ []; id = id }
 
-abbrev pub rows : List Row
-rows =
+abbrev pub oneToOneRows : List Row
+oneToOneRows =
     -- without entries
     row Twoway [] none
     -- two names and two ids; one put made twice

@@ -1,5 +1,5 @@
 -- What the functions of a search need and promise.
-use Prim.Native.Nat.{ℕ, _+_, _*_, _≤_, _<_}
+use Prim.Native.Nat.{ℕ, _+_, _*_, _/_, _≤_, _<_}
 use mathlib.Core.Path.{_≡_}
 use mathlib.Core.Bool.{true, false}
 use mathlib.Core.List.{List}
@@ -24,6 +24,11 @@ pub record EarlyMissPre (image : List ℕ) (h o n k : ℕ) : Type 0 where
   pub starts : k ≡ start h n
   pub bucket : k < n
   pub inside : o + 8 * n ≤ length image
+
+-- a search for a hash in a table of n buckets that has read c of them; the sum is a word
+pub record BucketAfterPre (h c n : ℕ) : Type 0 where
+  pub some : 0 < n
+  pub small : h / 256 + c < 4294967296
 
 -- r is the place, counted from 1, of the first 0 of three numbers; a place of 0 promises nothing
 pub record FirstZero (x y z r : ℕ) : Type 0 where

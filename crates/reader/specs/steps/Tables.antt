@@ -3,6 +3,8 @@ use Prim.Native.Nat.{ℕ, _+_, _*_, _/_, _%_, _^_, _≤_, _<_}
 use mathlib.Core.Path.{_≡_}
 use mathlib.Core.Bool.{false}
 use mathlib.Core.List.{List}
+use lib.ListN.{length}
+use Rattle.image.specs.Image.{headSize}
 use Rattle.reader.specs.Open.{someLeaves, halves}
 use Rattle.reader.specs.declared.opening.Tables.{Tables}
 
@@ -15,3 +17,8 @@ pub record TableAdded (all : Tables) (size o n : ℕ) (r : Tables) : Type 0 wher
 pub record AllTables (image : List ℕ) (r : Tables) : Type 0 where
   pub num-is : r .num ≡ halves image 0 256 % 2 ^ 32
   pub none-leaves : r .slacks < 2 ^ 63 → someLeaves image 0 256 ≡ false
+
+-- the head is there, and where the bitwise or of all slacks is below 2^63, no table leaves the image
+pub record SomeLeavesPre (image : List ℕ) (slacks : ℕ) : Type 0 where
+  pub head : headSize ≤ length image
+  pub none-leaves : slacks < 2 ^ 63 → someLeaves image 0 256 ≡ false

@@ -1,6 +1,7 @@
 -- `search_length::average` meets its contract. Assumes nothing.
 use Prim.Native.Nat.{_<_}
 use native.Mathlib.Omega.{arith}
+use mathlib.Core.Path.{refl}
 use borrow.Author.Needs.{needs}
 use Rattle.search_length.proofs.Answers as answers
 use Rattle.search_length.proofs.average.Statement.{statement}
@@ -29,6 +30,18 @@ div-t9 c = omega (arith, some (c .before .before))
 rem-t10 : tie.Need-rem-t10
 rem-t10 c = omega (arith, some (c .before .before))
 
+count-lengths-requires : tie.Need-count-lengths-requires
+count-lengths-requires c κs =
+    let e = c .before in
+    let r = e .before .first-refusal in
+    let valid = e .before .before .is-canonical in
+    let number = e .before .before .before .entries in
+    let a = e .before .before .before .before .before .args in
+    record {
+      own = answers.accepted (a .image .now) (number .result) (number .ensures) (valid .result) (r .result) (valid .ensures) (r .ensures) (e .if1 .left);
+      zeros = refl;
+    }
+
 returns-2 : tie.Need-returns-2
 returns-2 c =
     let e = c .before .before in
@@ -48,7 +61,7 @@ average-spec =
     (λ c κs. search needs)
     (λ c κs. search needs)
     returns
-    (λ c κs. search needs)
+    count-lengths-requires
     (λ c. search needs)
     div-t9
     rem-t10

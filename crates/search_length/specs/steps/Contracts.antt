@@ -2,16 +2,10 @@
 use Prim.Native.Nat.{ℕ, _<_}
 use mathlib.Core.Path.{_≡_}
 use mathlib.Core.List.{List}
-use lib.ListN.{getD, drop, replicate}
-use Rattle.image.specs.Bytes.{word}
-use Rattle.image.specs.Image.{headSize}
-use Rattle.image.specs.Stored.{entriesIn}
-use Rattle.search_length.specs.SearchLengths.{totalOf, binOf, lengthsFrom}
-use Rattle.search_length.specs.Average.{averageRefusal, afterLengths}
-
-pub record LengthWord (rest : List ℕ) (r : ℕ) : Type 0 where
-  pub is : r ≡ word rest 4
-  pub small : r < 4294967296
+use lib.ListN.{getD, replicate}
+use Rattle.canonical.specs.steps.Contracts.{CanonicalImage}
+use Rattle.search_length.specs.SearchLengths.{binOf}
+use Rattle.search_length.specs.Average.{total, averageRefusal, lengthsOf, afterLengths}
 
 pub record Bin (n r : ℕ) : Type 0 where
   pub is : r ≡ binOf n
@@ -21,10 +15,15 @@ pub record RaisePre (counts : List ℕ) (k : ℕ) : Type 0 where
   pub inside : k < 16
   pub small : getD counts k 0 < 4294967295
 
--- the counts and the total of n entries
-pub record Counted (img : List ℕ) (n : ℕ) (counts : List ℕ) (r : ℕ) : Type 0 where
-  pub lengths : counts ≡ lengthsFrom img (replicate 16 0) (entriesIn n (drop headSize img))
-  pub total : r ≡ totalOf img (entriesIn n (drop headSize img))
+-- a canonical image of n entries, and 16 counts that are 0
+pub record CountPre (img : List ℕ) (n : ℕ) (counts : List ℕ) : Type 0 where
+  pub own : CanonicalImage img n
+  pub zeros : counts ≡ replicate 16 0
+
+-- the counts and the total of its entries
+pub record Counted (img counts : List ℕ) (r : ℕ) : Type 0 where
+  pub lengths : counts ≡ lengthsOf img
+  pub total : r ≡ total img
 
 -- what `lengths` answers, and the list after it
 pub record Lengths (img counts₀ counts : List ℕ) (r : ℕ) : Type 0 where

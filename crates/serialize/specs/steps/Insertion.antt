@@ -14,21 +14,7 @@ use Rattle.image.specs.declared.Mode.{Mode}
 use Rattle.image.specs.declared.Mode.the-variants.{Twoway, Oneway}
 use Rattle.image.specs.Stored.{between}
 use Rattle.image.specs.steps.EntryLength.{wholeLength}
-
--- ---- a search for an empty bucket
-
--- the n buckets at o lie in the buffer, and the search starts at one of them
-pub record ProbePre (buf : List ℕ) (o n k : ℕ) : Type 0 where
-  pub inside : o + 8 * n ≤ length buf
-  pub begins : k < n
-
--- the offset in bucket i of the table at o
-abbrev pub offsetAt : List ℕ → ℕ → ℕ → ℕ
-offsetAt buf o i = word buf (o + 8 * i + 4)
-
-pub record EmptyBucket (buf : List ℕ) (o n k r : ℕ) : Type 0 where
-  pub is : r ≡ firstEmpty (offsetAt buf o) (probeSequence n n k)
-  pub below : r < n
+use Rattle.image.specs.steps.Contracts.{offsetAt}
 
 -- ---- a pair of hash and offset
 
@@ -36,6 +22,11 @@ pub record EmptyBucket (buf : List ℕ) (o n k r : ℕ) : Type 0 where
 pub record TableIn (buf : List ℕ) (o n : ℕ) : Type 0 where
   pub some : 0 < n
   pub inside : o + 8 * n ≤ length buf
+
+-- both words of a table's row
+pub record HoldsTablePre (o n : ℕ) : Type 0 where
+  pub offset-word : o < 4294967296
+  pub number-word : n < 4294967296
 
 abbrev pub holdsTable : List ℕ → ℕ → ℕ → Bool
 holdsTable buf o n = leb 1 n && leb (o + 8 * n) (length buf)
@@ -65,6 +56,11 @@ pub record EntryPre (at n : ℕ) (buf : List ℕ) : Type 0 where
   pub some : 1 ≤ n
   pub length-word : n < 4294967296
   pub offset-word : at < 4294967296
+
+-- and there is a back array at back-offset
+pub record InsertEntryPre (back-offset at n : ℕ) (buf : List ℕ) : Type 0 where
+  pub entry : EntryPre at n buf
+  pub back-word : back-offset < 4294967296
 
 -- the hash of its name
 unfoldable pub hashAt : List ℕ → ℕ → ℕ → ℕ

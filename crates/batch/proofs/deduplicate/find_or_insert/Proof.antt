@@ -55,7 +55,7 @@ loop-holds c =
     record {
       holds = s .pre .holds;
       rest =
-          subst (Remaining (slotIn keys (s .args .slots .now)) (equalTo (xs s) (s .args .i)) (getD keys (s .args .i) 0) 4096 4096) (sym (c .start .ensures .0))
+          subst (Remaining (slotIn keys (s .args .slots .now)) (equalTo (xs s) (s .args .i)) (getD keys (s .args .i) 0) 4096 4096) (sym (c .start .ensures .is))
           (remaining-start (slotIn keys (s .args .slots .now)) (equalTo (xs s) (s .args .i)) (getD keys (s .args .i) 0) 4096 (omega arith));
     }
 
@@ -112,7 +112,7 @@ loop-again c =
     record {
       holds = inv .holds;
       rest = remaining-step (inv .rest) (turn .loop-test .taken) (told .before .if1 .left)
-          (λ e. sym (told .equal-names .ensures) ∙ c .before .if2 .left) (c .next .result) (c .next .ensures .0) (c .next .ensures .1);
+          (λ e. sym (told .equal-names .ensures) ∙ c .before .if2 .left) (c .next .result) (c .next .ensures .is) (c .next .ensures .inside);
     }
 
 same-length-3 : tie.Need-same-length-3 Inv-loop μ-loop
@@ -130,7 +130,6 @@ find-or-insert-spec =
     (tie.spec
     Inv-loop
     μ-loop
-    (λ c. search needs)
     (λ c. search needs)
     (λ c. search needs)
     (λ c κs. search needs)

@@ -13,7 +13,7 @@ inside : (c : tie.After-bucket-after)
 inside c =
     let t = c .before .before .before .table-of in
     let row = t .ensures .table (omega (arith, c .before .before .if1 .left)) in
-    omega (arith, row .offset, row .inside, c .bucket-after .ensures .1, c .before .word .ensures)
+    omega (arith, row .offset, row .inside, c .bucket-after .ensures .inside, c .before .word .ensures)
 
 returns : tie.Need-returns
 returns c =
@@ -48,7 +48,7 @@ returns-2 c =
       table = k .before .word .ensures;
       number = row .number;
       more = omega (arith, e .if1 .left);
-      bucket = k .bucket-after .ensures .0;
+      bucket = k .bucket-after .ensures .is;
       of-offset = read .before .word2 .ensures;
       of-hash = read .word3 .ensures;
       is-open = s .pre .is-open;

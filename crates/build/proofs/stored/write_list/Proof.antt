@@ -66,7 +66,7 @@ add-size : tie.Need-add-size
 add-size c = omega (arith, known c .small)
 
 clear-requires : tie.Need-clear-requires
-clear-requires c κs = (omega arith, known (c .before) .within)
+clear-requires c κs = record { order = omega arith; inside = known (c .before) .within }
 
 store-list-requires : tie.Need-store-list-requires
 store-list-requires c κs =

@@ -14,7 +14,7 @@ use Rattle.image.specs.Tables.{tableOf}
 use Rattle.image.specs.Zero.{hasZero}
 use Rattle.image.proofs.Bools.{false-not-true}
 use Rattle.packed.specs.Names.{names, nth}
-use Rattle.packed.specs.Keys.{key}
+use Rattle.jhash.specs.NameHash.{key}
 use Rattle.bulk_tables.specs.steps.Partition.{at, tableOfName}
 use Rattle.bulk_tables.specs.steps.Contracts.{Hashed, NoZeros}
 use Rattle.bulk_tables.proofs.TableCounts.{count-le}

@@ -49,7 +49,7 @@ inside : (c : tie.Else1 Inv-loop μ-loop)
 inside c =
     let l = (in-loop c) .before in
     let n = c .before .whole-length in
-    entering-inside (l .loop .inv .found) (start l .pre .area .inside) ((in-loop c) .loop-test .taken) (n .result) (n .ensures .0) (c .if1 .left)
+    entering-inside (l .loop .inv .found) (start l .pre .area .inside) ((in-loop c) .loop-test .taken) (n .result) (n .ensures .is) (c .if1 .left)
 
 loop-holds : tie.Need-loop-holds Inv-loop μ-loop
 loop-holds c =
@@ -65,13 +65,13 @@ prefetch-requires c κs =
 whole-length-requires : tie.Need-whole-length-requires Inv-loop μ-loop
 whole-length-requires c κs =
     let l = c .before .before .before .before .before in
-    (l .loop .inv .found .rest .inside, start l .pre .area .inside)
+    record { from = l .loop .inv .found .rest .inside; inside = start l .pre .area .inside }
 
 returns : tie.Need-returns Inv-loop μ-loop
 returns c =
     let t = c .before .before .before .before .before .before in
     let n = c .before .whole-length in
-    entering-broken (t .before .loop .inv .found) (start (t .before) .pre .area .inside) (t .loop-test .taken) (n .result) (n .ensures .0) (c .if1 .taken)
+    entering-broken (t .before .loop .inv .found) (start (t .before) .pre .area .inside) (t .loop-test .taken) (n .result) (n .ensures .is) (c .if1 .taken)
 
 sub-i : tie.Need-sub-i Inv-loop μ-loop
 sub-i c = let p = c .before .before .prefetch in omega (arith, p .ensures .some, p .ensures .cache .most)
@@ -103,16 +103,16 @@ array-read-check-entry-2 c = let p = c .before .before .before .before .before .
 check-entry-requires : tie.Need-check-entry-requires Inv-loop μ-loop
 check-entry-requires c κs =
     let e = c .before .before .before in
-    let area = start ((in-loop e) .before) .pre .area in
+    let pre = start ((in-loop e) .before) .pre in
     let n = e .before .whole-length in
     let p = e .before .before .prefetch .ensures in
     let r = inside e in
     record {
-      inside = omega (arith, area .inside);
+      inside = omega (arith, pre .area .inside);
       some = r .1;
-      small = omega (arith, area .small);
-      hash = cached-hash (p .cache) (p .some) (n .result) (n .ensures .0) (e .if1 .left);
-      bucket = cached-bucket (p .cache) (p .some) (n .result) (n .ensures .0) (e .if1 .left);
+      small = omega (arith, pre .area .small);
+      hash = cached-hash (p .cache) (p .some) (n .result) (n .ensures .is) (e .if1 .left);
+      cached = record { bucket = cached-bucket (p .cache) (p .some) (n .result) (n .ensures .is) (e .if1 .left); tables = pre .tables };
     }
 
 returns-2 : tie.Need-returns-2 Inv-loop μ-loop
@@ -124,7 +124,7 @@ returns-2 c =
     let link = c .before .before .before .get-u32 in
     let forward = c .before .before .not-before in
     let entry = c .before .check-entry in
-    entering-wrong (l .loop .inv .found) (start l .pre .area .inside) ((in-loop e) .loop-test .taken) (n .result) (n .ensures .0) (e .if1 .left) (id .result) (link .result)
+    entering-wrong (l .loop .inv .found) (start l .pre .area .inside) ((in-loop e) .loop-test .taken) (n .result) (n .ensures .is) (e .if1 .left) (id .result) (link .result)
     (id .ensures .is) (link .ensures) (forward .result) (entry .result) (forward .ensures) (entry .ensures) (not-true _ (c .if2 .taken))
 
 raise-requires : tie.Need-raise-requires Inv-loop μ-loop
@@ -178,11 +178,11 @@ loop-again c =
     record {
       found =
           rw (c .before .larger .ensures)
-          (entering-next (l .loop .inv .found) (start l .pre .area .inside) ((in-loop e) .loop-test .taken) (n .result) (n .ensures .0) (e .if1 .left) (id .result)
+          (entering-next (l .loop .inv .found) (start l .pre .area .inside) ((in-loop e) .loop-test .taken) (n .result) (n .ensures .is) (e .if1 .left) (id .result)
           (link .result) (id .ensures .is) (link .ensures) (forward .result) (entry .result) (forward .ensures) (entry .ensures) (not-false _ (v .if2 .left)) (hash e)
-          (c .one-if-equal .result) (raised .last .0) (cached-hash (p .cache) (p .some) (n .result) (n .ensures .0) (e .if1 .left)) (n .ensures .1)
+          (c .one-if-equal .result) (raised .last .0) (cached-hash (p .cache) (p .some) (n .result) (n .ensures .is) (e .if1 .left)) (n .ensures .small)
           (id .ensures .small) (c .one-if-equal .ensures) (raised .ensures));
-      cache = cached-next (p .cache) (p .some) (n .result) (n .ensures .0) (e .if1 .left);
+      cache = cached-next (p .cache) (p .some) (n .result) (n .ensures .is) (e .if1 .left);
     }
 
 returns-3 : tie.Need-returns-3 Inv-loop μ-loop

@@ -9,10 +9,10 @@ returns c =
     let a = c .before .before .before .before .args in
     let name = c .before .before .name-at in
     let zero = c .before .has-zero in
-    name-zero (a .image .now) (a .at) (a .n) (name .result .now) (zero .result) (name .ensures .0) (zero .ensures) (c .if1 .taken)
+    name-zero (a .image .now) (a .at) (a .n) (name .result .now) (zero .result) (name .ensures .is) (zero .ensures) (c .if1 .taken)
 
 in-bucket-cached-requires : tie.Need-in-bucket-cached-requires
-in-bucket-cached-requires c κs = c .before .before .before .before .pre .bucket
+in-bucket-cached-requires c κs = c .before .before .before .before .pre .cached
 
 returns-2 : tie.Need-returns-2
 returns-2 c =
@@ -21,7 +21,7 @@ returns-2 c =
     let name = c .before .before .before .name-at in
     let zero = c .before .before .has-zero in
     let found = c .in-bucket-cached in
-    name-bucket (a .image .now) (a .at) (a .n) (name .result .now) (zero .result) (name .ensures .0) (zero .ensures) (a .h) (found .result) (c .before .if1 .left)
+    name-bucket (a .image .now) (a .at) (a .n) (name .result .now) (zero .result) (name .ensures .is) (zero .ensures) (a .h) (found .result) (c .before .if1 .left)
     (s .pre .hash) (found .ensures)
 
 pub check-entry-spec : {M : Type 1} → statement M

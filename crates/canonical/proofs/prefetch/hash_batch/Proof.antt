@@ -4,7 +4,7 @@ use native.Mathlib.Omega.{arith}
 use Prim.Native.Nat.{_+_, _-_, _≤_}
 use mathlib.Core.Path.{ap, _∙_}
 use Rattle.jhash.specs.NameHash.{hashOf}
-use Rattle.jhash.proofs.Outcomes.{result-refused, result-name-hash}
+use Rattle.jhash.proofs.Outcomes.{key-short}
 use Rattle.image.proofs.Between.{entry-room}
 use Rattle.canonical.proofs.CachedEntries.{Hashing, hashing-start, hashing-next, hashing-broken, hashing-all}
 use Rattle.canonical.proofs.prefetch.hash_batch.Statement.{statement}
@@ -18,7 +18,7 @@ abbrev μ-loop : tie.MeasureT-loop
 
 -- from the place behind the call of first_place to that behind whole_length, and from there to the start
 abbrev whole : tie.After-first-place Inv-loop μ-loop → tie.Else1 Inv-loop μ-loop
-whole c = c .before .before .before .before .before .before
+whole c = c .before .before .before
 
 abbrev start : tie.Else1 Inv-loop μ-loop → tie.Start Inv-loop μ-loop
 start c = c .before .before .before .before .before
@@ -29,28 +29,21 @@ room : (c : tie.Else1 Inv-loop μ-loop)
 room c =
     let l = c .before .before .before .loop in
     let n = c .before .whole-length in
-    entry-room (start c .args .image .now) (l .at) (start c .args .end) (n .result) (l .inv .inside) (start c .pre .area .inside) (n .ensures .0) (c .if1 .left)
+    entry-room (start c .args .image .now) (l .at) (start c .args .end) (n .result) (l .inv .inside) (start c .pre .area .inside) (n .ensures .is) (c .if1 .left)
 
 loop-holds : tie.Need-loop-holds Inv-loop μ-loop
 loop-holds c = hashing-start (c .before .pre)
 
 whole-length-requires : tie.Need-whole-length-requires Inv-loop μ-loop
-whole-length-requires c κs = (c .before .loop .inv .inside, c .before .before .before .pre .area .inside)
+whole-length-requires c κs = record { from = c .before .loop .inv .inside; inside = c .before .before .before .pre .area .inside }
 
 returns : tie.Need-returns Inv-loop μ-loop
 returns c =
     let w = c .before .whole-length in
-    hashing-broken (c .before .before .before .loop .inv) (w .result) (w .ensures .0) (c .if1 .taken)
+    hashing-broken (c .before .before .before .loop .inv) (w .result) (w .ensures .is) (c .if1 .taken)
 
 name-at-requires : tie.Need-name-at-requires Inv-loop μ-loop
-name-at-requires c κs = let r = room c in (omega (arith, start c .pre .area .inside), r .1)
-
-returns-2 : tie.Need-returns-2 Inv-loop μ-loop
-returns-2 c =
-    let hashed = c .before .before .name-hash in
-    let name = c .before .before .before .name-at in
-    let n = c .before .before .before .before .before .whole-length in
-    absurd (omega (arith, result-refused (name .result .now) 0 (hashed .result) (hashed .ensures) (c .enum-told .given .1), name .ensures .1, n .ensures .1))
+name-at-requires c κs = let r = room c in record { inside = omega (arith, start c .pre .area .inside); some = r .1 }
 
 mul-hashes : tie.Need-mul-hashes Inv-loop μ-loop
 mul-hashes c = omega (arith, whole c .before .before .loop-test .taken)
@@ -80,15 +73,14 @@ loop-again : tie.Need-loop-again Inv-loop μ-loop
 loop-again c =
     let e = whole c in
     let w = e .before .whole-length in
-    let hashed = c .before .before .before .before .name-hash in
-    let name = c .before .before .before .before .before .name-at in
-    let h = c .before .before .h .given .0 .0 in
-    let is = result-name-hash (name .result .now) (hashed .result) h (hashed .ensures) (c .before .before .h .given .1) .1 in
-    hashing-next (e .before .before .before .loop .inv) (start e .pre .area .inside) (w .result) (w .ensures .0) (e .if1 .left) (e .before .before .loop-test .taken)
-    h (c .first-place .result) (is ∙ ap hashOf (name .ensures .0)) (c .first-place .ensures)
+    let name = c .before .before .name-at in
+    let h = c .before .key in
+    let short = key-short (name .result .now) (omega (arith, name .ensures .size, w .ensures .small, room e .1)) in
+    hashing-next (e .before .before .before .loop .inv) (start e .pre .area .inside) (w .result) (w .ensures .is) (e .if1 .left) (e .before .before .loop-test .taken)
+    (h .result) (c .first-place .result) (h .ensures ∙ short ∙ ap hashOf (name .ensures .is)) (c .first-place .ensures)
 
-returns-3 : tie.Need-returns-3 Inv-loop μ-loop
-returns-3 c = hashing-all (c .before .loop .inv) (omega (arith, c .loop-test .left))
+returns-2 : tie.Need-returns-2 Inv-loop μ-loop
+returns-2 c = hashing-all (c .before .loop .inv) (omega (arith, c .loop-test .left))
 
 pub hash-batch-spec : {M : Type 1} → statement M
 hash-batch-spec =
@@ -101,9 +93,6 @@ hash-batch-spec =
     returns
     name-at-requires
     (λ c κs. search needs)
-    (λ c. search needs)
-    (λ c. search needs)
-    returns-2
     (λ c κs. search needs)
     mul-hashes
     element-write-hashes
@@ -114,4 +103,4 @@ hash-batch-spec =
     add-i
     loop-less
     loop-again
-    returns-3)
+    returns-2)

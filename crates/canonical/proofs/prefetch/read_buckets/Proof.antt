@@ -1,20 +1,25 @@
 -- `canonical::prefetch::read_buckets` meets its contract. Assumes nothing.
 use borrow.Author.Needs.{needs}
 use native.Mathlib.Omega.{arith}
-use Prim.Native.Nat.{_-_, _≤_}
+use Prim.Native.Nat.{ℕ, _-_, _≤_}
+use mathlib.Core.List.{List}
 use Rattle.canonical.specs.steps.Contracts.{BucketsRead}
 use Rattle.canonical.proofs.CachedEntries.{read-next}
 use Rattle.canonical.proofs.prefetch.read_buckets.Statement.{statement}
 use Rattle.canonical.proofs.prefetch.read_buckets.Tie as tie
 
+record Reading (image places firsts : List ℕ) (i : ℕ) : Type 0 where
+  few : i ≤ 256
+  read : BucketsRead image places firsts i
+
 abbrev Inv-loop : tie.InvT-loop
-Inv-loop image places firsts₀ i₀ firsts i = (i ≤ 256) × BucketsRead image places firsts i
+Inv-loop image places firsts₀ i₀ firsts i = Reading image places firsts i
 
 abbrev μ-loop : tie.MeasureT-loop
 μ-loop image places firsts₀ i₀ firsts i = 256 - i
 
 loop-holds : tie.Need-loop-holds Inv-loop μ-loop
-loop-holds c = (omega arith, record { firsts-long = c .before .pre .firsts-long; words = λ k h. absurd (omega arith) })
+loop-holds c = record { few = omega arith; read = record { firsts-long = c .before .pre .firsts-long; words = λ k h. absurd (omega arith) } }
 
 mul-get-u32 : tie.Need-mul-get-u32 Inv-loop μ-loop
 mul-get-u32 c = omega (arith, c .loop-test .taken)
@@ -37,12 +42,12 @@ loop-less c = omega (arith, c .before .before .loop-test .taken)
 loop-again : tie.Need-loop-again Inv-loop μ-loop
 loop-again c =
     let more = c .before .before .loop-test .taken in
-    (omega (arith, more), read-next (c .before .before .before .loop .inv .1) (c .get-u32 .result) more (c .get-u32 .ensures))
+    record { few = omega (arith, more); read = read-next (c .before .before .before .loop .inv .read) (c .get-u32 .result) more (c .get-u32 .ensures) }
 
 returns : tie.Need-returns Inv-loop μ-loop
 returns c =
     let l = c .before .loop in
-    record { firsts-long = l .inv .1 .firsts-long; words = λ k h. l .inv .1 .words k (omega (arith, c .loop-test .left)) }
+    record { firsts-long = l .inv .read .firsts-long; words = λ k h. l .inv .read .words k (omega (arith, c .loop-test .left)) }
 
 pub read-buckets-spec : {M : Type 1} → statement M
 read-buckets-spec =

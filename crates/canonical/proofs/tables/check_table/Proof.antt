@@ -1,16 +1,21 @@
 -- `canonical::tables::check_table` meets its contract. Assumes nothing.
 use native.Mathlib.Omega.{arith}
 use borrow.Author.Needs.{needs}
-use Prim.Native.Nat.{_+_, _*_, _-_}
+use Prim.Native.Nat.{ℕ, _+_, _*_, _-_}
 use mathlib.Core.Path.{_≡_, refl, ap, _∙_}
-use mathlib.Core.Bool.{_&&_}
+use mathlib.Core.Bool.{Bool, _&&_}
+use mathlib.Core.List.{List}
 use Rattle.canonical.specs.steps.HiddenBuckets.{bit}
 use Rattle.canonical.proofs.TableLoops.{Buckets, buckets-start, buckets-next, buckets-end}
 use Rattle.canonical.proofs.tables.check_table.Statement.{statement}
 use Rattle.canonical.proofs.tables.check_table.Tie as tie
 
+record Checking (image : List ℕ) (o c n : ℕ) (clean : Bool) (used k : ℕ) : Type 0 where
+  number : n ≡ 2 * c
+  buckets : Buckets image o n k clean used
+
 abbrev Inv-loop : tie.InvT-loop
-Inv-loop image o c n clean₀ used₀ k₀ clean used k = (n ≡ 2 * c) × Buckets image o n k clean used
+Inv-loop image o c n clean₀ used₀ k₀ clean used k = Checking image o c n clean used k
 
 abbrev μ-loop : tie.MeasureT-loop
 μ-loop image o c n clean₀ used₀ k₀ clean used k = n - k
@@ -18,7 +23,7 @@ abbrev μ-loop : tie.MeasureT-loop
 loop-holds : tie.Need-loop-holds Inv-loop μ-loop
 loop-holds c =
     let a = c .before .args in
-    (refl, buckets-start (a .image .now) (a .o) (2 * a .c))
+    record { number = refl; buckets = buckets-start (a .image .now) (a .o) (2 * a .c) }
 
 -- the buckets up to this one
 next : (c : tie.After-used-bit Inv-loop μ-loop)
@@ -27,17 +32,17 @@ next : (c : tie.After-used-bit Inv-loop μ-loop)
     Buckets (a .image .now) (a .o) (2 * a .c) (l .k + 1) (l .clean && c .before .before .clean-bucket .result) (l .used + c .used-bit .result)
 next c =
     let bucket = c .before .before .clean-bucket in
-    buckets-next (c .before .before .before .before .loop .inv .1) (c .before .before .before .loop-test .taken) (bucket .result) (c .used-bit .result) (bucket .ensures)
+    buckets-next (c .before .before .before .before .loop .inv .buckets) (c .before .before .before .loop-test .taken) (bucket .result) (c .used-bit .result) (bucket .ensures)
     (c .used-bit .ensures ∙ ap (bit 1) (c .before .word .ensures))
 
 add-used : tie.Need-add-used Inv-loop μ-loop
 add-used c = let b = next c in omega (arith, b .few, b .inside)
 
 loop-again : tie.Need-loop-again Inv-loop μ-loop
-loop-again c = (refl, next c)
+loop-again c = record { number = refl; buckets = next c }
 
 returns : tie.Need-returns Inv-loop μ-loop
-returns c = buckets-end (c .before .loop .inv .1) (c .before .before .before .args .c) (omega arith) refl
+returns c = buckets-end (c .before .loop .inv .buckets) (c .before .before .before .args .c) (omega arith) refl
 
 pub check-table-spec : {M : Type 1} → statement M
 check-table-spec =

@@ -58,9 +58,9 @@ loop-holds c =
     let image = a .image .now in
     let name = a .name .now in
     record {
-      bucket = c .start .ensures .1;
+      bucket = c .start .ensures .inside;
       most = search needs;
-      same = ap (λ (j : ℕ). anyMatch (a .id) (matchesRest image name (a .h) (a .at) (a .n) j (a .n))) (c .start .ensures .0)
+      same = ap (λ (j : ℕ). anyMatch (a .id) (matchesRest image name (a .h) (a .at) (a .n) j (a .n))) (c .start .ensures .is)
           ∙ ap (anyMatch (a .id)) (matches-start image name (a .h) (a .at) (a .n));
     }
 
@@ -90,9 +90,9 @@ loop-again : tie.Need-loop-again Inv-loop μ-loop
 loop-again c =
     let probed = c .before .before in
     record {
-      bucket = c .next .ensures .1;
+      bucket = c .next .ensures .inside;
       most = omega arith;
-      same = ap (λ (j : ℕ). anyMatch (wanted probed) (left-of probed j)) (c .next .ensures .0)
+      same = ap (λ (j : ℕ). anyMatch (wanted probed) (left-of probed j)) (c .next .ensures .is)
           ∙ ⊎-elim (λ w. step probed pass (ap probeOf (w .1 .given .1)))
           (λ w.
           let told = w .1 .given .0 .0 in

@@ -2,6 +2,7 @@
 use Prim.Native.Nat.{ℕ, _-_, _≤_}
 use native.Mathlib.Omega.{arith}
 use mathlib.Core.Path.{_≡_, sym, ap, _∙_}
+use mathlib.Core.List.{List}
 use borrow.Author.Needs.{needs}
 use Rattle.image.specs.Bytes.{all}
 use Rattle.consistency.specs.Panel.{agreeOn, readingsAgree}
@@ -10,8 +11,12 @@ use Rattle.consistency.proofs.Panels.{disagree, agree-further, agree-hi
 use Rattle.consistency.proofs.panel.readings_agree.Statement.{statement}
 use Rattle.consistency.proofs.panel.readings_agree.Tie as tie
 
+record Agreeing (image : List ℕ) (n id : ℕ) : Type 0 where
+  most : id ≤ n
+  same : all (agreeOn image) id (n - id) ≡ readingsAgree image
+
 abbrev Inv-loop : tie.InvT-loop
-Inv-loop image n id₀ id = (id ≤ n) × (all (agreeOn image) id (n - id) ≡ readingsAgree image)
+Inv-loop image n id₀ id = Agreeing image n id
 
 abbrev μ-loop : tie.MeasureT-loop
 μ-loop image n id₀ id = n - id
@@ -22,7 +27,7 @@ loop-holds c =
     let n = c .size-hint .result in
     let whole : n - 0 ≡ n = omega arith in
     let hint = c .size-hint .ensures ∙ ap (upperHint image) (c .before .iter .ensures) in
-    (omega arith, ap (all (agreeOn image) 0) whole ∙ agree-hinted image n hint)
+    record { most = omega arith; same = ap (all (agreeOn image) 0) whole ∙ agree-hinted image n hint }
 
 abbrev start : tie.After-agree-step Inv-loop μ-loop → tie.Start Inv-loop μ-loop
 start c = c .before .before .before .before .before .before
@@ -35,7 +40,7 @@ returns c =
     let less = c .before .before .loop-test .taken in
     let look = c .before .agree-step in
     let no = agree-step-zero (agreeOn image (of-loop .id)) (of-loop .id) (look .result) (look .ensures) (c .if1 .taken) in
-    sym (disagree image n (of-loop .id) less no) ∙ of-loop .inv .1
+    sym (disagree image n (of-loop .id) less no) ∙ of-loop .inv .same
 
 loop-less : tie.Need-loop-less Inv-loop μ-loop
 loop-less c =
@@ -55,7 +60,10 @@ loop-again c =
     let look = c .before .agree-step in
     let yes = agree-step-nonzero (agreeOn image (of-loop .id)) (of-loop .id) (look .result) (look .ensures) (c .if1 .left) in
     let next = agree-step-next (agreeOn image (of-loop .id)) (of-loop .id) (look .result) (look .ensures) (c .if1 .left) in
-    (omega arith, ap (λ (k : ℕ). all (agreeOn image) k (n - k)) next ∙ agree-further image n (of-loop .id) less yes ∙ of-loop .inv .1)
+    record {
+      most = omega arith;
+      same = ap (λ (k : ℕ). all (agreeOn image) k (n - k)) next ∙ agree-further image n (of-loop .id) less yes ∙ of-loop .inv .same;
+    }
 
 returns-2 : tie.Need-returns-2 Inv-loop μ-loop
 returns-2 c =
@@ -63,7 +71,7 @@ returns-2 c =
     let of-loop = c .before .loop in
     let n = c .before .before .size-hint .result in
     let done : n - of-loop .id ≡ 0 = omega (arith, c .loop-test .left) in
-    sym (ap (all (agreeOn image) (of-loop .id)) done ∙ agree-none image (of-loop .id)) ∙ of-loop .inv .1
+    sym (ap (all (agreeOn image) (of-loop .id)) done ∙ agree-none image (of-loop .id)) ∙ of-loop .inv .same
 
 pub readings-agree-spec : {M : Type 1} → statement M
 readings-agree-spec =

@@ -12,7 +12,7 @@ returns : tie.Need-returns
 returns c =
     let a = c .before .before .before .args in
     let size : a .start + a .len - a .start ≡ a .len = omega arith in
-    c .length-before-zero .ensures .0 ∙ ap (λ (n : ℕ). length (beforeZero (take n (drop (a .start) (a .image .now))))) size
+    c .length-before-zero .ensures .is ∙ ap (λ (n : ℕ). length (beforeZero (take n (drop (a .start) (a .image .now))))) size
 
 pub shown-length-spec : {M : Type 1} → statement M
 shown-length-spec =

@@ -12,7 +12,10 @@ returns c =
     let a = c .before .args in
     let rest = drop (a .at + 8) (a .buf .now) in
     let size : a .at + 7 + a .n - (a .at + 8) ≡ a .n - 1 = omega arith in
-    (ap (λ (m : ℕ). take m rest) size, omega (arith, length-take (a .at + 7 + a .n - (a .at + 8)) rest, length-drop (a .at + 8) (a .buf .now)))
+    record {
+      is = ap (λ (m : ℕ). take m rest) size;
+      size = omega (arith, length-take (a .at + 7 + a .n - (a .at + 8)) rest, length-drop (a .at + 8) (a .buf .now));
+    }
 
 pub name-at-spec : {M : Type 1} → statement M
 name-at-spec =

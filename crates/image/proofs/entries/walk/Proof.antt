@@ -2,12 +2,13 @@
 use Prim.Native.Nat.{_+_, _≤_, _<_}
 use native.Mathlib.Omega.{arith}
 use mathlib.Core.Path.{_≡_, refl, sym, _∙_}
-use Rattle.jhash.proofs.Outcomes.{result-refused, result-name-hash}
+use Rattle.jhash.specs.NameHash.{hashOf}
+use Rattle.jhash.proofs.Outcomes.{key-short}
 use Rattle.image.specs.Tables.{tableOf}
 use Rattle.image.specs.Stored.{between}
 use Rattle.image.proofs.Bools.{false-not-true}
 use Rattle.image.proofs.Between.{Front, front, entry-room}
-use Rattle.image.proofs.EntryWalk.{Rest, ContainsRest, WalkInv, walk-start, walk-step, walk-broken, walk-end, contains-step, contains-end}
+use Rattle.image.proofs.EntryWalk.{WalkInv, walk-start, walk-step, walk-broken, walk-end, contains-step, contains-end}
 use borrow.Author.Needs.{needs}
 use Rattle.image.proofs.entries.walk.Statement.{statement}
 use Rattle.image.proofs.entries.walk.Tie as tie
@@ -27,10 +28,10 @@ start e = e .before .before .before .before .before .before .before
 abbrev loop : tie.Else1 Inv-loop μ-loop → tie.At-loop Inv-loop μ-loop
 loop e = e .before .before .before
 
-abbrev hashed : tie.After-is-sought Inv-loop μ-loop → tie.After-name-hash Inv-loop μ-loop
-hashed c = c .before .before .before .before .before .before
+abbrev hashed : tie.After-is-sought Inv-loop μ-loop → tie.After-key2 Inv-loop μ-loop
+hashed c = c .before .before .before
 
-abbrev named : tie.After-name-hash Inv-loop μ-loop → tie.After-name-at Inv-loop μ-loop
+abbrev named : tie.After-key2 Inv-loop μ-loop → tie.After-name-at Inv-loop μ-loop
 named c = c .before .before .before
 
 abbrev entry : tie.After-is-sought Inv-loop μ-loop → tie.Else1 Inv-loop μ-loop
@@ -41,14 +42,21 @@ entry c = named (hashed c) .before
 -- what its length word says, and that it ends before the end
 known : (e : tie.Else1 Inv-loop μ-loop)
     → Front (between (start e .args .buf .now) (loop e .loop .at) (start e .args .end)) (e .before .whole-length .result)
-known e = front _ (e .before .whole-length .result) (e .before .whole-length .ensures .0) (e .if1 .left)
+known e = front _ (e .before .whole-length .result) (e .before .whole-length .ensures .is) (e .if1 .left)
 
 inside : (e : tie.Else1 Inv-loop μ-loop)
     → (loop e .loop .at + (8 + e .before .whole-length .result) ≤ start e .args .end) × (1 ≤ e .before .whole-length .result)
 inside e =
     let n = e .before .whole-length in
     entry-room (start e .args .buf .now) (loop e .loop .at) (start e .args .end) (n .result) (loop e .loop .inv .rest .inside)
-    (start e .pre .inside) (n .ensures .0) (e .if1 .left)
+    (start e .pre .inside) (n .ensures .is) (e .if1 .left)
+
+-- its hash
+hash : (k : tie.After-key2 Inv-loop μ-loop) → k .key2 .result ≡ hashOf (named k .name-at .result .now)
+hash k =
+    let name = named k .name-at in
+    let n = named k .before .before .whole-length in
+    k .key2 .ensures ∙ key-short (name .result .now) (omega (arith, name .ensures .size, n .ensures .small, inside (named k .before) .1))
 
 loop-holds : tie.Need-loop-holds Inv-loop μ-loop
 loop-holds c =
@@ -59,7 +67,7 @@ loop-holds c =
     }
 
 whole-length-requires : tie.Need-whole-length-requires Inv-loop μ-loop
-whole-length-requires c κs = (c .before .loop .inv .rest .inside, c .before .before .before .before .before .pre .inside)
+whole-length-requires c κs = record { from = c .before .loop .inv .rest .inside; inside = c .before .before .before .before .before .pre .inside }
 
 returns : tie.Need-returns Inv-loop μ-loop
 returns c =
@@ -67,14 +75,14 @@ returns c =
     let l = c .before .before .before .loop in
     record {
       whole-is = walk-broken (a .buf .now) (a .end) (a .entries) (a .counts .now) (l .at) (l .left) (l .back) (l .counts) (l .inv .rest)
-          (c .before .before .loop-test .taken) (sym (c .if1 .taken) ∙ c .before .whole-length .ensures .0);
+          (c .before .before .loop-test .taken) (sym (c .if1 .taken) ∙ c .before .whole-length .ensures .is);
       back-is = λ z. absurd (false-not-true z);
       contains-is = λ z. absurd (false-not-true z);
       counts-are = λ z. absurd (false-not-true z);
     }
 
 name-at-requires : tie.Need-name-at-requires Inv-loop μ-loop
-name-at-requires c κs = (omega (arith, inside c .0, start c .pre .inside), inside c .1)
+name-at-requires c κs = record { inside = omega (arith, inside c .0, start c .pre .inside); some = inside c .1 }
 
 word-requires : tie.Need-word-requires Inv-loop μ-loop
 word-requires c κs = omega (arith, inside (c .before) .0, start (c .before) .pre .inside)
@@ -82,26 +90,16 @@ word-requires c κs = omega (arith, inside (c .before) .0, start (c .before) .pr
 add-larger : tie.Need-add-larger Inv-loop μ-loop
 add-larger c = omega (arith, c .word .ok)
 
-returns-2 : tie.Need-returns-2 Inv-loop μ-loop
-returns-2 c =
-    let h = c .before .before in
-    let name = named h .name-at in
-    let n = named h .before .before .whole-length in
-    absurd (omega (arith, result-refused (name .result .now) 0 (h .name-hash .result) (h .name-hash .ensures) (c .enum-told .given .1), name .ensures .1, n .ensures .1))
-
 raise-requires : tie.Need-raise-requires Inv-loop μ-loop
 raise-requires c κs =
-    let e = named (c .before .before .before .before) .before in
-    let k = loop e .loop .inv .rest .counts-small (tableOf (c .before .before .h .given .0 .0)) in
+    let e = named (c .before) .before in
+    let k = loop e .loop .inv .rest .counts-small (tableOf (c .before .key2 .result)) in
     omega (arith, e .before .before .loop-test .taken, start e .fits .entries)
 
 is-sought-requires : tie.Need-is-sought-requires Inv-loop μ-loop
 is-sought-requires c κs =
-    let n = c .before .before .before .before .before in
-    let h = c .before .before .before .h .given in
-    let is = result-name-hash (named n .name-at .result .now) (n .name-hash .result) (h .0 .0) (n .name-hash .ensures) (h .1) in
-    let s = loop (named n .before) .before in
-    record { short = is .0; hash = is .1; wanted = s .sought-hash .ensures }
+    let k = c .before .before in
+    record { named = k .key2 .ensures; wanted = loop (named k .before) .before .key .ensures }
 
 add-at : tie.Need-add-at Inv-loop μ-loop
 add-at c = omega (arith, inside (entry c) .0, start (entry c) .good, start (entry c) .pre .inside)
@@ -124,21 +122,20 @@ loop-again c =
     let n = e .before .whole-length in
     let name = named (hashed c) .name-at in
     let id = hashed c .before .before .word in
-    let h = c .before .before .before .before .h .given in
-    let is = result-name-hash (name .result .now) (hashed c .name-hash .result) (h .0 .0) (hashed c .name-hash .ensures) (h .1) in
     let small : id .result < 4294967296 = omega (arith, id .ok) in
     record {
       rest = rw (hashed c .before .larger .ensures)
           (walk-step (a .buf .now) (a .end) (a .entries) (a .counts .now) (l .at) (l .left) (l .back) (l .counts) (start e .pre .inside) (l .inv .rest) some
-          (n .result) (h .0 .0) (id .result) (name .result .now) (c .before .raise .last .0) (known e) (n .ensures .1) small (name .ensures .0) (is .1)
+          (n .result) (hashed c .key2 .result) (id .result) (name .result .now) (c .before .raise .last .0) (known e) (n .ensures .small) small (name .ensures .is)
+          (hash (hashed c))
           (id .ensures) (c .before .raise .ensures));
       contains-rest = contains-step (a .buf .now) (a .end) (a .entries) (a .sought .now) (l .at) (l .left) (l .contains) (start e .pre .inside)
-          (l .inv .rest .inside) some (l .inv .contains-rest) (n .result) (name .result .now) (c .is-sought .result) (known e) (name .ensures .0)
+          (l .inv .rest .inside) some (l .inv .contains-rest) (n .result) (name .result .now) (c .is-sought .result) (known e) (name .ensures .is)
           (c .is-sought .ensures);
     }
 
-returns-3 : tie.Need-returns-3 Inv-loop μ-loop
-returns-3 c =
+returns-2 : tie.Need-returns-2 Inv-loop μ-loop
+returns-2 c =
     let s = c .before .before .before .before .before in
     let a = s .args in
     let l = c .before .loop in
@@ -168,9 +165,6 @@ walk-spec =
     add-larger
     (λ c κs. search needs)
     (λ c κs. search needs)
-    (λ c. search needs)
-    (λ c. search needs)
-    returns-2
     raise-requires
     is-sought-requires
     add-at
@@ -178,4 +172,4 @@ walk-spec =
     sub-left
     loop-less
     loop-again
-    returns-3)
+    returns-2)

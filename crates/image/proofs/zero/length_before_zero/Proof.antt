@@ -1,9 +1,8 @@
 -- `image::zero::length_before_zero` meets its contract. Assumes nothing.
-use Prim.Native.Nat.{_+_, _-_, _≤_}
+use Prim.Native.Nat.{_-_}
 use native.Mathlib.Omega.{arith}
-use mathlib.Core.Path.{_≡_, refl, ap}
-use lib.ListN.{length, drop}
-use Rattle.image.specs.Zero.{beforeZero}
+use mathlib.Core.Path.{refl, ap}
+use lib.ListN.{length}
 use Rattle.image.proofs.Zeros.{BeforeInv, before-none, before-there, before-further}
 use borrow.Author.Needs.{needs}
 use Rattle.image.proofs.zero.length_before_zero.Statement.{statement}
@@ -25,7 +24,7 @@ returns c =
     let less = c .before .before .loop-test .taken in
     let none = ap length (before-there (a .name .now) (of-loop .i) _ refl less (c .if1 .taken)) in
     let rest = of-loop .inv .rest in
-    (omega arith, omega arith)
+    record { is = omega arith; most = omega arith }
 
 loop-less : tie.Need-loop-less Inv-loop μ-loop
 loop-less c = omega arith
@@ -45,7 +44,7 @@ returns-2 c =
     let of-loop = c .before .loop in
     let none = before-none (a .name .now) (of-loop .i) (c .loop-test .left) in
     let rest = of-loop .inv .rest in
-    (omega arith, omega arith)
+    record { is = omega arith; most = omega arith }
 
 pub length-before-zero-spec : {M : Type 1} → statement M
 length-before-zero-spec =

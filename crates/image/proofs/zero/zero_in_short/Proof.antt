@@ -12,7 +12,7 @@ use Rattle.image.proofs.zero.zero_in_short.Tie as tie
 returns : tie.Need-returns
 returns c =
     let name = c .before .before .before .args .name .now in
-    ap (λ (k : ℕ). ltb k (length name)) (c .length-before-zero .ensures .0) ∙ before-test name
+    ap (λ (k : ℕ). ltb k (length name)) (c .length-before-zero .ensures .is) ∙ before-test name
 
 returns-2 : tie.Need-returns-2
 returns-2 c =

@@ -9,7 +9,7 @@ use Rattle.jhash.proofs.word.byte_or_zero.Tie as tie
 
 returns-2 : tie.Need-returns-2
 returns-2 c =
-    (sym (List·getD-eq-default (now (c .before .before .args .s)) 0 (c .if1 .left)), omega arith)
+    record { is = sym (List·getD-eq-default (now (c .before .before .args .s)) 0 (c .if1 .left)); small = omega arith }
 
 pub byte-or-zero-spec : {M : Type 1} → statement M
 byte-or-zero-spec = tie.close (tie.spec (λ c. search needs) (λ c κs. search needs) (λ c. search needs) returns-2)

@@ -10,7 +10,7 @@ returns c =
     let first = c .before .before .before .before .before .before .wide in
     let second = c .before .before .before .before .wide2 in
     let third = c .before .before .wide3 in
-    word-of (a .s .now) (a .at) _ _ _ _ (first .ensures .0) (second .ensures .0) (third .ensures .0) (c .wide4 .ensures .0)
+    word-of (a .s .now) (a .at) _ _ _ _ (first .ensures .is) (second .ensures .is) (third .ensures .is) (c .wide4 .ensures .is)
 
 pub word-spec : {M : Type 1} → statement M
 word-spec =

@@ -15,7 +15,7 @@ returns-2 c =
     let a = c .before .before .before .before .before .before .args in
     let first = c .before .before .wide in
     let second = c .before .byte-or-zero in
-    word-short (a .s .now) (a .at) _ _ _ (omega arith) (first .ensures .0) (second .ensures .0) (c .byte-or-zero2 .ensures .0)
+    word-short (a .s .now) (a .at) _ _ _ (omega arith) (first .ensures .is) (second .ensures .is) (c .byte-or-zero2 .ensures .is)
 
 pub word-near-end-spec : {M : Type 1} → statement M
 word-near-end-spec =

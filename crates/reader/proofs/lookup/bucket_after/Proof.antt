@@ -8,10 +8,10 @@ use Rattle.reader.proofs.lookup.bucket_after.Statement.{statement}
 use Rattle.reader.proofs.lookup.bucket_after.Tie as tie
 
 add-result : tie.Need-add-result
-add-result c = omega (arith, c .pre .1)
+add-result c = omega (arith, c .pre .small)
 
 returns : tie.Need-returns
-returns c = let a = c .args in (refl, mod-lt (a .h / 256 + a .c) {m = a .n} (c .pre .0))
+returns c = let a = c .args in record { is = refl; inside = mod-lt (a .h / 256 + a .c) {m = a .n} (c .pre .some) }
 
 pub bucket-after-spec : {M : Type 1} → statement M
 bucket-after-spec = tie.close (tie.spec add-result (λ c. search needs) returns)

@@ -34,7 +34,7 @@ returns-3 c =
     (lt-leb 4294967295 (length (a .name .now)) (t .before .if2 .left))
 
 bucket-after-requires : tie.Need-bucket-after-requires
-bucket-after-requires c κs = (omega (arith, c .if3 .left), c .before .before .before .before .before .before .pre)
+bucket-after-requires c κs = record { some = omega (arith, c .if3 .left); small = c .before .before .before .before .before .before .pre }
 
 sub-search-rest : tie.Need-sub-search-rest
 sub-search-rest c = omega (arith, c .before .if3 .left)
@@ -43,7 +43,7 @@ search-rest-requires : tie.Need-search-rest-requires
 search-rest-requires c κs =
     let t = c .before .before .table-of in
     let some : 0 < t .result .n = omega (arith, c .before .if3 .left) in
-    record { bucket = c .bucket-after .ensures .1; most = omega arith; inside = t .ensures .table some .inside }
+    record { bucket = c .bucket-after .ensures .inside; most = omega arith; inside = t .ensures .table some .inside }
 
 returns-4 : tie.Need-returns-4
 returns-4 c =
@@ -53,7 +53,7 @@ returns-4 c =
     let some : 0 < table .n = omega (arith, c .before .before .if3 .left) in
     let found = t .table-of .ensures .table some in
     let left-from : ℕ → Lookup = λ (k : ℕ). searchRest (a .image .now) (a .name .now) (a .h) (table .at) (table .n) k (table .n - a .c) in
-    c .search-rest .ensures ∙ ap left-from (c .before .bucket-after .ensures .0)
+    c .search-rest .ensures ∙ ap left-from (c .before .bucket-after .ensures .is)
     ∙ from-read (a .image .now) (a .name .now) (a .h) (a .c) (table .at) (table .n) (found .searched) (found .offset) (found .number)
     ∙ from-by (a .image .now) (a .name .now) (a .h) (a .c) false false (le-ltb (length (a .image .now)) 2072 (t .before .before .if1 .left))
     (lt-leb 4294967295 (length (a .name .now)) (t .before .if2 .left))

@@ -67,9 +67,9 @@ loop-again : tie.Need-loop-again Inv-loop μ-loop
 loop-again c =
     let probed = c .before .before .before in
     record {
-      bucket = c .next .ensures .1;
+      bucket = c .next .ensures .inside;
       most = omega arith;
-      same = ap (left-of probed) (c .next .ensures .0) ∙ step probed pass (ap probeOf (c .before .enum-told .given .1));
+      same = ap (left-of probed) (c .next .ensures .is) ∙ step probed pass (ap probeOf (c .before .enum-told .given .1));
     }
 
 returns-3 : tie.Need-returns-3 Inv-loop μ-loop

@@ -46,19 +46,19 @@ add-put-u32-2 : tie.Need-add-put-u32-2 Inv-loop μ-loop
 add-put-u32-2 c = omega arith
 
 mul-low : tie.Need-mul-low Inv-loop μ-loop
-mul-low c = omega (arith, c .before .before .before .before .before .before .before .wide .ensures)
+mul-low c = omega (arith, c .before .before .before .before .before .before .before .wide .ensures .small)
 
 -- the count that was read, where both words of the row are stored
 abbrev counted : tie.After-put-u322 Inv-loop μ-loop → tie.After-wide Inv-loop μ-loop
 counted c = c .before .before .before .before .before .before .before .before .before
 
 mul-o : tie.Need-mul-o Inv-loop μ-loop
-mul-o c = omega (arith, counted (c .before .before) .wide .ensures)
+mul-o c = omega (arith, counted (c .before .before) .wide .ensures .small)
 
 add-o : tie.Need-add-o Inv-loop μ-loop
 add-o c =
     let w = counted (c .before .before) in
-    omega (arith, w .wide .ensures, w .before .before .before .loop .inv .near, w .before .before .loop-test .taken)
+    omega (arith, w .wide .ensures .small, w .before .before .before .loop .inv .near, w .before .before .loop-test .taken)
 
 add-t : tie.Need-add-t Inv-loop μ-loop
 add-t c = omega arith
@@ -77,10 +77,10 @@ loop-again c =
       most = omega arith;
       long = stored .put-u322 .kept .0 ∙ first .put-u32 .kept .0 ∙ i .inv .long;
       leaves =
-          rows-step (w .before .before .before .before .before .args .counts .now) (i .buf) _ (i .o) (i .t) 256 less (w .wide .ensures .0)
+          rows-step (w .before .before .before .before .before .args .counts .now) (i .buf) _ (i .o) (i .t) 256 less (w .wide .ensures .is)
           (first .before .before .row-offset .ensures) (first .before .low .ensures)
           (stored .before .low2 .ensures) (first .put-u32 .ensures) (stored .put-u322 .ensures) (i .inv .leaves);
-      near = omega (arith, w .wide .ensures, i .inv .near);
+      near = omega (arith, w .wide .ensures .small, i .inv .near);
     }
 
 returns : tie.Need-returns Inv-loop μ-loop

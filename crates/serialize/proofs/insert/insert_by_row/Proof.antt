@@ -7,8 +7,8 @@ use Rattle.serialize.proofs.insert.insert_by_row.Tie as tie
 returns : tie.Need-returns
 returns c =
     let a = c .before .before .before .before .before .before .before .before .args in
-    row-none (a .buf .now) (a .h) (a .at) (c .before .before .before .before .before .table-at .ensures .0)
-    (c .before .before .before .bucket-number .ensures .0) (c .before .holds-table .ensures) (not-true _ (c .if1 .taken))
+    row-none (a .buf .now) (a .h) (a .at) (c .before .before .before .before .before .table-at .ensures .is)
+    (c .before .before .before .bucket-number .ensures .is) (c .before .holds-table .ensures) (not-true _ (c .if1 .taken))
 
 insert-pair-requires : tie.Need-insert-pair-requires
 insert-pair-requires c κs = table-in (c .before .before .holds-table .ensures) (not-false _ (c .before .if1 .left))
@@ -17,8 +17,8 @@ returns-2 : tie.Need-returns-2
 returns-2 c =
     let left = c .before .before .before .before in
     let a = left .before .before .before .before .before .before .before .before .args in
-    row-inserted (a .buf .now) (a .h) (a .at) (left .before .before .before .before .before .table-at .ensures .0)
-    (left .before .before .before .bucket-number .ensures .0) (left .before .holds-table .ensures)
+    row-inserted (a .buf .now) (a .h) (a .at) (left .before .before .before .before .before .table-at .ensures .is)
+    (left .before .before .before .bucket-number .ensures .is) (left .before .holds-table .ensures)
     (not-false _ (left .if1 .left)) (c .before .before .insert-pair .ensures)
 
 pub insert-by-row-spec : {M : Type 1} → statement M

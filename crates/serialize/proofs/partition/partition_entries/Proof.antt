@@ -22,8 +22,8 @@ entry : (c : tie.Else1 Inv-loop μ-loop)
 entry c =
     let l = c .before .before .before .before .loop in
     let n = c .before .whole-length in
-    entry-in (c .before .before .before .before .before .before .pre) (l .buf) (l .inv .long) (l .at) (n .result) (l .inv .inside) (n .ensures .0)
-    (n .ensures .1) (c .if1 .left)
+    entry-in (c .before .before .before .before .before .before .pre) (l .buf) (l .inv .long) (l .at) (n .result) (l .inv .inside) (n .ensures .is)
+    (n .ensures .small) (c .if1 .left)
 
 loop-holds : tie.Need-loop-holds Inv-loop μ-loop
 loop-holds c = record { inside = c .before .pre .low; long = refl; leaves = refl }
@@ -31,7 +31,7 @@ loop-holds c = record { inside = c .before .pre .low; long = refl; leaves = refl
 returns : tie.Need-returns Inv-loop μ-loop
 returns c =
     partitioned-broken (c .before .before .before .before .loop .inv) (c .before .before .before .loop-test .taken)
-    (c .before .whole-length .ensures .0) (c .if1 .taken)
+    (c .before .whole-length .ensures .is) (c .if1 .taken)
 
 partition-entry-requires : tie.Need-partition-entry-requires Inv-loop μ-loop
 partition-entry-requires c κs = (entry (c .before .before) .1, c .before .before .before .before .before .before .before .before .pre .back-word)
@@ -62,7 +62,7 @@ loop-again c =
     let e = read (c .before .before) in
     let done = c .before .before .partition-entry in
     partitioned-step (e .before .before .before .before .loop .inv) (e .before .before .before .loop-test .taken)
-    (e .before .whole-length .ensures .0) (e .if1 .left)
+    (e .before .whole-length .ensures .is) (e .if1 .left)
     (entry e .0) (done .last .1 .1 .1 .0) (done .last .1 .1 .0) (done .kept .1 .1 .0) (done .ensures)
 
 returns-2 : tie.Need-returns-2 Inv-loop μ-loop

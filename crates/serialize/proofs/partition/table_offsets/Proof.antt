@@ -38,10 +38,10 @@ element-write-places : tie.Need-element-write-places Inv-loop μ-loop
 element-write-places c = omega arith
 
 mul-o : tie.Need-mul-o Inv-loop μ-loop
-mul-o c = omega (arith, c .before .wide .ensures)
+mul-o c = omega (arith, c .before .wide .ensures .small)
 
 add-o : tie.Need-add-o Inv-loop μ-loop
-add-o c = omega (arith, c .before .wide .ensures, c .before .before .before .before .loop .inv .near, c .before .before .before .loop-test .taken)
+add-o c = omega (arith, c .before .wide .ensures .small, c .before .before .before .before .loop .inv .near, c .before .before .before .loop-test .taken)
 
 add-t : tie.Need-add-t Inv-loop μ-loop
 add-t c = omega arith
@@ -59,7 +59,7 @@ loop-again c =
       most = omega arith;
       leaves =
           table-offsets-step (a .counts .now) (i .places) _ (i .o) (i .t) 256 (c .low .result) (of-wide .result) less (c .low .ensures)
-          (of-wide .ensures .0) (i .inv .leaves);
+          (of-wide .ensures .is) (i .inv .leaves);
       near = omega (arith, of-wide .ensures, i .inv .near);
     }
 

@@ -31,17 +31,17 @@ fill-table-requires c κs =
     let l = c .before .before .before .before .before .loop in
     record {
       low = omega (arith, l .inv .near, c .before .before .before .before .loop-test .taken);
-      count-word = c .before .before .wide .ensures .1;
+      count-word = c .before .before .wide .ensures .small;
       copy-long = l .inv .copy-long;
     }
 
 mul-o : tie.Need-mul-o Inv-loop μ-loop
-mul-o c = omega (arith, c .before .before .before .before .before .before .wide .ensures)
+mul-o c = omega (arith, c .before .before .before .before .before .before .wide .ensures .small)
 
 add-o : tie.Need-add-o Inv-loop μ-loop
 add-o c =
     omega
-    (arith, c .before .before .before .before .before .before .wide .ensures, c .before .before .before .before .before .before .before .before .before .loop .inv .near, c .before .before .before .before .before .before .before .before .loop-test .taken)
+    (arith, c .before .before .before .before .before .before .wide .ensures .small, c .before .before .before .before .before .before .before .before .before .loop .inv .near, c .before .before .before .before .before .before .before .before .loop-test .taken)
 
 loop-less : tie.Need-loop-less Inv-loop μ-loop
 loop-less c = omega arith
@@ -57,8 +57,8 @@ loop-again c =
       most = omega arith;
       long = done .kept .0 ∙ l .inv .long;
       copy-long = done .kept .1 .1 .1 .0 ∙ l .inv .copy-long;
-      leaves = tables-step (a .counts .now) (l .buf) _ (l .o) (l .t) 256 (w .wide .result) less (w .wide .ensures .0) (done .ensures) (l .inv .leaves);
-      near = omega (arith, w .wide .ensures, l .inv .near);
+      leaves = tables-step (a .counts .now) (l .buf) _ (l .o) (l .t) 256 (w .wide .result) less (w .wide .ensures .is) (done .ensures) (l .inv .leaves);
+      near = omega (arith, w .wide .ensures .small, l .inv .near);
     }
 
 returns : tie.Need-returns Inv-loop μ-loop

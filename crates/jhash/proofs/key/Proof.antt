@@ -1,10 +1,9 @@
--- `packed::key` meets its contract. Assumes nothing.
+-- `jhash::key` meets its contract. Assumes nothing.
 use mathlib.Core.Path.{sym, _∙_}
-use Rattle.jhash.proofs.Outcomes.{result-name-hash, result-refused}
-use Rattle.packed.proofs.Keys.{key-short, key-long}
+use Rattle.jhash.proofs.Outcomes.{result-name-hash, result-refused, key-short, key-long}
 use borrow.Author.Needs.{needs}
-use Rattle.packed.proofs.key.Statement.{statement}
-use Rattle.packed.proofs.key.Tie as tie
+use Rattle.jhash.proofs.key.Statement.{statement}
+use Rattle.jhash.proofs.key.Tie as tie
 
 returns : tie.Need-returns
 returns c =
