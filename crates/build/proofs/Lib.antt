@@ -5,6 +5,7 @@ pub mod Whole
 pub mod AllPut
 pub mod ListWhole
 pub mod BulkBuilt
+pub mod AcceptedHashes
 pub mod SinglePuts
 pub mod Theorem
 pub mod Rows

@@ -17,7 +17,7 @@ use Rattle.serialize.specs.Serialize.{storedEntries, serialized}
 use Rattle.serialize.specs.Record.{finishedOf}
 use Rattle.serialize.specs.steps.Preconditions.{PrecomputedPre}
 use Rattle.build.specs.Needs.{idsBack}
-use Rattle.build.specs.steps.Stores.{entriesOf, StoreListPost, WriteListPre, WriteListPost}
+use Rattle.build.specs.steps.Stores.{listEntries, StoreListPost, WriteListPre, WriteListPost}
 use Rattle.packed.proofs.NameEnds.{begin-later}
 use Rattle.build.proofs.Needed.{sum-small}
 use Rattle.build.proofs.AllPut.{number-all, names-all, end-all, back-is, size-within, size-small, standing-all, stands-all}
@@ -61,10 +61,10 @@ module _ (l : List ℕ) (at m : ℕ) (room : at + m ≤ length l) (l′ : List �
 
 -- as the code has them
 pub record Numbers (mode : Mode) (buffer bytes ends ids : List ℕ) (end back at size : ℕ) : Type 0 where
-  pub end-is : end ≡ entriesEnd (entriesOf bytes ends ids)
-  pub back-is : back ≡ backSizeOf mode (entriesOf bytes ends ids)
-  pub at-is : at ≡ entriesEnd (entriesOf bytes ends ids) + 16 * length ends
-  pub size-is : size ≡ imageSize mode (entriesOf bytes ends ids)
+  pub end-is : end ≡ entriesEnd (listEntries bytes ends ids)
+  pub back-is : back ≡ backSizeOf mode (listEntries bytes ends ids)
+  pub at-is : at ≡ entriesEnd (listEntries bytes ends ids) + 16 * length ends
+  pub size-is : size ≡ imageSize mode (listEntries bytes ends ids)
   pub within : size ≤ length buffer
   pub small : size ≤ 4294967295
 
@@ -73,7 +73,7 @@ module _ {mode : Mode} {buffer bytes ends ids counts tables : List ℕ} (pre : W
   n = length ends
 
   abbrev es : List Entry
-  es = entriesOf bytes ends ids
+  es = listEntries bytes ends ids
 
   number : length es ≡ n
   number = number-all bytes ends ids (pre .packed) (pre .ids-long)

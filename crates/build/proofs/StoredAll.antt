@@ -24,7 +24,7 @@ use Rattle.serialize.proofs.InsertStep.{store-in, nextOf, placed-more, next-at}
 use Rattle.packed.specs.Names.{names, nth, beginOf}
 use Rattle.packed.proofs.NameEnds.{length-names, nth-name, begin-next, placed as ends-placed}
 use Rattle.writer.specs.Put.{entryOf}
-use Rattle.build.specs.steps.Stores.{entriesOf, StoreListPre, StoreListPost}
+use Rattle.build.specs.steps.Stores.{listEntries, StoreListPre, StoreListPost}
 use Rattle.build.proofs.Listed.{length-listed, nth-listed}
 
 -- ---- parts of a buffer
@@ -198,8 +198,8 @@ module _ (mode : Mode) (es qs rest : List Entry) (e : Entry) (split : es ≡ qs 
 pub record Along (mode : Mode) (bytes ends ids buf₀ buf : List ℕ) (i o start : ℕ) : Type 0 where
   pub inside : i ≤ length ends
   pub start-is : start ≡ beginOf ends i
-  pub here : o ≡ headSize + entriesSize (take i (entriesOf bytes ends ids))
-  pub storing : Storing mode (entriesOf bytes ends ids) (take i (entriesOf bytes ends ids)) buf₀ buf
+  pub here : o ≡ headSize + entriesSize (take i (listEntries bytes ends ids))
+  pub storing : Storing mode (listEntries bytes ends ids) (take i (listEntries bytes ends ids)) buf₀ buf
 
 -- room for an entry with a name of n bytes at o in a buffer of this length; the back array at `at` is in the image too
 pub record RoomFor (o at room n : ℕ) : Type 0 where
@@ -209,7 +209,7 @@ pub record RoomFor (o at room n : ℕ) : Type 0 where
 
 module _ {mode : Mode} {at : ℕ} {bytes ends ids buf₀ : List ℕ} (pre : StoreListPre mode at bytes ends ids buf₀) where
   abbrev es : List Entry
-  es = entriesOf bytes ends ids
+  es = listEntries bytes ends ids
 
   many : length (names bytes ends) ≤ length ids
   many = omega (arith, length-names bytes ends, pre .ids-long)

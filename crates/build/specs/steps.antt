@@ -2,3 +2,4 @@
 pub mod Capacity
 pub mod Steps
 pub mod Stores
+pub mod Hashes

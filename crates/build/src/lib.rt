@@ -3,12 +3,14 @@ ghost use mathlib.Core.Path.{_≡_};
 ghost use Prim.Native.Nat.{_<_};
 ghost use lib.ListN.{length};
 ghost use Rattle.writer.specs.State.{stateWith, refusesRepeats};
-ghost use Rattle.writer.specs.Close.{closeRefusal};
+ghost use Rattle.writer.specs.steps.Closing.{WriteClosedPre};
 ghost use Rattle.build.specs.Build.{buildRefusal, building, bufferAfter, answersAfter, builtOf};
-ghost use Rattle.build.specs.steps.Steps.{ListPre, ListBuilt, BulkTried, Finished};
+ghost use Rattle.build.specs.steps.Steps.{ListPre, ListBuilt, BulkPre, BulkTried, SinglyPre, Finished};
 use bulk_tables::build_tables;
 use bulk_tables::hashes::hash_all;
 use capacity::has_capacity;
+use hashes::keep_accepted;
+use hashes::save_hashes;
 use image::Mode;
 use image::scratch::clear;
 use packed::invalid_ends;
@@ -19,6 +21,7 @@ use writer::CQDBWriter;
 use writer::Repeats;
 
 mod capacity; // capacity.rt: has an image of all names room?
+mod hashes; // hashes.rt: the hashes of accepted names
 pub mod needs; // needs.rt: what a list needs
 mod singly; // singly.rt: the puts one by one
 mod stored; // stored.rt: the image of all names, whose tables are made before
@@ -36,11 +39,12 @@ pub enum Built {
 }
 
 // The image written around the entries of a record that a close would accept: the puts know all that a close checks.
-fn finish_list(w: CQDBWriter, counts: &[u32; 256], buf: &mut [u8]) -> Made
-    requires { ⌜ closeRefusal (stateWith w (now counts) (now buf)) ≡ 0 ⌝ }
+// `hashes` has the hashes of the first entries, or of none.
+fn finish_list(w: CQDBWriter, counts: &[u32; 256], hashes: &[u32], buf: &mut [u8]) -> Made
+    requires { ⌜ WriteClosedPre (stateWith w (now counts) (now buf)) (now hashes) ⌝ }
     ensures { λ r. ⌜ Finished (stateWith w (now (counts .entry)) (now (buf .entry))) r (now (buf .exit)) ⌝ }
 {
-    let size = writer::write_closed(w, counts, &mut *buf);
+    let size = writer::write_closed(w, counts, hashes, &mut *buf);
     Made {
         size,
         accepted: w.entries,
@@ -48,7 +52,7 @@ fn finish_list(w: CQDBWriter, counts: &[u32; 256], buf: &mut [u8]) -> Made
 }
 
 // The puts one by one and one close, from a fresh record. The index of a fresh record has no entry: its slots are
-// cleared.
+// cleared. If `hashed`, the refusals' places have the names' hashes.
 fn build_singly(
     mode: Mode,
     repeats: Repeats,
@@ -58,14 +62,16 @@ fn build_singly(
     ids: &[u32],
     refusals: &mut [u32],
     scratch: &mut [u32],
+    hashed: bool,
 ) -> Built
-    requires { ⌜ ListPre (now buf) (now bytes) (now ends) (now ids) (now refusals) ⌝ }
+    requires { ⌜ SinglyPre hashed (now buf) (now bytes) (now ends) (now ids) (now refusals) ⌝ }
     ensures { λ r. ⌜
         ListBuilt mode repeats (now (buf .entry)) (now (bytes .entry)) (now (ends .entry)) (now (ids .entry))
         (now (refusals .entry)) r (now (buf .exit)) (now (refusals .exit))
         ⌝ }
 {
     let words = index_words(repeats, ends.len(), scratch.len());
+    let saved = save_hashes(hashed, &*refusals, ends.len(), words, &mut *scratch);
     clear(&mut *scratch, words);
     let mut counts = [0; 256];
     let w = CQDBWriter {
@@ -86,8 +92,11 @@ fn build_singly(
         ends,
         ids,
         &mut *refusals,
+        hashed,
     );
-    Built::Image(finish_list(after, &counts, &mut *buf))
+    let kept = keep_accepted(&*refusals, saved, words, &mut *scratch);
+    let hashes = &scratch[words..words + kept];
+    Built::Image(finish_list(after, &counts, hashes, &mut *buf))
 }
 
 // Are repeats refused?
@@ -101,8 +110,7 @@ fn refuses(repeats: Repeats) -> bool
 }
 
 // Bulk path: builds all tables in the scratch memory, then writes the image in one pass. Returns the image's size, or 0
-// if a name is refused or may be, or if memory is short: then the buffer is as it was. Until the refusals are known,
-// their places have the names' hashes.
+// if a name is refused or may be: then the buffer is as it was, and the refusals' places have the names' hashes.
 fn build_bulk(
     mode: Mode,
     repeats: Repeats,
@@ -113,16 +121,13 @@ fn build_bulk(
     refusals: &mut [u32],
     scratch: &mut [u32],
 ) -> u32
-    requires { ⌜ ListPre (now buf) (now bytes) (now ends) (now ids) (now refusals) ⌝ }
+    requires { ⌜ BulkPre mode (now buf) (now bytes) (now ends) (now ids) (now refusals) (now scratch) ⌝ }
     ensures { λ r. ⌜
         BulkTried mode repeats (now (buf .entry)) (now (bytes .entry)) (now (ends .entry)) (now (ids .entry))
         (now (refusals .entry)) r (now (buf .exit)) (now (refusals .exit))
         ⌝ }
 {
     let n = ends.len();
-    if !has_capacity(mode, ends, ids, buf.len(), scratch.len()) {
-        return 0;
-    }
     let mut counts = [0; 256];
     if !hash_all(bytes, ends, &mut *refusals, &mut counts) {
         return 0;
@@ -137,8 +142,8 @@ fn build_bulk(
     size
 }
 
-// The bulk path, and if that is not possible the puts one by one.
-fn build_list(
+// The bulk path, and if a name is refused or may be the puts one by one, with the hashes that are computed.
+fn build_hashed(
     mode: Mode,
     repeats: Repeats,
     buf: &mut [u8],
@@ -148,7 +153,7 @@ fn build_list(
     refusals: &mut [u32],
     scratch: &mut [u32],
 ) -> Built
-    requires { ⌜ ListPre (now buf) (now bytes) (now ends) (now ids) (now refusals) ⌝ }
+    requires { ⌜ BulkPre mode (now buf) (now bytes) (now ends) (now ids) (now refusals) (now scratch) ⌝ }
     ensures { λ r. ⌜
         ListBuilt mode repeats (now (buf .entry)) (now (bytes .entry)) (now (ends .entry)) (now (ids .entry))
         (now (refusals .entry)) r (now (buf .exit)) (now (refusals .exit))
@@ -177,6 +182,50 @@ fn build_list(
         ids,
         &mut *refusals,
         &mut *scratch,
+        true,
+    )
+}
+
+// A list by the bulk path if memory suffices for it, otherwise by the puts one by one. `build_singly` has two callers,
+// so that the compiler keeps it a function of its own, and the bulk path does not take its stack.
+fn build_list(
+    mode: Mode,
+    repeats: Repeats,
+    buf: &mut [u8],
+    bytes: &[u8],
+    ends: &[u64],
+    ids: &[u32],
+    refusals: &mut [u32],
+    scratch: &mut [u32],
+) -> Built
+    requires { ⌜ ListPre (now buf) (now bytes) (now ends) (now ids) (now refusals) ⌝ }
+    ensures { λ r. ⌜
+        ListBuilt mode repeats (now (buf .entry)) (now (bytes .entry)) (now (ends .entry)) (now (ids .entry))
+        (now (refusals .entry)) r (now (buf .exit)) (now (refusals .exit))
+        ⌝ }
+{
+    if has_capacity(mode, ends, ids, buf.len(), scratch.len()) {
+        return build_hashed(
+            mode,
+            repeats,
+            &mut *buf,
+            bytes,
+            ends,
+            ids,
+            &mut *refusals,
+            &mut *scratch,
+        );
+    }
+    build_singly(
+        mode,
+        repeats,
+        &mut *buf,
+        bytes,
+        ends,
+        ids,
+        &mut *refusals,
+        &mut *scratch,
+        false,
     )
 }
 

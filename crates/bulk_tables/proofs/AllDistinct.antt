@@ -11,7 +11,7 @@ use Rattle.image.specs.Tables.{tableOf}
 use Rattle.image.proofs.Equal.{same-true}
 use Rattle.packed.specs.Names.{names, nth}
 use Rattle.jhash.specs.NameHash.{key}
-use Rattle.bulk_tables.specs.steps.Partition.{at, tableIn, countOfTable, firstPlace, sortedPlace}
+use Rattle.bulk_tables.specs.steps.Partition.{at, tableIn, countOfTable, firstOfTable, sortedPlace}
 use Rattle.bulk_tables.specs.steps.BulkTables.{pairIn, NoDuplicates}
 use Rattle.bulk_tables.specs.steps.Contracts.{BuildTablesPre, PairsAre}
 use Rattle.bulk_tables.proofs.TableCounts.{first-more, place-is, place-before, within}
@@ -19,7 +19,7 @@ use Rattle.bulk_tables.proofs.Offsets.{name-at}
 
 module _ {bytes ends hashes counts scratch : List ℕ} (pre : BuildTablesPre bytes ends hashes counts scratch) (stored : List ℕ)
     (pairs : PairsAre ends hashes stored)
-    (distinct : (t : ℕ) → t < 256 → NoDuplicates bytes ends stored (firstPlace (tableIn hashes) (length ends) t) (countOfTable (tableIn hashes) t (length ends))) where
+    (distinct : (t : ℕ) → t < 256 → NoDuplicates bytes ends stored (firstOfTable (tableIn hashes) (length ends) t) (countOfTable (tableIn hashes) t (length ends))) where
   abbrev n : ℕ
   n = length ends
 
@@ -38,7 +38,7 @@ module _ {bytes ends hashes counts scratch : List ℕ} (pre : BuildTablesPre byt
       let its-name : (m : ℕ) → m < n → _ ≡ nth xs m = λ m b. name-at bytes ends (pre .ends-rise) m _ b (sym (pairs m b .1)) in
       ap₂ same (sym (its-name j l)) (sym (its-name i k))
       ∙ distinct (T i) (mod-lt (at hashes i) (omega arith)) (sortedPlace T n j) (sortedPlace T n i)
-      (omega (arith, place-is T n j, ap (firstPlace T n) t))
+      (omega (arith, place-is T n j, ap (firstOfTable T n) t))
       (within T n j i h t)
       (omega (arith, place-before T n i k, first-more T n (T i)))
       (pairs j l .0 ∙ hash ∙ sym (pairs i k .0))

@@ -14,7 +14,7 @@ use Rattle.image.proofs.Between.{length-between}
 use Rattle.image.proofs.Sizes.{entriesSize-append}
 use Rattle.packed.specs.Names.{names, invalidEnds, nth, beginOf}
 use Rattle.packed.proofs.NameEnds.{length-names, nth-name, placed, begin-later, begin-next, begins-rise}
-use Rattle.bulk_tables.specs.steps.BulkTables.{entryOffset, indexAt, nameAt}
+use Rattle.bulk_tables.specs.steps.BulkTables.{entryOffset, indexAt, packedName}
 
 -- ---- one by one, as the code computes them
 
@@ -57,7 +57,7 @@ module _ (bytes ends : List ℕ) (good : invalidEnds (length bytes) 0 ends ≡ f
         ]
       ]
 
-  pub name-at : (i a : ℕ) → i < length ends → entryOffset ends i ≡ a → nameAt bytes ends a ≡ nth (names bytes ends) i
+  pub name-at : (i a : ℕ) → i < length ends → entryOffset ends i ≡ a → packedName bytes ends a ≡ nth (names bytes ends) i
   name-at i a h e = ap (nth (names bytes ends)) (index-at (length ends) i a h (omega arith) e)
 
   name-long : (i : ℕ) → i < length ends → beginOf ends i + length (nth xs i) ≡ beginOf ends (i + 1)

@@ -15,7 +15,7 @@ use Rattle.image.proofs.Lists.{filter-yes, filter-no}
 use Rattle.image.proofs.Sizes.{placed-append, ofTable-append, count-nil}
 use Rattle.packed.specs.Names.{names, nth}
 use Rattle.jhash.proofs.Outcomes.{key-short}
-use Rattle.bulk_tables.specs.steps.Partition.{at, tableIn, countOfTable, prefixSum, firstPlace, sortedPlace}
+use Rattle.bulk_tables.specs.steps.Partition.{at, tableIn, countOfTable, prefixSum, firstOfTable, sortedPlace}
 use Rattle.bulk_tables.specs.steps.BulkTables.{entryOffset, pairIn, pairsIn}
 use Rattle.bulk_tables.specs.steps.Contracts.{BuildTablesPre, PairsAre}
 use Rattle.bulk_tables.proofs.TableCounts.{count-own, count-other}
@@ -87,8 +87,8 @@ module _ {bytes ends hashes counts scratch : List ℕ} (pre : BuildTablesPre byt
   pub table-count : (t : ℕ) → countOfTable T t n ≡ count t (placed headSize es)
   table-count t = counted t n (omega arith) ∙ ap (count t) all-placed
 
-  pub table-first : (t : ℕ) → firstPlace T n t ≡ entriesBefore t (placed headSize es)
-  unfolding firstPlace prefixSum entriesBefore
+  pub table-first : (t : ℕ) → firstOfTable T n t ≡ entriesBefore t (placed headSize es)
+  unfolding firstOfTable prefixSum entriesBefore
   table-first zero = refl
   table-first (suc t) = ap₂ (λ (a b : ℕ). a + b) (table-first t) (table-count t)
 
@@ -99,14 +99,14 @@ module _ {bytes ends hashes counts scratch : List ℕ} (pre : BuildTablesPre byt
         let hashed : pairIn n stored (sortedPlace T n i) .hash ≡ hashOf (ith i .entry .name) = told i h .0 ∙ its-hash i h in
         λ z. record { hash = hashed z; at = told i h .1 z }
 
-    pair-of : (t i : ℕ) → i < n → T i ≡ t → pairIn n stored (firstPlace T n t + countOfTable T t i) ≡ bucketOf (ith i)
+    pair-of : (t i : ℕ) → i < n → T i ≡ t → pairIn n stored (firstOfTable T n t + countOfTable T t i) ≡ bucketOf (ith i)
     unfolding sortedPlace
-    pair-of t i h e = ap (λ (s : ℕ). pairIn n stored (firstPlace T n s + countOfTable T s i)) (sym e) ∙ its-pair i h
+    pair-of t i h e = ap (λ (s : ℕ). pairIn n stored (firstOfTable T n s + countOfTable T s i)) (sym e) ∙ its-pair i h
 
     abbrev pairs : ℕ → ℕ → List Bucket
-    pairs t c = pairsIn n stored (firstPlace T n t) c
+    pairs t c = pairsIn n stored (firstOfTable T n t) c
 
-    pairs-more : (t c : ℕ) → pairs t (c + 1) ≡ pairs t c ++ (pairIn n stored (firstPlace T n t + c) ∷ [])
+    pairs-more : (t c : ℕ) → pairs t (c + 1) ≡ pairs t c ++ (pairIn n stored (firstOfTable T n t + c) ∷ [])
     unfolding pairsIn
     pairs-more t c = ap (pairs t) (add-one c)
 
@@ -127,5 +127,5 @@ module _ {bytes ends hashes counts scratch : List ℕ} (pre : BuildTablesPre byt
           | no e ↦ ap (pairs t) (one ∙ count-other T t i e) ∙ was ∙ sym (ap (map bucketOf) (table-other t i k e))
         ]
 
-    pub table-pairs : (t : ℕ) → t < 256 → pairsIn n stored (firstPlace T n t) (countOfTable T t n) ≡ map bucketOf (ofTable t (placed headSize es))
+    pub table-pairs : (t : ℕ) → t < 256 → pairsIn n stored (firstOfTable T n t) (countOfTable T t n) ≡ map bucketOf (ofTable t (placed headSize es))
     table-pairs t h = pairs-to t n (omega arith) ∙ ap (λ (l : List Placed). map bucketOf (ofTable t l)) all-placed

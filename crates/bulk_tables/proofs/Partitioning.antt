@@ -11,8 +11,8 @@ use Rattle.image.specs.Tables.{Bucket, tableOf}
 use Rattle.image.specs.Tally.{raisedCounts}
 use Rattle.packed.specs.Names.{beginOf}
 use Rattle.packed.proofs.NameEnds.{begin-next}
-use Rattle.bulk_tables.specs.steps.Layout.{maxWord, pairsAt, pairStored}
-use Rattle.bulk_tables.specs.steps.Partition.{at, tableIn, countOfTable, prefixSum, firstPlace, sortedPlace}
+use Rattle.bulk_tables.specs.steps.Layout.{maxWord, pairWords, pairStored}
+use Rattle.bulk_tables.specs.steps.Partition.{at, tableIn, countOfTable, prefixSum, firstOfTable, sortedPlace}
 use Rattle.bulk_tables.specs.steps.BulkTables.{entryOffset, bucketIn, pairIn}
 use Rattle.bulk_tables.specs.steps.Contracts.{ScatterPre, Scattered, PartitionPre, Partitioned}
 use Rattle.bulk_tables.proofs.PairStored.{stored-length, bucket-stored, bucket-elsewhere}
@@ -77,11 +77,11 @@ pub record ScatteredTo (ends hashes scratch₀ : List ℕ) (i from : ℕ) (scrat
   pub from-is : from ≡ beginOf ends i
   pub long : length scratch ≡ length scratch₀
   pub rows : length places ≡ 256
-  pub next : (t : ℕ) → t < 256 → at places t ≡ firstPlace (tableIn hashes) (length ends) t + countOfTable (tableIn hashes) t i
+  pub next : (t : ℕ) → t < 256 → at places t ≡ firstOfTable (tableIn hashes) (length ends) t + countOfTable (tableIn hashes) t i
   pub pairs : (j : ℕ) → j < i
       → _≡_ {A = Bucket} (pairIn (length ends) scratch (sortedPlace (tableIn hashes) (length ends) j)) (record { hash = at hashes j; at = entryOffset ends j })
   pub stored : (t k : ℕ) → k < countOfTable (tableIn hashes) t i
-      → 0 < pairIn (length ends) scratch (firstPlace (tableIn hashes) (length ends) t + k) .at
+      → 0 < pairIn (length ends) scratch (firstOfTable (tableIn hashes) (length ends) t + k) .at
 
 module _ {ends hashes scratch₀ places₀ : List ℕ} (pre : PartitionPre ends hashes scratch₀ places₀) where
   abbrev n : ℕ
@@ -100,7 +100,7 @@ module _ {ends hashes scratch₀ places₀ : List ℕ} (pre : PartitionPre ends 
         from-is = refl;
         long = refl;
         rows = pre .rows;
-        next = λ t h. pre .firsts-are t h ∙ nothing (firstPlace T n t) (countOfTable T t 0) (count-none T t);
+        next = λ t h. pre .firsts-are t h ∙ nothing (firstOfTable T n t) (countOfTable T t 0) (count-none T t);
         pairs = λ j h. absurd (omega arith);
         stored = λ t k h. absurd (omega (arith, count-none T t));
       }
@@ -120,7 +120,7 @@ module _ {ends hashes scratch₀ places₀ : List ℕ} (pre : PartitionPre ends 
         let e : i ≡ n = omega (arith, s .inside, last) in
         record {
           pairs-are = λ j h. (ap (λ (b : Bucket). b .hash) (s .pairs j (omega arith)), ap (λ (b : Bucket). b .at) (s .pairs j (omega arith)));
-          ends-are = λ t h. s .next t h ∙ ap (λ (k : ℕ). firstPlace T n t + countOfTable T t k) e ∙ sym (first-more T n t);
+          ends-are = λ t h. s .next t h ∙ ap (λ (k : ℕ). firstOfTable T n t + countOfTable T t k) e ∙ sym (first-more T n t);
           stored = λ t k h. s .stored t k (omega (arith, ap (countOfTable T t) e));
         }
 
@@ -145,44 +145,44 @@ module _ {ends hashes scratch₀ places₀ : List ℕ} (pre : PartitionPre ends 
           }
 
       abbrev stored : List ℕ
-      stored = pairStored scratch (pairsAt n) p (at hashes i) (entryOffset ends i)
+      stored = pairStored scratch (pairWords n) p (at hashes i) (entryOffset ends i)
 
       own : _≡_ {A = Bucket} (pairIn n stored p) (record { hash = at hashes i; at = entryOffset ends i })
-      own = bucket-stored scratch (pairsAt n) p (at hashes i) (entryOffset ends i) (omega (arith, below, pre .capacity, s .long))
+      own = bucket-stored scratch (pairWords n) p (at hashes i) (entryOffset ends i) (omega (arith, below, pre .capacity, s .long))
 
       elsewhere : (q : ℕ) → (q ≡ p → ⊥) → _≡_ {A = Bucket} (pairIn n stored q) (pairIn n scratch q)
-      elsewhere q other = bucket-elsewhere scratch (pairsAt n) p (at hashes i) (entryOffset ends i) q other
+      elsewhere q other = bucket-elsewhere scratch (pairWords n) p (at hashes i) (entryOffset ends i) q other
 
       -- another place of table t is of a name before
-      before : (t k : ℕ) → k < countOfTable T t (i + 1) → (firstPlace T n t + k ≡ p → ⊥) → Dec (T i ≡ t) → k < countOfTable T t i
+      before : (t k : ℕ) → k < countOfTable T t (i + 1) → (firstOfTable T n t + k ≡ p → ⊥) → Dec (T i ≡ t) → k < countOfTable T t i
       unfolding sortedPlace
       before t k h e (no other) = omega (arith, count-other T t i other)
       before t k h e (yes own) =
           elim (ℕ-discrete k (countOfTable T t i)) [
-            | yes last ↦ absurd (e (ap₂ (λ (s c : ℕ). firstPlace T n s + c) (sym own) (last ∙ ap (λ (s : ℕ). countOfTable T s i) (sym own))))
+            | yes last ↦ absurd (e (ap₂ (λ (s c : ℕ). firstOfTable T n s + c) (sym own) (last ∙ ap (λ (s : ℕ). countOfTable T s i) (sym own))))
             | no other ↦ omega (arith, count-own T t i own)
           ]
 
-      some : (t k : ℕ) → k < countOfTable T t (i + 1) → 0 < pairIn n stored (firstPlace T n t + k) .at
+      some : (t k : ℕ) → k < countOfTable T t (i + 1) → 0 < pairIn n stored (firstOfTable T n t + k) .at
       some t k h =
-          elim (ℕ-discrete (firstPlace T n t + k) p) [
+          elim (ℕ-discrete (firstOfTable T n t + k) p) [
             | yes e ↦ omega (arith, ap (λ (q : ℕ). pairIn n stored q .at) e, ap (λ (b : Bucket). b .at) own)
-            | no e ↦ omega (arith, ap (λ (b : Bucket). b .at) (elsewhere (firstPlace T n t + k) e), s .stored t k (before t k h e (ℕ-discrete (T i) t)))
+            | no e ↦ omega (arith, ap (λ (b : Bucket). b .at) (elsewhere (firstOfTable T n t + k) e), s .stored t k (before t k h e (ℕ-discrete (T i) t)))
           ]
 
       pub scattered-step : {scratch′ places′ : List ℕ} → Scattered n scratch places scratch′ places′ (at hashes i) (2072 + from + 9 * i)
           → ScatteredTo ends hashes scratch₀ (i + 1) (at ends i) scratch′ places′
       scattered-step {scratch′} {places′} done =
-          let is = done .stored ∙ ap₂ {C = List ℕ} (λ (q x : ℕ). pairStored scratch (pairsAt n) q (at hashes i) x) next-place offset-is in
+          let is = done .stored ∙ ap₂ {C = List ℕ} (λ (q x : ℕ). pairStored scratch (pairWords n) q (at hashes i) x) next-place offset-is in
           record {
             inside = omega arith;
             from-is = sym (begin-next ends i);
-            long = ap length is ∙ stored-length scratch (pairsAt n) p (at hashes i) (entryOffset ends i) ∙ s .long;
+            long = ap length is ∙ stored-length scratch (pairWords n) p (at hashes i) (entryOffset ends i) ∙ s .long;
             rows = ap length (done .advanced) ∙ length-set places (T i) (at places (T i) + 1) ∙ s .rows;
-            next = λ t k. ap (λ (l : List ℕ). at l t) (done .advanced) ∙ count-step T places (firstPlace T n) i (T i) refl (tabled i) (s .rows) (s .next) t k;
+            next = λ t k. ap (λ (l : List ℕ). at l t) (done .advanced) ∙ count-step T places (firstOfTable T n) i (T i) refl (tabled i) (s .rows) (s .next) t k;
             pairs = λ j k. ap (λ (l : List ℕ). pairIn n l (sortedPlace T n j)) is ∙ elim (ℕ-discrete j i) [
               | yes e ↦ subst (λ (m : ℕ). pairIn n stored (sortedPlace T n m) ≡ record { hash = at hashes m; at = entryOffset ends m }) (sym e) own
               | no e ↦ elsewhere (sortedPlace T n j) (places-distinct T n j i (omega arith) inside) ∙ s .pairs j (omega arith)
             ];
-            stored = λ t k h. omega (arith, ap (λ (l : List ℕ). pairIn n l (firstPlace T n t + k) .at) is, some t k h);
+            stored = λ t k h. omega (arith, ap (λ (l : List ℕ). pairIn n l (firstOfTable T n t + k) .at) is, some t k h);
           }

@@ -7,7 +7,7 @@ use mathlib.Core.Path.{_≡_, refl, sym, ap, ap₂, _∙_}
 use mathlib.Core.Bool.{Bool, true, false, cond}
 use borrow.Author.Tests.{eq-eqb, ne-eqb, lt-ltb, le-ltb}
 use lib.Dec.{eqb, ltb}
-use Rattle.bulk_tables.specs.steps.Partition.{countOfTable, prefixSum, firstPlace, sortedPlace}
+use Rattle.bulk_tables.specs.steps.Partition.{countOfTable, prefixSum, firstOfTable, sortedPlace}
 
 abbrev one : Bool → ℕ
 one b = cond b 1 0
@@ -96,27 +96,27 @@ module _ (T : ℕ → ℕ) where
   sum-suc n zero = omega (arith, ap one (le-ltb (T n) 0 (omega arith)))
   sum-suc n (suc m) = omega (arith, sum-suc n m, below-one (T n) m)
 
-  pub first-le : (n m : ℕ) → firstPlace T n m ≤ n
-  unfolding firstPlace
+  pub first-le : (n m : ℕ) → firstOfTable T n m ≤ n
+  unfolding firstOfTable
   first-le zero m = omega (arith, zeros m)
   first-le (suc n) m = omega (arith, first-le n m, sum-suc n m, one-le (ltb (T n) m))
 
-  pub first-more : (n t : ℕ) → firstPlace T n (t + 1) ≡ firstPlace T n t + countOfTable T t n
-  unfolding firstPlace
+  pub first-more : (n t : ℕ) → firstOfTable T n (t + 1) ≡ firstOfTable T n t + countOfTable T t n
+  unfolding firstOfTable
   first-more n t = sum-more (λ (s : ℕ). countOfTable T s n) t
 
-  pub first-mono : (n s t : ℕ) → s ≤ t → firstPlace T n s ≤ firstPlace T n t
-  unfolding firstPlace
+  pub first-mono : (n s t : ℕ) → s ≤ t → firstOfTable T n s ≤ firstOfTable T n t
+  unfolding firstOfTable
   first-mono n s t h = sum-mono (λ (k : ℕ). countOfTable T k n) s t h
 
   -- ---- places
 
   module _ (n : ℕ) where
-    pub place-is : (i : ℕ) → sortedPlace T n i ≡ firstPlace T n (T i) + countOfTable T (T i) i
+    pub place-is : (i : ℕ) → sortedPlace T n i ≡ firstOfTable T n (T i) + countOfTable T (T i) i
     unfolding sortedPlace
     place-is i = refl
 
-    pub place-before : (i : ℕ) → i < n → sortedPlace T n i < firstPlace T n (T i + 1)
+    pub place-before : (i : ℕ) → i < n → sortedPlace T n i < firstOfTable T n (T i + 1)
     place-before i h = omega (arith, place-is i, first-more n (T i), count-less (T i) i n refl h)
 
     pub place-below : (i : ℕ) → i < n → sortedPlace T n i < n
@@ -127,7 +127,7 @@ module _ (T : ℕ → ℕ) where
 
     pub within : (i j : ℕ) → i < j → T i ≡ T j → sortedPlace T n i < sortedPlace T n j
     within i j h e =
-        let same-first = ap (firstPlace T n) e in
+        let same-first = ap (firstOfTable T n) e in
         let same-tally = ap (λ (t : ℕ). countOfTable T t j) e in
         omega (arith, place-is i, place-is j, same-first, same-tally, count-less (T i) i j refl h)
 
@@ -150,8 +150,8 @@ module _ (T S : ℕ → ℕ) (n : ℕ) (same-tables : (i : ℕ) → i < n → T 
   count-ext t (suc i) k = ap₂ (λ (a b : ℕ). a + one (eqb b t)) (count-ext t i (omega arith)) (same-tables i (omega arith))
 
 -- the sums of the counts of n numbers are at most n
-pub sums-fit : (T : ℕ → ℕ) (n : ℕ) (tables : ℕ → ℕ) → ((t : ℕ) → t < 256 → tables t ≡ countOfTable T t n) → (t : ℕ) → t ≤ 256 → (prefixSum tables t ≡ firstPlace T n t) × (prefixSum tables t ≤ n)
-unfolding firstPlace
+pub sums-fit : (T : ℕ → ℕ) (n : ℕ) (tables : ℕ → ℕ) → ((t : ℕ) → t < 256 → tables t ≡ countOfTable T t n) → (t : ℕ) → t ≤ 256 → (prefixSum tables t ≡ firstOfTable T n t) × (prefixSum tables t ≤ n)
+unfolding firstOfTable
 sums-fit T n tables known t h =
-    let e : prefixSum tables t ≡ firstPlace T n t = sum-ext tables (λ (s : ℕ). countOfTable T s n) 256 known t h in
+    let e : prefixSum tables t ≡ firstOfTable T n t = sum-ext tables (λ (s : ℕ). countOfTable T s n) 256 known t h in
     (e, omega (arith, e, first-le T n t))

@@ -15,10 +15,10 @@ use Rattle.image.proofs.Sizes.{length-filled, filled-more}
 use Rattle.image.proofs.AllOfList.{All, all-append, all-middle}
 use Rattle.image.proofs.Buckets.{getD-empties, firstEmpty-ext}
 use Rattle.lookup_laws.proofs.TableContents.{NotEmpty}
-use Rattle.bulk_tables.specs.steps.Partition.{at, firstIn}
-use Rattle.bulk_tables.specs.steps.Layout.{bucketsAt, pairsAt, pairStored}
+use Rattle.bulk_tables.specs.steps.Partition.{at, tableFirst}
+use Rattle.bulk_tables.specs.steps.Layout.{tableWords, pairWords, pairStored}
 use Rattle.bulk_tables.specs.steps.Contracts.{Probed, FillTablePre, TableFilled, FillAllPre}
-use Rattle.bulk_tables.specs.steps.BulkTables.{pairIn, pairsIn, bucketIn, sameNames, Fills, NoDuplicates}
+use Rattle.bulk_tables.specs.steps.BulkTables.{pairIn, pairsIn, bucketIn, namesEqual, Fills, NoDuplicates}
 use Rattle.lookup_laws.specs.steps.HasMatch.{hasMatch}
 use Rattle.lookup_laws.proofs.Matching.{hasMatch-equal, no-match}
 use Rattle.bulk_tables.proofs.PairStored.{same-bucket, stored-length, stored-elsewhere, bucket-stored, bucket-elsewhere}
@@ -82,7 +82,7 @@ distinct-kept bytes ends scratch scratch′ kept first c no-duplicates p q a b d
     let n = length ends in
     let was = pair-kept n scratch scratch′ kept in
     let hashes : pairIn n scratch p .hash ≡ pairIn n scratch q .hash = ap (λ (x : Bucket). x .hash) (sym (was p)) ∙ e ∙ ap (λ (x : Bucket). x .hash) (was q) in
-    ap₂ (λ (x y : Bucket). sameNames bytes ends (y .at) (x .at)) (was p) (was q) ∙ no-duplicates p q a b d hashes
+    ap₂ (λ (x y : Bucket). namesEqual bytes ends (y .at) (x .at)) (was p) (was q) ∙ no-duplicates p q a b d hashes
 
 -- ---- a table, a pair at a time
 
@@ -91,9 +91,9 @@ module _ (distinct : Bool) (bytes ends scratch₀ : List ℕ) (first c : ℕ) wh
   pub record Filling (i : ℕ) (scratch : List ℕ) : Type 0 where
     pub at-most : i ≤ c
     pub long : length scratch ≡ length scratch₀
-    pub before : (w : ℕ) → w < bucketsAt first → at scratch w ≡ at scratch₀ w
-    pub after : (w : ℕ) → bucketsAt first + 4 * c ≤ w → at scratch w ≡ at scratch₀ w
-    pub buckets : (k : ℕ) → k < 2 * c → bucketIn scratch (bucketsAt first) k ≡ getD (filled (2 * c) (pairsIn (length ends) scratch₀ first i)) k empty
+    pub before : (w : ℕ) → w < tableWords first → at scratch w ≡ at scratch₀ w
+    pub after : (w : ℕ) → tableWords first + 4 * c ≤ w → at scratch w ≡ at scratch₀ w
+    pub buckets : (k : ℕ) → k < 2 * c → bucketIn scratch (tableWords first) k ≡ getD (filled (2 * c) (pairsIn (length ends) scratch₀ first i)) k empty
     pub no-duplicates : distinct ≡ true → NoDuplicates bytes ends scratch₀ first i
 
 module _ {bytes ends scratch₀ : List ℕ} {first c : ℕ} (pre : FillTablePre bytes ends scratch₀ first c) where
@@ -101,7 +101,7 @@ module _ {bytes ends scratch₀ : List ℕ} {first c : ℕ} (pre : FillTablePre 
   n = length ends
 
   abbrev o : ℕ
-  o = bucketsAt first
+  o = tableWords first
 
   abbrev m : ℕ
   m = 2 * c
@@ -140,17 +140,17 @@ module _ {bytes ends scratch₀ : List ℕ} {first c : ℕ} (pre : FillTablePre 
     below = mod-lt (h / 256) (omega arith)
 
     -- no pair of this hash that is in the table has the same name
-    later : hasMatch (bucketIn scratch o) h (sameNames bytes ends offset) (probeSequence m m (start h m)) ≡ false
-        → (j : ℕ) → j < i → pairIn n scratch₀ (first + j) .hash ≡ h → sameNames bytes ends offset (pairIn n scratch₀ (first + j) .at) ≡ false
+    later : hasMatch (bucketIn scratch o) h (namesEqual bytes ends offset) (probeSequence m m (start h m)) ≡ false
+        → (j : ℕ) → j < i → pairIn n scratch₀ (first + j) .hash ≡ h → namesEqual bytes ends offset (pairIn n scratch₀ (first + j) .at) ≡ false
     later none j k e =
-        let v = sameNames bytes ends offset in
+        let v = namesEqual bytes ends offset in
         let others =
         no-match h v m (pairs i) (omega arith) (omega (arith, length-pairs n scratch₀ first i))
         (pairs-all n scratch₀ first NotEmpty i (λ l r z. omega (arith, pre .pairs-stored (first + l) (omega arith) (omega arith))))
         (sym (hasMatch-equal (bucketIn scratch o) (λ (k : ℕ). getD (filled m (pairs i)) k empty) h v m (s .buckets) m (start h m) below) ∙ none) in
         pairs-each n scratch₀ first (λ (x : Bucket). x .hash ≡ h → v (x .at) ≡ false) i others j k e
 
-    distinct-more : (distinct ≡ true → hasMatch (bucketIn scratch o) h (sameNames bytes ends offset) (probeSequence m m (start h m)) ≡ false)
+    distinct-more : (distinct ≡ true → hasMatch (bucketIn scratch o) h (namesEqual bytes ends offset) (probeSequence m m (start h m)) ≡ false)
         → distinct ≡ true → NoDuplicates bytes ends scratch₀ first (i + 1)
     distinct-more none d p q from less to e =
         elim (ℕ-discrete q (first + i)) [
@@ -158,13 +158,13 @@ module _ {bytes ends scratch₀ : List ℕ} {first c : ℕ} (pre : FillTablePre 
           | no z ↦ s .no-duplicates d p q from less (omega arith) e
         ]
       where
-        last : q ≡ first + i → sameNames bytes ends (pairIn n scratch₀ q .at) (pairIn n scratch₀ p .at) ≡ false
+        last : q ≡ first + i → namesEqual bytes ends (pairIn n scratch₀ q .at) (pairIn n scratch₀ p .at) ≡ false
         last z =
             let j = p - first in
             let here : first + j ≡ p = omega arith in
             let q-is : pairIn n scratch₀ q .at ≡ offset = ap (λ (t : ℕ). pairIn n scratch₀ t .at) z ∙ sym own-offset in
             let hash : pairIn n scratch₀ (first + j) .hash ≡ h = ap (λ (x : ℕ). pairIn n scratch₀ x .hash) here ∙ e ∙ ap (λ (x : ℕ). pairIn n scratch₀ x .hash) z ∙ sym own-hash in
-            ap₂ (sameNames bytes ends) q-is (ap (λ (t : ℕ). pairIn n scratch₀ t .at) (sym here)) ∙ later (none d) j (omega arith) hash
+            ap₂ (namesEqual bytes ends) q-is (ap (λ (t : ℕ). pairIn n scratch₀ t .at) (sym here)) ∙ later (none d) j (omega arith) hash
 
     module _ {k : ℕ} (free : k < m) (told : Probed distinct bytes ends scratch o m h offset k) where
       abbrev table : List Bucket
@@ -221,7 +221,7 @@ module _ {bytes ends scratch₀ : List ℕ} {first c : ℕ} (pre : FillTablePre 
 -- ---- all tables, one at a time
 
 -- where the places of the next table begin
-pub first-next : (tables : List ℕ) (t : ℕ) → firstIn tables (t + 1) ≡ at tables t
+pub first-next : (tables : List ℕ) (t : ℕ) → tableFirst tables (t + 1) ≡ at tables t
 first-next tables t =
     let e : t + 1 - 1 ≡ t = omega arith in
     ap (λ (b : Bool). cond b 0 (at tables (t + 1 - 1))) (ne-eqb (t + 1) 0 (λ z. omega arith)) ∙ ap (at tables) e
@@ -230,13 +230,13 @@ module _ (distinct : Bool) (bytes ends scratch₀ tables : List ℕ) where
   -- after the first t tables
   pub record AllFilling (t first : ℕ) (scratch : List ℕ) : Type 0 where
     pub at-most : t ≤ 256
-    pub begins : first ≡ firstIn tables t
+    pub begins : first ≡ tableFirst tables t
     pub low : first ≤ length ends
     pub long : length scratch ≡ length scratch₀
     pub rest : (w : ℕ) → 4 * first ≤ w → at scratch w ≡ at scratch₀ w
     pub rise : (s : ℕ) → s < t → at tables s ≤ first
-    pub fills : (s : ℕ) → s < t → Fills (length ends) scratch (4 * firstIn tables s) (firstIn tables s) (at tables s - firstIn tables s)
-    pub no-duplicates : distinct ≡ true → (s : ℕ) → s < t → NoDuplicates bytes ends scratch (firstIn tables s) (at tables s - firstIn tables s)
+    pub fills : (s : ℕ) → s < t → Fills (length ends) scratch (4 * tableFirst tables s) (tableFirst tables s) (at tables s - tableFirst tables s)
+    pub no-duplicates : distinct ≡ true → (s : ℕ) → s < t → NoDuplicates bytes ends scratch (tableFirst tables s) (at tables s - tableFirst tables s)
 
   pub all-start : AllFilling 0 0 scratch₀
   all-start =
@@ -256,7 +256,7 @@ module _ {bytes ends scratch₀ tables : List ℕ} (pre : FillAllPre bytes ends 
   size = length ends
 
   abbrev count : ℕ → ℕ
-  count t = at tables t - firstIn tables t
+  count t = at tables t - tableFirst tables t
 
   module _ {distinct : Bool} {t first : ℕ} {scratch : List ℕ} (s : AllFilling distinct bytes ends scratch₀ tables t first scratch) (inside : t < 256) where
     abbrev end : ℕ
@@ -269,7 +269,7 @@ module _ {bytes ends scratch₀ tables : List ℕ} (pre : FillAllPre bytes ends 
     within = omega (arith, pre .lasts-rise t inside .1)
 
     -- what holds of the table's own places, told by where they begin
-    by-row : (P : ℕ → ℕ → Type 0) → P first (end - first) → P (firstIn tables t) (count t)
+    by-row : (P : ℕ → ℕ → Type 0) → P first (end - first) → P (tableFirst tables t) (count t)
     by-row P p = subst (λ (f : ℕ). P f (end - f)) (s .begins) p
 
     -- what the contract of the table says
@@ -279,7 +279,7 @@ module _ {bytes ends scratch₀ tables : List ℕ} (pre : FillAllPre bytes ends 
           packed = pre .packed;
           capacity = omega (arith, pre .capacity, s .long);
           inside = omega (arith, fits, within);
-          pairs-stored = λ q h k. omega (arith, pre .pairs-stored t q inside (omega (arith, s .begins)) (omega (arith, fits)), s .rest (pairsAt size + 2 * q + 1) (omega (arith, s .low)));
+          pairs-stored = λ q h k. omega (arith, pre .pairs-stored t q inside (omega (arith, s .begins)) (omega (arith, fits)), s .rest (pairWords size + 2 * q + 1) (omega (arith, s .low)));
           buckets-empty = λ w h k. s .rest w h ∙ pre .buckets-empty w (omega (arith, fits, within));
         }
 
@@ -297,14 +297,14 @@ module _ {bytes ends scratch₀ tables : List ℕ} (pre : FillAllPre bytes ends 
             | no e ↦ omega (arith, s .rise r (omega arith), fits)
           ];
           fills = λ r h. elim (ℕ-discrete r t) [
-            | yes e ↦ subst (λ (x : ℕ). Fills size scratch′ (4 * firstIn tables x) (firstIn tables x) (count x)) (sym e) (by-row (λ (f c : ℕ). Fills size scratch′ (4 * f) f c) (told .fills))
-            | no e ↦ fills-kept size scratch scratch′ late (firstIn tables r) (count r)
+            | yes e ↦ subst (λ (x : ℕ). Fills size scratch′ (4 * tableFirst tables x) (tableFirst tables x) (count x)) (sym e) (by-row (λ (f c : ℕ). Fills size scratch′ (4 * f) f c) (told .fills))
+            | no e ↦ fills-kept size scratch scratch′ late (tableFirst tables r) (count r)
                 (λ w l. told .kept-before w (omega (arith, s .rise r (omega arith), pre .lasts-rise r (omega arith) .0)))
                 (s .fills r (omega arith))
           ];
           no-duplicates = λ d r h. elim (ℕ-discrete r t) [
-            | yes e ↦ subst (λ (x : ℕ). NoDuplicates bytes ends scratch′ (firstIn tables x) (count x)) (sym e) (by-row (NoDuplicates bytes ends scratch′) (told .no-duplicates d))
-            | no e ↦ distinct-kept bytes ends scratch scratch′ late (firstIn tables r) (count r) (s .no-duplicates d r (omega arith))
+            | yes e ↦ subst (λ (x : ℕ). NoDuplicates bytes ends scratch′ (tableFirst tables x) (count x)) (sym e) (by-row (NoDuplicates bytes ends scratch′) (told .no-duplicates d))
+            | no e ↦ distinct-kept bytes ends scratch scratch′ late (tableFirst tables r) (count r) (s .no-duplicates d r (omega arith))
           ];
         }
       where

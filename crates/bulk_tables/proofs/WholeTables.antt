@@ -11,8 +11,8 @@ use Rattle.image.specs.Tables.{Bucket, empty, tableOf, filled}
 use Rattle.image.specs.Image.{Entry, Placed, headSize, placed, count, table, tables, entriesBefore}
 use Rattle.image.proofs.Sizes.{length-placed}
 use Rattle.packed.specs.Names.{names}
-use Rattle.bulk_tables.specs.steps.Layout.{pairsAt}
-use Rattle.bulk_tables.specs.steps.Partition.{at, tableIn, tableOfName, countOfTable, prefixSum, firstPlace, firstIn}
+use Rattle.bulk_tables.specs.steps.Layout.{pairWords}
+use Rattle.bulk_tables.specs.steps.Partition.{at, tableIn, tableOfName, countOfTable, prefixSum, firstOfTable, tableFirst}
 use Rattle.bulk_tables.specs.steps.BulkTables.{pairIn, bucketIn, Fills, NoDuplicates}
 use Rattle.bulk_tables.specs.steps.Contracts.{EntryOffsets, BuildTablesPre, PrefixSumsPre, PrefixSums, PartitionPre, PairsAre, Partitioned}
 use Rattle.bulk_tables.specs.steps.Contracts.{FillAllPre, AllFilled, TablesBuilt}
@@ -57,30 +57,30 @@ module _ {bytes ends hashes counts scratch : List ℕ} (pre : BuildTablesPre byt
 
   -- the pairs are sorted in w₂; `rows` has where the places of each table end
   module _ {w₂ rows : List ℕ} (done : Partitioned ends hashes w₂ rows) where
-    first-is : (t : ℕ) → t < 256 → firstIn rows t ≡ firstPlace T n t
-    unfolding firstPlace prefixSum
+    first-is : (t : ℕ) → t < 256 → tableFirst rows t ≡ firstOfTable T n t
+    unfolding firstOfTable prefixSum
     first-is zero h = refl
-    first-is (suc s) h = ap (firstIn rows) (sym (add-one s)) ∙ first-next rows s ∙ done .ends-are s (omega arith) ∙ ap (firstPlace T n) (add-one s)
+    first-is (suc s) h = ap (tableFirst rows) (sym (add-one s)) ∙ first-next rows s ∙ done .ends-are s (omega arith) ∙ ap (firstOfTable T n) (add-one s)
 
-    end-is : (t : ℕ) → t < 256 → at rows t ≡ firstPlace T n t + countOfTable T t n
+    end-is : (t : ℕ) → t < 256 → at rows t ≡ firstOfTable T n t + countOfTable T t n
     end-is t h = done .ends-are t h ∙ first-more T n t
 
-    count-is : (t : ℕ) → t < 256 → at rows t - firstIn rows t ≡ countOfTable T t n
+    count-is : (t : ℕ) → t < 256 → at rows t - tableFirst rows t ≡ countOfTable T t n
     count-is t h = omega (arith, end-is t h, first-is t h)
 
     -- in w₃ they are the same, behind empty buckets
-    module _ {w₃ : List ℕ} (kept : (w : ℕ) → pairsAt (length ends) ≤ w → at w₃ w ≡ at w₂ w) where
-      pub fill-pre : length w₃ ≡ length scratch → ((w : ℕ) → w < pairsAt (length ends) → at w₃ w ≡ 0) → FillAllPre bytes ends w₃ rows
+    module _ {w₃ : List ℕ} (kept : (w : ℕ) → pairWords (length ends) ≤ w → at w₃ w ≡ at w₂ w) where
+      pub fill-pre : length w₃ ≡ length scratch → ((w : ℕ) → w < pairWords (length ends) → at w₃ w ≡ 0) → FillAllPre bytes ends w₃ rows
       fill-pre long cleared =
           record {
             packed = record { ends-rise = pre .ends-rise; offsets = offsets };
             capacity = omega (arith, pre .capacity, long);
             lasts-rise = λ t h. (omega (arith, end-is t h, first-is t h), omega (arith, end-is t h, first-more T n t, first-le T n (t + 1)));
             pairs-stored = λ t q h from to.
-                (let first = firstPlace T n t in
+                (let first = firstOfTable T n t in
                 let here : first + (q - first) ≡ q = omega (arith, first-is t h, from) in
                 let some = done .stored t (q - first) (omega (arith, first-is t h, end-is t h, from, to)) in
-                omega (arith, some, ap (λ (p : ℕ). pairIn n w₂ p .at) here, kept (pairsAt n + 2 * q + 1) (omega arith)));
+                omega (arith, some, ap (λ (p : ℕ). pairIn n w₂ p .at) here, kept (pairWords n + 2 * q + 1) (omega arith)));
             buckets-empty = cleared;
           }
 
@@ -88,12 +88,12 @@ module _ {bytes ends hashes counts scratch : List ℕ} (pre : BuildTablesPre byt
       module _ {distinct : Bool} {w₄ : List ℕ} (filled-in : AllFilled distinct bytes ends w₃ w₄ rows) (long : length w₄ ≡ length scratch) where
         pairs : PairsAre ends hashes w₄
         pairs i h =
-            let was : (w : ℕ) → pairsAt n ≤ w → at w₄ w ≡ at w₂ w = λ w l. filled-in .pairs-kept w l ∙ kept w l in
+            let was : (w : ℕ) → pairWords n ≤ w → at w₄ w ≡ at w₂ w = λ w l. filled-in .pairs-kept w l ∙ kept w l in
             (was _ (omega arith) ∙ done .pairs-are i h .0, was _ (omega arith) ∙ done .pairs-are i h .1)
 
         -- what holds of the places of table t, told by the tables
-        by-table : (P : ℕ → ℕ → Type 0) (t : ℕ) → t < 256 → P (firstIn rows t) (at rows t - firstIn rows t) → P (firstPlace T n t) (countOfTable T t n)
-        by-table P t h p = subst (P (firstPlace T n t)) (count-is t h) (subst (λ (f : ℕ). P f (at rows t - firstIn rows t)) (first-is t h) p)
+        by-table : (P : ℕ → ℕ → Type 0) (t : ℕ) → t < 256 → P (tableFirst rows t) (at rows t - tableFirst rows t) → P (firstOfTable T n t) (countOfTable T t n)
+        by-table P t h p = subst (P (firstOfTable T n t)) (count-is t h) (subst (λ (f : ℕ). P f (at rows t - tableFirst rows t)) (first-is t h) p)
 
         module _ (es : List Entry) (named : map (λ (e : Entry). e .name) es ≡ names bytes ends) where
           abbrev ps : List Placed
@@ -110,7 +110,7 @@ module _ {bytes ends hashes counts scratch : List ℕ} (pre : BuildTablesPre byt
               ∙ by-table (λ (f m : ℕ). Fills n w₄ (4 * f) f m) t h (filled-in .fills t h) k (omega arith)
               ∙ ap₂ {C = Bucket} (λ (m : ℕ) (bs : List Bucket). getD (filled (2 * m) bs) k empty) c (table-pairs pre es named w₄ pairs t h)
 
-          whole-tables : cat le32 (take (pairsAt (length ends)) w₄) ≡ tables (placed headSize es)
+          whole-tables : cat le32 (take (pairWords (length ends)) w₄) ≡ tables (placed headSize es)
           whole-tables =
               ap (λ (k : ℕ). cat le32 (take (4 * k) w₄)) (sym number) ∙ words-tables w₄ ps (omega (arith, number, long, pre .capacity)) known
 

@@ -3,7 +3,7 @@ ghost use mathlib.Core.Path.{_≡_};
 ghost use mathlib.Core.Bool.{true, false};
 ghost use Prim.Native.Nat.{_<_};
 ghost use lib.ListN.{length};
-ghost use Rattle.bulk_tables.specs.steps.BulkTables.{entryOffset, sameNames};
+ghost use Rattle.bulk_tables.specs.steps.BulkTables.{entryOffset, namesEqual};
 ghost use Rattle.bulk_tables.specs.steps.Contracts.{EntryOffsets, EntryIndex, PackedNames};
 use image::equality::same;
 use packed::name_of;
@@ -41,7 +41,7 @@ fn entry_index(ends: &[u64], offset: u64) -> usize
 // Are the names of the entries at two offsets distinct? False also if an offset is not an entry's.
 pub(super) fn distinct_names(bytes: &[u8], ends: &[u64], a: u32, b: u32) -> bool
     requires { ⌜ PackedNames (now bytes) (now ends) ⌝ }
-    ensures { λ r. ⌜ (r ≡ true → sameNames (now (bytes .entry)) (now (ends .entry)) b a ≡ false) ⌝ }
+    ensures { λ r. ⌜ (r ≡ true → namesEqual (now (bytes .entry)) (now (ends .entry)) b a ≡ false) ⌝ }
 {
     let i = entry_index(ends, a as u64);
     let j = entry_index(ends, b as u64);

@@ -2,13 +2,13 @@
 ghost use mathlib.Core.Path.{_≡_};
 ghost use Prim.Native.Nat.{_+_, _*_, _≤_, _<_};
 ghost use lib.ListN.{length};
-ghost use Rattle.bulk_tables.specs.steps.Layout.{maxWord, bucketsAt, pairsAt, pairStored};
+ghost use Rattle.bulk_tables.specs.steps.Layout.{maxWord, tableWords, pairWords, pairStored};
 ghost use Rattle.bulk_tables.specs.steps.BulkTables.{bucketIn};
 
 // The first word of the buckets of a table whose first pair is the p-th of all.
 pub(super) fn buckets_at(p: usize) -> usize
     requires { ⌜ p ≤ maxWord ⌝ }
-    ensures { λ r. ⌜ r ≡ bucketsAt p ⌝ }
+    ensures { λ r. ⌜ r ≡ tableWords p ⌝ }
 {
     4 * p
 }
@@ -16,7 +16,7 @@ pub(super) fn buckets_at(p: usize) -> usize
 // The first word of the pairs of n names.
 pub(super) fn pairs_at(n: usize) -> usize
     requires { ⌜ n ≤ maxWord ⌝ }
-    ensures { λ r. ⌜ r ≡ pairsAt n ⌝ }
+    ensures { λ r. ⌜ r ≡ pairWords n ⌝ }
 {
     4 * n
 }

@@ -17,7 +17,7 @@ use Rattle.writer.specs.Put.{putRefusal, appended, afterPut}
 use Rattle.writer.specs.Close.{closing, closeRefusal, closedSize, closed, afterClose}
 use Rattle.writer.specs.declared.c_record.Record.{Record}
 use Rattle.writer.specs.Numbers.{known, modeOf, repeatsOf}
-use Rattle.writer.specs.CRecord.{writerOf, recordOf, CState, cState, knownIn, stateOf, cStateOf}
+use Rattle.writer.specs.CRecord.{writerOf, recordOf, CState, cState, knownIn, stateIn, cStateOf}
 use Rattle.writer.proofs.CRecords.{back-and-forth}
 use Rattle.cqdb_c.specs.Writing.{LentWriter, lentWriter, numbersOf, sizesOf, beginningOf, numberIn, lentIn, leftByBegin}
 use Rattle.cqdb_c.specs.Writing.{putNumber, leftByPut, closingOf, refusalIn, sizeIn, leftByClose}
@@ -66,7 +66,7 @@ pub put-known : (h : CState) (e : Entry) (v w' : CQDBWriter) (r : Record) (count
     (k ≡ putNumber h e) × (cState r counts buffer ≡ leftByPut h e)
 unfolding putNumber leftByPut
 put-known h e v w' r counts buffer k fine is put back =
-    let same : stateWith v (h .counts) (h .buffer) ≡ stateOf h = ap (λ (w : CQDBWriter). stateWith w (h .counts) (h .buffer)) is in
+    let same : stateWith v (h .counts) (h .buffer) ≡ stateIn h = ap (λ (w : CQDBWriter). stateWith w (h .counts) (h .buffer)) is in
     rw fine (
       put .0 ∙ ap (λ (s : State). putRefusal s e) same,
       ap (λ (x : Record). cState x counts buffer) back ∙ ap cStateOf (put .1 ∙ ap (λ (s : State). afterPut s e) same),
@@ -87,8 +87,8 @@ pub close-known : (h : CState) (v w' : CQDBWriter) (r : Record) (buffer : List �
     (k ≡ refusalIn (closingOf h)) × ((n ≡ sizeIn (closingOf h)) × (cState r (h .counts) buffer ≡ leftByClose h))
 unfolding closingOf leftByClose
 close-known h v w' r buffer d k n fine is close number told back =
-    let same : stateWith v (h .counts) (h .buffer) ≡ stateOf h = ap (λ (w : CQDBWriter). stateWith w (h .counts) (h .buffer)) is in
-    let d-is : d ≡ closing (stateOf h) = close .0 ∙ ap closing same in
+    let same : stateWith v (h .counts) (h .buffer) ≡ stateIn h = ap (λ (w : CQDBWriter). stateWith w (h .counts) (h .buffer)) is in
+    let d-is : d ≡ closing (stateIn h) = close .0 ∙ ap closing same in
     rw fine (
       number ∙ ap refusalIn d-is,
       (told ∙ ap sizeIn d-is, ap (λ (x : Record). cState x (h .counts) buffer) back ∙ ap cStateOf (close .1 ∙ ap afterClose same)),
@@ -110,9 +110,9 @@ pub put-refused : (h : CState) (e : Entry) → (putNumber h e ≡ 0 → ⊥) →
 unfolding putNumber leftByPut afterPut
 put-refused h e = go (knownIn h) refl
   where
-    go : (t : Bool) → knownIn h ≡ t → (cond t (putRefusal (stateOf h) e) 2 ≡ 0 → ⊥) → cond t (cStateOf (afterPut (stateOf h) e)) h ≡ h
+    go : (t : Bool) → knownIn h ≡ t → (cond t (putRefusal (stateIn h) e) 2 ≡ 0 → ⊥) → cond t (cStateOf (afterPut (stateIn h) e)) h ≡ h
     go true fine refused =
-        ap (λ (b : Bool). cStateOf (cond b (appended (stateOf h) e) (stateOf h))) (ne-eqb (putRefusal (stateOf h) e) 0 refused)
+        ap (λ (b : Bool). cStateOf (cond b (appended (stateIn h) e) (stateIn h))) (ne-eqb (putRefusal (stateIn h) e) 0 refused)
         ∙ back-and-forth h fine
     go false over refused = refl
 
@@ -121,12 +121,12 @@ pub close-refused : (h : CState) → (refusalIn (closingOf h) ≡ 0 → ⊥) →
 unfolding closingOf leftByClose closing afterClose
 close-refused h = go (knownIn h) refl
   where
-    go : (t : Bool) → knownIn h ≡ t → (refusalIn (cond t (closing (stateOf h)) (refusal 2)) ≡ 0 → ⊥)
-        → cond t (cStateOf (afterClose (stateOf h))) h ≡ h
-    go true fine refused = by (eqb (closeRefusal (stateOf h)) 0) refused ∙ back-and-forth h fine
+    go : (t : Bool) → knownIn h ≡ t → (refusalIn (cond t (closing (stateIn h)) (refusal 2)) ≡ 0 → ⊥)
+        → cond t (cStateOf (afterClose (stateIn h))) h ≡ h
+    go true fine refused = by (eqb (closeRefusal (stateIn h)) 0) refused ∙ back-and-forth h fine
       where
-        by : (b : Bool) → (refusalIn (cond b (value (closedSize (stateOf h))) (refusal (closeRefusal (stateOf h)))) ≡ 0 → ⊥) →
-            cStateOf (cond b (closed (stateOf h)) (stateOf h)) ≡ cStateOf (stateOf h)
+        by : (b : Bool) → (refusalIn (cond b (value (closedSize (stateIn h))) (refusal (closeRefusal (stateIn h)))) ≡ 0 → ⊥) →
+            cStateOf (cond b (closed (stateIn h)) (stateIn h)) ≡ cStateOf (stateIn h)
         by true never = absurd (never refl)
         by false never = refl
     go false over refused = refl
@@ -137,11 +137,11 @@ unfolding leftByClose afterClose closed
 close-keeps h = go (knownIn h) refl
   where
     kept : knownIn h ≡ true → (b : Bool) →
-        (cStateOf (cond b (closed (stateOf h)) (stateOf h)) .writer ≡ h .writer) × (cStateOf (cond b (closed (stateOf h)) (stateOf h)) .counts ≡ h .counts)
+        (cStateOf (cond b (closed (stateIn h)) (stateIn h)) .writer ≡ h .writer) × (cStateOf (cond b (closed (stateIn h)) (stateIn h)) .counts ≡ h .counts)
     kept fine true = (ap (λ (x : CState). x .writer) (back-and-forth h fine), refl)
     kept fine false = (ap (λ (x : CState). x .writer) (back-and-forth h fine), refl)
 
     go : (t : Bool) → knownIn h ≡ t →
-        (cond t (cStateOf (afterClose (stateOf h))) h .writer ≡ h .writer) × (cond t (cStateOf (afterClose (stateOf h))) h .counts ≡ h .counts)
-    go true fine = kept fine (eqb (closeRefusal (stateOf h)) 0)
+        (cond t (cStateOf (afterClose (stateIn h))) h .writer ≡ h .writer) × (cond t (cStateOf (afterClose (stateIn h))) h .counts ≡ h .counts)
+    go true fine = kept fine (eqb (closeRefusal (stateIn h)) 0)
     go false over = (refl, refl)

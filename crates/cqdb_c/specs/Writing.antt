@@ -12,7 +12,7 @@ use Rattle.writer.specs.Put.{putRefusal, afterPut}
 use Rattle.writer.specs.Close.{closing, afterClose}
 use Rattle.writer.specs.declared.c_record.Record.{Record}
 use Rattle.writer.specs.Numbers.{known, modeOf, repeatsOf}
-use Rattle.writer.specs.CRecord.{recordOf, CState, knownIn, stateOf, cStateOf}
+use Rattle.writer.specs.CRecord.{recordOf, CState, knownIn, stateIn, cStateOf}
 
 -- C's writer, lent in place: the record's numbers (mode, repeats, entries, back size) and sizes (length, end), and
 -- the table counts
@@ -49,14 +49,14 @@ leftByBegin mode repeats n l = lentIn (beginningOf mode repeats n) l
 
 -- the rule of put: the refusal's number, 0 when accepted; and what put leaves
 unfoldable pub putNumber : CState → Entry → ℕ
-putNumber h e = cond (knownIn h) (putRefusal (stateOf h) e) 2
+putNumber h e = cond (knownIn h) (putRefusal (stateIn h) e) 2
 
 unfoldable pub leftByPut : CState → Entry → CState
-leftByPut h e = cond (knownIn h) (cStateOf (afterPut (stateOf h) e)) h
+leftByPut h e = cond (knownIn h) (cStateOf (afterPut (stateIn h) e)) h
 
 -- the rule of close: the image's size or the refusal's number, each 0 where it is the other; and what close leaves
 unfoldable pub closingOf : CState → Outcome ℕ
-closingOf h = cond (knownIn h) (closing (stateOf h)) (refusal 2)
+closingOf h = cond (knownIn h) (closing (stateIn h)) (refusal 2)
 
 abbrev pub refusalIn : Outcome ℕ → ℕ
 refusalIn (value n) = 0
@@ -67,4 +67,4 @@ sizeIn (value n) = n
 sizeIn (refusal k) = 0
 
 unfoldable pub leftByClose : CState → CState
-leftByClose h = cond (knownIn h) (cStateOf (afterClose (stateOf h))) h
+leftByClose h = cond (knownIn h) (cStateOf (afterClose (stateIn h))) h

@@ -21,7 +21,7 @@ use Rattle.lookup_laws.proofs.Matching.{hasMatch-equal}
 use Rattle.writer.specs.State.{State}
 use Rattle.writer.specs.Close.{recorded}
 use Rattle.lists.proofs.Closable.{number, end-small, entries-stand, ids-are, ends}
-use Rattle.index.specs.Index.{slotCount, slotAt, slotSequence, bucketsOf, Right}
+use Rattle.index.specs.Index.{slotCount, slotAt, slotSequence, entryBuckets, Right}
 use Rattle.index.specs.steps.Probe.{hasNameAt, duplicateAt, probeSlots}
 use Rattle.index.proofs.EntryNames.{length-buckets, buckets-occupied, all-decided, Decides, not-contained, contained}
 use Rattle.index.proofs.Probing.{Result, result, never-matches}
@@ -49,10 +49,10 @@ module _ {s : State} {words : List ℕ} (bytes : AllBytes (s .buffer)) (right : 
   long-absent name h =
       holds-longer name es (names-short (length name) es (omega (arith, end-small s bytes (right .closes), ends s bytes (right .closes))))
 
-  entries-are : length (bucketsOf es) ≡ s .writer .entries
+  entries-are : length (entryBuckets es) ≡ s .writer .entries
   entries-are = length-buckets es ∙ number s bytes (right .closes)
 
-  fit : length (bucketsOf es) ≤ m
+  fit : length (entryBuckets es) ≤ m
   fit = omega (arith, entries-are, right .capacity)
 
   -- what the result r of a put's probe says, where t tells that duplicates are refused
@@ -76,7 +76,7 @@ module _ {s : State} {words : List ℕ} (bytes : AllBytes (s .buffer)) (right : 
     ks = slotSequence words h
 
     abbrev table : ℕ → Bucket
-    table k = getD (filled m (bucketsOf es)) k empty
+    table k = getD (filled m (entryBuckets es)) k empty
 
     decided : All (Decides name v) (placed headSize es)
     decided =

@@ -23,22 +23,22 @@ use Rattle.lookup_laws.proofs.EntryProbe.{probe-entry-at}
 use Rattle.lookup_laws.proofs.TableContents.{NotEmpty}
 use Rattle.lookup_laws.specs.steps.HasMatch.{hasMatch}
 use Rattle.lookup_laws.proofs.Matching.{no-match}
-use Rattle.index.specs.Index.{bucketsOf}
+use Rattle.index.specs.Index.{entryBuckets}
 use Rattle.index.specs.steps.Probe.{isHit, hasNameAt}
 
 -- ---- the buckets of entries
 
 pub buckets-snoc : (es : List Entry) (e : Entry)
-    → bucketsOf (es ++ (e ∷ [])) ≡ bucketsOf es ++ (record { hash = hashOf (e .name); at = headSize + entriesSize es } ∷ [])
+    → entryBuckets (es ++ (e ∷ [])) ≡ entryBuckets es ++ (record { hash = hashOf (e .name); at = headSize + entriesSize es } ∷ [])
 unfolding placed
 buckets-snoc es e =
     ap (map bucketOf) (placed-append headSize es (e ∷ []))
     ∙ map-append bucketOf (placed headSize es) (placed (headSize + entriesSize es) (e ∷ []))
 
-pub length-buckets : (es : List Entry) → length (bucketsOf es) ≡ length es
+pub length-buckets : (es : List Entry) → length (entryBuckets es) ≡ length es
 length-buckets es = length-map (placed headSize es) bucketOf ∙ length-placed headSize es
 
-pub buckets-occupied : (es : List Entry) → All NotEmpty (bucketsOf es)
+pub buckets-occupied : (es : List Entry) → All NotEmpty (entryBuckets es)
 unfolding placed
 buckets-occupied es = from headSize es (omega arith)
   where
@@ -106,13 +106,13 @@ module _ (name : List ℕ) (v : ℕ → Bool) where
       go false p true false r rest e = rest e
       go false p false t r rest e = rest e
 
-  module _ (m : ℕ) (es : List Entry) (fit : length (bucketsOf es) ≤ m) (decided : All (Decides name v) (placed headSize es)) where
+  module _ (m : ℕ) (es : List Entry) (fit : length (entryBuckets es) ≤ m) (decided : All (Decides name v) (placed headSize es)) where
     abbrev table : ℕ → Bucket
-    table k = getD (filled m (bucketsOf es)) k empty
+    table k = getD (filled m (entryBuckets es)) k empty
 
     pub not-contained : 0 < m → hasMatch table (hashOf name) v (probeSequence m m (start (hashOf name) m)) ≡ false → containsName name es ≡ false
     not-contained some none =
-        holds-none headSize es decided (no-match (hashOf name) v m (bucketsOf es) some fit (buckets-occupied es) none)
+        holds-none headSize es decided (no-match (hashOf name) v m (entryBuckets es) some fit (buckets-occupied es) none)
 
     abbrev P : Bucket → Type 0
     P b = NotEmpty b → v (b .at) ≡ true → containsName name es ≡ true
@@ -120,7 +120,7 @@ module _ (name : List ℕ) (v : ℕ → Bool) where
     pub contained : (ks : List ℕ) → hasMatch table (hashOf name) v ks ≡ true → containsName name es ≡ true
     contained ks e =
         matches-some table (hashOf name) (containsName name es ≡ true)
-        (filled-all P m (bucketsOf es) (λ full t. absurd (full refl))
+        (filled-all P m (entryBuckets es) (λ full t. absurd (full refl))
         (all-image P bucketOf (λ p w full t. w .1 (sym (w .0) ∙ t)) (placed headSize es)
         (all-both (Decides name v) (λ (p : Placed). same (p .entry .name) name ≡ true → containsName name es ≡ true) (placed headSize es) decided
         (has-one headSize es))))

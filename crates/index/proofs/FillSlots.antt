@@ -16,7 +16,7 @@ use Rattle.image.proofs.Bools.{false-not-true}
 use Rattle.image.proofs.Buckets.{getD-empties}
 use Rattle.image.proofs.EntryWalk.{whole-rest, first-name, entries-rest}
 use Rattle.image.proofs.Sizes.{entriesSize-append}
-use Rattle.index.specs.Index.{slotCount, slotAt, slotStored, slotSequence, firstEmptySlot, bucketsOf, FilledWith}
+use Rattle.index.specs.Index.{slotCount, slotAt, slotStored, slotSequence, firstEmptySlot, entryBuckets, FilledWith}
 use Rattle.index.specs.steps.Probe.{probeSlots}
 use Rattle.index.specs.steps.Fill.{FillPre, SlotsFilled}
 use Rattle.index.proofs.EntryNames.{buckets-snoc, length-buckets, buckets-occupied}
@@ -31,7 +31,7 @@ pub record Filling (buf : List ℕ) (end entries : ℕ) (words₀ : List ℕ) (a
   pub split : entriesIn entries (between buf 2072 end) ≡ done ++ entriesIn left (between buf at end)
   pub number : length done + left ≡ entries
   pub place : at ≡ headSize + entriesSize done
-  pub slots : FilledWith words (bucketsOf done)
+  pub slots : FilledWith words (entryBuckets done)
   pub long : length words ≡ length words₀
   pub last : (i : ℕ) → 2 * slotCount words₀ ≤ i → getD words i 0 ≡ getD words₀ i 0
 
@@ -79,7 +79,7 @@ module _ {buf : List ℕ} {end entries : ℕ} {words₀ : List ℕ} (pre : FillP
     pub empty-slot : (k h : ℕ) → k ≡ probeSlots words h never → (k < slotCount words) × (k ≡ firstEmptySlot words h)
     empty-slot k h e = let o = go (result words h never) in (omega (arith, e, o .below), e ∙ o .is)
       where
-        fewer : length (bucketsOf (f .done)) < slotCount words
+        fewer : length (entryBuckets (f .done)) < slotCount words
         fewer = omega (arith, pre .capacity, f .number, f .long, more, length-buckets (f .done))
 
         go : Result words h never (slotSequence words h) → EmptyFound words h never (slotSequence words h)
@@ -101,10 +101,10 @@ module _ {buf : List ℕ} {end entries : ℕ} {words₀ : List ℕ} (pre : FillP
       size-is : entrySize (firstEntry (between buf at end)) ≡ 8 + n
       size-is = omega (arith, ap length is-name, x .sized, fr .some)
 
-      slots-more : {k : ℕ} → k ≡ probeSlots words h never → FilledWith (slotStored words k h at) (bucketsOf (f .done ++ (firstEntry (between buf at end) ∷ [])))
+      slots-more : {k : ℕ} → k ≡ probeSlots words h never → FilledWith (slotStored words k h at) (entryBuckets (f .done ++ (firstEntry (between buf at end) ∷ [])))
       slots-more {k} e =
           subst (FilledWith (slotStored words k h at))
-          (ap (λ (b : Bucket). bucketsOf (f .done) ++ (b ∷ [])) (same-slot (x .hash ∙ ap hashOf (sym is-name)) (f .place)) ∙ sym (buckets-snoc (f .done) first))
+          (ap (λ (b : Bucket). entryBuckets (f .done) ++ (b ∷ [])) (same-slot (x .hash ∙ ap hashOf (sym is-name)) (f .place)) ∙ sym (buckets-snoc (f .done) first))
           (filled-stored (f .slots) (record { hash = h; at = at }) k (empty-slot k h e .0) (empty-slot k h e .1))
 
       pub filling-turn : {k : ℕ} → k ≡ probeSlots words h never → Filling buf end entries words₀ (at + (8 + n)) (left - 1) (slotStored words k h at)
@@ -141,7 +141,7 @@ module _ {buf : List ℕ} {end entries : ℕ} {words₀ : List ℕ} (pre : FillP
   filling-end {at} {left} {words} f z =
       record {
         slots =
-            subst (λ (es : List Entry). FilledWith words (bucketsOf es))
+            subst (λ (es : List Entry). FilledWith words (entryBuckets es))
             (sym (f .split ∙ ap (λ (q : ℕ). f .done ++ entriesIn q (between buf at end)) z ∙ append-nil (f .done))) (f .slots);
         long = f .long;
         last = f .last;

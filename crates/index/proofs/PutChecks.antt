@@ -40,8 +40,8 @@ abbrev pub Refuses : State → List ℕ → Entry → ℕ → Type 0
 Refuses s words e k = Right s words → k ≡ indexedRefusal s words e
 
 -- a refusal, whatever was lent
-pub refused-with : {s : State} {words : List ℕ} {e : Entry} (d : Decision) (n : ℕ) → d .refusal ≡ suc n → Refuses s words e (suc n)
-    → Decided s words e d
+pub refused-with : {s : State} {words : List ℕ} {e : Entry} {h : ℕ} (d : Decision) (n : ℕ) → d .refusal ≡ suc n → Refuses s words e (suc n)
+    → Decided s words e h d
 refused-with d n is due = record { bounds = λ z. absurd (omega (arith, is, z)); rule = λ right. is ∙ due right }
 
 -- ---- the checks before the probe

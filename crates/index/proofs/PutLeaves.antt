@@ -19,7 +19,7 @@ use Rattle.index.specs.steps.Decided.{Decided, InBounds}
 use Rattle.index.proofs.PutRefusals.{kept-refused, left-accepted, none-refused}
 use Rattle.index.proofs.RightAfterPut.{right-after-put}
 
-module _ {s : State} {words : List ℕ} {e : Entry} {d : Decision} (decided : Decided s words e d) where
+module _ {s : State} {words : List ℕ} {e : Entry} {h : ℕ} {d : Decision} (decided : Decided s words e h d) where
   pub put-refused : (d .refusal ≡ 0 → ⊥) → PutIndexed s words e (d .refusal) s words
   put-refused n =
       record {
@@ -31,16 +31,16 @@ module _ {s : State} {words : List ℕ} {e : Entry} {d : Decision} (decided : De
       }
 
   module _ (z : d .refusal ≡ 0) (bytes : AllBytes (s .buffer)) (word : e .id < 2 ^ 32) {v : CQDBWriter} {counts buffer words′ : List ℕ}
-      (ev : v ≡ writerWith (s .writer) (length (e .name)) (e .id)) (ec : counts ≡ raisedCounts (s .counts) (d .hash))
-      (eb : buffer ≡ sets (s .buffer) (s .writer .end) (entryBytes e)) (ew : words′ ≡ slotStored words (d .slot) (d .hash) (s .writer .end)) where
-    bounds : InBounds s words e (d .hash) (d .slot)
+      (ev : v ≡ writerWith (s .writer) (length (e .name)) (e .id)) (ec : counts ≡ raisedCounts (s .counts) h)
+      (eb : buffer ≡ sets (s .buffer) (s .writer .end) (entryBytes e)) (ew : words′ ≡ slotStored words (d .slot) h (s .writer .end)) where
+    bounds : InBounds s words e h (d .slot)
     bounds = decided .bounds z
 
     answer-is : Right s words → 0 ≡ indexedRefusal s words e
     answer-is right = sym z ∙ decided .rule right
 
     appends : stateWith v counts buffer ≡ appended s e
-    appends = appended-parts (s .writer) v (s .counts) counts (s .buffer) buffer (e .name) (e .id) (d .hash) (bounds .hash) ev ec eb
+    appends = appended-parts (s .writer) v (s .counts) counts (s .buffer) buffer (e .name) (e .id) h (bounds .hash) ev ec eb
 
     inserts : words′ ≡ slotInserted words (hashOf (e .name)) (s .writer .end)
     inserts = ew ∙ ap₂ (λ (i x : ℕ). slotStored words i x (s .writer .end)) (bounds .first) (bounds .hash)

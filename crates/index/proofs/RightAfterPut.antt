@@ -19,7 +19,7 @@ use Rattle.lists.proofs.ListWritten.{Written}
 use Rattle.lists.proofs.ListPuts.{put-due, appended-written}
 use Rattle.lists.proofs.ListCloses.{close-accepted}
 use Rattle.lists.proofs.WrittenRecord.{written-recorded}
-use Rattle.index.specs.Index.{slotCount, firstEmptySlot, slotInserted, bucketsOf, FilledWith, Right}
+use Rattle.index.specs.Index.{slotCount, firstEmptySlot, slotInserted, entryBuckets, FilledWith, Right}
 use Rattle.index.proofs.EntryNames.{buckets-snoc}
 use Rattle.index.proofs.Insert.{filled-stored, length-stored}
 
@@ -30,7 +30,7 @@ right-written {t} {words} {mode} {repeats} {n} {es} right same number w =
       closes = close-accepted mode repeats n es t w;
       tables = w .tables;
       capacity = omega (arith, right .capacity, number, w .entries);
-      slots = subst (λ (fs : List Entry). FilledWith words (bucketsOf fs)) (same ∙ sym (written-recorded mode repeats n es t w)) (right .slots);
+      slots = subst (λ (fs : List Entry). FilledWith words (entryBuckets fs)) (same ∙ sym (written-recorded mode repeats n es t w)) (right .slots);
     }
 
 word-of : (mode : Mode) (e : Entry) → e .id < 2 ^ 32 → WordId mode (put e)
@@ -53,11 +53,11 @@ module _ {s : State} {words : List ℕ} (bytes : AllBytes (s .buffer)) (right : 
       let was = written s bytes (right .closes) (right .tables) in
       appended-written mode repeats n (recorded s) s was e (sym (put-due mode repeats n (recorded s) s was e) ∙ due) (word-of mode e word)
 
-  buckets-more : bucketsOf (recorded (appended s e)) ≡ bucketsOf (recorded s) ++ (record { hash = hashOf (e .name); at = s .writer .end } ∷ [])
+  buckets-more : entryBuckets (recorded (appended s e)) ≡ entryBuckets (recorded s) ++ (record { hash = hashOf (e .name); at = s .writer .end } ∷ [])
   buckets-more =
-      ap bucketsOf (written-recorded mode repeats n (recorded s ++ (e ∷ [])) (appended s e) now)
+      ap entryBuckets (written-recorded mode repeats n (recorded s ++ (e ∷ [])) (appended s e) now)
       ∙ buckets-snoc (recorded s) e
-      ∙ ap (λ (o : ℕ). bucketsOf (recorded s) ++ (record { hash = hashOf (e .name); at = o } ∷ [])) (sym (ends s bytes (right .closes)))
+      ∙ ap (λ (o : ℕ). entryBuckets (recorded s) ++ (record { hash = hashOf (e .name); at = o } ∷ [])) (sym (ends s bytes (right .closes)))
 
   pub right-after-put : firstEmptySlot words (hashOf (e .name)) < slotCount words
       → Right (appended s e) (slotInserted words (hashOf (e .name)) (s .writer .end))

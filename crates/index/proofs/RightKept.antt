@@ -21,7 +21,7 @@ use Rattle.lists.proofs.ListWritten.{Written}
 use Rattle.lists.proofs.ListPuts.{fresh-written}
 use Rattle.lists.proofs.ListCloses.{close-accepted, close-written}
 use Rattle.lists.proofs.WrittenRecord.{written-recorded}
-use Rattle.index.specs.Index.{slotCount, bucketsOf, Right}
+use Rattle.index.specs.Index.{slotCount, entryBuckets, Right}
 use Rattle.index.specs.theorems.KeptRight.{KeptRight}
 use Rattle.index.proofs.RightAfterPut.{right-written}
 use Rattle.index.proofs.Insert.{same-slot}
@@ -40,7 +40,7 @@ right-fresh mode repeats buffer words room clear =
           record {
             each =
                 λ k h. same-slot (clear (2 * k)) (clear (2 * k + 1)) ∙ sym (getD-empties (slotCount words) k)
-                ∙ ap (λ (es : List Entry). getD (filled (slotCount words) (bucketsOf es)) k empty) (sym none);
+                ∙ ap (λ (es : List Entry). getD (filled (slotCount words) (entryBuckets es)) k empty) (sym none);
           };
     }
 

@@ -35,8 +35,8 @@ abbrev pub slotInserted : List ℕ → ℕ → ℕ → List ℕ
 slotInserted words h at = slotStored words (firstEmptySlot words h) h at
 
 -- hash and offset of each entry, in put order
-abbrev pub bucketsOf : List Entry → List Bucket
-bucketsOf es = map bucketOf (placed headSize es)
+abbrev pub entryBuckets : List Entry → List Bucket
+entryBuckets es = map bucketOf (placed headSize es)
 
 -- the slots are what inserting these into empty ones leaves, by the rule of the image's own tables
 pub record FilledWith (words : List ℕ) (bs : List Bucket) : Type 0 where
@@ -48,7 +48,7 @@ pub record Right (s : State) (words : List ℕ) : Type 0 where
   pub closes : closeRefusal s ≡ 0
   pub tables : length (s .counts) ≡ 256
   pub capacity : s .writer .entries ≤ slotCount words
-  pub slots : FilledWith words (bucketsOf (recorded s))
+  pub slots : FilledWith words (entryBuckets (recorded s))
 
 -- a put by the index: put's refusal; where put would accept, 24 when every slot is taken
 unfoldable pub indexedRefusal : State → List ℕ → Entry → ℕ

@@ -3,6 +3,9 @@
 ghost use mathlib.Core.Path.{_≡_};
 ghost use Rattle.writer.specs.State.{stateWith};
 ghost use Rattle.writer.specs.Put.{entryOf};
+ghost use Prim.Native.Nat.{_<_};
+ghost use lib.ListN.{length};
+ghost use Rattle.jhash.specs.NameHash.{hashOf};
 ghost use Rattle.index.specs.Promise.{PutIndexed, Indexed};
 ghost use Rattle.index.specs.steps.Decided.{FitsBuffer, Decided};
 ghost use Rattle.index.specs.steps.Fill.{FillPre, SlotsFilled};
@@ -36,10 +39,9 @@ fn fits_buffer(w: CQDBWriter, buf: &[u8]) -> bool
     true
 }
 
-// The refusal of a put, 0 where it is accepted, and then the hash of its name and the slot that it takes.
+// The refusal of a put, 0 where it is accepted, and then the slot that it takes.
 struct Decision {
     refusal: u32,
-    hash: u32,
     slot: usize,
 }
 
@@ -47,14 +49,10 @@ struct Decision {
 fn refused(refusal: u32) -> Decision
     ensures { λ r. ⌜ r .refusal ≡ refusal ⌝ }
 {
-    Decision {
-        refusal,
-        hash: 0,
-        slot: 0,
-    }
+    Decision { refusal, slot: 0 }
 }
 
-// All checks of a put, with the bounds that its stores need: what is lent may be anything.
+// All checks of a put of a name whose hash is h, with the bounds that its stores need: what is lent may be anything.
 fn decide(
     w: CQDBWriter,
     counts: &[u32; 256],
@@ -62,10 +60,12 @@ fn decide(
     slots: &[u32],
     name: &[u8],
     id: u32,
+    h: u32,
 ) -> Decision
+    requires { ⌜ (length (now name) < 4294967295 → h ≡ hashOf (now name)) ⌝ }
     ensures { λ r. ⌜
         Decided (stateWith w (now (counts .entry)) (now (buf .entry))) (now (slots .entry))
-        (entryOf (now (name .entry)) id) r
+        (entryOf (now (name .entry)) id) h r
         ⌝ }
 {
     if !fits_buffer(w, buf) {
@@ -74,9 +74,9 @@ fn decide(
     if image::zero::has_zero(name) {
         return refused(13);
     }
-    let jhash::Hashed::Hash(h) = jhash::name_hash(name) else {
+    if 4294967294 < name.len() {
         return refused(3);
-    };
+    }
     let m = slots.len() / 2;
     let end = w.end as usize;
     let repeats = w.repeats;
@@ -96,12 +96,41 @@ fn decide(
     }
     Decision {
         refusal: 0,
-        hash: h,
         slot: k,
     }
 }
 
-// Appends an entry and stores its slot, or is refused and changes nothing. By a right index it does what put does.
+// Appends an entry and stores its slot, or is refused and changes nothing. By a right index it does what put does. h is
+// the hash of the name, unless that is too long to have one: the caller has computed it before.
+pub fn put_hashed(
+    w: CQDBWriter,
+    counts: &mut [u32; 256],
+    buf: &mut [u8],
+    slots: &mut [u32],
+    name: &[u8],
+    id: u32,
+    h: u32,
+) -> PutAnswer
+    requires { ⌜ (length (now name) < 4294967295 → h ≡ hashOf (now name)) ⌝ }
+    ensures { λ r. ⌜
+        PutIndexed (stateWith w (now (counts .entry)) (now (buf .entry))) (now (slots .entry))
+        (entryOf (now (name .entry)) id) (r .refusal)
+        (stateWith (r .writer) (now (counts .exit)) (now (buf .exit))) (now (slots .exit))
+        ⌝ }
+{
+    let d = decide(w, &*counts, &*buf, &*slots, name, id, h);
+    let refusal = d.refusal;
+    if refusal != 0 {
+        return PutAnswer { refusal, writer: w };
+    }
+    store_slot(&mut *slots, d.slot, h, w.end as u32);
+    image::entries::raise(&mut *counts, h);
+    writer::entry::store(&mut *buf, w.end as usize, name, id);
+    let writer = after(w, name.len(), id);
+    PutAnswer { refusal: 0, writer }
+}
+
+// The same with the name's hash computed here.
 pub fn put_indexed(
     w: CQDBWriter,
     counts: &mut [u32; 256],
@@ -116,17 +145,8 @@ pub fn put_indexed(
         (stateWith (r .writer) (now (counts .exit)) (now (buf .exit))) (now (slots .exit))
         ⌝ }
 {
-    let d = decide(w, &*counts, &*buf, &*slots, name, id);
-    let refusal = d.refusal;
-    if refusal != 0 {
-        return PutAnswer { refusal, writer: w };
-    }
-    let h = d.hash;
-    store_slot(&mut *slots, d.slot, h, w.end as u32);
-    image::entries::raise(&mut *counts, h);
-    writer::entry::store(&mut *buf, w.end as usize, name, id);
-    let writer = after(w, name.len(), id);
-    PutAnswer { refusal: 0, writer }
+    let h = jhash::key(name);
+    put_hashed(w, &mut *counts, &mut *buf, &mut *slots, name, id, h)
 }
 
 // Inserts the entries of the buffer into empty slots, in put order. Internal: the caller knows that the entries are

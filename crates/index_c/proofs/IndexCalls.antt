@@ -17,7 +17,7 @@ use Rattle.writer.specs.Put.{writerAfter, appended}
 use Rattle.writer.specs.Close.{afterClose}
 use Rattle.writer.specs.declared.c_record.Record.{Record}
 use Rattle.writer.specs.Numbers.{repeatsWord}
-use Rattle.writer.specs.CRecord.{writerOf, recordOf, CState, cState, knownIn, stateOf, cStateOf}
+use Rattle.writer.specs.CRecord.{writerOf, recordOf, CState, cState, knownIn, stateIn, cStateOf}
 use Rattle.writer.proofs.CRecords.{back-and-forth, forth-and-back, cState-known}
 use Rattle.lists.specs.theorems.LongerBuffer.{movedTo}
 use Rattle.index.specs.Index.{Right}
@@ -49,7 +49,7 @@ put-unknown h words e over =
 module _ (h : CState) {words : List ℕ} {e : Entry} {v w' : CQDBWriter} {counts buffer words′ : List ℕ} {k : ℕ} (fine : knownIn h ≡ true)
     (is : v ≡ writerOf (h .writer)) (given : PutIndexed (stateWith v (h .counts) (h .buffer)) words e k (stateWith w' counts buffer) words′)
     {r : Record} (back : r ≡ recordOf w') where
-  p : PutIndexed (stateOf h) words e k (stateWith w' counts buffer) words′
+  p : PutIndexed (stateIn h) words e k (stateWith w' counts buffer) words′
   p = subst (λ (w : CQDBWriter). PutIndexed (stateWith w (h .counts) (h .buffer)) words e k (stateWith w' counts buffer) words′) is given
 
   is-held : cState r counts buffer ≡ cStateOf (stateWith w' counts buffer)
@@ -160,7 +160,7 @@ index-unknown h words over =
 
 module _ (h : CState) {words words′ : List ℕ} {v : CQDBWriter} {k : ℕ} (fine : knownIn h ≡ true) (is : v ≡ writerOf (h .writer))
     (given : Indexed (stateWith v (h .counts) (h .buffer)) words k words′) where
-  q : Indexed (stateOf h) words k words′
+  q : Indexed (stateIn h) words k words′
   q = subst (λ (w : CQDBWriter). Indexed (stateWith w (h .counts) (h .buffer)) words k words′) is given
 
   number-is : k ≡ indexNumber h words
@@ -183,8 +183,8 @@ kept-right-held =
     record {
       made = λ h words words′ tables p. p .right refl tables;
       put = λ h h′ words words′ e refusal p right. p .right right;
-      closed = λ h words bytes right. held-right (afterClose (stateOf h)) words (kept-right .close-right (stateOf h) words bytes (right .index));
+      closed = λ h words bytes right. held-right (afterClose (stateIn h)) words (kept-right .close-right (stateIn h) words bytes (right .index));
       longer =
-          λ h words longer bytes l right. held-right (movedTo longer (stateOf h)) words
-          (kept-right .longer-right (stateOf h) words longer bytes l (right .index));
+          λ h words longer bytes l right. held-right (movedTo longer (stateIn h)) words
+          (kept-right .longer-right (stateIn h) words longer bytes l (right .index));
     }

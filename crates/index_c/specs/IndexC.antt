@@ -11,7 +11,7 @@ use Rattle.jhash.specs.NameHash.{hashOf}
 use Rattle.image.specs.Image.{Entry}
 use Rattle.writer.specs.Put.{appended}
 use Rattle.writer.specs.declared.c_record.Record.{Record}
-use Rattle.writer.specs.CRecord.{CState, knownIn, stateOf, cStateOf}
+use Rattle.writer.specs.CRecord.{CState, knownIn, stateIn, cStateOf}
 use Rattle.index.specs.Index.{slotCount, slotInserted, Right, indexedRefusal, afterIndexed, indexRefusal}
 
 -- two slots a name, two words a slot; where that exceeds 64 bits, the largest number of 64 bits
@@ -33,14 +33,14 @@ recordIn numbers sizes =
 -- the index is right for what is lent
 pub record RightHeld (h : CState) (words : List ℕ) : Type 0 where
   pub known : knownIn h ≡ true
-  pub index : Right (stateOf h) words
+  pub index : Right (stateIn h) words
 
 -- the rule of the put by an index: the refusal's number, 0 when accepted; and what it leaves
 unfoldable pub putIndexedNumber : CState → List ℕ → Entry → ℕ
-putIndexedNumber h words e = cond (knownIn h) (indexedRefusal (stateOf h) words e) 2
+putIndexedNumber h words e = cond (knownIn h) (indexedRefusal (stateIn h) words e) 2
 
 unfoldable pub leftByPutIndexed : CState → List ℕ → Entry → CState
-leftByPutIndexed h words e = cond (knownIn h) (cStateOf (afterIndexed (stateOf h) words e)) h
+leftByPutIndexed h words e = cond (knownIn h) (cStateOf (afterIndexed (stateIn h) words e)) h
 
 pub record PutIndexedHeld (h : CState) (words : List ℕ) (e : Entry) (refusal : ℕ) (h′ : CState)
     (words′ : List ℕ) : Type 0 where
@@ -48,7 +48,7 @@ pub record PutIndexedHeld (h : CState) (words : List ℕ) (e : Entry) (refusal :
   pub refused : (refusal ≡ 0 → ⊥) → (h′ ≡ h) × (words′ ≡ words)
   pub accepted : refusal ≡ 0
       → (knownIn h ≡ true)
-      × (h′ ≡ cStateOf (appended (stateOf h) e))
+      × (h′ ≡ cStateOf (appended (stateIn h) e))
       × (words′ ≡ slotInserted words (hashOf (e .name)) (h .writer .end))
   -- by a right index, the rule's number and what it leaves, and the index is right again
   pub answer : RightHeld h words → refusal ≡ putIndexedNumber h words e
@@ -57,7 +57,7 @@ pub record PutIndexedHeld (h : CState) (words : List ℕ) (e : Entry) (refusal :
 
 -- making an index: the rule's number; a refusal changes nothing; 0 gives a right index, and keeps an odd last word
 unfoldable pub indexNumber : CState → List ℕ → ℕ
-indexNumber h words = cond (knownIn h) (indexRefusal (stateOf h) words) 2
+indexNumber h words = cond (knownIn h) (indexRefusal (stateIn h) words) 2
 
 pub record IndexedHeld (h : CState) (words : List ℕ) (refusal : ℕ) (words′ : List ℕ) : Type 0 where
   pub answer : refusal ≡ indexNumber h words

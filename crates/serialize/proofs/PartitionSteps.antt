@@ -8,13 +8,13 @@ use mathlib.Core.List.{List, _++_}
 use lib.ListN.{length, getD, set, replicate}
 use lib.Seq.{sets}
 use lib.Dec.{eqb, leb}
-use borrow.Author.Tests.{eq-eqb, ne-eqb, le-leb, lt-leb}
+use borrow.Author.Tests.{eq-eqb, ne-eqb, le-leb, lt-leb, lt-ltb, le-ltb}
 use Rattle.image.specs.Bytes.{word, le32}
 use Rattle.image.specs.declared.Mode.{Mode}
 use Rattle.image.specs.Stored.{between}
 use Rattle.image.specs.steps.EntryLength.{wholeLength}
 use Rattle.serialize.specs.steps.Insertion.{hashAt, backStored}
-use Rattle.serialize.specs.steps.Partition.{tableOffsetsFrom, pairPut, advanced, PairAppended, partitioned, EntryPartitioned, partitionedFrom}
+use Rattle.serialize.specs.steps.Partition.{tableOffsetsFrom, pairPut, advanced, PairAppended, entryHash, partitioned, EntryPartitioned, partitionedFrom}
 use Rattle.serialize.specs.steps.Partition.{tableFilled, tablesFrom, insertedByTables}
 
 -- ---- a pair
@@ -50,11 +50,20 @@ table-offsets-end counts p x o t i e = e
 
 -- ---- entries
 
-pub entry-partitioned : (mode : Mode) (back-offset at n : ℕ) (places buf : List ℕ) {id h : ℕ} {places′ b1 b2 : List ℕ} → id ≡ word buf at → h ≡ hashAt buf at n
+-- the hash is known, or computed
+pub hash-known : (hashes : List ℕ) (i : ℕ) (buf : List ℕ) (at n : ℕ) → i < length hashes → getD hashes i 0 ≡ entryHash hashes i buf at n
+unfolding entryHash
+hash-known hashes i buf at n h = rw (lt-ltb i (length hashes) h) refl
+
+pub hash-computed : (hashes : List ℕ) (i : ℕ) (buf : List ℕ) (at n : ℕ) {r : ℕ} → length hashes ≤ i → r ≡ hashAt buf at n → r ≡ entryHash hashes i buf at n
+unfolding entryHash
+hash-computed hashes i buf at n h e = rw (le-ltb i (length hashes) h) e
+
+pub entry-partitioned : (mode : Mode) (back-offset at x : ℕ) (places buf : List ℕ) {id h : ℕ} {places′ b1 b2 : List ℕ} → id ≡ word buf at → h ≡ x
     → PairAppended places buf h at places′ b1 → b2 ≡ backStored mode b1 back-offset id at
-    → EntryPartitioned mode back-offset at n places buf places′ b2
+    → EntryPartitioned mode back-offset at x places buf places′ b2
 unfolding partitioned
-entry-partitioned mode back-offset at n places buf ei eh p q = record {
+entry-partitioned mode back-offset at x places buf ei eh p q = record {
   stored =
       q
       ∙ ap₂ (λ (l : List ℕ) (i : ℕ). backStored mode l back-offset i at)
@@ -62,43 +71,60 @@ entry-partitioned mode back-offset at n places buf ei eh p q = record {
   moved = p .moved ∙ ap (advanced places) eh;
 }
 
--- the entries from `at` on, partitioned in this buffer, leave what all entries leave
-pub record Partitioning (mode : Mode) (back-offset end entries : ℕ) (places₀ buf₀ places buf : List ℕ) (at left : ℕ) : Type 0 where
+-- the entries from the i-th on, which is at `at`, partitioned in this buffer, leave what all entries leave
+pub record Partitioning (mode : Mode) (back-offset end : ℕ) (hashes : List ℕ) (entries : ℕ) (places₀ buf₀ places buf : List ℕ) (at i : ℕ) : Type 0 where
   pub inside : at ≤ end
+  pub count : i ≤ entries
   pub long : length buf ≡ length buf₀
-  pub leaves : partitionedFrom mode back-offset end left at places buf ≡ partitionedFrom mode back-offset end entries 2072 places₀ buf₀
+  pub leaves : partitionedFrom mode back-offset end hashes (entries - i) i at places buf
+      ≡ partitionedFrom mode back-offset end hashes entries 0 2072 places₀ buf₀
 
-module _ {mode : Mode} {back-offset end entries : ℕ} {places₀ buf₀ places buf : List ℕ} {at left : ℕ}
-    (inv : Partitioning mode back-offset end entries places₀ buf₀ places buf at left) where
+pub partitioned-start : {mode : Mode} {back-offset end : ℕ} {hashes : List ℕ} {entries : ℕ} {places buf : List ℕ} {i : ℕ} → 2072 ≤ end → i ≡ 0
+    → Partitioning mode back-offset end hashes entries places buf places buf 2072 i
+partitioned-start {mode} {back-offset} {end} {hashes} {entries} {places} {buf} {i} low e =
+    let all : entries - i ≡ entries = omega arith in
+    record {
+      inside = low;
+      count = omega arith;
+      long = refl;
+      leaves = ap₂ (λ (k j : ℕ). partitionedFrom mode back-offset end hashes k j 2072 places buf) all e;
+    }
+
+module _ {mode : Mode} {back-offset end : ℕ} {hashes : List ℕ} {entries : ℕ} {places₀ buf₀ places buf : List ℕ} {at i : ℕ}
+    (inv : Partitioning mode back-offset end hashes entries places₀ buf₀ places buf at i) where
   abbrev from : ℕ → List ℕ
   from n =
-      partitionedFrom mode back-offset end (left - 1) (at + (8 + n)) (advanced places (hashAt buf at n)) (partitioned mode back-offset places buf at n)
+      let h = entryHash hashes i buf at n in
+      partitionedFrom mode back-offset end hashes (entries - (i + 1)) (i + 1) (at + (8 + n)) (advanced places h) (partitioned mode back-offset places buf at h)
 
-  module _ {n : ℕ} (more : 0 < left) (is : n ≡ wholeLength (between buf at end)) where
-    next : cond (eqb n 0) buf (from n) ≡ partitionedFrom mode back-offset end entries 2072 places₀ buf₀
+  module _ {n : ℕ} (more : i < entries) (is : n ≡ wholeLength (between buf at end)) where
+    next : cond (eqb n 0) buf (from n) ≡ partitionedFrom mode back-offset end hashes entries 0 2072 places₀ buf₀
     unfolding partitionedFrom
     next =
-        let m : suc (left - 1) ≡ left = omega arith in
-        ap (λ (k : ℕ). cond (eqb k 0) buf (from k)) is ∙ ap (λ (k : ℕ). partitionedFrom mode back-offset end k at places buf) m ∙ inv .leaves
+        let m : suc (entries - (i + 1)) ≡ entries - i = omega arith in
+        ap (λ (k : ℕ). cond (eqb k 0) buf (from k)) is ∙ ap (λ (k : ℕ). partitionedFrom mode back-offset end hashes k i at places buf) m ∙ inv .leaves
 
-    pub partitioned-broken : n ≡ 0 → buf ≡ partitionedFrom mode back-offset end entries 2072 places₀ buf₀
+    pub partitioned-broken : n ≡ 0 → buf ≡ partitionedFrom mode back-offset end hashes entries 0 2072 places₀ buf₀
     partitioned-broken z = sym (ap (λ (b : Bool). cond b buf (from n)) (eq-eqb n 0 z)) ∙ next
 
     pub partitioned-step : (n ≡ 0 → ⊥) → at + (8 + n) ≤ end → (places′ buf′ : List ℕ) → length buf′ ≡ length buf
-        → EntryPartitioned mode back-offset at n places buf places′ buf′
-        → Partitioning mode back-offset end entries places₀ buf₀ places′ buf′ (at + (8 + n)) (left - 1)
+        → EntryPartitioned mode back-offset at (entryHash hashes i buf at n) places buf places′ buf′
+        → Partitioning mode back-offset end hashes entries places₀ buf₀ places′ buf′ (at + (8 + n)) (i + 1)
     partitioned-step some before places′ buf′ same done = record {
       inside = before;
+      count = omega (arith, more);
       long = same ∙ inv .long;
       leaves =
-          ap₂ (λ (q : List ℕ) (l : List ℕ). partitionedFrom mode back-offset end (left - 1) (at + (8 + n)) q l) (done .moved) (done .stored)
+          ap₂ (λ (q : List ℕ) (l : List ℕ). partitionedFrom mode back-offset end hashes (entries - (i + 1)) (i + 1) (at + (8 + n)) q l) (done .moved) (done .stored)
           ∙ sym (ap (λ (b : Bool). cond b buf (from n)) (ne-eqb n 0 some))
           ∙ next;
     }
 
-  pub partitioned-all : left ≡ 0 → buf ≡ partitionedFrom mode back-offset end entries 2072 places₀ buf₀
+  pub partitioned-all : entries ≤ i → buf ≡ partitionedFrom mode back-offset end hashes entries 0 2072 places₀ buf₀
   unfolding partitionedFrom
-  partitioned-all z = sym (ap (λ (k : ℕ). partitionedFrom mode back-offset end k at places buf) z) ∙ inv .leaves
+  partitioned-all z =
+      let none : 0 ≡ entries - i = omega arith in
+      ap (λ (k : ℕ). partitionedFrom mode back-offset end hashes k i at places buf) none ∙ inv .leaves
 
 -- ---- tables
 
@@ -118,9 +144,9 @@ unfolding tablesFrom
 tables-end counts buf x o t p = p
 
 -- all of it
-pub by-tables : (mode : Mode) (back-offset end entries : ℕ) (counts buf : List ℕ) {places b1 b2 : List ℕ}
-    → places ≡ sets (replicate 256 0) 0 (tableOffsetsFrom counts end 0 256) → b1 ≡ partitionedFrom mode back-offset end entries 2072 places buf
-    → b2 ≡ tablesFrom counts end 0 256 b1 → b2 ≡ insertedByTables mode back-offset end entries counts buf
+pub by-tables : (mode : Mode) (back-offset end : ℕ) (hashes : List ℕ) (entries : ℕ) (counts buf : List ℕ) {places b1 b2 : List ℕ}
+    → places ≡ sets (replicate 256 0) 0 (tableOffsetsFrom counts end 0 256) → b1 ≡ partitionedFrom mode back-offset end hashes entries 0 2072 places buf
+    → b2 ≡ tablesFrom counts end 0 256 b1 → b2 ≡ insertedByTables mode back-offset end hashes entries counts buf
 unfolding insertedByTables
-by-tables mode back-offset end entries counts buf p q r =
-    r ∙ ap (tablesFrom counts end 0 256) (q ∙ ap (λ (l : List ℕ). partitionedFrom mode back-offset end entries 2072 l buf) p)
+by-tables mode back-offset end hashes entries counts buf p q r =
+    r ∙ ap (tablesFrom counts end 0 256) (q ∙ ap (λ (l : List ℕ). partitionedFrom mode back-offset end hashes entries 0 2072 l buf) p)

@@ -3,12 +3,12 @@
 use Prim.Native.Nat.{ℕ, zero, suc, _+_, _-_, _*_, _%_, _^_, _≤_, _<_}
 use native.Mathlib.Omega.{arith}
 use native.Mathlib.Nat.{mod-eq-of-lt}
-use native.Mathlib.Decide.{ℕ-discrete}
+use native.Mathlib.Decide.{ℕ-discrete, decLt}
 use mathlib.Core.Path.{_≡_, refl, sym, ap, ap₂, _∙_}
 use mathlib.Core.Bool.{Bool, cond}
-use mathlib.Core.List.{List, [], _∷_, _++_, append-nil, append-assoc}
+use mathlib.Core.List.{List, [], _∷_, _++_, map, append-nil, append-assoc}
 use lib.ListN.{length, getD, set, replicate, length-append, length-set, length-replicate}
-use lib.Seq.{sets, getD-set-same, getD-set-other}
+use lib.Seq.{sets, getD-set-same, getD-set-other, getD-take}
 use lib.Dec.{eqb}
 use borrow.Author.Tests.{ne-eqb, le-leb}
 use Rattle.jhash.specs.NameHash.{hashOf}
@@ -26,9 +26,11 @@ use Rattle.image.proofs.At.{At, at-same, at-right}
 use Rattle.image.proofs.Parts.{placedIn, before-most}
 use Rattle.image.proofs.EntryAt.{id-word}
 use Rattle.serialize.specs.steps.Insertion.{hashAt, backStored}
-use Rattle.serialize.specs.steps.Partition.{pairPut, advanced, partitioned, partitionedFrom, tableOffsetsFrom}
+use Rattle.serialize.specs.steps.Preconditions.{FirstHashes}
+use Rattle.serialize.specs.steps.Partition.{pairPut, advanced, entryHash, partitioned, partitionedFrom, tableOffsetsFrom}
 use Rattle.serialize.proofs.HeadRows.{Counts}
 use Rattle.serialize.proofs.PartialImage.{upToEntries, length-upToEntries, entries-after}
+use Rattle.serialize.proofs.PartitionSteps.{hash-known, hash-computed}
 use Rattle.serialize.proofs.InsertStep.{nextOf, next-at, placed-more, store-in, linked, entry-there, length-there, name-there, own-below, id-small, id-below, one-there, name-short, ends-there}
 use Rattle.serialize.proofs.TableAreas.{areaWith, length-areas, length-areaWith, count-own, count-other, areas-more}
 
@@ -100,7 +102,12 @@ unfoldable pub halfway : Mode → List Entry → List ℕ → List Entry → Lis
 halfway mode es X qs tail =
     upToEntries mode es ++ cat (areaWith (placedIn es) X (placedIn qs)) (range 0 256) ++ backWords (placedIn qs) (backSizeOf mode es) ++ tail
 
-module _ (mode : Mode) (es : List Entry) (X tail : List ℕ) (long : length X ≡ 16 * length (placedIn es)) where
+-- the hash of an entry behind others
+next-hash : (qs rest : List Entry) (e : Entry) → getD (map (λ (x : Entry). hashOf (x .name)) (qs ++ e ∷ rest)) (length qs) 0 ≡ hashOf (e .name)
+next-hash [] rest e = refl
+next-hash (q ∷ qs) rest e = next-hash qs rest e
+
+module _ (mode : Mode) (es : List Entry) (hashes X tail : List ℕ) (known : FirstHashes hashes es) (long : length X ≡ 16 * length (placedIn es)) where
   ps : List Placed
   ps = placedIn es
 
@@ -149,9 +156,24 @@ module _ (mode : Mode) (es : List Entry) (X tail : List ℕ) (long : length X �
         length-there at e rest from-here (entriesEnd es) (ends-there mode es qs rest e tail split fits ids)
         (name-short mode es qs rest e tail split fits ids)
 
-    pub half-hash : hashAt (halfway mode es X qs tail) (headSize + entriesSize qs) (length (e .name) + 1) ≡ hashOf (e .name)
+    name-hash : hashAt (halfway mode es X qs tail) (headSize + entriesSize qs) (length (e .name) + 1) ≡ hashOf (e .name)
     unfolding hashAt B at
-    half-hash = ap hashOf (name-there at e rest from-here)
+    name-hash = ap hashOf (name-there at e rest from-here)
+
+    -- known or computed, the hash is that of the name
+    pub half-hash : entryHash hashes (length qs) (halfway mode es X qs tail) (headSize + entriesSize qs) (length (e .name) + 1) ≡ hashOf (e .name)
+    half-hash =
+        elim (decLt (length qs) (length hashes)) [
+          | yes h ↦
+              sym (hash-known hashes (length qs) (halfway mode es X qs tail) (headSize + entriesSize qs) (length (e .name) + 1) h)
+              ∙ ap (λ (l : List ℕ). getD l (length qs) 0) (known .are)
+              ∙ getD-take (length hashes) (map (λ (x : Entry). hashOf (x .name)) es) (length qs) 0 h
+              ∙ ap (λ (l : List Entry). getD (map (λ (x : Entry). hashOf (x .name)) l) (length qs) 0) split
+              ∙ next-hash qs rest e
+          | no h ↦
+              sym (hash-computed hashes (length qs) (halfway mode es X qs tail) (headSize + entriesSize qs) (length (e .name) + 1) (omega (arith, h)) refl)
+              ∙ name-hash
+        ]
 
     place-there : getD places u 0 ≡ entriesEnd es + 16 * entriesBefore u ps + 8 * count u rs
     unfolding u ps rs
@@ -183,7 +205,8 @@ module _ (mode : Mode) (es : List Entry) (X tail : List ℕ) (long : length X �
         (areas-more (placedIn es) X long (placedIn qs) (nextOf qs e) (λ t h. few qs (e ∷ rest) split t) one below)
         ∙ sym (append-assoc (U ++ cat (areaWith (placedIn es) X (placedIn qs ++ nextOf qs e ∷ [])) (range 0 256)) L tail)
 
-    pub half-step : partitioned mode (backOffset mode es) places (halfway mode es X qs tail) (headSize + entriesSize qs) (length (e .name) + 1)
+    pub half-step : partitioned mode (backOffset mode es) places (halfway mode es X qs tail) (headSize + entriesSize qs)
+        (entryHash hashes (length qs) (halfway mode es X qs tail) (headSize + entriesSize qs) (length (e .name) + 1))
         ≡ halfway mode es X (qs ++ e ∷ []) tail
     unfolding partitioned B halfway at rs p ps u
     half-step =
@@ -204,7 +227,7 @@ module _ (mode : Mode) (es : List Entry) (X tail : List ℕ) (long : length X �
         (sym (placed-more qs e))
 
     pub half-places : Places (entriesEnd es) (placedIn es) (placedIn (qs ++ e ∷ []))
-        (advanced places (hashAt (halfway mode es X qs tail) (headSize + entriesSize qs) (length (e .name) + 1)))
+        (advanced places (entryHash hashes (length qs) (halfway mode es X qs tail) (headSize + entriesSize qs) (length (e .name) + 1)))
     unfolding advanced
     half-places = rw (half-hash, placed-more qs e) (record { many = length-set places u v ∙ next .many; each = λ t h. go t h (ℕ-discrete t u) })
       where
@@ -239,21 +262,28 @@ module _ (mode : Mode) (es : List Entry) (X tail : List ℕ) (long : length X �
 
   pub half-walked : imageSize mode es ≤ 4294967295 → All (λ (x : Entry). x .id < 2 ^ 32) es → (rest qs : List Entry) → es ≡ qs ++ rest → (places : List ℕ)
       → Places (entriesEnd es) (placedIn es) (placedIn qs) places
-      → partitionedFrom mode (backOffset mode es) (entriesEnd es) (length rest) (headSize + entriesSize qs) places (halfway mode es X qs tail)
+      → partitionedFrom mode (backOffset mode es) (entriesEnd es) hashes (length rest) (length qs) (headSize + entriesSize qs) places (halfway mode es X qs tail)
       ≡ halfway mode es X es tail
   unfolding partitionedFrom
   half-walked fits ids [] qs split places next = ap (λ (l : List Entry). halfway mode es X l tail) (sym (split ∙ append-nil qs))
   half-walked fits ids (e ∷ rest) qs split places next =
+      let i = length qs in
       let at = headSize + entriesSize qs in
       let H = halfway mode es X qs tail in
       let o = backOffset mode es in
       let end = entriesEnd es in
       let n = length (e .name) + 1 in
-      let advanced′ = advanced places (hashAt H at n) in
+      let advanced′ = advanced places (entryHash hashes i H at n) in
       ap
-      (λ (k : ℕ). cond (eqb k 0) H (partitionedFrom mode o end (length rest) (at + (8 + k)) (advanced places (hashAt H at k)) (partitioned mode o places H at k)))
+      (λ (k : ℕ). cond (eqb k 0) H
+      (partitionedFrom mode o end hashes (length rest) (i + 1) (at + (8 + k)) (advanced places (entryHash hashes i H at k))
+      (partitioned mode o places H at (entryHash hashes i H at k))))
       (half-length qs rest e split fits ids places next)
-      ∙ ap (λ (b : Bool). cond b H (partitionedFrom mode o end (length rest) (at + (8 + n)) advanced′ (partitioned mode o places H at n))) (ne-eqb n 0 (λ z. omega arith))
-      ∙ ap (λ (l : List ℕ). partitionedFrom mode o end (length rest) (at + (8 + n)) advanced′ l) (half-step qs rest e split fits ids places next)
-      ∙ ap (λ (k : ℕ). partitionedFrom mode o end (length rest) k advanced′ (halfway mode es X (qs ++ e ∷ []) tail)) (next-at qs e)
+      ∙ ap
+      (λ (b : Bool). cond b H
+      (partitionedFrom mode o end hashes (length rest) (i + 1) (at + (8 + n)) advanced′ (partitioned mode o places H at (entryHash hashes i H at n))))
+      (ne-eqb n 0 (λ z. omega arith))
+      ∙ ap (λ (l : List ℕ). partitionedFrom mode o end hashes (length rest) (i + 1) (at + (8 + n)) advanced′ l) (half-step qs rest e split fits ids places next)
+      ∙ ap₂ (λ (j k : ℕ). partitionedFrom mode o end hashes (length rest) j k advanced′ (halfway mode es X (qs ++ e ∷ []) tail))
+      (sym (length-append qs (e ∷ []))) (next-at qs e)
       ∙ half-walked fits ids rest (qs ++ e ∷ []) (split ∙ sym (append-assoc qs (e ∷ []) rest)) advanced′ (half-places qs rest e split fits ids places next)

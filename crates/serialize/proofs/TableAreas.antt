@@ -15,7 +15,7 @@ use Rattle.image.proofs.Stores.{sets-right-at, sets-run}
 use Rattle.image.proofs.Parts.{before-most}
 use Rattle.image.proofs.At.{At, at-same, at-equal, at-left, at-after, at-part, at-word, at-second}
 use Rattle.image.proofs.AllOfList.{All}
-use Rattle.serialize.specs.steps.Partition.{pairsAt}
+use Rattle.serialize.specs.steps.Partition.{pairsStored}
 use Rattle.serialize.proofs.EntryAdded.{ownTable, ofTable-own, ofTable-other}
 
 -- ---- runs of bytes of the sizes that the tables have
@@ -159,8 +159,8 @@ each-one P none (b ∷ bs) all zero = all .0
 each-one P none (b ∷ bs) all (suc k) = each-one P none bs (all .1) k
 
 module _ {img : List ℕ} (o : ℕ) (bs : List Bucket) (there : At img o (cat bucketBytes bs)) (words : All Words bs) where
-  read : (c : ℕ) → c ≤ length bs → pairsAt img o c ≡ take c bs
-  unfolding pairsAt bucketBytes
+  read : (c : ℕ) → c ≤ length bs → pairsStored img o c ≡ take c bs
+  unfolding pairsStored bucketBytes
   read zero h = refl
   read (suc c) h =
       let b = getD bs c empty in
@@ -172,5 +172,5 @@ module _ {img : List ℕ} (o : ℕ) (bs : List Bucket) (there : At img o (cat bu
       ∙ ap₂ (λ (i : ℕ) (j : ℕ). take c bs ++ (record { hash = i; at = j } ∷ [])) x y
       ∙ sym (take-suc bs c empty (omega arith))
 
-  pub pairs-read : (c : ℕ) → c ≡ length bs → pairsAt img o c ≡ bs
+  pub pairs-read : (c : ℕ) → c ≡ length bs → pairsStored img o c ≡ bs
   pairs-read c e = read c (omega arith) ∙ take-all c bs (omega arith)

@@ -23,7 +23,7 @@ use Rattle.image.proofs.AllOfList.{All, all-append}
 use Rattle.image.proofs.Buckets.{filled-all, firstEmpty-ext}
 use Rattle.image.proofs.At.{At, at-whole, at-same, at-equal, at-left, at-right, at-word, at-second, at-part}
 use Rattle.serialize.specs.steps.Insertion.{inserted, PairInserted}
-use Rattle.serialize.specs.steps.Partition.{pairsAt, tableStored, copyable, tableFilled}
+use Rattle.serialize.specs.steps.Partition.{pairsStored, tableStored, copyable, tableFilled}
 use Rattle.serialize.proofs.PartialImage.{zeros-buckets}
 use Rattle.serialize.proofs.EntryAdded.{firstEmpty-below}
 use Rattle.serialize.proofs.InsertStep.{store-in}
@@ -33,8 +33,8 @@ use Rattle.serialize.proofs.InsertStep.{store-in}
 abbrev pairOf : ℕ → ℕ → Bucket
 pairOf h at = record { hash = h; at = at }
 
-pairs-suc : (buf : List ℕ) (o c : ℕ) → pairsAt buf o (suc c) ≡ pairsAt buf o c ++ (pairOf (word buf (o + 8 * c)) (word buf (o + 8 * c + 4)) ∷ [])
-unfolding pairsAt
+pairs-suc : (buf : List ℕ) (o c : ℕ) → pairsStored buf o (suc c) ≡ pairsStored buf o c ++ (pairOf (word buf (o + 8 * c)) (word buf (o + 8 * c + 4)) ∷ [])
+unfolding pairsStored
 pairs-suc buf o c = refl
 
 -- the pairs are in a copy of their bytes
@@ -56,8 +56,8 @@ module _ (buf copy : List ℕ) (o c : ℕ) (inside : o + 8 * c ≤ length buf) (
   unfolding bytes
   word-copied i h = word-same (sets copy 0 bytes) (drop o buf) (8 * c) same i h ∙ word-drop buf o i
 
-  copied-to : (k : ℕ) → k ≤ c → pairsAt (sets copy 0 bytes) 0 k ≡ pairsAt buf o k
-  unfolding pairsAt
+  copied-to : (k : ℕ) → k ≤ c → pairsStored (sets copy 0 bytes) 0 k ≡ pairsStored buf o k
+  unfolding pairsStored
   copied-to zero h = refl
   copied-to (suc k) h =
       let a : 0 + 8 * k ≡ 8 * k = omega arith in
@@ -67,11 +67,11 @@ module _ (buf copy : List ℕ) (o c : ℕ) (inside : o + 8 * c ≤ length buf) (
       let y : word (sets copy 0 bytes) (0 + 8 * k + 4) ≡ word buf (o + 8 * k + 4) =
       ap (word (sets copy 0 bytes)) b ∙ word-copied (8 * k + 4) (omega arith) ∙ ap (word buf) d in
       ap (λ (r : List Bucket). r ++ (pairOf (word (sets copy 0 bytes) (0 + 8 * k)) (word (sets copy 0 bytes) (0 + 8 * k + 4)) ∷ [])) (copied-to k (omega arith))
-      ∙ ap₂ (λ (i : ℕ) (j : ℕ). pairsAt buf o k ++ (pairOf i j ∷ [])) x y
+      ∙ ap₂ (λ (i : ℕ) (j : ℕ). pairsStored buf o k ++ (pairOf i j ∷ [])) x y
 
-  pub pairs-copied : {copy′ : List ℕ} → copy′ ≡ sets copy 0 (take (o + 8 * c - o) (drop o buf)) → pairsAt copy′ 0 c ≡ pairsAt buf o c
+  pub pairs-copied : {copy′ : List ℕ} → copy′ ≡ sets copy 0 (take (o + 8 * c - o) (drop o buf)) → pairsStored copy′ 0 c ≡ pairsStored buf o c
   unfolding bytes
-  pairs-copied e = ap (λ (l : List ℕ). pairsAt l 0 c) e ∙ copied-to c (omega arith)
+  pairs-copied e = ap (λ (l : List ℕ). pairsStored l 0 c) e ∙ copied-to c (omega arith)
 
 -- ---- bytes stored within a run of bytes
 
@@ -132,8 +132,8 @@ Small bs = All (λ (b : Bucket). b .at < 2 ^ 32) bs
 pub record Filled (buf₀ pairs : List ℕ) (o c i : ℕ) (buf : List ℕ) : Type 0 where
   pub few : i ≤ c
   pub long : length buf ≡ length buf₀
-  pub is : buf ≡ tableStored buf₀ o c (pairsAt pairs 0 i)
-  pub small : Small (pairsAt pairs 0 i)
+  pub is : buf ≡ tableStored buf₀ o c (pairsStored pairs 0 i)
+  pub small : Small (pairsStored pairs 0 i)
 
 -- the table of c entries at o in cleared bytes
 module _ (base : List ℕ) (o c : ℕ) (inside : o + 16 * c ≤ length base) (buf₀ : List ℕ) (e : buf₀ ≡ sets base o (replicate (o + 16 * c - o) 0)) where
@@ -158,7 +158,7 @@ module _ (base : List ℕ) (o c : ℕ) (inside : o + 16 * c ≤ length base) (bu
       ∙ ap (sets base o) (sets-whole vs zeros [] (h ∙ sym n) ∙ append-nil vs)
 
   pub fill-start : (pairs : List ℕ) → Filled buf₀ pairs o c 0 buf₀
-  unfolding pairsAt filled insertAll zeros
+  unfolding pairsStored filled insertAll zeros
   fill-start pairs =
       let T : List Bucket = replicate (2 * c) empty in
       let n : length (cat bucketBytes T) ≡ 16 * c =
@@ -171,28 +171,28 @@ module _ (base : List ℕ) (o c : ℕ) (inside : o + 16 * c ≤ length base) (bu
         small = tt;
       }
 
-  pub fill-end : {pairs : List ℕ} {i : ℕ} {buf : List ℕ} → Filled buf₀ pairs o c i buf → c ≤ i → buf ≡ tableStored base o c (pairsAt pairs 0 c)
+  pub fill-end : {pairs : List ℕ} {i : ℕ} {buf : List ℕ} → Filled buf₀ pairs o c i buf → c ≤ i → buf ≡ tableStored base o c (pairsStored pairs 0 c)
   fill-end {pairs} {i} f l =
       let k : i ≡ c = omega (arith, f .few) in
-      let T = filled (2 * c) (pairsAt pairs 0 c) in
+      let T = filled (2 * c) (pairsStored pairs 0 c) in
       let n : length (cat bucketBytes T) ≡ 16 * c =
-      omega (arith, length-cat bucketBytes 8 length-bucketBytes T, length-filled (2 * c) (pairsAt pairs 0 c)) in
-      f .is ∙ ap (λ (j : ℕ). tableStored buf₀ o c (pairsAt pairs 0 j)) k ∙ over (cat bucketBytes T) n
+      omega (arith, length-cat bucketBytes 8 length-bucketBytes T, length-filled (2 * c) (pairsStored pairs 0 c)) in
+      f .is ∙ ap (λ (j : ℕ). tableStored buf₀ o c (pairsStored pairs 0 j)) k ∙ over (cat bucketBytes T) n
 
 pub fill-step : {buf₀ pairs : List ℕ} {o c i : ℕ} {buf buf′ : List ℕ} → Filled buf₀ pairs o c i buf → o + 16 * c ≤ length buf₀ → i < c
     → (h at : ℕ) → h ≡ word pairs (8 * i) → at ≡ word pairs (8 * i + 4) → length buf′ ≡ length buf → PairInserted buf o (2 * c) h at buf′
     → Filled buf₀ pairs o c (i + 1) buf′
 fill-step {buf₀} {pairs} {o} {c} {i} {buf} {buf′} f inside l h at eh ea sized done =
     let n = 2 * c in
-    let P = pairsAt pairs 0 i in
+    let P = pairsStored pairs 0 i in
     let T = filled n P in
     let b = pairOf h at in
     let s : suc i ≡ i + 1 = omega arith in
     let x : 8 * i ≡ 0 + 8 * i = omega arith in
     let y : 8 * i + 4 ≡ 0 + 8 * i + 4 = omega arith in
-    let more : P ++ (b ∷ []) ≡ pairsAt pairs 0 (i + 1) =
+    let more : P ++ (b ∷ []) ≡ pairsStored pairs 0 (i + 1) =
     ap₂ (λ (v : ℕ) (w : ℕ). P ++ (pairOf v w ∷ [])) (eh ∙ ap (word pairs) x) (ea ∙ ap (word pairs) y)
-    ∙ sym (pairs-suc pairs 0 i) ∙ ap (pairsAt pairs 0) s in
+    ∙ sym (pairs-suc pairs 0 i) ∙ ap (pairsStored pairs 0) s in
     let smallT : (k : ℕ) → atOf T k < 2 ^ 32 = filled-all (λ (q : Bucket). q .at < 2 ^ 32) n P (omega arith) (f .small) in
     record {
       few = omega arith;
@@ -223,9 +223,9 @@ module _ (buf : List ℕ) (o c : ℕ) {b : Bool} (is : b ≡ copyable buf o c) w
   unfolding tableFilled
   table-left lacks = rw (sym is ∙ lacks)
 
-  pub table-filled : b ≡ true → (pairs : List ℕ) {buf′ : List ℕ} → pairsAt pairs 0 c ≡ pairsAt buf o c → buf′ ≡ tableStored buf o c (pairsAt pairs 0 c)
+  pub table-filled : b ≡ true → (pairs : List ℕ) {buf′ : List ℕ} → pairsStored pairs 0 c ≡ pairsStored buf o c → buf′ ≡ tableStored buf o c (pairsStored pairs 0 c)
       → buf′ ≡ tableFilled buf o c
   unfolding tableFilled
   table-filled holds pairs l e =
       e ∙ ap (tableStored buf o c) l
-      ∙ sym (ap (λ (t : Bool). cond t (tableStored buf o c (pairsAt buf o c)) buf) (sym is ∙ holds))
+      ∙ sym (ap (λ (t : Bool). cond t (tableStored buf o c (pairsStored buf o c)) buf) (sym is ∙ holds))

@@ -24,7 +24,8 @@ use Rattle.image.proofs.AllOfList.{All, all-filter, all-image}
 use Rattle.image.proofs.At.{At, at-same, at-equal, at-left, at-right}
 use Rattle.image.proofs.Parts.{placedIn, before-most}
 use Rattle.serialize.specs.Record.{noneAbove}
-use Rattle.serialize.specs.steps.Partition.{tableOffsetsFrom, partitionedFrom, pairsAt, copyable, tableFilled, tablesFrom, insertedByTables}
+use Rattle.serialize.specs.steps.Preconditions.{FirstHashes}
+use Rattle.serialize.specs.steps.Partition.{tableOffsetsFrom, partitionedFrom, pairsStored, copyable, tableFilled, tablesFrom, insertedByTables}
 use Rattle.serialize.proofs.HeadRows.{Counts}
 use Rattle.serialize.proofs.PartialImage.{upToEntries, length-upToEntries}
 use Rattle.serialize.proofs.InsertStep.{offsets, store-in}
@@ -103,7 +104,7 @@ module _ (mode : Mode) (es : List Entry) (X tail : List ℕ) (long : length X �
         all-image Words bucketOf (λ q h. (hashOf-below (q .entry .name), omega arith)) (ofTable t (placedIn es))
         (all-filter (λ (q : Placed). q .at ≤ entriesEnd es) (inTable t) (placedIn es) (offsets headSize (entriesEnd es) es (omega arith)))
 
-    pairs-read-there : pairsAt B o (count t ps) ≡ bs
+    pairs-read-there : pairsStored B o (count t ps) ≡ bs
     unfolding bs
     pairs-read-there = pairs-read o bs pairs-there words (count t ps) (sym (length-map (ofTable t ps) bucketOf))
 
@@ -148,7 +149,7 @@ module _ (mode : Mode) (es : List Entry) (X tail : List ℕ) (long : length X �
         let most = before-most (placedIn es) t below in
         let yes : copyable B o c ≡ true =
         and-both (leb (o + 16 * c) (length B)) (leb c 4608) (le-leb (o + 16 * c) (length B) (omega (arith, length-placed headSize es))) (le-leb c 4608 few) in
-        ap (λ (b : Bool). cond b (sets B o (cat bucketBytes (filled (2 * c) (pairsAt B o c)))) B) yes
+        ap (λ (b : Bool). cond b (sets B o (cat bucketBytes (filled (2 * c) (pairsStored B o c)))) B) yes
         ∙ ap (λ (l : List Bucket). sets B o (cat bucketBytes (filled (2 * c) l))) pairs-read-there
         ∙ ap (λ (l : List ℕ). sets l o v) (append-assoc (U ++ R) L tail)
         ∙ store-in U R (L ++ tail) v o j (omega (arith, length-upToEntries mode es))
@@ -185,12 +186,12 @@ counts-few counts ps most h tallies t k =
     let l : getD counts t 0 ≤ most = rw z at (leb-true (getD counts (0 + t) 0) most (all-each (λ (i : ℕ). leb (getD counts i 0) most) 0 256 t h k)) in
     omega (arith, tallies t k)
 
-pub by-tables-image : (mode : Mode) (es : List Entry) (X tail counts : List ℕ) → length X ≡ 16 * length (placedIn es) → imageSize mode es ≤ 4294967295
+pub by-tables-image : (mode : Mode) (es : List Entry) (hashes X tail counts : List ℕ) → FirstHashes hashes es → length X ≡ 16 * length (placedIn es) → imageSize mode es ≤ 4294967295
     → All (λ (x : Entry). x .id < 2 ^ 32) es → Counts counts (placedIn es) → ((t : ℕ) → t < 256 → count t (placedIn es) ≤ 4608)
-    → insertedByTables mode (backOffset mode es) (entriesEnd es) (length es) counts (upToEntries mode es ++ X ++ backWords [] (backSizeOf mode es) ++ tail)
+    → insertedByTables mode (backOffset mode es) (entriesEnd es) hashes (length es) counts (upToEntries mode es ++ X ++ backWords [] (backSizeOf mode es) ++ tail)
     ≡ image mode es ++ tail
 unfolding insertedByTables halfway placed entriesSize entriesBefore image upToEntries
-by-tables-image mode es X tail counts long fits ids tallies few =
+by-tables-image mode es hashes X tail counts known long fits ids tallies few =
     let U = upToEntries mode es in
     let L = backWords [] (backSizeOf mode es) in
     let end = entriesEnd es in
@@ -198,10 +199,10 @@ by-tables-image mode es X tail counts long fits ids tallies few =
     let places = sets (replicate 256 0) 0 (tableOffsetsFrom counts end 0 256) in
     let none : end ≡ end + 16 * entriesBefore 0 (placedIn es) = omega arith in
     let small : end + 16 * length (placedIn es) ≤ 4294967295 = omega (arith, length-placed headSize es) in
-    ap (λ (l : List ℕ). tablesFrom counts end 0 256 (partitionedFrom mode o end (length es) headSize places (U ++ l ++ L ++ tail)))
+    ap (λ (l : List ℕ). tablesFrom counts end 0 256 (partitionedFrom mode o end hashes (length es) 0 headSize places (U ++ l ++ L ++ tail)))
     (sym (areas-none (placedIn es) X long))
     ∙ ap (tablesFrom counts end 0 256)
-    (half-walked mode es X tail long fits ids es [] refl places (places-begin counts end (placedIn es) tallies small) ∙ filled-first mode es X tail long)
+    (half-walked mode es hashes X tail known long fits ids es [] refl places (places-begin counts end (placedIn es) tallies small) ∙ filled-first mode es X tail long)
     ∙ ap (λ (k : ℕ). tablesFrom counts k 0 256 (filledTo mode es X 0 tail)) none
     ∙ tables-walked mode es X tail long fits counts tallies few 256 0 (omega arith)
     ∙ filled-last mode es X tail long

@@ -52,14 +52,14 @@ module _ (mode : Mode) (end entries back : ℕ) where
       q ∙ ap (λ (x : List ℕ). sets x 24 (rowsFrom counts end 0 256)) first
 
   -- all steps of writing
-  pub written-parts : (counts buf b1 b2 : List ℕ) (n l : ℕ)
+  pub written-parts : (hashes counts buf b1 b2 : List ℕ) (n l : ℕ)
       → n ≡ finishedOf mode end entries back → l ≡ backOffsetOf mode end entries back → b1 ≡ headed mode end entries back counts buf
-      → b2 ≡ allInserted mode l end entries n counts b1 → b2 ≡ written mode end entries back counts buf
+      → b2 ≡ allInserted mode l end hashes entries n counts b1 → b2 ≡ written mode end hashes entries back counts buf
   unfolding written
-  written-parts counts buf b1 b2 n l en el p q =
+  written-parts hashes counts buf b1 b2 n l en el p q =
       q
-      ∙ ap₂ (λ (x : ℕ) (y : ℕ). allInserted mode x end entries y counts b1) el en
-      ∙ ap (allInserted mode (backOffsetOf mode end entries back) end entries (finishedOf mode end entries back) counts) p
+      ∙ ap₂ (λ (x : ℕ) (y : ℕ). allInserted mode x end hashes entries y counts b1) el en
+      ∙ ap (allInserted mode (backOffsetOf mode end entries back) end hashes entries (finishedOf mode end entries back) counts) p
 
 -- by tables, or one by one
 pub partitions-few : (counts : List ℕ) (entries : ℕ) → entries < 1024 → false ≡ partitions counts entries
@@ -68,13 +68,13 @@ partitions-few counts entries h = rw (lt-leb 1024 entries h)
 pub partitions-many : (counts : List ℕ) (entries : ℕ) (b : Bool) → 1024 ≤ entries → b ≡ noneAbove counts 4608 → b ≡ partitions counts entries
 partitions-many counts entries b h e = rw (le-leb 1024 entries h) e
 
-module _ (mode : Mode) (back-offset end entries size : ℕ) (counts buf : List ℕ) where
+module _ (mode : Mode) (back-offset end : ℕ) (hashes : List ℕ) (entries size : ℕ) (counts buf : List ℕ) where
   pub filled-by-tables : {b1 b2 : List ℕ} → partitions counts entries ≡ true → b1 ≡ sets buf (end + 16 * entries) (replicate (size - (end + 16 * entries)) 0)
-      → b2 ≡ insertedByTables mode back-offset end entries counts b1 → b2 ≡ allInserted mode back-offset end entries size counts buf
+      → b2 ≡ insertedByTables mode back-offset end hashes entries counts b1 → b2 ≡ allInserted mode back-offset end hashes entries size counts buf
   unfolding allInserted zeroed
-  filled-by-tables t p q = rw t (q ∙ ap (insertedByTables mode back-offset end entries counts) p)
+  filled-by-tables t p q = rw t (q ∙ ap (insertedByTables mode back-offset end hashes entries counts) p)
 
   pub filled-singly : {b1 b2 : List ℕ} → partitions counts entries ≡ false → b1 ≡ sets buf end (replicate (size - end) 0)
-      → b2 ≡ insertedFrom mode back-offset end entries 2072 b1 → b2 ≡ allInserted mode back-offset end entries size counts buf
+      → b2 ≡ insertedFrom mode back-offset end entries 2072 b1 → b2 ≡ allInserted mode back-offset end hashes entries size counts buf
   unfolding allInserted zeroed
   filled-singly t p q = rw t (q ∙ ap (insertedFrom mode back-offset end entries 2072) p)

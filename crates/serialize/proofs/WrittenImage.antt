@@ -20,7 +20,7 @@ use Rattle.image.proofs.Bools.{and-second}
 use Rattle.image.proofs.AllOfList.{All}
 use Rattle.serialize.specs.Serialize.{storedEntries, serialized}
 use Rattle.serialize.specs.Record.{finishedOf, noneAbove}
-use Rattle.serialize.specs.steps.Preconditions.{ClosePrecondition, PrecomputedTables, BackArrayStored}
+use Rattle.serialize.specs.steps.Preconditions.{ClosePrecondition, FirstHashes, PrecomputedTables, BackArrayStored}
 use Rattle.image.specs.Stored.{whole, between}
 use Rattle.serialize.specs.steps.Insertion.{entryInserted, insertedFrom}
 use Rattle.serialize.specs.steps.Partition.{insertedByTables}
@@ -123,38 +123,39 @@ module _ (mode : Mode) (end entries back : ℕ) (counts buf : List ℕ) (bytes :
       ∙ ap (λ (l : List ℕ). l ++ tail) (partial-all mode es)
 
   -- by tables
-  written-by-tables : partitions counts entries ≡ true
-      → insertedByTables mode (backOffsetOf mode end entries back) end entries counts (zeroed (headed mode end entries back counts buf) (end + 16 * entries) size)
+  written-by-tables : (hashes : List ℕ) → FirstHashes hashes (storedEntries buf end entries) → partitions counts entries ≡ true
+      → insertedByTables mode (backOffsetOf mode end entries back) end hashes entries counts (zeroed (headed mode end entries back counts buf) (end + 16 * entries) size)
       ≡ image mode es ++ drop size buf
   unfolding es size
-  written-by-tables few =
+  written-by-tables hashes known few =
       let tail = drop (finishedOf mode end entries back) buf in
       let X = between buf end (end + 16 * entries) in
       let Z = upToEntries mode es ++ X ++ backWords [] (backSizeOf mode es) ++ tail in
       let long : length X ≡ 16 * length (placedIn es) =
       length-between buf end (end + 16 * entries) (omega arith) (omega (arith, asked .inside))
       ∙ same end entries (sym in-number ∙ sym (length-placed headSize es)) in
-      ap (insertedByTables mode (backOffsetOf mode end entries back) end entries counts) (back-cleared mode end entries back counts buf es describes)
-      ∙ ap (λ (o : ℕ). insertedByTables mode o end entries counts Z) (back-offset-is mode end entries back counts buf es describes)
-      ∙ ap (λ (o : ℕ). insertedByTables mode (backOffset mode es) o entries counts Z) at-end
-      ∙ ap (λ (n : ℕ). insertedByTables mode (backOffset mode es) (entriesEnd es) n counts Z) (sym in-number)
-      ∙ by-tables-image mode es X tail counts long image-small
+      ap (insertedByTables mode (backOffsetOf mode end entries back) end hashes entries counts) (back-cleared mode end entries back counts buf es describes)
+      ∙ ap (λ (o : ℕ). insertedByTables mode o end hashes entries counts Z) (back-offset-is mode end entries back counts buf es describes)
+      ∙ ap (λ (o : ℕ). insertedByTables mode (backOffset mode es) o hashes entries counts Z) at-end
+      ∙ ap (λ (n : ℕ). insertedByTables mode (backOffset mode es) (entriesEnd es) hashes n counts Z) (sym in-number)
+      ∙ by-tables-image mode es hashes X tail counts known long image-small
       (stored-ids end entries buf bytes (asked .entire)) (describes .tallies)
       (counts-few counts (placedIn es) 4608 (and-second (leb 1024 entries) (noneAbove counts 4608) few) (describes .tallies))
     where
       same : (a n : ℕ) {m : ℕ} → n ≡ m → a + 16 * n - a ≡ 16 * m
       same a n e = omega arith
 
-  pub written-image : written mode end entries back counts buf ≡ serialized mode end entries back buf
+  pub written-image : (hashes : List ℕ) → FirstHashes hashes (storedEntries buf end entries)
+      → written mode end hashes entries back counts buf ≡ serialized mode end entries back buf
   unfolding written allInserted es size
-  written-image = go (partitions counts entries) refl
+  written-image hashes known = go (partitions counts entries) refl
     where
       go : (t : Bool) → partitions counts entries ≡ t
           → cond t
-          (insertedByTables mode (backOffsetOf mode end entries back) end entries counts (zeroed (headed mode end entries back counts buf) (end + 16 * entries) size))
+          (insertedByTables mode (backOffsetOf mode end entries back) end hashes entries counts (zeroed (headed mode end entries back counts buf) (end + 16 * entries) size))
           (insertedFrom mode (backOffsetOf mode end entries back) end entries headSize (zeroed (headed mode end entries back counts buf) end size))
           ≡ serialized mode end entries back buf
-      go true few = written-by-tables few
+      go true few = written-by-tables hashes known few
       go false many = written-singly
 
   -- with precomputed tables, and the back array in its place

@@ -4,7 +4,7 @@ ghost use mathlib.Core.Path.{_≡_};
 ghost use Prim.Native.Nat.{_≤_};
 ghost use Rattle.serialize.specs.Serialize.{serialized};
 ghost use Rattle.serialize.specs.Record.{finishedOf};
-ghost use Rattle.serialize.specs.steps.Preconditions.{ClosePrecondition, PrecomputedPre};
+ghost use Rattle.serialize.specs.steps.Preconditions.{WriteImagePre, PrecomputedPre};
 ghost use Rattle.serialize.specs.steps.Written.{headed};
 use image::Mode;
 
@@ -36,16 +36,18 @@ fn write_front(mode: Mode, end: u64, entries: u32, back: u32, counts: &[u32; 256
 
 // Writes the image of the entries that stand from 2,072 to `end`: head and rows, tables and back array. An internal
 // function for the crates above, whose callers know what stands in the buffer: that many whole entries, with these
-// table counts and this back size (0 if one-way), in a buffer that has room for the image.
+// table counts and this back size (0 if one-way), in a buffer that has room for the image. `hashes` has the hashes of
+// the first entries, or of none: the others are computed.
 pub fn write_image(
     mode: Mode,
     end: u64,
     entries: u32,
     back: u32,
     counts: &[u32; 256],
+    hashes: &[u32],
     buf: &mut [u8],
 )
-    requires { ⌜ ClosePrecondition mode end entries back (now counts) (now buf) ⌝ }
+    requires { ⌜ WriteImagePre mode end entries back (now counts) (now hashes) (now buf) ⌝ }
     ensures { λ _. ⌜ now (buf .exit) ≡ serialized mode end entries back (now (buf .entry)) ⌝ }
 {
     write_front(mode, end, entries, back, counts, &mut *buf);
@@ -54,6 +56,7 @@ pub fn write_image(
     tables::insert_all(
         mode,
         back_offset as usize,
+        hashes,
         &mut *buf,
         counts,
         end as usize,

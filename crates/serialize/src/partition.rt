@@ -4,7 +4,7 @@ ghost use Prim.Native.Nat.{_<_};
 ghost use lib.Seq.{sets};
 ghost use Rattle.serialize.specs.steps.Insertion.{EntryPre, WalkPre};
 ghost use Rattle.serialize.specs.steps.Partition.{tableOffsetsFrom, pairPut, PairAppended};
-ghost use Rattle.serialize.specs.steps.Partition.{EntryPartitioned, partitionedFrom};
+ghost use Rattle.serialize.specs.steps.Partition.{entryHash, PartitionPre, EntryPartitioned, partitionedFrom};
 use super::head::low;
 use super::head::wide;
 use super::insert::hash_at;
@@ -50,31 +50,47 @@ fn append_pair(buf: &mut [u8], places: &mut [u32; 256], h: u32, at: u32)
     places[t] = std::num::wrapping_add_u32(p, 8);
 }
 
-// The entry at `at`, whose length word is n: its pair appended, and its offset stored in the back array.
+// The hash of the i-th entry, which is at `at` and whose length word is n: the i-th of the hashes that are known, or
+// computed if that is not one of them.
+fn entry_hash(hashes: &[u32], i: usize, buf: &[u8], at: usize, n: usize) -> u32
+    requires { ⌜ EntryPre at n (now buf) ⌝ }
+    ensures { λ r. ⌜ r ≡ entryHash (now (hashes .entry)) i (now (buf .entry)) at n ⌝ }
+{
+    if i < hashes.len() {
+        return hashes[i];
+    }
+    hash_at(buf, at, n)
+}
+
+// The i-th entry, which is at `at` and whose length word is n: its pair appended, and its offset stored in the back
+// array.
 fn partition_entry(
     mode: Mode,
     back_offset: usize,
+    hashes: &[u32],
+    i: usize,
     buf: &mut [u8],
     places: &mut [u32; 256],
     at: usize,
     n: usize,
 )
-    requires { ⌜ EntryPre at n (now buf) × («back_offset» < 4294967296) ⌝ }
+    requires { ⌜ PartitionPre «back_offset» at n (now buf) ⌝ }
     ensures { λ _. ⌜
-        EntryPartitioned mode «back_offset» at n (now (places .entry)) (now (buf .entry)) (now (places .exit))
-        (now (buf .exit))
+        EntryPartitioned mode «back_offset» at (entryHash (now (hashes .entry)) i (now (buf .entry)) at n)
+        (now (places .entry)) (now (buf .entry)) (now (places .exit)) (now (buf .exit))
         ⌝ }
 {
     let id = image::get_u32(&*buf, at);
-    let h = hash_at(&*buf, at, n);
+    let h = entry_hash(hashes, i, &*buf, at, n);
     append_pair(&mut *buf, &mut *places, h, at as u32);
     store_back(mode, &mut *buf, back_offset, id, at as u32);
 }
 
-// The entries from 2,072 on, one after the other.
+// The entries from 2,072 on, one after the other. `hashes` has the hashes of the first of them, or of none.
 pub(super) fn partition_entries(
     mode: Mode,
     back_offset: usize,
+    hashes: &[u32],
     buf: &mut [u8],
     places: &mut [u32; 256],
     end: usize,
@@ -83,18 +99,20 @@ pub(super) fn partition_entries(
     requires { ⌜ WalkPre «back_offset» end (now buf) ⌝ }
     ensures { λ _. ⌜
         now (buf .exit)
-        ≡ partitionedFrom mode «back_offset» end entries 2072 (now (places .entry)) (now (buf .entry))
+        ≡ partitionedFrom mode «back_offset» end (now (hashes .entry)) entries 0 2072 (now (places .entry))
+        (now (buf .entry))
         ⌝ }
 {
     let mut at = 2072;
-    let mut left = entries;
-    while left > 0 {
+    let mut i = 0;
+    while i < entries {
         let n = image::entries::whole_length(&*buf, at, end);
         if n == 0 {
             return;
         }
-        partition_entry(mode, back_offset, &mut *buf, &mut *places, at, n);
+        let k = i as usize;
+        partition_entry(mode, back_offset, hashes, k, &mut *buf, &mut *places, at, n);
         at += 8 + n;
-        left -= 1;
+        i += 1;
     }
 }

@@ -6,7 +6,8 @@ ghost use Prim.Native.Nat.{_+_, _*_, _<_, _≤_};
 ghost use lib.ListN.{length};
 ghost use lib.Seq.{sets};
 ghost use Rattle.serialize.specs.steps.Insertion.{WalkPre};
-ghost use Rattle.serialize.specs.steps.Partition.{pairsAt, tableStored, InsertPairsPre, FillTablePre};
+ghost use Rattle.serialize.specs.steps.Partition.{pairsStored, tableStored, InsertPairsPre, FillTablePre};
+ghost use Rattle.serialize.specs.steps.Partition.{TablePlace};
 ghost use Rattle.serialize.specs.steps.Partition.{copyable, tableFilled, tablesFrom, insertedByTables};
 ghost use Rattle.serialize.specs.steps.Written.{partitions, allInserted, InsertAllPre};
 use super::counts::none_above;
@@ -22,7 +23,7 @@ use jhash::word::word;
 // The table of c entries at o, cleared and filled with c pairs in their order.
 fn insert_pairs(buf: &mut [u8], o: usize, c: usize, pairs: &[u8])
     requires { ⌜ InsertPairsPre o c (now pairs) (now buf) ⌝ }
-    ensures { λ _. ⌜ now (buf .exit) ≡ tableStored (now (buf .entry)) o c (pairsAt (now (pairs .entry)) 0 c) ⌝ }
+    ensures { λ _. ⌜ now (buf .exit) ≡ tableStored (now (buf .entry)) o c (pairsStored (now (pairs .entry)) 0 c) ⌝ }
 {
     clear(&mut *buf, o, o + 16 * c);
     let mut i = 0;
@@ -40,7 +41,7 @@ fn insert_pairs(buf: &mut [u8], o: usize, c: usize, pairs: &[u8])
 
 // Whether the table of c entries at o lies in the buffer, and the copy has room for its pairs.
 fn copyable(buf: &[u8], o: usize, c: usize) -> bool
-    requires { ⌜ (o < 281474976710656) × (c < 4294967296) ⌝ }
+    requires { ⌜ TablePlace o c ⌝ }
     ensures { λ r. ⌜ r ≡ copyable (now (buf .entry)) o c ⌝ }
 {
     o + 16 * c <= buf.len() && c <= 4608
@@ -92,10 +93,11 @@ fn fill_tables(buf: &mut [u8], counts: &[u32; 256], end: usize)
     }
 }
 
-// The entries from 2,072 on, inserted by tables.
+// The entries from 2,072 on, inserted by tables. `hashes` has the hashes of the first of them, or of none.
 fn insert_by_tables(
     mode: Mode,
     back_offset: usize,
+    hashes: &[u32],
     buf: &mut [u8],
     counts: &[u32; 256],
     end: usize,
@@ -103,12 +105,21 @@ fn insert_by_tables(
 )
     requires { ⌜ WalkPre «back_offset» end (now buf) ⌝ }
     ensures { λ _. ⌜
-        now (buf .exit) ≡ insertedByTables mode «back_offset» end entries (now (counts .entry)) (now (buf .entry))
+        now (buf .exit)
+        ≡ insertedByTables mode «back_offset» end (now (hashes .entry)) entries (now (counts .entry)) (now (buf .entry))
         ⌝ }
 {
     let mut places = [0; 256];
     table_offsets(counts, end, &mut places);
-    partition_entries(mode, back_offset, &mut *buf, &mut places, end, entries);
+    partition_entries(
+        mode,
+        back_offset,
+        hashes,
+        &mut *buf,
+        &mut places,
+        end,
+        entries,
+    );
     fill_tables(&mut *buf, counts, end);
 }
 
@@ -124,9 +135,11 @@ fn partitions(counts: &[u32; 256], entries: u32) -> bool
 }
 
 // The entries from 2,072 on, inserted into tables and back array of an image of `size` bytes: by tables, or one by one.
+// `hashes` has the hashes of the first of them, or of none.
 pub(super) fn insert_all(
     mode: Mode,
     back_offset: usize,
+    hashes: &[u32],
     buf: &mut [u8],
     counts: &[u32; 256],
     end: usize,
@@ -135,12 +148,13 @@ pub(super) fn insert_all(
 )
     requires { ⌜ InsertAllPre «back_offset» end entries size (now buf) ⌝ }
     ensures { λ _. ⌜
-        now (buf .exit) ≡ allInserted mode «back_offset» end entries size (now (counts .entry)) (now (buf .entry))
+        now (buf .exit)
+        ≡ allInserted mode «back_offset» end (now (hashes .entry)) entries size (now (counts .entry)) (now (buf .entry))
         ⌝ }
 {
     if partitions(counts, entries) {
         clear(&mut *buf, end + 16 * (entries as usize), size);
-        insert_by_tables(mode, back_offset, &mut *buf, counts, end, entries);
+        insert_by_tables(mode, back_offset, hashes, &mut *buf, counts, end, entries);
         return;
     }
     clear(&mut *buf, end, size);

@@ -13,7 +13,7 @@ use Rattle.writer.specs.declared.Repeats.{Repeats}
 use Rattle.writer.specs.declared.Repeats.the-variants.{Off, On}
 use Rattle.writer.specs.State.{State, stateWith}
 use Rattle.writer.specs.Numbers.{known, modeOf, repeatsOf, repeatsWord}
-use Rattle.writer.specs.CRecord.{CState, cState, knownIn, stateOf, cStateOf}
+use Rattle.writer.specs.CRecord.{CState, cState, knownIn, stateIn, cStateOf}
 
 -- a number that stands for a mode is that mode's flag word
 mode-word : (mode : ℕ) → mode ≤ 1 → flagWord (modeOf mode) ≡ mode
@@ -32,7 +32,7 @@ repeats-word repeats fine = go (eqb repeats 0) refl
     go false e = omega (arith, eqb-false repeats 0 e)
 
 -- C's record and 01's stand for each other, so that a refused call hands back the very record
-pub back-and-forth : (h : CState) → knownIn h ≡ true → cStateOf (stateOf h) ≡ h
+pub back-and-forth : (h : CState) → knownIn h ≡ true → cStateOf (stateIn h) ≡ h
 back-and-forth h fine =
     let w = h .writer in
     ap₂
@@ -62,7 +62,7 @@ repeats-back : (repeats : Repeats) → repeatsOf (repeatsWord repeats) ≡ repea
 repeats-back Off = refl
 repeats-back On = refl
 
-pub forth-and-back : (s : State) → stateOf (cStateOf s) ≡ s
+pub forth-and-back : (s : State) → stateIn (cStateOf s) ≡ s
 forth-and-back s =
     let w = s .writer in
     ap₂ {C = State}

@@ -41,8 +41,8 @@ abbrev pub cState : Record → List ℕ → List ℕ → CState
 cState w counts buffer = record { writer = w; counts = counts; buffer = buffer }
 
 -- the state of 01's rules that it stands for, and the other way round
-abbrev pub stateOf : CState → State
-stateOf h = stateWith (writerOf (h .writer)) (h .counts) (h .buffer)
+abbrev pub stateIn : CState → State
+stateIn h = stateWith (writerOf (h .writer)) (h .counts) (h .buffer)
 
 abbrev pub cStateOf : State → CState
 cStateOf s = cState (recordOf (s .writer)) (s .counts) (s .buffer)

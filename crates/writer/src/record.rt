@@ -1,8 +1,9 @@
 // The writer record: whether it fits a buffer, and its numbers after a put.
 ghost use mathlib.Core.Path.{_≡_};
-ghost use Prim.Native.Nat.{_<_, _≤_, _^_};
+ghost use Prim.Native.Nat.{_≤_};
 ghost use Rattle.writer.specs.State.{stateWith, fits, tooLarge, finishedSize};
 ghost use Rattle.writer.specs.Put.{raised, writerWith};
+ghost use Rattle.writer.specs.steps.Storing.{SizeWithPre};
 use super::CQDBWriter;
 use image::Mode;
 
@@ -41,7 +42,7 @@ fn raised(mode: Mode, back: u32, id: u32) -> u64
 
 // The finished size after a put of an id and a name of n bytes.
 pub fn size_with(w: CQDBWriter, n: usize, id: u32) -> u64
-    requires { ⌜ (w .end < 2 ^ 63) × (n < 4294967295) ⌝ }
+    requires { ⌜ SizeWithPre (w .end) n ⌝ }
     ensures { λ r. ⌜ r ≡ finishedSize (writerWith w n id) ⌝ }
 {
     let mode = w.mode;

@@ -7,30 +7,40 @@ use Rattle.build.proofs.Whole.{refusal-14, refusal-15, refusal-15-place
 use Rattle.build.proofs.build.Statement.{statement}
 use Rattle.build.proofs.build.Tie as tie
 
+-- ---- places in the code, each told from a later one
+
+abbrev start : tie.After-invalid-ends → tie.Start
+start c = c .before .before .before .before .before .before .before
+
+abbrev checked : tie.After-build-list → tie.Else4
+checked c = c .before .before .before .before
+
+-- ---- the needs
+
 returns : tie.Need-returns
 returns c =
-    let a = c .before .before .before .before .before .before .before .before .args in
+    let a = start (c .before) .args in
     let told = refusal-14 (a .bytes .now) (a .ends .now) (length (a .ids .now)) (length (a .refusals .now)) (length (a .buf .now)) (sym (c .before .invalid-ends .ensures) ∙ c .if1 .taken) in
     let out = refused-build (a .mode) (a .repeats) (a .buf .now) (a .bytes .now) (a .ends .now) (a .ids .now) (a .refusals .now) 14 told (omega arith) in
     (out .0, (out .1, (out .2, λ h. refl)))
 
 returns-2 : tie.Need-returns-2
 returns-2 c =
-    let a = c .before .before .before .before .before .before .before .before .before .args in
+    let a = start (c .before .before) .args in
     let told = refusal-15 (a .bytes .now) (a .ends .now) (length (a .ids .now)) (length (a .refusals .now)) (length (a .buf .now)) (sym (c .before .before .invalid-ends .ensures) ∙ c .before .if1 .left) (c .if2 .taken) in
     let out = refused-build (a .mode) (a .repeats) (a .buf .now) (a .bytes .now) (a .ends .now) (a .ids .now) (a .refusals .now) 15 told (omega arith) in
     (out .0, (out .1, (out .2, λ h. refl)))
 
 returns-3 : tie.Need-returns-3
 returns-3 c =
-    let a = c .before .before .before .before .before .before .before .before .before .before .args in
+    let a = start (c .before .before .before) .args in
     let told = refusal-15-places (a .bytes .now) (a .ends .now) (length (a .ids .now)) (length (a .refusals .now)) (length (a .buf .now)) (sym (c .before .before .before .invalid-ends .ensures) ∙ c .before .before .if1 .left) (c .before .if2 .left) (c .if3 .taken) in
     let out = refused-build (a .mode) (a .repeats) (a .buf .now) (a .bytes .now) (a .ends .now) (a .ids .now) (a .refusals .now) 15 told (omega arith) in
     (out .0, (out .1, (out .2, λ h. refl)))
 
 returns-4 : tie.Need-returns-4
 returns-4 c =
-    let a = c .before .before .before .before .before .before .before .before .before .before .before .args in
+    let a = start (c .before .before .before .before) .args in
     let told = refusal-1 (a .bytes .now) (a .ends .now) (length (a .ids .now)) (length (a .refusals .now)) (length (a .buf .now)) (sym (c .before .before .before .before .invalid-ends .ensures) ∙ c .before .before .before .if1 .left) (c .before .before .if2 .left) (c .before .if3 .left) (c .if4 .taken) in
     let out = refused-build (a .mode) (a .repeats) (a .buf .now) (a .bytes .now) (a .ends .now) (a .ids .now) (a .refusals .now) 1 told (omega arith) in
     (out .0, (out .1, (out .2, λ h. refl)))
@@ -47,11 +57,12 @@ build-list-requires c κs =
 
 returns-5 : tie.Need-returns-5
 returns-5 c =
-    let s = c .before .before .before .before .before .before .before .before .before .before in
-    let a = s .before .before .before .before .before .before .before .before .before .before .before .args in
+    let b = c .before .before .before .before .before .before in
+    let s = checked b in
+    let a = start (s .before .before .before .before) .args in
     let straight = sym (s .before .before .before .before .invalid-ends .ensures) ∙ s .before .before .before .if1 .left in
     let none = refusal-none (a .bytes .now) (a .ends .now) (length (a .ids .now)) (length (a .refusals .now)) (length (a .buf .now)) straight (s .before .before .if2 .left) (s .before .if3 .left) (s .if4 .left) in
-    let out = c .before .before .before .before .before .before .build-list .ensures in
+    let out = b .build-list .ensures in
     (out .gives, (out .leaves, (out .answers, λ h. absurd (omega (arith, none, h)))))
 
 pub build-spec : {M : Type 1} → statement M

@@ -1,51 +1,34 @@
 -- `build::build_list` meets its contract, by either way. Assumes nothing.
-use native.Mathlib.Omega.{arith}
-use mathlib.Core.Path.{_≡_}
 use borrow.Author.Needs.{needs}
-use Rattle.build.proofs.BulkBuilt.{built-after}
+use Rattle.image.proofs.Bools.{false-not-true}
 use Rattle.build.proofs.build_list.Statement.{statement}
 use Rattle.build.proofs.build_list.Tie as tie
 
--- ---- places in the code, each told from a later one
+-- the beginning, from the test of the capacity
+abbrev start : tie.After-has-capacity → tie.Start
+start c = c .before .before .before .before .before .before .before
 
-abbrev start : tie.After-build-bulk → tie.Start
-start c = c .before .before .before .before .before .before .before .before .before .before
+build-hashed-requires : tie.Need-build-hashed-requires
+build-hashed-requires c κs =
+    let h = c .before .before .before .before in
+    record { list = start h .pre; capacity = h .has-capacity .ensures (c .before .before .before .if1 .taken) }
 
-abbrev tried : tie.After-slice-known6 → tie.After-build-bulk
-tried c = c .before .before .before .before .before .before
-
-abbrev left : tie.After-build-singly → tie.After-slice-known6
-left c = c .before .before .before .before .before
-
--- ---- the needs
-
-cast-accepted : tie.Need-cast-accepted
-cast-accepted c = omega (arith, tried (c .before) .build-bulk .ensures .count-fits (c .if1 .taken))
-
-returns : tie.Need-returns
-returns c = tried (c .before) .build-bulk .ensures .built (c .if1 .taken)
-
-returns-2 : tie.Need-returns-2
-returns-2 c =
-    let d = c .before .before .before .before .before .before in
-    let b = tried (left d) in
-    let s = start b in
-    let e = b .build-bulk .ensures in
-    let none : b .build-bulk .result ≡ 0 = omega (arith, d .before .before .before .before .if1 .left) in
-    built-after (s .args .mode) (s .args .repeats) (s .pre) (e .kept none) (b .build-bulk .kept .1 .1 .1 .1 .1 .1 .0) (e .rest none) (d .build-singly .ensures)
+build-singly-requires : tie.Need-build-singly-requires
+build-singly-requires c κs =
+    record { list = start (c .before .before .before .before) .pre; hashes = λ t. absurd (false-not-true t) }
 
 pub build-list-spec : {M : Type 1} → statement M
 build-list-spec =
     tie.close
     (tie.spec
     (λ c κs. search needs)
-    cast-accepted
+    build-hashed-requires
     (λ c. search needs)
     (λ c. search needs)
     (λ c. search needs)
-    returns
-    (λ c κs. search needs)
+    (λ c. search needs)
+    build-singly-requires
     (λ c. search needs)
     (λ c. search needs)
     (λ c. search needs)
-    returns-2)
+    (λ c. search needs))

@@ -16,28 +16,28 @@ use Rattle.build.specs.steps.Capacity.{RoomForAll}
 use Rattle.build.specs.steps.Steps.{entriesListed}
 
 -- the entries of all names
-abbrev pub entriesOf : List ℕ → List ℕ → List ℕ → List Entry
-entriesOf bytes ends ids = entriesListed (names bytes ends) ids
+abbrev pub listEntries : List ℕ → List ℕ → List ℕ → List Entry
+listEntries bytes ends ids = entriesListed (names bytes ends) ids
 
 -- the entries are to be stored around a cleared back array, which begins at `at`
 pub record StoreListPre (mode : Mode) (at : ℕ) (bytes ends ids buf : List ℕ) : Type 0 where
   pub packed : invalidEnds (length bytes) 0 ends ≡ false
   pub few : length ends ≤ 171798691
   pub ids-long : length ends ≤ length ids
-  pub within : imageSize mode (entriesOf bytes ends ids) ≤ length buf
-  pub small : imageSize mode (entriesOf bytes ends ids) ≤ 4294967295
-  pub at-is : at ≡ entriesEnd (entriesOf bytes ends ids) + 16 * length ends
-  pub cleared : between buf at (imageSize mode (entriesOf bytes ends ids))
-      ≡ replicate (4 * backSizeOf mode (entriesOf bytes ends ids)) 0
+  pub within : imageSize mode (listEntries bytes ends ids) ≤ length buf
+  pub small : imageSize mode (listEntries bytes ends ids) ≤ 4294967295
+  pub at-is : at ≡ entriesEnd (listEntries bytes ends ids) + 16 * length ends
+  pub cleared : between buf at (imageSize mode (listEntries bytes ends ids))
+      ≡ replicate (4 * backSizeOf mode (listEntries bytes ends ids)) 0
 
 -- they stand one behind the other, each offset under its id in the back array, and what follows the image is as it was
 pub record StoreListPost (mode : Mode) (at : ℕ) (bytes ends ids buf bufThen : List ℕ) : Type 0 where
-  pub area : between bufThen headSize (entriesEnd (entriesOf bytes ends ids))
-      ≡ cat entryBytes (entriesOf bytes ends ids)
-  pub linked : between bufThen at (imageSize mode (entriesOf bytes ends ids))
-      ≡ backWords (placed headSize (entriesOf bytes ends ids)) (backSizeOf mode (entriesOf bytes ends ids))
-  pub behind : drop (imageSize mode (entriesOf bytes ends ids)) bufThen
-      ≡ drop (imageSize mode (entriesOf bytes ends ids)) buf
+  pub area : between bufThen headSize (entriesEnd (listEntries bytes ends ids))
+      ≡ cat entryBytes (listEntries bytes ends ids)
+  pub linked : between bufThen at (imageSize mode (listEntries bytes ends ids))
+      ≡ backWords (placed headSize (listEntries bytes ends ids)) (backSizeOf mode (listEntries bytes ends ids))
+  pub behind : drop (imageSize mode (listEntries bytes ends ids)) bufThen
+      ≡ drop (imageSize mode (listEntries bytes ends ids)) buf
   pub long : length bufThen ≡ length buf
 
 -- the image of all names is to be written, with these table counts and the words of its tables
@@ -54,5 +54,6 @@ pub record WriteListPre (mode : Mode) (buf bytes ends ids counts words : List �
       → PrecomputedTables words es
 
 pub record WriteListPost (mode : Mode) (buf bytes ends ids : List ℕ) (r : ℕ) (bufThen : List ℕ) : Type 0 where
-  pub size : r ≡ imageSize mode (entriesOf bytes ends ids)
-  pub leaves : bufThen ≡ image mode (entriesOf bytes ends ids) ++ drop (imageSize mode (entriesOf bytes ends ids)) buf
+  pub size : r ≡ imageSize mode (listEntries bytes ends ids)
+  pub leaves : bufThen
+      ≡ image mode (listEntries bytes ends ids) ++ drop (imageSize mode (listEntries bytes ends ids)) buf

@@ -12,25 +12,36 @@ use Rattle.build_c.proofs.Builds.{unknown-build, known-build}
 use Rattle.build_c.proofs.cqdb_build_parts.Statement.{statement}
 use Rattle.build_c.proofs.cqdb_build_parts.Tie as tie
 
+-- ---- places in the code, each told from a later one
+
+abbrev begun : tie.After-known → tie.Start
+begun c = c .before .before .before .before .before .before .before
+
+abbrev accepted : tie.After-mode-of → tie.After-known
+accepted c = c .before .before
+
+abbrev moded : tie.After-build → tie.After-mode-of
+moded c = c .before .before .before .before .before
+
 -- what was built, as the struct tells it
 module _ (c : tie.After-build) where
   abbrev start : tie.Start
-  start = c .before .before .before .before .before .before .before .before .before .before .before .before .before .before
+  start = begun (accepted (moded c))
 
   told : (builtAnswer (builtOf (c .build .result)) ≡ buildAnswer (start .args .mode) (start .args .repeats) (start .args .buf .now) (start .args .names .now) (start .args .ends .now) (start .args .ids .now) (length (start .args .refusals .now)))
       × (c .build .last .1 .1 .0 ≡ bufferBuilt (start .args .mode) (start .args .repeats) (start .args .buf .now) (start .args .names .now) (start .args .ends .now) (start .args .ids .now) (length (start .args .refusals .now)))
       × (c .build .last .1 .1 .1 .1 .1 .1 .0 ≡ answersBuilt (start .args .mode) (start .args .repeats) (start .args .buf .now) (start .args .names .now) (start .args .ends .now) (start .args .ids .now) (start .args .refusals .now))
   told =
-      let m = c .before .before .before .before .before .mode-of in
+      let m = moded c .mode-of in
       let r = c .before .before .before .before .repeats-of in
       let done = c .build in
-      let fine = sym (c .before .before .before .before .before .before .before .known .ensures) ∙ not-false _ (c .before .before .before .before .before .before .if1 .left) in
+      let fine = sym (accepted (moded c) .known .ensures) ∙ not-false _ (moded c .before .if1 .left) in
       known-build (start .args .mode) (start .args .repeats) (start .args .buf .now) (start .args .names .now) (start .args .ends .now) (start .args .ids .now) (start .args .refusals .now) fine (m .result) (r .result)
       (m .ensures) (r .ensures) (builtOf (done .result)) _ _ (done .ensures .0) (done .ensures .1 .0) (done .ensures .1 .1 .0)
 
 returns : tie.Need-returns
 returns c =
-    let a = c .before .before .before .before .before .before .before .before .args in
+    let a = begun (c .before) .args in
     let out = unknown-build (a .mode) (a .repeats) (a .buf .now) (a .names .now) (a .ends .now) (a .ids .now) (a .refusals .now) (sym (c .before .known .ensures) ∙ not-true _ (c .if1 .taken)) in
     (out .0, (out .1, (out .2, λ h. refl)))
 
@@ -45,7 +56,7 @@ returns-3 c =
     let a = start b .args in
     let done = b .build in
     let out = told b in
-    let some = refused-some (b .before .before .before .before .before .mode-of .result) (b .before .before .before .before .repeats-of .result) (a .buf .now) (a .names .now) (a .ends .now) (a .ids .now) (length (a .refusals .now)) _ (sym (done .ensures .0) ∙ ap builtOf (c .before .built2 .given .1)) in
+    let some = refused-some (moded b .mode-of .result) (b .before .before .before .before .repeats-of .result) (a .buf .now) (a .names .now) (a .ends .now) (a .ids .now) (length (a .refusals .now)) _ (sym (done .ensures .0) ∙ ap builtOf (c .before .built2 .given .1)) in
     (ap (λ (b : Built). builtAnswer (builtOf b)) (sym (c .before .built2 .given .1)) ∙ out .0, (out .1, (out .2, λ h. done .ensures .1 .1 .1 some)))
 
 pub cqdb-build-parts-spec : {M : Type 1} → statement M

@@ -5,7 +5,7 @@ use mathlib.Core.Path.{_≡_, subst, _∙_}
 use mathlib.Core.List.{List}
 use lib.ListN.{length, length-replicate}
 use borrow.Author.Needs.{needs}
-use Rattle.bulk_tables.specs.steps.Layout.{pairsAt}
+use Rattle.bulk_tables.specs.steps.Layout.{pairWords}
 use Rattle.bulk_tables.specs.steps.Partition.{at}
 use Rattle.bulk_tables.proofs.WholeTables.{sums-pre, partition-pre, fill-pre, built}
 use Rattle.bulk_tables.proofs.build_tables.Statement.{statement}
@@ -31,10 +31,10 @@ abbrev cleared-in : (c : tie.After-clear) → List ℕ
 cleared-in c = c .clear .last .0
 
 -- the pairs are kept behind empty buckets
-zeroed : (c : tie.After-clear) → (w : ℕ) → w < pairsAt (length (start (summed (partitioned c)) .args .ends .now)) → at (cleared-in c) w ≡ 0
+zeroed : (c : tie.After-clear) → (w : ℕ) → w < pairWords (length (start (summed (partitioned c)) .args .ends .now)) → at (cleared-in c) w ≡ 0
 zeroed c w h = c .clear .ensures .0 w (omega (arith, c .before .pairs-at .ensures))
 
-kept : (c : tie.After-clear) → (w : ℕ) → pairsAt (length (start (summed (partitioned c)) .args .ends .now)) ≤ w → at (cleared-in c) w ≡ at (pairs-in (partitioned c)) w
+kept : (c : tie.After-clear) → (w : ℕ) → pairWords (length (start (summed (partitioned c)) .args .ends .now)) ≤ w → at (cleared-in c) w ≡ at (pairs-in (partitioned c)) w
 kept c w h = c .clear .ensures .1 w (omega (arith, c .before .pairs-at .ensures))
 
 long : (c : tie.After-clear) → length (cleared-in c) ≡ length (start (summed (partitioned c)) .args .scratch .now)

@@ -9,7 +9,7 @@ use Rattle.image.specs.Bytes.{same}
 use Rattle.image.specs.Tables.{Bucket, empty, filled}
 use Rattle.image.specs.Image.{headSize}
 use Rattle.packed.specs.Names.{names, nth, beginOf}
-use Rattle.bulk_tables.specs.steps.Layout.{pairsAt}
+use Rattle.bulk_tables.specs.steps.Layout.{pairWords}
 use Rattle.bulk_tables.specs.steps.Partition.{at}
 
 -- the offset of the i-th entry, if all names are put
@@ -22,7 +22,7 @@ bucketIn scratch o k = record { hash = at scratch (o + 2 * k); at = at scratch (
 
 -- the p-th pair of n names
 abbrev pub pairIn : ℕ → List ℕ → ℕ → Bucket
-pairIn n scratch p = bucketIn scratch (pairsAt n) p
+pairIn n scratch p = bucketIn scratch (pairWords n) p
 
 -- the c pairs from the p-th on
 unfoldable pub pairsIn : ℕ → List ℕ → ℕ → ℕ → List Bucket
@@ -35,12 +35,12 @@ indexAt ends offset zero = 0
 indexAt ends offset (suc k) = cond (eqb (entryOffset ends k) offset) k (indexAt ends offset k)
 
 -- the name of the entry at an offset
-abbrev pub nameAt : List ℕ → List ℕ → ℕ → List ℕ
-nameAt bytes ends offset = nth (names bytes ends) (indexAt ends offset (length ends))
+abbrev pub packedName : List ℕ → List ℕ → ℕ → List ℕ
+packedName bytes ends offset = nth (names bytes ends) (indexAt ends offset (length ends))
 
 -- have the entries at offsets a and b equal names?
-abbrev pub sameNames : List ℕ → List ℕ → ℕ → ℕ → Bool
-sameNames bytes ends b a = same (nameAt bytes ends a) (nameAt bytes ends b)
+abbrev pub namesEqual : List ℕ → List ℕ → ℕ → ℕ → Bool
+namesEqual bytes ends b a = same (packedName bytes ends a) (packedName bytes ends b)
 
 -- the buckets from word o on are those of a table of the c pairs from the p-th on
 abbrev pub Fills : ℕ → List ℕ → ℕ → ℕ → ℕ → Type 0
@@ -52,4 +52,4 @@ abbrev pub NoDuplicates : List ℕ → List ℕ → List ℕ → ℕ → ℕ →
 NoDuplicates bytes ends scratch p c =
     (q r : ℕ) → p ≤ q → q < r → r < p + c
     → pairIn (length ends) scratch q .hash ≡ pairIn (length ends) scratch r .hash
-    → sameNames bytes ends (pairIn (length ends) scratch r .at) (pairIn (length ends) scratch q .at) ≡ false
+    → namesEqual bytes ends (pairIn (length ends) scratch r .at) (pairIn (length ends) scratch q .at) ≡ false

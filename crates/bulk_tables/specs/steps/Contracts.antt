@@ -11,10 +11,10 @@ use Rattle.image.specs.Image.{Entry, headSize, placed, count, tables}
 use Rattle.packed.specs.Names.{names, invalidEnds, nth}
 use Rattle.jhash.specs.NameHash.{key}
 use Rattle.lookup_laws.specs.steps.HasMatch.{hasMatch}
-use Rattle.bulk_tables.specs.steps.Layout.{maxWord, maxNames, scratchWords, bucketsAt, pairsAt, pairStored}
+use Rattle.bulk_tables.specs.steps.Layout.{maxWord, maxNames, scratchWords, tableWords, pairWords, pairStored}
 use Rattle.bulk_tables.specs.steps.Partition.{at, tableOfName, tableIn, countOfTable, prefixSum}
-use Rattle.bulk_tables.specs.steps.Partition.{firstPlace, sortedPlace, firstIn}
-use Rattle.bulk_tables.specs.steps.BulkTables.{entryOffset, pairIn, bucketIn, sameNames, Fills, NoDuplicates}
+use Rattle.bulk_tables.specs.steps.Partition.{firstOfTable, sortedPlace, tableFirst}
+use Rattle.bulk_tables.specs.steps.BulkTables.{entryOffset, pairIn, bucketIn, namesEqual, Fills, NoDuplicates}
 
 -- ---- packed names that fit an image
 
@@ -78,7 +78,7 @@ pub record ScatterPre (n : ℕ) (scratch places : List ℕ) (h : ℕ) : Type 0 w
   pub rows : length places ≡ 256
 
 pub record Scattered (n : ℕ) (scratch₀ places₀ scratch places : List ℕ) (h offset : ℕ) : Type 0 where
-  pub stored : scratch ≡ pairStored scratch₀ (pairsAt n) (at places₀ (tableOf h)) h offset
+  pub stored : scratch ≡ pairStored scratch₀ (pairWords n) (at places₀ (tableOf h)) h offset
   pub advanced : places ≡ set places₀ (tableOf h) (at places₀ (tableOf h) + 1)
 
 -- `places` has the first place of each table
@@ -87,7 +87,7 @@ pub record PartitionPre (ends hashes scratch places : List ℕ) : Type 0 where
   pub hashes-fit : length ends ≤ length hashes
   pub capacity : scratchWords (length ends) ≤ length scratch
   pub rows : length places ≡ 256
-  pub firsts-are : (t : ℕ) → t < 256 → at places t ≡ firstPlace (tableIn hashes) (length ends) t
+  pub firsts-are : (t : ℕ) → t < 256 → at places t ≡ firstOfTable (tableIn hashes) (length ends) t
 
 -- the pair of each name is at its sorted place
 abbrev pub PairsAre : List ℕ → List ℕ → List ℕ → Type 0
@@ -99,9 +99,9 @@ PairsAre ends hashes scratch =
 -- `places` has where the places of each table end
 pub record Partitioned (ends hashes scratch places : List ℕ) : Type 0 where
   pub pairs-are : PairsAre ends hashes scratch
-  pub ends-are : (t : ℕ) → t < 256 → at places t ≡ firstPlace (tableIn hashes) (length ends) (t + 1)
+  pub ends-are : (t : ℕ) → t < 256 → at places t ≡ firstOfTable (tableIn hashes) (length ends) (t + 1)
   pub stored : (t k : ℕ) → k < countOfTable (tableIn hashes) t (length ends)
-      → 0 < pairIn (length ends) scratch (firstPlace (tableIn hashes) (length ends) t + k) .at
+      → 0 < pairIn (length ends) scratch (firstOfTable (tableIn hashes) (length ends) t + k) .at
 
 -- ---- buckets
 
@@ -115,7 +115,7 @@ pub record ProbePre (bytes ends scratch : List ℕ) (o m : ℕ) : Type 0 where
 pub record Probed (distinct : Bool) (bytes ends scratch : List ℕ) (o m h offset r : ℕ) : Type 0 where
   pub first : r < m → r ≡ firstEmpty (λ (k : ℕ). bucketIn scratch o k .at) (probeSequence m m (start h m))
   pub no-match : r < m → distinct ≡ true
-      → hasMatch (bucketIn scratch o) h (sameNames bytes ends offset) (probeSequence m m (start h m)) ≡ false
+      → hasMatch (bucketIn scratch o) h (namesEqual bytes ends offset) (probeSequence m m (start h m)) ≡ false
 
 -- the c pairs from place p on are stored, and the buckets of their table are empty
 pub record FillTablePre (bytes ends scratch : List ℕ) (p c : ℕ) : Type 0 where
@@ -123,29 +123,30 @@ pub record FillTablePre (bytes ends scratch : List ℕ) (p c : ℕ) : Type 0 whe
   pub capacity : scratchWords (length ends) ≤ length scratch
   pub inside : p + c ≤ length ends
   pub pairs-stored : (q : ℕ) → p ≤ q → q < p + c → 0 < pairIn (length ends) scratch q .at
-  pub buckets-empty : (w : ℕ) → bucketsAt p ≤ w → w < bucketsAt p + 4 * c → at scratch w ≡ 0
+  pub buckets-empty : (w : ℕ) → tableWords p ≤ w → w < tableWords p + 4 * c → at scratch w ≡ 0
 
 pub record TableFilled (distinct : Bool) (bytes ends scratch₀ scratch : List ℕ) (p c : ℕ) : Type 0 where
-  pub fills : Fills (length ends) scratch (bucketsAt p) p c
+  pub fills : Fills (length ends) scratch (tableWords p) p c
   pub no-duplicates : distinct ≡ true → NoDuplicates bytes ends scratch p c
-  pub kept-before : (w : ℕ) → w < bucketsAt p → at scratch w ≡ at scratch₀ w
-  pub kept-after : (w : ℕ) → bucketsAt p + 4 * c ≤ w → at scratch w ≡ at scratch₀ w
+  pub kept-before : (w : ℕ) → w < tableWords p → at scratch w ≡ at scratch₀ w
+  pub kept-after : (w : ℕ) → tableWords p + 4 * c ≤ w → at scratch w ≡ at scratch₀ w
 
 -- `lasts` has where the places of each table end
 pub record FillAllPre (bytes ends scratch lasts : List ℕ) : Type 0 where
   pub packed : PackedNames bytes ends
   pub capacity : scratchWords (length ends) ≤ length scratch
-  pub lasts-rise : (t : ℕ) → t < 256 → (firstIn lasts t ≤ at lasts t) × (at lasts t ≤ length ends)
-  pub pairs-stored : (t q : ℕ) → t < 256 → firstIn lasts t ≤ q → q < at lasts t
+  pub lasts-rise : (t : ℕ) → t < 256 → (tableFirst lasts t ≤ at lasts t) × (at lasts t ≤ length ends)
+  pub pairs-stored : (t q : ℕ) → t < 256 → tableFirst lasts t ≤ q → q < at lasts t
       → 0 < pairIn (length ends) scratch q .at
-  pub buckets-empty : (w : ℕ) → w < pairsAt (length ends) → at scratch w ≡ 0
+  pub buckets-empty : (w : ℕ) → w < pairWords (length ends) → at scratch w ≡ 0
 
 pub record AllFilled (distinct : Bool) (bytes ends scratch₀ scratch lasts : List ℕ) : Type 0 where
   pub fills : (t : ℕ) → t < 256
-      → Fills (length ends) scratch (bucketsAt (firstIn lasts t)) (firstIn lasts t) (at lasts t - firstIn lasts t)
+      → Fills (length ends) scratch (tableWords (tableFirst lasts t)) (tableFirst lasts t)
+      (at lasts t - tableFirst lasts t)
   pub no-duplicates : distinct ≡ true → (t : ℕ) → t < 256
-      → NoDuplicates bytes ends scratch (firstIn lasts t) (at lasts t - firstIn lasts t)
-  pub pairs-kept : (w : ℕ) → pairsAt (length ends) ≤ w → at scratch w ≡ at scratch₀ w
+      → NoDuplicates bytes ends scratch (tableFirst lasts t) (at lasts t - tableFirst lasts t)
+  pub pairs-kept : (w : ℕ) → pairWords (length ends) ≤ w → at scratch w ≡ at scratch₀ w
 
 -- ---- the whole list
 
@@ -163,6 +164,6 @@ pub record TablesBuilt (distinct : Bool) (bytes ends counts scratch : List ℕ) 
   pub no-duplicates : distinct ≡ true → (i j : ℕ) → j < i → i < length ends
       → same (nth (names bytes ends) j) (nth (names bytes ends) i) ≡ false
   pub tables-are : (es : List Entry) → map (λ (e : Entry). e .name) es ≡ names bytes ends
-      → cat le32 (take (pairsAt (length ends)) scratch) ≡ tables (placed headSize es)
+      → cat le32 (take (pairWords (length ends)) scratch) ≡ tables (placed headSize es)
   pub counts-are : (es : List Entry) → map (λ (e : Entry). e .name) es ≡ names bytes ends
       → (t : ℕ) → t < 256 → at counts t ≡ count t (placed headSize es)

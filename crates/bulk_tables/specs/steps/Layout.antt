@@ -17,12 +17,12 @@ abbrev pub scratchWords : ℕ → ℕ
 scratchWords n = 6 * n
 
 -- where the buckets of a table begin whose first pair is the p-th of all
-abbrev pub bucketsAt : ℕ → ℕ
-bucketsAt p = 4 * p
+abbrev pub tableWords : ℕ → ℕ
+tableWords p = 4 * p
 
 -- where the pairs of n names begin
-abbrev pub pairsAt : ℕ → ℕ
-pairsAt n = 4 * n
+abbrev pub pairWords : ℕ → ℕ
+pairWords n = 4 * n
 
 -- the scratch memory with the k-th pair from word o on replaced
 abbrev pub pairStored : List ℕ → ℕ → ℕ → ℕ → ℕ → List ℕ

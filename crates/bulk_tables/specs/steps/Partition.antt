@@ -30,13 +30,13 @@ prefixSum c zero = 0
 prefixSum c (suc t) = prefixSum c t + c t
 
 -- the first place of table t: how many of the first n names have a table below t
-unfoldable pub firstPlace : (ℕ → ℕ) → ℕ → ℕ → ℕ
-firstPlace T n t = prefixSum (λ (s : ℕ). countOfTable T s n) t
+unfoldable pub firstOfTable : (ℕ → ℕ) → ℕ → ℕ → ℕ
+firstOfTable T n t = prefixSum (λ (s : ℕ). countOfTable T s n) t
 
 -- the place of the i-th name
 unfoldable pub sortedPlace : (ℕ → ℕ) → ℕ → ℕ → ℕ
-sortedPlace T n i = firstPlace T n (T i) + countOfTable T (T i) i
+sortedPlace T n i = firstOfTable T n (T i) + countOfTable T (T i) i
 
 -- the first place of table t, from where the places of each table end
-abbrev pub firstIn : List ℕ → ℕ → ℕ
-firstIn ends t = cond (eqb t 0) 0 (at ends (t - 1))
+abbrev pub tableFirst : List ℕ → ℕ → ℕ
+tableFirst ends t = cond (eqb t 0) 0 (at ends (t - 1))

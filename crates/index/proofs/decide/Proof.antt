@@ -8,7 +8,6 @@ use Rattle.jhash.specs.NameHash.{hashOf}
 use borrow.Author.Tests.{not-true, not-false}
 use Rattle.image.specs.Image.{Entry}
 use Rattle.image.specs.Zero.{hasZero}
-use Rattle.jhash.proofs.Outcomes.{result-refused, result-name-hash}
 use Rattle.writer.specs.State.{State, stateWith, tooLarge, finishedSize}
 use Rattle.writer.specs.Put.{entryOf, writerWith}
 use Rattle.writer.proofs.Fits.{not-too-large}
@@ -54,40 +53,38 @@ returns-2 c =
 
 returns-3 : tie.Need-returns-3
 returns-3 c =
-    let n = c .before .before .before in
-    let z = n .before .before in
+    let z = c .before .before .before in
     let s = begun z in
     refused-with (c .refused3 .result) 2 (c .refused3 .ensures)
-    (too-long (S s) (s .args .slots .now) (E s) (bytes z) (sym (z .has-zero .ensures) ∙ n .before .if2 .left)
-    (result-refused (s .args .name .now) 0 (n .name-hash .result) (n .name-hash .ensures) (c .before .enum-told .given .1)))
+    (too-long (S s) (s .args .slots .now) (E s) (bytes z) (sym (z .has-zero .ensures) ∙ c .before .before .if2 .left)
+    (omega (arith, c .before .if3 .taken)))
 
 slice-aggregate-probe : tie.Need-slice-aggregate-probe
 slice-aggregate-probe c =
-    let z = c .before .before .before .before .before .before in
+    let z = c .before .before .before in
     omega (arith, length-take (S (begun z) .writer .end) (S (begun z) .buffer), in-buffer z .same-length, in-buffer z .high)
 
 -- ---- the probe and the checks behind it
 
-abbrev hashing : tie.After-probe → tie.After-name-hash
-hashing p = p .before .before .before .before .before
-
 abbrev zeros : tie.After-probe → tie.After-has-zero
-zeros p = hashing p .before .before
+zeros p = p .before .before .before .before
 
 -- the name is short, and h its hash
-abbrev h : tie.After-probe → ℕ
-h p = p .before .before .before .h .given .0 .0
+short : (p : tie.After-probe) → length (E (begun (zeros p)) .name) < 4294967295
+short p = omega (arith, p .before .before .if3 .left)
 
-hashed : (p : tie.After-probe) → (length (E (begun (zeros p)) .name) < 4294967295) × (h p ≡ hashOf (E (begun (zeros p)) .name))
-hashed p =
-    result-name-hash (E (begun (zeros p)) .name) (hashing p .name-hash .result) (h p) (hashing p .name-hash .ensures) (p .before .before .before .h .given .1)
+abbrev h : tie.After-probe → ℕ
+h p = begun (zeros p) .args .h
+
+hashed : (p : tie.After-probe) → h p ≡ hashOf (E (begun (zeros p)) .name)
+hashed p = begun (zeros p) .pre (short p)
 
 probed : (p : tie.After-probe) → Probed (S (begun (zeros p))) (begun (zeros p) .args .slots .now) (E (begun (zeros p))) (h p) (p .probe .result)
 probed p =
     record {
       bytes = bytes (zeros p);
-      free = sym (zeros p .has-zero .ensures) ∙ hashing p .before .if2 .left;
-      hash = hashed p .1;
+      free = sym (zeros p .has-zero .ensures) ∙ p .before .before .before .if2 .left;
+      hash = hashed p;
       is = p .probe .ensures;
     }
 
@@ -96,7 +93,7 @@ abbrev probing : tie.After-too-large → tie.After-probe
 probing t = t .before .before .before
 
 new : (t : tie.After-too-large) → probing t .probe .result ≤ length (begun (zeros (probing t)) .args .slots .now) / 2
-new t = omega (arith, t .before .before .if3 .left)
+new t = omega (arith, t .before .before .if4 .left)
 
 size-is : (t : tie.After-too-large) {b : Bool} → t .too-large .result ≡ b
     → let s = begun (zeros (probing t)) in tooLarge (S s .writer .length) (finishedSize (writerWith (S s .writer) (length (E s .name)) (E s .id))) ≡ b
@@ -105,45 +102,45 @@ size-is t e =
 
 returns-4 : tie.Need-returns-4
 returns-4 c =
-    refused-with (c .refused4 .result) 15 (c .refused4 .ensures) (found-duplicate (probed (c .before .before)) (c .before .if3 .taken))
+    refused-with (c .refused4 .result) 15 (c .refused4 .ensures) (found-duplicate (probed (c .before .before)) (c .before .if4 .taken))
 
 size-with-requires : tie.Need-size-with-requires
 size-with-requires c κs =
     let z = zeros (c .before) in
-    (omega (arith, in-buffer z .high, begun z .good, in-buffer z .same-length), hashed (c .before) .0)
+    record { low = omega (arith, in-buffer z .high, begun z .good, in-buffer z .same-length); short = short (c .before) }
 
 returns-5 : tie.Need-returns-5
 returns-5 c =
     let t = c .before .before in
-    refused-with (c .refused5 .result) 2 (c .refused5 .ensures) (too-big (probed (probing t)) (new t) (size-is t (c .before .if4 .taken)))
+    refused-with (c .refused5 .result) 2 (c .refused5 .ensures) (too-big (probed (probing t)) (new t) (size-is t (c .before .if5 .taken)))
 
 returns-6 : tie.Need-returns-6
 returns-6 c =
     let t = c .before .before .before in
     refused-with (c .refused6 .result) 23 (c .refused6 .ensures)
-    (none-free (probed (probing t)) (new t) (size-is t (c .before .before .if4 .left)) (c .before .if5 .taken))
+    (none-free (probed (probing t)) (new t) (size-is t (c .before .before .if5 .left)) (c .before .if6 .taken))
 
 returns-7 : tie.Need-returns-7
 returns-7 c =
     let t = c .before .before .before .before .before in
     refused-with (c .refused7 .result) 1 (c .refused7 .ensures)
-    (count-full (probed (probing t)) (new t) (size-is t (c .before .before .before .before .if4 .left)) (c .before .if6 .taken))
+    (count-full (probed (probing t)) (new t) (size-is t (c .before .before .before .before .if5 .left)) (c .before .if7 .taken))
 
 returns-8 : tie.Need-returns-8
 returns-8 c =
     let t = c .before .before .before .before in
     let p = probing t in
     let a = begun (zeros p) .args in
-    let small = size-is t (c .before .before .before .if4 .left) in
-    let below : p .probe .result < length (a .slots .now) / 2 = omega (arith, new t, c .before .before .if5 .left) in
+    let small = size-is t (c .before .before .before .if5 .left) in
+    let below : p .probe .result < length (a .slots .now) / 2 = omega (arith, new t, c .before .before .if6 .left) in
     record {
       bounds = λ z. record {
         inside = below;
         first = first-slot (probed p) below;
-        hash = hashed p .1;
-        count = omega (arith, c .if6 .left);
+        hash = hashed p;
+        count = omega (arith, c .if7 .left);
         entry = entry-room (a .w) (length (a .name .now)) (a .id) (length (a .buf .now)) (in-buffer (zeros p) .same-length) small;
-        short = hashed p .0;
+        short = short p;
         size = not-too-large (a .w .length) (finishedSize (writerWith (a .w) (length (a .name .now)) (a .id))) small .1;
       };
       rule = accepts (probed p) (new t) small below;
@@ -159,9 +156,6 @@ decide-spec =
     (λ c κs. search needs)
     (λ c κs. search needs)
     returns-2
-    (λ c κs. search needs)
-    (λ c. search needs)
-    (λ c. search needs)
     (λ c κs. search needs)
     returns-3
     slice-aggregate-probe

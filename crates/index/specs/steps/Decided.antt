@@ -34,7 +34,7 @@ pub record InBounds (s : State) (words : List ℕ) (e : Entry) (h k : ℕ) : Typ
   pub short : length (e .name) < 4294967295
   pub size : finishedSize (writerWith (s .writer) (length (e .name)) (e .id)) ≤ 4294967295
 
--- by a right index, the refusal is the rule's
-pub record Decided (s : State) (words : List ℕ) (e : Entry) (d : Decision) : Type 0 where
-  pub bounds : d .refusal ≡ 0 → InBounds s words e (d .hash) (d .slot)
+-- of a put with hash h: by a right index, the refusal is the rule's
+pub record Decided (s : State) (words : List ℕ) (e : Entry) (h : ℕ) (d : Decision) : Type 0 where
+  pub bounds : d .refusal ≡ 0 → InBounds s words e h (d .slot)
   pub rule : Right s words → d .refusal ≡ indexedRefusal s words e

@@ -5,7 +5,7 @@ use mathlib.Core.Bool.{true}
 use mathlib.Core.List.{List}
 use lib.ListN.{length, getD}
 use Rattle.image.specs.Stored.{whole, entriesIn, between}
-use Rattle.index.specs.Index.{slotCount, bucketsOf, FilledWith}
+use Rattle.index.specs.Index.{slotCount, entryBuckets, FilledWith}
 
 pub record FillPre (buf : List ℕ) (end entries : ℕ) (words : List ℕ) : Type 0 where
   pub low : 2072 ≤ end
@@ -16,6 +16,6 @@ pub record FillPre (buf : List ℕ) (end entries : ℕ) (words : List ℕ) : Typ
   pub cleared : (i : ℕ) → i < 2 * slotCount words → getD words i 0 ≡ 0
 
 pub record SlotsFilled (buf : List ℕ) (end entries : ℕ) (words words′ : List ℕ) : Type 0 where
-  pub slots : FilledWith words′ (bucketsOf (entriesIn entries (between buf 2072 end)))
+  pub slots : FilledWith words′ (entryBuckets (entriesIn entries (between buf 2072 end)))
   pub long : length words′ ≡ length words
   pub last : (i : ℕ) → 2 * slotCount words ≤ i → getD words′ i 0 ≡ getD words i 0

@@ -6,7 +6,7 @@ use lib.ListN.{length}
 use Rattle.image.specs.Image.{Entry}
 use Rattle.writer.specs.Close.{afterClose}
 use Rattle.lists.specs.theorems.LongerBuffer.{movedTo, Longer}
-use Rattle.writer.specs.CRecord.{CState, stateOf, cStateOf}
+use Rattle.writer.specs.CRecord.{CState, stateIn, cStateOf}
 use Rattle.index.specs.theorems.KeptRight.{Bytes}
 use Rattle.index_c.specs.IndexC.{RightHeld, PutIndexedHeld, IndexedHeld}
 
@@ -17,7 +17,7 @@ pub record KeptRightHeld : Type 0 where
   pub put : (h h′ : CState) (words words′ : List ℕ) (e : Entry) (refusal : ℕ)
       → PutIndexedHeld h words e refusal h′ words′
       → RightHeld h words → RightHeld h′ words′
-  pub closed : (h : CState) (words : List ℕ) → Bytes (stateOf h)
-      → RightHeld h words → RightHeld (cStateOf (afterClose (stateOf h))) words
-  pub longer : (h : CState) (words longer : List ℕ) → Bytes (stateOf h) → Longer longer (stateOf h)
-      → RightHeld h words → RightHeld (cStateOf (movedTo longer (stateOf h))) words
+  pub closed : (h : CState) (words : List ℕ) → Bytes (stateIn h)
+      → RightHeld h words → RightHeld (cStateOf (afterClose (stateIn h))) words
+  pub longer : (h : CState) (words longer : List ℕ) → Bytes (stateIn h) → Longer longer (stateIn h)
+      → RightHeld h words → RightHeld (cStateOf (movedTo longer (stateIn h))) words

@@ -12,14 +12,14 @@ use Rattle.serialize.proofs.write_image.Tie as tie
 insert-all-requires : tie.Need-insert-all-requires
 insert-all-requires c κs =
     let front = c .before .before .before .before .before in
-    let start = front .before .before .before in
+    let start = front .before .before .before .before in
     let a = start .args in
     let kept = front .write-front .kept .1 .1 .1 .1 .1 .0 in
     let size = c .before .before .finished-size .ensures in
-    let small = start .pre .small in
-    let inside = start .pre .inside in
+    let small = start .pre .closable .small in
+    let inside = start .pre .closable .inside in
     record {
-      low = start .pre .low;
+      low = start .pre .closable .low;
       tables = omega arith;
       inside = omega arith;
       size-word = omega arith;
@@ -30,18 +30,18 @@ returns : tie.Need-returns
 returns c =
     let front = c .before .before .before .before .before .before .before .before in
     let known = front .before .before in
-    let start = known .before in
+    let start = known .before .before in
     let a = start .args in
     let of-fill-in = c .before .before .insert-all in
     let of-back-at = c .before .before .before .before .back-offset in
     let of-finished-size = c .before .before .before .before .before .finished-size in
     let of-write-front = front .write-front in
     let bytes : (i : ℕ) → getD (a .buf .now) i 0 < 256 = λ i. omega (arith, known .slice-known .given i) in
-    written-parts (a .mode) (a .end) (a .entries) (a .back) (a .counts .now) (a .buf .now)
-    (of-write-front .last .1 .1 .1 .1 .1 .0) (of-fill-in .last .1 .1 .0)
+    written-parts (a .mode) (a .end) (a .entries) (a .back) (a .hashes .now) (a .counts .now) (a .buf .now)
+    (of-write-front .last .1 .1 .1 .1 .1 .0) (of-fill-in .last .1 .1 .1 .0)
     (of-finished-size .result) (of-back-at .result) (of-finished-size .ensures) (of-back-at .ensures)
     (of-write-front .ensures) (of-fill-in .ensures)
-    ∙ written-image (a .mode) (a .end) (a .entries) (a .back) (a .counts .now) (a .buf .now) bytes (start .pre)
+    ∙ written-image (a .mode) (a .end) (a .entries) (a .back) (a .counts .now) (a .buf .now) bytes (start .pre .closable) (a .hashes .now) (start .pre .known)
 
 pub write-image-spec : {M : Type 1} → statement M
 write-image-spec =

@@ -7,14 +7,14 @@ use mathlib.Core.Bool.{Bool, cond, _&&_}
 use mathlib.Core.List.{List, [], _∷_, _++_}
 use lib.ListN.{length, getD, set, replicate}
 use lib.Seq.{sets}
-use lib.Dec.{eqb, leb}
+use lib.Dec.{eqb, ltb, leb}
 use Rattle.image.specs.Bytes.{word, le32, cat}
 use Rattle.image.specs.Tables.{Bucket, tableOf, filled}
 use Rattle.image.specs.Image.{headSize, bucketBytes}
 use Rattle.image.specs.Stored.{between}
 use Rattle.image.specs.steps.EntryLength.{wholeLength}
 use Rattle.image.specs.declared.Mode.{Mode}
-use Rattle.serialize.specs.steps.Insertion.{hashAt, backStored}
+use Rattle.serialize.specs.steps.Insertion.{EntryPre, hashAt, backStored}
 
 -- ---- the entries partitioned
 
@@ -36,33 +36,42 @@ pub record PairAppended (places buf : List ℕ) (h at : ℕ) (places′ buf′ :
   pub stored : buf′ ≡ pairPut buf (getD places (tableOf h) 0) h at
   pub moved : places′ ≡ advanced places h
 
--- this entry's pair stored, and its offset in the back array
+-- the hash of the i-th entry: the i-th of the hashes that are known, otherwise that of the name at `at`
+unfoldable pub entryHash : List ℕ → ℕ → List ℕ → ℕ → ℕ → ℕ
+entryHash hashes i buf at n = cond (ltb i (length hashes)) (getD hashes i 0) (hashAt buf at n)
+
+-- the i-th entry lies in the buffer
+pub record PartitionPre (back-offset at n : ℕ) (buf : List ℕ) : Type 0 where
+  pub entry : EntryPre at n buf
+  pub back-word : back-offset < 4294967296
+
+-- the pair of an entry of hash h stored, and its offset in the back array
 unfoldable pub partitioned : Mode → ℕ → List ℕ → List ℕ → ℕ → ℕ → List ℕ
-partitioned mode back-offset places buf at n =
-    let h = hashAt buf at n in
+partitioned mode back-offset places buf at h =
     backStored mode (pairPut buf (getD places (tableOf h) 0) h at) back-offset (word buf at) at
 
-pub record EntryPartitioned (mode : Mode) (back-offset at n : ℕ) (places buf places′ buf′ : List ℕ) : Type 0
+pub record EntryPartitioned (mode : Mode) (back-offset at h : ℕ) (places buf places′ buf′ : List ℕ) : Type 0
   where
-    pub stored : buf′ ≡ partitioned mode back-offset places buf at n
-    pub moved : places′ ≡ advanced places (hashAt buf at n)
+    pub stored : buf′ ≡ partitioned mode back-offset places buf at h
+    pub moved : places′ ≡ advanced places h
 
--- and so m entries, one after the other
-unfoldable pub partitionedFrom : Mode → ℕ → ℕ → ℕ → ℕ → List ℕ → List ℕ → List ℕ
-partitionedFrom mode back-offset end zero at places buf = buf
-partitionedFrom mode back-offset end (suc m) at places buf =
+-- and so m entries from the i-th on, one after the other
+unfoldable pub partitionedFrom : Mode → ℕ → ℕ → List ℕ → ℕ → ℕ → ℕ → List ℕ → List ℕ → List ℕ
+partitionedFrom mode back-offset end hashes zero i at places buf = buf
+partitionedFrom mode back-offset end hashes (suc m) i at places buf =
     let n = wholeLength (between buf at end) in
+    let h = entryHash hashes i buf at n in
     cond (eqb n 0) buf
-    (partitionedFrom mode back-offset end m (at + (8 + n)) (advanced places (hashAt buf at n))
-    (partitioned mode back-offset places buf at n))
+    (partitionedFrom mode back-offset end hashes m (i + 1) (at + (8 + n)) (advanced places h)
+    (partitioned mode back-offset places buf at h))
 
 -- ---- the tables filled
 
 -- the c pairs that stand at o
-unfoldable pub pairsAt : List ℕ → ℕ → ℕ → List Bucket
-pairsAt buf o zero = []
-pairsAt buf o (suc c) =
-    pairsAt buf o c ++ (record { hash = word buf (o + 8 * c); at = word buf (o + 8 * c + 4) } ∷ [])
+unfoldable pub pairsStored : List ℕ → ℕ → ℕ → List Bucket
+pairsStored buf o zero = []
+pairsStored buf o (suc c) =
+    pairsStored buf o c ++ (record { hash = word buf (o + 8 * c); at = word buf (o + 8 * c + 4) } ∷ [])
 
 -- the table of c entries stored at o, filled with pairs
 abbrev pub tableStored : List ℕ → ℕ → ℕ → List Bucket → List ℕ
@@ -73,6 +82,11 @@ pub record InsertPairsPre (o c : ℕ) (pairs buf : List ℕ) : Type 0 where
   pub few : c ≤ 4608
   pub pairs-inside : 8 * c ≤ length pairs
   pub inside : o + 16 * c ≤ length buf
+
+-- the table of c entries begins at o, which is far below 2^64
+pub record TablePlace (o c : ℕ) : Type 0 where
+  pub low : o < 281474976710656
+  pub count-word : c < 4294967296
 
 -- does the table of c entries at o lie in the buffer, and has the copy room for its pairs?
 abbrev pub copyable : List ℕ → ℕ → ℕ → Bool
@@ -86,7 +100,7 @@ pub record FillTablePre (o c : ℕ) (copy : List ℕ) : Type 0 where
 
 -- the table filled from the pairs that stand there
 unfoldable pub tableFilled : List ℕ → ℕ → ℕ → List ℕ
-tableFilled buf o c = cond (copyable buf o c) (tableStored buf o c (pairsAt buf o c)) buf
+tableFilled buf o c = cond (copyable buf o c) (tableStored buf o c (pairsStored buf o c)) buf
 
 -- and so the m tables from t on, the first at o
 unfoldable pub tablesFrom : List ℕ → ℕ → ℕ → ℕ → List ℕ → List ℕ
@@ -95,7 +109,7 @@ tablesFrom counts o t (suc m) buf =
     tablesFrom counts (o + 16 * getD counts t 0) (suc t) m (tableFilled buf o (getD counts t 0))
 
 -- the entries inserted by tables
-unfoldable pub insertedByTables : Mode → ℕ → ℕ → ℕ → List ℕ → List ℕ → List ℕ
-insertedByTables mode back-offset end entries counts buf =
+unfoldable pub insertedByTables : Mode → ℕ → ℕ → List ℕ → ℕ → List ℕ → List ℕ → List ℕ
+insertedByTables mode back-offset end hashes entries counts buf =
     let places = sets (replicate 256 0) 0 (tableOffsetsFrom counts end 0 256) in
-    tablesFrom counts end 0 256 (partitionedFrom mode back-offset end entries headSize places buf)
+    tablesFrom counts end 0 256 (partitionedFrom mode back-offset end hashes entries 0 headSize places buf)

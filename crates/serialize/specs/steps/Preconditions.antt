@@ -3,8 +3,9 @@
 use Prim.Native.Nat.{ℕ, _+_, _*_, _≤_}
 use mathlib.Core.Path.{_≡_}
 use mathlib.Core.Bool.{true}
-use mathlib.Core.List.{List}
-use lib.ListN.{length}
+use mathlib.Core.List.{List, map}
+use lib.ListN.{length, take}
+use Rattle.jhash.specs.NameHash.{hashOf}
 use Rattle.image.specs.Bytes.{le32, cat}
 use Rattle.image.specs.Image.{Entry, headSize, backSize, backIn, placed, tables, backWords}
 use Rattle.image.specs.Stored.{whole, between}
@@ -21,6 +22,15 @@ pub record ClosePrecondition (mode : Mode) (end entries back : ℕ) (counts buf 
   pub backs : back ≡ backIn mode (backSize (storedEntries buf end entries))
   pub inside : finishedOf mode end entries back ≤ length buf
   pub small : finishedOf mode end entries back ≤ 4294967295
+
+-- the hashes of the first entries, in put order
+pub record FirstHashes (hashes : List ℕ) (es : List Entry) : Type 0 where
+  pub are : hashes ≡ take (length hashes) (map (λ (e : Entry). hashOf (e .name)) es)
+
+-- the same where the hashes of the first entries, or of none, are known
+pub record WriteImagePre (mode : Mode) (end entries back : ℕ) (counts hashes buf : List ℕ) : Type 0 where
+  pub closable : ClosePrecondition mode end entries back counts buf
+  pub known : FirstHashes hashes (storedEntries buf end entries)
 
 -- the tables of the entries, as words
 abbrev pub PrecomputedTables : List ℕ → List Entry → Type 0

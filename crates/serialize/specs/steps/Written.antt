@@ -49,13 +49,13 @@ pub record InsertAllPre (back-offset end entries size : ℕ) (buf : List ℕ) : 
   pub back-word : back-offset < 4294967296
 
 -- the entries in tables and back array: by tables, or one by one
-unfoldable pub allInserted : Mode → ℕ → ℕ → ℕ → ℕ → List ℕ → List ℕ → List ℕ
-allInserted mode back-offset end entries size counts buf =
+unfoldable pub allInserted : Mode → ℕ → ℕ → List ℕ → ℕ → ℕ → List ℕ → List ℕ → List ℕ
+allInserted mode back-offset end hashes entries size counts buf =
     cond (partitions counts entries)
-    (insertedByTables mode back-offset end entries counts (zeroed buf (end + 16 * entries) size))
+    (insertedByTables mode back-offset end hashes entries counts (zeroed buf (end + 16 * entries) size))
     (insertedFrom mode back-offset end entries headSize (zeroed buf end size))
 
-unfoldable pub written : Mode → ℕ → ℕ → ℕ → List ℕ → List ℕ → List ℕ
-written mode end entries back counts buf =
-    allInserted mode (backOffsetOf mode end entries back) end entries (finishedOf mode end entries back) counts
+unfoldable pub written : Mode → ℕ → List ℕ → ℕ → ℕ → List ℕ → List ℕ → List ℕ
+written mode end hashes entries back counts buf =
+    allInserted mode (backOffsetOf mode end entries back) end hashes entries (finishedOf mode end entries back) counts
     (headed mode end entries back counts buf)

@@ -47,7 +47,10 @@ unfolding writerAfter
 store-requires c κs =
     let s = c .before .before .before .before .before .before .before .before .before in
     let a = s .args in
-    (entry-fits (a .w) (a .counts .now) (a .buf .now) (length (a .name .now)) (a .id) (went s .fitted) (went s .has-capacity), short s)
+    record {
+      inside = entry-fits (a .w) (a .counts .now) (a .buf .now) (length (a .name .now)) (a .id) (went s .fitted) (went s .has-capacity);
+      short = short s;
+    }
 
 after-requires : tie.Need-after-requires
 unfolding writerAfter

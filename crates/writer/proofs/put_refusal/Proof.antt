@@ -73,7 +73,7 @@ size-with-requires : tie.Need-size-with-requires
 size-with-requires c κs =
     let f = unzeroed (walked (c .before)) in
     let a = start f .args in
-    (omega (arith, start f .good, fitting (a .w) (a .counts .now) (a .buf .now) (fitted f)), c .if4 .left)
+    record { low = omega (arith, start f .good, fitting (a .w) (a .counts .now) (a .buf .now) (fitted f)); short = c .if4 .left }
 
 -- the size after this put, as the last check reads it
 sized : (c : tie.After-too-large)

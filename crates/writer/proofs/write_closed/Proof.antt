@@ -10,30 +10,30 @@ use Rattle.writer.proofs.write_closed.Tie as tie
 
 finished-size-requires : tie.Need-finished-size-requires
 finished-size-requires c κs =
-    let s = c .before in
+    let s = c .before .before in
     let a = s .args in
-    let k = accepted (stateWith (a .w) (a .counts .now) (a .buf .now)) (s .pre) in
+    let k = accepted (stateWith (a .w) (a .counts .now) (a .buf .now)) (s .pre .closes) in
     omega (arith, stands (a .w) (a .counts .now) (a .buf .now) (k .fit) (k .fine) (k .all) .small)
 
 write-image-requires : tie.Need-write-image-requires
 write-image-requires c κs =
-    let s = c .before .before .before in
+    let s = c .before .before .before .before in
     let a = s .args in
-    let k = accepted (stateWith (a .w) (a .counts .now) (a .buf .now)) (s .pre) in
-    stands (a .w) (a .counts .now) (a .buf .now) (k .fit) (k .fine) (k .all)
+    let k = accepted (stateWith (a .w) (a .counts .now) (a .buf .now)) (s .pre .closes) in
+    record { closable = stands (a .w) (a .counts .now) (a .buf .now) (k .fit) (k .fine) (k .all); known = s .pre .known }
 
 cast-result : tie.Need-cast-result
 cast-result c =
-    let s = c .before .before .before .before .before .before in
+    let s = c .before .before .before .before .before .before .before in
     let a = s .args in
-    let k = accepted (stateWith (a .w) (a .counts .now) (a .buf .now)) (s .pre) in
+    let k = accepted (stateWith (a .w) (a .counts .now) (a .buf .now)) (s .pre .closes) in
     omega (arith, c .before .before .before .before .finished-size .ensures, stands (a .w) (a .counts .now) (a .buf .now) (k .fit) (k .fine) (k .all) .small)
 
 returns : tie.Need-returns
 returns c =
-    let s = c .before .before .before .before .before .before in
+    let s = c .before .before .before .before .before .before .before in
     let a = s .args in
-    let k = accepted (stateWith (a .w) (a .counts .now) (a .buf .now)) (s .pre) in
+    let k = accepted (stateWith (a .w) (a .counts .now) (a .buf .now)) (s .pre .closes) in
     record {
       gives = c .before .before .before .before .finished-size .ensures;
       leaves =

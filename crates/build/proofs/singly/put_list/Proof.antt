@@ -2,15 +2,16 @@
 -- right where there is one. Assumes nothing.
 use Prim.Native.Nat.{ℕ, _-_, _≤_, _<_}
 use native.Mathlib.Omega.{arith}
-use mathlib.Core.Path.{_≡_, refl}
+use mathlib.Core.Path.{_≡_, refl, sym, ap, _∙_}
 use mathlib.Core.List.{List}
 use lib.ListN.{length}
 use borrow.Author.Needs.{needs}
 use Rattle.packed.specs.Names.{names}
+use Rattle.jhash.specs.NameHash.{hashOf}
 use Rattle.packed.proofs.NameEnds.{length-names}
 use Rattle.writer.specs.declared.CQDBWriter.{CQDBWriter}
 use Rattle.writer.specs.State.{stateWith}
-use Rattle.build.proofs.SinglePuts.{PutsBefore, puts-start, puts-turn, puts-end, answers-end}
+use Rattle.build.proofs.SinglePuts.{PutsBefore, puts-start, place-kept, puts-turn, puts-end, answers-end}
 use Rattle.build.proofs.singly.put_list.Statement.{statement}
 use Rattle.build.proofs.singly.put_list.Tie as tie
 
@@ -21,11 +22,11 @@ record Invariant (w : CQDBWriter) (buf₀ slots₀ bytes ends ids refusals₀ co
   puts : PutsBefore (w .mode) (w .repeats) buf₀ (names bytes ends) ids refusals₀ i (stateWith after counts buf) refusals slots
 
 abbrev Inv-loop : tie.InvT-loop
-Inv-loop counts₀ buf₀ slots₀ bytes ends ids refusals₀ after₀ i₀ counts buf slots refusals after i =
+Inv-loop counts₀ buf₀ slots₀ bytes ends ids refusals₀ hashed after₀ i₀ counts buf slots refusals after i =
     Invariant after₀ buf₀ slots₀ bytes ends ids refusals₀ counts buf slots refusals after i
 
 abbrev μ-loop : tie.MeasureT-loop
-μ-loop counts₀ buf₀ slots₀ bytes ends ids refusals₀ after₀ i₀ counts buf slots refusals after i = length ends - i
+μ-loop counts₀ buf₀ slots₀ bytes ends ids refusals₀ hashed after₀ i₀ counts buf slots refusals after i = length ends - i
 
 -- ---- places in the code, each told from a later one
 
@@ -36,7 +37,7 @@ abbrev called : tie.After-after Inv-loop μ-loop → tie.After-put-name Inv-loop
 called c = c .before .before .before .before .before
 
 abbrev named : tie.After-put-name Inv-loop μ-loop → tie.After-name-of Inv-loop μ-loop
-named c = c .before .before .before .before .before
+named c = c .before .before .before .before .before .before
 
 abbrev entered : tie.After-after Inv-loop μ-loop → tie.In-loop Inv-loop μ-loop
 entered c = named (called c) .before
@@ -49,24 +50,36 @@ loop-holds c =
 name-of-requires : tie.Need-name-of-requires Inv-loop μ-loop
 name-of-requires c κs = record { inside = c .loop-test .taken; ends-rise = start c .pre .list .packed }
 
+mul-h : tie.Need-mul-h Inv-loop μ-loop
+mul-h c =
+    let e = c .before in
+    omega (arith, e .loop-test .taken, e .before .loop .inv .puts .size, start e .pre .list .refusals-long, start e .good)
+
+slice-read-h : tie.Need-slice-read-h Inv-loop μ-loop
+slice-read-h c =
+    let e = c .before .before in
+    omega (arith, e .loop-test .taken, e .before .loop .inv .puts .size, start e .pre .list .refusals-long)
+
 mul-put-name : tie.Need-mul-put-name Inv-loop μ-loop
 mul-put-name c =
-    let e = c .before .before .before .before in
+    let e = c .before .before .before .before .before in
     omega (arith, e .loop-test .taken, start e .pre .list .ids-long, start e .good)
 
 shared-slice-read-put-name : tie.Need-shared-slice-read-put-name Inv-loop μ-loop
 shared-slice-read-put-name c =
-    let e = c .before .before .before .before .before in
+    let e = c .before .before .before .before .before .before in
     omega (arith, e .loop-test .taken, start e .pre .list .ids-long)
 
 put-name-requires : tie.Need-put-name-requires Inv-loop μ-loop
 put-name-requires c κs =
-    let e = c .before .before .before .before .before in
+    let n = c .before .before .before .before .before in
+    let e = n .before in
     let l = e .before .loop in
     let s = start e in
     record {
       right = l .inv .puts .right;
       spare = λ h. omega (arith, l .inv .puts .few, e .loop-test .taken, s .pre .enough (omega (arith, h, l .inv .slots-length)), l .inv .slots-length);
+      hash-is = λ t. place-kept (l .inv .puts) ∙ s .pre .hashes t (l .i) (e .loop-test .taken) ∙ sym (ap hashOf (n .name-of .ensures));
     }
 
 mul-refusals : tie.Need-mul-refusals Inv-loop μ-loop
@@ -129,6 +142,8 @@ put-list-spec =
     μ-loop
     loop-holds
     name-of-requires
+    mul-h
+    slice-read-h
     mul-put-name
     shared-slice-read-put-name
     put-name-requires

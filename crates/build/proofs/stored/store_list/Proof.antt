@@ -46,7 +46,7 @@ room : (c : tie.After-store-arg Inv-loop μ-loop) → let l = entered c .before 
 room c = let e = entered c in along-room (start (e .before) .pre) (e .before .loop .inv) (e .loop-test .taken)
 
 store-requires : tie.Need-store-requires Inv-loop μ-loop
-store-requires c κs = (room c .entry, omega (arith, room c .small))
+store-requires c κs = record { inside = room c .entry; short = omega (arith, room c .small) }
 
 cast-store-back : tie.Need-cast-store-back Inv-loop μ-loop
 cast-store-back c = omega (arith, room (c .before .before .before .before) .small)

@@ -8,14 +8,14 @@ use borrow.Author.Needs.{needs}
 use borrow.Author.Tests.{not-false}
 use Rattle.image.proofs.Bools.{false-not-true}
 use Rattle.image.proofs.ProbeStep.{next-inside, next-wraps}
-use Rattle.bulk_tables.specs.steps.BulkTables.{bucketIn, sameNames}
+use Rattle.bulk_tables.specs.steps.BulkTables.{bucketIn, namesEqual}
 use Rattle.bulk_tables.proofs.Probing.{Remaining, remaining-start, remaining-step, found, no-match}
 use Rattle.bulk_tables.proofs.fill.probe.Statement.{statement}
 use Rattle.bulk_tables.proofs.fill.probe.Tie as tie
 
 abbrev Inv-loop : tie.InvT-loop
 Inv-loop distinct bytes ends scratch o m h offset k₀ left₀ k left =
-    Remaining (bucketIn scratch o) distinct (sameNames bytes ends offset) h m left k
+    Remaining (bucketIn scratch o) distinct (namesEqual bytes ends offset) h m left k
 
 abbrev μ-loop : tie.MeasureT-loop
 μ-loop distinct bytes ends scratch o m h offset k₀ left₀ k left = left
@@ -34,7 +34,7 @@ loop-holds : tie.Need-loop-holds Inv-loop μ-loop
 loop-holds c =
     let s = c .before .before .before in
     let a = s .args in
-    remaining-start (bucketIn (a .scratch .now) (a .o)) (a .distinct) (sameNames (a .bytes .now) (a .ends .now) (a .offset)) (a .h) (a .m) (s .pre .some)
+    remaining-start (bucketIn (a .scratch .now) (a .o)) (a .distinct) (namesEqual (a .bytes .now) (a .ends .now) (a .offset)) (a .h) (a .m) (s .pre .some)
 
 returns : tie.Need-returns Inv-loop μ-loop
 returns c =
@@ -60,7 +60,7 @@ loop-again c =
     let s = start (test .before) in
     let a = s .args in
     let b = bucketIn (a .scratch .now) (a .o) in
-    let v = sameNames (a .bytes .now) (a .ends .now) (a .offset) in
+    let v = namesEqual (a .bytes .now) (a .ends .now) (a .offset) in
     let is = r .offset-at .ensures in
     let other : b (l .k) .hash ≡ a .h → a .distinct ≡ true → v (b (l .k) .at) ≡ false = λ e d.
     ⊎-elim

@@ -14,16 +14,16 @@ else1 c = c .before .before .before .before .before .before .before .before
 returns : tie.Need-returns
 returns c =
     let way = then1 c in
-    let a = way .before .before .before .args in
-    filled-by-tables (a .mode) (a .back-offset) (a .end) (a .entries) (a .size) (a .counts .now) (a .buf .now)
+    let a = way .before .before .before .before .args in
+    filled-by-tables (a .mode) (a .back-offset) (a .end) (a .hashes .now) (a .entries) (a .size) (a .counts .now) (a .buf .now)
     (sym (way .before .partitions .ensures) ∙ way .if1 .taken) (c .before .before .before .before .before .before .clear .ensures)
     (c .before .before .insert-by-tables .ensures)
 
 returns-2 : tie.Need-returns-2
 returns-2 c =
     let way = else1 c in
-    let a = way .before .before .before .args in
-    filled-singly (a .mode) (a .back-offset) (a .end) (a .entries) (a .size) (a .counts .now) (a .buf .now)
+    let a = way .before .before .before .before .args in
+    filled-singly (a .mode) (a .back-offset) (a .end) (a .hashes .now) (a .entries) (a .size) (a .counts .now) (a .buf .now)
     (sym (way .before .partitions .ensures) ∙ way .if1 .left) (c .before .before .before .before .before .before .clear2 .ensures)
     (c .before .before .insert-entries .ensures)
 
