@@ -151,7 +151,7 @@ module _ {img : List ℕ} {end from : ℕ} {hashes places : List ℕ} {at i : �
       → Hashing img end from (set hashes i h) (set places i place) (at + (8 + n)) (i + 1)
   hashing-next l n e nz q h place eh ep = record {
     few = omega arith;
-    inside = entry-room img at end n (p .inside) l e nz .0;
+    inside = entry-room img at end n (p .inside) l e nz .before;
     hashes-long = length-set hashes i h ∙ p .hashes-long;
     places-long = length-set places i place ∙ p .places-long;
     joins = λ hs ps x y m z.

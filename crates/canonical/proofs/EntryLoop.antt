@@ -12,7 +12,7 @@ use Rattle.image.specs.Image.{Placed, entrySize, placed}
 use Rattle.image.specs.Stored.{firstEntry, whole, entriesIn, between}
 use Rattle.image.specs.steps.EntryLength.{wholeLength}
 use Rattle.image.specs.Tally.{raisedCounts}
-use Rattle.image.proofs.Between.{Front, front, entry-room}
+use Rattle.image.proofs.Between.{Front, front, EntryRoom, entry-room}
 use Rattle.image.proofs.Bools.{false-not-true}
 use Rattle.image.proofs.EntryWalk.{Rest, first-id, first-name, entries-rest, walk-start, walk-step, walk-broken, walk-end}
 use Rattle.canonical.specs.steps.Checks.{entryName, nameOk, notBefore, entriesOk, selfLinksIn, placedFrom}
@@ -59,7 +59,7 @@ module _ {img : List ℕ} {end entries : ℕ} {two : Bool} {o : ℕ} {counts₀ 
     there : Front (between img at end) n
     there = front (between img at end) n is nz
 
-    pub entering-inside : (at + (8 + n) ≤ end) × (1 ≤ n)
+    pub entering-inside : EntryRoom img at end n
     entering-inside = entry-room img at end n (e .rest .inside) k is nz
 
     name-is : firstEntry (between img at end) .name ≡ entryName img at n
@@ -68,7 +68,7 @@ module _ {img : List ℕ} {end entries : ℕ} {two : Bool} {o : ℕ} {counts₀ 
     size-is : entrySize (firstEntry (between img at end)) ≡ 8 + n
     size-is =
         omega
-        (arith, ap length name-is, length-take (n - 1) (drop (at + 8) img), length-drop (at + 8) img, entering-inside)
+        (arith, ap length name-is, length-take (n - 1) (drop (at + 8) img), length-drop (at + 8) img, entering-inside .name .inside, entering-inside .name .some)
 
     later : List Placed
     later = placedFrom img end (left - 1) (at + (8 + n))

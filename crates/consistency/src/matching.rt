@@ -3,7 +3,7 @@
 ghost use mathlib.Core.Path.{_≡_};
 ghost use Prim.Native.Nat.{_≤_};
 ghost use lib.ListN.{length};
-ghost use Rattle.reader.specs.steps.Search.{TableIn};
+ghost use Rattle.image.specs.steps.Contracts.{TableIn};
 ghost use Rattle.consistency.specs.Matches.{matchesIn, matchesByHash, matchesOf, anyMatch};
 use image::HEAD_SIZE;
 use image::probe::next;

@@ -10,7 +10,7 @@ use borrow.Author.Tests.{le-leb, lt-leb, eq-eqb, ne-eqb}
 use Rattle.image.specs.Bytes.{word}
 use Rattle.image.specs.Stored.{firstWhole, between}
 use Rattle.image.specs.steps.EntryLength.{wholeLength}
-use Rattle.image.specs.steps.Contracts.{WholeLengthPre, WholeLength}
+use Rattle.image.specs.steps.Contracts.{WholeLengthPre, WholeLength, NameAtPre}
 use Rattle.image.proofs.EntryArea.{whole-first}
 
 pub length-between : (buf : List ℕ) (at end : ℕ) → at ≤ end → end ≤ length buf → length (between buf at end) ≡ end - at
@@ -130,12 +130,17 @@ front bytes n e k = go (firstWhole bytes) refl e
         record { yes = p; is = sym q; some = omega arith; inside = omega arith }
     go false p q = absurd (k q)
 
--- a whole entry lies before the end
+-- a whole entry lies before the end, so its name can be read
+pub record EntryRoom (buf : List ℕ) (at end n : ℕ) : Type 0 where
+  pub before : at + (8 + n) ≤ end
+  pub name : NameAtPre buf at n
+
 pub entry-room : (buf : List ℕ) (at end n : ℕ) → at ≤ end → end ≤ length buf → n ≡ wholeLength (between buf at end) → (n ≡ 0 → ⊥)
-    → (at + (8 + n) ≤ end) × (1 ≤ n)
+    → EntryRoom buf at end n
 entry-room buf at end n h k e nz =
     let f = front (between buf at end) n e nz in
-    (omega (arith, f .inside, length-between buf at end h k), f .some)
+    let before : at + (8 + n) ≤ end = omega (arith, f .inside, length-between buf at end h k) in
+    record { before = before; name = record { inside = omega arith; some = f .some } }
 
 pub not-whole : (bytes : List ℕ) → 0 ≡ wholeLength bytes → firstWhole bytes ≡ false
 unfolding wholeLength

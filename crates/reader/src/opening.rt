@@ -7,7 +7,7 @@ ghost use lib.ListN.{length};
 ghost use Rattle.image.specs.Head.{backLeaves};
 ghost use Rattle.reader.specs.Open.{hasLetters, someLeaves, opening};
 ghost use Rattle.reader.specs.Cases.{openedOf};
-ghost use Rattle.reader.specs.steps.Tables.{TableAdded, AllTables, SomeLeavesPre};
+ghost use Rattle.reader.specs.steps.Tables.{SlacksFit, TableAdded, AllTables, SomeLeavesPre};
 use super::Opened;
 use image::HEAD_SIZE;
 use jhash::word::word;
@@ -40,7 +40,7 @@ fn slack(size: usize, at: u32, n: u32) -> u64
 
 // The bitwise or with the slack of one more table. It is never below its operands, so no slack exceeds it.
 fn with_slack(slacks: u64, size: usize, at: u32, n: u32) -> u64
-    ensures { λ r. ⌜ (r < 2 ^ 63 → (slacks < 2 ^ 63) × (at + 8 * n ≤ size)) ⌝ }
+    ensures { λ r. ⌜ (r < 2 ^ 63 → SlacksFit slacks size at n) ⌝ }
 {
     slacks | slack(size, at, n)
 }

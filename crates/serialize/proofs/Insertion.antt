@@ -18,8 +18,8 @@ use Rattle.image.proofs.Between.{entry-room}
 use Rattle.image.specs.Stored.{between}
 use Rattle.image.specs.Tables.{start, probeSequence, firstEmpty}
 use Rattle.image.specs.steps.EntryLength.{wholeLength}
-use Rattle.image.specs.steps.Contracts.{BucketIs, offsetAt}
-use Rattle.serialize.specs.steps.Insertion.{TableIn, holdsTable, inserted, PairInserted, insertedByRow, EntryPre, hashAt}
+use Rattle.image.specs.steps.Contracts.{BucketIs, TableIn, offsetAt}
+use Rattle.serialize.specs.steps.Insertion.{holdsTable, inserted, PairInserted, insertedByRow, EntryPre, hashAt}
 use Rattle.serialize.specs.steps.Insertion.{backStored, entryInserted, WalkPre, insertedFrom}
 
 -- ---- a pair
@@ -74,7 +74,7 @@ pub entry-in : {back-offset end : ℕ} {buf₀ : List ℕ} → WalkPre back-offs
     → n ≡ wholeLength (between buf at end) → n < 4294967296 → (n ≡ 0 → ⊥) → (at + (8 + n) ≤ end) × EntryPre at n buf
 entry-in {back-offset} {end} pre buf long at n before is small some =
     let r = entry-room buf at end n before (omega (arith, pre .inside)) is some in
-    (r .0, record { inside = omega (arith, r .0, pre .inside); some = r .1; length-word = small; offset-word = omega (arith, pre .end-word) })
+    (r .before, record { inside = r .name .inside; some = r .name .some; length-word = small; offset-word = omega (arith, pre .end-word) })
 
 -- the entries from `at` on, inserted into this buffer, leave what all entries leave
 pub record Inserting (mode : Mode) (back-offset end entries : ℕ) (buf₀ buf : List ℕ) (at left : ℕ) : Type 0 where

@@ -10,6 +10,7 @@ use Rattle.image.specs.Bytes.{word}
 use Rattle.image.specs.Image.{backSize}
 use Rattle.image.specs.Stored.{whole, entriesIn, between}
 use Rattle.image.specs.Tally.{tallied}
+use Rattle.image.specs.steps.Contracts.{NameAtPre}
 use Rattle.reader.specs.Open.{opening}
 use Rattle.canonical.specs.Canonical.{counted, canonical}
 use Rattle.canonical.specs.declared.entries.EntriesChecked.{EntriesChecked}
@@ -78,8 +79,7 @@ pub record InBucketPre (img : List ℕ) (h place first : ℕ) : Type 0 where
   pub tables : TablesHeld img
 
 pub record CheckEntryPre (img : List ℕ) (at n h place first : ℕ) : Type 0 where
-  pub inside : at + (8 + n) ≤ length img
-  pub some : 1 ≤ n
+  pub entry : NameAtPre img at n
   pub small : at < 4294967296
   pub hash : h ≡ hashOf (entryName img at n)
   pub cached : InBucketPre img h place first

@@ -35,6 +35,11 @@ pub record BucketIs (b n r : ℕ) : Type 0 where
   pub is : r ≡ b
   pub inside : r < n
 
+-- there are buckets, and the n of them at o lie in the buffer
+pub record TableIn (buf : List ℕ) (o n : ℕ) : Type 0 where
+  pub some : 0 < n
+  pub inside : o + 8 * n ≤ length buf
+
 -- the n buckets at o lie in the buffer, and a search starts at bucket k, one of them
 pub record ProbePre (buf : List ℕ) (o n k : ℕ) : Type 0 where
   pub inside : o + 8 * n ≤ length buf

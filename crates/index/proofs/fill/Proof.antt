@@ -69,8 +69,7 @@ name-at-requires c κs =
     let t = c .before .before in
     let s = begun t in
     let l = t .before .loop in
-    let room = entry-room (s .args .buf .now) (l .at) (s .args .end) (n .result) (l .inv .inside) (s .pre .inside) (n .ensures .is) (c .if1 .left) in
-    record { inside = omega (arith, room .0, s .pre .inside); some = room .1 }
+    entry-room (s .args .buf .now) (l .at) (s .args .end) (n .result) (l .inv .inside) (s .pre .inside) (n .ensures .is) (c .if1 .left) .name
 
 same-length-2 : tie.Need-same-length-2 Inv-loop μ-loop
 same-length-2 c =

@@ -8,12 +8,7 @@ use Rattle.image.specs.Tables.{tableOf, start}
 use Rattle.image.specs.Head.{tableAt, bucketNumber}
 use Rattle.reader.specs.Lookup.{unsearched}
 
--- a table of n buckets, at least one, at offset o, lies in the image
-pub record TableIn (image : List ℕ) (o n : ℕ) : Type 0 where
-  pub some : 0 < n
-  pub inside : o + 8 * n ≤ length image
-
--- a search in such a table that has m buckets left, from bucket k on
+-- a search in the table of n buckets at offset o that has m buckets left, from bucket k on
 pub record RestPre (image : List ℕ) (o n k m : ℕ) : Type 0 where
   pub bucket : k < n
   pub most : m ≤ n

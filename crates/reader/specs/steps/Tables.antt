@@ -8,10 +8,15 @@ use Rattle.image.specs.Image.{headSize}
 use Rattle.reader.specs.Open.{someLeaves, halves}
 use Rattle.reader.specs.declared.opening.Tables.{Tables}
 
+-- the slacks of the tables so far are below 2^63, and one more table, at offset o with n buckets, ends in the image
+pub record SlacksFit (slacks size o n : ℕ) : Type 0 where
+  pub before : slacks < 2 ^ 63
+  pub inside : o + 8 * n ≤ size
+
 -- one more table, at offset o with n buckets, in an image of `size` bytes
 pub record TableAdded (all : Tables) (size o n : ℕ) (r : Tables) : Type 0 where
   pub num-is : r .num ≡ (all .num + n / 2) % 2 ^ 32
-  pub fits : r .slacks < 2 ^ 63 → (all .slacks < 2 ^ 63) × (o + 8 * n ≤ size)
+  pub fits : r .slacks < 2 ^ 63 → SlacksFit (all .slacks) size o n
 
 -- all of them
 pub record AllTables (image : List ℕ) (r : Tables) : Type 0 where

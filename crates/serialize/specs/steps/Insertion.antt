@@ -18,11 +18,6 @@ use Rattle.image.specs.steps.Contracts.{offsetAt}
 
 -- ---- a pair of hash and offset
 
--- there are buckets, and the n of them at o lie in the buffer
-pub record TableIn (buf : List ℕ) (o n : ℕ) : Type 0 where
-  pub some : 0 < n
-  pub inside : o + 8 * n ≤ length buf
-
 -- both words of a table's row
 pub record HoldsTablePre (o n : ℕ) : Type 0 where
   pub offset-word : o < 4294967296

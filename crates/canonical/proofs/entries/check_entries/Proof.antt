@@ -2,12 +2,13 @@
 use borrow.Author.Needs.{needs}
 use borrow.Author.Tests.{not-true, not-false}
 use native.Mathlib.Omega.{arith}
-use Prim.Native.Nat.{ℕ, _+_, _-_, _≤_}
+use Prim.Native.Nat.{ℕ, _-_}
 use mathlib.Core.Path.{_≡_, refl}
 use mathlib.Core.Bool.{Bool}
 use mathlib.Core.List.{List}
 use lib.ListN.{getD}
 use Rattle.image.specs.Tables.{tableOf}
+use Rattle.image.proofs.Between.{EntryRoom}
 use Rattle.canonical.specs.steps.Cache.{Cached}
 use Rattle.canonical.proofs.EntryLoop.{Entering, entering-start, entering-broken, entering-inside, entering-wrong, entering-next, entering-end}
 use Rattle.canonical.proofs.CachedEntries.{cached-start, cached-hash, cached-bucket, cached-next}
@@ -45,7 +46,7 @@ hash c = let p = c .before .before .prefetch in getD (p .last .1 .1 .1 .1 .0) (2
 -- the entry lies before the end
 inside : (c : tie.Else1 Inv-loop μ-loop)
     → let l = (in-loop c) .before in
-    (l .loop .at + (8 + c .before .whole-length .result) ≤ start l .args .end) × (1 ≤ c .before .whole-length .result)
+    EntryRoom (start l .args .image .now) (l .loop .at) (start l .args .end) (c .before .whole-length .result)
 inside c =
     let l = (in-loop c) .before in
     let n = c .before .whole-length in
@@ -106,11 +107,9 @@ check-entry-requires c κs =
     let pre = start ((in-loop e) .before) .pre in
     let n = e .before .whole-length in
     let p = e .before .before .prefetch .ensures in
-    let r = inside e in
     record {
-      inside = omega (arith, pre .area .inside);
-      some = r .1;
-      small = omega (arith, pre .area .small);
+      entry = inside e .name;
+      small = omega (arith, inside e .before, pre .area .small);
       hash = cached-hash (p .cache) (p .some) (n .result) (n .ensures .is) (e .if1 .left);
       cached = record { bucket = cached-bucket (p .cache) (p .some) (n .result) (n .ensures .is) (e .if1 .left); tables = pre .tables };
     }
@@ -145,14 +144,12 @@ add-linked c =
 add-at : tie.Need-add-at Inv-loop μ-loop
 add-at c =
     let e = whole (valid c) in
-    let r = inside e in
-    omega (arith, start ((in-loop e) .before) .pre .area .small)
+    omega (arith, inside e .before, start ((in-loop e) .before) .pre .area .small)
 
 add-at-2 : tie.Need-add-at-2 Inv-loop μ-loop
 add-at-2 c =
     let e = whole (valid c) in
-    let r = inside e in
-    omega (arith, start ((in-loop e) .before) .pre .area .small)
+    omega (arith, inside e .before, start ((in-loop e) .before) .pre .area .small)
 
 sub-left : tie.Need-sub-left Inv-loop μ-loop
 sub-left c = omega (arith, (in-loop (whole (valid c))) .loop-test .taken)

@@ -5,7 +5,7 @@ use Prim.Native.Nat.{_+_, _-_, _≤_}
 use mathlib.Core.Path.{ap, _∙_}
 use Rattle.jhash.specs.NameHash.{hashOf}
 use Rattle.jhash.proofs.Outcomes.{key-short}
-use Rattle.image.proofs.Between.{entry-room}
+use Rattle.image.proofs.Between.{EntryRoom, entry-room}
 use Rattle.canonical.proofs.CachedEntries.{Hashing, hashing-start, hashing-next, hashing-broken, hashing-all}
 use Rattle.canonical.proofs.prefetch.hash_batch.Statement.{statement}
 use Rattle.canonical.proofs.prefetch.hash_batch.Tie as tie
@@ -25,7 +25,7 @@ start c = c .before .before .before .before .before
 
 -- a whole entry lies before the end
 room : (c : tie.Else1 Inv-loop μ-loop)
-    → (c .before .before .before .loop .at + (8 + c .before .whole-length .result) ≤ start c .args .end) × (1 ≤ c .before .whole-length .result)
+    → EntryRoom (start c .args .image .now) (c .before .before .before .loop .at) (start c .args .end) (c .before .whole-length .result)
 room c =
     let l = c .before .before .before .loop in
     let n = c .before .whole-length in
@@ -43,7 +43,7 @@ returns c =
     hashing-broken (c .before .before .before .loop .inv) (w .result) (w .ensures .is) (c .if1 .taken)
 
 name-at-requires : tie.Need-name-at-requires Inv-loop μ-loop
-name-at-requires c κs = let r = room c in record { inside = omega (arith, start c .pre .area .inside); some = r .1 }
+name-at-requires c κs = room c .name
 
 mul-hashes : tie.Need-mul-hashes Inv-loop μ-loop
 mul-hashes c = omega (arith, whole c .before .before .loop-test .taken)
@@ -58,10 +58,10 @@ element-write-places : tie.Need-element-write-places Inv-loop μ-loop
 element-write-places c = omega (arith, whole c .before .before .loop-test .taken)
 
 add-at : tie.Need-add-at Inv-loop μ-loop
-add-at c = let r = room (whole c) in omega (arith, start (whole c) .pre .area .small)
+add-at c = omega (arith, room (whole c) .before, start (whole c) .pre .area .small)
 
 add-at-2 : tie.Need-add-at-2 Inv-loop μ-loop
-add-at-2 c = let r = room (whole c) in omega (arith, start (whole c) .pre .area .small)
+add-at-2 c = omega (arith, room (whole c) .before, start (whole c) .pre .area .small)
 
 add-i : tie.Need-add-i Inv-loop μ-loop
 add-i c = omega (arith, whole c .before .before .loop-test .taken)
@@ -75,7 +75,7 @@ loop-again c =
     let w = e .before .whole-length in
     let name = c .before .before .name-at in
     let h = c .before .key in
-    let short = key-short (name .result .now) (omega (arith, name .ensures .size, w .ensures .small, room e .1)) in
+    let short = key-short (name .result .now) (omega (arith, name .ensures .size, w .ensures .small, room e .name .some)) in
     hashing-next (e .before .before .before .loop .inv) (start e .pre .area .inside) (w .result) (w .ensures .is) (e .if1 .left) (e .before .before .loop-test .taken)
     (h .result) (c .first-place .result) (h .ensures ∙ short ∙ ap hashOf (name .ensures .is)) (c .first-place .ensures)
 

@@ -1,5 +1,5 @@
 -- `image::entries::walk` meets its contract. Assumes nothing.
-use Prim.Native.Nat.{_+_, _≤_, _<_}
+use Prim.Native.Nat.{_<_}
 use native.Mathlib.Omega.{arith}
 use mathlib.Core.Path.{_≡_, refl, sym, _∙_}
 use Rattle.jhash.specs.NameHash.{hashOf}
@@ -7,7 +7,7 @@ use Rattle.jhash.proofs.Outcomes.{key-short}
 use Rattle.image.specs.Tables.{tableOf}
 use Rattle.image.specs.Stored.{between}
 use Rattle.image.proofs.Bools.{false-not-true}
-use Rattle.image.proofs.Between.{Front, front, entry-room}
+use Rattle.image.proofs.Between.{Front, front, EntryRoom, entry-room}
 use Rattle.image.proofs.EntryWalk.{WalkInv, walk-start, walk-step, walk-broken, walk-end, contains-step, contains-end}
 use borrow.Author.Needs.{needs}
 use Rattle.image.proofs.entries.walk.Statement.{statement}
@@ -45,7 +45,7 @@ known : (e : tie.Else1 Inv-loop μ-loop)
 known e = front _ (e .before .whole-length .result) (e .before .whole-length .ensures .is) (e .if1 .left)
 
 inside : (e : tie.Else1 Inv-loop μ-loop)
-    → (loop e .loop .at + (8 + e .before .whole-length .result) ≤ start e .args .end) × (1 ≤ e .before .whole-length .result)
+    → EntryRoom (start e .args .buf .now) (loop e .loop .at) (start e .args .end) (e .before .whole-length .result)
 inside e =
     let n = e .before .whole-length in
     entry-room (start e .args .buf .now) (loop e .loop .at) (start e .args .end) (n .result) (loop e .loop .inv .rest .inside)
@@ -56,7 +56,7 @@ hash : (k : tie.After-key2 Inv-loop μ-loop) → k .key2 .result ≡ hashOf (nam
 hash k =
     let name = named k .name-at in
     let n = named k .before .before .whole-length in
-    k .key2 .ensures ∙ key-short (name .result .now) (omega (arith, name .ensures .size, n .ensures .small, inside (named k .before) .1))
+    k .key2 .ensures ∙ key-short (name .result .now) (omega (arith, name .ensures .size, n .ensures .small, inside (named k .before) .name .some))
 
 loop-holds : tie.Need-loop-holds Inv-loop μ-loop
 loop-holds c =
@@ -82,10 +82,10 @@ returns c =
     }
 
 name-at-requires : tie.Need-name-at-requires Inv-loop μ-loop
-name-at-requires c κs = record { inside = omega (arith, inside c .0, start c .pre .inside); some = inside c .1 }
+name-at-requires c κs = inside c .name
 
 word-requires : tie.Need-word-requires Inv-loop μ-loop
-word-requires c κs = omega (arith, inside (c .before) .0, start (c .before) .pre .inside)
+word-requires c κs = omega (arith, inside (c .before) .name .inside)
 
 add-larger : tie.Need-add-larger Inv-loop μ-loop
 add-larger c = omega (arith, c .word .ok)
@@ -102,10 +102,10 @@ is-sought-requires c κs =
     record { named = k .key2 .ensures; wanted = loop (named k .before) .before .key .ensures }
 
 add-at : tie.Need-add-at Inv-loop μ-loop
-add-at c = omega (arith, inside (entry c) .0, start (entry c) .good, start (entry c) .pre .inside)
+add-at c = omega (arith, inside (entry c) .name .inside, start (entry c) .good)
 
 add-at-2 : tie.Need-add-at-2 Inv-loop μ-loop
-add-at-2 c = omega (arith, inside (entry c) .0, start (entry c) .good, start (entry c) .pre .inside)
+add-at-2 c = omega (arith, inside (entry c) .name .inside, start (entry c) .good)
 
 sub-left : tie.Need-sub-left Inv-loop μ-loop
 sub-left c = omega arith

@@ -47,8 +47,8 @@ loop-again c =
           (halves image t (256 - t)) (halves image 0 256) (inv .sum) (halves-step image t 256 h)
           (added .num-is ∙ ap (λ (n : ℕ). (of-loop .all .num + n / 2) % 2 ^ 32) (c .before .word2 .ensures));
       leaves = λ k.
-          leaves-pass image t 256 (of-word .result) (c .before .word2 .result) h (of-word .ensures) (c .before .word2 .ensures) (added .fits k .1)
-          ∙ inv .leaves (added .fits k .0);
+          leaves-pass image t 256 (of-word .result) (c .before .word2 .result) h (of-word .ensures) (c .before .word2 .ensures) (added .fits k .inside)
+          ∙ inv .leaves (added .fits k .before);
     }
 
 returns : tie.Need-returns Inv-loop μ-loop

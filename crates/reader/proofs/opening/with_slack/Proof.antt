@@ -9,7 +9,7 @@ returns : tie.Need-returns
 returns c h =
     let rooms = c .before .args .slacks in
     let own = c .slack .result in
-    (omega (arith, h, le-or-l rooms own), c .slack .ensures (omega (arith, h, le-or-r rooms own)))
+    record { before = omega (arith, h, le-or-l rooms own); inside = c .slack .ensures (omega (arith, h, le-or-r rooms own)) }
 
 pub with-slack-spec : {M : Type 1} → statement M
 with-slack-spec = tie.close (tie.spec (λ c κs. search needs) returns)
