@@ -21,7 +21,7 @@ use Rattle.batch.specs.RoundNames.{nth}
 use Rattle.batch.specs.steps.Slots.{bucketOfNumber, slotIn, SlotsHold}
 use Rattle.batch.specs.steps.Duplicates.{IfZero, Listed, key, Keys, EqualBefore, FoundOrInserted, Deduplicated}
 use Rattle.batch.proofs.IndexLists.{listed-old, listed-new, each-step}
-use Rattle.batch.proofs.SlotSearch.{none-empty, none-equal, filled-next}
+use Rattle.lookup_laws.proofs.SlotSearch.{none-empty, none-equal, filled-next}
 
 -- ---- keys
 
@@ -97,7 +97,7 @@ module _ {xs : List (List ℕ)} {keys slots : List ℕ} {i : ℕ} (ks : Keys xs 
       (filled-all (λ (b : Bucket). b .at ≤ i) 4096 bs (omega arith) (all-image (λ (b : Bucket). b .at ≤ i) bucket (λ u l. omega arith) (s .held) (s .below)) k)
 
   pub some-empty : All (λ (k : ℕ). NotEmpty (slotIn keys slots k)) (probeSequence 4096 4096 (start h 4096)) → ⊥
-  some-empty all = omega (arith, fit, none-empty (s .filled-with) (omega arith) h (omega (arith, fit)) occupied all)
+  some-empty all = omega (arith, fit, none-empty (s .filled-with) (omega (arith, fit)) occupied h all)
 
   pub found-equal : (q : ℕ) → 0 < q → q ≤ i → equalTo xs i q ≡ true → FoundOrInserted xs keys slots i q
   found-equal q some low is =

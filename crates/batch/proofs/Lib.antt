@@ -1,6 +1,5 @@
 -- Laws of a round.
 pub mod IndexLists
-pub mod SlotSearch
 pub mod Duplicates
 pub mod AnswerPlaces
 pub mod Lookups

@@ -4,7 +4,6 @@ pub mod TableCounts
 pub mod Offsets
 pub mod Partitioning
 pub mod PairsOfTable
-pub mod Probing
 pub mod TablesFilled
 pub mod AllDistinct
 pub mod TableWords

@@ -10,7 +10,7 @@ use mathlib.Core.List.{List, [], _∷_, _++_}
 use borrow.Author.Tests.{ne-eqb}
 use lib.ListN.{length, getD, set, length-append}
 use lib.Seq.{getD-set-same, getD-set-other}
-use Rattle.image.specs.Tables.{Bucket, empty, atOf, start, probeSequence, firstEmpty, insert, insertAll, filled}
+use Rattle.image.specs.Tables.{Bucket, empty, atOf, start, probeSequence, firstEmpty, insert, insertAll, filled, Filled}
 use Rattle.image.proofs.Sizes.{length-filled, filled-more}
 use Rattle.image.proofs.AllOfList.{All, all-append, all-middle}
 use Rattle.image.proofs.Buckets.{getD-empties, firstEmpty-ext}
@@ -20,7 +20,7 @@ use Rattle.bulk_tables.specs.steps.Layout.{tableWords, pairWords, pairSt
 use Rattle.bulk_tables.specs.steps.Contracts.{Probed, FillTablePre, TableFilled, FillAllPre}
 use Rattle.bulk_tables.specs.steps.BulkTables.{pairIn, pairsIn, bucketIn, namesEqual, Fills, NoDuplicates}
 use Rattle.lookup_laws.specs.steps.HasMatch.{hasMatch}
-use Rattle.lookup_laws.proofs.Matching.{hasMatch-equal, no-match}
+use Rattle.lookup_laws.proofs.SlotSearch.{none-equal, filled-next}
 use Rattle.bulk_tables.proofs.PairStored.{same-bucket, stored-length, stored-elsewhere, bucket-stored, bucket-elsewhere}
 
 all-before : {A : Type 0} (P : A → Type 0) (xs ys : List A) → All P (xs ++ ys) → All P xs
@@ -136,8 +136,8 @@ module _ {bytes ends scratch₀ : List ℕ} {first c : ℕ} (pre : FillTablePre 
     own-offset : offset ≡ b .at
     own-offset = ap (λ (x : Bucket). x .at) own
 
-    below : start h m < m
-    below = mod-lt (h / 256) (omega arith)
+    filled-so-far : Filled m (bucketIn scratch o) (pairs i)
+    filled-so-far = record { each = s .buckets }
 
     -- no pair of this hash that is in the table has the same name
     later : hasMatch (bucketIn scratch o) h (namesEqual bytes ends offset) (probeSequence m m (start h m)) ≡ false
@@ -145,9 +145,8 @@ module _ {bytes ends scratch₀ : List ℕ} {first c : ℕ} (pre : FillTablePre 
     later none j k e =
         let v = namesEqual bytes ends offset in
         let others =
-        no-match h v m (pairs i) (omega arith) (omega (arith, length-pairs n scratch₀ first i))
-        (pairs-all n scratch₀ first NotEmpty i (λ l r z. omega (arith, pre .pairs-stored (first + l) (omega arith) (omega arith))))
-        (sym (hasMatch-equal (bucketIn scratch o) (λ (k : ℕ). getD (filled m (pairs i)) k empty) h v m (s .buckets) m (start h m) below) ∙ none) in
+        none-equal filled-so-far (omega arith) h v (omega (arith, length-pairs n scratch₀ first i))
+        (pairs-all n scratch₀ first NotEmpty i (λ l r z. omega (arith, pre .pairs-stored (first + l) (omega arith) (omega arith)))) none in
         pairs-each n scratch₀ first (λ (x : Bucket). x .hash ≡ h → v (x .at) ≡ false) i others j k e
 
     distinct-more : (distinct ≡ true → hasMatch (bucketIn scratch o) h (namesEqual bytes ends offset) (probeSequence m m (start h m)) ≡ false)
@@ -170,15 +169,8 @@ module _ {bytes ends scratch₀ : List ℕ} {first c : ℕ} (pre : FillTablePre 
       abbrev table : List Bucket
       table = filled m (pairs i)
 
-      place : firstEmpty (atOf table) (probeSequence m m (start (b .hash) m)) ≡ k
-      place =
-          ap (λ (x : ℕ). firstEmpty (atOf table) (probeSequence m m (start x m))) (sym own-hash)
-          ∙ sym (firstEmpty-ext (λ (j : ℕ). bucketIn scratch o j .at) (atOf table) m (λ j l. ap (λ (x : Bucket). x .at) (s .buckets j l)) m (start h m) below)
-          ∙ sym (told .first free)
-
       table-more : filled m (pairs (i + 1)) ≡ set table k b
-      unfolding insert
-      table-more = ap (filled m) (pairs-more n scratch₀ first i) ∙ filled-more m (pairs i) b ∙ ap (λ (x : ℕ). set table x b) place
+      table-more = ap (filled m) (pairs-more n scratch₀ first i) ∙ filled-next filled-so-far (omega arith) h b (sym own-hash) k (told .first free)
 
       long-enough : o + 2 * k + 1 < length scratch
       long-enough = omega (arith, s .long)

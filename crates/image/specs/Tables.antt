@@ -1,5 +1,6 @@
 -- The hash tables: 01, "The image record" and "Name hash".
-use Prim.Native.Nat.{ℕ, zero, suc, _+_, _/_, _%_}
+use Prim.Native.Nat.{ℕ, zero, suc, _+_, _/_, _%_, _<_}
+use mathlib.Core.Path.{_≡_}
 use mathlib.Core.Bool.{cond}
 use mathlib.Core.List.{List, [], _∷_}
 use lib.ListN.{getD, set, replicate}
@@ -52,3 +53,7 @@ insertAll n table (b ∷ bs) = insertAll n (insert n table b) bs
 -- the table of n buckets that begins empty and takes these entries
 unfoldable pub filled : ℕ → List Bucket → List Bucket
 filled n bs = insertAll n (replicate n empty) bs
+
+-- n slots, wherever they are stored, are that table
+pub record Filled (n : ℕ) (slots : ℕ → Bucket) (bs : List Bucket) : Type 0 where
+  pub each : (k : ℕ) → k < n → slots k ≡ getD (filled n bs) k empty

@@ -25,7 +25,7 @@ use Rattle.index.specs.Index.{slotCount, slotAt, slotSequence, entryBuck
 use Rattle.index.specs.steps.Probe.{hasNameAt, duplicateAt, probeSlots}
 use Rattle.index.proofs.EntryNames.{length-buckets, buckets-occupied, all-decided, Decides, not-contained, contained}
 use Rattle.index.proofs.Probing.{Result, result, never-matches}
-use Rattle.index.proofs.Insert.{none-empty, some-empty}
+use Rattle.lookup_laws.proofs.SlotSearch.{none-empty, some-empty}
 
 -- no entry, no name; and no name is longer than all entries
 holds-empty : (name : List ℕ) (es : List Entry) → length es ≡ 0 → containsName name es ≡ false

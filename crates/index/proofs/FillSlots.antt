@@ -21,7 +21,8 @@ use Rattle.index.specs.steps.Probe.{probeSlots}
 use Rattle.index.specs.steps.Fill.{FillPre, SlotsFilled}
 use Rattle.index.proofs.EntryNames.{buckets-snoc, length-buckets, buckets-occupied}
 use Rattle.index.proofs.Probing.{Result, EmptyFound, result, never, never-matches}
-use Rattle.index.proofs.Insert.{none-empty, filled-stored, same-slot, length-stored, stored-other}
+use Rattle.lookup_laws.proofs.SlotSearch.{none-empty}
+use Rattle.index.proofs.Insert.{filled-stored, same-slot, length-stored, stored-other}
 
 -- the loop's invariant: `left` entries are not yet passed, from offset `at` on
 pub record Filling (buf : List ℕ) (end entries : ℕ) (words₀ : List ℕ) (at left : ℕ) (words : List ℕ) : Type 0 where
@@ -105,7 +106,7 @@ module _ {buf : List ℕ} {end entries : ℕ} {words₀ : List ℕ} (pre : FillP
       slots-more {k} e =
           subst (FilledWith (slotStored words k h at))
           (ap (λ (b : Bucket). entryBuckets (f .done) ++ (b ∷ [])) (same-slot (x .hash ∙ ap hashOf (sym is-name)) (f .place)) ∙ sym (buckets-snoc (f .done) first))
-          (filled-stored (f .slots) (record { hash = h; at = at }) k (empty-slot k h e .0) (empty-slot k h e .1))
+          (filled-stored words (f .slots) (record { hash = h; at = at }) k (empty-slot k h e .0) (empty-slot k h e .1))
 
       pub filling-turn : {k : ℕ} → k ≡ probeSlots words h never → Filling buf end entries words₀ (at + (8 + n)) (left - 1) (slotStored words k h at)
       unfolding entriesSize

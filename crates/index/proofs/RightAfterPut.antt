@@ -71,5 +71,5 @@ module _ {s : State} {words : List ℕ} (bytes : AllBytes (s .buffer)) (right : 
         capacity = omega (arith, spare, length-stored words k h (s .writer .end));
         slots =
             subst (FilledWith (slotInserted words h (s .writer .end))) (sym buckets-more)
-            (filled-stored (right .slots) (record { hash = h; at = s .writer .end }) k inside refl);
+            (filled-stored words (right .slots) (record { hash = h; at = s .writer .end }) k inside refl);
       }

@@ -6,7 +6,7 @@ use mathlib.Core.Bool.{cond, _&&_}
 use mathlib.Core.List.{List, map}
 use lib.ListN.{length, getD, set}
 use lib.Dec.{eqb, ltb, leb}
-use Rattle.image.specs.Tables.{Bucket, empty, start, probeSequence, firstEmpty, filled}
+use Rattle.image.specs.Tables.{Bucket, start, probeSequence, firstEmpty, Filled}
 use Rattle.image.specs.Image.{Entry, headSize, placed, bucketOf}
 use Rattle.writer.specs.State.{State}
 use Rattle.writer.specs.Put.{putRefusal, appended}
@@ -39,8 +39,8 @@ abbrev pub entryBuckets : List Entry → List Bucket
 entryBuckets es = map bucketOf (placed headSize es)
 
 -- the slots are what inserting these into empty ones leaves, by the rule of the image's own tables
-pub record FilledWith (words : List ℕ) (bs : List Bucket) : Type 0 where
-  pub each : (k : ℕ) → k < slotCount words → slotAt words k ≡ getD (filled (slotCount words) bs) k empty
+abbrev pub FilledWith : List ℕ → List Bucket → Type 0
+FilledWith words bs = Filled (slotCount words) (slotAt words) bs
 
 -- the index is right: close would accept record and buffer, there are 256 counts and at least as many slots as entries,
 -- and the slots are filled with the entries in put order

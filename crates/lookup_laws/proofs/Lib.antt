@@ -5,6 +5,7 @@ pub mod SearchFilling
 pub mod TableContents
 pub mod TableSearch
 pub mod Matching
+pub mod SlotSearch
 pub mod ImageOpening
 pub mod EntryProbe
 pub mod EntriesOf

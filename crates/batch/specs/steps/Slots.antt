@@ -4,12 +4,8 @@ use mathlib.Core.Path.{_≡_}
 use mathlib.Core.List.{List, _∷_, map}
 use lib.ListN.{length, getD}
 use Rattle.image.specs.Bytes.{Each}
-use Rattle.image.specs.Tables.{Bucket, empty, filled}
+use Rattle.image.specs.Tables.{Bucket, Filled}
 use Rattle.batch.specs.RoundNames.{nth}
-
--- m slots are what inserting these buckets into empty ones leaves
-pub record FilledWith (m : ℕ) (slots : ℕ → Bucket) (bs : List Bucket) : Type 0 where
-  pub each : (k : ℕ) → k < m → slots k ≡ getD (filled m bs) k empty
 
 -- a slot has the number of a name, counted from 1, or 0 where it is empty. The name's hash stands in the list of keys
 abbrev pub bucketOfNumber : List ℕ → ℕ → Bucket
@@ -22,7 +18,7 @@ slotIn keys slots k = bucketOfNumber keys (getD slots k 0)
 pub record SlotsHold (xs : List (List ℕ)) (keys slots : List ℕ) (i : ℕ) : Type 0 where
   pub held : List ℕ
   pub size : length slots ≡ 4096
-  pub filled-with : FilledWith 4096 (slotIn keys slots) (map (λ (u : ℕ). bucketOfNumber keys (u + 1)) held)
+  pub filled-with : Filled 4096 (slotIn keys slots) (map (λ (u : ℕ). bucketOfNumber keys (u + 1)) held)
   pub few : length held ≤ i
   pub below : Each (λ (u : ℕ). u < i) held
   pub covers : (y : List ℕ) → Each (λ (u : ℕ). nth xs u ≡ y → ⊥) held → (j : ℕ) → j < i → nth xs j ≡ y → ⊥

@@ -9,7 +9,7 @@ use borrow.Author.Needs.{needs}
 use Rattle.packed.proofs.NameEnds.{length-names}
 use Rattle.batch.specs.RoundNames.{names}
 use Rattle.batch.specs.steps.Slots.{slotIn, SlotsHold}
-use Rattle.batch.proofs.SlotSearch.{Remaining, remaining-start, remaining-step, remaining-end, first-empty, none-matches}
+use Rattle.lookup_laws.proofs.SlotSearch.{Remaining, remaining-start, remaining-step, remaining-end, first-empty, none-matches}
 use Rattle.batch.proofs.Duplicates.{equalTo, slot-below, some-empty, found-equal, inserted-here}
 use Rattle.batch.proofs.deduplicate.find_or_insert.Statement.{statement}
 use Rattle.batch.proofs.deduplicate.find_or_insert.Tie as tie

@@ -1,21 +1,27 @@
 -- `bulk_tables::fill::probe` meets its contract. The loop's invariant: the probe sequence that is left tells what the whole one tells. Assumes nothing.
 use Prim.Native.Nat.{ℕ}
 use native.Mathlib.Omega.{arith}
-use mathlib.Core.Path.{_≡_, sym, subst, _∙_}
-use mathlib.Core.Bool.{true, false}
+use mathlib.Core.Path.{_≡_, sym, ap, subst, _∙_}
+use mathlib.Core.Bool.{Bool, false, _&&_, and-false}
+use mathlib.Core.List.{List}
 use mathlib.Core.Logic.{⊎-elim}
 use borrow.Author.Needs.{needs}
 use borrow.Author.Tests.{not-false}
-use Rattle.image.proofs.Bools.{false-not-true}
+use Rattle.image.specs.Tables.{probeSequence, start as firstProbe}
 use Rattle.image.proofs.ProbeStep.{next-inside, next-wraps}
 use Rattle.bulk_tables.specs.steps.BulkTables.{bucketIn, namesEqual}
-use Rattle.bulk_tables.proofs.Probing.{Remaining, remaining-start, remaining-step, found, no-match}
+use Rattle.lookup_laws.specs.steps.HasMatch.{hasMatch}
+use Rattle.lookup_laws.proofs.SlotSearch.{Remaining, remaining-start, remaining-step, first-empty, none-matches}
 use Rattle.bulk_tables.proofs.fill.probe.Statement.{statement}
 use Rattle.bulk_tables.proofs.fill.probe.Tie as tie
 
+-- is the name at an offset a duplicate, where names must be distinct?
+abbrev duplicate : Bool → List ℕ → List ℕ → ℕ → ℕ → Bool
+duplicate distinct bytes ends offset a = distinct && namesEqual bytes ends offset a
+
 abbrev Inv-loop : tie.InvT-loop
 Inv-loop distinct bytes ends scratch o m h offset k₀ left₀ k left =
-    Remaining (bucketIn scratch o) distinct (namesEqual bytes ends offset) h m left k
+    Remaining (bucketIn scratch o) (duplicate distinct bytes ends offset) h m left k
 
 abbrev μ-loop : tie.MeasureT-loop
 μ-loop distinct bytes ends scratch o m h offset k₀ left₀ k left = left
@@ -34,7 +40,7 @@ loop-holds : tie.Need-loop-holds Inv-loop μ-loop
 loop-holds c =
     let s = c .before .before .before in
     let a = s .args in
-    remaining-start (bucketIn (a .scratch .now) (a .o)) (a .distinct) (namesEqual (a .bytes .now) (a .ends .now) (a .offset)) (a .h) (a .m) (s .pre .some)
+    remaining-start (bucketIn (a .scratch .now) (a .o)) (duplicate (a .distinct) (a .bytes .now) (a .ends .now) (a .offset)) (a .h) (a .m) (s .pre .some)
 
 returns : tie.Need-returns Inv-loop μ-loop
 returns c =
@@ -44,8 +50,12 @@ returns c =
     let more = test .loop-test .taken in
     let empty : bucketIn (a .scratch .now) (a .o) (l .k) .at ≡ 0 = sym (c .before .offset-at .ensures) ∙ c .if1 .taken in
     record {
-      first = λ below. found (l .inv) more empty;
-      no-match = λ below. no-match (l .inv) more empty;
+      first = λ below. first-empty (l .inv) more empty;
+      no-match = λ below d.
+          subst
+          (λ (t : Bool).
+          hasMatch (bucketIn (a .scratch .now) (a .o)) (a .h) (duplicate t (a .bytes .now) (a .ends .now) (a .offset)) (probeSequence (a .m) (a .m) (firstProbe (a .h) (a .m))) ≡ false)
+          d (none-matches (l .inv) more empty);
     }
 
 returns-2 : tie.Need-returns-2 Inv-loop μ-loop
@@ -62,9 +72,11 @@ loop-again c =
     let b = bucketIn (a .scratch .now) (a .o) in
     let v = namesEqual (a .bytes .now) (a .ends .now) (a .offset) in
     let is = r .offset-at .ensures in
-    let other : b (l .k) .hash ≡ a .h → a .distinct ≡ true → v (b (l .k) .at) ≡ false = λ e d.
+    let other : b (l .k) .hash ≡ a .h → (a .distinct && v (b (l .k) .at)) ≡ false = λ e.
     ⊎-elim
-    (λ w. ⊎-elim (λ u. subst (λ (x : ℕ). v x ≡ false) is (u .1 .ensures (not-false _ (u .2 .left)))) (λ u. absurd (false-not-true (sym (u .left) ∙ d))) (w .1 .came))
+    (λ w. ⊎-elim
+    (λ u. ap (λ (t : Bool). a .distinct && t) (subst (λ (x : ℕ). v x ≡ false) is (u .1 .ensures (not-false _ (u .2 .left)))) ∙ and-false (a .distinct))
+    (λ u. ap (λ (t : Bool). t && v (b (l .k) .at)) (u .left)) (w .1 .came))
     (λ w. absurd (w .left (hashed .hash-at .ensures ∙ e)))
     (c .before .if2 .came) in
     let full : b (l .k) .at ≡ 0 → ⊥ = λ z. hashed .before .if1 .left (is ∙ z) in

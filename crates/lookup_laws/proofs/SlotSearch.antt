@@ -8,21 +8,20 @@ use mathlib.Core.Path.{_≡_, refl, sym, ap, _∙_}
 use mathlib.Core.Bool.{Bool, false, true, cond, _&&_, and-false}
 use mathlib.Core.List.{List, [], _∷_, _++_, map}
 use mathlib.Core.Logic.{inr}
-use borrow.Author.Tests.{eq-eqb, ne-eqb}
+use borrow.Author.Tests.{eq-eqb, ne-eqb, eqb-false}
 use lib.Dec.{eqb}
 use lib.ListN.{length, getD, set}
-use Rattle.image.specs.Tables.{Bucket, empty, atOf, start, next, probeSequence, firstEmpty, insert, filled}
+use Rattle.image.specs.Tables.{Bucket, empty, atOf, start, next, probeSequence, firstEmpty, insert, filled, Filled}
 use Rattle.image.proofs.AllOfList.{All}
 use Rattle.image.proofs.Buckets.{length-probeSequence, probeSequence-step, firstEmpty-ext}
 use Rattle.image.proofs.Sizes.{filled-more}
 use Rattle.reader.specs.Lookup.{Probe, pass, ends}
 use Rattle.lookup_laws.specs.steps.HasMatch.{hasMatch}
 use Rattle.lookup_laws.proofs.Scan.{used}
 use Rattle.lookup_laws.proofs.ProbeSequence.{view}
 use Rattle.lookup_laws.proofs.SearchFilling.{EndsAtEmpty}
 use Rattle.lookup_laws.proofs.TableContents.{OtherStart, NotEmpty, filled-used}
 use Rattle.lookup_laws.proofs.Matching.{hasMatch-equal, no-match}
-use Rattle.batch.specs.steps.Slots.{FilledWith}
 
 -- ---- the search, slot by slot
 
@@ -107,10 +106,33 @@ sees = record {
   takes = λ b e. rw (ne-eqb (b .at) 0 e) tt;
 }
 
-used-all : (b : ℕ → Bucket) (ks : List ℕ) → All (λ (k : ℕ). NotEmpty (b k)) ks → used (map (λ (k : ℕ). looked (b k)) ks) ≡ length ks
-unfolding looked
-used-all b [] all = refl
-used-all b (k ∷ ks) all = rw (ne-eqb (b k .at) 0 (all .0)) (ap suc (used-all b ks (all .1)))
+module _ (b : ℕ → Bucket) where
+  abbrev usedIn : List ℕ → ℕ
+  usedIn ks = used (map (λ (k : ℕ). looked (b k)) ks)
+
+  used-most : (ks : List ℕ) → usedIn ks ≤ length ks
+  unfolding looked
+  used-most [] = omega arith
+  used-most (k ∷ ks) = go (eqb (b k .at) 0) (used-most ks)
+    where
+      go : (t : Bool) → usedIn ks ≤ length ks → used (cond t ends pass ∷ map (λ (k : ℕ). looked (b k)) ks) ≤ suc (length ks)
+      go true l = omega (arith, l)
+      go false l = omega (arith, l)
+
+  used-all : (ks : List ℕ) → All (λ (k : ℕ). NotEmpty (b k)) ks → usedIn ks ≡ length ks
+  unfolding looked
+  used-all [] all = refl
+  used-all (k ∷ ks) all = rw (ne-eqb (b k .at) 0 (all .0)) (ap suc (used-all ks (all .1)))
+
+  all-used : (ks : List ℕ) → usedIn ks ≡ length ks → All (λ (k : ℕ). NotEmpty (b k)) ks
+  unfolding looked
+  all-used [] e = tt
+  all-used (k ∷ ks) e = go (eqb (b k .at) 0) refl (all-used ks) e
+    where
+      go : (t : Bool) → eqb (b k .at) 0 ≡ t → (usedIn ks ≡ length ks → All (λ (k : ℕ). NotEmpty (b k)) ks)
+          → used (cond t ends pass ∷ map (λ (k : ℕ). looked (b k)) ks) ≡ suc (length ks) → NotEmpty (b k) × All (λ (k : ℕ). NotEmpty (b k)) ks
+      go true p rest e = absurd (omega (arith, e, used-most ks))
+      go false p rest e = (eqb-false (b k .at) 0 p, rest (omega (arith, e)))
 
 all-equal : (b d : ℕ → Bucket) (n : ℕ) → ((k : ℕ) → k < n → b k ≡ d k) → (m k : ℕ) → k < n
     → All (λ (j : ℕ). NotEmpty (b j)) (probeSequence n m k) → All (λ (j : ℕ). NotEmpty (d j)) (probeSequence n m k)
@@ -119,28 +141,57 @@ all-equal b d n equal zero k l all = tt
 all-equal b d n equal (suc m) k l all =
     ((λ z. all .0 (ap (λ (x : Bucket). x .at) (equal k l) ∙ z)), all-equal b d n equal m (next n k) (mod-lt (k + 1) (omega arith)) (all .1))
 
-module _ {m : ℕ} {b : ℕ → Bucket} {bs : List Bucket} (slots : FilledWith m b bs) (some : 0 < m) (h : ℕ) where
+-- when a slot is empty
+module _ {m : ℕ} {b : ℕ → Bucket} {bs : List Bucket} (slots : Filled m b bs) (fit : length bs ≤ m) (full : All NotEmpty bs) (h : ℕ) where
   abbrev table : ℕ → Bucket
   table k = getD (filled m bs) k empty
 
   abbrev ks : List ℕ
   ks = probeSequence m m (start h m)
 
+  counted : 0 < m → usedIn table ks ≡ length bs
+  unfolding view looked
+  counted some =
+      let apart : OtherStart looked m (start h m) = λ x taken. inr (ap (λ (t : Bool). cond t ends pass) (ne-eqb (x .at) 0 taken)) in
+      filled-used looked sees m (start h m) (mod-lt (h / 256) some) apart bs fit full
+
+  -- none is: there is an entry for each
+  pub none-empty : All (λ (j : ℕ). NotEmpty (b j)) (probeSequence m m (start h m)) → m ≤ length bs
+  none-empty all =
+      elim (ℕ-discrete m 0) [
+        | yes z ↦ omega (arith, z)
+        | no z ↦ by (omega (arith, z))
+      ]
+    where
+      by : 0 < m → m ≤ length bs
+      by some =
+          omega (arith, counted some, used-all table ks (all-equal b table m (slots .each) m (start h m) (mod-lt (h / 256) some) all), length-probeSequence m m (start h m))
+
+  -- one is: there are fewer entries than slots
+  taken : length bs ≡ m → Dec (m ≡ 0) → All (λ (j : ℕ). NotEmpty (b j)) ks
+  unfolding probeSequence
+  taken e (yes z) = rw z tt
+  taken e (no z) =
+      let some : 0 < m = omega (arith, z) in
+      all-equal table b m (λ k l. sym (slots .each k l)) m (start h m) (mod-lt (h / 256) some)
+      (all-used table ks (omega (arith, e, counted some, length-probeSequence m m (start h m))))
+
+  pub some-empty : (All (λ (j : ℕ). NotEmpty (b j)) (probeSequence m m (start h m)) → ⊥) → length bs < m
+  some-empty empties =
+      elim (ℕ-discrete (length bs) m) [
+        | yes e ↦ absurd (empties (taken e (ℕ-discrete m 0)))
+        | no e ↦ omega (arith, e, fit)
+      ]
+
+-- what a search tells, and one entry more
+module _ {m : ℕ} {b : ℕ → Bucket} {bs : List Bucket} (slots : Filled m b bs) (some : 0 < m) (h : ℕ) where
   inside : start h m < m
   inside = mod-lt (h / 256) some
-
-  -- no slot is empty: there is an entry for each
-  pub none-empty : length bs ≤ m → All NotEmpty bs → All (λ (j : ℕ). NotEmpty (b j)) (probeSequence m m (start h m)) → m ≤ length bs
-  unfolding view looked
-  none-empty fit full all =
-      let apart : OtherStart looked m (start h m) = λ x taken. inr (ap (λ (t : Bool). cond t ends pass) (ne-eqb (x .at) 0 taken)) in
-      let counted = filled-used looked sees m (start h m) inside apart bs fit full in
-      omega (arith, counted, used-all table ks (all-equal b table m (slots .each) m (start h m) inside all), length-probeSequence m m (start h m))
 
   -- no slot of the search matches: of the entries of this hash none is equal
   pub none-equal : (v : ℕ → Bool) → length bs ≤ m → All NotEmpty bs → hasMatch b h v (probeSequence m m (start h m)) ≡ false
       → All (λ (x : Bucket). x .hash ≡ h → v (x .at) ≡ false) bs
-  none-equal v fit full none = no-match h v m bs some fit full (sym (hasMatch-equal b table h v m (slots .each) m (start h m) inside) ∙ none)
+  none-equal v fit full none = no-match h v m bs some fit full (sym (hasMatch-equal b (λ (k : ℕ). getD (filled m bs) k empty) h v m (slots .each) m (start h m) inside) ∙ none)
 
   -- one entry more, in the first empty slot
   pub filled-next : (x : Bucket) → x .hash ≡ h → (k : ℕ) → k ≡ firstEmpty (λ (j : ℕ). b j .at) (probeSequence m m (start h m))
