@@ -56,6 +56,14 @@ static void built(size_t words, uint32_t repeats) {
     kept = a.accepted == NAMES ? a.size : 0;
 }
 static void build_6(void) { built(6 * NAMES, CQDB_REPEATS_OFF); }
+/* The last name is the first one: it is refused, and the names are put one by one. */
+static void build_refused(void) {
+    uint8_t last[9];
+    memcpy(last, names + 9 * (NAMES - 1), 9);
+    memcpy(names + 9 * (NAMES - 1), names, 9);
+    kept = cqdb_build(CQDB_TWOWAY, CQDB_REPEATS_OFF, buf, sizeof buf, names, sizeof names, ends, ids, NAMES, refusals, NAMES, work, 6 * NAMES).accepted;
+    memcpy(names + 9 * (NAMES - 1), last, 9);
+}
 static void build_3(void) { built(3 * NAMES, CQDB_REPEATS_OFF); }
 static void build_on(void) { built(0, CQDB_REPEATS_ON); }
 static void build_off(void) { built(0, CQDB_REPEATS_OFF); }
@@ -81,7 +89,7 @@ static const struct {
              {"size_hint", size_hint}, {"home", home}, {"canonical", canonical}, {"one_to_one", one_to_one}, {"average", average}, {"lengths", lengths}, {"page", print}, {"page_part", page_part}, {"grown", grown},
              {"build_needs", build_needs},
              {"round", round_}, {"name_round", name_round}, {"begin", begin}, {"put, repeats on", put_on}, {"put, repeats off", put_off},
-             {"index", index_}, {"put_indexed", put_indexed}, {"index_words", index_words}, {"close", close_}, {"build, 6 words for each name", build_6}, {"build, 3 words for each name", build_3},
+             {"index", index_}, {"put_indexed", put_indexed}, {"index_words", index_words}, {"close", close_}, {"build, 6 words for each name", build_refused}, {"build, 3 words for each name", build_3},
              {"build, no words, repeats on", build_on}, {"build, no words, repeats off", build_off}, {"load", load}, {"name_on", name_on},
              {"next_change", next_change}, {"moved", moved}, {"bundle_append", bundle_append}, {"bundle_open", bundle_open}, {"bundle_count", bundle_count}, {"sheet_write", sheet_write},
              {"sheet_read", sheet_read}, {"references_first", references_first}};
