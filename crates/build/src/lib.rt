@@ -11,6 +11,7 @@ use bulk_tables::hashes::hash_all;
 use capacity::has_capacity;
 use hashes::keep_accepted;
 use hashes::save_hashes;
+use image::HEAD_SIZE;
 use image::Mode;
 use image::scratch::clear;
 use packed::invalid_ends;
@@ -270,7 +271,7 @@ pub fn build(
     if refusals.len() < n {
         return Built::Refused(15);
     }
-    if buf.len() < 2072 {
+    if buf.len() < HEAD_SIZE {
         return Built::Refused(1);
     }
     build_list(

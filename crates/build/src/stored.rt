@@ -2,6 +2,7 @@
 // array, and head, rows and tables around them.
 ghost use Rattle.build.specs.steps.Stores.{StoreListPre, StoreListPost, WriteListPre, WriteListPost};
 use super::needs::back_of;
+use image::HEAD_SIZE;
 use image::Mode;
 use serialize::insert::store_back;
 use writer::entry::store;
@@ -22,7 +23,7 @@ pub(crate) fn store_list(
         (now (buf .exit))
         ⌝ }
 {
-    let mut o = 2072;
+    let mut o = HEAD_SIZE;
     let mut start = 0;
     let mut i = 0;
     while i < ends.len() {

@@ -9,6 +9,7 @@ ghost use Rattle.jhash.specs.NameHash.{hashOf};
 ghost use Rattle.index.specs.Promise.{PutIndexed, Indexed};
 ghost use Rattle.index.specs.steps.Decided.{FitsBuffer, Decided};
 ghost use Rattle.index.specs.steps.Fill.{FillPre, SlotsFilled};
+use image::HEAD_SIZE;
 use image::entries::name_at;
 use image::entries::whole_length;
 use image::scratch::clear;
@@ -155,7 +156,7 @@ fn fill(buf: &[u8], end: usize, entries: u32, slots: &mut [u32])
     requires { ⌜ FillPre (now buf) end entries (now slots) ⌝ }
     ensures { λ _. ⌜ SlotsFilled (now (buf .entry)) end entries (now (slots .entry)) (now (slots .exit)) ⌝ }
 {
-    let mut at = 2072;
+    let mut at = HEAD_SIZE;
     let mut left = entries;
     while left > 0 {
         let n = whole_length(buf, at, end);
