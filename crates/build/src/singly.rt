@@ -14,13 +14,25 @@ use writer::CQDBWriter;
 use writer::PutAnswer;
 use writer::Repeats;
 
+// With repeats on an index pays up to this many names: a put by it looks at one count and not at all 256. For more
+// names its slots exceed the caches, and a put waits for each.
+const INDEXED_REPEATS: usize = 131072;
+
 // How many words of the scratch memory are the index of n names: two slots of two words a name, or what there is. 0
-// where there is less than a slot a name, and with repeats on, where no put looks for its name.
+// where there is less than a slot a name, and with repeats on, where no put looks for its name, unless the index pays.
 pub(crate) fn index_words(repeats: Repeats, n: usize, words: usize) -> usize
     ensures { λ r. ⌜ IndexWords n words r ⌝ }
 {
     match repeats {
-        Repeats::On => 0,
+        Repeats::On => {
+            if INDEXED_REPEATS < n {
+                return 0;
+            }
+            if words / 4 < n {
+                return 0;
+            }
+            4 * n
+        }
         Repeats::Off => {
             if words / 2 < n {
                 return 0;
