@@ -10,6 +10,7 @@ use super::head::wide;
 use super::insert::hash_at;
 use super::insert::store_back;
 use super::insert::store_pair;
+use image::HEAD_SIZE;
 use image::Mode;
 
 // Where each table begins: the first at `end`, each behind the one before it.
@@ -103,7 +104,7 @@ pub(super) fn partition_entries(
         (now (buf .entry))
         ⌝ }
 {
-    let mut at = 2072;
+    let mut at = HEAD_SIZE;
     let mut i = 0;
     while i < entries {
         let n = image::entries::whole_length(&*buf, at, end);

@@ -14,6 +14,16 @@ use borrow.Author.Needs.{needs}
 use Rattle.writer.proofs.append.Statement.{statement}
 use Rattle.writer.proofs.append.Tie as tie
 
+-- ---- places in the code, each told from a later one
+
+abbrev start : tie.After-name-hash → tie.Start
+start c = c .before .before .before
+
+abbrev hashing : tie.After-raise → tie.After-name-hash
+hashing c = c .before .before .before .before .before
+
+-- ---- what the caller knows
+
 abbrev state : tie.Start → State
 state s = stateWith (s .args .w) (s .args .counts .now) (s .args .buf .now)
 
@@ -28,16 +38,18 @@ short s =
       | no p ↦ absurd (false-not-true (sym (went s .has-capacity) ∙ long-name (s .args .w) (s .args .name .now) (s .args .id) (omega arith)))
     ]
 
+-- ---- the needs
+
 returns : tie.Need-returns
 returns c =
-    let s = c .before .before .before .before .before in
+    let s = start (c .before .before) in
     let hashed = c .before .before .name-hash in
     absurd (omega (arith, short s, result-refused (s .args .name .now) 0 (hashed .result) (hashed .ensures) (c .enum-told .given .1)))
 
 raise-requires : tie.Need-raise-requires
 unfolding writerAfter
 raise-requires c κs =
-    let s = c .before .before .before .before .before .before .before in
+    let s = start (c .before .before .before .before) in
     let a = s .args in
     count-small (a .w) (a .counts .now) (a .buf .now) (length (a .name .now)) (a .id) (went s .fitted) (went s .has-capacity)
     (c .before .before .h .given .0 .0)
@@ -45,7 +57,7 @@ raise-requires c κs =
 store-requires : tie.Need-store-requires
 unfolding writerAfter
 store-requires c κs =
-    let s = c .before .before .before .before .before .before .before .before .before in
+    let s = start (hashing (c .before)) in
     let a = s .args in
     record {
       inside = entry-fits (a .w) (a .counts .now) (a .buf .now) (length (a .name .now)) (a .id) (went s .fitted) (went s .has-capacity);
@@ -55,17 +67,18 @@ store-requires c κs =
 after-requires : tie.Need-after-requires
 unfolding writerAfter
 after-requires c κs =
-    let s = c .before .before .before .before .before .before .before .before .before .before .before .before in
+    let s = start (hashing (c .before .before .before .before)) in
     let a = s .args in
     size-small (a .w) (a .counts .now) (a .buf .now) (length (a .name .now)) (a .id) (went s .fitted) (went s .has-capacity)
 
 returns-2 : tie.Need-returns-2
 returns-2 c =
-    let read = c .before .before .before .before .before .before .before .before in
-    let a = read .before .before .before .before .before .args in
-    let hashed = read .before .before .name-hash in
+    let r = c .before .before .before .before .before in
+    let read = r .before .before .before in
+    let a = start (hashing r) .args in
+    let hashed = hashing r .name-hash in
     let is-hash = result-name-hash (a .name .now) (hashed .result) (read .h .given .0 .0) (hashed .ensures) (read .h .given .1) .1 in
-    let raised = c .before .before .before .before .before .raise in
+    let raised = r .raise in
     let stored = c .before .before .before .store in
     appended-parts (a .w) (c .after .result) (a .counts .now) (raised .last .0) (a .buf .now) (stored .last .0) (a .name .now) (a .id)
     (read .h .given .0 .0) is-hash (c .after .ensures) (raised .ensures) (stored .ensures)
