@@ -12,6 +12,7 @@ use capacity::has_capacity;
 use hashes::keep_accepted;
 use hashes::save_hashes;
 use image::HEAD_SIZE;
+use image::HEAD_SIZE_64;
 use image::Mode;
 use image::scratch::clear;
 use packed::invalid_ends;
@@ -79,7 +80,7 @@ fn build_singly(
         mode,
         repeats,
         length: buf.len() as u64,
-        end: 2072,
+        end: HEAD_SIZE_64,
         entries: 0,
         back: 0,
     };

@@ -4,6 +4,7 @@ ghost use mathlib.Core.Path.{_≡_};
 ghost use Prim.Native.Nat.{_+_, _*_, _≤_, _<_, _^_, min, max};
 ghost use lib.ListN.{length};
 ghost use Rattle.build.specs.Needs.{atMost, wordsEach, idsBack, bytesNeeded, needed};
+use image::HEAD_SIZE_64;
 use image::Mode;
 
 // The words of scratch memory for each name; `wordsEach` is the same number.
@@ -82,7 +83,7 @@ fn bytes_for(mode: Mode, size: u64, ids: &[u32]) -> u64
 {
     let back = serialize::size::back_in(mode, back_of(ids));
     let entries = bytes_each(ids.len() as u64);
-    sum(sum(2072 + 4 * back, entries), size)
+    sum(sum(HEAD_SIZE_64 + 4 * back, entries), size)
 }
 
 // What a list of names, which have `size` bytes together, with these ids needs.

@@ -3,6 +3,7 @@
 ghost use Rattle.build.specs.steps.Stores.{StoreListPre, StoreListPost, WriteListPre, WriteListPost};
 use super::needs::back_of;
 use image::HEAD_SIZE;
+use image::HEAD_SIZE_64;
 use image::Mode;
 use serialize::insert::store_back;
 use writer::entry::store;
@@ -56,7 +57,7 @@ pub(crate) fn write_list(
         ⌝ }
 {
     let n = ends.len();
-    let end = 2072 + ends[n - 1] + 9 * (n as u64);
+    let end = HEAD_SIZE_64 + ends[n - 1] + 9 * (n as u64);
     let back = serialize::size::back_in(mode, back_of(&ids[..n]));
     let at = end + 16 * (n as u64);
     let size = at + 4 * back;

@@ -5,6 +5,7 @@ ghost use Prim.Native.Nat.{_<_};
 ghost use lib.ListN.{length};
 ghost use Rattle.bulk_tables.specs.steps.BulkTables.{entryOffset, namesEqual};
 ghost use Rattle.bulk_tables.specs.steps.Contracts.{EntryOffsets, EntryIndex, PackedNames};
+use image::HEAD_SIZE_64;
 use image::equality::same;
 use packed::name_of;
 
@@ -14,9 +15,9 @@ fn entry_offset(ends: &[u64], i: usize) -> u64
     ensures { λ r. ⌜ r ≡ entryOffset (now (ends .entry)) i ⌝ }
 {
     if i == 0 {
-        return 2072;
+        return HEAD_SIZE_64;
     }
-    2072 + ends[i - 1] + 9 * (i as u64)
+    HEAD_SIZE_64 + ends[i - 1] + 9 * (i as u64)
 }
 
 // The index of the last entry whose offset is at most this one, by binary search. The caller compares the offsets, so

@@ -10,6 +10,8 @@ use super::layout::hash_at;
 use super::layout::offset_at;
 use super::layout::pairs_at;
 use super::layout::store_pair;
+use image::probe::next;
+use image::probe::start;
 
 // The first empty bucket for hash h among the m buckets from word o on. m if names must be distinct and a duplicate was
 // found, or if no bucket is empty.
@@ -28,7 +30,7 @@ fn probe(
         Probed distinct (now (bytes .entry)) (now (ends .entry)) (now (scratch .entry)) o m h offset r
         ⌝ }
 {
-    let mut k = (h / 256) as usize % m;
+    let mut k = start(h, m);
     let mut left = m;
     while 0 < left {
         let a = offset_at(scratch, o, k);
@@ -40,7 +42,7 @@ fn probe(
                 return m;
             }
         }
-        k = if k + 1 < m { k + 1 } else { 0 };
+        k = next(k, m);
         left -= 1;
     }
     m

@@ -3,6 +3,7 @@ ghost use Rattle.bulk_tables.specs.steps.Contracts.{PrefixSumsPre, Prefi
 ghost use Rattle.bulk_tables.specs.steps.Contracts.{ScatterPre, Scattered, PartitionPre, Partitioned};
 use super::layout::pairs_at;
 use super::layout::store_pair;
+use image::HEAD_SIZE_64;
 
 // The prefix sums of the counts: the first place of each table.
 pub(super) fn prefix_sums(counts: &[u32; 256], firsts: &mut [u32; 256])
@@ -47,7 +48,7 @@ pub(super) fn partition_pairs(
     let mut from = 0;
     let mut i = 0;
     while i < n {
-        let offset = 2072 + from + 9 * (i as u64);
+        let offset = HEAD_SIZE_64 + from + 9 * (i as u64);
         scatter_pair(&mut *scratch, &mut *places, n, hashes[i], offset as u32);
         from = ends[i];
         i += 1;

@@ -4,8 +4,8 @@ ghost use Rattle.bundle.specs.Append.{wholeFile, unfit, appendRefusal, a
 ghost use Rattle.bundle.specs.Cases.{appendedOf};
 use super::Appended;
 use super::Counted;
-use super::HEAD_SIZE;
 use super::walking::count;
+use image::HEAD_SIZE;
 use image::store::store_bytes;
 use jhash::word::word;
 
@@ -20,7 +20,7 @@ fn whole(file: &[u8]) -> bool
     }
 }
 
-// Has a new image under 2,072 bytes, or another length than its size word says?
+// Is a new image under 2,072 bytes, or not as long as its size word says?
 fn unfit(image: &[u8]) -> bool
     ensures { λ r. ⌜ r ≡ unfit (now (image .entry)) ⌝ }
 {

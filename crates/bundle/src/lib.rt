@@ -10,9 +10,6 @@ pub use walking::open;
 pub use walking::part;
 pub use walking::place;
 
-// An image's head is 2,072 bytes.
-const HEAD_SIZE: usize = 2072;
-
 // Where the image at a position stands, its first byte's place and how many bytes it has; or the refusal's number.
 pub enum Placed {
     Image { start: usize, size: usize },

@@ -8,9 +8,9 @@ ghost use Rattle.bundle.specs.Opening.{returnedPart, openingAt};
 ghost use Rattle.bundle.specs.Cases.{placedOf, openedAtOf, countedOf};
 ghost use Rattle.bundle.specs.steps.Contracts.{SizeRead};
 use super::Counted;
-use super::HEAD_SIZE;
 use super::OpenedAt;
 use super::Placed;
+use image::HEAD_SIZE;
 use jhash::word::word;
 use reader::Opened;
 

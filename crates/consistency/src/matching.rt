@@ -13,8 +13,8 @@ use reader::Probe;
 use reader::lookup::probe_bucket;
 use reader::lookup::table_of;
 
-// Has the search for the name in the table of n buckets at `at` a match with this id? It ends at an empty bucket, at a
-// broken entry, and after n buckets.
+// Does the search for the name in the table of n buckets at `at` meet an entry with this name and id? It ends at an
+// empty bucket, at a broken entry, and after n buckets.
 fn has_match_in(image: &[u8], name: &[u8], h: u32, at: u32, n: u32, id: u32) -> bool
     requires { ⌜ TableIn (now image) at n ⌝ }
     ensures { λ r. ⌜ r ≡ anyMatch id (matchesIn (now (image .entry)) (now (name .entry)) h at n) ⌝ }
@@ -51,7 +51,7 @@ fn has_match_hashed(image: &[u8], name: &[u8], h: u32, id: u32) -> bool
     has_match_in(image, name, h, table.at, table.n, id)
 }
 
-// Has the search for the name a match with this id?
+// Does the search for the name meet an entry with this name and id?
 pub(super) fn has_match(image: &[u8], name: &[u8], id: u32) -> bool
     ensures { λ r. ⌜ r ≡ anyMatch id (matchesOf (now (image .entry)) (now (name .entry))) ⌝ }
 {

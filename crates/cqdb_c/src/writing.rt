@@ -1,5 +1,6 @@
-// Writing, for C: the record goes in and comes back by value, the 256 table counts and the buffer are lent. A record
-// whose mode or repeats mode is neither 0 nor 1 is none of 01's and fits no buffer.
+// Writing, for C. Put, close and grown take and return the record by value, begin is lent it in place; the 256 table
+// counts and the buffer are lent. A record whose mode or repeats mode is neither 0 nor 1 is none of 01's and fits no
+// buffer.
 use writer::Begun;
 use writer::Closed;
 use writer::c_record::Record;

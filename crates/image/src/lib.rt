@@ -22,6 +22,12 @@ pub mod zero; // zero.rt: zero bytes in a name
 // The head is 2,072 bytes.
 pub const HEAD_SIZE: usize = 2072;
 
+// The same in 64 bits, as the writer record has its numbers.
+pub const HEAD_SIZE_64: u64 = HEAD_SIZE as u64;
+
+// The word by which a reader tells the byte order.
+pub const BYTEORDER_CHECK: u32 = 0x62445371;
+
 // The writer's mode (`Flag` of cqdb-rs, NONE and ONEWAY): a one-way image has no back array.
 pub enum Mode {
     Twoway,

@@ -10,6 +10,7 @@ ghost use Rattle.index.specs.Promise.{PutIndexed, Indexed};
 ghost use Rattle.index.specs.steps.Decided.{FitsBuffer, Decided};
 ghost use Rattle.index.specs.steps.Fill.{FillPre, SlotsFilled};
 use image::HEAD_SIZE;
+use image::HEAD_SIZE_64;
 use image::entries::name_at;
 use image::entries::whole_length;
 use image::scratch::clear;
@@ -24,14 +25,14 @@ use writer::record::too_large;
 
 mod slots; // slots.rt: slots probed and stored
 
-// Is the record of this buffer's length, and its end in it?
+// Does the record have this buffer's length, and an end from 2,072 to that length? Counts are not compared.
 fn fits_buffer(w: CQDBWriter, buf: &[u8]) -> bool
     ensures { λ r. ⌜ FitsBuffer w (now (buf .entry)) r ⌝ }
 {
     if w.length != buf.len() as u64 {
         return false;
     }
-    if w.end < 2072 {
+    if w.end < HEAD_SIZE_64 {
         return false;
     }
     if w.end > w.length {

@@ -5,6 +5,8 @@ ghost use Prim.Native.Nat.{ℕ, _<_};
 ghost use Rattle.writer.specs.State.{refusesRepeats};
 ghost use Rattle.index.specs.Index.{slotCount, slotAt, slotStored};
 ghost use Rattle.index.specs.steps.Probe.{duplicateAt, probeSlots};
+use image::probe::next;
+use image::probe::start;
 use reader::Probe;
 use reader::lookup::probe_entry;
 use writer::Repeats;
@@ -51,7 +53,7 @@ pub(super) fn probe(repeats: Repeats, bytes: &[u8], slots: &[u32], h: u32, name:
     if m == 0 {
         return 0;
     }
-    let mut k = (h / 256) as usize % m;
+    let mut k = start(h, m);
     let mut left = m;
     while 0 < left {
         let at = offset_at(slots, k);
@@ -63,7 +65,7 @@ pub(super) fn probe(repeats: Repeats, bytes: &[u8], slots: &[u32], h: u32, name:
                 return m + 1;
             }
         }
-        k = if k + 1 < m { k + 1 } else { 0 };
+        k = next(k, m);
         left -= 1;
     }
     m
@@ -78,13 +80,13 @@ pub(super) fn first_empty(slots: &[u32], h: u32) -> usize
     if m == 0 {
         return 0;
     }
-    let mut k = (h / 256) as usize % m;
+    let mut k = start(h, m);
     let mut left = m;
     while 0 < left {
         if offset_at(slots, k) == 0 {
             return k;
         }
-        k = if k + 1 < m { k + 1 } else { 0 };
+        k = next(k, m);
         left -= 1;
     }
     m

@@ -1,5 +1,6 @@
 // The index for C: the 256 table counts, the buffer and the slots are lent. A record whose mode or repeats mode is
-// neither 0 nor 1 is none of 01's and fits no buffer.
+// neither 0 nor 1 is none of 01's and fits no buffer. It is compiled by itself, so that hash, probe and store have one
+// caller each and are inlined (docs/DECISIONS.md, "Why several export crates?").
 ghost use mathlib.Core.Path.{_≡_};
 ghost use lib.ListN.{length};
 ghost use Rattle.writer.specs.Put.{entryOf};

@@ -94,8 +94,9 @@ fn minus(x: u32, y: u32) -> u32
     std::num::wrapping_sub_u32(x, y)
 }
 
-// One round of mixing; the words change their names for the next round. The rotation comes first and the sum last, and
-// the compiler keeps that order: the next round waits for the rotated word and the difference, not for the sum.
+// One round of mixing. It returns the words renamed, so that the next round is again on (a, b, c): a is the old b, b is
+// c + b, c is the mixed word. The rotation comes first and the sum last, and the compiler keeps that order: the next
+// round waits for the rotated word and the difference, not for the sum.
 fn mix_round(w: Words, k: u32) -> Words
     requires { ⌜ k < 32 ⌝ }
     ensures { λ r. ⌜ r ≡ mixRound w k ⌝ }
@@ -125,7 +126,7 @@ fn final_word(w: Words, k: u32) -> u32
     minus(w.c ^ w.b, rotate_left(w.b, k))
 }
 
-// One finishing step; the words change their names for the next step.
+// One finishing step. It returns the words renamed, so that the next step is again on (c, b).
 fn final_step(w: Words, k: u32) -> Words
     requires { ⌜ k < 32 ⌝ }
     ensures { λ r. ⌜ r ≡ finalStep w k ⌝ }

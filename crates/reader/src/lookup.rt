@@ -55,15 +55,15 @@ pub fn probe_bucket(image: &[u8], name: &[u8], h: u32, at: usize) -> Probe
     probe_entry(image, name, entry)
 }
 
-// The smaller of two numbers: when it is 0 and the first is not, the second is.
+// The smaller of two numbers. Promised is what `first_zero` needs: if it is 0 and the first is not, the second is.
 fn smaller(x: u32, y: u32) -> u32
     ensures { λ r. ⌜ (0 < x → r ≡ 0 → y ≡ 0) ⌝ }
 {
     if x < y { x } else { y }
 }
 
-// Which of three numbers is the first that is 0, counted from 1; 0 where none is. One branch, on the smallest, decides
-// whether any is 0.
+// Which of three numbers is the first that is 0, counted from 1; an answer of 0 promises nothing. One branch, on the
+// smallest, decides whether any is 0.
 fn first_zero(x: u32, y: u32, z: u32) -> u32
     ensures { λ r. ⌜ FirstZero x y z r ⌝ }
 {

@@ -9,6 +9,7 @@ ghost use Rattle.reader.specs.Open.{hasLetters, someLeaves, opening};
 ghost use Rattle.reader.specs.Cases.{openedOf};
 ghost use Rattle.reader.specs.steps.Tables.{SlacksFit, TableAdded, AllTables, SomeLeavesPre};
 use super::Opened;
+use image::BYTEORDER_CHECK;
 use image::HEAD_SIZE;
 use jhash::word::word;
 
@@ -19,8 +20,6 @@ struct Tables {
 }
 
 const NUM_TABLES: usize = 256;
-
-const BYTEORDER_CHECK: u32 = 0x62445371;
 
 // Does the image begin with the letters CQDB?
 fn has_letters(image: &[u8]) -> bool

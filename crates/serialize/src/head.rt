@@ -8,12 +8,10 @@ ghost use lib.Dec.{eqb};
 ghost use Rattle.image.specs.Image.{headBytes};
 ghost use Rattle.serialize.specs.steps.Contracts.{CountRead, ClearPre};
 ghost use Rattle.serialize.specs.steps.Written.{rowsFrom};
+use image::BYTEORDER_CHECK;
 
 // The letters CQDB as a word.
 const CHUNK_ID: u32 = 0x42445143;
-
-// The word by which a reader tells the byte order.
-const BYTEORDER_CHECK: u32 = 0x62445371;
 
 // The first 24 bytes: letters, size, flag word, byte order, back size, back offset.
 pub(super) fn write_head(buf: &mut [u8], size: u32, flag: u32, back: u32, back_offset: u32)

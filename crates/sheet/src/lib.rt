@@ -42,7 +42,7 @@ pub enum ReadAnswer {
     LeftOver,
 }
 
-// What writing answers: the length, or that a list or the buffer does not do (21).
+// What writing answers: the length, or that a list has over 65,535 ids or the buffer is too short (21).
 pub enum Written {
     Length(usize),
     NoRoom,

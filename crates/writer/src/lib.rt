@@ -6,6 +6,8 @@ ghost use Rattle.writer.specs.Put.{putRefusal, appended, afterPut, entry
 ghost use Rattle.writer.specs.Close.{closeRefusal, closing, closedOf, afterClose};
 ghost use Rattle.writer.specs.Grown.{grownRefusal, grownWriter};
 ghost use Rattle.writer.specs.steps.Closing.{WriteClosedPre, WriteClosedPost};
+use image::HEAD_SIZE;
+use image::HEAD_SIZE_64;
 use image::Mode;
 
 pub mod c_record; // c_record.rt: the writer record as C has it
@@ -61,7 +63,7 @@ pub fn begin(mode: Mode, repeats: Repeats, counts: &mut [u32; 256], buf: &[u8]) 
     ensures answer { λ r. ⌜ begunOf r ≡ beginning mode repeats (length (now (buf .entry))) ⌝ }
     ensures fresh { λ r. ⌜ now (counts .exit) ≡ countsBegun (length (now (buf .entry))) (now (counts .entry)) ⌝ }
 {
-    if buf.len() < 2072 {
+    if buf.len() < HEAD_SIZE {
         return Begun::Refused(1);
     }
     *counts = [0; 256];
@@ -69,7 +71,7 @@ pub fn begin(mode: Mode, repeats: Repeats, counts: &mut [u32; 256], buf: &[u8]) 
         mode,
         repeats,
         length: buf.len() as u64,
-        end: 2072,
+        end: HEAD_SIZE_64,
         entries: 0,
         back: 0,
     })

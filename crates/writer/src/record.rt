@@ -5,6 +5,7 @@ ghost use Rattle.writer.specs.State.{stateWith, fits, tooLarge, finished
 ghost use Rattle.writer.specs.Put.{raised, writerWith};
 ghost use Rattle.writer.specs.steps.Storing.{SizeWithPre};
 use super::CQDBWriter;
+use image::HEAD_SIZE_64;
 use image::Mode;
 
 // Whether the record fits the buffer.
@@ -14,7 +15,7 @@ pub(super) fn fits(w: CQDBWriter, counts: &[u32; 256], buf: &[u8]) -> bool
     if w.length != buf.len() as u64 {
         return false;
     }
-    if w.end < 2072 {
+    if w.end < HEAD_SIZE_64 {
         return false;
     }
     if w.end > w.length {

@@ -8,7 +8,6 @@ use mathlib.Core.Logic.{⊎-elim}
 use borrow.Author.Needs.{needs}
 use borrow.Author.Tests.{not-false}
 use Rattle.image.specs.Tables.{probeSequence, start as firstProbe}
-use Rattle.image.proofs.ProbeStep.{next-inside, next-wraps}
 use Rattle.bulk_tables.specs.steps.BulkTables.{bucketIn, namesEqual}
 use Rattle.lookup_laws.specs.steps.HasMatch.{hasMatch}
 use Rattle.lookup_laws.proofs.SlotSearch.{Remaining, remaining-start, remaining-step, first-empty, none-matches}
@@ -29,7 +28,7 @@ abbrev μ-loop : tie.MeasureT-loop
 -- ---- places in the code, each told from a later one
 
 abbrev start : tie.At-loop Inv-loop μ-loop → tie.Start Inv-loop μ-loop
-start c = c .before .before .before .before
+start c = c .before .before .before .before .before
 
 abbrev read : tie.After-hash-at Inv-loop μ-loop → tie.After-offset-at Inv-loop μ-loop
 read c = c .before .before
@@ -38,9 +37,11 @@ read c = c .before .before
 
 loop-holds : tie.Need-loop-holds Inv-loop μ-loop
 loop-holds c =
-    let s = c .before .before .before in
+    let s = c .before .before .before .before in
     let a = s .args in
-    remaining-start (bucketIn (a .scratch .now) (a .o)) (duplicate (a .distinct) (a .bytes .now) (a .ends .now) (a .offset)) (a .h) (a .m) (s .pre .some)
+    let b = bucketIn (a .scratch .now) (a .o) in
+    let v = duplicate (a .distinct) (a .bytes .now) (a .ends .now) (a .offset) in
+    subst (Remaining b v (a .h) (a .m) (a .m)) (sym (c .start .ensures .is)) (remaining-start b v (a .h) (a .m) (s .pre .some))
 
 returns : tie.Need-returns Inv-loop μ-loop
 returns c =
@@ -60,6 +61,9 @@ returns c =
 
 returns-2 : tie.Need-returns-2 Inv-loop μ-loop
 returns-2 c = record { first = λ below. absurd (omega arith); no-match = λ below. absurd (omega arith) }
+
+next-requires : tie.Need-next-requires Inv-loop μ-loop
+next-requires c κs = read (c .before) .before .before .loop .inv .inside
 
 loop-again : tie.Need-loop-again Inv-loop μ-loop
 loop-again c =
@@ -81,10 +85,7 @@ loop-again c =
     (c .before .if2 .came) in
     let full : b (l .k) .at ≡ 0 → ⊥ = λ z. hashed .before .if1 .left (is ∙ z) in
     let again = remaining-step (l .inv) (test .loop-test .taken) full other in
-    ⊎-elim
-    (λ w. again (c .if5 .k) (w .1 ∙ next-inside (a .m) (l .k) (w .0 .taken)) (omega (arith, w .0 .taken, w .1)))
-    (λ w. again (c .if5 .k) (w .1 ∙ next-wraps (a .m) (l .k) (omega (arith, l .inv .inside, w .0 .left))) (omega (arith, s .pre .some, w .1)))
-    (c .if5 .came)
+    again (c .next .result) (c .next .ensures .is) (c .next .ensures .inside)
 
 returns-3 : tie.Need-returns-3 Inv-loop μ-loop
 returns-3 c = record { first = λ below. absurd (omega arith); no-match = λ below. absurd (omega arith) }
@@ -95,16 +96,14 @@ probe-spec =
     (tie.spec
     Inv-loop
     μ-loop
-    (λ c. search needs)
-    (λ c. search needs)
+    (λ c κs. search needs)
     loop-holds
     (λ c κs. search needs)
     returns
     (λ c κs. search needs)
     (λ c κs. search needs)
     returns-2
-    (λ c. search needs)
-    (λ c. search needs)
+    next-requires
     (λ c. search needs)
     (λ c. search needs)
     loop-again

@@ -1,8 +1,8 @@
 -- `index::slots::first_empty` meets its contract. The loop's invariant: the rest of the probe sequence gives the result of the whole. Assumes nothing.
 use native.Mathlib.Omega.{arith}
-use mathlib.Core.Path.{refl, sym, _∙_}
-use mathlib.Core.Logic.{⊎-elim}
-use Rattle.image.proofs.ProbeStep.{next-inside, next-wraps}
+use mathlib.Core.Path.{refl, sym, subst, _∙_}
+use borrow.Author.Needs.{needs}
+use Rattle.index.specs.Index.{slotCount}
 use Rattle.index.proofs.Probing.{never, Rest, rest-start, probe-none, rest-end, rest-empty, rest-next}
 use Rattle.index.proofs.slots.first_empty.Statement.{statement}
 use Rattle.index.proofs.slots.first_empty.Tie as tie
@@ -16,14 +16,15 @@ abbrev μ-loop : tie.MeasureT-loop
 returns : tie.Need-returns Inv-loop μ-loop
 returns c = let a = c .before .before .args in probe-none (a .slots .now) (a .h) never (c .if1 .taken)
 
-cast-k : tie.Need-cast-k Inv-loop μ-loop
-cast-k c = omega arith
-
-rem-k : tie.Need-rem-k Inv-loop μ-loop
-rem-k c = omega arith
+start-requires : tie.Need-start-requires Inv-loop μ-loop
+start-requires c κs = omega (arith, c .if1 .left)
 
 loop-holds : tie.Need-loop-holds Inv-loop μ-loop
-loop-holds c = let a = c .before .before .args in rest-start (a .slots .now) (a .h) never (omega (arith, c .if1 .left))
+loop-holds c =
+    let a = c .before .before .before .args in
+    let words = a .slots .now in
+    subst (Rest words (a .h) never (slotCount words)) (sym (c .start .ensures .is))
+    (rest-start words (a .h) never (omega (arith, c .before .if1 .left)))
 
 offset-at-requires : tie.Need-offset-at-requires Inv-loop μ-loop
 offset-at-requires c κs = c .before .loop .inv .inside
@@ -33,27 +34,15 @@ returns-2 c =
     let p = c .before .before in
     rest-empty (p .before .loop .inv) (p .loop-test .taken) (sym (c .before .offset-at .ensures) ∙ c .if2 .taken)
 
-add-if3 : tie.Need-add-if3 Inv-loop μ-loop
-add-if3 c = omega (arith, c .before .before .before .loop .inv .inside)
-
-add-k : tie.Need-add-k Inv-loop μ-loop
-add-k c = omega (arith, c .before .before .before .before .loop .inv .inside)
-
-sub-left : tie.Need-sub-left Inv-loop μ-loop
-sub-left c = omega arith
-
-loop-less : tie.Need-loop-less Inv-loop μ-loop
-loop-less c = omega arith
+next-requires : tie.Need-next-requires Inv-loop μ-loop
+next-requires c κs = c .before .before .before .loop .inv .inside
 
 loop-again : tie.Need-loop-again Inv-loop μ-loop
 loop-again c =
     let p = c .before .before .before in
     let l = p .before .loop in
-    let again = rest-next (l .inv) (p .loop-test .taken) (λ z. c .before .if2 .left (c .before .before .offset-at .ensures ∙ z)) (λ e. refl) (c .if3 .k) in
-    ⊎-elim
-    (λ w. again (w .1 ∙ next-inside _ (l .k) (w .0 .taken)) (omega (arith, w .0 .taken, w .1)))
-    (λ w. again (w .1 ∙ next-wraps _ (l .k) (omega (arith, l .inv .inside, w .0 .left))) (omega (arith, l .inv .inside, w .1)))
-    (c .if3 .came)
+    rest-next (l .inv) (p .loop-test .taken) (λ z. c .before .if2 .left (c .before .before .offset-at .ensures ∙ z)) (λ e. refl) (c .next .result)
+    (c .next .ensures .is) (c .next .ensures .inside)
 
 returns-3 : tie.Need-returns-3 Inv-loop μ-loop
 returns-3 c = rest-end (c .before .loop .inv) (omega (arith, c .loop-test .left))
@@ -65,14 +54,12 @@ first-empty-spec =
     Inv-loop
     μ-loop
     returns
-    cast-k
-    rem-k
+    start-requires
     loop-holds
     offset-at-requires
     returns-2
-    add-if3
-    add-k
-    sub-left
-    loop-less
+    next-requires
+    (λ c. search needs)
+    (λ c. search needs)
     loop-again
     returns-3)

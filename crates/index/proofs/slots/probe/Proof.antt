@@ -1,12 +1,11 @@
 -- `index::slots::probe` meets its contract. The loop's invariant: the rest of the probe sequence gives the result of the whole. Assumes nothing.
 use Prim.Native.Nat.{ℕ}
 use native.Mathlib.Omega.{arith}
-use mathlib.Core.Path.{_≡_, sym, ap, _∙_}
+use mathlib.Core.Path.{_≡_, sym, ap, subst, _∙_}
 use mathlib.Core.Bool.{Bool, false}
 use mathlib.Core.Logic.{⊎-elim}
-use Rattle.image.proofs.ProbeStep.{next-inside, next-wraps}
 use Rattle.writer.specs.State.{refusesRepeats}
-use Rattle.index.specs.Index.{slotAt}
+use Rattle.index.specs.Index.{slotCount, slotAt}
 use Rattle.index.specs.steps.Probe.{duplicateAt}
 use Rattle.index.proofs.Probing.{Rest, rest-start, probe-none, rest-end, rest-empty, rest-match, rest-next}
 use borrow.Author.Needs.{needs}
@@ -24,7 +23,7 @@ duplicate s = duplicateAt (refusesRepeats (s .args .repeats)) (s .args .bytes .n
 
 -- the beginning, from a turn of the loop
 abbrev begun : tie.In-loop Inv-loop μ-loop → tie.Start Inv-loop μ-loop
-begun p = p .before .before .before .before .before .before
+begun p = p .before .before .before .before .before .before .before
 
 -- what was asked of the offset a holds of the offset in the slot, b
 says : (v : ℕ → Bool) {a b : ℕ} {r t : Bool} → a ≡ b → r ≡ v a → r ≡ t → v b ≡ t
@@ -35,16 +34,15 @@ returns c =
     let s = c .before .before .before .before in
     probe-none (s .args .slots .now) (s .args .h) (duplicate s) (c .if1 .taken)
 
-cast-k : tie.Need-cast-k Inv-loop μ-loop
-cast-k c = omega arith
-
-rem-k : tie.Need-rem-k Inv-loop μ-loop
-rem-k c = omega arith
+start-requires : tie.Need-start-requires Inv-loop μ-loop
+start-requires c κs = omega (arith, c .if1 .left)
 
 loop-holds : tie.Need-loop-holds Inv-loop μ-loop
 loop-holds c =
-    let s = c .before .before .before .before in
-    rest-start (s .args .slots .now) (s .args .h) (duplicate s) (omega (arith, c .if1 .left))
+    let s = c .before .before .before .before .before in
+    let words = s .args .slots .now in
+    subst (Rest words (s .args .h) (duplicate s) (slotCount words)) (sym (c .start .ensures .is))
+    (rest-start words (s .args .h) (duplicate s) (omega (arith, c .before .if1 .left)))
 
 offset-at-requires : tie.Need-offset-at-requires Inv-loop μ-loop
 offset-at-requires c κs = c .before .loop .inv .inside
@@ -70,11 +68,8 @@ returns-3 c =
     (sym (x .hash-at .ensures) ∙ c .before .before .if3 .taken)
     (says (duplicate (begun p)) (o .offset-at .ensures) (c .before .is-duplicate .ensures) (c .if4 .taken))
 
-add-if5 : tie.Need-add-if5 Inv-loop μ-loop
-add-if5 c = omega (arith, c .before .before .before .before .before .loop .inv .inside)
-
-add-k : tie.Need-add-k Inv-loop μ-loop
-add-k c = omega (arith, c .before .before .before .before .before .before .loop .inv .inside)
+next-requires : tie.Need-next-requires Inv-loop μ-loop
+next-requires c κs = c .before .before .before .before .before .loop .inv .inside
 
 sub-left : tie.Need-sub-left Inv-loop μ-loop
 sub-left c = omega arith
@@ -95,11 +90,8 @@ loop-again c =
     (λ w. says v (o .offset-at .ensures) (w .1 .ensures) (w .2 .left))
     (λ w. absurd (w .left (x .hash-at .ensures ∙ e)))
     (c .before .if3 .came) in
-    let again = rest-next (l .inv) (p .loop-test .taken) (λ z. x .before .if2 .left (o .offset-at .ensures ∙ z)) other (c .if5 .k) in
-    ⊎-elim
-    (λ w. again (w .1 ∙ next-inside _ (l .k) (w .0 .taken)) (omega (arith, w .0 .taken, w .1)))
-    (λ w. again (w .1 ∙ next-wraps _ (l .k) (omega (arith, l .inv .inside, w .0 .left))) (omega (arith, l .inv .inside, w .1)))
-    (c .if5 .came)
+    rest-next (l .inv) (p .loop-test .taken) (λ z. x .before .if2 .left (o .offset-at .ensures ∙ z)) other (c .next .result) (c .next .ensures .is)
+    (c .next .ensures .inside)
 
 returns-4 : tie.Need-returns-4 Inv-loop μ-loop
 returns-4 c = rest-end (c .before .loop .inv) (omega (arith, c .loop-test .left))
@@ -111,8 +103,7 @@ probe-spec =
     Inv-loop
     μ-loop
     returns
-    cast-k
-    rem-k
+    start-requires
     loop-holds
     offset-at-requires
     returns-2
@@ -120,8 +111,7 @@ probe-spec =
     (λ c κs. search needs)
     add-result
     returns-3
-    add-if5
-    add-k
+    next-requires
     sub-left
     loop-less
     loop-again
