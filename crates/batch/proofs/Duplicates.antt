@@ -18,7 +18,7 @@ use Rattle.image.proofs.Sizes.{length-filled}
 use Rattle.lookup_laws.specs.steps.HasMatch.{hasMatch}
 use Rattle.lookup_laws.proofs.TableContents.{NotEmpty}
 use Rattle.batch.specs.RoundNames.{nth}
-use Rattle.batch.specs.steps.Slots.{bucketOfNumber, slotIn, SlotsHold}
+use Rattle.batch.specs.steps.Slots.{bucketOfNumber, roundSlot, SlotsHold}
 use Rattle.batch.specs.steps.Duplicates.{IfZero, Listed, key, Keys, EqualBefore, FoundOrInserted, Deduplicated}
 use Rattle.batch.proofs.IndexLists.{listed-old, listed-new, each-step}
 use Rattle.lookup_laws.proofs.SlotSearch.{none-empty, none-equal, filled-next}
@@ -96,7 +96,7 @@ module _ {xs : List (List ℕ)} {keys slots : List ℕ} {i : ℕ} (ks : Keys xs 
       subst (λ (b : Bucket). b .at ≤ i) (sym (s .filled-with .each k l))
       (filled-all (λ (b : Bucket). b .at ≤ i) 4096 bs (omega arith) (all-image (λ (b : Bucket). b .at ≤ i) bucket (λ u l. omega arith) (s .held) (s .below)) k)
 
-  pub some-empty : All (λ (k : ℕ). NotEmpty (slotIn keys slots k)) (probeSequence 4096 4096 (start h 4096)) → ⊥
+  pub some-empty : All (λ (k : ℕ). NotEmpty (roundSlot keys slots k)) (probeSequence 4096 4096 (start h 4096)) → ⊥
   some-empty all = omega (arith, fit, none-empty (s .filled-with) (omega (arith, fit)) occupied h all)
 
   pub found-equal : (q : ℕ) → 0 < q → q ≤ i → equalTo xs i q ≡ true → FoundOrInserted xs keys slots i q
@@ -130,15 +130,15 @@ module _ {xs : List (List ℕ)} {keys slots : List ℕ} {i : ℕ} (ks : Keys xs 
     differ us (low .1) (others .1),
   )
 
-  module _ (k : ℕ) (here : k < 4096) (first : k ≡ firstEmpty (λ (j : ℕ). slotIn keys slots j .at) (probeSequence 4096 4096 (start h 4096))) where
-    stored : (j : ℕ) → j < 4096 → slotIn keys (set slots k (i + 1)) j ≡ getD (filled 4096 (map bucket (s .held ++ (i ∷ [])))) j empty
+  module _ (k : ℕ) (here : k < 4096) (first : k ≡ firstEmpty (λ (j : ℕ). roundSlot keys slots j .at) (probeSequence 4096 4096 (start h 4096))) where
+    stored : (j : ℕ) → j < 4096 → roundSlot keys (set slots k (i + 1)) j ≡ getD (filled 4096 (map bucket (s .held ++ (i ∷ [])))) j empty
     stored j l =
         let more : filled 4096 (map bucket (s .held ++ (i ∷ []))) ≡ set (filled 4096 bs) k (bucket i) =
         ap (filled 4096) (map-append bucket (s .held) (i ∷ []))
         ∙ filled-next (s .filled-with) (omega arith) h (bucket i) (key-of keys i) k first in
         elim (ℕ-discrete j k) [
           | yes e ↦
-              ap (slotIn keys (set slots k (i + 1))) e
+              ap (roundSlot keys (set slots k (i + 1))) e
               ∙ ap (bucketOfNumber keys) (getD-set-same slots k (i + 1) 0 (omega (arith, s .size)))
               ∙ sym (getD-set-same (filled 4096 bs) k (bucket i) empty (omega (arith, length-filled 4096 bs)))
               ∙ ap (λ (n : ℕ). getD (set (filled 4096 bs) k (bucket i)) n empty) (sym e)
@@ -149,7 +149,7 @@ module _ {xs : List (List ℕ)} {keys slots : List ℕ} {i : ℕ} (ks : Keys xs 
         ]
         ∙ ap (λ (t : List Bucket). getD t j empty) (sym more)
 
-    pub inserted-here : hasMatch (slotIn keys slots) h (equalTo xs i) (probeSequence 4096 4096 (start h 4096)) ≡ false
+    pub inserted-here : hasMatch (roundSlot keys slots) h (equalTo xs i) (probeSequence 4096 4096 (start h 4096)) ≡ false
         → FoundOrInserted xs keys (set slots k (i + 1)) i 0
     inserted-here none =
         let others = differ (s .held) (s .below) (none-equal (s .filled-with) (omega arith) h v (omega (arith, fit)) occupied none) in

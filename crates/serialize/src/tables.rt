@@ -23,7 +23,9 @@ use jhash::word::word;
 // The table of c entries at o, cleared and filled with c pairs in their order.
 fn insert_pairs(buf: &mut [u8], o: usize, c: usize, pairs: &[u8])
     requires { ⌜ InsertPairsPre o c (now pairs) (now buf) ⌝ }
-    ensures { λ _. ⌜ now (buf .exit) ≡ tableStored (now (buf .entry)) o c (pairsStored (now (pairs .entry)) 0 c) ⌝ }
+    ensures { λ _. ⌜
+        now (buf .exit) ≡ tableStored (now (buf .entry)) o c (pairsStored (now (pairs .entry)) 0 c)
+        ⌝ }
 {
     clear(&mut *buf, o, o + 16 * c);
     let mut i = 0;
@@ -106,7 +108,8 @@ fn insert_by_tables(
     requires { ⌜ WalkPre «back_offset» end (now buf) ⌝ }
     ensures { λ _. ⌜
         now (buf .exit)
-        ≡ insertedByTables mode «back_offset» end (now (hashes .entry)) entries (now (counts .entry)) (now (buf .entry))
+        ≡ insertedByTables mode «back_offset» end (now (hashes .entry)) entries (now (counts .entry))
+        (now (buf .entry))
         ⌝ }
 {
     let mut places = [0; 256];
@@ -149,7 +152,8 @@ pub(super) fn insert_all(
     requires { ⌜ InsertAllPre «back_offset» end entries size (now buf) ⌝ }
     ensures { λ _. ⌜
         now (buf .exit)
-        ≡ allInserted mode «back_offset» end (now (hashes .entry)) entries size (now (counts .entry)) (now (buf .entry))
+        ≡ allInserted mode «back_offset» end (now (hashes .entry)) entries size (now (counts .entry))
+        (now (buf .entry))
         ⌝ }
 {
     if partitions(counts, entries) {

@@ -11,14 +11,15 @@ use Rattle.batch.specs.RoundNames.{nth}
 abbrev pub bucketOfNumber : List ℕ → ℕ → Bucket
 bucketOfNumber keys q = record { hash = getD (0 ∷ keys) q 0; at = q }
 
-abbrev pub slotIn : List ℕ → List ℕ → ℕ → Bucket
-slotIn keys slots k = bucketOfNumber keys (getD slots k 0)
+abbrev pub roundSlot : List ℕ → List ℕ → ℕ → Bucket
+roundSlot keys slots k = bucketOfNumber keys (getD slots k 0)
 
 -- the slots hold some of the first i names, among them one that equals each
 pub record SlotsHold (xs : List (List ℕ)) (keys slots : List ℕ) (i : ℕ) : Type 0 where
   pub held : List ℕ
   pub size : length slots ≡ 4096
-  pub filled-with : Filled 4096 (slotIn keys slots) (map (λ (u : ℕ). bucketOfNumber keys (u + 1)) held)
+  pub filled-with : Filled 4096 (roundSlot keys slots) (map (λ (u : ℕ). bucketOfNumber keys (u + 1)) held)
   pub few : length held ≤ i
   pub below : Each (λ (u : ℕ). u < i) held
-  pub covers : (y : List ℕ) → Each (λ (u : ℕ). nth xs u ≡ y → ⊥) held → (j : ℕ) → j < i → nth xs j ≡ y → ⊥
+  pub covers : (y : List ℕ) → Each (λ (u : ℕ). nth xs u ≡ y → ⊥) held
+      → (j : ℕ) → j < i → nth xs j ≡ y → ⊥

@@ -13,7 +13,8 @@ pub record SavePre (refusals : List ℕ) (n words : ℕ) (scratch : List ℕ) : 
   pub inside : words ≤ length scratch
 
 -- r hashes are saved, each in the second word from the one before; none where they are not known
-pub record HashesSaved (hashed : Bool) (refusals : List ℕ) (n words : ℕ) (scratch : List ℕ) (r : ℕ) : Type 0 where
+pub record HashesSaved (hashed : Bool) (refusals : List ℕ) (n words : ℕ)
+    (scratch : List ℕ) (r : ℕ) : Type 0 where
   pub few : r ≤ n
   pub inside : words + 2 * r ≤ length scratch
   pub only : 0 < r → hashed ≡ true
@@ -41,6 +42,7 @@ pub record KeepPre (refusals : List ℕ) (saved words : ℕ) (scratch : List ℕ
   pub inside : words + 2 * saved ≤ length scratch
 
 -- those of accepted puts stand behind the index, one behind the other
-pub record HashesKept (refusals : List ℕ) (saved words : ℕ) (scratch scratchThen : List ℕ) (r : ℕ) : Type 0 where
+pub record HashesKept (refusals : List ℕ) (saved words : ℕ)
+    (scratch scratchThen : List ℕ) (r : ℕ) : Type 0 where
   pub few : r ≤ saved
   pub are : take r (drop words scratchThen) ≡ keptFrom refusals words scratch 0 saved

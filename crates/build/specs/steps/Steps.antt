@@ -42,7 +42,8 @@ pub record ListBuilt (mode : Mode) (repeats : Repeats) (buffer bytes ends ids re
 
 -- the refusals' places have the hash of each name
 abbrev pub HashesStored : List ℕ → List ℕ → List ℕ → Type 0
-HashesStored bytes ends refusals = (i : ℕ) → i < length ends → getD refusals i 0 ≡ hashOf (nth (names bytes ends) i)
+HashesStored bytes ends refusals =
+    (i : ℕ) → i < length ends → getD refusals i 0 ≡ hashOf (nth (names bytes ends) i)
 
 -- the puts one by one may be told that the hashes stand there
 pub record SinglyPre (hashed : Bool) (buffer bytes ends ids refusals : List ℕ) : Type 0 where

@@ -15,7 +15,8 @@ use Rattle.reader.specs.Open.{opening}
 use Rattle.canonical.specs.Canonical.{counted, canonical}
 use Rattle.canonical.specs.declared.entries.EntriesChecked.{EntriesChecked}
 use Rattle.canonical.specs.steps.Cache.{firstBucketAt, CachedFrom, Cached}
-use Rattle.canonical.specs.steps.Checks.{entryName, entriesOk, selfLinksIn, placedFrom, TablesInside, TablesHeld}
+use Rattle.canonical.specs.steps.Checks.{entryName, entriesOk, selfLinksIn, placedFrom}
+use Rattle.canonical.specs.steps.Checks.{TablesInside, TablesHeld}
 
 -- ---- words and tables
 

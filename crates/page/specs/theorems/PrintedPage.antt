@@ -45,7 +45,8 @@ pub record PrintedPage : Type 0 where
       → pageOf a ≡ pageOf b
   -- the page in parts: one of as many ids as there are is the whole page, and two that follow each other are the part
   -- of both
-  pub whole : (image : List ℕ) (count : ℕ) → upperHint image 0 ≤ count → pagePart image 0 count ≡ pageOf image
+  pub whole : (image : List ℕ) (count : ℕ) → upperHint image 0 ≤ count
+      → pagePart image 0 count ≡ pageOf image
   pub joined : (image : List ℕ) (first a b : ℕ)
       → pagePart image first (a + b) ≡ pagePart image first a ++ pagePart image (first + a) b
   -- an output with room holds the page in front, and "bytes past the page keep their content"; one that is refused is

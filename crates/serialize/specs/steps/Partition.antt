@@ -56,7 +56,8 @@ pub record EntryPartitioned (mode : Mode) (back-offset at h : ℕ) (places buf p
     pub moved : places′ ≡ advanced places h
 
 -- and so m entries from the i-th on, one after the other
-unfoldable pub partitionedFrom : Mode → ℕ → ℕ → List ℕ → ℕ → ℕ → ℕ → List ℕ → List ℕ → List ℕ
+unfoldable pub partitionedFrom : Mode → ℕ → ℕ → List ℕ
+    → ℕ → ℕ → ℕ → List ℕ → List ℕ → List ℕ
 partitionedFrom mode back-offset end hashes zero i at places buf = buf
 partitionedFrom mode back-offset end hashes (suc m) i at places buf =
     let n = wholeLength (between buf at end) in

@@ -8,7 +8,7 @@ use lib.ListN.{length, getD, length-set}
 use borrow.Author.Needs.{needs}
 use Rattle.packed.proofs.NameEnds.{length-names}
 use Rattle.batch.specs.RoundNames.{names}
-use Rattle.batch.specs.steps.Slots.{slotIn, SlotsHold}
+use Rattle.batch.specs.steps.Slots.{roundSlot, SlotsHold}
 use Rattle.lookup_laws.proofs.SlotSearch.{Remaining, remaining-start, remaining-step, remaining-end, first-empty, none-matches}
 use Rattle.batch.proofs.Duplicates.{equalTo, slot-below, some-empty, found-equal, inserted-here}
 use Rattle.batch.proofs.deduplicate.find_or_insert.Statement.{statement}
@@ -16,7 +16,7 @@ use Rattle.batch.proofs.deduplicate.find_or_insert.Tie as tie
 
 record Inv (bytes ends keys slots : List ℕ) (i k left : ℕ) : Type 0 where
   pub holds : SlotsHold (names bytes ends) keys slots i
-  pub rest : Remaining (slotIn keys slots) (equalTo (names bytes ends) i) (getD keys i 0) 4096 left k
+  pub rest : Remaining (roundSlot keys slots) (equalTo (names bytes ends) i) (getD keys i 0) 4096 left k
 
 abbrev Inv-loop : tie.InvT-loop
 Inv-loop bytes ends keys slots₀ i k₀ left₀ slots k left = Inv bytes ends keys slots i k left
@@ -55,8 +55,8 @@ loop-holds c =
     record {
       holds = s .pre .holds;
       rest =
-          subst (Remaining (slotIn keys (s .args .slots .now)) (equalTo (xs s) (s .args .i)) (getD keys (s .args .i) 0) 4096 4096) (sym (c .start .ensures .is))
-          (remaining-start (slotIn keys (s .args .slots .now)) (equalTo (xs s) (s .args .i)) (getD keys (s .args .i) 0) 4096 (omega arith));
+          subst (Remaining (roundSlot keys (s .args .slots .now)) (equalTo (xs s) (s .args .i)) (getD keys (s .args .i) 0) 4096 4096) (sym (c .start .ensures .is))
+          (remaining-start (roundSlot keys (s .args .slots .now)) (equalTo (xs s) (s .args .i)) (getD keys (s .args .i) 0) 4096 (omega arith));
     }
 
 slice-read-q : tie.Need-slice-read-q Inv-loop μ-loop
