@@ -8,6 +8,9 @@ use Rattle.writer.proofs.Closes.{accepted}
 use Rattle.writer.proofs.write_closed.Statement.{statement}
 use Rattle.writer.proofs.write_closed.Tie as tie
 
+abbrev start : tie.After-write-image → tie.Start
+start c = c .before .before .before .before .before
+
 finished-size-requires : tie.Need-finished-size-requires
 finished-size-requires c κs =
     let s = c .before .before in
@@ -24,14 +27,14 @@ write-image-requires c κs =
 
 cast-result : tie.Need-cast-result
 cast-result c =
-    let s = c .before .before .before .before .before .before .before in
+    let s = start (c .before .before) in
     let a = s .args in
     let k = accepted (stateWith (a .w) (a .counts .now) (a .buf .now)) (s .pre .closes) in
     omega (arith, c .before .before .before .before .finished-size .ensures, stands (a .w) (a .counts .now) (a .buf .now) (k .fit) (k .fine) (k .all) .small)
 
 returns : tie.Need-returns
 returns c =
-    let s = c .before .before .before .before .before .before .before in
+    let s = start (c .before .before) in
     let a = s .args in
     let k = accepted (stateWith (a .w) (a .counts .now) (a .buf .now)) (s .pre .closes) in
     record {

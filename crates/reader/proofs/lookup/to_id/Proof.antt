@@ -30,13 +30,13 @@ returns c =
     let name = a .name .now in
     lookup-by image name true _ (lt-ltb (length image) 2072 (c .if1 .taken)) refl
 
-to-id-hashed-requires : tie.Need-to-id-hashed-requires
-to-id-hashed-requires c κs =
-    let a = c .before .before .before .before .before .before .before .before .before .args in
-    rw (whole (a .image .now)) (c .before .before .before .before .if1 .left)
-
 abbrev start : tie.After-known-told → tie.Start
 start c = c .before .before .before .before .before .before .before .before .before
+
+to-id-hashed-requires : tie.Need-to-id-hashed-requires
+to-id-hashed-requires c κs =
+    let a = start c .args in
+    rw (whole (a .image .now)) (c .before .before .before .before .if1 .left)
 
 returns-2 : tie.Need-returns-2
 returns-2 c =

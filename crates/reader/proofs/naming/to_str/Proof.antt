@@ -15,13 +15,16 @@ use borrow.Author.Needs.{needs}
 use Rattle.reader.proofs.naming.to_str.Statement.{statement}
 use Rattle.reader.proofs.naming.to_str.Tie as tie
 
+abbrev start : tie.After-word3 → tie.Start
+start c = c .before .before .before .before .before .before .before
+
 -- once the entry's offset is read, the entry decides
 module _ (c : tie.After-word3) where
   abbrev image-of : List ℕ
-  image-of = c .before .before .before .before .before .before .before .args .image .now
+  image-of = start c .args .image .now
 
   abbrev id-of : ℕ
-  id-of = c .before .before .before .before .before .before .before .args .id
+  id-of = start c .args .id
 
   abbrev at : ℕ
   at = c .word3 .result
