@@ -8,6 +8,7 @@ use lib.ListN.{length, getD, take, drop, replicate, length-replicate, getD-repli
 use lib.Seq.{ext-getD, getD-take, getD-drop, length-take-le}
 use Rattle.image.specs.Bytes.{same}
 use Rattle.image.specs.declared.Mode.{Mode}
+use Rattle.image.specs.steps.Contracts.{Cleared}
 use Rattle.packed.specs.Names.{names, nth}
 use Rattle.writer.specs.declared.Repeats.{Repeats}
 use Rattle.writer.specs.State.{refusesRepeats}
@@ -24,16 +25,15 @@ use Rattle.build.proofs.AllPut.{number-all, accepted-all, answers-none,
 -- ---- the refusals: cleared, with what is behind them as it was
 
 pub refusals-cleared : (n : ℕ) (then before places : List ℕ) → length then ≡ length before → n ≤ length before
-    → ((i : ℕ) → i < n → getD then i 0 ≡ 0) → ((i : ℕ) → n ≤ i → getD then i 0 ≡ getD before i 0) → drop n before ≡ drop n places
-    → then ≡ replicate n 0 ++ drop n places
-refusals-cleared n then before places long inside zeros kept rest =
+    → Cleared n before then → drop n before ≡ drop n places → then ≡ replicate n 0 ++ drop n places
+refusals-cleared n then before places long inside cleared rest =
     let front = length-take-le n then (omega arith) in
     sym (take-append-drop n then)
     ∙ ap₂ {C = List ℕ} (λ (a b : List ℕ). a ++ b)
     (ext-getD 0 (take n then) (replicate n 0) (front ∙ sym (length-replicate {A = ℕ} n 0))
-    (λ i h. getD-take n then i 0 (omega (arith, front)) ∙ zeros i (omega (arith, front)) ∙ sym (getD-replicate n i 0 0 (omega (arith, front)))))
+    (λ i h. getD-take n then i 0 (omega (arith, front)) ∙ cleared .zero i (omega (arith, front)) ∙ sym (getD-replicate n i 0 0 (omega (arith, front)))))
     (ext-getD 0 (drop n then) (drop n before) (length-drop n then ∙ ap (λ (k : ℕ). k - n) long ∙ sym (length-drop n before))
-    (λ i h. getD-drop n then i 0 ∙ kept (n + i) (omega arith) ∙ sym (getD-drop n before i 0))
+    (λ i h. getD-drop n then i 0 ∙ cleared .kept (n + i) (omega arith) ∙ sym (getD-drop n before i 0))
     ∙ rest)
 
 -- ---- the list

@@ -1,9 +1,10 @@
 // What a list needs: the bytes of a buffer in which no put is refused for room, and the words of scratch memory for the
 // bulk path.
 ghost use mathlib.Core.Path.{_≡_};
-ghost use Prim.Native.Nat.{_+_, _*_, _≤_, _<_, _^_, min, max};
+ghost use Prim.Native.Nat.{_+_, _*_, _<_, min, max};
 ghost use lib.ListN.{length};
 ghost use Rattle.build.specs.Needs.{atMost, wordsEach, idsBack, bytesNeeded, needed};
+ghost use Rattle.build.specs.steps.Capacity.{BackOf};
 use image::HEAD_SIZE_64;
 use image::Mode;
 
@@ -69,7 +70,7 @@ fn largest(ids: &[u32]) -> u32
 
 // The largest id plus 1, 0 without any.
 pub(crate) fn back_of(ids: &[u32]) -> u64
-    ensures { λ r. ⌜ (r ≡ idsBack (now (ids .entry))) × (r ≤ 2 ^ 32) ⌝ }
+    ensures { λ r. ⌜ BackOf (now (ids .entry)) r ⌝ }
 {
     if ids.len() == 0 {
         return 0;

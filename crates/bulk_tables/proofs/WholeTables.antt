@@ -9,6 +9,7 @@ use lib.ListN.{length, getD, take}
 use Rattle.image.specs.Bytes.{cat, le32}
 use Rattle.image.specs.Tables.{Bucket, empty, tableOf, filled}
 use Rattle.image.specs.Image.{Entry, Placed, headSize, placed, count, table, tables, entriesBefore}
+use Rattle.image.specs.steps.Contracts.{Cleared}
 use Rattle.image.proofs.Sizes.{length-placed}
 use Rattle.packed.specs.Names.{names}
 use Rattle.bulk_tables.specs.steps.Layout.{pairWords}
@@ -69,9 +70,9 @@ module _ {bytes ends hashes counts scratch : List ℕ} (pre : BuildTablesPre byt
     count-is t h = omega (arith, end-is t h, first-is t h)
 
     -- in w₃ they are the same, behind empty buckets
-    module _ {w₃ : List ℕ} (kept : (w : ℕ) → pairWords (length ends) ≤ w → at w₃ w ≡ at w₂ w) where
-      pub fill-pre : length w₃ ≡ length scratch → ((w : ℕ) → w < pairWords (length ends) → at w₃ w ≡ 0) → FillAllPre bytes ends w₃ rows
-      fill-pre long cleared =
+    module _ {w₃ : List ℕ} (cleared : Cleared (pairWords (length ends)) w₂ w₃) where
+      pub fill-pre : length w₃ ≡ length scratch → FillAllPre bytes ends w₃ rows
+      fill-pre long =
           record {
             packed = record { ends-rise = pre .ends-rise; offsets = offsets };
             capacity = omega (arith, pre .capacity, long);
@@ -80,15 +81,15 @@ module _ {bytes ends hashes counts scratch : List ℕ} (pre : BuildTablesPre byt
                 (let first = firstOfTable T n t in
                 let here : first + (q - first) ≡ q = omega (arith, first-is t h, from) in
                 let some = done .stored t (q - first) (omega (arith, first-is t h, end-is t h, from, to)) in
-                omega (arith, some, ap (λ (p : ℕ). pairIn n w₂ p .at) here, kept (pairWords n + 2 * q + 1) (omega arith)));
-            buckets-empty = cleared;
+                omega (arith, some, ap (λ (p : ℕ). pairIn n w₂ p .at) here, cleared .kept (pairWords n + 2 * q + 1) (omega arith)));
+            buckets-empty = cleared .zero;
           }
 
       -- the tables are filled in w₄
       module _ {distinct : Bool} {w₄ : List ℕ} (filled-in : AllFilled distinct bytes ends w₃ w₄ rows) (long : length w₄ ≡ length scratch) where
         pairs : PairsAre ends hashes w₄
         pairs i h =
-            let was : (w : ℕ) → pairWords n ≤ w → at w₄ w ≡ at w₂ w = λ w l. filled-in .pairs-kept w l ∙ kept w l in
+            let was : (w : ℕ) → pairWords n ≤ w → at w₄ w ≡ at w₂ w = λ w l. filled-in .pairs-kept w l ∙ cleared .kept w l in
             (was _ (omega arith) ∙ done .pairs-are i h .0, was _ (omega arith) ∙ done .pairs-are i h .1)
 
         -- what holds of the places of table t, told by the tables

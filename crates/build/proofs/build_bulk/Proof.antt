@@ -140,7 +140,7 @@ returns-3 c =
       built = λ some.
           all-built (a .mode) (a .repeats) (s .pre .list) (s .pre .capacity .fits) words (told .no-zeros (not-false _ (t .before .before .before .before .before .if1 .left)))
           (λ d. built .no-duplicates (t .before .before .before .before .refuses .ensures ∙ d)) (w .write-list .ensures)
-          (refusals-cleared n _ (hashes-in h) (a .refusals .now) (z .clear .kept .0) (hashes-long h) (z .clear .ensures .0) (z .clear .ensures .1) (told .rest));
+          (refusals-cleared n _ (hashes-in h) (a .refusals .now) (z .clear .kept .0) (hashes-long h) (z .clear .ensures) (told .rest));
       kept = λ e. absurd (omega (arith, e, w .write-list .ensures .size));
       rest = λ e. absurd (omega (arith, e, w .write-list .ensures .size));
       hashes = λ e. absurd (omega (arith, e, w .write-list .ensures .size));

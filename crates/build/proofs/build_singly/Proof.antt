@@ -77,7 +77,7 @@ still-saved c k h =
     let z = cleared c in
     let done = saved z .save-hashes .ensures in
     behind-kept (slots-in c) (cleared-in z) (words z) (2 * k) (slots-long c)
-    ∙ z .clear .ensures .1 (words z + 2 * k) (omega arith)
+    ∙ z .clear .ensures .kept (words z + 2 * k) (omega arith)
     ∙ done .saved k h
     ∙ begun z .pre .hashes (done .only (omega (arith, h))) k (omega (arith, h, done .few))
 
@@ -115,7 +115,7 @@ put-list-requires c κs =
     record {
       list = s .pre .list;
       begun = refl;
-      right = λ h. right-fresh (a .mode) (a .repeats) (a .buf .now) (take n (cleared-in z)) (s .pre .list .head-fits) (slots-cleared (cleared-in z) n (words-within z) (z .clear .ensures .0));
+      right = λ h. right-fresh (a .mode) (a .repeats) (a .buf .now) (take n (cleared-in z)) (s .pre .list .head-fits) (slots-cleared (cleared-in z) n (words-within z) (z .clear .ensures .zero));
       enough = λ h. omega (arith, long, sized (saved z) .index-words .ensures .enough (omega (arith, h, long)));
       hashes = s .pre .hashes;
     }

@@ -1,10 +1,16 @@
 -- Whether an image of all names has room.
-use Prim.Native.Nat.{ℕ, _*_, _≤_, _<_}
+use Prim.Native.Nat.{ℕ, _*_, _^_, _≤_, _<_}
+use mathlib.Core.Path.{_≡_}
 use mathlib.Core.List.{List}
 use lib.ListN.{length, take}
 use Rattle.image.specs.declared.Mode.{Mode}
 use Rattle.packed.specs.Names.{beginOf}
-use Rattle.build.specs.Needs.{bytesNeeded}
+use Rattle.build.specs.Needs.{idsBack, bytesNeeded}
+
+-- r is the largest of these ids plus 1, 0 without any
+pub record BackOf (ids : List ℕ) (r : ℕ) : Type 0 where
+  pub is : r ≡ idsBack ids
+  pub bound : r ≤ 2 ^ 32
 
 -- the bytes that an image of all names needs
 abbrev pub bytesForAll : Mode → List ℕ → List ℕ → ℕ

@@ -1,12 +1,11 @@
 -- `bulk_tables::build_tables` meets its contract. Assumes nothing.
-use Prim.Native.Nat.{ℕ, _≤_, _<_}
-use native.Mathlib.Omega.{arith}
+use Prim.Native.Nat.{ℕ}
 use mathlib.Core.Path.{_≡_, subst, _∙_}
 use mathlib.Core.List.{List}
 use lib.ListN.{length, length-replicate}
 use borrow.Author.Needs.{needs}
+use Rattle.image.specs.steps.Contracts.{Cleared}
 use Rattle.bulk_tables.specs.steps.Layout.{pairWords}
-use Rattle.bulk_tables.specs.steps.Partition.{at}
 use Rattle.bulk_tables.proofs.WholeTables.{sums-pre, partition-pre, fill-pre, built}
 use Rattle.bulk_tables.proofs.build_tables.Statement.{statement}
 use Rattle.bulk_tables.proofs.build_tables.Tie as tie
@@ -31,11 +30,8 @@ abbrev cleared-in : (c : tie.After-clear) → List ℕ
 cleared-in c = c .clear .last .0
 
 -- the pairs are kept behind empty buckets
-zeroed : (c : tie.After-clear) → (w : ℕ) → w < pairWords (length (start (summed (partitioned c)) .args .ends .now)) → at (cleared-in c) w ≡ 0
-zeroed c w h = c .clear .ensures .0 w (omega (arith, c .before .pairs-at .ensures))
-
-kept : (c : tie.After-clear) → (w : ℕ) → pairWords (length (start (summed (partitioned c)) .args .ends .now)) ≤ w → at (cleared-in c) w ≡ at (pairs-in (partitioned c)) w
-kept c w h = c .clear .ensures .1 w (omega (arith, c .before .pairs-at .ensures))
+cleared : (c : tie.After-clear) → Cleared (pairWords (length (start (summed (partitioned c)) .args .ends .now))) (pairs-in (partitioned c)) (cleared-in c)
+cleared c = subst (λ (k : ℕ). Cleared k (pairs-in (partitioned c)) (cleared-in c)) (c .before .pairs-at .ensures) (c .clear .ensures)
 
 long : (c : tie.After-clear) → length (cleared-in c) ≡ length (start (summed (partitioned c)) .args .scratch .now)
 long c = let same : length (cleared-in c) ≡ length (pairs-in (partitioned c)) = c .clear .kept .0 in same ∙ partitioned c .partition-pairs .kept .1 .1 .0
@@ -52,7 +48,7 @@ fill-all-requires : tie.Need-fill-all-requires
 fill-all-requires c κs =
     let z = c .before .before .before .before in
     let p = partitioned z in
-    fill-pre (start (summed p) .pre) (p .partition-pairs .ensures) (kept z) (long z) (zeroed z)
+    fill-pre (start (summed p) .pre) (p .partition-pairs .ensures) (cleared z) (long z)
 
 returns : tie.Need-returns
 returns c =
@@ -60,7 +56,7 @@ returns c =
     let z = f .before .before .before .before .before in
     let p = partitioned z in
     let same : length (f .fill-all .last .1 .1 .1 .0) ≡ length (cleared-in z) = f .fill-all .kept .1 .1 .1 .0 in
-    λ e. built (start (summed p) .pre) (p .partition-pairs .ensures) (kept z) (f .fill-all .ensures e) (same ∙ long z)
+    λ e. built (start (summed p) .pre) (p .partition-pairs .ensures) (cleared z) (f .fill-all .ensures e) (same ∙ long z)
 
 pub build-tables-spec : {M : Type 1} → statement M
 build-tables-spec =

@@ -3,7 +3,7 @@ use Prim.Native.Nat.{ℕ, _+_, _*_, _-_, _≤_, _<_}
 use mathlib.Core.Path.{_≡_}
 use mathlib.Core.Bool.{cond}
 use mathlib.Core.List.{List}
-use lib.ListN.{length, take, drop}
+use lib.ListN.{length, getD, take, drop}
 use lib.Dec.{ltb}
 use Rattle.image.specs.Bytes.{word}
 use Rattle.image.specs.Stored.{between}
@@ -27,6 +27,13 @@ pub record SameFromPre (a b : List ℕ) (from : ℕ) : Type 0 where
 pub record LengthBeforeZero (name : List ℕ) (r : ℕ) : Type 0 where
   pub is : r ≡ length (beforeZero name)
   pub most : r ≤ length name
+
+-- ---- scratch memory
+
+-- the first n words are 0, and those behind them as they were
+pub record Cleared (n : ℕ) (before after : List ℕ) : Type 0 where
+  pub zero : (i : ℕ) → i < n → getD after i 0 ≡ 0
+  pub kept : (i : ℕ) → n ≤ i → getD after i 0 ≡ getD before i 0
 
 -- ---- the probe sequence
 

@@ -38,7 +38,7 @@ fill-requires c κs =
     let cleared = c .before .before .before .clear in
     let kept = cleared .kept .0 in
     fillable (a .w) (a .counts .now) (a .buf .now) (cleared .last .0) (sym (r .ensures) ∙ c .before .before .before .before .before .before .before .if1 .left)
-    (omega (arith, kept, c .before .before .before .before .before .if2 .left)) (λ i h. cleared .ensures .0 i (omega (arith, h, kept)))
+    (omega (arith, kept, c .before .before .before .before .before .if2 .left)) (λ i h. cleared .ensures .zero i (omega (arith, h, kept)))
 
 returns-3 : tie.Need-returns-3
 returns-3 c =
@@ -48,7 +48,7 @@ returns-3 c =
     let left = else2 c .if2 .left in
     let none = else1 (c .before) .if1 .left in
     index-made (stateWith (a .w) (a .counts .now) (a .buf .now)) (a .slots .now) (r .result) (r .ensures) none (cleared .last .0) _ (cleared .kept .0)
-    (λ i h. cleared .ensures .1 i h) (c .before .before .fill .ensures) (omega (arith, left))
+    (cleared .ensures .kept) (c .before .before .fill .ensures) (omega (arith, left))
 
 pub index-spec : {M : Type 1} → statement M
 index-spec =

@@ -10,12 +10,12 @@ use Rattle.build.proofs.needs.bytes_for.Tie as tie
 mul-sum : tie.Need-mul-sum
 mul-sum c =
     let back = c .before .before .back-of in
-    omega (arith, c .before .back-in .ensures, back-less (c .before .before .before .before .args .mode) (back .result), back .ensures .1)
+    omega (arith, c .before .back-in .ensures, back-less (c .before .before .before .before .args .mode) (back .result), back .ensures .bound)
 
 add-sum : tie.Need-add-sum
 add-sum c =
     let back = c .before .before .back-of in
-    omega (arith, c .before .back-in .ensures, back-less (c .before .before .before .before .args .mode) (back .result), back .ensures .1)
+    omega (arith, c .before .back-in .ensures, back-less (c .before .before .before .before .args .mode) (back .result), back .ensures .bound)
 
 returns : tie.Need-returns
 returns c =
@@ -24,7 +24,7 @@ returns c =
     let each = c .before .before .bytes-each in
     let first = c .before .sum in
     whole-sum (a .mode) (a .size) (a .ids .now) (back .result) (each .result) (first .result) (c .sum2 .result)
-    (back .ensures ∙ ap (backIn (a .mode)) (c .before .before .before .before .back-of .ensures .0)) (each .ensures) (first .ensures) (c .sum2 .ensures)
+    (back .ensures ∙ ap (backIn (a .mode)) (c .before .before .before .before .back-of .ensures .is)) (each .ensures) (first .ensures) (c .sum2 .ensures)
 
 pub bytes-for-spec : {M : Type 1} → statement M
 bytes-for-spec =

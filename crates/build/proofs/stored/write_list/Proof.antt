@@ -40,7 +40,7 @@ at c = end c + 16 * length (start (c .before .before) .args .ends .now)
 
 known : (c : tie.After-back-in) → let a = start (c .before .before) .args in
     Numbers (a .mode) (a .buf .now) (a .bytes .now) (a .ends .now) (a .ids .now) (end c) (c .back-in .result) (at c) (at c + 4 * c .back-in .result)
-known c = numbers (start (c .before .before) .pre) (c .back-in .ensures ∙ ap (backIn (start (c .before .before) .args .mode)) (c .before .back-of .ensures .0))
+known c = numbers (start (c .before .before) .pre) (c .back-in .ensures ∙ ap (backIn (start (c .before .before) .args .mode)) (c .before .back-of .ensures .is))
 
 same : (c : tie.After-clear) → length (c .clear .last .0) ≡ length (start (backed c .before .before) .args .buf .now)
 same c = c .clear .kept .0

@@ -59,7 +59,7 @@ same-length : tie.Need-same-length Inv-loop μ-loop
 same-length c = search needs
 
 returns : tie.Need-returns Inv-loop μ-loop
-returns c = (λ j h. c .before .loop .inv .zero j (omega arith), c .before .loop .inv .kept)
+returns c = let inv = c .before .loop .inv in record { zero = λ j h. inv .zero j (omega arith); kept = inv .kept }
 
 pub clear-spec : {M : Type 1} → statement M
 clear-spec =
