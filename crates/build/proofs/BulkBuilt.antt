@@ -13,11 +13,12 @@ use Rattle.packed.specs.Names.{names, nth}
 use Rattle.writer.specs.declared.Repeats.{Repeats}
 use Rattle.writer.specs.State.{refusesRepeats}
 use Rattle.bulk_tables.specs.steps.Contracts.{NoZeros}
+use Rattle.build.specs.declared.Known.{Known}
 use Rattle.build.specs.declared.Built.{Built}
 use Rattle.build.specs.declared.Built.the-variants.{Image}
 use Rattle.build.specs.Build.{buildRefusal, building, bufferAfter}
 use Rattle.build.specs.steps.Capacity.{RoomForAll}
-use Rattle.build.specs.steps.Steps.{ListPre, ListBuilt, HashesStored, BulkTried}
+use Rattle.build.specs.steps.Steps.{ListPre, ListBuilt, KnownOf, BulkTried}
 use Rattle.build.specs.steps.Stores.{WriteListPost}
 use Rattle.build.proofs.Whole.{refusal-none, told-all, told-same, left-closed, built-made}
 use Rattle.build.proofs.AllPut.{number-all, accepted-all, answers-none, size-all, closed-all}
@@ -61,10 +62,11 @@ module _ (mode : Mode) (repeats : Repeats) {buffer bytes ends ids refusals : Lis
             (cleared ∙ ap (λ (l : List ℕ). l ++ drop (length ends) refusals) (sym (answers-none mode repeats buffer bytes ends ids good many room fits words clean distinct)));
       }
 
-  pub gave-up : {refusalsThen : List ℕ} → drop (length ends) refusalsThen ≡ drop (length ends) refusals → HashesStored bytes ends refusalsThen
-      → BulkTried mode repeats buffer bytes ends ids refusals 0 buffer refusalsThen
-  gave-up rest hashes =
-      record { count-fits = λ h. absurd (omega arith); built = λ h. absurd (omega arith); kept = λ e. refl; rest = λ e. rest; hashes = λ e. hashes }
+  pub gave-up : {refusalsThen : List ℕ} (known : Known) → drop (length ends) refusalsThen ≡ drop (length ends) refusals
+      → KnownOf repeats known bytes ends refusalsThen
+      → BulkTried mode repeats buffer bytes ends ids refusals (record { size = 0; known = known }) buffer refusalsThen
+  gave-up known rest facts =
+      record { count-fits = λ h. absurd (omega arith); built = λ h. absurd (omega arith); kept = λ e. refl; rest = λ e. rest; facts = λ e. facts }
 
   -- single puts after the bulk path gave up: the buffer is as it was, and of the refusals what is behind the names
   pub built-after : {buffer′ refusals′ : List ℕ} → buffer′ ≡ buffer → length refusals′ ≡ length refusals → drop (length ends) refusals′ ≡ drop (length ends) refusals

@@ -6,6 +6,7 @@ pub mod AllPut
 pub mod ListWhole
 pub mod BulkBuilt
 pub mod AcceptedHashes
+pub mod PutWays
 pub mod SinglePuts
 pub mod Theorem
 pub mod Rows

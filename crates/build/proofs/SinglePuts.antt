@@ -4,21 +4,23 @@ use Prim.Native.Nat.{ℕ, _+_, _*_, _^_, _≤_, _<_}
 use native.Mathlib.Omega.{arith}
 use native.Mathlib.Decide.{decLt}
 use native.Mathlib.Numerals.{add-one}
-use mathlib.Core.Path.{_≡_, refl, sym, ap, ap₂, _∙_}
+use mathlib.Core.Path.{_≡_, refl, sym, ap, ap₂, subst, _∙_}
 use mathlib.Core.Bool.{Bool, true, false, cond, _&&_, and-false}
 use mathlib.Core.List.{List, [], _∷_, _++_, append-assoc, append-nil}
-use borrow.Author.Tests.{lt-leb}
+use mathlib.Core.Logic.{⊎-elim}
 use lib.Dec.{eqb}
 use lib.ListN.{length, getD, set, take, drop, length-set, drop-of-length-le, take-append-drop, List·getD-append, List·getD-eq-default}
 use lib.Seq.{drop-cons, take-suc-set, drop-set-lt, getD-take, getD-drop, length-take-le}
 use Rattle.jhash.specs.NameHash.{hashOf}
 use Rattle.image.specs.declared.Mode.{Mode}
-use Rattle.image.specs.Image.{Entry}
+use Rattle.image.specs.Bytes.{same}
+use Rattle.image.specs.Image.{Entry, headSize, containsName}
+use Rattle.image.proofs.AllOfList.{All, all-map, all-append}
 use Rattle.packed.specs.Names.{names, nth}
 use Rattle.packed.proofs.NameEnds.{length-names}
 use Rattle.writer.specs.declared.Repeats.{Repeats}
-use Rattle.writer.specs.State.{State, fresh}
-use Rattle.writer.specs.Put.{putRefusal, writerAfter, appended, afterPut, entryOf}
+use Rattle.writer.specs.State.{State, fresh, refusesRepeats}
+use Rattle.writer.specs.Put.{putRefusal, writerAfter, appended, afterPut, repeated, entryOf}
 use Rattle.writer.specs.Close.{recorded, closeRefusal, closedSize, afterClose}
 use Rattle.serialize.specs.steps.Preconditions.{FirstHashes}
 use Rattle.lists.specs.Calls.{Call, put, after, answers, accepted, acceptedBy, WordIds}
@@ -27,7 +29,10 @@ use Rattle.lists.proofs.ListWritten.{Written}
 use Rattle.lists.proofs.ListCloses.{close-accepted}
 use Rattle.lists.proofs.WrittenRecord.{written-recorded}
 use Rattle.lists.proofs.CallLists.{list-accepted, list-written}
-use Rattle.index.specs.Index.{slotCount, Right, indexedRefusal, afterIndexed}
+use Rattle.index.specs.Index.{slotCount}
+use Rattle.index.specs.steps.Part.{Closable, PartIndex}
+use Rattle.index.proofs.RightKept.{fresh-holds-none, right-fresh, part-fresh}
+use Rattle.build.specs.declared.Known.{Known}
 use Rattle.build.specs.declared.Made.{Made}
 use Rattle.build.specs.declared.Built.the-variants.{Image}
 use Rattle.build.specs.Build.{callsOf, listed}
@@ -39,18 +44,6 @@ use Rattle.build.proofs.AllPut.{word-ids}
 
 -- ---- one put
 
--- with an empty slot, a put by the index is a put
-module _ (s : State) (words : List ℕ) (e : Entry) (spare : s .writer .entries < slotCount words) where
-  pub spare-refusal : indexedRefusal s words e ≡ putRefusal s e
-  unfolding indexedRefusal
-  spare-refusal =
-      ap (λ (b : Bool). cond (eqb (putRefusal s e) 0 && b) 24 (putRefusal s e)) (lt-leb (slotCount words) (s .writer .entries) spare)
-      ∙ ap (λ (b : Bool). cond b 24 (putRefusal s e)) (and-false (eqb (putRefusal s e) 0))
-
-  pub spare-after : afterIndexed s words e ≡ afterPut s e
-  unfolding afterIndexed afterPut
-  spare-after = ap (λ (k : ℕ). cond (eqb k 0) (appended s e) s) spare-refusal
-
 entries-most : (s : State) (e : Entry) → afterPut s e .writer .entries ≤ s .writer .entries + 1
 unfolding afterPut appended writerAfter
 entries-most s e = go (eqb (putRefusal s e) 0)
@@ -58,6 +51,36 @@ entries-most s e = go (eqb (putRefusal s e) 0)
     go : (b : Bool) → cond b (appended s e) s .writer .entries ≤ s .writer .entries + 1
     go true = omega arith
     go false = omega arith
+
+choice-kept : (s : State) (e : Entry) → afterPut s e .writer .repeats ≡ s .writer .repeats
+unfolding afterPut appended writerAfter
+choice-kept s e = go (eqb (putRefusal s e) 0)
+  where
+    go : (b : Bool) → cond b (appended s e) s .writer .repeats ≡ s .writer .repeats
+    go true = refl
+    go false = refl
+
+-- ---- names that no entry has
+
+absent : (name : List ℕ) (es : List Entry) → All (λ (e : Entry). same (e .name) name ≡ false) es → containsName name es ≡ false
+unfolding containsName
+absent name [] all = refl
+absent name (e ∷ es) all = rw (all .0) (absent name es (all .1))
+
+-- the name of an entry is one of the first i
+abbrev OneOf : List (List ℕ) → ℕ → Entry → Type 0
+OneOf xs i e = (j : ℕ) × (j < i) × (e .name ≡ nth xs j)
+
+-- so a name that equals none of them is no duplicate
+pub not-repeated : (s : State) (xs : List (List ℕ)) (i : ℕ) (name : List ℕ) → name ≡ nth xs i → All (OneOf xs i) (recorded s)
+    → (refusesRepeats (s .writer .repeats) ≡ true → (j : ℕ) → j < i → same (nth xs j) (nth xs i) ≡ false) → repeated s name ≡ false
+not-repeated s xs i name named among distinct = go (refusesRepeats (s .writer .repeats)) refl
+  where
+    go : (t : Bool) → refusesRepeats (s .writer .repeats) ≡ t → (containsName name (recorded s) && t) ≡ false
+    go false p = and-false (containsName name (recorded s))
+    go true p =
+        ap (λ (b : Bool). b && true)
+        (absent name (recorded s) (all-map (λ e o. ap₂ same (o .2) named ∙ distinct p (o .0) (o .1)) (recorded s) among))
 
 -- ---- the calls from the i-th on
 
@@ -77,30 +100,37 @@ rest-none xs ids i h = ap (λ (l : List (List ℕ)). callsOf l (drop i ids)) (dr
 
 -- ---- the loop's invariant, before the i-th put
 
-pub record PutsBefore (mode : Mode) (repeats : Repeats) (buffer : List ℕ) (xs : List (List ℕ)) (ids places : List ℕ) (i : ℕ)
+pub record PutsBefore (mode : Mode) (repeats : Repeats) (distinct : ℕ) (buffer : List ℕ) (xs : List (List ℕ)) (ids places : List ℕ) (i : ℕ)
     (s : State) (refusals slots : List ℕ) : Type 0 where
   pub left : after s (rest xs ids i) ≡ afterList mode repeats buffer (callsOf xs ids)
   pub told : take i refusals ++ answers s (rest xs ids i) ≡ answersOf mode repeats buffer (callsOf xs ids)
-  pub right : 0 < length slots → Right s slots
+  pub closable : Closable s
+  pub choice : s .writer .repeats ≡ repeats
+  pub index : 0 < length slots → PartIndex distinct s slots
+  pub among : All (OneOf xs i) (recorded s)
   pub few : s .writer .entries ≤ i
   pub size : length refusals ≡ length places
   pub kept : (k : ℕ) → i ≤ k → drop k refusals ≡ drop k places
 
-module _ {mode : Mode} {repeats : Repeats} {buffer : List ℕ} {xs : List (List ℕ)} {ids places : List ℕ} where
-  pub puts-start : {s : State} {slots : List ℕ} → s ≡ fresh mode repeats buffer → (0 < length slots → Right s slots)
-      → PutsBefore mode repeats buffer xs ids places 0 s places slots
+module _ {mode : Mode} {repeats : Repeats} {distinct : ℕ} {buffer : List ℕ} {xs : List (List ℕ)} {ids places : List ℕ} where
+  pub puts-start : {s : State} {slots : List ℕ} → s ≡ fresh mode repeats buffer → headSize ≤ length buffer → ((i : ℕ) → getD slots i 0 ≡ 0)
+      → PutsBefore mode repeats distinct buffer xs ids places 0 s places slots
   unfolding fresh
-  puts-start e right =
+  puts-start {s} {slots} e room clear =
+      let right = right-fresh mode repeats buffer slots room clear in
       record {
         left = ap (λ (t : State). after t (callsOf xs ids)) e;
         told = ap (λ (t : State). answers t (callsOf xs ids)) e;
-        right = right;
+        closable = subst Closable (sym e) (record { closes = right .closes; tables = right .tables });
+        choice = ap (λ (t : State). t .writer .repeats) e;
+        index = λ h. subst (λ (t : State). PartIndex distinct t slots) (sym e) (part-fresh distinct mode repeats buffer slots room clear);
+        among = subst (All (OneOf xs 0)) (sym (ap recorded e ∙ fresh-holds-none mode repeats buffer room)) tt;
         few = omega (arith, ap (λ (t : State). t .writer .entries) e);
         size = refl;
         kept = λ k h. refl;
       }
 
-  module _ {i : ℕ} {s : State} {refusals slots : List ℕ} (g : PutsBefore mode repeats buffer xs ids places i s refusals slots) where
+  module _ {i : ℕ} {s : State} {refusals slots : List ℕ} (g : PutsBefore mode repeats distinct buffer xs ids places i s refusals slots) where
     pub puts-end : length xs ≤ i → s ≡ afterList mode repeats buffer (callsOf xs ids)
     unfolding after
     puts-end h = ap (after s) (sym (rest-none xs ids i h)) ∙ g .left
@@ -124,7 +154,8 @@ module _ {mode : Mode} {repeats : Repeats} {buffer : List ℕ} {xs : List (List 
         ∙ ap (λ (k : ℕ). getD places k 0) here
 
     module _ (inside : i < length xs) (many : length xs ≤ length ids) (room : length xs ≤ length refusals) (name : List ℕ) (named : name ≡ nth xs i)
-        (r : ℕ) (s' : State) (slots' : List ℕ) (done : PutPost s slots (entryOf name (getD ids i 0)) r s' slots') (long : length slots' ≡ length slots) where
+        (known : Known) (is : known .distinct ≡ distinct)
+        (r : ℕ) (s' : State) (slots' : List ℕ) (done : PutPost s slots (entryOf name (getD ids i 0)) known r s' slots') (long : length slots' ≡ length slots) where
       e : Entry
       e = entryOf (nth xs i) (getD ids i 0)
 
@@ -157,13 +188,25 @@ module _ {mode : Mode} {repeats : Repeats} {buffer : List ℕ} {xs : List (List 
           ∙ ap (λ (l : List Call). take i refusals ++ answers s l) (sym cons)
           ∙ g .told
 
-      pub puts-turn : PutsBefore mode repeats buffer xs ids places (i + 1) s' (set refusals i r) slots'
+      earlier : All (OneOf xs (i + 1)) (recorded s)
+      earlier = all-map (λ x o. (o .0, omega (arith, o .1), o .2)) (recorded s) (g .among)
+
+      among-next : All (OneOf xs (i + 1)) (recorded s')
+      among-next =
+          ⊎-elim (λ same. subst (All (OneOf xs (i + 1))) (sym same) earlier)
+          (λ more. subst (All (OneOf xs (i + 1))) (sym more) (all-append (OneOf xs (i + 1)) (recorded s) (entryOf name (getD ids i 0) ∷ []) earlier ((i, omega arith, named), tt)))
+          (done .held)
+
+      pub puts-turn : PutsBefore mode repeats distinct buffer xs ids places (i + 1) s' (set refusals i r) slots'
       unfolding more
       puts-turn =
           record {
             left = left-next;
             told = told-next;
-            right = λ h. done .right (omega (arith, h, long));
+            closable = done .closable;
+            choice = ap (λ (u : State). u .writer .repeats) next ∙ choice-kept s e ∙ g .choice;
+            index = λ h. subst (λ (d : ℕ). PartIndex d s' slots') is (done .index (omega (arith, h, long)));
+            among = among-next;
             few = omega (arith, ap (λ (u : State). u .writer .entries) next, entries-most s e, g .few);
             size = length-set refusals i r ∙ g .size;
             kept = λ k h. drop-set-lt k refusals i r (omega (arith, h)) ∙ g .kept k (omega (arith, h));

@@ -40,6 +40,21 @@ pub enum Built {
     Refused(u32),
 }
 
+// What the bulk path has found out of a list: whether the refusals' places have the names' hashes, whether no name has a
+// zero byte, and the number of tables, from the first on, whose names are equal to no earlier name.
+struct Known {
+    hashed: bool,
+    clean: bool,
+    distinct: u32,
+}
+
+// What the bulk path gives: the size of the image of all names, or 0 if a name is refused or may be; and what it has
+// found out.
+struct Tried {
+    size: u32,
+    known: Known,
+}
+
 // The image written around the entries of a record that a close would accept: the puts know all that a close checks.
 // `hashes` has the hashes of the first entries, or of none.
 fn finish_list(w: CQDBWriter, counts: &[u32; 256], hashes: &[u32], buf: &mut [u8]) -> Made
@@ -54,7 +69,7 @@ fn finish_list(w: CQDBWriter, counts: &[u32; 256], hashes: &[u32], buf: &mut [u8
 }
 
 // The puts one by one and one close, from a fresh record. The index of a fresh record has no entry: its slots are
-// cleared. If `hashed`, the refusals' places have the names' hashes.
+// cleared.
 fn build_singly(
     mode: Mode,
     repeats: Repeats,
@@ -64,16 +79,16 @@ fn build_singly(
     ids: &[u32],
     refusals: &mut [u32],
     scratch: &mut [u32],
-    hashed: bool,
+    known: Known,
 ) -> Built
-    requires { ⌜ SinglyPre hashed (now buf) (now bytes) (now ends) (now ids) (now refusals) ⌝ }
+    requires { ⌜ SinglyPre repeats known (now buf) (now bytes) (now ends) (now ids) (now refusals) ⌝ }
     ensures { λ r. ⌜
         ListBuilt mode repeats (now (buf .entry)) (now (bytes .entry)) (now (ends .entry)) (now (ids .entry))
         (now (refusals .entry)) r (now (buf .exit)) (now (refusals .exit))
         ⌝ }
 {
     let words = index_words(repeats, ends.len(), scratch.len());
-    let saved = save_hashes(hashed, &*refusals, ends.len(), words, &mut *scratch);
+    let saved = save_hashes(known.hashed, &*refusals, ends.len(), words, &mut *scratch);
     clear(&mut *scratch, words);
     let mut counts = [0; 256];
     let w = CQDBWriter {
@@ -94,7 +109,7 @@ fn build_singly(
         ends,
         ids,
         &mut *refusals,
-        hashed,
+        known,
     );
     let kept = keep_accepted(&*refusals, saved, words, &mut *scratch);
     let hashes = &scratch[words..words + kept];
@@ -111,8 +126,8 @@ fn refuses(repeats: Repeats) -> bool
     }
 }
 
-// Bulk path: builds all tables in the scratch memory, then writes the image in one pass. Returns the image's size, or 0
-// if a name is refused or may be: then the buffer is as it was, and the refusals' places have the names' hashes.
+// Bulk path: builds all tables in the scratch memory, then writes the image in one pass. If a name is refused or may be,
+// the size that it gives is 0: then the buffer is as it was, and the refusals' places have the names' hashes.
 fn build_bulk(
     mode: Mode,
     repeats: Repeats,
@@ -122,7 +137,7 @@ fn build_bulk(
     ids: &[u32],
     refusals: &mut [u32],
     scratch: &mut [u32],
-) -> u32
+) -> Tried
     requires { ⌜ BulkPre mode (now buf) (now bytes) (now ends) (now ids) (now refusals) (now scratch) ⌝ }
     ensures { λ r. ⌜
         BulkTried mode repeats (now (buf .entry)) (now (bytes .entry)) (now (ends .entry)) (now (ids .entry))
@@ -132,19 +147,31 @@ fn build_bulk(
     let n = ends.len();
     let mut counts = [0; 256];
     if !hash_all(bytes, ends, &mut *refusals, &mut counts) {
-        return 0;
+        let known = Known {
+            hashed: true,
+            clean: false,
+            distinct: 0,
+        };
+        return Tried { size: 0, known };
     }
-    let distinct = refuses(repeats);
-    if !build_tables(distinct, bytes, ends, &*refusals, &counts, &mut *scratch) {
-        return 0;
+    let off = refuses(repeats);
+    let built = build_tables(off, bytes, ends, &*refusals, &counts, &mut *scratch);
+    let distinct = built as u32;
+    let known = Known {
+        hashed: true,
+        clean: true,
+        distinct,
+    };
+    if built < 256 {
+        return Tried { size: 0, known };
     }
     let tables = &scratch[..4 * n];
     let size = write_list(mode, &mut *buf, bytes, ends, ids, &counts, tables);
     clear(&mut *refusals, n);
-    size
+    Tried { size, known }
 }
 
-// The bulk path, and if a name is refused or may be the puts one by one, with the hashes that are computed.
+// The bulk path, and if a name is refused or may be the puts one by one, with what that path has found out.
 fn build_hashed(
     mode: Mode,
     repeats: Repeats,
@@ -161,7 +188,7 @@ fn build_hashed(
         (now (refusals .entry)) r (now (buf .exit)) (now (refusals .exit))
         ⌝ }
 {
-    let size = build_bulk(
+    let tried = build_bulk(
         mode,
         repeats,
         &mut *buf,
@@ -171,10 +198,12 @@ fn build_hashed(
         &mut *refusals,
         &mut *scratch,
     );
+    let size = tried.size;
     if 0 < size {
         let accepted = ends.len() as u32;
         return Built::Image(Made { size, accepted });
     }
+    let known = tried.known;
     build_singly(
         mode,
         repeats,
@@ -184,7 +213,7 @@ fn build_hashed(
         ids,
         &mut *refusals,
         &mut *scratch,
-        true,
+        known,
     )
 }
 
@@ -218,6 +247,11 @@ fn build_list(
             &mut *scratch,
         );
     }
+    let known = Known {
+        hashed: false,
+        clean: false,
+        distinct: 0,
+    };
     build_singly(
         mode,
         repeats,
@@ -227,7 +261,7 @@ fn build_list(
         ids,
         &mut *refusals,
         &mut *scratch,
-        false,
+        known,
     )
 }
 

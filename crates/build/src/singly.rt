@@ -1,38 +1,31 @@
-// The puts of a list, one by one: by an index in the scratch memory, which tells a duplicate in constant time, or by
-// the rule's own put, which with repeats off walks all earlier entries.
+// The puts of a list, one by one. A name that is known to be no duplicate is put without a search: with repeats on each
+// name, otherwise those of tables in which the bulk path has found none. The others are looked for in an index in the
+// scratch memory, in constant time, or without memory by the rule's own put, which walks all earlier entries.
 ghost use mathlib.Core.Path.{_≡_};
 ghost use mathlib.Core.Bool.{true};
 ghost use Prim.Native.Nat.{_<_};
 ghost use lib.ListN.{length};
 ghost use Rattle.jhash.specs.NameHash.{hashOf};
+ghost use Rattle.image.specs.Tables.{tableOf};
 ghost use Rattle.writer.specs.State.{stateWith};
 ghost use Rattle.writer.specs.Put.{entryOf};
-ghost use Rattle.build.specs.steps.Steps.{IndexWords, PutPre, PutPost, PutListPre, PutListPost};
+ghost use Rattle.build.specs.steps.Steps.{IndexWords, HashGiven, KnownNew, PutPre, PutPost, PutListPre, PutListPost};
+use super::Known;
+use index::NameFacts;
 use index::put_hashed;
+use index::put_new;
 use packed::name_of;
 use writer::CQDBWriter;
 use writer::PutAnswer;
 use writer::Repeats;
 
-// With repeats on an index pays up to this many names: a put by it looks at one count and not at all 256. For more
-// names its slots exceed the caches, and a put waits for each.
-const INDEXED_REPEATS: usize = 131072;
-
 // How many words of the scratch memory are the index of n names: two slots of two words a name, or what there is. 0
-// where there is less than a slot a name, and with repeats on, where no put looks for its name, unless the index pays.
+// where there is less than a slot a name, and with repeats on, where no put looks for its name.
 pub(crate) fn index_words(repeats: Repeats, n: usize, words: usize) -> usize
-    ensures { λ r. ⌜ IndexWords n words r ⌝ }
+    ensures { λ r. ⌜ IndexWords repeats n words r ⌝ }
 {
     match repeats {
-        Repeats::On => {
-            if INDEXED_REPEATS < n {
-                return 0;
-            }
-            if words / 4 < n {
-                return 0;
-            }
-            4 * n
-        }
+        Repeats::On => 0,
         Repeats::Off => {
             if words / 2 < n {
                 return 0;
@@ -48,7 +41,7 @@ pub(crate) fn index_words(repeats: Repeats, n: usize, words: usize) -> usize
 // The hash of a name, if it is not too long to have one: h if `hashed`, otherwise computed.
 fn hash_of(hashed: bool, h: u32, name: &[u8]) -> u32
     requires { ⌜ (hashed ≡ true → h ≡ hashOf (now name)) ⌝ }
-    ensures { λ r. ⌜ (length (now (name .entry)) < 4294967295 → r ≡ hashOf (now (name .entry))) ⌝ }
+    ensures { λ r. ⌜ HashGiven hashed (now (name .entry)) r ⌝ }
 {
     if hashed {
         return h;
@@ -56,7 +49,17 @@ fn hash_of(hashed: bool, h: u32, name: &[u8]) -> u32
     jhash::key(name)
 }
 
-// A put by the index if there are slots, otherwise the rule's own put. If `hashed`, h is the name's hash.
+// Is a name of hash h known to be no duplicate? With repeats on, and if its table is one of the first `distinct`.
+fn is_new(repeats: Repeats, distinct: u32, h: u32) -> bool
+    ensures { λ r. ⌜ KnownNew repeats distinct h r ⌝ }
+{
+    match repeats {
+        Repeats::On => true,
+        Repeats::Off => h % 256 < distinct,
+    }
+}
+
+// A put by the way that fits the name. If `known.hashed`, h is the name's hash.
 fn put_name(
     w: CQDBWriter,
     counts: &mut [u32; 256],
@@ -64,25 +67,33 @@ fn put_name(
     slots: &mut [u32],
     name: &[u8],
     id: u32,
-    hashed: bool,
+    known: Known,
     h: u32,
 ) -> PutAnswer
-    requires { ⌜ PutPre (stateWith w (now counts) (now buf)) (now slots) (now name) hashed h ⌝ }
+    requires { ⌜ PutPre (stateWith w (now counts) (now buf)) (now slots) (now name) known h ⌝ }
     ensures { λ r. ⌜
         PutPost (stateWith w (now (counts .entry)) (now (buf .entry))) (now (slots .entry))
-        (entryOf (now (name .entry)) id) (r .refusal)
+        (entryOf (now (name .entry)) id) known (r .refusal)
         (stateWith (r .writer) (now (counts .exit)) (now (buf .exit))) (now (slots .exit))
         ⌝ }
 {
+    let k = hash_of(known.hashed, h, name);
+    let facts = NameFacts {
+        hash: k,
+        clean: known.clean,
+    };
+    let repeats = w.repeats;
+    if is_new(repeats, known.distinct, k) {
+        return put_new(w, &mut *counts, &mut *buf, name, id, facts);
+    }
     if slots.len() == 0 {
         return writer::put(w, &mut *counts, &mut *buf, name, id);
     }
-    let k = hash_of(hashed, h, name);
-    put_hashed(w, &mut *counts, &mut *buf, &mut *slots, name, id, k)
+    put_hashed(w, &mut *counts, &mut *buf, &mut *slots, name, id, facts)
 }
 
-// The puts of all names in their order, with the number of each put's refusal. If `hashed`, the place of each refusal
-// has the name's hash until the put.
+// The puts of all names in their order, with the number of each put's refusal. If `known.hashed`, the place of each
+// refusal has the name's hash until the put.
 pub(crate) fn put_list(
     w: CQDBWriter,
     counts: &mut [u32; 256],
@@ -92,10 +103,10 @@ pub(crate) fn put_list(
     ends: &[u64],
     ids: &[u32],
     refusals: &mut [u32],
-    hashed: bool,
+    known: Known,
 ) -> CQDBWriter
     requires { ⌜
-        PutListPre w (now counts) (now buf) (now slots) (now bytes) (now ends) (now ids) (now refusals) hashed
+        PutListPre w (now counts) (now buf) (now slots) (now bytes) (now ends) (now ids) (now refusals) known
         ⌝ }
     ensures { λ r. ⌜
         PutListPost w (now (buf .entry)) (now (bytes .entry)) (now (ends .entry)) (now (ids .entry))
@@ -114,7 +125,7 @@ pub(crate) fn put_list(
             &mut *slots,
             name,
             ids[i],
-            hashed,
+            known,
             h,
         );
         after = answer.writer;

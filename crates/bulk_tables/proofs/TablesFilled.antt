@@ -17,7 +17,7 @@ use Rattle.image.proofs.Buckets.{getD-empties, firstEmpty-ext}
 use Rattle.lookup_laws.proofs.TableContents.{NotEmpty}
 use Rattle.bulk_tables.specs.steps.Partition.{at, tableFirst}
 use Rattle.bulk_tables.specs.steps.Layout.{tableWords, pairWords, pairStored}
-use Rattle.bulk_tables.specs.steps.Contracts.{Probed, FillTablePre, TableFilled, FillAllPre}
+use Rattle.bulk_tables.specs.steps.Contracts.{Probed, FillTablePre, TableFilled, FillAllPre, FilledTo}
 use Rattle.bulk_tables.specs.steps.BulkTables.{pairIn, pairsIn, bucketIn, namesEqual, Fills, NoDuplicates}
 use Rattle.lookup_laws.specs.steps.HasMatch.{hasMatch}
 use Rattle.lookup_laws.proofs.SlotSearch.{none-equal, filled-next}
@@ -275,30 +275,40 @@ module _ {bytes ends scratch₀ tables : List ℕ} (pre : FillAllPre bytes ends 
           buckets-empty = λ w h k. s .rest w h ∙ pre .buckets-empty w (omega (arith, fits, within));
         }
 
-    pub all-step : {scratch′ : List ℕ} → length scratch′ ≡ length scratch → TableFilled distinct bytes ends scratch scratch′ first (end - first)
-        → AllFilling distinct bytes ends scratch₀ tables (t + 1) end scratch′
-    all-step {scratch′} same told =
-        record {
-          at-most = omega arith;
-          begins = sym (first-next tables t);
-          low = within;
-          long = same ∙ s .long;
-          rest = λ w h. told .kept-after w (omega (arith, fits)) ∙ s .rest w (omega (arith, fits));
-          rise = λ r h. elim (ℕ-discrete r t) [
-            | yes e ↦ omega (arith, ap (at tables) e)
-            | no e ↦ omega (arith, s .rise r (omega arith), fits)
-          ];
-          fills = λ r h. elim (ℕ-discrete r t) [
-            | yes e ↦ subst (λ (x : ℕ). Fills size scratch′ (4 * tableFirst tables x) (tableFirst tables x) (count x)) (sym e) (by-row (λ (f c : ℕ). Fills size scratch′ (4 * f) f c) (told .fills))
-            | no e ↦ fills-kept size scratch scratch′ late (tableFirst tables r) (count r)
-                (λ w l. told .kept-before w (omega (arith, s .rise r (omega arith), pre .lasts-rise r (omega arith) .0)))
-                (s .fills r (omega arith))
-          ];
-          no-duplicates = λ d r h. elim (ℕ-discrete r t) [
-            | yes e ↦ subst (λ (x : ℕ). NoDuplicates bytes ends scratch′ (tableFirst tables x) (count x)) (sym e) (by-row (NoDuplicates bytes ends scratch′) (told .no-duplicates d))
-            | no e ↦ distinct-kept bytes ends scratch scratch′ late (tableFirst tables r) (count r) (s .no-duplicates d r (omega arith))
-          ];
-        }
-      where
-        late : (w : ℕ) → 4 * size ≤ w → at scratch′ w ≡ at scratch w
-        late w h = told .kept-after w (omega (arith, fits, within))
+    module _ {scratch′ : List ℕ} {done : Bool} (told : TableFilled distinct bytes ends scratch scratch′ first (end - first) done) where
+      behind : (w : ℕ) → 4 * size ≤ w → at scratch′ w ≡ at scratch w
+      behind w h = told .kept-after w (omega (arith, fits, within))
+
+      -- the tables before it are as they were, whether it is filled or not
+      pub filled-to : FilledTo distinct bytes ends scratch₀ scratch′ tables t
+      filled-to =
+          record {
+            most = s .at-most;
+            fills = λ r h. fills-kept size scratch scratch′ behind (tableFirst tables r) (count r)
+                (λ w l. told .kept-before w (omega (arith, s .rise r h, pre .lasts-rise r (omega arith) .0)))
+                (s .fills r h);
+            no-duplicates = λ d r h. distinct-kept bytes ends scratch scratch′ behind (tableFirst tables r) (count r) (s .no-duplicates d r h);
+            pairs-kept = λ w h. behind w h ∙ s .rest w (omega (arith, s .low));
+          }
+
+      pub all-step : length scratch′ ≡ length scratch → done ≡ true → AllFilling distinct bytes ends scratch₀ tables (t + 1) end scratch′
+      all-step same all =
+          record {
+            at-most = omega arith;
+            begins = sym (first-next tables t);
+            low = within;
+            long = same ∙ s .long;
+            rest = λ w h. told .kept-after w (omega (arith, fits)) ∙ s .rest w (omega (arith, fits));
+            rise = λ r h. elim (ℕ-discrete r t) [
+              | yes e ↦ omega (arith, ap (at tables) e)
+              | no e ↦ omega (arith, s .rise r (omega arith), fits)
+            ];
+            fills = λ r h. elim (ℕ-discrete r t) [
+              | yes e ↦ subst (λ (x : ℕ). Fills size scratch′ (4 * tableFirst tables x) (tableFirst tables x) (count x)) (sym e) (by-row (λ (f c : ℕ). Fills size scratch′ (4 * f) f c) (told .fills all))
+              | no e ↦ filled-to .fills r (omega arith)
+            ];
+            no-duplicates = λ d r h. elim (ℕ-discrete r t) [
+              | yes e ↦ subst (λ (x : ℕ). NoDuplicates bytes ends scratch′ (tableFirst tables x) (count x)) (sym e) (by-row (NoDuplicates bytes ends scratch′) (told .no-duplicates all d))
+              | no e ↦ filled-to .no-duplicates d r (omega arith)
+            ];
+          }

@@ -16,12 +16,12 @@ use Rattle.bulk_tables.specs.steps.Layout.{pairWords}
 use Rattle.bulk_tables.specs.steps.Partition.{at, tableIn, tableOfName, countOfTable, prefixSum, firstOfTable, tableFirst}
 use Rattle.bulk_tables.specs.steps.BulkTables.{pairIn, bucketIn, Fills, NoDuplicates}
 use Rattle.bulk_tables.specs.steps.Contracts.{EntryOffsets, BuildTablesPre, PrefixSumsPre, PrefixSums, PartitionPre, PairsAre, Partitioned}
-use Rattle.bulk_tables.specs.steps.Contracts.{FillAllPre, AllFilled, TablesBuilt}
+use Rattle.bulk_tables.specs.steps.Contracts.{FillAllPre, FilledTo, TablesBuiltTo}
 use Rattle.bulk_tables.proofs.TableCounts.{first-le, first-more, count-ext, sums-fit}
 use Rattle.bulk_tables.proofs.Offsets.{offsets-small, as-many}
 use Rattle.bulk_tables.proofs.TablesFilled.{first-next}
 use Rattle.bulk_tables.proofs.PairsOfTable.{table-count, table-first, table-pairs}
-use Rattle.bulk_tables.proofs.AllDistinct.{all-distinct}
+use Rattle.bulk_tables.proofs.AllDistinct.{below-distinct}
 use Rattle.bulk_tables.proofs.TableWords.{words-tables}
 
 module _ {bytes ends hashes counts scratch : List ℕ} (pre : BuildTablesPre bytes ends hashes counts scratch) where
@@ -85,8 +85,8 @@ module _ {bytes ends hashes counts scratch : List ℕ} (pre : BuildTablesPre byt
             buckets-empty = cleared .zero;
           }
 
-      -- the tables are filled in w₄
-      module _ {distinct : Bool} {w₄ : List ℕ} (filled-in : AllFilled distinct bytes ends w₃ w₄ rows) (long : length w₄ ≡ length scratch) where
+      -- the first r tables are filled in w₄
+      module _ {distinct : Bool} {w₄ : List ℕ} {r : ℕ} (filled-in : FilledTo distinct bytes ends w₃ w₄ rows r) (long : length w₄ ≡ length scratch) where
         pairs : PairsAre ends hashes w₄
         pairs i h =
             let was : (w : ℕ) → pairWords n ≤ w → at w₄ w ≡ at w₂ w = λ w l. filled-in .pairs-kept w l ∙ cleared .kept w l in
@@ -96,7 +96,8 @@ module _ {bytes ends hashes counts scratch : List ℕ} (pre : BuildTablesPre byt
         by-table : (P : ℕ → ℕ → Type 0) (t : ℕ) → t < 256 → P (tableFirst rows t) (at rows t - tableFirst rows t) → P (firstOfTable T n t) (countOfTable T t n)
         by-table P t h p = subst (P (firstOfTable T n t)) (count-is t h) (subst (λ (f : ℕ). P f (at rows t - tableFirst rows t)) (first-is t h) p)
 
-        module _ (es : List Entry) (named : map (λ (e : Entry). e .name) es ≡ names bytes ends) where
+        -- if r is 256
+        module _ (whole : r ≡ 256) (es : List Entry) (named : map (λ (e : Entry). e .name) es ≡ names bytes ends) where
           abbrev ps : List Placed
           ps = placed headSize es
 
@@ -108,17 +109,18 @@ module _ {bytes ends hashes counts scratch : List ℕ} (pre : BuildTablesPre byt
           known t h k l =
               let c = table-count pre es named t in
               ap (λ (f : ℕ). bucketIn w₄ (4 * f) k) (sym (table-first pre es named t))
-              ∙ by-table (λ (f m : ℕ). Fills n w₄ (4 * f) f m) t h (filled-in .fills t h) k (omega arith)
+              ∙ by-table (λ (f m : ℕ). Fills n w₄ (4 * f) f m) t h (filled-in .fills t (omega (arith, whole))) k (omega arith)
               ∙ ap₂ {C = Bucket} (λ (m : ℕ) (bs : List Bucket). getD (filled (2 * m) bs) k empty) c (table-pairs pre es named w₄ pairs t h)
 
           whole-tables : cat le32 (take (pairWords (length ends)) w₄) ≡ tables (placed headSize es)
           whole-tables =
               ap (λ (k : ℕ). cat le32 (take (4 * k) w₄)) (sym number) ∙ words-tables w₄ ps (omega (arith, number, long, pre .capacity)) known
 
-        pub built : TablesBuilt distinct bytes ends counts w₄
+        pub built : TablesBuiltTo distinct bytes ends counts w₄ r
         built =
             record {
-              no-duplicates = λ d. all-distinct pre w₄ pairs (λ t h. by-table (NoDuplicates bytes ends w₄) t h (filled-in .no-duplicates d t h));
-              tables-are = whole-tables;
-              counts-are = λ es named t h. counts-in t h ∙ table-count pre es named t;
+              most = filled-in .most;
+              all = λ e. record { tables-are = whole-tables e; counts-are = λ es named t h. counts-in t h ∙ table-count pre es named t };
+              distinct-below = λ d.
+                  below-distinct pre w₄ pairs r (λ t h. by-table (NoDuplicates bytes ends w₄) t (omega (arith, filled-in .most)) (filled-in .no-duplicates d t h));
             }

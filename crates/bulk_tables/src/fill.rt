@@ -1,9 +1,7 @@
 // Fills the tables in scratch memory, each from its pairs in their order. Equal names have equal hashes, so the probe
 // sequence of a duplicate reaches the bucket of the name before.
-ghost use mathlib.Core.Path.{_≡_};
-ghost use mathlib.Core.Bool.{true};
 ghost use Rattle.bulk_tables.specs.steps.Contracts.{ProbePre, Probed};
-ghost use Rattle.bulk_tables.specs.steps.Contracts.{FillTablePre, TableFilled, FillAllPre, AllFilled};
+ghost use Rattle.bulk_tables.specs.steps.Contracts.{FillTablePre, TableFilled, FillAllPre, FilledTo};
 use super::distinct::distinct_names;
 use super::layout::buckets_at;
 use super::layout::hash_at;
@@ -60,8 +58,7 @@ fn fill_table(
 ) -> bool
     requires { ⌜ FillTablePre (now bytes) (now ends) (now scratch) p c ⌝ }
     ensures { λ r. ⌜
-        (r ≡ true → TableFilled distinct (now (bytes .entry)) (now (ends .entry)) (now (scratch .entry))
-        (now (scratch .exit)) p c)
+        TableFilled distinct (now (bytes .entry)) (now (ends .entry)) (now (scratch .entry)) (now (scratch .exit)) p c r
         ⌝ }
 {
     let pairs = pairs_at(ends.len());
@@ -81,19 +78,19 @@ fn fill_table(
     true
 }
 
-// Fills all tables. `lasts` has where the pairs of each table end. False if names must be distinct and a duplicate was
-// found.
+// Fills the tables in their order. `lasts` has where the pairs of each table end. Returns how many are filled: 256, or
+// the number of the first table with a duplicate if names must be distinct.
 pub(super) fn fill_all(
     distinct: bool,
     bytes: &[u8],
     ends: &[u64],
     scratch: &mut [u32],
     lasts: &[u32; 256],
-) -> bool
+) -> usize
     requires { ⌜ FillAllPre (now bytes) (now ends) (now scratch) (now lasts) ⌝ }
     ensures { λ r. ⌜
-        (r ≡ true → AllFilled distinct (now (bytes .entry)) (now (ends .entry)) (now (scratch .entry))
-        (now (scratch .exit)) (now (lasts .entry)))
+        FilledTo distinct (now (bytes .entry)) (now (ends .entry)) (now (scratch .entry)) (now (scratch .exit))
+        (now (lasts .entry)) r
         ⌝ }
 {
     let mut p = 0;
@@ -101,10 +98,10 @@ pub(super) fn fill_all(
     while t < 256 {
         let end = lasts[t] as usize;
         if !fill_table(distinct, bytes, ends, &mut *scratch, p, end - p) {
-            return false;
+            return t;
         }
         p = end;
         t += 1;
     }
-    true
+    t
 }

@@ -1,8 +1,6 @@
 // The hash tables of a whole list of names, built in scratch memory before any entry is stored. They stand apart from
 // `build` for their check time: 20 s beside 32 s, where each must-fail edit of `build` would prove both.
-ghost use mathlib.Core.Path.{_≡_};
-ghost use mathlib.Core.Bool.{true};
-ghost use Rattle.bulk_tables.specs.steps.Contracts.{BuildTablesPre, TablesBuilt};
+ghost use Rattle.bulk_tables.specs.steps.Contracts.{BuildTablesPre, TablesBuiltTo};
 use fill::fill_all;
 use image::scratch::clear;
 use layout::pairs_at;
@@ -16,7 +14,8 @@ mod layout; // layout.rt: the layout of the scratch memory
 mod partition; // partition.rt: the pairs, sorted by table
 
 // Builds the tables of the image of all names in the first words of the scratch memory, from the names' hashes and
-// counts. False if names must be distinct and a duplicate was found; then the scratch memory is unspecified.
+// counts. Returns how many tables are filled, from the first on: 256, or the number of the first table with a duplicate
+// if names must be distinct. Below 256 the scratch memory is unspecified.
 pub fn build_tables(
     distinct: bool,
     bytes: &[u8],
@@ -24,11 +23,10 @@ pub fn build_tables(
     hashes: &[u32],
     counts: &[u32; 256],
     scratch: &mut [u32],
-) -> bool
+) -> usize
     requires { ⌜ BuildTablesPre (now bytes) (now ends) (now hashes) (now counts) (now scratch) ⌝ }
     ensures { λ r. ⌜
-        (r ≡ true → TablesBuilt distinct (now (bytes .entry)) (now (ends .entry)) (now (counts .entry))
-        (now (scratch .exit)))
+        TablesBuiltTo distinct (now (bytes .entry)) (now (ends .entry)) (now (counts .entry)) (now (scratch .exit)) r
         ⌝ }
 {
     let mut places = [0; 256];

@@ -1,83 +1,180 @@
--- What is due to a put by a right index, in the order of its checks. Assumes nothing.
-use Prim.Native.Nat.{ℕ, suc, _≤_, _<_}
+-- What is due to a put in the order of its checks: of a record that closes, by an index and without one. Assumes nothing.
+use Prim.Native.Nat.{ℕ, _≤_, _<_}
 use native.Mathlib.Omega.{arith}
 use mathlib.Core.Path.{_≡_, refl, sym, ap, _∙_}
-use mathlib.Core.Bool.{Bool, true, false, cond, _&&_}
+use mathlib.Core.Bool.{Bool, true, false, cond, not, _&&_, and-false}
 use mathlib.Core.List.{List}
-use borrow.Author.Tests.{eq-eqb, ne-eqb, le-leb, lt-leb, eqb-true, eqb-false, leb-false}
-use lib.Dec.{eqb, leb}
-use Rattle.image.specs.Image.{Entry, containsName}
+use borrow.Author.Tests.{eq-eqb, ne-eqb, le-leb, lt-leb, le-ltb, ltb-true, ltb-false, eqb-true, eqb-false, leb-true, leb-false}
+use lib.Dec.{eqb, leb, ltb}
+use lib.ListN.{length, getD}
+use Rattle.image.specs.Tables.{tableOf}
+use Rattle.image.specs.Image.{Entry, headSize}
 use Rattle.image.specs.Zero.{hasZero}
-use Rattle.writer.specs.State.{State, refusesRepeats, finishedSize, tooLarge}
-use Rattle.writer.specs.Put.{writerAfter, putRefusal, appended}
-use Rattle.writer.specs.Close.{recorded}
-use Rattle.writer.specs.steps.Earlier.{walkRefusal, earlierRefusal}
+use Rattle.image.proofs.Bools.{and-first, and-second, false-not-true}
+use Rattle.writer.specs.declared.CQDBWriter.{CQDBWriter}
+use Rattle.writer.specs.State.{State, noneAbove, fits, finishedSize, tooLarge}
+use Rattle.writer.specs.Put.{writerWith, writerAfter, repeated, putRefusal}
 use Rattle.writer.proofs.Closes.{Accepted, accepted}
-use Rattle.writer.proofs.Puts.{refuses-zero, refuses-earlier, refuses-full, accepts}
-use Rattle.index.specs.Index.{slotCount, Right, indexedRefusal, afterIndexed}
+use Rattle.writer.proofs.Puts.{long-name, count-small}
+use Rattle.index.specs.Index.{slotCount}
+use Rattle.index.specs.steps.Checks.{inBuffer, earlyRefusal, lateRefusal, newRefusal}
+use Rattle.index.specs.steps.Part.{Closable, refusalBy}
 
-module _ (s : State) (words : List ℕ) (e : Entry) where
-  pub kept-refused : (k : ℕ) → k ≡ indexedRefusal s words e → (k ≡ 0 → ⊥) → s ≡ afterIndexed s words e
-  unfolding afterIndexed
-  kept-refused k p n = rw (ne-eqb (indexedRefusal s words e) 0 (λ z. n (p ∙ z))) refl
+-- ---- what a check that is passed says, whatever was lent
 
-  pub left-accepted : 0 ≡ indexedRefusal s words e → appended s e ≡ afterIndexed s words e
-  unfolding afterIndexed
-  left-accepted p = rw (eq-eqb (indexedRefusal s words e) 0 (sym p)) refl
+-- the checks before the search
+pub record EarlyPassed (w : CQDBWriter) (buf name : List ℕ) : Type 0 where
+  pub same-length : w .length ≡ length buf
+  pub low : headSize ≤ w .end
+  pub high : w .end ≤ w .length
+  pub zero-free : hasZero name ≡ false
+  pub short : length name < 4294967295
 
-  -- an accepted put by the index is an accepted put
-  pub none-refused : 0 ≡ indexedRefusal s words e → (putRefusal s e ≡ 0) × (s .writer .entries < slotCount words)
-  unfolding indexedRefusal
-  none-refused p = go (eqb (putRefusal s e) 0) refl (leb (slotCount words) (s .writer .entries)) refl p
-    where
-      go : (a : Bool) → eqb (putRefusal s e) 0 ≡ a → (b : Bool) → leb (slotCount words) (s .writer .entries) ≡ b
-          → _≡_ {A = ℕ} 0 (cond (a && b) 24 (putRefusal s e))
-          → (putRefusal s e ≡ 0) × (s .writer .entries < slotCount words)
-      go true q true r z = absurd (omega arith)
-      go true q false r z = (eqb-true (putRefusal s e) 0 q, leb-false (slotCount words) (s .writer .entries) r)
-      go false q b r z = absurd (eqb-false (putRefusal s e) 0 q (sym z))
+pub early-passed : (w : CQDBWriter) (buf name : List ℕ) → earlyRefusal w buf name ≡ 0 → EarlyPassed w buf name
+unfolding earlyRefusal
+early-passed w buf name h = go (inBuffer w buf) (hasZero name) (ltb 4294967294 (length name)) refl refl refl h
+  where
+    go : (b z l : Bool) → inBuffer w buf ≡ b → hasZero name ≡ z → ltb 4294967294 (length name) ≡ l
+        → _≡_ {A = ℕ} (cond (not b) 2 (cond z 13 (cond l 3 0))) 0 → EarlyPassed w buf name
+    go true false false p q r h =
+        let same = eqb (w .length) (length buf) in
+        let low = leb headSize (w .end) in
+        let high = leb (w .end) (w .length) in
+        let both = and-first (same && low) high p in
+        let long = ltb-false 4294967294 (length name) r in
+        record {
+          same-length = eqb-true (w .length) (length buf) (and-first same low both);
+          low = leb-true headSize (w .end) (and-second same low both);
+          high = leb-true (w .end) (w .length) (and-second (same && low) high p);
+          zero-free = q;
+          short = omega (arith, long);
+        }
+    go true false true p q r h = absurd (omega arith)
+    go true true l p q r h = absurd (omega arith)
+    go false z l p q r h = absurd (omega arith)
 
-module _ {s : State} {words : List ℕ} (e : Entry) (right : Right s words) where
+-- those after it
+pub record LatePassed (w : CQDBWriter) (counts : List ℕ) (n id h : ℕ) : Type 0 where
+  pub fine : tooLarge (w .length) (finishedSize (writerWith w n id)) ≡ false
+  pub count : getD counts (tableOf h) 0 < 4294967295
+
+pub late-passed : (w : CQDBWriter) (counts : List ℕ) (n id h : ℕ) → lateRefusal w counts n id h ≡ 0 → LatePassed w counts n id h
+unfolding lateRefusal
+late-passed w counts n id h e =
+    go (tooLarge (w .length) (finishedSize (writerWith w n id))) (ltb 4294967294 (getD counts (tableOf h) 0)) refl refl e
+  where
+    go : (t c : Bool) → tooLarge (w .length) (finishedSize (writerWith w n id)) ≡ t → ltb 4294967294 (getD counts (tableOf h) 0) ≡ c
+        → _≡_ {A = ℕ} (cond t 3 (cond c 2 0)) 0 → LatePassed w counts n id h
+    go false false p q e =
+        let small = ltb-false 4294967294 (getD counts (tableOf h) 0) q in
+        record { fine = p; count = omega (arith, small) }
+    go false true p q e = absurd (omega arith)
+    go true c p q e = absurd (omega arith)
+
+-- both
+pub new-passed : (s : State) (e : Entry) (h : ℕ) → newRefusal s e h ≡ 0
+    → EarlyPassed (s .writer) (s .buffer) (e .name) × LatePassed (s .writer) (s .counts) (length (e .name)) (e .id) h
+new-passed s e h none = go (eqb (earlyRefusal (s .writer) (s .buffer) (e .name)) 0) refl none
+  where
+    go : (b : Bool) → eqb (earlyRefusal (s .writer) (s .buffer) (e .name)) 0 ≡ b
+        → cond b (lateRefusal (s .writer) (s .counts) (length (e .name)) (e .id) h) (earlyRefusal (s .writer) (s .buffer) (e .name)) ≡ 0
+        → EarlyPassed (s .writer) (s .buffer) (e .name) × LatePassed (s .writer) (s .counts) (length (e .name)) (e .id) h
+    go true p z = (
+      early-passed (s .writer) (s .buffer) (e .name) (eqb-true (earlyRefusal (s .writer) (s .buffer) (e .name)) 0 p),
+      late-passed (s .writer) (s .counts) (length (e .name)) (e .id) h z,
+    )
+    go false p z = absurd (eqb-false (earlyRefusal (s .writer) (s .buffer) (e .name)) 0 p z)
+
+-- ---- a record that closes
+
+module _ {s : State} (closable : Closable s) (e : Entry) where
   a : Accepted s
-  a = accepted s (right .closes)
+  a = accepted s (closable .closes)
 
-  refusal-some : (k : ℕ) → suc k ≡ putRefusal s e → suc k ≡ indexedRefusal s words e
-  unfolding indexedRefusal
-  refusal-some k p = rw (sym p, ne-eqb (suc k) 0 (λ z. omega arith)) refl
+  abbrev w : CQDBWriter
+  w = s .writer
 
-  -- the name is a duplicate, and duplicates are refused
-  abbrev pub duplicate : Bool
-  duplicate = containsName (e .name) (recorded s) && refusesRepeats (s .writer .repeats)
+  abbrev large : Bool
+  large = tooLarge (w .length) (finishedSize (writerAfter w e))
 
-  earlier : (b : Bool) → duplicate ≡ b → earlierRefusal s (e .name) ≡ cond b 16 0
-  unfolding earlierRefusal walkRefusal
-  earlier b p = rw (a .all) (go (containsName (e .name) (recorded s)) (refusesRepeats (s .writer .repeats)) p)
+  -- what is left of the rule
+  by-name : putRefusal s e ≡ cond (hasZero (e .name)) 13 (cond (repeated s (e .name)) 16 (cond large 3 0))
+  unfolding putRefusal
+  by-name = rw (a .fit, a .all) refl
+
+  early-by-name : earlyRefusal w (s .buffer) (e .name) ≡ cond (hasZero (e .name)) 13 (cond (ltb 4294967294 (length (e .name))) 3 0)
+  unfolding earlyRefusal fits
+  early-by-name =
+      ap (λ (b : Bool). cond (not b) 2 (cond (hasZero (e .name)) 13 (cond (ltb 4294967294 (length (e .name))) 3 0)))
+      (and-first (inBuffer w (s .buffer)) (noneAbove (s .counts) (w .entries)) (a .fit))
+
+  late-by-size : (h : ℕ) → lateRefusal w (s .counts) (length (e .name)) (e .id) h ≡ cond large 3 0
+  unfolding lateRefusal writerAfter
+  late-by-size h = go large refl
     where
-      go : (h r : Bool) → (h && r) ≡ b → _≡_ {A = ℕ} (cond r (cond h 16 0) 0) (cond b 16 0)
-      go true true q = ap (λ (x : Bool). cond {A = ℕ} x 16 0) q
-      go true false q = ap (λ (x : Bool). cond {A = ℕ} x 16 0) q
-      go false true q = ap (λ (x : Bool). cond {A = ℕ} x 16 0) q
-      go false false q = ap (λ (x : Bool). cond {A = ℕ} x 16 0) q
+      go : (t : Bool) → large ≡ t → _≡_ {A = ℕ} (cond t 3 (cond (ltb 4294967294 (getD (s .counts) (tableOf h) 0)) 2 0)) (cond t 3 0)
+      go true p = refl
+      go false p =
+          let few = count-small w (s .counts) (s .buffer) (length (e .name)) (e .id) (a .fit) p h in
+          ap (λ (b : Bool). cond {A = ℕ} b 2 0) (le-ltb 4294967294 (getD (s .counts) (tableOf h) 0) (omega (arith, few)))
 
-  pub refusal-zero : hasZero (e .name) ≡ true → 13 ≡ indexedRefusal s words e
-  refusal-zero z = refusal-some 12 (refuses-zero s e (a .fit) z)
+  -- a refusal before the search is the rule's; a name that is too long is no entry's
+  pub early-due : (4294967295 ≤ length (e .name) → repeated s (e .name) ≡ false) → (earlyRefusal (s .writer) (s .buffer) (e .name) ≡ 0 → ⊥)
+      → earlyRefusal (s .writer) (s .buffer) (e .name) ≡ putRefusal s e
+  early-due absent some =
+      early-by-name ∙ go (hasZero (e .name)) (ltb 4294967294 (length (e .name))) refl (λ z. some (early-by-name ∙ z)) ∙ sym by-name
+    where
+      go : (z l : Bool) → ltb 4294967294 (length (e .name)) ≡ l → (_≡_ {A = ℕ} (cond z 13 (cond l 3 0)) 0 → ⊥)
+          → _≡_ {A = ℕ} (cond z 13 (cond l 3 0)) (cond z 13 (cond (repeated s (e .name)) 16 (cond large 3 0)))
+      go true l p n = refl
+      go false true p n =
+          let long = ltb-true 4294967294 (length (e .name)) p in
+          rw (absent (omega (arith, long)), long-name w (e .name) (e .id) (omega (arith, long))) refl
+      go false false p n = absurd (n refl)
 
   module _ (free : hasZero (e .name) ≡ false) where
-    pub refusal-duplicate : duplicate ≡ true → 16 ≡ indexedRefusal s words e
-    refusal-duplicate p = refusal-some 15 (refuses-earlier s e (a .fit) free 16 (sym (earlier true p)) (λ n. omega arith))
+    pub duplicate-due : repeated s (e .name) ≡ true → 16 ≡ putRefusal s e
+    duplicate-due r = sym (by-name ∙ rw (free, r) refl)
 
-    module _ (new : duplicate ≡ false) where
-      pub refusal-large : tooLarge (s .writer .length) (finishedSize (writerAfter (s .writer) e)) ≡ true → 3 ≡ indexedRefusal s words e
-      refusal-large t = refusal-some 2 (refuses-full s e (a .fit) free (earlier false new) t)
+    pub late-due : (h : ℕ) → repeated s (e .name) ≡ false → lateRefusal (s .writer) (s .counts) (length (e .name)) (e .id) h ≡ putRefusal s e
+    late-due h r = late-by-size h ∙ sym (by-name ∙ rw (free, r) refl)
 
-      module _ (small : tooLarge (s .writer .length) (finishedSize (writerAfter (s .writer) e)) ≡ false) where
-        put-is : 0 ≡ putRefusal s e
-        put-is = accepts s e (a .fit) free (earlier false new) small
+  -- a put whose name is no duplicate
+  pub new-due : (h : ℕ) → repeated s (e .name) ≡ false → newRefusal s e h ≡ putRefusal s e
+  new-due h r = go (eqb (earlyRefusal w (s .buffer) (e .name)) 0) refl
+    where
+      go : (b : Bool) → eqb (earlyRefusal w (s .buffer) (e .name)) 0 ≡ b
+          → cond b (lateRefusal w (s .counts) (length (e .name)) (e .id) h) (earlyRefusal w (s .buffer) (e .name)) ≡ putRefusal s e
+      go true p = late-due (early-passed w (s .buffer) (e .name) (eqb-true (earlyRefusal w (s .buffer) (e .name)) 0 p) .zero-free) h r
+      go false p = early-due (λ long. r) (eqb-false (earlyRefusal w (s .buffer) (e .name)) 0 p)
 
-        pub refusal-full : slotCount words ≤ s .writer .entries → 24 ≡ indexedRefusal s words e
-        unfolding indexedRefusal
-        refusal-full l = rw (sym put-is, le-leb (slotCount words) (s .writer .entries) l) refl
+-- ---- by an index
 
-        pub refusal-none : s .writer .entries < slotCount words → 0 ≡ indexedRefusal s words e
-        unfolding indexedRefusal
-        refusal-none l = rw (sym put-is, lt-leb (slotCount words) (s .writer .entries) l) refl
+module _ (stored : ℕ) (s : State) (words : List ℕ) (e : Entry) where
+  pub by-refusal : (k : ℕ) → k ≡ putRefusal s e → (k ≡ 0 → ⊥) → k ≡ refusalBy stored s words e
+  by-refusal k p n =
+      p ∙ sym (ap (λ (b : Bool). cond (b && leb (slotCount words) stored) 24 (putRefusal s e)) (ne-eqb (putRefusal s e) 0 (λ z. n (p ∙ z))))
+
+  module _ (none : 0 ≡ putRefusal s e) where
+    pub by-full : slotCount words ≤ stored → 24 ≡ refusalBy stored s words e
+    by-full l = rw (sym none, le-leb (slotCount words) stored l) refl
+
+    pub by-none : stored < slotCount words → 0 ≡ refusalBy stored s words e
+    by-none l = rw (sym none, lt-leb (slotCount words) stored l) refl
+
+  -- with a slot to spare
+  pub by-spare : stored < slotCount words → refusalBy stored s words e ≡ putRefusal s e
+  by-spare l =
+      ap (λ (b : Bool). cond (eqb (putRefusal s e) 0 && b) 24 (putRefusal s e)) (lt-leb (slotCount words) stored l)
+      ∙ ap (λ (b : Bool). cond b 24 (putRefusal s e)) (and-false (eqb (putRefusal s e) 0))
+
+  -- an accepted put by the index is an accepted put
+  pub none-refused : 0 ≡ refusalBy stored s words e → (putRefusal s e ≡ 0) × (stored < slotCount words)
+  none-refused p = go (eqb (putRefusal s e) 0) refl (leb (slotCount words) stored) refl p
+    where
+      go : (a : Bool) → eqb (putRefusal s e) 0 ≡ a → (b : Bool) → leb (slotCount words) stored ≡ b
+          → _≡_ {A = ℕ} 0 (cond (a && b) 24 (putRefusal s e))
+          → (putRefusal s e ≡ 0) × (stored < slotCount words)
+      go true q true r z = absurd (omega arith)
+      go true q false r z = (eqb-true (putRefusal s e) 0 q, leb-false (slotCount words) stored r)
+      go false q b r z = absurd (eqb-false (putRefusal s e) 0 q (sym z))

@@ -21,17 +21,24 @@ use Rattle.lists.proofs.ListWritten.{Written}
 use Rattle.lists.proofs.ListPuts.{fresh-written}
 use Rattle.lists.proofs.ListCloses.{close-accepted, close-written}
 use Rattle.lists.proofs.WrittenRecord.{written-recorded}
-use Rattle.index.specs.Index.{slotCount, entryBuckets, Right}
+use Rattle.index.specs.Index.{slotCount, entryBuckets, FilledWith, Right}
+use Rattle.index.specs.steps.Part.{PartIndex, partBuckets}
 use Rattle.index.specs.theorems.KeptRight.{KeptRight}
+use Rattle.index.proofs.EntryNames.{length-part, part-none}
 use Rattle.index.proofs.RightAfterPut.{right-written}
 use Rattle.index.proofs.Insert.{same-slot}
+
+-- a fresh record has no entry
+pub fresh-holds-none : (mode : Mode) (repeats : Repeats) (buffer : List ℕ) → headSize ≤ length buffer → recorded (fresh mode repeats buffer) ≡ []
+fresh-holds-none mode repeats buffer room =
+    written-recorded mode repeats (length buffer) [] (fresh mode repeats buffer) (fresh-written mode repeats buffer room)
 
 pub right-fresh : (mode : Mode) (repeats : Repeats) (buffer words : List ℕ) → headSize ≤ length buffer → ((i : ℕ) → getD words i 0 ≡ 0)
     → Right (fresh mode repeats buffer) words
 unfolding filled insertAll placed
 right-fresh mode repeats buffer words room clear =
     let w = fresh-written mode repeats buffer room in
-    let none : recorded (fresh mode repeats buffer) ≡ [] = written-recorded mode repeats (length buffer) [] (fresh mode repeats buffer) w in
+    let none = fresh-holds-none mode repeats buffer room in
     record {
       closes = close-accepted mode repeats (length buffer) [] (fresh mode repeats buffer) w;
       tables = w .tables;
@@ -42,6 +49,20 @@ right-fresh mode repeats buffer words room clear =
                 λ k h. same-slot (clear (2 * k)) (clear (2 * k + 1)) ∙ sym (getD-empties (slotCount words) k)
                 ∙ ap (λ (es : List Entry). getD (filled (slotCount words) (entryBuckets es)) k empty) (sym none);
           };
+    }
+
+-- and an index of some tables
+pub part-fresh : (from : ℕ) (mode : Mode) (repeats : Repeats) (buffer words : List ℕ) → headSize ≤ length buffer → ((i : ℕ) → getD words i 0 ≡ 0)
+    → PartIndex from (fresh mode repeats buffer) words
+part-fresh from mode repeats buffer words room clear =
+    let right = right-fresh mode repeats buffer words room clear in
+    let none = fresh-holds-none mode repeats buffer room in
+    record {
+      capacity = omega (arith, length-part from (recorded (fresh mode repeats buffer)), ap length none);
+      slots =
+          subst (FilledWith words)
+          (ap entryBuckets none ∙ sym (part-none from) ∙ ap (partBuckets from) (sym none))
+          (right .slots);
     }
 
 module _ (s : State) (words : List ℕ) (bytes : AllBytes (s .buffer)) (right : Right s words) where

@@ -7,10 +7,14 @@ ghost use Prim.Native.Nat.{_<_};
 ghost use lib.ListN.{length};
 ghost use Rattle.jhash.specs.NameHash.{hashOf};
 ghost use Rattle.index.specs.Promise.{PutIndexed, Indexed};
-ghost use Rattle.index.specs.steps.Decided.{FitsBuffer, Decided};
+ghost use Rattle.index.specs.steps.Checks.{FactsOf};
+ghost use Rattle.index.specs.steps.Decided.{Decided, PutHashed, PutNew};
 ghost use Rattle.index.specs.steps.Fill.{FillPre, SlotsFilled};
+use checks::append;
+use checks::early_refusal;
+use checks::late_refusal;
+use checks::new_refusal;
 use image::HEAD_SIZE;
-use image::HEAD_SIZE_64;
 use image::entries::name_at;
 use image::entries::whole_length;
 use image::scratch::clear;
@@ -19,26 +23,15 @@ use slots::probe;
 use slots::store_slot;
 use writer::CQDBWriter;
 use writer::PutAnswer;
-use writer::record::after;
-use writer::record::size_with;
-use writer::record::too_large;
 
+mod checks; // checks.rt: what a put checks beside the search, and what it stores
 mod slots; // slots.rt: slots probed and stored
 
-// Does the record have this buffer's length, and an end from 2,072 to that length? Counts are not compared.
-fn fits_buffer(w: CQDBWriter, buf: &[u8]) -> bool
-    ensures { λ r. ⌜ FitsBuffer w (now (buf .entry)) r ⌝ }
-{
-    if w.length != buf.len() as u64 {
-        return false;
-    }
-    if w.end < HEAD_SIZE_64 {
-        return false;
-    }
-    if w.end > w.length {
-        return false;
-    }
-    true
+// What the caller of a put knows of its name: the hash, unless the name is too long to have one, and whether it is
+// known to have no zero byte.
+pub struct NameFacts {
+    pub hash: u32,
+    pub clean: bool,
 }
 
 // The refusal of a put, 0 where it is accepted, and then the slot that it takes.
@@ -54,7 +47,7 @@ fn refused(refusal: u32) -> Decision
     Decision { refusal, slot: 0 }
 }
 
-// All checks of a put of a name whose hash is h, with the bounds that its stores need: what is lent may be anything.
+// All checks of a put, with the bounds that its stores need: what is lent may be anything.
 fn decide(
     w: CQDBWriter,
     counts: &[u32; 256],
@@ -62,22 +55,18 @@ fn decide(
     slots: &[u32],
     name: &[u8],
     id: u32,
-    h: u32,
+    facts: NameFacts,
 ) -> Decision
-    requires { ⌜ (length (now name) < 4294967295 → h ≡ hashOf (now name)) ⌝ }
+    requires { ⌜ FactsOf (now name) facts ⌝ }
     ensures { λ r. ⌜
         Decided (stateWith w (now (counts .entry)) (now (buf .entry))) (now (slots .entry))
-        (entryOf (now (name .entry)) id) h r
+        (entryOf (now (name .entry)) id) (facts .hash) r
         ⌝ }
 {
-    if !fits_buffer(w, buf) {
-        return refused(2);
-    }
-    if image::zero::has_zero(name) {
-        return refused(13);
-    }
-    if 4294967294 < name.len() {
-        return refused(3);
+    let h = facts.hash;
+    let early = early_refusal(w, buf, name, facts.clean);
+    if early != 0 {
+        return refused(early);
     }
     let m = slots.len() / 2;
     let end = w.end as usize;
@@ -86,15 +75,12 @@ fn decide(
     if m < k {
         return refused(16);
     }
-    if too_large(w.length, size_with(w, name.len(), id)) {
-        return refused(3);
+    let late = late_refusal(w, counts, name.len(), id, h);
+    if late != 0 {
+        return refused(late);
     }
     if k == m {
         return refused(24);
-    }
-    let t = (h % 256) as usize;
-    if counts[t] > 4294967294 {
-        return refused(2);
     }
     Decision {
         refusal: 0,
@@ -102,8 +88,7 @@ fn decide(
     }
 }
 
-// Appends an entry and stores its slot, or is refused and changes nothing. By a right index it does what put does. h is
-// the hash of the name, unless that is too long to have one: the caller has computed it before.
+// Appends an entry and stores its slot, or is refused and changes nothing. By a right index it does what put does.
 pub fn put_hashed(
     w: CQDBWriter,
     counts: &mut [u32; 256],
@@ -111,28 +96,52 @@ pub fn put_hashed(
     slots: &mut [u32],
     name: &[u8],
     id: u32,
-    h: u32,
+    facts: NameFacts,
 ) -> PutAnswer
-    requires { ⌜ (length (now name) < 4294967295 → h ≡ hashOf (now name)) ⌝ }
+    requires { ⌜ FactsOf (now name) facts ⌝ }
     ensures { λ r. ⌜
-        PutIndexed (stateWith w (now (counts .entry)) (now (buf .entry))) (now (slots .entry))
+        PutHashed (stateWith w (now (counts .entry)) (now (buf .entry))) (now (slots .entry))
         (entryOf (now (name .entry)) id) (r .refusal)
         (stateWith (r .writer) (now (counts .exit)) (now (buf .exit))) (now (slots .exit))
         ⌝ }
 {
-    let d = decide(w, &*counts, &*buf, &*slots, name, id, h);
+    let h = facts.hash;
+    let d = decide(w, &*counts, &*buf, &*slots, name, id, facts);
     let refusal = d.refusal;
     if refusal != 0 {
         return PutAnswer { refusal, writer: w };
     }
     store_slot(&mut *slots, d.slot, h, w.end as u32);
-    image::entries::raise(&mut *counts, h);
-    writer::entry::store(&mut *buf, w.end as usize, name, id);
-    let writer = after(w, name.len(), id);
+    let writer = append(w, &mut *counts, &mut *buf, name, id, h);
     PutAnswer { refusal: 0, writer }
 }
 
-// The same with the name's hash computed here.
+// A put of a name that is no duplicate, as the caller knows: by an index, or because repeats are on. It looks at no
+// entry, and of the counts at one.
+pub fn put_new(
+    w: CQDBWriter,
+    counts: &mut [u32; 256],
+    buf: &mut [u8],
+    name: &[u8],
+    id: u32,
+    facts: NameFacts,
+) -> PutAnswer
+    requires { ⌜ FactsOf (now name) facts ⌝ }
+    ensures { λ r. ⌜
+        PutNew (stateWith w (now (counts .entry)) (now (buf .entry))) (entryOf (now (name .entry)) id) (r .refusal)
+        (stateWith (r .writer) (now (counts .exit)) (now (buf .exit)))
+        ⌝ }
+{
+    let refusal = new_refusal(w, &*counts, &*buf, name, id, facts);
+    if refusal != 0 {
+        return PutAnswer { refusal, writer: w };
+    }
+    let h = facts.hash;
+    let writer = append(w, &mut *counts, &mut *buf, name, id, h);
+    PutAnswer { refusal: 0, writer }
+}
+
+// A put by the index of a name of which nothing is known.
 pub fn put_indexed(
     w: CQDBWriter,
     counts: &mut [u32; 256],
@@ -147,8 +156,11 @@ pub fn put_indexed(
         (stateWith (r .writer) (now (counts .exit)) (now (buf .exit))) (now (slots .exit))
         ⌝ }
 {
-    let h = jhash::key(name);
-    put_hashed(w, &mut *counts, &mut *buf, &mut *slots, name, id, h)
+    let facts = NameFacts {
+        hash: jhash::key(name),
+        clean: false,
+    };
+    put_hashed(w, &mut *counts, &mut *buf, &mut *slots, name, id, facts)
 }
 
 // Inserts the entries of the buffer into empty slots, in put order. Internal: the caller knows that the entries are

@@ -1,7 +1,8 @@
 -- `build::build_bulk` meets its contract. Assumes nothing.
 use Prim.Native.Nat.{ℕ, _*_, _^_, _≤_, _<_}
 use native.Mathlib.Omega.{arith}
-use mathlib.Core.Path.{_≡_, refl, sym, _∙_}
+use mathlib.Core.Path.{_≡_, refl, sym, ap, _∙_}
+use mathlib.Core.Bool.{true}
 use mathlib.Core.List.{List, _++_}
 use lib.ListN.{length, getD, drop, replicate, length-replicate, getD-replicate}
 use lib.Seq.{length-take-le}
@@ -9,8 +10,14 @@ use borrow.Author.Needs.{needs}
 use borrow.Author.Tests.{not-false}
 use Rattle.packed.specs.Names.{names, nth}
 use Rattle.jhash.proofs.Outcomes.{key-short}
+use Rattle.image.specs.Tables.{tableOf}
+use Rattle.image.proofs.Bools.{false-not-true}
+use Rattle.jhash.specs.NameHash.{key, hashOf}
+use Rattle.writer.specs.State.{refusesRepeats}
+use Rattle.bulk_tables.specs.steps.Contracts.{NoZeros}
 use Rattle.bulk_tables.proofs.Offsets.{names-short}
-use Rattle.build.specs.steps.Steps.{HashesStored}
+use Rattle.bulk_tables.proofs.AllDistinct.{all-distinct}
+use Rattle.build.specs.steps.Steps.{HashesStored, DistinctBelow}
 use Rattle.build.proofs.Needed.{sum-small}
 use Rattle.build.proofs.BulkBuilt.{refusals-cleared, all-built, gave-up}
 use Rattle.build.proofs.build_bulk.Statement.{statement}
@@ -42,13 +49,15 @@ tables-long : (c : tie.After-build-tables) → length (tables-in c) ≡ length (
 tables-long c = c .build-tables .kept .1 .1 .1 .1 .1 .0
 
 -- all names are short, so their keys are their hashes
-names-hashed : (c : tie.After-hash-all) → let a = start c .args in HashesStored (a .bytes .now) (a .ends .now) (hashes-in c)
-names-hashed c i h =
-    let s = start c in
+key-hash : (s : tie.Start) (i : ℕ) → i < length (s .args .ends .now)
+    → let x = nth (names (s .args .bytes .now) (s .args .ends .now)) i in key x ≡ hashOf x
+key-hash s i h =
     let a = s .args in
-    c .hash-all .ensures .hashed .hashes-are i h
-    ∙ key-short (nth (names (a .bytes .now) (a .ends .now)) i)
+    key-short (nth (names (a .bytes .now) (a .ends .now)) i)
     (names-short (a .bytes .now) (a .ends .now) (s .pre .list .packed) (omega (arith, sum-small (s .pre .list .ids-long) (s .pre .capacity .fits))) i h)
+
+names-hashed : (c : tie.After-hash-all) → let a = start c .args in HashesStored (a .bytes .now) (a .ends .now) (hashes-in c)
+names-hashed c i h = c .hash-all .ensures .hashed .hashes-are i h ∙ key-hash (start c) i h
 
 -- ---- the needs
 
@@ -67,7 +76,13 @@ returns : tie.Need-returns
 returns c =
     let h = c .before .before .before in
     let s = start h in
-    gave-up (s .args .mode) (s .args .repeats) (s .pre .list) (h .hash-all .ensures .rest) (names-hashed h)
+    gave-up (s .args .mode) (s .args .repeats) (s .pre .list) _ (h .hash-all .ensures .rest)
+    (record {
+      hashes = λ t. names-hashed h;
+      zero-free = λ t. absurd (false-not-true t);
+      distinct = λ off i j before inside table. absurd (omega arith);
+      unhashed = λ t. absurd (false-not-true (sym t));
+    })
 
 build-tables-requires : tie.Need-build-tables-requires
 build-tables-requires c κs =
@@ -84,11 +99,33 @@ build-tables-requires c κs =
       capacity = s .pre .capacity .scratch;
     }
 
+-- no name has a zero byte
+clean : (t : tie.After-build-tables) → let a = start (hashed t) .args in NoZeros (a .bytes .now) (a .ends .now) (length (a .ends .now))
+clean t = hashed t .hash-all .ensures .no-zeros (not-false _ (t .before .before .before .before .before .if1 .left))
+
+cast-distinct : tie.Need-cast-distinct
+cast-distinct c = omega (arith, c .before .before .build-tables .ensures .most)
+
+-- the names of the tables that are built are distinct
+distinct-below : (t : tie.After-build-tables) → let a = start (hashed t) .args in
+    refusesRepeats (a .repeats) ≡ true → DistinctBelow (a .bytes .now) (a .ends .now) (t .build-tables .result)
+distinct-below t off i j before inside table =
+    let s = start (hashed t) in
+    t .build-tables .ensures .distinct-below (t .before .before .before .before .refuses .ensures ∙ off) i j before inside
+    (omega (arith, ap tableOf (key-hash s i inside), table))
+
 returns-2 : tie.Need-returns-2
 returns-2 c =
-    let h = hashed (c .before .before .before) in
+    let t = c .before .before .before in
+    let h = hashed t in
     let s = start h in
-    gave-up (s .args .mode) (s .args .repeats) (s .pre .list) (h .hash-all .ensures .rest) (names-hashed h)
+    gave-up (s .args .mode) (s .args .repeats) (s .pre .list) _ (h .hash-all .ensures .rest)
+    (record {
+      hashes = λ k. names-hashed h;
+      zero-free = λ k. clean t;
+      distinct = distinct-below t;
+      unhashed = λ k. absurd (false-not-true (sym k));
+    })
 
 mul-tables : tie.Need-mul-tables
 mul-tables c = let t = c .before .before .before in omega (arith, start (hashed t) .pre .capacity .scratch, start (hashed t) .good)
@@ -108,7 +145,8 @@ write-list-requires c κs =
     let h = hashed t in
     let pre = start h .pre .list in
     let capacity = start h .pre .capacity in
-    let built = t .build-tables .ensures (not-false _ (c .before .before .before .if2 .left)) in
+    let tables = t .build-tables .ensures in
+    let built = tables .all (omega (arith, tables .most, c .before .before .before .if2 .left)) in
     record {
       packed = pre .packed;
       some = capacity .some;
@@ -132,18 +170,19 @@ returns-3 c =
     let s = start h in
     let a = s .args in
     let told = h .hash-all .ensures in
-    let built = t .build-tables .ensures (not-false _ (w .before .before .before .before .if2 .left)) in
+    let tables = t .build-tables .ensures in
+    let whole : t .build-tables .result ≡ 256 = omega (arith, tables .most, w .before .before .before .before .if2 .left) in
     let words : (i : ℕ) → i < length (a .ends .now) → getD (a .ids .now) i 0 < 2 ^ 32 = λ i b. omega (arith, h .before .before .before .before .before .shared-slice-known3 .given i) in
     let n = length (a .ends .now) in
     record {
       count-fits = λ some. omega (arith, sum-small (s .pre .list .ids-long) (s .pre .capacity .fits));
       built = λ some.
-          all-built (a .mode) (a .repeats) (s .pre .list) (s .pre .capacity .fits) words (told .no-zeros (not-false _ (t .before .before .before .before .before .if1 .left)))
-          (λ d. built .no-duplicates (t .before .before .before .before .refuses .ensures ∙ d)) (w .write-list .ensures)
+          all-built (a .mode) (a .repeats) (s .pre .list) (s .pre .capacity .fits) words (clean t)
+          (λ d. all-distinct tables whole (t .before .before .before .before .refuses .ensures ∙ d)) (w .write-list .ensures)
           (refusals-cleared n _ (hashes-in h) (a .refusals .now) (z .clear .kept .0) (hashes-long h) (z .clear .ensures) (told .rest));
       kept = λ e. absurd (omega (arith, e, w .write-list .ensures .size));
       rest = λ e. absurd (omega (arith, e, w .write-list .ensures .size));
-      hashes = λ e. absurd (omega (arith, e, w .write-list .ensures .size));
+      facts = λ e. absurd (omega (arith, e, w .write-list .ensures .size));
     }
 
 pub build-bulk-spec : {M : Type 1} → statement M
@@ -155,6 +194,7 @@ build-bulk-spec =
     returns
     (λ c κs. search needs)
     build-tables-requires
+    cast-distinct
     (λ c. search needs)
     (λ c. search needs)
     returns-2

@@ -17,8 +17,8 @@ lent c = c .before .before .before
 abbrev tried : tie.After-slice-known6 → tie.After-build-bulk
 tried c = c .before .before .before .before .before .before
 
-abbrev left : tie.After-build-singly → tie.After-slice-known6
-left c = c .before .before .before .before .before
+abbrev refused : tie.After-build-singly → tie.Else1
+refused c = c .before .before .before .before .before
 
 -- ---- the needs
 
@@ -30,17 +30,29 @@ returns c = tried (c .before) .build-bulk .ensures .built (c .if1 .taken)
 
 build-singly-requires : tie.Need-build-singly-requires
 build-singly-requires c κs =
-    let b = tried (c .before .before .before .before) in
-    let none : b .build-bulk .result ≡ 0 = omega (arith, c .before .before .before .if1 .left) in
-    record { list = search needs; hashes = λ t. b .build-bulk .ensures .hashes none }
+    let r = c .before .before .before .before in
+    let b = tried (r .before) in
+    let none : b .build-bulk .result .size ≡ 0 = omega (arith, r .if1 .left) in
+    let p = start (lent b) .pre .list in
+    let k = b .build-bulk .kept in
+    record {
+      list = record {
+        packed = p .packed;
+        ids-long = p .ids-long;
+        refusals-long = omega (arith, p .refusals-long, k .1 .1 .1 .1 .1 .1 .0);
+        head-fits = omega (arith, p .head-fits, k .1 .1 .0);
+      };
+      facts = b .build-bulk .ensures .facts none;
+    }
 
 returns-2 : tie.Need-returns-2
 returns-2 c =
     let d = c .before .before .before .before .before .before in
-    let b = tried (left d) in
+    let r = refused d in
+    let b = tried (r .before) in
     let s = start (lent b) in
     let e = b .build-bulk .ensures in
-    let none : b .build-bulk .result ≡ 0 = omega (arith, d .before .before .before .before .if1 .left) in
+    let none : b .build-bulk .result .size ≡ 0 = omega (arith, r .if1 .left) in
     built-after (s .args .mode) (s .args .repeats) (s .pre .list) (e .kept none) (b .build-bulk .kept .1 .1 .1 .1 .1 .1 .0) (e .rest none) (d .build-singly .ensures)
 
 pub build-hashed-spec : {M : Type 1} → statement M

@@ -1,4 +1,6 @@
 -- `build::build_list` meets its contract, by either way. Assumes nothing.
+use native.Mathlib.Omega.{arith}
+use mathlib.Core.Path.{refl}
 use borrow.Author.Needs.{needs}
 use Rattle.image.proofs.Bools.{false-not-true}
 use Rattle.build.proofs.build_list.Statement.{statement}
@@ -15,7 +17,15 @@ build-hashed-requires c κs =
 
 build-singly-requires : tie.Need-build-singly-requires
 build-singly-requires c κs =
-    record { list = start (c .before .before .before .before) .pre; hashes = λ t. absurd (false-not-true t) }
+    record {
+      list = start (c .before .before .before .before) .pre;
+      facts = record {
+        hashes = λ t. absurd (false-not-true t);
+        zero-free = λ t. absurd (false-not-true t);
+        distinct = λ off i j before inside table. absurd (omega arith);
+        unhashed = λ t. refl;
+      };
+    }
 
 pub build-list-spec : {M : Type 1} → statement M
 build-list-spec =

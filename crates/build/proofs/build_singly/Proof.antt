@@ -9,7 +9,6 @@ use borrow.Author.Needs.{needs}
 use Rattle.jhash.specs.NameHash.{hashOf}
 use Rattle.packed.specs.Names.{names, nth}
 use Rattle.writer.specs.State.{fresh}
-use Rattle.index.proofs.RightKept.{right-fresh}
 use Rattle.build.proofs.AcceptedHashes.{behind-kept}
 use Rattle.build.proofs.SinglePuts.{slots-cleared, list-closes, list-known, list-built}
 use Rattle.build.proofs.build_singly.Statement.{statement}
@@ -79,7 +78,7 @@ still-saved c k h =
     behind-kept (slots-in c) (cleared-in z) (words z) (2 * k) (slots-long c)
     ∙ z .clear .ensures .kept (words z + 2 * k) (omega arith)
     ∙ done .saved k h
-    ∙ begun z .pre .hashes (done .only (omega (arith, h))) k (omega (arith, h, done .few))
+    ∙ begun z .pre .facts .hashes (done .only (omega (arith, h))) k (omega (arith, h, done .few))
 
 word-ids : (c : tie.After-put-list) → let a = begun (cleared c) .args in (i : ℕ) → i < length (a .ends .now) → getD (a .ids .now) i 0 < 2 ^ 32
 word-ids c i h = omega (arith, sized (saved (cleared c)) .before .before .before .shared-slice-known3 .given i)
@@ -115,9 +114,10 @@ put-list-requires c κs =
     record {
       list = s .pre .list;
       begun = refl;
-      right = λ h. right-fresh (a .mode) (a .repeats) (a .buf .now) (take n (cleared-in z)) (s .pre .list .head-fits) (slots-cleared (cleared-in z) n (words-within z) (z .clear .ensures .zero));
+      cleared = slots-cleared (cleared-in z) n (words-within z) (z .clear .ensures .zero);
+      only-off = λ h. sized (saved z) .index-words .ensures .only-off (omega (arith, h, long));
       enough = λ h. omega (arith, long, sized (saved z) .index-words .ensures .enough (omega (arith, h, long)));
-      hashes = s .pre .hashes;
+      facts = s .pre .facts;
     }
 
 keep-accepted-requires : tie.Need-keep-accepted-requires

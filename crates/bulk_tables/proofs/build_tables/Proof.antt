@@ -56,7 +56,7 @@ returns c =
     let z = f .before .before .before .before .before in
     let p = partitioned z in
     let same : length (f .fill-all .last .1 .1 .1 .0) ≡ length (cleared-in z) = f .fill-all .kept .1 .1 .1 .0 in
-    λ e. built (start (summed p) .pre) (p .partition-pairs .ensures) (cleared z) (f .fill-all .ensures e) (same ∙ long z)
+    built (start (summed p) .pre) (p .partition-pairs .ensures) (cleared z) (f .fill-all .ensures) (same ∙ long z)
 
 pub build-tables-spec : {M : Type 1} → statement M
 build-tables-spec =

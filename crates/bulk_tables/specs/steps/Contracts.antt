@@ -125,9 +125,10 @@ pub record FillTablePre (bytes ends scratch : List ℕ) (p c : ℕ) : Type 0 whe
   pub pairs-stored : (q : ℕ) → p ≤ q → q < p + c → 0 < pairIn (length ends) scratch q .at
   pub buckets-empty : (w : ℕ) → tableWords p ≤ w → w < tableWords p + 4 * c → at scratch w ≡ 0
 
-pub record TableFilled (distinct : Bool) (bytes ends scratch₀ scratch : List ℕ) (p c : ℕ) : Type 0 where
-  pub fills : Fills (length ends) scratch (tableWords p) p c
-  pub no-duplicates : distinct ≡ true → NoDuplicates bytes ends scratch p c
+-- r only if all pairs are in the table; the words outside of it are kept in every case
+pub record TableFilled (distinct : Bool) (bytes ends scratch₀ scratch : List ℕ) (p c : ℕ) (r : Bool) : Type 0 where
+  pub fills : r ≡ true → Fills (length ends) scratch (tableWords p) p c
+  pub no-duplicates : r ≡ true → distinct ≡ true → NoDuplicates bytes ends scratch p c
   pub kept-before : (w : ℕ) → w < tableWords p → at scratch w ≡ at scratch₀ w
   pub kept-after : (w : ℕ) → tableWords p + 4 * c ≤ w → at scratch w ≡ at scratch₀ w
 
@@ -140,11 +141,13 @@ pub record FillAllPre (bytes ends scratch lasts : List ℕ) : Type 0 where
       → 0 < pairIn (length ends) scratch q .at
   pub buckets-empty : (w : ℕ) → w < pairWords (length ends) → at scratch w ≡ 0
 
-pub record AllFilled (distinct : Bool) (bytes ends scratch₀ scratch lasts : List ℕ) : Type 0 where
-  pub fills : (t : ℕ) → t < 256
+-- the first r tables are filled; the pairs are kept in every case
+pub record FilledTo (distinct : Bool) (bytes ends scratch₀ scratch lasts : List ℕ) (r : ℕ) : Type 0 where
+  pub most : r ≤ 256
+  pub fills : (t : ℕ) → t < r
       → Fills (length ends) scratch (tableWords (tableFirst lasts t)) (tableFirst lasts t)
       (at lasts t - tableFirst lasts t)
-  pub no-duplicates : distinct ≡ true → (t : ℕ) → t < 256
+  pub no-duplicates : distinct ≡ true → (t : ℕ) → t < r
       → NoDuplicates bytes ends scratch (tableFirst lasts t) (at lasts t - tableFirst lasts t)
   pub pairs-kept : (w : ℕ) → pairWords (length ends) ≤ w → at scratch w ≡ at scratch₀ w
 
@@ -160,10 +163,15 @@ pub record BuildTablesPre (bytes ends hashes counts scratch : List ℕ) : Type 0
   pub capacity : scratchWords (length ends) ≤ length scratch
 
 -- the first words are the tables of the image of all names, whatever their ids
-pub record TablesBuilt (distinct : Bool) (bytes ends counts scratch : List ℕ) : Type 0 where
-  pub no-duplicates : distinct ≡ true → (i j : ℕ) → j < i → i < length ends
-      → same (nth (names bytes ends) j) (nth (names bytes ends) i) ≡ false
+pub record TablesBuilt (bytes ends counts scratch : List ℕ) : Type 0 where
   pub tables-are : (es : List Entry) → map (λ (e : Entry). e .name) es ≡ names bytes ends
       → cat le32 (take (pairWords (length ends)) scratch) ≡ tables (placed headSize es)
   pub counts-are : (es : List Entry) → map (λ (e : Entry). e .name) es ≡ names bytes ends
       → (t : ℕ) → t < 256 → at counts t ≡ count t (placed headSize es)
+
+-- all tables are built if r is 256; if names must be distinct, no name of the first r tables equals an earlier one
+pub record TablesBuiltTo (distinct : Bool) (bytes ends counts scratch : List ℕ) (r : ℕ) : Type 0 where
+  pub most : r ≤ 256
+  pub all : r ≡ 256 → TablesBuilt bytes ends counts scratch
+  pub distinct-below : distinct ≡ true → (i j : ℕ) → j < i → i < length ends → tableOfName (names bytes ends) i < r
+      → same (nth (names bytes ends) j) (nth (names bytes ends) i) ≡ false

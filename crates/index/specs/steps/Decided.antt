@@ -1,40 +1,49 @@
--- What the checks of a put by the index decide. No rule stands here: proofs/ joins it to the rules.
-use Prim.Native.Nat.{ℕ, _+_, _≤_, _<_}
+-- What the checks of a put decide, by an index and without one. No rule stands here: proofs/ joins it to the rules.
+use Prim.Native.Nat.{ℕ, _≤_, _<_}
 use mathlib.Core.Path.{_≡_}
-use mathlib.Core.Bool.{Bool, true, false}
+use mathlib.Core.Bool.{false}
 use mathlib.Core.List.{List}
-use lib.ListN.{length, getD}
+use lib.ListN.{length}
 use Rattle.jhash.specs.NameHash.{hashOf}
 use Rattle.image.specs.Tables.{tableOf}
 use Rattle.image.specs.Image.{Entry}
-use Rattle.writer.specs.declared.CQDBWriter.{CQDBWriter}
-use Rattle.writer.specs.State.{State, stateWith, fits, finishedSize}
-use Rattle.writer.specs.Put.{writerWith}
+use Rattle.writer.specs.State.{State}
+use Rattle.writer.specs.Put.{putRefusal, repeated, appended, afterPut}
+use Rattle.writer.specs.Close.{recorded}
 use Rattle.index.specs.declared.Decision.{Decision}
-use Rattle.index.specs.Index.{slotCount, firstEmptySlot, Right, indexedRefusal}
+use Rattle.index.specs.Index.{slotCount, firstEmptySlot, slotInserted}
+use Rattle.index.specs.steps.Checks.{AppendPre}
+use Rattle.index.specs.steps.Part.{Closable, PartIndex, partBuckets, refusalBy}
 
--- is the record of this buffer's length, and its end in it?
-pub record InBuffer (w : CQDBWriter) (buf : List ℕ) : Type 0 where
-  pub same-length : w .length ≡ length buf
-  pub low : 2072 ≤ w .end
-  pub high : w .end ≤ w .length
-
-pub record FitsBuffer (w : CQDBWriter) (buf : List ℕ) (r : Bool) : Type 0 where
-  pub when-true : r ≡ true → InBuffer w buf
-  pub when-false : r ≡ false → (counts : List ℕ) → false ≡ fits (stateWith w counts buf)
-
--- whatever was lent, an accepted put has the first empty slot of its probe sequence, and there is room for its count,
--- its entry and its record
+-- whatever was lent, an accepted put has the first empty slot of its probe sequence, and what it stores has room
 pub record InBounds (s : State) (words : List ℕ) (e : Entry) (h k : ℕ) : Type 0 where
   pub inside : k < slotCount words
   pub first : k ≡ firstEmptySlot words (hashOf (e .name))
-  pub hash : h ≡ hashOf (e .name)
-  pub count : getD (s .counts) (tableOf h) 0 < 4294967295
-  pub entry : s .writer .end + (length (e .name) + 9) ≤ length (s .buffer)
-  pub short : length (e .name) < 4294967295
-  pub size : finishedSize (writerWith (s .writer) (length (e .name)) (e .id)) ≤ 4294967295
+  pub stores : AppendPre s e h
 
--- of a put with hash h: by a right index, the refusal is the rule's
+-- the refusal is the rule's by an index of the tables from `from` on, if the name's table is one of them
+abbrev pub RefusesBy : State → List ℕ → Entry → ℕ → Type 0
+RefusesBy s words e refusal =
+    (from : ℕ) → Closable s → PartIndex from s words → from ≤ tableOf (hashOf (e .name))
+    → refusal ≡ refusalBy (length (partBuckets from (recorded s))) s words e
+
+-- of a put with hash h
 pub record Decided (s : State) (words : List ℕ) (e : Entry) (h : ℕ) (d : Decision) : Type 0 where
   pub bounds : d .refusal ≡ 0 → InBounds s words e h (d .slot)
-  pub rule : Right s words → d .refusal ≡ indexedRefusal s words e
+  pub rule : RefusesBy s words e (d .refusal)
+
+-- a put whose hash is known, by an index: s and words before the call, t and words′ after it
+pub record PutHashed (s : State) (words : List ℕ) (e : Entry) (refusal : ℕ) (t : State)
+    (words′ : List ℕ) : Type 0 where
+  pub refused : (refusal ≡ 0 → ⊥) → (t ≡ s) × (words′ ≡ words)
+  pub accepted : refusal ≡ 0
+      → (t ≡ appended s e) × (words′ ≡ slotInserted words (hashOf (e .name)) (s .writer .end))
+  pub answer : RefusesBy s words e refusal
+  -- an index of the tables from `from` on is one again, and the record still closes
+  pub part : (from : ℕ) → Closable s → PartIndex from s words → from ≤ tableOf (hashOf (e .name))
+      → Closable t × PartIndex from t words′
+
+-- a put of a name that is no duplicate: the rule's
+pub record PutNew (s : State) (e : Entry) (refusal : ℕ) (t : State) : Type 0 where
+  pub answer : Closable s → repeated s (e .name) ≡ false → refusal ≡ putRefusal s e
+  pub leaves : Closable s → repeated s (e .name) ≡ false → t ≡ afterPut s e

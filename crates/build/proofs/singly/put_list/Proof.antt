@@ -3,6 +3,7 @@
 use Prim.Native.Nat.{ℕ, _-_, _≤_, _<_}
 use native.Mathlib.Omega.{arith}
 use mathlib.Core.Path.{_≡_, refl, sym, ap, _∙_}
+use mathlib.Core.Bool.{true}
 use mathlib.Core.List.{List}
 use lib.ListN.{length}
 use borrow.Author.Needs.{needs}
@@ -10,23 +11,25 @@ use Rattle.packed.specs.Names.{names}
 use Rattle.jhash.specs.NameHash.{hashOf}
 use Rattle.packed.proofs.NameEnds.{length-names}
 use Rattle.writer.specs.declared.CQDBWriter.{CQDBWriter}
-use Rattle.writer.specs.State.{stateWith}
-use Rattle.build.proofs.SinglePuts.{PutsBefore, puts-start, place-kept, puts-turn, puts-end, answers-end}
+use Rattle.writer.specs.State.{stateWith, refusesRepeats}
+use Rattle.image.specs.Tables.{tableOf}
+use Rattle.image.specs.Zero.{hasZero}
+use Rattle.build.proofs.SinglePuts.{PutsBefore, not-repeated, puts-start, place-kept, puts-turn, puts-end, answers-end}
 use Rattle.build.proofs.singly.put_list.Statement.{statement}
 use Rattle.build.proofs.singly.put_list.Tie as tie
 
-record Invariant (w : CQDBWriter) (buf₀ slots₀ bytes ends ids refusals₀ counts buf slots refusals : List ℕ) (after : CQDBWriter) (i : ℕ) : Type 0 where
+record Invariant (w : CQDBWriter) (distinct : ℕ) (buf₀ slots₀ bytes ends ids refusals₀ counts buf slots refusals : List ℕ) (after : CQDBWriter) (i : ℕ) : Type 0 where
   inside : i ≤ length ends
   buffer-length : length buf ≡ length buf₀
   slots-length : length slots ≡ length slots₀
-  puts : PutsBefore (w .mode) (w .repeats) buf₀ (names bytes ends) ids refusals₀ i (stateWith after counts buf) refusals slots
+  puts : PutsBefore (w .mode) (w .repeats) distinct buf₀ (names bytes ends) ids refusals₀ i (stateWith after counts buf) refusals slots
 
 abbrev Inv-loop : tie.InvT-loop
-Inv-loop counts₀ buf₀ slots₀ bytes ends ids refusals₀ hashed after₀ i₀ counts buf slots refusals after i =
-    Invariant after₀ buf₀ slots₀ bytes ends ids refusals₀ counts buf slots refusals after i
+Inv-loop counts₀ buf₀ slots₀ bytes ends ids refusals₀ known after₀ i₀ counts buf slots refusals after i =
+    Invariant after₀ (known .distinct) buf₀ slots₀ bytes ends ids refusals₀ counts buf slots refusals after i
 
 abbrev μ-loop : tie.MeasureT-loop
-μ-loop counts₀ buf₀ slots₀ bytes ends ids refusals₀ hashed after₀ i₀ counts buf slots refusals after i = length ends - i
+μ-loop counts₀ buf₀ slots₀ bytes ends ids refusals₀ known after₀ i₀ counts buf slots refusals after i = length ends - i
 
 -- ---- places in the code, each told from a later one
 
@@ -45,7 +48,7 @@ entered c = named (called c) .before
 loop-holds : tie.Need-loop-holds Inv-loop μ-loop
 loop-holds c =
     let s = c .before .before .before .before .before .before in
-    record { inside = omega arith; buffer-length = refl; slots-length = refl; puts = puts-start (s .pre .begun) (s .pre .right) }
+    record { inside = omega arith; buffer-length = refl; slots-length = refl; puts = puts-start (s .pre .begun) (s .pre .list .head-fits) (s .pre .cleared) }
 
 name-of-requires : tie.Need-name-of-requires Inv-loop μ-loop
 name-of-requires c κs = record { inside = c .loop-test .taken; ends-rise = start c .pre .list .packed }
@@ -76,10 +79,20 @@ put-name-requires c κs =
     let e = n .before in
     let l = e .before .loop in
     let s = start e in
+    let g = l .inv .puts in
+    let off : 0 < length (l .slots) → refusesRepeats (s .args .w .repeats) ≡ true = λ h. s .pre .only-off (omega (arith, h, l .inv .slots-length)) in
     record {
-      right = l .inv .puts .right;
+      closable = g .closable;
+      index = g .index;
+      only-off = λ h. ap refusesRepeats (g .choice) ∙ off h;
+      unhashed = s .pre .facts .unhashed;
+      zero-free = λ t. ap hasZero (n .name-of .ensures) ∙ s .pre .facts .zero-free t (l .i) (e .loop-test .taken);
+      new = λ table.
+          not-repeated (stateWith (l .after) (l .counts) (l .buf)) (names (s .args .bytes .now) (s .args .ends .now)) (l .i) _ (n .name-of .ensures) (g .among)
+          (λ refuses j before. s .pre .facts .distinct (sym (ap refusesRepeats (g .choice)) ∙ refuses) (l .i) j before (e .loop-test .taken)
+          (omega (arith, ap (λ (x : List ℕ). tableOf (hashOf x)) (n .name-of .ensures), table)));
       spare = λ h. omega (arith, l .inv .puts .few, e .loop-test .taken, s .pre .enough (omega (arith, h, l .inv .slots-length)), l .inv .slots-length);
-      hash-is = λ t. place-kept (l .inv .puts) ∙ s .pre .hashes t (l .i) (e .loop-test .taken) ∙ sym (ap hashOf (n .name-of .ensures));
+      hash-is = λ t. place-kept (l .inv .puts) ∙ s .pre .facts .hashes t (l .i) (e .loop-test .taken) ∙ sym (ap hashOf (n .name-of .ensures));
     }
 
 mul-refusals : tie.Need-mul-refusals Inv-loop μ-loop
@@ -117,7 +130,7 @@ loop-again c =
       inside = omega (arith, e .loop-test .taken);
       buffer-length = search needs;
       slots-length = search needs;
-      puts = puts-turn g inside many room _ its-name (done .result .refusal) _ _ (done .ensures) (search needs);
+      puts = puts-turn g inside many room _ its-name (a .known) refl (done .result .refusal) _ _ (done .ensures) (search needs);
     }
 
 same-length-3 : tie.Need-same-length-3 Inv-loop μ-loop

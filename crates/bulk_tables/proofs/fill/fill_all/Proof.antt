@@ -5,8 +5,7 @@ use mathlib.Core.Path.{_≡_, refl, _∙_}
 use lib.ListN.{length}
 use borrow.Author.Needs.{needs}
 use borrow.Author.Tests.{not-false}
-use Rattle.image.proofs.Bools.{false-not-true}
-use Rattle.bulk_tables.proofs.TablesFilled.{AllFilling, all-start, all-step, table-pre, fits}
+use Rattle.bulk_tables.proofs.TablesFilled.{AllFilling, all-start, all-step, filled-to, table-pre, fits}
 use Rattle.bulk_tables.proofs.fill.fill_all.Statement.{statement}
 use Rattle.bulk_tables.proofs.fill.fill_all.Tie as tie
 
@@ -50,14 +49,17 @@ same-length : tie.Need-same-length Inv-loop μ-loop
 same-length c = let d = called (c .before) in d .fill-table .kept .1 .1 .1 .0 ∙ entered (d .before) .before .loop .inv .long
 
 returns : tie.Need-returns Inv-loop μ-loop
-returns c = λ e. absurd (false-not-true e)
+returns c =
+    let d = called (c .before) in
+    let e = entered (d .before) in
+    filled-to (start (e .before) .pre) (e .before .loop .inv) (e .loop-test .taken) (d .fill-table .ensures)
 
 loop-again : tie.Need-loop-again Inv-loop μ-loop
 loop-again c =
     let d = called (c .before) in
     let f = d .fill-table in
     let e = entered (d .before) in
-    all-step (start (e .before) .pre) (e .before .loop .inv) (e .loop-test .taken) (f .kept .1 .1 .1 .0) (f .ensures (not-false (f .result) (c .if1 .left)))
+    all-step (start (e .before) .pre) (e .before .loop .inv) (e .loop-test .taken) (f .ensures) (f .kept .1 .1 .1 .0) (not-false (f .result) (c .if1 .left))
 
 same-length-2 : tie.Need-same-length-2 Inv-loop μ-loop
 same-length-2 c = c .before .loop .inv .long
@@ -65,12 +67,7 @@ same-length-2 c = c .before .loop .inv .long
 returns-2 : tie.Need-returns-2 Inv-loop μ-loop
 returns-2 c =
     let v = c .before .loop .inv in
-    λ e.
-    record {
-      fills = λ t h. v .fills t (omega (arith, c .loop-test .left));
-      no-duplicates = λ d t h. v .no-duplicates d t (omega (arith, c .loop-test .left));
-      pairs-kept = λ w h. v .rest w (omega (arith, v .low));
-    }
+    record { most = v .at-most; fills = v .fills; no-duplicates = v .no-duplicates; pairs-kept = λ w h. v .rest w (omega (arith, v .low)) }
 
 pub fill-all-spec : {M : Type 1} → statement M
 fill-all-spec =

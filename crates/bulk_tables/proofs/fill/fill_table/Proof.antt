@@ -38,7 +38,9 @@ same-length : tie.Need-same-length Inv-loop μ-loop
 same-length c = entered (c .before) .before .loop .inv .long
 
 returns : tie.Need-returns Inv-loop μ-loop
-returns c = λ e. absurd (false-not-true e)
+returns c =
+    let v = entered (c .before) .before .loop .inv in
+    record { fills = λ e. absurd (false-not-true e); no-duplicates = λ e. absurd (false-not-true e); kept-before = v .before; kept-after = v .after }
 
 loop-again : tie.Need-loop-again Inv-loop μ-loop
 loop-again c =
@@ -76,7 +78,7 @@ returns-2 c =
     let last : l .i ≡ a .c = omega (arith, l .inv .at-most, c .loop-test .left) in
     let all =
     subst (λ (i : ℕ). Filling (a .distinct) (a .bytes .now) (a .ends .now) (a .scratch .now) (a .p) (a .c) i (l .scratch)) last (l .inv) in
-    λ e. record { fills = filling-fills (s .pre) all; no-duplicates = filling-distinct (s .pre) all; kept-before = all .before; kept-after = all .after }
+    record { fills = λ e. filling-fills (s .pre) all; no-duplicates = λ e. filling-distinct (s .pre) all; kept-before = all .before; kept-after = all .after }
 
 pub fill-table-spec : {M : Type 1} → statement M
 fill-table-spec =
