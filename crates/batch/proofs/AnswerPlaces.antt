@@ -13,8 +13,9 @@ use Rattle.packed.proofs.NameEnds.{length-names}
 use Rattle.jhash.proofs.Outcomes.{key-short}
 use Rattle.batch.specs.RoundNames.{names, nth}
 use Rattle.batch.specs.Round.{answerWords}
-use Rattle.batch.specs.steps.Duplicates.{key, IsUnique}
+use Rattle.batch.specs.steps.Duplicates.{key, Listed, Rising, IsFirst, IsUnique}
 use Rattle.batch.specs.steps.Answers.{putWords, wordsIn, HasPlace, Has, Right, ListedNames, Answered, UniqueAnswered, Source}
+use Rattle.batch.proofs.IndexLists.{listed-more, listed-has}
 
 -- ---- words stored in a place and read
 
@@ -126,14 +127,41 @@ pub record Finding (image bytes ends list before after : List ℕ) (m x : ℕ) :
 
 pub finding-start : (image bytes ends list before : List ℕ) (m : ℕ) → Finding image bytes ends list before before m 0
 finding-start image bytes ends list before m =
-    record { inside = omega arith; long = refl; answered = record { stays = λ i r. r; stored = λ y h. absurd (omega arith) } }
+    record {
+      inside = omega arith;
+      long = refl;
+      answered = record { stays = λ i r. r; stored = λ y h. absurd (omega arith); others = λ i n w h. sym (words-at before i w h) };
+    }
 
 pub finding-end : {image bytes ends list before after : List ℕ} {m x : ℕ} → Finding image bytes ends list before after m x → m ≤ x
     → Answered image bytes ends list before after m
-finding-end f all = record { stays = f .answered .stays; stored = λ y h. f .answered .stored y (omega arith) }
+finding-end f all =
+    record {
+      stays = f .answered .stays;
+      stored = λ y h. f .answered .stored y (omega arith);
+      others = λ i n. f .answered .others i (λ a. n (listed-more (f .inside) a));
+    }
 
 module _ {bytes ends keys list before : List ℕ} {m : ℕ} (pre : ListedNames bytes ends keys list before m) where
-  -- one more has its answer, which was looked up with its key; what was right stays so
+  -- no two of the listed names are equal
+  pub no-two-equal : (x y : ℕ) → x < y → y < m → nth (names bytes ends) (getD list x 0) ≡ nth (names bytes ends) (getD list y 0) → ⊥
+  no-two-equal x y h k = pre .first y k (getD list x 0) (pre .rising x y h k)
+
+  -- some of them, in another list that rises
+  pub listed-part : {part after : List ℕ} {q : ℕ} → length after ≡ length before → q ≤ m → q ≤ length part → Rising part q
+      → ((z : ℕ) → z < q → Listed list m (getD part z 0)) → ListedNames bytes ends keys part after q
+  listed-part long few capacity rising listed =
+      record {
+        first = λ z h. listed-has (IsFirst (names bytes ends)) (pre .first) (listed z h);
+        rising = rising;
+        names = pre .names;
+        places = omega (arith, pre .places);
+        few = omega (arith, pre .few);
+        capacity = capacity;
+        below = λ z h. listed-has (λ (i : ℕ). i < length ends) (pre .below) (listed z h);
+      }
+
+  -- one more has its answer, which was looked up with its key; what was right stays so, and the other places are kept
   pub finding-step : {image answers after name : List ℕ} {x : ℕ} (v : Lookup) → x < m → name ≡ nth (names bytes ends) (getD list x 0)
       → v ≡ lookupBy image name (getD keys (getD list x 0) 0) → after ≡ putWords answers (getD list x 0) (answerWords v)
       → Finding image bytes ends list before answers m x → Finding image bytes ends list before after m (x + 1)
@@ -142,7 +170,7 @@ module _ {bytes ends keys list before : List ℕ} {m : ℕ} (pre : ListedNames b
       (record {
         inside = omega arith;
         long = length-put answers i (answerWords v) ∙ old .long;
-        answered = record { stays = λ j r. stays j (λ e. old .answered .stays j r); stored = all };
+        answered = record { stays = λ j r. stays j (λ e. old .answered .stays j r); stored = all; others = others };
       })
     where
       xs : List (List ℕ)
@@ -163,6 +191,29 @@ module _ {bytes ends keys list before : List ℕ} {m : ℕ} (pre : ListedNames b
       all y k =
           stays (getD list y 0)
           (λ other. elim (ℕ-discrete y x) [ yes e ↦ absurd (other (ap (λ (n : ℕ). getD list n 0) e)) | no e ↦ old .answered .stored y (omega arith) ])
+
+      others : (j : ℕ) → (Listed list (x + 1) j → ⊥) → Has (putWords answers i (answerWords v)) j (wordsIn before j)
+      others j n =
+          has-other answers i (answerWords v) j (wordsIn before j) (λ e. n (record { place = x; inside = omega arith; is = sym e }))
+          (old .answered .others j (λ a. n (listed-more (omega arith) a)))
+
+-- ---- the answers of some of the listed names, and then of others
+
+-- what is kept of the places: those that were right, and those of names that are not listed
+pub record Kept (image bytes ends list before after : List ℕ) (m : ℕ) : Type 0 where
+  pub stays : (i : ℕ) → Right image (names bytes ends) before i → Right image (names bytes ends) after i
+  pub others : (i : ℕ) → (Listed list m i → ⊥) → Has after i (wordsIn before i)
+
+pub kept-start : (image bytes ends list before : List ℕ) (m : ℕ) → Kept image bytes ends list before before m
+kept-start image bytes ends list before m = record { stays = λ i r. r; others = λ i n w h. sym (words-at before i w h) }
+
+pub kept-step : {image bytes ends list part before answers after : List ℕ} {m q : ℕ} → ((z : ℕ) → z < q → Listed list m (getD part z 0))
+    → Kept image bytes ends list before answers m → Answered image bytes ends part answers after q → Kept image bytes ends list before after m
+kept-step {list = list} {answers = answers} {m = m} listed old new =
+    record {
+      stays = λ i r. new .stays i (old .stays i r);
+      others = λ i n w h. new .others i (λ a. n (listed-has (Listed list m) listed a)) w h ∙ words-at answers i w h ∙ old .others i n w h;
+    }
 
 -- ---- the answers of duplicates
 

@@ -1,10 +1,12 @@
--- The different names of a round: none twice, the same names, and what their lookups read. Assumes nothing.
-use Prim.Native.Nat.{ℕ, zero, suc, _+_, _≤_, _<_}
+-- The different names of a round: one name more, none twice, the same names, and what their lookups read. Assumes nothing.
+use Prim.Native.Nat.{ℕ, zero, suc, _+_, _-_, _≤_, _<_}
 use native.Mathlib.Omega.{arith}
+use native.Mathlib.Numerals.{add-one}
 use mathlib.Core.Path.{_≡_, refl, sym, ap, _∙_}
 use mathlib.Core.Bool.{Bool, true, false, _||_}
-use mathlib.Core.List.{List, [], _∷_, _++_}
-use lib.ListN.{length}
+use mathlib.Core.List.{List, [], _∷_, _++_, append-assoc, append-nil}
+use lib.ListN.{length, take, length-take}
+use lib.Seq.{take-suc, getD-take}
 use Rattle.image.specs.Bytes.{same}
 use Rattle.image.proofs.Bools.{false-not-true, or-false-first, or-false-second}
 use Rattle.image.proofs.Equal.{same-self, same-true, same-false}
@@ -12,6 +14,7 @@ use Rattle.reader.specs.Lookup.{lookup}
 use Rattle.reader.specs.Cases.{reads}
 use Rattle.batch.specs.RoundNames.{among, newOnly, differentFrom, different, nth}
 use Rattle.batch.specs.Round.{bucketsRead}
+use Rattle.batch.specs.steps.Duplicates.{EqualBefore}
 use Rattle.batch.specs.theorems.Theorem.{Distinct, OnceEach}
 
 -- ---- among
@@ -40,6 +43,61 @@ not-seen y x xs e = or-false-first (among y xs) (same x y) (sym (among-last y x 
 not-last : (y x : List ℕ) (xs : List (List ℕ)) → among y (xs ++ x ∷ []) ≡ false → x ≡ y → ⊥
 not-last y x xs e p =
     false-not-true (sym (or-false-second (among y xs) (same x y) (sym (among-last y x xs) ∙ e)) ∙ ap (λ (l : List ℕ). same l y) p ∙ same-self y)
+
+-- ---- whether a name is among those before it
+
+among-some : (x : List ℕ) (ys : List (List ℕ)) (j : ℕ) → j < length ys → nth ys j ≡ x → among x ys ≡ true
+unfolding among
+among-some x [] j h e = absurd (omega arith)
+among-some x (y ∷ ys) zero h e = ap (λ (l : List ℕ). same l x || among x ys) e ∙ ap (λ (t : Bool). t || among x ys) (same-self x)
+among-some x (y ∷ ys) (suc j) h e =
+    let k : j < length ys = omega arith in
+    ap (λ (t : Bool). same y x || t) (among-some x ys j k e) ∙ or-true (same y x)
+  where
+    or-true : (t : Bool) → (t || true) ≡ true
+    or-true true = refl
+    or-true false = refl
+
+among-none : (x : List ℕ) (ys : List (List ℕ)) → ((j : ℕ) → j < length ys → nth ys j ≡ x → ⊥) → among x ys ≡ false
+unfolding among
+among-none x [] h = refl
+among-none x (y ∷ ys) h =
+    ap (λ (t : Bool). t || among x ys) (same-false y x (λ e. h 0 (omega arith) e)) ∙ among-none x ys (λ j k e. h (suc j) (omega arith) e)
+
+module _ {xs : List (List ℕ)} {i q : ℕ} (e : EqualBefore xs i q) where
+  pub seen-before : i < length xs → 0 < q → among (nth xs i) (take i xs) ≡ true
+  seen-before inside h =
+      let k : q - 1 < i = omega (arith, e .below) in
+      among-some (nth xs i) (take i xs) (q - 1) (omega (arith, length-take i xs)) (getD-take i xs (q - 1) [] k ∙ e .there h)
+
+  pub not-seen-before : q ≡ 0 → among (nth xs i) (take i xs) ≡ false
+  not-seen-before z =
+      among-none (nth xs i) (take i xs)
+      (λ j k p. e .none z j (omega (arith, length-take i xs)) (sym (getD-take i xs j [] (omega (arith, length-take i xs))) ∙ p))
+
+-- ---- one name more
+
+new-behind : (t : Bool) (y : List ℕ) (ys zs : List (List ℕ)) → newOnly t y (ys ++ zs) ≡ newOnly t y ys ++ zs
+new-behind true y ys zs = refl
+new-behind false y ys zs = refl
+
+last-from : (ys seen : List (List ℕ)) (x : List ℕ) → differentFrom seen (ys ++ x ∷ []) ≡ differentFrom seen ys ++ newOnly (among x (seen ++ ys)) x []
+unfolding differentFrom
+last-from [] seen x = ap (λ (l : List (List ℕ)). newOnly (among x l) x []) (sym (append-nil seen))
+last-from (y ∷ ys) seen x =
+    let rest = differentFrom (seen ++ y ∷ []) ys in
+    ap (newOnly (among y seen) y)
+    (last-from ys (seen ++ y ∷ []) x ∙ ap (λ (l : List (List ℕ)). rest ++ newOnly (among x l) x []) (append-assoc seen (y ∷ []) ys))
+    ∙ new-behind (among y seen) y rest (newOnly (among x (seen ++ y ∷ ys)) x [])
+
+pub different-next : (xs : List (List ℕ)) (i : ℕ) (t : Bool) → i < length xs → among (nth xs i) (take i xs) ≡ t
+    → different (take (i + 1) xs) ≡ different (take i xs) ++ newOnly t (nth xs i) []
+unfolding different
+different-next xs i t h e =
+    ap (λ (k : ℕ). different (take k xs)) (add-one i)
+    ∙ ap different (take-suc xs i [] h)
+    ∙ last-from (take i xs) [] (nth xs i)
+    ∙ ap (λ (b : Bool). different (take i xs) ++ newOnly b (nth xs i) []) e
 
 -- ---- none twice
 

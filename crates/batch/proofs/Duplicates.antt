@@ -1,13 +1,13 @@
 -- Duplicates: keys, the slots that hold names, and the equal names found. Assumes nothing.
-use Prim.Native.Nat.{ℕ, _+_, _-_, _≤_, _<_}
+use Prim.Native.Nat.{ℕ, suc, _+_, _-_, _≤_, _<_}
 use native.Mathlib.Omega.{arith}
 use native.Mathlib.Numerals.{add-one}
 use native.Mathlib.Decide.{ℕ-discrete}
-use mathlib.Core.Path.{_≡_, sym, ap, subst, _∙_}
+use mathlib.Core.Path.{_≡_, refl, sym, ap, subst, _∙_}
 use mathlib.Core.Bool.{Bool, true, false}
-use mathlib.Core.List.{List, [], _∷_, _++_, map, map-append}
-use lib.ListN.{length, getD, set, length-set, length-map, length-append}
-use lib.Seq.{getD-set-same, getD-set-other}
+use mathlib.Core.List.{List, [], _∷_, _++_, map, map-append, append-nil}
+use lib.ListN.{length, getD, set, take, length-set, length-map, length-append}
+use lib.Seq.{getD-set-same, getD-set-other, take-suc, take-set-le}
 use Rattle.image.specs.Bytes.{same}
 use Rattle.image.specs.Tables.{Bucket, empty, start, probeSequence, firstEmpty, insertAll, filled}
 use Rattle.image.proofs.AllOfList.{All, all-map, all-image, all-append, all-middle}
@@ -17,10 +17,11 @@ use Rattle.image.proofs.Equal.{same-true, same-self}
 use Rattle.image.proofs.Sizes.{length-filled}
 use Rattle.lookup_laws.specs.steps.HasMatch.{hasMatch}
 use Rattle.lookup_laws.proofs.TableContents.{NotEmpty}
-use Rattle.batch.specs.RoundNames.{nth}
+use Rattle.batch.specs.RoundNames.{differentFrom, different, nth}
 use Rattle.batch.specs.steps.Slots.{bucketOfNumber, roundSlot, SlotsHold}
 use Rattle.batch.specs.steps.Duplicates.{IfZero, Listed, key, Keys, EqualBefore, FoundOrInserted, Deduplicated}
-use Rattle.batch.proofs.IndexLists.{listed-old, listed-new, each-step}
+use Rattle.batch.proofs.IndexLists.{listed-old, listed-new, each-step, rising-step}
+use Rattle.batch.proofs.Different.{seen-before, not-seen-before, different-next}
 use Rattle.lookup_laws.proofs.SlotSearch.{none-empty, none-equal, filled-next}
 
 -- ---- keys
@@ -172,19 +173,23 @@ module _ {xs : List (List ℕ)} {keys slots : List ℕ} {i : ℕ} (ks : Keys xs 
 -- ---- the equal names found
 
 pub deduplicated-none : (xs : List (List ℕ)) (equals list : List ℕ) → Deduplicated xs equals list 0 0
+unfolding different differentFrom
 deduplicated-none xs equals list =
     record {
       equal = λ j h. absurd (omega arith);
       count = omega arith;
       below = λ x h. absurd (omega arith);
+      unique = λ x h. absurd (omega arith);
+      rising = λ x y h k. absurd (omega arith);
       listed = λ j h. absurd (omega arith);
+      listed-names = refl;
       all-unique = λ h j k. absurd (omega arith);
     }
 
 -- one name more, whose equal one before it has the number q
 
-module _ {xs : List (List ℕ)} {equals list : List ℕ} {i m q r : ℕ} (room : i < length equals) (room' : m < length list) (new : EqualBefore xs i q)
-    (one : IfZero q 1 r) (old : Deduplicated xs equals list i m) where
+module _ {xs : List (List ℕ)} {equals list : List ℕ} {i m q r : ℕ} (inside : i < length xs) (room : i < length equals) (room' : m < length list)
+    (new : EqualBefore xs i q) (one : IfZero q 1 r) (old : Deduplicated xs equals list i m) where
   -- what holds of the names before it, and of it
   each : (P : ℕ → ℕ → Type 0) → ((j : ℕ) → j < i → P j (getD equals j 0)) → P i q → (j : ℕ) → j < i + 1 → P j (getD (set equals i q) j 0)
   each P before this j h =
@@ -199,14 +204,42 @@ module _ {xs : List (List ℕ)} {equals list : List ℕ} {i m q r : ℕ} (room :
   zero : 0 < r → q ≡ 0
   zero h = elim (ℕ-discrete q 0) [ yes z ↦ z | no z ↦ absurd (omega (arith, one .none (omega arith))) ]
 
+  -- the names listed before it, and then with it where it is new
+  front : map (nth xs) (take m (set list m i)) ≡ different (take i xs)
+  front = ap (map (nth xs)) (take-set-le m list m i (omega arith)) ∙ old .listed-names
+
+  names-step : map (nth xs) (take (m + r) (set list m i)) ≡ different (take (i + 1) xs)
+  names-step =
+      elim (ℕ-discrete q 0) [
+        | yes z ↦
+            (let e : m + r ≡ suc m = omega (arith, one .own z) in
+            ap (λ (k : ℕ). map (nth xs) (take k (set list m i))) e
+            ∙ ap (map (nth xs)) (take-suc (set list m i) m 0 (omega (arith, length-set list m i)))
+            ∙ map-append (nth xs) (take m (set list m i)) (getD (set list m i) m 0 ∷ [])
+            ∙ ap (λ (v : ℕ). map (nth xs) (take m (set list m i)) ++ nth xs v ∷ []) (getD-set-same list m i 0 room')
+            ∙ ap (λ (l : List (List ℕ)). l ++ nth xs i ∷ []) front
+            ∙ sym (different-next xs i false inside (not-seen-before new z)))
+        | no z ↦
+            (let e : m + r ≡ m = omega (arith, one .none (omega arith)) in
+            ap (λ (k : ℕ). map (nth xs) (take k (set list m i))) e
+            ∙ front
+            ∙ sym (append-nil (different (take i xs)))
+            ∙ sym (different-next xs i true inside (seen-before new inside (omega arith))))
+      ]
+
   pub deduplicated-step : Deduplicated xs (set equals i q) (set list m i) (i + 1) (m + r)
   deduplicated-step =
       record {
         equal = each (EqualBefore xs) (old .equal) new;
         count = omega (arith, small, old .count);
         below = each-step (λ (v : ℕ). v < i + 1) list m (m + r) i room' (omega (arith, small)) (λ z h. omega (arith, old .below z h)) (λ h. omega arith);
+        unique = each-step (λ (v : ℕ). getD (set equals i q) v 0 ≡ 0) list m (m + r) i room' (omega (arith, small))
+            (λ z h. getD-set-other equals i (getD list z 0) q 0 (λ e. omega (arith, old .below z h)) ∙ old .unique z h)
+            (λ h. getD-set-same equals i q 0 room ∙ zero (omega arith));
+        rising = rising-step list m (m + r) i room' (omega (arith, small)) (old .below) (old .rising);
         listed = each (λ (j v : ℕ). v ≡ 0 → Listed (set list m i) (m + r) j)
             (λ j h u. listed-old list m (m + r) i j (omega arith) (old .listed j h u))
             (λ u. listed-new list m (m + r) i room' (omega (arith, one .own u)));
+        listed-names = names-step;
         all-unique = λ h. each (λ (j v : ℕ). v ≡ 0) (old .all-unique (omega (arith, small))) (zero (omega (arith, old .count)));
       }

@@ -2,16 +2,19 @@
 use Prim.Native.Nat.{ℕ, _+_, _≤_, _<_}
 use native.Mathlib.Omega.{arith}
 use native.Mathlib.Decide.{ℕ-discrete}
-use mathlib.Core.Path.{sym, ap, subst, _∙_}
+use mathlib.Core.Path.{_≡_, sym, ap, subst, _∙_}
 use mathlib.Core.List.{List}
 use lib.ListN.{length, getD, set}
 use lib.Seq.{getD-set-same, getD-set-other}
-use Rattle.batch.specs.steps.Duplicates.{Listed}
+use Rattle.batch.specs.steps.Duplicates.{Listed, Rising}
 
 -- what is listed stays so
 pub listed-old : (l : List ℕ) (p q i j : ℕ) → p ≤ q → Listed l p j → Listed (set l p i) q j
 listed-old l p q i j h a =
     record { place = a .place; inside = omega (arith, a .inside); is = getD-set-other l p (a .place) i 0 (λ e. omega (arith, a .inside)) ∙ a .is }
+
+pub listed-more : {l : List ℕ} {p q j : ℕ} → p ≤ q → Listed l p j → Listed l q j
+listed-more h a = record { place = a .place; inside = omega (arith, a .inside); is = a .is }
 
 pub listed-new : (l : List ℕ) (p q i : ℕ) → p < length l → p < q → Listed (set l p i) q i
 listed-new l p q i room h = record { place = p; inside = h; is = getD-set-same l p i 0 room }
@@ -27,6 +30,17 @@ each-step Q l p q i room few old new z h =
     elim (ℕ-discrete z p) [
       | yes e ↦ subst Q (sym (ap (λ (m : ℕ). getD (set l p i) m 0) e ∙ getD-set-same l p i 0 room)) (new (omega arith))
       | no e ↦ subst Q (sym (getD-set-other l p z i 0 e)) (old z (omega arith))
+    ]
+
+-- one more, above all before, and kept or not
+pub rising-step : (l : List ℕ) (p q i : ℕ) → p < length l → q ≤ p + 1 → ((z : ℕ) → z < p → getD l z 0 < i) → Rising l p → Rising (set l p i) q
+rising-step l p q i room few above old x y h k =
+    let first : getD (set l p i) x 0 ≡ getD l x 0 = getD-set-other l p x i 0 (λ e. omega arith) in
+    elim (ℕ-discrete y p) [
+      | yes e ↦
+          (let last : getD (set l p i) y 0 ≡ i = ap (λ (m : ℕ). getD (set l p i) m 0) e ∙ getD-set-same l p i 0 room in
+          omega (arith, above x (omega arith)))
+      | no e ↦ (let second : getD (set l p i) y 0 ≡ getD l y 0 = getD-set-other l p y i 0 e in omega (arith, old x y h (omega arith)))
     ]
 
 -- the same of two lists

@@ -7,32 +7,48 @@ use mathlib.Core.Logic.{_⊎_, inl, inr}
 use mathlib.Core.List.{List}
 use lib.ListN.{length, getD, set}
 use lib.Seq.{getD-set-other}
-use Rattle.batch.specs.steps.Duplicates.{Listed}
+use Rattle.batch.specs.steps.Duplicates.{Listed, Rising}
 use Rattle.batch.specs.steps.Probing.{Probed, StillOpen, NowDecided, Partition}
 use Rattle.batch.specs.steps.Answers.{Right, Answered}
 use Rattle.batch.specs.RoundNames.{names}
-use Rattle.batch.proofs.IndexLists.{listed-old, listed-new, listed-has, each-step, both-step}
+use Rattle.batch.proofs.IndexLists.{listed-old, listed-more, listed-new, listed-has, each-step, rising-step, both-step}
 
 -- the z-th of the searches has read its bucket: it stays open where `on` is 1
-module _ {image keys first live done offsets : List ℕ} {q c p d z : ℕ} (old : Partition image keys first live done offsets q c p d z)
+module _ {image keys first live done offsets : List ℕ} {c p d z : ℕ} (old : Partition image keys first live done offsets c p d z)
     (i offset on : ℕ) (own : i ≡ getD first z 0) (room : p < length live) where
   pub unread-step : ((y : ℕ) → z ≤ y → getD live y 0 ≡ getD first y 0) → (y : ℕ) → z + 1 ≤ y → getD (set live p i) y 0 ≡ getD first y 0
   unread-step unread y h = getD-set-other live p y i 0 (λ e. omega (arith, old .count)) ∙ unread y (omega arith)
 
-  pub partition-step : Probed image (getD keys i 0) c offset on → z < q → d < length done → d < length offsets
-      → Partition image keys first (set live p i) (set done d i) (set offsets d offset) q c (p + on) (d + (1 - on)) (z + 1)
-  partition-step probed inside room' room'' =
+  pub partition-step : Probed image (getD keys i 0) c offset on → {q : ℕ} → Rising first q → z < q → d < length done → d < length offsets
+      → Partition image keys first (set live p i) (set done d i) (set offsets d offset) c (p + on) (d + (1 - on)) (z + 1)
+  partition-step probed rising inside room' room'' =
       record {
         count = omega (arith, old .count, probed .small);
         each = each;
-        is-open = each-step (StillOpen image keys first q c) live p (p + on) i room (omega (arith, probed .small)) (old .is-open)
+        is-open = each-step (StillOpen image keys first (z + 1) c) live p (p + on) i room (omega (arith, probed .small))
+            (λ y h. record { listed = more (old .is-open y h .listed); is-open = old .is-open y h .is-open })
             (λ h. record { listed = listed; is-open = probed .is-open (omega (arith, probed .small)) });
-        decided = both-step (NowDecided image keys first q c) done offsets d (d + (1 - on)) i offset room' room'' (omega arith) (old .decided)
+        decided = both-step (NowDecided image keys first (z + 1) c) done offsets d (d + (1 - on)) i offset room' room'' (omega arith)
+            (λ y h. record { listed = more (old .decided y h .listed); decided = old .decided y h .decided })
             (λ h. record { listed = listed; decided = probed .decided (omega (arith, probed .small)) });
+        live-rising = rising-step live p (p + on) i room (omega (arith, probed .small)) (λ y h. less (old .is-open y h .listed)) (old .live-rising);
+        done-rising = rising-step done d (d + (1 - on)) i room' (omega arith) (λ y h. less (old .decided y h .listed)) (old .done-rising);
+        disjoint = each-step (λ (v : ℕ). (y : ℕ) → y < d + (1 - on) → v ≡ getD (set done d i) y 0 → ⊥) live p (p + on) i room (omega (arith, probed .small))
+            (λ x h. each-step (λ (w : ℕ). getD live x 0 ≡ w → ⊥) done d (d + (1 - on)) i room' (omega arith) (old .disjoint x h)
+            (λ k e. omega (arith, less (old .is-open x h .listed))))
+            (λ h. each-step (λ (w : ℕ). i ≡ w → ⊥) done d (d + (1 - on)) i room' (omega arith) (λ y k e. omega (arith, less (old .decided y k .listed)))
+            (λ k e. omega arith));
       }
     where
-      listed : Listed first q i
-      listed = record { place = z; inside = inside; is = sym own }
+      listed : Listed first (z + 1) i
+      listed = record { place = z; inside = omega arith; is = sym own }
+
+      more : {j : ℕ} → Listed first z j → Listed first (z + 1) j
+      more a = listed-more (omega arith) a
+
+      -- those before stand below it
+      less : {j : ℕ} → Listed first z j → j < i
+      less a = omega (arith, a .is, own, rising (a .place) z (a .inside) inside)
 
       In : ℕ → Type 0
       In j = Listed (set live p i) (p + on) j ⊎ Listed (set done d i) (d + (1 - on)) j
@@ -56,18 +72,18 @@ module _ {image keys first live done offsets : List ℕ} {q c p d z : ℕ} (old 
           ]
 
 -- after the last
-pub partition-end : {image keys first live done offsets : List ℕ} {q c p d z : ℕ} → Partition image keys first live done offsets q c p d z
-    → z ≤ q → q ≤ z → Partition image keys first live done offsets q c p (q - p) q
+pub partition-end : {image keys first live done offsets : List ℕ} {q c p d z : ℕ} → Partition image keys first live done offsets c p d z
+    → z ≤ q → q ≤ z → Partition image keys first live done offsets c p (q - p) q
 partition-end {image} {keys} {first} {live} {done} {offsets} {q} {c} {p} {d} {z} all below above =
     let e : d ≡ q - p = omega (arith, all .count) in
     let f : z ≡ q = omega arith in
-    subst (λ (m : ℕ). Partition image keys first live done offsets q c p m q) e
-    (subst (λ (m : ℕ). Partition image keys first live done offsets q c p d m) f all)
+    subst (λ (m : ℕ). Partition image keys first live done offsets c p m q) e
+    (subst (λ (m : ℕ). Partition image keys first live done offsets c p d m) f all)
 
 -- ---- from pass to pass: a name has its answer, or its search is open
 
 pub next-right : {image keys bytes ends first live done offsets answers answers' : List ℕ} {q c p d i : ℕ}
-    → Partition image keys first live done offsets q c p d q → Answered image bytes ends done answers answers' d
+    → Partition image keys first live done offsets c p d q → Answered image bytes ends done answers answers' d
     → Right image (names bytes ends) answers i ⊎ Listed first q i → Right image (names bytes ends) answers' i ⊎ Listed live p i
 next-right {i = i} parted found (inl h) = inl (found .stays i h)
 next-right {image} {bytes = bytes} {ends} {first} {live} {done} {answers' = answers'} {p = p} {d} {i} parted found (inr a) =

@@ -1,42 +1,19 @@
 -- The buckets of the unique names, added up: the sum over the different names. Assumes nothing.
-use Prim.Native.Nat.{ℕ, zero, suc, _+_, _*_, _-_, _≤_, _<_}
+use Prim.Native.Nat.{ℕ, suc, _+_, _*_, _≤_, _<_}
 use native.Mathlib.Omega.{arith}
 use native.Mathlib.Decide.{ℕ-discrete}
 use native.Mathlib.Numerals.{add-one}
 use mathlib.Core.Path.{_≡_, refl, sym, ap, _∙_}
-use mathlib.Core.Bool.{Bool, true, false, _||_}
+use mathlib.Core.Bool.{Bool, true, false}
 use mathlib.Core.List.{List, [], _∷_, _++_}
-use lib.ListN.{length, getD, take, drop, length-take, drop-of-length-le}
-use lib.Seq.{drop-cons, take-suc, getD-take}
-use Rattle.image.specs.Bytes.{same}
-use Rattle.image.proofs.Equal.{same-self, same-false}
+use lib.ListN.{length, getD, take, drop, drop-of-length-le}
+use lib.Seq.{drop-cons, take-suc}
 use Rattle.reader.specs.Lookup.{Lookup, found, nothing, lookup}
 use Rattle.reader.specs.Cases.{reads}
 use Rattle.batch.specs.RoundNames.{among, newOnly, differentFrom, different, nth}
 use Rattle.batch.specs.Round.{answerWords, bucketsRead, roundBuckets}
 use Rattle.batch.specs.steps.Answers.{UniqueAnswered}
-
--- ---- whether a name is among those before it
-
-among-some : (x : List ℕ) (ys : List (List ℕ)) (j : ℕ) → j < length ys → nth ys j ≡ x → among x ys ≡ true
-unfolding among
-among-some x [] j h e = absurd (omega arith)
-among-some x (y ∷ ys) zero h e = ap (λ (l : List ℕ). same l x || among x ys) e ∙ ap (λ (t : Bool). t || among x ys) (same-self x)
-among-some x (y ∷ ys) (suc j) h e =
-    let k : j < length ys = omega arith in
-    ap (λ (t : Bool). same y x || t) (among-some x ys j k e) ∙ or-true (same y x)
-  where
-    or-true : (t : Bool) → (t || true) ≡ true
-    or-true true = refl
-    or-true false = refl
-
-among-none : (x : List ℕ) (ys : List (List ℕ)) → ((j : ℕ) → j < length ys → nth ys j ≡ x → ⊥) → among x ys ≡ false
-unfolding among
-among-none x [] h = refl
-among-none x (y ∷ ys) h =
-    ap (λ (t : Bool). t || among x ys) (same-false y x (λ e. h 0 (omega arith) e)) ∙ among-none x ys (λ j k e. h (suc j) (omega arith) e)
-
--- ---- the sum
+use Rattle.batch.proofs.Different.{seen-before, not-seen-before}
 
 -- the buckets of the different names from the i-th on
 abbrev pub bucketsFrom : List ℕ → List (List ℕ) → ℕ → ℕ
@@ -52,19 +29,6 @@ third-word (found f) = refl
 third-word (nothing n) = refl
 
 module _ {image : List ℕ} {xs : List (List ℕ)} {equals answers : List ℕ} {n : ℕ} (u : UniqueAnswered image xs equals answers n) where
-  -- a name is among those before it exactly where an equal one was found
-  duplicate : (i : ℕ) → i < n → 0 < getD equals i 0 → among (nth xs i) (take i xs) ≡ true
-  duplicate i h q =
-      let e = u .equal i h in
-      let k : getD equals i 0 - 1 < i = omega (arith, e .below) in
-      among-some (nth xs i) (take i xs) (getD equals i 0 - 1) (omega (arith, length-take i xs, u .size))
-      (getD-take i xs (getD equals i 0 - 1) [] k ∙ e .there q)
-
-  unique : (i : ℕ) → i < n → getD equals i 0 ≡ 0 → among (nth xs i) (take i xs) ≡ false
-  unique i h z =
-      among-none (nth xs i) (take i xs)
-      (λ j k e. u .equal i h .none z j (omega (arith, length-take i xs)) (sym (getD-take i xs j [] (omega (arith, length-take i xs))) ∙ e))
-
   -- one name more
   more : (i : ℕ) → i < n → (t : Bool) → among (nth xs i) (take i xs) ≡ t
       → bucketsFrom image xs i ≡ bucketsRead image (newOnly t (nth xs i) (differentFrom (take (i + 1) xs) (drop (i + 1) xs)))
@@ -84,8 +48,8 @@ module _ {image : List ℕ} {xs : List (List ℕ)} {equals answers : List ℕ} {
       elim (ℕ-discrete (getD equals i 0) 0) [
         | yes z ↦
             (let read : b ≡ reads (lookup image (nth xs i)) = own z ∙ u .right i h z 2 (omega arith) ∙ third-word (lookup image (nth xs i)) in
-            omega (arith, more i h false (unique i h z)))
-        | no z ↦ omega (arith, none (omega arith), more i h true (duplicate i h (omega arith)))
+            omega (arith, more i h false (not-seen-before (u .equal i h) z)))
+        | no z ↦ omega (arith, none (omega arith), more i h true (seen-before (u .equal i h) (omega (arith, u .size)) (omega arith)))
       ]
 
   pub sum-end : (i s : ℕ) → n ≤ i → s + bucketsFrom image xs i ≡ roundBuckets image xs → s ≡ roundBuckets image xs

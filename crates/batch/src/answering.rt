@@ -4,10 +4,9 @@ ghost use mathlib.Core.List.{[], _∷_};
 ghost use Prim.Native.Nat.{_≤_};
 ghost use Rattle.reader.specs.Cases.{lookupOf};
 ghost use Rattle.reader.specs.Lookup.{lookupBy};
-ghost use Rattle.batch.specs.RoundNames.{names};
 ghost use Rattle.batch.specs.Round.{answerWords};
 ghost use Rattle.batch.specs.steps.Answers.{putWords, wordsIn, HasPlace, CopyAnswerPre, PutDecidedPre};
-ghost use Rattle.batch.specs.steps.Answers.{PassCount, ListedNames, ListedRight, DecidedNames, OpenNames};
+ghost use Rattle.batch.specs.steps.Answers.{PassCount, ListedNames, DecidedNames, OpenNames};
 ghost use Rattle.batch.specs.steps.Answers.{Answered, EqualsPre, SumsUnique, AllAnswered, Source};
 use super::deduplicate::if_zero;
 use super::probing::pass;
@@ -178,8 +177,8 @@ fn pass_count(image: &[u8], bytes: &[u8]) -> u32
     if 4294967295 <= bytes.len() { 0 } else { PASSES }
 }
 
-// Stores the answers of the first m names listed in `live`: passes, and then each search that is still open goes on by
-// itself.
+// Stores the answers of the first m names listed in `live`, no two of which are equal, and writes no other place. First
+// passes are made, and then each search that is still open goes on by itself.
 pub(crate) fn find_all(
     image: &[u8],
     bytes: &[u8],
@@ -191,8 +190,8 @@ pub(crate) fn find_all(
 )
     requires { ⌜ ListedNames (now bytes) (now ends) (now keys) (now live) (now answers) m ⌝ }
     ensures { λ _. ⌜
-        ListedRight (now (image .entry)) (names (now (bytes .entry)) (now (ends .entry))) (now (live .entry))
-        (now (answers .exit)) m
+        Answered (now (image .entry)) (now (bytes .entry)) (now (ends .entry)) (now (live .entry))
+        (now (answers .entry)) (now (answers .exit)) m
         ⌝ }
 {
     let mut done: [u16; 512] = [0; 512];

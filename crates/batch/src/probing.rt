@@ -54,7 +54,7 @@ pub(crate) fn pass(
     requires { ⌜ PassPre (now image) (now keys) (now live) (now done) (now offsets) c q ⌝ }
     ensures { λ r. ⌜
         Partition (now (image .entry)) (now (keys .entry)) (now (live .entry)) (now (live .exit)) (now (done .exit))
-        (now (offsets .exit)) q (c + 1) r (q - r) q
+        (now (offsets .exit)) (c + 1) r (q - r) q
         ⌝ }
 {
     let mut p: usize = 0;

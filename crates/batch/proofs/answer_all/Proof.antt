@@ -63,7 +63,7 @@ equal-names c =
 -- the unique names have their answers
 answered : (c : tie.After-find-all) → UniqueAnswered (begun c .args .image .now) (names-in c) (equals c) (answers c) (length (begun c .args .ends .now))
 answered c =
-    unique-answered (length-names (begun c .args .bytes .now) (begun c .args .ends .now)) (deduplicated c .deduplicate .ensures) (c .find-all .ensures)
+    unique-answered (length-names (begun c .args .bytes .now) (begun c .args .ends .now)) (deduplicated c .deduplicate .ensures) (c .find-all .ensures .stored)
 
 deduplicate-requires : tie.Need-deduplicate-requires
 deduplicate-requires c κs =
@@ -81,6 +81,8 @@ find-all-requires c κs =
     let s = start h in
     let unique = d .deduplicate .ensures in
     record {
+      first = λ x k. unique .equal _ (unique .below x k) .none (unique .unique x k);
+      rising = unique .rising;
       names = keyed h;
       places = omega (arith, s .pre .places);
       few = omega (arith, unique .count, s .pre .few);

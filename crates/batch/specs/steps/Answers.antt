@@ -9,7 +9,7 @@ use Rattle.reader.specs.Lookup.{lookup}
 use Rattle.reader.specs.Naming.{Naming, lengthIn}
 use Rattle.batch.specs.RoundNames.{names, invalidEnds, nth}
 use Rattle.batch.specs.Round.{answerWords, roundWords, roundBuckets}
-use Rattle.batch.specs.steps.Duplicates.{KeyedNames, EqualBefore, IsUnique}
+use Rattle.batch.specs.steps.Duplicates.{Listed, Rising, KeyedNames, EqualBefore, IsFirst, IsUnique}
 use Rattle.batch.specs.steps.Probing.{Open, Decided}
 
 -- four words stored in the i-th place, and the words in it
@@ -66,8 +66,11 @@ pub record PutDecidedPre (image name answers : List ℕ) (h offset c i : ℕ) : 
   pub small : c ≤ 512
   pub decided : Decided image h c offset
 
--- m of the names are listed, and there is a place for the answer of each
+-- m of the names are listed, and there is a place for the answer of each. Their indexes rise, and no name before one of
+-- them equals it: so no two of them are equal
 pub record ListedNames (bytes ends keys list answers : List ℕ) (m : ℕ) : Type 0 where
+  pub first : (x : ℕ) → x < m → IsFirst (names bytes ends) (getD list x 0)
+  pub rising : Rising list m
   pub names : KeyedNames bytes ends keys
   pub places : 4 * length ends ≤ length answers
   pub few : m ≤ 512
@@ -92,10 +95,11 @@ pub record OpenNames (image bytes ends keys list answers : List ℕ) (m c : ℕ)
 abbrev pub ListedRight : List ℕ → List (List ℕ) → List ℕ → List ℕ → ℕ → Type 0
 ListedRight image xs list answers m = (x : ℕ) → x < m → Right image xs answers (getD list x 0)
 
--- and what was right stays so
+-- and what was right stays so; the places of names that are not listed keep their words
 pub record Answered (image bytes ends list before after : List ℕ) (m : ℕ) : Type 0 where
   pub stays : (i : ℕ) → Right image (names bytes ends) before i → Right image (names bytes ends) after i
   pub stored : ListedRight image (names bytes ends) list after m
+  pub others : (i : ℕ) → (Listed list m i → ⊥) → Has after i (wordsIn before i)
 
 -- ---- duplicates
 

@@ -1,11 +1,11 @@
--- What the steps that find duplicates ask and promise. Equal names are searched for once.
+-- What the steps that find duplicates ask and promise.
 use Prim.Native.Nat.{ℕ, _+_, _-_, _≤_, _<_}
 use mathlib.Core.Path.{_≡_}
 use mathlib.Core.Bool.{false}
-use mathlib.Core.List.{List}
-use lib.ListN.{length, getD}
+use mathlib.Core.List.{List, map}
+use lib.ListN.{length, getD, take}
 unfoldable pub use Rattle.jhash.specs.NameHash.{key}
-use Rattle.batch.specs.RoundNames.{names, invalidEnds, nth}
+use Rattle.batch.specs.RoundNames.{names, invalidEnds, different, nth}
 use Rattle.batch.specs.steps.Slots.{SlotsHold}
 
 -- x where q is 0, else 0
@@ -20,6 +20,10 @@ pub record Listed (l : List ℕ) (n i : ℕ) : Type 0 where
   pub place : ℕ
   pub inside : place < n
   pub is : getD l place 0 ≡ i
+
+-- the first n of a list rise, so no number stands among them twice
+abbrev pub Rising : List ℕ → ℕ → Type 0
+Rising l n = (x y : ℕ) → x < y → y < n → getD l x 0 < getD l y 0
 
 -- ---- keys
 
@@ -45,11 +49,15 @@ pub record ComparePre (bytes ends keys : List ℕ) (j i : ℕ) : Type 0 where
   pub first : j < length ends
   pub second : i < length ends
 
+-- no name before the i-th equals it
+abbrev pub IsFirst : List (List ℕ) → ℕ → Type 0
+IsFirst xs i = (j : ℕ) → j < i → nth xs j ≡ nth xs i → ⊥
+
 -- q is the number, counted from 1, of a name before the i-th that equals it; 0 where there is none
 pub record EqualBefore (xs : List (List ℕ)) (i q : ℕ) : Type 0 where
   pub below : q ≤ i
   pub there : 0 < q → nth xs (q - 1) ≡ nth xs i
-  pub none : q ≡ 0 → (j : ℕ) → j < i → nth xs j ≡ nth xs i → ⊥
+  pub none : q ≡ 0 → IsFirst xs i
 
 -- the slots hold the names before the i-th
 pub record FindOrInsertPre (bytes ends keys slots : List ℕ) (i : ℕ) : Type 0 where
@@ -67,15 +75,18 @@ pub record DeduplicatePre (bytes ends keys equals list : List ℕ) : Type 0 wher
   pub equals-capacity : length ends ≤ length equals
   pub list-capacity : length ends ≤ length list
 
--- a unique name: no earlier one equals it
+-- a unique name: by the numbers in `equals`, no earlier one equals it
 abbrev pub IsUnique : List ℕ → ℕ → Type 0
 IsUnique equals i = getD equals i 0 ≡ 0
 
--- of each of the first n names it is known which one before it is equal, and the r unique ones are listed; where they
--- are n, all are unique
+-- of each of the first n names it is known which one before it is equal. The first r of the list are the indexes of the
+-- unique ones, each of them and no other, in rising order; these are the different names. Where r is n, all are unique
 pub record Deduplicated (xs : List (List ℕ)) (equals list : List ℕ) (n r : ℕ) : Type 0 where
   pub equal : (i : ℕ) → i < n → EqualBefore xs i (getD equals i 0)
   pub count : r ≤ n
   pub below : (x : ℕ) → x < r → getD list x 0 < n
+  pub unique : (x : ℕ) → x < r → IsUnique equals (getD list x 0)
+  pub rising : Rising list r
   pub listed : (i : ℕ) → i < n → IsUnique equals i → Listed list r i
+  pub listed-names : map (nth xs) (take r list) ≡ different (take n xs)
   pub all-unique : n ≤ r → (i : ℕ) → i < n → IsUnique equals i

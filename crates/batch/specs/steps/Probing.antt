@@ -7,7 +7,7 @@ use lib.ListN.{length, getD}
 use Rattle.image.specs.Image.{headSize}
 use Rattle.reader.specs.Lookup.{nothing, probeEntry, decide, lookupHash}
 use Rattle.reader.specs.steps.Resume.{searchFrom}
-use Rattle.batch.specs.steps.Duplicates.{Listed}
+use Rattle.batch.specs.steps.Duplicates.{Listed, Rising}
 
 -- the search for the hash h is open after c buckets: what is left of it answers what the whole search does, whatever
 -- the name
@@ -49,21 +49,26 @@ pub record PassPre (image keys live done offsets : List ℕ) (c q : ℕ) : Type 
   pub live-capacity : q ≤ length live
   pub done-capacity : q ≤ length done
   pub offsets-capacity : q ≤ length offsets
+  pub rising : Rising live q
   pub keyed : (z : ℕ) → z < q → getD live z 0 < length keys
   pub is-open : (z : ℕ) → z < q → Open image (getD keys (getD live z 0) 0) c
 
--- one of the q searches that is open after c buckets, and one whose c-th bucket decides
-pub record StillOpen (image keys first : List ℕ) (q c i : ℕ) : Type 0 where
-  pub listed : Listed first q i
+-- one of z searches that is open after c buckets, and one whose c-th bucket decides
+pub record StillOpen (image keys first : List ℕ) (z c i : ℕ) : Type 0 where
+  pub listed : Listed first z i
   pub is-open : Open image (getD keys i 0) c
 
-pub record NowDecided (image keys first : List ℕ) (q c i e : ℕ) : Type 0 where
-  pub listed : Listed first q i
+pub record NowDecided (image keys first : List ℕ) (z c i e : ℕ) : Type 0 where
+  pub listed : Listed first z i
   pub decided : Decided image (getD keys i 0) c e
 
--- of q searches, listed in `first`, z have read their c-th bucket: p are open and d are decided
-pub record Partition (image keys first live done offsets : List ℕ) (q c p d z : ℕ) : Type 0 where
+-- of the first z searches listed in `first`, p are open after c buckets, listed in `live`, and d are decided by their
+-- c-th, listed in `done`. Each is in one of the two lists, none in both; the lists rise, so none is in one twice
+pub record Partition (image keys first live done offsets : List ℕ) (c p d z : ℕ) : Type 0 where
   pub count : p + d ≡ z
   pub each : (y : ℕ) → y < z → Listed live p (getD first y 0) ⊎ Listed done d (getD first y 0)
-  pub is-open : (y : ℕ) → y < p → StillOpen image keys first q c (getD live y 0)
-  pub decided : (y : ℕ) → y < d → NowDecided image keys first q c (getD done y 0) (getD offsets y 0)
+  pub is-open : (y : ℕ) → y < p → StillOpen image keys first z c (getD live y 0)
+  pub decided : (y : ℕ) → y < d → NowDecided image keys first z c (getD done y 0) (getD offsets y 0)
+  pub live-rising : Rising live p
+  pub done-rising : Rising done d
+  pub disjoint : (x : ℕ) → x < p → (y : ℕ) → y < d → getD live x 0 ≡ getD done y 0 → ⊥

@@ -1,5 +1,5 @@
--- `batch::answering::find_all` meets its contract. The loop's invariant: each of the names has its answer, or its search is open after c buckets. Assumes
--- nothing.
+-- `batch::answering::find_all` meets its contract. The loop's invariant: each of the names has its answer, or its search is open after c buckets; the open
+-- ones are listed names and rise, and the places of other names are kept. Assumes nothing.
 use Prim.Native.Nat.{ℕ, _-_, _≤_, _<_}
 use native.Mathlib.Omega.{arith}
 use mathlib.Core.Path.{_≡_, refl}
@@ -8,10 +8,11 @@ use mathlib.Core.List.{List}
 use lib.ListN.{length, getD, length-replicate}
 use borrow.Author.Needs.{needs}
 use Rattle.batch.specs.RoundNames.{names}
-use Rattle.batch.specs.steps.Duplicates.{Listed}
+use Rattle.batch.specs.steps.Duplicates.{Listed, Rising}
 use Rattle.batch.specs.steps.Probing.{Open}
 use Rattle.batch.specs.steps.Answers.{Right}
 use Rattle.batch.proofs.IndexLists.{listed-has}
+use Rattle.batch.proofs.AnswerPlaces.{Kept, kept-start, kept-step, listed-part}
 use Rattle.batch.proofs.Probes.{open-first}
 use Rattle.batch.proofs.Passes.{next-right, last-right}
 use Rattle.batch.proofs.answering.find_all.Statement.{statement}
@@ -24,9 +25,11 @@ record Inv (image bytes ends keys first before live answers done offsets : List 
   pub answers-long : length answers ≡ length before
   pub done-long : length done ≡ 512
   pub offsets-long : length offsets ≡ 512
-  pub below : (z : ℕ) → z < q → getD live z 0 < length ends
+  pub rising : Rising live q
+  pub listed : (z : ℕ) → z < q → Listed first m (getD live z 0)
   pub is-open : (z : ℕ) → z < q → Open image (getD keys (getD live z 0) 0) c
   pub right : (x : ℕ) → x < m → Right image (names bytes ends) answers (getD first x 0) ⊎ Listed live q (getD first x 0)
+  pub kept : Kept image bytes ends first before answers m
 
 abbrev Inv-loop : tie.InvT-loop
 Inv-loop image bytes ends keys first m before done₀ offsets₀ passes q₀ c₀ live answers done offsets q c =
@@ -59,9 +62,11 @@ loop-holds c =
       answers-long = refl;
       done-long = length-replicate {A = ℕ} 512 0;
       offsets-long = length-replicate {A = ℕ} 512 0;
-      below = start c .pre .below;
+      rising = start c .pre .rising;
+      listed = λ z h. record { place = z; inside = h; is = refl };
       is-open = λ z h. open-first (a .image .now) (getD (a .keys .now) (getD (a .live .now) z 0) 0);
       right = λ x h. inr (record { place = x; inside = h; is = refl });
+      kept = kept-start _ _ _ _ _ _;
     }
 
 slice-aggregate-pass : tie.Need-slice-aggregate-pass Inv-loop μ-loop
@@ -82,7 +87,8 @@ pass-requires c κs =
       live-capacity = omega (arith, v .count, v .live-long, s .pre .capacity);
       done-capacity = omega (arith, v .count, v .done-long, s .pre .few);
       offsets-capacity = omega (arith, v .count, v .offsets-long, s .pre .few);
-      keyed = λ z h. omega (arith, v .below z h, s .pre .names .capacity);
+      rising = v .rising;
+      keyed = λ z h. omega (arith, listed-has (λ (i : ℕ). i < length (s .args .ends .now)) (s .pre .below) (v .listed z h), s .pre .names .capacity);
       is-open = v .is-open;
     }
 
@@ -99,6 +105,13 @@ sub-find-decided c = omega (arith, passed c .pass .ensures .count)
 slice-aggregate-find-decided-2 : tie.Need-slice-aggregate-find-decided-2 Inv-loop μ-loop
 slice-aggregate-find-decided-2 c = let p = passed (c .before) in omega (arith, p .pass .kept, entered p .before .loop .inv .offsets-long)
 
+-- the decided searches are of listed names
+decided-listed : (c : tie.After-pass Inv-loop μ-loop) → let a = start (entered c .before .before) .args in
+    (z : ℕ) → z < entered c .before .loop .q - c .pass .result → Listed (a .live .now) (a .m) (getD (c .pass .last .1 .1 .1 .1 .1 .0) z 0)
+decided-listed c z h =
+    let a = start (entered c .before .before) .args in
+    listed-has (Listed (a .live .now) (a .m)) (entered c .before .loop .inv .listed) (c .pass .ensures .decided z h .listed)
+
 find-decided-requires : tie.Need-find-decided-requires Inv-loop μ-loop
 find-decided-requires c κs =
     let p = passed (c .before .before) in
@@ -107,13 +120,8 @@ find-decided-requires c κs =
     let s = start (e .before .before) in
     record {
       listed =
-          record {
-            names = s .pre .names;
-            places = omega (arith, v .answers-long, s .pre .places);
-            few = omega (arith, v .count, s .pre .few);
-            capacity = omega (arith, p .pass .kept, v .done-long, v .count, s .pre .few);
-            below = λ x h. listed-has (λ (i : ℕ). i < length (s .args .ends .now)) (v .below) (p .pass .ensures .decided x h .listed);
-          };
+          listed-part (s .pre) (v .answers-long) (omega (arith, v .count)) (omega (arith, p .pass .kept, v .done-long, v .count, s .pre .few))
+          (p .pass .ensures .done-rising) (decided-listed p);
       short = e .before .before .pass-count .ensures .short (omega (arith, e .loop-test .taken));
       small = omega (arith, e .loop-test .taken, e .before .before .pass-count .ensures .few);
       capacity = omega (arith, p .pass .kept, v .offsets-long, v .count, s .pre .few);
@@ -138,9 +146,11 @@ loop-again c =
       answers-long = omega (arith, found .kept, v .answers-long);
       done-long = omega (arith, p .pass .kept, v .done-long);
       offsets-long = omega (arith, p .pass .kept, v .offsets-long);
-      below = λ z h. listed-has (λ (i : ℕ). i < length (s .args .ends .now)) (v .below) (parted .is-open z h .listed);
+      rising = parted .live-rising;
+      listed = λ z h. listed-has (Listed (s .args .live .now) (s .args .m)) (v .listed) (parted .is-open z h .listed);
       is-open = λ z h. parted .is-open z h .is-open;
       right = λ x h. next-right parted (found .ensures) (v .right x h);
+      kept = kept-step (decided-listed p) (v .kept) (found .ensures);
     }
 
 find-open-requires : tie.Need-find-open-requires Inv-loop μ-loop
@@ -149,14 +159,7 @@ find-open-requires c κs =
     let v = at .loop .inv in
     let s = start (at .before) in
     record {
-      listed =
-          record {
-            names = s .pre .names;
-            places = omega (arith, v .answers-long, s .pre .places);
-            few = omega (arith, v .count, s .pre .few);
-            capacity = omega (arith, v .count, v .live-long, s .pre .capacity);
-            below = v .below;
-          };
+      listed = listed-part (s .pre) (v .answers-long) (v .count) (omega (arith, v .count, v .live-long, s .pre .capacity)) (v .rising) (v .listed);
       small = omega (arith, v .passed, at .before .pass-count .ensures .few);
       is-open = v .is-open;
     }
@@ -172,7 +175,8 @@ returns : tie.Need-returns Inv-loop μ-loop
 returns c =
     let found = c .before .before in
     let v = found .before .before .before .before .loop .inv in
-    λ x h. last-right (found .find-open .ensures) (v .right x h)
+    let k = kept-step (v .listed) (v .kept) (found .find-open .ensures) in
+    record { stays = k .stays; stored = λ x h. last-right (found .find-open .ensures) (v .right x h); others = k .others }
 
 pub find-all-spec : {M : Type 1} → statement M
 find-all-spec =

@@ -6,6 +6,7 @@ use mathlib.Core.Path.{_≡_, refl, sym, subst}
 use mathlib.Core.List.{List}
 use lib.ListN.{length, length-set, replicate, length-replicate, getD-replicate}
 use borrow.Author.Needs.{needs}
+use Rattle.packed.proofs.NameEnds.{length-names}
 use Rattle.batch.specs.RoundNames.{names}
 use Rattle.batch.specs.steps.Slots.{SlotsHold}
 use Rattle.batch.specs.steps.Duplicates.{Deduplicated}
@@ -53,13 +54,14 @@ loop-again : tie.Need-loop-again Inv-loop μ-loop
 loop-again c =
     let found = c .before .before in
     let v = found .before .before .before .loop .inv in
+    let a = start (found .before .before .before) .args in
     record {
       inside = omega arith;
       equals-long = simp length-set (v .equals-long);
       list-long = simp length-set (v .list-long);
       holds = found .find-or-insert .ensures .holds;
-      unique = deduplicated-step (omega (arith, v .equals-long)) (omega (arith, v .list-long, v .unique .count)) (found .find-or-insert .ensures .equal)
-          (c .if-zero .ensures) (v .unique);
+      unique = deduplicated-step (omega (arith, length-names (a .bytes .now) (a .ends .now))) (omega (arith, v .equals-long))
+          (omega (arith, v .list-long, v .unique .count)) (found .find-or-insert .ensures .equal) (c .if-zero .ensures) (v .unique);
     }
 
 returns : tie.Need-returns Inv-loop μ-loop

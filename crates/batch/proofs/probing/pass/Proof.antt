@@ -17,7 +17,7 @@ record Inv (image keys live₀ done₀ offsets₀ live done offsets : List ℕ) 
   pub done-long : length done ≡ length done₀
   pub offsets-long : length offsets ≡ length offsets₀
   pub unread : (y : ℕ) → z ≤ y → getD live y 0 ≡ getD live₀ y 0
-  pub partition : Partition image keys live₀ live done offsets q (c + 1) p d z
+  pub partition : Partition image keys live₀ live done offsets (c + 1) p d z
 
 abbrev Inv-loop : tie.InvT-loop
 Inv-loop image keys c q live₀ done₀ offsets₀ p₀ d₀ z₀ live done offsets p d z = Inv image keys live₀ done₀ offsets₀ live done offsets c q p d z
@@ -54,6 +54,9 @@ loop-holds c =
             each = λ y h. absurd (omega arith);
             is-open = λ y h. absurd (omega arith);
             decided = λ y h. absurd (omega arith);
+            live-rising = λ x y h k. absurd (omega arith);
+            done-rising = λ x y h k. absurd (omega arith);
+            disjoint = λ x h. absurd (omega arith);
           };
     }
 
@@ -94,7 +97,7 @@ loop-again c =
       offsets-long = simp length-set (v .offsets-long);
       unread = unread-step (v .partition) i (b .probe .result .offset) (b .probe .result .on) (own at) room (v .unread);
       partition =
-          partition-step (v .partition) i (b .probe .result .offset) (b .probe .result .on) (own at) room (b .probe .ensures) more
+          partition-step (v .partition) i (b .probe .result .offset) (b .probe .result .on) (own at) room (b .probe .ensures) (start at .pre .rising) more
           (omega (arith, v .done-long, start at .pre .done-capacity, v .partition .count))
           (omega (arith, v .offsets-long, start at .pre .offsets-capacity, v .partition .count));
     }
