@@ -16,7 +16,7 @@ pub enum Placed {
     Refused(u32),
 }
 
-// What opening answers: the number of associations (`num`) and where the image stands; or the refusal's number.
+// What opening answers: the number of entries (`num` of cqdb-rs) and where the image stands; or the refusal's number.
 pub enum OpenedAt {
     Image { num: u32, start: usize, size: usize },
     Refused(u32),

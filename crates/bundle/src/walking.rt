@@ -63,7 +63,7 @@ pub fn part<'a>(file: &'a [u8], position: usize) -> &'a [u8]
     }
 }
 
-// The number of associations of the image at a position, and where it stands; or why it is refused: 10 or 11 by the
+// The number of entries of the image at a position, and where it stands; or why it is refused: 10 or 11 by the
 // walk, then 5, 6, 7 or 8 by the checks of opening, on the image's own bytes alone.
 pub fn open(file: &[u8], position: usize) -> OpenedAt
     ensures { λ r. ⌜ openedAtOf r ≡ openingAt (now (file .entry)) position ⌝ }

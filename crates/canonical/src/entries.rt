@@ -1,6 +1,6 @@
 // One walk over the entries. Each is whole, its name has no zero byte, it is in the bucket that its put took, and in
-// a two-way image its id's link does not point before it. The table before a put is the finished one without the
-// entries from that put on, which are those with an offset from its own on.
+// a two-way image its id's word in the back array (the back word) is not below its offset. The table before a put is
+// the finished one without the entries from that put on, which are those with an offset from its own on.
 ghost use mathlib.Core.Path.{_≡_};
 ghost use Rattle.canonical.specs.steps.Checks.{TablesHeld, inItsBucket, entryName, nameOk, notBefore};
 ghost use Rattle.canonical.specs.steps.Contracts.{InBucketPre, CheckEntryPre, OneIf};
@@ -62,7 +62,7 @@ fn check_entry(image: &[u8], at: usize, n: usize, h: u32, place: usize, first: u
     in_bucket_cached(image, h, at as u32, place, first)
 }
 
-// Does a link point to the entry at `at` or behind it? A one-way image has no links.
+// Is the back word w not below the entry's offset `at`? A one-way image has no back words.
 fn not_before(two: bool, at: usize, w: u32) -> bool
     ensures { λ r. ⌜ r ≡ notBefore two at w ⌝ }
 {
@@ -76,14 +76,15 @@ fn one_if_equal(w: u32, at: usize) -> u64
     if w as usize == at { 1 } else { 0 }
 }
 
-// What the walk found: whether the entries are valid, their back size, and how many their own id's link points to.
+// What the walk found: whether the entries are valid, their back size, and how many of them have their offset in their
+// back word.
 pub struct EntriesChecked {
     pub valid: bool,
     pub back: u64,
     pub linked: u64,
 }
 
-// Checks `entries` entries from 2,072 to `end` and counts them by table. The links are at o.
+// Checks `entries` entries from 2,072 to `end` and counts them by table. The back array is at o.
 pub(super) fn check_entries(
     image: &[u8],
     end: usize,

@@ -1,7 +1,7 @@
 // The hashes of the next 256 entries, and the first buckets of their probe sequences, read before the entries are
-// checked. In a large image each bucket is a cache miss, and reads that don't wait for each other overlap: the check
-// of an image of 1,000,000 entries takes 22 % less time than with a plain loop, and of 4,096 entries 7 % less (both
-// in C, on a Xeon).
+// checked. In a large image each bucket is a cache miss, and reads that don't wait for each other overlap. A C
+// translation of the call was measured with and without this: with it, an image of 1,000,000 entries takes 20 to 24 %
+// less time, one of 4,096 entries 7 to 13 % (docs/DECISIONS.md, "How is canonical (02 (ix)) decided?").
 ghost use mathlib.Core.Path.{_≡_};
 ghost use Rattle.canonical.specs.steps.Cache.{firstBucketAt};
 ghost use Rattle.canonical.specs.steps.Contracts.{BatchPre, Batch, BucketsPre, BucketsRead};

@@ -116,6 +116,7 @@ fn print_image(entries: u32, size: u32, buf: &[u8])
     print_walk(&buf[..n]);
 }
 
+// `io::large_buffer` has 65,536 bytes.
 fn main() {
     let mut counts = [0u32; 256];
     let mut buf = io::large_buffer();

@@ -18,13 +18,14 @@ pub data Matches : Type 0 where
   matched : Found → Matches → Matches
   ended : ℕ → Matches
 
--- the search goes on past an equal name until an empty bucket, a broken entry
+-- one probe, the `reads`-th: the search goes on past another name and past an equal one, and ends at an empty bucket
+-- or a broken entry
 abbrev pub addMatch : Probe → ℕ → Matches → Matches
 addMatch pass reads rest = rest
 addMatch ends reads rest = ended reads
 addMatch (hit h) reads rest = matched (record { id = h .id; buckets = reads; offset = h .offset }) rest
 
--- or all buckets are read, `reads` being those read before
+-- it also ends when all buckets are read. `reads` is the number of buckets read before
 unfoldable pub matchesAlong : (ℕ → Probe) → List ℕ → ℕ → Matches
 matchesAlong probe [] reads = ended reads
 matchesAlong probe (k ∷ ks) reads = addMatch (probe k) (reads + 1) (matchesAlong probe ks (reads + 1))

@@ -1,4 +1,4 @@
--- The writing calls as C has them: a mode or a repeats mode above 1 changes nothing; with modes of 01's and 02's,
+-- The writing calls as C has them: a mode or a choice of repeats above 1 changes nothing; with modes of 01's and 02's,
 -- what the writer's calls promise. Assumes nothing.
 use Prim.Native.Nat.{ℕ}
 use mathlib.Core.Path.{_≡_, refl, ap, ap₂, _∙_}
@@ -22,7 +22,7 @@ use Rattle.writer.proofs.CRecords.{back-and-forth}
 use Rattle.cqdb_c.specs.Writing.{LentWriter, lentWriter, numbersOf, sizesOf, beginningOf, numberIn, lentIn, leftByBegin}
 use Rattle.cqdb_c.specs.Writing.{putNumber, leftByPut, closingOf, refusalIn, sizeIn, leftByClose}
 
--- begin with a mode or a repeats mode above 1
+-- begin with a mode or a choice of repeats above 1
 pub begin-unknown : (mode repeats n : ℕ) (l : LentWriter) → known mode repeats ≡ false
     → (2 ≡ numberIn (beginningOf mode repeats n)) × (l ≡ leftByBegin mode repeats n l)
 unfolding beginningOf leftByBegin

@@ -1,5 +1,5 @@
 -- The exported call for a buffer that has grown: the rule's number, and the record that it leaves. A record with a
--- mode or a repeats mode that is neither 0 nor 1 fits no buffer: refusal 2, and nothing changes. Assumes nothing.
+-- mode or a choice of repeats that is neither 0 nor 1 fits no buffer: refusal 2, and nothing changes. Assumes nothing.
 use Prim.Native.Nat.{ℕ}
 use mathlib.Core.Bool.{cond}
 use Rattle.writer.specs.Grown.{grownRefusal, grownWriter}

@@ -1,6 +1,6 @@
 // Writing, for C. Put, close and grown take and return the record by value, begin is lent it in place; the 256 table
-// counts and the buffer are lent. A record whose mode or repeats mode is neither 0 nor 1 is none of 01's and fits no
-// buffer.
+// counts and the buffer are lent. A record whose mode or choice of repeats is neither 0 nor 1 is none of 01's and fits
+// no buffer.
 use writer::Begun;
 use writer::Closed;
 use writer::c_record::Record;
@@ -33,8 +33,8 @@ pub struct CloseAnswer {
     pub writer: Record,
 }
 
-// Makes the writer, which is lent in place, fresh for a buffer; or refusal 1, or 2 for a mode or a repeats mode that
-// is neither 0 nor 1, and then the writer stays as it was.
+// Makes the writer, which is lent in place, fresh for a buffer; or refusal 1, or 2 for a mode or a choice of repeats
+// that is neither 0 nor 1, and then the writer stays as it was.
 #[no_mangle]
 pub extern "C" fn cqdb_begin_parts(
     mode: u32,

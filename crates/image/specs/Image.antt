@@ -40,10 +40,11 @@ unfoldable pub placed : ℕ → List Entry → List Placed
 placed o [] = []
 placed o (e ∷ es) = record { entry = e; at = o } ∷ placed (o + entrySize e) es
 
--- the entries of table t, in put order
+-- is an entry in table t?
 abbrev pub inTable : ℕ → Placed → Bool
 inTable t p = eqb (tableOf (hashOf (p .entry .name))) t
 
+-- the entries of table t, in put order
 unfoldable pub ofTable : ℕ → List Placed → List Placed
 unfolding filter
 ofTable t ps = filter (inTable t) ps
@@ -82,18 +83,20 @@ unfoldable pub backSize : List Entry → ℕ
 backSize [] = 0
 backSize (e ∷ es) = max (e .id + 1) (backSize es)
 
--- the entries of an id, in put order, with their offsets
+-- does an entry have this id?
 abbrev pub hasId : ℕ → Entry → Bool
 hasId i e = eqb (e .id) i
 
--- does an entry have this name, and does some entry of a list?
+-- does an entry have this name?
 abbrev pub hasName : List ℕ → Entry → Bool
 hasName name e = same (e .name) name
 
+-- does some entry of a list have it?
 unfoldable pub containsName : List ℕ → List Entry → Bool
 containsName name [] = false
 containsName name (e ∷ es) = hasName name e || containsName name es
 
+-- the entries of an id, in put order, with their offsets
 unfoldable pub placedOfId : ℕ → List Placed → List Placed
 placedOfId i ps = filter (λ (p : Placed). hasId i (p .entry)) ps
 

@@ -22,7 +22,7 @@ pub fn next(k: usize, n: usize) -> usize
     if k + 1 < n { k + 1 } else { 0 }
 }
 
-// An offset, but 0 from `before` on.
+// An offset below `before`, otherwise 0, as if later entries were not put.
 fn hide(before: u64, w: u32) -> u32
     ensures { λ r. ⌜ r ≡ hidden before w ⌝ }
 {

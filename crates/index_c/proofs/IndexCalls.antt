@@ -1,4 +1,4 @@
--- The calls of the index as C has them: a mode or a repeats mode above 1 changes nothing; with modes of 01's and 02's, what the
+-- The calls of the index as C has them: a mode or a choice of repeats above 1 changes nothing; with modes of 01's and 02's, what the
 -- index's own calls promise. Assumes nothing.
 use Prim.Native.Nat.{ℕ}
 use native.Mathlib.Omega.{arith}

@@ -1,5 +1,5 @@
 -- The index for C: h is what a call is lent (record, counts, buffer) with the words of the slots, h′ and words′
--- what it leaves. A record with a mode or a repeats mode that is neither 0 nor 1 fits no buffer: refusal 2, and
+-- what it leaves. A record with a mode or a choice of repeats that is neither 0 nor 1 fits no buffer: refusal 2, and
 -- nothing changes.
 use Prim.Native.Nat.{ℕ, _*_, _≤_}
 use mathlib.Core.Path.{_≡_}

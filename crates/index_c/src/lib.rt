@@ -1,4 +1,4 @@
-// The index for C: the 256 table counts, the buffer and the slots are lent. A record whose mode or repeats mode is
+// The index for C: the 256 table counts, the buffer and the slots are lent. A record whose mode or choice of repeats is
 // neither 0 nor 1 is none of 01's and fits no buffer. It is compiled by itself, so that hash, probe and store have one
 // caller each and are inlined (docs/DECISIONS.md, "Why several export crates?").
 ghost use mathlib.Core.Path.{_≡_};

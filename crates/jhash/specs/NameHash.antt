@@ -28,6 +28,6 @@ outcome Refused = refusal 9
 unfoldable pub hashOutcome : List ℕ → ℕ → Outcome ℕ
 hashOutcome name start = cond (ltb (length name) 4294967295) (value (nameHash name start)) (refusal 9)
 
--- The key of a name, by which names are told apart: its hash, 0 where it is too long to have one.
+-- The key of a name: its hash, or 0 where it is too long to have one.
 unfoldable pub key : List ℕ → ℕ
 key name = cond (ltb (length name) 4294967295) (hashOf name) 0

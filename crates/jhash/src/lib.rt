@@ -94,7 +94,7 @@ fn minus(x: u32, y: u32) -> u32
     std::num::wrapping_sub_u32(x, y)
 }
 
-// One round of mixing. It returns the words renamed, so that the next round is again on (a, b, c): a is the old b, b is
+// One round of mixing. It returns the words renamed, so that the next round is again on (a, c, b): a is the old b, b is
 // c + b, c is the mixed word. The rotation comes first and the sum last, and the compiler keeps that order: the next
 // round waits for the rotated word and the difference, not for the sum.
 fn mix_round(w: Words, k: u32) -> Words

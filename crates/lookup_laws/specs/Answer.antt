@@ -56,11 +56,12 @@ unfoldable pub firstAt : List ℕ → ℕ → List Entry → Option ℕ
 firstAt name o [] = none
 firstAt name o (e ∷ es) = cond (hasName name e) (some o) (firstAt name (o + entrySize e) es)
 
--- 02 (vi): an id is home (01's term) exactly when it has a name: that name's search matches every entry of it, the id's
--- last one too
+-- is there a name?
 abbrev pub isNamed : Option (List ℕ) → Bool
 isNamed (some name) = true
 isNamed none = false
 
+-- 02 (vi), in the image of a list of calls: there an id is home (01's term) exactly when it has a name, since that
+-- name's search matches every entry of it, the id's last one too. Other bytes may name an id that isn't home
 abbrev pub homeIn : List Entry → ℕ → Bool
 homeIn es id = isNamed (lastName (ofId id es))

@@ -34,13 +34,13 @@ asked Oneway gives = true
 abbrev pub kindOf : Bool → Bool → ℕ
 kindOf finds gives = cond (not finds) 1 (cond (not gives) 2 0)
 
--- for an entry of an image: "its name finds its id", and "its id gives its name"
+-- for an entry of an image: its name finds its id, and its id gives its name
 unfoldable pub kindIn : List ℕ → Entry → ℕ
 kindIn img e =
     kindOf (isId (foundId (lookup img (e .name))) (e .id))
     (asked (modeIn img) (isName (nameGiven img (e .id)) (e .name)))
 
--- "the offset of the first entry, in put order, for which this fails, and which of the two fails first": the entries
+-- the offset of the first entry, in put order, for which this fails, and which of the two fails first. The entries
 -- stand one after the other from o on. None where it holds for every entry
 pub record Failure : Type 0 where
   pub kind : ℕ

@@ -1,4 +1,4 @@
--- A lookup reads no more buckets than its table has, and each of them lies in the image (`specs/Bounds`). Assumes nothing.
+-- A lookup reads no more buckets than its table has, and each of them lies in the image (`specs/theorems/Bounds`). Assumes nothing.
 use Prim.Native.Nat.{ℕ, zero, suc, _+_, _*_, _/_, _≤_, _<_, zero-le}
 use native.Mathlib.Omega.{arith}
 use native.Mathlib.Nat.{mod-lt}

@@ -1,4 +1,4 @@
--- What a walk lists, and that it ends for good (`specs/Walks`). Assumes nothing.
+-- What a walk lists, and that it ends for good (`specs/theorems/Walks`). Assumes nothing.
 use Prim.Native.Nat.{ℕ, zero, suc, _+_, _-_, _≤_, _<_, zero-le}
 use native.Mathlib.Omega.{arith}
 use native.Mathlib.Numerals.{add-one}

@@ -1,4 +1,4 @@
--- Laws of reading. `Bounds`, `FoundAt` and `IdWalks` say of the rules what users ask besides the answers; `QuayReads` has 01's rows about reading.
+-- Laws of reading. `Bounds`, `FoundAt` and `IdWalks` say of the rules what users ask besides the answers; `ExampleReads` has 01's rows about reading.
 pub mod Opens
 pub mod Searches
 pub mod EarlyMiss

@@ -16,7 +16,7 @@ use Rattle.reader.specs.declared.Named.the-variants as named
 use Rattle.reader.specs.declared.Stepped.{Stepped}
 use Rattle.reader.specs.declared.Stepped.the-variants.{Item, Done}
 
--- an opened image answers num, its number of associations; or opening is refused by a number
+-- an opened image answers its number of entries (`num` of cqdb-rs); or opening is refused by a number
 abbrev pub openedOf : Opened → Outcome ℕ
 openedOf (Num n) = value n
 openedOf (Refused k) = refusal k

@@ -1,6 +1,7 @@
 // Reading: open, look up, name, walk, on every slice of bytes. No call of a user has a `requires`, and each answers
 // what 01 fixes for the bytes that it is lent, whether open accepts them or not. The steps of a search (`table_of`,
-// `probe_bucket`, `probe_entry`, `bucket_after`) are internal functions, public for the crates whose searches differ.
+// `search_from`, `probe_bucket`, `probe_entry`, `bucket_after`) are internal functions, public for the crates whose
+// searches differ.
 pub mod opening; // opening.rt: open
 pub mod lookup; // lookup.rt: to_id
 pub mod naming; // naming.rt: to_str, name, name_or
@@ -12,7 +13,8 @@ pub use naming::name_or;
 pub use naming::to_str;
 pub use opening::open;
 
-// What opening answers: the number of associations (`num`), or the number of the refusal that applies first.
+// What opening answers: the number of entries (`num` of cqdb-rs), by the bucket numbers of the head; or the number of
+// the refusal that applies first.
 pub enum Opened {
     Num(u32),
     Refused(u32),

@@ -121,7 +121,7 @@ pub(crate) fn back_leaves(image: &[u8]) -> bool
     image.len() < at + 4 * n
 }
 
-// The number of associations of an image, or the number of its refusal: 1 for too few bytes, 5 for other letters, 6 for
+// The number of entries (`num` of cqdb-rs), or the refusal's number: 1 for too few bytes, 5 for other letters, 6 for
 // another word at 12, 7 for a table that leaves the image, 8 for such a back array. The size and flag words are not
 // read, and bytes may follow the image.
 pub fn open(image: &[u8]) -> Opened

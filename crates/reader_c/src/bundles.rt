@@ -8,7 +8,7 @@ ghost use Rattle.bundle.specs.Opening.{openingAt};
 ghost use Rattle.bundle.specs.Append.{appending, afterAppend};
 ghost use Rattle.reader_c.specs.Bundle.{openAtAnswer, appendAnswer, countAnswer};
 
-// The refusal's number, 0 when accepted; the number of associations, and the place of the image's first byte in the
+// The refusal's number, 0 when accepted; the number of entries, and the place of the image's first byte in the
 // file and how many bytes it has. Zeros when refused.
 #[repr(C)]
 pub struct BundleOpenAnswer {

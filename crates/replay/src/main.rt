@@ -11,7 +11,7 @@
 //     zero 00000818                it is so many zero bytes
 //     edit 00000018 01020304       these bytes stand at this place of the buffer
 //     size 00000817                it is the buffer's first bytes, so many
-//     open 00000002                open gives the number of associations
+//     open 00000002                open gives the number of entries
 //     fail 00000007                open gives this refusal
 //     find 00000005 41             the name finds the id
 //     miss 41                      the name finds nothing

@@ -58,7 +58,7 @@ fn changed(s: State, tag: u32, n: usize, text: &[u8], buf: &mut [u8]) -> Step {
     }
 }
 
-// Does open give this number of associations, or this refusal?
+// Does open give this number of entries, or this refusal?
 fn opens_as(tag: u32, n: u32, image: &[u8]) -> bool {
     match reader::open(image) {
         Opened::Num(k) => tag == tags::OPEN && n == k,

@@ -44,6 +44,7 @@ fn holds_table(buf: &[u8], o: usize, n: usize) -> bool
 }
 
 // A pair stored in the first empty bucket of its search in the table of its hash, which the row in the head gives.
+// Nothing is stored where that table has no buckets or leaves the buffer.
 fn insert_by_row(buf: &mut [u8], h: u32, at: u32)
     ensures { λ _. ⌜ now (buf .exit) ≡ insertedByRow (now (buf .entry)) h at ⌝ }
 {

@@ -19,7 +19,7 @@ pub struct CQDB<'a> {
     pub image: &'a [u8],
 }
 
-// The number of associations that opening answers, 0 where it refuses: what `CQDB::num` calls.
+// The number of entries (`num` of cqdb-rs) that opening answers, 0 where it refuses: what `CQDB::num` calls.
 pub fn num_of(image: &[u8]) -> u32
     ensures { λ r. ⌜ r ≡ numOf (opening (now (image .entry))) ⌝ }
 {
@@ -37,14 +37,14 @@ impl<'a> CQDB<'a> {
         CQDB { image }
     }
 
-    // The number of associations, or why opening is refused.
+    // The number of entries, or why opening is refused.
     pub fn open(self) -> Opened
         ensures { λ r. ⌜ openedOf r ≡ opening (now (self .entry .image)) ⌝ }
     {
         reader::open(self.image)
     }
 
-    // The number of associations that opening answers, 0 where it refuses.
+    // The number of entries that opening answers, 0 where it refuses.
     pub fn num(self) -> u32
         ensures { λ r. ⌜ r ≡ numOf (opening (now (self .entry .image))) ⌝ }
     {

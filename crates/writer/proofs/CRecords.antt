@@ -23,7 +23,7 @@ mode-word mode fine = go (eqb mode 0) refl
     go true e = sym (eqb-true mode 0 e)
     go false e = omega (arith, eqb-false mode 0 e)
 
--- and one that stands for a repeats mode is that one's
+-- and one that stands for a choice of repeats is that one's
 repeats-word : (repeats : ℕ) → repeats ≤ 1 → repeatsWord (repeatsOf repeats) ≡ repeats
 repeats-word repeats fine = go (eqb repeats 0) refl
   where

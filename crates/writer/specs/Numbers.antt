@@ -1,4 +1,4 @@
--- The numbers by which C names a mode and a repeats mode: 01, "The image record", and 02 (viii). Assumes nothing.
+-- The numbers by which C names mode and choice of repeats: 01, "The image record", and 02 (viii). Assumes nothing.
 use Prim.Native.Nat.{ℕ}
 use mathlib.Core.Bool.{Bool, cond, _&&_}
 use lib.Dec.{eqb, leb}
@@ -7,8 +7,8 @@ use Rattle.image.specs.declared.Mode.the-variants.{Twoway, Oneway}
 use Rattle.writer.specs.declared.Repeats.{Repeats}
 use Rattle.writer.specs.declared.Repeats.the-variants.{Off, On}
 
--- a mode is 0, two-way, or 1, one-way, as the flag word; a repeats mode (02 (viii)) is 0, off, or 1, on. A record
--- with another number is none of 01's
+-- a mode is 0, two-way, or 1, one-way, as the flag word; the choice of repeats (02 (viii)) is 0, off, or 1, on. A
+-- record with another number is none of 01's
 abbrev pub known : ℕ → ℕ → Bool
 known mode repeats = leb mode 1 && leb repeats 1
 

@@ -48,7 +48,7 @@ finishedSize w = finishedOf (w .mode) (w .end) (w .entries) (w .back)
 abbrev pub tooLarge : ℕ → ℕ → Bool
 tooLarge capacity size = ltb capacity size || ltb 4294967295 size
 
--- a fresh record: the chosen mode, the chosen repeats mode (02 (viii)), the buffer's length, end 2,072 and otherwise
+-- a fresh record: the chosen mode, the choice of repeats (02 (viii)), the buffer's length, end 2,072 and otherwise
 -- zeros
 abbrev pub freshWriter : Mode → Repeats → ℕ → CQDBWriter
 freshWriter mode repeats n =

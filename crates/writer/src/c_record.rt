@@ -6,8 +6,8 @@ use super::numbers::repeats_word;
 ghost use mathlib.Core.Path.{_≡_};
 ghost use Rattle.writer.specs.CRecord.{writerOf, recordOf};
 
-// The mode (0 two-way, 1 one-way), the repeats mode (0 off, 1 on), the number of entries, the back size, the buffer's
-// length and the end of the entries.
+// The mode (0 two-way, 1 one-way), the choice of repeats (0 off, 1 on), the number of entries, the back size, the
+// buffer's length and the end of the entries.
 #[repr(C)]
 pub struct Record {
     pub mode: u32,

@@ -13,17 +13,17 @@ use image::Mode;
 pub mod c_record; // c_record.rt: the writer record as C has it
 mod check;
 pub mod entry; // entry.rt: store
-pub mod numbers; // numbers.rt: the numbers by which C names a mode and a repeats mode
+pub mod numbers; // numbers.rt: the numbers by which C names a mode and the choice of repeats
 pub mod record; // record.rt: the numbers of the record after a put
 
-// 02 (viii)'s repeats mode: with repeats off a writer refuses a name that it already holds.
+// 02 (viii)'s choice of repeats: with repeats off a writer refuses a name that it already holds.
 pub enum Repeats {
     Off,
     On,
 }
 
 // The writer record (`CQDBWriter` of cqdb-rs), but for its 256 table counts, which are lent apart: the mode, the
-// repeats mode, the buffer's length, the end of the entries, the number of entries and the back size.
+// choice of repeats, the buffer's length, the end of the entries, the number of entries and the back size.
 pub struct CQDBWriter {
     pub mode: Mode,
     pub repeats: Repeats,

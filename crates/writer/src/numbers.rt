@@ -1,4 +1,4 @@
-// The numbers by which C names a mode and a repeats mode: 0 two-way and 1 one-way; 0 off and 1 on.
+// The numbers by which C names a mode and the choice of repeats: 0 two-way and 1 one-way; 0 off and 1 on.
 use super::Repeats;
 use image::Mode;
 ghost use mathlib.Core.Path.{_≡_};
@@ -22,7 +22,7 @@ pub fn mode_of(mode: u32) -> Mode
     }
 }
 
-// The repeats mode that a number stands for.
+// The choice of repeats that a number stands for.
 pub fn repeats_of(repeats: u32) -> Repeats
     ensures { λ r. ⌜ r ≡ repeatsOf repeats ⌝ }
 {
@@ -33,7 +33,7 @@ pub fn repeats_of(repeats: u32) -> Repeats
     }
 }
 
-// The number of a repeats mode.
+// The number of a choice of repeats.
 pub fn repeats_word(repeats: Repeats) -> u32
     ensures { λ r. ⌜ r ≡ repeatsWord repeats ⌝ }
 {

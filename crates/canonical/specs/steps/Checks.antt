@@ -23,7 +23,7 @@ use Rattle.canonical.specs.steps.InPlace.{wordsAt}
 
 -- ---- the entries
 
--- where the entries of an image end, if there are n: tables and links follow them
+-- where the entries of an image end, if there are n: tables and back array follow them
 abbrev pub endIn : List ℕ → ℕ → ℕ
 endIn img n = length img - (16 * n + 4 * backSizeAt img)
 
@@ -52,13 +52,15 @@ abbrev pub TablesHeld : List ℕ → Type 0
 TablesHeld img =
     (t : ℕ) → t < 256 → 0 < bucketNumber img t → tableAt img t + 8 * bucketNumber img t ≤ length img
 
--- of the 2c buckets at o the empty ones are zero, and c are used
+-- bucket k of the table at o is used, or its hash is 0
 abbrev pub clean : List ℕ → ℕ → ℕ → Bool
 clean img o k = not (eqb (word img (o + 8 * k + 4)) 0) || eqb (word img (o + 8 * k)) 0
 
+-- how many of the m buckets from bucket k on are used
 unfoldable pub usedIn : List ℕ → ℕ → ℕ → ℕ → ℕ
 usedIn img o k m = countAtLeast 1 (map (λ (k : ℕ). word img (o + 8 * k + 4)) (range k m))
 
+-- of the 2c buckets at o the empty ones are zero, and c are used
 unfoldable pub tableOk : List ℕ → ℕ → ℕ → Bool
 tableOk img o c = all (clean img o) 0 (2 * c) && eqb (usedIn img o 0 (2 * c)) c
 
@@ -98,13 +100,13 @@ inItsBucket img h at =
 abbrev pub nameOk : List ℕ → ℕ → List ℕ → Bool
 nameOk img at name = not (hasZero name) && inItsBucket img (hashOf name) at
 
--- ---- the links of a two-way image, at o
+-- ---- the back array of a two-way image, at o
 
--- does an image have links?
+-- is an image two-way?
 abbrev pub twoWay : List ℕ → Bool
 twoWay img = eqb (word img 8) 0
 
--- a link w points to the entry at `at` or behind it
+-- the back word w is not below the entry's offset `at`; a one-way image has no back words
 abbrev pub notBefore : Bool → ℕ → ℕ → Bool
 notBefore two at w = not (two && ltb w at)
 
@@ -115,18 +117,18 @@ unfoldable pub entriesOk : List ℕ → Bool → ℕ → List Placed → Bool
 entriesOk img two o [] = true
 entriesOk img two o (p ∷ ps) = entryOk img two o p && entriesOk img two o ps
 
--- how many entries their own id's link points to
+-- how many entries have their own offset in their id's back word
 unfoldable pub selfLinksIn : List ℕ → ℕ → List Placed → ℕ
 selfLinksIn img o [] = 0
 selfLinksIn img o (p ∷ ps) = cond (eqb (word img (o + 4 * p .entry .id)) (p .at)) 1 0 + selfLinksIn img o ps
 
--- as many of the n links are above 0
+-- as many of the n back words are above 0
 abbrev pub linksCounted : List ℕ → ℕ → ℕ → List Placed → Bool
 linksCounted img o n ps = eqb (countAtLeast 1 (wordsAt img o n)) (selfLinksIn img o ps)
 
 -- ---- all of them
 
--- behind the head: n entries that end at `end`, and `back` links
+-- behind the head: n entries that end at `end`, and `back` back words
 unfoldable pub bodyOk : List ℕ → ℕ → ℕ → ℕ → Bool
 bodyOk img n end back =
     cond (rowsOk img end 0 256)

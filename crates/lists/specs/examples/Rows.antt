@@ -165,6 +165,7 @@ c5 repeats =
       ids = record { id = 0; gives = none; isHome = false } ∷ [];
     }
 
+-- In 01, id 9 isn't home. 02 (vi) changed that: "In C6 id 9 is now home too"
 abbrev pub c6 : Row
 c6 =
     record {

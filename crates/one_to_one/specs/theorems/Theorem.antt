@@ -22,18 +22,18 @@ use Rattle.one_to_one.specs.OneToOne.{isId, isName, asked, kindOf, Failu
 
 -- ---- an image that 02 (ix) says yes to
 
--- "its id gives its name and its name finds its id (in a one-way image: its name finds its id)"
+-- its id gives its name and its name finds its id (in a one-way image: its name finds its id)
 pub record Paired (img : List ℕ) (e : Entry) : Type 0 where
   pub finds : foundId (lookup img (e .name)) ≡ some (e .id)
   pub gives : modeIn img ≡ Twoway → nameGiven img (e .id) ≡ some (e .name)
 
--- kind 1, "its name finds another id"
+-- kind 1: its name finds another id
 pub record FindsOther (img : List ℕ) (e : Entry) : Type 0 where
   pub other : ℕ
   pub found : foundId (lookup img (e .name)) ≡ some other
   pub another : ¬ (other ≡ e .id)
 
--- kind 2, "its id gives another name"
+-- kind 2: its id gives another name
 pub record GivesOther (img : List ℕ) (e : Entry) : Type 0 where
   pub finds : foundId (lookup img (e .name)) ≡ some (e .id)
   pub two-way : modeIn img ≡ Twoway
@@ -44,7 +44,7 @@ pub record GivesOther (img : List ℕ) (e : Entry) : Type 0 where
 abbrev pub Fails : List ℕ → ℕ → Entry → Type 0
 Fails img kind e = ((kind ≡ 1) × FindsOther img e) ⊎ ((kind ≡ 2) × GivesOther img e)
 
--- "the first entry, in put order, for which this fails", of entries that stand one after the other from o on
+-- the first entry, in put order, for which this fails, of entries that stand one after the other from o on
 pub record First (img : List ℕ) (o : ℕ) (es : List Entry) (f : Failure) : Type 0 where
   pub before : List Entry
   pub entry : Entry
@@ -87,13 +87,13 @@ pub record OfList (mode : Mode) (es : List Entry) (img : List ℕ) : Type 0 wher
   pub inverse : mode ≡ Twoway → oneToOne img ≡ value none → Inverse img
 
 pub record Theorem : Type 0 where
-  -- "refused with 17 .. where (ix) says no"; "an image without entries is one to one"
+  -- refused with 17 where 02 (ix) says no; an image without entries is one to one
   pub refused : (img : List ℕ) → canonical img ≡ false → oneToOne img ≡ refusal 17
   pub empty : (img : List ℕ) → canonical img ≡ true → putsIn img ≡ [] → oneToOne img ≡ value none
-  -- "yes exactly when, for every entry, its id gives its name and its name finds its id"
+  -- yes exactly when, for every entry, its id gives its name and its name finds its id
   pub yes-exactly : (img : List ℕ) → canonical img ≡ true
       → (oneToOne img ≡ value none) ↔ Each (Paired img) (putsIn img)
-  -- "otherwise the offset of the first entry .. and which of the two fails first"
+  -- otherwise the offset of the first entry that fails, and which of the two fails first
   pub first-exactly : (img : List ℕ) → AllBytes img → canonical img ≡ true → (f : Failure)
       → (oneToOne img ≡ value (some f)) ↔ First img headSize (putsIn img) f
   pub inverse : (img : List ℕ) → AllBytes img → modeIn img ≡ Twoway → oneToOne img ≡ value none

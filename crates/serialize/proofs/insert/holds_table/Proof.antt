@@ -1,3 +1,4 @@
+-- `serialize::insert::holds_table` meets its contract. Assumes nothing.
 use borrow.Author.Needs.{needs}
 use borrow.Author.Tests.{le-leb, lt-leb}
 use Rattle.serialize.proofs.insert.holds_table.Statement.{statement}

@@ -1,3 +1,4 @@
+-- `serialize::insert::insert_by_row` meets its contract. Assumes nothing.
 use borrow.Author.Needs.{needs}
 use borrow.Author.Tests.{not-true, not-false}
 use Rattle.serialize.proofs.Insertion.{table-in, row-none, row-inserted}

@@ -1,3 +1,4 @@
+-- `serialize::insert::insert_entry` meets its contract. Assumes nothing.
 use borrow.Author.Needs.{needs}
 use Rattle.serialize.proofs.Insertion.{entry-inserted}
 use Rattle.serialize.proofs.insert.insert_entry.Statement.{statement}

@@ -1,3 +1,4 @@
+-- `serialize::partition::put_pair` meets its contract. Assumes nothing.
 use borrow.Author.Needs.{needs}
 use Rattle.serialize.proofs.PartitionSteps.{pair-put, pair-left}
 use Rattle.serialize.proofs.partition.put_pair.Statement.{statement}

@@ -1,3 +1,4 @@
+-- `serialize::tables::fill_table` meets its contract. Assumes nothing.
 use native.Mathlib.Omega.{arith}
 use lib.ListN.{length-take}
 use borrow.Author.Tests.{not-true, not-false}

@@ -1,3 +1,4 @@
+-- `serialize::tables::fill_tables` meets its contract. Assumes nothing.
 use native.Mathlib.Omega.{arith}
 use borrow.Author.Needs.{needs}
 use Prim.Native.Nat.{ℕ, _+_, _*_, _≤_, _-_}

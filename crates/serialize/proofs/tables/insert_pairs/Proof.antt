@@ -1,3 +1,4 @@
+-- `serialize::tables::insert_pairs` meets its contract. Assumes nothing.
 use native.Mathlib.Omega.{arith}
 use borrow.Author.Needs.{needs}
 use Prim.Native.Nat.{_-_}

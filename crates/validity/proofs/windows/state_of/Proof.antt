@@ -1,4 +1,4 @@
--- `validity::windows::tell` meets its contract, by the tests that led to each return.
+-- `validity::windows::state_of` meets its contract, by the tests that led to each return.
 use mathlib.Core.Path.{refl, sym, _∙_}
 use mathlib.Core.Bool.{true, false}
 use borrow.Author.Tests.{eq-eqb, ne-eqb, not-true, not-false}

@@ -1,4 +1,4 @@
--- `CQDB::home` promises of its image what `agreement::home` does: it is a thin call of it.
+-- `CQDB::home` promises of its image what `consistency::home` does: it is a thin call of it.
 use mathlib.Core.Path.{_≡_, refl}
 use base.Logic.{id⊢}
 use contract.Monad.{fact}
