@@ -1,16 +1,17 @@
--- A put changes its own entry's bytes alone, and an accepted close leaves the entries (`specs/theorems/Kept`). Assumes nothing.
+-- A put changes its own entry's bytes alone. An accepted close leaves the entries, and the bytes from the image's size on
+-- (`specs/theorems/Kept`). Assumes nothing.
 use Prim.Native.Nat.{ℕ, suc, _+_, _-_, _≤_, _<_}
 use native.Mathlib.Omega.{arith}
 use mathlib.Core.Path.{_≡_, refl, sym, ap, _∙_}
 use mathlib.Core.Bool.{Bool, true, false, cond}
 use mathlib.Core.List.{List, [], _∷_, _++_}
 use lib.ListN.{length, getD, take, drop, set, length-drop}
-use lib.Seq.{sets, drop-set-lt, take-append-le, drop-append-le}
+use lib.Seq.{sets, drop-set-lt, take-append-le, drop-append-le, drop-at}
 use lib.Dec.{eqb}
 use Rattle.image.specs.Bytes.{cat}
-use Rattle.image.specs.Image.{Entry, headSize, entryBytes, entrySize, entriesEnd, image}
+use Rattle.image.specs.Image.{Entry, headSize, entryBytes, entrySize, entriesEnd, backIn, backSize, backSizeOf, image}
 use Rattle.image.specs.declared.Mode.{Mode}
-use Rattle.image.proofs.Sizes.{length-entryBytes, length-entries, length-image}
+use Rattle.image.proofs.Sizes.{length-entryBytes, length-entries, length-image, backIn-twice}
 use Rattle.image.proofs.At.{at-take}
 use Rattle.image.proofs.Parts.{entries-at}
 use Rattle.writer.specs.State.{State}
@@ -18,7 +19,7 @@ use Rattle.writer.specs.Put.{putRefusal, appended, afterPut}
 use Rattle.writer.specs.Close.{entryArea, recorded, closeRefusal, closedSize, closed, afterClose}
 use Rattle.writer.specs.theorems.Kept.{Kept}
 use Rattle.image.proofs.Between.{take-sets}
-use Rattle.serialize.proofs.WrittenImage.{area-kept, stored-end}
+use Rattle.serialize.proofs.WrittenImage.{area-kept, stored-number, stored-end}
 use Rattle.writer.proofs.Closes.{accepted}
 use Rattle.writer.proofs.Accepted.{stands}
 
@@ -88,7 +89,31 @@ module _ (s : State) (bytes : (i : ℕ) → getD (s .buffer) i 0 < 256) (none-du
       ∙ area-in-image s (recorded s) (w .end) (drop (closedSize s) (s .buffer)) ends
       ∙ sym (area-kept (w .end) (w .entries) (s .buffer) bytes (k .entire))
 
+  -- the image has the size that close gives
+  image-length : length (image (s .writer .mode) (recorded s)) ≡ closedSize s
+  image-length =
+      let w = s .writer in
+      let es = recorded s in
+      let a = accepted s none-due in
+      let k = stands w (s .counts) (s .buffer) (a .fit) (a .fine) (a .all) in
+      let ends = stored-end (w .end) (w .entries) (s .buffer) bytes (k .entire) (k .low) (omega (arith, k .inside)) in
+      let number = stored-number (w .end) (w .entries) (s .buffer) bytes (k .entire) in
+      let back : backIn (w .mode) (w .back) ≡ backSizeOf (w .mode) es = ap (backIn (w .mode)) (k .backs) ∙ backIn-twice (w .mode) (backSize es) in
+      length-image (w .mode) es ∙ omega (arith, ends, number, back)
+
+  -- so the bytes from there on keep their content
+  pub close-keeps-behind : drop (closedSize s) (afterClose s .buffer) ≡ drop (closedSize s) (s .buffer)
+  unfolding closed
+  close-keeps-behind =
+      ap (λ (t : State). drop (closedSize s) (t .buffer)) is-closed
+      ∙ drop-at (image (s .writer .mode) (recorded s)) (drop (closedSize s) (s .buffer)) (closedSize s) image-length
+
 -- ---- all of it
 
 pub kept : Kept
-kept = record { put-keeps = put-keeps; put-keeps-behind = put-keeps-behind; close-keeps = close-keeps }
+kept = record {
+  put-keeps = put-keeps;
+  put-keeps-behind = put-keeps-behind;
+  close-keeps = close-keeps;
+  close-keeps-behind = close-keeps-behind;
+}

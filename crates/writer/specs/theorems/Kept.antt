@@ -5,7 +5,7 @@ use lib.ListN.{getD, take, drop}
 use Rattle.image.specs.Image.{Entry, entrySize}
 use Rattle.writer.specs.State.{State}
 use Rattle.writer.specs.Put.{afterPut}
-use Rattle.writer.specs.Close.{entryArea, closeRefusal, afterClose}
+use Rattle.writer.specs.Close.{entryArea, closeRefusal, closedSize, afterClose}
 
 pub record Kept : Type 0 where
   -- whatever put answers, the head and every earlier entry stay as they were, and so do the bytes behind the new one
@@ -16,3 +16,6 @@ pub record Kept : Type 0 where
   -- an accepted close, in a buffer of bytes, leaves the entries as they were
   pub close-keeps : (s : State) → ((i : ℕ) → getD (s .buffer) i 0 < 256) → closeRefusal s ≡ 0
       → entryArea (afterClose s) ≡ entryArea s
+  -- and so it does the bytes from the image's size on
+  pub close-keeps-behind : (s : State) → ((i : ℕ) → getD (s .buffer) i 0 < 256) → closeRefusal s ≡ 0
+      → drop (closedSize s) (afterClose s .buffer) ≡ drop (closedSize s) (s .buffer)
