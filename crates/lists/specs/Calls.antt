@@ -27,11 +27,12 @@ unfoldable pub putAll : List Entry → List Call
 putAll [] = []
 putAll (e ∷ es) = put e ∷ putAll es
 
--- what a call leaves, and the number of its refusal (0: none), by the rules of "Writing" and "When a call is refused"
+-- what a call leaves, by the rules of "Writing" and "When a call is refused"
 abbrev pub afterCall : State → Call → State
 afterCall s (put e) = afterPut s e
 afterCall s close = afterClose s
 
+-- what it answers: the number of its refusal, 0 for none
 abbrev pub answer : State → Call → ℕ
 answer s (put e) = putRefusal s e
 answer s close = closeRefusal s
@@ -41,6 +42,7 @@ unfoldable pub after : State → List Call → State
 after s [] = s
 after s (c ∷ cs) = after (afterCall s c) cs
 
+-- the answers of the calls, in their order
 unfoldable pub answers : State → List Call → List ℕ
 answers s [] = []
 answers s (c ∷ cs) = answer s c ∷ answers (afterCall s c) cs
