@@ -20,6 +20,18 @@ use super::partition::table_offsets;
 use image::Mode;
 use jhash::word::word;
 
+// The most pairs that the copy has room for: those of a table of so many entries.
+const COPY_PAIRS: usize = 4608;
+
+// The same, as counts are stored.
+const COPY_PAIRS_32: u32 = COPY_PAIRS as u32;
+
+// The bytes of the copy.
+const COPY_BYTES: usize = 8 * COPY_PAIRS;
+
+// Fewer entries are inserted one by one.
+const FEW_ENTRIES: u32 = 1024;
+
 // The table of c entries at o, cleared and filled with c pairs in their order.
 fn insert_pairs(buf: &mut [u8], o: usize, c: usize, pairs: &[u8])
     requires { ⌜ InsertPairsPre o c (now pairs) (now buf) ⌝ }
@@ -46,7 +58,7 @@ fn copyable(buf: &[u8], o: usize, c: usize) -> bool
     requires { ⌜ TablePlace o c ⌝ }
     ensures { λ r. ⌜ r ≡ copyable (now (buf .entry)) o c ⌝ }
 {
-    o + 16 * c <= buf.len() && c <= 4608
+    o + 16 * c <= buf.len() && c <= COPY_PAIRS
 }
 
 // The bytes of src stored at the front of a copy, two in a turn. Of one in a turn the compiler would make a call of the
@@ -84,7 +96,7 @@ fn fill_tables(buf: &mut [u8], counts: &[u32; 256], end: usize)
     requires { ⌜ end < 4294967296 ⌝ }
     ensures { λ _. ⌜ now (buf .exit) ≡ tablesFrom (now (counts .entry)) end 0 256 (now (buf .entry)) ⌝ }
 {
-    let mut copy: [u8; 36864] = [0; 36864];
+    let mut copy: [u8; COPY_BYTES] = [0; COPY_BYTES];
     let mut o = end;
     let mut t = 0;
     while t < 256 {
@@ -131,10 +143,10 @@ fn insert_by_tables(
 fn partitions(counts: &[u32; 256], entries: u32) -> bool
     ensures { λ r. ⌜ r ≡ partitions (now (counts .entry)) entries ⌝ }
 {
-    if entries < 1024 {
+    if entries < FEW_ENTRIES {
         return false;
     }
-    none_above(counts, 4608)
+    none_above(counts, COPY_PAIRS_32)
 }
 
 // The entries from 2,072 on, inserted into tables and back array of an image of `size` bytes: by tables, or one by one.
