@@ -5,7 +5,7 @@ ghost use Prim.Native.Nat.{_+_, _-_};
 ghost use Rattle.batch.specs.steps.Probing.{Passes, ProbePre, Probed, PassPre, Partition};
 use jhash::word::word;
 use reader::lookup::bucket_after;
-use reader::lookup::table_of;
+use reader::lookup::find_table;
 
 // What the next bucket of a search says: its offset, and 1 where the search is open behind it, else 0.
 struct BucketProbe {
@@ -26,7 +26,7 @@ fn probe(image: &[u8], h: u32, c: u32) -> BucketProbe
     requires { ⌜ ProbePre (now image) h c ⌝ }
     ensures { λ r. ⌜ Probed (now (image .entry)) h (c + 1) (r .offset) (r .on) ⌝ }
 {
-    let table = table_of(image, h);
+    let table = find_table(image, h);
     let n = table.n;
     if n <= c {
         return BucketProbe { offset: 0, on: 1 };

@@ -31,19 +31,19 @@ fn unfit(image: &[u8]) -> bool
 }
 
 // The number of the refusal that is due to an append, 0 where it is accepted. All of append's decision stands here.
-fn append_refusal(buf: &[u8], end: usize, image: &[u8]) -> u32
-    ensures { λ r. ⌜ r ≡ appendRefusal (now (buf .entry)) end (now (image .entry)) ⌝ }
+fn append_refusal(buf: &[u8], file_len: usize, image: &[u8]) -> u32
+    ensures { λ r. ⌜ r ≡ appendRefusal (now (buf .entry)) «file_len» (now (image .entry)) ⌝ }
 {
-    if buf.len() < end {
+    if buf.len() < file_len {
         return 10;
     }
-    if !whole(&buf[..end]) {
+    if !whole(&buf[..file_len]) {
         return 10;
     }
     if unfit(image) {
         return 10;
     }
-    if buf.len() - end < image.len() {
+    if buf.len() - file_len < image.len() {
         return 3;
     }
     0
@@ -52,15 +52,15 @@ fn append_refusal(buf: &[u8], end: usize, image: &[u8]) -> u32
 // Writes the image's bytes right after the file's and gives the joined length, or is refused and changes nothing: 10
 // where the file is longer than the buffer or its walk breaks off, or the image is unfit; then 3 where the buffer has
 // no room.
-pub fn append(buf: &mut [u8], end: usize, image: &[u8]) -> Appended
-    ensures answer { λ r. ⌜ appendedOf r ≡ appending (now (buf .entry)) end (now (image .entry)) ⌝ }
-    ensures leaves { λ r. ⌜ now (buf .exit) ≡ afterAppend (now (buf .entry)) end (now (image .entry)) ⌝ }
+pub fn append(buf: &mut [u8], file_len: usize, image: &[u8]) -> Appended
+    ensures answer { λ r. ⌜ appendedOf r ≡ appending (now (buf .entry)) «file_len» (now (image .entry)) ⌝ }
+    ensures leaves { λ r. ⌜ now (buf .exit) ≡ afterAppend (now (buf .entry)) «file_len» (now (image .entry)) ⌝ }
 {
-    let refusal = append_refusal(&*buf, end, image);
+    let refusal = append_refusal(&*buf, file_len, image);
     if refusal != 0 {
         return Appended::Refused(refusal);
     }
-    let joined = end + image.len();
-    store_bytes(&mut *buf, end, image);
+    let joined = file_len + image.len();
+    store_bytes(&mut *buf, file_len, image);
     Appended::Length(joined)
 }

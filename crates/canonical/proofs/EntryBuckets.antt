@@ -13,7 +13,7 @@ use Rattle.image.specs.Bytes.{word}
 use Rattle.image.specs.Tables.{start}
 use Rattle.image.specs.Zero.{hasZero}
 use Rattle.image.specs.steps.Contracts.{BucketIs, firstEmptyBefore}
-use Rattle.canonical.specs.steps.Checks.{TablesHeld, slotIn, inItsBucket, entryName, nameOk}
+use Rattle.canonical.specs.steps.Checks.{TablesHeld, bucketTaken, inItsBucket, entryName, nameOk}
 
 -- ---- an entry in its table
 
@@ -21,7 +21,7 @@ module _ (img : List ℕ) (h at : ℕ) where
   pub bucket-none : (n : ℕ) → n ≡ word img (28 + 8 * (h % 256)) → n ≡ 0 → false ≡ inItsBucket img h at
   unfolding inItsBucket
   bucket-none n e z =
-      let s = slotIn img h at in
+      let s = bucketTaken img h at in
       ap (λ (b : Bool). not b && eqb (word img s) h && eqb (word img (s + 4)) at) (sym (eq-eqb (word img (28 + 8 * (h % 256))) 0 (sym e ∙ z)))
 
   -- its table lies in the image
@@ -30,9 +30,9 @@ module _ (img : List ℕ) (h at : ℕ) where
 
   module _ {o n s k : ℕ} (eo : o ≡ word img (24 + 8 * (h % 256))) (en : n ≡ word img (28 + 8 * (h % 256))) (nz : n ≡ 0 → ⊥)
       (es : BucketIs (start h n) n s) (ek : BucketIs (firstEmptyBefore img o n s at) n k) (w : ℕ) (ew : w ≡ word img (o + 8 * k)) where
-    slot-is : o + 8 * k ≡ slotIn img h at
-    unfolding slotIn
-    slot-is =
+    taken-is : o + 8 * k ≡ bucketTaken img h at
+    unfolding bucketTaken
+    taken-is =
         ap₂ (λ (x : ℕ) (y : ℕ). x + 8 * y) eo
         (ek .is ∙ ap (λ (j : ℕ). firstEmptyBefore img o n j at) (es .is)
         ∙ ap₂ (λ (x : ℕ) (y : ℕ). firstEmptyBefore img x y (start h y) at) eo en)
@@ -43,16 +43,16 @@ module _ (img : List ℕ) (h at : ℕ) where
     pub bucket-other : (w ≡ h → ⊥) → false ≡ inItsBucket img h at
     unfolding inItsBucket
     bucket-other d =
-        let s = slotIn img h at in
-        let f : word img s ≡ w = sym (ap (word img) slot-is) ∙ sym ew in
+        let s = bucketTaken img h at in
+        let f : word img s ≡ w = sym (ap (word img) taken-is) ∙ sym ew in
         sym (ap₂ (λ (a : Bool) (b : Bool). a && b && eqb (word img (s + 4)) at) some (ne-eqb (word img s) h (λ y. d (sym f ∙ y))))
 
     pub bucket-last : (v : ℕ) → w ≡ h → v ≡ word img (o + 8 * k + 4) → eqb v at ≡ inItsBucket img h at
     unfolding inItsBucket
     bucket-last v e ev =
-        let s = slotIn img h at in
-        let f : word img s ≡ h = sym (ap (word img) slot-is) ∙ sym ew ∙ e in
-        let g : v ≡ word img (s + 4) = ev ∙ ap (λ (x : ℕ). word img (x + 4)) slot-is in
+        let s = bucketTaken img h at in
+        let f : word img s ≡ h = sym (ap (word img) taken-is) ∙ sym ew ∙ e in
+        let g : v ≡ word img (s + 4) = ev ∙ ap (λ (x : ℕ). word img (x + 4)) taken-is in
         ap (λ (x : ℕ). eqb x at) g ∙ sym (ap₂ (λ (a : Bool) (b : Bool). a && b && eqb (word img (s + 4)) at) some (eq-eqb (word img s) h f))
 
 -- ---- an entry's name and bucket

@@ -22,7 +22,7 @@ use Rattle.canonical.specs.steps.HiddenBuckets.{countAtLeast, hide, hide
 use Rattle.canonical.proofs.HiddenBuckets.{getD-hideFrom, putBucket-in}
 use Rattle.canonical.proofs.FilledTable.{first-below, order-inside}
 use Rattle.canonical.specs.steps.InPlace.{bucketAt, bucketsInPlace, wordsAt}
-use Rattle.canonical.specs.steps.Checks.{slotIn, inItsBucket, nameOk, notBefore, entryOk, entriesOk, selfLinksIn, linksCounted}
+use Rattle.canonical.specs.steps.Checks.{bucketTaken, inItsBucket, nameOk, notBefore, entryOk, entriesOk, selfLinksIn, linksCounted}
 use Rattle.canonical.proofs.Concatenation.{getD-bucketsInPlace, length-bucketsInPlace, getD-wordsAt}
 
 -- ---- an entry in its table
@@ -49,9 +49,9 @@ module _ (img : List ℕ) (b : Bucket) where
     place-below : putBucket n T b < n
     place-below = first-below (atOf (hideFrom (b .at) T)) (probeSequence n n (start (b .hash) n)) n some (order-inside (b .hash) n some)
 
-    slot-is : slotIn img (b .hash) (b .at) ≡ o + 8 * putBucket n T b
-    unfolding slotIn o n T
-    slot-is =
+    taken-is : bucketTaken img (b .hash) (b .at) ≡ o + 8 * putBucket n T b
+    unfolding bucketTaken o n T
+    taken-is =
         ap (λ (k : ℕ). o + 8 * k)
         (sym (firstEmpty-ext (atOf (hideFrom (b .at) T)) (λ (k : ℕ). hidden (b .at) (offsetAt img o k)) n one n (start (b .hash) n) (mod-lt (b .hash / 256) some)))
       where
@@ -59,16 +59,16 @@ module _ (img : List ℕ) (b : Bucket) where
         one k h =
             ap (λ (x : Bucket). x .at) (getD-hideFrom (b .at) T k ∙ ap (hide (b .at)) (getD-bucketsInPlace img o n k h)) ∙ hide-at (b .at) (bucketAt img (o + 8 * k))
 
-    read : getD T (putBucket n T b) empty ≡ bucketAt img (slotIn img (b .hash) (b .at))
+    read : getD T (putBucket n T b) empty ≡ bucketAt img (bucketTaken img (b .hash) (b .at))
     unfolding T o n
-    read = getD-bucketsInPlace img o n (putBucket n T b) place-below ∙ ap (bucketAt img) (sym slot-is)
+    read = getD-bucketsInPlace img o n (putBucket n T b) place-below ∙ ap (bucketAt img) (sym taken-is)
 
   pub bucket-facts : inItsBucket img (b .hash) (b .at) ≡ true
       → getD (bucketsInPlace img (tableAt img (tableOf (b .hash))) (bucketNumber img (tableOf (b .hash))))
       (putBucket (bucketNumber img (tableOf (b .hash))) (bucketsInPlace img (tableAt img (tableOf (b .hash))) (bucketNumber img (tableOf (b .hash)))) b) empty ≡ b
   unfolding inItsBucket T o n
   bucket-facts h =
-      let s = slotIn img (b .hash) (b .at) in
+      let s = bucketTaken img (b .hash) (b .at) in
       let p = not (eqb n 0) in
       let q = eqb (word img s) (b .hash) in
       let r = eqb (word img (s + 4)) (b .at) in
@@ -83,8 +83,8 @@ module _ (img : List ℕ) (b : Bucket) where
             | no d ↦ omega arith
           ]
 
-      two : word img (slotIn img (b .hash) (b .at)) ≡ b .hash → word img (slotIn img (b .hash) (b .at) + 4) ≡ b .at
-          → bucketAt img (slotIn img (b .hash) (b .at)) ≡ b
+      two : word img (bucketTaken img (b .hash) (b .at)) ≡ b .hash → word img (bucketTaken img (b .hash) (b .at) + 4) ≡ b .at
+          → bucketAt img (bucketTaken img (b .hash) (b .at)) ≡ b
       two e f = λ i. record { hash = e i; at = f i }
 
   pub bucket-checked : 0 < b .at
@@ -93,7 +93,7 @@ module _ (img : List ℕ) (b : Bucket) where
       → inItsBucket img (b .hash) (b .at) ≡ true
   unfolding inItsBucket T o n
   bucket-checked pos e =
-      let s = slotIn img (b .hash) (b .at) in
+      let s = bucketTaken img (b .hash) (b .at) in
       let l = putBucket-in n T b pos e in
       let some : 0 < n = omega (arith, length-bucketsInPlace img o n) in
       let f = sym (read some) ∙ e in

@@ -23,7 +23,7 @@ use Rattle.canonical.specs.examples.Rows.{Row, Holds, canonicalRows, Hea
 use Rattle.canonical.specs.steps.Checks.{endIn}
 use Rattle.canonical.proofs.ReadBack.{canonical-yes, canonical-only}
 use Rattle.canonical.proofs.ChecksHold.{canonical-checked}
-use Rattle.canonical.proofs.Theorem.{theorem}
+use Rattle.canonical.proofs.Theorem.{canonical-holds}
 
 -- what is computed of a row: there is room for a head, ids are words, and these are the accepted puts
 abbrev Computed : Row → Type 0
@@ -32,7 +32,7 @@ Computed r = (headSize ≤ r .bytes) × WordIds (r .mode) (r .calls) × (accepte
 holds-in : (r : Row) → Computed r → Holds r
 holds-in r c buffer long =
     let room : headSize ≤ length buffer = omega (arith, c .0) in
-    let of = theorem .of-list (r .mode) (r .repeats) buffer (r .calls) room (c .1) in (
+    let of = canonical-holds .of-list (r .mode) (r .repeats) buffer (r .calls) room (c .1) in (
       of .is-canonical,
       of .read-back
           ∙ list-accepted (r .mode) (r .repeats) buffer room (r .calls) (c .1)

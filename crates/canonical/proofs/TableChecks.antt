@@ -14,7 +14,7 @@ use Rattle.image.specs.Head.{tableAt, bucketNumber, backOffsetAt, tableLeaves, 
 use Rattle.image.specs.Tables.{Bucket, empty, atOf}
 use Rattle.image.proofs.AllOfRange.{all-each, all-true}
 use Rattle.image.proofs.Bools.{and-first, and-second, and-both, or-false-first, or-false-second}
-use Rattle.reader.specs.Open.{opening, hasLetters, someLeaves, halves}
+use Rattle.reader.specs.Open.{opening, hasLetters, someLeaves, numFrom}
 use Rattle.canonical.specs.steps.HiddenBuckets.{countAtLeast, bucketOffsets}
 use Rattle.canonical.specs.steps.InPlace.{bucketAt, bucketsInPlace}
 use Rattle.canonical.specs.steps.Checks.{clean, usedIn, tableOk, rowCount, rowsOk, countsMatch, TablesInside}
@@ -32,7 +32,7 @@ pub opens : (img : List ℕ) (n : ℕ) → opening img ≡ value n → Opens img
 unfolding opening
 opens img n e =
     go (ltb (length img) 2072) refl (hasLetters img) refl (eqb (word img 12) 0x62445371) refl
-    (someLeaves img 0 256) refl (cond (ltb 0 (backOffsetAt img) && backLeaves img) (refusal 8) (value (halves img 0 256 % 2 ^ 32))) e
+    (someLeaves img 0 256) refl (cond (ltb 0 (backOffsetAt img) && backLeaves img) (refusal 8) (value (numFrom img 0 256 % 2 ^ 32))) e
   where
     go : (a : Bool) → ltb (length img) 2072 ≡ a → (b : Bool) → hasLetters img ≡ b → (c : Bool) → eqb (word img 12) 0x62445371 ≡ c
         → (d : Bool) → someLeaves img 0 256 ≡ d → (rest : Outcome ℕ)

@@ -27,7 +27,7 @@ use Rattle.lists.proofs.ReadingAnswered.{list-read}
 use Rattle.lists.proofs.Readings.{readings}
 use Rattle.canonical.specs.steps.Made.{Storable, Made}
 use Rattle.canonical.specs.Canonical.{Canonical, counted, putsIn, modeIn, canonical}
-use Rattle.canonical.specs.theorems.CanonicalImages.{CanonicalImage, Theorem}
+use Rattle.canonical.specs.theorems.CanonicalImages.{CanonicalImage, CanonicalHolds}
 use Rattle.canonical.proofs.ReadBack.{names-bytes, made-puts, made-mode, canonical-yes, canonical-only}
 use Rattle.canonical.proofs.ChecksHold.{canonical-checked}
 use Rattle.canonical.proofs.ListImages.{words, list-made, list-puts, list-mode, lists-injective, accepted-all, made-accepted, made-closes, made-size, made-room}
@@ -162,8 +162,8 @@ made-canonical img bytes m =
       closes = made-closes img m img (omega arith);
     }
 
-pub theorem : Theorem
-theorem =
+pub canonical-holds : CanonicalHolds
+canonical-holds =
     record {
       exactly = λ img bytes. (λ yes. made-canonical img bytes (canonical-only img bytes yes), λ o. canonical-yes img (canonical-made img o));
       holds = is-canonical;

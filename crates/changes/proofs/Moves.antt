@@ -51,7 +51,7 @@ module _ (old new : List ℕ) (id other : ℕ) where
         looked-up = l;
         has-id = e;
         another = λ q. n (e ∙ q);
-        whole = s .whole;
+        unbroken = s .unbroken;
         name-there = s .name-there;
         id-there = s .id-there ∙ e;
       }

@@ -10,8 +10,8 @@ use image::probe::next;
 use image::probe::start;
 use jhash::Hashed;
 use reader::Probe;
+use reader::lookup::find_table;
 use reader::lookup::probe_bucket;
-use reader::lookup::table_of;
 
 // Does the search for the name in the table of n buckets at `at` meet an entry with this name and id? It ends at an
 // empty bucket, at a broken entry, and after n buckets.
@@ -44,7 +44,7 @@ fn has_match_hashed(image: &[u8], name: &[u8], h: u32, id: u32) -> bool
     requires { ⌜ 2072 ≤ length (now image) ⌝ }
     ensures { λ r. ⌜ r ≡ anyMatch id (matchesByHash (now (image .entry)) (now (name .entry)) h) ⌝ }
 {
-    let table = table_of(image, h);
+    let table = find_table(image, h);
     if table.n == 0 {
         return false;
     }

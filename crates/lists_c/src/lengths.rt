@@ -20,7 +20,7 @@ pub extern "C" fn cqdb_average(image: &[u8]) -> AverageAnswer
 {
     let averaged = search_length::average(image);
     match averaged {
-        Averaged::Given(m) => AverageAnswer {
+        Averaged::Average(m) => AverageAnswer {
             refusal: 0,
             entries: m.entries,
             quotient: m.quotient,

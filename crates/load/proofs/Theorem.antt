@@ -25,7 +25,7 @@ use Rattle.lists.proofs.CallLists.{two-way, list-accepted, list-written, begin-
 use Rattle.lists.proofs.Theorem.{one-list, calls-answered}
 use Rattle.load.specs.States.{loadEntry}
 use Rattle.load.specs.Load.{loadPut, loading, afterLoad}
-use Rattle.load.specs.theorems.Rebuilt.{firstEntries, firstPuts, roomFor, Load, Rebuilt}
+use Rattle.load.specs.theorems.Rebuilt.{firstEntries, firstPuts, roomFor, LoadHolds, Rebuilt}
 use Rattle.load.proofs.StateNames.{nine-bytes, state-word, digits-read}
 use Rattle.load.proofs.BeginAnswers.{accepted-load}
 use Rattle.load.proofs.AcceptedEntries.{first-size, first-number, accepted-first, stops-at, reached}
@@ -82,7 +82,7 @@ module _ (seed : ℕ) (buffer : List ℕ) (room : headSize ≤ length buffer) wh
       ∙ ap (λ (m : ℕ). drop m (left .buffer)) size
       ∙ puts-behind seed buffer room (headSize + 38 * k) k (omega arith) (omega arith)
 
-  pub loaded : Load seed buffer (roomFor (length buffer))
+  pub loaded : LoadHolds seed buffer (roomFor (length buffer))
   loaded =
       record {
         given =

@@ -15,7 +15,7 @@ use Rattle.image.specs.declared.Mode.{Mode}
 use Rattle.image.proofs.Words.{length-le32}
 use Rattle.image.proofs.Sizes.{length-placed, before-suc, before-all, length-image}
 use Rattle.image.specs.Head.{tableAt, bucketNumber, backSizeAt, backOffsetAt, tableLeaves, backLeaves}
-use Rattle.reader.specs.Open.{someLeaves, halves, hasLetters, opening}
+use Rattle.reader.specs.Open.{someLeaves, numFrom, hasLetters, opening}
 use Rattle.image.proofs.At.{At, at-same, at-left, at-right, at-word}
 use Rattle.image.proofs.Parts.{placedIn, head-at, most, tableAt-image, bucketNumber-image}
 
@@ -127,19 +127,19 @@ module _ (mode : Mode) (es : List Entry) where
 
     -- ---- the number of entries
 
-    halves-image : (m t : ℕ) → t + m ≤ 256 → entriesBefore t (placedIn es) + halves (image mode es) t m ≡ entriesBefore (t + m) (placedIn es)
-    unfolding halves
-    halves-image zero t h =
+    numFrom-image : (m t : ℕ) → t + m ≤ 256 → entriesBefore t (placedIn es) + numFrom (image mode es) t m ≡ entriesBefore (t + m) (placedIn es)
+    unfolding numFrom
+    numFrom-image zero t h =
         let e : t ≡ t + 0 = omega arith in
         rw (← e) (omega arith)
-    halves-image (suc m) t h =
+    numFrom-image (suc m) t h =
         let e : suc t + m ≡ t + suc m = omega arith in
         let s = before-suc t (placedIn es) in
         let b = bucketNumber-image mode es fits t (omega arith) in
-        let i = halves-image m (suc t) (omega arith) in
+        let i = numFrom-image m (suc t) (omega arith) in
         rw (← e)
         (sum (bucketNumber (image mode es) t) (count t (placedIn es)) (entriesBefore t (placedIn es)) (entriesBefore (suc t) (placedIn es))
-        (halves (image mode es) (suc t) m) (entriesBefore (suc t + m) (placedIn es)) b s i)
+        (numFrom (image mode es) (suc t) m) (entriesBefore (suc t + m) (placedIn es)) b s i)
       where
         sum : (b c p q r a : ℕ) → b ≡ 2 * c → q ≡ p + c → q + r ≡ a → p + (b / 2 + r) ≡ a
         sum b c p q r a e f g = omega arith
@@ -148,9 +148,9 @@ module _ (mode : Mode) (es : List Entry) where
     unfolding entriesBefore
     none-before = refl
 
-    all-halves : halves (image mode es) 0 256 ≡ length es
-    all-halves =
-        let i : entriesBefore 0 (placedIn es) + halves (image mode es) 0 256 ≡ entriesBefore 256 (placedIn es) = halves-image 256 0 (omega arith) in
+    numFrom-all : numFrom (image mode es) 0 256 ≡ length es
+    numFrom-all =
+        let i : entriesBefore 0 (placedIn es) + numFrom (image mode es) 0 256 ≡ entriesBefore 256 (placedIn es) = numFrom-image 256 0 (omega arith) in
         omega (arith, none-before, before-all (placedIn es), length-placed headSize es)
 
     pub opening-image : opening (image mode es) ≡ value (length es)
@@ -163,6 +163,6 @@ module _ (mode : Mode) (es : List Entry) where
           tables-inside 256 0 (omega arith),
           back-inside,
           and-false (ltb 0 (backOffsetAt (image mode es))),
-          all-halves,
+          numFrom-all,
         )
         (ap value (mod-eq-of-lt (omega arith)))

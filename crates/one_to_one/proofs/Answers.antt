@@ -9,7 +9,7 @@ use Rattle.jhash.specs.Outcome.{Outcome, value, refusal}
 use Rattle.jhash.specs.Word.{AllBytes}
 use Rattle.reader.specs.Open.{opening}
 use Rattle.canonical.specs.Canonical.{canonical}
-use Rattle.canonical.proofs.Theorem.{theorem}
+use Rattle.canonical.proofs.Theorem.{canonical-holds}
 use Rattle.one_to_one.specs.OneToOne.{Failure, firstFailureIn, oneToOne}
 
 pub refused : (img : List ℕ) → canonical img ≡ false → oneToOne img ≡ refusal 17
@@ -34,4 +34,4 @@ first-is img a h = let r = answered img (accepted img a h) in cc
 -- a canonical image opens
 pub never-refused : (img : List ℕ) (k : ℕ) → AllBytes img → canonical img ≡ true → refusal k ≡ opening img → ⊥
 never-refused img k bytes h e =
-    let o = theorem .holds img bytes h .opens in let z : _≡_ {A = ℕ} 0 1 = cc in omega arith
+    let o = canonical-holds .holds img bytes h .opens in let z : _≡_ {A = ℕ} 0 1 = cc in omega arith

@@ -22,7 +22,7 @@ use Rattle.canonical.specs.steps.Made.{Made}
 use Rattle.canonical.proofs.ListImages.{list-made, list-puts, list-mode}
 use Rattle.canonical.proofs.ReadBack.{made-puts, made-mode, canonical-only}
 use Rattle.one_to_one.specs.OneToOne.{kindIn, Failure, firstFailure, firstFailureIn, oneToOne}
-use Rattle.one_to_one.specs.theorems.Theorem.{Fails, First, OneId, OneName, OfList, Theorem}
+use Rattle.one_to_one.specs.theorems.Theorem.{Fails, First, OneId, OneName, OneToOneOfList, OneToOneHolds}
 use Rattle.one_to_one.proofs.Answers.{refused, answered, accepted, first-is}
 use Rattle.one_to_one.proofs.Failures.{failure, after-passed}
 use Rattle.one_to_one.proofs.Puts.{each-in}
@@ -82,7 +82,7 @@ module _ (mode : Mode) (repeats : Repeats) (buffer : List ℕ) (cs : List Call) 
   abbrev img : List ℕ
   img = imageOf mode repeats buffer cs
 
-  of-list : OfList mode (acceptedPuts mode repeats buffer cs) img
+  of-list : OneToOneOfList mode (acceptedPuts mode repeats buffer cs) img
   of-list =
       let m = list-made mode repeats buffer room cs word in
       let puts : m .puts ≡ acceptedPuts mode repeats buffer cs = sym (made-puts img m) ∙ list-puts mode repeats buffer room cs word in
@@ -95,7 +95,7 @@ module _ (mode : Mode) (repeats : Repeats) (buffer : List ℕ) (cs : List Call) 
         inverse = λ t. pairs.inverse img m (list-mode mode repeats buffer room cs word ∙ t);
       }
 
-pub one-to-one : Theorem
+pub one-to-one : OneToOneHolds
 unfolding firstFailureIn firstFailure
 one-to-one =
     record {

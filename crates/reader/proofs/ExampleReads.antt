@@ -17,7 +17,7 @@ use Rattle.image.specs.Tables.{tableOf, next}
 use Rattle.image.specs.Image.{headBytes}
 use Rattle.image.specs.Head.{tableAt, bucketNumber}
 use Rattle.image.proofs.Words.{word-drop}
-use Rattle.reader.specs.Open.{someLeaves, halves, opening}
+use Rattle.reader.specs.Open.{someLeaves, numFrom, opening}
 use Rattle.reader.specs.Lookup.{found, nothing, Probe, pass, hit, probeEntry, probeBucket, decide, lookup}
 use Rattle.reader.specs.examples.Reads.{rowOf, headOf, c9, c10, takenImage, OneTaken, ownImage, ReadsHold}
 use Rattle.reader.proofs.Opens.{opening-by}
@@ -48,11 +48,11 @@ module _ (image : List ℕ) (t : ℕ) where
   next-row : fromRow image (suc t) ≡ drop 8 (fromRow image t)
   next-row = let e : 24 + 8 * suc t ≡ 24 + 8 * t + 8 = omega arith in ap (λ (k : ℕ). drop k image) e ∙ sym (drop-drop 8 (24 + 8 * t) image)
 
-halves-rows : (image : List ℕ) (m t : ℕ) → halves image t m ≡ rowHalves m (fromRow image t)
-unfolding halves rowHalves
-halves-rows image zero t = refl
-halves-rows image (suc m) t =
-    (λ i. number-row image t i / 2 + halves-rows image m (suc t) i)
+numFrom-rows : (image : List ℕ) (m t : ℕ) → numFrom image t m ≡ rowHalves m (fromRow image t)
+unfolding numFrom rowHalves
+numFrom-rows image zero t = refl
+numFrom-rows image (suc m) t =
+    (λ i. number-row image t i / 2 + numFrom-rows image m (suc t) i)
     ∙ ap (λ (l : List ℕ). word (fromRow image t) 4 / 2 + rowHalves m l) (next-row image t)
 
 leaves-rows : (image : List ℕ) (m t : ℕ) → someLeaves image t m ≡ rowLeaves (length image) m (fromRow image t)
@@ -71,7 +71,7 @@ opens : (rows : List ℕ) (n : ℕ) → ltb (length (headOf rows)) 2072 ≡ fals
 unfolding headOf headBytes le32 word
 opens rows n e f g =
     sym (opening-by (headOf rows) false true true false false e refl refl (leaves-rows (headOf rows) 256 0 ∙ f) refl)
-    ∙ ap value (ap (λ (k : ℕ). k % 2 ^ 32) (halves-rows (headOf rows) 256 0) ∙ g)
+    ∙ ap value (ap (λ (k : ℕ). k % 2 ^ 32) (numFrom-rows (headOf rows) 256 0) ∙ g)
 
 -- an image as long as the bytes that it begins with is these bytes
 begun : (image l : List ℕ) (n : ℕ) → length l ≡ n → length image ≡ n → take (length l) image ≡ l → image ≡ l

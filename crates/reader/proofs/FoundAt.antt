@@ -37,7 +37,7 @@ pass-no-hit t e = let z : _≡_ {A = ℕ} 0 1 = cc in absurd (omega arith)
 record Sighted (image name : List ℕ) (h b : ℕ) (t : Hit) : Type 0 where
   pub hash : word image b ≡ h
   pub offset : word image (b + 4) ≡ t .offset
-  pub whole : broken image (word image (b + 4)) ≡ false
+  pub unbroken : broken image (word image (b + 4)) ≡ false
   pub name-there : nameOf image (word image (b + 4)) ≡ name
   pub id-there : word image (word image (b + 4)) ≡ t .id
 
@@ -53,7 +53,7 @@ sighted image name h b t e = by-offset (eqb at 0) e
     by-name true p q w e =
         let i : word image at ≡ t .id = cc in
         let o : at ≡ t .offset = cc in
-        record { hash = q; offset = o; whole = w; name-there = same-true (nameOf image at) name p; id-there = i }
+        record { hash = q; offset = o; unbroken = w; name-there = same-true (nameOf image at) name p; id-there = i }
     by-name false p q w e = pass-no-hit t e
 
     by-entry : (x : Bool) → broken image at ≡ x → word image b ≡ h
@@ -112,7 +112,7 @@ module _ (image name : List ℕ) (f : Found) where
         inside = fits;
         hash = s .hash;
         offset = s .offset;
-        whole = ap (broken image) (sym (s .offset)) ∙ s .whole;
+        unbroken = ap (broken image) (sym (s .offset)) ∙ s .unbroken;
         name-there = ap (nameOf image) (sym (s .offset)) ∙ s .name-there;
         id-there = ap (word image) (sym (s .offset)) ∙ s .id-there;
       }

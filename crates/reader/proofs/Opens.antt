@@ -12,7 +12,7 @@ use Rattle.jhash.specs.Outcome.{value, refusal}
 use Rattle.image.specs.Bytes.{word}
 use Rattle.image.specs.Head.{tableAt, bucketNumber, backOffsetAt, tableLeaves, backLeaves}
 use Rattle.reader.specs.declared.opening.Tables.{Tables}
-use Rattle.reader.specs.Open.{someLeaves, halves, hasLetters, opening}
+use Rattle.reader.specs.Open.{someLeaves, numFrom, hasLetters, opening}
 
 -- ---- the loops over the rows
 
@@ -21,7 +21,7 @@ use Rattle.reader.specs.Open.{someLeaves, halves, hasLetters, opening}
 pub record TablesInv (image : List ℕ) (all : Tables) (t : ℕ) : Type 0 where
   pub rows : t ≤ 256
   pub num-small : all .num < 2 ^ 32
-  pub sum : (all .num + halves image t (256 - t)) % 2 ^ 32 ≡ halves image 0 256 % 2 ^ 32
+  pub sum : (all .num + numFrom image t (256 - t)) % 2 ^ 32 ≡ numFrom image 0 256 % 2 ^ 32
   pub leaves : all .slacks < 2 ^ 63 → someLeaves image t (256 - t) ≡ someLeaves image 0 256
 
 -- a table that leaves was found or is still to come exactly where there is one
@@ -33,18 +33,18 @@ pub record LeavesInv (image : List ℕ) (one : Bool) (t : ℕ) : Type 0 where
 left-one : (t m : ℕ) → t < m → m - t ≡ suc (m - (t + 1))
 left-one t m h = omega arith
 
-halves-more : (image : List ℕ) (t k : ℕ) → halves image t (suc k) ≡ bucketNumber image t / 2 + halves image (suc t) k
-unfolding halves
-halves-more image t k = refl
+numFrom-more : (image : List ℕ) (t k : ℕ) → numFrom image t (suc k) ≡ bucketNumber image t / 2 + numFrom image (suc t) k
+unfolding numFrom
+numFrom-more image t k = refl
 
 leaves-more : (image : List ℕ) (t k : ℕ) → someLeaves image t (suc k) ≡ (ltb 0 (tableAt image t) && tableLeaves image t) || someLeaves image (suc t) k
 unfolding someLeaves
 leaves-more image t k = refl
 
-pub halves-step : (image : List ℕ) (t m : ℕ) → t < m → halves image t (m - t) ≡ bucketNumber image t / 2 + halves image (t + 1) (m - (t + 1))
-halves-step image t m h =
-    ap (halves image t) (left-one t m h) ∙ halves-more image t (m - (t + 1))
-    ∙ ap (λ (k : ℕ). bucketNumber image t / 2 + halves image k (m - (t + 1))) (sym (add-one t))
+pub numFrom-step : (image : List ℕ) (t m : ℕ) → t < m → numFrom image t (m - t) ≡ bucketNumber image t / 2 + numFrom image (t + 1) (m - (t + 1))
+numFrom-step image t m h =
+    ap (numFrom image t) (left-one t m h) ∙ numFrom-more image t (m - (t + 1))
+    ∙ ap (λ (k : ℕ). bucketNumber image t / 2 + numFrom image k (m - (t + 1))) (sym (add-one t))
 
 pub leaves-step : (image : List ℕ) (t m : ℕ) → t < m
     → someLeaves image t (m - t) ≡ (ltb 0 (tableAt image t) && tableLeaves image t) || someLeaves image (t + 1) (m - (t + 1))
@@ -74,9 +74,9 @@ leaves-pass image t m a n h ea en l =
     ∙ ap (λ (c : Bool). c || someLeaves image (t + 1) (m - (t + 1))) (and-false (ltb 0 (tableAt image t))))
 
 -- no table is left
-pub halves-none : (image : List ℕ) (t : ℕ) → halves image t 0 ≡ 0
-unfolding halves
-halves-none image t = refl
+pub numFrom-none : (image : List ℕ) (t : ℕ) → numFrom image t 0 ≡ 0
+unfolding numFrom
+numFrom-none image t = refl
 
 pub leaves-none : (image : List ℕ) (t : ℕ) → someLeaves image t 0 ≡ false
 unfolding someLeaves
@@ -95,11 +95,11 @@ pub opening-by : (image : List ℕ) (s l w t b : Bool)
     → (ltb 0 (backOffsetAt image) && backLeaves image) ≡ b
     → cond s (refusal 1)
     (cond (not l) (refusal 5)
-    (cond (not w) (refusal 6) (cond t (refusal 7) (cond b (refusal 8) (value (halves image 0 256 % 2 ^ 32))))))
+    (cond (not w) (refusal 6) (cond t (refusal 7) (cond b (refusal 8) (value (numFrom image 0 256 % 2 ^ 32))))))
     ≡ opening image
 unfolding opening
 opening-by image s l w t b es el ew et eb =
     sym
     (λ i. cond (es i) (refusal 1)
     (cond (not (el i)) (refusal 5)
-    (cond (not (ew i)) (refusal 6) (cond (et i) (refusal 7) (cond (eb i) (refusal 8) (value (halves image 0 256 % 2 ^ 32)))))))
+    (cond (not (ew i)) (refusal 6) (cond (et i) (refusal 7) (cond (eb i) (refusal 8) (value (numFrom image 0 256 % 2 ^ 32)))))))

@@ -15,9 +15,9 @@ someLeaves image t zero = false
 someLeaves image t (suc m) = (ltb 0 (tableAt image t) && tableLeaves image t) || someLeaves image (suc t) m
 
 -- each bucket number divided by 2 (whole part), summed over the m tables from t on, also those with offset 0
-unfoldable pub halves : List ℕ → ℕ → ℕ → ℕ
-halves image t zero = 0
-halves image t (suc m) = bucketNumber image t / 2 + halves image (suc t) m
+unfoldable pub numFrom : List ℕ → ℕ → ℕ → ℕ
+numFrom image t zero = 0
+numFrom image t (suc m) = bucketNumber image t / 2 + numFrom image (suc t) m
 
 -- the letters CQDB
 abbrev pub hasLetters : List ℕ → Bool
@@ -34,4 +34,4 @@ opening image =
     (cond (not (eqb (word image 12) 0x62445371)) (refusal 6)
     (cond (someLeaves image 0 256) (refusal 7)
     (cond (ltb 0 (backOffsetAt image) && backLeaves image) (refusal 8)
-    (value (halves image 0 256 % 2 ^ 32))))))
+    (value (numFrom image 0 256 % 2 ^ 32))))))

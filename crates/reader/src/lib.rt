@@ -1,5 +1,5 @@
 // Reading: open, look up, name, walk, on every slice of bytes. No call of a user has a `requires`, and each answers
-// what 01 fixes for the bytes that it is lent, whether open accepts them or not. The steps of a search (`table_of`,
+// what 01 fixes for the bytes that it is lent, whether open accepts them or not. The steps of a search (`find_table`,
 // `search_from`, `probe_bucket`, `probe_entry`, `bucket_after`) are internal functions, public for the crates whose
 // searches differ.
 pub mod opening; // opening.rt: open

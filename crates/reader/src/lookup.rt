@@ -150,7 +150,7 @@ fn search(image: &[u8], name: &[u8], h: u32, at: u32, n: u32) -> ToId
 
 // The table that a hash is searched in: its offset and bucket number. The number is 0 where no bucket is read: offset
 // 0, bucket number 0 or an end past the image.
-pub fn table_of(image: &[u8], h: u32) -> Table
+pub fn find_table(image: &[u8], h: u32) -> Table
     requires { ⌜ 2072 ≤ length (now image) ⌝ }
     ensures { λ r. ⌜ TableFound (now (image .entry)) h (r .at) (r .n) ⌝ }
 {
@@ -171,7 +171,7 @@ fn to_id_hashed(image: &[u8], name: &[u8], h: u32) -> ToId
     requires { ⌜ 2072 ≤ length (now image) ⌝ }
     ensures { λ r. ⌜ lookupOf r ≡ lookupHash (now (image .entry)) (now (name .entry)) h ⌝ }
 {
-    let table = table_of(image, h);
+    let table = find_table(image, h);
     if table.n == 0 {
         return ToId::Nothing { buckets: 0 };
     }
@@ -217,7 +217,7 @@ pub fn search_from(image: &[u8], name: &[u8], h: u32, c: u32) -> ToId
     if 4294967295 <= name.len() {
         return ToId::Nothing { buckets: 0 };
     }
-    let table = table_of(image, h);
+    let table = find_table(image, h);
     let n = table.n;
     if n <= c {
         return ToId::Nothing { buckets: n };

@@ -54,14 +54,18 @@ pub extern "C" fn cqdb_bundle_open(file: &[u8], position: u64) -> BundleOpenAnsw
     }
 }
 
-// Writes the image's bytes right after the file's, which are the buffer's first `end`, and gives the joined length; or
-// refusal 10 or 3, which changes nothing.
+// Writes the image's bytes right after the file's, which are the buffer's first `file_len` bytes, and gives the
+// joined length; or refusal 10 or 3, which changes nothing.
 #[no_mangle]
-pub extern "C" fn cqdb_bundle_append(buf: &mut [u8], end: u64, image: &[u8]) -> BundleAppendAnswer
-    ensures answer { λ r. ⌜ r ≡ appendAnswer (appending (now (buf .entry)) end (now (image .entry))) ⌝ }
-    ensures leaves { λ r. ⌜ now (buf .exit) ≡ afterAppend (now (buf .entry)) end (now (image .entry)) ⌝ }
+pub extern "C" fn cqdb_bundle_append(
+    buf: &mut [u8],
+    file_len: u64,
+    image: &[u8],
+) -> BundleAppendAnswer
+    ensures answer { λ r. ⌜ r ≡ appendAnswer (appending (now (buf .entry)) «file_len» (now (image .entry))) ⌝ }
+    ensures leaves { λ r. ⌜ now (buf .exit) ≡ afterAppend (now (buf .entry)) «file_len» (now (image .entry)) ⌝ }
 {
-    let appended = bundle::append(&mut *buf, end as usize, image);
+    let appended = bundle::append(&mut *buf, file_len as usize, image);
     match appended {
         Appended::Length(n) => BundleAppendAnswer {
             refusal: 0,

@@ -13,7 +13,7 @@ use Rattle.reader.specs.Open.{opening}
 use Rattle.canonical.specs.Canonical.{canonical, counted}
 use Rattle.canonical.specs.steps.Contracts.{CanonicalImage}
 use Rattle.canonical.proofs.EntriesAhead.{puts-number}
-use Rattle.search_length.specs.declared.Mean.{Mean}
+use Rattle.search_length.specs.declared.AverageLength.{AverageLength}
 use Rattle.search_length.specs.steps.Contracts.{Counted, Lengths}
 use Rattle.search_length.specs.Average.{entryCount, firstRefusal, averageRefusal, averageOf, averaging, lengthsOf, afterLengths}
 
@@ -59,11 +59,11 @@ module _ (image : List ℕ) (n : ℕ) (number : n ≡ counted (opening image)) w
     unfolding averaging
     averaged counts sum z c =
         let e = refusal-is own r a b in
-        ap₂ mean (c .total) number-is
+        ap₂ averageFrom (c .total) number-is
         ∙ ap (λ (q : Bool). cond q (value (averageOf image)) (refusal (averageRefusal image))) (sym (ap (λ (k : ℕ). eqb k 0) (sym e) ∙ eq-eqb r 0 z))
       where
-        mean : ℕ → ℕ → Outcome Mean
-        mean s k = value (record { entries = k; quotient = s / k; remainder = s % k })
+        averageFrom : ℕ → ℕ → Outcome AverageLength
+        averageFrom s k = value (record { entries = k; quotient = s / k; remainder = s % k })
 
     -- the histogram: a refusal leaves the list as it was
     pub refused-lengths : (counts : List ℕ) → (r ≡ 0 → ⊥) → Lengths image counts counts r

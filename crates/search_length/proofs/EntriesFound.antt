@@ -22,7 +22,7 @@ use Rattle.lookup_laws.proofs.ImageAnswers.{found-reads}
 use Rattle.canonical.specs.steps.Made.{Made}
 use Rattle.canonical.specs.Canonical.{canonical, putsIn}
 use Rattle.canonical.proofs.ReadBack.{ids-of, made-puts, canonical-only}
-use Rattle.canonical.proofs.Theorem.{theorem}
+use Rattle.canonical.proofs.Theorem.{canonical-holds}
 use Rattle.search_length.specs.SearchLengths.{searchLength}
 
 -- ---- what is found was read
@@ -87,4 +87,4 @@ module _ (img : List ℕ) (bytes : AllBytes img) (own : canonical img ≡ true) 
       go (nothing n) q s = let z : _≡_ {A = ℕ} 0 1 = cc in absurd (omega arith)
 
   pub all-bounded : All (Bounded img (putsIn img)) (putsIn img)
-  all-bounded = all-map one-bounded (putsIn img) (theorem .holds img bytes own .found)
+  all-bounded = all-map one-bounded (putsIn img) (canonical-holds .holds img bytes own .found)

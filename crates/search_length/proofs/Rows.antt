@@ -27,7 +27,7 @@ use Rattle.canonical.proofs.ReadBack.{made-puts, canonical-yes}
 use Rattle.search_length.specs.SearchLengths.{totalOf}
 use Rattle.search_length.specs.Average.{entryCount, total, averaging}
 use Rattle.search_length.specs.examples.Rows.{Averages, letter, averageRows}
-use Rattle.search_length.specs.declared.Mean.{Mean}
+use Rattle.search_length.specs.declared.AverageLength.{AverageLength}
 use Rattle.search_length.proofs.Theorem.{average-search}
 
 -- an image of puts is canonical, and has these entries
@@ -47,10 +47,10 @@ module _ (mode : Mode) (es : List Entry) (each : All Storable es) (fits : imageS
       let number : entryCount (image mode es) ≡ n = ap length entries-are ∙ long in
       let all : total (image mode es) ≡ s = ap (totalOf (image mode es)) entries-are ∙ sum in
       let none = average-search .accepted (image mode es) (canonical-yes (image mode es) made) (omega (arith, number)) in
-      rw none (ap₂ mean all number)
+      rw none (ap₂ averageFrom all number)
     where
-      mean : ℕ → ℕ → Outcome Mean
-      mean s k = value (record { entries = k; quotient = s / k; remainder = s % k })
+      averageFrom : ℕ → ℕ → Outcome AverageLength
+      averageFrom s k = value (record { entries = k; quotient = s / k; remainder = s % k })
 
 storable : (c id : ℕ) → hasZero (c ∷ []) ≡ false → id < 4294967296 → Storable (letter c id)
 storable c id f h = record { free = f; id-word = h }

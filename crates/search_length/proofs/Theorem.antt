@@ -21,7 +21,7 @@ use Rattle.canonical.specs.Canonical.{canonical, putsIn}
 use Rattle.search_length.specs.SearchLengths.{searchLength, totalOf}
 use Rattle.search_length.specs.Average.{entryCount, total, averageRefusal, averageOf, averaging, lengthsOf, afterLengths}
 use Rattle.search_length.specs.theorems.AverageSearch.{nameInTable, entriesOfTable, boundOf, sum, Searched, AverageSearch}
-use Rattle.search_length.specs.declared.Mean.{Mean}
+use Rattle.search_length.specs.declared.AverageLength.{AverageLength}
 use Rattle.search_length.proofs.Histogram.{lengths-sixteen, lengths-sum, lengths-are, zeros, long}
 use Rattle.search_length.proofs.Answers.{first-zero}
 use Rattle.search_length.proofs.EntriesFound.{Bounded, all-bounded}
@@ -102,21 +102,21 @@ searched img bytes own =
 
 -- ---- the answers
 
--- the mean that an outcome holds, or another
-meanOr : Mean → Outcome Mean → Mean
-meanOr d (value m) = m
-meanOr d (refusal k) = d
+-- the average that an outcome holds, or another
+averageOr : AverageLength → Outcome AverageLength → AverageLength
+averageOr d (value m) = m
+averageOr d (refusal k) = d
 
-isValue : Outcome Mean → ℕ
+isValue : Outcome AverageLength → ℕ
 isValue (value m) = 1
 isValue (refusal k) = 0
 
-given : (img : List ℕ) (m : Mean) → averaging img ≡ value m → (averageOf img ≡ m) × (averageRefusal img ≡ 0)
-unfolding averaging isValue meanOr
+given : (img : List ℕ) (m : AverageLength) → averaging img ≡ value m → (averageOf img ≡ m) × (averageRefusal img ≡ 0)
+unfolding averaging isValue averageOr
 given img m e = go (eqb (averageRefusal img) 0) refl e
   where
     go : (t : Bool) → eqb (averageRefusal img) 0 ≡ t → cond t (value (averageOf img)) (refusal (averageRefusal img)) ≡ value m → (averageOf img ≡ m) × (averageRefusal img ≡ 0)
-    go true t e = (ap (meanOr m) e, eqb-true _ _ t)
+    go true t e = (ap (averageOr m) e, eqb-true _ _ t)
     go false t e = let z : _≡_ {A = ℕ} 0 1 = ap isValue e in absurd (omega arith)
 
 -- no refusal: there are entries
@@ -136,9 +136,9 @@ average-search =
       accepted = λ img h more. rw (h, ne-eqb (entryCount img) 0 (λ z. omega arith));
       divided = λ img m e.
           let g = given img m e in
-          subst (λ (x : Mean). (x .quotient * x .entries + x .remainder ≡ total img) × (x .remainder < x .entries)) (g .0)
+          subst (λ (x : AverageLength). (x .quotient * x .entries + x .remainder ≡ total img) × (x .remainder < x .entries)) (g .0)
           (divides (total img) (entryCount img) (some-entries img (g .1)));
-      number = λ img m e. ap (λ (x : Mean). x .entries) (sym (given img m e .0));
+      number = λ img m e. ap (λ (x : AverageLength). x .entries) (sym (given img m e .0));
       each-time = total-each;
       searched = searched;
       filled = λ img counts z. rw z;

@@ -7,7 +7,7 @@ use lib.Dec.{eqb}
 use Rattle.jhash.specs.Outcome.{Outcome, value, refusal}
 use Rattle.canonical.specs.Canonical.{canonical, putsIn}
 use Rattle.search_length.specs.SearchLengths.{totalOf, lengthsFrom}
-use Rattle.search_length.specs.declared.Mean.{Mean}
+use Rattle.search_length.specs.declared.AverageLength.{AverageLength}
 use Rattle.search_length.specs.declared.Averaged.{Averaged}
 use Rattle.search_length.specs.declared.Averaged.the-variants as averaged
 
@@ -26,14 +26,14 @@ unfoldable pub averageRefusal : List ℕ → ℕ
 averageRefusal img = firstRefusal (canonical img) (entryCount img)
 
 -- "the total .. divided by the number of entries, as whole quotient and remainder"
-abbrev pub averageOf : List ℕ → Mean
+abbrev pub averageOf : List ℕ → AverageLength
 averageOf img = record {
   entries = entryCount img;
   quotient = total img / entryCount img;
   remainder = total img % entryCount img;
 }
 
-unfoldable pub averaging : List ℕ → Outcome Mean
+unfoldable pub averaging : List ℕ → Outcome AverageLength
 averaging img = cond (eqb (averageRefusal img) 0) (value (averageOf img)) (refusal (averageRefusal img))
 
 -- how many entries are found after 1, 2, .. 15 and 16 or more buckets: an added call, refused as the average is. A
@@ -45,6 +45,6 @@ unfoldable pub afterLengths : List ℕ → List ℕ → List ℕ
 afterLengths img counts = cond (eqb (averageRefusal img) 0) (lengthsOf img) counts
 
 -- the number and the value of each case of the answer
-abbrev pub averagedOf : Averaged → Outcome Mean
-averagedOf (averaged.Given a) = value a
+abbrev pub averagedOf : Averaged → Outcome AverageLength
+averagedOf (averaged.Average a) = value a
 averagedOf (averaged.Refused k) = refusal k

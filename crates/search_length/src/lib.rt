@@ -11,7 +11,7 @@ use walks::count_lengths;
 mod walks; // walks.rt: the search lengths of the entries
 
 // The number of entries, and the total of the search lengths divided by it: quotient and remainder.
-pub struct Mean {
+pub struct AverageLength {
     pub entries: u32,
     pub quotient: u64,
     pub remainder: u64,
@@ -19,7 +19,7 @@ pub struct Mean {
 
 // The answer: the average, or the number of the refusal.
 pub enum Averaged {
-    Given(Mean),
+    Average(AverageLength),
     Refused(u32),
 }
 
@@ -58,7 +58,7 @@ pub fn average(image: &[u8]) -> Averaged
     let mut counts = [0; 16];
     let sum = count_lengths(image, n, &mut counts);
     let count = n as u64;
-    Averaged::Given(Mean {
+    Averaged::Average(AverageLength {
         entries: n,
         quotient: sum / count,
         remainder: sum % count,

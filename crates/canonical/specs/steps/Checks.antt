@@ -84,8 +84,8 @@ countsMatch img counts = all (λ (t : ℕ). eqb (bucketNumber img t) (2 * getD c
 -- ---- each entry in its table
 
 -- the bucket that the put at `at` took: the first of its probe sequence that is empty or has an offset from `at` on
-unfoldable pub slotIn : List ℕ → ℕ → ℕ → ℕ
-slotIn img h at =
+unfoldable pub bucketTaken : List ℕ → ℕ → ℕ → ℕ
+bucketTaken img h at =
     let o = tableAt img (tableOf h) in
     let n = bucketNumber img (tableOf h) in
     o + 8 * firstEmptyBefore img o n (start h n) at
@@ -93,8 +93,8 @@ slotIn img h at =
 unfoldable pub inItsBucket : List ℕ → ℕ → ℕ → Bool
 inItsBucket img h at =
     not (eqb (bucketNumber img (tableOf h)) 0)
-    && eqb (word img (slotIn img h at)) h
-    && eqb (word img (slotIn img h at + 4)) at
+    && eqb (word img (bucketTaken img h at)) h
+    && eqb (word img (bucketTaken img h at + 4)) at
 
 -- its name has no zero byte, and it is in its bucket
 abbrev pub nameOk : List ℕ → ℕ → List ℕ → Bool

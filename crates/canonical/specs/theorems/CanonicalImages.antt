@@ -44,19 +44,19 @@ pub record CanonicalImage (img : List ℕ) : Type 0 where
 
 -- ---- the image of a list of calls, which may hold refused puts and closes, with either choice of 02 (viii)
 
-pub record OfList (mode : Mode) (repeats : Repeats) (buffer : List ℕ) (cs : List Call) : Type 0 where
+pub record CanonicalOfList (mode : Mode) (repeats : Repeats) (buffer : List ℕ) (cs : List Call) : Type 0 where
   pub is-canonical : canonical (imageOf mode repeats buffer cs) ≡ true
   -- the puts that are read back from it are the accepted ones, in their order
   pub read-back : putsIn (imageOf mode repeats buffer cs) ≡ acceptedPuts mode repeats buffer cs
   pub mode-back : modeIn (imageOf mode repeats buffer cs) ≡ mode
 
-pub record Theorem : Type 0 where
+pub record CanonicalHolds : Type 0 where
   -- a yes exactly when the bytes are the image of some list of puts
   pub exactly : (img : List ℕ) → AllBytes img → (canonical img ≡ true) ↔ Canonical img
   pub holds : (img : List ℕ) → AllBytes img → canonical img ≡ true → CanonicalImage img
   pub of-list : (mode : Mode) (repeats : Repeats) (buffer : List ℕ) (cs : List Call)
       → headSize ≤ length buffer → WordIds mode cs
-      → OfList mode repeats buffer cs
+      → CanonicalOfList mode repeats buffer cs
   -- two different lists of accepted puts in a given direction never close to the same image, whatever their buffers and
   -- their choices of 02 (viii)
   pub different : (mode : Mode) (repeats₁ : Repeats) (buffer₁ : List ℕ) (cs₁ : List Call)

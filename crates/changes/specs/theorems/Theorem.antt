@@ -39,7 +39,7 @@ pub record MovesTo (old new : List ℕ) (id other : ℕ) : Type 0 where
   pub looked-up : lookup new name ≡ found at
   pub has-id : at .id ≡ other
   pub another : ¬ (other ≡ id)
-  pub whole : broken new (at .offset) ≡ false
+  pub unbroken : broken new (at .offset) ≡ false
   pub name-there : nameOf new (at .offset) ≡ name
   pub id-there : word new (at .offset) ≡ other
 

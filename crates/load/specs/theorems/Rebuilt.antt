@@ -37,7 +37,7 @@ hexFrom v [] = v
 hexFrom v (b ∷ bs) = hexFrom (v * 16 + cond (ltb b 58) (b - 48) (b - 55)) bs
 
 -- a load in a buffer in which a writer can begin; k is the number of its accepted entries
-pub record Load (seed : ℕ) (buffer : List ℕ) (k : ℕ) : Type 0 where
+pub record LoadHolds (seed : ℕ) (buffer : List ℕ) (k : ℕ) : Type 0 where
   pub given : loading seed buffer ≡ value k
   -- it is a list of calls as in demand 3, the puts of the first k entries, all accepted, and a close; so all of
   -- demand 3 holds of it
@@ -58,9 +58,9 @@ pub record Rebuilt : Type 0 where
   pub nine-bytes : (s : ℕ) → length (stateName s) ≡ 9
   -- the number of accepted entries follows from the buffer's length alone, whatever the seed
   pub loaded : (seed : ℕ) (buffer : List ℕ) → headSize ≤ length buffer
-      → Load seed buffer (roomFor (length buffer))
+      → LoadHolds seed buffer (roomFor (length buffer))
   -- with 157,720 bytes or more all 4,096 are accepted, and the size is then 157,720
-  pub all-loaded : (seed : ℕ) (buffer : List ℕ) → 157720 ≤ length buffer → Load seed buffer 4096
+  pub all-loaded : (seed : ℕ) (buffer : List ℕ) → 157720 ≤ length buffer → LoadHolds seed buffer 4096
   pub full-size : headSize + 38 * 4096 ≡ 157720
   -- a buffer too short to begin gives 1, and keeps every byte
   pub too-short : (seed : ℕ) (buffer : List ℕ) → length buffer < headSize → loading seed buffer ≡ refusal 1

@@ -80,13 +80,13 @@ abbrev pub OneName : List Entry → Type 0
 OneName es = Each (λ (e : Entry). Each (SameName e) es) es
 
 -- the image img of a list of calls, as in demand 3 or one-way, with either choice of 02 (viii), by its accepted puts es
-pub record OfList (mode : Mode) (es : List Entry) (img : List ℕ) : Type 0 where
+pub record OneToOneOfList (mode : Mode) (es : List Entry) (img : List ℕ) : Type 0 where
   pub yes-exactly : (oneToOne img ≡ value none) ↔ (OneId es × (mode ≡ Twoway → OneName es))
   -- the whole answer follows from the accepted puts
   pub by-puts : oneToOne img ≡ value (firstFailure (kindAmong mode es) headSize es)
   pub inverse : mode ≡ Twoway → oneToOne img ≡ value none → Inverse img
 
-pub record Theorem : Type 0 where
+pub record OneToOneHolds : Type 0 where
   -- refused with 17 where 02 (ix) says no; an image without entries is one to one
   pub refused : (img : List ℕ) → canonical img ≡ false → oneToOne img ≡ refusal 17
   pub empty : (img : List ℕ) → canonical img ≡ true → putsIn img ≡ [] → oneToOne img ≡ value none
@@ -100,4 +100,4 @@ pub record Theorem : Type 0 where
       → Inverse img
   pub of-list : (mode : Mode) (repeats : Repeats) (buffer : List ℕ) (cs : List Call)
       → headSize ≤ length buffer → WordIds mode cs
-      → OfList mode (acceptedPuts mode repeats buffer cs) (imageOf mode repeats buffer cs)
+      → OneToOneOfList mode (acceptedPuts mode repeats buffer cs) (imageOf mode repeats buffer cs)

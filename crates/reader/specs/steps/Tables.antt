@@ -5,7 +5,7 @@ use mathlib.Core.Bool.{false}
 use mathlib.Core.List.{List}
 use lib.ListN.{length}
 use Rattle.image.specs.Image.{headSize}
-use Rattle.reader.specs.Open.{someLeaves, halves}
+use Rattle.reader.specs.Open.{someLeaves, numFrom}
 use Rattle.reader.specs.declared.opening.Tables.{Tables}
 
 -- the slacks of the tables so far are below 2^63, and one more table, at offset o with n buckets, ends in the image
@@ -20,7 +20,7 @@ pub record TableAdded (all : Tables) (size o n : ℕ) (r : Tables) : Type 0 wher
 
 -- all of them
 pub record AllTables (image : List ℕ) (r : Tables) : Type 0 where
-  pub num-is : r .num ≡ halves image 0 256 % 2 ^ 32
+  pub num-is : r .num ≡ numFrom image 0 256 % 2 ^ 32
   pub none-leaves : r .slacks < 2 ^ 63 → someLeaves image 0 256 ≡ false
 
 -- the head is there, and where the bitwise or of all slacks is below 2^63, no table leaves the image

@@ -26,7 +26,7 @@ pub record FoundInTable (image name : List ℕ) (f : Found) (o n : ℕ) : Type 0
   pub hash : word image (o + 8 * bucketRead name n (f .buckets)) ≡ hashOf name
   pub offset : word image (o + 8 * bucketRead name n (f .buckets) + 4) ≡ f .offset
   -- the entry at this offset is not broken, and has exactly this name and this id
-  pub whole : broken image (f .offset) ≡ false
+  pub unbroken : broken image (f .offset) ≡ false
   pub name-there : nameOf image (f .offset) ≡ name
   pub id-there : word image (f .offset) ≡ f .id
 

@@ -15,7 +15,7 @@ use Rattle.lookup_laws.specs.Answer.{tablePuts}
 use Rattle.canonical.specs.Canonical.{canonical, putsIn}
 use Rattle.search_length.specs.SearchLengths.{searchLength, totalOf, inBin}
 use Rattle.search_length.specs.Average.{entryCount, total, averageRefusal, averaging, lengthsOf, afterLengths}
-use Rattle.search_length.specs.declared.Mean.{Mean}
+use Rattle.search_length.specs.declared.AverageLength.{AverageLength}
 
 -- the entries of table t
 abbrev pub nameInTable : ℕ → Entry → Bool
@@ -53,9 +53,9 @@ pub record AverageSearch : Type 0 where
   pub no-entries : (img : List ℕ) → canonical img ≡ true → entryCount img ≡ 0 → averaging img ≡ refusal 18
   pub accepted : (img : List ℕ) → canonical img ≡ true → 0 < entryCount img → averageRefusal img ≡ 0
   -- "Quotient × entries + remainder is the total, and the remainder is below the entries"
-  pub divided : (img : List ℕ) (m : Mean) → averaging img ≡ value m
+  pub divided : (img : List ℕ) (m : AverageLength) → averaging img ≡ value m
       → (m .quotient * m .entries + m .remainder ≡ total img) × (m .remainder < m .entries)
-  pub number : (img : List ℕ) (m : Mean) → averaging img ≡ value m → m .entries ≡ entryCount img
+  pub number : (img : List ℕ) (m : AverageLength) → averaging img ≡ value m → m .entries ≡ entryCount img
   -- each entry adds its own length, whatever stands before and behind it: a repeated name counts each time
   pub each-time : (img : List ℕ) (before : List Entry) (e : Entry) (behind : List Entry)
       → totalOf img (before ++ e ∷ behind) ≡ searchLength img e + totalOf img (before ++ behind)

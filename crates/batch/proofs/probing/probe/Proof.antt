@@ -11,7 +11,7 @@ use Rattle.batch.proofs.probing.probe.Tie as tie
 inside : (c : tie.After-bucket-after)
     → let s = c .before .before .before .before .before in c .before .word .result + 8 * c .bucket-after .result + 8 ≤ length (s .args .image .now)
 inside c =
-    let t = c .before .before .before .table-of in
+    let t = c .before .before .before .find-table in
     let row = t .ensures .table (omega (arith, c .before .before .if1 .left)) in
     omega (arith, row .offset, row .inside, c .bucket-after .ensures .inside, c .before .word .ensures)
 
@@ -19,7 +19,7 @@ returns : tie.Need-returns
 returns c =
     let s = c .before .before .before in
     let a = s .args in
-    let t = c .before .table-of in
+    let t = c .before .find-table in
     record {
       small = omega arith;
       is-open = λ e.
@@ -38,7 +38,7 @@ returns-2 c =
     let read = c .before in
     let k = read .before .before in
     let e = k .before .before in
-    let t = e .before .table-of in
+    let t = e .before .find-table in
     let s = e .before .before .before in
     let row = t .ensures .table (omega (arith, e .if1 .left)) in
     probed

@@ -11,7 +11,7 @@ returns c =
     let a = c .before .before .before .before .before .args in
     let buf = a .buf .now in
     let image = a .image .now in
-    refused buf (a .end) image (c .before .append-refusal .result) (c .before .append-refusal .ensures) (c .if1 .taken)
+    refused buf (a .file-len) image (c .before .append-refusal .result) (c .before .append-refusal .ensures) (c .if1 .taken)
 
 add-joined : tie.Need-add-joined
 add-joined c =
@@ -19,7 +19,7 @@ add-joined c =
     let buf = a .buf .now in
     let image = a .image .now in
     let none = sym (c .before .append-refusal .ensures) ∙ c .if1 .left in
-    omega (arith, passed buf (a .end) image none .room)
+    omega (arith, passed buf (a .file-len) image none .room)
 
 store-bytes-requires : tie.Need-store-bytes-requires
 store-bytes-requires c κs =
@@ -27,7 +27,7 @@ store-bytes-requires c κs =
     let buf = a .buf .now in
     let image = a .image .now in
     let none = sym (c .before .before .append-refusal .ensures) ∙ c .before .if1 .left in
-    omega (arith, passed buf (a .end) image none .room)
+    omega (arith, passed buf (a .file-len) image none .room)
 
 returns-2 : tie.Need-returns-2
 returns-2 c =
@@ -35,7 +35,7 @@ returns-2 c =
     let buf = a .buf .now in
     let image = a .image .now in
     let none = sym (c .before .before .before .before .before .append-refusal .ensures) ∙ c .before .before .before .before .if1 .left in
-    let done = accepted buf (a .end) image none in
+    let done = accepted buf (a .file-len) image none in
     (done .0, c .before .before .store-bytes .ensures ∙ done .1)
 
 pub append-spec : {M : Type 1} → statement M

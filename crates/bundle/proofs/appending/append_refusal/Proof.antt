@@ -12,12 +12,12 @@ returns c =
     let a = c .before .before .before .args in
     let buf = a .buf .now in
     let image = a .image .now in
-    refuses-long buf (a .end) image (c .if1 .taken)
+    refuses-long buf (a .file-len) image (c .if1 .taken)
 
 slice-aggregate-whole : tie.Need-slice-aggregate-whole
 slice-aggregate-whole c =
     let a = c .before .before .before .before .args in
-    sym (length-take-le (a .end) (a .buf .now) (c .before .if1 .left))
+    sym (length-take-le (a .file-len) (a .buf .now) (c .before .if1 .left))
 
 returns-2 : tie.Need-returns-2
 returns-2 c =
@@ -25,7 +25,7 @@ returns-2 c =
     let buf = a .buf .now in
     let image = a .image .now in
     let w = c .before .whole in
-    refuses-broken buf (a .end) image (c .before .before .before .if1 .left) (sym (w .ensures) ∙ not-true (w .result) (c .if2 .taken))
+    refuses-broken buf (a .file-len) image (c .before .before .before .if1 .left) (sym (w .ensures) ∙ not-true (w .result) (c .if2 .taken))
 
 abbrev start-from-unfit : tie.After-unfit → tie.Start
 start-from-unfit c = c .before .before .before .before .before .before .before
@@ -37,7 +37,7 @@ returns-3 c =
     let image = a .image .now in
     let w = c .before .before .before .whole in
     let walked = sym (w .ensures) ∙ not-false (w .result) (c .before .before .if2 .left) in
-    refuses-unfit buf (a .end) image (c .before .before .before .before .before .if1 .left) walked (sym (c .before .unfit .ensures) ∙ c .if3 .taken)
+    refuses-unfit buf (a .file-len) image (c .before .before .before .before .before .if1 .left) walked (sym (c .before .unfit .ensures) ∙ c .if3 .taken)
 
 abbrev start : tie.Else3 → tie.Start
 start c = start-from-unfit (c .before)
@@ -50,7 +50,7 @@ returns-4 c =
     let w = c .before .before .before .before .whole in
     let walked = sym (w .ensures) ∙ not-false (w .result) (c .before .before .before .if2 .left) in
     let u = c .before .before .unfit in
-    refuses-full buf (a .end) image (c .before .before .before .before .before .before .if1 .left) walked (sym (u .ensures) ∙ c .before .if3 .left)
+    refuses-full buf (a .file-len) image (c .before .before .before .before .before .before .if1 .left) walked (sym (u .ensures) ∙ c .before .if3 .left)
     (c .if4 .taken)
 
 returns-5 : tie.Need-returns-5
@@ -61,7 +61,7 @@ returns-5 c =
     let w = c .before .before .before .before .whole in
     let walked = sym (w .ensures) ∙ not-false (w .result) (c .before .before .before .if2 .left) in
     let u = c .before .before .unfit in
-    accepts buf (a .end) image (c .before .before .before .before .before .before .if1 .left) walked (sym (u .ensures) ∙ c .before .if3 .left)
+    accepts buf (a .file-len) image (c .before .before .before .before .before .before .if1 .left) walked (sym (u .ensures) ∙ c .before .if3 .left)
     (c .if4 .left)
 
 pub append-refusal-spec : {M : Type 1} → statement M

@@ -27,8 +27,8 @@ returns-3 : tie.Need-returns-3
 returns-3 c =
     let t = c .before in
     let a = t .before .before .before .before .before .args in
-    let found = t .table-of .ensures in
-    from-over (a .image .now) (a .name .now) (a .h) (a .c) (t .table-of .result .n) (found .unread) (λ some. (found .table some .searched, found .table some .number))
+    let found = t .find-table .ensures in
+    from-over (a .image .now) (a .name .now) (a .h) (a .c) (t .find-table .result .n) (found .unread) (λ some. (found .table some .searched, found .table some .number))
     (c .if3 .taken)
     ∙ from-by (a .image .now) (a .name .now) (a .h) (a .c) false false (le-ltb (length (a .image .now)) 2072 (t .before .before .if1 .left))
     (lt-leb 4294967295 (length (a .name .now)) (t .before .if2 .left))
@@ -41,7 +41,7 @@ sub-search-rest c = omega (arith, c .before .if3 .left)
 
 search-rest-requires : tie.Need-search-rest-requires
 search-rest-requires c κs =
-    let t = c .before .before .table-of in
+    let t = c .before .before .find-table in
     let some : 0 < t .result .n = omega (arith, c .before .if3 .left) in
     record { bucket = c .bucket-after .ensures .inside; most = omega arith; inside = t .ensures .table some .inside }
 
@@ -49,9 +49,9 @@ returns-4 : tie.Need-returns-4
 returns-4 c =
     let t = c .before .before .before in
     let a = t .before .before .before .before .before .args in
-    let table = t .table-of .result in
+    let table = t .find-table .result in
     let some : 0 < table .n = omega (arith, c .before .before .if3 .left) in
-    let found = t .table-of .ensures .table some in
+    let found = t .find-table .ensures .table some in
     let left-from : ℕ → Lookup = λ (k : ℕ). searchRest (a .image .now) (a .name .now) (a .h) (table .at) (table .n) k (table .n - a .c) in
     c .search-rest .ensures ∙ ap left-from (c .before .bucket-after .ensures .is)
     ∙ from-read (a .image .now) (a .name .now) (a .h) (a .c) (table .at) (table .n) (found .searched) (found .offset) (found .number)

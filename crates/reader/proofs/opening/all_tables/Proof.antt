@@ -5,8 +5,8 @@ use native.Mathlib.Omega.{arith}
 use native.Mathlib.Nat.{zero-add}
 use mathlib.Core.Path.{_≡_, refl, sym, ap, _∙_}
 use Rattle.image.specs.Head.{bucketNumber}
-use Rattle.reader.specs.Open.{someLeaves, halves}
-use Rattle.reader.proofs.Opens.{TablesInv, halves-step, halves-none, leaves-pass, leaves-none, sum-step, sum-end}
+use Rattle.reader.specs.Open.{someLeaves, numFrom}
+use Rattle.reader.proofs.Opens.{TablesInv, numFrom-step, numFrom-none, leaves-pass, leaves-none, sum-step, sum-end}
 use borrow.Author.Needs.{needs}
 use Rattle.reader.proofs.opening.all_tables.Statement.{statement}
 use Rattle.reader.proofs.opening.all_tables.Tie as tie
@@ -22,7 +22,7 @@ loop-holds c =
     record {
       rows = search needs;
       num-small = search needs;
-      sum = ap (λ (k : ℕ). k % 2 ^ 32) (zero-add (halves (c .before .args .image .now) 0 256));
+      sum = ap (λ (k : ℕ). k % 2 ^ 32) (zero-add (numFrom (c .before .args .image .now) 0 256));
       leaves = λ h. refl;
     }
 
@@ -43,8 +43,8 @@ loop-again c =
     record {
       rows = omega arith;
       num-small = omega (arith, added .num-is);
-      sum = sum-step (of-loop .all .num) (bucketNumber image t / 2) (c .with-table .result .num) (halves image (t + 1) (256 - (t + 1)))
-          (halves image t (256 - t)) (halves image 0 256) (inv .sum) (halves-step image t 256 h)
+      sum = sum-step (of-loop .all .num) (bucketNumber image t / 2) (c .with-table .result .num) (numFrom image (t + 1) (256 - (t + 1)))
+          (numFrom image t (256 - t)) (numFrom image 0 256) (inv .sum) (numFrom-step image t 256 h)
           (added .num-is ∙ ap (λ (n : ℕ). (of-loop .all .num + n / 2) % 2 ^ 32) (c .before .word2 .ensures));
       leaves = λ k.
           leaves-pass image t 256 (of-word .result) (c .before .word2 .result) h (of-word .ensures) (c .before .word2 .ensures) (added .fits k .inside)
@@ -59,8 +59,8 @@ returns c =
     let inv = c .before .loop .inv in
     let e : t ≡ 256 = omega arith in
     record {
-      num-is = sum-end (c .before .loop .all .num) (halves image t (256 - t)) (halves image 0 256) (inv .num-small) (inv .sum)
-          (ap (λ (k : ℕ). halves image k (256 - k)) e ∙ halves-none image 256);
+      num-is = sum-end (c .before .loop .all .num) (numFrom image t (256 - t)) (numFrom image 0 256) (inv .num-small) (inv .sum)
+          (ap (λ (k : ℕ). numFrom image k (256 - k)) e ∙ numFrom-none image 256);
       none-leaves = λ k. sym (inv .leaves k) ∙ ap (λ (k : ℕ). someLeaves image k (256 - k)) e ∙ leaves-none image 256;
     }
 

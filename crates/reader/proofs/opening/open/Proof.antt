@@ -11,7 +11,7 @@ use Rattle.jhash.specs.Outcome.{value, refusal}
 use Rattle.image.specs.Bytes.{word}
 use Rattle.image.proofs.Bools.{and-both}
 use Rattle.image.specs.Head.{backOffsetAt, backLeaves}
-use Rattle.reader.specs.Open.{halves, opening}
+use Rattle.reader.specs.Open.{numFrom, opening}
 use Rattle.reader.proofs.Opens.{opening-by}
 use borrow.Author.Needs.{needs}
 use Rattle.reader.proofs.opening.open.Statement.{statement}
@@ -28,7 +28,7 @@ abbrev image-of : tie.Else4 → List ℕ
 image-of c = start (c .before) .args .image .now
 
 passed : (c : tie.Else4) (b : Bool) → (ltb 0 (backOffsetAt (image-of c)) && backLeaves (image-of c)) ≡ b
-    → cond b (refusal 8) (value (halves (image-of c) 0 256 % 2 ^ 32)) ≡ opening (image-of c)
+    → cond b (refusal 8) (value (numFrom (image-of c) 0 256 % 2 ^ 32)) ≡ opening (image-of c)
 passed c b e =
     let of-if1 = else1 (c .before) .if1 in
     let of-has-letters = c .before .before .before .before .before .before .has-letters in

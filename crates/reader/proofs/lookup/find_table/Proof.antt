@@ -1,9 +1,9 @@
--- `reader::lookup::table_of` meets its contract. Assumes nothing.
+-- `reader::lookup::find_table` meets its contract. Assumes nothing.
 use native.Mathlib.Omega.{arith}
 use Rattle.reader.proofs.Searches.{Row, unread-offset, unread-number, unread-leaves, read-table}
 use borrow.Author.Needs.{needs}
-use Rattle.reader.proofs.lookup.table_of.Statement.{statement}
-use Rattle.reader.proofs.lookup.table_of.Tie as tie
+use Rattle.reader.proofs.lookup.find_table.Statement.{statement}
+use Rattle.reader.proofs.lookup.find_table.Tie as tie
 
 -- the two words of the row
 row-of : (c : tie.After-word2)
@@ -34,8 +34,8 @@ returns-3 c =
       };
     }
 
-pub table-of-spec : {M : Type 1} → statement M
-table-of-spec =
+pub find-table-spec : {M : Type 1} → statement M
+find-table-spec =
     tie.close
     (tie.spec
     (λ c. search needs)
