@@ -10,11 +10,11 @@ use Rattle.image.specs.Bytes.{cat}
 use Rattle.reader.specs.Lookup.{Lookup, found, nothing, lookupBy, lookup}
 use Rattle.reader.proofs.Searches.{lookup-own}
 use Rattle.packed.proofs.NameEnds.{length-names}
-use Rattle.jhash.proofs.Outcomes.{key-short}
+use Rattle.jhash.proofs.Outcomes.{hash-or-zero-short}
 use Rattle.batch.specs.RoundNames.{names, nth}
 use Rattle.batch.specs.Round.{answerWords}
-use Rattle.batch.specs.steps.Duplicates.{key, Listed, Rising, IsFirst, IsUnique}
-use Rattle.batch.specs.steps.Answers.{putWords, wordsIn, HasPlace, Has, Right, ListedNames, Answered, UniqueAnswered, Source}
+use Rattle.batch.specs.steps.Duplicates.{hashOrZero, Listed, Rising, IsFirst, IsUnique}
+use Rattle.batch.specs.steps.Answers.{putWords, wordsIn, HasPlace, Has, HasAnswer, ListedNames, Answered, UniqueAnswered, Source}
 use Rattle.batch.proofs.IndexLists.{listed-more, listed-has}
 
 -- ---- words stored in a place and read
@@ -115,9 +115,9 @@ length-words (found f) = refl
 length-words (nothing n) = refl
 
 -- a lookup with a name's key is the name's
-by-key : (image name x : List ℕ) (h : ℕ) → name ≡ x → h ≡ key x → lookupBy image name h ≡ lookup image x
-by-key image name x h e k =
-    ap (λ (l : List ℕ). lookupBy image l h) e ∙ lookup-own image x h (λ short. k ∙ key-short x short)
+by-hash : (image name x : List ℕ) (h : ℕ) → name ≡ x → h ≡ hashOrZero x → lookupBy image name h ≡ lookup image x
+by-hash image name x h e k =
+    ap (λ (l : List ℕ). lookupBy image l h) e ∙ lookup-own image x h (λ short. k ∙ hash-or-zero-short x short)
 
 -- the first x of m listed names have their answers
 pub record Finding (image bytes ends list before after : List ℕ) (m x : ℕ) : Type 0 where
@@ -142,14 +142,14 @@ finding-end f all =
       others = λ i n. f .answered .others i (λ a. n (listed-more (f .inside) a));
     }
 
-module _ {bytes ends keys list before : List ℕ} {m : ℕ} (pre : ListedNames bytes ends keys list before m) where
+module _ {bytes ends hashes list before : List ℕ} {m : ℕ} (pre : ListedNames bytes ends hashes list before m) where
   -- no two of the listed names are equal
   pub no-two-equal : (x y : ℕ) → x < y → y < m → nth (names bytes ends) (getD list x 0) ≡ nth (names bytes ends) (getD list y 0) → ⊥
   no-two-equal x y h k = pre .first y k (getD list x 0) (pre .rising x y h k)
 
   -- some of them, in another list that rises
   pub listed-part : {part after : List ℕ} {q : ℕ} → length after ≡ length before → q ≤ m → q ≤ length part → Rising part q
-      → ((z : ℕ) → z < q → Listed list m (getD part z 0)) → ListedNames bytes ends keys part after q
+      → ((z : ℕ) → z < q → Listed list m (getD part z 0)) → ListedNames bytes ends hashes part after q
   listed-part long few capacity rising listed =
       record {
         first = λ z h. listed-has (IsFirst (names bytes ends)) (pre .first) (listed z h);
@@ -163,7 +163,7 @@ module _ {bytes ends keys list before : List ℕ} {m : ℕ} (pre : ListedNames b
 
   -- one more has its answer, which was looked up with its key; what was right stays so, and the other places are kept
   pub finding-step : {image answers after name : List ℕ} {x : ℕ} (v : Lookup) → x < m → name ≡ nth (names bytes ends) (getD list x 0)
-      → v ≡ lookupBy image name (getD keys (getD list x 0) 0) → after ≡ putWords answers (getD list x 0) (answerWords v)
+      → v ≡ lookupBy image name (getD hashes (getD list x 0) 0) → after ≡ putWords answers (getD list x 0) (answerWords v)
       → Finding image bytes ends list before answers m x → Finding image bytes ends list before after m (x + 1)
   finding-step {image} {answers} {after} {name} {x} v h is answer stored old =
       subst (λ (r : List ℕ). Finding image bytes ends list before r m (x + 1)) (sym stored)
@@ -180,14 +180,14 @@ module _ {bytes ends keys list before : List ℕ} {m : ℕ} (pre : ListedNames b
       i = getD list x 0
 
       own : v ≡ lookup image (nth xs i)
-      own = answer ∙ by-key image name (nth xs i) (getD keys i 0) is (pre .names .keyed i (omega (arith, length-names bytes ends, pre .below x h)))
+      own = answer ∙ by-hash image name (nth xs i) (getD hashes i 0) is (pre .names .hashed i (omega (arith, length-names bytes ends, pre .below x h)))
 
-      stays : (j : ℕ) → ((j ≡ i → ⊥) → Right image xs answers j) → Right image xs (putWords answers i (answerWords v)) j
+      stays : (j : ℕ) → ((j ≡ i → ⊥) → HasAnswer image xs answers j) → HasAnswer image xs (putWords answers i (answerWords v)) j
       stays j r =
           has-after answers i (answerWords v) (omega (arith, pre .below x h, pre .places, old .long)) j (answerWords (lookup image (nth xs j)))
           (λ e w k. ap (λ (a : Lookup). getD (answerWords a) w 0) (own ∙ ap (λ (n : ℕ). lookup image (nth xs n)) (sym e))) r
 
-      all : (y : ℕ) → y < x + 1 → Right image xs (putWords answers i (answerWords v)) (getD list y 0)
+      all : (y : ℕ) → y < x + 1 → HasAnswer image xs (putWords answers i (answerWords v)) (getD list y 0)
       all y k =
           stays (getD list y 0)
           (λ other. elim (ℕ-discrete y x) [ yes e ↦ absurd (other (ap (λ (n : ℕ). getD list n 0) e)) | no e ↦ old .answered .stored y (omega arith) ])
@@ -201,7 +201,7 @@ module _ {bytes ends keys list before : List ℕ} {m : ℕ} (pre : ListedNames b
 
 -- what is kept of the places: those that were right, and those of names that are not listed
 pub record Kept (image bytes ends list before after : List ℕ) (m : ℕ) : Type 0 where
-  pub stays : (i : ℕ) → Right image (names bytes ends) before i → Right image (names bytes ends) after i
+  pub stays : (i : ℕ) → HasAnswer image (names bytes ends) before i → HasAnswer image (names bytes ends) after i
   pub others : (i : ℕ) → (Listed list m i → ⊥) → Has after i (wordsIn before i)
 
 pub kept-start : (image bytes ends list before : List ℕ) (m : ℕ) → Kept image bytes ends list before before m
@@ -219,8 +219,8 @@ kept-step {list = list} {answers = answers} {m = m} listed old new =
 
 -- the places below i have their answers, and so have those of unique names
 pub record Copied (image : List ℕ) (xs : List (List ℕ)) (equals answers : List ℕ) (n i : ℕ) : Type 0 where
-  pub passed : (j : ℕ) → j < i → Right image xs answers j
-  pub unique : (j : ℕ) → j < n → IsUnique equals j → Right image xs answers j
+  pub passed : (j : ℕ) → j < i → HasAnswer image xs answers j
+  pub unique : (j : ℕ) → j < n → IsUnique equals j → HasAnswer image xs answers j
 
 module _ {image : List ℕ} {xs : List (List ℕ)} {equals before l : List ℕ} {n i from : ℕ} (u : UniqueAnswered image xs equals before n)
     (source : Source i (getD equals i 0) from) (inside : i < n) (places : 4 * n ≤ length l) (old : Copied image xs equals l n i) where
@@ -250,7 +250,7 @@ module _ {image : List ℕ} {xs : List (List ℕ)} {equals before l : List ℕ} 
         unique = λ j k z. after j (λ other. old .unique j k z);
       }
     where
-      after : (j : ℕ) → ((j ≡ i → ⊥) → Right image xs l j) → Right image xs (putWords l i (wordsIn l from)) j
+      after : (j : ℕ) → ((j ≡ i → ⊥) → HasAnswer image xs l j) → HasAnswer image xs (putWords l i (wordsIn l from)) j
       after j r =
           has-after l i (wordsIn l from) (omega arith) j (words j)
           (λ e w k. words-at l from w k ∙ source-has w k ∙ ap (λ (m : ℕ). getD (words m) w 0) (sym e)) r

@@ -1,4 +1,4 @@
--- Duplicates: keys, the slots that hold names, and the equal names found. Assumes nothing.
+-- Duplicates: hashes, the slots that hold names, and the equal names found. Assumes nothing.
 use Prim.Native.Nat.{ℕ, suc, _+_, _-_, _≤_, _<_}
 use native.Mathlib.Omega.{arith}
 use native.Mathlib.Numerals.{add-one}
@@ -19,28 +19,28 @@ use Rattle.lookup_laws.specs.steps.HasMatch.{hasMatch}
 use Rattle.lookup_laws.proofs.TableContents.{NotEmpty}
 use Rattle.batch.specs.RoundNames.{differentFrom, different, nth}
 use Rattle.batch.specs.steps.Slots.{bucketOfNumber, roundSlot, SlotsHold}
-use Rattle.batch.specs.steps.Duplicates.{IfZero, Listed, key, Keys, EqualBefore, FoundOrInserted, Deduplicated}
+use Rattle.batch.specs.steps.Duplicates.{IfZero, Listed, hashOrZero, Hashes, EqualBefore, FoundOrInserted, Deduplicated}
 use Rattle.batch.proofs.IndexLists.{listed-old, listed-new, each-step, rising-step}
 use Rattle.batch.proofs.Different.{seen-before, not-seen-before, different-next}
 use Rattle.lookup_laws.proofs.SlotSearch.{none-empty, none-equal, filled-next}
 
--- ---- keys
+-- ---- hashes
 
--- the first i keys are stored
-abbrev pub KeysTo : List (List ℕ) → ℕ → List ℕ → Type 0
-KeysTo xs i keys = (j : ℕ) → j < i → getD keys j 0 ≡ key (nth xs j)
+-- the first i hashes are stored
+abbrev pub HashesTo : List (List ℕ) → ℕ → List ℕ → Type 0
+HashesTo xs i hashes = (j : ℕ) → j < i → getD hashes j 0 ≡ hashOrZero (nth xs j)
 
-pub keys-step : (xs : List (List ℕ)) (keys : List ℕ) (i v : ℕ) → i < length keys → KeysTo xs i keys → v ≡ key (nth xs i) → KeysTo xs (i + 1) (set keys i v)
-keys-step xs keys i v h k e j l =
+pub hashes-step : (xs : List (List ℕ)) (hashes : List ℕ) (i v : ℕ) → i < length hashes → HashesTo xs i hashes → v ≡ hashOrZero (nth xs i) → HashesTo xs (i + 1) (set hashes i v)
+hashes-step xs hashes i v h k e j l =
     elim (ℕ-discrete j i) [
-      | yes p ↦ ap (λ (m : ℕ). getD (set keys i v) m 0) p ∙ getD-set-same keys i v 0 h ∙ e ∙ ap (λ (m : ℕ). key (nth xs m)) (sym p)
-      | no p ↦ getD-set-other keys i j v 0 p ∙ k j (omega arith)
+      | yes p ↦ ap (λ (m : ℕ). getD (set hashes i v) m 0) p ∙ getD-set-same hashes i v 0 h ∙ e ∙ ap (λ (m : ℕ). hashOrZero (nth xs m)) (sym p)
+      | no p ↦ getD-set-other hashes i j v 0 p ∙ k j (omega arith)
     ]
 
 -- another key, another name
-pub other-key : (xs : List (List ℕ)) (keys : List ℕ) → Keys xs keys → (j i : ℕ) → j < length xs → i < length xs
-    → (getD keys j 0 ≡ getD keys i 0 → ⊥) → nth xs j ≡ nth xs i → ⊥
-other-key xs keys ks j i p q other e = other (ks j p ∙ ap key e ∙ sym (ks i q))
+pub other-hash : (xs : List (List ℕ)) (hashes : List ℕ) → Hashes xs hashes → (j i : ℕ) → j < length xs → i < length xs
+    → (getD hashes j 0 ≡ getD hashes i 0 → ⊥) → nth xs j ≡ nth xs i → ⊥
+other-hash xs hashes ks j i p q other e = other (ks j p ∙ ap hashOrZero e ∙ sym (ks i q))
 
 -- ---- slots
 
@@ -48,12 +48,12 @@ none-filled : (n k : ℕ) → getD (filled n []) k empty ≡ empty
 unfolding filled insertAll
 none-filled n k = getD-empties n k
 
-pub slots-empty : (xs : List (List ℕ)) (keys slots : List ℕ) → length slots ≡ 4096 → ((k : ℕ) → k < 4096 → getD slots k 0 ≡ 0) → SlotsHold xs keys slots 0
-slots-empty xs keys slots size clear =
+pub slots-empty : (xs : List (List ℕ)) (hashes slots : List ℕ) → length slots ≡ 4096 → ((k : ℕ) → k < 4096 → getD slots k 0 ≡ 0) → SlotsHold xs hashes slots 0
+slots-empty xs hashes slots size clear =
     record {
       held = [];
       size = size;
-      filled-with = record { each = λ k l. ap (bucketOfNumber keys) (clear k l) ∙ sym (none-filled 4096 k) };
+      filled-with = record { each = λ k l. ap (bucketOfNumber hashes) (clear k l) ∙ sym (none-filled 4096 k) };
       few = omega arith;
       below = tt;
       covers = λ y none j l. absurd (omega arith);
@@ -64,23 +64,23 @@ all-before P [] ys all = tt
 all-before P (x ∷ xs) ys all = (all .0, all-before P xs ys (all .1))
 
 -- the key of a name, from its number
-pub key-of : (keys : List ℕ) (u : ℕ) → getD (0 ∷ keys) (u + 1) 0 ≡ getD keys u 0
-key-of keys u = ap (λ (q : ℕ). getD (0 ∷ keys) q 0) (add-one u)
+pub hash-of-number : (hashes : List ℕ) (u : ℕ) → getD (0 ∷ hashes) (u + 1) 0 ≡ getD hashes u 0
+hash-of-number hashes u = ap (λ (q : ℕ). getD (0 ∷ hashes) q 0) (add-one u)
 
 -- the i-th name: does the name with a number equal it?
 abbrev pub equalTo : List (List ℕ) → ℕ → ℕ → Bool
 equalTo xs i q = same (nth xs (q - 1)) (nth xs i)
 
-module _ {xs : List (List ℕ)} {keys slots : List ℕ} {i : ℕ} (ks : Keys xs keys) (inside : i < length xs) (few : length xs ≤ 512)
-    (s : SlotsHold xs keys slots i) where
+module _ {xs : List (List ℕ)} {hashes slots : List ℕ} {i : ℕ} (ks : Hashes xs hashes) (inside : i < length xs) (few : length xs ≤ 512)
+    (s : SlotsHold xs hashes slots i) where
   abbrev h : ℕ
-  h = getD keys i 0
+  h = getD hashes i 0
 
   abbrev v : ℕ → Bool
   v = equalTo xs i
 
   abbrev bucket : ℕ → Bucket
-  bucket u = bucketOfNumber keys (u + 1)
+  bucket u = bucketOfNumber hashes (u + 1)
 
   abbrev bs : List Bucket
   bs = map bucket (s .held)
@@ -97,10 +97,10 @@ module _ {xs : List (List ℕ)} {keys slots : List ℕ} {i : ℕ} (ks : Keys xs 
       subst (λ (b : Bucket). b .at ≤ i) (sym (s .filled-with .each k l))
       (filled-all (λ (b : Bucket). b .at ≤ i) 4096 bs (omega arith) (all-image (λ (b : Bucket). b .at ≤ i) bucket (λ u l. omega arith) (s .held) (s .below)) k)
 
-  pub some-empty : All (λ (k : ℕ). NotEmpty (roundSlot keys slots k)) (probeSequence 4096 4096 (start h 4096)) → ⊥
+  pub some-empty : All (λ (k : ℕ). NotEmpty (roundSlot hashes slots k)) (probeSequence 4096 4096 (start h 4096)) → ⊥
   some-empty all = omega (arith, fit, none-empty (s .filled-with) (omega (arith, fit)) occupied h all)
 
-  pub found-equal : (q : ℕ) → 0 < q → q ≤ i → equalTo xs i q ≡ true → FoundOrInserted xs keys slots i q
+  pub found-equal : (q : ℕ) → 0 < q → q ≤ i → equalTo xs i q ≡ true → FoundOrInserted xs hashes slots i q
   found-equal q some low is =
       let e = same-true (nth xs (q - 1)) (nth xs i) is in
       record {
@@ -127,31 +127,31 @@ module _ {xs : List (List ℕ)} {keys slots : List ℕ} {i : ℕ} (ks : Keys xs 
     λ e.
         let back : u + 1 - 1 ≡ u = omega arith in
         let is : v (u + 1) ≡ true = ap (λ (n : ℕ). same (nth xs n) (nth xs i)) back ∙ ap (λ (x : List ℕ). same x (nth xs i)) e ∙ same-self (nth xs i) in
-        false-not-true (sym (others .0 (key-of keys u ∙ ks u (omega (arith, low .0)) ∙ ap key e ∙ sym (ks i inside))) ∙ is),
+        false-not-true (sym (others .0 (hash-of-number hashes u ∙ ks u (omega (arith, low .0)) ∙ ap hashOrZero e ∙ sym (ks i inside))) ∙ is),
     differ us (low .1) (others .1),
   )
 
-  module _ (k : ℕ) (here : k < 4096) (first : k ≡ firstEmpty (λ (j : ℕ). roundSlot keys slots j .at) (probeSequence 4096 4096 (start h 4096))) where
-    stored : (j : ℕ) → j < 4096 → roundSlot keys (set slots k (i + 1)) j ≡ getD (filled 4096 (map bucket (s .held ++ (i ∷ [])))) j empty
+  module _ (k : ℕ) (here : k < 4096) (first : k ≡ firstEmpty (λ (j : ℕ). roundSlot hashes slots j .at) (probeSequence 4096 4096 (start h 4096))) where
+    stored : (j : ℕ) → j < 4096 → roundSlot hashes (set slots k (i + 1)) j ≡ getD (filled 4096 (map bucket (s .held ++ (i ∷ [])))) j empty
     stored j l =
         let more : filled 4096 (map bucket (s .held ++ (i ∷ []))) ≡ set (filled 4096 bs) k (bucket i) =
         ap (filled 4096) (map-append bucket (s .held) (i ∷ []))
-        ∙ filled-next (s .filled-with) (omega arith) h (bucket i) (key-of keys i) k first in
+        ∙ filled-next (s .filled-with) (omega arith) h (bucket i) (hash-of-number hashes i) k first in
         elim (ℕ-discrete j k) [
           | yes e ↦
-              ap (roundSlot keys (set slots k (i + 1))) e
-              ∙ ap (bucketOfNumber keys) (getD-set-same slots k (i + 1) 0 (omega (arith, s .size)))
+              ap (roundSlot hashes (set slots k (i + 1))) e
+              ∙ ap (bucketOfNumber hashes) (getD-set-same slots k (i + 1) 0 (omega (arith, s .size)))
               ∙ sym (getD-set-same (filled 4096 bs) k (bucket i) empty (omega (arith, length-filled 4096 bs)))
               ∙ ap (λ (n : ℕ). getD (set (filled 4096 bs) k (bucket i)) n empty) (sym e)
           | no e ↦
-              ap (bucketOfNumber keys) (getD-set-other slots k j (i + 1) 0 e)
+              ap (bucketOfNumber hashes) (getD-set-other slots k j (i + 1) 0 e)
               ∙ s .filled-with .each j l
               ∙ sym (getD-set-other (filled 4096 bs) k j (bucket i) empty e)
         ]
         ∙ ap (λ (t : List Bucket). getD t j empty) (sym more)
 
-    pub inserted-here : hasMatch (roundSlot keys slots) h (equalTo xs i) (probeSequence 4096 4096 (start h 4096)) ≡ false
-        → FoundOrInserted xs keys (set slots k (i + 1)) i 0
+    pub inserted-here : hasMatch (roundSlot hashes slots) h (equalTo xs i) (probeSequence 4096 4096 (start h 4096)) ≡ false
+        → FoundOrInserted xs hashes (set slots k (i + 1)) i 0
     inserted-here none =
         let others = differ (s .held) (s .below) (none-equal (s .filled-with) (omega arith) h v (omega (arith, fit)) occupied none) in
         record {

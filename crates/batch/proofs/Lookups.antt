@@ -12,7 +12,7 @@ use Rattle.reader.specs.steps.Resume.{searchFrom, lookupFrom}
 use Rattle.reader.proofs.Searches.{lookup-with, from-by}
 use Rattle.batch.specs.RoundNames.{names, nth}
 use Rattle.packed.specs.Names.{beginOf}
-use Rattle.batch.specs.steps.Probing.{Decided}
+use Rattle.batch.specs.steps.Probing.{SearchDecided}
 
 -- a name is no longer than the bytes
 pub name-short : (bytes ends : List ℕ) (i : ℕ) → i < length ends → length bytes < 4294967295 → length (nth (names bytes ends) i) < 4294967295
@@ -20,7 +20,7 @@ name-short bytes ends i h short =
     let b = beginOf ends i in
     omega (arith, ap length (nth-name bytes ends i h), length-take (getD ends i 0 - b) (drop b bytes), length-drop b bytes)
 
-module _ {image : List ℕ} {h c e : ℕ} (decided : Decided image h c e) (name : List ℕ) (short : length name < 4294967295) where
+module _ {image : List ℕ} {h c e : ℕ} (decided : SearchDecided image h c e) (name : List ℕ) (short : length name < 4294967295) where
   own-lookup : lookupHash image name h ≡ lookupBy image name h
   own-lookup = lookup-with image name h false false (le-ltb (length image) 2072 (decided .head)) (lt-leb 4294967295 (length name) short)
 

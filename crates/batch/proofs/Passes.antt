@@ -8,27 +8,27 @@ use mathlib.Core.List.{List}
 use lib.ListN.{length, getD, set}
 use lib.Seq.{getD-set-other}
 use Rattle.batch.specs.steps.Duplicates.{Listed, Rising}
-use Rattle.batch.specs.steps.Probing.{Probed, StillOpen, NowDecided, Partition}
-use Rattle.batch.specs.steps.Answers.{Right, Answered}
+use Rattle.batch.specs.steps.Probing.{NextProbed, StillOpen, NowDecided, OpenOrDecided}
+use Rattle.batch.specs.steps.Answers.{HasAnswer, Answered}
 use Rattle.batch.specs.RoundNames.{names}
 use Rattle.batch.proofs.IndexLists.{listed-old, listed-more, listed-new, listed-has, each-step, rising-step, both-step}
 
 -- the z-th of the searches has read its bucket: it stays open where `on` is 1
-module _ {image keys first live done offsets : List ℕ} {c p d z : ℕ} (old : Partition image keys first live done offsets c p d z)
+module _ {image hashes first live done offsets : List ℕ} {c p d z : ℕ} (old : OpenOrDecided image hashes first live done offsets c p d z)
     (i offset on : ℕ) (own : i ≡ getD first z 0) (room : p < length live) where
   pub unread-step : ((y : ℕ) → z ≤ y → getD live y 0 ≡ getD first y 0) → (y : ℕ) → z + 1 ≤ y → getD (set live p i) y 0 ≡ getD first y 0
   unread-step unread y h = getD-set-other live p y i 0 (λ e. omega (arith, old .count)) ∙ unread y (omega arith)
 
-  pub partition-step : Probed image (getD keys i 0) c offset on → {q : ℕ} → Rising first q → z < q → d < length done → d < length offsets
-      → Partition image keys first (set live p i) (set done d i) (set offsets d offset) c (p + on) (d + (1 - on)) (z + 1)
-  partition-step probed rising inside room' room'' =
+  pub open-or-decided-step : NextProbed image (getD hashes i 0) c offset on → {q : ℕ} → Rising first q → z < q → d < length done → d < length offsets
+      → OpenOrDecided image hashes first (set live p i) (set done d i) (set offsets d offset) c (p + on) (d + (1 - on)) (z + 1)
+  open-or-decided-step probed rising inside room' room'' =
       record {
         count = omega (arith, old .count, probed .small);
         each = each;
-        is-open = each-step (StillOpen image keys first (z + 1) c) live p (p + on) i room (omega (arith, probed .small))
+        is-open = each-step (StillOpen image hashes first (z + 1) c) live p (p + on) i room (omega (arith, probed .small))
             (λ y h. record { listed = more (old .is-open y h .listed); is-open = old .is-open y h .is-open })
             (λ h. record { listed = listed; is-open = probed .is-open (omega (arith, probed .small)) });
-        decided = both-step (NowDecided image keys first (z + 1) c) done offsets d (d + (1 - on)) i offset room' room'' (omega arith)
+        decided = both-step (NowDecided image hashes first (z + 1) c) done offsets d (d + (1 - on)) i offset room' room'' (omega arith)
             (λ y h. record { listed = more (old .decided y h .listed); decided = old .decided y h .decided })
             (λ h. record { listed = listed; decided = probed .decided (omega (arith, probed .small)) });
         live-rising = rising-step live p (p + on) i room (omega (arith, probed .small)) (λ y h. less (old .is-open y h .listed)) (old .live-rising);
@@ -72,28 +72,28 @@ module _ {image keys first live done offsets : List ℕ} {c p d z : ℕ} (old : 
           ]
 
 -- after the last
-pub partition-end : {image keys first live done offsets : List ℕ} {q c p d z : ℕ} → Partition image keys first live done offsets c p d z
-    → z ≤ q → q ≤ z → Partition image keys first live done offsets c p (q - p) q
-partition-end {image} {keys} {first} {live} {done} {offsets} {q} {c} {p} {d} {z} all below above =
+pub open-or-decided-end : {image hashes first live done offsets : List ℕ} {q c p d z : ℕ} → OpenOrDecided image hashes first live done offsets c p d z
+    → z ≤ q → q ≤ z → OpenOrDecided image hashes first live done offsets c p (q - p) q
+open-or-decided-end {image} {hashes} {first} {live} {done} {offsets} {q} {c} {p} {d} {z} all below above =
     let e : d ≡ q - p = omega (arith, all .count) in
     let f : z ≡ q = omega arith in
-    subst (λ (m : ℕ). Partition image keys first live done offsets c p m q) e
-    (subst (λ (m : ℕ). Partition image keys first live done offsets c p d m) f all)
+    subst (λ (m : ℕ). OpenOrDecided image hashes first live done offsets c p m q) e
+    (subst (λ (m : ℕ). OpenOrDecided image hashes first live done offsets c p d m) f all)
 
 -- ---- from pass to pass: a name has its answer, or its search is open
 
-pub next-right : {image keys bytes ends first live done offsets answers answers' : List ℕ} {q c p d i : ℕ}
-    → Partition image keys first live done offsets c p d q → Answered image bytes ends done answers answers' d
-    → Right image (names bytes ends) answers i ⊎ Listed first q i → Right image (names bytes ends) answers' i ⊎ Listed live p i
-next-right {i = i} parted found (inl h) = inl (found .stays i h)
-next-right {image} {bytes = bytes} {ends} {first} {live} {done} {answers' = answers'} {p = p} {d} {i} parted found (inr a) =
+pub next-has-answer : {image hashes bytes ends first live done offsets answers answers' : List ℕ} {q c p d i : ℕ}
+    → OpenOrDecided image hashes first live done offsets c p d q → Answered image bytes ends done answers answers' d
+    → HasAnswer image (names bytes ends) answers i ⊎ Listed first q i → HasAnswer image (names bytes ends) answers' i ⊎ Listed live p i
+next-has-answer {i = i} parted found (inl h) = inl (found .stays i h)
+next-has-answer {image} {bytes = bytes} {ends} {first} {live} {done} {answers' = answers'} {p = p} {d} {i} parted found (inr a) =
     go (parted .each (a .place) (a .inside))
   where
-    go : Listed live p (getD first (a .place) 0) ⊎ Listed done d (getD first (a .place) 0) → Right image (names bytes ends) answers' i ⊎ Listed live p i
+    go : Listed live p (getD first (a .place) 0) ⊎ Listed done d (getD first (a .place) 0) → HasAnswer image (names bytes ends) answers' i ⊎ Listed live p i
     go (inl b) = inr (subst (λ (k : ℕ). Listed live p k) (a .is) b)
-    go (inr b) = inl (subst (Right image (names bytes ends) answers') (a .is) (listed-has (Right image (names bytes ends) answers') (found .stored) b))
+    go (inr b) = inl (subst (HasAnswer image (names bytes ends) answers') (a .is) (listed-has (HasAnswer image (names bytes ends) answers') (found .stored) b))
 
-pub last-right : {image bytes ends live answers answers' : List ℕ} {q i : ℕ} → Answered image bytes ends live answers answers' q
-    → Right image (names bytes ends) answers i ⊎ Listed live q i → Right image (names bytes ends) answers' i
-last-right {i = i} found (inl h) = found .stays i h
-last-right {image} {bytes} {ends} {answers' = answers'} found (inr a) = listed-has (Right image (names bytes ends) answers') (found .stored) a
+pub last-has-answer : {image bytes ends live answers answers' : List ℕ} {q i : ℕ} → Answered image bytes ends live answers answers' q
+    → HasAnswer image (names bytes ends) answers i ⊎ Listed live q i → HasAnswer image (names bytes ends) answers' i
+last-has-answer {i = i} found (inl h) = found .stays i h
+last-has-answer {image} {bytes} {ends} {answers' = answers'} found (inr a) = listed-has (HasAnswer image (names bytes ends) answers') (found .stored) a

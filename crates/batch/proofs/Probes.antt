@@ -16,7 +16,7 @@ use Rattle.image.proofs.Bools.{false-not-true, or-false-first, or-false-second}
 use Rattle.reader.specs.Lookup.{Probe, pass, ends, probeEntry, probeBucket, decide, unsearched, lookupHash}
 use Rattle.reader.specs.steps.Resume.{searchRest, bucketAfter, searchFrom}
 use Rattle.reader.proofs.Searches.{probe-bucket-by, rest-step, from-over, from-read, from-start}
-use Rattle.batch.specs.steps.Probing.{Open, Decided, Passes, Probed}
+use Rattle.batch.specs.steps.Probing.{SearchOpen, SearchDecided, Passes, NextProbed}
 
 -- ---- whether a bucket is passed
 
@@ -47,12 +47,12 @@ module _ (hash h offset : ℕ) where
 -- ---- where a search stands
 
 -- before the first bucket
-pub open-first : (image : List ℕ) (h : ℕ) → Open image h 0
+pub open-first : (image : List ℕ) (h : ℕ) → SearchOpen image h 0
 open-first image h name = from-start image name h
 
 -- a table of m buckets, 0 where none is read, has no more than c
 pub open-past : (image : List ℕ) (h c m : ℕ) → (m ≡ 0 → unsearched image (tableOf h) ≡ true)
-    → (0 < m → (unsearched image (tableOf h) ≡ false) × (m ≡ bucketNumber image (tableOf h))) → m ≤ c → Open image h c → Open image h (c + 1)
+    → (0 < m → (unsearched image (tableOf h) ≡ false) × (m ≡ bucketNumber image (tableOf h))) → m ≤ c → SearchOpen image h c → SearchOpen image h (c + 1)
 open-past image h c m none some l before name =
     sym (from-over image name h (c + 1) m none some (omega arith)) ∙ from-over image name h c m none some l ∙ before name
 
@@ -66,7 +66,7 @@ pub record BucketRead (image : List ℕ) (h c at n k hash offset : ℕ) : Type 0
   pub bucket : k ≡ bucketAfter h n c
   pub of-offset : offset ≡ word image (at + 8 * k + 4)
   pub of-hash : hash ≡ word image (at + 8 * k)
-  pub is-open : Open image h c
+  pub is-open : SearchOpen image h c
 
 module _ {image : List ℕ} {h c at n k hash offset : ℕ} (b : BucketRead image h c at n k hash offset) where
   abbrev o : ℕ
@@ -110,13 +110,13 @@ module _ {image : List ℕ} {h c at n k hash offset : ℕ} (b : BucketRead image
   decides name e = ap (λ (s : Probe). decide s (c + 1) (searchFrom image name h (c + 1))) e ∙ by-bucket name
 
   -- another hash: the search goes on
-  passed-on : (hash ≡ h → ⊥) → 0 < offset → Open image h (c + 1)
+  passed-on : (hash ≡ h → ⊥) → 0 < offset → SearchOpen image h (c + 1)
   passed-on differs some name =
       let other : eqb (word image place) h ≡ false = ne-eqb (word image place) h (λ e. differs (hash-here ∙ e)) in
       decides {s = pass} name (probe-bucket-by image name offset h place false false offset-here (ne-eqb offset 0 (λ z. omega arith)) other)
 
   -- an empty bucket, or one with the hash
-  decided-here : (0 < offset → hash ≡ h) → Decided image h (c + 1) offset
+  decided-here : (0 < offset → hash ≡ h) → SearchDecided image h (c + 1) offset
   decided-here same =
       record {
         head = b .head;
@@ -127,7 +127,7 @@ module _ {image : List ℕ} {h c at n k hash offset : ℕ} (b : BucketRead image
             (eq-eqb (word image place) h (sym hash-here ∙ same some)));
       }
 
-  pub probed : {on : ℕ} → Passes hash h offset on → Probed image h (c + 1) offset on
+  pub probed : {on : ℕ} → Passes hash h offset on → NextProbed image h (c + 1) offset on
   probed p =
       record {
         small = p .small;

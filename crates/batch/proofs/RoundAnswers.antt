@@ -11,7 +11,7 @@ use Rattle.reader.specs.Lookup.{lookup}
 use Rattle.batch.specs.RoundNames.{names, invalidEnds}
 use Rattle.batch.specs.Round.{answerWords, roundWords, roundBuckets, rounding, leftBy, afterRound}
 use Rattle.batch.specs.steps.Duplicates.{Deduplicated}
-use Rattle.batch.specs.steps.Answers.{Right, ListedRight, UniqueAnswered}
+use Rattle.batch.specs.steps.Answers.{HasAnswer, ListedHaveAnswers, UniqueAnswered}
 use Rattle.batch.proofs.IndexLists.{listed-has}
 use Rattle.batch.proofs.AnswerPlaces.{placed-words, length-words}
 
@@ -32,13 +32,13 @@ left image bytes ends answers o e = ap (leftBy image (names bytes ends) answers)
 -- ---- the answer list
 
 pub all-words : (image : List ℕ) (xs : List (List ℕ)) (l : List ℕ) {n : ℕ} → length xs ≡ n → length l ≡ 4 * n
-    → ((i : ℕ) → i < n → Right image xs l i) → l ≡ roundWords image xs
+    → ((i : ℕ) → i < n → HasAnswer image xs l i) → l ≡ roundWords image xs
 unfolding roundWords
 all-words image xs l size places right =
     placed-words [] (λ (x : List ℕ). answerWords (lookup image x)) (λ x. length-words (lookup image x)) xs l (omega arith) (λ i h. right i (omega arith))
 
 -- the listed names have their answers, and they are the unique ones
 pub unique-answered : {image : List ℕ} {xs : List (List ℕ)} {equals list answers : List ℕ} {n m : ℕ} → length xs ≡ n
-    → Deduplicated xs equals list n m → ListedRight image xs list answers m → UniqueAnswered image xs equals answers n
+    → Deduplicated xs equals list n m → ListedHaveAnswers image xs list answers m → UniqueAnswered image xs equals answers n
 unique-answered {image} {xs} {answers = answers} size names stored =
-    record { size = size; equal = names .equal; right = λ i h u. listed-has (Right image xs answers) stored (names .listed i h u) }
+    record { size = size; equal = names .equal; have-answers = λ i h u. listed-has (HasAnswer image xs answers) stored (names .listed i h u) }

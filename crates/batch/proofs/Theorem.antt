@@ -17,7 +17,7 @@ use Rattle.reader.specs.Naming.{naming}
 use Rattle.batch.specs.RoundNames.{namesFrom, names, invalidEnds, packedBytes, endsFrom, nth}
 use Rattle.batch.specs.Round.{answerWords, roundWords, roundBuckets, rounding, afterRound}
 use Rattle.batch.specs.NameRound.{placeWords, nameWords, nameRefusal, afterNames}
-use Rattle.batch.specs.theorems.Theorem.{placeAt, Accepted, RoundHolds}
+use Rattle.batch.specs.theorems.Theorem.{placeAt, RoundAccepted, RoundHolds}
 use Rattle.packed.proofs.NameEnds.{length-names}
 use Rattle.batch.proofs.AnswerPlaces.{length-words}
 use Rattle.batch.proofs.RoundAnswers.{left}
@@ -56,7 +56,7 @@ given-count true b v n e = let z : _≡_ {A = ℕ} 0 1 = cc in absurd (omega ari
 given-count false true v n e = let z : _≡_ {A = ℕ} 0 1 = cc in absurd (omega arith)
 given-count false false v n e = cc
 
-module _ (image bytes ends answers : List ℕ) (a : Accepted image bytes ends answers) where
+module _ (image bytes ends answers : List ℕ) (a : RoundAccepted image bytes ends answers) where
   count-is : a .count ≡ roundBuckets image (names bytes ends)
   unfolding rounding
   count-is =
@@ -88,7 +88,7 @@ part-at d f four (x ∷ xs) rest (suc i) h =
 abbrev words-of : List ℕ → List ℕ → List ℕ
 words-of image x = answerWords (lookup image x)
 
-single : (image bytes ends answers : List ℕ) → Accepted image bytes ends answers → (i : ℕ) → i < length ends
+single : (image bytes ends answers : List ℕ) → RoundAccepted image bytes ends answers → (i : ℕ) → i < length ends
     → placeAt (afterRound image bytes ends answers) i ≡ answerWords (lookup image (nth (names bytes ends) i))
 unfolding roundWords
 single image bytes ends answers a i h =
@@ -96,7 +96,7 @@ single image bytes ends answers a i h =
     ∙ part-at [] (words-of image) (λ x. length-words (lookup image x)) (names bytes ends) (drop (4 * length (names bytes ends)) answers) i
     (omega (arith, length-names bytes ends))
 
-past-kept : (image bytes ends answers : List ℕ) → Accepted image bytes ends answers
+past-kept : (image bytes ends answers : List ℕ) → RoundAccepted image bytes ends answers
     → drop (4 * length ends) (afterRound image bytes ends answers) ≡ drop (4 * length ends) answers
 unfolding roundWords
 past-kept image bytes ends answers a =

@@ -47,7 +47,7 @@ module _ {image : List ℕ} {xs : List (List ℕ)} {equals answers : List ℕ} {
   sum-step i s b h own none all =
       elim (ℕ-discrete (getD equals i 0) 0) [
         | yes z ↦
-            (let read : b ≡ reads (lookup image (nth xs i)) = own z ∙ u .right i h z 2 (omega arith) ∙ third-word (lookup image (nth xs i)) in
+            (let read : b ≡ reads (lookup image (nth xs i)) = own z ∙ u .have-answers i h z 2 (omega arith) ∙ third-word (lookup image (nth xs i)) in
             omega (arith, more i h false (not-seen-before (u .equal i h) z)))
         | no z ↦ omega (arith, none (omega arith), more i h true (seen-before (u .equal i h) (omega (arith, u .size)) (omega arith)))
       ]

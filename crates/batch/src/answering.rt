@@ -11,7 +11,7 @@ ghost use Rattle.batch.specs.steps.Answers.{Answered, EqualsPre, SumsUni
 use super::deduplicate::if_zero;
 use super::probing::pass;
 use image::HEAD_SIZE;
-use packed::name_of;
+use packed::nth_name;
 use reader::Probe;
 use reader::ToId;
 use reader::lookup::probe_entry;
@@ -110,7 +110,7 @@ fn find_decided(
     image: &[u8],
     bytes: &[u8],
     ends: &[u64],
-    keys: &[u32],
+    hashes: &[u32],
     list: &[u16],
     m: usize,
     offsets: &[u32],
@@ -118,7 +118,7 @@ fn find_decided(
     answers: &mut [u32],
 )
     requires { ⌜
-        DecidedNames (now image) (now bytes) (now ends) (now keys) (now list) (now offsets) (now answers) m c
+        DecidedNames (now image) (now bytes) (now ends) (now hashes) (now list) (now offsets) (now answers) m c
         ⌝ }
     ensures { λ _. ⌜
         Answered (now (image .entry)) (now (bytes .entry)) (now (ends .entry)) (now (list .entry))
@@ -130,8 +130,8 @@ fn find_decided(
         let i = list[x] as usize;
         put_decided(
             image,
-            name_of(bytes, ends, i),
-            keys[i],
+            nth_name(bytes, ends, i),
+            hashes[i],
             offsets[x],
             c,
             &mut *answers,
@@ -146,13 +146,13 @@ fn find_open(
     image: &[u8],
     bytes: &[u8],
     ends: &[u64],
-    keys: &[u32],
+    hashes: &[u32],
     list: &[u16],
     m: usize,
     c: u32,
     answers: &mut [u32],
 )
-    requires { ⌜ OpenNames (now image) (now bytes) (now ends) (now keys) (now list) (now answers) m c ⌝ }
+    requires { ⌜ OpenNames (now image) (now bytes) (now ends) (now hashes) (now list) (now answers) m c ⌝ }
     ensures { λ _. ⌜
         Answered (now (image .entry)) (now (bytes .entry)) (now (ends .entry)) (now (list .entry))
         (now (answers .entry)) (now (answers .exit)) m
@@ -161,7 +161,7 @@ fn find_open(
     let mut x: usize = 0;
     while x < m {
         let i = list[x] as usize;
-        let answer = search_from(image, name_of(bytes, ends, i), keys[i], c);
+        let answer = search_from(image, nth_name(bytes, ends, i), hashes[i], c);
         put_answer(&mut *answers, i, answer);
         x += 1;
     }
@@ -183,12 +183,12 @@ pub(crate) fn find_all(
     image: &[u8],
     bytes: &[u8],
     ends: &[u64],
-    keys: &[u32],
+    hashes: &[u32],
     live: &mut [u16],
     m: usize,
     answers: &mut [u32],
 )
-    requires { ⌜ ListedNames (now bytes) (now ends) (now keys) (now live) (now answers) m ⌝ }
+    requires { ⌜ ListedNames (now bytes) (now ends) (now hashes) (now live) (now answers) m ⌝ }
     ensures { λ _. ⌜
         Answered (now (image .entry)) (now (bytes .entry)) (now (ends .entry)) (now (live .entry))
         (now (answers .entry)) (now (answers .exit)) m
@@ -200,13 +200,13 @@ pub(crate) fn find_all(
     let mut q = m;
     let mut c: u32 = 0;
     while c < passes {
-        let open = pass(image, keys, c, q, &mut *live, &mut done, &mut offsets);
+        let open = pass(image, hashes, c, q, &mut *live, &mut done, &mut offsets);
         c += 1;
         find_decided(
             image,
             bytes,
             ends,
-            keys,
+            hashes,
             &done,
             q - open,
             &offsets,
@@ -215,7 +215,7 @@ pub(crate) fn find_all(
         );
         q = open;
     }
-    find_open(image, bytes, ends, keys, &*live, q, c, &mut *answers);
+    find_open(image, bytes, ends, hashes, &*live, q, c, &mut *answers);
 }
 
 // The buckets read over the unique ones of n names, from the answers in their places. Their order does not follow the

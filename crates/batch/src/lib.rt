@@ -9,7 +9,7 @@ use answering::copy_duplicates;
 use answering::find_all;
 use answering::sum_buckets;
 use deduplicate::deduplicate;
-use deduplicate::hash_all;
+use deduplicate::hash_names;
 use packed::invalid_ends;
 
 mod deduplicate; // deduplicate.rt: equal names, and the unique ones
@@ -33,12 +33,12 @@ fn answer_all(image: &[u8], bytes: &[u8], ends: &[u64], answers: &mut [u32]) -> 
         ⌝ }
 {
     let n = ends.len();
-    let mut keys: [u32; 512] = [0; 512];
-    hash_all(bytes, ends, &mut keys);
+    let mut hashes: [u32; 512] = [0; 512];
+    hash_names(bytes, ends, &mut hashes);
     let mut equals: [u16; 512] = [0; 512];
-    let mut list: [u16; 512] = [0; 512];
-    let m = deduplicate(bytes, ends, &keys, &mut equals, &mut list);
-    find_all(image, bytes, ends, &keys, &mut list, m, &mut *answers);
+    let mut unique: [u16; 512] = [0; 512];
+    let m = deduplicate(bytes, ends, &hashes, &mut equals, &mut unique);
+    find_all(image, bytes, ends, &hashes, &mut unique, m, &mut *answers);
     let sum = sum_buckets(&equals, n, &*answers);
     if m < n {
         copy_duplicates(&equals, n, &mut *answers);

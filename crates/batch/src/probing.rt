@@ -2,7 +2,7 @@
 // has no branch that depends on the names, so that none is mispredicted and the reads of many names are under way at
 // once.
 ghost use Prim.Native.Nat.{_+_, _-_};
-ghost use Rattle.batch.specs.steps.Probing.{Passes, ProbePre, Probed, PassPre, Partition};
+ghost use Rattle.batch.specs.steps.Probing.{Passes, ProbeNextPre, NextProbed, PassPre, OpenOrDecided};
 use jhash::word::word;
 use reader::lookup::bucket_after;
 use reader::lookup::find_table;
@@ -22,9 +22,9 @@ fn passes(hash: u32, h: u32, offset: u32) -> usize
 
 // The bucket that the search for the hash h reads after c others. Where its table has no more, none is read and the
 // search stays open.
-fn probe(image: &[u8], h: u32, c: u32) -> BucketProbe
-    requires { ⌜ ProbePre (now image) h c ⌝ }
-    ensures { λ r. ⌜ Probed (now (image .entry)) h (c + 1) (r .offset) (r .on) ⌝ }
+fn probe_next(image: &[u8], h: u32, c: u32) -> BucketProbe
+    requires { ⌜ ProbeNextPre (now image) h c ⌝ }
+    ensures { λ r. ⌜ NextProbed (now (image .entry)) h (c + 1) (r .offset) (r .on) ⌝ }
 {
     let table = find_table(image, h);
     let n = table.n;
@@ -44,16 +44,16 @@ fn probe(image: &[u8], h: u32, c: u32) -> BucketProbe
 // the others are listed in `done`, with the offset in the bucket. Gives how many stay open.
 pub(crate) fn pass(
     image: &[u8],
-    keys: &[u32],
+    hashes: &[u32],
     c: u32,
     q: usize,
     live: &mut [u16],
     done: &mut [u16],
     offsets: &mut [u32],
 ) -> usize
-    requires { ⌜ PassPre (now image) (now keys) (now live) (now done) (now offsets) c q ⌝ }
+    requires { ⌜ PassPre (now image) (now hashes) (now live) (now done) (now offsets) c q ⌝ }
     ensures { λ r. ⌜
-        Partition (now (image .entry)) (now (keys .entry)) (now (live .entry)) (now (live .exit)) (now (done .exit))
+        OpenOrDecided (now (image .entry)) (now (hashes .entry)) (now (live .entry)) (now (live .exit)) (now (done .exit))
         (now (offsets .exit)) (c + 1) r (q - r) q
         ⌝ }
 {
@@ -62,7 +62,7 @@ pub(crate) fn pass(
     let mut z: usize = 0;
     while z < q {
         let i = live[z];
-        let b = probe(image, keys[i as usize], c);
+        let b = probe_next(image, hashes[i as usize], c);
         live[p] = i;
         done[d] = i;
         offsets[d] = b.offset;

@@ -20,7 +20,7 @@ use Rattle.packed.specs.Names.{names, nth}
 use Rattle.packed.proofs.NameEnds.{length-names}
 use Rattle.writer.specs.declared.Repeats.{Repeats}
 use Rattle.writer.specs.State.{State, fresh, refusesRepeats}
-use Rattle.writer.specs.Put.{putRefusal, writerAfter, appended, afterPut, repeated, entryOf}
+use Rattle.writer.specs.Put.{putRefusal, writerAfterEntry, appended, afterPut, repeated, entryOf}
 use Rattle.writer.specs.Close.{recorded, closeRefusal, closedSize, afterClose}
 use Rattle.serialize.specs.steps.Preconditions.{FirstHashes}
 use Rattle.lists.specs.Calls.{Call, put, after, answers, accepted, acceptedBy, WordIds}
@@ -45,7 +45,7 @@ use Rattle.build.proofs.AllPut.{word-ids}
 -- ---- one put
 
 entries-most : (s : State) (e : Entry) → afterPut s e .writer .entries ≤ s .writer .entries + 1
-unfolding afterPut appended writerAfter
+unfolding afterPut appended writerAfterEntry
 entries-most s e = go (eqb (putRefusal s e) 0)
   where
     go : (b : Bool) → cond b (appended s e) s .writer .entries ≤ s .writer .entries + 1
@@ -53,7 +53,7 @@ entries-most s e = go (eqb (putRefusal s e) 0)
     go false = omega arith
 
 choice-kept : (s : State) (e : Entry) → afterPut s e .writer .repeats ≡ s .writer .repeats
-unfolding afterPut appended writerAfter
+unfolding afterPut appended writerAfterEntry
 choice-kept s e = go (eqb (putRefusal s e) 0)
   where
     go : (b : Bool) → cond b (appended s e) s .writer .repeats ≡ s .writer .repeats

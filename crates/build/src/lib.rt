@@ -14,7 +14,7 @@ use hashes::save_hashes;
 use image::HEAD_SIZE;
 use image::HEAD_SIZE_64;
 use image::Mode;
-use image::scratch::clear;
+use image::scratch::clear_words;
 use packed::invalid_ends;
 use singly::index_words;
 use singly::put_list;
@@ -89,7 +89,7 @@ fn build_singly(
 {
     let words = index_words(repeats, ends.len(), scratch.len());
     let saved = save_hashes(known.hashed, &*refusals, ends.len(), words, &mut *scratch);
-    clear(&mut *scratch, words);
+    clear_words(&mut *scratch, words);
     let mut counts = [0; 256];
     let w = CQDBWriter {
         mode,
@@ -167,7 +167,7 @@ fn build_bulk(
     }
     let tables = &scratch[..4 * n];
     let size = write_list(mode, &mut *buf, bytes, ends, ids, &counts, tables);
-    clear(&mut *refusals, n);
+    clear_words(&mut *refusals, n);
     Tried { size, known }
 }
 

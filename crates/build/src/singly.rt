@@ -14,9 +14,9 @@ use super::Known;
 use index::NameFacts;
 use index::put_hashed;
 use index::put_new;
-use packed::name_of;
+use packed::nth_name;
 use writer::CQDBWriter;
-use writer::PutAnswer;
+use writer::RecordAnswer;
 use writer::Repeats;
 
 // How many words of the scratch memory are the index of n names: two slots of two words a name, or what there is. 0
@@ -46,7 +46,7 @@ fn hash_of(hashed: bool, h: u32, name: &[u8]) -> u32
     if hashed {
         return h;
     }
-    jhash::key(name)
+    jhash::hash_or_zero(name)
 }
 
 // Is a name of hash h known to be no duplicate? With repeats on, and if its table is one of the first `distinct`.
@@ -69,7 +69,7 @@ fn put_name(
     id: u32,
     known: Known,
     h: u32,
-) -> PutAnswer
+) -> RecordAnswer
     requires { ⌜ PutPre (stateWith w (now counts) (now buf)) (now slots) (now name) known h ⌝ }
     ensures { λ r. ⌜
         PutPost (stateWith w (now (counts .entry)) (now (buf .entry))) (now (slots .entry))
@@ -116,7 +116,7 @@ pub(crate) fn put_list(
     let mut after = w;
     let mut i = 0;
     while i < ends.len() {
-        let name = name_of(bytes, ends, i);
+        let name = nth_name(bytes, ends, i);
         let h = refusals[i];
         let answer = put_name(
             after,

@@ -61,7 +61,7 @@ pub(crate) fn write_list(
     let back = serialize::size::back_in(mode, back_of(&ids[..n]));
     let at = end + 16 * (n as u64);
     let size = at + 4 * back;
-    serialize::head::clear(&mut *buf, at as usize, size as usize);
+    serialize::head::clear_bytes(&mut *buf, at as usize, size as usize);
     store_list(mode, at as usize, bytes, ends, ids, &mut *buf);
     serialize::write_image_with(mode, end, n as u32, back as u32, counts, words, &mut *buf);
     size as u32

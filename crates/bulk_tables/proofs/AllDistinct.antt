@@ -10,7 +10,7 @@ use Rattle.image.specs.Bytes.{same}
 use Rattle.image.specs.Tables.{tableOf}
 use Rattle.image.proofs.Equal.{same-true}
 use Rattle.packed.specs.Names.{names, nth}
-use Rattle.jhash.specs.NameHash.{key}
+use Rattle.jhash.specs.NameHash.{hashOrZero}
 use Rattle.bulk_tables.specs.steps.Partition.{at, tableIn, tableOfName, countOfTable, firstOfTable, sortedPlace}
 use Rattle.bulk_tables.specs.steps.BulkTables.{pairIn, NoDuplicates}
 use Rattle.bulk_tables.specs.steps.Contracts.{BuildTablesPre, PairsAre, TablesBuiltTo}
@@ -33,7 +33,7 @@ module _ {bytes ends hashes counts scratch : List ℕ} (pre : BuildTablesPre byt
   equal : (i j : ℕ) → j < i → i < n → T i < r → nth xs j ≡ nth xs i → same (nth xs j) (nth xs i) ≡ false
   equal i j h k below e =
       let l : j < n = omega arith in
-      let hash : at hashes j ≡ at hashes i = pre .hashed .hashes-are j l ∙ ap key e ∙ sym (pre .hashed .hashes-are i k) in
+      let hash : at hashes j ≡ at hashes i = pre .hashed .hashes-are j l ∙ ap hashOrZero e ∙ sym (pre .hashed .hashes-are i k) in
       let t : T j ≡ T i = ap tableOf hash in
       let its-name : (m : ℕ) → m < n → _ ≡ nth xs m = λ m b. name-at bytes ends (pre .ends-rise) m _ b (sym (pairs m b .1)) in
       ap₂ same (sym (its-name j l)) (sym (its-name i k))
@@ -55,4 +55,4 @@ module _ {bytes ends hashes counts scratch : List ℕ} (pre : BuildTablesPre byt
 pub all-distinct : {distinct : Bool} {bytes ends counts scratch : List ℕ} {r : ℕ} → TablesBuiltTo distinct bytes ends counts scratch r → r ≡ 256
     → distinct ≡ true → (i j : ℕ) → j < i → i < length ends → same (nth (names bytes ends) j) (nth (names bytes ends) i) ≡ false
 all-distinct {bytes = bytes} {ends = ends} built whole d i j h k =
-    built .distinct-below d i j h k (omega (arith, whole, mod-lt (key (nth (names bytes ends) i)) {m = 256} (omega arith)))
+    built .distinct-below d i j h k (omega (arith, whole, mod-lt (hashOrZero (nth (names bytes ends) i)) {m = 256} (omega arith)))

@@ -14,7 +14,7 @@ use Rattle.image.specs.Image.{Entry, Placed, headSize, placed, inTable, ofTable
 use Rattle.image.proofs.Lists.{filter-yes, filter-no}
 use Rattle.image.proofs.Sizes.{placed-append, ofTable-append, count-nil}
 use Rattle.packed.specs.Names.{names, nth}
-use Rattle.jhash.proofs.Outcomes.{key-short}
+use Rattle.jhash.proofs.Outcomes.{hash-or-zero-short}
 use Rattle.bulk_tables.specs.steps.Partition.{at, tableIn, countOfTable, prefixSum, firstOfTable, sortedPlace}
 use Rattle.bulk_tables.specs.steps.BulkTables.{entryOffset, pairIn, pairsIn}
 use Rattle.bulk_tables.specs.steps.Contracts.{BuildTablesPre, PairsAre}
@@ -36,7 +36,7 @@ module _ {bytes ends hashes counts scratch : List ℕ} (pre : BuildTablesPre byt
   its-hash : (i : ℕ) → i < n → at hashes i ≡ hashOf (ith i .entry .name)
   its-hash i h =
       pre .hashed .hashes-are i h
-      ∙ key-short (nth (names bytes ends) i) (names-short bytes ends (pre .ends-rise) (pre .last-offset-fits) i h)
+      ∙ hash-or-zero-short (nth (names bytes ends) i) (names-short bytes ends (pre .ends-rise) (pre .last-offset-fits) i h)
       ∙ ap hashOf (sym (its-name bytes ends (pre .ends-rise) es named i))
 
   -- the first i entries

@@ -7,7 +7,7 @@ ghost use Rattle.bulk_tables.specs.steps.BulkTables.{entryOffset, namesE
 ghost use Rattle.bulk_tables.specs.steps.Contracts.{EntryOffsets, EntryIndex, PackedNames};
 use image::HEAD_SIZE_64;
 use image::equality::same;
-use packed::name_of;
+use packed::nth_name;
 
 // The offset of the i-th entry.
 fn entry_offset(ends: &[u64], i: usize) -> u64
@@ -52,5 +52,5 @@ pub(super) fn distinct_names(bytes: &[u8], ends: &[u64], a: u32, b: u32) -> bool
     if entry_offset(ends, j) != b as u64 {
         return false;
     }
-    !same(name_of(bytes, ends, i), name_of(bytes, ends, j))
+    !same(nth_name(bytes, ends, i), nth_name(bytes, ends, j))
 }

@@ -2,8 +2,8 @@
 ghost use Rattle.bulk_tables.specs.steps.Contracts.{HashAllPre, AllHashed};
 use image::entries::raise;
 use image::zero::has_zero;
-use jhash::key;
-use packed::name_of;
+use jhash::hash_or_zero;
+use packed::nth_name;
 
 // Stores the hash of each name and counts the names of each table, from counts that are 0. Returns whether no name has
 // a zero byte.
@@ -18,8 +18,8 @@ pub fn hash_all(bytes: &[u8], ends: &[u64], hashes: &mut [u32], counts: &mut [u3
     let mut clean = true;
     let mut i = 0;
     while i < n {
-        let name = name_of(bytes, ends, i);
-        let h = key(name);
+        let name = nth_name(bytes, ends, i);
+        let h = hash_or_zero(name);
         hashes[i] = h;
         raise(&mut *counts, h);
         if has_zero(name) {

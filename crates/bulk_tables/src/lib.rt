@@ -2,7 +2,7 @@
 // `build` for their check time: 20 s beside 32 s, where each must-fail edit of `build` would prove both.
 ghost use Rattle.bulk_tables.specs.steps.Contracts.{BuildTablesPre, TablesBuiltTo};
 use fill::fill_all;
-use image::scratch::clear;
+use image::scratch::clear_words;
 use layout::pairs_at;
 use partition::partition_pairs;
 use partition::prefix_sums;
@@ -32,6 +32,6 @@ pub fn build_tables(
     let mut places = [0; 256];
     prefix_sums(counts, &mut places);
     partition_pairs(ends, hashes, &mut *scratch, &mut places);
-    clear(&mut *scratch, pairs_at(ends.len()));
+    clear_words(&mut *scratch, pairs_at(ends.len()));
     fill_all(distinct, bytes, ends, &mut *scratch, &places)
 }

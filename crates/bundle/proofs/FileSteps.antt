@@ -11,7 +11,7 @@ use lib.ListN.{length}
 use Rattle.jhash.specs.Outcome.{Outcome, refusal}
 use Rattle.image.proofs.Bools.{or-false-first, or-false-second}
 use Rattle.bundle.specs.FileWalk.{sizeAt, breaks, fileStep}
-use Rattle.bundle.specs.steps.Contracts.{SizeRead}
+use Rattle.bundle.specs.steps.Contracts.{ImageSizeRead}
 
 -- an image begins at the place: its size word is there, is at least 2,072, and does not lead past the file's end
 pub record Begins (file : List ℕ) (at : ℕ) : Type 0 where
@@ -74,10 +74,10 @@ module _ (file : List ℕ) (at : ℕ) where
         rw (ne-eqb at (length file) n, begins-unbroken b)
 
   -- the size of the image that begins there, 0 where the walk breaks off: as the code reads it, w is the size word
-  pub size-short : at ≤ length file → length file - at < 8 → SizeRead file at 0
+  pub size-short : at ≤ length file → length file - at < 8 → ImageSizeRead file at 0
   size-short h k = record { size = simp (lt-ltb (length file) (at + 8) (omega arith)); inside = omega arith }
 
-  pub size-small : (w : ℕ) → at ≤ length file → 8 ≤ length file - at → w ≡ sizeAt file at → w < 2072 → SizeRead file at 0
+  pub size-small : (w : ℕ) → at ≤ length file → 8 ≤ length file - at → w ≡ sizeAt file at → w < 2072 → ImageSizeRead file at 0
   size-small w h k e l =
       record {
         size = simp (le-ltb (length file) (at + 8) (omega arith), lt-ltb (sizeAt file at) 2072 (omega arith));
@@ -85,7 +85,7 @@ module _ (file : List ℕ) (at : ℕ) where
       }
 
   pub size-past : (w : ℕ) → at ≤ length file → 8 ≤ length file - at → w ≡ sizeAt file at → 2072 ≤ w → length file - at < w
-      → SizeRead file at 0
+      → ImageSizeRead file at 0
   size-past w h k e l p =
       let whole = le-ltb (length file) (at + 8) (omega arith) in
       let large = le-ltb (sizeAt file at) 2072 (omega arith) in
@@ -93,7 +93,7 @@ module _ (file : List ℕ) (at : ℕ) where
       record { size = simp (whole, large, past); inside = omega arith }
 
   pub size-fine : (w : ℕ) → at ≤ length file → 8 ≤ length file - at → w ≡ sizeAt file at → 2072 ≤ w → w ≤ length file - at
-      → SizeRead file at w
+      → ImageSizeRead file at w
   size-fine w h k e l p =
       let begins : Begins file at = record { head = omega arith; large = omega arith; inside = omega arith } in
       record {
@@ -102,14 +102,14 @@ module _ (file : List ℕ) (at : ℕ) where
       }
 
   -- what that number says
-  pub none-there : (w : ℕ) → SizeRead file at w → w ≡ 0 → breaks file at ≡ true
+  pub none-there : (w : ℕ) → ImageSizeRead file at w → w ≡ 0 → breaks file at ≡ true
   none-there w r z = go (breaks file at) refl (sym z ∙ r .size)
     where
       go : (b : Bool) → breaks file at ≡ b → 0 ≡ cond b 0 (sizeAt file at) → b ≡ true
       go true p q = refl
       go false p q = let l = unbroken p .large in absurd (omega arith)
 
-  pub some-there : (w : ℕ) → SizeRead file at w → (w ≡ 0 → ⊥) → ImageThere file at w
+  pub some-there : (w : ℕ) → ImageSizeRead file at w → (w ≡ 0 → ⊥) → ImageThere file at w
   some-there w r n = go (breaks file at) refl (r .size)
     where
       go : (b : Bool) → breaks file at ≡ b → w ≡ cond b 0 (sizeAt file at) → ImageThere file at w

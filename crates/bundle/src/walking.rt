@@ -6,7 +6,7 @@ ghost use Rattle.bundle.specs.FileWalk.{placeOfImage, counting};
 ghost use Rattle.reader.specs.Slices.{slice};
 ghost use Rattle.bundle.specs.Opening.{returnedPart, openingAt};
 ghost use Rattle.bundle.specs.Cases.{placedOf, openedAtOf, countedOf};
-ghost use Rattle.bundle.specs.steps.Contracts.{SizeRead};
+ghost use Rattle.bundle.specs.steps.Contracts.{ImageSizeRead};
 use super::Counted;
 use super::OpenedAt;
 use super::Placed;
@@ -17,7 +17,7 @@ use reader::Opened;
 // The size of the image that begins at `at`; 0 where the walk breaks off there.
 fn size_at(file: &[u8], at: usize) -> usize
     requires { ⌜ at ≤ length (now file) ⌝ }
-    ensures { λ r. ⌜ SizeRead (now (file .entry)) at r ⌝ }
+    ensures { λ r. ⌜ ImageSizeRead (now (file .entry)) at r ⌝ }
 {
     if file.len() - at < 8 {
         return 0;

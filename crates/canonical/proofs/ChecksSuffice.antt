@@ -166,8 +166,8 @@ module _ (img : List ℕ) (n : ℕ) (bytes : AllBytes img) (c : Checked img n) w
   unfolding ps es
   checks = entries-facts img (twoWay img) (endIn img n + 16 * n) ps (c .entries)
 
-  name-of : (p : Placed) → Ok p → nameOk img (p .at) (p .entry .name) ≡ true
-  name-of p r = and-second (notBefore (twoWay img) (p .at) (word img (endIn img n + 16 * n + 4 * p .entry .id))) (nameOk img (p .at) (p .entry .name)) r
+  name-ok : (p : Placed) → Ok p → nameOk img (p .at) (p .entry .name) ≡ true
+  name-ok p r = and-second (notBefore (twoWay img) (p .at) (word img (endIn img n + 16 * n + 4 * p .entry .id))) (nameOk img (p .at) (p .entry .name)) r
 
   abbrev Stands : ℕ → List Bucket → Bucket → Type 0
   Stands k table b = getD table (putBucket k table b) empty ≡ b
@@ -180,7 +180,7 @@ module _ (img : List ℕ) (n : ℕ) (bytes : AllBytes img) (c : Checked img n) w
       one : (p : Placed) → Ok p × (tableOf (hashOf (p .entry .name)) ≡ t)
           → Stands (2 * count t ps) (bucketsInPlace img (pos t) (2 * count t ps)) (bucketOf p)
       one p (r, e) =
-          let s = and-second (not (hasZero (p .entry .name))) (inItsBucket img (hashOf (p .entry .name)) (p .at)) (name-of p r) in
+          let s = and-second (not (hasZero (p .entry .name))) (inItsBucket img (hashOf (p .entry .name)) (p .at)) (name-ok p r) in
           let d = rw e at (bucket-facts img (bucketOf p) s) in
           rw (table-read t h, numbers t h) at d
 
@@ -222,7 +222,7 @@ module _ (img : List ℕ) (n : ℕ) (bytes : AllBytes img) (c : Checked img n) w
     puts = es;
     each =
         storable headSize es
-        (all-map (λ p r. and-first (not (hasZero (p .entry .name))) (inItsBucket img (hashOf (p .entry .name)) (p .at)) (name-of p r)) ps checks)
+        (all-map (λ p r. and-first (not (hasZero (p .entry .name))) (inItsBucket img (hashOf (p .entry .name)) (p .at)) (name-ok p r)) ps checks)
         (ids-words n (areaIn img n) (bytes-take (endIn img n - headSize) (drop headSize img) (bytes-drop headSize img bytes)));
     fits = omega (arith, total, c .size, word-below img 4 bytes);
     is = in-place-image img mode es bytes in-place;

@@ -19,17 +19,17 @@ use Rattle.lists.specs.Calls.{acceptedFrom, accepted, putDue, putsSize, sizeOf,
 use Rattle.lists.proofs.CallLists.{list-accepted}
 use Rattle.canonical.specs.Canonical.{canonical}
 use Rattle.jhash.specs.Word.{AllBytes}
-use Rattle.canonical.specs.examples.Rows.{Row, Holds, canonicalRows, HeadOnly, headOnlyRows}
+use Rattle.canonical.specs.examples.Rows.{CanonicalRow, Holds, canonicalRows, HeadOnly, headOnlyRows}
 use Rattle.canonical.specs.steps.Checks.{endIn}
 use Rattle.canonical.proofs.ReadBack.{canonical-yes, canonical-only}
 use Rattle.canonical.proofs.ChecksHold.{canonical-checked}
 use Rattle.canonical.proofs.Theorem.{canonical-holds}
 
 -- what is computed of a row: there is room for a head, ids are words, and these are the accepted puts
-abbrev Computed : Row → Type 0
+abbrev Computed : CanonicalRow → Type 0
 Computed r = (headSize ≤ r .bytes) × WordIds (r .mode) (r .calls) × (accepted (r .mode) (r .repeats) (r .bytes) (r .calls) ≡ r .puts)
 
-holds-in : (r : Row) → Computed r → Holds r
+holds-in : (r : CanonicalRow) → Computed r → Holds r
 holds-in r c buffer long =
     let room : headSize ≤ length buffer = omega (arith, c .0) in
     let of = canonical-holds .of-list (r .mode) (r .repeats) buffer (r .calls) room (c .1) in (

@@ -10,11 +10,11 @@ use lib.Dec.{eqb, ltb}
 use borrow.Author.Tests.{lt-ltb, ltb-false, eqb-true, eq-eqb, ne-eqb}
 use Rattle.jhash.specs.Outcome.{Outcome, value, refusal}
 use Rattle.image.specs.Bytes.{word, range, all}
-use Rattle.image.specs.Head.{tableAt, bucketNumber, backOffsetAt, tableLeaves, backLeaves}
+use Rattle.image.specs.Head.{tableAt, bucketNumber, backOffsetAt, tablePastEnd, backPastEnd}
 use Rattle.image.specs.Tables.{Bucket, empty, atOf}
 use Rattle.image.proofs.AllOfRange.{all-each, all-true}
 use Rattle.image.proofs.Bools.{and-first, and-second, and-both, or-false-first, or-false-second}
-use Rattle.reader.specs.Open.{opening, hasLetters, someLeaves, numFrom}
+use Rattle.reader.specs.Open.{opening, hasLetters, somePastEnd, numFrom}
 use Rattle.canonical.specs.steps.HiddenBuckets.{countAtLeast, bucketOffsets}
 use Rattle.canonical.specs.steps.InPlace.{bucketAt, bucketsInPlace}
 use Rattle.canonical.specs.steps.Checks.{clean, usedIn, tableOk, rowCount, rowsOk, countsMatch, TablesInside}
@@ -26,16 +26,16 @@ pub record Opens (img : List ℕ) : Type 0 where
   pub long : 2072 ≤ length img
   pub letters : hasLetters img ≡ true
   pub order : word img 12 ≡ 0x62445371
-  pub tables : someLeaves img 0 256 ≡ false
+  pub tables : somePastEnd img 0 256 ≡ false
 
 pub opens : (img : List ℕ) (n : ℕ) → opening img ≡ value n → Opens img
 unfolding opening
 opens img n e =
     go (ltb (length img) 2072) refl (hasLetters img) refl (eqb (word img 12) 0x62445371) refl
-    (someLeaves img 0 256) refl (cond (ltb 0 (backOffsetAt img) && backLeaves img) (refusal 8) (value (numFrom img 0 256 % 2 ^ 32))) e
+    (somePastEnd img 0 256) refl (cond (ltb 0 (backOffsetAt img) && backPastEnd img) (refusal 8) (value (numFrom img 0 256 % 2 ^ 32))) e
   where
     go : (a : Bool) → ltb (length img) 2072 ≡ a → (b : Bool) → hasLetters img ≡ b → (c : Bool) → eqb (word img 12) 0x62445371 ≡ c
-        → (d : Bool) → someLeaves img 0 256 ≡ d → (rest : Outcome ℕ)
+        → (d : Bool) → somePastEnd img 0 256 ≡ d → (rest : Outcome ℕ)
         → cond a (refusal 1) (cond (not b) (refusal 5) (cond (not c) (refusal 6) (cond d (refusal 7) rest))) ≡ value n → Opens img
     go true p b q c r d s rest e = let z : _≡_ {A = ℕ} 0 1 = cc in absurd (omega arith)
     go false p false q c r d s rest e = let z : _≡_ {A = ℕ} 0 1 = cc in absurd (omega arith)
@@ -44,23 +44,23 @@ opens img n e =
     go false p true q true r false s rest e =
         record { long = ltb-false (length img) 2072 p; letters = q; order = eqb-true (word img 12) 0x62445371 r; tables = s }
 
-none-leaves : (img : List ℕ) (t m k : ℕ) → someLeaves img t m ≡ false → t ≤ k → k < t + m → 0 < tableAt img k
+none-past-end : (img : List ℕ) (t m k : ℕ) → somePastEnd img t m ≡ false → t ≤ k → k < t + m → 0 < tableAt img k
     → tableAt img k + 8 * bucketNumber img k ≤ length img
-unfolding someLeaves
-none-leaves img t zero k e l h some = absurd (omega arith)
-none-leaves img t (suc m) k e l h some = elim (ℕ-discrete t k) [
+unfolding somePastEnd
+none-past-end img t zero k e l h some = absurd (omega arith)
+none-past-end img t (suc m) k e l h some = elim (ℕ-discrete t k) [
   | yes y ↦ go (rw y at e)
-  | no d ↦ none-leaves img (suc t) m k (or-false-second (ltb 0 (tableAt img t) && tableLeaves img t) (someLeaves img (suc t) m) e) (omega arith) (omega arith) some
+  | no d ↦ none-past-end img (suc t) m k (or-false-second (ltb 0 (tableAt img t) && tablePastEnd img t) (somePastEnd img (suc t) m) e) (omega arith) (omega arith) some
 ]
   where
-    go : ((ltb 0 (tableAt img k) && tableLeaves img k) || someLeaves img (suc k) m) ≡ false → tableAt img k + 8 * bucketNumber img k ≤ length img
+    go : ((ltb 0 (tableAt img k) && tablePastEnd img k) || somePastEnd img (suc k) m) ≡ false → tableAt img k + 8 * bucketNumber img k ≤ length img
     go f =
-        let x = or-false-first (ltb 0 (tableAt img k) && tableLeaves img k) (someLeaves img (suc k) m) f in
-        let y = sym (ap (λ (b : Bool). b && tableLeaves img k) (lt-ltb 0 (tableAt img k) some)) ∙ x in
+        let x = or-false-first (ltb 0 (tableAt img k) && tablePastEnd img k) (somePastEnd img (suc k) m) f in
+        let y = sym (ap (λ (b : Bool). b && tablePastEnd img k) (lt-ltb 0 (tableAt img k) some)) ∙ x in
         ltb-false (length img) (tableAt img k + 8 * bucketNumber img k) y
 
 pub opened-inside : (img : List ℕ) (n : ℕ) → opening img ≡ value n → TablesInside img
-opened-inside img n e t h some = none-leaves img 0 256 t (opens img n e .tables) (omega arith) (omega arith) some
+opened-inside img n e t h some = none-past-end img 0 256 t (opens img n e .tables) (omega arith) (omega arith) some
 
 -- ---- one table
 

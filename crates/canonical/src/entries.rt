@@ -38,28 +38,28 @@ fn in_its_bucket(image: &[u8], h: u32, at: u32) -> bool
 }
 
 // The same, by the cached place and word of the first bucket of its probe sequence: most entries are in that bucket.
-fn in_bucket_cached(image: &[u8], h: u32, at: u32, place: usize, first: u32) -> bool
-    requires { ⌜ InBucketPre (now image) h place first ⌝ }
+fn in_bucket_cached(image: &[u8], h: u32, at: u32, bucket_place: usize, first: u32) -> bool
+    requires { ⌜ InBucketPre (now image) h «bucket_place» first ⌝ }
     ensures { λ r. ⌜ r ≡ inItsBucket (now (image .entry)) h at ⌝ }
 {
-    if place == 0 {
+    if bucket_place == 0 {
         return false;
     }
     if first == at {
-        return get_u32(image, place - 4) == h;
+        return get_u32(image, bucket_place - 4) == h;
     }
     in_its_bucket(image, h, at)
 }
 
 // Has the name of the entry at `at`, whose length word is n, no zero byte, and is the entry in its bucket?
-fn check_entry(image: &[u8], at: usize, n: usize, h: u32, place: usize, first: u32) -> bool
-    requires { ⌜ CheckEntryPre (now image) at n h place first ⌝ }
+fn check_entry(image: &[u8], at: usize, n: usize, h: u32, bucket_place: usize, first: u32) -> bool
+    requires { ⌜ CheckEntryPre (now image) at n h «bucket_place» first ⌝ }
     ensures { λ r. ⌜ r ≡ nameOk (now (image .entry)) at (entryName (now (image .entry)) at n) ⌝ }
 {
     if has_zero(name_at(image, at, n)) {
         return false;
     }
-    in_bucket_cached(image, h, at as u32, place, first)
+    in_bucket_cached(image, h, at as u32, bucket_place, first)
 }
 
 // Is the back word w not below the entry's offset `at`? A one-way image has no back words.
@@ -103,7 +103,7 @@ pub(super) fn check_entries(
     let mut back: u64 = 0;
     let mut linked: u64 = 0;
     let mut hashes = [0; 256];
-    let mut places = [0; 256];
+    let mut bucket_places = [0; 256];
     let mut firsts = [0; 256];
     let mut cached: usize = 0;
     while left > 0 {
@@ -113,7 +113,7 @@ pub(super) fn check_entries(
             end,
             cached,
             &mut hashes,
-            &mut places,
+            &mut bucket_places,
             &mut firsts,
         );
         let n = whole_length(image, at, end);
@@ -128,7 +128,7 @@ pub(super) fn check_entries(
         let h = hashes[i];
         let id = size_at(image, at);
         let w = get_u32(image, o + 4 * id);
-        if !(not_before(two, at, w) & check_entry(image, at, n, h, places[i], firsts[i])) {
+        if !(not_before(two, at, w) & check_entry(image, at, n, h, bucket_places[i], firsts[i])) {
             return EntriesChecked {
                 valid: false,
                 back: 0,

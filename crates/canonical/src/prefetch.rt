@@ -12,10 +12,10 @@ use image::get_u32;
 use image::probe::start;
 use image::rows::bucket_number;
 use image::rows::table_at;
-use jhash::key;
+use jhash::hash_or_zero;
 
 // The place of the offset word of the first bucket in a hash's probe sequence; 0 if its table has no bucket.
-fn first_place(image: &[u8], h: u32) -> usize
+fn first_bucket_at(image: &[u8], h: u32) -> usize
     ensures { λ r. ⌜ r ≡ firstBucketAt (now (image .entry)) h ⌝ }
 {
     let o = table_at(image, h);
@@ -32,10 +32,10 @@ fn hash_batch(
     from: usize,
     end: usize,
     hashes: &mut [u32; 256],
-    places: &mut [usize; 256],
+    bucket_places: &mut [usize; 256],
 )
-    requires { ⌜ BatchPre (now image) from end (now hashes) (now places) ⌝ }
-    ensures { λ _. ⌜ Batch (now (image .entry)) from end (now (hashes .exit)) (now (places .exit)) ⌝ }
+    requires { ⌜ BatchPre (now image) from end (now hashes) (now «bucket_places») ⌝ }
+    ensures { λ _. ⌜ Batch (now (image .entry)) from end (now (hashes .exit)) (now («bucket_places» .exit)) ⌝ }
 {
     let mut at = from;
     let mut i: usize = 0;
@@ -44,23 +44,23 @@ fn hash_batch(
         if n == 0 {
             return;
         }
-        let h = key(name_at(image, at, n));
-        let place = first_place(image, h);
+        let h = hash_or_zero(name_at(image, at, n));
+        let bucket_place = first_bucket_at(image, h);
         hashes[i] = h;
-        places[i] = place;
+        bucket_places[i] = bucket_place;
         at += 8 + n;
         i += 1;
     }
 }
 
 // The word at each place. No read waits for another.
-fn read_buckets(image: &[u8], places: &[usize; 256], firsts: &mut [u32; 256])
+fn read_buckets(image: &[u8], bucket_places: &[usize; 256], firsts: &mut [u32; 256])
     requires { ⌜ BucketsPre (now firsts) ⌝ }
-    ensures { λ _. ⌜ BucketsRead (now (image .entry)) (now (places .entry)) (now (firsts .exit)) 256 ⌝ }
+    ensures { λ _. ⌜ BucketsRead (now (image .entry)) (now («bucket_places» .entry)) (now (firsts .exit)) 256 ⌝ }
 {
     let mut i: usize = 0;
     while i < 256 {
-        firsts[i] = get_u32(image, places[i]);
+        firsts[i] = get_u32(image, bucket_places[i]);
         i += 1;
     }
 }
@@ -72,18 +72,18 @@ pub(super) fn prefetch(
     end: usize,
     cached: usize,
     hashes: &mut [u32; 256],
-    places: &mut [usize; 256],
+    bucket_places: &mut [usize; 256],
     firsts: &mut [u32; 256],
 ) -> usize
-    requires { ⌜ PrefetchPre (now image) at end cached (now hashes) (now places) (now firsts) ⌝ }
+    requires { ⌜ PrefetchPre (now image) at end cached (now hashes) (now «bucket_places») (now firsts) ⌝ }
     ensures { λ r. ⌜
-        Prefetched (now (image .entry)) at end r (now (hashes .exit)) (now (places .exit)) (now (firsts .exit))
+        Prefetched (now (image .entry)) at end r (now (hashes .exit)) (now («bucket_places» .exit)) (now (firsts .exit))
         ⌝ }
 {
     if cached > 0 {
         return cached;
     }
-    hash_batch(image, at, end, &mut *hashes, &mut *places);
-    read_buckets(image, &*places, &mut *firsts);
+    hash_batch(image, at, end, &mut *hashes, &mut *bucket_places);
+    read_buckets(image, &*bucket_places, &mut *firsts);
     256
 }

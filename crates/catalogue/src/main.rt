@@ -43,14 +43,14 @@ fn put_input(
 }
 
 // What is printed first; the image is the buffer's first bytes.
-struct Image {
+struct Totals {
     entries: u32,
     size: u32,
 }
 
 // Builds the image of the lines of standard input in a lent buffer. Where the buffer takes a head, neither begin nor
 // close refuses.
-fn build(counts: &mut [u32; 256], buf: &mut [u8], room: &mut [u8], piece: &mut [u8]) -> Image
+fn build(counts: &mut [u32; 256], buf: &mut [u8], room: &mut [u8], piece: &mut [u8]) -> Totals
     ensures { λ r. ⌜
         (headSize ≤ length (now (buf .entry)) → length (now (buf .entry)) ≤ length (now (room .entry))
         → Built (length (now (buf .entry))) (r .entries) (r .size) (now (buf .exit)))
@@ -58,7 +58,7 @@ fn build(counts: &mut [u32; 256], buf: &mut [u8], room: &mut [u8], piece: &mut [
 {
     let writer::Begun::Fresh(fresh) = writer::begin(Mode::Twoway, Repeats::Off, &mut *counts, &*buf)
     else {
-        return Image {
+        return Totals {
             entries: 0,
             size: 0,
         };
@@ -66,12 +66,12 @@ fn build(counts: &mut [u32; 256], buf: &mut [u8], room: &mut [u8], piece: &mut [
     let w = put_input(fresh, &mut *counts, &mut *buf, room, piece);
     let answer = writer::close(w, &*counts, buf).answer;
     let Closed::Size(size) = answer else {
-        return Image {
+        return Totals {
             entries: 0,
             size: 0,
         };
     };
-    Image {
+    Totals {
         entries: w.entries,
         size,
     }

@@ -9,13 +9,13 @@ use lib.ListN.{length, getD, take, drop, set}
 use lib.Seq.{getD-set-same, getD-set-other, set-out}
 use lib.Dec.{eqb}
 use borrow.Author.Tests.{eq-eqb, ne-eqb}
-use Rattle.jhash.specs.NameHash.{hashOf, key}
+use Rattle.jhash.specs.NameHash.{hashOf, hashOrZero}
 use Rattle.image.specs.Bytes.{word, same}
 use Rattle.image.specs.Tables.{tableOf}
 use Rattle.image.specs.Image.{Entry, backSize, hasName, containsName}
 use Rattle.image.specs.Stored.{firstWhole, firstEntry, afterFirst, whole, entriesIn, between}
 use Rattle.image.specs.steps.EntryLength.{wholeLength}
-use Rattle.image.specs.steps.Walk.{ComparePre}
+use Rattle.image.specs.steps.Walk.{IsSoughtPre}
 use Rattle.image.specs.Tally.{tallied, raisedCounts, countsAfter}
 use Rattle.image.proofs.Equal.{same-false}
 use Rattle.image.proofs.Between.{Front, not-whole, length-between, drop-between, word-between, name-between}
@@ -148,9 +148,9 @@ unfolding containsName
 containsName-cons name e es = refl
 
 -- a name of another key is another name
-pub other-key : {name sought : List ℕ} {h want : ℕ} → ComparePre name h sought want → (h ≡ want → ⊥) → same name sought ≡ false
-other-key {name} {sought} p differ =
-    same-false name sought (λ e. differ (p .named ∙ ap key e ∙ sym (p .wanted)))
+pub other-hash : {name sought : List ℕ} {h want : ℕ} → IsSoughtPre name h sought want → (h ≡ want → ⊥) → same name sought ≡ false
+other-hash {name} {sought} p differ =
+    same-false name sought (λ e. differ (p .named ∙ ap hashOrZero e ∙ sym (p .wanted)))
 
 -- the loop of the walk
 pub record WalkInv (buf : List ℕ) (end entries : ℕ) (counts₀ sought counts : List ℕ) (at left back : ℕ) (contains : Bool) : Type 0 where

@@ -22,8 +22,8 @@ backOffsetAt image = word image 20
 
 -- a table leaves the image when offset + 8 × bucket number exceeds its length, a back array when offset + 4 × back
 -- size does, also at number 0
-abbrev pub tableLeaves : List ℕ → ℕ → Bool
-tableLeaves image t = ltb (length image) (tableAt image t + 8 * bucketNumber image t)
+abbrev pub tablePastEnd : List ℕ → ℕ → Bool
+tablePastEnd image t = ltb (length image) (tableAt image t + 8 * bucketNumber image t)
 
-abbrev pub backLeaves : List ℕ → Bool
-backLeaves image = ltb (length image) (backOffsetAt image + 4 * backSizeAt image)
+abbrev pub backPastEnd : List ℕ → Bool
+backPastEnd image = ltb (length image) (backOffsetAt image + 4 * backSizeAt image)

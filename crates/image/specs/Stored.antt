@@ -9,8 +9,8 @@ use Rattle.image.specs.Bytes.{word}
 use Rattle.image.specs.Image.{Entry}
 
 -- the name of an entry whose length word says its length plus 1
-abbrev pub nameOf : List ℕ → ℕ → List ℕ
-nameOf image at = take (word image (at + 4) - 1) (drop (at + 8) image)
+abbrev pub nameAt : List ℕ → ℕ → List ℕ
+nameAt image at = take (word image (at + 4) - 1) (drop (at + 8) image)
 
 -- an entry is broken where its first 8 bytes or its name leave the image, or its length word is 0
 abbrev pub broken : List ℕ → ℕ → Bool

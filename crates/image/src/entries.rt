@@ -8,9 +8,9 @@ ghost use Rattle.image.specs.Tables.{tableOf};
 ghost use Rattle.image.specs.Stored.{broken};
 ghost use Rattle.image.specs.Tally.{raisedCounts};
 ghost use Rattle.image.specs.steps.Contracts.{LessOne, WholeLengthPre, WholeLength, NameAtPre, NameRead};
-ghost use Rattle.image.specs.steps.Walk.{ComparePre, WalkPre, WalkedEntries};
+ghost use Rattle.image.specs.steps.Walk.{IsSoughtPre, WalkPre, WalkedEntries};
 use super::HEAD_SIZE;
-use jhash::key;
+use jhash::hash_or_zero;
 use jhash::word::word;
 
 // A length word minus 1; of 0 the largest number of all, which exceeds the length of any image.
@@ -90,7 +90,7 @@ pub fn name_at<'a>(buf: &'a [u8], at: usize, n: usize) -> &'a [u8]
 // Whether an entry's name, whose key is h, is the one that is sought, whose key is `want`. The entry is hashed for the
 // counts anyway, so its bytes are compared only where the keys are equal.
 fn is_sought(name: &[u8], h: u32, sought: &[u8], want: u32) -> bool
-    requires { ⌜ ComparePre (now name) h (now sought) want ⌝ }
+    requires { ⌜ IsSoughtPre (now name) h (now sought) want ⌝ }
     ensures { λ r. ⌜ r ≡ same (now (name .entry)) (now (sought .entry)) ⌝ }
 {
     if h != want {
@@ -111,7 +111,7 @@ pub fn walk(buf: &[u8], end: usize, entries: u32, counts: &mut [u32; 256], sough
     let mut left = entries;
     let mut back: u64 = 0;
     let mut contains = false;
-    let want = key(sought);
+    let want = hash_or_zero(sought);
     while left > 0 {
         let n = whole_length(buf, at, end);
         if n == 0 {
@@ -123,7 +123,7 @@ pub fn walk(buf: &[u8], end: usize, entries: u32, counts: &mut [u32; 256], sough
         }
         let name = name_at(buf, at, n);
         back = larger(back, word(buf, at) as u64 + 1);
-        let h = key(name);
+        let h = hash_or_zero(name);
         raise(&mut *counts, h);
         contains = contains | is_sought(name, h, sought, want);
         at += 8 + n;

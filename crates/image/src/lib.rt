@@ -15,7 +15,7 @@ pub mod entries; // entries.rt: broken entries, whole ones, and a walk over them
 pub mod equality; // equality.rt: same
 pub mod probe; // probe.rt: the probe sequence of a search
 pub mod rows; // rows.rt: the row of a hash's table in the head
-pub mod scratch; // scratch.rt: clear
+pub mod scratch; // scratch.rt: clear_words
 pub mod store; // store.rt: words and bytes stored inside a buffer
 pub mod zero; // zero.rt: zero bytes in a name
 

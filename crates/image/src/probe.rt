@@ -3,7 +3,7 @@
 ghost use mathlib.Core.Path.{_≡_};
 ghost use Prim.Native.Nat.{_<_};
 ghost use Rattle.image.specs.Tables.{start, next, probeSequence, firstEmpty};
-ghost use Rattle.image.specs.steps.Contracts.{BucketIs, ProbePre, offsetAt, hidden, firstEmptyBefore};
+ghost use Rattle.image.specs.steps.Contracts.{BucketIs, FirstEmptyPre, offsetAt, hidden, firstEmptyBefore};
 use jhash::word::word;
 
 // The bucket at which a search for a hash starts in a table of n buckets.
@@ -32,7 +32,7 @@ fn hide(before: u64, w: u32) -> u32
 // The first of the n buckets at o, from bucket k on, that is empty or has an offset from `before` on; bucket 0 where
 // there is none. Before the entry at `before` was put, this was the first empty one.
 pub fn first_empty_before(buf: &[u8], o: usize, n: usize, k: usize, before: u64) -> usize
-    requires { ⌜ ProbePre (now buf) o n k ⌝ }
+    requires { ⌜ FirstEmptyPre (now buf) o n k ⌝ }
     ensures { λ r. ⌜ BucketIs (firstEmptyBefore (now (buf .entry)) o n k before) n r ⌝ }
 {
     let mut i = k;
@@ -49,7 +49,7 @@ pub fn first_empty_before(buf: &[u8], o: usize, n: usize, k: usize, before: u64)
 
 // The first empty of the n buckets at o, from bucket k on; bucket 0 where none is empty. No offset is hidden.
 pub fn first_empty(buf: &[u8], o: usize, n: usize, k: usize) -> usize
-    requires { ⌜ ProbePre (now buf) o n k ⌝ }
+    requires { ⌜ FirstEmptyPre (now buf) o n k ⌝ }
     ensures { λ r. ⌜ BucketIs (firstEmpty (offsetAt (now (buf .entry)) o) (probeSequence n n k)) n r ⌝ }
 {
     first_empty_before(buf, o, n, k, 4294967296)

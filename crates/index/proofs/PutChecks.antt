@@ -12,7 +12,7 @@ use Rattle.image.specs.Zero.{hasZero}
 use Rattle.image.proofs.EntryArea.{AllBytes}
 use Rattle.writer.specs.declared.CQDBWriter.{CQDBWriter}
 use Rattle.writer.specs.State.{State, refusesRepeats, finishedSize, tooLarge}
-use Rattle.writer.specs.Put.{writerWith, putRefusal, repeated}
+use Rattle.writer.specs.Put.{writerAfterPut, putRefusal, repeated}
 use Rattle.writer.specs.Close.{recorded}
 use Rattle.writer.proofs.Fits.{not-too-large}
 use Rattle.index.specs.declared.Decision.{Decision}
@@ -26,13 +26,13 @@ use Rattle.index.proofs.Contains.{PutProbe, put-probe, long-absent}
 use Rattle.index.proofs.PutRefusals.{EarlyPassed, LatePassed, early-due, duplicate-due, late-due, by-refusal, by-full, by-none}
 
 -- an entry whose image has room has room
-entry-room : (w : CQDBWriter) (n id len : ℕ) → w .length ≡ len → tooLarge (w .length) (finishedSize (writerWith w n id)) ≡ false → w .end + (n + 9) ≤ len
-unfolding writerWith
-entry-room w n id len e t = omega (arith, e, not-too-large (w .length) (finishedSize (writerWith w n id)) t .0)
+entry-room : (w : CQDBWriter) (n id len : ℕ) → w .length ≡ len → tooLarge (w .length) (finishedSize (writerAfterPut w n id)) ≡ false → w .end + (n + 9) ≤ len
+unfolding writerAfterPut
+entry-room w n id len e t = omega (arith, e, not-too-large (w .length) (finishedSize (writerAfterPut w n id)) t .0)
 
 -- and its offset is a word
-pub end-word : (w : CQDBWriter) (n id : ℕ) → finishedSize (writerWith w n id) ≤ 4294967295 → w .end < 2 ^ 32
-unfolding writerWith
+pub end-word : (w : CQDBWriter) (n id : ℕ) → finishedSize (writerAfterPut w n id) ≤ 4294967295 → w .end < 2 ^ 32
+unfolding writerAfterPut
 end-word w n id l = omega arith
 
 -- what passed all checks has room for its stores
@@ -44,7 +44,7 @@ append-pre {s} {e} early late hash =
       count = late .count;
       entry = entry-room (s .writer) (length (e .name)) (e .id) (length (s .buffer)) (early .same-length) (late .fine);
       short = early .short;
-      size = not-too-large (s .writer .length) (finishedSize (writerWith (s .writer) (length (e .name)) (e .id))) (late .fine) .1;
+      size = not-too-large (s .writer .length) (finishedSize (writerAfterPut (s .writer) (length (e .name)) (e .id))) (late .fine) .1;
     }
 
 -- a refusal, whatever was lent

@@ -13,7 +13,7 @@ use Rattle.image.specs.Zero.{hasZero}
 use Rattle.image.proofs.Bools.{and-first, and-second, false-not-true}
 use Rattle.writer.specs.declared.CQDBWriter.{CQDBWriter}
 use Rattle.writer.specs.State.{State, noneAbove, fits, finishedSize, tooLarge}
-use Rattle.writer.specs.Put.{writerWith, writerAfter, repeated, putRefusal}
+use Rattle.writer.specs.Put.{writerAfterPut, writerAfterEntry, repeated, putRefusal}
 use Rattle.writer.proofs.Closes.{Accepted, accepted}
 use Rattle.writer.proofs.Puts.{long-name, count-small}
 use Rattle.index.specs.Index.{slotCount}
@@ -55,15 +55,15 @@ early-passed w buf name h = go (inBuffer w buf) (hasZero name) (ltb 4294967294 (
 
 -- those after it
 pub record LatePassed (w : CQDBWriter) (counts : List ℕ) (n id h : ℕ) : Type 0 where
-  pub fine : tooLarge (w .length) (finishedSize (writerWith w n id)) ≡ false
+  pub fine : tooLarge (w .length) (finishedSize (writerAfterPut w n id)) ≡ false
   pub count : getD counts (tableOf h) 0 < 4294967295
 
 pub late-passed : (w : CQDBWriter) (counts : List ℕ) (n id h : ℕ) → lateRefusal w counts n id h ≡ 0 → LatePassed w counts n id h
 unfolding lateRefusal
 late-passed w counts n id h e =
-    go (tooLarge (w .length) (finishedSize (writerWith w n id))) (ltb 4294967294 (getD counts (tableOf h) 0)) refl refl e
+    go (tooLarge (w .length) (finishedSize (writerAfterPut w n id))) (ltb 4294967294 (getD counts (tableOf h) 0)) refl refl e
   where
-    go : (t c : Bool) → tooLarge (w .length) (finishedSize (writerWith w n id)) ≡ t → ltb 4294967294 (getD counts (tableOf h) 0) ≡ c
+    go : (t c : Bool) → tooLarge (w .length) (finishedSize (writerAfterPut w n id)) ≡ t → ltb 4294967294 (getD counts (tableOf h) 0) ≡ c
         → _≡_ {A = ℕ} (cond t 3 (cond c 2 0)) 0 → LatePassed w counts n id h
     go false false p q e =
         let small = ltb-false 4294967294 (getD counts (tableOf h) 0) q in
@@ -95,7 +95,7 @@ module _ {s : State} (closable : Closable s) (e : Entry) where
   w = s .writer
 
   abbrev large : Bool
-  large = tooLarge (w .length) (finishedSize (writerAfter w e))
+  large = tooLarge (w .length) (finishedSize (writerAfterEntry w e))
 
   -- what is left of the rule
   by-name : putRefusal s e ≡ cond (hasZero (e .name)) 13 (cond (repeated s (e .name)) 16 (cond large 3 0))
@@ -109,7 +109,7 @@ module _ {s : State} (closable : Closable s) (e : Entry) where
       (and-first (inBuffer w (s .buffer)) (noneAbove (s .counts) (w .entries)) (a .fit))
 
   late-by-size : (h : ℕ) → lateRefusal w (s .counts) (length (e .name)) (e .id) h ≡ cond large 3 0
-  unfolding lateRefusal writerAfter
+  unfolding lateRefusal writerAfterEntry
   late-by-size h = go large refl
     where
       go : (t : Bool) → large ≡ t → _≡_ {A = ℕ} (cond t 3 (cond (ltb 4294967294 (getD (s .counts) (tableOf h) 0)) 2 0)) (cond t 3 0)

@@ -10,9 +10,9 @@ ghost use Rattle.index.specs.steps.Checks.{inBuffer, earlyRefusal, lateR
 use super::NameFacts;
 use image::HEAD_SIZE_64;
 use writer::CQDBWriter;
-use writer::record::after;
 use writer::record::size_with;
 use writer::record::too_large;
+use writer::record::writer_after_put;
 
 // Does the record have this buffer's length, and an end from 2,072 to that length? Counts are not compared.
 fn in_buffer(w: CQDBWriter, buf: &[u8]) -> bool
@@ -114,5 +114,5 @@ pub(super) fn append(
 {
     image::entries::raise(&mut *counts, h);
     writer::entry::store(&mut *buf, w.end as usize, name, id);
-    after(w, name.len(), id)
+    writer_after_put(w, name.len(), id)
 }

@@ -17,12 +17,12 @@ use checks::new_refusal;
 use image::HEAD_SIZE;
 use image::entries::name_at;
 use image::entries::whole_length;
-use image::scratch::clear;
+use image::scratch::clear_words;
 use slots::first_empty;
 use slots::probe;
 use slots::store_slot;
 use writer::CQDBWriter;
-use writer::PutAnswer;
+use writer::RecordAnswer;
 
 mod checks; // checks.rt: what a put checks beside the search, and what it stores
 mod slots; // slots.rt: slots probed and stored
@@ -97,7 +97,7 @@ pub fn put_hashed(
     name: &[u8],
     id: u32,
     facts: NameFacts,
-) -> PutAnswer
+) -> RecordAnswer
     requires { ⌜ FactsOf (now name) facts ⌝ }
     ensures { λ r. ⌜
         PutHashed (stateWith w (now (counts .entry)) (now (buf .entry))) (now (slots .entry))
@@ -109,11 +109,11 @@ pub fn put_hashed(
     let d = decide(w, &*counts, &*buf, &*slots, name, id, facts);
     let refusal = d.refusal;
     if refusal != 0 {
-        return PutAnswer { refusal, writer: w };
+        return RecordAnswer { refusal, writer: w };
     }
     store_slot(&mut *slots, d.slot, h, w.end as u32);
     let writer = append(w, &mut *counts, &mut *buf, name, id, h);
-    PutAnswer { refusal: 0, writer }
+    RecordAnswer { refusal: 0, writer }
 }
 
 // A put of a name that is no duplicate, as the caller knows: by an index, or because repeats are on. It looks at no
@@ -125,7 +125,7 @@ pub fn put_new(
     name: &[u8],
     id: u32,
     facts: NameFacts,
-) -> PutAnswer
+) -> RecordAnswer
     requires { ⌜ FactsOf (now name) facts ⌝ }
     ensures { λ r. ⌜
         PutNew (stateWith w (now (counts .entry)) (now (buf .entry))) (entryOf (now (name .entry)) id) (r .refusal)
@@ -134,11 +134,11 @@ pub fn put_new(
 {
     let refusal = new_refusal(w, &*counts, &*buf, name, id, facts);
     if refusal != 0 {
-        return PutAnswer { refusal, writer: w };
+        return RecordAnswer { refusal, writer: w };
     }
     let h = facts.hash;
     let writer = append(w, &mut *counts, &mut *buf, name, id, h);
-    PutAnswer { refusal: 0, writer }
+    RecordAnswer { refusal: 0, writer }
 }
 
 // A put by the index of a name of which nothing is known.
@@ -149,7 +149,7 @@ pub fn put_indexed(
     slots: &mut [u32],
     name: &[u8],
     id: u32,
-) -> PutAnswer
+) -> RecordAnswer
     ensures { λ r. ⌜
         PutIndexed (stateWith w (now (counts .entry)) (now (buf .entry))) (now (slots .entry))
         (entryOf (now (name .entry)) id) (r .refusal)
@@ -157,7 +157,7 @@ pub fn put_indexed(
         ⌝ }
 {
     let facts = NameFacts {
-        hash: jhash::key(name),
+        hash: jhash::hash_or_zero(name),
         clean: false,
     };
     put_hashed(w, &mut *counts, &mut *buf, &mut *slots, name, id, facts)
@@ -201,7 +201,7 @@ pub fn index(w: CQDBWriter, counts: &[u32; 256], buf: &[u8], slots: &mut [u32]) 
     if m < w.entries as usize {
         return 24;
     }
-    clear(&mut *slots, 2 * m);
+    clear_words(&mut *slots, 2 * m);
     fill(buf, w.end as usize, w.entries, &mut *slots);
     0
 }

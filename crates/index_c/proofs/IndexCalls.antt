@@ -13,7 +13,7 @@ use Rattle.image.specs.Image.{Entry, flagWord}
 use Rattle.image.proofs.Bools.{false-not-true}
 use Rattle.writer.specs.declared.CQDBWriter.{CQDBWriter}
 use Rattle.writer.specs.State.{State, stateWith}
-use Rattle.writer.specs.Put.{writerAfter, appended}
+use Rattle.writer.specs.Put.{writerAfterEntry, appended}
 use Rattle.writer.specs.Close.{afterClose}
 use Rattle.writer.specs.declared.c_record.Record.{Record}
 use Rattle.writer.specs.Numbers.{repeatsWord}
@@ -116,7 +116,7 @@ module _ (h : CState) {words : List ℕ} {e : Entry} {v w' : CQDBWriter} {counts
     lengths : w .length ≡ v .length
 
   stay : Stay w'
-  unfolding appended writerAfter
+  unfolding appended writerAfterEntry
   stay = go (eqb k 0) refl
     where
       stays : (s : State) → stateWith w' counts buffer ≡ s → Stay (s .writer) → Stay w'

@@ -11,7 +11,7 @@ use lib.Dec.{ltb}
 use lib.ListN.{length, drop}
 use Rattle.jhash.specs.Lookup3.{added, mix, final, hashBlocks, hashRest, initial}
 use Rattle.jhash.specs.Outcome.{value, refusal}
-use Rattle.jhash.specs.NameHash.{nameHash, hashOf, outcome, hashOutcome, key}
+use Rattle.jhash.specs.NameHash.{nameHash, hashOf, outcome, hashOutcome, hashOrZero}
 use Rattle.jhash.specs.declared.Words.{Words}
 use Rattle.jhash.specs.declared.Hashed.{Hashed}
 use Rattle.jhash.specs.declared.Hashed.the-variants.{Hash, Refused}
@@ -89,10 +89,10 @@ result-refused name start r promise is =
 
 -- ---- the key of a name, short or too long
 
-pub key-short : (name : List ℕ) → length name < 4294967295 → key name ≡ hashOf name
-unfolding key
-key-short name h = ap (λ (t : Bool). cond t (hashOf name) 0) (lt-ltb (length name) 4294967295 h)
+pub hash-or-zero-short : (name : List ℕ) → length name < 4294967295 → hashOrZero name ≡ hashOf name
+unfolding hashOrZero
+hash-or-zero-short name h = ap (λ (t : Bool). cond t (hashOf name) 0) (lt-ltb (length name) 4294967295 h)
 
-pub key-long : (name : List ℕ) → 4294967295 ≤ length name → key name ≡ 0
-unfolding key
-key-long name h = ap (λ (t : Bool). cond t (hashOf name) 0) (le-ltb (length name) 4294967295 h)
+pub hash-or-zero-long : (name : List ℕ) → 4294967295 ≤ length name → hashOrZero name ≡ 0
+unfolding hashOrZero
+hash-or-zero-long name h = ap (λ (t : Bool). cond t (hashOf name) 0) (le-ltb (length name) 4294967295 h)

@@ -29,5 +29,5 @@ unfoldable pub hashOutcome : List ℕ → ℕ → Outcome ℕ
 hashOutcome name start = cond (ltb (length name) 4294967295) (value (nameHash name start)) (refusal 9)
 
 -- The key of a name: its hash, or 0 where it is too long to have one.
-unfoldable pub key : List ℕ → ℕ
-key name = cond (ltb (length name) 4294967295) (hashOf name) 0
+unfoldable pub hashOrZero : List ℕ → ℕ
+hashOrZero name = cond (ltb (length name) 4294967295) (hashOf name) 0

@@ -7,7 +7,7 @@ ghost use lib.ListN.{length};
 ghost use Rattle.jhash.specs.Lookup3.{sub32, rotl32, plus, added, mix, finalWord, final};
 ghost use Rattle.jhash.specs.Lookup3.{equalWords, initialWord, hashRest};
 ghost use Rattle.jhash.specs.steps.Rounds.{mixRound, finalStep};
-ghost use Rattle.jhash.specs.NameHash.{outcome, hashOutcome, key};
+ghost use Rattle.jhash.specs.NameHash.{outcome, hashOutcome, hashOrZero};
 use word::word;
 use word::word_near_end;
 
@@ -236,8 +236,8 @@ pub fn name_hash(name: &[u8]) -> Hashed
 }
 
 // The key of a name: its hash, 0 where it is too long to have one.
-pub fn key(name: &[u8]) -> u32
-    ensures { λ r. ⌜ r ≡ key (now (name .entry)) ⌝ }
+pub fn hash_or_zero(name: &[u8]) -> u32
+    ensures { λ r. ⌜ r ≡ hashOrZero (now (name .entry)) ⌝ }
 {
     match name_hash(name) {
         Hashed::Hash(h) => h,

@@ -8,7 +8,7 @@ ghost use Rattle.jhash.specs.Word.{word};
 ghost use Rattle.jhash.specs.steps.Reads.{ByteRead};
 
 // A byte as a word.
-pub fn wide(x: u8) -> u32
+pub fn byte_as_word(x: u8) -> u32
     ensures { λ r. ⌜ ByteRead x r ⌝ }
 {
     x as u32
@@ -18,7 +18,7 @@ pub fn wide(x: u8) -> u32
 fn byte_or_zero(s: &[u8], at: usize) -> u32
     ensures { λ r. ⌜ ByteRead (getD (now (s .entry)) at 0) r ⌝ }
 {
-    if at < s.len() { wide(s[at]) } else { 0 }
+    if at < s.len() { byte_as_word(s[at]) } else { 0 }
 }
 
 // The word at `at`, all of whose bytes are there. The compiler makes one load of it.
@@ -26,7 +26,10 @@ pub fn word(s: &[u8], at: usize) -> u32
     requires { ⌜ at + 4 ≤ length (now s) ⌝ }
     ensures { λ r. ⌜ r ≡ word (now (s .entry)) at ⌝ }
 {
-    wide(s[at]) + wide(s[at + 1]) * 256 + wide(s[at + 2]) * 65536 + wide(s[at + 3]) * 16777216
+    byte_as_word(s[at])
+        + byte_as_word(s[at + 1]) * 256
+        + byte_as_word(s[at + 2]) * 65536
+        + byte_as_word(s[at + 3]) * 16777216
 }
 
 // The word at `at`, of which at most three bytes are there: past the end stand zeros.
@@ -37,5 +40,5 @@ pub fn word_near_end(s: &[u8], at: usize) -> u32
     if s.len() <= at {
         return 0;
     }
-    wide(s[at]) + byte_or_zero(s, at + 1) * 256 + byte_or_zero(s, at + 2) * 65536
+    byte_as_word(s[at]) + byte_or_zero(s, at + 1) * 256 + byte_or_zero(s, at + 2) * 65536
 }

@@ -8,7 +8,7 @@ use lib.ListN.{length, drop, length-drop}
 use lib.Dec.{eqb}
 use Rattle.image.specs.Image.{Entry}
 use Rattle.writer.specs.State.{State, finishedSize}
-use Rattle.writer.specs.Put.{entryOf, writerAfter, putRefusal, appended, afterPut}
+use Rattle.writer.specs.Put.{entryOf, writerAfterEntry, putRefusal, appended, afterPut}
 use Rattle.writer.proofs.Fits.{fitting, not-too-large}
 use Rattle.writer.proofs.Puts.{passed, refused-leaves}
 use Rattle.lists.specs.Calls.{after}
@@ -39,14 +39,14 @@ after-other s line e = after-form s line ∙ ap (leaves s line) e
 
 -- the finished size exceeds the buffer where the name alone does with a head
 too-long : (s : State) (e : Entry) → s .writer .length < length (e .name) + 2097 → afterPut s e ≡ s
-unfolding writerAfter
+unfolding writerAfterEntry
 too-long s e h =
     sym
     (refused-leaves s e (putRefusal s e) refl
     (λ z.
     let went = passed s e z in
     let low = fitting (s .writer) (s .counts) (s .buffer) (went .fitted) .low in
-    let room = not-too-large (s .writer .length) (finishedSize (writerAfter (s .writer) e)) (went .has-capacity) .0 in
+    let room = not-too-large (s .writer .length) (finishedSize (writerAfterEntry (s .writer) e)) (went .has-capacity) .0 in
     omega arith))
 
 -- ---- a long line
@@ -66,7 +66,7 @@ long-line s line h = go (parseLine line) refl
 -- ---- the buffer's length is kept
 
 put-length : (s : State) (e : Entry) → afterPut s e .writer .length ≡ s .writer .length
-unfolding afterPut appended writerAfter
+unfolding afterPut appended writerAfterEntry
 put-length s e = go (eqb (putRefusal s e) 0)
   where
     go : (b : Bool) → cond b (appended s e) s .writer .length ≡ s .writer .length

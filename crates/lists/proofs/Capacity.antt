@@ -15,7 +15,7 @@ use Rattle.writer.specs.declared.Repeats.{Repeats}
 use Rattle.writer.specs.State.{refusesRepeats, tooLarge}
 use Rattle.lists.specs.Calls.{Call, put, close, putsSize, sizeOf, putDue, dueFrom, due, puts, WordIds}
 use Rattle.lists.specs.Demand3.{answersOf}
-use Rattle.lists.specs.theorems.Capacity.{Capacity}
+use Rattle.lists.specs.theorems.Capacity.{CapacitySuffices}
 use Rattle.lists.proofs.Appended.{backSize-snoc}
 use Rattle.lists.proofs.CallLists.{list-answers}
 
@@ -80,5 +80,5 @@ none-refused mode repeats buffer cs word within small i d =
     none-from mode repeats (length buffer) (putsSize (puts cs)) (backSize (puts cs)) within small [] cs (omega arith) (omega arith) (omega arith) i
     (ap (λ (rs : List ℕ). getD rs i 0) (sym (list-answers mode repeats buffer (omega arith) cs word)) ∙ d)
 
-pub capacity : Capacity
+pub capacity : CapacitySuffices
 capacity = record { none-refused = none-refused }

@@ -23,7 +23,7 @@ use Rattle.writer.specs.declared.Repeats.{Repeats}
 use Rattle.lists.specs.Calls.{acceptedFrom, dueFrom, accepted, due, putDue, putsSize, sizeOf, WordIds}
 use Rattle.lists.proofs.ImageRead.{namedIn, Read}
 use Rattle.lists.specs.Demand3.{imageOf}
-use Rattle.lists.specs.examples.Rows.{NameGives, IdGives, Row, Each, backArray, ImageHolds, RowHolds, HoldsInAny, exampleRows, namedRows}
+use Rattle.lists.specs.examples.Rows.{NameGives, IdGives, ListRow, Each, backArray, ImageHolds, RowHolds, HoldsInAny, exampleRows, namedRows}
 use Rattle.lists.proofs.CallLists.{list-answers}
 use Rattle.lists.proofs.OneMoreClose.{list-gives, list-formula, list-image, list-below}
 use Rattle.lists.proofs.ReadingAnswered.{list-read}
@@ -76,11 +76,11 @@ module _ (mode : Mode) (es : List Entry) (small : imageSize mode es ≤ 42949672
 
 -- ---- what is computed of a row
 
-abbrev entries : Row → List Entry
+abbrev entries : ListRow → List Entry
 entries r = accepted (r .mode) (r .repeats) (r .bytes) (r .calls)
 
 -- room for a head, the ids, each call's refusal, size, num, back offset, back array, what names give, what ids give and whether they are home
-abbrev Computed : Row → Type 0
+abbrev Computed : ListRow → Type 0
 Computed r =
     (headSize ≤ r .bytes)
     × WordIds (r .mode) (r .calls)
@@ -93,7 +93,7 @@ Computed r =
     × Each (λ (a : IdGives). (namedIn (r .mode) (entries r) (a .id) ≡ a .gives) × (isNamed (namedIn (r .mode) (entries r) (a .id)) ≡ a .isHome)) (r .ids)
 
 -- it holds of every buffer of that length
-module _ (r : Row) (c : Computed r) where
+module _ (r : ListRow) (c : Computed r) where
   room : headSize ≤ r .bytes
   room = c .0
 

@@ -21,7 +21,7 @@ use Rattle.writer.specs.declared.Repeats.{Repeats}
 use Rattle.writer.specs.declared.Repeats.the-variants.{Off, On}
 use Rattle.writer.specs.State.{State, refusesRepeats, fits, finishedSize, tooLarge, fresh}
 use Rattle.image.specs.Tally.{countsAfter}
-use Rattle.writer.specs.Put.{raised, writerAfter, putRefusal, appended, afterPut}
+use Rattle.writer.specs.Put.{backAfter, writerAfterEntry, putRefusal, appended, afterPut}
 use Rattle.writer.specs.Close.{recorded, consistent}
 use Rattle.lists.specs.Calls.{put, sizeOf, putDue, acceptedAfter, WordId}
 use Rattle.lists.proofs.ListWritten.{Written}
@@ -32,22 +32,22 @@ use Rattle.lists.proofs.WrittenRecord.{written-fits, written-recorded, 
 
 -- ---- what the mode changes
 
-raised-back : (mode : Mode) (b : ℕ) (es : List Entry) (e : Entry) → b ≡ backIn mode (backSize es)
-    → raised mode b (e .id) ≡ backIn mode (backSize (es ++ (e ∷ [])))
-raised-back Twoway b es e h = ap (λ (k : ℕ). max k (e .id + 1)) h ∙ sym (backSize-snoc es e)
-raised-back Oneway b es e h = h
+back-after-is : (mode : Mode) (b : ℕ) (es : List Entry) (e : Entry) → b ≡ backIn mode (backSize es)
+    → backAfter mode b (e .id) ≡ backIn mode (backSize (es ++ (e ∷ [])))
+back-after-is Twoway b es e h = ap (λ (k : ℕ). max k (e .id + 1)) h ∙ sym (backSize-snoc es e)
+back-after-is Oneway b es e h = h
 
 -- ---- the decision
 
 module _ (mode : Mode) (repeats : Repeats) (n : ℕ) (es : List Entry) (s : State) (w : Written mode repeats n es s) (e : Entry) where
-  back-then : raised (s .writer .mode) (s .writer .back) (e .id) ≡ backIn mode (backSize (es ++ (e ∷ [])))
+  back-then : backAfter (s .writer .mode) (s .writer .back) (e .id) ≡ backIn mode (backSize (es ++ (e ∷ [])))
   back-then =
-      ap (λ (f : Mode). raised f (s .writer .back) (e .id)) (w .mode-is) ∙ raised-back mode (s .writer .back) es e (w .back-size)
+      ap (λ (f : Mode). backAfter f (s .writer .back) (e .id)) (w .mode-is) ∙ back-after-is mode (s .writer .back) es e (w .back-size)
 
-  finished-then : finishedSize (writerAfter (s .writer) e) ≡ sizeOf mode (es ++ (e ∷ []))
-  unfolding writerAfter
+  finished-then : finishedSize (writerAfterEntry (s .writer) e) ≡ sizeOf mode (es ++ (e ∷ []))
+  unfolding writerAfterEntry
   finished-then =
-      let b : backIn (s .writer .mode) (raised (s .writer .mode) (s .writer .back) (e .id)) ≡ backIn mode (backSize (es ++ (e ∷ []))) =
+      let b : backIn (s .writer .mode) (backAfter (s .writer .mode) (s .writer .back) (e .id)) ≡ backIn mode (backSize (es ++ (e ∷ []))) =
       ap₂ backIn (w .mode-is) back-then ∙ backIn-twice mode (backSize (es ++ (e ∷ []))) in
       omega (arith, b, w .end, w .entries, entriesSize-snoc es e, length-append es (e ∷ []), sizeOf-is mode (es ++ (e ∷ [])))
 
@@ -56,7 +56,7 @@ module _ (mode : Mode) (repeats : Repeats) (n : ℕ) (es : List Entry) (s : Stat
   put-due =
       let zero = hasZero (e .name) in
       let held = containsName (e .name) (recorded s) in
-      let full = tooLarge (s .writer .length) (finishedSize (writerAfter (s .writer) e)) in
+      let full = tooLarge (s .writer .length) (finishedSize (writerAfterEntry (s .writer) e)) in
       checked (fits s) zero (consistent s) held (refusesRepeats (s .writer .repeats)) full (written-fits mode repeats n es s w)
       (written-consistent mode repeats n es s w)
       ∙ ap (λ (l : List Entry). cond zero 13 (cond (containsName (e .name) l && refusesRepeats (s .writer .repeats)) 16 (cond full 3 0)))
@@ -206,7 +206,7 @@ module _ (mode : Mode) (repeats : Repeats) (n : ℕ) (es : List Entry) (s : Stat
   tables-then = length-set (s .counts) (tableOf (hashOf (e .name))) (getD (s .counts) (tableOf (hashOf (e .name))) 0 + 1) ∙ w .tables
 
   pub appended-written : WordId mode (put e) → Written mode repeats n (es ++ (e ∷ [])) (appended s e)
-  unfolding appended writerAfter
+  unfolding appended writerAfterEntry
   appended-written word =
       record {
         mode-is = w .mode-is;

@@ -15,7 +15,7 @@ pub struct LoadAnswer {
 #[no_mangle]
 pub extern "C" fn cqdb_load(seed: u32, buf: &mut [u8]) -> LoadAnswer
     ensures answer { λ r. ⌜ r ≡ loadAnswer seed (now (buf .entry)) ⌝ }
-    ensures bytes { λ r. ⌜ now (buf .exit) ≡ afterLoad seed (now (buf .entry)) ⌝ }
+    ensures leaves { λ r. ⌜ now (buf .exit) ≡ afterLoad seed (now (buf .entry)) ⌝ }
 {
     let loaded = load::load(seed, &mut *buf);
     match loaded {

@@ -6,10 +6,10 @@ use Rattle.jhash.specs.Outcome.{value}
 use Rattle.image.specs.Image.{headSize}
 use Rattle.load.specs.States.{stateAfter, stateName}
 use Rattle.load.specs.theorems.Rebuilt.{roomFor}
-use Rattle.load.specs.examples.Rows.{Row, Takes, Rows}
+use Rattle.load.specs.examples.Rows.{LoadRow, Takes, Rows}
 use Rattle.load.proofs.Theorem.{loaded, rebuilt}
 
-row-holds : (r : Row) → headSize ≤ r .bytes → roomFor (r .bytes) ≡ r .entries → headSize + 38 * roomFor (r .bytes) ≡ r .size → Takes r
+row-holds : (r : LoadRow) → headSize ≤ r .bytes → roomFor (r .bytes) ≡ r .entries → headSize + 38 * roomFor (r .bytes) ≡ r .size → Takes r
 row-holds r large number size seed buffer long =
     let load = loaded seed buffer (omega arith) in (
       load .given ∙ ap (λ (n : ℕ). value (roomFor n)) long ∙ ap (λ (n : ℕ). value n) number,

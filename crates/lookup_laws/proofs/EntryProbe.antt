@@ -9,7 +9,7 @@ use borrow.Author.Tests.{le-ltb, ne-eqb}
 use lib.ListN.{length, take, drop}
 use Rattle.image.specs.Bytes.{word, same}
 use Rattle.image.specs.Image.{Entry, entryBytes}
-use Rattle.image.specs.Stored.{nameOf, broken}
+use Rattle.image.specs.Stored.{nameAt, broken}
 use Rattle.reader.specs.Lookup.{pass, hit, probeEntry}
 use Rattle.reader.specs.Naming.{namingAt}
 use Rattle.image.proofs.At.{At}
@@ -29,7 +29,7 @@ module _ {img : List ℕ} {o : ℕ} (e : Entry) (a : At img o (entryBytes e)) (s
         le-ltb (length img) (o + 8 + (length (e .name) + 1 - 1)) (omega (arith, entry-fits e a)),
       )
 
-  name-read : nameOf img o ≡ e .name
+  name-read : nameAt img o ≡ e .name
   name-read =
       let n : length (e .name) + 1 - 1 ≡ length (e .name) = omega arith in
       ap (λ (l : ℕ). take (l - 1) (drop (o + 8) img)) name-length

@@ -14,8 +14,8 @@ use Rattle.image.specs.Image.{Entry, headSize, count, entriesBefore, tableOffse
 use Rattle.image.specs.declared.Mode.{Mode}
 use Rattle.image.proofs.Words.{length-le32}
 use Rattle.image.proofs.Sizes.{length-placed, before-suc, before-all, length-image}
-use Rattle.image.specs.Head.{tableAt, bucketNumber, backSizeAt, backOffsetAt, tableLeaves, backLeaves}
-use Rattle.reader.specs.Open.{someLeaves, numFrom, hasLetters, opening}
+use Rattle.image.specs.Head.{tableAt, bucketNumber, backSizeAt, backOffsetAt, tablePastEnd, backPastEnd}
+use Rattle.reader.specs.Open.{somePastEnd, numFrom, hasLetters, opening}
 use Rattle.image.proofs.At.{At, at-same, at-left, at-right, at-word}
 use Rattle.image.proofs.Parts.{placedIn, head-at, most, tableAt-image, bucketNumber-image}
 
@@ -97,7 +97,7 @@ module _ (mode : Mode) (es : List Entry) where
     pub long-enough : ltb (length (image mode es)) headSize ≡ false
     long-enough = le-ltb (length (image mode es)) headSize (omega (arith, length-image mode es))
 
-    pub table-inside : (t : ℕ) → t < 256 → tableLeaves (image mode es) t ≡ false
+    pub table-inside : (t : ℕ) → t < 256 → tablePastEnd (image mode es) t ≡ false
     unfolding tableOffset
     table-inside t h =
         le-ltb (length (image mode es)) (tableAt (image mode es) t + 8 * bucketNumber (image mode es) t)
@@ -107,7 +107,7 @@ module _ (mode : Mode) (es : List Entry) where
         go true = omega (arith, most mode es fits t h)
         go false = omega (arith, most mode es fits t h)
 
-    pub back-inside : backLeaves (image mode es) ≡ false
+    pub back-inside : backPastEnd (image mode es) ≡ false
     unfolding backOffset
     back-inside =
         le-ltb (length (image mode es)) (backOffsetAt (image mode es) + 4 * backSizeAt (image mode es))
@@ -117,12 +117,12 @@ module _ (mode : Mode) (es : List Entry) where
         go true = omega arith
         go false = omega arith
 
-    tables-inside : (m t : ℕ) → t + m ≤ 256 → someLeaves (image mode es) t m ≡ false
-    unfolding someLeaves
+    tables-inside : (m t : ℕ) → t + m ≤ 256 → somePastEnd (image mode es) t m ≡ false
+    unfolding somePastEnd
     tables-inside zero t h = refl
     tables-inside (suc m) t h =
-        ap (λ (b : Bool). (ltb 0 (tableAt (image mode es) t) && b) || someLeaves (image mode es) (suc t) m) (table-inside t (omega arith))
-        ∙ ap (λ (b : Bool). b || someLeaves (image mode es) (suc t) m) (and-false (ltb 0 (tableAt (image mode es) t)))
+        ap (λ (b : Bool). (ltb 0 (tableAt (image mode es) t) && b) || somePastEnd (image mode es) (suc t) m) (table-inside t (omega arith))
+        ∙ ap (λ (b : Bool). b || somePastEnd (image mode es) (suc t) m) (and-false (ltb 0 (tableAt (image mode es) t)))
         ∙ tables-inside m (suc t) (omega arith)
 
     -- ---- the number of entries

@@ -16,7 +16,7 @@ use Rattle.canonical.specs.Canonical.{canonical}
 use Rattle.canonical.specs.steps.Made.{Storable}
 use Rattle.one_to_one.specs.OneToOne.{Failure, firstFailure}
 use Rattle.one_to_one.specs.theorems.Theorem.{kindAmong}
-use Rattle.one_to_one.specs.examples.Rows.{Row, Answers, oneToOneRows, NoBytes}
+use Rattle.one_to_one.specs.examples.Rows.{OneToOneRow, RowAnswered, oneToOneRows, NoBytes}
 use Rattle.one_to_one.proofs.Answers.{refused, never-refused}
 use Rattle.one_to_one.proofs.Pairs.{by-puts}
 
@@ -24,13 +24,13 @@ use Rattle.one_to_one.proofs.Pairs.{by-puts}
 abbrev Free : Entry → Type 0
 Free e = (hasZero (e .name) ≡ false) × (e .id < 4294967296)
 
-abbrev Computed : Row → Type 0
+abbrev Computed : OneToOneRow → Type 0
 Computed r =
     All Free (r .puts)
     × (imageSize (r .mode) (r .puts) ≤ 4294967295)
     × (firstFailure (kindAmong (r .mode) (r .puts)) headSize (r .puts) ≡ r .answer)
 
-holds : (r : Row) → Computed r → Answers r
+holds : (r : OneToOneRow) → Computed r → RowAnswered r
 holds r c =
     let each : All Storable (r .puts) = all-map (λ (e : Entry) (p : Free e). record { free = p .0; id-word = p .1 }) (r .puts) (c .0) in
     by-puts (image (r .mode) (r .puts)) (record { mode = r .mode; puts = r .puts; each = each; fits = c .1; is = refl })
@@ -64,7 +64,7 @@ computed = (
   ),
 )
 
-pub rows-hold : All Answers oneToOneRows
+pub rows-hold : All RowAnswered oneToOneRows
 rows-hold = all-map holds oneToOneRows computed
 
 -- no byte at all does not open

@@ -5,7 +5,7 @@ ghost use mathlib.Core.List.{[]};
 ghost use Prim.Native.Nat.{_<_};
 ghost use lib.ListN.{length, getD};
 ghost use Rattle.packed.specs.Names.{names, invalidEnds, beginOf};
-ghost use Rattle.packed.specs.steps.Contracts.{NameOfPre};
+ghost use Rattle.packed.specs.steps.Contracts.{NthNamePre};
 
 // Do the ends fall, or pass `size` bytes? The loop reads each of them and ends at none, so the compiler makes no branch
 // of the tests.
@@ -33,8 +33,8 @@ fn begin_of(ends: &[u64], i: usize) -> u64
 }
 
 // The i-th name, counted from 0.
-pub fn name_of<'a>(bytes: &'a [u8], ends: &[u64], i: usize) -> &'a [u8]
-    requires { ⌜ NameOfPre (now bytes) (now ends) i ⌝ }
+pub fn nth_name<'a>(bytes: &'a [u8], ends: &[u64], i: usize) -> &'a [u8]
+    requires { ⌜ NthNamePre (now bytes) (now ends) i ⌝ }
     ensures { λ r. ⌜ now r ≡ getD (names (now (bytes .entry)) (now (ends .entry))) i [] ⌝ }
 {
     let start = begin_of(ends, i) as usize;

@@ -82,7 +82,7 @@ module _ (name : ℕ → Option (List ℕ)) (first n : ℕ) (out : List ℕ) whe
       let t : ltb (length out) (45 * n) ≡ true = lt-ltb (length out) (45 * n) h in
       record {
         answer = sym (ap (λ (b : Bool). cond b (refusal 12) (value (45 * n))) t);
-        bytes = sym (ap (λ (b : Bool). cond b out (lines name first n ++ drop (45 * n) out)) t);
+        leaves = sym (ap (λ (b : Bool). cond b out (lines name first n ++ drop (45 * n) out)) t);
       }
 
   -- the lines stand in front of what was behind them
@@ -99,7 +99,7 @@ module _ (name : ℕ → Option (List ℕ)) (first n : ℕ) (out : List ℕ) whe
       let f : ltb (length out) (45 * n) ≡ false = le-ltb (length out) (45 * n) h in
       record {
         answer = sym (ap (λ (b : Bool). cond b (refusal 12) (value (45 * n))) f);
-        bytes = p ∙ in-front h ∙ sym (ap (λ (b : Bool). cond b out (lines name first n ++ drop (45 * n) out)) f);
+        leaves = p ∙ in-front h ∙ sym (ap (λ (b : Bool). cond b out (lines name first n ++ drop (45 * n) out)) f);
       }
 
 -- ---- the calls, for an image of that back size
@@ -110,7 +110,7 @@ pub whole-page : (image out out₁ : List ℕ) (size : ℕ) (r : Outcome ℕ) �
 unfolding printing afterPage
 whole-page image out out₁ size r e p = (
   p .answer ∙ ap (λ (k : ℕ). printingLines k (length out)) e,
-  p .bytes ∙ ap (λ (k : ℕ). afterLines (nameGiven image) 0 k out) e,
+  p .leaves ∙ ap (λ (k : ℕ). afterLines (nameGiven image) 0 k out) e,
 )
 
 pub part-of-page : (image out out₁ : List ℕ) (first count size n : ℕ) (r : Outcome ℕ) → size ≡ upperHint image 0
@@ -120,5 +120,5 @@ unfolding partPrinting afterPart
 part-of-page image out out₁ first count size n r e m p =
     let w : n ≡ partLines image first count = m ∙ ap (λ (k : ℕ). min count (k - first)) e in (
       p .answer ∙ ap (λ (k : ℕ). printingLines k (length out)) w,
-      p .bytes ∙ ap (λ (k : ℕ). afterLines (nameGiven image) first k out) w,
+      p .leaves ∙ ap (λ (k : ℕ). afterLines (nameGiven image) first k out) w,
     )

@@ -8,14 +8,14 @@ use lib.ListN.{length, getD}
 use Rattle.image.specs.Bytes.{cat, range}
 use Rattle.page.specs.Page.{places, idField, nameField, line, page}
 use Rattle.page.specs.examples.Ascii.{bytesOf}
-use Rattle.page.specs.examples.Rows.{Row, pageRows, Leaf, leaves}
+use Rattle.page.specs.examples.Rows.{LineRow, lineRows, PageRow, pageRows}
 
 -- a text and a line feed
 abbrev ended : String → List ℕ
 ended s = bytesOf s ++ (10 ∷ [])
 
 -- every row holds: the lines, and the pages
-pub rows-hold : (map (λ (r : Row). line (λ (id : ℕ). r .name) (r .id)) pageRows ≡ map (λ (r : Row). ended (r .shows)) pageRows)
-    × (map (λ (l : Leaf). page (λ (id : ℕ). getD (l .names) id none) (length (l .names))) leaves ≡ map (λ (l : Leaf). cat ended (l .shows)) leaves)
+pub rows-hold : (map (λ (r : LineRow). line (λ (id : ℕ). r .name) (r .id)) lineRows ≡ map (λ (r : LineRow). ended (r .shows)) lineRows)
+    × (map (λ (l : PageRow). page (λ (id : ℕ). getD (l .names) id none) (length (l .names))) pageRows ≡ map (λ (l : PageRow). cat ended (l .shows)) pageRows)
 unfolding bytesOf page line idField places nameField cat range
 rows-hold = (refl, refl)

@@ -58,7 +58,7 @@ fn print_front(out: &mut [u8], image: &[u8], first: u32, count: u32) -> Printed
 // The page of an image, printed to the front of `out`. Refused where `out` is shorter, and nothing is written.
 pub fn page(image: &[u8], out: &mut [u8]) -> Printed
     ensures answer { λ r. ⌜ printedOf r ≡ printing (now (image .entry)) (length (now (out .entry))) ⌝ }
-    ensures bytes { λ r. ⌜ now (out .exit) ≡ afterPage (now (image .entry)) (now (out .entry)) ⌝ }
+    ensures leaves { λ r. ⌜ now (out .exit) ≡ afterPage (now (image .entry)) (now (out .entry)) ⌝ }
 {
     let size = size_hint(image, Iter { next: 0 });
     print_front(&mut *out, image, 0, size)
@@ -83,7 +83,7 @@ pub fn page_part(image: &[u8], first: u32, count: u32, out: &mut [u8]) -> Printe
     ensures answer { λ r. ⌜
         printedOf r ≡ partPrinting (now (image .entry)) first count (length (now (out .entry)))
         ⌝ }
-    ensures bytes { λ r. ⌜ now (out .exit) ≡ afterPart (now (image .entry)) first count (now (out .entry)) ⌝ }
+    ensures leaves { λ r. ⌜ now (out .exit) ≡ afterPart (now (image .entry)) first count (now (out .entry)) ⌝ }
 {
     let size = size_hint(image, Iter { next: 0 });
     let lines = ids_below(size, first, count);

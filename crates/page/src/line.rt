@@ -78,7 +78,7 @@ fn repeat(out: &mut [u8], at: usize, b: u8)
 }
 
 // How many bytes of a name are printed.
-fn kept(len: usize) -> usize
+fn printed_length(len: usize) -> usize
     ensures { λ r. ⌜ r ≡ min 32 len ⌝ }
 {
     if 32 < len { 32 } else { len }
@@ -97,7 +97,7 @@ fn print_name(out: &mut [u8], at: usize, name: &[u8])
     ensures { λ _. ⌜ now (out .exit) ≡ sets (now (out .entry)) at (nameField (some (now (name .entry)))) ⌝ }
 {
     repeat(&mut *out, at, b' ');
-    let n = kept(name.len());
+    let n = printed_length(name.len());
     show_all(&mut *out, at, &name[..n]);
     out[at + 32] = mark(name.len());
 }

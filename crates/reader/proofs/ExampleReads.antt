@@ -17,7 +17,7 @@ use Rattle.image.specs.Tables.{tableOf, next}
 use Rattle.image.specs.Image.{headBytes}
 use Rattle.image.specs.Head.{tableAt, bucketNumber}
 use Rattle.image.proofs.Words.{word-drop}
-use Rattle.reader.specs.Open.{someLeaves, numFrom, opening}
+use Rattle.reader.specs.Open.{somePastEnd, numFrom, opening}
 use Rattle.reader.specs.Lookup.{found, nothing, Probe, pass, hit, probeEntry, probeBucket, decide, lookup}
 use Rattle.reader.specs.examples.Reads.{rowOf, headOf, c9, c10, takenImage, OneTaken, ownImage, ReadsHold}
 use Rattle.reader.proofs.Opens.{opening-by}
@@ -30,9 +30,9 @@ unfoldable rowHalves : ℕ → List ℕ → ℕ
 rowHalves zero l = 0
 rowHalves (suc m) l = word l 4 / 2 + rowHalves m (drop 8 l)
 
-unfoldable rowLeaves : ℕ → ℕ → List ℕ → Bool
-rowLeaves size zero l = false
-rowLeaves size (suc m) l = (ltb 0 (word l 0) && ltb size (word l 0 + 8 * word l 4)) || rowLeaves size m (drop 8 l)
+unfoldable rowPastEnd : ℕ → ℕ → List ℕ → Bool
+rowPastEnd size zero l = false
+rowPastEnd size (suc m) l = (ltb 0 (word l 0) && ltb size (word l 0 + 8 * word l 4)) || rowPastEnd size m (drop 8 l)
 
 -- what is left of an image from table t's row on
 abbrev fromRow : List ℕ → ℕ → List ℕ
@@ -55,22 +55,22 @@ numFrom-rows image (suc m) t =
     (λ i. number-row image t i / 2 + numFrom-rows image m (suc t) i)
     ∙ ap (λ (l : List ℕ). word (fromRow image t) 4 / 2 + rowHalves m l) (next-row image t)
 
-leaves-rows : (image : List ℕ) (m t : ℕ) → someLeaves image t m ≡ rowLeaves (length image) m (fromRow image t)
-unfolding someLeaves rowLeaves
-leaves-rows image zero t = refl
-leaves-rows image (suc m) t =
-    (λ i. (ltb 0 (at-row image t i) && ltb (length image) (at-row image t i + 8 * number-row image t i)) || leaves-rows image m (suc t) i)
-    ∙ ap (λ (l : List ℕ). leaves (word (fromRow image t) 0) (word (fromRow image t) 4) || rowLeaves (length image) m l) (next-row image t)
+past-end-rows : (image : List ℕ) (m t : ℕ) → somePastEnd image t m ≡ rowPastEnd (length image) m (fromRow image t)
+unfolding somePastEnd rowPastEnd
+past-end-rows image zero t = refl
+past-end-rows image (suc m) t =
+    (λ i. (ltb 0 (at-row image t i) && ltb (length image) (at-row image t i + 8 * number-row image t i)) || past-end-rows image m (suc t) i)
+    ∙ ap (λ (l : List ℕ). past-end (word (fromRow image t) 0) (word (fromRow image t) 4) || rowPastEnd (length image) m l) (next-row image t)
   where
-    leaves : ℕ → ℕ → Bool
-    leaves o n = ltb 0 o && ltb (length image) (o + 8 * n)
+    past-end : ℕ → ℕ → Bool
+    past-end o n = ltb 0 o && ltb (length image) (o + 8 * n)
 
 -- opening a head
-opens : (rows : List ℕ) (n : ℕ) → ltb (length (headOf rows)) 2072 ≡ false → rowLeaves (length (headOf rows)) 256 (drop 24 (headOf rows)) ≡ false
+opens : (rows : List ℕ) (n : ℕ) → ltb (length (headOf rows)) 2072 ≡ false → rowPastEnd (length (headOf rows)) 256 (drop 24 (headOf rows)) ≡ false
     → rowHalves 256 (drop 24 (headOf rows)) % 2 ^ 32 ≡ n → opening (headOf rows) ≡ value n
 unfolding headOf headBytes le32 word
 opens rows n e f g =
-    sym (opening-by (headOf rows) false true true false false e refl refl (leaves-rows (headOf rows) 256 0 ∙ f) refl)
+    sym (opening-by (headOf rows) false true true false false e refl refl (past-end-rows (headOf rows) 256 0 ∙ f) refl)
     ∙ ap value (ap (λ (k : ℕ). k % 2 ^ 32) (numFrom-rows (headOf rows) 256 0) ∙ g)
 
 -- an image as long as the bytes that it begins with is these bytes
@@ -143,11 +143,11 @@ module _ (image : List ℕ) where
   c8-right e = simp (lt-ltb (length image) 2072 (omega arith))
 
   c9-right : length image ≡ 2072 → take (length (c9 .begins)) image ≡ c9 .begins → opening image ≡ value 3
-  unfolding headOf rowOf headBytes le32 word rowHalves rowLeaves
+  unfolding headOf rowOf headBytes le32 word rowHalves rowPastEnd
   c9-right e f = ap opening (begun image (c9 .begins) 2072 refl e f) ∙ opens (rowOf 0 7) 3 refl refl refl
 
   c10-right : length image ≡ 2072 → take (length (c10 .begins)) image ≡ c10 .begins → opening image ≡ value 2147483645
-  unfolding headOf rowOf headBytes le32 word rowHalves rowLeaves
+  unfolding headOf rowOf headBytes le32 word rowHalves rowPastEnd
   c10-right e f =
       ap opening (begun image (c10 .begins) 2072 refl e f)
       ∙ opens (rowOf 0 4294967295 ++ rowOf 0 4294967295 ++ rowOf 0 4294967295) 2147483645 refl refl refl

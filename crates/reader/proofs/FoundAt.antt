@@ -11,8 +11,8 @@ use lib.ListN.{length, getD}
 use Rattle.jhash.specs.NameHash.{hashOf}
 use Rattle.image.specs.Bytes.{word, same}
 use Rattle.image.specs.Tables.{tableOf, start, probeSequence}
-use Rattle.image.specs.Head.{tableAt, bucketNumber, tableLeaves}
-use Rattle.image.specs.Stored.{nameOf, broken}
+use Rattle.image.specs.Head.{tableAt, bucketNumber, tablePastEnd}
+use Rattle.image.specs.Stored.{nameAt, broken}
 use Rattle.image.proofs.Bools.{or-false-first, or-false-second}
 use Rattle.image.proofs.Equal.{same-true}
 use Rattle.reader.specs.Lookup.{found, nothing, Hit, hitAt, Probe, pass, ends, hit, probeEntry, probeBucket, decide, searchAlong, searchTable, unsearched, lookupHash, lookup}
@@ -38,7 +38,7 @@ record Sighted (image name : List ℕ) (h b : ℕ) (t : Hit) : Type 0 where
   pub hash : word image b ≡ h
   pub offset : word image (b + 4) ≡ t .offset
   pub unbroken : broken image (word image (b + 4)) ≡ false
-  pub name-there : nameOf image (word image (b + 4)) ≡ name
+  pub name-there : nameAt image (word image (b + 4)) ≡ name
   pub id-there : word image (word image (b + 4)) ≡ t .id
 
 sighted : (image name : List ℕ) (h b : ℕ) (t : Hit) → probeBucket image name h b ≡ hit t → Sighted image name h b t
@@ -48,18 +48,18 @@ sighted image name h b t e = by-offset (eqb at 0) e
     at : ℕ
     at = word image (b + 4)
 
-    by-name : (s : Bool) → same (nameOf image at) name ≡ s → word image b ≡ h → broken image at ≡ false
+    by-name : (s : Bool) → same (nameAt image at) name ≡ s → word image b ≡ h → broken image at ≡ false
         → cond s (hit (hitAt image at)) pass ≡ hit t → Sighted image name h b t
     by-name true p q w e =
         let i : word image at ≡ t .id = cc in
         let o : at ≡ t .offset = cc in
-        record { hash = q; offset = o; unbroken = w; name-there = same-true (nameOf image at) name p; id-there = i }
+        record { hash = q; offset = o; unbroken = w; name-there = same-true (nameAt image at) name p; id-there = i }
     by-name false p q w e = pass-no-hit t e
 
     by-entry : (x : Bool) → broken image at ≡ x → word image b ≡ h
-        → cond x ends (cond (same (nameOf image at) name) (hit (hitAt image at)) pass) ≡ hit t → Sighted image name h b t
+        → cond x ends (cond (same (nameAt image at) name) (hit (hitAt image at)) pass) ≡ hit t → Sighted image name h b t
     by-entry true p q e = ends-no-hit t e
-    by-entry false p q e = by-name (same (nameOf image at) name) refl q p e
+    by-entry false p q e = by-name (same (nameAt image at) name) refl q p e
 
     by-hash : (s : Bool) → eqb (word image b) h ≡ s → cond s (probeEntry image name at) pass ≡ hit t → Sighted image name h b t
     by-hash true p e = by-entry (broken image at) refl (eqb-true (word image b) h p) e
@@ -113,7 +113,7 @@ module _ (image name : List ℕ) (f : Found) where
         hash = s .hash;
         offset = s .offset;
         unbroken = ap (broken image) (sym (s .offset)) ∙ s .unbroken;
-        name-there = ap (nameOf image) (sym (s .offset)) ∙ s .name-there;
+        name-there = ap (nameAt image) (sym (s .offset)) ∙ s .name-there;
         id-there = ap (word image) (sym (s .offset)) ∙ s .id-there;
       }
 
@@ -133,8 +133,8 @@ module _ (image name : List ℕ) (f : Found) where
       by-row : (b : Bool) → unsearched image t ≡ b → cond b (nothing 0) (searchTable image name (hashOf name) o n) ≡ found f → FoundAt image name f
       by-row true p e = not-found 0 f e
       by-row false p e =
-          let some-bucket = eqb-false n 0 (or-false-second (eqb o 0) (eqb n 0) (or-false-first (eqb o 0 || eqb n 0) (tableLeaves image t) p)) in
-          let fits = ltb-false (length image) (o + 8 * n) (or-false-second (eqb o 0 || eqb n 0) (tableLeaves image t) p) in
+          let some-bucket = eqb-false n 0 (or-false-second (eqb o 0) (eqb n 0) (or-false-first (eqb o 0 || eqb n 0) (tablePastEnd image t) p)) in
+          let fits = ltb-false (length image) (o + 8 * n) (or-false-second (eqb o 0 || eqb n 0) (tablePastEnd image t) p) in
           in-search o n (omega arith) fits e
 
       by-length : (b : Bool) → cond b (nothing 0) (lookupHash image name (hashOf name)) ≡ found f → FoundAt image name f

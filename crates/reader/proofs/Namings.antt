@@ -9,7 +9,7 @@ use lib.Dec.{eqb, ltb, leb}
 use lib.ListN.{length}
 use Rattle.image.specs.Bytes.{word}
 use Rattle.image.proofs.Bools.{or-false-first, or-false-second}
-use Rattle.image.specs.Head.{backSizeAt, backOffsetAt, backLeaves}
+use Rattle.image.specs.Head.{backSizeAt, backOffsetAt, backPastEnd}
 use Rattle.image.specs.Stored.{broken}
 use Rattle.reader.specs.Slices.{Slice, subslice}
 use Rattle.reader.specs.Naming.{Naming, place, unnamed, noBack, namingAt, naming, sliceOr}
@@ -26,8 +26,8 @@ back image e =
     let short = ltb (length image) 2072 in
     let none = eqb (backOffsetAt image) 0 in
     record {
-      head = ltb-false (length image) 2072 (or-false-first short none (or-false-first (short || none) (backLeaves image) e));
-      array = ltb-false (length image) (backOffsetAt image + 4 * backSizeAt image) (or-false-second (short || none) (backLeaves image) e);
+      head = ltb-false (length image) 2072 (or-false-first short none (or-false-first (short || none) (backPastEnd image) e));
+      array = ltb-false (length image) (backOffsetAt image + 4 * backSizeAt image) (or-false-second (short || none) (backPastEnd image) e);
     }
 
 -- the entry's offset, read by way of the back offset o

@@ -12,20 +12,20 @@ use Rattle.jhash.specs.NameHash.{hashOf}
 use Rattle.image.specs.Bytes.{word, same}
 use Rattle.image.specs.Tables.{tableOf, start, next, probeSequence}
 use Rattle.image.specs.Head.{tableAt, bucketNumber}
-use Rattle.image.specs.Stored.{nameOf, broken}
+use Rattle.image.specs.Stored.{nameAt, broken}
 use Rattle.reader.specs.Lookup.{Lookup, nothing, Probe, pass, ends, hit, hitAt, probeEntry, probeBucket, decide, searchAlong, unsearched, searchTable, lookupHash, lookupBy, lookup}
 use Rattle.reader.specs.steps.Resume.{searchRest, bucketAfter, searchFrom, lookupFrom}
 
 -- ---- the probe of an entry and of a bucket
 
 -- the bytes of the image that are compared with the name, for a length word w
-pub name-slice : (image : List ℕ) (at w : ℕ) → w ≡ word image (at + 4) → take (at + 8 + (w - 1) - (at + 8)) (drop (at + 8) image) ≡ nameOf image at
+pub name-slice : (image : List ℕ) (at w : ℕ) → w ≡ word image (at + 4) → take (at + 8 + (w - 1) - (at + 8)) (drop (at + 8) image) ≡ nameAt image at
 name-slice image at w e =
     let f : at + 8 + (w - 1) - (at + 8) ≡ w - 1 = omega arith in
     ap (λ (k : ℕ). take k (drop (at + 8) image)) (f ∙ ap (λ (k : ℕ). k - 1) e)
 
 module _ (image name : List ℕ) (at : ℕ) where
-  pub probe-entry-by : (x s : Bool) → broken image at ≡ x → same (nameOf image at) name ≡ s
+  pub probe-entry-by : (x s : Bool) → broken image at ≡ x → same (nameAt image at) name ≡ s
       → cond x ends (cond s (hit (hitAt image at)) pass) ≡ probeEntry image name at
   unfolding probeEntry
   probe-entry-by x s ex es = sym (λ i. cond (ex i) ends (cond (es i) (hit (hitAt image at)) pass))
@@ -95,8 +95,8 @@ module _ {image : List ℕ} {h at n : ℕ} (row : Row image h at n) where
   pub unread-number : (at ≡ 0 → ⊥) → n ≡ 0 → unsearched image (tableOf h) ≡ true
   unread-number o e = by-tests false true _ (ne-eqb at 0 o) (eq-eqb n 0 e) refl
 
-  pub unread-leaves : (at ≡ 0 → ⊥) → length image < at + 8 * n → unsearched image (tableOf h) ≡ true
-  unread-leaves o out = go (eqb n 0) refl
+  pub unread-past-end : (at ≡ 0 → ⊥) → length image < at + 8 * n → unsearched image (tableOf h) ≡ true
+  unread-past-end o out = go (eqb n 0) refl
     where
       go : (y : Bool) → eqb n 0 ≡ y → unsearched image (tableOf h) ≡ true
       go true ey = by-tests false true _ (ne-eqb at 0 o) ey refl

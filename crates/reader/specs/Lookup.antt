@@ -8,8 +8,8 @@ use Rattle.jhash.specs.NameHash.{hashOf}
 use Rattle.image.specs.Bytes.{word, same}
 use Rattle.image.specs.Tables.{tableOf, start, probeSequence}
 use Rattle.image.specs.Image.{headSize}
-use Rattle.image.specs.Head.{tableAt, bucketNumber, tableLeaves}
-use Rattle.image.specs.Stored.{nameOf, broken}
+use Rattle.image.specs.Head.{tableAt, bucketNumber, tablePastEnd}
+use Rattle.image.specs.Stored.{nameAt, broken}
 use Rattle.reader.specs.declared.Found.{Found}
 
 -- the answer: found with its id, or nothing; both carry the number of buckets read, the deciding one included. 02 (ii):
@@ -35,7 +35,7 @@ pub data Probe : Type 0 where
 -- a broken entry ends with nothing; an equal name ends with the entry; another name is passed
 unfoldable pub probeEntry : List ℕ → List ℕ → ℕ → Probe
 probeEntry image name at =
-    cond (broken image at) ends (cond (same (nameOf image at) name) (hit (hitAt image at)) pass)
+    cond (broken image at) ends (cond (same (nameAt image at) name) (hit (hitAt image at)) pass)
 
 -- an empty bucket ends with nothing; a bucket with another hash is passed
 unfoldable pub probeBucket : List ℕ → List ℕ → ℕ → ℕ → Probe
@@ -61,7 +61,7 @@ searchTable image name h o n =
 
 -- nothing after 0 reads: a table with offset 0, bucket number 0 or an end past the image
 abbrev pub unsearched : List ℕ → ℕ → Bool
-unsearched image t = eqb (tableAt image t) 0 || eqb (bucketNumber image t) 0 || tableLeaves image t
+unsearched image t = eqb (tableAt image t) 0 || eqb (bucketNumber image t) 0 || tablePastEnd image t
 
 unfoldable pub lookupHash : List ℕ → List ℕ → ℕ → Lookup
 lookupHash image name h =

@@ -7,7 +7,7 @@ use lib.ListN.{length, take, drop}
 use lib.Dec.{eqb, ltb, leb}
 use Rattle.image.specs.Bytes.{word}
 use Rattle.image.specs.Image.{headSize}
-use Rattle.image.specs.Head.{backSizeAt, backOffsetAt, backLeaves}
+use Rattle.image.specs.Head.{backSizeAt, backOffsetAt, backPastEnd}
 use Rattle.image.specs.Stored.{broken}
 use Rattle.reader.specs.Slices.{Slice, subslice}
 
@@ -24,7 +24,7 @@ lengthIn unnamed = 0
 -- there is no back array that can be read: the image is under 2,072 bytes, back offset is 0, or the back array leaves
 -- the image
 abbrev pub noBack : List ℕ → Bool
-noBack image = ltb (length image) headSize || eqb (backOffsetAt image) 0 || backLeaves image
+noBack image = ltb (length image) headSize || eqb (backOffsetAt image) 0 || backPastEnd image
 
 -- the name of the entry at an offset: nothing when the offset is 0, its length word is 0, or length word or name leaves
 -- the image

@@ -7,12 +7,12 @@ use lib.Dec.{eqb, ltb}
 use Rattle.jhash.specs.Outcome.{Outcome, value, refusal}
 use Rattle.image.specs.Bytes.{word}
 use Rattle.image.specs.Image.{headSize}
-use Rattle.image.specs.Head.{tableAt, bucketNumber, backOffsetAt, tableLeaves, backLeaves}
+use Rattle.image.specs.Head.{tableAt, bucketNumber, backOffsetAt, tablePastEnd, backPastEnd}
 
 -- does one of the m tables from t on, with an offset above 0, leave the image?
-unfoldable pub someLeaves : List ℕ → ℕ → ℕ → Bool
-someLeaves image t zero = false
-someLeaves image t (suc m) = (ltb 0 (tableAt image t) && tableLeaves image t) || someLeaves image (suc t) m
+unfoldable pub somePastEnd : List ℕ → ℕ → ℕ → Bool
+somePastEnd image t zero = false
+somePastEnd image t (suc m) = (ltb 0 (tableAt image t) && tablePastEnd image t) || somePastEnd image (suc t) m
 
 -- each bucket number divided by 2 (whole part), summed over the m tables from t on, also those with offset 0
 unfoldable pub numFrom : List ℕ → ℕ → ℕ → ℕ
@@ -32,6 +32,6 @@ opening image =
     cond (ltb (length image) headSize) (refusal 1)
     (cond (not (hasLetters image)) (refusal 5)
     (cond (not (eqb (word image 12) 0x62445371)) (refusal 6)
-    (cond (someLeaves image 0 256) (refusal 7)
-    (cond (ltb 0 (backOffsetAt image) && backLeaves image) (refusal 8)
+    (cond (somePastEnd image 0 256) (refusal 7)
+    (cond (ltb 0 (backOffsetAt image) && backPastEnd image) (refusal 8)
     (value (numFrom image 0 256 % 2 ^ 32))))))

@@ -4,7 +4,7 @@ ghost use Rattle.reader.specs.Slices.{slice};
 ghost use Rattle.reader.specs.Naming.{noBack, naming, nameSlice, nameOr};
 ghost use Rattle.reader.specs.Cases.{namingOf};
 use super::Named;
-use super::opening::back_leaves;
+use super::opening::back_past_end;
 use image::HEAD_SIZE;
 use image::entries::broken;
 use jhash::word::word;
@@ -19,7 +19,7 @@ pub(crate) fn no_back(image: &[u8]) -> bool
     if word(image, 20) == 0 {
         return true;
     }
-    back_leaves(image)
+    back_past_end(image)
 }
 
 // The place of an id's name, or nothing.

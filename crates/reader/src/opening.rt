@@ -4,17 +4,17 @@ ghost use mathlib.Core.Bool.{false, _&&_};
 ghost use Prim.Native.Nat.{_+_, _*_, _^_, _<_, _≤_};
 ghost use lib.Dec.{ltb};
 ghost use lib.ListN.{length};
-ghost use Rattle.image.specs.Head.{backLeaves};
-ghost use Rattle.reader.specs.Open.{hasLetters, someLeaves, opening};
+ghost use Rattle.image.specs.Head.{backPastEnd};
+ghost use Rattle.reader.specs.Open.{hasLetters, somePastEnd, opening};
 ghost use Rattle.reader.specs.Cases.{openedOf};
-ghost use Rattle.reader.specs.steps.Tables.{SlacksFit, TableAdded, AllTables, SomeLeavesPre};
+ghost use Rattle.reader.specs.steps.Tables.{SlacksFit, TableAdded, AllTables, SomePastEndPre};
 use super::Opened;
 use image::BYTEORDER_CHECK;
 use image::HEAD_SIZE;
 use jhash::word::word;
 
 // Of the tables so far: the halves of their bucket numbers, summed modulo 2^32, and the bitwise or of their slacks.
-struct Tables {
+struct TableSums {
     num: u32,
     slacks: u64,
 }
@@ -45,21 +45,21 @@ fn with_slack(slacks: u64, size: usize, at: u32, n: u32) -> u64
 }
 
 // One table more.
-fn with_table(all: Tables, size: usize, at: u32, n: u32) -> Tables
+fn with_table(all: TableSums, size: usize, at: u32, n: u32) -> TableSums
     ensures { λ r. ⌜ TableAdded all size at n r ⌝ }
 {
-    Tables {
+    TableSums {
         num: std::num::wrapping_add_u32(all.num, n / 2),
         slacks: with_slack(all.slacks, size, at, n),
     }
 }
 
 // All 256 tables. The loop has no early exit and no 64-bit comparison, so the compiler makes vector code of it.
-fn all_tables(image: &[u8]) -> Tables
+fn all_tables(image: &[u8]) -> TableSums
     requires { ⌜ 2072 ≤ length (now image) ⌝ }
     ensures { λ r. ⌜ AllTables (now (image .entry)) r ⌝ }
 {
-    let mut all = Tables { num: 0, slacks: 0 };
+    let mut all = TableSums { num: 0, slacks: 0 };
     let mut t: usize = 0;
     while t < NUM_TABLES {
         all = with_table(
@@ -74,22 +74,22 @@ fn all_tables(image: &[u8]) -> Tables
 }
 
 // Does a table at `at` with n buckets, with an offset above 0, leave an image of `size` bytes?
-fn leaves(size: usize, at: u32, n: u32) -> bool
+fn past_end(size: usize, at: u32, n: u32) -> bool
     ensures { λ r. ⌜ r ≡ (ltb 0 at && ltb size (at + 8 * n)) ⌝ }
 {
     (0 < at) & (size < at as usize + 8 * (n as usize))
 }
 
 // Does one of the 256 tables, with an offset above 0, leave the image?
-fn some_leaves_by_each(image: &[u8]) -> bool
+fn some_past_end_by_each(image: &[u8]) -> bool
     requires { ⌜ 2072 ≤ length (now image) ⌝ }
-    ensures { λ r. ⌜ r ≡ someLeaves (now (image .entry)) 0 256 ⌝ }
+    ensures { λ r. ⌜ r ≡ somePastEnd (now (image .entry)) 0 256 ⌝ }
 {
     let mut one = false;
     let mut t: usize = 0;
     while t < NUM_TABLES {
         one = one
-            | leaves(
+            | past_end(
                 image.len(),
                 word(image, 24 + 8 * t),
                 word(image, 28 + 8 * t),
@@ -101,20 +101,20 @@ fn some_leaves_by_each(image: &[u8]) -> bool
 
 // The same, where the bitwise or of the slacks is known. From 2^63 on it decides nothing: a table that leaves may have
 // offset 0.
-fn some_leaves(image: &[u8], slacks: u64) -> bool
-    requires { ⌜ SomeLeavesPre (now image) slacks ⌝ }
-    ensures { λ r. ⌜ r ≡ someLeaves (now (image .entry)) 0 256 ⌝ }
+fn some_past_end(image: &[u8], slacks: u64) -> bool
+    requires { ⌜ SomePastEndPre (now image) slacks ⌝ }
+    ensures { λ r. ⌜ r ≡ somePastEnd (now (image .entry)) 0 256 ⌝ }
 {
     if 9223372036854775808 <= slacks {
-        return some_leaves_by_each(image);
+        return some_past_end_by_each(image);
     }
     false
 }
 
 // Does the back array leave the image?
-pub(crate) fn back_leaves(image: &[u8]) -> bool
+pub(crate) fn back_past_end(image: &[u8]) -> bool
     requires { ⌜ 2072 ≤ length (now image) ⌝ }
-    ensures { λ r. ⌜ r ≡ backLeaves (now (image .entry)) ⌝ }
+    ensures { λ r. ⌜ r ≡ backPastEnd (now (image .entry)) ⌝ }
 {
     let at = word(image, 20) as usize;
     let n = word(image, 16) as usize;
@@ -137,11 +137,11 @@ pub fn open(image: &[u8]) -> Opened
         return Opened::Refused(6);
     }
     let all = all_tables(image);
-    if some_leaves(image, all.slacks) {
+    if some_past_end(image, all.slacks) {
         return Opened::Refused(7);
     }
     if 0 < word(image, 20) {
-        if back_leaves(image) {
+        if back_past_end(image) {
             return Opened::Refused(8);
         }
     }

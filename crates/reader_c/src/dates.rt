@@ -5,7 +5,7 @@ use validity::Window;
 use validity::WindowState;
 ghost use mathlib.Core.Path.{_≡_};
 ghost use Rattle.validity.specs.Rule.{namingOn};
-ghost use Rattle.validity.specs.Windows.{placeBy};
+ghost use Rattle.validity.specs.Windows.{placeByState};
 ghost use Rattle.reader_c.specs.NameOnAnswer.{onAnswer};
 
 // The refusal's number, 0 when accepted; 1 and the place of the name in the image, its length and its first byte's
@@ -20,9 +20,9 @@ pub struct OnAnswer {
 
 // The place of an id's name on a date as C has it, where the windows say s.
 fn answer_by(image: &[u8], id: u32, date: Date, s: WindowState) -> OnAnswer
-    ensures { λ r. ⌜ r ≡ onAnswer (placeBy (now (image .entry)) id date s) ⌝ }
+    ensures { λ r. ⌜ r ≡ onAnswer (placeByState (now (image .entry)) id date s) ⌝ }
 {
-    match validity::place_by(image, id, date, s) {
+    match validity::place_by_state(image, id, date, s) {
         NamedOn::Place { start, len } => OnAnswer {
             refusal: 0,
             found: 1,

@@ -40,7 +40,7 @@ fn answer(printed: Printed) -> PageAnswer
 #[no_mangle]
 pub extern "C" fn cqdb_page(image: &[u8], out: &mut [u8]) -> PageAnswer
     ensures answer { λ r. ⌜ r ≡ pageAnswer (now (image .entry)) (length (now (out .entry))) ⌝ }
-    ensures bytes { λ r. ⌜ now (out .exit) ≡ afterPage (now (image .entry)) (now (out .entry)) ⌝ }
+    ensures leaves { λ r. ⌜ now (out .exit) ≡ afterPage (now (image .entry)) (now (out .entry)) ⌝ }
 {
     let printed = page::page(image, &mut *out);
     answer(printed)
@@ -51,7 +51,7 @@ pub extern "C" fn cqdb_page(image: &[u8], out: &mut [u8]) -> PageAnswer
 #[no_mangle]
 pub extern "C" fn cqdb_page_part(image: &[u8], first: u32, count: u32, out: &mut [u8]) -> PageAnswer
     ensures answer { λ r. ⌜ r ≡ partAnswer (now (image .entry)) first count (length (now (out .entry))) ⌝ }
-    ensures bytes { λ r. ⌜ now (out .exit) ≡ afterPart (now (image .entry)) first count (now (out .entry)) ⌝ }
+    ensures leaves { λ r. ⌜ now (out .exit) ≡ afterPart (now (image .entry)) first count (now (out .entry)) ⌝ }
 {
     let printed = page::page_part(image, first, count, &mut *out);
     answer(printed)

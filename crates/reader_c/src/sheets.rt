@@ -86,7 +86,7 @@ pub extern "C" fn cqdb_sheet_write(
             refusal: 0,
             length: n as u64,
         },
-        Written::NoRoom => LengthAnswer {
+        Written::TooLarge => LengthAnswer {
             refusal: 21,
             length: 0,
         },

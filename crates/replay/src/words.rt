@@ -1,5 +1,5 @@
 // A line's words: what stands before a space, and what follows it.
-use jhash::word::wide;
+use jhash::word::byte_as_word;
 
 // The first word.
 pub(super) fn first<'a>(line: &'a [u8]) -> &'a [u8] {
@@ -30,5 +30,8 @@ pub(super) fn tag(line: &[u8]) -> u32 {
     if word.len() != 4 {
         return 0;
     }
-    wide(word[0]) * 16777216 + wide(word[1]) * 65536 + wide(word[2]) * 256 + wide(word[3])
+    byte_as_word(word[0]) * 16777216
+        + byte_as_word(word[1]) * 65536
+        + byte_as_word(word[2]) * 256
+        + byte_as_word(word[3])
 }

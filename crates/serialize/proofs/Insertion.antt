@@ -20,7 +20,7 @@ use Rattle.image.specs.Tables.{start, probeSequence, firstEmpty}
 use Rattle.image.specs.steps.EntryLength.{wholeLength}
 use Rattle.image.specs.steps.Contracts.{BucketIs, TableIn, offsetAt}
 use Rattle.serialize.specs.steps.Insertion.{holdsTable, inserted, PairInserted, insertedByRow, EntryPre, hashAt}
-use Rattle.serialize.specs.steps.Insertion.{backStored, entryInserted, WalkPre, insertedFrom}
+use Rattle.serialize.specs.steps.Insertion.{backStored, entryInserted, InsertEntriesPre, insertedFrom}
 
 -- ---- a pair
 
@@ -70,7 +70,7 @@ entry-inserted mode back-offset buf at n ei eh p q =
 -- ---- a walk over the entries
 
 -- a whole entry lies before the end
-pub entry-in : {back-offset end : ℕ} {buf₀ : List ℕ} → WalkPre back-offset end buf₀ → (buf : List ℕ) → length buf ≡ length buf₀ → (at n : ℕ) → at ≤ end
+pub entry-in : {back-offset end : ℕ} {buf₀ : List ℕ} → InsertEntriesPre back-offset end buf₀ → (buf : List ℕ) → length buf ≡ length buf₀ → (at n : ℕ) → at ≤ end
     → n ≡ wholeLength (between buf at end) → n < 4294967296 → (n ≡ 0 → ⊥) → (at + (8 + n) ≤ end) × EntryPre at n buf
 entry-in {back-offset} {end} pre buf long at n before is small some =
     let r = entry-room buf at end n before (omega (arith, pre .inside)) is some in

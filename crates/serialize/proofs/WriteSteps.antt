@@ -14,7 +14,7 @@ use Rattle.image.specs.declared.Mode.the-variants.{Twoway, Oneway}
 use Rattle.serialize.specs.Record.{finishedOf, noneAbove}
 use Rattle.serialize.specs.steps.Insertion.{insertedFrom}
 use Rattle.serialize.specs.steps.Partition.{insertedByTables}
-use Rattle.serialize.specs.steps.Written.{rowsFrom, backOffsetOf, headed, zeroed, partitions, allInserted, written}
+use Rattle.serialize.specs.steps.Written.{rowsFrom, backOffsetOf, headed, zeroed, byTables, allInserted, written}
 
 pub backIn-le : (mode : Mode) (n : ℕ) → backIn mode n ≤ n
 backIn-le Twoway n = omega arith
@@ -62,19 +62,19 @@ module _ (mode : Mode) (end entries back : ℕ) where
       ∙ ap (allInserted mode (backOffsetOf mode end entries back) end hashes entries (finishedOf mode end entries back) counts) p
 
 -- by tables, or one by one
-pub partitions-few : (counts : List ℕ) (entries : ℕ) → entries < 1024 → false ≡ partitions counts entries
-partitions-few counts entries h = rw (lt-leb 1024 entries h)
+pub by-tables-few : (counts : List ℕ) (entries : ℕ) → entries < 1024 → false ≡ byTables counts entries
+by-tables-few counts entries h = rw (lt-leb 1024 entries h)
 
-pub partitions-many : (counts : List ℕ) (entries : ℕ) (b : Bool) → 1024 ≤ entries → b ≡ noneAbove counts 4608 → b ≡ partitions counts entries
-partitions-many counts entries b h e = rw (le-leb 1024 entries h) e
+pub by-tables-many : (counts : List ℕ) (entries : ℕ) (b : Bool) → 1024 ≤ entries → b ≡ noneAbove counts 4608 → b ≡ byTables counts entries
+by-tables-many counts entries b h e = rw (le-leb 1024 entries h) e
 
 module _ (mode : Mode) (back-offset end : ℕ) (hashes : List ℕ) (entries size : ℕ) (counts buf : List ℕ) where
-  pub filled-by-tables : {b1 b2 : List ℕ} → partitions counts entries ≡ true → b1 ≡ sets buf (end + 16 * entries) (replicate (size - (end + 16 * entries)) 0)
+  pub filled-by-tables : {b1 b2 : List ℕ} → byTables counts entries ≡ true → b1 ≡ sets buf (end + 16 * entries) (replicate (size - (end + 16 * entries)) 0)
       → b2 ≡ insertedByTables mode back-offset end hashes entries counts b1 → b2 ≡ allInserted mode back-offset end hashes entries size counts buf
   unfolding allInserted zeroed
   filled-by-tables t p q = rw t (q ∙ ap (insertedByTables mode back-offset end hashes entries counts) p)
 
-  pub filled-singly : {b1 b2 : List ℕ} → partitions counts entries ≡ false → b1 ≡ sets buf end (replicate (size - end) 0)
+  pub filled-singly : {b1 b2 : List ℕ} → byTables counts entries ≡ false → b1 ≡ sets buf end (replicate (size - end) 0)
       → b2 ≡ insertedFrom mode back-offset end entries 2072 b1 → b2 ≡ allInserted mode back-offset end hashes entries size counts buf
   unfolding allInserted zeroed
   filled-singly t p q = rw t (q ∙ ap (insertedFrom mode back-offset end entries 2072) p)

@@ -24,7 +24,7 @@ use Rattle.serialize.specs.steps.Preconditions.{ClosePrecondition, First
 use Rattle.image.specs.Stored.{whole, between}
 use Rattle.serialize.specs.steps.Insertion.{entryInserted, insertedFrom}
 use Rattle.serialize.specs.steps.Partition.{insertedByTables}
-use Rattle.serialize.specs.steps.Written.{backOffsetOf, headed, zeroed, partitions, allInserted, written}
+use Rattle.serialize.specs.steps.Written.{backOffsetOf, headed, zeroed, byTables, allInserted, written}
 use Rattle.image.proofs.EntryArea.{AllBytes, bytes-drop, bytes-take, length-entriesIn, whole-bytes, ids-words}
 use Rattle.serialize.proofs.HeadRows.{counts-agree}
 use Rattle.serialize.proofs.PartialImage.{upToEntries, partial, partial-all}
@@ -89,25 +89,25 @@ module _ (mode : Mode) (end entries back : ℕ) (counts buf : List ℕ) (bytes :
   size = finishedOf mode end entries back
 
   at-end : end ≡ entriesEnd (storedEntries buf end entries)
-  at-end = stored-end end entries buf bytes (asked .entire) (asked .low) (omega (arith, asked .inside))
+  at-end = stored-end end entries buf bytes (asked .whole-entries) (asked .after-head) (omega (arith, asked .fits-buffer))
 
   in-number : length (storedEntries buf end entries) ≡ entries
-  in-number = stored-number end entries buf bytes (asked .entire)
+  in-number = stored-number end entries buf bytes (asked .whole-entries)
 
   describes : Describes mode end entries back counts buf es
   unfolding es
   describes = record {
     ends = at-end;
     number = sym in-number;
-    backs = asked .backs;
-    tallies = counts-agree counts (storedEntries buf end entries) (asked .agree);
-    area = area-kept end entries buf bytes (asked .entire);
-    inside = asked .inside;
+    backs = asked .back-agrees;
+    tallies = counts-agree counts (storedEntries buf end entries) (asked .counts-agree);
+    area = area-kept end entries buf bytes (asked .whole-entries);
+    inside = asked .fits-buffer;
   }
 
   image-small : imageSize mode es ≤ 4294967295
   unfolding es
-  image-small = rw (← size-is mode end entries back counts buf es describes) (asked .small)
+  image-small = rw (← size-is mode end entries back counts buf es describes) (asked .fits-word)
 
   -- entry by entry
   written-singly : insertedFrom mode (backOffsetOf mode end entries back) end entries headSize (zeroed (headed mode end entries back counts buf) end size)
@@ -119,11 +119,11 @@ module _ (mode : Mode) (end entries back : ℕ) (counts buf : List ℕ) (bytes :
       ∙ ap (λ (o : ℕ). insertedFrom mode o end entries headSize (partial mode es [] ++ tail)) (back-offset-is mode end entries back counts buf es describes)
       ∙ ap (λ (o : ℕ). insertedFrom mode (backOffset mode es) o entries headSize (partial mode es [] ++ tail)) at-end
       ∙ ap (λ (n : ℕ). insertedFrom mode (backOffset mode es) (entriesEnd es) n headSize (partial mode es [] ++ tail)) (sym in-number)
-      ∙ walked mode es tail image-small (stored-ids end entries buf bytes (asked .entire)) es [] refl
+      ∙ walked mode es tail image-small (stored-ids end entries buf bytes (asked .whole-entries)) es [] refl
       ∙ ap (λ (l : List ℕ). l ++ tail) (partial-all mode es)
 
   -- by tables
-  written-by-tables : (hashes : List ℕ) → FirstHashes hashes (storedEntries buf end entries) → partitions counts entries ≡ true
+  written-by-tables : (hashes : List ℕ) → FirstHashes hashes (storedEntries buf end entries) → byTables counts entries ≡ true
       → insertedByTables mode (backOffsetOf mode end entries back) end hashes entries counts (zeroed (headed mode end entries back counts buf) (end + 16 * entries) size)
       ≡ image mode es ++ drop size buf
   unfolding es size
@@ -132,14 +132,14 @@ module _ (mode : Mode) (end entries back : ℕ) (counts buf : List ℕ) (bytes :
       let X = between buf end (end + 16 * entries) in
       let Z = upToEntries mode es ++ X ++ backWords [] (backSizeOf mode es) ++ tail in
       let long : length X ≡ 16 * length (placedIn es) =
-      length-between buf end (end + 16 * entries) (omega arith) (omega (arith, asked .inside))
+      length-between buf end (end + 16 * entries) (omega arith) (omega (arith, asked .fits-buffer))
       ∙ same end entries (sym in-number ∙ sym (length-placed headSize es)) in
       ap (insertedByTables mode (backOffsetOf mode end entries back) end hashes entries counts) (back-cleared mode end entries back counts buf es describes)
       ∙ ap (λ (o : ℕ). insertedByTables mode o end hashes entries counts Z) (back-offset-is mode end entries back counts buf es describes)
       ∙ ap (λ (o : ℕ). insertedByTables mode (backOffset mode es) o hashes entries counts Z) at-end
       ∙ ap (λ (n : ℕ). insertedByTables mode (backOffset mode es) (entriesEnd es) hashes n counts Z) (sym in-number)
       ∙ by-tables-image mode es hashes X tail counts known long image-small
-      (stored-ids end entries buf bytes (asked .entire)) (describes .tallies)
+      (stored-ids end entries buf bytes (asked .whole-entries)) (describes .tallies)
       (counts-few counts (placedIn es) 4608 (and-second (leb 1024 entries) (noneAbove counts 4608) few) (describes .tallies))
     where
       same : (a n : ℕ) {m : ℕ} → n ≡ m → a + 16 * n - a ≡ 16 * m
@@ -148,9 +148,9 @@ module _ (mode : Mode) (end entries back : ℕ) (counts buf : List ℕ) (bytes :
   pub written-image : (hashes : List ℕ) → FirstHashes hashes (storedEntries buf end entries)
       → written mode end hashes entries back counts buf ≡ serialized mode end entries back buf
   unfolding written allInserted es size
-  written-image hashes known = go (partitions counts entries) refl
+  written-image hashes known = go (byTables counts entries) refl
     where
-      go : (t : Bool) → partitions counts entries ≡ t
+      go : (t : Bool) → byTables counts entries ≡ t
           → cond t
           (insertedByTables mode (backOffsetOf mode end entries back) end hashes entries counts (zeroed (headed mode end entries back counts buf) (end + 16 * entries) size))
           (insertedFrom mode (backOffsetOf mode end entries back) end entries headSize (zeroed (headed mode end entries back counts buf) end size))

@@ -6,7 +6,7 @@ ghost use lib.ListN.{replicate};
 ghost use lib.Seq.{sets};
 ghost use lib.Dec.{eqb};
 ghost use Rattle.image.specs.Image.{headBytes};
-ghost use Rattle.serialize.specs.steps.Contracts.{CountRead, ClearPre};
+ghost use Rattle.serialize.specs.steps.Contracts.{AsU64, ClearBytesPre};
 ghost use Rattle.serialize.specs.steps.Written.{rowsFrom};
 use image::BYTEORDER_CHECK;
 
@@ -33,8 +33,8 @@ pub(super) fn low(x: u64) -> u32
 }
 
 // A count in 64 bits.
-pub(super) fn wide(x: u32) -> u64
-    ensures { λ r. ⌜ CountRead x r ⌝ }
+pub(super) fn as_u64(x: u32) -> u64
+    ensures { λ r. ⌜ AsU64 x r ⌝ }
 {
     x as u64
 }
@@ -53,7 +53,7 @@ pub(super) fn write_rows(buf: &mut [u8], counts: &[u32; 256], end: u32)
     let mut o = end as u64;
     let mut t = 0;
     while t < 256 {
-        let count = wide(counts[t]);
+        let count = as_u64(counts[t]);
         image::put_u32(&mut *buf, 24 + 8 * t, low(row_offset(count, o)));
         image::put_u32(&mut *buf, 28 + 8 * t, low(2 * count));
         o += 16 * count;
@@ -62,8 +62,8 @@ pub(super) fn write_rows(buf: &mut [u8], counts: &[u32; 256], end: u32)
 }
 
 // Zeros from one place to another. An internal function for the crates above.
-pub fn clear(buf: &mut [u8], from: usize, to: usize)
-    requires { ⌜ ClearPre (now buf) from to ⌝ }
+pub fn clear_bytes(buf: &mut [u8], from: usize, to: usize)
+    requires { ⌜ ClearBytesPre (now buf) from to ⌝ }
     ensures { λ _. ⌜ now (buf .exit) ≡ sets (now (buf .entry)) from (replicate (to - from) 0) ⌝ }
 {
     let mut i = from;

@@ -8,7 +8,7 @@ ghost use Rattle.image.specs.Bytes.{le32};
 ghost use Rattle.image.specs.steps.Contracts.{TableIn};
 ghost use Rattle.serialize.specs.steps.Insertion.{PairInserted, holdsTable, HoldsTablePre};
 ghost use Rattle.serialize.specs.steps.Insertion.{insertedByRow, backStored, hashAt, EntryPre, InsertEntryPre};
-ghost use Rattle.serialize.specs.steps.Insertion.{WalkPre, entryInserted, insertedFrom};
+ghost use Rattle.serialize.specs.steps.Insertion.{InsertEntriesPre, entryInserted, insertedFrom};
 use image::HEAD_SIZE;
 use image::Mode;
 use image::probe::first_empty;
@@ -72,7 +72,7 @@ pub(super) fn hash_at(buf: &[u8], at: usize, n: usize) -> u32
     requires { ⌜ EntryPre at n (now buf) ⌝ }
     ensures { λ r. ⌜ r ≡ hashAt (now (buf .entry)) at n ⌝ }
 {
-    jhash::key(image::entries::name_at(buf, at, n))
+    jhash::hash_or_zero(image::entries::name_at(buf, at, n))
 }
 
 // The entry at `at`, whose length word is n, inserted into its table and the back array.
@@ -94,7 +94,7 @@ pub(super) fn insert_entries(
     end: usize,
     entries: u32,
 )
-    requires { ⌜ WalkPre «back_offset» end (now buf) ⌝ }
+    requires { ⌜ InsertEntriesPre «back_offset» end (now buf) ⌝ }
     ensures { λ _. ⌜ now (buf .exit) ≡ insertedFrom mode «back_offset» end entries 2072 (now (buf .entry)) ⌝ }
 {
     let mut at = HEAD_SIZE;

@@ -9,7 +9,7 @@ ghost use Rattle.serialize.specs.steps.Written.{headed};
 use image::Mode;
 
 pub mod counts; // counts.rt: none_above
-pub mod head; // head.rt: clear
+pub mod head; // head.rt: clear_bytes
 pub mod insert;
 mod partition;
 mod precomputed;

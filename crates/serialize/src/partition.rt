@@ -2,11 +2,11 @@
 ghost use mathlib.Core.Path.{_≡_};
 ghost use Prim.Native.Nat.{_<_};
 ghost use lib.Seq.{sets};
-ghost use Rattle.serialize.specs.steps.Insertion.{EntryPre, WalkPre};
+ghost use Rattle.serialize.specs.steps.Insertion.{EntryPre, InsertEntriesPre};
 ghost use Rattle.serialize.specs.steps.Partition.{tableOffsetsFrom, pairPut, PairAppended};
-ghost use Rattle.serialize.specs.steps.Partition.{entryHash, PartitionPre, EntryPartitioned, partitionedFrom};
+ghost use Rattle.serialize.specs.steps.Partition.{entryHash, PartitionEntryPre, EntryPartitioned, partitionedFrom};
+use super::head::as_u64;
 use super::head::low;
-use super::head::wide;
 use super::insert::hash_at;
 use super::insert::store_back;
 use super::insert::store_pair;
@@ -23,7 +23,7 @@ pub(super) fn table_offsets(counts: &[u32; 256], end: usize, places: &mut [u32; 
     let mut o = end as u64;
     let mut t = 0;
     while t < 256 {
-        let count = wide(counts[t]);
+        let count = as_u64(counts[t]);
         places[t] = low(o);
         o += 16 * count;
         t += 1;
@@ -75,7 +75,7 @@ fn partition_entry(
     at: usize,
     n: usize,
 )
-    requires { ⌜ PartitionPre «back_offset» at n (now buf) ⌝ }
+    requires { ⌜ PartitionEntryPre «back_offset» at n (now buf) ⌝ }
     ensures { λ _. ⌜
         EntryPartitioned mode «back_offset» at (entryHash (now (hashes .entry)) i (now (buf .entry)) at n)
         (now (places .entry)) (now (buf .entry)) (now (places .exit)) (now (buf .exit))
@@ -97,7 +97,7 @@ pub(super) fn partition_entries(
     end: usize,
     entries: u32,
 )
-    requires { ⌜ WalkPre «back_offset» end (now buf) ⌝ }
+    requires { ⌜ InsertEntriesPre «back_offset» end (now buf) ⌝ }
     ensures { λ _. ⌜
         now (buf .exit)
         ≡ partitionedFrom mode «back_offset» end (now (hashes .entry)) entries 0 2072 (now (places .entry))

@@ -5,14 +5,14 @@ ghost use mathlib.Core.Path.{_≡_};
 ghost use Prim.Native.Nat.{_+_, _*_, _<_, _≤_};
 ghost use lib.ListN.{length};
 ghost use lib.Seq.{sets};
-ghost use Rattle.serialize.specs.steps.Insertion.{WalkPre};
-ghost use Rattle.serialize.specs.steps.Partition.{pairsStored, tableStored, InsertPairsPre, FillTablePre};
+ghost use Rattle.serialize.specs.steps.Insertion.{InsertEntriesPre};
+ghost use Rattle.serialize.specs.steps.Partition.{pairsStored, tableStored, InsertPairsPre, FillTableByCopyPre};
 ghost use Rattle.serialize.specs.steps.Partition.{TablePlace};
 ghost use Rattle.serialize.specs.steps.Partition.{copyable, tableFilled, tablesFrom, insertedByTables};
-ghost use Rattle.serialize.specs.steps.Written.{partitions, allInserted, InsertAllPre};
+ghost use Rattle.serialize.specs.steps.Written.{byTables, allInserted, InsertAllPre};
 use super::counts::none_above;
-use super::head::clear;
-use super::head::wide;
+use super::head::as_u64;
+use super::head::clear_bytes;
 use super::insert::insert_entries;
 use super::insert::insert_pair;
 use super::partition::partition_entries;
@@ -39,7 +39,7 @@ fn insert_pairs(buf: &mut [u8], o: usize, c: usize, pairs: &[u8])
         now (buf .exit) ≡ tableStored (now (buf .entry)) o c (pairsStored (now (pairs .entry)) 0 c)
         ⌝ }
 {
-    clear(&mut *buf, o, o + 16 * c);
+    clear_bytes(&mut *buf, o, o + 16 * c);
     let mut i = 0;
     while i < c {
         insert_pair(
@@ -81,7 +81,7 @@ fn copy_front(copy: &mut [u8], src: &[u8])
 
 // The table of c entries at o, filled from the pairs that stand there. They are copied first.
 fn fill_table(buf: &mut [u8], o: usize, c: usize, copy: &mut [u8])
-    requires { ⌜ FillTablePre o c (now copy) ⌝ }
+    requires { ⌜ FillTableByCopyPre o c (now copy) ⌝ }
     ensures { λ _. ⌜ now (buf .exit) ≡ tableFilled (now (buf .entry)) o c ⌝ }
 {
     if !copyable(&*buf, o, c) {
@@ -100,7 +100,7 @@ fn fill_tables(buf: &mut [u8], counts: &[u32; 256], end: usize)
     let mut o = end;
     let mut t = 0;
     while t < 256 {
-        let c = wide(counts[t]) as usize;
+        let c = as_u64(counts[t]) as usize;
         fill_table(&mut *buf, o, c, &mut copy);
         o += 16 * c;
         t += 1;
@@ -117,7 +117,7 @@ fn insert_by_tables(
     end: usize,
     entries: u32,
 )
-    requires { ⌜ WalkPre «back_offset» end (now buf) ⌝ }
+    requires { ⌜ InsertEntriesPre «back_offset» end (now buf) ⌝ }
     ensures { λ _. ⌜
         now (buf .exit)
         ≡ insertedByTables mode «back_offset» end (now (hashes .entry)) entries (now (counts .entry))
@@ -140,8 +140,8 @@ fn insert_by_tables(
 
 // Whether the entries are inserted by tables: not where there are few, since clearing the copy takes longer than it
 // saves, and not where a table has more pairs than the copy has room for.
-fn partitions(counts: &[u32; 256], entries: u32) -> bool
-    ensures { λ r. ⌜ r ≡ partitions (now (counts .entry)) entries ⌝ }
+fn by_tables(counts: &[u32; 256], entries: u32) -> bool
+    ensures { λ r. ⌜ r ≡ byTables (now (counts .entry)) entries ⌝ }
 {
     if entries < FEW_ENTRIES {
         return false;
@@ -168,11 +168,11 @@ pub(super) fn insert_all(
         (now (buf .entry))
         ⌝ }
 {
-    if partitions(counts, entries) {
-        clear(&mut *buf, end + 16 * (entries as usize), size);
+    if by_tables(counts, entries) {
+        clear_bytes(&mut *buf, end + 16 * (entries as usize), size);
         insert_by_tables(mode, back_offset, hashes, &mut *buf, counts, end, entries);
         return;
     }
-    clear(&mut *buf, end, size);
+    clear_bytes(&mut *buf, end, size);
     insert_entries(mode, back_offset, &mut *buf, end, entries);
 }

@@ -3,17 +3,17 @@ use Prim.Native.Nat.{ℕ}
 use Rattle.jhash.specs.Outcome.{Outcome, value, refusal}
 use Rattle.sheet.specs.declared.Place.{Place}
 use Rattle.sheet.specs.declared.Sheet.{Sheet}
-use Rattle.sheet.specs.declared.Found.{Found}
-use Rattle.sheet.specs.declared.Found.the-variants.{At, Short}
+use Rattle.sheet.specs.declared.SectionAnswer.{SectionAnswer}
+use Rattle.sheet.specs.declared.SectionAnswer.the-variants.{At, Short}
 use Rattle.sheet.specs.declared.ReadAnswer.{ReadAnswer}
 use Rattle.sheet.specs.declared.ReadAnswer.the-variants.{Whole, TooFew, LeftOver}
 use Rattle.sheet.specs.declared.Written.{Written}
-use Rattle.sheet.specs.declared.Written.the-variants.{Length, NoRoom}
+use Rattle.sheet.specs.declared.Written.the-variants.{Length, TooLarge}
 
 -- one section
-abbrev pub foundOf : Found → Outcome Place
-foundOf (At p) = value p
-foundOf Short = refusal 19
+abbrev pub sectionAnswerOf : SectionAnswer → Outcome Place
+sectionAnswerOf (At p) = value p
+sectionAnswerOf Short = refusal 19
 
 -- a file
 abbrev pub readOf : ReadAnswer → Outcome Sheet
@@ -24,4 +24,4 @@ readOf LeftOver = refusal 20
 -- a writing
 abbrev pub writtenOf : Written → Outcome ℕ
 writtenOf (Length n) = value n
-writtenOf NoRoom = refusal 21
+writtenOf TooLarge = refusal 21

@@ -30,7 +30,7 @@ pub enum Which {
 }
 
 // One section of a file: its part, or too few bytes.
-enum Found {
+enum SectionAnswer {
     At(Place),
     Short,
 }
@@ -45,5 +45,5 @@ pub enum ReadAnswer {
 // What writing answers: the length, or that a list has over 65,535 ids or the buffer is too short (21).
 pub enum Written {
     Length(usize),
-    NoRoom,
+    TooLarge,
 }

@@ -5,39 +5,39 @@ ghost use lib.ListN.{length, getD};
 ghost use Rattle.reader.specs.Slices.{slice};
 ghost use Rattle.sheet.specs.SheetReading.{partEnd, idsIn, sectionAt, readSheet};
 ghost use Rattle.sheet.specs.SheetReading.{sectionOf, sectionPart, cutPart};
-ghost use Rattle.sheet.specs.Cases.{foundOf, readOf};
+ghost use Rattle.sheet.specs.Cases.{sectionAnswerOf, readOf};
 ghost use Rattle.sheet.specs.steps.Contracts.{CountRead};
-use super::Found;
 use super::Place;
 use super::ReadAnswer;
+use super::SectionAnswer;
 use super::Sheet;
 use super::Which;
-use jhash::word::wide;
+use jhash::word::byte_as_word;
 
 // The 16-bit count at `at`.
 fn count_at(file: &[u8], at: usize) -> u32
     requires { ⌜ at + 2 ≤ length (now file) ⌝ }
     ensures { λ r. ⌜ CountRead (now (file .entry)) at r ⌝ }
 {
-    let low = wide(file[at]);
-    let high = wide(file[at + 1]);
+    let low = byte_as_word(file[at]);
+    let high = byte_as_word(file[at + 1]);
     low + high * 256
 }
 
 // The section whose count stands at `at`.
-fn section_at(file: &[u8], at: usize) -> Found
+fn section_at(file: &[u8], at: usize) -> SectionAnswer
     requires { ⌜ at ≤ length (now file) ⌝ }
-    ensures { λ r. ⌜ foundOf r ≡ sectionAt (now (file .entry)) at ⌝ }
+    ensures { λ r. ⌜ sectionAnswerOf r ≡ sectionAt (now (file .entry)) at ⌝ }
 {
     let left = file.len() - at;
     if left < 2 {
-        return Found::Short;
+        return SectionAnswer::Short;
     }
     let count = count_at(file, at);
     if left - 2 < 4 * (count as usize) {
-        return Found::Short;
+        return SectionAnswer::Short;
     }
-    Found::At(Place {
+    SectionAnswer::At(Place {
         start: at + 2,
         count,
     })
@@ -55,13 +55,13 @@ fn end_of(p: Place) -> usize
 pub fn read(file: &[u8]) -> ReadAnswer
     ensures { λ r. ⌜ readOf r ≡ readSheet (now (file .entry)) ⌝ }
 {
-    let Found::At(references) = section_at(file, 0) else {
+    let SectionAnswer::At(references) = section_at(file, 0) else {
         return ReadAnswer::TooFew;
     };
-    let Found::At(walls) = section_at(file, end_of(references)) else {
+    let SectionAnswer::At(walls) = section_at(file, end_of(references)) else {
         return ReadAnswer::TooFew;
     };
-    let Found::At(retired) = section_at(file, end_of(walls)) else {
+    let SectionAnswer::At(retired) = section_at(file, end_of(walls)) else {
         return ReadAnswer::TooFew;
     };
     if end_of(retired) < file.len() {

@@ -51,17 +51,17 @@ pub fn write(buf: &mut [u8], references: &[u32], walls: &[u32], retired: &[u32])
     let m = walls.len();
     let k = retired.len();
     if 65535 < n {
-        return Written::NoRoom;
+        return Written::TooLarge;
     }
     if 65535 < m {
-        return Written::NoRoom;
+        return Written::TooLarge;
     }
     if 65535 < k {
-        return Written::NoRoom;
+        return Written::TooLarge;
     }
     let size = 6 + 4 * (n + m + k);
     if buf.len() < size {
-        return Written::NoRoom;
+        return Written::TooLarge;
     }
     let walls_at = put_section(&mut *buf, 0, references);
     let retired_at = put_section(&mut *buf, walls_at, walls);

@@ -13,7 +13,7 @@ use Rattle.reader.specs.Naming.{Naming, place, unnamed, naming}
 use Rattle.reader.proofs.Namings.{never}
 use Rattle.validity.specs.Calendar.{isDate, isEnd, earlier}
 use Rattle.validity.specs.Rule.{someWindow, invalidDates, inverted, holdsDate, inSeason, namingOn}
-use Rattle.validity.specs.theorems.Seasons.{SomeAt, Accepted, Seasons}
+use Rattle.validity.specs.theorems.Seasons.{SomeAt, WindowsAccepted, Seasons}
 use Rattle.validity.specs.declared.Date.{Date}
 use Rattle.validity.specs.declared.Window.{Window}
 use Rattle.validity.proofs.Months.{no-month, month-lengths}
@@ -153,11 +153,11 @@ module _ (image : List ℕ) (id : ℕ) (date : Date) (ws : List Window) where
   abbrev c : Bool
   c = someWindow (holdsDate id date) ws
 
-  named-exactly : (s l : ℕ) → (namingOn image id date ws ≡ value (place s l)) ↔ (Accepted date ws × (naming image id ≡ place s l) × (c ≡ true))
+  named-exactly : (s l : ℕ) → (namingOn image id date ws ≡ value (place s l)) ↔ (WindowsAccepted date ws × (naming image id ≡ place s l) × (c ≡ true))
   unfolding inSeason
   named-exactly s l = (named (naming image id) s l t a b c, from)
     where
-      from : Accepted date ws × (naming image id ≡ place s l) × (c ≡ true) → by (naming image id) t a b c ≡ value (place s l)
+      from : WindowsAccepted date ws × (naming image id ≡ place s l) × (c ≡ true) → by (naming image id) t a b c ≡ value (place s l)
       from ((et, ea, eb), en, ec) = (λ i. by (naming image id) (et i) (ea i) (eb i) (ec i)) ∙ ap value en
 
   gives-22 : (namingOn image id date ws ≡ refusal 22) ↔ ((t ≡ false) ⊎ (a ≡ true))

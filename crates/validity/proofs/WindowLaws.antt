@@ -11,7 +11,7 @@ use Rattle.reader.specs.Naming.{Naming, unnamed, naming, sliceOr}
 use Rattle.validity.specs.Calendar.{isDate}
 use Rattle.validity.specs.Rule.{someWindow, invalidDates, inverted, holdsDate, inSeason, namingOn, namedIn, namePartOn}
 use Rattle.validity.specs.steps.Fold.{oneWindowState, stronger, stepped, folded}
-use Rattle.validity.specs.Windows.{windowState, answerBy, placeBy, partBy}
+use Rattle.validity.specs.Windows.{windowState, answerBy, placeByState, partByState}
 use Rattle.validity.specs.declared.Date.{Date}
 use Rattle.validity.specs.declared.Window.{Window}
 use Rattle.validity.specs.declared.WindowState.{WindowState}
@@ -79,7 +79,7 @@ module _ (id : ℕ) (date : Date) where
 
 -- ---- the answer by the state is the rule's answer
 module _ (image : List ℕ) (id : ℕ) (date : Date) (ws : List Window) where
-  pub placed : placeBy image id date (windowState id date ws) ≡ namingOn image id date ws
+  pub placed : placeByState image id date (windowState id date ws) ≡ namingOn image id date ws
   unfolding windowState inSeason
   placed =
       ap (λ (x : Outcome Naming). cond (not (isDate date)) (refusal 22) x)
@@ -92,5 +92,5 @@ module _ (image : List ℕ) (id : ℕ) (date : Date) (ws : List Window) where
       by-form false false true = refl
       by-form false false false = refl
 
-pub parted : (image : Slice) (id : ℕ) (date : Date) (ws : List Window) → partBy image id date (windowState id date ws) ≡ namePartOn image id date ws
+pub parted : (image : Slice) (id : ℕ) (date : Date) (ws : List Window) → partByState image id date (windowState id date ws) ≡ namePartOn image id date ws
 parted image id date ws = ap (λ (x : Outcome Naming). sliceOr image (subslice image 0 0) (namedIn x)) (placed (image .bytes) id date ws)

@@ -13,7 +13,7 @@ use Rattle.reader.proofs.Namings.{never}
 use Rattle.validity.specs.Calendar.{isDate, isEnd, earlier}
 use Rattle.validity.specs.Rule.{invalidDates, inverted, holdsDate, namedIn}
 use Rattle.validity.specs.steps.Fold.{oneWindowState, rank, stronger}
-use Rattle.validity.specs.Windows.{answerBy, placeBy, partBy}
+use Rattle.validity.specs.Windows.{answerBy, placeByState, partByState}
 use Rattle.validity.specs.declared.Date.{Date}
 use Rattle.validity.specs.declared.Window.{Window}
 use Rattle.validity.specs.declared.WindowState.{WindowState}
@@ -40,16 +40,16 @@ module _ (s t u : WindowState) (e : t ≡ u) (m n : ℕ) (es : m ≡ rank s) (et
   stronger-old h = ap (λ (b : Bool). cond b u s) (sym (le-ltb m n h) ∙ ranks)
 
 module _ (image : List ℕ) (id : ℕ) (date : Date) (s : WindowState) where
-  pub no-date : isDate date ≡ false → refusal 22 ≡ placeBy image id date s
+  pub no-date : isDate date ≡ false → refusal 22 ≡ placeByState image id date s
   no-date e = ap (λ (t : Bool). cond (not t) (refusal 22) (answerBy s (naming image id))) (sym e)
 
-  pub by-state : (t : WindowState) → isDate date ≡ true → s ≡ t → answerBy t (naming image id) ≡ placeBy image id date s
+  pub by-state : (t : WindowState) → isDate date ≡ true → s ≡ t → answerBy t (naming image id) ≡ placeByState image id date s
   by-state t e q =
       ap (λ (u : WindowState). answerBy u (naming image id)) (sym q)
       ∙ ap (λ (b : Bool). cond (not b) (refusal 22) (answerBy s (naming image id))) (sym e)
 
   -- a place on a date is the place of the naming rule
-  pub named-so : (p n : ℕ) → placeBy image id date s ≡ value (place p n) → naming image id ≡ place p n
+  pub named-so : (p n : ℕ) → placeByState image id date s ≡ value (place p n) → naming image id ≡ place p n
   named-so p n e = dated (isDate date) e
     where
       refused : (k : ℕ) → _≡_ {A = Outcome Naming} (refusal k) (value (place p n)) → naming image id ≡ place p n
@@ -70,8 +70,8 @@ module _ (image : Slice) (id : ℕ) (date : Date) (s : WindowState) where
   abbrev part-of : Outcome Naming → Slice
   part-of x = sliceOr image (subslice image 0 0) (namedIn x)
 
-  pub no-date-part : isDate date ≡ false → subslice image 0 0 ≡ partBy image id date s
+  pub no-date-part : isDate date ≡ false → subslice image 0 0 ≡ partByState image id date s
   no-date-part e = ap part-of (no-date (image .bytes) id date s e)
 
-  pub by-state-part : (t : WindowState) → isDate date ≡ true → s ≡ t → part-of (answerBy t (naming (image .bytes) id)) ≡ partBy image id date s
+  pub by-state-part : (t : WindowState) → isDate date ≡ true → s ≡ t → part-of (answerBy t (naming (image .bytes) id)) ≡ partByState image id date s
   by-state-part t e q = ap part-of (by-state (image .bytes) id date s t e q)

@@ -27,8 +27,8 @@ answerBy Active n = value n
 answerBy Inverted n = refusal 23
 answerBy InvalidDate n = refusal 22
 
-abbrev pub placeBy : List ℕ → ℕ → Date → WindowState → Outcome Naming
-placeBy image id date s = cond (not (isDate date)) (refusal 22) (answerBy s (naming image id))
+abbrev pub placeByState : List ℕ → ℕ → Date → WindowState → Outcome Naming
+placeByState image id date s = cond (not (isDate date)) (refusal 22) (answerBy s (naming image id))
 
-abbrev pub partBy : Slice → ℕ → Date → WindowState → Slice
-partBy image id date s = sliceOr image (subslice image 0 0) (namedIn (placeBy (image .bytes) id date s))
+abbrev pub partByState : Slice → ℕ → Date → WindowState → Slice
+partByState image id date s = sliceOr image (subslice image 0 0) (namedIn (placeByState (image .bytes) id date s))

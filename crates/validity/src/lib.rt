@@ -3,7 +3,7 @@ ghost use mathlib.Core.Path.{_≡_};
 ghost use Rattle.reader.specs.Slices.{slice};
 ghost use Rattle.validity.specs.Rule.{namingOn, namePartOn};
 ghost use Rattle.validity.specs.Cases.{namedOnOf};
-ghost use Rattle.validity.specs.Windows.{placeBy, partBy};
+ghost use Rattle.validity.specs.Windows.{placeByState, partByState};
 use calendar::is_date;
 use reader::Named;
 use windows::window_state;
@@ -44,8 +44,8 @@ pub enum NamedOn {
 }
 
 // The place of an id's name on a date, where the windows say s.
-pub fn place_by(image: &[u8], id: u32, date: Date, s: WindowState) -> NamedOn
-    ensures { λ r. ⌜ namedOnOf r ≡ placeBy (now (image .entry)) id date s ⌝ }
+pub fn place_by_state(image: &[u8], id: u32, date: Date, s: WindowState) -> NamedOn
+    ensures { λ r. ⌜ namedOnOf r ≡ placeByState (now (image .entry)) id date s ⌝ }
 {
     if !is_date(date) {
         return NamedOn::Refused(22);
@@ -63,8 +63,8 @@ pub fn place_by(image: &[u8], id: u32, date: Date, s: WindowState) -> NamedOn
 
 // The part of the lent image that is an id's name on a date, where the windows say s; empty if it has none, or is
 // refused.
-fn part_by<'a>(image: &'a [u8], id: u32, date: Date, s: WindowState) -> &'a [u8]
-    ensures { λ r. ⌜ slice r ≡ partBy (slice (image .entry)) id date s ⌝ }
+fn part_by_state<'a>(image: &'a [u8], id: u32, date: Date, s: WindowState) -> &'a [u8]
+    ensures { λ r. ⌜ slice r ≡ partByState (slice (image .entry)) id date s ⌝ }
 {
     if !is_date(date) {
         return &image[0..0];
@@ -82,12 +82,12 @@ fn part_by<'a>(image: &'a [u8], id: u32, date: Date, s: WindowState) -> &'a [u8]
 pub fn to_str_on(image: &[u8], id: u32, date: Date, windows: &[Window]) -> NamedOn
     ensures { λ r. ⌜ namedOnOf r ≡ namingOn (now (image .entry)) id date (now (windows .entry)) ⌝ }
 {
-    place_by(image, id, date, window_state(windows, id, date))
+    place_by_state(image, id, date, window_state(windows, id, date))
 }
 
 // The part of the lent image that is an id's name on a date; empty if it has none, or is refused.
 pub fn name_on<'a>(image: &'a [u8], id: u32, date: Date, windows: &[Window]) -> &'a [u8]
     ensures { λ r. ⌜ slice r ≡ namePartOn (slice (image .entry)) id date (now (windows .entry)) ⌝ }
 {
-    part_by(image, id, date, window_state(windows, id, date))
+    part_by_state(image, id, date, window_state(windows, id, date))
 }

@@ -89,7 +89,7 @@ impl<'a> CQDB<'a> {
 
 // The subslice of an image that is an id's name, empty if it has none, by a view that is made for it. Its parameters
 // are plain, so the borrow checker covers its callers.
-pub fn name_of<'a>(image: &'a [u8], id: u32) -> &'a [u8]
+pub fn name_of_id<'a>(image: &'a [u8], id: u32) -> &'a [u8]
     ensures { λ r. ⌜ slice r ≡ nameSlice (slice (image .entry)) id ⌝ }
 {
     CQDB::new(image).name(id)

@@ -31,12 +31,12 @@ module _ (w : CQDBWriter) (counts buf : List ℕ) (fit : fits (stateWith w count
       let l = not-too-large (w .length) (finishedSize w) fine in
       let f = fitting w counts buf fit in
       record {
-        low = f .low;
-        entire = and-first a b ab;
-        agree = and-second a b ab;
-        backs = eqb-true (w .back) (backIn (w .mode) (backSize (recorded s))) (and-second (a && b) c all);
-        inside = omega (arith, l .0, f .same-length);
-        small = l .1;
+        after-head = f .low;
+        whole-entries = and-first a b ab;
+        counts-agree = and-second a b ab;
+        back-agrees = eqb-true (w .back) (backIn (w .mode) (backSize (recorded s))) (and-second (a && b) c all);
+        fits-buffer = omega (arith, l .0, f .same-length);
+        fits-word = l .1;
       }
 
   pub closes-image : (b : List ℕ) → b ≡ serialized (w .mode) (w .end) (w .entries) (w .back) buf → stateWith w counts b ≡ afterClose (stateWith w counts buf)

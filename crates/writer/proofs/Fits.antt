@@ -12,7 +12,7 @@ use Rattle.image.specs.declared.Mode.{Mode}
 use Rattle.image.specs.declared.Mode.the-variants.{Twoway, Oneway}
 use Rattle.image.proofs.Bools.{and-first, and-second, or-false-first, or-false-second}
 use Rattle.writer.specs.State.{stateWith, noneAbove, fits, tooLarge}
-use Rattle.writer.specs.Put.{raised}
+use Rattle.writer.specs.Put.{backAfter}
 use Rattle.writer.specs.steps.Earlier.{EndInside}
 use Rattle.writer.specs.declared.CQDBWriter.{CQDBWriter}
 
@@ -70,11 +70,11 @@ not-too-large room size h = (
   ltb-false 4294967295 size (or-false-second (ltb room size) (ltb 4294967295 size) h),
 )
 
-pub raised-le : (mode : Mode) (back id : ℕ) → raised mode back id ≤ max back (id + 1)
-raised-le Twoway back id = omega arith
-raised-le Oneway back id = omega arith
+pub back-after-le : (mode : Mode) (back id : ℕ) → backAfter mode back id ≤ max back (id + 1)
+back-after-le Twoway back id = omega arith
+back-after-le Oneway back id = omega arith
 
 -- a back size that a size within 32 bits counts fits 32 bits itself
-pub raised-fits : (mode : Mode) (back id : ℕ) → back < 2 ^ 32 → 4 * backIn mode (raised mode back id) ≤ 4294967295 → raised mode back id < 2 ^ 32
-raised-fits Twoway back id h k = omega arith
-raised-fits Oneway back id h k = h
+pub back-after-fits : (mode : Mode) (back id : ℕ) → back < 2 ^ 32 → 4 * backIn mode (backAfter mode back id) ≤ 4294967295 → backAfter mode back id < 2 ^ 32
+back-after-fits Twoway back id h k = omega arith
+back-after-fits Oneway back id h k = h

@@ -84,10 +84,10 @@ module _ (s : State) (bytes : (i : ℕ) → getD (s .buffer) i 0 < 256) (none-du
       let w = s .writer in
       let a = accepted s none-due in
       let k = stands w (s .counts) (s .buffer) (a .fit) (a .fine) (a .all) in
-      let ends = stored-end (w .end) (w .entries) (s .buffer) bytes (k .entire) (k .low) (omega (arith, k .inside)) in
+      let ends = stored-end (w .end) (w .entries) (s .buffer) bytes (k .whole-entries) (k .after-head) (omega (arith, k .fits-buffer)) in
       ap entryArea is-closed
       ∙ area-in-image s (recorded s) (w .end) (drop (closedSize s) (s .buffer)) ends
-      ∙ sym (area-kept (w .end) (w .entries) (s .buffer) bytes (k .entire))
+      ∙ sym (area-kept (w .end) (w .entries) (s .buffer) bytes (k .whole-entries))
 
   -- the image has the size that close gives
   image-length : length (image (s .writer .mode) (recorded s)) ≡ closedSize s
@@ -96,8 +96,8 @@ module _ (s : State) (bytes : (i : ℕ) → getD (s .buffer) i 0 < 256) (none-du
       let es = recorded s in
       let a = accepted s none-due in
       let k = stands w (s .counts) (s .buffer) (a .fit) (a .fine) (a .all) in
-      let ends = stored-end (w .end) (w .entries) (s .buffer) bytes (k .entire) (k .low) (omega (arith, k .inside)) in
-      let number = stored-number (w .end) (w .entries) (s .buffer) bytes (k .entire) in
+      let ends = stored-end (w .end) (w .entries) (s .buffer) bytes (k .whole-entries) (k .after-head) (omega (arith, k .fits-buffer)) in
+      let number = stored-number (w .end) (w .entries) (s .buffer) bytes (k .whole-entries) in
       let back : backIn (w .mode) (w .back) ≡ backSizeOf (w .mode) es = ap (backIn (w .mode)) (k .backs) ∙ backIn-twice (w .mode) (backSize es) in
       length-image (w .mode) es ∙ omega (arith, ends, number, back)
 

@@ -15,7 +15,7 @@ use Rattle.image.specs.Image.{Entry, entryBytes}
 use Rattle.writer.specs.State.{State, stateWith, fits, finishedSize, tooLarge}
 use Rattle.image.specs.Zero.{hasZero}
 use Rattle.image.specs.Tally.{raisedCounts, countsAfter}
-use Rattle.writer.specs.Put.{entryOf, writerWith, writerAfter, putRefusal, appended, afterPut}
+use Rattle.writer.specs.Put.{entryOf, writerAfterPut, writerAfterEntry, putRefusal, appended, afterPut}
 use Rattle.writer.specs.declared.CQDBWriter.{CQDBWriter}
 use Rattle.image.proofs.AllOfRange.{all-each}
 use Rattle.writer.specs.steps.Earlier.{earlierRefusal}
@@ -28,7 +28,7 @@ some-none k z = omega arith
 
 module _ (s : State) (e : Entry) where
   abbrev full : Bool
-  full = tooLarge (s .writer .length) (finishedSize (writerAfter (s .writer) e))
+  full = tooLarge (s .writer .length) (finishedSize (writerAfterEntry (s .writer) e))
 
   abbrev early : ℕ
   early = earlierRefusal s (e .name)
@@ -84,19 +84,19 @@ module _ (s : State) (e : Entry) where
 
 -- a name that is too long for a hash is too long for any image
 pub long-name : (w : CQDBWriter) (name : List ℕ) (id : ℕ) → 4294967295 ≤ length name
-    → tooLarge (w .length) (finishedSize (writerAfter w (entryOf name id))) ≡ true
-unfolding writerAfter
+    → tooLarge (w .length) (finishedSize (writerAfterEntry w (entryOf name id))) ≡ true
+unfolding writerAfterEntry
 long-name w name id h =
-    let size = finishedSize (writerAfter w (entryOf name id)) in
+    let size = finishedSize (writerAfterEntry w (entryOf name id)) in
     let k : 4294967295 < size = omega arith in
     ap (λ (b : Bool). ltb (w .length) size || b) (lt-ltb 4294967295 size k) ∙ or-true (ltb (w .length) size)
 
 -- what an accepted put leaves, part by part
 pub appended-parts : (w v : CQDBWriter) (counts counts′ buf buf′ name : List ℕ) (id h : ℕ) → h ≡ hashOf name
-    → v ≡ writerWith w (length name) id → counts′ ≡ raisedCounts counts h
+    → v ≡ writerAfterPut w (length name) id → counts′ ≡ raisedCounts counts h
     → buf′ ≡ sets buf (w .end) (entryBytes (entryOf name id))
     → stateWith v counts′ buf′ ≡ appended (stateWith w counts buf) (entryOf name id)
-unfolding appended writerAfter countsAfter
+unfolding appended writerAfterEntry countsAfter
 appended-parts w v counts counts′ buf buf′ name id h e p q r =
     λ i. record {
       writer = p i;
@@ -106,20 +106,20 @@ appended-parts w v counts counts′ buf buf′ name id h e p q r =
 
 -- what the checks leave for the stores
 module _ (w : CQDBWriter) (counts buf : List ℕ) (n id : ℕ) (yes : fits (stateWith w counts buf) ≡ true)
-    (fine : tooLarge (w .length) (finishedSize (writerWith w n id)) ≡ false) where
-  pub size-small : finishedSize (writerWith w n id) ≤ 4294967295
-  size-small = not-too-large (w .length) (finishedSize (writerWith w n id)) fine .1
+    (fine : tooLarge (w .length) (finishedSize (writerAfterPut w n id)) ≡ false) where
+  pub size-small : finishedSize (writerAfterPut w n id) ≤ 4294967295
+  size-small = not-too-large (w .length) (finishedSize (writerAfterPut w n id)) fine .1
 
   pub entry-fits : w .end + (n + 9) ≤ length buf
-  unfolding writerWith
+  unfolding writerAfterPut
   entry-fits =
       let f = fitting w counts buf yes in
-      let h = not-too-large (w .length) (finishedSize (writerWith w n id)) fine .0 in
+      let h = not-too-large (w .length) (finishedSize (writerAfterPut w n id)) fine .0 in
       let e = f .same-length in
       omega arith
 
   pub count-small : (h : ℕ) → getD counts (tableOf h) 0 < 4294967295
-  unfolding writerWith
+  unfolding writerAfterPut
   count-small h =
       let f = fitting w counts buf yes in
       let s = size-small in

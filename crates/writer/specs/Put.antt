@@ -15,30 +15,30 @@ use Rattle.writer.specs.State.{State, refusesRepeats, fits, finishedSize
 use Rattle.writer.specs.Close.{recorded, consistent}
 
 -- in two-way mode the back size becomes the larger of itself and id + 1
-abbrev pub raised : Mode → ℕ → ℕ → ℕ
-raised Twoway back id = max back (id + 1)
-raised Oneway back id = back
+abbrev pub backAfter : Mode → ℕ → ℕ → ℕ
+backAfter Twoway back id = max back (id + 1)
+backAfter Oneway back id = back
 
 -- what a put of a name and an id stores
 abbrev pub entryOf : List ℕ → ℕ → Entry
 entryOf name id = record { name = name; id = id }
 
 -- the record after a put of an id and a name of n bytes
-unfoldable pub writerWith : CQDBWriter → ℕ → ℕ → CQDBWriter
-writerWith w n id =
+unfoldable pub writerAfterPut : CQDBWriter → ℕ → ℕ → CQDBWriter
+writerAfterPut w n id =
     record {
       mode = w .mode;
       repeats = w .repeats;
       length = w .length;
       end = w .end + (n + 9);
       entries = w .entries + 1;
-      back = raised (w .mode) (w .back) id;
+      back = backAfter (w .mode) (w .back) id;
     }
 
 -- the record after this put
-unfoldable pub writerAfter : CQDBWriter → Entry → CQDBWriter
-unfolding writerWith
-writerAfter w e = writerWith w (length (e .name)) (e .id)
+unfoldable pub writerAfterEntry : CQDBWriter → Entry → CQDBWriter
+unfolding writerAfterPut
+writerAfterEntry w e = writerAfterPut w (length (e .name)) (e .id)
 
 -- 02 (viii): with repeats off, put walks the earlier entries. A walk that fails close's checks of entries, counts or
 -- back size; otherwise an equal name
@@ -57,13 +57,13 @@ putRefusal s e =
     (cond (hasZero (e .name)) 13
     (cond (walkFails s) 4
     (cond (repeated s (e .name)) 16
-    (cond (tooLarge (s .writer .length) (finishedSize (writerAfter (s .writer) e))) 3 0))))
+    (cond (tooLarge (s .writer .length) (finishedSize (writerAfterEntry (s .writer) e))) 3 0))))
 
 -- put appends an entry and raises the counts; only that entry's bytes change
 unfoldable pub appended : State → Entry → State
 appended s e =
     record {
-      writer = writerAfter (s .writer) e;
+      writer = writerAfterEntry (s .writer) e;
       counts = countsAfter (s .counts) e;
       buffer = sets (s .buffer) (s .writer .end) (entryBytes e);
     }

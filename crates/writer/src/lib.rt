@@ -41,7 +41,7 @@ pub enum Begun {
 
 // What put and grown answer: the number of the refusal, or 0 where the call is accepted; and the record that it hands
 // back.
-pub struct PutAnswer {
+pub struct RecordAnswer {
     pub refusal: u32,
     pub writer: CQDBWriter,
 }
@@ -61,7 +61,7 @@ pub struct CloseAnswer {
 // A fresh record for a buffer (`with_flag` of cqdb-rs). Changes no byte of the buffer.
 pub fn begin(mode: Mode, repeats: Repeats, counts: &mut [u32; 256], buf: &[u8]) -> Begun
     ensures answer { λ r. ⌜ begunOf r ≡ beginning mode repeats (length (now (buf .entry))) ⌝ }
-    ensures fresh { λ r. ⌜ now (counts .exit) ≡ countsBegun (length (now (buf .entry))) (now (counts .entry)) ⌝ }
+    ensures counts { λ r. ⌜ now (counts .exit) ≡ countsBegun (length (now (buf .entry))) (now (counts .entry)) ⌝ }
 {
     if buf.len() < HEAD_SIZE {
         return Begun::Refused(1);
@@ -122,7 +122,7 @@ fn append(
     };
     image::entries::raise(&mut *counts, h);
     entry::store(&mut *buf, w.end as usize, name, id);
-    record::after(w, name.len(), id)
+    record::writer_after_put(w, name.len(), id)
 }
 
 // Appends an entry, or is refused and changes nothing.
@@ -132,7 +132,7 @@ pub fn put(
     buf: &mut [u8],
     name: &[u8],
     id: u32,
-) -> PutAnswer
+) -> RecordAnswer
     ensures answer { λ r. ⌜
         r .refusal ≡ putRefusal (stateWith w (now (counts .entry)) (now (buf .entry)))
         (entryOf (now (name .entry)) id)
@@ -144,27 +144,27 @@ pub fn put(
 {
     let refusal = put_refusal(w, &*counts, &*buf, name, id);
     if refusal != 0 {
-        return PutAnswer { refusal, writer: w };
+        return RecordAnswer { refusal, writer: w };
     }
     let writer = append(w, &mut *counts, &mut *buf, name, id);
-    PutAnswer { refusal: 0, writer }
+    RecordAnswer { refusal: 0, writer }
 }
 
 // The record of a buffer that has grown to this length, whose entries stand where they stood; or refusal 2 for a
 // shorter buffer.
-pub fn grown(w: CQDBWriter, length: u64) -> PutAnswer
+pub fn grown(w: CQDBWriter, length: u64) -> RecordAnswer
     ensures answer { λ r. ⌜ r .refusal ≡ grownRefusal w length ⌝ }
     ensures leaves { λ r. ⌜ r .writer ≡ grownWriter w length ⌝ }
 {
     if length < w.length {
-        return PutAnswer {
+        return RecordAnswer {
             refusal: 2,
             writer: w,
         };
     }
     let mode = w.mode;
     let repeats = w.repeats;
-    PutAnswer {
+    RecordAnswer {
         refusal: 0,
         writer: CQDBWriter {
             mode,

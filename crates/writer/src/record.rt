@@ -2,7 +2,7 @@
 ghost use mathlib.Core.Path.{_≡_};
 ghost use Prim.Native.Nat.{_≤_};
 ghost use Rattle.writer.specs.State.{stateWith, fits, tooLarge, finishedSize};
-ghost use Rattle.writer.specs.Put.{raised, writerWith};
+ghost use Rattle.writer.specs.Put.{backAfter, writerAfterPut};
 ghost use Rattle.writer.specs.steps.Storing.{SizeWithPre};
 use super::CQDBWriter;
 use image::HEAD_SIZE_64;
@@ -32,8 +32,8 @@ pub fn too_large(capacity: u64, size: u64) -> bool
 }
 
 // The back size after a put, which may be 2^32.
-fn raised(mode: Mode, back: u32, id: u32) -> u64
-    ensures { λ r. ⌜ r ≡ raised mode back id ⌝ }
+fn back_after(mode: Mode, back: u32, id: u32) -> u64
+    ensures { λ r. ⌜ r ≡ backAfter mode back id ⌝ }
 {
     match mode {
         Mode::Twoway => image::entries::larger(back as u64, id as u64 + 1),
@@ -44,17 +44,17 @@ fn raised(mode: Mode, back: u32, id: u32) -> u64
 // The finished size after a put of an id and a name of n bytes.
 pub fn size_with(w: CQDBWriter, n: usize, id: u32) -> u64
     requires { ⌜ SizeWithPre (w .end) n ⌝ }
-    ensures { λ r. ⌜ r ≡ finishedSize (writerWith w n id) ⌝ }
+    ensures { λ r. ⌜ r ≡ finishedSize (writerAfterPut w n id) ⌝ }
 {
     let mode = w.mode;
-    let back = serialize::size::back_in(mode, raised(mode, w.back, id));
+    let back = serialize::size::back_in(mode, back_after(mode, w.back, id));
     w.end + (n as u64 + 9) + 16 * (w.entries as u64 + 1) + 4 * back
 }
 
 // The record after a put of an id and a name of n bytes, where the finished size is no more than 4,294,967,295.
-pub fn after(w: CQDBWriter, n: usize, id: u32) -> CQDBWriter
-    requires { ⌜ finishedSize (writerWith w n id) ≤ 4294967295 ⌝ }
-    ensures { λ r. ⌜ r ≡ writerWith w n id ⌝ }
+pub fn writer_after_put(w: CQDBWriter, n: usize, id: u32) -> CQDBWriter
+    requires { ⌜ finishedSize (writerAfterPut w n id) ≤ 4294967295 ⌝ }
+    ensures { λ r. ⌜ r ≡ writerAfterPut w n id ⌝ }
 {
     let mode = w.mode;
     let repeats = w.repeats;
@@ -64,6 +64,6 @@ pub fn after(w: CQDBWriter, n: usize, id: u32) -> CQDBWriter
         length: w.length,
         end: w.end + (n as u64 + 9),
         entries: w.entries + 1,
-        back: raised(mode, w.back, id) as u32,
+        back: back_after(mode, w.back, id) as u32,
     }
 }

@@ -6,7 +6,7 @@ use lib.ListN.{length, length-replicate}
 use borrow.Author.Needs.{needs}
 use Rattle.packed.proofs.NameEnds.{length-names}
 use Rattle.batch.specs.RoundNames.{names}
-use Rattle.batch.specs.steps.Duplicates.{KeyedNames}
+use Rattle.batch.specs.steps.Duplicates.{HashedNames}
 use Rattle.batch.specs.steps.Answers.{UniqueAnswered, EqualsPre}
 use Rattle.batch.proofs.RoundAnswers.{all-words, unique-answered}
 use Rattle.batch.proofs.answer_all.Statement.{statement}
@@ -14,10 +14,10 @@ use Rattle.batch.proofs.answer_all.Tie as tie
 
 -- ---- places in the code, each from a later one
 
-abbrev start : tie.After-hash-all → tie.Start
+abbrev start : tie.After-hash-names → tie.Start
 start c = c .before .before .before .before .before .before
 
-abbrev hashed : tie.After-deduplicate → tie.After-hash-all
+abbrev hashed : tie.After-deduplicate → tie.After-hash-names
 hashed c = c .before .before .before .before .before
 
 abbrev deduplicated : tie.After-find-all → tie.After-deduplicate
@@ -32,14 +32,14 @@ begun c = start (hashed (deduplicated c))
 abbrev names-in : tie.After-find-all → List (List ℕ)
 names-in c = names (begun c .args .bytes .now) (begun c .args .ends .now)
 
-keyed : (c : tie.After-hash-all) → KeyedNames (start c .args .bytes .now) (start c .args .ends .now) (c .hash-all .last .1 .1 .0)
-keyed c =
+hashed-names : (c : tie.After-hash-names) → HashedNames (start c .args .bytes .now) (start c .args .ends .now) (c .hash-names .last .1 .1 .0)
+hashed-names c =
     let s = start c in
     record {
       valid = s .pre .valid;
       few = s .pre .few;
-      capacity = omega (arith, c .hash-all .kept, length-replicate {A = ℕ} 512 0, s .pre .few);
-      keyed = c .hash-all .ensures;
+      capacity = omega (arith, c .hash-names .kept, length-replicate {A = ℕ} 512 0, s .pre .few);
+      hashed = c .hash-names .ensures;
     }
 
 -- the numbers of equal names, and the answers
@@ -69,9 +69,9 @@ deduplicate-requires : tie.Need-deduplicate-requires
 deduplicate-requires c κs =
     let h = c .before .before .before .before in
     record {
-      names = keyed h;
+      names = hashed-names h;
       equals-capacity = omega (arith, length-replicate {A = ℕ} 512 0, start h .pre .few);
-      list-capacity = omega (arith, length-replicate {A = ℕ} 512 0, start h .pre .few);
+      unique-capacity = omega (arith, length-replicate {A = ℕ} 512 0, start h .pre .few);
     }
 
 find-all-requires : tie.Need-find-all-requires
@@ -83,7 +83,7 @@ find-all-requires c κs =
     record {
       first = λ x k. unique .equal _ (unique .below x k) .none (unique .unique x k);
       rising = unique .rising;
-      names = keyed h;
+      names = hashed-names h;
       places = omega (arith, s .pre .places);
       few = omega (arith, unique .count, s .pre .few);
       capacity = omega (arith, d .deduplicate .kept, length-replicate {A = ℕ} 512 0, unique .count, s .pre .few);
@@ -118,7 +118,7 @@ returns-2 c =
       count = z .sum-buckets .ensures image (names-in f) (answered f);
       stored =
           all-words image (names-in f) _ (answered f .size) (omega (arith, f .find-all .kept, begun f .pre .places))
-          (λ i h. answered f .right i h (deduplicated f .deduplicate .ensures .all-unique (c .if1 .left) i h));
+          (λ i h. answered f .have-answers i h (deduplicated f .deduplicate .ensures .all-unique (c .if1 .left) i h));
     }
 
 pub answer-all-spec : {M : Type 1} → statement M

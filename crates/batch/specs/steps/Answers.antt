@@ -9,8 +9,8 @@ use Rattle.reader.specs.Lookup.{lookup}
 use Rattle.reader.specs.Naming.{Naming, lengthIn}
 use Rattle.batch.specs.RoundNames.{names, invalidEnds, nth}
 use Rattle.batch.specs.Round.{answerWords, roundWords, roundBuckets}
-use Rattle.batch.specs.steps.Duplicates.{Listed, Rising, KeyedNames, EqualBefore, IsFirst, IsUnique}
-use Rattle.batch.specs.steps.Probing.{Open, Decided}
+use Rattle.batch.specs.steps.Duplicates.{Listed, Rising, HashedNames, EqualBefore, IsFirst, IsUnique}
+use Rattle.batch.specs.steps.Probing.{SearchOpen, SearchDecided}
 
 -- four words stored in the i-th place, and the words in it
 abbrev pub putWords : List ℕ → ℕ → List ℕ → List ℕ
@@ -39,8 +39,8 @@ abbrev pub Has : List ℕ → ℕ → List ℕ → Type 0
 Has answers i words = (w : ℕ) → w < 4 → getD answers (4 * i + w) 0 ≡ getD words w 0
 
 -- the place of the i-th name holds its answer
-abbrev pub Right : List ℕ → List (List ℕ) → List ℕ → ℕ → Type 0
-Right image xs answers i = Has answers i (answerWords (lookup image (nth xs i)))
+abbrev pub HasAnswer : List ℕ → List (List ℕ) → List ℕ → ℕ → Type 0
+HasAnswer image xs answers i = Has answers i (answerWords (lookup image (nth xs i)))
 
 pub record AnswerAllPre (bytes ends answers : List ℕ) : Type 0 where
   pub few : length ends ≤ 512
@@ -64,41 +64,41 @@ pub record PutDecidedPre (image name answers : List ℕ) (h offset c i : ℕ) : 
   pub short : length name < 4294967295
   pub inside : HasPlace answers i
   pub small : c ≤ 512
-  pub decided : Decided image h c offset
+  pub decided : SearchDecided image h c offset
 
 -- m of the names are listed, and there is a place for the answer of each. Their indexes rise, and no name before one of
 -- them equals it: so no two of them are equal
-pub record ListedNames (bytes ends keys list answers : List ℕ) (m : ℕ) : Type 0 where
+pub record ListedNames (bytes ends hashes list answers : List ℕ) (m : ℕ) : Type 0 where
   pub first : (x : ℕ) → x < m → IsFirst (names bytes ends) (getD list x 0)
   pub rising : Rising list m
-  pub names : KeyedNames bytes ends keys
+  pub names : HashedNames bytes ends hashes
   pub places : 4 * length ends ≤ length answers
   pub few : m ≤ 512
   pub capacity : m ≤ length list
   pub below : (x : ℕ) → x < m → getD list x 0 < length ends
 
 -- the c-th buckets of their searches have these offsets
-pub record DecidedNames (image bytes ends keys list offsets answers : List ℕ) (m c : ℕ) : Type 0 where
-  pub listed : ListedNames bytes ends keys list answers m
+pub record DecidedNames (image bytes ends hashes list offsets answers : List ℕ) (m c : ℕ) : Type 0 where
+  pub listed : ListedNames bytes ends hashes list answers m
   pub short : length bytes < 4294967295
   pub small : c ≤ 512
   pub capacity : m ≤ length offsets
-  pub decided : (x : ℕ) → x < m → Decided image (getD keys (getD list x 0) 0) c (getD offsets x 0)
+  pub decided : (x : ℕ) → x < m → SearchDecided image (getD hashes (getD list x 0) 0) c (getD offsets x 0)
 
 -- their searches are open after c buckets
-pub record OpenNames (image bytes ends keys list answers : List ℕ) (m c : ℕ) : Type 0 where
-  pub listed : ListedNames bytes ends keys list answers m
+pub record OpenNames (image bytes ends hashes list answers : List ℕ) (m c : ℕ) : Type 0 where
+  pub listed : ListedNames bytes ends hashes list answers m
   pub small : c ≤ 512
-  pub is-open : (x : ℕ) → x < m → Open image (getD keys (getD list x 0) 0) c
+  pub is-open : (x : ℕ) → x < m → SearchOpen image (getD hashes (getD list x 0) 0) c
 
 -- the first m listed names have their answers
-abbrev pub ListedRight : List ℕ → List (List ℕ) → List ℕ → List ℕ → ℕ → Type 0
-ListedRight image xs list answers m = (x : ℕ) → x < m → Right image xs answers (getD list x 0)
+abbrev pub ListedHaveAnswers : List ℕ → List (List ℕ) → List ℕ → List ℕ → ℕ → Type 0
+ListedHaveAnswers image xs list answers m = (x : ℕ) → x < m → HasAnswer image xs answers (getD list x 0)
 
 -- and what was right stays so; the places of names that are not listed keep their words
 pub record Answered (image bytes ends list before after : List ℕ) (m : ℕ) : Type 0 where
-  pub stays : (i : ℕ) → Right image (names bytes ends) before i → Right image (names bytes ends) after i
-  pub stored : ListedRight image (names bytes ends) list after m
+  pub stays : (i : ℕ) → HasAnswer image (names bytes ends) before i → HasAnswer image (names bytes ends) after i
+  pub stored : ListedHaveAnswers image (names bytes ends) list after m
   pub others : (i : ℕ) → (Listed list m i → ⊥) → Has after i (wordsIn before i)
 
 -- ---- duplicates
@@ -107,7 +107,7 @@ pub record Answered (image bytes ends list before after : List ℕ) (m : ℕ) : 
 pub record UniqueAnswered (image : List ℕ) (xs : List (List ℕ)) (equals answers : List ℕ) (n : ℕ) : Type 0 where
   pub size : length xs ≡ n
   pub equal : (i : ℕ) → i < n → EqualBefore xs i (getD equals i 0)
-  pub right : (i : ℕ) → i < n → IsUnique equals i → Right image xs answers i
+  pub have-answers : (i : ℕ) → i < n → IsUnique equals i → HasAnswer image xs answers i
 
 -- for each of n names the number of an equal one before it, counted from 1, or 0; and the names' places
 pub record EqualsPre (equals answers : List ℕ) (n : ℕ) : Type 0 where
@@ -126,7 +126,7 @@ SumsUnique equals answers n r =
 abbrev pub AllAnswered : List ℕ → ℕ → List ℕ → List ℕ → Type 0
 AllAnswered equals n before after =
     (image : List ℕ) (xs : List (List ℕ)) → UniqueAnswered image xs equals before n → (i : ℕ) → i < n
-    → Right image xs after i
+    → HasAnswer image xs after i
 
 -- the place of an answer to copy: its own, or that of the equal name before, whose number, counted from 1, is q
 pub record Source (i q r : ℕ) : Type 0 where

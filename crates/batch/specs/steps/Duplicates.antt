@@ -4,7 +4,7 @@ use mathlib.Core.Path.{_≡_}
 use mathlib.Core.Bool.{false}
 use mathlib.Core.List.{List, map}
 use lib.ListN.{length, getD, take}
-unfoldable pub use Rattle.jhash.specs.NameHash.{key}
+unfoldable pub use Rattle.jhash.specs.NameHash.{hashOrZero}
 use Rattle.batch.specs.RoundNames.{names, invalidEnds, different, nth}
 use Rattle.batch.specs.steps.Slots.{SlotsHold}
 
@@ -25,27 +25,27 @@ pub record Listed (l : List ℕ) (n i : ℕ) : Type 0 where
 abbrev pub Rising : List ℕ → ℕ → Type 0
 Rising l n = (x y : ℕ) → x < y → y < n → getD l x 0 < getD l y 0
 
--- ---- keys
+-- ---- hashes
 
--- a list that begins with the names' keys
-abbrev pub Keys : List (List ℕ) → List ℕ → Type 0
-Keys xs keys = (i : ℕ) → i < length xs → getD keys i 0 ≡ key (nth xs i)
+-- a list that begins with the names' hashes
+abbrev pub Hashes : List (List ℕ) → List ℕ → Type 0
+Hashes xs hashes = (i : ℕ) → i < length xs → getD hashes i 0 ≡ hashOrZero (nth xs i)
 
-pub record HashAllPre (bytes ends keys : List ℕ) : Type 0 where
+pub record HashNamesPre (bytes ends hashes : List ℕ) : Type 0 where
   pub valid : invalidEnds (length bytes) 0 ends ≡ false
-  pub capacity : length ends ≤ length keys
+  pub capacity : length ends ≤ length hashes
 
--- the packed names of a round, with their keys
-pub record KeyedNames (bytes ends keys : List ℕ) : Type 0 where
+-- the packed names of a round, with their hashes
+pub record HashedNames (bytes ends hashes : List ℕ) : Type 0 where
   pub valid : invalidEnds (length bytes) 0 ends ≡ false
   pub few : length ends ≤ 512
-  pub capacity : length ends ≤ length keys
-  pub keyed : Keys (names bytes ends) keys
+  pub capacity : length ends ≤ length hashes
+  pub hashed : Hashes (names bytes ends) hashes
 
 -- ---- equal names
 
-pub record ComparePre (bytes ends keys : List ℕ) (j i : ℕ) : Type 0 where
-  pub names : KeyedNames bytes ends keys
+pub record EqualNamesPre (bytes ends hashes : List ℕ) (j i : ℕ) : Type 0 where
+  pub names : HashedNames bytes ends hashes
   pub first : j < length ends
   pub second : i < length ends
 
@@ -60,20 +60,20 @@ pub record EqualBefore (xs : List (List ℕ)) (i q : ℕ) : Type 0 where
   pub none : q ≡ 0 → IsFirst xs i
 
 -- the slots hold the names before the i-th
-pub record FindOrInsertPre (bytes ends keys slots : List ℕ) (i : ℕ) : Type 0 where
-  pub holds : SlotsHold (names bytes ends) keys slots i
-  pub names : KeyedNames bytes ends keys
+pub record FindOrInsertPre (bytes ends hashes slots : List ℕ) (i : ℕ) : Type 0 where
+  pub holds : SlotsHold (names bytes ends) hashes slots i
+  pub names : HashedNames bytes ends hashes
   pub inside : i < length ends
 
 -- r is the number of a name before the i-th that equals it, or 0, and the slots hold the i-th too
-pub record FoundOrInserted (xs : List (List ℕ)) (keys slots : List ℕ) (i r : ℕ) : Type 0 where
+pub record FoundOrInserted (xs : List (List ℕ)) (hashes slots : List ℕ) (i r : ℕ) : Type 0 where
   pub equal : EqualBefore xs i r
-  pub holds : SlotsHold xs keys slots (i + 1)
+  pub holds : SlotsHold xs hashes slots (i + 1)
 
-pub record DeduplicatePre (bytes ends keys equals list : List ℕ) : Type 0 where
-  pub names : KeyedNames bytes ends keys
+pub record DeduplicatePre (bytes ends hashes equals unique : List ℕ) : Type 0 where
+  pub names : HashedNames bytes ends hashes
   pub equals-capacity : length ends ≤ length equals
-  pub list-capacity : length ends ≤ length list
+  pub unique-capacity : length ends ≤ length unique
 
 -- a unique name: by the numbers in `equals`, no earlier one equals it
 abbrev pub IsUnique : List ℕ → ℕ → Type 0
@@ -81,12 +81,12 @@ IsUnique equals i = getD equals i 0 ≡ 0
 
 -- of each of the first n names it is known which one before it is equal. The first r of the list are the indexes of the
 -- unique ones, each of them and no other, in rising order; these are the different names. Where r is n, all are unique
-pub record Deduplicated (xs : List (List ℕ)) (equals list : List ℕ) (n r : ℕ) : Type 0 where
+pub record Deduplicated (xs : List (List ℕ)) (equals unique : List ℕ) (n r : ℕ) : Type 0 where
   pub equal : (i : ℕ) → i < n → EqualBefore xs i (getD equals i 0)
   pub count : r ≤ n
-  pub below : (x : ℕ) → x < r → getD list x 0 < n
-  pub unique : (x : ℕ) → x < r → IsUnique equals (getD list x 0)
-  pub rising : Rising list r
-  pub listed : (i : ℕ) → i < n → IsUnique equals i → Listed list r i
-  pub listed-names : map (nth xs) (take r list) ≡ different (take n xs)
+  pub below : (x : ℕ) → x < r → getD unique x 0 < n
+  pub unique : (x : ℕ) → x < r → IsUnique equals (getD unique x 0)
+  pub rising : Rising unique r
+  pub listed : (i : ℕ) → i < n → IsUnique equals i → Listed unique r i
+  pub listed-names : map (nth xs) (take r unique) ≡ different (take n xs)
   pub all-unique : n ≤ r → (i : ℕ) → i < n → IsUnique equals i

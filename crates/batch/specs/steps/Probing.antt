@@ -11,12 +11,12 @@ use Rattle.batch.specs.steps.Duplicates.{Listed, Rising}
 
 -- the search for the hash h is open after c buckets: what is left of it answers what the whole search does, whatever
 -- the name
-abbrev pub Open : List ℕ → ℕ → ℕ → Type 0
-Open image h c = (name : List ℕ) → searchFrom image name h c ≡ lookupHash image name h
+abbrev pub SearchOpen : List ℕ → ℕ → ℕ → Type 0
+SearchOpen image h c = (name : List ℕ) → searchFrom image name h c ≡ lookupHash image name h
 
 -- the c-th bucket of the search for the hash h has the offset e. Empty, it ends the search; else its entry decides,
 -- unless that has another name: then the search goes on
-pub record Decided (image : List ℕ) (h c e : ℕ) : Type 0 where
+pub record SearchDecided (image : List ℕ) (h c e : ℕ) : Type 0 where
   pub head : headSize ≤ length image
   pub empty : e ≡ 0 → (name : List ℕ) → nothing c ≡ lookupHash image name h
   pub by-entry : 0 < e → (name : List ℕ)
@@ -29,20 +29,20 @@ pub record Passes (hash h offset r : ℕ) : Type 0 where
   pub taken : r ≡ 1 → 0 < offset
   pub stops : r ≡ 0 → 0 < offset → hash ≡ h
 
-pub record ProbePre (image : List ℕ) (h c : ℕ) : Type 0 where
+pub record ProbeNextPre (image : List ℕ) (h c : ℕ) : Type 0 where
   pub head : headSize ≤ length image
   pub small : c < 512
-  pub is-open : Open image h c
+  pub is-open : SearchOpen image h c
 
 -- what the c-th bucket of a search says: `on` is 1 where the search is open behind it, 0 where its offset decides
-pub record Probed (image : List ℕ) (h c offset on : ℕ) : Type 0 where
+pub record NextProbed (image : List ℕ) (h c offset on : ℕ) : Type 0 where
   pub small : on ≤ 1
-  pub is-open : on ≡ 1 → Open image h c
-  pub decided : on ≡ 0 → Decided image h c offset
+  pub is-open : on ≡ 1 → SearchOpen image h c
+  pub decided : on ≡ 0 → SearchDecided image h c offset
 
 -- ---- a pass: q searches are open after c buckets, and each reads its next one
 
-pub record PassPre (image keys live done offsets : List ℕ) (c q : ℕ) : Type 0 where
+pub record PassPre (image hashes live done offsets : List ℕ) (c q : ℕ) : Type 0 where
   pub head : headSize ≤ length image
   pub small : c < 512
   pub few : q ≤ 512
@@ -50,25 +50,25 @@ pub record PassPre (image keys live done offsets : List ℕ) (c q : ℕ) : Type 
   pub done-capacity : q ≤ length done
   pub offsets-capacity : q ≤ length offsets
   pub rising : Rising live q
-  pub keyed : (z : ℕ) → z < q → getD live z 0 < length keys
-  pub is-open : (z : ℕ) → z < q → Open image (getD keys (getD live z 0) 0) c
+  pub hashed : (z : ℕ) → z < q → getD live z 0 < length hashes
+  pub is-open : (z : ℕ) → z < q → SearchOpen image (getD hashes (getD live z 0) 0) c
 
 -- one of z searches that is open after c buckets, and one whose c-th bucket decides
-pub record StillOpen (image keys first : List ℕ) (z c i : ℕ) : Type 0 where
+pub record StillOpen (image hashes first : List ℕ) (z c i : ℕ) : Type 0 where
   pub listed : Listed first z i
-  pub is-open : Open image (getD keys i 0) c
+  pub is-open : SearchOpen image (getD hashes i 0) c
 
-pub record NowDecided (image keys first : List ℕ) (z c i e : ℕ) : Type 0 where
+pub record NowDecided (image hashes first : List ℕ) (z c i e : ℕ) : Type 0 where
   pub listed : Listed first z i
-  pub decided : Decided image (getD keys i 0) c e
+  pub decided : SearchDecided image (getD hashes i 0) c e
 
 -- of the first z searches listed in `first`, p are open after c buckets, listed in `live`, and d are decided by their
 -- c-th, listed in `done`. Each is in one of the two lists, none in both; the lists rise, so none is in one twice
-pub record Partition (image keys first live done offsets : List ℕ) (c p d z : ℕ) : Type 0 where
+pub record OpenOrDecided (image hashes first live done offsets : List ℕ) (c p d z : ℕ) : Type 0 where
   pub count : p + d ≡ z
   pub each : (y : ℕ) → y < z → Listed live p (getD first y 0) ⊎ Listed done d (getD first y 0)
-  pub is-open : (y : ℕ) → y < p → StillOpen image keys first z c (getD live y 0)
-  pub decided : (y : ℕ) → y < d → NowDecided image keys first z c (getD done y 0) (getD offsets y 0)
+  pub is-open : (y : ℕ) → y < p → StillOpen image hashes first z c (getD live y 0)
+  pub decided : (y : ℕ) → y < d → NowDecided image hashes first z c (getD done y 0) (getD offsets y 0)
   pub live-rising : Rising live p
   pub done-rising : Rising done d
   pub disjoint : (x : ℕ) → x < p → (y : ℕ) → y < d → getD live x 0 ≡ getD done y 0 → ⊥

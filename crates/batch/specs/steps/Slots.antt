@@ -7,18 +7,18 @@ use Rattle.image.specs.Bytes.{Each}
 use Rattle.image.specs.Tables.{Bucket, Filled}
 use Rattle.batch.specs.RoundNames.{nth}
 
--- a slot has the number of a name, counted from 1, or 0 where it is empty. The name's hash stands in the list of keys
+-- a slot has the number of a name, counted from 1, or 0 where it is empty. The name's hash stands in the list of hashes
 abbrev pub bucketOfNumber : List ℕ → ℕ → Bucket
-bucketOfNumber keys q = record { hash = getD (0 ∷ keys) q 0; at = q }
+bucketOfNumber hashes q = record { hash = getD (0 ∷ hashes) q 0; at = q }
 
 abbrev pub roundSlot : List ℕ → List ℕ → ℕ → Bucket
-roundSlot keys slots k = bucketOfNumber keys (getD slots k 0)
+roundSlot hashes slots k = bucketOfNumber hashes (getD slots k 0)
 
 -- the slots hold some of the first i names, among them one that equals each
-pub record SlotsHold (xs : List (List ℕ)) (keys slots : List ℕ) (i : ℕ) : Type 0 where
+pub record SlotsHold (xs : List (List ℕ)) (hashes slots : List ℕ) (i : ℕ) : Type 0 where
   pub held : List ℕ
   pub size : length slots ≡ 4096
-  pub filled-with : Filled 4096 (roundSlot keys slots) (map (λ (u : ℕ). bucketOfNumber keys (u + 1)) held)
+  pub filled-with : Filled 4096 (roundSlot hashes slots) (map (λ (u : ℕ). bucketOfNumber hashes (u + 1)) held)
   pub few : length held ≤ i
   pub below : Each (λ (u : ℕ). u < i) held
   pub covers : (y : List ℕ) → Each (λ (u : ℕ). nth xs u ≡ y → ⊥) held

@@ -21,7 +21,7 @@ abbrev pub placeAt : List ℕ → ℕ → List ℕ
 placeAt answers i = take 4 (drop (4 * i) answers)
 
 -- a round that is accepted, with its names and the answer list afterwards
-pub record Accepted (image bytes ends answers : List ℕ) : Type 0 where
+pub record RoundAccepted (image bytes ends answers : List ℕ) : Type 0 where
   pub count : ℕ
   pub given : rounding image bytes ends (length answers / 4) ≡ value count
 
@@ -36,18 +36,18 @@ pub record RoundHolds : Type 0 where
   pub reads-back : (xs : List (List ℕ)) → names (packedBytes xs) (endsFrom 0 xs) ≡ xs
   pub ends-valid : (xs : List (List ℕ)) → invalidEnds (length (packedBytes xs)) 0 (endsFrom 0 xs) ≡ false
   -- "The answers are those of single lookups in the same order"
-  pub single : (image bytes ends answers : List ℕ) → Accepted image bytes ends answers → (i : ℕ)
+  pub single : (image bytes ends answers : List ℕ) → RoundAccepted image bytes ends answers → (i : ℕ)
       → i < length ends
       → placeAt (afterRound image bytes ends answers) i ≡ answerWords (lookup image (nth (names bytes ends) i))
   -- so the order of the names does not change an answer: a name has one answer at every place of every round on the
   -- image
   pub order-free : (image bytes ends answers bytes' ends' answers' : List ℕ)
-      → Accepted image bytes ends answers → Accepted image bytes' ends' answers'
+      → RoundAccepted image bytes ends answers → RoundAccepted image bytes' ends' answers'
       → (i j : ℕ) → i < length ends → j < length ends'
       → nth (names bytes ends) i ≡ nth (names bytes' ends') j
       → placeAt (afterRound image bytes ends answers) i ≡ placeAt (afterRound image bytes' ends' answers') j
   -- "The call's bucket count is the sum over the different names"
-  pub counted : (image bytes ends answers : List ℕ) (a : Accepted image bytes ends answers)
+  pub counted : (image bytes ends answers : List ℕ) (a : RoundAccepted image bytes ends answers)
       → a .count ≡ bucketsRead image (different (names bytes ends))
   pub once-each : (xs : List (List ℕ)) → OnceEach xs
   -- "so never above that of single calls"; with all names different it is that sum
@@ -55,7 +55,7 @@ pub record RoundHolds : Type 0 where
   pub all-different : (image : List ℕ) (xs : List (List ℕ)) → Distinct xs
       → roundBuckets image xs ≡ bucketsRead image xs
   -- "answer places past the last name keep their content"; a refusal writes nothing
-  pub past-kept : (image bytes ends answers : List ℕ) → Accepted image bytes ends answers
+  pub past-kept : (image bytes ends answers : List ℕ) → RoundAccepted image bytes ends answers
       → drop (4 * length ends) (afterRound image bytes ends answers) ≡ drop (4 * length ends) answers
   pub refused-kept : (image bytes ends answers : List ℕ) (k : ℕ)
       → rounding image bytes ends (length answers / 4) ≡ refusal k

@@ -9,10 +9,10 @@ use lib.Seq.{length-take-le}
 use borrow.Author.Needs.{needs}
 use borrow.Author.Tests.{not-false}
 use Rattle.packed.specs.Names.{names, nth}
-use Rattle.jhash.proofs.Outcomes.{key-short}
+use Rattle.jhash.proofs.Outcomes.{hash-or-zero-short}
 use Rattle.image.specs.Tables.{tableOf}
 use Rattle.image.proofs.Bools.{false-not-true}
-use Rattle.jhash.specs.NameHash.{key, hashOf}
+use Rattle.jhash.specs.NameHash.{hashOrZero, hashOf}
 use Rattle.writer.specs.State.{refusesRepeats}
 use Rattle.bulk_tables.specs.steps.Contracts.{NoZeros}
 use Rattle.bulk_tables.proofs.Offsets.{names-short}
@@ -48,12 +48,12 @@ tables-in c = c .build-tables .last .1 .1 .1 .1 .1 .0
 tables-long : (c : tie.After-build-tables) → length (tables-in c) ≡ length (start (hashed c) .args .scratch .now)
 tables-long c = c .build-tables .kept .1 .1 .1 .1 .1 .0
 
--- all names are short, so their keys are their hashes
+-- all names are short, so each has a hash
 key-hash : (s : tie.Start) (i : ℕ) → i < length (s .args .ends .now)
-    → let x = nth (names (s .args .bytes .now) (s .args .ends .now)) i in key x ≡ hashOf x
+    → let x = nth (names (s .args .bytes .now) (s .args .ends .now)) i in hashOrZero x ≡ hashOf x
 key-hash s i h =
     let a = s .args in
-    key-short (nth (names (a .bytes .now) (a .ends .now)) i)
+    hash-or-zero-short (nth (names (a .bytes .now) (a .ends .now)) i)
     (names-short (a .bytes .now) (a .ends .now) (s .pre .list .packed) (omega (arith, sum-small (s .pre .list .ids-long) (s .pre .capacity .fits))) i h)
 
 names-hashed : (c : tie.After-hash-all) → let a = start c .args in HashesStored (a .bytes .now) (a .ends .now) (hashes-in c)
@@ -158,8 +158,8 @@ write-list-requires c κs =
       tabled = built .tables-are;
     }
 
-clear-requires : tie.Need-clear-requires
-clear-requires c κs = omega (arith, hashes-long (hashed (tabled (c .before .before .before))))
+clear-words-requires : tie.Need-clear-words-requires
+clear-words-requires c κs = omega (arith, hashes-long (hashed (tabled (c .before .before .before))))
 
 returns-3 : tie.Need-returns-3
 returns-3 c =
@@ -179,7 +179,7 @@ returns-3 c =
       built = λ some.
           all-built (a .mode) (a .repeats) (s .pre .list) (s .pre .capacity .fits) words (clean t)
           (λ d. all-distinct tables whole (t .before .before .before .before .refuses .ensures ∙ d)) (w .write-list .ensures)
-          (refusals-cleared n _ (hashes-in h) (a .refusals .now) (z .clear .kept .0) (hashes-long h) (z .clear .ensures) (told .rest));
+          (refusals-cleared n _ (hashes-in h) (a .refusals .now) (z .clear-words .kept .0) (hashes-long h) (z .clear-words .ensures) (told .rest));
       kept = λ e. absurd (omega (arith, e, w .write-list .ensures .size));
       rest = λ e. absurd (omega (arith, e, w .write-list .ensures .size));
       facts = λ e. absurd (omega (arith, e, w .write-list .ensures .size));
@@ -202,7 +202,7 @@ build-bulk-spec =
     slice-reshare-prefix-tables
     slice-aggregate-tables
     write-list-requires
-    clear-requires
+    clear-words-requires
     (λ c. search needs)
     (λ c. search needs)
     (λ c. search needs)

@@ -22,31 +22,31 @@ start c = c .before .before .before .before .before .before .before
 abbrev sized : tie.After-save-hashes → tie.After-index-words
 sized c = c .before .before .before
 
-abbrev saved : tie.After-clear → tie.After-save-hashes
+abbrev saved : tie.After-clear-words → tie.After-save-hashes
 saved c = c .before .before .before .before
 
-abbrev cleared : tie.After-put-list → tie.After-clear
+abbrev cleared : tie.After-put-list → tie.After-clear-words
 cleared c = c .before .before .before .before .before .before .before
 
 abbrev put : tie.After-keep-accepted → tie.After-put-list
 put c = c .before .before .before .before .before .before .before .before .before
 
 -- the beginning, and the words of the index
-abbrev begun : tie.After-clear → tie.Start
+abbrev begun : tie.After-clear-words → tie.Start
 begun c = start (sized (saved c))
 
-abbrev words : tie.After-clear → ℕ
+abbrev words : tie.After-clear-words → ℕ
 words c = sized (saved c) .index-words .result
 
 -- ---- what the calls leave
 
 -- the scratch memory with the slots cleared
-abbrev cleared-in : tie.After-clear → List ℕ
-cleared-in c = c .clear .last .0
+abbrev cleared-in : tie.After-clear-words → List ℕ
+cleared-in c = c .clear-words .last .0
 
-words-within : (c : tie.After-clear) → words c ≤ length (cleared-in c)
+words-within : (c : tie.After-clear-words) → words c ≤ length (cleared-in c)
 words-within c =
-    omega (arith, sized (saved c) .index-words .ensures .within, saved c .save-hashes .kept .1 .1 .1 .1 .0, c .clear .kept)
+    omega (arith, sized (saved c) .index-words .ensures .within, saved c .save-hashes .kept .1 .1 .1 .1 .0, c .clear-words .kept)
 
 -- the slots after the puts, the scratch memory with them, and the refusals
 abbrev slots-in : tie.After-put-list → List ℕ
@@ -68,7 +68,7 @@ scratch-long c = length-front (cleared-in (cleared c)) (slots-in c) (words (clea
 saved-inside : (c : tie.After-put-list) → words (cleared c) + 2 * saved (cleared c) .save-hashes .result ≤ length (scratch-in c)
 saved-inside c =
     let z = cleared c in
-    omega (arith, saved z .save-hashes .ensures .inside, z .clear .kept, scratch-long c)
+    omega (arith, saved z .save-hashes .ensures .inside, z .clear-words .kept, scratch-long c)
 
 still-saved : (c : tie.After-put-list) → let a = begun (cleared c) .args in (k : ℕ) → k < saved (cleared c) .save-hashes .result
     → getD (scratch-in c) (words (cleared c) + 2 * k) 0 ≡ hashOf (nth (names (a .bytes .now) (a .ends .now)) k)
@@ -76,7 +76,7 @@ still-saved c k h =
     let z = cleared c in
     let done = saved z .save-hashes .ensures in
     behind-kept (slots-in c) (cleared-in z) (words z) (2 * k) (slots-long c)
-    ∙ z .clear .ensures .kept (words z + 2 * k) (omega arith)
+    ∙ z .clear-words .ensures .kept (words z + 2 * k) (omega arith)
     ∙ done .saved k h
     ∙ begun z .pre .facts .hashes (done .only (omega (arith, h))) k (omega (arith, h, done .few))
 
@@ -90,8 +90,8 @@ save-hashes-requires c κs =
     let w = c .before .before in
     record { refusals-long = start w .pre .list .refusals-long; inside = w .index-words .ensures .within }
 
-clear-requires : tie.Need-clear-requires
-clear-requires c κs =
+clear-words-requires : tie.Need-clear-words-requires
+clear-words-requires c κs =
     let s = c .before .before .before in
     omega (arith, sized s .index-words .ensures .within, s .save-hashes .kept .1 .1 .1 .1 .0)
 
@@ -114,7 +114,7 @@ put-list-requires c κs =
     record {
       list = s .pre .list;
       begun = refl;
-      cleared = slots-cleared (cleared-in z) n (words-within z) (z .clear .ensures .zero);
+      cleared = slots-cleared (cleared-in z) n (words-within z) (z .clear-words .ensures .zero);
       only-off = λ h. sized (saved z) .index-words .ensures .only-off (omega (arith, h, long));
       enough = λ h. omega (arith, long, sized (saved z) .index-words .ensures .enough (omega (arith, h, long)));
       facts = s .pre .facts;
@@ -140,7 +140,7 @@ kept-good c =
     let p = put c in
     let z = cleared p in
     omega
-    (arith, kept-inside c, c .keep-accepted .kept .1 .1 .1 .0, scratch-long p, z .clear .kept, saved z .save-hashes .kept .1 .1 .1 .1 .0, begun z .good)
+    (arith, kept-inside c, c .keep-accepted .kept .1 .1 .1 .0, scratch-long p, z .clear-words .kept, saved z .save-hashes .kept .1 .1 .1 .1 .0, begun z .good)
 
 add-hashes : tie.Need-add-hashes
 add-hashes c = omega (arith, kept-good (c .before .before))
@@ -179,7 +179,7 @@ same-length-3 c =
     let k = c .before .before .before .before .before .before .before .before .before in
     let p = put k in
     let z = cleared p in
-    omega (arith, k .keep-accepted .kept .1 .1 .1 .0, scratch-long p, z .clear .kept, saved z .save-hashes .kept .1 .1 .1 .1 .0)
+    omega (arith, k .keep-accepted .kept .1 .1 .1 .0, scratch-long p, z .clear-words .kept, saved z .save-hashes .kept .1 .1 .1 .1 .0)
 
 returns : tie.Need-returns
 returns c =
@@ -195,7 +195,7 @@ build-singly-spec =
     (tie.spec
     (λ c κs. search needs)
     save-hashes-requires
-    clear-requires
+    clear-words-requires
     slice-relend-prefix-slots
     slice-aggregate-slots
     put-list-requires

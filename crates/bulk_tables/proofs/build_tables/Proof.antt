@@ -18,7 +18,7 @@ start c = c .before .before .before .before .before .before
 abbrev summed : tie.After-partition-pairs → tie.After-prefix-sums
 summed c = c .before .before .before
 
-abbrev partitioned : tie.After-clear → tie.After-partition-pairs
+abbrev partitioned : tie.After-clear-words → tie.After-partition-pairs
 partitioned c = c .before .before .before .before .before
 
 -- ---- what the calls leave in the scratch memory
@@ -26,15 +26,15 @@ partitioned c = c .before .before .before .before .before
 abbrev pairs-in : (c : tie.After-partition-pairs) → List ℕ
 pairs-in c = c .partition-pairs .last .1 .1 .0
 
-abbrev cleared-in : (c : tie.After-clear) → List ℕ
-cleared-in c = c .clear .last .0
+abbrev cleared-in : (c : tie.After-clear-words) → List ℕ
+cleared-in c = c .clear-words .last .0
 
 -- the pairs are kept behind empty buckets
-cleared : (c : tie.After-clear) → Cleared (pairWords (length (start (summed (partitioned c)) .args .ends .now))) (pairs-in (partitioned c)) (cleared-in c)
-cleared c = subst (λ (k : ℕ). Cleared k (pairs-in (partitioned c)) (cleared-in c)) (c .before .pairs-at .ensures) (c .clear .ensures)
+cleared : (c : tie.After-clear-words) → Cleared (pairWords (length (start (summed (partitioned c)) .args .ends .now))) (pairs-in (partitioned c)) (cleared-in c)
+cleared c = subst (λ (k : ℕ). Cleared k (pairs-in (partitioned c)) (cleared-in c)) (c .before .pairs-at .ensures) (c .clear-words .ensures)
 
-long : (c : tie.After-clear) → length (cleared-in c) ≡ length (start (summed (partitioned c)) .args .scratch .now)
-long c = let same : length (cleared-in c) ≡ length (pairs-in (partitioned c)) = c .clear .kept .0 in same ∙ partitioned c .partition-pairs .kept .1 .1 .0
+long : (c : tie.After-clear-words) → length (cleared-in c) ≡ length (start (summed (partitioned c)) .args .scratch .now)
+long c = let same : length (cleared-in c) ≡ length (pairs-in (partitioned c)) = c .clear-words .kept .0 in same ∙ partitioned c .partition-pairs .kept .1 .1 .0
 
 -- ---- the needs
 

@@ -9,7 +9,7 @@ use Rattle.image.specs.Zero.{hasZero}
 use Rattle.image.specs.Tables.{tableOf, start, probeSequence, firstEmpty}
 use Rattle.image.specs.Image.{Entry, headSize, placed, count, tables}
 use Rattle.packed.specs.Names.{names, invalidEnds, nth}
-use Rattle.jhash.specs.NameHash.{key}
+use Rattle.jhash.specs.NameHash.{hashOrZero}
 use Rattle.lookup_laws.specs.steps.HasMatch.{hasMatch}
 use Rattle.bulk_tables.specs.steps.Layout.{maxWord, maxNames, scratchWords, tableWords, pairWords, pairStored}
 use Rattle.bulk_tables.specs.steps.Partition.{at, tableOfName, tableIn, countOfTable, prefixSum}
@@ -45,7 +45,7 @@ pub record HashAllPre (bytes ends hashes counts : List ℕ) : Type 0 where
 
 -- of the first i names
 pub record Hashed (bytes ends hashes counts : List ℕ) (i : ℕ) : Type 0 where
-  pub hashes-are : (j : ℕ) → j < i → at hashes j ≡ key (nth (names bytes ends) j)
+  pub hashes-are : (j : ℕ) → j < i → at hashes j ≡ hashOrZero (nth (names bytes ends) j)
   pub rows : length counts ≡ 256
   pub counts-are : (t : ℕ) → t < 256 → at counts t ≡ countOfTable (tableOfName (names bytes ends)) t i
 

@@ -6,7 +6,7 @@ use lib.ListN.{getD}
 use lib.Dec.{eqb}
 use Rattle.image.specs.Tables.{tableOf}
 use Rattle.packed.specs.Names.{nth}
-use Rattle.jhash.specs.NameHash.{key}
+use Rattle.jhash.specs.NameHash.{hashOrZero}
 
 -- the i-th word
 abbrev pub at : List ℕ → ℕ → ℕ
@@ -14,7 +14,7 @@ at l i = getD l i 0
 
 -- the table of the i-th name: from the names, and from their hashes
 abbrev pub tableOfName : List (List ℕ) → ℕ → ℕ
-tableOfName xs i = tableOf (key (nth xs i))
+tableOfName xs i = tableOf (hashOrZero (nth xs i))
 
 abbrev pub tableIn : List ℕ → ℕ → ℕ
 tableIn hashes i = tableOf (at hashes i)

@@ -26,8 +26,8 @@ pub record Walk : Type 0 where
 abbrev walk : List ℕ → ℕ → Outcome Place → Walk
 walk file k o = record { file = file; position = k; answer = o }
 
-abbrev at : ℕ → ℕ → Outcome Place
-at s n = value (record { start = s; size = n })
+abbrev standsAt : ℕ → ℕ → Outcome Place
+standsAt s n = value (record { start = s; size = n })
 
 unfoldable pub walks : List Walk
 unfolding sized blank
@@ -36,12 +36,12 @@ walks =
     walk [] 0 (refusal 11)
     ∷ walk [] 7 (refusal 11)
     -- one image, and two: the position after the last
-    ∷ walk (blank 2072) 0 (at 0 2072)
+    ∷ walk (blank 2072) 0 (standsAt 0 2072)
     ∷ walk (blank 2072) 1 (refusal 11)
-    ∷ walk (blank 2072 ++ blank 2080) 1 (at 2072 2080)
+    ∷ walk (blank 2072 ++ blank 2080) 1 (standsAt 2072 2080)
     ∷ walk (blank 2072 ++ blank 2080) 2 (refusal 11)
     -- an image and 7 bytes: position 0 is not concerned, a position at or behind the broken place is
-    ∷ walk (blank 2072 ++ replicate 7 0) 0 (at 0 2072)
+    ∷ walk (blank 2072 ++ replicate 7 0) 0 (standsAt 0 2072)
     ∷ walk (blank 2072 ++ replicate 7 0) 1 (refusal 10)
     ∷ walk (blank 2072 ++ replicate 7 0) 9 (refusal 10)
     -- 8 left-over bytes; a size word one too small, one too large
@@ -49,7 +49,7 @@ walks =
     ∷ walk (sized 2071 2072) 0 (refusal 10)
     ∷ walk (sized 2073 2072) 0 (refusal 10)
     -- a size word that is smaller than the bytes: the next image would begin at the last byte
-    ∷ walk (sized 2072 2073) 0 (at 0 2072)
+    ∷ walk (sized 2072 2073) 0 (standsAt 0 2072)
     ∷ walk (sized 2072 2073) 1 (refusal 10)
     ∷ []
 

@@ -7,6 +7,6 @@ use lib.ListN.{length}
 use Rattle.bundle.specs.FileWalk.{sizeAt, breaks}
 
 -- r is the size of the image that begins at `at`, 0 where the walk breaks off there
-pub record SizeRead (file : List ℕ) (at r : ℕ) : Type 0 where
+pub record ImageSizeRead (file : List ℕ) (at r : ℕ) : Type 0 where
   pub size : r ≡ cond (breaks file at) 0 (sizeAt file at)
   pub inside : at + r ≤ length file

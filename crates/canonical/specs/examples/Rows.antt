@@ -15,7 +15,7 @@ use Rattle.lists.specs.Demand3.{imageOf}
 use Rattle.canonical.specs.Canonical.{putsIn, canonical}
 
 -- calls on a buffer of `bytes` bytes, and the puts of the image
-pub record Row : Type 0 where
+pub record CanonicalRow : Type 0 where
   pub mode : Mode
   pub repeats : Repeats
   pub bytes : ℕ
@@ -23,7 +23,7 @@ pub record Row : Type 0 where
   pub puts : List Entry
 
 -- in every buffer of that length the image is canonical, and has these puts
-abbrev pub Holds : Row → Type 0
+abbrev pub Holds : CanonicalRow → Type 0
 Holds r =
     (buffer : List ℕ) → length buffer ≡ r .bytes
     → (canonical (imageOf (r .mode) (r .repeats) buffer (r .calls)) ≡ true)
@@ -39,10 +39,10 @@ B id = entryOf (66 ∷ []) id
 abbrev Z : ℕ → Entry
 Z id = entryOf (97 ∷ 0 ∷ 98 ∷ []) id
 
-abbrev row : Mode → Repeats → ℕ → List Call → List Entry → Row
+abbrev row : Mode → Repeats → ℕ → List Call → List Entry → CanonicalRow
 row mode repeats bytes calls puts = record { mode = mode; repeats = repeats; bytes = bytes; calls = calls; puts = puts }
 
-abbrev pub canonicalRows : List Row
+abbrev pub canonicalRows : List CanonicalRow
 canonicalRows =
     -- no put; only a close
     row Twoway Off 2072 [] []

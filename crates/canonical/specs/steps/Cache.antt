@@ -21,18 +21,18 @@ firstBucketAt img h =
 
 -- two lists have, from i on, the hashes and first places of the m entries from `at` on, as far as these are whole
 unfoldable pub CachedFrom : List ℕ → ℕ → List ℕ → List ℕ → ℕ → ℕ → ℕ → Type 0
-CachedFrom img end hashes places at i zero = Unit {0}
-CachedFrom img end hashes places at i (suc m) =
+CachedFrom img end hashes bucket-places at i zero = Unit {0}
+CachedFrom img end hashes bucket-places at i (suc m) =
     let n = wholeLength (between img at end) in
     (n ≡ 0 → ⊥)
-    → (getD hashes i 0 ≡ hashOf (entryName img at n)) × (getD places i 0 ≡ firstBucketAt img (getD hashes i 0))
-    × CachedFrom img end hashes places (at + (8 + n)) (i + 1) m
+    → (getD hashes i 0 ≡ hashOf (entryName img at n)) × (getD bucket-places i 0 ≡ firstBucketAt img (getD hashes i 0))
+    × CachedFrom img end hashes bucket-places (at + (8 + n)) (i + 1) m
 
 -- the last `cached` of 256 elements are of the entries from `at` on, and the words at their first places were read
-pub record Cached (img : List ℕ) (end : ℕ) (hashes places firsts : List ℕ) (at cached : ℕ) : Type 0 where
+pub record Cached (img : List ℕ) (end : ℕ) (hashes bucket-places firsts : List ℕ) (at cached : ℕ) : Type 0 where
   pub most : cached ≤ 256
   pub hashes-long : length hashes ≡ 256
-  pub places-long : length places ≡ 256
+  pub bucket-places-long : length bucket-places ≡ 256
   pub firsts-long : length firsts ≡ 256
-  pub entries : CachedFrom img end hashes places at (256 - cached) cached
-  pub words : 0 < cached → (k : ℕ) → k < 256 → getD firsts k 0 ≡ word img (getD places k 0)
+  pub entries : CachedFrom img end hashes bucket-places at (256 - cached) cached
+  pub words : 0 < cached → (k : ℕ) → k < 256 → getD firsts k 0 ≡ word img (getD bucket-places k 0)

@@ -42,48 +42,48 @@ pub record Area (img : List ℕ) (at end : ℕ) : Type 0 where
   pub inside : end ≤ length img
   pub small : end < 4294967296
 
-pub record BatchPre (img : List ℕ) (at end : ℕ) (hashes places : List ℕ) : Type 0 where
+pub record BatchPre (img : List ℕ) (at end : ℕ) (hashes bucket-places : List ℕ) : Type 0 where
   pub area : Area img at end
   pub hashes-long : length hashes ≡ 256
-  pub places-long : length places ≡ 256
+  pub bucket-places-long : length bucket-places ≡ 256
 
-pub record Batch (img : List ℕ) (at end : ℕ) (hashes places : List ℕ) : Type 0 where
+pub record Batch (img : List ℕ) (at end : ℕ) (hashes bucket-places : List ℕ) : Type 0 where
   pub hashes-long : length hashes ≡ 256
-  pub places-long : length places ≡ 256
-  pub cached : CachedFrom img end hashes places at 0 256
+  pub bucket-places-long : length bucket-places ≡ 256
+  pub cached : CachedFrom img end hashes bucket-places at 0 256
 
 pub record BucketsPre (firsts : List ℕ) : Type 0 where
   pub firsts-long : length firsts ≡ 256
 
 -- the words at the first n places are read
-pub record BucketsRead (img places firsts : List ℕ) (n : ℕ) : Type 0 where
+pub record BucketsRead (img bucket-places firsts : List ℕ) (n : ℕ) : Type 0 where
   pub firsts-long : length firsts ≡ 256
-  pub words : (k : ℕ) → k < n → getD firsts k 0 ≡ word img (getD places k 0)
+  pub words : (k : ℕ) → k < n → getD firsts k 0 ≡ word img (getD bucket-places k 0)
 
-pub record PrefetchPre (img : List ℕ) (at end cached : ℕ) (hashes places firsts : List ℕ) : Type 0 where
+pub record PrefetchPre (img : List ℕ) (at end cached : ℕ) (hashes bucket-places firsts : List ℕ) : Type 0 where
   pub area : Area img at end
-  pub cache : Cached img end hashes places firsts at cached
+  pub cache : Cached img end hashes bucket-places firsts at cached
 
-pub record Prefetched (img : List ℕ) (at end cached : ℕ) (hashes places firsts : List ℕ) : Type 0 where
+pub record Prefetched (img : List ℕ) (at end cached : ℕ) (hashes bucket-places firsts : List ℕ) : Type 0 where
   pub some : 0 < cached
-  pub cache : Cached img end hashes places firsts at cached
+  pub cache : Cached img end hashes bucket-places firsts at cached
 
 -- ---- entries
 
 -- the place of the first bucket of a hash's probe sequence, and the word there
-pub record CachedBucket (img : List ℕ) (h place first : ℕ) : Type 0 where
-  pub place-is : place ≡ firstBucketAt img h
-  pub first-is : first ≡ word img place
+pub record CachedBucket (img : List ℕ) (h bucket-place first : ℕ) : Type 0 where
+  pub bucket-place-is : bucket-place ≡ firstBucketAt img h
+  pub first-is : first ≡ word img bucket-place
 
-pub record InBucketPre (img : List ℕ) (h place first : ℕ) : Type 0 where
-  pub bucket : CachedBucket img h place first
+pub record InBucketPre (img : List ℕ) (h bucket-place first : ℕ) : Type 0 where
+  pub bucket : CachedBucket img h bucket-place first
   pub tables : TablesHeld img
 
-pub record CheckEntryPre (img : List ℕ) (at n h place first : ℕ) : Type 0 where
+pub record CheckEntryPre (img : List ℕ) (at n h bucket-place first : ℕ) : Type 0 where
   pub entry : NameAtPre img at n
   pub small : at < 4294967296
   pub hash : h ≡ hashOf (entryName img at n)
-  pub cached : InBucketPre img h place first
+  pub cached : InBucketPre img h bucket-place first
 
 pub record OneIf (w at r : ℕ) : Type 0 where
   pub is : r ≡ cond (eqb w at) 1 0

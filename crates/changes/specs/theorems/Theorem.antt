@@ -6,7 +6,7 @@ use mathlib.Core.Bool.{true, false}
 use mathlib.Core.List.{List, [], _∷_}
 use mathlib.Core.Option.{Option, none, some}
 use Rattle.image.specs.Bytes.{filter, range, word}
-use Rattle.image.specs.Stored.{nameOf, broken}
+use Rattle.image.specs.Stored.{nameAt, broken}
 use Rattle.reader.specs.Naming.{nameGiven}
 use Rattle.reader.specs.Lookup.{found, lookup}
 use Rattle.reader.specs.declared.Found.{Found}
@@ -40,7 +40,7 @@ pub record MovesTo (old new : List ℕ) (id other : ℕ) : Type 0 where
   pub has-id : at .id ≡ other
   pub another : ¬ (other ≡ id)
   pub unbroken : broken new (at .offset) ≡ false
-  pub name-there : nameOf new (at .offset) ≡ name
+  pub name-there : nameAt new (at .offset) ≡ name
   pub id-there : word new (at .offset) ≡ other
 
 pub record Compared : Type 0 where

@@ -48,7 +48,7 @@ pub record TableIn (buf : List ℕ) (o n : ℕ) : Type 0 where
   pub inside : o + 8 * n ≤ length buf
 
 -- the n buckets at o lie in the buffer, and a search starts at bucket k, one of them
-pub record ProbePre (buf : List ℕ) (o n k : ℕ) : Type 0 where
+pub record FirstEmptyPre (buf : List ℕ) (o n k : ℕ) : Type 0 where
   pub inside : o + 8 * n ≤ length buf
   pub start : k < n
 

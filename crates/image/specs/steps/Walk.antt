@@ -4,16 +4,16 @@ use mathlib.Core.Path.{_≡_}
 use mathlib.Core.Bool.{true}
 use mathlib.Core.List.{List}
 use lib.ListN.{length, getD}
-use Rattle.jhash.specs.NameHash.{key}
+use Rattle.jhash.specs.NameHash.{hashOrZero}
 use Rattle.image.specs.Image.{Entry, headSize, backSize, containsName}
 use Rattle.image.specs.Stored.{whole, entriesIn, between}
 use Rattle.image.specs.Tally.{tallied}
 use Rattle.image.specs.declared.entries.Walked.{Walked}
 
 -- the keys of an entry's name and of the name that is sought
-pub record ComparePre (name : List ℕ) (h : ℕ) (sought : List ℕ) (want : ℕ) : Type 0 where
-  pub named : h ≡ key name
-  pub wanted : want ≡ key sought
+pub record IsSoughtPre (name : List ℕ) (h : ℕ) (sought : List ℕ) (want : ℕ) : Type 0 where
+  pub named : h ≡ hashOrZero name
+  pub wanted : want ≡ hashOrZero sought
 
 -- the entries end inside the buffer, and no count was raised yet
 pub record WalkPre (buf : List ℕ) (end : ℕ) (counts : List ℕ) : Type 0 where

@@ -35,7 +35,7 @@ fill-requires : tie.Need-fill-requires
 fill-requires c κs =
     let a = start (c .before .before) .args in
     let r = after-close-refusal c .close-refusal in
-    let cleared = c .before .before .before .clear in
+    let cleared = c .before .before .before .clear-words in
     let kept = cleared .kept .0 in
     fillable (a .w) (a .counts .now) (a .buf .now) (cleared .last .0) (sym (r .ensures) ∙ c .before .before .before .before .before .before .before .if1 .left)
     (omega (arith, kept, c .before .before .before .before .before .if2 .left)) (λ i h. cleared .ensures .zero i (omega (arith, h, kept)))
@@ -44,7 +44,7 @@ returns-3 : tie.Need-returns-3
 returns-3 c =
     let a = start (c .before .before .before .before .before) .args in
     let r = after-close-refusal (c .before .before .before) .close-refusal in
-    let cleared = c .before .before .before .before .before .before .clear in
+    let cleared = c .before .before .before .before .before .before .clear-words in
     let left = else2 c .if2 .left in
     let none = else1 (c .before) .if1 .left in
     index-made (stateWith (a .w) (a .counts .now) (a .buf .now)) (a .slots .now) (r .result) (r .ensures) none (cleared .last .0) _ (cleared .kept .0)

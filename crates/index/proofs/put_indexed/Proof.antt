@@ -4,7 +4,7 @@ use native.Mathlib.Omega.{arith}
 use mathlib.Core.Path.{_∙_}
 use lib.ListN.{getD}
 use Rattle.image.proofs.Bools.{false-not-true}
-use Rattle.jhash.proofs.Outcomes.{key-short}
+use Rattle.jhash.proofs.Outcomes.{hash-or-zero-short}
 use Rattle.index.proofs.PutLeaves.{put-promised}
 use borrow.Author.Needs.{needs}
 use Rattle.index.proofs.put_indexed.Statement.{statement}
@@ -12,7 +12,7 @@ use Rattle.index.proofs.put_indexed.Tie as tie
 
 put-hashed-requires : tie.Need-put-hashed-requires
 put-hashed-requires c κs =
-    record { hash = λ short. c .before .before .before .key .ensures ∙ key-short _ short; zero-free = λ t. absurd (false-not-true t) }
+    record { hash = λ short. c .before .before .before .hash-or-zero .ensures ∙ hash-or-zero-short _ short; zero-free = λ t. absurd (false-not-true t) }
 
 abbrev start : tie.After-put-hashed → tie.Start
 start c = c .before .before .before .before .before .before .before .before

@@ -11,7 +11,7 @@ use Rattle.image.specs.Image.{Entry, headSize}
 use Rattle.image.specs.Zero.{hasZero}
 use Rattle.writer.specs.declared.CQDBWriter.{CQDBWriter}
 use Rattle.writer.specs.State.{State, finishedSize, tooLarge}
-use Rattle.writer.specs.Put.{writerWith}
+use Rattle.writer.specs.Put.{writerAfterPut}
 use Rattle.index.specs.declared.NameFacts.{NameFacts}
 
 -- what a caller says of a name is so
@@ -31,7 +31,7 @@ earlyRefusal w buf name =
 -- after it, of a name of n bytes
 unfoldable pub lateRefusal : CQDBWriter → List ℕ → ℕ → ℕ → ℕ → ℕ
 lateRefusal w counts n id h =
-    cond (tooLarge (w .length) (finishedSize (writerWith w n id))) 3
+    cond (tooLarge (w .length) (finishedSize (writerAfterPut w n id))) 3
     (cond (ltb 4294967294 (getD counts (tableOf h) 0)) 2 0)
 
 -- without one
@@ -47,4 +47,4 @@ pub record AppendPre (s : State) (e : Entry) (h : ℕ) : Type 0 where
   pub count : getD (s .counts) (tableOf h) 0 < 4294967295
   pub entry : s .writer .end + (length (e .name) + 9) ≤ length (s .buffer)
   pub short : length (e .name) < 4294967295
-  pub size : finishedSize (writerWith (s .writer) (length (e .name)) (e .id)) ≤ 4294967295
+  pub size : finishedSize (writerAfterPut (s .writer) (length (e .name)) (e .id)) ≤ 4294967295

@@ -35,7 +35,7 @@ pub record IdGives : Type 0 where
 
 -- calls on a buffer of `bytes` bytes; the refusal of each, the size that one more close gives, num, the back array's
 -- offset and words, and answers
-pub record Row : Type 0 where
+pub record ListRow : Type 0 where
   pub mode : Mode
   pub repeats : Repeats
   pub bytes : ℕ
@@ -53,7 +53,7 @@ abbrev pub backArray : List ℕ → List ℕ
 backArray img = map (λ (i : ℕ). word img (backOffsetAt img + 4 * i)) (range 0 (backSizeAt img))
 
 -- a row holds of an image, and of a buffer
-pub record ImageHolds (r : Row) (img : List ℕ) : Type 0 where
+pub record ImageHolds (r : ListRow) (img : List ℕ) : Type 0 where
   pub opened : opening img ≡ value (r .number)
   pub back-offset : backOffsetAt img ≡ r .backOffset
   pub back-array : backArray img ≡ r .backWords
@@ -61,13 +61,13 @@ pub record ImageHolds (r : Row) (img : List ℕ) : Type 0 where
   pub placed : Each (λ (a : IdGives). (nameGiven img (a .id) ≡ a .gives) × (home img (a .id) ≡ a .isHome))
       (r .ids)
 
-pub record RowHolds (r : Row) (buffer : List ℕ) : Type 0 where
+pub record RowHolds (r : ListRow) (buffer : List ℕ) : Type 0 where
   pub answered : answersOf (r .mode) (r .repeats) buffer (r .calls) ≡ r .refusals
   pub closes : closing (afterList (r .mode) (r .repeats) buffer (r .calls)) ≡ value (r .size)
   pub imaged : ImageHolds r (imageOf (r .mode) (r .repeats) buffer (r .calls))
 
 -- whatever bytes stand in the buffer
-abbrev pub HoldsInAny : Row → Type 0
+abbrev pub HoldsInAny : ListRow → Type 0
 HoldsInAny r = (buffer : List ℕ) → length buffer ≡ r .bytes → RowHolds r buffer
 
 -- ---- the rows
@@ -81,7 +81,7 @@ B = 66 ∷ []
 abbrev pub entered : List ℕ → ℕ → Call
 entered name id = put (entryOf name id)
 
-abbrev pub c1 : Repeats → Row
+abbrev pub c1 : Repeats → ListRow
 c1 repeats =
     record {
       mode = Twoway;
@@ -97,7 +97,7 @@ c1 repeats =
       ids = record { id = 0; gives = none; isHome = false } ∷ [];
     }
 
-abbrev pub c2 : Repeats → Row
+abbrev pub c2 : Repeats → ListRow
 c2 repeats =
     record {
       mode = Twoway;
@@ -113,7 +113,7 @@ c2 repeats =
       ids = record { id = 0; gives = some []; isHome = true } ∷ [];
     }
 
-abbrev pub c3 : Repeats → Row
+abbrev pub c3 : Repeats → ListRow
 c3 repeats =
     record {
       mode = Twoway;
@@ -129,7 +129,7 @@ c3 repeats =
       ids = record { id = 0; gives = none; isHome = false } ∷ [];
     }
 
-abbrev pub c4 : Repeats → Row
+abbrev pub c4 : Repeats → ListRow
 c4 repeats =
     record {
       mode = Twoway;
@@ -149,7 +149,7 @@ c4 repeats =
           ∷ [];
     }
 
-abbrev pub c5 : Repeats → Row
+abbrev pub c5 : Repeats → ListRow
 c5 repeats =
     record {
       mode = Oneway;
@@ -166,7 +166,7 @@ c5 repeats =
     }
 
 -- In 01, id 9 isn't home. 02 (vi) changed that: "In C6 id 9 is now home too"
-abbrev pub c6 : Row
+abbrev pub c6 : ListRow
 c6 =
     record {
       mode = Twoway;
@@ -184,7 +184,7 @@ c6 =
     }
 
 -- C6 without the repeats mode: the second put is refused
-abbrev pub c6-off : Row
+abbrev pub c6-off : ListRow
 c6-off =
     record {
       mode = Twoway;
@@ -200,7 +200,7 @@ c6-off =
       ids = record { id = 5; gives = some A; isHome = true } ∷ record { id = 9; gives = none; isHome = false } ∷ [];
     }
 
-abbrev pub c7 : Repeats → Row
+abbrev pub c7 : Repeats → ListRow
 c7 repeats =
     record {
       mode = Twoway;
@@ -217,7 +217,7 @@ c7 repeats =
     }
 
 -- C11, two-way and one-way
-abbrev pub c11 : Repeats → Row
+abbrev pub c11 : Repeats → ListRow
 c11 repeats =
     record {
       mode = Twoway;
@@ -233,7 +233,7 @@ c11 repeats =
       ids = record { id = 4294967295; gives = none; isHome = false } ∷ [];
     }
 
-abbrev pub c11-one-way : Repeats → Row
+abbrev pub c11-one-way : Repeats → ListRow
 c11-one-way repeats =
     record {
       mode = Oneway;
@@ -250,10 +250,10 @@ c11-one-way repeats =
     }
 
 -- those that hold with either choice, and those that name it
-abbrev pub exampleRows : Repeats → List Row
+abbrev pub exampleRows : Repeats → List ListRow
 exampleRows repeats =
     c1 repeats ∷ c2 repeats ∷ c3 repeats ∷ c4 repeats ∷ c5 repeats ∷ c7 repeats ∷ c11 repeats
     ∷ c11-one-way repeats ∷ []
 
-abbrev pub namedRows : List Row
+abbrev pub namedRows : List ListRow
 namedRows = c6 ∷ c6-off ∷ []

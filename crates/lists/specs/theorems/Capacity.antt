@@ -11,7 +11,7 @@ use Rattle.lists.specs.Demand3.{answersOf}
 
 -- for every list, in either mode and with either choice of 02 (viii). The size is 01's, of all puts of the list, as if
 -- none were refused
-pub record Capacity : Type 0 where
+pub record CapacitySuffices : Type 0 where
   pub none-refused : (mode : Mode) (repeats : Repeats) (buffer : List ℕ) (cs : List Call) → WordIds mode cs
       → sizeOf mode (puts cs) ≤ length buffer → sizeOf mode (puts cs) ≤ 4294967295
       → (i : ℕ) → getD (answersOf mode repeats buffer cs) i 0 ≡ 3 → ⊥

@@ -10,12 +10,12 @@ use Rattle.load.specs.States.{stateAfter, stateName}
 use Rattle.load.specs.Load.{loadPut, loading}
 
 -- a buffer of `bytes` bytes takes `entries` entries, and the image has `size` bytes
-pub record Row : Type 0 where
+pub record LoadRow : Type 0 where
   pub bytes : ℕ
   pub entries : ℕ
   pub size : ℕ
 
-abbrev pub Takes : Row → Type 0
+abbrev pub Takes : LoadRow → Type 0
 Takes r =
     (seed : ℕ) (buffer : List ℕ) → length buffer ≡ r .bytes
     → (loading seed buffer ≡ value (r .entries)) × (closing (loadPut seed buffer) ≡ value (r .size))

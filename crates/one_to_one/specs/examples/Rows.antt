@@ -10,15 +10,15 @@ use Rattle.image.specs.Image.{Entry, image}
 use Rattle.one_to_one.specs.OneToOne.{Failure, oneToOne}
 
 -- puts, in one direction, and the answer for their image
-pub record Row : Type 0 where
+pub record OneToOneRow : Type 0 where
   pub mode : Mode
   pub puts : List Entry
   pub answer : Option Failure
 
-abbrev pub Answers : Row → Type 0
-Answers r = oneToOne (image (r .mode) (r .puts)) ≡ value (r .answer)
+abbrev pub RowAnswered : OneToOneRow → Type 0
+RowAnswered r = oneToOne (image (r .mode) (r .puts)) ≡ value (r .answer)
 
-abbrev row : Mode → List Entry → Option Failure → Row
+abbrev row : Mode → List Entry → Option Failure → OneToOneRow
 row mode puts answer = record { mode = mode; puts = puts; answer = answer }
 
 abbrev fails : ℕ → ℕ → Option Failure
@@ -36,7 +36,7 @@ crane id = record { name = 99 ∷ 114 ∷ 97 ∷ 110 ∷ 101 ∷ []; id = id }
 abbrev mole : ℕ → Entry
 mole id = record { name = 109 ∷ 111 ∷ 108 ∷ 101 ∷ []; id = id }
 
-abbrev pub oneToOneRows : List Row
+abbrev pub oneToOneRows : List OneToOneRow
 oneToOneRows =
     -- without entries
     row Twoway [] none

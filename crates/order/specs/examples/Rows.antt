@@ -4,19 +4,19 @@ use mathlib.Core.List.{List, [], _∷_}
 use Rattle.order.specs.Rule.{Verdict, allKept, failsAt}
 use Rattle.order.specs.declared.Pair.{Pair}
 
-pub record Row : Type 0 where
+pub record OrderRow : Type 0 where
   pub pairs : List Pair
   pub round : List ℕ
   pub answer : Verdict
 
-abbrev row : List Pair → List ℕ → Verdict → Row
+abbrev row : List Pair → List ℕ → Verdict → OrderRow
 row pairs round answer = record { pairs = pairs; round = round; answer = answer }
 
 -- the reference r must be sighted before the wall prism w
 abbrev pair : ℕ → ℕ → Pair
 pair r w = record { reference = r; wall = w }
 
-abbrev pub orderRows : List Row
+abbrev pub orderRows : List OrderRow
 orderRows =
     -- no pairs; an empty round; a wall prism that does not occur
     row [] (7 ∷ 8 ∷ []) allKept

@@ -1,4 +1,4 @@
--- The precondition of `name_of`, as a record whose fields are its parts.
+-- The precondition of `nth_name`, as a record whose fields are its parts.
 use Prim.Native.Nat.{ℕ, _<_}
 use mathlib.Core.Path.{_≡_}
 use mathlib.Core.Bool.{false}
@@ -7,6 +7,6 @@ use lib.ListN.{length}
 use Rattle.packed.specs.Names.{invalidEnds}
 
 -- the ends rise within the bytes, and i is the index of one
-pub record NameOfPre (bytes ends : List ℕ) (i : ℕ) : Type 0 where
+pub record NthNamePre (bytes ends : List ℕ) (i : ℕ) : Type 0 where
   pub inside : i < length ends
   pub ends-rise : invalidEnds (length bytes) 0 ends ≡ false

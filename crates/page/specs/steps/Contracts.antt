@@ -17,4 +17,4 @@ pub record PrintLinesPre (out : List ℕ) (first count : ℕ) : Type 0 where
 pub record FrontPrinted (name : ℕ → Option (List ℕ)) (first count : ℕ) (out₀ out : List ℕ) (r : Outcome ℕ)
     : Type 0 where
   pub answer : r ≡ printingLines count (length out₀)
-  pub bytes : out ≡ afterLines name first count out₀
+  pub leaves : out ≡ afterLines name first count out₀

@@ -5,8 +5,8 @@ use mathlib.Core.Bool.{false}
 use mathlib.Core.List.{List}
 use lib.ListN.{length}
 use Rattle.image.specs.Image.{headSize}
-use Rattle.reader.specs.Open.{someLeaves, numFrom}
-use Rattle.reader.specs.declared.opening.Tables.{Tables}
+use Rattle.reader.specs.Open.{somePastEnd, numFrom}
+use Rattle.reader.specs.declared.opening.TableSums.{TableSums}
 
 -- the slacks of the tables so far are below 2^63, and one more table, at offset o with n buckets, ends in the image
 pub record SlacksFit (slacks size o n : ℕ) : Type 0 where
@@ -14,16 +14,16 @@ pub record SlacksFit (slacks size o n : ℕ) : Type 0 where
   pub inside : o + 8 * n ≤ size
 
 -- one more table, at offset o with n buckets, in an image of `size` bytes
-pub record TableAdded (all : Tables) (size o n : ℕ) (r : Tables) : Type 0 where
+pub record TableAdded (all : TableSums) (size o n : ℕ) (r : TableSums) : Type 0 where
   pub num-is : r .num ≡ (all .num + n / 2) % 2 ^ 32
   pub fits : r .slacks < 2 ^ 63 → SlacksFit (all .slacks) size o n
 
 -- all of them
-pub record AllTables (image : List ℕ) (r : Tables) : Type 0 where
+pub record AllTables (image : List ℕ) (r : TableSums) : Type 0 where
   pub num-is : r .num ≡ numFrom image 0 256 % 2 ^ 32
-  pub none-leaves : r .slacks < 2 ^ 63 → someLeaves image 0 256 ≡ false
+  pub none-past-end : r .slacks < 2 ^ 63 → somePastEnd image 0 256 ≡ false
 
 -- the head is there, and where the bitwise or of all slacks is below 2^63, no table leaves the image
-pub record SomeLeavesPre (image : List ℕ) (slacks : ℕ) : Type 0 where
+pub record SomePastEndPre (image : List ℕ) (slacks : ℕ) : Type 0 where
   pub head : headSize ≤ length image
-  pub none-leaves : slacks < 2 ^ 63 → someLeaves image 0 256 ≡ false
+  pub none-past-end : slacks < 2 ^ 63 → somePastEnd image 0 256 ≡ false

@@ -9,7 +9,7 @@ use Rattle.jhash.specs.NameHash.{hashOf}
 use Rattle.image.specs.Bytes.{word}
 use Rattle.image.specs.Tables.{tableOf, start, probeSequence}
 use Rattle.image.specs.Head.{tableAt, bucketNumber}
-use Rattle.image.specs.Stored.{nameOf, broken}
+use Rattle.image.specs.Stored.{nameAt, broken}
 use Rattle.reader.specs.Lookup.{found, lookup}
 use Rattle.reader.specs.declared.Found.{Found}
 
@@ -27,7 +27,7 @@ pub record FoundInTable (image name : List ℕ) (f : Found) (o n : ℕ) : Type 0
   pub offset : word image (o + 8 * bucketRead name n (f .buckets) + 4) ≡ f .offset
   -- the entry at this offset is not broken, and has exactly this name and this id
   pub unbroken : broken image (f .offset) ≡ false
-  pub name-there : nameOf image (f .offset) ≡ name
+  pub name-there : nameAt image (f .offset) ≡ name
   pub id-there : word image (f .offset) ≡ f .id
 
 -- in the name's table

@@ -8,14 +8,14 @@ use Rattle.image.specs.Image.{Entry, image}
 use Rattle.search_length.specs.Average.{averaging}
 use Rattle.search_length.specs.declared.AverageLength.{AverageLength}
 
-pub record Row : Type 0 where
+pub record AverageRow : Type 0 where
   pub bytes : List ℕ
   pub answer : Outcome AverageLength
 
-abbrev pub Averages : Row → Type 0
+abbrev pub Averages : AverageRow → Type 0
 Averages r = averaging (r .bytes) ≡ r .answer
 
-abbrev row : List ℕ → Outcome AverageLength → Row
+abbrev row : List ℕ → Outcome AverageLength → AverageRow
 row bytes answer = record { bytes = bytes; answer = answer }
 
 -- a name of one letter, under an id
@@ -25,7 +25,7 @@ letter c id = record { name = c ∷ []; id = id }
 abbrev averageFrom : ℕ → ℕ → ℕ → Outcome AverageLength
 averageFrom n q r = value (record { entries = n; quotient = q; remainder = r })
 
-abbrev pub averageRows : List Row
+abbrev pub averageRows : List AverageRow
 averageRows =
     -- I and Q share a table and the first bucket of their searches: 1 and 2 buckets
     row (image Twoway (letter 73 0 ∷ letter 81 1 ∷ [])) (averageFrom 2 1 1)

@@ -16,10 +16,10 @@ insert-all-requires c κs =
     let a = start .args in
     let kept = front .write-front .kept .1 .1 .1 .1 .1 .0 in
     let size = c .before .before .finished-size .ensures in
-    let small = start .pre .closable .small in
-    let inside = start .pre .closable .inside in
+    let small = start .pre .closable .fits-word in
+    let inside = start .pre .closable .fits-buffer in
     record {
-      low = start .pre .closable .low;
+      low = start .pre .closable .after-head;
       tables = omega arith;
       inside = omega arith;
       size-word = omega arith;

@@ -14,7 +14,7 @@ copy-words-requires c κs =
     let start = front .before .before .before .before in
     let a = start .args in
     let kept = front .write-front .kept .1 .1 .1 .1 .1 .0 in
-    omega (arith, start .pre .closable .inside, words-number (a .tables .now) (a .buf .now) (a .end) (a .entries) (start .pre .tables))
+    omega (arith, start .pre .closable .fits-buffer, words-number (a .tables .now) (a .buf .now) (a .end) (a .entries) (start .pre .tables))
 
 returns : tie.Need-returns
 returns c =

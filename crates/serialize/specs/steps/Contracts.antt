@@ -5,11 +5,11 @@ use mathlib.Core.List.{List}
 use lib.ListN.{length}
 
 -- r is the count x, a word
-pub record CountRead (x r : ℕ) : Type 0 where
+pub record AsU64 (x r : ℕ) : Type 0 where
   pub is : r ≡ x
   pub small : r < 4294967296
 
 -- the bytes between two places, which lie in the buffer
-pub record ClearPre (buf : List ℕ) (from to : ℕ) : Type 0 where
+pub record ClearBytesPre (buf : List ℕ) (from to : ℕ) : Type 0 where
   pub order : from ≤ to
   pub inside : to ≤ length buf

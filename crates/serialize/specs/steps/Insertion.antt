@@ -74,7 +74,7 @@ entryInserted mode back-offset buf at n =
 -- ---- all entries
 
 -- the entries end in the buffer
-pub record WalkPre (back-offset end : ℕ) (buf : List ℕ) : Type 0 where
+pub record InsertEntriesPre (back-offset end : ℕ) (buf : List ℕ) : Type 0 where
   pub low : 2072 ≤ end
   pub inside : end ≤ length buf
   pub end-word : end < 4294967296

@@ -41,7 +41,7 @@ unfoldable pub entryHash : List ℕ → ℕ → List ℕ → ℕ → ℕ → ℕ
 entryHash hashes i buf at n = cond (ltb i (length hashes)) (getD hashes i 0) (hashAt buf at n)
 
 -- the i-th entry lies in the buffer
-pub record PartitionPre (back-offset at n : ℕ) (buf : List ℕ) : Type 0 where
+pub record PartitionEntryPre (back-offset at n : ℕ) (buf : List ℕ) : Type 0 where
   pub entry : EntryPre at n buf
   pub back-word : back-offset < 4294967296
 
@@ -94,7 +94,7 @@ abbrev pub copyable : List ℕ → ℕ → ℕ → Bool
 copyable buf o c = leb (o + 16 * c) (length buf) && leb c 4608
 
 -- the copy has room for 4,608 pairs
-pub record FillTablePre (o c : ℕ) (copy : List ℕ) : Type 0 where
+pub record FillTableByCopyPre (o c : ℕ) (copy : List ℕ) : Type 0 where
   pub low : o < 281474976710656
   pub count-word : c < 4294967296
   pub copy-long : length copy ≡ 36864

@@ -16,12 +16,12 @@ use Rattle.serialize.specs.Serialize.{storedEntries}
 -- the bytes from 2,072 to end are this number of whole entries, with these table counts and this back size (0 if
 -- one-way), and the finished size exceeds neither the buffer nor 4,294,967,295
 pub record ClosePrecondition (mode : Mode) (end entries back : ℕ) (counts buf : List ℕ) : Type 0 where
-  pub low : headSize ≤ end
-  pub entire : whole entries (between buf headSize end) ≡ true
-  pub agree : countsAgree counts (storedEntries buf end entries) ≡ true
-  pub backs : back ≡ backIn mode (backSize (storedEntries buf end entries))
-  pub inside : finishedOf mode end entries back ≤ length buf
-  pub small : finishedOf mode end entries back ≤ 4294967295
+  pub after-head : headSize ≤ end
+  pub whole-entries : whole entries (between buf headSize end) ≡ true
+  pub counts-agree : countsAgree counts (storedEntries buf end entries) ≡ true
+  pub back-agrees : back ≡ backIn mode (backSize (storedEntries buf end entries))
+  pub fits-buffer : finishedOf mode end entries back ≤ length buf
+  pub fits-word : finishedOf mode end entries back ≤ 4294967295
 
 -- the hashes of the first entries, in put order
 pub record FirstHashes (hashes : List ℕ) (es : List Entry) : Type 0 where

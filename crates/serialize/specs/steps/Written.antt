@@ -37,8 +37,8 @@ unfoldable pub zeroed : List ℕ → ℕ → ℕ → List ℕ
 zeroed buf from to = sets buf from (replicate (to - from) 0)
 
 -- are the entries inserted by tables? From 1,024 entries on, where no table has more than 4,608
-abbrev pub partitions : List ℕ → ℕ → Bool
-partitions counts entries = leb 1024 entries && noneAbove counts 4608
+abbrev pub byTables : List ℕ → ℕ → Bool
+byTables counts entries = leb 1024 entries && noneAbove counts 4608
 
 -- entries, tables and back array lie in the image, and the image in the buffer
 pub record InsertAllPre (back-offset end entries size : ℕ) (buf : List ℕ) : Type 0 where
@@ -51,7 +51,7 @@ pub record InsertAllPre (back-offset end entries size : ℕ) (buf : List ℕ) : 
 -- the entries in tables and back array: by tables, or one by one
 unfoldable pub allInserted : Mode → ℕ → ℕ → List ℕ → ℕ → ℕ → List ℕ → List ℕ → List ℕ
 allInserted mode back-offset end hashes entries size counts buf =
-    cond (partitions counts entries)
+    cond (byTables counts entries)
     (insertedByTables mode back-offset end hashes entries counts (zeroed buf (end + 16 * entries) size))
     (insertedFrom mode back-offset end entries headSize (zeroed buf end size))
 

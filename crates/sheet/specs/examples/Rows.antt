@@ -13,25 +13,25 @@ pub record ReadRow : Type 0 where
   pub file : List ℕ
   pub lists : Outcome Lists
 
-abbrev reads : List ℕ → Outcome Lists → ReadRow
-reads file lists = record { file = file; lists = lists }
+abbrev readsAs : List ℕ → Outcome Lists → ReadRow
+readsAs file lists = record { file = file; lists = lists }
 
 abbrev pub readRows : List ReadRow
 readRows =
     -- no bytes; two of the three counts; half a count
-    reads [] (refusal 19)
-    ∷ reads (0 ∷ 0 ∷ 0 ∷ 0 ∷ []) (refusal 19)
-    ∷ reads (0 ∷ 0 ∷ 0 ∷ 0 ∷ 0 ∷ []) (refusal 19)
+    readsAs [] (refusal 19)
+    ∷ readsAs (0 ∷ 0 ∷ 0 ∷ 0 ∷ []) (refusal 19)
+    ∷ readsAs (0 ∷ 0 ∷ 0 ∷ 0 ∷ 0 ∷ []) (refusal 19)
     -- three empty sections; one byte more
-    ∷ reads (0 ∷ 0 ∷ 0 ∷ 0 ∷ 0 ∷ 0 ∷ []) (value (sectionLists [] [] []))
-    ∷ reads (0 ∷ 0 ∷ 0 ∷ 0 ∷ 0 ∷ 0 ∷ 0 ∷ []) (refusal 20)
+    ∷ readsAs (0 ∷ 0 ∷ 0 ∷ 0 ∷ 0 ∷ 0 ∷ []) (value (sectionLists [] [] []))
+    ∷ readsAs (0 ∷ 0 ∷ 0 ∷ 0 ∷ 0 ∷ 0 ∷ 0 ∷ []) (refusal 20)
     -- the one id of a wall prism, and with its last byte cut off
-    ∷ reads (0 ∷ 0 ∷ 1 ∷ 0 ∷ 1 ∷ 2 ∷ 3 ∷ 4 ∷ 0 ∷ 0 ∷ []) (value (sectionLists [] (0x04030201 ∷ []) []))
-    ∷ reads (0 ∷ 0 ∷ 1 ∷ 0 ∷ 1 ∷ 2 ∷ 3 ∷ []) (refusal 19)
+    ∷ readsAs (0 ∷ 0 ∷ 1 ∷ 0 ∷ 1 ∷ 2 ∷ 3 ∷ 4 ∷ 0 ∷ 0 ∷ []) (value (sectionLists [] (0x04030201 ∷ []) []))
+    ∷ readsAs (0 ∷ 0 ∷ 1 ∷ 0 ∷ 1 ∷ 2 ∷ 3 ∷ []) (refusal 19)
     -- a count of 256 and no id: the count's second byte counts 256
-    ∷ reads (0 ∷ 1 ∷ 0 ∷ 0 ∷ 0 ∷ 0 ∷ []) (refusal 19)
+    ∷ readsAs (0 ∷ 1 ∷ 0 ∷ 0 ∷ 0 ∷ 0 ∷ []) (refusal 19)
     -- all three sections, and the largest id
-    ∷ reads (1 ∷ 0 ∷ 7 ∷ 0 ∷ 0 ∷ 0 ∷ 2 ∷ 0 ∷ 8 ∷ 0 ∷ 0 ∷ 0 ∷ 9 ∷ 0 ∷ 0 ∷ 0 ∷ 1 ∷ 0
+    ∷ readsAs (1 ∷ 0 ∷ 7 ∷ 0 ∷ 0 ∷ 0 ∷ 2 ∷ 0 ∷ 8 ∷ 0 ∷ 0 ∷ 0 ∷ 9 ∷ 0 ∷ 0 ∷ 0 ∷ 1 ∷ 0
     ∷ 255 ∷ 255 ∷ 255 ∷ 255 ∷ [])
     (value (sectionLists (7 ∷ []) (8 ∷ 9 ∷ []) (4294967295 ∷ [])))
     ∷ []
@@ -61,7 +61,7 @@ writeRows =
     ∷ []
 
 -- what the rows say
-pub record Answers : Type 0 where
+pub record SheetRowsHold : Type 0 where
   pub reads : map (λ (r : ReadRow). readLists (r .file)) readRows ≡ map (λ (r : ReadRow). r .lists) readRows
   pub gives : map (λ (r : WriteRow). writing (length (r .buffer)) (r .lists)) writeRows
       ≡ map (λ (r : WriteRow). r .gives) writeRows

@@ -56,13 +56,13 @@ days =
     ∷ []
 
 -- what the naming rule gives the id 5, a date, a list of windows, and what is answered for the id 5 on the date
-pub record Row : Type 0 where
+pub record SeasonRow : Type 0 where
   pub naming : Naming
   pub day : Date
   pub windows : List Window
   pub answer : Outcome Naming
 
-abbrev row : Naming → Date → List Window → Outcome Naming → Row
+abbrev row : Naming → Date → List Window → Outcome Naming → SeasonRow
 row n d ws a = record { naming = n; day = d; windows = ws; answer = a }
 
 abbrev window : ℕ → Date → Date → Window
@@ -84,16 +84,16 @@ of-six = window 6 (date 2024 3 1) (date 2024 6 1)
 abbrev june : Window
 june = window 5 (date 2024 6 1) (date 2024 7 1)
 
-abbrev exchanged : Window
-exchanged = window 6 (date 2024 6 1) (date 2024 3 1)
+abbrev swapped : Window
+swapped = window 6 (date 2024 6 1) (date 2024 3 1)
 
-abbrev empty : Window
-empty = window 5 (date 2024 3 1) (date 2024 3 1)
+abbrev zero-days : Window
+zero-days = window 5 (date 2024 3 1) (date 2024 3 1)
 
 abbrev no-day : Window
 no-day = window 6 (date 2023 2 29) (date 2024 3 1)
 
-abbrev pub seasonRows : List Row
+abbrev pub seasonRows : List SeasonRow
 seasonRows =
     -- the first date is included, the end date is not
     row quay (date 2024 2 29) (spring ∷ []) (value unnamed)
@@ -112,11 +112,11 @@ seasonRows =
     ∷ row quay (date 2200 1 1) (spring ∷ []) (refusal 22)
     ∷ row quay (date 2024 4 1) (spring ∷ no-day ∷ []) (refusal 22)
     ∷ row unnamed (date 2024 4 1) (no-day ∷ []) (refusal 22)
-    ∷ row quay (date 2024 4 1) (exchanged ∷ no-day ∷ []) (refusal 22)
+    ∷ row quay (date 2024 4 1) (swapped ∷ no-day ∷ []) (refusal 22)
     -- 23 for a window that does not start before its end, also of another id and behind one that holds the date
-    ∷ row quay (date 2024 4 1) (exchanged ∷ []) (refusal 23)
-    ∷ row quay (date 2024 4 1) (empty ∷ []) (refusal 23)
-    ∷ row quay (date 2024 4 1) (spring ∷ exchanged ∷ []) (refusal 23)
+    ∷ row quay (date 2024 4 1) (swapped ∷ []) (refusal 23)
+    ∷ row quay (date 2024 4 1) (zero-days ∷ []) (refusal 23)
+    ∷ row quay (date 2024 4 1) (spring ∷ swapped ∷ []) (refusal 23)
     -- the bounds: the last day, and 1 January 2200 as end date and as first date
     ∷ row quay (date 2199 12 31) (window 5 (date 1900 1 1) (date 2200 1 1) ∷ []) (value quay)
     ∷ row quay (date 1900 1 1) (window 5 (date 1900 1 1) (date 2200 1 1) ∷ []) (value quay)

@@ -11,7 +11,7 @@ use Rattle.jhash.specs.Outcome.{value, refusal}
 use Rattle.reader.specs.Naming.{place, naming}
 use Rattle.validity.specs.Calendar.{monthLength, isDate, isEnd, earlier}
 use Rattle.validity.specs.Rule.{someWindow, invalidDates, inverted, holdsDate, namingOn}
-use Rattle.validity.specs.Windows.{windowState, placeBy}
+use Rattle.validity.specs.Windows.{windowState, placeByState}
 use Rattle.validity.specs.declared.Date.{Date}
 use Rattle.validity.specs.declared.Window.{Window}
 
@@ -21,8 +21,8 @@ SomeAt test windows = (k : ℕ) × (w : Window) × (getElem? windows k ≡ some 
 
 -- nothing is refused: the date asked about and all dates of the windows exist within the bounds, and every window
 -- starts before its end
-abbrev pub Accepted : Date → List Window → Type 0
-Accepted date windows =
+abbrev pub WindowsAccepted : Date → List Window → Type 0
+WindowsAccepted date windows =
     (isDate date ≡ true) × (someWindow invalidDates windows ≡ false) × (someWindow inverted windows ≡ false)
 
 pub record Seasons : Type 0 where
@@ -45,7 +45,7 @@ pub record Seasons : Type 0 where
   -- of the naming rule
   pub named-exactly : (image : List ℕ) (id : ℕ) (date : Date) (windows : List Window) (start length : ℕ)
       → (namingOn image id date windows ≡ value (place start length))
-      ↔ (Accepted date windows × (naming image id ≡ place start length)
+      ↔ (WindowsAccepted date windows × (naming image id ≡ place start length)
       × (someWindow (holdsDate id date) windows ≡ true))
   -- 22 for "a date that doesn't exist or lies outside these bounds", the one asked about or a window's; "after these"
   -- 23
@@ -58,7 +58,7 @@ pub record Seasons : Type 0 where
       × (someWindow inverted windows ≡ true))
   -- what the windows say, and what is answered where they say it, are the rule in two parts
   pub in-two-parts : (image : List ℕ) (id : ℕ) (date : Date) (windows : List Window)
-      → placeBy image id date (windowState id date windows) ≡ namingOn image id date windows
+      → placeByState image id date (windowState id date windows) ≡ namingOn image id date windows
   -- "adding a window whose dates exist within these bounds, the first before the end, never removes a name on any
   -- date", at any place of the list
   pub adding : (image : List ℕ) (id : ℕ) (date : Date) (before after : List Window) (w : Window)

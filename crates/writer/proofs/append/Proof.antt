@@ -8,7 +8,7 @@ use Rattle.image.specs.Image.{Entry}
 use Rattle.image.proofs.Bools.{false-not-true}
 use Rattle.jhash.proofs.Outcomes.{result-refused, result-name-hash}
 use Rattle.writer.specs.State.{State, stateWith}
-use Rattle.writer.specs.Put.{entryOf, writerAfter}
+use Rattle.writer.specs.Put.{entryOf, writerAfterEntry}
 use Rattle.writer.proofs.Puts.{Passed, passed, long-name, count-small, entry-fits, size-small, appended-parts}
 use borrow.Author.Needs.{needs}
 use Rattle.writer.proofs.append.Statement.{statement}
@@ -47,7 +47,7 @@ returns c =
     absurd (omega (arith, short s, result-refused (s .args .name .now) 0 (hashed .result) (hashed .ensures) (c .enum-told .given .1)))
 
 raise-requires : tie.Need-raise-requires
-unfolding writerAfter
+unfolding writerAfterEntry
 raise-requires c κs =
     let s = start (c .before .before .before .before) in
     let a = s .args in
@@ -55,7 +55,7 @@ raise-requires c κs =
     (c .before .before .h .given .0 .0)
 
 store-requires : tie.Need-store-requires
-unfolding writerAfter
+unfolding writerAfterEntry
 store-requires c κs =
     let s = start (hashing (c .before)) in
     let a = s .args in
@@ -64,9 +64,9 @@ store-requires c κs =
       short = short s;
     }
 
-after-requires : tie.Need-after-requires
-unfolding writerAfter
-after-requires c κs =
+writer-after-put-requires : tie.Need-writer-after-put-requires
+unfolding writerAfterEntry
+writer-after-put-requires c κs =
     let s = start (hashing (c .before .before .before .before)) in
     let a = s .args in
     size-small (a .w) (a .counts .now) (a .buf .now) (length (a .name .now)) (a .id) (went s .fitted) (went s .has-capacity)
@@ -80,9 +80,9 @@ returns-2 c =
     let is-hash = result-name-hash (a .name .now) (hashed .result) (read .h .given .0 .0) (hashed .ensures) (read .h .given .1) .1 in
     let raised = r .raise in
     let stored = c .before .before .before .store in
-    appended-parts (a .w) (c .after .result) (a .counts .now) (raised .last .0) (a .buf .now) (stored .last .0) (a .name .now) (a .id)
-    (read .h .given .0 .0) is-hash (c .after .ensures) (raised .ensures) (stored .ensures)
+    appended-parts (a .w) (c .writer-after-put .result) (a .counts .now) (raised .last .0) (a .buf .now) (stored .last .0) (a .name .now) (a .id)
+    (read .h .given .0 .0) is-hash (c .writer-after-put .ensures) (raised .ensures) (stored .ensures)
 
 pub append-spec : {M : Type 1} → statement M
 append-spec =
-    tie.close (tie.spec (λ c κs. search needs) (λ c. search needs) (λ c. search needs) returns raise-requires store-requires after-requires (λ c. search needs) returns-2)
+    tie.close (tie.spec (λ c κs. search needs) (λ c. search needs) (λ c. search needs) returns raise-requires store-requires writer-after-put-requires (λ c. search needs) returns-2)

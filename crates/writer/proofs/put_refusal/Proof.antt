@@ -7,7 +7,7 @@ use lib.ListN.{length}
 use borrow.Author.Tests.{not-true, not-false}
 use Rattle.image.specs.Zero.{hasZero}
 use Rattle.writer.specs.State.{State, stateWith, fits, finishedSize, tooLarge}
-use Rattle.writer.specs.Put.{entryOf, writerWith, writerAfter}
+use Rattle.writer.specs.Put.{entryOf, writerAfterPut, writerAfterEntry}
 use Rattle.writer.specs.steps.Earlier.{earlierRefusal}
 use Rattle.writer.proofs.Fits.{fitting, end-inside}
 use Rattle.writer.proofs.Puts.{refuses-unfit, refuses-zero, refuses-earlier, refuses-full, accepts, long-name}
@@ -78,12 +78,12 @@ size-with-requires c κs =
 -- the size after this put, as the last check reads it
 sized : (c : tie.After-too-large)
     → let a = start (unzeroed (walked (c .before .before .before))) .args in
-    tooLarge (a .w .length) (finishedSize (writerWith (a .w) (length (a .name .now)) (a .id))) ≡ c .too-large .result
+    tooLarge (a .w .length) (finishedSize (writerAfterPut (a .w) (length (a .name .now)) (a .id))) ≡ c .too-large .result
 sized c =
     ap (tooLarge (start (unzeroed (walked (c .before .before .before))) .args .w .length)) (sym (c .before .size-with .ensures)) ∙ sym (c .too-large .ensures)
 
 returns-5 : tie.Need-returns-5
-unfolding writerAfter
+unfolding writerAfterEntry
 returns-5 c =
     let n = c .before .before .before .before in
     let z = walked n in
@@ -91,7 +91,7 @@ returns-5 c =
     refuses-full (state (start f)) (entry (start f)) (fitted f) (zero-free z) (none-due n) (sized (c .before) ∙ c .if5 .taken)
 
 returns-6 : tie.Need-returns-6
-unfolding writerAfter
+unfolding writerAfterEntry
 returns-6 c =
     let n = c .before .before .before .before in
     let z = walked n in

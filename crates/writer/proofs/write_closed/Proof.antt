@@ -16,7 +16,7 @@ finished-size-requires c κs =
     let s = c .before .before in
     let a = s .args in
     let k = accepted (stateWith (a .w) (a .counts .now) (a .buf .now)) (s .pre .closes) in
-    omega (arith, stands (a .w) (a .counts .now) (a .buf .now) (k .fit) (k .fine) (k .all) .small)
+    omega (arith, stands (a .w) (a .counts .now) (a .buf .now) (k .fit) (k .fine) (k .all) .fits-word)
 
 write-image-requires : tie.Need-write-image-requires
 write-image-requires c κs =
@@ -30,7 +30,7 @@ cast-result c =
     let s = start (c .before .before) in
     let a = s .args in
     let k = accepted (stateWith (a .w) (a .counts .now) (a .buf .now)) (s .pre .closes) in
-    omega (arith, c .before .before .before .before .finished-size .ensures, stands (a .w) (a .counts .now) (a .buf .now) (k .fit) (k .fine) (k .all) .small)
+    omega (arith, c .before .before .before .before .finished-size .ensures, stands (a .w) (a .counts .now) (a .buf .now) (k .fit) (k .fine) (k .all) .fits-word)
 
 returns : tie.Need-returns
 returns c =

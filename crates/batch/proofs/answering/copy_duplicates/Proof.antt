@@ -35,7 +35,7 @@ loop-holds c =
     record {
       inside = omega arith;
       long = refl;
-      copied = λ image xs u. record { passed = λ j h. absurd (omega arith); unique = u .right };
+      copied = λ image xs u. record { passed = λ j h. absurd (omega arith); unique = u .have-answers };
     }
 
 cast-source : tie.Need-cast-source Inv-loop μ-loop

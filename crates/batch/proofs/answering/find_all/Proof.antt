@@ -9,16 +9,16 @@ use lib.ListN.{length, getD, length-replicate}
 use borrow.Author.Needs.{needs}
 use Rattle.batch.specs.RoundNames.{names}
 use Rattle.batch.specs.steps.Duplicates.{Listed, Rising}
-use Rattle.batch.specs.steps.Probing.{Open}
-use Rattle.batch.specs.steps.Answers.{Right}
+use Rattle.batch.specs.steps.Probing.{SearchOpen}
+use Rattle.batch.specs.steps.Answers.{HasAnswer}
 use Rattle.batch.proofs.IndexLists.{listed-has}
 use Rattle.batch.proofs.AnswerPlaces.{Kept, kept-start, kept-step, listed-part}
 use Rattle.batch.proofs.Probes.{open-first}
-use Rattle.batch.proofs.Passes.{next-right, last-right}
+use Rattle.batch.proofs.Passes.{next-has-answer, last-has-answer}
 use Rattle.batch.proofs.answering.find_all.Statement.{statement}
 use Rattle.batch.proofs.answering.find_all.Tie as tie
 
-record Inv (image bytes ends keys first before live answers done offsets : List ℕ) (m passes q c : ℕ) : Type 0 where
+record Inv (image bytes ends hashes first before live answers done offsets : List ℕ) (m passes q c : ℕ) : Type 0 where
   pub passed : c ≤ passes
   pub count : q ≤ m
   pub live-long : length live ≡ length first
@@ -27,16 +27,16 @@ record Inv (image bytes ends keys first before live answers done offsets : List 
   pub offsets-long : length offsets ≡ 512
   pub rising : Rising live q
   pub listed : (z : ℕ) → z < q → Listed first m (getD live z 0)
-  pub is-open : (z : ℕ) → z < q → Open image (getD keys (getD live z 0) 0) c
-  pub right : (x : ℕ) → x < m → Right image (names bytes ends) answers (getD first x 0) ⊎ Listed live q (getD first x 0)
+  pub is-open : (z : ℕ) → z < q → SearchOpen image (getD hashes (getD live z 0) 0) c
+  pub right : (x : ℕ) → x < m → HasAnswer image (names bytes ends) answers (getD first x 0) ⊎ Listed live q (getD first x 0)
   pub kept : Kept image bytes ends first before answers m
 
 abbrev Inv-loop : tie.InvT-loop
-Inv-loop image bytes ends keys first m before done₀ offsets₀ passes q₀ c₀ live answers done offsets q c =
-    Inv image bytes ends keys first before live answers done offsets m passes q c
+Inv-loop image bytes ends hashes first m before done₀ offsets₀ passes q₀ c₀ live answers done offsets q c =
+    Inv image bytes ends hashes first before live answers done offsets m passes q c
 
 abbrev μ-loop : tie.MeasureT-loop
-μ-loop image bytes ends keys first m before done₀ offsets₀ passes q₀ c₀ live answers done offsets q c = passes - c
+μ-loop image bytes ends hashes first m before done₀ offsets₀ passes q₀ c₀ live answers done offsets q c = passes - c
 
 -- ---- places in the code, each from a later one
 
@@ -64,7 +64,7 @@ loop-holds c =
       offsets-long = length-replicate {A = ℕ} 512 0;
       rising = start c .pre .rising;
       listed = λ z h. record { place = z; inside = h; is = refl };
-      is-open = λ z h. open-first (a .image .now) (getD (a .keys .now) (getD (a .live .now) z 0) 0);
+      is-open = λ z h. open-first (a .image .now) (getD (a .hashes .now) (getD (a .live .now) z 0) 0);
       right = λ x h. inr (record { place = x; inside = h; is = refl });
       kept = kept-start _ _ _ _ _ _;
     }
@@ -88,7 +88,7 @@ pass-requires c κs =
       done-capacity = omega (arith, v .count, v .done-long, s .pre .few);
       offsets-capacity = omega (arith, v .count, v .offsets-long, s .pre .few);
       rising = v .rising;
-      keyed = λ z h. omega (arith, listed-has (λ (i : ℕ). i < length (s .args .ends .now)) (s .pre .below) (v .listed z h), s .pre .names .capacity);
+      hashed = λ z h. omega (arith, listed-has (λ (i : ℕ). i < length (s .args .ends .now)) (s .pre .below) (v .listed z h), s .pre .names .capacity);
       is-open = v .is-open;
     }
 
@@ -149,7 +149,7 @@ loop-again c =
       rising = parted .live-rising;
       listed = λ z h. listed-has (Listed (s .args .live .now) (s .args .m)) (v .listed) (parted .is-open z h .listed);
       is-open = λ z h. parted .is-open z h .is-open;
-      right = λ x h. next-right parted (found .ensures) (v .right x h);
+      right = λ x h. next-has-answer parted (found .ensures) (v .right x h);
       kept = kept-step (decided-listed p) (v .kept) (found .ensures);
     }
 
@@ -176,7 +176,7 @@ returns c =
     let found = c .before .before in
     let v = found .before .before .before .before .loop .inv in
     let k = kept-step (v .listed) (v .kept) (found .find-open .ensures) in
-    record { stays = k .stays; stored = λ x h. last-right (found .find-open .ensures) (v .right x h); others = k .others }
+    record { stays = k .stays; stored = λ x h. last-has-answer (found .find-open .ensures) (v .right x h); others = k .others }
 
 pub find-all-spec : {M : Type 1} → statement M
 find-all-spec =

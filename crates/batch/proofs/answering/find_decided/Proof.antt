@@ -10,10 +10,10 @@ use Rattle.batch.proofs.answering.find_decided.Statement.{statement}
 use Rattle.batch.proofs.answering.find_decided.Tie as tie
 
 abbrev Inv-loop : tie.InvT-loop
-Inv-loop image bytes ends keys list m offsets c answers₀ x₀ answers x = Finding image bytes ends list answers₀ answers m x
+Inv-loop image bytes ends hashes list m offsets c answers₀ x₀ answers x = Finding image bytes ends list answers₀ answers m x
 
 abbrev μ-loop : tie.MeasureT-loop
-μ-loop image bytes ends keys list m offsets c answers₀ x₀ answers x = m - x
+μ-loop image bytes ends hashes list m offsets c answers₀ x₀ answers x = m - x
 
 -- ---- places in the code, each from a later one
 
@@ -33,8 +33,8 @@ loop-holds c = finding-start _ _ _ _ _ _
 cast-i : tie.Need-cast-i Inv-loop μ-loop
 cast-i c = omega (arith, below (c .before))
 
-name-of-requires : tie.Need-name-of-requires Inv-loop μ-loop
-name-of-requires c κs =
+nth-name-requires : tie.Need-nth-name-requires Inv-loop μ-loop
+nth-name-requires c κs =
     record { inside = below (c .before); ends-rise = start (c .before .before) .pre .listed .names .valid }
 
 mul-put-decided : tie.Need-mul-put-decided Inv-loop μ-loop
@@ -47,7 +47,7 @@ put-decided-requires : tie.Need-put-decided-requires Inv-loop μ-loop
 put-decided-requires c κs =
     let e = read c in
     let s = start (e .before) in
-    let name = c .before .before .before .name-of .ensures in
+    let name = c .before .before .before .nth-name .ensures in
     let i = getD (s .args .list .now) (e .before .loop .x) 0 in
     record {
       short = omega (arith, ap length name, name-short (s .args .bytes .now) (s .args .ends .now) i (below e) (s .pre .short));
@@ -61,7 +61,7 @@ loop-again c =
     let put = c .before .before in
     let e = read (put .before) in
     let s = start (e .before) in
-    let name = put .before .before .before .before .name-of in
+    let name = put .before .before .before .before .nth-name in
     finding-step (s .pre .listed) _ (e .loop-test .taken) (name .ensures) refl (put .put-decided .ensures) (e .before .loop .inv)
 
 returns : tie.Need-returns Inv-loop μ-loop
@@ -77,7 +77,7 @@ find-decided-spec =
     (λ c. search needs)
     (λ c. search needs)
     cast-i
-    name-of-requires
+    nth-name-requires
     mul-put-decided
     shared-slice-read-put-decided
     (λ c. search needs)

@@ -11,10 +11,10 @@ use Rattle.batch.proofs.answering.find_open.Statement.{statement}
 use Rattle.batch.proofs.answering.find_open.Tie as tie
 
 abbrev Inv-loop : tie.InvT-loop
-Inv-loop image bytes ends keys list m c answers₀ x₀ answers x = Finding image bytes ends list answers₀ answers m x
+Inv-loop image bytes ends hashes list m c answers₀ x₀ answers x = Finding image bytes ends list answers₀ answers m x
 
 abbrev μ-loop : tie.MeasureT-loop
-μ-loop image bytes ends keys list m c answers₀ x₀ answers x = m - x
+μ-loop image bytes ends hashes list m c answers₀ x₀ answers x = m - x
 
 -- ---- places in the code, each from a later one
 
@@ -34,8 +34,8 @@ loop-holds c = finding-start _ _ _ _ _ _
 cast-i : tie.Need-cast-i Inv-loop μ-loop
 cast-i c = omega (arith, below (c .before))
 
-name-of-requires : tie.Need-name-of-requires Inv-loop μ-loop
-name-of-requires c κs =
+nth-name-requires : tie.Need-nth-name-requires Inv-loop μ-loop
+nth-name-requires c κs =
     record { inside = below (c .before); ends-rise = start (c .before .before) .pre .listed .names .valid }
 
 mul-search-from : tie.Need-mul-search-from Inv-loop μ-loop
@@ -60,9 +60,9 @@ loop-again c =
     let s = start (e .before) in
     let a = s .args in
     let l = e .before .loop in
-    let name = searched .before .before .name-of in
+    let name = searched .before .before .nth-name in
     let still = s .pre .is-open (l .x) (e .loop-test .taken) in
-    let h = getD (a .keys .now) (getD (a .list .now) (l .x) 0) 0 in
+    let h = getD (a .hashes .now) (getD (a .list .now) (l .x) 0) 0 in
     let answer = from-whole (a .image .now) (name .result .now) h (a .c) (λ head. still (name .result .now)) in
     finding-step (s .pre .listed) (lookupOf (searched .search-from .result)) (e .loop-test .taken) (name .ensures)
     (searched .search-from .ensures ∙ answer) (put .put-answer .ensures) (l .inv)
@@ -80,7 +80,7 @@ find-open-spec =
     (λ c. search needs)
     (λ c. search needs)
     cast-i
-    name-of-requires
+    nth-name-requires
     mul-search-from
     shared-slice-read-search-from
     search-from-requires

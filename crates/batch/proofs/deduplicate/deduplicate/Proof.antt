@@ -14,18 +14,18 @@ use Rattle.batch.proofs.Duplicates.{slots-empty, deduplicated-none, ded
 use Rattle.batch.proofs.deduplicate.deduplicate.Statement.{statement}
 use Rattle.batch.proofs.deduplicate.deduplicate.Tie as tie
 
-record Inv (bytes ends keys equals₀ list₀ equals list slots : List ℕ) (m i : ℕ) : Type 0 where
+record Inv (bytes ends hashes equals₀ unique₀ equals unique slots : List ℕ) (m i : ℕ) : Type 0 where
   pub inside : i ≤ length ends
   pub equals-long : length equals ≡ length equals₀
-  pub list-long : length list ≡ length list₀
-  pub holds : SlotsHold (names bytes ends) keys slots i
-  pub unique : Deduplicated (names bytes ends) equals list i m
+  pub unique-long : length unique ≡ length unique₀
+  pub holds : SlotsHold (names bytes ends) hashes slots i
+  pub deduplicated : Deduplicated (names bytes ends) equals unique i m
 
 abbrev Inv-loop : tie.InvT-loop
-Inv-loop bytes ends keys equals₀ list₀ slots₀ m₀ i₀ equals list slots m i = Inv bytes ends keys equals₀ list₀ equals list slots m i
+Inv-loop bytes ends hashes equals₀ unique₀ slots₀ m₀ i₀ equals unique slots m i = Inv bytes ends hashes equals₀ unique₀ equals unique slots m i
 
 abbrev μ-loop : tie.MeasureT-loop
-μ-loop bytes ends keys equals₀ list₀ slots₀ m₀ i₀ equals list slots m i = length ends - i
+μ-loop bytes ends hashes equals₀ unique₀ slots₀ m₀ i₀ equals unique slots m i = length ends - i
 
 abbrev start : tie.At-loop Inv-loop μ-loop → tie.Start Inv-loop μ-loop
 start c = c .before .before .before .before .before .before
@@ -37,9 +37,9 @@ loop-holds c =
     record {
       inside = omega arith;
       equals-long = refl;
-      list-long = refl;
-      holds = slots-empty xs (a .keys .now) (replicate {A = ℕ} 4096 0) (length-replicate {A = ℕ} 4096 0) (λ k h. getD-replicate {A = ℕ} 4096 k 0 0 h);
-      unique = deduplicated-none xs (a .equals .now) (a .list .now);
+      unique-long = refl;
+      holds = slots-empty xs (a .hashes .now) (replicate {A = ℕ} 4096 0) (length-replicate {A = ℕ} 4096 0) (λ k h. getD-replicate {A = ℕ} 4096 k 0 0 h);
+      deduplicated = deduplicated-none xs (a .equals .now) (a .unique .now);
     }
 
 slice-aggregate-find-or-insert : tie.Need-slice-aggregate-find-or-insert Inv-loop μ-loop
@@ -58,10 +58,10 @@ loop-again c =
     record {
       inside = omega arith;
       equals-long = simp length-set (v .equals-long);
-      list-long = simp length-set (v .list-long);
+      unique-long = simp length-set (v .unique-long);
       holds = found .find-or-insert .ensures .holds;
-      unique = deduplicated-step (omega (arith, length-names (a .bytes .now) (a .ends .now))) (omega (arith, v .equals-long))
-          (omega (arith, v .list-long, v .unique .count)) (found .find-or-insert .ensures .equal) (c .if-zero .ensures) (v .unique);
+      deduplicated = deduplicated-step (omega (arith, length-names (a .bytes .now) (a .ends .now))) (omega (arith, v .equals-long))
+          (omega (arith, v .unique-long, v .deduplicated .count)) (found .find-or-insert .ensures .equal) (c .if-zero .ensures) (v .deduplicated);
     }
 
 returns : tie.Need-returns Inv-loop μ-loop
@@ -69,7 +69,7 @@ returns c =
     let l = c .before .loop in
     let a = start (c .before) .args in
     let all : l .i ≡ length (a .ends .now) = omega (arith, l .inv .inside, c .loop-test .left) in
-    subst (λ (k : ℕ). Deduplicated (names (a .bytes .now) (a .ends .now)) (l .equals) (l .list) k (l .m)) all (l .inv .unique)
+    subst (λ (k : ℕ). Deduplicated (names (a .bytes .now) (a .ends .now)) (l .equals) (l .unique) k (l .m)) all (l .inv .deduplicated)
 
 pub deduplicate-spec : {M : Type 1} → statement M
 deduplicate-spec =

@@ -9,7 +9,7 @@ use Rattle.image.specs.Bytes.{same}
 use Rattle.image.proofs.Equal.{same-false}
 use Rattle.packed.proofs.NameEnds.{length-names}
 use Rattle.batch.specs.RoundNames.{names, nth}
-use Rattle.batch.proofs.Duplicates.{other-key}
+use Rattle.batch.proofs.Duplicates.{other-hash}
 use Rattle.batch.proofs.deduplicate.equal_names.Statement.{statement}
 use Rattle.batch.proofs.deduplicate.equal_names.Tie as tie
 
@@ -25,7 +25,7 @@ returns c =
     let j : s .args .j < length xs = omega (arith, s .pre .first) in
     sym
     (same-false (nth xs (s .args .j)) (nth xs (s .args .i))
-    (other-key xs (s .args .keys .now) (s .pre .names .keyed) (s .args .j) (s .args .i) j i (c .if1 .taken)))
+    (other-hash xs (s .args .hashes .now) (s .pre .names .hashed) (s .args .j) (s .args .i) j i (c .if1 .taken)))
 
 returns-2 : tie.Need-returns-2
 returns-2 c =
@@ -33,8 +33,8 @@ returns-2 c =
     let name-j = name-i .before in
     let s = start (name-j .before .before) in
     c .same .ensures
-    ∙ ap (λ (l : List ℕ). same l (name-i .name-of2 .result .now)) (name-j .name-of .ensures)
-    ∙ ap (same (nth (names (s .args .bytes .now) (s .args .ends .now)) (s .args .j))) (name-i .name-of2 .ensures)
+    ∙ ap (λ (l : List ℕ). same l (name-i .nth-name2 .result .now)) (name-j .nth-name .ensures)
+    ∙ ap (same (nth (names (s .args .bytes .now) (s .args .ends .now)) (s .args .j))) (name-i .nth-name2 .ensures)
 
 pub equal-names-spec : {M : Type 1} → statement M
 equal-names-spec =

@@ -14,15 +14,15 @@ use Rattle.batch.proofs.Duplicates.{equalTo, slot-below, some-empty, fo
 use Rattle.batch.proofs.deduplicate.find_or_insert.Statement.{statement}
 use Rattle.batch.proofs.deduplicate.find_or_insert.Tie as tie
 
-record Inv (bytes ends keys slots : List ℕ) (i k left : ℕ) : Type 0 where
-  pub holds : SlotsHold (names bytes ends) keys slots i
-  pub rest : Remaining (roundSlot keys slots) (equalTo (names bytes ends) i) (getD keys i 0) 4096 left k
+record Inv (bytes ends hashes slots : List ℕ) (i k left : ℕ) : Type 0 where
+  pub holds : SlotsHold (names bytes ends) hashes slots i
+  pub rest : Remaining (roundSlot hashes slots) (equalTo (names bytes ends) i) (getD hashes i 0) 4096 left k
 
 abbrev Inv-loop : tie.InvT-loop
-Inv-loop bytes ends keys slots₀ i k₀ left₀ slots k left = Inv bytes ends keys slots i k left
+Inv-loop bytes ends hashes slots₀ i k₀ left₀ slots k left = Inv bytes ends hashes slots i k left
 
 abbrev μ-loop : tie.MeasureT-loop
-μ-loop bytes ends keys slots₀ i k₀ left₀ slots k left = left
+μ-loop bytes ends hashes slots₀ i k₀ left₀ slots k left = left
 
 -- ---- places in the code, each from a later one
 
@@ -44,19 +44,19 @@ few s = omega (arith, length-names (s .args .bytes .now) (s .args .ends .now), s
 below : (c : tie.At-loop Inv-loop μ-loop) → getD (c .loop .slots) (c .loop .k) 0 ≤ start c .args .i
 below c =
     let s = start c in
-    slot-below (s .pre .names .keyed) (inside s) (few s) (c .loop .inv .holds) (c .loop .k) (c .loop .inv .rest .inside)
+    slot-below (s .pre .names .hashed) (inside s) (few s) (c .loop .inv .holds) (c .loop .k) (c .loop .inv .rest .inside)
 
 -- ---- the needs
 
 loop-holds : tie.Need-loop-holds Inv-loop μ-loop
 loop-holds c =
     let s = c .before .before .before .before .before .before in
-    let keys = s .args .keys .now in
+    let hashes = s .args .hashes .now in
     record {
       holds = s .pre .holds;
       rest =
-          subst (Remaining (roundSlot keys (s .args .slots .now)) (equalTo (xs s) (s .args .i)) (getD keys (s .args .i) 0) 4096 4096) (sym (c .start .ensures .is))
-          (remaining-start (roundSlot keys (s .args .slots .now)) (equalTo (xs s) (s .args .i)) (getD keys (s .args .i) 0) 4096 (omega arith));
+          subst (Remaining (roundSlot hashes (s .args .slots .now)) (equalTo (xs s) (s .args .i)) (getD hashes (s .args .i) 0) 4096 4096) (sym (c .start .ensures .is))
+          (remaining-start (roundSlot hashes (s .args .slots .now)) (equalTo (xs s) (s .args .i)) (getD hashes (s .args .i) 0) 4096 (omega arith));
     }
 
 slice-read-q : tie.Need-slice-read-q Inv-loop μ-loop
@@ -77,7 +77,7 @@ returns c =
     let s = start (turn .before) in
     let rest = l .inv .rest in
     let more = turn .loop-test .taken in
-    inserted-here (s .pre .names .keyed) (inside s) (few s) (l .inv .holds) (l .k) (rest .inside) (first-empty rest more (c .if1 .taken))
+    inserted-here (s .pre .names .hashed) (inside s) (few s) (l .inv .holds) (l .k) (rest .inside) (first-empty rest more (c .if1 .taken))
     (none-matches rest more (c .if1 .taken))
 
 cast-equal-names : tie.Need-cast-equal-names Inv-loop μ-loop
@@ -98,7 +98,7 @@ returns-2 : tie.Need-returns-2 Inv-loop μ-loop
 returns-2 c =
     let at = c .before .before .before .before .before in
     let s = start at in
-    found-equal (s .pre .names .keyed) (inside s) (few s) (at .loop .inv .holds) _ (omega (arith, c .before .before .if1 .left)) (below at)
+    found-equal (s .pre .names .hashed) (inside s) (few s) (at .loop .inv .holds) _ (omega (arith, c .before .before .if1 .left)) (below at)
     (sym (c .before .equal-names .ensures) ∙ c .if2 .taken)
 
 next-requires : tie.Need-next-requires Inv-loop μ-loop
@@ -122,7 +122,7 @@ returns-3 : tie.Need-returns-3 Inv-loop μ-loop
 returns-3 c =
     let l = c .before .loop in
     let s = start (c .before) in
-    absurd (some-empty (s .pre .names .keyed) (inside s) (few s) (l .inv .holds) (remaining-end (l .inv .rest) (omega (arith, c .loop-test .left))))
+    absurd (some-empty (s .pre .names .hashed) (inside s) (few s) (l .inv .holds) (remaining-end (l .inv .rest) (omega (arith, c .loop-test .left))))
 
 pub find-or-insert-spec : {M : Type 1} → statement M
 find-or-insert-spec =

@@ -39,7 +39,7 @@ start e = e .before .before .before .before .before .before .before .before
 abbrev called : tie.After-after Inv-loop μ-loop → tie.After-put-name Inv-loop μ-loop
 called c = c .before .before .before .before .before
 
-abbrev named : tie.After-put-name Inv-loop μ-loop → tie.After-name-of Inv-loop μ-loop
+abbrev named : tie.After-put-name Inv-loop μ-loop → tie.After-nth-name Inv-loop μ-loop
 named c = c .before .before .before .before .before .before
 
 abbrev entered : tie.After-after Inv-loop μ-loop → tie.In-loop Inv-loop μ-loop
@@ -50,8 +50,8 @@ loop-holds c =
     let s = c .before .before .before .before .before .before in
     record { inside = omega arith; buffer-length = refl; slots-length = refl; puts = puts-start (s .pre .begun) (s .pre .list .head-fits) (s .pre .cleared) }
 
-name-of-requires : tie.Need-name-of-requires Inv-loop μ-loop
-name-of-requires c κs = record { inside = c .loop-test .taken; ends-rise = start c .pre .list .packed }
+nth-name-requires : tie.Need-nth-name-requires Inv-loop μ-loop
+nth-name-requires c κs = record { inside = c .loop-test .taken; ends-rise = start c .pre .list .packed }
 
 mul-h : tie.Need-mul-h Inv-loop μ-loop
 mul-h c =
@@ -86,13 +86,13 @@ put-name-requires c κs =
       index = g .index;
       only-off = λ h. ap refusesRepeats (g .choice) ∙ off h;
       unhashed = s .pre .facts .unhashed;
-      zero-free = λ t. ap hasZero (n .name-of .ensures) ∙ s .pre .facts .zero-free t (l .i) (e .loop-test .taken);
+      zero-free = λ t. ap hasZero (n .nth-name .ensures) ∙ s .pre .facts .zero-free t (l .i) (e .loop-test .taken);
       new = λ table.
-          not-repeated (stateWith (l .after) (l .counts) (l .buf)) (names (s .args .bytes .now) (s .args .ends .now)) (l .i) _ (n .name-of .ensures) (g .among)
+          not-repeated (stateWith (l .after) (l .counts) (l .buf)) (names (s .args .bytes .now) (s .args .ends .now)) (l .i) _ (n .nth-name .ensures) (g .among)
           (λ refuses j before. s .pre .facts .distinct (sym (ap refusesRepeats (g .choice)) ∙ refuses) (l .i) j before (e .loop-test .taken)
-          (omega (arith, ap (λ (x : List ℕ). tableOf (hashOf x)) (n .name-of .ensures), table)));
+          (omega (arith, ap (λ (x : List ℕ). tableOf (hashOf x)) (n .nth-name .ensures), table)));
       spare = λ h. omega (arith, l .inv .puts .few, e .loop-test .taken, s .pre .enough (omega (arith, h, l .inv .slots-length)), l .inv .slots-length);
-      hash-is = λ t. place-kept (l .inv .puts) ∙ s .pre .facts .hashes t (l .i) (e .loop-test .taken) ∙ sym (ap hashOf (n .name-of .ensures));
+      hash-is = λ t. place-kept (l .inv .puts) ∙ s .pre .facts .hashes t (l .i) (e .loop-test .taken) ∙ sym (ap hashOf (n .nth-name .ensures));
     }
 
 mul-refusals : tie.Need-mul-refusals Inv-loop μ-loop
@@ -120,7 +120,7 @@ loop-again c =
     let s = start e in
     let a = s .args in
     let size = length-names (a .bytes .now) (a .ends .now) in
-    let its-name = named (called c) .name-of .ensures in
+    let its-name = named (called c) .nth-name .ensures in
     let done = called c .put-name in
     let g = l .inv .puts in
     let inside : l .i < length (names (a .bytes .now) (a .ends .now)) = omega (arith, size, e .loop-test .taken) in
@@ -154,7 +154,7 @@ put-list-spec =
     Inv-loop
     μ-loop
     loop-holds
-    name-of-requires
+    nth-name-requires
     mul-h
     slice-read-h
     mul-put-name

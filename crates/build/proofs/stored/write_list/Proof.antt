@@ -17,10 +17,10 @@ use Rattle.build.proofs.stored.write_list.Tie as tie
 abbrev start : tie.After-back-of-arg → tie.Start
 start c = c .before .before .before .before .before .before .before
 
-abbrev backed : tie.After-clear → tie.After-back-in
+abbrev backed : tie.After-clear-bytes → tie.After-back-in
 backed c = c .before .before
 
-abbrev cleared : tie.After-store-list → tie.After-clear
+abbrev cleared : tie.After-store-list → tie.After-clear-bytes
 cleared c = c .before .before .before .before
 
 abbrev stored : tie.After-write-image-with → tie.After-store-list
@@ -42,8 +42,8 @@ known : (c : tie.After-back-in) → let a = start (c .before .before) .args in
     Numbers (a .mode) (a .buf .now) (a .bytes .now) (a .ends .now) (a .ids .now) (end c) (c .back-in .result) (at c) (at c + 4 * c .back-in .result)
 known c = numbers (start (c .before .before) .pre) (c .back-in .ensures ∙ ap (backIn (start (c .before .before) .args .mode)) (c .before .back-of .ensures .is))
 
-same : (c : tie.After-clear) → length (c .clear .last .0) ≡ length (start (backed c .before .before) .args .buf .now)
-same c = c .clear .kept .0
+same : (c : tie.After-clear-bytes) → length (c .clear-bytes .last .0) ≡ length (start (backed c .before .before) .args .buf .now)
+same c = c .clear-bytes .kept .0
 
 -- ---- the needs
 
@@ -65,8 +65,8 @@ mul-size c = omega (arith, known c .small)
 add-size : tie.Need-add-size
 add-size c = omega (arith, known c .small)
 
-clear-requires : tie.Need-clear-requires
-clear-requires c κs = record { order = omega arith; inside = known (c .before) .within }
+clear-bytes-requires : tie.Need-clear-bytes-requires
+clear-bytes-requires c κs = record { order = omega arith; inside = known (c .before) .within }
 
 store-list-requires : tie.Need-store-list-requires
 store-list-requires c κs =
@@ -81,8 +81,8 @@ store-list-requires c κs =
       within = omega (arith, k .within, k .size-is, same z);
       small = omega (arith, k .small, k .size-is);
       at-is = k .at-is;
-      cleared = ap (between (z .clear .last .0) _) (sym (k .size-is))
-          ∙ zeros-between (s .args .buf .now) _ (4 * b .back-in .result) (k .within) (z .clear .last .0) _ refl (z .clear .ensures)
+      cleared = ap (between (z .clear-bytes .last .0) _) (sym (k .size-is))
+          ∙ zeros-between (s .args .buf .now) _ (4 * b .back-in .result) (k .within) (z .clear-bytes .last .0) _ refl (z .clear-bytes .ensures)
           ∙ ap (λ (m : ℕ). replicate {A = ℕ} (4 * m) 0) (k .back-is);
     }
 
@@ -106,7 +106,7 @@ returns c =
     let b = backed z in
     let s = start (b .before .before) in
     left-image (s .pre) (words (b .before .before)) (d .store-list .ensures) (same z) (known b)
-    (zeros-behind (s .args .buf .now) _ (4 * b .back-in .result) (known b .within) (z .clear .last .0) _ refl (z .clear .ensures)) (w .write-image-with .ensures)
+    (zeros-behind (s .args .buf .now) _ (4 * b .back-in .result) (known b .within) (z .clear-bytes .last .0) _ refl (z .clear-bytes .ensures)) (w .write-image-with .ensures)
 
 pub write-list-spec : {M : Type 1} → statement M
 write-list-spec =
@@ -125,7 +125,7 @@ write-list-spec =
     add-at
     mul-size
     add-size
-    clear-requires
+    clear-bytes-requires
     store-list-requires
     (λ c. search needs)
     cast-write-image-with-2

@@ -27,7 +27,7 @@ returns-3 c =
     let first-name = name-at (a .bytes .now) (a .ends .now) (s .pre .ends-rise) (i .result) (a .a) (i .ensures) (omega (arith, first .entry-offset .ensures, second .before .if1 .left)) in
     let second-name = name-at (a .bytes .now) (a .ends .now) (s .pre .ends-rise) (j .result) (a .b) (j .ensures) (omega (arith, second .entry-offset2 .ensures, c .before .before .before .if2 .left)) in
     λ e.
-    ap₂ same (first-name ∙ sym (c .before .before .name-of .ensures)) (second-name ∙ sym (c .before .name-of2 .ensures)) ∙ sym (c .same .ensures) ∙ not-true _ e
+    ap₂ same (first-name ∙ sym (c .before .before .nth-name .ensures)) (second-name ∙ sym (c .before .nth-name2 .ensures)) ∙ sym (c .same .ensures) ∙ not-true _ e
 
 pub distinct-names-spec : {M : Type 1} → statement M
 distinct-names-spec =

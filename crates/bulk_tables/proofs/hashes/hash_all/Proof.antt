@@ -14,7 +14,7 @@ use Rattle.image.specs.Tables.{tableOf}
 use Rattle.image.specs.Zero.{hasZero}
 use Rattle.image.proofs.Bools.{false-not-true}
 use Rattle.packed.specs.Names.{names, nth}
-use Rattle.jhash.specs.NameHash.{key}
+use Rattle.jhash.specs.NameHash.{hashOrZero}
 use Rattle.bulk_tables.specs.steps.Partition.{at, tableOfName}
 use Rattle.bulk_tables.specs.steps.Contracts.{Hashed, NoZeros}
 use Rattle.bulk_tables.proofs.TableCounts.{count-le}
@@ -40,10 +40,10 @@ abbrev μ-loop : tie.MeasureT-loop
 abbrev start : tie.At-loop Inv-loop μ-loop → tie.Start Inv-loop μ-loop
 start c = c .before .before .before .before
 
-abbrev entered : tie.After-key Inv-loop μ-loop → tie.In-loop Inv-loop μ-loop
+abbrev entered : tie.After-hash-or-zero Inv-loop μ-loop → tie.In-loop Inv-loop μ-loop
 entered c = c .before .before
 
-abbrev keyed : tie.After-has-zero Inv-loop μ-loop → tie.After-key Inv-loop μ-loop
+abbrev keyed : tie.After-has-zero Inv-loop μ-loop → tie.After-hash-or-zero Inv-loop μ-loop
 keyed c = c .before .before .before
 
 none-more : (bytes ends : List ℕ) (i : ℕ) → NoZeros bytes ends i → hasZero (nth (names bytes ends) i) ≡ false → NoZeros bytes ends (i + 1)
@@ -77,9 +77,9 @@ raise-requires c κs =
     let e = entered k in
     let l = e .before .loop in
     let s = start (e .before) in
-    let t = tableOf (k .key .result) in
+    let t = tableOf (k .hash-or-zero .result) in
     let T = tableOfName (names (s .args .bytes .now) (s .args .ends .now)) in
-    omega (arith, l .inv .hashed .counts-are t (mod-lt (k .key .result) (omega arith)), count-le T t (l .i), e .loop-test .taken, s .pre .count-fits)
+    omega (arith, l .inv .hashed .counts-are t (mod-lt (k .hash-or-zero .result) (omega arith)), count-le T t (l .i), e .loop-test .taken, s .pre .count-fits)
 
 loop-again : tie.Need-loop-again Inv-loop μ-loop
 loop-again c =
@@ -92,9 +92,9 @@ loop-again c =
     let i = l .i in
     let below = e .loop-test .taken in
     let xs = names (s .args .bytes .now) (s .args .ends .now) in
-    let named = k .before .name-of .ensures in
-    let h = k .key .result in
-    let hash : h ≡ key (nth xs i) = k .key .ensures ∙ ap key named in
+    let named = k .before .nth-name .ensures in
+    let h = k .hash-or-zero .result in
+    let hash : h ≡ hashOrZero (nth xs i) = k .hash-or-zero .ensures ∙ ap hashOrZero named in
     let raised = c .before .before .raise .ensures in
     let counted = counts-step (tableOfName xs) (l .counts) i h (ap tableOf hash) (v .hashed .rows) (v .hashed .counts-are) in
     let room : i < length (l .hashes) = omega (arith, s .pre .hashes-fit, v .same-length, below) in
@@ -102,7 +102,7 @@ loop-again c =
       inside = omega (arith, below);
       hashed =
           record {
-            hashes-are = first-step (λ (j : ℕ). key (nth xs j)) (l .hashes) i h room hash (v .hashed .hashes-are);
+            hashes-are = first-step (λ (j : ℕ). hashOrZero (nth xs j)) (l .hashes) i h room hash (v .hashed .hashes-are);
             rows = ap length raised ∙ counted .0;
             counts-are = λ t b. ap (λ (x : List ℕ). at x t) raised ∙ counted .1 t b;
           };

@@ -15,16 +15,16 @@ use Rattle.canonical.proofs.CachedEntries.{cached-start, cached-hash, c
 use Rattle.canonical.proofs.entries.check_entries.Statement.{statement}
 use Rattle.canonical.proofs.entries.check_entries.Tie as tie
 
-record Walk (img : List ℕ) (end entries : ℕ) (two : Bool) (o : ℕ) (counts₀ counts : List ℕ) (at left back linked : ℕ) (hashes places firsts : List ℕ) (cached : ℕ) : Type 0 where
+record Walk (img : List ℕ) (end entries : ℕ) (two : Bool) (o : ℕ) (counts₀ counts : List ℕ) (at left back linked : ℕ) (hashes bucket-places firsts : List ℕ) (cached : ℕ) : Type 0 where
   found : Entering img end entries two o counts₀ at left back linked counts
-  cache : Cached img end hashes places firsts at cached
+  cache : Cached img end hashes bucket-places firsts at cached
 
 abbrev Inv-loop : tie.InvT-loop
-Inv-loop image end entries two o counts₀ at₀ left₀ back₀ linked₀ hashes₀ places₀ firsts₀ cached₀ counts at left back linked hashes places firsts cached =
-    Walk image end entries two o counts₀ counts at left back linked hashes places firsts cached
+Inv-loop image end entries two o counts₀ at₀ left₀ back₀ linked₀ hashes₀ bucket-places₀ firsts₀ cached₀ counts at left back linked hashes bucket-places firsts cached =
+    Walk image end entries two o counts₀ counts at left back linked hashes bucket-places firsts cached
 
 abbrev μ-loop : tie.MeasureT-loop
-μ-loop image end entries two o counts₀ at₀ left₀ back₀ linked₀ hashes₀ places₀ firsts₀ cached₀ counts at left back linked hashes places firsts cached = left
+μ-loop image end entries two o counts₀ at₀ left₀ back₀ linked₀ hashes₀ bucket-places₀ firsts₀ cached₀ counts at left back linked hashes bucket-places firsts cached = left
 
 -- places: a whole entry, in the loop; a valid one
 abbrev start : tie.At-loop Inv-loop μ-loop → tie.Start Inv-loop μ-loop

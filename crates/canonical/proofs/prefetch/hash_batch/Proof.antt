@@ -4,20 +4,20 @@ use native.Mathlib.Omega.{arith}
 use Prim.Native.Nat.{_+_, _-_, _≤_}
 use mathlib.Core.Path.{ap, _∙_}
 use Rattle.jhash.specs.NameHash.{hashOf}
-use Rattle.jhash.proofs.Outcomes.{key-short}
+use Rattle.jhash.proofs.Outcomes.{hash-or-zero-short}
 use Rattle.image.proofs.Between.{EntryRoom, entry-room}
 use Rattle.canonical.proofs.CachedEntries.{Hashing, hashing-start, hashing-next, hashing-broken, hashing-all}
 use Rattle.canonical.proofs.prefetch.hash_batch.Statement.{statement}
 use Rattle.canonical.proofs.prefetch.hash_batch.Tie as tie
 
 abbrev Inv-loop : tie.InvT-loop
-Inv-loop image from end hashes₀ places₀ at₀ i₀ hashes places at i = Hashing image end from hashes places at i
+Inv-loop image from end hashes₀ bucket-places₀ at₀ i₀ hashes bucket-places at i = Hashing image end from hashes bucket-places at i
 
 abbrev μ-loop : tie.MeasureT-loop
-μ-loop image from end hashes₀ places₀ at₀ i₀ hashes places at i = 256 - i
+μ-loop image from end hashes₀ bucket-places₀ at₀ i₀ hashes bucket-places at i = 256 - i
 
--- from the place behind the call of first_place to that behind whole_length, and from there to the start
-abbrev whole : tie.After-first-place Inv-loop μ-loop → tie.Else1 Inv-loop μ-loop
+-- from the place behind the call of first_bucket_at to that behind whole_length, and from there to the start
+abbrev whole : tie.After-first-bucket-at Inv-loop μ-loop → tie.Else1 Inv-loop μ-loop
 whole c = c .before .before .before
 
 abbrev start : tie.Else1 Inv-loop μ-loop → tie.Start Inv-loop μ-loop
@@ -51,11 +51,11 @@ mul-hashes c = omega (arith, whole c .before .before .loop-test .taken)
 element-write-hashes : tie.Need-element-write-hashes Inv-loop μ-loop
 element-write-hashes c = omega (arith, whole c .before .before .loop-test .taken)
 
-mul-places : tie.Need-mul-places Inv-loop μ-loop
-mul-places c = omega (arith, whole c .before .before .loop-test .taken)
+mul-bucket-places : tie.Need-mul-bucket-places Inv-loop μ-loop
+mul-bucket-places c = omega (arith, whole c .before .before .loop-test .taken)
 
-element-write-places : tie.Need-element-write-places Inv-loop μ-loop
-element-write-places c = omega (arith, whole c .before .before .loop-test .taken)
+element-write-bucket-places : tie.Need-element-write-bucket-places Inv-loop μ-loop
+element-write-bucket-places c = omega (arith, whole c .before .before .loop-test .taken)
 
 add-at : tie.Need-add-at Inv-loop μ-loop
 add-at c = omega (arith, room (whole c) .before, start (whole c) .pre .area .small)
@@ -74,10 +74,10 @@ loop-again c =
     let e = whole c in
     let w = e .before .whole-length in
     let name = c .before .before .name-at in
-    let h = c .before .key in
-    let short = key-short (name .result .now) (omega (arith, name .ensures .size, w .ensures .small, room e .name .some)) in
+    let h = c .before .hash-or-zero in
+    let short = hash-or-zero-short (name .result .now) (omega (arith, name .ensures .size, w .ensures .small, room e .name .some)) in
     hashing-next (e .before .before .before .loop .inv) (start e .pre .area .inside) (w .result) (w .ensures .is) (e .if1 .left) (e .before .before .loop-test .taken)
-    (h .result) (c .first-place .result) (h .ensures ∙ short ∙ ap hashOf (name .ensures .is)) (c .first-place .ensures)
+    (h .result) (c .first-bucket-at .result) (h .ensures ∙ short ∙ ap hashOf (name .ensures .is)) (c .first-bucket-at .ensures)
 
 returns-2 : tie.Need-returns-2 Inv-loop μ-loop
 returns-2 c = hashing-all (c .before .loop .inv) (omega (arith, c .loop-test .left))
@@ -96,8 +96,8 @@ hash-batch-spec =
     (λ c κs. search needs)
     mul-hashes
     element-write-hashes
-    mul-places
-    element-write-places
+    mul-bucket-places
+    element-write-bucket-places
     add-at
     add-at-2
     add-i

@@ -8,15 +8,15 @@ use Rattle.canonical.proofs.CachedEntries.{read-next}
 use Rattle.canonical.proofs.prefetch.read_buckets.Statement.{statement}
 use Rattle.canonical.proofs.prefetch.read_buckets.Tie as tie
 
-record Reading (image places firsts : List ℕ) (i : ℕ) : Type 0 where
+record Reading (image bucket-places firsts : List ℕ) (i : ℕ) : Type 0 where
   few : i ≤ 256
-  read : BucketsRead image places firsts i
+  read : BucketsRead image bucket-places firsts i
 
 abbrev Inv-loop : tie.InvT-loop
-Inv-loop image places firsts₀ i₀ firsts i = Reading image places firsts i
+Inv-loop image bucket-places firsts₀ i₀ firsts i = Reading image bucket-places firsts i
 
 abbrev μ-loop : tie.MeasureT-loop
-μ-loop image places firsts₀ i₀ firsts i = 256 - i
+μ-loop image bucket-places firsts₀ i₀ firsts i = 256 - i
 
 loop-holds : tie.Need-loop-holds Inv-loop μ-loop
 loop-holds c = record { few = omega arith; read = record { firsts-long = c .before .pre .firsts-long; words = λ k h. absurd (omega arith) } }

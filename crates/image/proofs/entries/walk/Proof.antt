@@ -3,7 +3,7 @@ use Prim.Native.Nat.{_<_}
 use native.Mathlib.Omega.{arith}
 use mathlib.Core.Path.{_≡_, refl, sym, _∙_}
 use Rattle.jhash.specs.NameHash.{hashOf}
-use Rattle.jhash.proofs.Outcomes.{key-short}
+use Rattle.jhash.proofs.Outcomes.{hash-or-zero-short}
 use Rattle.image.specs.Tables.{tableOf}
 use Rattle.image.specs.Stored.{between}
 use Rattle.image.proofs.Bools.{false-not-true}
@@ -28,10 +28,10 @@ start e = e .before .before .before .before .before .before .before
 abbrev loop : tie.Else1 Inv-loop μ-loop → tie.At-loop Inv-loop μ-loop
 loop e = e .before .before .before
 
-abbrev hashed : tie.After-is-sought Inv-loop μ-loop → tie.After-key2 Inv-loop μ-loop
+abbrev hashed : tie.After-is-sought Inv-loop μ-loop → tie.After-hash-or-zero2 Inv-loop μ-loop
 hashed c = c .before .before .before
 
-abbrev named : tie.After-key2 Inv-loop μ-loop → tie.After-name-at Inv-loop μ-loop
+abbrev named : tie.After-hash-or-zero2 Inv-loop μ-loop → tie.After-name-at Inv-loop μ-loop
 named c = c .before .before .before
 
 abbrev entry : tie.After-is-sought Inv-loop μ-loop → tie.Else1 Inv-loop μ-loop
@@ -52,11 +52,11 @@ inside e =
     (start e .pre .inside) (n .ensures .is) (e .if1 .left)
 
 -- its hash
-hash : (k : tie.After-key2 Inv-loop μ-loop) → k .key2 .result ≡ hashOf (named k .name-at .result .now)
+hash : (k : tie.After-hash-or-zero2 Inv-loop μ-loop) → k .hash-or-zero2 .result ≡ hashOf (named k .name-at .result .now)
 hash k =
     let name = named k .name-at in
     let n = named k .before .before .whole-length in
-    k .key2 .ensures ∙ key-short (name .result .now) (omega (arith, name .ensures .size, n .ensures .small, inside (named k .before) .name .some))
+    k .hash-or-zero2 .ensures ∙ hash-or-zero-short (name .result .now) (omega (arith, name .ensures .size, n .ensures .small, inside (named k .before) .name .some))
 
 loop-holds : tie.Need-loop-holds Inv-loop μ-loop
 loop-holds c =
@@ -93,13 +93,13 @@ add-larger c = omega (arith, c .word .ok)
 raise-requires : tie.Need-raise-requires Inv-loop μ-loop
 raise-requires c κs =
     let e = named (c .before) .before in
-    let k = loop e .loop .inv .rest .counts-small (tableOf (c .before .key2 .result)) in
+    let k = loop e .loop .inv .rest .counts-small (tableOf (c .before .hash-or-zero2 .result)) in
     omega (arith, e .before .before .loop-test .taken, start e .fits .entries)
 
 is-sought-requires : tie.Need-is-sought-requires Inv-loop μ-loop
 is-sought-requires c κs =
     let k = c .before .before in
-    record { named = k .key2 .ensures; wanted = loop (named k .before) .before .key .ensures }
+    record { named = k .hash-or-zero2 .ensures; wanted = loop (named k .before) .before .hash-or-zero .ensures }
 
 add-at : tie.Need-add-at Inv-loop μ-loop
 add-at c = omega (arith, inside (entry c) .name .inside, start (entry c) .good)
@@ -126,7 +126,7 @@ loop-again c =
     record {
       rest = rw (hashed c .before .larger .ensures)
           (walk-step (a .buf .now) (a .end) (a .entries) (a .counts .now) (l .at) (l .left) (l .back) (l .counts) (start e .pre .inside) (l .inv .rest) some
-          (n .result) (hashed c .key2 .result) (id .result) (name .result .now) (c .before .raise .last .0) (known e) (n .ensures .small) small (name .ensures .is)
+          (n .result) (hashed c .hash-or-zero2 .result) (id .result) (name .result .now) (c .before .raise .last .0) (known e) (n .ensures .small) small (name .ensures .is)
           (hash (hashed c))
           (id .ensures) (c .before .raise .ensures));
       contains-rest = contains-step (a .buf .now) (a .end) (a .entries) (a .sought .now) (l .at) (l .left) (l .contains) (start e .pre .inside)

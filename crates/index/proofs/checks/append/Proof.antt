@@ -4,7 +4,7 @@ use Rattle.writer.proofs.Puts.{appended-parts}
 use Rattle.index.proofs.checks.append.Statement.{statement}
 use Rattle.index.proofs.checks.append.Tie as tie
 
-abbrev stored : tie.After-after → tie.After-store
+abbrev stored : tie.After-writer-after-put → tie.After-store
 stored c = c .before .before .before
 
 abbrev raised : tie.After-store → tie.After-raise
@@ -19,8 +19,8 @@ returns c =
     let r = raised t in
     let s = start r in
     let a = s .args in
-    appended-parts (a .w) (c .after .result) (a .counts .now) (r .raise .last .0) (a .buf .now) (t .store .last .0) (a .name .now) (a .id) (a .h)
-    (s .pre .hash) (c .after .ensures) (r .raise .ensures) (t .store .ensures)
+    appended-parts (a .w) (c .writer-after-put .result) (a .counts .now) (r .raise .last .0) (a .buf .now) (t .store .last .0) (a .name .now) (a .id) (a .h)
+    (s .pre .hash) (c .writer-after-put .ensures) (r .raise .ensures) (t .store .ensures)
 
 pub append-spec : {M : Type 1} → statement M
 append-spec =

@@ -7,7 +7,7 @@ use borrow.Author.Tests.{lt-ltb, le-ltb}
 use lib.ListN.{getD}
 use Rattle.image.specs.Tables.{tableOf}
 use Rattle.writer.specs.State.{finishedSize, tooLarge}
-use Rattle.writer.specs.Put.{writerWith}
+use Rattle.writer.specs.Put.{writerAfterPut}
 use Rattle.index.specs.steps.Checks.{lateRefusal}
 use Rattle.index.proofs.checks.late_refusal.Statement.{statement}
 use Rattle.index.proofs.checks.late_refusal.Tie as tie
@@ -17,7 +17,7 @@ abbrev start : tie.After-too-large → tie.Start
 start c = c .before .before
 
 sized : (c : tie.After-too-large) {b : Bool} → c .too-large .result ≡ b
-    → let a = start c .args in tooLarge (a .w .length) (finishedSize (writerWith (a .w) (a .n) (a .id))) ≡ b
+    → let a = start c .args in tooLarge (a .w .length) (finishedSize (writerAfterPut (a .w) (a .n) (a .id))) ≡ b
 sized c e = ap (tooLarge (start c .args .w .length)) (sym (c .before .size-with .ensures)) ∙ sym (c .too-large .ensures) ∙ e
 
 returns : tie.Need-returns

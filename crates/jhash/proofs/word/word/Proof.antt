@@ -7,10 +7,10 @@ use Rattle.jhash.proofs.word.word.Tie as tie
 returns : tie.Need-returns
 returns c =
     let a = c .before .before .before .before .before .before .before .before .before .args in
-    let first = c .before .before .before .before .before .before .wide in
-    let second = c .before .before .before .before .wide2 in
-    let third = c .before .before .wide3 in
-    word-of (a .s .now) (a .at) _ _ _ _ (first .ensures .is) (second .ensures .is) (third .ensures .is) (c .wide4 .ensures .is)
+    let first = c .before .before .before .before .before .before .byte-as-word in
+    let second = c .before .before .before .before .byte-as-word2 in
+    let third = c .before .before .byte-as-word3 in
+    word-of (a .s .now) (a .at) _ _ _ _ (first .ensures .is) (second .ensures .is) (third .ensures .is) (c .byte-as-word4 .ensures .is)
 
 pub word-spec : {M : Type 1} → statement M
 word-spec =

@@ -13,7 +13,7 @@ returns c = sym (word-past (now (c .before .before .args .s)) (c .before .before
 returns-2 : tie.Need-returns-2
 returns-2 c =
     let a = c .before .before .before .before .before .before .args in
-    let first = c .before .before .wide in
+    let first = c .before .before .byte-as-word in
     let second = c .before .byte-or-zero in
     word-short (a .s .now) (a .at) _ _ _ (omega arith) (first .ensures .is) (second .ensures .is) (c .byte-or-zero2 .ensures .is)
 

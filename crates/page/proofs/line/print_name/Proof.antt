@@ -11,15 +11,15 @@ use Rattle.page.proofs.line.print_name.Tie as tie
 abbrev start : tie.After-repeat → tie.Start
 start c = c .before .before .before .before
 
-abbrev spaced : tie.After-kept → tie.After-repeat
+abbrev spaced : tie.After-printed-length → tie.After-repeat
 spaced c = c .before .before .before
 
-abbrev cut : tie.After-show-all → tie.After-kept
+abbrev cut : tie.After-show-all → tie.After-printed-length
 cut c = c .before .before .before
 
 -- the part of the name that is printed has as many bytes as are kept
-part-length : (c : tie.After-kept) → length (take (c .kept .result) (start (spaced c) .args .name .now)) ≡ c .kept .result
-part-length c = omega (arith, length-take (c .kept .result) (start (spaced c) .args .name .now), c .kept .ensures)
+part-length : (c : tie.After-printed-length) → length (take (c .printed-length .result) (start (spaced c) .args .name .now)) ≡ c .printed-length .result
+part-length c = omega (arith, length-take (c .printed-length .result) (start (spaced c) .args .name .now), c .printed-length .ensures)
 
 slice-aggregate-show-all : tie.Need-slice-aggregate-show-all
 slice-aggregate-show-all c = sym (part-length (c .before .before))
@@ -27,7 +27,7 @@ slice-aggregate-show-all c = sym (part-length (c .before .before))
 show-all-requires : tie.Need-show-all-requires
 show-all-requires c κs =
     let d = c .before .before in
-    omega (arith, part-length d, d .kept .ensures, spaced d .repeat .kept)
+    omega (arith, part-length d, d .printed-length .ensures, spaced d .repeat .kept)
 
 same-length : tie.Need-same-length
 same-length c =
@@ -39,9 +39,9 @@ returns c =
     let d = c .before .before .before in
     let spaces = spaced (cut d) .repeat in
     let a = start (spaced (cut d)) .args in
-    let kept = cut d .kept in
-    name-printed (a .name .now) (a .out .now) (spaces .last .0) (d .show-all .last .0) (a .at) (kept .result) (c .mark .result)
-    (kept .ensures) (c .mark .ensures) (spaces .ensures) (d .show-all .ensures)
+    let printed = cut d .printed-length in
+    name-printed (a .name .now) (a .out .now) (spaces .last .0) (d .show-all .last .0) (a .at) (printed .result) (c .mark .result)
+    (printed .ensures) (c .mark .ensures) (spaces .ensures) (d .show-all .ensures)
 
 pub print-name-spec : {M : Type 1} → statement M
 print-name-spec =

@@ -1,6 +1,6 @@
 -- `reader::lookup::find_table` meets its contract. Assumes nothing.
 use native.Mathlib.Omega.{arith}
-use Rattle.reader.proofs.Searches.{Row, unread-offset, unread-number, unread-leaves, read-table}
+use Rattle.reader.proofs.Searches.{Row, unread-offset, unread-number, unread-past-end, read-table}
 use borrow.Author.Needs.{needs}
 use Rattle.reader.proofs.lookup.find_table.Statement.{statement}
 use Rattle.reader.proofs.lookup.find_table.Tie as tie
@@ -16,7 +16,7 @@ returns c = record { unread = λ z. unread-offset (row-of (c .before)) (c .if1 .
 returns-2 : tie.Need-returns-2
 returns-2 c =
     record {
-      unread = λ z. unread-leaves (row-of (c .before .before)) (c .before .if1 .left) (c .if2 .taken);
+      unread = λ z. unread-past-end (row-of (c .before .before)) (c .before .if1 .left) (c .if2 .taken);
       table = λ z. absurd (omega arith);
     }
 

@@ -23,7 +23,7 @@ returns-3 c =
     let image = a .image .now in
     let of-if1 = c .before .before .before .if1 in
     let of-word = c .before .before .word in
-    c .back-leaves .ensures
+    c .back-past-end .ensures
     ∙ simp (le-ltb (length image) 2072 (of-if1 .left), ne-eqb (word image 20) 0 (λ e. c .before .if2 .left (of-word .ensures ∙ e)))
 
 pub no-back-spec : {M : Type 1} → statement M

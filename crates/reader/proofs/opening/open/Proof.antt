@@ -10,24 +10,24 @@ use lib.ListN.{length}
 use Rattle.jhash.specs.Outcome.{value, refusal}
 use Rattle.image.specs.Bytes.{word}
 use Rattle.image.proofs.Bools.{and-both}
-use Rattle.image.specs.Head.{backOffsetAt, backLeaves}
+use Rattle.image.specs.Head.{backOffsetAt, backPastEnd}
 use Rattle.reader.specs.Open.{numFrom, opening}
 use Rattle.reader.proofs.Opens.{opening-by}
 use borrow.Author.Needs.{needs}
 use Rattle.reader.proofs.opening.open.Statement.{statement}
 use Rattle.reader.proofs.opening.open.Tie as tie
 
-abbrev else1 : tie.After-some-leaves → tie.Else1
+abbrev else1 : tie.After-some-past-end → tie.Else1
 else1 c = c .before .before .before .before .before .before
 
-abbrev start : tie.After-some-leaves → tie.Start
+abbrev start : tie.After-some-past-end → tie.Start
 start c = else1 c .before .before
 
 -- where no table leaves the image, the back array alone decides
 abbrev image-of : tie.Else4 → List ℕ
 image-of c = start (c .before) .args .image .now
 
-passed : (c : tie.Else4) (b : Bool) → (ltb 0 (backOffsetAt (image-of c)) && backLeaves (image-of c)) ≡ b
+passed : (c : tie.Else4) (b : Bool) → (ltb 0 (backOffsetAt (image-of c)) && backPastEnd (image-of c)) ≡ b
     → cond b (refusal 8) (value (numFrom (image-of c) 0 256 % 2 ^ 32)) ≡ opening (image-of c)
 passed c b e =
     let of-if1 = else1 (c .before) .if1 in
@@ -38,7 +38,7 @@ passed c b e =
     (le-ltb (length (image-of c)) 2072 (of-if1 .left))
     (sym (of-has-letters .ensures) ∙ not-false (of-has-letters .result) (of-if2 .left))
     (eq-eqb (word (image-of c) 12) 0x62445371 (sym (of-word .ensures) ∙ c .before .before .before .if3 .left))
-    (sym (c .before .some-leaves .ensures) ∙ c .if4 .left)
+    (sym (c .before .some-past-end .ensures) ∙ c .if4 .left)
     e
 
 returns : tie.Need-returns
@@ -77,16 +77,16 @@ returns-4 c =
     let of-if3 = c .before .before .before .if3 in
     opening-by image false true true true _ (le-ltb (length image) 2072 (of-if1 .left))
     (sym (of-has-letters .ensures) ∙ not-false (of-has-letters .result) (of-if2 .left))
-    (eq-eqb (word image 12) 0x62445371 (sym (of-word .ensures) ∙ of-if3 .left)) (sym (c .before .some-leaves .ensures) ∙ c .if4 .taken) refl
+    (eq-eqb (word image 12) 0x62445371 (sym (of-word .ensures) ∙ of-if3 .left)) (sym (c .before .some-past-end .ensures) ∙ c .if4 .taken) refl
 
 returns-5 : tie.Need-returns-5
 returns-5 c =
     let passed4 = c .before .before .before .before in
     let image = image-of passed4 in
     passed passed4 true
-    (and-both (ltb 0 (word image 20)) (backLeaves image)
+    (and-both (ltb 0 (word image 20)) (backPastEnd image)
     (lt-ltb 0 (word image 20) (omega (arith, c .before .before .before .word2 .ensures)))
-    (sym (c .before .back-leaves .ensures) ∙ c .if6 .taken))
+    (sym (c .before .back-past-end .ensures) ∙ c .if6 .taken))
 
 returns-6 : tie.Need-returns-6
 returns-6 c =
@@ -94,7 +94,7 @@ returns-6 c =
     let image = image-of passed4 in
     ap value (passed4 .before .before .all-tables .ensures .num-is)
     ∙ passed passed4 false
-    (ap (λ (t : Bool). ltb 0 (word image 20) && t) (sym (c .before .back-leaves .ensures) ∙ c .if6 .left) ∙ and-false (ltb 0 (word image 20)))
+    (ap (λ (t : Bool). ltb 0 (word image 20) && t) (sym (c .before .back-past-end .ensures) ∙ c .if6 .left) ∙ and-false (ltb 0 (word image 20)))
 
 returns-7 : tie.Need-returns-7
 returns-7 c =
@@ -102,7 +102,7 @@ returns-7 c =
     let image = image-of passed4 in
     ap value (passed4 .before .before .all-tables .ensures .num-is)
     ∙ passed passed4 false
-    (ap (λ (t : Bool). t && backLeaves image) (le-ltb 0 (word image 20) (omega (arith, c .before .word2 .ensures))))
+    (ap (λ (t : Bool). t && backPastEnd image) (le-ltb 0 (word image 20) (omega (arith, c .before .word2 .ensures))))
 
 pub open-spec : {M : Type 1} → statement M
 open-spec =

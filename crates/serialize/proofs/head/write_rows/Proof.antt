@@ -27,11 +27,11 @@ abbrev μ-loop : tie.MeasureT-loop
 loop-holds : tie.Need-loop-holds Inv-loop μ-loop
 loop-holds c = record { most = omega arith; long = refl; leaves = refl; near = omega arith }
 
-mul-wide : tie.Need-mul-wide Inv-loop μ-loop
-mul-wide c = omega arith
+mul-as-u64 : tie.Need-mul-as-u64 Inv-loop μ-loop
+mul-as-u64 c = omega arith
 
-element-copy-out-wide : tie.Need-element-copy-out-wide Inv-loop μ-loop
-element-copy-out-wide c = omega arith
+element-copy-out-as-u64 : tie.Need-element-copy-out-as-u64 Inv-loop μ-loop
+element-copy-out-as-u64 c = omega arith
 
 mul-put-u32 : tie.Need-mul-put-u32 Inv-loop μ-loop
 mul-put-u32 c = omega arith
@@ -46,19 +46,19 @@ add-put-u32-2 : tie.Need-add-put-u32-2 Inv-loop μ-loop
 add-put-u32-2 c = omega arith
 
 mul-low : tie.Need-mul-low Inv-loop μ-loop
-mul-low c = omega (arith, c .before .before .before .before .before .before .before .wide .ensures .small)
+mul-low c = omega (arith, c .before .before .before .before .before .before .before .as-u64 .ensures .small)
 
 -- the count that was read, where both words of the row are stored
-abbrev counted : tie.After-put-u322 Inv-loop μ-loop → tie.After-wide Inv-loop μ-loop
+abbrev counted : tie.After-put-u322 Inv-loop μ-loop → tie.After-as-u64 Inv-loop μ-loop
 counted c = c .before .before .before .before .before .before .before .before .before
 
 mul-o : tie.Need-mul-o Inv-loop μ-loop
-mul-o c = omega (arith, counted (c .before .before) .wide .ensures .small)
+mul-o c = omega (arith, counted (c .before .before) .as-u64 .ensures .small)
 
 add-o : tie.Need-add-o Inv-loop μ-loop
 add-o c =
     let w = counted (c .before .before) in
-    omega (arith, w .wide .ensures .small, w .before .before .before .loop .inv .near, w .before .before .loop-test .taken)
+    omega (arith, w .as-u64 .ensures .small, w .before .before .before .loop .inv .near, w .before .before .loop-test .taken)
 
 add-t : tie.Need-add-t Inv-loop μ-loop
 add-t c = omega arith
@@ -77,10 +77,10 @@ loop-again c =
       most = omega arith;
       long = stored .put-u322 .kept .0 ∙ first .put-u32 .kept .0 ∙ i .inv .long;
       leaves =
-          rows-step (w .before .before .before .before .before .args .counts .now) (i .buf) _ (i .o) (i .t) 256 less (w .wide .ensures .is)
+          rows-step (w .before .before .before .before .before .args .counts .now) (i .buf) _ (i .o) (i .t) 256 less (w .as-u64 .ensures .is)
           (first .before .before .row-offset .ensures) (first .before .low .ensures)
           (stored .before .low2 .ensures) (first .put-u32 .ensures) (stored .put-u322 .ensures) (i .inv .leaves);
-      near = omega (arith, w .wide .ensures .small, i .inv .near);
+      near = omega (arith, w .as-u64 .ensures .small, i .inv .near);
     }
 
 returns : tie.Need-returns Inv-loop μ-loop
@@ -96,8 +96,8 @@ write-rows-spec =
     Inv-loop
     μ-loop
     loop-holds
-    mul-wide
-    element-copy-out-wide
+    mul-as-u64
+    element-copy-out-as-u64
     (λ c κs. search needs)
     mul-put-u32
     add-put-u32

@@ -25,11 +25,11 @@ abbrev μ-loop : tie.MeasureT-loop
 loop-holds : tie.Need-loop-holds Inv-loop μ-loop
 loop-holds c = record { most = omega arith; leaves = refl; near = omega arith }
 
-mul-wide : tie.Need-mul-wide Inv-loop μ-loop
-mul-wide c = omega arith
+mul-as-u64 : tie.Need-mul-as-u64 Inv-loop μ-loop
+mul-as-u64 c = omega arith
 
-element-copy-out-wide : tie.Need-element-copy-out-wide Inv-loop μ-loop
-element-copy-out-wide c = omega arith
+element-copy-out-as-u64 : tie.Need-element-copy-out-as-u64 Inv-loop μ-loop
+element-copy-out-as-u64 c = omega arith
 
 mul-places : tie.Need-mul-places Inv-loop μ-loop
 mul-places c = omega arith
@@ -38,10 +38,10 @@ element-write-places : tie.Need-element-write-places Inv-loop μ-loop
 element-write-places c = omega arith
 
 mul-o : tie.Need-mul-o Inv-loop μ-loop
-mul-o c = omega (arith, c .before .wide .ensures .small)
+mul-o c = omega (arith, c .before .as-u64 .ensures .small)
 
 add-o : tie.Need-add-o Inv-loop μ-loop
-add-o c = omega (arith, c .before .wide .ensures .small, c .before .before .before .before .loop .inv .near, c .before .before .before .loop-test .taken)
+add-o c = omega (arith, c .before .as-u64 .ensures .small, c .before .before .before .before .loop .inv .near, c .before .before .before .loop-test .taken)
 
 add-t : tie.Need-add-t Inv-loop μ-loop
 add-t c = omega arith
@@ -53,14 +53,14 @@ loop-again : tie.Need-loop-again Inv-loop μ-loop
 loop-again c =
     let a = c .before .before .before .before .before .args in
     let i = c .before .before .before .before .loop in
-    let of-wide = c .before .wide in
+    let of-as-u64 = c .before .as-u64 in
     let less = c .before .before .before .loop-test .taken in
     record {
       most = omega arith;
       leaves =
-          table-offsets-step (a .counts .now) (i .places) _ (i .o) (i .t) 256 (c .low .result) (of-wide .result) less (c .low .ensures)
-          (of-wide .ensures .is) (i .inv .leaves);
-      near = omega (arith, of-wide .ensures, i .inv .near);
+          table-offsets-step (a .counts .now) (i .places) _ (i .o) (i .t) 256 (c .low .result) (of-as-u64 .result) less (c .low .ensures)
+          (of-as-u64 .ensures .is) (i .inv .leaves);
+      near = omega (arith, of-as-u64 .ensures, i .inv .near);
     }
 
 returns : tie.Need-returns Inv-loop μ-loop
@@ -76,8 +76,8 @@ table-offsets-spec =
     Inv-loop
     μ-loop
     loop-holds
-    mul-wide
-    element-copy-out-wide
+    mul-as-u64
+    element-copy-out-as-u64
     (λ c κs. search needs)
     (λ c κs. search needs)
     mul-places

@@ -32,17 +32,17 @@ fill-table-requires c κs =
     let l = c .before .before .before .before .before .loop in
     record {
       low = omega (arith, l .inv .near, c .before .before .before .before .loop-test .taken);
-      count-word = c .before .before .wide .ensures .small;
+      count-word = c .before .before .as-u64 .ensures .small;
       copy-long = l .inv .copy-long;
     }
 
 mul-o : tie.Need-mul-o Inv-loop μ-loop
-mul-o c = omega (arith, c .before .before .before .before .before .before .wide .ensures .small)
+mul-o c = omega (arith, c .before .before .before .before .before .before .as-u64 .ensures .small)
 
 add-o : tie.Need-add-o Inv-loop μ-loop
 add-o c =
     omega
-    (arith, c .before .before .before .before .before .before .wide .ensures .small, c .before .before .before .before .before .before .before .before .before .loop .inv .near, c .before .before .before .before .before .before .before .before .loop-test .taken)
+    (arith, c .before .before .before .before .before .before .as-u64 .ensures .small, c .before .before .before .before .before .before .before .before .before .loop .inv .near, c .before .before .before .before .before .before .before .before .loop-test .taken)
 
 loop-less : tie.Need-loop-less Inv-loop μ-loop
 loop-less c = omega arith
@@ -58,8 +58,8 @@ loop-again c =
       most = omega arith;
       long = done .kept .0 ∙ l .inv .long;
       copy-long = done .kept .1 .1 .1 .0 ∙ l .inv .copy-long;
-      leaves = tables-step (a .counts .now) (l .buf) _ (l .o) (l .t) 256 (w .wide .result) less (w .wide .ensures .is) (done .ensures) (l .inv .leaves);
-      near = omega (arith, w .wide .ensures .small, l .inv .near);
+      leaves = tables-step (a .counts .now) (l .buf) _ (l .o) (l .t) 256 (w .as-u64 .result) less (w .as-u64 .ensures .is) (done .ensures) (l .inv .leaves);
+      near = omega (arith, w .as-u64 .ensures .small, l .inv .near);
     }
 
 returns : tie.Need-returns Inv-loop μ-loop

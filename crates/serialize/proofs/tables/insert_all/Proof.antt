@@ -16,7 +16,7 @@ returns c =
     let way = then1 c in
     let a = way .before .before .before .before .args in
     filled-by-tables (a .mode) (a .back-offset) (a .end) (a .hashes .now) (a .entries) (a .size) (a .counts .now) (a .buf .now)
-    (sym (way .before .partitions .ensures) ∙ way .if1 .taken) (c .before .before .before .before .before .before .clear .ensures)
+    (sym (way .before .by-tables .ensures) ∙ way .if1 .taken) (c .before .before .before .before .before .before .clear-bytes .ensures)
     (c .before .before .insert-by-tables .ensures)
 
 returns-2 : tie.Need-returns-2
@@ -24,7 +24,7 @@ returns-2 c =
     let way = else1 c in
     let a = way .before .before .before .before .args in
     filled-singly (a .mode) (a .back-offset) (a .end) (a .hashes .now) (a .entries) (a .size) (a .counts .now) (a .buf .now)
-    (sym (way .before .partitions .ensures) ∙ way .if1 .left) (c .before .before .before .before .before .before .clear2 .ensures)
+    (sym (way .before .by-tables .ensures) ∙ way .if1 .left) (c .before .before .before .before .before .before .clear-bytes2 .ensures)
     (c .before .before .insert-entries .ensures)
 
 pub insert-all-spec : {M : Type 1} → statement M

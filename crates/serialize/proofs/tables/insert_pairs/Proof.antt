@@ -15,10 +15,10 @@ abbrev μ-loop : tie.MeasureT-loop
 loop-holds : tie.Need-loop-holds Inv-loop μ-loop
 loop-holds c =
     let s = c .before .before .before .before .before .before in
-    fill-start (s .args .buf .now) (s .args .o) (s .args .c) (s .pre .inside) _ (c .before .before .clear .ensures) (s .args .pairs .now)
+    fill-start (s .args .buf .now) (s .args .o) (s .args .c) (s .pre .inside) _ (c .before .before .clear-bytes .ensures) (s .args .pairs .now)
 
 -- the table lies in the cleared buffer
-abbrev cleared : tie.At-loop Inv-loop μ-loop → tie.After-clear Inv-loop μ-loop
+abbrev cleared : tie.At-loop Inv-loop μ-loop → tie.After-clear-bytes Inv-loop μ-loop
 cleared c = c .before .before .before
 
 insert-pair-requires : tie.Need-insert-pair-requires Inv-loop μ-loop
@@ -27,7 +27,7 @@ insert-pair-requires c κs =
     let clear = cleared l in
     record {
       some = omega (arith, c .before .before .before .loop-test .taken);
-      inside = omega (arith, clear .before .before .before .before .pre .inside, clear .clear .kept .0, l .loop .inv .long);
+      inside = omega (arith, clear .before .before .before .before .pre .inside, clear .clear-bytes .kept .0, l .loop .inv .long);
     }
 
 loop-less : tie.Need-loop-less Inv-loop μ-loop
@@ -38,7 +38,7 @@ loop-again c =
     let l = c .before .before .before .before .before .before .before in
     let clear = cleared l in
     let inside = clear .before .before .before .before .pre .inside in
-    fill-step (l .loop .inv) (omega (arith, clear .clear .kept .0)) (c .before .before .before .before .before .before .loop-test .taken) _ _
+    fill-step (l .loop .inv) (omega (arith, clear .clear-bytes .kept .0)) (c .before .before .before .before .before .before .loop-test .taken) _ _
     (c .before .before .before .before .word .ensures) (c .before .before .before .word2 .ensures)
     (c .before .before .insert-pair .kept .0) (c .before .before .insert-pair .ensures)
 
@@ -46,7 +46,7 @@ returns : tie.Need-returns Inv-loop μ-loop
 returns c =
     let clear = cleared (c .before) in
     let s = clear .before .before .before .before in
-    fill-end (s .args .buf .now) (s .args .o) (s .args .c) (s .pre .inside) _ (clear .clear .ensures) (c .before .loop .inv) (c .loop-test .left)
+    fill-end (s .args .buf .now) (s .args .o) (s .args .c) (s .pre .inside) _ (clear .clear-bytes .ensures) (c .before .loop .inv) (c .loop-test .left)
 
 pub insert-pairs-spec : {M : Type 1} → statement M
 insert-pairs-spec =

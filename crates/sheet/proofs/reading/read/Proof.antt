@@ -6,7 +6,7 @@ use mathlib.Core.List.{List}
 use lib.ListN.{length}
 use Rattle.jhash.specs.Outcome.{value}
 use Rattle.sheet.specs.SheetReading.{partEnd, sectionAt, sections}
-use Rattle.sheet.specs.Cases.{foundOf}
+use Rattle.sheet.specs.Cases.{sectionAnswerOf}
 use Rattle.sheet.specs.declared.Place.{Place}
 use Rattle.sheet.specs.declared.Sheet.{Sheet}
 use Rattle.sheet.proofs.Sections.{found-inside}
@@ -39,17 +39,17 @@ abbrev parts : tie.After-known-told3 → Sheet
 parts c = record { references = references (one (two c)); walls = walls (two c); retired = retired c }
 
 found-1 : (c : tie.After-known-told) → sectionAt (file c) 0 ≡ value (references c)
-found-1 c = sym (c .before .before .before .section-at .ensures) ∙ ap foundOf (c .before .references .given .1)
+found-1 c = sym (c .before .before .before .section-at .ensures) ∙ ap sectionAnswerOf (c .before .references .given .1)
 
 found-2 : (c : tie.After-known-told2) → sectionAt (file (one c)) (partEnd (references (one c))) ≡ value (walls c)
 found-2 c =
     ap (sectionAt (file (one c))) (sym (c .before .before .before .before .end-of .ensures))
-    ∙ sym (c .before .before .before .section-at2 .ensures) ∙ ap foundOf (c .before .walls .given .1)
+    ∙ sym (c .before .before .before .section-at2 .ensures) ∙ ap sectionAnswerOf (c .before .walls .given .1)
 
 found-3 : (c : tie.After-known-told3) → sectionAt (file (one (two c))) (partEnd (walls (two c))) ≡ value (retired c)
 found-3 c =
     ap (sectionAt (file (one (two c)))) (sym (c .before .before .before .before .end-of2 .ensures))
-    ∙ sym (c .before .before .before .section-at3 .ensures) ∙ ap foundOf (c .before .retired .given .1)
+    ∙ sym (c .before .before .before .section-at3 .ensures) ∙ ap sectionAnswerOf (c .before .retired .given .1)
 
 three : (c : tie.After-known-told3) → sections (file (one (two c))) ≡ value (parts c)
 three c =
@@ -68,7 +68,7 @@ inside-3 c = found-inside (file (one (two c))) (partEnd (walls (two c))) (retire
 returns : tie.Need-returns
 returns c =
     let f = c .before .before .before .before .args .file .now in
-    sym (reading-short f (short-references f (sym (c .before .before .section-at .ensures) ∙ ap foundOf (c .enum-told .given .1))))
+    sym (reading-short f (short-references f (sym (c .before .before .section-at .ensures) ∙ ap sectionAnswerOf (c .enum-told .given .1))))
 
 end-of-requires : tie.Need-end-of-requires
 end-of-requires c κs = omega (arith, inside-1 c)
@@ -81,7 +81,7 @@ returns-2 c =
     let at = c .before .before .before .before in
     let f = file at in
     let found = c .before .before .section-at2 .ensures in
-    let short = ap (sectionAt f) (sym (c .before .before .before .end-of .ensures)) ∙ sym found ∙ ap foundOf (c .enum-told2 .given .1) in
+    let short = ap (sectionAt f) (sym (c .before .before .before .end-of .ensures)) ∙ sym found ∙ ap sectionAnswerOf (c .enum-told2 .given .1) in
     sym (reading-short f (short-walls f (references at) (found-1 at) short))
 
 end-of-requires-2 : tie.Need-end-of-requires-2
@@ -95,7 +95,7 @@ returns-3 c =
     let at = c .before .before .before .before in
     let f = file (one at) in
     let found = c .before .before .section-at3 .ensures in
-    let short = ap (sectionAt f) (sym (c .before .before .before .end-of2 .ensures)) ∙ sym found ∙ ap foundOf (c .enum-told3 .given .1) in
+    let short = ap (sectionAt f) (sym (c .before .before .before .end-of2 .ensures)) ∙ sym found ∙ ap sectionAnswerOf (c .enum-told3 .given .1) in
     sym (reading-short f (short-retired f (references (one at)) (found-1 (one at)) (walls at) (found-2 at) short))
 
 end-of-requires-3 : tie.Need-end-of-requires-3
