@@ -114,7 +114,7 @@ pub length-words : (x : Lookup) → length (answerWords x) ≡ 4
 length-words (found f) = refl
 length-words (nothing n) = refl
 
--- a lookup with a name's key is the name's
+-- a lookup with a name's hash is the name's
 by-hash : (image name x : List ℕ) (h : ℕ) → name ≡ x → h ≡ hashOrZero x → lookupBy image name h ≡ lookup image x
 by-hash image name x h e k =
     ap (λ (l : List ℕ). lookupBy image l h) e ∙ lookup-own image x h (λ short. k ∙ hash-or-zero-short x short)
@@ -161,7 +161,7 @@ module _ {bytes ends hashes list before : List ℕ} {m : ℕ} (pre : ListedNames
         below = λ z h. listed-has (λ (i : ℕ). i < length ends) (pre .below) (listed z h);
       }
 
-  -- one more has its answer, which was looked up with its key; what was right stays so, and the other places are kept
+  -- one more has its answer, which was looked up with its hash; what has its answer keeps it, and the other places are kept
   pub finding-step : {image answers after name : List ℕ} {x : ℕ} (v : Lookup) → x < m → name ≡ nth (names bytes ends) (getD list x 0)
       → v ≡ lookupBy image name (getD hashes (getD list x 0) 0) → after ≡ putWords answers (getD list x 0) (answerWords v)
       → Finding image bytes ends list before answers m x → Finding image bytes ends list before after m (x + 1)

@@ -37,7 +37,7 @@ hashes-step xs hashes i v h k e j l =
       | no p ↦ getD-set-other hashes i j v 0 p ∙ k j (omega arith)
     ]
 
--- another key, another name
+-- another hash, another name
 pub other-hash : (xs : List (List ℕ)) (hashes : List ℕ) → Hashes xs hashes → (j i : ℕ) → j < length xs → i < length xs
     → (getD hashes j 0 ≡ getD hashes i 0 → ⊥) → nth xs j ≡ nth xs i → ⊥
 other-hash xs hashes ks j i p q other e = other (ks j p ∙ ap hashOrZero e ∙ sym (ks i q))
@@ -63,7 +63,7 @@ all-before : {A : Type 0} (P : A → Type 0) (xs ys : List A) → All P (xs ++ y
 all-before P [] ys all = tt
 all-before P (x ∷ xs) ys all = (all .0, all-before P xs ys (all .1))
 
--- the key of a name, from its number
+-- the hash of a name, from its number
 pub hash-of-number : (hashes : List ℕ) (u : ℕ) → getD (0 ∷ hashes) (u + 1) 0 ≡ getD hashes u 0
 hash-of-number hashes u = ap (λ (q : ℕ). getD (0 ∷ hashes) q 0) (add-one u)
 

@@ -16,7 +16,7 @@ use packed::nth_name;
 // Eight for each name of a whole round, so that few searches meet another name.
 const SLOTS: usize = 4096;
 
-// Stores the hashes of all names.
+// Stores the hashes of all names, 0 for a name too long to have one.
 pub(crate) fn hash_names(bytes: &[u8], ends: &[u64], hashes: &mut [u32])
     requires { ⌜ HashNamesPre (now bytes) (now ends) (now hashes) ⌝ }
     ensures { λ _. ⌜ Hashes (names (now (bytes .entry)) (now (ends .entry))) (now (hashes .exit)) ⌝ }

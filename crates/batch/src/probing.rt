@@ -53,8 +53,8 @@ pub(crate) fn pass(
 ) -> usize
     requires { ⌜ PassPre (now image) (now hashes) (now live) (now done) (now offsets) c q ⌝ }
     ensures { λ r. ⌜
-        OpenOrDecided (now (image .entry)) (now (hashes .entry)) (now (live .entry)) (now (live .exit)) (now (done .exit))
-        (now (offsets .exit)) (c + 1) r (q - r) q
+        OpenOrDecided (now (image .entry)) (now (hashes .entry)) (now (live .entry)) (now (live .exit))
+        (now (done .exit)) (now (offsets .exit)) (c + 1) r (q - r) q
         ⌝ }
 {
     let mut p: usize = 0;

@@ -1,5 +1,5 @@
 -- A whole list as C has it: what `build` promises, put into the struct. Assumes nothing.
-use Prim.Native.Nat.{ℕ}
+use Prim.Native.Nat.{ℕ, _<_}
 use mathlib.Core.Path.{_≡_, refl, sym, ap, ap₂, _∙_}
 use mathlib.Core.Bool.{Bool, true, false, cond}
 use mathlib.Core.List.{List}
@@ -8,10 +8,18 @@ use Rattle.jhash.specs.Outcome.{Outcome, value, refusal}
 use Rattle.image.specs.declared.Mode.{Mode}
 use Rattle.writer.specs.declared.Repeats.{Repeats}
 use Rattle.build.specs.declared.Made.{Made}
-use Rattle.build.specs.Build.{building, bufferAfter, answersAfter}
+use Rattle.build.specs.Build.{buildRefusal, building, bufferAfter, answersAfter}
 use Rattle.build_c.specs.declared.BuildAnswer.{BuildAnswer}
 use Rattle.writer.specs.Numbers.{known, modeOf, repeatsOf}
 use Rattle.build_c.specs.Building.{builtAnswer, buildAnswer, bufferBuilt, answersBuilt}
+
+-- what `build` promises, by the names of its clauses
+pub record Promise (mode : Mode) (repeats : Repeats) (buffer bytes ends ids refusals scratch : List ℕ) (out : Outcome Made) (buffer′ refusals′ scratch′ : List ℕ)
+    : Type 0 where
+  pub answer : out ≡ building mode repeats buffer bytes ends ids (length refusals)
+  pub leaves : buffer′ ≡ bufferAfter mode repeats buffer bytes ends ids (length refusals)
+  pub answers : refusals′ ≡ answersAfter mode repeats buffer bytes ends ids refusals
+  pub untouched : 0 < buildRefusal bytes ends (length ids) (length refusals) (length buffer) → scratch′ ≡ scratch
 
 module _ (mode repeats : ℕ) (buffer bytes ends ids places : List ℕ) where
   abbrev answer : BuildAnswer

@@ -93,7 +93,7 @@ module _ (img : List ℕ) (h : ℕ) where
           positive : (n : ℕ) → (n ≡ 0 → ⊥) → 0 < n
           positive n d = omega arith
 
--- ---- hashes and first places of a run of entries
+-- ---- hashes and first buckets' places of a run of entries
 
 module _ (img : List ℕ) (end : ℕ) (hs ps : List ℕ) (at i : ℕ) where
   from-none : CachedFrom img end hs ps at i 0
@@ -180,7 +180,7 @@ module _ {img : List ℕ} {end from : ℕ} {hashes bucket-places : List ℕ} {at
   pub hashing-all : 256 ≤ i → Batch img from end hashes bucket-places
   hashing-all q = let s : i + 0 ≡ 256 = omega (arith, p .few) in hashing-stop 0 s (from-none img end hashes bucket-places at i)
 
--- ---- the words at the first places
+-- ---- the words in the first buckets
 
 pub read-next : {img bucket-places firsts : List ℕ} {i : ℕ} → BucketsRead img bucket-places firsts i → (w : ℕ) → i < 256 → w ≡ word img (getD bucket-places i 0)
     → BucketsRead img bucket-places (set firsts i w) (i + 1)

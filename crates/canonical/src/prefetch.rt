@@ -26,7 +26,8 @@ fn first_bucket_at(image: &[u8], h: u32) -> usize
     o + 8 * start(h, n) + 4
 }
 
-// Stores hash and first place of the next 256 entries from `from` on. Stops at an entry that is not whole.
+// Stores hash and place of the first bucket of the next 256 entries from `from` on. Stops at an entry that is not
+// whole.
 fn hash_batch(
     image: &[u8],
     from: usize,
@@ -53,7 +54,7 @@ fn hash_batch(
     }
 }
 
-// The word at each place. No read waits for another.
+// The word at each bucket's place. No read waits for another.
 fn read_buckets(image: &[u8], bucket_places: &[usize; 256], firsts: &mut [u32; 256])
     requires { ⌜ BucketsPre (now firsts) ⌝ }
     ensures { λ _. ⌜ BucketsRead (now (image .entry)) (now («bucket_places» .entry)) (now (firsts .exit)) 256 ⌝ }

@@ -71,7 +71,8 @@ fn check_table(image: &[u8], o: usize, c: usize) -> bool
     clean & (used == c)
 }
 
-// Are the tables one after the other from `end` on, each with twice as many buckets as it uses? None leaves the image.
+// Are the tables one after the other from `end` on, each with twice as many buckets as it uses? None reaches past the
+// end of the image.
 pub(super) fn check_rows(image: &[u8], end: usize) -> bool
     requires { ⌜ CheckRowsPre (now image) end ⌝ }
     ensures { λ r. ⌜ r ≡ rowsOk (now (image .entry)) end 0 256 ⌝ }

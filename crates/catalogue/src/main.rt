@@ -42,7 +42,7 @@ fn put_input(
     lines::end_input(t, counts, buf, &*room)
 }
 
-// What is printed first; the image is the buffer's first bytes.
+// What is printed first: the number of entries, and the size of the image, which is the buffer's first bytes.
 struct Totals {
     entries: u32,
     size: u32,

@@ -147,7 +147,7 @@ containsName-cons : (name : List ℕ) (e : Entry) (es : List Entry) → contains
 unfolding containsName
 containsName-cons name e es = refl
 
--- a name of another key is another name
+-- a name of another hash is another name
 pub other-hash : {name sought : List ℕ} {h want : ℕ} → IsSoughtPre name h sought want → (h ≡ want → ⊥) → same name sought ≡ false
 other-hash {name} {sought} p differ =
     same-false name sought (λ e. differ (p .named ∙ ap hashOrZero e ∙ sym (p .wanted)))

@@ -1,4 +1,5 @@
--- Bytes and words. A byte string is a list of numbers.
+-- Bytes and words. A byte string is a list of numbers. The crate jhash defines `word`, a word as it is read from bytes
+-- (specs/Word), and `Outcome`, a value or the number of a refusal (specs/Outcome).
 use Prim.Native.Nat.{ℕ, zero, suc, _/_, _%_}
 use mathlib.Core.Bool.{Bool, true, false, cond, _&&_}
 use mathlib.Core.List.{List, [], _∷_, _++_}

@@ -20,8 +20,8 @@ backSizeAt image = word image 16
 abbrev pub backOffsetAt : List ℕ → ℕ
 backOffsetAt image = word image 20
 
--- a table leaves the image when offset + 8 × bucket number exceeds its length, a back array when offset + 4 × back
--- size does, also at number 0
+-- 01's word is that it "leaves" the image: a table reaches past the end when offset + 8 × bucket number exceeds the
+-- image's length, a back array when offset + 4 × back size does, also at number 0
 abbrev pub tablePastEnd : List ℕ → ℕ → Bool
 tablePastEnd image t = ltb (length image) (tableAt image t + 8 * bucketNumber image t)
 

@@ -8,7 +8,7 @@ use lib.Dec.{eqb, ltb, leb}
 use Rattle.image.specs.Bytes.{word}
 use Rattle.image.specs.Image.{Entry}
 
--- the name of an entry whose length word says its length plus 1
+-- the name of the entry at an offset, whose length word says its length plus 1
 abbrev pub nameAt : List ℕ → ℕ → List ℕ
 nameAt image at = take (word image (at + 4) - 1) (drop (at + 8) image)
 

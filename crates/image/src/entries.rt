@@ -20,8 +20,8 @@ fn less_one(len: u32) -> u64
     std::num::wrapping_sub_u64(len as u64, 1)
 }
 
-// Does the entry at `at` leave the image with its first 8 bytes or its name, or is its length word 0? The last two are
-// one comparison.
+// Does the entry at `at` reach past the end of the image, with its first 8 bytes or its name, or is its length word 0?
+// The last two are one comparison.
 pub fn broken(image: &[u8], at: u32) -> bool
     ensures { λ r. ⌜ r ≡ broken (now (image .entry)) at ⌝ }
 {
@@ -87,8 +87,8 @@ pub fn name_at<'a>(buf: &'a [u8], at: usize, n: usize) -> &'a [u8]
     &buf[at + 8..at + 7 + n]
 }
 
-// Whether an entry's name, whose key is h, is the one that is sought, whose key is `want`. The entry is hashed for the
-// counts anyway, so its bytes are compared only where the keys are equal.
+// Whether an entry's name, whose hash is h, is the one that is sought, whose hash is `want`. The entry is hashed for
+// the counts anyway, so its bytes are compared only where the hashes are equal.
 fn is_sought(name: &[u8], h: u32, sought: &[u8], want: u32) -> bool
     requires { ⌜ IsSoughtPre (now name) h (now sought) want ⌝ }
     ensures { λ r. ⌜ r ≡ same (now (name .entry)) (now (sought .entry)) ⌝ }

@@ -87,7 +87,7 @@ result-refused name start r promise is =
       | no long ↦ omega arith
     ]
 
--- ---- the key of a name, short or too long
+-- ---- the hash of a name, 0 where it is too long to have one
 
 pub hash-or-zero-short : (name : List ℕ) → length name < 4294967295 → hashOrZero name ≡ hashOf name
 unfolding hashOrZero

@@ -28,6 +28,6 @@ outcome Refused = refusal 9
 unfoldable pub hashOutcome : List ℕ → ℕ → Outcome ℕ
 hashOutcome name start = cond (ltb (length name) 4294967295) (value (nameHash name start)) (refusal 9)
 
--- The key of a name: its hash, or 0 where it is too long to have one.
+-- The hash of a name, 0 where it is too long to have one. Names with different values differ.
 unfoldable pub hashOrZero : List ℕ → ℕ
 hashOrZero name = cond (ltb (length name) 4294967295) (hashOf name) 0

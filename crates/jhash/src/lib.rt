@@ -235,7 +235,7 @@ pub fn name_hash(name: &[u8]) -> Hashed
     Hashed::Hash(hash_from(name, initial_word(name, 0)))
 }
 
-// The key of a name: its hash, 0 where it is too long to have one.
+// The hash of a name, 0 where it is too long to have one.
 pub fn hash_or_zero(name: &[u8]) -> u32
     ensures { λ r. ⌜ r ≡ hashOrZero (now (name .entry)) ⌝ }
 {

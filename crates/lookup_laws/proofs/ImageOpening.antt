@@ -92,7 +92,7 @@ module _ (mode : Mode) (es : List Entry) where
         below true = omega arith
         below false = omega arith
 
-    -- ---- nothing leaves the image
+    -- ---- nothing reaches past the end of the image
 
     pub long-enough : ltb (length (image mode es)) headSize ≡ false
     long-enough = le-ltb (length (image mode es)) headSize (omega (arith, length-image mode es))

@@ -16,15 +16,15 @@ use Rattle.reader.specs.Open.{somePastEnd, numFrom, hasLetters, opening}
 
 -- ---- the loops over the rows
 
--- the sum so far and the halves that are left are the sum of all; while no slack is too large, a table that leaves is still to come exactly
--- where there is one
+-- the sum so far and the halves that are left are the sum of all; while no slack is too large, a table that reaches past the end is still to
+-- come exactly where there is one
 pub record TablesInv (image : List ℕ) (all : TableSums) (t : ℕ) : Type 0 where
   pub rows : t ≤ 256
   pub num-small : all .num < 2 ^ 32
   pub sum : (all .num + numFrom image t (256 - t)) % 2 ^ 32 ≡ numFrom image 0 256 % 2 ^ 32
   pub past-end : all .slacks < 2 ^ 63 → somePastEnd image t (256 - t) ≡ somePastEnd image 0 256
 
--- a table that leaves was found or is still to come exactly where there is one
+-- a table that reaches past the end was found or is still to come exactly where there is one
 pub record PastEndInv (image : List ℕ) (one : Bool) (t : ℕ) : Type 0 where
   pub rows : t ≤ 256
   pub same : (one || somePastEnd image t (256 - t)) ≡ somePastEnd image 0 256

@@ -21,13 +21,13 @@ abbrev pub lengthIn : Naming → ℕ
 lengthIn (place s n) = n
 lengthIn unnamed = 0
 
--- there is no back array that can be read: the image is under 2,072 bytes, back offset is 0, or the back array leaves
--- the image
+-- there is no back array that can be read: the image is under 2,072 bytes, back offset is 0, or the back array reaches
+-- past the end of the image
 abbrev pub noBack : List ℕ → Bool
 noBack image = ltb (length image) headSize || eqb (backOffsetAt image) 0 || backPastEnd image
 
--- the name of the entry at an offset: nothing when the offset is 0, its length word is 0, or length word or name leaves
--- the image
+-- the name of the entry at an offset: nothing when the offset is 0, its length word is 0, or length word or name
+-- reaches past the end of the image
 unfoldable pub namingAt : List ℕ → ℕ → Naming
 namingAt image at =
     cond (eqb at 0 || broken image at) unnamed (place (at + 8) (word image (at + 4) - 1))

@@ -9,7 +9,7 @@ use Rattle.image.specs.Bytes.{word}
 use Rattle.image.specs.Image.{headSize}
 use Rattle.image.specs.Head.{tableAt, bucketNumber, backOffsetAt, tablePastEnd, backPastEnd}
 
--- does one of the m tables from t on, with an offset above 0, leave the image?
+-- does one of the m tables from t on, with an offset above 0, reach past the end of the image?
 unfoldable pub somePastEnd : List ℕ → ℕ → ℕ → Bool
 somePastEnd image t zero = false
 somePastEnd image t (suc m) = (ltb 0 (tableAt image t) && tablePastEnd image t) || somePastEnd image (suc t) m
@@ -25,8 +25,8 @@ hasLetters image =
     eqb (getD image 0 0) 67 && eqb (getD image 1 0) 81 && eqb (getD image 2 0) 68 && eqb (getD image 3 0) 66
 
 -- the first that applies: 1 under 2,072 bytes, 5 for wrong letters, 6 for a wrong word at 12, 7 when a table with
--- offset above 0 leaves the image, 8 when a back array with offset above 0 does. Otherwise num: the sum of halves
--- over all 256 tables, modulo 2^32
+-- offset above 0 reaches past the end of the image, 8 when a back array with offset above 0 does. Otherwise num: the
+-- sum of halves over all 256 tables, modulo 2^32
 unfoldable pub opening : List ℕ → Outcome ℕ
 opening image =
     cond (ltb (length image) headSize) (refusal 1)

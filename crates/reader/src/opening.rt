@@ -13,7 +13,7 @@ use image::BYTEORDER_CHECK;
 use image::HEAD_SIZE;
 use jhash::word::word;
 
-// Of the tables so far: the halves of their bucket numbers, summed modulo 2^32, and the bitwise or of their slacks.
+// Sums over the tables so far: the halves of their bucket numbers, modulo 2^32, and the bitwise or of their slacks.
 struct TableSums {
     num: u32,
     slacks: u64,
@@ -73,14 +73,14 @@ fn all_tables(image: &[u8]) -> TableSums
     all
 }
 
-// Does a table at `at` with n buckets, with an offset above 0, leave an image of `size` bytes?
+// Does a table at `at` with n buckets, with an offset above 0, reach past the end of an image of `size` bytes?
 fn past_end(size: usize, at: u32, n: u32) -> bool
     ensures { λ r. ⌜ r ≡ (ltb 0 at && ltb size (at + 8 * n)) ⌝ }
 {
     (0 < at) & (size < at as usize + 8 * (n as usize))
 }
 
-// Does one of the 256 tables, with an offset above 0, leave the image?
+// Does one of the 256 tables, with an offset above 0, reach past the end of the image?
 fn some_past_end_by_each(image: &[u8]) -> bool
     requires { ⌜ 2072 ≤ length (now image) ⌝ }
     ensures { λ r. ⌜ r ≡ somePastEnd (now (image .entry)) 0 256 ⌝ }
@@ -99,8 +99,8 @@ fn some_past_end_by_each(image: &[u8]) -> bool
     one
 }
 
-// The same, where the bitwise or of the slacks is known. From 2^63 on it decides nothing: a table that leaves may have
-// offset 0.
+// The same, where the bitwise or of the slacks is known. From 2^63 on it decides nothing: a table that reaches past the
+// end may have offset 0.
 fn some_past_end(image: &[u8], slacks: u64) -> bool
     requires { ⌜ SomePastEndPre (now image) slacks ⌝ }
     ensures { λ r. ⌜ r ≡ somePastEnd (now (image .entry)) 0 256 ⌝ }
@@ -111,7 +111,7 @@ fn some_past_end(image: &[u8], slacks: u64) -> bool
     false
 }
 
-// Does the back array leave the image?
+// Does the back array reach past the end of the image?
 pub(crate) fn back_past_end(image: &[u8]) -> bool
     requires { ⌜ 2072 ≤ length (now image) ⌝ }
     ensures { λ r. ⌜ r ≡ backPastEnd (now (image .entry)) ⌝ }
@@ -122,8 +122,8 @@ pub(crate) fn back_past_end(image: &[u8]) -> bool
 }
 
 // The number of entries (`num` of cqdb-rs), or the refusal's number: 1 for too few bytes, 5 for other letters, 6 for
-// another word at 12, 7 for a table that leaves the image, 8 for such a back array. The size and flag words are not
-// read, and bytes may follow the image.
+// another word at 12, 7 for a table that reaches past the end of the image, 8 for such a back array. The size and flag
+// words are not read, and bytes may follow the image.
 pub fn open(image: &[u8]) -> Opened
     ensures { λ r. ⌜ openedOf r ≡ opening (now (image .entry)) ⌝ }
 {

@@ -32,7 +32,7 @@ pub(super) fn low(x: u64) -> u32
     (x % 4294967296) as u32
 }
 
-// A count in 64 bits.
+// A word in 64 bits.
 pub(super) fn as_u64(x: u32) -> u64
     ensures { λ r. ⌜ AsU64 x r ⌝ }
 {
@@ -61,7 +61,7 @@ pub(super) fn write_rows(buf: &mut [u8], counts: &[u32; 256], end: u32)
     }
 }
 
-// Zeros from one place to another. An internal function for the crates above.
+// Sets the bytes between two places to 0. An internal function for the crates above.
 pub fn clear_bytes(buf: &mut [u8], from: usize, to: usize)
     requires { ⌜ ClearBytesPre (now buf) from to ⌝ }
     ensures { λ _. ⌜ now (buf .exit) ≡ sets (now (buf .entry)) from (replicate (to - from) 0) ⌝ }

@@ -29,7 +29,7 @@ pub enum Which {
     Retired,
 }
 
-// One section of a file: its part, or too few bytes.
+// What reading one section answers: its part, or too few bytes.
 enum SectionAnswer {
     At(Place),
     Short,

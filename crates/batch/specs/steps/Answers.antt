@@ -95,7 +95,7 @@ pub record OpenNames (image bytes ends hashes list answers : List ℕ) (m c : �
 abbrev pub ListedHaveAnswers : List ℕ → List (List ℕ) → List ℕ → List ℕ → ℕ → Type 0
 ListedHaveAnswers image xs list answers m = (x : ℕ) → x < m → HasAnswer image xs answers (getD list x 0)
 
--- and what was right stays so; the places of names that are not listed keep their words
+-- and a name that has its answer keeps it; the places of names that are not listed keep their words
 pub record Answered (image bytes ends list before after : List ℕ) (m : ℕ) : Type 0 where
   pub stays : (i : ℕ) → HasAnswer image (names bytes ends) before i → HasAnswer image (names bytes ends) after i
   pub stored : ListedHaveAnswers image (names bytes ends) list after m

@@ -27,7 +27,7 @@ Rising l n = (x y : ℕ) → x < y → y < n → getD l x 0 < getD l y 0
 
 -- ---- hashes
 
--- a list that begins with the names' hashes
+-- a list that begins with the names' hashes, 0 for a name too long to have one
 abbrev pub Hashes : List (List ℕ) → List ℕ → Type 0
 Hashes xs hashes = (i : ℕ) → i < length xs → getD hashes i 0 ≡ hashOrZero (nth xs i)
 

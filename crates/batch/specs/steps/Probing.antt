@@ -62,13 +62,14 @@ pub record NowDecided (image hashes first : List ℕ) (z c i e : ℕ) : Type 0 w
   pub listed : Listed first z i
   pub decided : SearchDecided image (getD hashes i 0) c e
 
--- of the first z searches listed in `first`, p are open after c buckets, listed in `live`, and d are decided by their
--- c-th, listed in `done`. Each is in one of the two lists, none in both; the lists rise, so none is in one twice
-pub record OpenOrDecided (image hashes first live done offsets : List ℕ) (c p d z : ℕ) : Type 0 where
-  pub count : p + d ≡ z
-  pub each : (y : ℕ) → y < z → Listed live p (getD first y 0) ⊎ Listed done d (getD first y 0)
-  pub is-open : (y : ℕ) → y < p → StillOpen image hashes first z c (getD live y 0)
-  pub decided : (y : ℕ) → y < d → NowDecided image hashes first z c (getD done y 0) (getD offsets y 0)
-  pub live-rising : Rising live p
-  pub done-rising : Rising done d
-  pub disjoint : (x : ℕ) → x < p → (y : ℕ) → y < d → getD live x 0 ≡ getD done y 0 → ⊥
+-- of the first `read` searches listed in `first`, `opens` are open after c buckets, listed in `live`, and `decides` are
+-- decided by their c-th, listed in `done`. Each is in one of the two lists, none in both; the lists rise, so none is in
+-- one twice
+pub record OpenOrDecided (image hashes first live done offsets : List ℕ) (c opens decides read : ℕ) : Type 0 where
+  pub count : opens + decides ≡ read
+  pub each : (y : ℕ) → y < read → Listed live opens (getD first y 0) ⊎ Listed done decides (getD first y 0)
+  pub is-open : (y : ℕ) → y < opens → StillOpen image hashes first read c (getD live y 0)
+  pub decided : (y : ℕ) → y < decides → NowDecided image hashes first read c (getD done y 0) (getD offsets y 0)
+  pub live-rising : Rising live opens
+  pub done-rising : Rising done decides
+  pub disjoint : (x : ℕ) → x < opens → (y : ℕ) → y < decides → getD live x 0 ≡ getD done y 0 → ⊥

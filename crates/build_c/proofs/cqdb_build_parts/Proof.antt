@@ -8,7 +8,7 @@ use Rattle.build.specs.declared.Built.{Built}
 use Rattle.build.specs.Build.{builtOf}
 use Rattle.build.proofs.Whole.{refused-some}
 use Rattle.build_c.specs.Building.{builtAnswer, buildAnswer, bufferBuilt, answersBuilt}
-use Rattle.build_c.proofs.Builds.{unknown-build, known-build}
+use Rattle.build_c.proofs.Builds.{Promise, unknown-build, known-build}
 use Rattle.build_c.proofs.cqdb_build_parts.Statement.{statement}
 use Rattle.build_c.proofs.cqdb_build_parts.Tie as tie
 
@@ -28,6 +28,13 @@ module _ (c : tie.After-build) where
   abbrev start : tie.Start
   start = begun (accepted (moded c))
 
+  promised : let a = start .args in
+      Promise (moded c .mode-of .result) (c .before .before .before .before .repeats-of .result) (a .buf .now) (a .names .now) (a .ends .now) (a .ids .now) (a .refusals .now) (a .scratch .now)
+      (builtOf (c .build .result)) (c .build .last .1 .1 .0) (c .build .last .1 .1 .1 .1 .1 .1 .0) (c .build .last .1 .1 .1 .1 .1 .1 .1 .0)
+  promised =
+      let p = c .build .ensures in
+      record { answer = p .0; leaves = p .1 .0; answers = p .1 .1 .0; untouched = p .1 .1 .1 }
+
   told : (builtAnswer (builtOf (c .build .result)) ≡ buildAnswer (start .args .mode) (start .args .repeats) (start .args .buf .now) (start .args .names .now) (start .args .ends .now) (start .args .ids .now) (length (start .args .refusals .now)))
       × (c .build .last .1 .1 .0 ≡ bufferBuilt (start .args .mode) (start .args .repeats) (start .args .buf .now) (start .args .names .now) (start .args .ends .now) (start .args .ids .now) (length (start .args .refusals .now)))
       × (c .build .last .1 .1 .1 .1 .1 .1 .0 ≡ answersBuilt (start .args .mode) (start .args .repeats) (start .args .buf .now) (start .args .names .now) (start .args .ends .now) (start .args .ids .now) (start .args .refusals .now))
@@ -37,7 +44,7 @@ module _ (c : tie.After-build) where
       let done = c .build in
       let fine = sym (accepted (moded c) .known .ensures) ∙ not-false _ (moded c .before .if1 .left) in
       known-build (start .args .mode) (start .args .repeats) (start .args .buf .now) (start .args .names .now) (start .args .ends .now) (start .args .ids .now) (start .args .refusals .now) fine (m .result) (r .result)
-      (m .ensures) (r .ensures) (builtOf (done .result)) _ _ (done .ensures .0) (done .ensures .1 .0) (done .ensures .1 .1 .0)
+      (m .ensures) (r .ensures) (builtOf (done .result)) _ _ (promised .answer) (promised .leaves) (promised .answers)
 
 returns : tie.Need-returns
 returns c =
@@ -54,10 +61,10 @@ returns-3 : tie.Need-returns-3
 returns-3 c =
     let b = c .before .before .before .before .before .before .before .before .before in
     let a = start b .args in
-    let done = b .build in
+    let build = promised b in
     let out = told b in
-    let some = refused-some (moded b .mode-of .result) (b .before .before .before .before .repeats-of .result) (a .buf .now) (a .names .now) (a .ends .now) (a .ids .now) (length (a .refusals .now)) _ (sym (done .ensures .0) ∙ ap builtOf (c .before .built2 .given .1)) in
-    (ap (λ (b : Built). builtAnswer (builtOf b)) (sym (c .before .built2 .given .1)) ∙ out .0, (out .1, (out .2, λ h. done .ensures .1 .1 .1 some)))
+    let some = refused-some (moded b .mode-of .result) (b .before .before .before .before .repeats-of .result) (a .buf .now) (a .names .now) (a .ends .now) (a .ids .now) (length (a .refusals .now)) _ (sym (build .answer) ∙ ap builtOf (c .before .built2 .given .1)) in
+    (ap (λ (b : Built). builtAnswer (builtOf b)) (sym (c .before .built2 .given .1)) ∙ out .0, (out .1, (out .2, λ h. build .untouched some)))
 
 pub cqdb-build-parts-spec : {M : Type 1} → statement M
 cqdb-build-parts-spec =

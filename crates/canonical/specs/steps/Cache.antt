@@ -19,7 +19,8 @@ firstBucketAt img h =
     let n = bucketNumber img (tableOf h) in
     cond (eqb n 0) 0 (tableAt img (tableOf h) + 8 * start h n + 4)
 
--- two lists have, from i on, the hashes and first places of the m entries from `at` on, as far as these are whole
+-- two lists have, from i on, the hashes and first buckets' places of the m entries from `at` on, as far as these are
+-- whole
 unfoldable pub CachedFrom : List ℕ → ℕ → List ℕ → List ℕ → ℕ → ℕ → ℕ → Type 0
 CachedFrom img end hashes bucket-places at i zero = Unit {0}
 CachedFrom img end hashes bucket-places at i (suc m) =
@@ -28,7 +29,7 @@ CachedFrom img end hashes bucket-places at i (suc m) =
     → (getD hashes i 0 ≡ hashOf (entryName img at n)) × (getD bucket-places i 0 ≡ firstBucketAt img (getD hashes i 0))
     × CachedFrom img end hashes bucket-places (at + (8 + n)) (i + 1) m
 
--- the last `cached` of 256 elements are of the entries from `at` on, and the words at their first places were read
+-- the last `cached` of 256 elements are of the entries from `at` on, and the words in their first buckets were read
 pub record Cached (img : List ℕ) (end : ℕ) (hashes bucket-places firsts : List ℕ) (at cached : ℕ) : Type 0 where
   pub most : cached ≤ 256
   pub hashes-long : length hashes ≡ 256

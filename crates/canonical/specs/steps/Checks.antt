@@ -43,7 +43,7 @@ entryName img at n = take (n - 1) (drop (at + 8) img)
 
 -- ---- the rows and the tables
 
--- no table with an offset above 0 leaves the image: opening has checked that
+-- no table with an offset above 0 reaches past the end of the image: opening has checked that
 abbrev pub TablesInside : List ℕ → Type 0
 TablesInside img = (t : ℕ) → t < 256 → 0 < tableAt img t → tableAt img t + 8 * bucketNumber img t ≤ length img
 

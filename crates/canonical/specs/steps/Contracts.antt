@@ -55,7 +55,7 @@ pub record Batch (img : List ℕ) (at end : ℕ) (hashes bucket-places : List �
 pub record BucketsPre (firsts : List ℕ) : Type 0 where
   pub firsts-long : length firsts ≡ 256
 
--- the words at the first n places are read
+-- the words at the first n of these places are read
 pub record BucketsRead (img bucket-places firsts : List ℕ) (n : ℕ) : Type 0 where
   pub firsts-long : length firsts ≡ 256
   pub words : (k : ℕ) → k < n → getD firsts k 0 ≡ word img (getD bucket-places k 0)

@@ -10,7 +10,7 @@ use Rattle.image.specs.Stored.{whole, entriesIn, between}
 use Rattle.image.specs.Tally.{tallied}
 use Rattle.image.specs.declared.entries.Walked.{Walked}
 
--- the keys of an entry's name and of the name that is sought
+-- the hashes of an entry's name and of the name that is sought, 0 for a name too long to have one
 pub record IsSoughtPre (name : List ℕ) (h : ℕ) (sought : List ℕ) (want : ℕ) : Type 0 where
   pub named : h ≡ hashOrZero name
   pub wanted : want ≡ hashOrZero sought

@@ -19,36 +19,44 @@ returns-2 c =
     let r = c .before .before .before .close-refusal in
     index-full (stateWith (a .w) (a .counts .now) (a .buf .now)) (a .slots .now) (r .result) (r .ensures) (c .before .before .if1 .left) (c .if2 .taken)
 
-abbrev after-close-refusal : tie.After-fill-arg → tie.After-close-refusal
-after-close-refusal c = c .before .before .before .before .before .before .before .before
+-- ---- places in the code, each from a later one
 
-abbrev start : tie.After-slots → tie.Start
-start c = c .before .before .before .before .before .before .before .before .before
+abbrev cleared : tie.After-fill-arg → tie.After-clear-words
+cleared c = c .before .before .before
 
-abbrev else2 : tie.After-slice-known3 → tie.Else2
-else2 c = c .before .before .before .before .before .before .before .before
+abbrev else2 : tie.After-clear-words → tie.Else2
+else2 c = c .before .before
 
-abbrev else1 : tie.After-slots2 → tie.Else1
-else1 c = c .before .before .before .before .before .before .before .before .before
+abbrev else1 : tie.Else2 → tie.Else1
+else1 c = c .before .before
+
+abbrev closed : tie.Else1 → tie.After-close-refusal
+closed c = c .before
+
+abbrev start : tie.After-close-refusal → tie.Start
+start c = c .before .before .before
 
 fill-requires : tie.Need-fill-requires
 fill-requires c κs =
-    let a = start (c .before .before) .args in
-    let r = after-close-refusal c .close-refusal in
-    let cleared = c .before .before .before .clear-words in
-    let kept = cleared .kept .0 in
-    fillable (a .w) (a .counts .now) (a .buf .now) (cleared .last .0) (sym (r .ensures) ∙ c .before .before .before .before .before .before .before .if1 .left)
-    (omega (arith, kept, c .before .before .before .before .before .if2 .left)) (λ i h. cleared .ensures .zero i (omega (arith, h, kept)))
+    let z = cleared c .clear-words in
+    let kept = z .kept .0 in
+    let room = else2 (cleared c) in
+    let fine = else1 room in
+    let r = closed fine in
+    let a = start r .args in
+    fillable (a .w) (a .counts .now) (a .buf .now) (z .last .0) (sym (r .close-refusal .ensures) ∙ fine .if1 .left) (omega (arith, kept, room .if2 .left))
+    (λ i h. z .ensures .zero i (omega (arith, h, kept)))
 
 returns-3 : tie.Need-returns-3
 returns-3 c =
-    let a = start (c .before .before .before .before .before) .args in
-    let r = after-close-refusal (c .before .before .before) .close-refusal in
-    let cleared = c .before .before .before .before .before .before .clear-words in
-    let left = else2 c .if2 .left in
-    let none = else1 (c .before) .if1 .left in
-    index-made (stateWith (a .w) (a .counts .now) (a .buf .now)) (a .slots .now) (r .result) (r .ensures) none (cleared .last .0) _ (cleared .kept .0)
-    (cleared .ensures .kept) (c .before .before .fill .ensures) (omega (arith, left))
+    let clear = cleared (c .before .before .before) in
+    let z = clear .clear-words in
+    let room = else2 clear in
+    let fine = else1 room in
+    let r = closed fine in
+    let a = start r .args in
+    index-made (stateWith (a .w) (a .counts .now) (a .buf .now)) (a .slots .now) (r .close-refusal .result) (r .close-refusal .ensures) (fine .if1 .left)
+    (z .last .0) _ (z .kept .0) (z .ensures .kept) (c .before .before .fill .ensures) (omega (arith, room .if2 .left))
 
 pub index-spec : {M : Type 1} → statement M
 index-spec =

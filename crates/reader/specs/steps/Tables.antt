@@ -23,7 +23,7 @@ pub record AllTables (image : List ℕ) (r : TableSums) : Type 0 where
   pub num-is : r .num ≡ numFrom image 0 256 % 2 ^ 32
   pub none-past-end : r .slacks < 2 ^ 63 → somePastEnd image 0 256 ≡ false
 
--- the head is there, and where the bitwise or of all slacks is below 2^63, no table leaves the image
+-- the head is there, and where the bitwise or of all slacks is below 2^63, no table reaches past the end of the image
 pub record SomePastEndPre (image : List ℕ) (slacks : ℕ) : Type 0 where
   pub head : headSize ≤ length image
   pub none-past-end : slacks < 2 ^ 63 → somePastEnd image 0 256 ≡ false

@@ -4,7 +4,7 @@ use mathlib.Core.Path.{_≡_}
 use mathlib.Core.List.{List}
 use lib.ListN.{length}
 
--- r is the count x, a word
+-- r is the word x
 pub record AsU64 (x r : ℕ) : Type 0 where
   pub is : r ≡ x
   pub small : r < 4294967296

@@ -33,7 +33,7 @@ start c = c .before .before .before .before .before .before
 abbrev read : tie.After-shared-slice-known3 Inv-loop μ-loop → tie.At-loop Inv-loop μ-loop
 read c = c .before .before .before
 
--- the name at z stands where it stood, and has a key
+-- the name at z stands where it stood, and has a hash
 own : (c : tie.At-loop Inv-loop μ-loop) → getD (c .loop .live) (c .loop .z) 0 ≡ getD (start c .args .live .now) (c .loop .z) 0
 own c = c .loop .inv .unread (c .loop .z) (omega arith)
 

@@ -22,8 +22,11 @@ abbrev μ-loop : tie.MeasureT-loop
 
 -- ---- places: from an entry that is whole to the start; from the comparison back to that entry and to its hash
 
+abbrev begun : tie.After-whole-length Inv-loop μ-loop → tie.Start Inv-loop μ-loop
+begun w = w .before .before .before .before .before .before
+
 abbrev start : tie.Else1 Inv-loop μ-loop → tie.Start Inv-loop μ-loop
-start e = e .before .before .before .before .before .before .before
+start e = begun (e .before)
 
 abbrev loop : tie.Else1 Inv-loop μ-loop → tie.At-loop Inv-loop μ-loop
 loop e = e .before .before .before
@@ -71,7 +74,7 @@ whole-length-requires c κs = record { from = c .before .loop .inv .rest .inside
 
 returns : tie.Need-returns Inv-loop μ-loop
 returns c =
-    let a = c .before .before .before .before .before .before .before .args in
+    let a = begun (c .before) .args in
     let l = c .before .before .before .loop in
     record {
       whole-is = walk-broken (a .buf .now) (a .end) (a .entries) (a .counts .now) (l .at) (l .left) (l .back) (l .counts) (l .inv .rest)

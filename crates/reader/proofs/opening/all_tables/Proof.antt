@@ -1,5 +1,5 @@
 -- `reader::opening::all_tables` meets its contract. The loop's invariant: the sum so far and the halves that are left are the sum of all, and while
--- the bitwise or of the slacks is below 2^63, a table that leaves the image is still to come exactly where there is one. Assumes nothing.
+-- the bitwise or of the slacks is below 2^63, a table that reaches past the end is still to come exactly where there is one. Assumes nothing.
 use Prim.Native.Nat.{ℕ, _+_, _-_, _/_, _%_, _^_, _≤_, _<_}
 use native.Mathlib.Omega.{arith}
 use native.Mathlib.Nat.{zero-add}

@@ -23,7 +23,7 @@ else1 c = c .before .before .before .before .before .before
 abbrev start : tie.After-some-past-end → tie.Start
 start c = else1 c .before .before
 
--- where no table leaves the image, the back array alone decides
+-- where no table reaches past the end of the image, the back array alone decides
 abbrev image-of : tie.Else4 → List ℕ
 image-of c = start (c .before) .args .image .now
 

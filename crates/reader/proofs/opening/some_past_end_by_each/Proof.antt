@@ -1,5 +1,5 @@
--- `reader::opening::some_past_end_by_each` meets its contract. The loop's invariant: a table that leaves the image was found or is still to come exactly where there
--- is one. Assumes nothing.
+-- `reader::opening::some_past_end_by_each` meets its contract. The loop's invariant: a table that reaches past the end was found or is still to
+-- come exactly where there is one. Assumes nothing.
 use Prim.Native.Nat.{ℕ, _-_, _≤_}
 use native.Mathlib.Omega.{arith}
 use mathlib.Core.Path.{_≡_, refl, sym, ap, _∙_}
