@@ -40,8 +40,8 @@ pub enum Built {
     Refused(u32),
 }
 
-// What the bulk path has found out of a list: whether the refusals' places have the names' hashes, whether no name has a
-// zero byte, and the number of tables, from the first on, whose names are equal to no earlier name.
+// What the bulk path has found out of a list: whether the refusals' places have the names' hashes, whether no name has
+// a zero byte, and the number of tables, from the first on, whose names are equal to no earlier name.
 struct Known {
     hashed: bool,
     clean: bool,
@@ -126,8 +126,8 @@ fn refuses(repeats: Repeats) -> bool
     }
 }
 
-// Bulk path: builds all tables in the scratch memory, then writes the image in one pass. If a name is refused or may be,
-// the size that it gives is 0: then the buffer is as it was, and the refusals' places have the names' hashes.
+// Bulk path: builds all tables in the scratch memory, then writes the image in one pass. If a name is refused or may
+// be, the size that it gives is 0: then the buffer is as it was, and the refusals' places have the names' hashes.
 fn build_bulk(
     mode: Mode,
     repeats: Repeats,

@@ -59,9 +59,9 @@ pub(super) fn early_refusal(w: CQDBWriter, buf: &[u8], name: &[u8], clean: bool)
     0
 }
 
-// The refusals that come after it, of a name of n bytes with hash h: 3 when the image would be too large, and 2 when the
-// count of the name's table has no room for one more; 0 for none. The counts are lent and may be anything. The check of
-// the size has bounded the number of entries, so such a count is above it, and put refuses that with 2.
+// The refusals that come after it, of a name of n bytes with hash h: 3 when the image would be too large, and 2 when
+// the count of the name's table has no room for one more; 0 for none. The counts are lent and may be anything. The
+// check of the size has bounded the number of entries, so such a count is above it, and put refuses that with 2.
 pub(super) fn late_refusal(w: CQDBWriter, counts: &[u32; 256], n: usize, id: u32, h: u32) -> u32
     requires { ⌜ SizeWithPre (w .end) n ⌝ }
     ensures { λ r. ⌜ r ≡ lateRefusal w (now (counts .entry)) n id h ⌝ }

@@ -59,8 +59,8 @@ DistinctBelow bytes ends tables =
     (i j : ℕ) → j < i → i < length ends → tableOf (hashOf (nth (names bytes ends) i)) < tables
     → same (nth (names bytes ends) j) (nth (names bytes ends) i) ≡ false
 
--- what is known of a list is so: the hashes stand there, no name has a zero byte, and with repeats off those tables have
--- no duplicate; without hashes no table is known
+-- what is known of a list is so: the hashes stand there, no name has a zero byte, and with repeats off those tables
+-- have no duplicate; without hashes no table is known
 pub record KnownOf (repeats : Repeats) (known : Known) (bytes ends refusals : List ℕ) : Type 0 where
   pub hashes : known .hashed ≡ true → HashesStored bytes ends refusals
   pub zero-free : known .clean ≡ true → NoZeros bytes ends (length ends)
