@@ -13,7 +13,7 @@ use Rattle.packed.proofs.NameEnds.{length-names}
 use Rattle.jhash.proofs.Outcomes.{hash-or-zero-short}
 use Rattle.batch.specs.RoundNames.{names, nth}
 use Rattle.batch.specs.Round.{answerWords}
-use Rattle.batch.specs.steps.Duplicates.{hashOrZero, Listed, Rising, IsFirst, IsUnique}
+use Rattle.batch.specs.steps.Duplicates.{hashOrZero, Listed, RisingTo, IsFirst, IsUnique}
 use Rattle.batch.specs.steps.Answers.{putWords, wordsIn, HasPlace, Has, HasAnswer, ListedNames, Answered, UniqueAnswered, Source}
 use Rattle.batch.proofs.IndexLists.{listed-more, listed-has}
 
@@ -148,7 +148,7 @@ module _ {bytes ends hashes list before : List ℕ} {m : ℕ} (pre : ListedNames
   no-two-equal x y h k = pre .first y k (getD list x 0) (pre .rising x y h k)
 
   -- some of them, in another list that rises
-  pub listed-part : {part after : List ℕ} {q : ℕ} → length after ≡ length before → q ≤ m → q ≤ length part → Rising part q
+  pub listed-part : {part after : List ℕ} {q : ℕ} → length after ≡ length before → q ≤ m → q ≤ length part → RisingTo part q
       → ((z : ℕ) → z < q → Listed list m (getD part z 0)) → ListedNames bytes ends hashes part after q
   listed-part long few capacity rising listed =
       record {

@@ -6,7 +6,7 @@ use mathlib.Core.Path.{_≡_, sym, ap, subst, _∙_}
 use mathlib.Core.List.{List}
 use lib.ListN.{length, getD, set}
 use lib.Seq.{getD-set-same, getD-set-other}
-use Rattle.batch.specs.steps.Duplicates.{Listed, Rising}
+use Rattle.batch.specs.steps.Duplicates.{Listed, RisingTo}
 
 -- what is listed stays so
 pub listed-old : (l : List ℕ) (p q i j : ℕ) → p ≤ q → Listed l p j → Listed (set l p i) q j
@@ -33,7 +33,7 @@ each-step Q l p q i room few old new z h =
     ]
 
 -- one more, above all before, and kept or not
-pub rising-step : (l : List ℕ) (p q i : ℕ) → p < length l → q ≤ p + 1 → ((z : ℕ) → z < p → getD l z 0 < i) → Rising l p → Rising (set l p i) q
+pub rising-step : (l : List ℕ) (p q i : ℕ) → p < length l → q ≤ p + 1 → ((z : ℕ) → z < p → getD l z 0 < i) → RisingTo l p → RisingTo (set l p i) q
 rising-step l p q i room few above old x y h k =
     let first : getD (set l p i) x 0 ≡ getD l x 0 = getD-set-other l p x i 0 (λ e. omega arith) in
     elim (ℕ-discrete y p) [

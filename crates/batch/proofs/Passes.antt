@@ -7,7 +7,7 @@ use mathlib.Core.Logic.{_⊎_, inl, inr}
 use mathlib.Core.List.{List}
 use lib.ListN.{length, getD, set}
 use lib.Seq.{getD-set-other}
-use Rattle.batch.specs.steps.Duplicates.{Listed, Rising}
+use Rattle.batch.specs.steps.Duplicates.{Listed, RisingTo}
 use Rattle.batch.specs.steps.Probing.{NextProbed, StillOpen, NowDecided, OpenOrDecided}
 use Rattle.batch.specs.steps.Answers.{HasAnswer, Answered}
 use Rattle.batch.specs.RoundNames.{names}
@@ -19,7 +19,7 @@ module _ {image hashes first live done offsets : List ℕ} {c p d z : ℕ} (old 
   pub unread-step : ((y : ℕ) → z ≤ y → getD live y 0 ≡ getD first y 0) → (y : ℕ) → z + 1 ≤ y → getD (set live p i) y 0 ≡ getD first y 0
   unread-step unread y h = getD-set-other live p y i 0 (λ e. omega (arith, old .count)) ∙ unread y (omega arith)
 
-  pub open-or-decided-step : NextProbed image (getD hashes i 0) c offset on → {q : ℕ} → Rising first q → z < q → d < length done → d < length offsets
+  pub open-or-decided-step : NextProbed image (getD hashes i 0) c offset on → {q : ℕ} → RisingTo first q → z < q → d < length done → d < length offsets
       → OpenOrDecided image hashes first (set live p i) (set done d i) (set offsets d offset) c (p + on) (d + (1 - on)) (z + 1)
   open-or-decided-step probed rising inside room' room'' =
       record {

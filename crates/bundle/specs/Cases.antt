@@ -3,8 +3,8 @@ use Prim.Native.Nat.{ℕ}
 use Rattle.jhash.specs.Outcome.{Outcome, value, refusal}
 use Rattle.bundle.specs.FileWalk.{Place}
 use Rattle.bundle.specs.Opening.{OpenedImage}
-use Rattle.bundle.specs.declared.Placed.{Placed}
-use Rattle.bundle.specs.declared.Placed.the-variants as placed
+use Rattle.bundle.specs.declared.PlaceAnswer.{PlaceAnswer}
+use Rattle.bundle.specs.declared.PlaceAnswer.the-variants as placed
 use Rattle.bundle.specs.declared.OpenedAt.{OpenedAt}
 use Rattle.bundle.specs.declared.OpenedAt.the-variants as opened
 use Rattle.bundle.specs.declared.Counted.{Counted}
@@ -13,7 +13,7 @@ use Rattle.bundle.specs.declared.Appended.{Appended}
 use Rattle.bundle.specs.declared.Appended.the-variants as appended
 
 -- where the image at a position stands, or a refusal by its number
-abbrev pub placedOf : Placed → Outcome Place
+abbrev pub placedOf : PlaceAnswer → Outcome Place
 placedOf (placed.Image start size) = value (record { start = start; size = size })
 placedOf (placed.Refused k) = refusal k
 

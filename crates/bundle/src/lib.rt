@@ -11,7 +11,7 @@ pub use walking::part;
 pub use walking::place;
 
 // Where the image at a position stands, its first byte's place and how many bytes it has; or the refusal's number.
-pub enum Placed {
+pub enum PlaceAnswer {
     Image { start: usize, size: usize },
     Refused(u32),
 }

@@ -9,7 +9,7 @@ ghost use Rattle.bundle.specs.Cases.{placedOf, openedAtOf, countedOf};
 ghost use Rattle.bundle.specs.steps.Contracts.{ImageSizeRead};
 use super::Counted;
 use super::OpenedAt;
-use super::Placed;
+use super::PlaceAnswer;
 use image::HEAD_SIZE;
 use jhash::word::word;
 use reader::Opened;
@@ -33,7 +33,7 @@ fn size_at(file: &[u8], at: usize) -> usize
 }
 
 // Where the image at a position stands; 10 where the walk breaks off, 11 where the file ends at or before the position.
-pub fn place(file: &[u8], position: usize) -> Placed
+pub fn place(file: &[u8], position: usize) -> PlaceAnswer
     ensures { λ r. ⌜ placedOf r ≡ placeOfImage (now (file .entry)) position ⌝ }
 {
     let mut at = 0;
@@ -41,15 +41,15 @@ pub fn place(file: &[u8], position: usize) -> Placed
     while at < file.len() {
         let size = size_at(file, at);
         if size == 0 {
-            return Placed::Refused(10);
+            return PlaceAnswer::Refused(10);
         }
         if left == 0 {
-            return Placed::Image { start: at, size };
+            return PlaceAnswer::Image { start: at, size };
         }
         left -= 1;
         at += size;
     }
-    Placed::Refused(11)
+    PlaceAnswer::Refused(11)
 }
 
 // The part of the lent file that is the image at a position, exactly the size word's bytes; empty where the walk is
@@ -58,8 +58,8 @@ pub fn part<'a>(file: &'a [u8], position: usize) -> &'a [u8]
     ensures { λ r. ⌜ slice r ≡ returnedPart (slice (file .entry)) position ⌝ }
 {
     match place(file, position) {
-        Placed::Image { start, size } => &file[start..start + size],
-        Placed::Refused(_) => &file[0..0],
+        PlaceAnswer::Image { start, size } => &file[start..start + size],
+        PlaceAnswer::Refused(_) => &file[0..0],
     }
 }
 
@@ -69,11 +69,11 @@ pub fn open(file: &[u8], position: usize) -> OpenedAt
     ensures { λ r. ⌜ openedAtOf r ≡ openingAt (now (file .entry)) position ⌝ }
 {
     match place(file, position) {
-        Placed::Image { start, size } => match reader::open(&file[start..start + size]) {
+        PlaceAnswer::Image { start, size } => match reader::open(&file[start..start + size]) {
             Opened::Num(num) => OpenedAt::Image { num, start, size },
             Opened::Refused(k) => OpenedAt::Refused(k),
         },
-        Placed::Refused(k) => OpenedAt::Refused(k),
+        PlaceAnswer::Refused(k) => OpenedAt::Refused(k),
     }
 }
 

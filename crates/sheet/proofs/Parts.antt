@@ -10,7 +10,7 @@ use lib.Seq.{take-all}
 use Rattle.jhash.specs.Outcome.{value, refusal}
 use Rattle.reader.specs.Slices.{Slice, subslice}
 use Rattle.sheet.specs.SheetReading.{partBytes, partAt, readSheet, sectionOf, sectionOrEmpty, sectionPart, cutPart}
-use Rattle.sheet.specs.declared.Place.{Place}
+use Rattle.sheet.specs.declared.SectionPlace.{SectionPlace}
 use Rattle.sheet.specs.declared.Sheet.{Sheet}
 use Rattle.sheet.specs.declared.Which.{Which}
 use Rattle.sheet.specs.declared.Which.the-variants.{References, Walls, Retired}
@@ -18,7 +18,7 @@ use Rattle.sheet.proofs.Files.{Whole, of-whole}
 
 -- ---- at any place
 
-module _ (file : Slice) (p : Place) where
+module _ (file : Slice) (p : SectionPlace) where
   abbrev size : ℕ
   size = length (file .bytes)
 

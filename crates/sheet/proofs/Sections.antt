@@ -14,25 +14,25 @@ use Rattle.jhash.proofs.ValueOrRefusal.{no-value}
 use Rattle.sheet.specs.Format.{countAt, countBytes, ids, idBytes, sectionBytes}
 use Rattle.sheet.specs.SheetReading.{partEnd, partBytes, idsIn, sectionAt}
 use Rattle.sheet.specs.theorems.RoundSheet.{Below, Holdable, HoldsIds}
-use Rattle.sheet.specs.declared.Place.{Place}
+use Rattle.sheet.specs.declared.SectionPlace.{SectionPlace}
 use Rattle.sheet.proofs.CountsAndIds.{below-drop, below-take, length-countBytes, count-back, count-below, count-drop, count-bytes}
 use Rattle.sheet.proofs.CountsAndIds.{length-ids, length-idBytes, ids-below, ids-back, bytes-back}
 
 -- where the section at o was found
-pub record Lies (file : List ℕ) (o : ℕ) (p : Place) : Type 0 where
+pub record Lies (file : List ℕ) (o : ℕ) (p : SectionPlace) : Type 0 where
   pub start : p .start ≡ o + 2
   pub count : p .count ≡ countAt file o
   pub inside : partEnd p ≤ length file
 
 pub record FoundAt (file : List ℕ) (o : ℕ) : Type 0 where
-  pub place : Place
+  pub place : SectionPlace
   pub found : sectionAt file o ≡ value place
   pub lies : Lies file o place
 
 -- ---- by the tests
 
 module _ (file : List ℕ) (o : ℕ) where
-  abbrev here : Place
+  abbrev here : SectionPlace
   here = record { start = o + 2; count = countAt file o }
 
   pub no-count : length file < o + 2 → sectionAt file o ≡ refusal 19
@@ -61,7 +61,7 @@ module _ (file : List ℕ) (o : ℕ) where
       counted true k = inr (no-count (ltb-true (length file) (o + 2) k))
       counted false k = held (ltb (length file) (partEnd here)) refl (ltb-false (length file) (o + 2) k)
 
-  pub found-inside : (p : Place) → sectionAt file o ≡ value p → partEnd p ≤ length file
+  pub found-inside : (p : SectionPlace) → sectionAt file o ≡ value p → partEnd p ≤ length file
   found-inside p e = by found-or-short
     where
       by : FoundAt file o ⊎ (sectionAt file o ≡ refusal 19) → partEnd p ≤ length file
@@ -83,7 +83,7 @@ module _ (front xs rest : List ℕ) where
   abbrev around : List ℕ
   around = front ++ (sectionBytes xs ++ rest)
 
-  abbrev behind : Place
+  abbrev behind : SectionPlace
   behind = record { start = length front + 2; count = length xs }
 
   opened : sectionBytes xs ++ rest ≡ countBytes (length xs) ++ (idBytes xs ++ rest)
@@ -115,7 +115,7 @@ module _ (front xs rest : List ℕ) where
 
 -- ---- from a file in which a section lies
 
-module _ (file : List ℕ) (o : ℕ) (p : Place) (l : Lies file o p) where
+module _ (file : List ℕ) (o : ℕ) (p : SectionPlace) (l : Lies file o p) where
   abbrev held : List ℕ
   held = partBytes file p
 

@@ -10,7 +10,7 @@ use Rattle.jhash.specs.Outcome.{Outcome, value, refusal}
 use Rattle.sheet.specs.Format.{sectionBytes, Lists, sheetBytes}
 use Rattle.sheet.specs.SheetReading.{partEnd, partBytes, idsIn, sectionAt, andThen, sections, listsOf}
 use Rattle.sheet.specs.theorems.RoundSheet.{Below, Fits}
-use Rattle.sheet.specs.declared.Place.{Place}
+use Rattle.sheet.specs.declared.SectionPlace.{SectionPlace}
 use Rattle.sheet.specs.declared.Sheet.{Sheet}
 use Rattle.sheet.proofs.Sections.{Lies, FoundAt, found-or-short, length-section, ids-of, section-reads, part-reads, holdable, bytes-again}
 
@@ -25,37 +25,37 @@ sized l =
 
 -- ---- section by section
 
-abbrev sheet : Place → Place → Place → Sheet
+abbrev sheet : SectionPlace → SectionPlace → SectionPlace → Sheet
 sheet a b c = record { references = a; walls = b; retired = c }
 
 module _ (file : List ℕ) where
-  abbrev from-walls : Place → Place → Outcome Sheet
+  abbrev from-walls : SectionPlace → SectionPlace → Outcome Sheet
   from-walls a b = andThen (sectionAt file (partEnd b)) (λ c. value (sheet a b c))
 
-  abbrev from-references : Place → Outcome Sheet
+  abbrev from-references : SectionPlace → Outcome Sheet
   from-references a = andThen (sectionAt file (partEnd a)) (λ b. from-walls a b)
 
-  module _ (a : Place) (ea : sectionAt file 0 ≡ value a) where
+  module _ (a : SectionPlace) (ea : sectionAt file 0 ≡ value a) where
     behind-first : sections file ≡ from-references a
     unfolding sections
-    behind-first = ap (λ (r : Outcome Place). andThen r from-references) ea
+    behind-first = ap (λ (r : Outcome SectionPlace). andThen r from-references) ea
 
     pub short-walls : sectionAt file (partEnd a) ≡ refusal 19 → sections file ≡ refusal 19
-    short-walls e = behind-first ∙ ap (λ (r : Outcome Place). andThen r (from-walls a)) e
+    short-walls e = behind-first ∙ ap (λ (r : Outcome SectionPlace). andThen r (from-walls a)) e
 
-    module _ (b : Place) (eb : sectionAt file (partEnd a) ≡ value b) where
+    module _ (b : SectionPlace) (eb : sectionAt file (partEnd a) ≡ value b) where
       behind-second : sections file ≡ from-walls a b
-      behind-second = behind-first ∙ ap (λ (r : Outcome Place). andThen r (from-walls a)) eb
+      behind-second = behind-first ∙ ap (λ (r : Outcome SectionPlace). andThen r (from-walls a)) eb
 
       pub short-retired : sectionAt file (partEnd b) ≡ refusal 19 → sections file ≡ refusal 19
-      short-retired e = behind-second ∙ ap (λ (r : Outcome Place). andThen r (λ c. value (sheet a b c))) e
+      short-retired e = behind-second ∙ ap (λ (r : Outcome SectionPlace). andThen r (λ c. value (sheet a b c))) e
 
-      pub all-three : (c : Place) → sectionAt file (partEnd b) ≡ value c → sections file ≡ value (sheet a b c)
-      all-three c ec = behind-second ∙ ap (λ (r : Outcome Place). andThen r (λ c. value (sheet a b c))) ec
+      pub all-three : (c : SectionPlace) → sectionAt file (partEnd b) ≡ value c → sections file ≡ value (sheet a b c)
+      all-three c ec = behind-second ∙ ap (λ (r : Outcome SectionPlace). andThen r (λ c. value (sheet a b c))) ec
 
   pub short-references : sectionAt file 0 ≡ refusal 19 → sections file ≡ refusal 19
   unfolding sections
-  short-references e = ap (λ (r : Outcome Place). andThen r from-references) e
+  short-references e = ap (λ (r : Outcome SectionPlace). andThen r from-references) e
 
 -- the three lie one behind the other
 pub record Lie (file : List ℕ) (s : Sheet) : Type 0 where
@@ -106,13 +106,13 @@ module _ (l : Lists) (rest : List ℕ) where
   abbrev file : List ℕ
   file = sheetBytes l ++ rest
 
-  abbrev pa : Place
+  abbrev pa : SectionPlace
   pa = record { start = 2; count = length (l .references) }
 
-  abbrev pb : Place
+  abbrev pb : SectionPlace
   pb = record { start = partEnd pa + 2; count = length (l .walls) }
 
-  abbrev pc : Place
+  abbrev pc : SectionPlace
   pc = record { start = partEnd pb + 2; count = length (l .retired) }
 
   at-front : file ≡ [] ++ (a ++ (b ++ (c ++ rest)))

@@ -1,7 +1,7 @@
 -- The answers' cases: the value or 02's number for each case of the enums that the calls answer.
 use Prim.Native.Nat.{ℕ}
 use Rattle.jhash.specs.Outcome.{Outcome, value, refusal}
-use Rattle.sheet.specs.declared.Place.{Place}
+use Rattle.sheet.specs.declared.SectionPlace.{SectionPlace}
 use Rattle.sheet.specs.declared.Sheet.{Sheet}
 use Rattle.sheet.specs.declared.SectionAnswer.{SectionAnswer}
 use Rattle.sheet.specs.declared.SectionAnswer.the-variants.{At, Short}
@@ -11,7 +11,7 @@ use Rattle.sheet.specs.declared.Written.{Written}
 use Rattle.sheet.specs.declared.Written.the-variants.{Length, TooLarge}
 
 -- one section
-abbrev pub sectionAnswerOf : SectionAnswer → Outcome Place
+abbrev pub sectionAnswerOf : SectionAnswer → Outcome SectionPlace
 sectionAnswerOf (At p) = value p
 sectionAnswerOf Short = refusal 19
 

@@ -8,24 +8,24 @@ use lib.Dec.{ltb}
 use Rattle.jhash.specs.Outcome.{Outcome, value, refusal}
 use Rattle.reader.specs.Slices as slices
 use Rattle.sheet.specs.Format.{countAt, ids, Lists}
-use Rattle.sheet.specs.declared.Place.{Place}
+use Rattle.sheet.specs.declared.SectionPlace.{SectionPlace}
 use Rattle.sheet.specs.declared.Sheet.{Sheet}
 use Rattle.sheet.specs.declared.Which.{Which}
 use Rattle.sheet.specs.declared.Which.the-variants.{References, Walls, Retired}
 
 -- a part as a place: the offset of its first byte, and the number of its ids, four bytes each. Where it ends
-abbrev pub partEnd : Place → ℕ
+abbrev pub partEnd : SectionPlace → ℕ
 partEnd p = p .start + 4 * p .count
 
 -- the part itself, and the ids in a part
-abbrev pub partBytes : List ℕ → Place → List ℕ
+abbrev pub partBytes : List ℕ → SectionPlace → List ℕ
 partBytes file p = take (4 * p .count) (drop (p .start) file)
 
 abbrev pub idsIn : List ℕ → List ℕ
 idsIn part = ids (length part / 4) part
 
 -- the section whose count stands at an offset. "Too few bytes give 19": for the count, then for the ids
-unfoldable pub sectionAt : List ℕ → ℕ → Outcome Place
+unfoldable pub sectionAt : List ℕ → ℕ → Outcome SectionPlace
 sectionAt file o =
     cond (ltb (length file) (o + 2)) (refusal 19)
     (cond (ltb (length file) (o + 2 + 4 * countAt file o)) (refusal 19)
@@ -52,14 +52,14 @@ unfoldable pub readSheet : List ℕ → Outcome Sheet
 readSheet file = andThen (sections file) (nothingLeft file)
 
 -- the place of one of the three sections
-abbrev pub sectionOf : Sheet → Which → Place
+abbrev pub sectionOf : Sheet → Which → SectionPlace
 sectionOf s References = s .references
 sectionOf s Walls = s .walls
 sectionOf s Retired = s .retired
 
 -- "the part of the file that holds its ids", as a returned part: of the lent file's own bytes those from the place's
 -- start on; empty where the file is refused
-abbrev pub partAt : slices.Slice → Place → slices.Slice
+abbrev pub partAt : slices.Slice → SectionPlace → slices.Slice
 partAt file p = slices.subslice file (p .start) (4 * p .count)
 
 abbrev pub sectionOrEmpty : slices.Slice → Which → Outcome Sheet → slices.Slice
@@ -71,7 +71,7 @@ sectionPart file which = sectionOrEmpty file which (readSheet (file .bytes))
 
 -- the part at any place, also one that no reader gave: what of it lies past the end is left out; empty where it starts
 -- past the end
-abbrev pub cutPart : slices.Slice → Place → slices.Slice
+abbrev pub cutPart : slices.Slice → SectionPlace → slices.Slice
 cutPart file p = cond (ltb (length (file .bytes)) (p .start)) (slices.subslice file 0 0) (partAt file p)
 
 -- the three lists that a file reads as

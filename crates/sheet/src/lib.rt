@@ -10,16 +10,16 @@ pub use reading::section;
 pub use writing::write;
 
 // The part of a file that holds a section's ids, as a place: the offset of its first byte, and the number of its ids.
-pub struct Place {
+pub struct SectionPlace {
     pub start: usize,
     pub count: u32,
 }
 
 // The parts of the three sections.
 pub struct Sheet {
-    pub references: Place,
-    pub walls: Place,
-    pub retired: Place,
+    pub references: SectionPlace,
+    pub walls: SectionPlace,
+    pub retired: SectionPlace,
 }
 
 // One of the three sections.
@@ -31,7 +31,7 @@ pub enum Which {
 
 // What reading one section answers: its part, or too few bytes.
 enum SectionAnswer {
-    At(Place),
+    At(SectionPlace),
     Short,
 }
 

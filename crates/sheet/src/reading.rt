@@ -7,9 +7,9 @@ ghost use Rattle.sheet.specs.SheetReading.{partEnd, idsIn, sectionAt, re
 ghost use Rattle.sheet.specs.SheetReading.{sectionOf, sectionPart, cutPart};
 ghost use Rattle.sheet.specs.Cases.{sectionAnswerOf, readOf};
 ghost use Rattle.sheet.specs.steps.Contracts.{CountRead};
-use super::Place;
 use super::ReadAnswer;
 use super::SectionAnswer;
+use super::SectionPlace;
 use super::Sheet;
 use super::Which;
 use jhash::word::byte_as_word;
@@ -37,14 +37,14 @@ fn section_at(file: &[u8], at: usize) -> SectionAnswer
     if left - 2 < 4 * (count as usize) {
         return SectionAnswer::Short;
     }
-    SectionAnswer::At(Place {
+    SectionAnswer::At(SectionPlace {
         start: at + 2,
         count,
     })
 }
 
 // Where a part ends.
-fn end_of(p: Place) -> usize
+fn end_of(p: SectionPlace) -> usize
     requires { ⌜ partEnd p < 18446744073709551616 ⌝ }
     ensures { λ r. ⌜ r ≡ partEnd p ⌝ }
 {
@@ -75,7 +75,7 @@ pub fn read(file: &[u8]) -> ReadAnswer
 }
 
 // The part of the lent file at a place; what of it lies past the end is left out.
-pub fn part<'a>(file: &'a [u8], p: Place) -> &'a [u8]
+pub fn part<'a>(file: &'a [u8], p: SectionPlace) -> &'a [u8]
     ensures { λ r. ⌜ slice r ≡ cutPart (slice (file .entry)) p ⌝ }
 {
     let all = file.len();
@@ -91,7 +91,7 @@ pub fn part<'a>(file: &'a [u8], p: Place) -> &'a [u8]
 }
 
 // The place of one of the three.
-fn place_of(s: Sheet, which: Which) -> Place
+fn place_of(s: Sheet, which: Which) -> SectionPlace
     ensures { λ r. ⌜ r ≡ sectionOf s which ⌝ }
 {
     match which {

@@ -9,7 +9,7 @@ use Rattle.reader.specs.Lookup.{lookup}
 use Rattle.reader.specs.Naming.{Naming, lengthIn}
 use Rattle.batch.specs.RoundNames.{names, invalidEnds, nth}
 use Rattle.batch.specs.Round.{answerWords, roundWords, roundBuckets}
-use Rattle.batch.specs.steps.Duplicates.{Listed, Rising, HashedNames, EqualBefore, IsFirst, IsUnique}
+use Rattle.batch.specs.steps.Duplicates.{Listed, RisingTo, HashedNames, EqualBefore, IsFirst, IsUnique}
 use Rattle.batch.specs.steps.Probing.{SearchOpen, SearchDecided}
 
 -- four words stored in the i-th place, and the words in it
@@ -70,7 +70,7 @@ pub record PutDecidedPre (image name answers : List ℕ) (h offset c i : ℕ) : 
 -- them equals it: so no two of them are equal
 pub record ListedNames (bytes ends hashes list answers : List ℕ) (m : ℕ) : Type 0 where
   pub first : (x : ℕ) → x < m → IsFirst (names bytes ends) (getD list x 0)
-  pub rising : Rising list m
+  pub rising : RisingTo list m
   pub names : HashedNames bytes ends hashes
   pub places : 4 * length ends ≤ length answers
   pub few : m ≤ 512

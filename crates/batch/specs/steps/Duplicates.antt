@@ -22,8 +22,8 @@ pub record Listed (l : List ℕ) (n i : ℕ) : Type 0 where
   pub is : getD l place 0 ≡ i
 
 -- the first n of a list rise, so no number stands among them twice
-abbrev pub Rising : List ℕ → ℕ → Type 0
-Rising l n = (x y : ℕ) → x < y → y < n → getD l x 0 < getD l y 0
+abbrev pub RisingTo : List ℕ → ℕ → Type 0
+RisingTo l n = (x y : ℕ) → x < y → y < n → getD l x 0 < getD l y 0
 
 -- ---- hashes
 
@@ -86,7 +86,7 @@ pub record Deduplicated (xs : List (List ℕ)) (equals unique : List ℕ) (n r :
   pub count : r ≤ n
   pub below : (x : ℕ) → x < r → getD unique x 0 < n
   pub unique : (x : ℕ) → x < r → IsUnique equals (getD unique x 0)
-  pub rising : Rising unique r
+  pub rising : RisingTo unique r
   pub listed : (i : ℕ) → i < n → IsUnique equals i → Listed unique r i
   pub listed-names : map (nth xs) (take r unique) ≡ different (take n xs)
   pub all-unique : n ≤ r → (i : ℕ) → i < n → IsUnique equals i

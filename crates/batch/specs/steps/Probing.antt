@@ -7,7 +7,7 @@ use lib.ListN.{length, getD}
 use Rattle.image.specs.Image.{headSize}
 use Rattle.reader.specs.Lookup.{nothing, probeEntry, decide, lookupHash}
 use Rattle.reader.specs.steps.Resume.{searchFrom}
-use Rattle.batch.specs.steps.Duplicates.{Listed, Rising}
+use Rattle.batch.specs.steps.Duplicates.{Listed, RisingTo}
 
 -- the search for the hash h is open after c buckets: what is left of it answers what the whole search does, whatever
 -- the name
@@ -49,7 +49,7 @@ pub record PassPre (image hashes live done offsets : List ℕ) (c q : ℕ) : Typ
   pub live-capacity : q ≤ length live
   pub done-capacity : q ≤ length done
   pub offsets-capacity : q ≤ length offsets
-  pub rising : Rising live q
+  pub rising : RisingTo live q
   pub hashed : (z : ℕ) → z < q → getD live z 0 < length hashes
   pub is-open : (z : ℕ) → z < q → SearchOpen image (getD hashes (getD live z 0) 0) c
 
@@ -70,6 +70,6 @@ pub record OpenOrDecided (image hashes first live done offsets : List ℕ) (c op
   pub each : (y : ℕ) → y < read → Listed live opens (getD first y 0) ⊎ Listed done decides (getD first y 0)
   pub is-open : (y : ℕ) → y < opens → StillOpen image hashes first read c (getD live y 0)
   pub decided : (y : ℕ) → y < decides → NowDecided image hashes first read c (getD done y 0) (getD offsets y 0)
-  pub live-rising : Rising live opens
-  pub done-rising : Rising done decides
+  pub live-rising : RisingTo live opens
+  pub done-rising : RisingTo done decides
   pub disjoint : (x : ℕ) → x < opens → (y : ℕ) → y < decides → getD live x 0 ≡ getD done y 0 → ⊥

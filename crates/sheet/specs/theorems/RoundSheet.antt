@@ -9,7 +9,7 @@ use Rattle.jhash.specs.Outcome.{value, refusal}
 use Rattle.sheet.specs.Format.{Lists, sheetBytes}
 use Rattle.sheet.specs.SheetReading.{partEnd, partBytes, idsIn, readSheet, readLists}
 use Rattle.sheet.specs.SheetWriting.{writing, afterWriting}
-use Rattle.sheet.specs.declared.Place.{Place}
+use Rattle.sheet.specs.declared.SectionPlace.{SectionPlace}
 use Rattle.sheet.specs.declared.Sheet.{Sheet}
 
 -- every number of a list is below n
@@ -36,7 +36,7 @@ pub record PartsPlaced (file : List ℕ) (s : Sheet) : Type 0 where
   pub end : partEnd (s .retired) ≡ length file
 
 -- a part has four bytes for each of its ids, and as many ids as its section's count
-pub record HoldsIds (file : List ℕ) (p : Place) : Type 0 where
+pub record HoldsIds (file : List ℕ) (p : SectionPlace) : Type 0 where
   pub bytes : length (partBytes file p) ≡ 4 * p .count
   pub number : length (idsIn (partBytes file p)) ≡ p .count
 

@@ -8,7 +8,7 @@ use mathlib.Core.List.{List}
 use lib.ListN.{length, getD, length-replicate}
 use borrow.Author.Needs.{needs}
 use Rattle.batch.specs.RoundNames.{names}
-use Rattle.batch.specs.steps.Duplicates.{Listed, Rising}
+use Rattle.batch.specs.steps.Duplicates.{Listed, RisingTo}
 use Rattle.batch.specs.steps.Probing.{SearchOpen}
 use Rattle.batch.specs.steps.Answers.{HasAnswer}
 use Rattle.batch.proofs.IndexLists.{listed-has}
@@ -25,7 +25,7 @@ record Inv (image bytes ends hashes first before live answers done offsets : Lis
   pub answers-long : length answers ≡ length before
   pub done-long : length done ≡ 512
   pub offsets-long : length offsets ≡ 512
-  pub rising : Rising live q
+  pub rising : RisingTo live q
   pub listed : (z : ℕ) → z < q → Listed first m (getD live z 0)
   pub is-open : (z : ℕ) → z < q → SearchOpen image (getD hashes (getD live z 0) 0) c
   pub right : (x : ℕ) → x < m → HasAnswer image (names bytes ends) answers (getD first x 0) ⊎ Listed live q (getD first x 0)

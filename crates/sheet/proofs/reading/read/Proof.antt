@@ -7,7 +7,7 @@ use lib.ListN.{length}
 use Rattle.jhash.specs.Outcome.{value}
 use Rattle.sheet.specs.SheetReading.{partEnd, sectionAt, sections}
 use Rattle.sheet.specs.Cases.{sectionAnswerOf}
-use Rattle.sheet.specs.declared.Place.{Place}
+use Rattle.sheet.specs.declared.SectionPlace.{SectionPlace}
 use Rattle.sheet.specs.declared.Sheet.{Sheet}
 use Rattle.sheet.proofs.Sections.{found-inside}
 use Rattle.sheet.proofs.Sheets.{short-references, short-walls, short-retired, all-three}
@@ -26,13 +26,13 @@ two c = c .before .before .before .before .before
 abbrev file : tie.After-known-told → List ℕ
 file c = c .before .before .before .before .before .args .file .now
 
-abbrev references : tie.After-known-told → Place
+abbrev references : tie.After-known-told → SectionPlace
 references c = c .before .references .given .0 .0
 
-abbrev walls : tie.After-known-told2 → Place
+abbrev walls : tie.After-known-told2 → SectionPlace
 walls c = c .before .walls .given .0 .0
 
-abbrev retired : tie.After-known-told3 → Place
+abbrev retired : tie.After-known-told3 → SectionPlace
 retired c = c .before .retired .given .0 .0
 
 abbrev parts : tie.After-known-told3 → Sheet
