@@ -98,7 +98,7 @@ module _ (s : State) (bytes : (i : ℕ) → getD (s .buffer) i 0 < 256) (none-du
       let k = stands w (s .counts) (s .buffer) (a .fit) (a .fine) (a .all) in
       let ends = stored-end (w .end) (w .entries) (s .buffer) bytes (k .whole-entries) (k .after-head) (omega (arith, k .fits-buffer)) in
       let number = stored-number (w .end) (w .entries) (s .buffer) bytes (k .whole-entries) in
-      let back : backIn (w .mode) (w .back) ≡ backSizeOf (w .mode) es = ap (backIn (w .mode)) (k .backs) ∙ backIn-twice (w .mode) (backSize es) in
+      let back : backIn (w .mode) (w .back) ≡ backSizeOf (w .mode) es = ap (backIn (w .mode)) (k .back-agrees) ∙ backIn-twice (w .mode) (backSize es) in
       length-image (w .mode) es ∙ omega (arith, ends, number, back)
 
   -- so the bytes from there on keep their content
