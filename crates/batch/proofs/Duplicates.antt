@@ -179,7 +179,7 @@ deduplicated-none xs equals list =
       equal = λ j h. absurd (omega arith);
       count = omega arith;
       below = λ x h. absurd (omega arith);
-      unique = λ x h. absurd (omega arith);
+      only-unique = λ x h. absurd (omega arith);
       rising = λ x y h k. absurd (omega arith);
       listed = λ j h. absurd (omega arith);
       listed-names = refl;
@@ -233,8 +233,8 @@ module _ {xs : List (List ℕ)} {equals list : List ℕ} {i m q r : ℕ} (inside
         equal = each (EqualBefore xs) (old .equal) new;
         count = omega (arith, small, old .count);
         below = each-step (λ (v : ℕ). v < i + 1) list m (m + r) i room' (omega (arith, small)) (λ z h. omega (arith, old .below z h)) (λ h. omega arith);
-        unique = each-step (λ (v : ℕ). getD (set equals i q) v 0 ≡ 0) list m (m + r) i room' (omega (arith, small))
-            (λ z h. getD-set-other equals i (getD list z 0) q 0 (λ e. omega (arith, old .below z h)) ∙ old .unique z h)
+        only-unique = each-step (λ (v : ℕ). getD (set equals i q) v 0 ≡ 0) list m (m + r) i room' (omega (arith, small))
+            (λ z h. getD-set-other equals i (getD list z 0) q 0 (λ e. omega (arith, old .below z h)) ∙ old .only-unique z h)
             (λ h. getD-set-same equals i q 0 room ∙ zero (omega arith));
         rising = rising-step list m (m + r) i room' (omega (arith, small)) (old .below) (old .rising);
         listed = each (λ (j v : ℕ). v ≡ 0 → Listed (set list m i) (m + r) j)

@@ -81,7 +81,7 @@ find-all-requires c κs =
     let s = start h in
     let unique = d .deduplicate .ensures in
     record {
-      first = λ x k. unique .equal _ (unique .below x k) .none (unique .unique x k);
+      first = λ x k. unique .equal _ (unique .below x k) .none (unique .only-unique x k);
       rising = unique .rising;
       names = hashed-names h;
       places = omega (arith, s .pre .places);

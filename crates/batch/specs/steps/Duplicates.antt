@@ -85,7 +85,7 @@ pub record Deduplicated (xs : List (List ℕ)) (equals unique : List ℕ) (n r :
   pub equal : (i : ℕ) → i < n → EqualBefore xs i (getD equals i 0)
   pub count : r ≤ n
   pub below : (x : ℕ) → x < r → getD unique x 0 < n
-  pub unique : (x : ℕ) → x < r → IsUnique equals (getD unique x 0)
+  pub only-unique : (x : ℕ) → x < r → IsUnique equals (getD unique x 0)
   pub rising : RisingTo unique r
   pub listed : (i : ℕ) → i < n → IsUnique equals i → Listed unique r i
   pub listed-names : map (nth xs) (take r unique) ≡ different (take n xs)
