@@ -25,11 +25,17 @@ use Rattle.build.proofs.build_bulk.Tie as tie
 
 -- ---- places in the code, each told from a later one
 
+abbrev lent : tie.After-counts → tie.Start
+lent c = c .before .before .before .before .before .before .before .before
+
 abbrev start : tie.After-hash-all → tie.Start
-start c = c .before .before .before .before .before .before .before .before .before
+start c = lent (c .before)
+
+abbrev asked : tie.After-refuses → tie.After-hash-all
+asked c = c .before .before .before .before
 
 abbrev hashed : tie.After-build-tables → tie.After-hash-all
-hashed c = c .before .before .before .before .before .before .before .before
+hashed c = asked (c .before .before .before .before)
 
 abbrev tabled : tie.After-write-list → tie.After-build-tables
 tabled c = c .before .before .before .before .before .before .before
@@ -63,7 +69,7 @@ names-hashed c i h = c .hash-all .ensures .hashed .hashes-are i h ∙ key-hash (
 
 hash-all-requires : tie.Need-hash-all-requires
 hash-all-requires c κs =
-    let s = c .before .before .before .before .before .before .before .before in
+    let s = lent c in
     record {
       ends-rise = s .pre .list .packed;
       count-fits = omega (arith, sum-small (s .pre .list .ids-long) (s .pre .capacity .fits));
@@ -86,7 +92,7 @@ returns c =
 
 build-tables-requires : tie.Need-build-tables-requires
 build-tables-requires c κs =
-    let h = c .before .before .before .before .before .before .before in
+    let h = asked (c .before .before .before) in
     let s = start h in
     let small = sum-small (s .pre .list .ids-long) (s .pre .capacity .fits) in
     record {
