@@ -16,8 +16,11 @@ use Rattle.build.proofs.build_singly.Tie as tie
 
 -- ---- places in the code, each told from a later one
 
+abbrev known : tie.After-shared-slice-known3 → tie.Start
+known c = c .before .before .before .before
+
 abbrev start : tie.After-index-words → tie.Start
-start c = c .before .before .before .before .before .before .before
+start c = known (c .before .before .before)
 
 abbrev sized : tie.After-save-hashes → tie.After-index-words
 sized c = c .before .before .before
@@ -25,11 +28,20 @@ sized c = c .before .before .before
 abbrev saved : tie.After-clear-words → tie.After-save-hashes
 saved c = c .before .before .before .before
 
+abbrev slotted : tie.After-slots → tie.After-clear-words
+slotted c = c .before .before .before
+
 abbrev cleared : tie.After-put-list → tie.After-clear-words
-cleared c = c .before .before .before .before .before .before .before
+cleared c = slotted (c .before .before .before .before)
+
+abbrev relent : tie.After-slice-known8 → tie.After-put-list
+relent c = c .before .before .before .before .before .before
 
 abbrev put : tie.After-keep-accepted → tie.After-put-list
-put c = c .before .before .before .before .before .before .before .before .before
+put c = relent (c .before .before .before)
+
+abbrev kept : tie.After-finish-list → tie.After-keep-accepted
+kept c = c .before .before .before .before .before .before .before
 
 -- the beginning, and the words of the index
 abbrev begun : tie.After-clear-words → tie.Start
@@ -122,7 +134,7 @@ put-list-requires c κs =
 
 keep-accepted-requires : tie.Need-keep-accepted-requires
 keep-accepted-requires c κs =
-    let p = c .before .before .before .before .before .before .before .before in
+    let p = relent (c .before .before) in
     let z = cleared p in
     record {
       refusals-long =
@@ -176,7 +188,7 @@ finish-list-requires c κs =
 
 same-length-3 : tie.Need-same-length-3
 same-length-3 c =
-    let k = c .before .before .before .before .before .before .before .before .before in
+    let k = kept (c .before .before) in
     let p = put k in
     let z = cleared p in
     omega (arith, k .keep-accepted .kept .1 .1 .1 .0, scratch-long p, z .clear-words .kept, saved z .save-hashes .kept .1 .1 .1 .1 .0)
@@ -184,7 +196,7 @@ same-length-3 c =
 returns : tie.Need-returns
 returns c =
     let f = c .before .before in
-    let p = put (f .before .before .before .before .before .before .before) in
+    let p = put (kept f) in
     let s = begun (cleared p) in
     let a = s .args in
     list-built (a .mode) (a .repeats) (s .pre .list) (word-ids p) (p .put-list .ensures .leaves) (f .finish-list .ensures) (p .put-list .ensures .answers)

@@ -52,14 +52,18 @@ returns c =
     let out = unknown-build (a .mode) (a .repeats) (a .buf .now) (a .names .now) (a .ends .now) (a .ids .now) (a .refusals .now) (sym (c .before .known .ensures) ∙ not-true _ (c .if1 .taken)) in
     (out .0, (out .1, (out .2, λ h. refl)))
 
+-- the call, from the words that it leaves
+abbrev made : tie.After-slice-known6 → tie.After-build
+made c = c .before .before .before .before .before .before
+
 returns-2 : tie.Need-returns-2
 returns-2 c =
-    let out = told (c .before .before .before .before .before .before .before .before .before) in
+    let out = told (made (c .before .before .before)) in
     (ap (λ (b : Built). builtAnswer (builtOf b)) (sym (c .before .built .given .1)) ∙ out .0, (out .1, (out .2, λ h. absurd (omega (arith, h)))))
 
 returns-3 : tie.Need-returns-3
 returns-3 c =
-    let b = c .before .before .before .before .before .before .before .before .before in
+    let b = made (c .before .before .before) in
     let a = start b .args in
     let build = promised b in
     let out = told b in
