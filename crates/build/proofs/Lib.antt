@@ -5,7 +5,7 @@ pub mod Whole
 pub mod AllPut
 pub mod ListWhole
 pub mod BulkBuilt
-pub mod AcceptedHashes
+pub mod KeptHashes
 pub mod PutWays
 pub mod SinglePuts
 pub mod Theorem

@@ -1,6 +1,6 @@
 -- The puts of a list one by one: before each put, what is left to be put makes of what was put what the whole list leaves; and the record after
 -- the last one closes. Assumes nothing.
-use Prim.Native.Nat.{ℕ, _+_, _*_, _^_, _≤_, _<_}
+use Prim.Native.Nat.{ℕ, _+_, _^_, _≤_, _<_}
 use native.Mathlib.Omega.{arith}
 use native.Mathlib.Decide.{decLt}
 use native.Mathlib.Numerals.{add-one}
@@ -9,9 +9,8 @@ use mathlib.Core.Bool.{Bool, true, false, cond, _&&_, and-false}
 use mathlib.Core.List.{List, [], _∷_, _++_, append-assoc, append-nil}
 use mathlib.Core.Logic.{⊎-elim}
 use lib.Dec.{eqb}
-use lib.ListN.{length, getD, set, take, drop, length-set, drop-of-length-le, take-append-drop, List·getD-append, List·getD-eq-default}
+use lib.ListN.{length, getD, set, take, drop, length-set, drop-of-length-le, take-append-drop, List·getD-eq-default}
 use lib.Seq.{drop-cons, take-suc-set, drop-set-lt, getD-take, getD-drop, length-take-le}
-use Rattle.jhash.specs.NameHash.{hashOf}
 use Rattle.image.specs.declared.Mode.{Mode}
 use Rattle.image.specs.Bytes.{same}
 use Rattle.image.specs.Image.{Entry, headSize, containsName}
@@ -22,14 +21,11 @@ use Rattle.writer.specs.declared.Repeats.{Repeats}
 use Rattle.writer.specs.State.{State, fresh, refusesRepeats}
 use Rattle.writer.specs.Put.{putRefusal, writerAfterEntry, appended, afterPut, repeated, entryOf}
 use Rattle.writer.specs.Close.{recorded, closeRefusal, closedSize, afterClose}
-use Rattle.serialize.specs.steps.Preconditions.{FirstHashes}
-use Rattle.lists.specs.Calls.{Call, put, after, answers, accepted, acceptedBy, WordIds}
+use Rattle.lists.specs.Calls.{Call, put, after, answers, accepted, WordIds}
 use Rattle.lists.specs.Demand3.{answersOf, afterList, acceptedPuts}
 use Rattle.lists.proofs.ListWritten.{Written}
 use Rattle.lists.proofs.ListCloses.{close-accepted}
-use Rattle.lists.proofs.WrittenRecord.{written-recorded}
 use Rattle.lists.proofs.CallLists.{list-accepted, list-written}
-use Rattle.index.specs.Index.{slotCount}
 use Rattle.index.specs.steps.Part.{Closable, PartIndex}
 use Rattle.index.proofs.RightKept.{fresh-holds-none, right-fresh, part-fresh}
 use Rattle.build.specs.declared.Known.{Known}
@@ -37,8 +33,6 @@ use Rattle.build.specs.declared.Made.{Made}
 use Rattle.build.specs.declared.Built.the-variants.{Image}
 use Rattle.build.specs.Build.{callsOf, listed}
 use Rattle.build.specs.steps.Steps.{ListPre, ListBuilt, PutPost, Finished}
-use Rattle.build.specs.steps.Hashes.{keptFrom}
-use Rattle.build.proofs.AcceptedHashes.{hashes, accepted-kept, first-hashes, answers-number}
 use Rattle.build.proofs.Whole.{refusal-none, told-all, left-closed, built-made}
 use Rattle.build.proofs.AllPut.{word-ids}
 
@@ -237,30 +231,6 @@ module _ (mode : Mode) (repeats : Repeats) {buffer bytes ends ids refusals : Lis
   list-closes =
       ap closeRefusal is
       ∙ close-accepted mode repeats (length buffer) (accepted mode repeats (length buffer) cs) (afterList mode repeats buffer cs) left
-
-  -- the hashes that were kept are those of the first entries
-  pub list-known : (words saved : ℕ) (scratch : List ℕ) {refusalsThen : List ℕ} → refusalsThen ≡ answersOf mode repeats buffer (listed bytes ends ids) ++ drop (length ends) refusals
-      → saved ≤ length ends
-      → ((k : ℕ) → k < saved → getD scratch (words + 2 * k) 0 ≡ hashOf (nth (names bytes ends) k))
-      → {l : List ℕ} → l ≡ keptFrom refusalsThen words scratch 0 saved → FirstHashes l (recorded s)
-  unfolding acceptedPuts
-  list-known words saved scratch {refusalsThen} told few stored {l} are =
-      let xs = names bytes ends in
-      let rs = answersOf mode repeats buffer cs in
-      let n = length-names bytes ends in
-      let many = answers-number (fresh mode repeats buffer) xs ids (omega (arith, n, pre .ids-long)) in
-      let told-each : (k : ℕ) → k < saved → getD refusalsThen (0 + k) 0 ≡ getD rs k 0 =
-      λ k h.
-      let z : 0 + k ≡ k = omega arith in
-      ap (λ (j : ℕ). getD refusalsThen j 0) z ∙ ap (λ (a : List ℕ). getD a k 0) told ∙ List·getD-append rs (drop (length ends) refusals) 0 k (omega (arith, many, n, h, few)) in
-      let stored-each : (k : ℕ) → k < saved → getD scratch (words + 2 * (0 + k)) 0 ≡ hashOf (nth xs k) =
-      λ k h. let z : 0 + k ≡ k = omega arith in ap (λ (j : ℕ). getD scratch (words + 2 * j) 0) z ∙ stored k h in
-      let kept = accepted-kept refusalsThen words scratch saved 0 xs ids rs (omega (arith, n, few)) (omega (arith, n, pre .ids-long)) (omega (arith, many)) told-each stored-each in
-      let entries : recorded s ≡ acceptedPuts mode repeats buffer cs =
-      ap recorded is ∙ written-recorded mode repeats (length buffer) (accepted mode repeats (length buffer) cs) (afterList mode repeats buffer cs) left
-      ∙ sym (list-accepted mode repeats buffer (pre .head-fits) cs word) in
-      first-hashes l (hashes (acceptedBy (callsOf (drop saved xs) (drop saved ids)) (drop saved rs))) (recorded s)
-      (ap hashes entries ∙ kept ∙ ap (λ (a : List ℕ). a ++ hashes (acceptedBy (callsOf (drop saved xs) (drop saved ids)) (drop saved rs))) (sym are))
 
   counted : s .writer .entries ≡ length (acceptedPuts mode repeats buffer cs)
   counted =

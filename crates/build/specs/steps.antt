@@ -2,4 +2,3 @@
 pub mod Capacity
 pub mod Steps
 pub mod Stores
-pub mod Hashes

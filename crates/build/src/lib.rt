@@ -9,21 +9,19 @@ ghost use Rattle.build.specs.steps.Steps.{ListPre, ListBuilt, BulkPre, B
 use bulk_tables::build_tables;
 use bulk_tables::hashes::hash_all;
 use capacity::has_capacity;
-use hashes::keep_accepted;
-use hashes::save_hashes;
 use image::HEAD_SIZE;
 use image::HEAD_SIZE_64;
 use image::Mode;
 use image::scratch::clear_words;
 use packed::invalid_ends;
 use singly::index_words;
+use singly::kept_count;
 use singly::put_list;
 use stored::write_list;
 use writer::CQDBWriter;
 use writer::Repeats;
 
 mod capacity; // capacity.rt: has an image of all names room?
-mod hashes; // hashes.rt: the hashes of accepted names
 pub mod needs; // needs.rt: what a list needs
 mod singly; // singly.rt: the puts one by one
 mod stored; // stored.rt: the image of all names, whose tables are made before
@@ -81,14 +79,13 @@ fn build_singly(
     scratch: &mut [u32],
     known: Known,
 ) -> Built
-    requires { ⌜ SinglyPre repeats known (now buf) (now bytes) (now ends) (now ids) (now refusals) ⌝ }
+    requires { ⌜ SinglyPre repeats known (now buf) (now bytes) (now ends) (now ids) (now refusals) (now scratch) ⌝ }
     ensures { λ r. ⌜
         ListBuilt mode repeats (now (buf .entry)) (now (bytes .entry)) (now (ends .entry)) (now (ids .entry))
         (now (refusals .entry)) r (now (buf .exit)) (now (refusals .exit))
         ⌝ }
 {
     let words = index_words(repeats, ends.len(), scratch.len());
-    let saved = save_hashes(known.hashed, &*refusals, ends.len(), words, &mut *scratch);
     clear_words(&mut *scratch, words);
     let mut counts = [0; 256];
     let w = CQDBWriter {
@@ -99,19 +96,19 @@ fn build_singly(
         entries: 0,
         back: 0,
     };
-    let slots = &mut scratch[..words];
     let after = put_list(
         w,
         &mut counts,
         &mut *buf,
-        slots,
+        &mut *scratch,
+        words,
         bytes,
         ends,
         ids,
         &mut *refusals,
         known,
     );
-    let kept = keep_accepted(&*refusals, saved, words, &mut *scratch);
+    let kept = kept_count(known.hashed, after.entries);
     let hashes = &scratch[words..words + kept];
     Built::Image(finish_list(after, &counts, hashes, &mut *buf))
 }

@@ -2,14 +2,14 @@
 // name, otherwise those of tables in which the bulk path has found none. The others are looked for in an index in the
 // scratch memory, in constant time, or without memory by the rule's own put, which walks all earlier entries.
 ghost use mathlib.Core.Path.{_≡_};
-ghost use mathlib.Core.Bool.{true};
+ghost use mathlib.Core.Bool.{true, cond};
 ghost use Prim.Native.Nat.{_<_};
 ghost use lib.ListN.{length};
 ghost use Rattle.jhash.specs.NameHash.{hashOf};
 ghost use Rattle.image.specs.Tables.{tableOf};
 ghost use Rattle.writer.specs.State.{stateWith};
 ghost use Rattle.writer.specs.Put.{entryOf};
-ghost use Rattle.build.specs.steps.Steps.{IndexWords, HashGiven, KnownNew, PutPre, PutPost};
+ghost use Rattle.build.specs.steps.Steps.{IndexWords, HashGiven, KnownNew, PutPre, PutPost, keptIn};
 ghost use Rattle.build.specs.steps.Steps.{PutListPre, PutListPost};
 use super::Known;
 use index::NameFacts;
@@ -93,13 +93,39 @@ fn put_name(
     put_hashed(w, &mut *counts, &mut *buf, &mut *slots, name, id, facts)
 }
 
-// The puts of all names in their order, with the number of each put's refusal. If `known.hashed`, the place of each
-// refusal has the name's hash until the put.
+// Stores the hash of an accepted name, if hashes are known: the close that follows does not compute it again.
+fn keep_hash(hashed: bool, refusal: u32, h: u32, at: usize, scratch: &mut [u32])
+    requires { ⌜ (hashed ≡ true → at < length (now scratch)) ⌝ }
+    ensures { λ _. ⌜ now (scratch .exit) ≡ keptIn hashed refusal h at (now (scratch .entry)) ⌝ }
+{
+    if !hashed {
+        return;
+    }
+    if refusal != 0 {
+        return;
+    }
+    scratch[at] = h;
+}
+
+// The number of kept hashes: that of the entries if hashes are known, otherwise 0.
+pub(crate) fn kept_count(hashed: bool, entries: u32) -> usize
+    ensures { λ r. ⌜ r ≡ cond hashed entries 0 ⌝ }
+{
+    if !hashed {
+        return 0;
+    }
+    entries as usize
+}
+
+// The puts of all names in their order, with the number of each put's refusal. The first words of the scratch memory
+// are the index. If `known.hashed`, the place of each refusal has the name's hash until the put, and the hashes of
+// accepted names are kept behind the index.
 pub(crate) fn put_list(
     w: CQDBWriter,
     counts: &mut [u32; 256],
     buf: &mut [u8],
-    slots: &mut [u32],
+    scratch: &mut [u32],
+    words: usize,
     bytes: &[u8],
     ends: &[u64],
     ids: &[u32],
@@ -107,11 +133,12 @@ pub(crate) fn put_list(
     known: Known,
 ) -> CQDBWriter
     requires { ⌜
-        PutListPre w (now counts) (now buf) (now slots) (now bytes) (now ends) (now ids) (now refusals) known
+        PutListPre w (now counts) (now buf) (now scratch) words (now bytes) (now ends) (now ids) (now refusals) known
         ⌝ }
     ensures { λ r. ⌜
-        PutListPost w (now (buf .entry)) (now (bytes .entry)) (now (ends .entry)) (now (ids .entry))
-        (now (refusals .entry)) (stateWith r (now (counts .exit)) (now (buf .exit))) (now (refusals .exit))
+        PutListPost w (now (buf .entry)) words (now (bytes .entry)) (now (ends .entry)) (now (ids .entry))
+        (now (refusals .entry)) known (stateWith r (now (counts .exit)) (now (buf .exit))) (now (scratch .exit))
+        (now (refusals .exit))
         ⌝ }
 {
     let mut after = w;
@@ -119,16 +146,19 @@ pub(crate) fn put_list(
     while i < ends.len() {
         let name = nth_name(bytes, ends, i);
         let h = refusals[i];
+        let at = words + after.entries as usize;
+        let slots = &mut scratch[..words];
         let answer = put_name(
             after,
             &mut *counts,
             &mut *buf,
-            &mut *slots,
+            slots,
             name,
             ids[i],
             known,
             h,
         );
+        keep_hash(known.hashed, answer.refusal, h, at, &mut *scratch);
         after = answer.writer;
         refusals[i] = answer.refusal;
         i += 1;

@@ -43,6 +43,7 @@ build-singly-requires c κs =
         head-fits = omega (arith, p .head-fits, k .1 .1 .0);
       };
       facts = b .build-bulk .ensures .facts none;
+      room = λ t. omega (arith, start (lent b) .pre .capacity .scratch, k .1 .1 .1 .1 .1 .1 .1 .0);
     }
 
 returns-2 : tie.Need-returns-2

@@ -25,6 +25,7 @@ build-singly-requires c κs =
         distinct = λ off i j before inside table. absurd (omega arith);
         unhashed = λ t. refl;
       };
+      room = λ t. absurd (false-not-true t);
     }
 
 pub build-list-spec : {M : Type 1} → statement M

@@ -1,203 +1,117 @@
 -- `build::build_singly` meets its contract. Assumes nothing.
-use Prim.Native.Nat.{ℕ, _+_, _-_, _*_, _^_, _≤_, _<_}
+use Prim.Native.Nat.{ℕ, _+_, _-_, _^_, _≤_, _<_}
 use native.Mathlib.Omega.{arith}
-use mathlib.Core.Path.{_≡_, refl, sym, ap, _∙_}
-use mathlib.Core.List.{List, _++_}
+use mathlib.Core.Path.{_≡_, refl, sym, subst}
+use mathlib.Core.Bool.{true}
+use mathlib.Core.List.{List}
 use lib.ListN.{length, getD, take, drop}
-use lib.Seq.{length-take-le, length-front}
 use borrow.Author.Needs.{needs}
-use Rattle.jhash.specs.NameHash.{hashOf}
-use Rattle.packed.specs.Names.{names, nth}
-use Rattle.writer.specs.State.{fresh}
-use Rattle.build.proofs.AcceptedHashes.{behind-kept}
-use Rattle.build.proofs.SinglePuts.{slots-cleared, list-closes, list-known, list-built}
+use Rattle.serialize.specs.steps.Preconditions.{FirstHashes}
+use Rattle.writer.specs.State.{stateWith, fresh}
+use Rattle.writer.specs.Close.{recorded}
+use Rattle.build.proofs.KeptHashes.{kept-known, kept-inside}
+use Rattle.build.proofs.SinglePuts.{list-closes, list-built}
 use Rattle.build.proofs.build_singly.Statement.{statement}
 use Rattle.build.proofs.build_singly.Tie as tie
 
 -- ---- places in the code, each told from a later one
 
-abbrev known : tie.After-shared-slice-known3 → tie.Start
-known c = c .before .before .before .before
-
 abbrev start : tie.After-index-words → tie.Start
-start c = known (c .before .before .before)
+start c = c .before .before .before .before .before .before .before
 
-abbrev sized : tie.After-save-hashes → tie.After-index-words
-sized c = c .before .before .before
-
-abbrev saved : tie.After-clear-words → tie.After-save-hashes
-saved c = c .before .before .before .before
-
-abbrev slotted : tie.After-slots → tie.After-clear-words
-slotted c = c .before .before .before
+abbrev sized : tie.After-clear-words → tie.After-index-words
+sized c = c .before .before
 
 abbrev cleared : tie.After-put-list → tie.After-clear-words
-cleared c = slotted (c .before .before .before .before)
+cleared c = c .before .before .before .before .before .before .before
 
-abbrev relent : tie.After-slice-known8 → tie.After-put-list
-relent c = c .before .before .before .before .before .before
-
-abbrev put : tie.After-keep-accepted → tie.After-put-list
-put c = relent (c .before .before .before)
-
-abbrev kept : tie.After-finish-list → tie.After-keep-accepted
-kept c = c .before .before .before .before .before .before .before
+abbrev put : tie.After-kept-count → tie.After-put-list
+put c = c .before .before .before .before .before .before .before
 
 -- the beginning, and the words of the index
-abbrev begun : tie.After-clear-words → tie.Start
-begun c = start (sized (saved c))
+abbrev begun : tie.After-put-list → tie.Start
+begun c = start (sized (cleared c))
 
 abbrev words : tie.After-clear-words → ℕ
-words c = sized (saved c) .index-words .result
+words c = sized c .index-words .result
 
 -- ---- what the calls leave
 
--- the scratch memory with the slots cleared
-abbrev cleared-in : tie.After-clear-words → List ℕ
-cleared-in c = c .clear-words .last .0
-
-words-within : (c : tie.After-clear-words) → words c ≤ length (cleared-in c)
-words-within c =
-    omega (arith, sized (saved c) .index-words .ensures .within, saved c .save-hashes .kept .1 .1 .1 .1 .0, c .clear-words .kept)
-
--- the slots after the puts, the scratch memory with them, and the refusals
-abbrev slots-in : tie.After-put-list → List ℕ
-slots-in c = c .put-list .last .1 .1 .1 .0
-
+-- the scratch memory after the puts
 abbrev scratch-in : tie.After-put-list → List ℕ
-scratch-in c = slots-in c ++ drop (words (cleared c)) (cleared-in (cleared c))
+scratch-in c = c .put-list .last .1 .1 .1 .0
 
-abbrev refusals-in : tie.After-put-list → List ℕ
-refusals-in c = c .put-list .last .1 .1 .1 .1 .1 .1 .1 .0
+scratch-long : (c : tie.After-put-list) → length (scratch-in c) ≡ length (begun c .args .scratch .now)
+scratch-long c = omega (arith, c .put-list .kept .1 .1 .1 .0, cleared c .clear-words .kept)
 
-slots-long : (c : tie.After-put-list) → length (slots-in c) ≡ words (cleared c)
-slots-long c = c .put-list .kept .1 .1 .1 .0 ∙ length-take-le (words (cleared c)) (cleared-in (cleared c)) (words-within (cleared c))
+-- where hashes are known, there is room for one a name behind the index
+room : (c : tie.After-index-words) → let a = start c .args in a .known .hashed ≡ true
+    → c .index-words .result + length (a .ends .now) ≤ length (a .scratch .now)
+room c t = c .index-words .ensures .behind (start c .pre .room t)
 
-scratch-long : (c : tie.After-put-list) → length (scratch-in c) ≡ length (cleared-in (cleared c))
-scratch-long c = length-front (cleared-in (cleared c)) (slots-in c) (words (cleared c)) (c .put-list .kept .1 .1 .1 .0)
+-- the kept hashes lie in the scratch memory
+inside : (c : tie.After-kept-count) → words (cleared (put c)) + c .kept-count .result ≤ length (begun (put c) .args .scratch .now)
+inside c =
+    let p = put c in
+    let z = sized (cleared p) in
+    let a = begun p .args in
+    kept-inside (a .known .hashed) (z .index-words .result) (p .put-list .result .entries) (length (a .ends .now)) (length (a .scratch .now))
+    (c .kept-count .result) (c .kept-count .ensures) (p .put-list .ensures .few) (z .index-words .ensures .within) (room z)
 
--- the saved hashes are still there
-saved-inside : (c : tie.After-put-list) → words (cleared c) + 2 * saved (cleared c) .save-hashes .result ≤ length (scratch-in c)
-saved-inside c =
-    let z = cleared c in
-    omega (arith, saved z .save-hashes .ensures .inside, z .clear-words .kept, scratch-long c)
-
-still-saved : (c : tie.After-put-list) → let a = begun (cleared c) .args in (k : ℕ) → k < saved (cleared c) .save-hashes .result
-    → getD (scratch-in c) (words (cleared c) + 2 * k) 0 ≡ hashOf (nth (names (a .bytes .now) (a .ends .now)) k)
-still-saved c k h =
-    let z = cleared c in
-    let done = saved z .save-hashes .ensures in
-    behind-kept (slots-in c) (cleared-in z) (words z) (2 * k) (slots-long c)
-    ∙ z .clear-words .ensures .kept (words z + 2 * k) (omega arith)
-    ∙ done .saved k h
-    ∙ begun z .pre .facts .hashes (done .only (omega (arith, h))) k (omega (arith, h, done .few))
-
-word-ids : (c : tie.After-put-list) → let a = begun (cleared c) .args in (i : ℕ) → i < length (a .ends .now) → getD (a .ids .now) i 0 < 2 ^ 32
-word-ids c i h = omega (arith, sized (saved (cleared c)) .before .before .before .shared-slice-known3 .given i)
+word-ids : (c : tie.After-put-list) → let a = begun c .args in (i : ℕ) → i < length (a .ends .now) → getD (a .ids .now) i 0 < 2 ^ 32
+word-ids c i h = omega (arith, sized (cleared c) .before .before .before .shared-slice-known3 .given i)
 
 -- ---- the needs
-
-save-hashes-requires : tie.Need-save-hashes-requires
-save-hashes-requires c κs =
-    let w = c .before .before in
-    record { refusals-long = start w .pre .list .refusals-long; inside = w .index-words .ensures .within }
-
-clear-words-requires : tie.Need-clear-words-requires
-clear-words-requires c κs =
-    let s = c .before .before .before in
-    omega (arith, sized s .index-words .ensures .within, s .save-hashes .kept .1 .1 .1 .1 .0)
-
-slice-relend-prefix-slots : tie.Need-slice-relend-prefix-slots
-slice-relend-prefix-slots c = omega (arith, words-within (c .before .before))
-
-slice-aggregate-slots : tie.Need-slice-aggregate-slots
-slice-aggregate-slots c =
-    let z = c .before .before .before in
-    sym (length-take-le (words z) (cleared-in z) (words-within z))
 
 put-list-requires : tie.Need-put-list-requires
 unfolding fresh
 put-list-requires c κs =
     let z = c .before .before .before .before .before .before in
-    let s = begun z in
-    let a = s .args in
-    let n = words z in
-    let long : length (take n (cleared-in z)) ≡ n = length-take-le n (cleared-in z) (words-within z) in
+    let s = start (sized z) in
+    let told = sized z .index-words .ensures in
     record {
       list = s .pre .list;
       begun = refl;
-      cleared = slots-cleared (cleared-in z) n (words-within z) (z .clear-words .ensures .zero);
-      only-off = λ h. sized (saved z) .index-words .ensures .only-off (omega (arith, h, long));
-      enough = λ h. omega (arith, long, sized (saved z) .index-words .ensures .enough (omega (arith, h, long)));
+      within = omega (arith, told .within, z .clear-words .kept);
+      cleared = z .clear-words .ensures .zero;
+      only-off = told .only-off;
+      enough = told .enough;
       facts = s .pre .facts;
+      room = λ t. omega (arith, room (sized z) t, z .clear-words .kept);
     }
-
-keep-accepted-requires : tie.Need-keep-accepted-requires
-keep-accepted-requires c κs =
-    let p = relent (c .before .before) in
-    let z = cleared p in
-    record {
-      refusals-long =
-          omega (arith, saved z .save-hashes .ensures .few, begun z .pre .list .refusals-long, p .put-list .kept .1 .1 .1 .1 .1 .1 .1 .0);
-      inside = saved-inside p;
-    }
-
--- the kept hashes lie in the scratch memory
-kept-inside : (c : tie.After-keep-accepted)
-    → words (cleared (put c)) + c .keep-accepted .result ≤ length (c .keep-accepted .last .1 .1 .1 .0)
-kept-inside c = omega (arith, saved-inside (put c), c .keep-accepted .ensures .few, c .keep-accepted .kept .1 .1 .1 .0)
-
-kept-good : (c : tie.After-keep-accepted) → words (cleared (put c)) + c .keep-accepted .result < 2 ^ 62
-kept-good c =
-    let p = put c in
-    let z = cleared p in
-    omega
-    (arith, kept-inside c, c .keep-accepted .kept .1 .1 .1 .0, scratch-long p, z .clear-words .kept, saved z .save-hashes .kept .1 .1 .1 .1 .0, begun z .good)
 
 add-hashes : tie.Need-add-hashes
-add-hashes c = omega (arith, kept-good (c .before .before))
+add-hashes c = omega (arith, inside c, begun (put c) .good)
 
 mul-hashes : tie.Need-mul-hashes
-mul-hashes c = omega (arith, kept-good (c .before .before))
-
-sub-hashes : tie.Need-sub-hashes
-sub-hashes c = omega arith
-
-part-hashes-start : tie.Need-part-hashes-start
-part-hashes-start c = omega (arith, kept-inside (c .before .before .before))
+mul-hashes c = omega (arith, inside c, begun (put c) .good)
 
 part-hashes-end : tie.Need-part-hashes-end
-part-hashes-end c = omega (arith, kept-inside (c .before .before .before))
+part-hashes-end c = let k = c .before in omega (arith, inside k, scratch-long (put k))
 
 finish-list-requires : tie.Need-finish-list-requires
 finish-list-requires c κs =
-    let k = c .before .before .before .before .before .before in
+    let k = c .before .before .before .before in
     let p = put k in
-    let z = cleared p in
-    let s = begun z in
+    let s = begun p in
     let a = s .args in
+    let w = words (cleared p) in
     let done = p .put-list .ensures in
-    let n : words z + k .keep-accepted .result - words z ≡ k .keep-accepted .result = omega arith in
+    let r = k .kept-count .result in
+    let n : w + r - w ≡ r = omega arith in
+    let then = stateWith (p .put-list .result) (p .put-list .last .1 .0) (p .put-list .last .1 .1 .0) in
     record {
       closes = list-closes (a .mode) (a .repeats) (s .pre .list) (word-ids p) (done .leaves);
       known =
-          list-known (a .mode) (a .repeats) (s .pre .list) (word-ids p) (done .leaves) (words z) (saved z .save-hashes .result) (scratch-in p) (done .answers)
-          (saved z .save-hashes .ensures .few) (still-saved p)
-          (ap (λ (m : ℕ). take m (drop (words z) (k .keep-accepted .last .1 .1 .1 .0))) n ∙ k .keep-accepted .ensures .are);
+          subst (λ (m : ℕ). FirstHashes (take m (drop w (scratch-in p))) (recorded then)) (sym n)
+          (kept-known (a .known .hashed) w (scratch-in p) then r (k .kept-count .ensures) (done .hashes));
     }
-
-same-length-3 : tie.Need-same-length-3
-same-length-3 c =
-    let k = kept (c .before .before) in
-    let p = put k in
-    let z = cleared p in
-    omega (arith, k .keep-accepted .kept .1 .1 .1 .0, scratch-long p, z .clear-words .kept, saved z .save-hashes .kept .1 .1 .1 .1 .0)
 
 returns : tie.Need-returns
 returns c =
     let f = c .before .before in
-    let p = put (kept f) in
-    let s = begun (cleared p) in
+    let p = put (f .before .before .before .before .before) in
+    let s = begun p in
     let a = s .args in
     list-built (a .mode) (a .repeats) (s .pre .list) (word-ids p) (p .put-list .ensures .leaves) (f .finish-list .ensures) (p .put-list .ensures .answers)
 
@@ -206,19 +120,16 @@ build-singly-spec =
     tie.close
     (tie.spec
     (λ c κs. search needs)
-    save-hashes-requires
-    clear-words-requires
-    slice-relend-prefix-slots
-    slice-aggregate-slots
+    (λ c κs. search needs)
     put-list-requires
-    keep-accepted-requires
+    (λ c κs. search needs)
     add-hashes
     mul-hashes
-    sub-hashes
-    part-hashes-start
+    (λ c. search needs)
+    (λ c. search needs)
     part-hashes-end
     finish-list-requires
     (λ c. search needs)
     (λ c. search needs)
-    same-length-3
+    (λ c. search needs)
     returns)

@@ -1,10 +1,11 @@
 -- What the functions behind a whole list ask and give. No rule stands here: proofs/ joins it to the rules.
-use Prim.Native.Nat.{ℕ, _+_, _/_, _≤_, _<_}
+use Prim.Native.Nat.{ℕ, _+_, _*_, _/_, _≤_, _<_}
 use mathlib.Core.Path.{_≡_}
-use mathlib.Core.Bool.{Bool, true, false}
-use mathlib.Core.List.{List, [], _∷_, _++_}
+use mathlib.Core.Bool.{Bool, true, false, cond, _&&_}
+use mathlib.Core.List.{List, [], _∷_, _++_, map}
 use mathlib.Core.Logic.{_⊎_}
-use lib.ListN.{length, getD, drop}
+use lib.ListN.{length, getD, set, take, drop}
+use lib.Dec.{eqb}
 use Rattle.image.specs.Bytes.{same}
 use Rattle.image.specs.Tables.{tableOf}
 use Rattle.image.specs.Zero.{hasZero}
@@ -67,9 +68,12 @@ pub record KnownOf (repeats : Repeats) (known : Known) (bytes ends refusals : Li
   pub distinct : refusesRepeats repeats ≡ true → DistinctBelow bytes ends (known .distinct)
   pub unhashed : known .hashed ≡ false → known .distinct ≡ 0
 
-pub record SinglyPre (repeats : Repeats) (known : Known) (buffer bytes ends ids refusals : List ℕ) : Type 0 where
+-- hashes are known only with 6 words of scratch memory a name
+pub record SinglyPre (repeats : Repeats) (known : Known) (buffer bytes ends ids refusals scratch : List ℕ)
+    : Type 0 where
   pub list : ListPre buffer bytes ends ids refusals
   pub facts : KnownOf repeats known bytes ends refusals
+  pub room : known .hashed ≡ true → 6 * length ends ≤ length scratch
 
 -- a list that the bulk path is tried for
 pub record BulkPre (mode : Mode) (buffer bytes ends ids refusals scratch : List ℕ) : Type 0 where
@@ -88,9 +92,10 @@ pub record BulkTried (mode : Mode) (repeats : Repeats) (buffer bytes ends ids re
   pub facts : tried .size ≡ 0 → KnownOf repeats (tried .known) bytes ends refusalsThen
 
 -- how many words of the scratch memory are the index of n names: none, or at least a slot for each name; none where
--- repeats are accepted
+-- repeats are accepted; of 6 words a name, one a name is left behind them
 pub record IndexWords (repeats : Repeats) (n words r : ℕ) : Type 0 where
   pub within : r ≤ words
+  pub behind : 6 * n ≤ words → r + n ≤ words
   pub enough : 0 < r → n ≤ r / 2
   pub only-off : 0 < r → refusesRepeats repeats ≡ true
 
@@ -127,22 +132,35 @@ pub record PutPost (s : State) (slots : List ℕ) (e : Entry) (known : Known) (r
   pub index : 0 < length slots → PartIndex (known .distinct) then slotsThen
   pub held : (recorded then ≡ recorded s) ⊎ (recorded then ≡ recorded s ++ (e ∷ []))
 
--- the puts of a list by a fresh record
-pub record PutListPre (w : CQDBWriter) (counts buffer slots bytes ends ids refusals : List ℕ) (known : Known)
-    : Type 0 where
+-- the scratch memory with the hash of an accepted name stored, if hashes are known
+abbrev pub keptIn : Bool → ℕ → ℕ → ℕ → List ℕ → List ℕ
+keptIn hashed refusal h at scratch = cond (hashed && eqb refusal 0) (set scratch at h) scratch
+
+-- the hashes of the entries that a record holds stand behind the first words
+abbrev pub HashesBehind : ℕ → List ℕ → State → Type 0
+HashesBehind words scratch s =
+    take (s .writer .entries) (drop words scratch) ≡ map (λ (e : Entry). hashOf (e .name)) (recorded s)
+
+-- the puts of a list by a fresh record; the first words of the scratch memory are the index, and if hashes are known,
+-- there is room for them behind it
+pub record PutListPre (w : CQDBWriter) (counts buffer scratch : List ℕ) (words : ℕ)
+    (bytes ends ids refusals : List ℕ) (known : Known) : Type 0 where
   pub list : ListPre buffer bytes ends ids refusals
   pub begun : stateWith w counts buffer ≡ fresh (w .mode) (w .repeats) buffer
-  pub cleared : (i : ℕ) → getD slots i 0 ≡ 0
-  pub enough : 0 < length slots → length ends ≤ slotCount slots
-  pub only-off : 0 < length slots → refusesRepeats (w .repeats) ≡ true
+  pub within : words ≤ length scratch
+  pub cleared : (i : ℕ) → i < words → getD scratch i 0 ≡ 0
+  pub enough : 0 < words → length ends ≤ words / 2
+  pub only-off : 0 < words → refusesRepeats (w .repeats) ≡ true
   pub facts : KnownOf (w .repeats) known bytes ends refusals
+  pub room : known .hashed ≡ true → words + length ends ≤ length scratch
 
-pub record PutListPost (w : CQDBWriter) (buffer bytes ends ids refusals : List ℕ) (then : State)
-    (refusalsThen : List ℕ)
-    : Type 0 where
+pub record PutListPost (w : CQDBWriter) (buffer : List ℕ) (words : ℕ) (bytes ends ids refusals : List ℕ)
+    (known : Known) (then : State) (scratchThen refusalsThen : List ℕ) : Type 0 where
   pub leaves : then ≡ afterList (w .mode) (w .repeats) buffer (listed bytes ends ids)
   pub answers : refusalsThen
       ≡ answersOf (w .mode) (w .repeats) buffer (listed bytes ends ids) ++ drop (length ends) refusals
+  pub few : then .writer .entries ≤ length ends
+  pub hashes : known .hashed ≡ true → HashesBehind words scratchThen then
 
 -- a close that is known to be accepted leaves this
 pub record Finished (s : State) (made : Made) (bufferThen : List ℕ) : Type 0 where
