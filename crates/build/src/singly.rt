@@ -20,8 +20,8 @@ use writer::CQDBWriter;
 use writer::RecordAnswer;
 use writer::Repeats;
 
-// How many words of the scratch memory are the index of n names: two slots of two words a name, or what there is. 0
-// where there is less than a slot a name, and with repeats on, where no put looks for its name.
+// How many words of the scratch memory are the index of n names: 5 a name, or what there is; a slot has two. 0 where
+// there is less than a slot a name, and with repeats on, where no put looks for its name.
 pub(crate) fn index_words(repeats: Repeats, n: usize, words: usize) -> usize
     ensures { λ r. ⌜ IndexWords repeats n words r ⌝ }
 {
@@ -31,10 +31,10 @@ pub(crate) fn index_words(repeats: Repeats, n: usize, words: usize) -> usize
             if words / 2 < n {
                 return 0;
             }
-            if words / 4 < n {
+            if words / 5 < n {
                 return words;
             }
-            4 * n
+            5 * n
         }
     }
 }
