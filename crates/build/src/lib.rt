@@ -153,18 +153,23 @@ fn build_bulk(
     }
     let off = refuses(repeats);
     let built = build_tables(off, bytes, ends, &*refusals, &counts, &mut *scratch);
-    let distinct = built as u32;
-    let known = Known {
-        hashed: true,
-        clean: true,
-        distinct,
-    };
     if built < 256 {
+        let distinct = built as u32;
+        let known = Known {
+            hashed: true,
+            clean: true,
+            distinct,
+        };
         return Tried { size: 0, known };
     }
     let tables = &scratch[..4 * n];
     let size = write_list(mode, &mut *buf, bytes, ends, ids, &counts, tables);
     clear_words(&mut *refusals, n);
+    let known = Known {
+        hashed: true,
+        clean: true,
+        distinct: 256,
+    };
     Tried { size, known }
 }
 

@@ -110,7 +110,7 @@ clean : (t : tie.After-build-tables) → let a = start (hashed t) .args in NoZer
 clean t = hashed t .hash-all .ensures .no-zeros (not-false _ (t .before .before .before .before .before .if1 .left))
 
 cast-distinct : tie.Need-cast-distinct
-cast-distinct c = omega (arith, c .before .before .build-tables .ensures .most)
+cast-distinct c = omega (arith, c .if2 .taken)
 
 -- the names of the tables that are built are distinct
 distinct-below : (t : tie.After-build-tables) → let a = start (hashed t) .args in
