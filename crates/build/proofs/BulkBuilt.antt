@@ -62,11 +62,17 @@ module _ (mode : Mode) (repeats : Repeats) {buffer bytes ends ids refusals : Lis
             (cleared ∙ ap (λ (l : List ℕ). l ++ drop (length ends) refusals) (sym (answers-none mode repeats buffer bytes ends ids good many room fits words clean distinct)));
       }
 
-  pub gave-up : {refusalsThen : List ℕ} (known : Known) → drop (length ends) refusalsThen ≡ drop (length ends) refusals
+  pub gave-up : {refusalsThen : List ℕ} (known : Known) {told : Known} → told ≡ known → drop (length ends) refusalsThen ≡ drop (length ends) refusals
       → KnownOf repeats known bytes ends refusalsThen
-      → BulkTried mode repeats buffer bytes ends ids refusals (record { size = 0; known = known }) buffer refusalsThen
-  gave-up known rest facts =
-      record { count-fits = λ h. absurd (omega arith); built = λ h. absurd (omega arith); kept = λ e. refl; rest = λ e. rest; facts = λ e. facts }
+      → BulkTried mode repeats buffer bytes ends ids refusals (record { size = 0; known = told }) buffer refusalsThen
+  gave-up {refusalsThen} known same rest facts =
+      record {
+        count-fits = λ h. absurd (omega arith);
+        built = λ h. absurd (omega arith);
+        kept = λ e. refl;
+        rest = λ e. rest;
+        facts = λ e. subst (λ (k : Known). KnownOf repeats k bytes ends refusalsThen) (sym same) facts;
+      }
 
   -- single puts after the bulk path gave up: the buffer is as it was, and of the refusals what is behind the names
   pub built-after : {buffer′ refusals′ : List ℕ} → buffer′ ≡ buffer → length refusals′ ≡ length refusals → drop (length ends) refusals′ ≡ drop (length ends) refusals

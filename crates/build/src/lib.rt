@@ -6,6 +6,7 @@ ghost use Rattle.writer.specs.State.{stateWith, refusesRepeats};
 ghost use Rattle.writer.specs.steps.Closing.{WriteClosedPre};
 ghost use Rattle.build.specs.Build.{buildRefusal, building, bufferAfter, answersAfter, builtOf};
 ghost use Rattle.build.specs.steps.Steps.{ListPre, ListBuilt, BulkPre, BulkTried, SinglyPre, Finished};
+ghost use Rattle.build.specs.steps.Steps.{afterHashing};
 use bulk_tables::build_tables;
 use bulk_tables::hashes::hash_all;
 use capacity::has_capacity;
@@ -123,6 +124,17 @@ fn refuses(repeats: Repeats) -> bool
     }
 }
 
+// What is known of a list whose names are hashed.
+fn hashed(clean: bool, distinct: u32) -> Known
+    ensures { λ r. ⌜ r ≡ afterHashing clean distinct ⌝ }
+{
+    Known {
+        hashed: true,
+        clean,
+        distinct,
+    }
+}
+
 // Bulk path: builds all tables in the scratch memory, then writes the image in one pass. If a name is refused or may
 // be, the size that it gives is 0: then the buffer is as it was, and the refusals' places have the names' hashes.
 fn build_bulk(
@@ -144,32 +156,19 @@ fn build_bulk(
     let n = ends.len();
     let mut counts = [0; 256];
     if !hash_all(bytes, ends, &mut *refusals, &mut counts) {
-        let known = Known {
-            hashed: true,
-            clean: false,
-            distinct: 0,
-        };
+        let known = hashed(false, 0);
         return Tried { size: 0, known };
     }
     let off = refuses(repeats);
     let built = build_tables(off, bytes, ends, &*refusals, &counts, &mut *scratch);
     if built < 256 {
-        let distinct = built as u32;
-        let known = Known {
-            hashed: true,
-            clean: true,
-            distinct,
-        };
+        let known = hashed(true, built as u32);
         return Tried { size: 0, known };
     }
     let tables = &scratch[..4 * n];
     let size = write_list(mode, &mut *buf, bytes, ends, ids, &counts, tables);
     clear_words(&mut *refusals, n);
-    let known = Known {
-        hashed: true,
-        clean: true,
-        distinct: 256,
-    };
+    let known = hashed(true, 256);
     Tried { size, known }
 }
 

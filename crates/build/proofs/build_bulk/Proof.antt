@@ -2,7 +2,7 @@
 use Prim.Native.Nat.{ℕ, _*_, _^_, _≤_, _<_}
 use native.Mathlib.Omega.{arith}
 use mathlib.Core.Path.{_≡_, refl, sym, ap, _∙_}
-use mathlib.Core.Bool.{true}
+use mathlib.Core.Bool.{true, false}
 use mathlib.Core.List.{List, _++_}
 use lib.ListN.{length, getD, drop, replicate, length-replicate, getD-replicate}
 use lib.Seq.{length-take-le}
@@ -17,7 +17,7 @@ use Rattle.writer.specs.State.{refusesRepeats}
 use Rattle.bulk_tables.specs.steps.Contracts.{NoZeros}
 use Rattle.bulk_tables.proofs.Offsets.{names-short}
 use Rattle.bulk_tables.proofs.AllDistinct.{all-distinct}
-use Rattle.build.specs.steps.Steps.{HashesStored, DistinctBelow}
+use Rattle.build.specs.steps.Steps.{HashesStored, DistinctBelow, KnownOf, afterHashing}
 use Rattle.build.proofs.Needed.{sum-small}
 use Rattle.build.proofs.BulkBuilt.{refusals-cleared, all-built, gave-up}
 use Rattle.build.proofs.build_bulk.Statement.{statement}
@@ -80,15 +80,17 @@ hash-all-requires c κs =
 
 returns : tie.Need-returns
 returns c =
-    let h = c .before .before .before in
+    let h = c .before .before .before .before in
     let s = start h in
-    gave-up (s .args .mode) (s .args .repeats) (s .pre .list) _ (h .hash-all .ensures .rest)
-    (record {
+    let known = afterHashing false 0 in
+    let facts : KnownOf (s .args .repeats) known (s .args .bytes .now) (s .args .ends .now) (hashes-in h) =
+    record {
       hashes = λ t. names-hashed h;
       zero-free = λ t. absurd (false-not-true t);
       distinct = λ off i j before inside table. absurd (omega arith);
       unhashed = λ t. absurd (false-not-true (sym t));
-    })
+    } in
+    gave-up (s .args .mode) (s .args .repeats) (s .pre .list) known (c .hashed .ensures) (h .hash-all .ensures .rest) facts
 
 build-tables-requires : tie.Need-build-tables-requires
 build-tables-requires c κs =
@@ -109,8 +111,8 @@ build-tables-requires c κs =
 clean : (t : tie.After-build-tables) → let a = start (hashed t) .args in NoZeros (a .bytes .now) (a .ends .now) (length (a .ends .now))
 clean t = hashed t .hash-all .ensures .no-zeros (not-false _ (t .before .before .before .before .before .if1 .left))
 
-cast-distinct : tie.Need-cast-distinct
-cast-distinct c = omega (arith, c .if2 .taken)
+cast-hashed : tie.Need-cast-hashed
+cast-hashed c = omega (arith, c .if2 .taken)
 
 -- the names of the tables that are built are distinct
 distinct-below : (t : tie.After-build-tables) → let a = start (hashed t) .args in
@@ -122,16 +124,18 @@ distinct-below t off i j before inside table =
 
 returns-2 : tie.Need-returns-2
 returns-2 c =
-    let t = c .before .before .before in
+    let t = c .before .before .before .before in
     let h = hashed t in
     let s = start h in
-    gave-up (s .args .mode) (s .args .repeats) (s .pre .list) _ (h .hash-all .ensures .rest)
-    (record {
+    let known = afterHashing true (t .build-tables .result) in
+    let facts : KnownOf (s .args .repeats) known (s .args .bytes .now) (s .args .ends .now) (hashes-in h) =
+    record {
       hashes = λ k. names-hashed h;
       zero-free = λ k. clean t;
       distinct = distinct-below t;
       unhashed = λ k. absurd (false-not-true (sym k));
-    })
+    } in
+    gave-up (s .args .mode) (s .args .repeats) (s .pre .list) known (c .hashed2 .ensures) (h .hash-all .ensures .rest) facts
 
 mul-tables : tie.Need-mul-tables
 mul-tables c = let t = c .before .before .before in omega (arith, start (hashed t) .pre .capacity .scratch, start (hashed t) .good)
@@ -169,7 +173,7 @@ clear-words-requires c κs = omega (arith, hashes-long (hashed (tabled (c .befor
 
 returns-3 : tie.Need-returns-3
 returns-3 c =
-    let z = c .before .before in
+    let z = c .before .before .before in
     let w = z .before .before .before .before in
     let t = tabled w in
     let h = hashed t in
@@ -196,11 +200,13 @@ build-bulk-spec =
     tie.close
     (tie.spec
     hash-all-requires
+    (λ c κs. search needs)
     (λ c. search needs)
     returns
     (λ c κs. search needs)
     build-tables-requires
-    cast-distinct
+    cast-hashed
+    (λ c κs. search needs)
     (λ c. search needs)
     (λ c. search needs)
     returns-2
@@ -209,6 +215,7 @@ build-bulk-spec =
     slice-aggregate-tables
     write-list-requires
     clear-words-requires
+    (λ c κs. search needs)
     (λ c. search needs)
     (λ c. search needs)
     (λ c. search needs)

@@ -68,6 +68,10 @@ pub record KnownOf (repeats : Repeats) (known : Known) (bytes ends refusals : Li
   pub distinct : refusesRepeats repeats ≡ true → DistinctBelow bytes ends (known .distinct)
   pub unhashed : known .hashed ≡ false → known .distinct ≡ 0
 
+-- what is known once the names are hashed
+abbrev pub afterHashing : Bool → ℕ → Known
+afterHashing clean distinct = record { hashed = true; clean = clean; distinct = distinct }
+
 -- hashes are known only with 6 words of scratch memory a name
 pub record SinglyPre (repeats : Repeats) (known : Known) (buffer bytes ends ids refusals scratch : List ℕ)
     : Type 0 where
