@@ -33,49 +33,49 @@
      call                            time for each                            4,096   100,000   stack
      average                         entry                                       24        38       6
      begin                           call                                        14
-     build, 3 words for each name    name                                        22        38      41
-     build, 6 words for each name    name                                        12        18      41
-     build, no words, repeats off    name and earlier name                      5.1                41
-     build, no words, repeats on     name                                        27        32      41
+     build, 3 words for each name    name                                        23        39      41
+     build, 6 words for each name    name                                        13        18      41
+     build, no words, repeats off    name and earlier name                      5.2                41
+     build, no words, repeats on     name                                        21        26      41
      build_needs                     id                                         0.2       0.2
-     bundle_append                   image in the file                          2.1
+     bundle_append                   image in the file                          2.3
      bundle_append                   image of 157,720 bytes, its copy         2,684
-     bundle_count                    image                                      2.1
-     bundle_open                     image up to the one that is opened         2.3
+     bundle_count                    image                                      1.9
+     bundle_open                     image up to the one that is opened         2.5
      canonical                       entry                                       12        17       6
      close                           entry                                       11        16      39
      grown                           call                                       2.7
      hash                            name of 9 bytes                            3.8
      hash                            name of 1,024 bytes                        300
-     home                            call                                        12        29
-     index                           entry                                       10        17       2
+     home                            call                                        12        31
+     index                           entry                                      9.9        17       2
      index_words                     call                                       1.3
      lengths                         entry                                       24        38       6
-     load                            load of 4,096 entries                  123,564                39
-     moved                           call                                        15        33
+     load                            load of 4,096 entries                  124,275                39
+     moved                           call                                        15        34
      name_on                         call with one window                        10
      name_on                         window of a thousand                       3.3
-     name_round                      id                                         1.3       2.6
+     name_round                      id                                         1.3       2.7
      next_change                     id up to the change                        2.9       2.9
-     one_to_one                      entry                                       27        41       6
+     one_to_one                      entry                                       26        41       6
      open                            call                                        88        88
      page                            line                                       6.9       7.8
-     page_length                     call                                       1.5       1.6
+     page_length                     call                                       1.6       1.6
      page_part                       line                                       6.9       7.8
-     panel                           call                                       5.4       8.6
+     panel                           call                                       5.4       9.5
      put, repeats off                earlier entry                              4.1       4.1       2
      put, repeats on                 call                                        23        23
      put_indexed                     call                                        14        23
      readings_agree                  id below the back size                     3.1       3.1
      references_first                pair and id of the round, at most          0.4
-     round                           name that is found                          14        17      14
-     round                           name that is absent                         15        17
+     round                           name that is found                          14        18      14
+     round                           name that is absent                         14        18
      sheet_read                      call                                       2.7
      sheet_write                     id                                         0.5
      size_hint                       call                                       1.4       1.4
      to_id                           name that is found                          10        22
      to_id                           name that is absent                        9.1        17
-     to_str                          call                                       1.9       3.2
+     to_str                          call                                       1.9       3.4
      version_number                  call                                       1.3
 
    When an image can be read: from the cqdb_close that made it to the next accepted cqdb_put in the same buffer, or from a
@@ -550,9 +550,9 @@ cqdb_build_answer cqdb_build_parts(uint32_t mode, uint32_t repeats, uint8_t *buf
    The words at work are scratch memory, lent for speed: how many there are, and what they hold, changes no answer, and what they
    hold afterwards is unspecified. What a list of n names costs, by the words and by the list:
    - 6n words, and room in the buffer for all names: linear. All tables are made first, then the image is written in one pass. Where
-     a name is refused, the names are put one by one instead. That is linear, too. Measured beside a list whose names are all
-     accepted, on an AMD EPYC, it takes 1.8 times as long with a repeated name at 4,096 names, 2.1 to 2.3 times at 100,000 and
-     some three times at 1,000,000; with a zero byte in a name 1.7, 1.9 and 2.7 times; with repeats on 1.7, 1.9 and 1.8 times.
+     a name is refused, the names are put one by one instead. That is linear, too. Up to 100,000 names it takes at most twice as long
+     as a list whose names are all accepted: on an AMD EPYC, at 4,096, 100,000 and 1,000,000 names, up to 1.8, 1.9 and 2.8 times with
+     a repeated name, 1.8, 1.9 and 3.5 times with a zero byte in a name, and 1.5, 1.3 and 1.1 times with repeats on.
    - 4n words: linear. Each put looks into an index of the names. There is an index from 2n words on, but the fuller it gets the
      more slots a put reads: with 2n words 100,000 names took 7 times as long as with 4n.
    - Fewer than 2n words: with repeats on linear, since no put looks for its name; with repeats off quadratic, since each put walks
