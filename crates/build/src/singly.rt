@@ -6,7 +6,6 @@ ghost use mathlib.Core.Bool.{true, cond};
 ghost use Prim.Native.Nat.{_<_};
 ghost use lib.ListN.{length};
 ghost use Rattle.jhash.specs.NameHash.{hashOf};
-ghost use Rattle.image.specs.Tables.{tableOf};
 ghost use Rattle.writer.specs.State.{stateWith};
 ghost use Rattle.writer.specs.Put.{entryOf};
 ghost use Rattle.build.specs.steps.Steps.{IndexWords, HashGiven, KnownNew, PutPre, PutPost, keptIn};

@@ -3,9 +3,6 @@
 ghost use mathlib.Core.Path.{_≡_};
 ghost use Rattle.writer.specs.State.{stateWith};
 ghost use Rattle.writer.specs.Put.{entryOf};
-ghost use Prim.Native.Nat.{_<_};
-ghost use lib.ListN.{length};
-ghost use Rattle.jhash.specs.NameHash.{hashOf};
 ghost use Rattle.index.specs.Promise.{PutIndexed, Indexed};
 ghost use Rattle.index.specs.steps.Checks.{FactsOf};
 ghost use Rattle.index.specs.steps.Decided.{Decided, PutHashed, PutNew};
@@ -116,8 +113,8 @@ pub fn put_hashed(
     RecordAnswer { refusal: 0, writer }
 }
 
-// A put of a name that is no duplicate, as the caller knows: by an index, or because repeats are on. It looks at no
-// entry, and of the counts at one.
+// A put of a name that is no duplicate, as the caller knows: no earlier name is equal, or repeats are on. It looks at
+// no entry, and of the counts at one.
 pub fn put_new(
     w: CQDBWriter,
     counts: &mut [u32; 256],
