@@ -415,7 +415,7 @@ static inline void cqdb_keep(cqdb_writer *w, cqdb_record r) {
 /* Begins with the choice that `repeats` names: what cqdb_begin and cqdb_begin_repeats do. */
 CQDB_LENGTH_ALONE(4) CQDB_INLINED
 static inline uint32_t cqdb_begin_with(cqdb_writer *w, uint32_t mode, uint32_t repeats, const uint8_t *buf, size_t len) {
-    return cqdb_begin_parts(mode, repeats, (uint32_t *)w, (uint64_t *)w + 2, w->counts, buf, len);
+    return cqdb_begin_parts(mode, repeats, &w->mode, &w->length, w->counts, buf, len);
 }
 
 /* Makes *w, whatever it held, a fresh writer for the buffer: the mode, repeats off, the buffer's length, end 2,072,
@@ -517,7 +517,7 @@ static inline uint32_t cqdb_index(const cqdb_writer *w, const uint8_t *buf, size
    buffer, or the count of the name's table cannot be raised. The other counts are not looked at. */
 static inline uint32_t cqdb_put_indexed(cqdb_writer *w, uint8_t *buf, size_t len, uint32_t *slots, size_t n,
                                         const uint8_t *name, size_t name_len, uint32_t id) {
-    return cqdb_put_indexed_parts((uint32_t *)w, (uint64_t *)w + 2, w->counts, buf, len, slots, n, name, name_len, id);
+    return cqdb_put_indexed_parts(&w->mode, &w->length, w->counts, buf, len, slots, n, name, name_len, id);
 }
 
 /* The same of a name that is a C string. */
@@ -742,8 +742,9 @@ typedef struct {
 cqdb_moved_answer cqdb_moved(const uint8_t *old_image, size_t old_len, const uint8_t *new_image, size_t new_len, uint32_t id);
 
 /* A whole round in one call, in both directions. The archive exports cqdb_round_words and cqdb_name_round_words, which take the
-   answers as words of 32 bits, four to an answer, as the structs above lie in memory; cqdb_round and cqdb_name_round hand the
-   answers over so. */
+   answers as words of 32 bits, four to an answer, as the structs above lie in memory on x86-64: the low half of a 64-bit start
+   comes first. cqdb_round and cqdb_name_round hand over the address of the first answer's first word. The archive is compiled apart
+   from the program, so to the program's compiler the call may change all of the answers, whatever their type. */
 
 /* refusal is 0 when the round was accepted; buckets is 0 when it was refused. */
 typedef struct {
@@ -762,14 +763,14 @@ uint32_t cqdb_name_round_words(const uint8_t *image, size_t len, const uint32_t 
    written: 14 for more than 512 names, or an end below the one before or above names_len; 15 for fewer places than names. */
 static inline cqdb_round_answer cqdb_round(const uint8_t *image, size_t len, const uint8_t *names, size_t names_len,
                                            const uint64_t *ends, size_t n, cqdb_id_answer *answers, size_t places) {
-    return cqdb_round_words(image, len, names, names_len, ends, n, (uint32_t *)answers, 4 * places);
+    return cqdb_round_words(image, len, names, names_len, ends, n, places == 0 ? NULL : &answers->found, 4 * places);
 }
 
 /* The names of up to 512 ids: answers[i] is what cqdb_to_str gives for ids[i], and places past the n-th keep their content. Gives
    0, or the first refusal that applies, and then nothing is written: 14 for more than 512 ids, 15 for fewer places than ids. */
 static inline uint32_t cqdb_name_round(const uint8_t *image, size_t len, const uint32_t *ids, size_t n,
                                        cqdb_str_answer *answers, size_t places) {
-    return cqdb_name_round_words(image, len, ids, n, (uint32_t *)answers, 4 * places);
+    return cqdb_name_round_words(image, len, ids, n, places == 0 ? NULL : &answers->found, 4 * places);
 }
 
 #ifdef __cplusplus

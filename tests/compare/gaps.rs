@@ -1,5 +1,6 @@
 // The gaps between the Rust and document 01 that docs/DIFFERENCES.md lists, tried on both. Each case runs the Rust in a process
-// of its own with limits on time and memory, since some never end and some want more memory than there is.   gaps [CASE]
+// of its own with limits on time and memory, since some never end and some want more memory than there is.   gaps [quick | CASE]
+// quick: the cases that take at most three seconds.
 mod archive;
 
 use archive::Record;
@@ -212,17 +213,20 @@ fn apart(case: &Case) -> String {
 }
 
 fn main() {
-    if let Some(name) = std::env::args().nth(1) {
+    let argument = std::env::args().nth(1);
+    let quick = argument.as_deref() == Some("quick");
+    if let Some(name) = argument.filter(|_| !quick) {
         let case = CASES.iter().find(|case| case.name == name).expect("a case");
         return println!("{}", (case.rust)());
     }
-    let mut failed = 0;
-    for case in &CASES {
+    let (mut tried, mut failed) = (0, 0);
+    for case in CASES.iter().filter(|case| !quick || case.seconds <= 3) {
+        tried += 1;
         let (rust, here) = (apart(case), (case.archive)());
         let as_listed = (rust.as_str(), here.as_str()) == case.want;
         failed += i32::from(!as_listed);
         println!("gaps: {}: the Rust: {rust}; here: {here}{}", case.name, if as_listed { "" } else { "   NOT AS LISTED" });
     }
-    println!("gaps: {} tried, {failed} not as listed", CASES.len());
+    println!("gaps: {tried} tried, {failed} not as listed");
     std::process::exit(i32::from(failed > 0));
 }
