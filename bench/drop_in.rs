@@ -1,10 +1,13 @@
 // The drop-in: the same lines over the interface of cqdb-rs, built with the Rust crate of this repository and with the original. Ids
-// are asked in order and by a walk, names in an order that jumps about. Images are written to a stream in memory that grows; ours
-// refuses a name that it holds, which the original does not look for.
+// are asked in order and by a walk, names in an order that jumps about. Images are written to a stream in memory that grows, like
+// beside like: where repeats are refused, beside the original with a HashSet of the names; where they are taken, beside the original
+// as it is, which looks for none.
 use crate::names::{mixed, Names};
 use crate::reading::image;
 use crate::table::{self, best};
+use std::collections::HashSet;
 use std::hint::black_box;
+use std::io::Cursor;
 
 /// The lines of one side, over a crate that is called cqdb in a user's program.
 macro_rules! side {
@@ -13,14 +16,13 @@ macro_rules! side {
             use std::io::Cursor;
             use $cqdb::{CQDBWriter, CQDB};
 
-            pub fn write(names: &[&str]) -> Vec<u8> {
-                let mut stream = Cursor::new(Vec::new());
-                let mut writer = CQDBWriter::new(&mut stream).expect("a stream in memory");
+            /// Puts the names that `wanted` takes.
+            pub fn put<'a>(mut writer: CQDBWriter<&mut Cursor<Vec<u8>>>, names: &[&'a str], mut wanted: impl FnMut(&'a str) -> bool) {
                 for (id, name) in names.iter().enumerate() {
-                    writer.put(name, id as u32).expect("a name that is put once");
+                    if wanted(name) {
+                        writer.put(name, id as u32).expect("a name that is put once");
+                    }
                 }
-                drop(writer);
-                stream.into_inner()
             }
 
             pub fn open(image: &[u8]) -> CQDB<'_> {
@@ -59,16 +61,42 @@ fn sides(repetitions: usize, n: usize, ours: impl Fn() -> usize, rust: impl Fn()
     best(repetitions, n, || kept(ours()), || kept(rust()))
 }
 
-// Both write one image.
-fn writing(names: &[&str], repetitions: usize) {
-    assert!(ours::write(names) == rust::write(names), "the same image");
-    let times = best(repetitions, names.len(), || drop(black_box(ours::write(names))), || drop(black_box(rust::write(names))));
-    table::row(&format!("the crate: CQDBWriter, an entry of {}", names.len()), times, None);
+// What a writer leaves in a stream in memory.
+fn written(write: impl FnOnce(&mut Cursor<Vec<u8>>)) -> Vec<u8> {
+    let mut stream = Cursor::new(Vec::new());
+    write(&mut stream);
+    stream.into_inner()
+}
+
+// Both write one image, and both refuse repeats.
+fn unique(names: &[&str], repetitions: usize) {
+    let ours = || written(|stream| ours::put(lithwennog::CQDBWriter::new(stream).expect("a stream"), names, |_| true));
+    let rust = || {
+        let mut held = HashSet::new();
+        written(|stream| rust::put(cqdb::CQDBWriter::new(stream).expect("a stream"), names, |name| held.insert(name)))
+    };
+    compare("CQDBWriter beside cqdb-rs and a HashSet", names.len(), repetitions, ours, rust);
+}
+
+// Both write one image, and neither looks for repeats.
+fn repeated(names: &[&str], repetitions: usize) {
+    let flag = lithwennog::Flag::NONE;
+    let ours = || written(|stream| ours::put(lithwennog::CQDBWriter::with_repeats(stream, flag).expect("a stream"), names, |_| true));
+    let rust = || written(|stream| rust::put(cqdb::CQDBWriter::new(stream).expect("a stream"), names, |_| true));
+    compare("CQDBWriter with repeats", names.len(), repetitions, ours, rust);
+}
+
+fn compare(what: &str, n: usize, repetitions: usize, ours: impl Fn() -> Vec<u8>, rust: impl Fn() -> Vec<u8>) {
+    assert!(ours() == rust(), "the same image");
+    let times = best(repetitions, n, || drop(black_box(ours())), || drop(black_box(rust())));
+    table::row(&format!("the crate: {what}, an entry of {n}"), times, None);
 }
 
 pub fn run() {
     for (n, repetitions) in [(4_096, 3_000), (100_000, 100), (1_000_000, 15)] {
-        writing(&Names::new('p', 9, 0..n).all(), repetitions);
+        let names = Names::new('p', 9, 0..n);
+        unique(&names.all(), repetitions);
+        repeated(&names.all(), repetitions);
     }
     for (n, repetitions) in [(4_096, 3_000), (100_000, 300), (1_000_000, 31)] {
         let image = image(&Names::new('p', 9, 0..n).all());

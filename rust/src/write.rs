@@ -125,6 +125,11 @@ impl MemoryWriter {
         None
     }
 
+    /// The bytes of the entries from an offset on, which is an entry's or the end's.
+    pub(crate) fn entries_from(&self, offset: usize) -> &[u8] {
+        &self.buffer[offset..self.record.end as usize]
+    }
+
     /// Closes the writer and gives the finished image.
     pub fn finish(mut self) -> Result<Vec<u8>, Refusal> {
         let closed = archive::close(self.record, &self.counts, &mut self.buffer);
