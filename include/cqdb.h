@@ -118,7 +118,7 @@ extern "C" {
    changes no byte of what it is lent, the writer included. docs/FORMAT.md has the same table. */
 #define CQDB_TOO_SHORT 1u        /* begin, open, load, build: under 2,072 bytes */
 #define CQDB_UNFIT 2u            /* begin, put, close, grown, build, put_indexed, index: the writer does not fit the buffer, or mode or
-                                    repeats is neither 0 nor 1 */
+                                    repeats is neither 0 nor 1; put_indexed looks at length, end and one count */
 #define CQDB_NO_ROOM 3u          /* put, bundle_append, put_indexed: the image would exceed the buffer; puts: or 4,294,967,295 bytes */
 #define CQDB_INCONSISTENT 4u     /* put, close, index: the buffer's entries are not the writer's (put asks with repeats off only), or
                                     the image that close would write is too large */
@@ -187,7 +187,7 @@ typedef struct {
 } cqdb_hash_answer;
 
 /* The hash of a name with a start value (images use 0): lookup3's hashlittle over the name and one zero byte, which the
-   caller does not append. Refusal: 9, before a byte of the name is read. */
+   caller does not append. Refusal: 9. */
 cqdb_hash_answer cqdb_hash(const uint8_t *name, size_t len, uint32_t start);
 
 /* The same of a name that is a C string. */
@@ -488,8 +488,8 @@ static inline cqdb_close_answer cqdb_close(const cqdb_writer *w, uint8_t *buf, s
    buffer's bytes from 2,072 to w->end and the words were changed by cqdb_put_indexed, cqdb_close and cqdb_grown alone; refused
    calls of any kind do not matter. For a writer that is fresh from cqdb_begin, words that are all 0 are right as well. Whatever
    else the words hold, no call touches anything outside what it is lent, each call ends, a refusal changes nothing, and an
-   accepted put appends exactly its entry; but it may be refused with 16 or 24 without need, or accept a name that an earlier
-   entry has. */
+   accepted put appends exactly its entry, whose name has no zero byte; but a put may be refused with 16 or 24 without need, or a
+   name be accepted that an earlier entry has. */
 
 /* How many words to lend for so many names: 4 for each, so that the index is half full at the end; 2^64 - 1 where that is more
    than a size can be. An index of n words, an odd last one apart, has room for n / 2 names. The fuller it gets the longer a put
@@ -513,8 +513,13 @@ static inline uint32_t cqdb_index(const cqdb_writer *w, const uint8_t *buf, size
 /* By a right index: cqdb_put with the writer's own choice of repeats, and the index is right again. Gives 0, or put's refusals in
    put's order (2, 13, 16, 3; not 4, since the entries of a right index are the writer's), or else 24 when every slot is taken; the
    put would be accepted by a larger index. Appends the entry, raises the writer's numbers and writes the two words of a slot, and
-   changes no other byte. By any other words: see above; 2 is given when the writer's mode, repeats, length or end does not fit the
-   buffer, or the count of the name's table cannot be raised. The other counts are not looked at. */
+   changes no other byte.
+
+   By any other words, and with any writer, it gives the first that applies: 2 when the writer's mode, repeats, length or end does not
+   fit the buffer; 13 when the name has a zero byte; 3 for a name of 4,294,967,295 bytes or more; 16 when repeats are off and a slot,
+   before the first empty one from hash / 256 modulo n / 2 on, has the name's hash and the offset of an entry of this name before
+   w->end; 3 when the finished size is too large, as in cqdb_put; 2 when the count of the name's table cannot be raised; 24 when no
+   slot is empty; else 0. Other counts and other entries are not looked at: where cqdb_put gives 2 or 4 for them, this may give 0. */
 static inline uint32_t cqdb_put_indexed(cqdb_writer *w, uint8_t *buf, size_t len, uint32_t *slots, size_t n,
                                         const uint8_t *name, size_t name_len, uint32_t id) {
     return cqdb_put_indexed_parts(&w->mode, &w->length, w->counts, buf, len, slots, n, name, name_len, id);

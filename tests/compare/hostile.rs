@@ -4,6 +4,7 @@
 // reading changes none, and every place in an answer lies in what was lent.
 // hostile [CALLS | too-much]
 mod archive;
+mod by_slots;
 mod damage;
 mod names;
 mod original;
@@ -368,8 +369,9 @@ impl Run {
         let mut slots = before.clone();
         let name = if random.once_in(2) { names[random.below(names.len())].clone() } else { exact(&names::any(random)) };
         let id = random.pick(&[0, 9, s.record.back, 0xffff_fffe, 0xffff_ffff]);
+        let due = by_slots::refusal(&record, &counts, &buf, &slots, (&name, archive::hash(&name, 0).hash), id);
         let refusal = archive::put_indexed(&mut record, &mut counts, &mut buf, &mut slots, &name, id);
-        self.tally.rule([0, 2, 3, 13, 16, 24].contains(&refusal), true, || format!("a put by an index gave {refusal}"));
+        self.tally.rule(refusal, due, || format!("a put of {name:?} under {id} by an index"));
         if refusal > 0 {
             self.unchanged((*record, &counts, &buf), s, "a refused put by an index");
             self.tally.rule(&slots, &before, || "the slots after a refused put".into());

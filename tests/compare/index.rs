@@ -1,9 +1,11 @@
 // Puts by an index through the archive, beside puts without one: the same names in two buffers, with closes, growth and indexes made
 // again between them, two-way and one-way, repeats off and on, by indexes that are large, nearly full or full. After each call the
 // record, the counts, every byte of the buffer and every word of the slots are compared; the slots with an insertion told once more
-// in plain Rust. Then slots of any words, and records that do not fit: nothing outside what is lent changes, each call ends, a refusal
-// changes nothing, and an accepted put leaves exactly its entry and its slot.   index [PUTS]
+// in plain Rust. Then slots of any words, and records that do not fit: the refusal is that of the checks in their order, told once more
+// in plain Rust; nothing outside what is lent changes, each call ends, a refusal changes nothing, and an accepted put leaves exactly its
+// entry and its slot.   index [PUTS]
 mod archive;
+mod by_slots;
 mod plain;
 mod seed;
 mod tally;
@@ -118,6 +120,7 @@ struct Run {
     indexes: u64,
     wild: u64,
     refused: [u64; 25],
+    wild_refused: [u64; 25],
 }
 
 /// Two writers of one list: with an index and without.
@@ -253,14 +256,17 @@ impl Run {
 
     /// A put by any words, and with any record: what is accepted leaves its entry and its slot, what is refused leaves all.
     fn wild(&mut self, random: &mut Random, names: &Names) {
-        let mut s = wild_state(random, names);
+        let (mut s, put) = wild_state(random, names);
         let before = s.clone();
-        let name = names.any(random);
+        let again = !put.is_empty() && random.once_in(3);
+        let name = if again { put[random.below(put.len())].clone() } else { names.any(random) };
         let id = random.pick(&[0, 1, 20, 500, u32::MAX]);
+        let Writer { record, counts, .. } = &s.writer;
+        let due = by_slots::refusal(record, counts, s.buf.seen(), s.slots.seen(), (&name, plain::hash(&name)), id);
         let refusal = s.put(&name, id);
         self.tally.rule(s.guarded(), true, || "what stands around wild slots".into());
-        let known = [0, 2, 3, 13, 16, 24].contains(&refusal);
-        self.tally.rule(known, true, || format!("a put by wild slots gave {refusal}"));
+        self.tally.rule(refusal, due, || format!("a put of {name:?} under {id} by wild slots"));
+        self.wild_refused[refusal as usize] += 1;
         if refusal == 0 {
             let mut due = before;
             appended(&mut due, &name, id);
@@ -275,8 +281,12 @@ impl Run {
             self.tally.rule(s.same(&before), true, || format!("what a put by wild slots refused with {refusal} leaves"));
         }
         let before = s.clone();
-        let refusal = archive::index(s.writer.record, &s.writer.counts, s.buf.seen(), s.slots.inner());
-        self.tally.rule([0, 2, 4, 24].contains(&refusal), true, || format!("an index over wild slots gave {refusal}"));
+        let Writer { record, counts, .. } = s.writer;
+        let closed = archive::close(record, &counts, &mut s.buf.seen().to_vec()).refusal;
+        let many = s.slots.seen().len() / 2 < record.entries as usize;
+        let due = if closed == 0 && many { 24 } else { closed };
+        let refusal = archive::index(record, &counts, s.buf.seen(), s.slots.inner());
+        self.tally.rule(refusal, due, || "an index over wild slots".into());
         self.tally.rule(s.guarded() && s.writer == before.writer && s.buf.all == before.buf.all, true, || "what an index leaves".into());
         if refusal > 0 {
             self.tally.rule(s.same(&before), true, || format!("what an index refused with {refusal} leaves"));
@@ -299,22 +309,28 @@ fn appended(s: &mut Indexed, name: &[u8], id: u32) {
     }
 }
 
-/// Some puts, then slots of any words, some of them offsets and hashes of entries, and in half of all cases a record that is spoilt.
-fn wild_state(random: &mut Random, names: &Names) -> Indexed {
+/// Some puts, and their names; then slots of any words, some of them offsets and hashes of entries, or a right index of which some words
+/// are changed; and in half of all cases a record that is spoilt.
+fn wild_state(random: &mut Random, names: &Names) -> (Indexed, Vec<Vec<u8>>) {
     let room = HEAD + random.below(600);
     let mut buf = random.bytes(room);
     let mut counts = [0; 256];
     let mut record = archive::begin(random.below(2) as u32, random.below(2) as u32, &mut counts, &buf).record;
     let mut some = vec![0, 1, HEAD as u32, u32::MAX, room as u32 - 1];
+    let mut put = vec![];
     for id in 0..random.below(8) as u32 {
         let name = names.any(random);
         some.extend([record.end as u32, record.end as u32 + 1, plain::hash(&name)]);
         record = archive::put(record, &mut counts, &mut buf, &name, id).record;
+        put.push(name);
     }
     let words = random.below(40);
     let thin = random.once_in(2);
     let any = |random: &mut Random| if random.once_in(2) { random.pick(&some) } else if thin { 0 } else { random.word() };
-    let slots: Vec<u32> = (0..words).map(|_| any(random)).collect();
+    let mut slots: Vec<u32> = (0..words).map(|_| any(random)).collect();
+    if random.once_in(2) && archive::index(record, &counts, &buf, &mut slots) == 0 && words > 0 {
+        (0..random.below(4)).for_each(|_| slots[random.below(words)] = any(random));
+    }
     let odd = |random: &mut Random, old: u64| random.pick(&[0, 1, 2, old + 1, old.wrapping_sub(1), u64::from(u32::MAX), u64::MAX, HEAD as u64]);
     match random.below(16) {
         0 => record.mode = odd(random, 2) as u32,
@@ -326,7 +342,7 @@ fn wild_state(random: &mut Random, names: &Names) -> Indexed {
         7 => counts = [random.pick(&[0, 1, u32::MAX]); 256],
         _ => (),
     }
-    Indexed { writer: Writer::new(record, counts), buf: Lent::new(&buf, MARK), slots: Lent::new(&slots, MARKS) }
+    (Indexed { writer: Writer::new(record, counts), buf: Lent::new(&buf, MARK), slots: Lent::new(&slots, MARKS) }, put)
 }
 
 /// Short names, and pairs of them with one hash.
@@ -380,8 +396,10 @@ fn main() {
         run.puts, run.lists, names.twins.len() / 2, r[0], r[13], r[16], r[3], r[24]
     );
     println!("index: {} closes, {} growths and {} indexes made again between them; {} calls with any words", run.closes, run.growths, run.indexes, run.wild);
+    let w = run.wild_refused;
+    println!("index: puts by any words: accepted {}, refused 2: {}, 13: {}, 16: {}, 3: {}, 24: {}", w[0], w[2], w[13], w[16], w[3], w[24]);
     println!("index: {} answers compared with put and with the rule: {} different", run.tally.rule, run.tally.different);
-    let reached = [0, 3, 13, 16, 24].iter().all(|&k| r[k] > puts / 1_000);
+    let reached = [0, 3, 13, 16, 24].iter().all(|&k| r[k] > puts / 1_000) && [0, 2, 3, 13, 16, 24].iter().all(|&k| w[k] > puts / 4_000);
     if !reached {
         println!("index: a kind of answer was met too seldom");
     }

@@ -23,7 +23,7 @@ use Rattle.writer.specs.Close.{recorded, closeRefusal}
 use Rattle.lists.proofs.Closable.{end-small, entries-stand, ids-are, ends}
 use Rattle.index.specs.Index.{slotCount, slotAt, slotSequence}
 use Rattle.index.specs.steps.Part.{PartIndex, partBuckets}
-use Rattle.index.specs.steps.Probe.{hasNameAt, duplicateAt, probeSlots}
+use Rattle.index.specs.Probe.{hasNameAt, duplicateAt, probeSlots}
 use Rattle.index.proofs.EntryNames.{part-occupied, all-decided, Decides, not-contained, contained}
 use Rattle.index.proofs.Probing.{Result, result, never-matches}
 use Rattle.lookup_laws.proofs.SlotSearch.{none-empty, some-empty}

@@ -25,7 +25,7 @@ use Rattle.lookup_laws.proofs.TableContents.{NotEmpty}
 use Rattle.lookup_laws.specs.steps.HasMatch.{hasMatch}
 use Rattle.lookup_laws.proofs.Matching.{no-match}
 use Rattle.index.specs.Index.{entryBuckets}
-use Rattle.index.specs.steps.Probe.{isHit, hasNameAt}
+use Rattle.index.specs.Probe.{isHit, hasNameAt}
 use Rattle.index.specs.steps.Part.{inPart, partBuckets}
 
 -- ---- the buckets of entries

@@ -17,7 +17,7 @@ use Rattle.image.proofs.Buckets.{getD-empties}
 use Rattle.image.proofs.EntryWalk.{whole-rest, first-name, entries-rest}
 use Rattle.image.proofs.Sizes.{entriesSize-append}
 use Rattle.index.specs.Index.{slotCount, slotAt, slotStored, slotSequence, firstEmptySlot, entryBuckets, FilledWith}
-use Rattle.index.specs.steps.Probe.{probeSlots}
+use Rattle.index.specs.Probe.{probeSlots}
 use Rattle.index.specs.steps.Fill.{FillPre, SlotsFilled}
 use Rattle.index.proofs.EntryNames.{buckets-snoc, length-buckets, buckets-occupied}
 use Rattle.index.proofs.Probing.{Result, EmptyFound, result, never, never-matches}

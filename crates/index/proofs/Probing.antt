@@ -15,7 +15,7 @@ use Rattle.image.proofs.AllOfList.{All}
 use Rattle.lookup_laws.specs.steps.HasMatch.{hasMatch}
 use Rattle.lookup_laws.proofs.TableContents.{NotEmpty}
 use Rattle.index.specs.Index.{slotCount, slotAt, slotSequence, firstEmptySlot}
-use Rattle.index.specs.steps.Probe.{probeAlong, probeSlots}
+use Rattle.index.specs.Probe.{probeAlong, probeSlots}
 
 -- the rest of the probe sequence, `left` slots from slot k on, gives the result of the whole
 pub record Rest (words : List ℕ) (h : ℕ) (v : ℕ → Bool) (left k : ℕ) : Type 0 where

@@ -21,23 +21,28 @@ use Rattle.index.specs.Index.{slotCount, slotStored, slotInserted, Right
 use Rattle.index.specs.Promise.{PutIndexed}
 use Rattle.index.specs.steps.Checks.{newRefusal}
 use Rattle.index.specs.steps.Part.{Closable, PartIndex, partBuckets, refusalBy}
-use Rattle.index.specs.steps.Decided.{Decided, InBounds, PutHashed, PutNew}
+use Rattle.index.specs.steps.Decided.{Decided, InBounds, RefusesBy, PutHashed, PutNew}
+use Rattle.index.proofs.PutChecks.{slots-by-rule}
 use Rattle.index.proofs.PutRefusals.{none-refused, by-spare, new-due}
 use Rattle.index.proofs.RightAfterPut.{stored-all, stored-most, right-closable, right-part, part-right, closable-after, part-after-put}
 
 -- ---- with its hash known, by an index
 
-module _ {s : State} {words : List ℕ} {e : Entry} {h : ℕ} {d : Decision} (decided : Decided s words e h d) where
+module _ {s : State} {words : List ℕ} {e : Entry} {h : ℕ} {d : Decision} (bytes : AllBytes (s .buffer)) (decided : Decided s words e h d) where
+  rule : RefusesBy s words e (d .refusal)
+  rule = subst (RefusesBy s words e) (sym (decided .number)) (slots-by-rule s words e bytes)
+
   pub put-refused : (d .refusal ≡ 0 → ⊥) → PutHashed s words e (d .refusal) s words
   put-refused n =
       record {
+        number = decided .number;
         refused = λ z. (refl, refl);
         accepted = λ z. absurd (n z);
-        answer = decided .rule;
+        answer = rule;
         part = λ from closable part own. (closable, part);
       }
 
-  module _ (z : d .refusal ≡ 0) (bytes : AllBytes (s .buffer)) (word : e .id < 2 ^ 32) {t : State} {words′ : List ℕ}
+  module _ (z : d .refusal ≡ 0) (word : e .id < 2 ^ 32) {t : State} {words′ : List ℕ}
       (appends : t ≡ appended s e) (ew : words′ ≡ slotStored words (d .slot) h (s .writer .end)) where
     bounds : InBounds s words e h (d .slot)
     bounds = decided .bounds z
@@ -47,7 +52,7 @@ module _ {s : State} {words : List ℕ} {e : Entry} {h : ℕ} {d : Decision} (de
 
     stays : (from : ℕ) → Closable s → PartIndex from s words → from ≤ tableOf (hashOf (e .name)) → Closable t × PartIndex from t words′
     stays from closable part own =
-        let none = none-refused (length (partBuckets from (recorded s))) s words e (sym z ∙ decided .rule from closable part own) in
+        let none = none-refused (length (partBuckets from (recorded s))) s words e (sym z ∙ rule from closable part own) in
         let inside = subst (λ (k : ℕ). k < slotCount words) (bounds .first) (bounds .inside) in (
           subst Closable (sym appends) (closable-after bytes closable e word (none .0)),
           subst (λ (u : State). PartIndex from u words′) (sym appends)
@@ -57,9 +62,10 @@ module _ {s : State} {words : List ℕ} {e : Entry} {h : ℕ} {d : Decision} (de
     pub put-accepted : PutHashed s words e 0 t words′
     put-accepted =
         record {
+          number = sym z ∙ decided .number;
           refused = λ n. absurd (n refl);
           accepted = λ none. (appends, inserts);
-          answer = λ from closable part own. sym z ∙ decided .rule from closable part own;
+          answer = λ from closable part own. sym z ∙ rule from closable part own;
           part = stays;
         }
 
@@ -101,6 +107,7 @@ module _ {s : State} {words : List ℕ} {e : Entry} {r : ℕ} {t : State} {words
   pub put-promised : PutIndexed s words e r t words′
   put-promised =
       record {
+        number = p .number;
         refused = p .refused;
         accepted = p .accepted;
         answer = by-rule;

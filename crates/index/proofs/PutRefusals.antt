@@ -17,7 +17,8 @@ use Rattle.writer.specs.Put.{writerAfterPut, writerAfterEntry, repeated, putRef
 use Rattle.writer.proofs.Closes.{Accepted, accepted}
 use Rattle.writer.proofs.Puts.{long-name, count-small}
 use Rattle.index.specs.Index.{slotCount}
-use Rattle.index.specs.steps.Checks.{inBuffer, earlyRefusal, lateRefusal, newRefusal}
+use Rattle.index.specs.Refusals.{inBuffer, earlyRefusal, lateRefusal}
+use Rattle.index.specs.steps.Checks.{newRefusal}
 use Rattle.index.specs.steps.Part.{Closable, refusalBy}
 
 -- ---- what a check that is passed says, whatever was lent

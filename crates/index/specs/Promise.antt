@@ -8,11 +8,14 @@ use Rattle.image.specs.Image.{Entry}
 use Rattle.writer.specs.State.{State}
 use Rattle.writer.specs.Put.{appended}
 use Rattle.index.specs.Index.{slotCount, slotInserted, Right, indexedRefusal, afterIndexed, indexRefusal}
+use Rattle.index.specs.Refusals.{refusalBySlots}
 
 -- a put by the index
 pub record PutIndexed (s : State) (words : List ℕ) (e : Entry) (refusal : ℕ) (t : State)
     (words′ : List ℕ) : Type 0 where
-  -- whatever is lent, a refusal changes nothing, and an accepted put appends the entry and inserts its slot
+  -- whatever is lent, the refusal is that of the checks in their order; it changes nothing, and an accepted put appends
+  -- the entry and inserts its slot
+  pub number : refusal ≡ refusalBySlots s words e
   pub refused : (refusal ≡ 0 → ⊥) → (t ≡ s) × (words′ ≡ words)
   pub accepted : refusal ≡ 0
       → (t ≡ appended s e) × (words′ ≡ slotInserted words (hashOf (e .name)) (s .writer .end))

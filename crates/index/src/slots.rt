@@ -4,7 +4,7 @@ ghost use mathlib.Core.Bool.{false};
 ghost use Prim.Native.Nat.{ℕ, _<_};
 ghost use Rattle.writer.specs.State.{refusesRepeats};
 ghost use Rattle.index.specs.Index.{slotCount, slotAt, slotStored};
-ghost use Rattle.index.specs.steps.Probe.{duplicateAt, probeSlots};
+ghost use Rattle.index.specs.Probe.{duplicateAt, probeSlots};
 use image::probe::next;
 use image::probe::start;
 use reader::Probe;

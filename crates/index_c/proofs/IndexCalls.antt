@@ -23,7 +23,7 @@ use Rattle.lists.specs.theorems.LongerBuffer.{movedTo}
 use Rattle.index.specs.Index.{Right}
 use Rattle.index.specs.Promise.{PutIndexed, Indexed}
 use Rattle.index.proofs.RightKept.{kept-right}
-use Rattle.index_c.specs.IndexC.{recordIn, RightHeld, putIndexedNumber, leftByPutIndexed, PutIndexedHeld, indexNumber, IndexedHeld}
+use Rattle.index_c.specs.IndexC.{recordIn, RightHeld, putBySlotsNumber, putIndexedNumber, leftByPutIndexed, PutIndexedHeld, indexNumber, IndexedHeld}
 use Rattle.index_c.specs.theorems.KeptRightHeld.{KeptRightHeld}
 
 -- 01's state with a right index, as C has it
@@ -37,14 +37,19 @@ held-right s words right =
 -- ---- the put
 
 pub put-unknown : (h : CState) (words : List ℕ) (e : Entry) → knownIn h ≡ false → PutIndexedHeld h words e 2 h words
+unfolding putBySlotsNumber
 put-unknown h words e over =
     record {
+      number = is;
       refused = λ n. (refl, refl);
       accepted = λ z. absurd (omega (arith, z));
       answer = λ right. absurd (false-not-true (sym over ∙ right .known));
       leaves = λ right. absurd (false-not-true (sym over ∙ right .known));
       right = λ right. right;
     }
+  where
+    is : 2 ≡ putBySlotsNumber h words e
+    is = rw over refl
 
 module _ (h : CState) {words : List ℕ} {e : Entry} {v w' : CQDBWriter} {counts buffer words′ : List ℕ} {k : ℕ} (fine : knownIn h ≡ true)
     (is : v ≡ writerOf (h .writer)) (given : PutIndexed (stateWith v (h .counts) (h .buffer)) words e k (stateWith w' counts buffer) words′)
@@ -54,6 +59,10 @@ module _ (h : CState) {words : List ℕ} {e : Entry} {v w' : CQDBWriter} {counts
 
   is-held : cState r counts buffer ≡ cStateOf (stateWith w' counts buffer)
   is-held = ap (λ (x : Record). cState x counts buffer) back
+
+  number-is : k ≡ putBySlotsNumber h words e
+  unfolding putBySlotsNumber
+  number-is = rw fine (p .number)
 
   answer-is : RightHeld h words → k ≡ putIndexedNumber h words e
   unfolding putIndexedNumber
@@ -71,6 +80,7 @@ module _ (h : CState) {words : List ℕ} {e : Entry} {v w' : CQDBWriter} {counts
   put-known : PutIndexedHeld h words e k (cState r counts buffer) words′
   put-known =
       record {
+        number = number-is;
         refused = λ n. (is-held ∙ ap cStateOf (p .refused n .0) ∙ back-and-forth h fine, p .refused n .1);
         accepted = λ z. (fine, is-held ∙ ap cStateOf (p .accepted z .0), p .accepted z .1);
         answer = answer-is;
@@ -163,14 +173,14 @@ module _ (h : CState) {words words′ : List ℕ} {v : CQDBWriter} {k : ℕ} (fi
   q : Indexed (stateIn h) words k words′
   q = subst (λ (w : CQDBWriter). Indexed (stateWith w (h .counts) (h .buffer)) words k words′) is given
 
-  number-is : k ≡ indexNumber h words
+  index-is : k ≡ indexNumber h words
   unfolding indexNumber
-  number-is = rw fine (q .answer)
+  index-is = rw fine (q .answer)
 
   pub index-known : IndexedHeld h words k words′
   index-known =
       record {
-        answer = number-is;
+        answer = index-is;
         refused = q .refused;
         right = λ z tables. record { known = fine; index = q .right z tables };
         last = q .last;

@@ -12,6 +12,7 @@ use Rattle.image.specs.Image.{Entry}
 use Rattle.writer.specs.Put.{appended}
 use Rattle.writer.specs.declared.c_record.Record.{Record}
 use Rattle.writer.specs.CRecord.{CState, knownIn, stateIn, cStateOf}
+use Rattle.index.specs.Refusals.{refusalBySlots}
 use Rattle.index.specs.Index.{slotCount, slotInserted, Right, indexedRefusal, afterIndexed, indexRefusal}
 
 -- two slots a name, two words a slot; where that exceeds 64 bits, the largest number of 64 bits
@@ -35,7 +36,11 @@ pub record RightHeld (h : CState) (words : List ℕ) : Type 0 where
   pub known : knownIn h ≡ true
   pub index : Right (stateIn h) words
 
--- the rule of the put by an index: the refusal's number, 0 when accepted; and what it leaves
+-- the put by whatever slots are lent: the refusal's number, 0 when accepted
+unfoldable pub putBySlotsNumber : CState → List ℕ → Entry → ℕ
+putBySlotsNumber h words e = cond (knownIn h) (refusalBySlots (stateIn h) words e) 2
+
+-- the rule of the put by an index: the refusal's number, and what it leaves
 unfoldable pub putIndexedNumber : CState → List ℕ → Entry → ℕ
 putIndexedNumber h words e = cond (knownIn h) (indexedRefusal (stateIn h) words e) 2
 
@@ -44,7 +49,9 @@ leftByPutIndexed h words e = cond (knownIn h) (cStateOf (afterIndexed (stateIn h
 
 pub record PutIndexedHeld (h : CState) (words : List ℕ) (e : Entry) (refusal : ℕ) (h′ : CState)
     (words′ : List ℕ) : Type 0 where
-  -- whatever is lent, a refusal changes nothing, and an accepted put appends the entry and inserts its slot
+  -- whatever is lent, the refusal is that of the checks in their order; it changes nothing, and an accepted put appends
+  -- the entry and inserts its slot
+  pub number : refusal ≡ putBySlotsNumber h words e
   pub refused : (refusal ≡ 0 → ⊥) → (h′ ≡ h) × (words′ ≡ words)
   pub accepted : refusal ≡ 0
       → (knownIn h ≡ true)

@@ -1,7 +1,7 @@
 // The average search length for C. Each function calls the proved function of `search_length`.
 use search_length::Averaged;
 ghost use mathlib.Core.Path.{_≡_};
-ghost use Rattle.search_length.specs.steps.Contracts.{Lengths};
+ghost use Rattle.search_length.specs.Average.{Lengths};
 ghost use Rattle.lists_c.specs.AverageAnswer.{averageAnswer};
 
 // The refusal's number, 0 when accepted; the number of entries, quotient and remainder, 0 when refused.

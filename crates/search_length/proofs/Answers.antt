@@ -14,8 +14,8 @@ use Rattle.canonical.specs.Canonical.{canonical, counted}
 use Rattle.canonical.specs.steps.Contracts.{CanonicalImage}
 use Rattle.canonical.proofs.EntriesAhead.{puts-number}
 use Rattle.search_length.specs.declared.AverageLength.{AverageLength}
-use Rattle.search_length.specs.steps.Contracts.{Counted, Lengths}
-use Rattle.search_length.specs.Average.{entryCount, firstRefusal, averageRefusal, averageOf, averaging, lengthsOf, afterLengths}
+use Rattle.search_length.specs.steps.Contracts.{Counted}
+use Rattle.search_length.specs.Average.{entryCount, firstRefusal, averageRefusal, averageOf, averaging, lengthsOf, afterLengths, Lengths}
 
 -- no refusal: the image is canonical, and there are entries
 pub first-zero : (own : Bool) (n : ℕ) → firstRefusal own n ≡ 0 → (own ≡ true) × (0 < n)

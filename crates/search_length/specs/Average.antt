@@ -1,5 +1,6 @@
 -- Average search length: 02 (x), what the calls give.
 use Prim.Native.Nat.{ℕ, _/_, _%_}
+use mathlib.Core.Path.{_≡_}
 use mathlib.Core.Bool.{Bool, cond, not}
 use mathlib.Core.List.{List}
 use lib.ListN.{length, replicate}
@@ -43,6 +44,11 @@ lengthsOf img = lengthsFrom img (replicate 16 0) (putsIn img)
 
 unfoldable pub afterLengths : List ℕ → List ℕ → List ℕ
 afterLengths img counts = cond (eqb (averageRefusal img) 0) (lengthsOf img) counts
+
+-- what that call promises: its refusal, and the list after it
+pub record Lengths (img before after : List ℕ) (refusal : ℕ) : Type 0 where
+  pub answer : refusal ≡ averageRefusal img
+  pub leaves : after ≡ afterLengths img before
 
 -- the number and the value of each case of the answer
 abbrev pub averagedOf : Averaged → Outcome AverageLength

@@ -3,8 +3,7 @@
 ghost use mathlib.Core.Path.{_≡_};
 ghost use Rattle.reader.specs.Open.{opening};
 ghost use Rattle.canonical.specs.Canonical.{counted};
-ghost use Rattle.search_length.specs.Average.{firstRefusal, averaging, averagedOf};
-ghost use Rattle.search_length.specs.steps.Contracts.{Lengths};
+ghost use Rattle.search_length.specs.Average.{firstRefusal, averaging, averagedOf, Lengths};
 use reader::Opened;
 use walks::count_lengths;
 

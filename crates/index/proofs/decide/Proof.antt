@@ -1,15 +1,20 @@
 -- `index::decide` meets its contract. Assumes nothing.
-use Prim.Native.Nat.{ℕ, _/_, _<_, _≤_}
+use Prim.Native.Nat.{ℕ, _<_, _≤_}
 use native.Mathlib.Omega.{arith}
-use mathlib.Core.Path.{_≡_, sym, _∙_}
-use lib.ListN.{length, getD, length-take}
+use mathlib.Core.Path.{_≡_, sym, ap, _∙_}
+use mathlib.Core.List.{List}
+use lib.ListN.{length, take, length-take}
 use Rattle.jhash.specs.NameHash.{hashOf}
 use Rattle.image.specs.Image.{Entry}
-use Rattle.writer.specs.State.{State, stateWith}
+use Rattle.writer.specs.State.{State, stateWith, refusesRepeats}
 use Rattle.writer.specs.Put.{entryOf}
-use Rattle.index.specs.steps.Checks.{earlyRefusal, lateRefusal}
+use Rattle.index.specs.declared.Decision.{Decision}
+use Rattle.index.specs.Index.{slotCount}
+use Rattle.index.specs.Probe.{duplicateAt, probeSlots}
+use Rattle.index.specs.Refusals.{lateRefusal, earlyOf, lateOf, probedFor, refusalBySlots}
+use Rattle.index.specs.steps.Decided.{Decided}
 use Rattle.index.proofs.PutRefusals.{EarlyPassed, early-passed, late-passed}
-use Rattle.index.proofs.PutChecks.{refused-with, early-refuses, append-pre, Probed, first-slot, found-duplicate, late-refuses, none-free, accepts}
+use Rattle.index.proofs.PutChecks.{append-pre, slots-early, slots-duplicate, slots-late, slots-full, slots-none, first-slot}
 use borrow.Author.Needs.{needs}
 use Rattle.index.proofs.decide.Statement.{statement}
 use Rattle.index.proofs.decide.Tie as tie
@@ -21,27 +26,29 @@ S s = stateWith (s .args .w) (s .args .counts .now) (s .args .buf .now)
 abbrev E : tie.Start → Entry
 E s = entryOf (s .args .name .now) (s .args .id)
 
+-- a refusal, whatever was lent
+refused-with : {s : State} {words : List ℕ} {e : Entry} {h : ℕ} (d : Decision) (k : ℕ) → d .refusal ≡ k → (k ≡ 0 → ⊥) → k ≡ refusalBySlots s words e
+    → Decided s words e h d
+refused-with d k is some due = record { number = is ∙ due; bounds = λ z. absurd (some (sym is ∙ z)) }
+
 -- ---- the checks before the probe
 
 abbrev start : tie.After-early-refusal → tie.Start
 start c = c .before .before .before .before
 
-bytes : (c : tie.After-early-refusal) → (i : ℕ) → getD (S (start c) .buffer) i 0 < 256
-bytes c i = omega (arith, c .before .before .before .shared-slice-known .given i)
+none-early : (c : tie.Else1) → let s = start (c .before) in earlyOf (S s) (E s) ≡ 0
+none-early c = sym (c .before .early-refusal .ensures) ∙ c .if1 .left
 
 passed : (c : tie.Else1) → let s = start (c .before) in EarlyPassed (S s .writer) (S s .buffer) (E s .name)
-passed c =
-    let s = start (c .before) in
-    early-passed (S s .writer) (S s .buffer) (E s .name) (sym (c .before .early-refusal .ensures) ∙ c .if1 .left)
+passed c = let s = start (c .before) in early-passed (S s .writer) (S s .buffer) (E s .name) (none-early c)
 
 returns : tie.Need-returns
 returns c =
     let early = c .before .before in
     let s = start early in
     let is = early .early-refusal .ensures in
-    let some : earlyRefusal (S s .writer) (S s .buffer) (E s .name) ≡ 0 → ⊥ = λ z. c .before .if1 .taken (is ∙ z) in
-    refused-with (c .refused .result) (earlyRefusal (S s .writer) (S s .buffer) (E s .name)) (c .refused .ensures ∙ is) some
-    (early-refuses (S s) (s .args .slots .now) (E s) (bytes early) some)
+    let some : earlyOf (S s) (E s) ≡ 0 → ⊥ = λ z. c .before .if1 .taken (is ∙ z) in
+    refused-with (c .refused .result) (earlyOf (S s) (E s)) (c .refused .ensures ∙ is) some (slots-early (S s) (s .args .slots .now) (E s) some)
 
 slice-aggregate-probe : tie.Need-slice-aggregate-probe
 slice-aggregate-probe c =
@@ -61,13 +68,20 @@ begun c = start (early c .before)
 hashed : (c : tie.After-probe) → begun c .args .facts .hash ≡ hashOf (E (begun c) .name)
 hashed c = begun c .pre .hash (passed (early c) .short)
 
-probed : (c : tie.After-probe) → let s = begun c in Probed (S s) (s .args .slots .now) (E s) (s .args .facts .hash) (c .probe .result)
+-- what the search gives
+probed : (c : tie.After-probe) → let s = begun c in c .probe .result ≡ probedFor (S s) (s .args .slots .now) (E s)
 probed c =
-    record { bytes = bytes (early c .before); zero-free = passed (early c) .zero-free; hash = hashed c; is = c .probe .ensures }
+    let s = begun c in
+    c .probe .ensures
+    ∙ ap (λ (h : ℕ). probeSlots (s .args .slots .now) h (duplicateAt (refusesRepeats (S s .writer .repeats)) (take (S s .writer .end) (S s .buffer)) (E s .name)))
+    (hashed c)
 
 returns-2 : tie.Need-returns-2
 returns-2 c =
-    refused-with (c .refused2 .result) 16 (c .refused2 .ensures) (λ z. omega arith) (found-duplicate (probed (c .before .before)) (c .before .if2 .taken))
+    let p = c .before .before in
+    let s = begun p in
+    refused-with (c .refused2 .result) 16 (c .refused2 .ensures) (λ z. omega arith)
+    (slots-duplicate (S s) (s .args .slots .now) (E s) (none-early (early p)) (omega (arith, c .before .if2 .taken, probed p)))
 
 late-refusal-requires : tie.Need-late-refusal-requires
 late-refusal-requires c κs =
@@ -75,29 +89,36 @@ late-refusal-requires c κs =
     record { low = omega (arith, p .high, p .same-length, begun (c .before) .good); short = p .short }
 
 -- the name is no duplicate
-new : (c : tie.Else2) → c .before .probe .result ≤ length (begun (c .before) .args .slots .now) / 2
-new c = omega (arith, c .if2 .left)
+new : (c : tie.Else2) → let s = begun (c .before) in probedFor (S s) (s .args .slots .now) (E s) ≤ slotCount (s .args .slots .now)
+new c = omega (arith, c .if2 .left, probed (c .before))
+
+-- the refusal after the search
+late-is : (c : tie.After-late-refusal) → let s = begun (c .before .before) in c .late-refusal .result ≡ lateOf (S s) (E s)
+late-is c =
+    let s = begun (c .before .before) in
+    c .late-refusal .ensures ∙ ap (lateRefusal (S s .writer) (S s .counts) (length (E s .name)) (E s .id)) (hashed (c .before .before))
 
 returns-3 : tie.Need-returns-3
 returns-3 c =
     let l = c .before .before in
     let p = l .before .before in
     let s = begun p in
-    let late = lateRefusal (S s .writer) (S s .counts) (length (E s .name)) (E s .id) (s .args .facts .hash) in
-    let is = l .late-refusal .ensures in
-    let some : late ≡ 0 → ⊥ = λ z. c .before .if3 .taken (is ∙ z) in
-    refused-with (c .refused3 .result) late (c .refused3 .ensures ∙ is) some (late-refuses (probed p) (new (l .before)) some)
+    let some : lateOf (S s) (E s) ≡ 0 → ⊥ = λ z. c .before .if3 .taken (late-is l ∙ z) in
+    refused-with (c .refused3 .result) (lateOf (S s) (E s)) (c .refused3 .ensures ∙ late-is l) some
+    (slots-late (S s) (s .args .slots .now) (E s) (none-early (early p)) (new (l .before)) some)
 
 -- no late refusal is due
-none : (c : tie.Else3) → let s = begun (c .before .before .before) in lateRefusal (S s .writer) (S s .counts) (length (E s .name)) (E s .id) (s .args .facts .hash) ≡ 0
-none c = sym (c .before .late-refusal .ensures) ∙ c .if3 .left
+none-late : (c : tie.Else3) → let s = begun (c .before .before .before) in lateOf (S s) (E s) ≡ 0
+none-late c = sym (late-is (c .before)) ∙ c .if3 .left
 
 returns-4 : tie.Need-returns-4
 returns-4 c =
     let e = c .before .before in
     let l = e .before in
+    let p = l .before .before in
+    let s = begun p in
     refused-with (c .refused4 .result) 24 (c .refused4 .ensures) (λ z. omega arith)
-    (none-free (probed (l .before .before)) (new (l .before)) (none e) (c .before .if4 .taken))
+    (slots-full (S s) (s .args .slots .now) (E s) (none-early (early p)) (new (l .before)) (none-late e) (sym (probed p) ∙ c .before .if4 .taken))
 
 returns-5 : tie.Need-returns-5
 returns-5 c =
@@ -105,14 +126,15 @@ returns-5 c =
     let l = e .before in
     let p = l .before .before in
     let s = begun p in
-    let below : p .probe .result < length (s .args .slots .now) / 2 = omega (arith, new (l .before), c .if4 .left) in
+    let below : probedFor (S s) (s .args .slots .now) (E s) < slotCount (s .args .slots .now) = omega (arith, new (l .before), c .if4 .left, probed p) in
+    let late = late-passed (S s .writer) (S s .counts) (length (E s .name)) (E s .id) (s .args .facts .hash) (sym (l .late-refusal .ensures) ∙ e .if3 .left) in
     record {
+      number = slots-none (S s) (s .args .slots .now) (E s) (none-early (early p)) (new (l .before)) (none-late e) below;
       bounds = λ z. record {
-        inside = below;
-        first = first-slot (probed p) below;
-        stores = append-pre (passed (early p)) (late-passed (S s .writer) (S s .counts) (length (E s .name)) (E s .id) (s .args .facts .hash) (none e)) (hashed p);
+        inside = omega (arith, below, probed p);
+        first = probed p ∙ first-slot (S s) (s .args .slots .now) (E s) below;
+        stores = append-pre (passed (early p)) late (hashed p);
       };
-      rule = accepts (probed p) (new (l .before)) (none e) below;
     }
 
 pub decide-spec : {M : Type 1} → statement M

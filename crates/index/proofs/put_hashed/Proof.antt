@@ -22,6 +22,9 @@ decision q = q .before .before .before .before
 abbrev slotted : tie.After-append-arg2 → tie.After-store-slot
 slotted c = c .before .before .before .before
 
+bytes : (d : tie.After-decide) → (i : ℕ) → getD (begun d .args .buf .now) i 0 < 256
+bytes d i = omega (arith, d .before .before .before .before .before .before .slice-known .given i)
+
 bounds : (d : tie.After-decide) → d .decide .result .refusal ≡ 0
     → let a = begun d .args in
     InBounds (stateWith (a .w) (a .counts .now) (a .buf .now)) (a .slots .now) (entryOf (a .name .now) (a .id))
@@ -29,7 +32,7 @@ bounds : (d : tie.After-decide) → d .decide .result .refusal ≡ 0
 bounds d z = d .decide .ensures .bounds z
 
 returns : tie.Need-returns
-returns c = put-refused (c .before .decide .ensures) (c .if1 .taken)
+returns c = put-refused (bytes (c .before)) (c .before .decide .ensures) (c .if1 .taken)
 
 cast-store-slot : tie.Need-cast-store-slot
 cast-store-slot c =
@@ -50,10 +53,8 @@ returns-2 c =
     let p = c .before .before in
     let q = slotted (p .before) in
     let d = decision q in
-    let lent = d .before .before .before .before .before .before .slice-known in
-    let bytes : (i : ℕ) → getD (begun d .args .buf .now) i 0 < 256 = λ i. omega (arith, lent .given i) in
     let word : begun d .args .id < 2 ^ 32 = omega (arith, begun d .good) in
-    put-accepted (d .decide .ensures) (q .before .before .before .if1 .left) bytes word (p .append .ensures) (q .store-slot .ensures)
+    put-accepted (bytes d) (d .decide .ensures) (q .before .before .before .if1 .left) word (p .append .ensures) (q .store-slot .ensures)
 
 pub put-hashed-spec : {M : Type 1} → statement M
 put-hashed-spec =

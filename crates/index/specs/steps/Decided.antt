@@ -12,6 +12,7 @@ use Rattle.writer.specs.Put.{putRefusal, repeated, appended, afterPut}
 use Rattle.writer.specs.Close.{recorded}
 use Rattle.index.specs.declared.Decision.{Decision}
 use Rattle.index.specs.Index.{slotCount, firstEmptySlot, slotInserted}
+use Rattle.index.specs.Refusals.{refusalBySlots}
 use Rattle.index.specs.steps.Checks.{AppendPre}
 use Rattle.index.specs.steps.Part.{Closable, PartIndex, partBuckets, refusalBy}
 
@@ -29,8 +30,8 @@ RefusesBy s words e refusal =
 
 -- of a put with hash h
 pub record Decided (s : State) (words : List ℕ) (e : Entry) (h : ℕ) (d : Decision) : Type 0 where
+  pub number : d .refusal ≡ refusalBySlots s words e
   pub bounds : d .refusal ≡ 0 → InBounds s words e h (d .slot)
-  pub rule : RefusesBy s words e (d .refusal)
 
 -- a put whose hash is known, by an index: s and words before the call, t and words′ after it
 pub record PutHashed (s : State) (words : List ℕ) (e : Entry) (refusal : ℕ) (t : State)
@@ -38,6 +39,7 @@ pub record PutHashed (s : State) (words : List ℕ) (e : Entry) (refusal : ℕ) 
   pub refused : (refusal ≡ 0 → ⊥) → (t ≡ s) × (words′ ≡ words)
   pub accepted : refusal ≡ 0
       → (t ≡ appended s e) × (words′ ≡ slotInserted words (hashOf (e .name)) (s .writer .end))
+  pub number : refusal ≡ refusalBySlots s words e
   pub answer : RefusesBy s words e refusal
   -- an index of the tables from `from` on is one again, and the record still closes
   pub part : (from : ℕ) → Closable s → PartIndex from s words → from ≤ tableOf (hashOf (e .name))

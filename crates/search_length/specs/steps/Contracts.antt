@@ -5,7 +5,7 @@ use mathlib.Core.List.{List}
 use lib.ListN.{getD, replicate}
 use Rattle.canonical.specs.steps.Contracts.{CanonicalImage}
 use Rattle.search_length.specs.SearchLengths.{binOf}
-use Rattle.search_length.specs.Average.{total, averageRefusal, lengthsOf, afterLengths}
+use Rattle.search_length.specs.Average.{total, lengthsOf}
 
 pub record Bin (n r : ℕ) : Type 0 where
   pub is : r ≡ binOf n
@@ -24,8 +24,3 @@ pub record CountPre (img : List ℕ) (n : ℕ) (counts : List ℕ) : Type 0 wher
 pub record Counted (img counts : List ℕ) (r : ℕ) : Type 0 where
   pub lengths : counts ≡ lengthsOf img
   pub total : r ≡ total img
-
--- what `lengths` answers, and the list after it
-pub record Lengths (img counts₀ counts : List ℕ) (r : ℕ) : Type 0 where
-  pub answer : r ≡ averageRefusal img
-  pub leaves : counts ≡ afterLengths img counts₀

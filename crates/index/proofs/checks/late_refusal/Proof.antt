@@ -8,7 +8,7 @@ use lib.ListN.{getD}
 use Rattle.image.specs.Tables.{tableOf}
 use Rattle.writer.specs.State.{finishedSize, tooLarge}
 use Rattle.writer.specs.Put.{writerAfterPut}
-use Rattle.index.specs.steps.Checks.{lateRefusal}
+use Rattle.index.specs.Refusals.{lateRefusal}
 use Rattle.index.proofs.checks.late_refusal.Statement.{statement}
 use Rattle.index.proofs.checks.late_refusal.Tie as tie
 

@@ -5,7 +5,7 @@ use mathlib.Core.Bool.{Bool, cond}
 use borrow.Author.Needs.{needs}
 use borrow.Author.Tests.{eq-eqb, ne-eqb}
 use lib.ListN.{length}
-use Rattle.index.specs.steps.Checks.{earlyRefusal, lateRefusal}
+use Rattle.index.specs.Refusals.{earlyRefusal, lateRefusal}
 use Rattle.index.proofs.PutRefusals.{early-passed}
 use Rattle.index.proofs.checks.new_refusal.Statement.{statement}
 use Rattle.index.proofs.checks.new_refusal.Tie as tie

@@ -8,7 +8,7 @@ use Rattle.reader.specs.declared.Probe.the-variants.{Pass, Ends, Hit}
 use Rattle.writer.specs.declared.Repeats.{Repeats}
 use Rattle.writer.specs.declared.Repeats.the-variants.{Off}
 use Rattle.writer.specs.State.{refusesRepeats}
-use Rattle.index.specs.steps.Probe.{isHit}
+use Rattle.index.specs.Probe.{isHit}
 use borrow.Author.Needs.{needs}
 use Rattle.index.proofs.slots.is_duplicate.Statement.{statement}
 use Rattle.index.proofs.slots.is_duplicate.Tie as tie

@@ -6,7 +6,7 @@ use mathlib.Core.Bool.{Bool, false}
 use mathlib.Core.Logic.{⊎-elim}
 use Rattle.writer.specs.State.{refusesRepeats}
 use Rattle.index.specs.Index.{slotCount, slotAt}
-use Rattle.index.specs.steps.Probe.{duplicateAt}
+use Rattle.index.specs.Probe.{duplicateAt}
 use Rattle.index.proofs.Probing.{Rest, rest-start, probe-none, rest-end, rest-empty, rest-match, rest-next}
 use borrow.Author.Needs.{needs}
 use Rattle.index.proofs.slots.probe.Statement.{statement}

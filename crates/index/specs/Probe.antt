@@ -1,4 +1,4 @@
--- A probe of the slots, as the code goes. No rule stands here: proofs/ joins it to the rules.
+-- A probe of the slots for a name, whatever words are lent.
 use Prim.Native.Nat.{ℕ, _+_}
 use mathlib.Core.Bool.{Bool, true, false, cond, _&&_}
 use mathlib.Core.List.{List, [], _∷_}
