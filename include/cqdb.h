@@ -22,7 +22,7 @@
    Files: an image may be a mapped file. One that is replaced, by a rename of a new file, stays mapped as it was. One that is
    written in place while a call runs breaks what the caller owes: the call may give answers of neither image, or read outside.
    One that is cut short ends the process at the first byte behind its new end, by the signal SIGBUS. So write a new file beside
-   the old one and rename it; examples/c/build_file.c does, and examples/c/ask_file.c maps one.
+   the old one and rename it; examples/c/build_list.c does, and examples/c/ask_file.c maps one.
 
    What the calls cost. The times are those of one run of `bench/run costs` on an AMD EPYC, in ns, with names of 9 bytes, for
    4,096 and for 100,000 entries; calls that do not depend on the number of entries have the first number alone. Calls on images that

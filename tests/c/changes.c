@@ -2,7 +2,7 @@
    status 1 where an answer is another than expected.
 
        ./make-archive
-       cc -I include examples/c/changes.c target/staticlib/libcqdb_c.a -o changes && ./changes */
+       cc -I include tests/c/changes.c target/staticlib/libcqdb_c.a -o changes && ./changes */
 #include <stdio.h>
 #include <string.h>
 

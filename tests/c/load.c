@@ -1,7 +1,7 @@
 /* Rebuilds the load of a seed, and checks what it gets. Ends with status 1 where something differs.
 
        ./make-archive
-       cc -I include examples/c/load.c target/staticlib/libcqdb_c.a -o load && ./load */
+       cc -I include tests/c/load.c target/staticlib/libcqdb_c.a -o load && ./load */
 #include <stdio.h>
 #include <string.h>
 

@@ -1,7 +1,7 @@
 /* Builds an image in a buffer that grows by realloc, with names that are C strings, and checks it beside one that was built
    in a large buffer. Ends with status 1 where something differs.
 
-       cc -I include examples/c/growing.c target/staticlib/libcqdb_c.a -o growing && ./growing */
+       cc -I include tests/c/growing.c target/staticlib/libcqdb_c.a -o growing && ./growing */
 #include <stdio.h>
 #include <stdlib.h>
 #include <string.h>

@@ -1,7 +1,7 @@
 /* NULL with length 0 is no bytes: each call is lent NULL wherever it takes bytes or a list, and answers as it does for an empty
    array. Ends with status 1 where something differs.
 
-       cc -I include examples/c/none.c target/staticlib/libcqdb_c.a -o none && ./none */
+       cc -I include tests/c/none.c target/staticlib/libcqdb_c.a -o none && ./none */
 #include <stdio.h>
 #include <string.h>
 

@@ -1,7 +1,7 @@
 /* Writes a round sheet and reads it back. Ends with status 1 where an answer is another than expected.
 
        ./make-archive
-       cc -I include examples/c/sheet.c target/staticlib/libcqdb_c.a -o sheet && ./sheet */
+       cc -I include tests/c/sheet.c target/staticlib/libcqdb_c.a -o sheet && ./sheet */
 #include <stdio.h>
 #include <string.h>
 

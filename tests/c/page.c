@@ -1,7 +1,7 @@
 /* Prints the catalogue of an image, and checks what it gets. Ends with status 1 where something differs.
 
        ./make-archive
-       cc -I include examples/c/page.c target/staticlib/libcqdb_c.a -o page && ./page */
+       cc -I include tests/c/page.c target/staticlib/libcqdb_c.a -o page && ./page */
 #include <stdio.h>
 #include <string.h>
 

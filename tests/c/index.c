@@ -1,7 +1,7 @@
 /* Puts names one by one with repeats off, by an index, into a buffer and an index that grow by realloc, with closes between; and checks
    the image beside that of cqdb_put in a large buffer. Ends with status 1 where something differs.
 
-       cc -I include examples/c/index.c target/staticlib/libcqdb_c.a -o index && ./index */
+       cc -I include tests/c/index.c target/staticlib/libcqdb_c.a -o index && ./index */
 #include <stdio.h>
 #include <stdlib.h>
 #include <string.h>

@@ -1,7 +1,7 @@
 /* Builds images in one buffer, reads them back, and checks what it gets. Ends with status 1 where something differs.
 
        ./make-archive
-       cc -I include examples/c/roundtrip.c target/staticlib/libcqdb_c.a -o roundtrip && ./roundtrip */
+       cc -I include tests/c/roundtrip.c target/staticlib/libcqdb_c.a -o roundtrip && ./roundtrip */
 #include <stdio.h>
 #include <string.h>
 

@@ -1,7 +1,7 @@
 /* Is each reference of a round sighted before its wall prism? Ends with status 1 where an answer is another than expected.
 
        ./make-archive
-       cc -I include examples/c/order.c target/staticlib/libcqdb_c.a -o order && ./order */
+       cc -I include tests/c/order.c target/staticlib/libcqdb_c.a -o order && ./order */
 #include <stdio.h>
 
 #include "cqdb.h"

@@ -1,7 +1,7 @@
 /* A whole list in one call. Ends with status 1 where an answer is another than expected.
 
        ./make-archive
-       cc -I include examples/c/build.c target/staticlib/libcqdb_c.a -o build && ./build */
+       cc -I include tests/c/build.c target/staticlib/libcqdb_c.a -o build && ./build */
 #include <stdio.h>
 #include <string.h>
 

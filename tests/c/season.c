@@ -1,7 +1,7 @@
 /* Which name has an id on a date? Ends with status 1 where an answer is another than expected.
 
        ./make-archive
-       cc -I include examples/c/season.c target/staticlib/libcqdb_c.a -o season && ./season */
+       cc -I include tests/c/season.c target/staticlib/libcqdb_c.a -o season && ./season */
 #include <stdio.h>
 #include <string.h>
 

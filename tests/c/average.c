@@ -1,7 +1,7 @@
 /* The average search length of loads and of small images, and checks of what it gives. Ends with status 1 where something differs.
 
        ./make-archive
-       cc -I include examples/c/average.c target/staticlib/libcqdb_c.a -o average && ./average */
+       cc -I include tests/c/average.c target/staticlib/libcqdb_c.a -o average && ./average */
 #include <stdio.h>
 #include <string.h>
 

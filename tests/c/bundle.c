@@ -1,7 +1,7 @@
 /* Two images in one file, each opened by its position, and checks what it gets. Ends with status 1 where something differs.
 
        ./make-archive
-       cc -I include examples/c/bundle.c target/staticlib/libcqdb_c.a -o bundle && ./bundle */
+       cc -I include tests/c/bundle.c target/staticlib/libcqdb_c.a -o bundle && ./bundle */
 #include <stdio.h>
 #include <string.h>
 

@@ -1,7 +1,7 @@
 /* Asks whether images are canonical, and checks what it gets. Ends with status 1 where something differs.
 
        ./make-archive
-       cc -I include examples/c/canonical.c target/staticlib/libcqdb_c.a -o canonical && ./canonical */
+       cc -I include tests/c/canonical.c target/staticlib/libcqdb_c.a -o canonical && ./canonical */
 #include <stdio.h>
 #include <string.h>
 
