@@ -1,6 +1,5 @@
-/* Makes a catalogue of a list in one call and writes it to a file. The list comes from standard input; a line is an id, a space and
-   the name. A wrong line is told with its number, and then nothing is written. The image is written beside its place and moved there,
-   so that a reader sees the old image or the new one, never a part.
+/* Makes a catalogue of a list in one call and writes it to a file, beside its place and then moved there, so that a reader never sees a
+   part. A line of standard input is an id, a space and the name. A wrong line is told with its number, and then nothing is written.
 
        cc -I include examples/c/build_list.c target/staticlib/libcqdb_c.a -o build_list && ./build_list harbour.cqdb <examples/prisms.txt */
 #define _POSIX_C_SOURCE 200809L
