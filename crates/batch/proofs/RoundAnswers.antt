@@ -9,7 +9,7 @@ use lib.ListN.{length}
 use Rattle.jhash.specs.Outcome.{Outcome, value, refusal}
 use Rattle.reader.specs.Lookup.{lookup}
 use Rattle.batch.specs.RoundNames.{names, invalidEnds}
-use Rattle.batch.specs.Round.{answerWords, roundWords, roundBuckets, rounding, leftBy, afterRound}
+use Rattle.batch.specs.Round.{answerWords, roundWords, roundBuckets, roundOutcome, leftBy, afterRound}
 use Rattle.batch.specs.steps.Duplicates.{Deduplicated}
 use Rattle.batch.specs.steps.Answers.{HasAnswer, ListedHaveAnswers, UniqueAnswered}
 use Rattle.batch.proofs.IndexLists.{listed-has}
@@ -17,14 +17,14 @@ use Rattle.batch.proofs.AnswerPlaces.{placed-words, length-words}
 
 -- ---- the answer
 
-pub rounding-by : (image bytes ends : List ℕ) (places : ℕ) (a b d : Bool)
+pub outcome-by : (image bytes ends : List ℕ) (places : ℕ) (a b d : Bool)
     → ltb 512 (length ends) ≡ a → invalidEnds (length bytes) 0 ends ≡ b → ltb places (length ends) ≡ d
-    → cond (a || b) (refusal 14) (cond d (refusal 15) (value (roundBuckets image (names bytes ends)))) ≡ rounding image bytes ends places
-unfolding rounding
-rounding-by image bytes ends places a b d ea eb ed =
+    → cond (a || b) (refusal 14) (cond d (refusal 15) (value (roundBuckets image (names bytes ends)))) ≡ roundOutcome image bytes ends places
+unfolding roundOutcome
+outcome-by image bytes ends places a b d ea eb ed =
     sym (λ i. cond (ea i || eb i) (refusal 14) (cond (ed i) (refusal 15) (value (roundBuckets image (names bytes ends)))))
 
-pub left : (image bytes ends answers : List ℕ) (o : Outcome ℕ) → o ≡ rounding image bytes ends (length answers / 4)
+pub left : (image bytes ends answers : List ℕ) (o : Outcome ℕ) → o ≡ roundOutcome image bytes ends (length answers / 4)
     → leftBy image (names bytes ends) answers o ≡ afterRound image bytes ends answers
 unfolding afterRound
 left image bytes ends answers o e = ap (leftBy image (names bytes ends) answers) e

@@ -10,7 +10,7 @@ use Rattle.reader.specs.Cases.{reads}
 use Rattle.reader.specs.examples.Reads.{ownImage}
 use Rattle.reader.proofs.ExampleReads.{reads-hold}
 use Rattle.batch.specs.RoundNames.{namesFrom, names, invalidEnds, among, differentFrom, different}
-use Rattle.batch.specs.Round.{answerWords, roundWords, bucketsRead, rounding, afterRound}
+use Rattle.batch.specs.Round.{answerWords, roundWords, bucketsRead, roundOutcome, afterRound}
 use Rattle.batch.specs.NameRound.{nameWords, nameRefusal, afterNames}
 use Rattle.batch.specs.examples.Rows.{TwiceOnce, RowsHold}
 
@@ -18,7 +18,7 @@ found-A : lookup ownImage (65 ∷ []) ≡ found (record { id = 5; buckets = 1; o
 found-A = reads-hold .looked-up .1 .0
 
 twice : TwiceOnce
-unfolding rounding afterRound names namesFrom invalidEnds different differentFrom among same bucketsRead roundWords cat
+unfolding roundOutcome afterRound names namesFrom invalidEnds different differentFrom among same bucketsRead roundWords cat
 twice =
     record {
       gives = ap (λ (x : Lookup). value (reads x + 0)) found-A;
@@ -27,5 +27,5 @@ twice =
 
 -- every row holds
 pub rows-hold : RowsHold
-unfolding rounding afterRound names namesFrom invalidEnds different differentFrom among same bucketsRead roundWords cat lookup nameWords nameRefusal afterNames naming
+unfolding roundOutcome afterRound names namesFrom invalidEnds different differentFrom among same bucketsRead roundWords cat lookup nameWords nameRefusal afterNames naming
 rows-hold = record { gives = refl; leaves = refl; names-give = refl; names-leave = refl; twice = twice }

@@ -15,7 +15,7 @@ use Rattle.image.proofs.Lists.{length-cat}
 use Rattle.reader.specs.Lookup.{lookup}
 use Rattle.reader.specs.Naming.{naming}
 use Rattle.batch.specs.RoundNames.{namesFrom, names, invalidEnds, packedBytes, endsFrom, nth}
-use Rattle.batch.specs.Round.{answerWords, roundWords, roundBuckets, rounding, afterRound}
+use Rattle.batch.specs.Round.{answerWords, roundWords, roundBuckets, roundOutcome, afterRound}
 use Rattle.batch.specs.NameRound.{placeWords, nameWords, nameRefusal, afterNames}
 use Rattle.batch.specs.theorems.Theorem.{placeAt, RoundAccepted, RoundHolds}
 use Rattle.packed.proofs.NameEnds.{length-names}
@@ -58,7 +58,7 @@ given-count false false v n e = cc
 
 module _ (image bytes ends answers : List ℕ) (a : RoundAccepted image bytes ends answers) where
   count-is : a .count ≡ roundBuckets image (names bytes ends)
-  unfolding rounding
+  unfolding roundOutcome
   count-is =
       given-count (ltb 512 (length ends) || invalidEnds (length bytes) 0 ends) (ltb (length answers / 4) (length ends))
       (roundBuckets image (names bytes ends)) (a .count) (a .given)

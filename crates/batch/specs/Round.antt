@@ -31,8 +31,8 @@ abbrev pub roundBuckets : List ℕ → List (List ℕ) → ℕ
 roundBuckets image xs = bucketsRead image (different xs)
 
 -- "Over 512 names, or ends that fall or pass the bytes, give 14"; "then an answer list shorter than the names gives 15"
-unfoldable pub rounding : List ℕ → List ℕ → List ℕ → ℕ → Outcome ℕ
-rounding image bytes ends places =
+unfoldable pub roundOutcome : List ℕ → List ℕ → List ℕ → ℕ → Outcome ℕ
+roundOutcome image bytes ends places =
     cond (ltb 512 (length ends) || invalidEnds (length bytes) 0 ends) (refusal 14)
     (cond (ltb places (length ends)) (refusal 15) (value (roundBuckets image (names bytes ends))))
 
@@ -45,7 +45,7 @@ leftBy image xs answers (refusal k) = answers
 -- a place is four words
 unfoldable pub afterRound : List ℕ → List ℕ → List ℕ → List ℕ → List ℕ
 afterRound image bytes ends answers =
-    leftBy image (names bytes ends) answers (rounding image bytes ends (length answers / 4))
+    leftBy image (names bytes ends) answers (roundOutcome image bytes ends (length answers / 4))
 
 -- the number and the value of each case of the answer
 abbrev pub roundedOf : Rounded → Outcome ℕ

@@ -8,6 +8,7 @@ ghost use Rattle.batch.specs.Round.{answerWords};
 ghost use Rattle.batch.specs.steps.Answers.{putWords, wordsIn, HasPlace, CopyAnswerPre, PutDecidedPre};
 ghost use Rattle.batch.specs.steps.Answers.{PassCount, ListedNames, DecidedNames, OpenNames};
 ghost use Rattle.batch.specs.steps.Answers.{Answered, EqualsPre, SumsUnique, AllAnswered, Source};
+use crate::MOST_NAMES;
 use super::deduplicate::if_zero;
 use super::probing::pass;
 use image::HEAD_SIZE;
@@ -71,8 +72,8 @@ fn copy_answer(answers: &mut [u32], from: usize, to: usize)
     put_words(&mut *answers, to, found, id, buckets, offset);
 }
 
-// Stores the answer of a name that is not too long, the c-th bucket of whose search has this offset. An entry with
-// another name there leaves the search to go on.
+// Stores the answer of name i, which is not too long for a hash, where bucket c of its search has this offset. If the
+// entry there has another name, the search goes on.
 fn put_decided(
     image: &[u8],
     name: &[u8],
@@ -105,7 +106,7 @@ fn put_decided(
     }
 }
 
-// Stores the answers of the first m listed names, the c-th buckets of whose searches have these offsets.
+// Stores the answers of the first m listed names: bucket c of the search for each has the offset beside it.
 fn find_decided(
     image: &[u8],
     bytes: &[u8],
@@ -194,8 +195,8 @@ pub(crate) fn find_all(
         (now (answers .entry)) (now (answers .exit)) m
         ⌝ }
 {
-    let mut done: [u16; 512] = [0; 512];
-    let mut offsets: [u32; 512] = [0; 512];
+    let mut done: [u16; MOST_NAMES] = [0; MOST_NAMES];
+    let mut offsets: [u32; MOST_NAMES] = [0; MOST_NAMES];
     let passes = pass_count(image, bytes);
     let mut q = m;
     let mut c: u32 = 0;

@@ -90,7 +90,7 @@ pub(crate) fn deduplicate(
         (length (now (ends .entry))) r
         ⌝ }
 {
-    let mut slots: [u16; 4096] = [0; 4096];
+    let mut slots: [u16; SLOTS] = [0; SLOTS];
     let mut m: usize = 0;
     let mut i: usize = 0;
     while i < ends.len() {

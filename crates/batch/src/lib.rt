@@ -3,7 +3,7 @@ ghost use mathlib.Core.Path.{_≡_};
 ghost use Prim.Native.Nat.{_/_};
 ghost use lib.ListN.{length};
 ghost use Rattle.batch.specs.RoundNames.{names};
-ghost use Rattle.batch.specs.Round.{rounding, afterRound, roundedOf};
+ghost use Rattle.batch.specs.Round.{roundOutcome, afterRound, roundedOf};
 ghost use Rattle.batch.specs.steps.Answers.{AnswerAllPre, AnsweredAll};
 use answering::copy_duplicates;
 use answering::find_all;
@@ -19,6 +19,9 @@ pub mod naming; // naming.rt: name_round
 
 pub use naming::name_round;
 
+// "Up to 512 names" (02 (vii)): how many names or ids a round has at most.
+pub(crate) const MOST_NAMES: usize = 512;
+
 // What a round answers: the buckets read over the different names, or the number of the refusal.
 pub enum Rounded {
     Buckets(u64),
@@ -33,10 +36,10 @@ fn answer_all(image: &[u8], bytes: &[u8], ends: &[u64], answers: &mut [u32]) -> 
         ⌝ }
 {
     let n = ends.len();
-    let mut hashes: [u32; 512] = [0; 512];
+    let mut hashes: [u32; MOST_NAMES] = [0; MOST_NAMES];
     hash_names(bytes, ends, &mut hashes);
-    let mut equals: [u16; 512] = [0; 512];
-    let mut unique: [u16; 512] = [0; 512];
+    let mut equals: [u16; MOST_NAMES] = [0; MOST_NAMES];
+    let mut unique: [u16; MOST_NAMES] = [0; MOST_NAMES];
     let m = deduplicate(bytes, ends, &hashes, &mut equals, &mut unique);
     find_all(image, bytes, ends, &hashes, &mut unique, m, &mut *answers);
     let sum = sum_buckets(&equals, n, &*answers);
@@ -51,7 +54,7 @@ fn answer_all(image: &[u8], bytes: &[u8], ends: &[u64], answers: &mut [u32]) -> 
 pub fn round(image: &[u8], bytes: &[u8], ends: &[u64], answers: &mut [u32]) -> Rounded
     ensures answer { λ r. ⌜
         roundedOf r
-        ≡ rounding (now (image .entry)) (now (bytes .entry)) (now (ends .entry)) (length (now (answers .entry)) / 4)
+        ≡ roundOutcome (now (image .entry)) (now (bytes .entry)) (now (ends .entry)) (length (now (answers .entry)) / 4)
         ⌝ }
     ensures leaves { λ r. ⌜
         now (answers .exit)
@@ -59,7 +62,7 @@ pub fn round(image: &[u8], bytes: &[u8], ends: &[u64], answers: &mut [u32]) -> R
         ⌝ }
 {
     let n = ends.len();
-    if 512 < n {
+    if MOST_NAMES < n {
         return Rounded::Refused(14);
     }
     if invalid_ends(ends, bytes.len()) {

@@ -5,6 +5,7 @@ ghost use lib.ListN.{length};
 ghost use Rattle.reader.specs.Cases.{namingOf};
 ghost use Rattle.batch.specs.NameRound.{placeWords, nameWords, nameRefusal, afterNames};
 ghost use Rattle.batch.specs.steps.Answers.{putWords, PutPlacePre};
+use crate::MOST_NAMES;
 use super::answering::put_words;
 use reader::Named;
 
@@ -46,7 +47,7 @@ pub fn name_round(image: &[u8], ids: &[u32], answers: &mut [u32]) -> u32
         ⌝ }
 {
     let n = ids.len();
-    if 512 < n {
+    if MOST_NAMES < n {
         return 14;
     }
     if answers.len() / 4 < n {

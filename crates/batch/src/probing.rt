@@ -31,10 +31,8 @@ fn probe_next(image: &[u8], h: u32, c: u32) -> BucketProbe
     if n <= c {
         return BucketProbe { offset: 0, on: 1 };
     }
-    let t = (h % 256) as usize;
-    let start = word(image, 24 + 8 * t) as usize;
     let k = bucket_after(h, c, n) as usize;
-    let at = start + 8 * k;
+    let at = table.at as usize + 8 * k;
     let offset = word(image, at + 4);
     let on = passes(word(image, at), h, offset);
     BucketProbe { offset, on }

@@ -147,7 +147,7 @@ fn jhash_final(w: Words) -> u32
     final_word(sixth, 24)
 }
 
-// Three words added.
+// Word by word modulo 2^32.
 fn plus(w: Words, x: u32, y: u32, z: u32) -> Words
     ensures { λ r. ⌜ r ≡ plus w x y z ⌝ }
 {

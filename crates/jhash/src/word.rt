@@ -7,7 +7,7 @@ ghost use lib.ListN.{length, getD};
 ghost use Rattle.jhash.specs.Word.{word};
 ghost use Rattle.jhash.specs.steps.Reads.{ByteRead};
 
-// A byte as a word.
+// A byte widened: the result is below 256, so a sum of four digits of a word cannot wrap.
 pub fn byte_as_word(x: u8) -> u32
     ensures { λ r. ⌜ ByteRead x r ⌝ }
 {

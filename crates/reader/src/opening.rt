@@ -44,7 +44,7 @@ fn with_slack(slacks: u64, size: usize, at: u32, n: u32) -> u64
     slacks | slack(size, at, n)
 }
 
-// One table more.
+// The sums over the tables so far and this one.
 fn with_table(all: TableSums, size: usize, at: u32, n: u32) -> TableSums
     ensures { λ r. ⌜ TableAdded all size at n r ⌝ }
 {

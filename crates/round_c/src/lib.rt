@@ -5,7 +5,7 @@ use batch::Rounded;
 ghost use mathlib.Core.Path.{_≡_};
 ghost use Prim.Native.Nat.{_/_};
 ghost use lib.ListN.{length};
-ghost use Rattle.batch.specs.Round.{rounding, afterRound};
+ghost use Rattle.batch.specs.Round.{roundOutcome, afterRound};
 ghost use Rattle.batch.specs.NameRound.{nameRefusal, afterNames};
 ghost use Rattle.round_c.specs.RoundAnswers.{roundAnswer};
 
@@ -25,7 +25,7 @@ pub extern "C" fn cqdb_round_words(
     answers: &mut [u32],
 ) -> RoundAnswer
     ensures answer { λ r. ⌜
-        r ≡ roundAnswer (rounding (now (image .entry)) (now (names .entry)) (now (ends .entry))
+        r ≡ roundAnswer (roundOutcome (now (image .entry)) (now (names .entry)) (now (ends .entry))
         (length (now (answers .entry)) / 4))
         ⌝ }
     ensures leaves { λ r. ⌜

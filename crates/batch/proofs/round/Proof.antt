@@ -10,8 +10,8 @@ use lib.ListN.{length, drop, length-take}
 use Rattle.jhash.specs.Outcome.{Outcome, value, refusal}
 use Rattle.packed.proofs.NameEnds.{length-names}
 use Rattle.batch.specs.RoundNames.{names, invalidEnds}
-use Rattle.batch.specs.Round.{roundWords, roundBuckets, rounding, leftBy, afterRound}
-use Rattle.batch.proofs.RoundAnswers.{rounding-by, left}
+use Rattle.batch.specs.Round.{roundWords, roundBuckets, roundOutcome, leftBy, afterRound}
+use Rattle.batch.proofs.RoundAnswers.{outcome-by, left}
 use Rattle.batch.proofs.round.Statement.{statement}
 use Rattle.batch.proofs.round.Tie as tie
 
@@ -28,8 +28,8 @@ answered c = c .before .before
 
 -- what is given, and the answer list that it leaves
 given : (s : tie.Start) (o : Outcome ℕ) → let a = s .args in
-    o ≡ rounding (a .image .now) (a .bytes .now) (a .ends .now) (length (a .answers .now) / 4)
-    → (o ≡ rounding (a .image .now) (a .bytes .now) (a .ends .now) (length (a .answers .now) / 4))
+    o ≡ roundOutcome (a .image .now) (a .bytes .now) (a .ends .now) (length (a .answers .now) / 4)
+    → (o ≡ roundOutcome (a .image .now) (a .bytes .now) (a .ends .now) (length (a .answers .now) / 4))
     × (leftBy (a .image .now) (names (a .bytes .now) (a .ends .now)) (a .answers .now) o
     ≡ afterRound (a .image .now) (a .bytes .now) (a .ends .now) (a .answers .now))
 given s o e = (e, left (s .args .image .now) (s .args .bytes .now) (s .args .ends .now) (s .args .answers .now) o e)
@@ -41,14 +41,14 @@ valid c = sym (c .before .invalid-ends .ensures) ∙ c .if2 .left
 returns : tie.Need-returns
 returns c =
     let s = c .before .before .before .before .before in
-    given s (refusal 14) (rounding-by _ _ (s .args .ends .now) _ true _ _ (lt-ltb 512 (length (s .args .ends .now)) (c .if1 .taken)) refl refl)
+    given s (refusal 14) (outcome-by _ _ (s .args .ends .now) _ true _ _ (lt-ltb 512 (length (s .args .ends .now)) (c .if1 .taken)) refl refl)
 
 returns-2 : tie.Need-returns-2
 returns-2 c =
     let few = c .before .before in
     let a = start few .args in
     given (start few) (refusal 14)
-    (rounding-by (a .image .now) (a .bytes .now) (a .ends .now) (length (a .answers .now) / 4) false true _
+    (outcome-by (a .image .now) (a .bytes .now) (a .ends .now) (length (a .answers .now) / 4) false true _
     (le-ltb 512 (length (a .ends .now)) (few .if1 .left))
     (sym (c .before .invalid-ends .ensures) ∙ c .if2 .taken) refl)
 
@@ -58,7 +58,7 @@ returns-3 c =
     let a = start few .args in
     let places = length (a .answers .now) / 4 in
     given (start few) (refusal 15)
-    (rounding-by (a .image .now) (a .bytes .now) (a .ends .now) places false false true
+    (outcome-by (a .image .now) (a .bytes .now) (a .ends .now) places false false true
     (le-ltb 512 (length (a .ends .now)) (few .if1 .left)) (valid (c .before))
     (lt-ltb places (length (a .ends .now)) (c .if3 .taken)))
 
@@ -84,7 +84,7 @@ returns-4 c =
     let places = length (a .answers .now) / 4 in
     let whole =
     given (start few) (value (roundBuckets (a .image .now) xs))
-    (rounding-by (a .image .now) (a .bytes .now) (a .ends .now) places false false false
+    (outcome-by (a .image .now) (a .bytes .now) (a .ends .now) places false false false
     (le-ltb 512 (length (a .ends .now)) (few .if1 .left)) (valid (else .before))
     (le-ltb places (length (a .ends .now)) (else .if3 .left))) in (
       ap value (all .answer-all .ensures .count) ∙ whole .0,

@@ -5,7 +5,7 @@ use mathlib.Core.List.{List, [], _∷_, map}
 use lib.ListN.{length, replicate}
 use Rattle.jhash.specs.Outcome.{Outcome, value, refusal}
 use Rattle.reader.specs.examples.Reads.{ownImage}
-use Rattle.batch.specs.Round.{rounding, afterRound}
+use Rattle.batch.specs.Round.{roundOutcome, afterRound}
 use Rattle.batch.specs.NameRound.{nameRefusal, afterNames}
 
 -- names and their ends, an answer list, what a round on no image gives, and the answer list afterwards
@@ -57,13 +57,13 @@ namingRows =
 -- A twice on an image that holds A under 5 in a table of one bucket: both places have the answer, and its bucket counts
 -- once
 pub record TwiceOnce : Type 0 where
-  pub gives : rounding ownImage (65 ∷ 65 ∷ []) (1 ∷ 2 ∷ []) 2 ≡ value 1
+  pub gives : roundOutcome ownImage (65 ∷ 65 ∷ []) (1 ∷ 2 ∷ []) 2 ≡ value 1
   pub leaves : afterRound ownImage (65 ∷ 65 ∷ []) (1 ∷ 2 ∷ []) (nines 9) ≡ 1 ∷ 5 ∷ 1 ∷ 2072 ∷ 1
       ∷ 5 ∷ 1 ∷ 2072 ∷ 9 ∷ []
 
 -- what the rows say
 pub record RowsHold : Type 0 where
-  pub gives : map (λ (r : RoundRow). rounding [] (r .bytes) (r .ends) (length (r .answers) / 4)) roundRows
+  pub gives : map (λ (r : RoundRow). roundOutcome [] (r .bytes) (r .ends) (length (r .answers) / 4)) roundRows
       ≡ map (λ (r : RoundRow). r .gives) roundRows
   pub leaves : map (λ (r : RoundRow). afterRound [] (r .bytes) (r .ends) (r .answers)) roundRows
       ≡ map (λ (r : RoundRow). r .leaves) roundRows

@@ -9,7 +9,7 @@ use Rattle.jhash.specs.Outcome.{value, refusal}
 use Rattle.reader.specs.Lookup.{lookup}
 use Rattle.reader.specs.Naming.{naming}
 use Rattle.batch.specs.RoundNames.{names, invalidEnds, among, different, packedBytes, endsFrom, nth}
-use Rattle.batch.specs.Round.{answerWords, bucketsRead, roundBuckets, rounding, afterRound}
+use Rattle.batch.specs.Round.{answerWords, bucketsRead, roundBuckets, roundOutcome, afterRound}
 use Rattle.batch.specs.NameRound.{placeWords, nameRefusal, afterNames}
 
 -- no two of the names are equal
@@ -23,7 +23,7 @@ placeAt answers i = take 4 (drop (4 * i) answers)
 -- a round that is accepted, with its names and the answer list afterwards
 pub record RoundAccepted (image bytes ends answers : List ℕ) : Type 0 where
   pub count : ℕ
-  pub given : rounding image bytes ends (length answers / 4) ≡ value count
+  pub given : roundOutcome image bytes ends (length answers / 4) ≡ value count
 
 -- "the different names": no name twice among them, and the same names as before
 pub record OnceEach (xs : List (List ℕ)) : Type 0 where
@@ -58,7 +58,7 @@ pub record RoundHolds : Type 0 where
   pub past-kept : (image bytes ends answers : List ℕ) → RoundAccepted image bytes ends answers
       → drop (4 * length ends) (afterRound image bytes ends answers) ≡ drop (4 * length ends) answers
   pub refused-kept : (image bytes ends answers : List ℕ) (k : ℕ)
-      → rounding image bytes ends (length answers / 4) ≡ refusal k
+      → roundOutcome image bytes ends (length answers / 4) ≡ refusal k
       → afterRound image bytes ends answers ≡ answers
   -- ids in and names out: each place holds the single naming of its id; places past the last keep their content; a
   -- refusal writes nothing

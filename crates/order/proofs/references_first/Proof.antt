@@ -1,6 +1,6 @@
 -- `order::references_first` meets its contract. No function over a `&[Pair]` is covered, so its MIR is walked by hand. A turn of the loop reads a pair
 -- out of the slice and calls `keeps` on it and the round; all else that is reasoned is in `proofs/PairLaws`. The loop's invariant is `Upto`: the pairs from
--- k on are answered as all of them are. The pairs are looked into and shut again; of what the round owns a copy is passed.
+-- k on are answered as all of them are. The pairs are only read, and `keeps` gets a copy of what the round holds.
 use mathlib.Core.Path.{_≡_, refl, sym, ap, _∙_}
 use Prim.Native.Nat.{ℕ, _+_, _*_, _-_, _≤_, _<_, _^_, zero-le}
 use native.Mathlib.Omega.{arith}
