@@ -5,8 +5,8 @@ ghost use lib.ListN.{length};
 ghost use Rattle.reader.specs.Cases.{namingOf};
 ghost use Rattle.batch.specs.NameRound.{placeWords, nameWords, nameRefusal, afterNames};
 ghost use Rattle.batch.specs.steps.Answers.{putWords, PutPlacePre};
-use crate::MOST_NAMES;
 use super::answering::put_words;
+use crate::MOST_NAMES;
 use reader::Named;
 
 // Stores the place of a name, or nothing, in four words, where the name's length is below 2^32.
