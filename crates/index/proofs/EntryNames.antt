@@ -54,11 +54,11 @@ buckets-occupied es = from headSize es (omega arith)
 all-unfiltered : {A : Type 0} (P : A → Type 0) (test : A → Bool) → ((x : A) → test x ≡ false → P x) → (xs : List A) → All P (filter test xs) → All P xs
 unfolding filter
 all-unfiltered P test other [] all = tt
-all-unfiltered P test other (x ∷ xs) all = go (test x) refl all (all-unfiltered P test other xs)
+all-unfiltered P test other (x ∷ xs) all = by-test (test x) refl all (all-unfiltered P test other xs)
   where
-    go : (b : Bool) → test x ≡ b → All P (cond b (x ∷ filter test xs) (filter test xs)) → (All P (filter test xs) → All P xs) → P x × All P xs
-    go true p all rest = (all .0, rest (all .1))
-    go false p all rest = (other x p, rest all)
+    by-test : (b : Bool) → test x ≡ b → All P (cond b (x ∷ filter test xs) (filter test xs)) → (All P (filter test xs) → All P xs) → P x × All P xs
+    by-test true p all rest = (all .0, rest (all .1))
+    by-test false p all rest = (other x p, rest all)
 
 all-none : {A : Type 0} (P : A → Type 0) (xs : List A) → length xs ≡ 0 → All P xs
 all-none P [] z = tt
@@ -67,11 +67,11 @@ all-none P (x ∷ xs) z = absurd (omega arith)
 length-filter : {A : Type 0} (test : A → Bool) (xs : List A) → length (filter test xs) ≤ length xs
 unfolding filter
 length-filter test [] = omega arith
-length-filter test (x ∷ xs) = go (test x) (length-filter test xs)
+length-filter test (x ∷ xs) = by-test (test x) (length-filter test xs)
   where
-    go : (b : Bool) → length (filter test xs) ≤ length xs → length (cond b (x ∷ filter test xs) (filter test xs)) ≤ length (x ∷ xs)
-    go true rest = omega (arith, rest)
-    go false rest = omega (arith, rest)
+    by-test : (b : Bool) → length (filter test xs) ≤ length xs → length (cond b (x ∷ filter test xs) (filter test xs)) ≤ length (x ∷ xs)
+    by-test true rest = omega (arith, rest)
+    by-test false rest = omega (arith, rest)
 
 pub length-part : (from : ℕ) (es : List Entry) → length (partBuckets from es) ≤ length es
 length-part from es = omega (arith, length-filter (inPart from) (entryBuckets es), length-buckets es)
@@ -82,11 +82,11 @@ part-occupied from es = all-filter NotEmpty (inPart from) (entryBuckets es) (buc
 -- from the first table on: all
 pub part-whole : (es : List Entry) → partBuckets 0 es ≡ entryBuckets es
 unfolding filter
-part-whole es = go (entryBuckets es)
+part-whole es = all-pass (entryBuckets es)
   where
-    go : (bs : List Bucket) → filter (inPart 0) bs ≡ bs
-    go [] = refl
-    go (b ∷ bs) = rw (le-leb 0 (tableOf (b .hash)) (omega arith)) (ap (λ (l : List Bucket). b ∷ l) (go bs))
+    all-pass : (bs : List Bucket) → filter (inPart 0) bs ≡ bs
+    all-pass [] = refl
+    all-pass (b ∷ bs) = rw (le-leb 0 (tableOf (b .hash)) (omega arith)) (ap (λ (l : List Bucket). b ∷ l) (all-pass bs))
 
 pub part-none : (from : ℕ) → partBuckets from [] ≡ entryBuckets []
 unfolding filter placed
@@ -139,11 +139,11 @@ module _ (name : List ℕ) (v : ℕ → Bool) where
       → All (λ (b : Bucket). b .hash ≡ hashOf name → v (b .at) ≡ false) (map bucketOf (placed o es)) → containsName name es ≡ false
   unfolding placed containsName
   holds-none o [] decided others = refl
-  holds-none o (e ∷ es) decided others = go (same (e .name) name) refl (holds-none (o + entrySize e) es (decided .1) (others .1))
+  holds-none o (e ∷ es) decided others = by-equality (same (e .name) name) refl (holds-none (o + entrySize e) es (decided .1) (others .1))
     where
-      go : (t : Bool) → same (e .name) name ≡ t → containsName name es ≡ false → (t || containsName name es) ≡ false
-      go true p rest = absurd (false-not-true (sym (others .0 (ap hashOf (same-true (e .name) name p))) ∙ decided .0 ∙ p))
-      go false p rest = rest
+      by-equality : (t : Bool) → same (e .name) name ≡ t → containsName name es ≡ false → (t || containsName name es) ≡ false
+      by-equality true p rest = absurd (false-not-true (sym (others .0 (ap hashOf (same-true (e .name) name p))) ∙ decided .0 ∙ p))
+      by-equality false p rest = rest
 
   -- one has the name: an entry has it
   has-one : (o : ℕ) (es : List Entry) → All (λ (p : Placed). same (p .entry .name) name ≡ true → containsName name es ≡ true) (placed o es)
@@ -151,25 +151,25 @@ module _ (name : List ℕ) (v : ℕ → Bool) where
   has-one o [] = tt
   has-one o (e ∷ es) = (
     λ t. ap (λ (x : Bool). x || containsName name es) t,
-    all-map (λ p later t. go (hasName name e) (later t)) (placed (o + entrySize e) es) (has-one (o + entrySize e) es),
+    all-map (λ p later t. by-first (hasName name e) (later t)) (placed (o + entrySize e) es) (has-one (o + entrySize e) es),
   )
     where
-      go : (t : Bool) → containsName name es ≡ true → (t || containsName name es) ≡ true
-      go true h = refl
-      go false h = h
+      by-first : (t : Bool) → containsName name es ≡ true → (t || containsName name es) ≡ true
+      by-first true h = refl
+      by-first false h = h
 
   -- a probe with a match has passed a slot whose entry has the name
   matches-some : (b : ℕ → Bucket) (h : ℕ) (X : Type 0) → ((k : ℕ) → NotEmpty (b k) → v (b k .at) ≡ true → X) → (ks : List ℕ) → hasMatch b h v ks ≡ true → X
   unfolding hasMatch
   matches-some b h X decided [] e = absurd (false-not-true e)
-  matches-some b h X decided (k ∷ ks) e = go (eqb (b k .at) 0) refl (eqb (b k .hash) h) (v (b k .at)) refl (matches-some b h X decided ks) e
+  matches-some b h X decided (k ∷ ks) e = by-bucket (eqb (b k .at) 0) refl (eqb (b k .hash) h) (v (b k .at)) refl (matches-some b h X decided ks) e
     where
-      go : (p : Bool) → eqb (b k .at) 0 ≡ p → (q t : Bool) → v (b k .at) ≡ t → (hasMatch b h v ks ≡ true → X)
+      by-bucket : (p : Bool) → eqb (b k .at) 0 ≡ p → (q t : Bool) → v (b k .at) ≡ t → (hasMatch b h v ks ≡ true → X)
           → cond p false (cond (q && t) true (hasMatch b h v ks)) ≡ true → X
-      go true p q t r rest e = absurd (false-not-true e)
-      go false p true true r rest e = decided k (eqb-false (b k .at) 0 p) r
-      go false p true false r rest e = rest e
-      go false p false t r rest e = rest e
+      by-bucket true p q t r rest e = absurd (false-not-true e)
+      by-bucket false p true true r rest e = decided k (eqb-false (b k .at) 0 p) r
+      by-bucket false p true false r rest e = rest e
+      by-bucket false p false t r rest e = rest e
 
   -- the slots of an index of the tables from `from` on
   module _ (m from : ℕ) (es : List Entry) (fit : length (partBuckets from es) ≤ m) (decided : All (Decides name v) (placed headSize es)) where
@@ -188,7 +188,8 @@ module _ (name : List ℕ) (v : ℕ → Bool) where
 
     pub not-contained : from ≤ tableOf (hashOf name) → Dec (m ≡ 0) → hasMatch table (hashOf name) v (probeSequence m m (start (hashOf name) m)) ≡ false
         → containsName name es ≡ false
-    not-contained own (yes z) none = none-stored own (all-none (λ (b : Bucket). b .hash ≡ hashOf name → v (b .at) ≡ false) (partBuckets from es) (omega (arith, z, fit)))
+    not-contained own (yes z) none =
+        none-stored own (all-none (λ (b : Bucket). b .hash ≡ hashOf name → v (b .at) ≡ false) (partBuckets from es) (omega (arith, z, fit)))
     not-contained own (no z) none =
         none-stored own (no-match (hashOf name) v m (partBuckets from es) (omega (arith, z)) fit (part-occupied from es) none)
 

@@ -78,15 +78,15 @@ module _ {buf : List ℕ} {end entries : ℕ} {words₀ : List ℕ} (pre : FillP
 
     -- a slot is empty, and the probe ends at the first one
     pub empty-slot : (k h : ℕ) → k ≡ probeSlots words h never → (k < slotCount words) × (k ≡ firstEmptySlot words h)
-    empty-slot k h e = let o = go (result words h never) in (omega (arith, e, o .below), e ∙ o .is)
+    empty-slot k h e = let o = not-full (result words h never) in (omega (arith, e, o .below), e ∙ o .is)
       where
         fewer : length (entryBuckets (f .done)) < slotCount words
         fewer = omega (arith, pre .capacity, f .number, f .long, more, length-buckets (f .done))
 
-        go : Result words h never (slotSequence words h) → EmptyFound words h never (slotSequence words h)
-        go (inl o) = absurd (false-not-true (sym (never-matches (slotAt words) h (slotSequence words h)) ∙ o .matching))
-        go (inr (inl o)) = o
-        go (inr (inr o)) =
+        not-full : Result words h never (slotSequence words h) → EmptyFound words h never (slotSequence words h)
+        not-full (inl o) = absurd (false-not-true (sym (never-matches (slotAt words) h (slotSequence words h)) ∙ o .matching))
+        not-full (inr (inl o)) = o
+        not-full (inr (inr o)) =
             absurd (omega (arith, fewer, none-empty (f .slots) (omega (arith, fewer)) (buckets-occupied (f .done)) h (o .full)))
 
     module _ {n : ℕ} {name : List ℕ} {h : ℕ} (x : EntryRead buf at end n name h) where
@@ -102,10 +102,12 @@ module _ {buf : List ℕ} {end entries : ℕ} {words₀ : List ℕ} (pre : FillP
       size-is : entrySize (firstEntry (between buf at end)) ≡ 8 + n
       size-is = omega (arith, ap length is-name, x .sized, fr .some)
 
-      slots-more : {k : ℕ} → k ≡ probeSlots words h never → FilledWith (slotStored words k h at) (entryBuckets (f .done ++ (firstEntry (between buf at end) ∷ [])))
+      slots-more : {k : ℕ} → k ≡ probeSlots words h never
+          → FilledWith (slotStored words k h at) (entryBuckets (f .done ++ (firstEntry (between buf at end) ∷ [])))
       slots-more {k} e =
           subst (FilledWith (slotStored words k h at))
-          (ap (λ (b : Bucket). entryBuckets (f .done) ++ (b ∷ [])) (same-slot (x .hash ∙ ap hashOf (sym is-name)) (f .place)) ∙ sym (buckets-snoc (f .done) first))
+          (ap (λ (b : Bucket). entryBuckets (f .done) ++ (b ∷ [])) (same-slot (x .hash ∙ ap hashOf (sym is-name)) (f .place))
+          ∙ sym (buckets-snoc (f .done) first))
           (filled-stored words (f .slots) (record { hash = h; at = at }) k (empty-slot k h e .0) (empty-slot k h e .1))
 
       pub filling-turn : {k : ℕ} → k ≡ probeSlots words h never → Filling buf end entries words₀ (at + (8 + n)) (left - 1) (slotStored words k h at)

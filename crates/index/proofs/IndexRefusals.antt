@@ -28,6 +28,7 @@ module _ (s : State) (words : List ℕ) (r : ℕ) (answer : r ≡ closeRefusal s
         answer = is;
         refused = λ z. refl;
         right = λ z. absurd (n z);
+        long = refl;
         last = λ i h. refl;
       }
     where
@@ -45,6 +46,7 @@ module _ (s : State) (words : List ℕ) (r : ℕ) (answer : r ≡ closeRefusal s
           answer = is;
           refused = λ z. refl;
           right = λ z. absurd (omega (arith, z));
+          long = refl;
           last = λ i h. refl;
         }
       where
@@ -67,6 +69,7 @@ module _ (s : State) (words : List ℕ) (r : ℕ) (answer : r ≡ closeRefusal s
             answer = is-made;
             refused = λ n. absurd (n refl);
             right = λ z. is-right;
+            long = fills .long ∙ long;
             last = λ i h. fills .last i (omega (arith, h, long)) ∙ last i h;
           }
 

@@ -10,4 +10,6 @@ pub mod PutLeaves
 pub mod FillSlots
 pub mod IndexRefusals
 pub mod RightKept
+pub mod PutResults
+pub mod PlainLists
 pub mod ListsByIndex

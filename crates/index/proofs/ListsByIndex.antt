@@ -1,299 +1,320 @@
--- Lists of calls by an index, of every length. Assumes nothing.
-use Prim.Native.Nat.{ℕ, _/_, _≤_, _<_}
+-- Lists of calls by an index, of every length, with growth and indexes made anew between the calls. Assumes nothing.
+use Prim.Native.Nat.{ℕ, _/_, _≤_}
 use native.Mathlib.Omega.{arith}
 use mathlib.Core.Path.{_≡_, refl, sym, ap, ap₂, subst, _∙_}
 use mathlib.Core.Bool.{Bool, true, false, cond, _&&_}
-use mathlib.Core.List.{List, [], _∷_, _++_, map, append-nil}
+use mathlib.Core.List.{List, [], _∷_, _++_, map, append-nil, append-assoc}
 use mathlib.Core.Logic.{_⊎_, inl, inr}
-use borrow.Author.Tests.{eq-eqb, ne-eqb, eqb-true, eqb-false, le-leb, lt-leb}
-use lib.Dec.{eqb, leb}
+use borrow.Author.Tests.{eq-eqb, ne-eqb, eqb-true, le-leb, lt-leb, le-ltb}
+use lib.Dec.{eqb, ltb, leb}
 use lib.ListN.{length, length-append}
-use Rattle.jhash.specs.NameHash.{hashOf}
 use Rattle.image.specs.declared.Mode.{Mode}
-use Rattle.image.specs.Image.{Entry, headSize, containsName}
-use Rattle.image.specs.Zero.{hasZero}
+use Rattle.image.specs.Image.{Entry, headSize}
 use Rattle.writer.specs.declared.Repeats.{Repeats}
-use Rattle.writer.specs.State.{State, fresh, refusesRepeats, tooLarge}
-use Rattle.writer.specs.Put.{putRefusal, appended, afterPut}
+use Rattle.writer.specs.State.{State, fresh}
+use Rattle.writer.specs.Put.{putRefusal, afterPut}
 use Rattle.writer.specs.Close.{afterClose, closedImage}
-use Rattle.lists.specs.Calls.{Call, put, close, afterCall, answer, after, answers, acceptedOne, putDue, sizeOf, dueTo}
-use Rattle.lists.specs.Calls.{acceptedAfter, acceptedFrom, dueFrom, accepted, due, WordIds}
-use Rattle.lists.specs.Demand3.{afterList, imageOf}
+use Rattle.writer.proofs.Puts.{refused-leaves, accepted-leaves}
+use Rattle.writer.proofs.Longer.{longer-accepted}
+use Rattle.lists.specs.Calls.{Call, put, close, after, answers, acceptedOne, acceptedAfter, acceptedFrom, accepted, putDue, dueTo, WordIds}
+use Rattle.lists.specs.Demand3.{answersOf, afterList, acceptedPuts, imageOf}
+use Rattle.lists.specs.theorems.LongerBuffer.{movedTo}
 use Rattle.lists.proofs.ListWritten.{Written}
-use Rattle.lists.proofs.ListPuts.{put-due, appended-written, fresh-written}
+use Rattle.lists.proofs.ListPuts.{put-due}
 use Rattle.lists.proofs.ListCloses.{close-accepted, close-written}
 use Rattle.lists.proofs.WrittenRecord.{written-recorded}
 use Rattle.lists.proofs.CallLists.{list-answers, list-accepted}
-use Rattle.index.specs.Index.{slotCount, firstEmptySlot, Right, indexedRefusal}
-use Rattle.index.specs.Promise.{PutIndexed}
-use Rattle.index.specs.theorems.ListsByIndex.{Run, dueToIndexed, dueIndexed, withoutFull, notFull, RunByIndex, ListsByIndex}
-use Rattle.index.proofs.Insert.{length-stored}
+use Rattle.index.specs.Index.{slotCount, Right, indexRefusal}
+use Rattle.index.specs.Promise.{Indexed}
+use Rattle.index.specs.theorems.ListsByIndex.{Step, call, grow, anew, callsOf, Run, dueToIndexed, dueToAnew, dueIndexed}
+use Rattle.index.specs.theorems.ListsByIndex.{Plain, plainAfter, plainFrom, Enough, NoneFull, RunByIndex, RunOfCalls, ListsByIndex}
+use Rattle.index.proofs.PutResults.{due-below, PutResult, result, size-kept}
+use Rattle.index.proofs.PlainLists.{cons, more, Left, left-written, left-call, left-grown}
 use Rattle.index.proofs.RightAfterPut.{right-written}
-
--- ---- no call is due 24 without an index
-
-due-below : (mode : Mode) (repeats : Repeats) (n : ℕ) (es : List Entry) (c : Call) → dueTo mode repeats n es c < 24
-unfolding putDue
-due-below mode repeats n es (put e) = go (hasZero (e .name)) (containsName (e .name) es && refusesRepeats repeats) (tooLarge n (sizeOf mode (es ++ (e ∷ []))))
-  where
-    go : (z d t : Bool) → cond {A = ℕ} z 13 (cond d 16 (cond t 3 0)) < 24
-    go true d t = omega arith
-    go false true t = omega arith
-    go false false true = omega arith
-    go false false false = omega arith
-due-below mode repeats n es close = omega arith
-
--- ---- one put
-
--- accepted; refused with 24; refused as without an index
-module _ (m : ℕ) (mode : Mode) (repeats : Repeats) (n : ℕ) (es : List Entry) (s : State) (words : List ℕ) (e : Entry) (r : ℕ) (u : State)
-    (mid : List ℕ) where
-  pub record Accepted : Type 0 where
-    pub is : r ≡ 0
-    pub due-is : dueToIndexed m mode repeats n es (put e) ≡ 0
-    pub put-is : putDue mode repeats n es e ≡ 0
-    pub state : u ≡ appended s e
-
-  pub record Full : Type 0 where
-    pub is : r ≡ 24
-    pub due-is : dueToIndexed m mode repeats n es (put e) ≡ 24
-    pub state : u ≡ s
-    pub same : mid ≡ words
-
-  pub record Refused : Type 0 where
-    pub is : r ≡ putDue mode repeats n es e
-    pub due-is : dueToIndexed m mode repeats n es (put e) ≡ putDue mode repeats n es e
-    pub some : putDue mode repeats n es e ≡ 0 → ⊥
-    pub state : u ≡ s
-    pub same : mid ≡ words
-
-  abbrev pub PutResult : Type 0
-  PutResult = Accepted ⊎ (Full ⊎ Refused)
-
-module _ {m : ℕ} {mode : Mode} {repeats : Repeats} {n : ℕ} {es : List Entry} {s : State} {words : List ℕ} {e : Entry} {r : ℕ} {u : State}
-    {mid : List ℕ} (w : Written mode repeats n es s) (right : Right s words) (size : slotCount words ≡ m) (p : PutIndexed s words e r u mid) where
-  abbrev d : ℕ
-  d = putDue mode repeats n es e
-
-  rule : ℕ → ℕ → ℕ → ℕ
-  rule q k l = cond (eqb q 0 && leb k l) 24 q
-
-  answer-is : r ≡ dueToIndexed m mode repeats n es (put e)
-  unfolding indexedRefusal rule
-  answer-is =
-      p .answer right
-      ∙ ap (λ (q : ℕ). rule q (slotCount words) (s .writer .entries)) (put-due mode repeats n es s w e)
-      ∙ ap₂ (rule (putDue mode repeats n es e)) size (w .entries)
-
-  result : PutResult m mode repeats n es s words e r u mid
-  result = go (eqb d 0) refl (leb m (length es)) refl
-    where
-      go : (a : Bool) → eqb d 0 ≡ a → (b : Bool) → leb m (length es) ≡ b → PutResult m mode repeats n es s words e r u mid
-      go true x true y =
-          let e₂₄ : dueToIndexed m mode repeats n es (put e) ≡ 24 = rw (x, y) refl in
-          let kept = p .refused (λ z. omega (arith, z, answer-is, e₂₄)) in
-          inr (inl (record { is = answer-is ∙ e₂₄; due-is = e₂₄; state = kept .0; same = kept .1 }))
-      go true x false y =
-          let zero-is : putDue mode repeats n es e ≡ 0 = eqb-true d 0 x in
-          let e₀ : dueToIndexed m mode repeats n es (put e) ≡ 0 = rw (x, y) zero-is in
-          inl (record { is = answer-is ∙ e₀; due-is = e₀; put-is = zero-is; state = p .accepted (answer-is ∙ e₀) .0 })
-      go false x b y =
-          let e-same : dueToIndexed m mode repeats n es (put e) ≡ putDue mode repeats n es e = rw x refl in
-          let some : putDue mode repeats n es e ≡ 0 → ⊥ = eqb-false d 0 x in
-          let kept = p .refused (λ z. some (sym e-same ∙ sym answer-is ∙ z)) in
-          inr (inr (record { is = answer-is ∙ e-same; due-is = e-same; some = some; state = kept .0; same = kept .1 }))
-
--- the number of slots stays
-size-kept : {s : State} {words : List ℕ} {e : Entry} {r : ℕ} {u : State} {mid : List ℕ} → PutIndexed s words e r u mid → slotCount mid ≡ slotCount words
-size-kept {s} {words} {e} {r} {u} {mid} p = go (eqb r 0) refl
-  where
-    go : (a : Bool) → eqb r 0 ≡ a → slotCount mid ≡ slotCount words
-    go true x =
-        ap slotCount (p .accepted (eqb-true r 0 x) .1)
-        ∙ ap (λ (l : ℕ). l / 2) (length-stored words (firstEmptySlot words (hashOf (e .name))) (hashOf (e .name)) (s .writer .end))
-    go false x = ap slotCount (p .refused (eqb-false r 0 x) .1)
+use Rattle.index.proofs.RightKept.{right-moved}
 
 -- ---- every list
 
-pub record Along (m : ℕ) (mode : Mode) (repeats : Repeats) (n : ℕ) (es : List Entry) (s : State) (cs : List Call) (rs : List ℕ) (t : State)
-    (words′ : List ℕ) : Type 0 where
-  pub answered : rs ≡ dueIndexed m mode repeats n es cs
-  pub otherwise : answers s (withoutFull cs rs) ≡ notFull rs
-  pub leaves : t ≡ after s (withoutFull cs rs)
-  pub right : Right t words′
+module _ (mode : Mode) (repeats : Repeats) where
+  -- what the list of demand 3 that a run comes to answers and leaves
+  record Comes (l : Plain) (t : State) : Type 0 where
+    otherwise : answersOf mode repeats (l .buffer) (l .calls) ≡ l .answers
+    leaves : t ≡ afterList mode repeats (l .buffer) (l .calls)
 
-cons : ℕ → List ℕ → List ℕ
-cons r rs = r ∷ rs
+  record Along (m n : ℕ) (es : List Entry) (l : Plain) (cs : List Step) (rs : List ℕ) (t : State) (words′ : List ℕ) : Type 0 where
+    answered : rs ≡ dueIndexed m mode repeats n es cs
+    comes : Comes (plainFrom l cs rs) t
+    right : Right t words′
 
-module _ (m : ℕ) (mode : Mode) (repeats : Repeats) (n : ℕ) where
   -- a call that keeps its place in the list
-  kept-call : (es : List Entry) (s : State) (c : Call) (cs : List Call) (r : ℕ) (rs : List ℕ) (t : State) (words′ : List ℕ)
-      → (r ≡ 24 → ⊥) → r ≡ answer s c → r ≡ dueToIndexed m mode repeats n es c
-      → Along m mode repeats n (es ++ acceptedOne c (dueToIndexed m mode repeats n es c)) (afterCall s c) cs rs t words′
-      → Along m mode repeats n es s (c ∷ cs) (r ∷ rs) t words′
-  unfolding dueIndexed withoutFull notFull answers after cons
-  kept-call es s c cs r rs t words′ other is due-is rest =
+  kept-call : {m n : ℕ} {es : List Entry} {l : Plain} {cs : List Step} {rs : List ℕ} {t : State} {words′ : List ℕ} (c : Call) (r : ℕ)
+      → (r ≡ 24 → ⊥) → r ≡ dueToIndexed m mode repeats n es c
+      → Along m n (es ++ acceptedOne c (dueToIndexed m mode repeats n es c)) (more l c r) cs rs t words′
+      → Along m n es l (call c ∷ cs) (r ∷ rs) t words′
+  unfolding dueIndexed plainFrom
+  kept-call {l = l} {cs = cs} {rs = rs} {t = t} c r other due-is rest =
       record {
         answered = ap₂ cons due-is (rest .answered);
-        otherwise = rw (ne-eqb r 24 other) (ap₂ cons (sym is) (rest .otherwise));
-        leaves = rw (ne-eqb r 24 other) (rest .leaves);
+        comes = subst (λ (b : Bool). Comes (plainFrom (cond b l (more l c r)) cs rs) t) (sym (ne-eqb r 24 other)) (rest .comes);
         right = rest .right;
       }
 
   -- a call that is answered by 24
-  full-call : (es : List Entry) (s : State) (e : Entry) (cs : List Call) (r : ℕ) (rs : List ℕ) (t : State) (words′ : List ℕ)
+  full-call : {m n : ℕ} {es : List Entry} {l : Plain} {cs : List Step} {rs : List ℕ} {t : State} {words′ : List ℕ} (e : Entry) (r : ℕ)
       → r ≡ 24 → dueToIndexed m mode repeats n es (put e) ≡ 24
-      → Along m mode repeats n es s cs rs t words′
-      → Along m mode repeats n es s (put e ∷ cs) (r ∷ rs) t words′
-  unfolding dueIndexed withoutFull notFull cons
-  full-call es s e cs r rs t words′ is due-is rest =
+      → Along m n es l cs rs t words′
+      → Along m n es l (call (put e) ∷ cs) (r ∷ rs) t words′
+  unfolding dueIndexed plainFrom
+  full-call {m} {n} {es} {l} {cs} {rs} {t} e r is due-is rest =
       record {
         answered =
             ap₂ cons (is ∙ sym due-is)
             (rest .answered
-            ∙ ap (λ (l : List Entry). dueIndexed m mode repeats n l cs)
+            ∙ ap (λ (fs : List Entry). dueIndexed m mode repeats n fs cs)
             (sym (ap (λ (q : ℕ). es ++ acceptedOne (put e) q) due-is ∙ append-nil es)));
-        otherwise = rw (eq-eqb r 24 is) (rest .otherwise);
-        leaves = rw (eq-eqb r 24 is) (rest .leaves);
+        comes = subst (λ (b : Bool). Comes (plainFrom (cond b l (more l (put e) r)) cs rs) t) (sym (eq-eqb r 24 is)) (rest .comes);
         right = rest .right;
       }
 
-  pub along : (cs : List Call) (es : List Entry) (s : State) (words : List ℕ) → Written mode repeats n es s → Right s words
-      → slotCount words ≡ m → WordIds mode cs
-      → (rs : List ℕ) (t : State) (words′ : List ℕ) → Run s words cs rs t words′ → Along m mode repeats n es s cs rs t words′
-  unfolding dueIndexed withoutFull notFull answers after afterPut
-  along [] es s words w right size word [] t words′ run =
+  -- a step that is no call of the plain list
+  other-step : {m n m′ n′ : ℕ} {es : List Entry} {l : Plain} {cs : List Step} {rs : List ℕ} {t : State} {words′ : List ℕ} (c : Step) (r : ℕ)
+      → cons r (dueIndexed m′ mode repeats n′ es cs) ≡ dueIndexed m mode repeats n es (c ∷ cs)
+      → Along m′ n′ es (plainAfter l c r) cs rs t words′
+      → Along m n es l (c ∷ cs) (r ∷ rs) t words′
+  unfolding plainFrom
+  other-step c r due-is rest =
+      record {
+        answered = ap (cons r) (rest .answered) ∙ due-is;
+        comes = rest .comes;
+        right = rest .right;
+      }
+
+  -- the index with which the list goes on after one was made in `lent`: the new one, or where it is refused the old one
+  record NextIndex (m : ℕ) (es : List Entry) (s : State) (lent words : List ℕ) (r : ℕ) : Type 0 where
+    is : r ≡ dueToAnew (slotCount lent) es
+    right : Right s words
+    size : slotCount words ≡ cond (eqb (dueToAnew (slotCount lent) es) 0) (slotCount lent) m
+
+  next-index : {m : ℕ} {es : List Entry} {s : State} {words lent made : List ℕ} {r n : ℕ} → Written mode repeats n es s → Right s words
+      → slotCount words ≡ m → Indexed s lent r made → NextIndex m es s lent (cond (eqb r 0) made words) r
+  unfolding indexRefusal
+  next-index {m} {es} {s} {words} {lent} {made} {r} {n} w right size ix =
+      let goes = by-answer (eqb r 0) refl in
+      record { is = is; right = goes .0; size = goes .1 ∙ ap (λ (q : ℕ). cond (eqb q 0) (slotCount lent) m) is }
+    where
+      is : r ≡ dueToAnew (slotCount lent) es
+      is =
+          ix .answer
+          ∙ ap₂ (λ (k entries : ℕ). cond (eqb k 0 && ltb (slotCount lent) entries) 24 k) (close-accepted mode repeats n es s w) (w .entries)
+
+      by-answer : (b : Bool) → eqb r 0 ≡ b → Right s (cond b made words) × (slotCount (cond b made words) ≡ cond b (slotCount lent) m)
+      by-answer true z = (ix .right (eqb-true r 0 z) (w .tables), ap (λ (k : ℕ). k / 2) (ix .long))
+      by-answer false z = (right, size)
+
+  along : (cs : List Step) (m : ℕ) (l : Plain) (es : List Entry) (s : State) (words : List ℕ) → Left mode repeats l es s → Right s words
+      → slotCount words ≡ m → WordIds mode (callsOf cs)
+      → (rs : List ℕ) (t : State) (words′ : List ℕ) → Run s words cs rs t words′ → Along m (length (l .buffer)) es l cs rs t words′
+  unfolding dueIndexed plainFrom
+  along [] m l es s words left right size word [] t words′ run =
       record {
         answered = refl;
-        otherwise = refl;
-        leaves = run .0;
+        comes = record { otherwise = left .answers; leaves = run .0 ∙ left .state };
         right = subst (λ (u : State). Right u words′) (sym (run .0)) (subst (Right s) (sym (run .1)) right);
       }
-  along [] es s words w right size word (r ∷ rs) t words′ run = absurd run
-  along (c ∷ cs) es s words w right size word [] t words′ run = absurd run
-  along (close ∷ cs) es s words w right size word (r ∷ rs) t words′ run =
-      let closed = close-written mode repeats n es s w in
+  along [] m l es s words left right size word (r ∷ rs) t words′ run = absurd run
+  along (c ∷ cs) m l es s words left right size word [] t words′ run = absurd run
+  along (call close ∷ cs) m l es s words left right size word (r ∷ rs) t words′ run =
+      let n = length (l .buffer) in
+      let w = left-written mode repeats left in
       let none = close-accepted mode repeats n es s w in
-      let still = right-written right (written-recorded mode repeats n es s w) (w .entries) closed in
-      kept-call es s close cs r rs t words′ (λ z. omega (arith, z, run .0, none)) (run .0) (run .0 ∙ none)
-      (subst (λ (l : List Entry). Along m mode repeats n l (afterClose s) cs rs t words′) (sym (append-nil es))
-      (along cs es (afterClose s) words closed still size (word .1) rs t words′ (run .1)))
-  along (put e ∷ cs) es s words w right size word (r ∷ rs) t words′ (u, mid, p, run) =
-      let again : Right u mid = p .right right in
-      let size′ : slotCount mid ≡ m = size-kept p ∙ size in
-      let rest : (fs : List Entry) → Written mode repeats n fs u → Along m mode repeats n fs u cs rs t words′ =
-      λ fs v. along cs fs u mid v again size′ (word .1) rs t words′ run in
-      go rest (result w right size p)
+      let still = right-written right (written-recorded mode repeats n es s w) (w .entries) (close-written mode repeats n es s w) in
+      kept-call close r (λ z. omega (arith, z, run .0, none)) (run .0 ∙ none)
+      (along cs m (more l close r) (es ++ []) (afterClose s) words (left-call mode repeats left close r (run .0) (word .0)) still size (word .1)
+      rs t words′ (run .1))
+  along (grow longer ∷ cs) m l es s words left right size word (r ∷ rs) t words′ (at, is, run) =
+      let n = length (l .buffer) in
+      let w = left-written mode repeats left in
+      let taken : r ≡ 0 = is ∙ sym (longer-accepted (s .writer) (length longer) (at .long) .0) in
+      let still = right-moved right w longer at in
+      other-step (grow longer) r (ap (λ (q : ℕ). cons q (dueIndexed m mode repeats (length longer) es cs)) taken)
+      (along cs m (plainAfter l (grow longer) r) es (movedTo longer s) words (left-grown mode repeats left longer at) still size word rs t words′ run)
+  along (anew lent ∷ cs) m l es s words left right size word (r ∷ rs) t words′ (made, ix, run) =
+      let next = next-index (left-written mode repeats left) right size ix in
+      let m′ = cond (eqb (dueToAnew (slotCount lent) es) 0) (slotCount lent) m in
+      other-step (anew lent) r (ap (λ (q : ℕ). cons q (dueIndexed m′ mode repeats (length (l .buffer)) es cs)) (next .is))
+      (along cs m′ l es s (cond (eqb r 0) made words) left (next .right) (next .size) word rs t words′ run)
+  along (call (put e) ∷ cs) m l es s words left right size word (r ∷ rs) t words′ (u, mid, p, run) =
+      let goes : (l′ : Plain) (fs : List Entry) → Left mode repeats l′ fs u → Along m (length (l′ .buffer)) fs l′ cs rs t words′ =
+      λ l′ fs v. along cs m l′ fs u mid v (p .right right) (size-kept p ∙ size) (word .1) rs t words′ run in
+      by-result goes (result (left-written mode repeats left) right size p)
     where
-      put-is : putRefusal s e ≡ putDue mode repeats n es e
-      put-is = put-due mode repeats n es s w e
+      put-is : putRefusal s e ≡ putDue mode repeats (length (l .buffer)) es e
+      put-is = put-due mode repeats (length (l .buffer)) es s (left-written mode repeats left) e
 
-      go : ((fs : List Entry) → Written mode repeats n fs u → Along m mode repeats n fs u cs rs t words′)
-          → PutResult m mode repeats n es s words e r u mid
-          → Along m mode repeats n es s (put e ∷ cs) (r ∷ rs) t words′
-      go rest (inl o) =
-          let left : u ≡ afterPut s e = o .state ∙ sym (ap (λ (b : Bool). cond b (appended s e) s) (eq-eqb (putRefusal s e) 0 (put-is ∙ o .put-is))) in
-          let v : Written mode repeats n (es ++ (e ∷ [])) u =
-          subst (Written mode repeats n (es ++ (e ∷ []))) (sym (o .state)) (appended-written mode repeats n es s w e (o .put-is) (word .0)) in
-          kept-call es s (put e) cs r rs t words′ (λ z. omega (arith, z, o .is)) (o .is ∙ sym (put-is ∙ o .put-is)) (o .is ∙ sym (o .due-is))
-          (subst (λ (l : List Entry). Along m mode repeats n l (afterPut s e) cs rs t words′) (ap (λ (q : ℕ). es ++ acceptedOne (put e) q) (sym (o .due-is)))
-          (subst (λ (x : State). Along m mode repeats n (es ++ (e ∷ [])) x cs rs t words′) left (rest (es ++ (e ∷ [])) v)))
-      go rest (inr (inl o)) =
-          full-call es s e cs r rs t words′ (o .is) (o .due-is)
-          (subst (λ (x : State). Along m mode repeats n es x cs rs t words′) (o .state) (rest es (subst (Written mode repeats n es) (sym (o .state)) w)))
-      go rest (inr (inr o)) =
-          let nonzero = ne-eqb (putRefusal s e) 0 (λ z. o .some (sym put-is ∙ z)) in
-          let left : u ≡ afterPut s e = o .state ∙ sym (ap (λ (b : Bool). cond b (appended s e) s) nonzero) in
-          kept-call es s (put e) cs r rs t words′ (λ z. omega (arith, z, o .is, due-below mode repeats n es (put e))) (o .is ∙ sym put-is)
-          (o .is ∙ sym (o .due-is))
-          (subst (λ (l : List Entry). Along m mode repeats n l (afterPut s e) cs rs t words′)
-          (sym
-          (ap (λ (q : ℕ). es ++ acceptedOne (put e) q) (o .due-is)
-          ∙ ap (λ (b : Bool). es ++ cond b (e ∷ []) []) (ne-eqb (putDue mode repeats n es e) 0 (o .some))
-          ∙ append-nil es))
-          (subst (λ (x : State). Along m mode repeats n es x cs rs t words′) left (rest es (subst (Written mode repeats n es) (sym (o .state)) w))))
+      as-without : ((l′ : Plain) (fs : List Entry) → Left mode repeats l′ fs u → Along m (length (l′ .buffer)) fs l′ cs rs t words′)
+          → r ≡ putDue mode repeats (length (l .buffer)) es e
+          → dueToIndexed m mode repeats (length (l .buffer)) es (put e) ≡ putDue mode repeats (length (l .buffer)) es e
+          → u ≡ afterPut s e → Along m (length (l .buffer)) es l (call (put e) ∷ cs) (r ∷ rs) t words′
+      as-without goes is due-is left-by =
+          let n = length (l .buffer) in
+          let next = left-call mode repeats left (put e) r (is ∙ sym put-is) (word .0) in
+          kept-call (put e) r (λ z. omega (arith, z, is, due-below mode repeats n es (put e))) (is ∙ sym due-is)
+          (subst (λ (fs : List Entry). Along m n fs (more l (put e) r) cs rs t words′) (ap (λ (q : ℕ). es ++ acceptedOne (put e) q) (sym due-is))
+          (goes (more l (put e) r) (acceptedAfter mode repeats n es (put e))
+          (subst (Left mode repeats (more l (put e) r) (acceptedAfter mode repeats n es (put e))) (sym left-by) next)))
+
+      by-result : ((l′ : Plain) (fs : List Entry) → Left mode repeats l′ fs u → Along m (length (l′ .buffer)) fs l′ cs rs t words′)
+          → PutResult m mode repeats (length (l .buffer)) es s words e r u mid
+          → Along m (length (l .buffer)) es l (call (put e) ∷ cs) (r ∷ rs) t words′
+      by-result goes (inl o) =
+          as-without goes (o .is ∙ sym (o .put-is)) (o .due-is ∙ sym (o .put-is)) (o .state ∙ accepted-leaves s e (put-is ∙ o .put-is))
+      by-result goes (inr (inl o)) =
+          full-call e r (o .is) (o .due-is) (goes l es (subst (Left mode repeats l es) (sym (o .state)) left))
+      by-result goes (inr (inr o)) =
+          as-without goes (o .is) (o .due-is) (o .state ∙ refused-leaves s e r (o .is ∙ sym put-is) (λ z. o .some (sym (o .is) ∙ z)))
 
   -- ---- enough slots
 
-  longer : (cs : List Call) (es : List Entry) → length es ≤ length (acceptedFrom mode repeats n es cs)
-  unfolding acceptedFrom
-  longer [] es = omega arith
-  longer (c ∷ cs) es =
-      omega (arith, longer cs (acceptedAfter mode repeats n es c), length-append es (acceptedOne c (dueTo mode repeats n es c)))
-
-  enough-due : (cs : List Call) (es : List Entry) → length (acceptedFrom mode repeats n es cs) ≤ m
-      → dueIndexed m mode repeats n es cs ≡ dueFrom mode repeats n es cs
-  unfolding dueIndexed dueFrom acceptedFrom cons
-  enough-due [] es l = refl
-  enough-due (c ∷ cs) es l =
-      ap₂ cons (same c l)
-      (ap (λ (q : ℕ). dueIndexed m mode repeats n (es ++ acceptedOne c q) cs) (same c l) ∙ enough-due cs (acceptedAfter mode repeats n es c) l)
+  enough-none : (cs : List Step) (m n : ℕ) (es : List Entry) → Enough m mode repeats n es cs → NoneFull (dueIndexed m mode repeats n es cs)
+  unfolding dueIndexed
+  enough-none [] m n es h = tt
+  enough-none (call c ∷ cs) m n es h =
+      let is = same c (h .0) in (
+        (λ z. omega (arith, z, is, due-below mode repeats n es c)),
+        subst (λ (q : ℕ). NoneFull (dueIndexed m mode repeats n (es ++ acceptedOne c q) cs)) (sym is)
+            (enough-none cs m n (acceptedAfter mode repeats n es c) (h .1)),
+      )
     where
-      same : (c : Call) → length (acceptedFrom mode repeats n (acceptedAfter mode repeats n es c) cs) ≤ m
-          → dueToIndexed m mode repeats n es c ≡ dueTo mode repeats n es c
-      same close l = refl
-      same (put e) l = go (eqb (putDue mode repeats n es e) 0) refl
+      same : (c : Call) → length (acceptedAfter mode repeats n es c) ≤ m → dueToIndexed m mode repeats n es c ≡ dueTo mode repeats n es c
+      same close few = refl
+      same (put e) few = by-due (eqb (putDue mode repeats n es e) 0) refl
         where
-          go : (b : Bool) → eqb (putDue mode repeats n es e) 0 ≡ b → dueToIndexed m mode repeats n es (put e) ≡ putDue mode repeats n es e
-          go true x =
+          by-due : (b : Bool) → eqb (putDue mode repeats n es e) 0 ≡ b → dueToIndexed m mode repeats n es (put e) ≡ putDue mode repeats n es e
+          by-due true x =
               let one : length (acceptedAfter mode repeats n es (put e)) ≡ length (es ++ (e ∷ [])) = ap (λ (b : Bool). length (es ++ cond b (e ∷ []) [])) x in
-              rw (x, lt-leb m (length es) (omega (arith, longer cs (acceptedAfter mode repeats n es (put e)), one, length-append es (e ∷ []), l))) refl
-          go false x = rw x refl
+              rw (x, lt-leb m (length es) (omega (arith, one, length-append es (e ∷ []), few))) refl
+          by-due false x = rw x refl
+  enough-none (grow longer ∷ cs) m n es h = ((λ z. omega (arith, z)), enough-none cs m (length longer) es h)
+  enough-none (anew lent ∷ cs) m n es h =
+      let none : dueToAnew (slotCount lent) es ≡ 0 = ap (λ (b : Bool). cond {A = ℕ} b 24 0) (le-ltb (slotCount lent) (length es) (h .0)) in (
+        (λ z. omega (arith, z, none)),
+        subst (λ (q : ℕ). NoneFull (dueIndexed (cond (eqb q 0) (slotCount lent) m) mode repeats n es cs)) (sym none)
+            (enough-none cs (slotCount lent) n es (h .1)),
+      )
 
-  none-full : (cs : List Call) (es : List Entry) → withoutFull cs (dueFrom mode repeats n es cs) ≡ cs
-  unfolding withoutFull dueFrom
-  none-full [] es = refl
-  none-full (c ∷ cs) es =
-      rw (ne-eqb (dueTo mode repeats n es c) 24 (λ z. omega (arith, z, due-below mode repeats n es c)))
-      (ap (λ (l : List Call). c ∷ l) (none-full cs (acceptedAfter mode repeats n es c)))
+  -- ---- puts and closes alone
 
-  -- ---- every slot taken
+  module _ (n : ℕ) where
+    longer-list : (cs : List Call) (es : List Entry) → length es ≤ length (acceptedFrom mode repeats n es cs)
+    unfolding acceptedFrom
+    longer-list [] es = omega arith
+    longer-list (c ∷ cs) es =
+        omega (arith, longer-list cs (acceptedAfter mode repeats n es c), length-append es (acceptedOne c (dueTo mode repeats n es c)))
 
-  full-due : (es : List Entry) → m ≤ length es → (c : Call) → es ++ acceptedOne c (dueToIndexed m mode repeats n es c) ≡ es
-  full-due es l close = append-nil es
-  full-due es l (put e) = go (eqb (putDue mode repeats n es e) 0) refl
-    where
-      go : (b : Bool) → eqb (putDue mode repeats n es e) 0 ≡ b → es ++ acceptedOne (put e) (dueToIndexed m mode repeats n es (put e)) ≡ es
-      go true x = rw (x, le-leb m (length es) l) (append-nil es)
-      go false x = rw (x, x) (append-nil es)
+    enough-calls : (m : ℕ) (cs : List Call) (es : List Entry) → length (acceptedFrom mode repeats n es cs) ≤ m → Enough m mode repeats n es (map call cs)
+    unfolding acceptedFrom
+    enough-calls m [] es few = tt
+    enough-calls m (c ∷ cs) es few =
+        let more = longer-list cs (acceptedAfter mode repeats n es c) in
+        (omega (arith, more, few), enough-calls m cs (acceptedAfter mode repeats n es c) few)
 
-  pub each-full : (cs : List Call) (es : List Entry) → m ≤ length es → dueIndexed m mode repeats n es cs ≡ map (dueToIndexed m mode repeats n es) cs
-  unfolding dueIndexed cons
-  each-full [] es l = refl
-  each-full (c ∷ cs) es l =
-      ap (cons (dueToIndexed m mode repeats n es c))
-      (ap (λ (k : List Entry). dueIndexed m mode repeats n k cs) (full-due es l c) ∙ each-full cs es l)
+    length-due : (m : ℕ) (cs : List Call) (es : List Entry) → length (dueIndexed m mode repeats n es (map call cs)) ≡ length cs
+    unfolding dueIndexed
+    length-due m [] es = refl
+    length-due m (c ∷ cs) es = omega (arith, length-due m cs (es ++ acceptedOne c (dueToIndexed m mode repeats n es c)))
+
+    -- once every slot is taken
+    full-due : (m : ℕ) (es : List Entry) → m ≤ length es → (c : Call) → es ++ acceptedOne c (dueToIndexed m mode repeats n es c) ≡ es
+    full-due m es l close = append-nil es
+    full-due m es l (put e) = by-due (eqb (putDue mode repeats n es e) 0) refl
+      where
+        by-due : (b : Bool) → eqb (putDue mode repeats n es e) 0 ≡ b → es ++ acceptedOne (put e) (dueToIndexed m mode repeats n es (put e)) ≡ es
+        by-due true x = rw (x, le-leb m (length es) l) (append-nil es)
+        by-due false x = rw (x, x) (append-nil es)
+
+    each-full : (m : ℕ) (cs : List Call) (es : List Entry) → m ≤ length es
+        → dueIndexed m mode repeats n es (map call cs) ≡ map (dueToIndexed m mode repeats n es) cs
+    unfolding dueIndexed
+    each-full m [] es l = refl
+    each-full m (c ∷ cs) es l =
+        ap (cons (dueToIndexed m mode repeats n es c))
+        (ap (λ (fs : List Entry). dueIndexed m mode repeats n fs (map call cs)) (full-due m es l c) ∙ each-full m cs es l)
+
+-- nothing is left out
+plain-calls : (l : Plain) (cs : List Call) (rs : List ℕ) → length rs ≡ length cs → NoneFull rs
+    → plainFrom l (map call cs) rs ≡ record { buffer = l .buffer; calls = l .calls ++ cs; answers = l .answers ++ rs }
+unfolding plainFrom
+plain-calls l [] [] same none =
+    λ i. record { buffer = l .buffer; calls = sym (append-nil (l .calls)) i; answers = sym (append-nil (l .answers)) i }
+plain-calls l [] (r ∷ rs) same none = absurd (omega arith)
+plain-calls l (c ∷ cs) [] same none = absurd (omega arith)
+plain-calls l (c ∷ cs) (r ∷ rs) same none =
+    ap (λ (b : Bool). plainFrom (cond b l (more l c r)) (map call cs) rs) (ne-eqb r 24 (none .0))
+    ∙ plain-calls (more l c r) cs rs (omega arith) (none .1)
+    ∙ regrouped
+  where
+    regrouped : _≡_ {A = Plain} (record { buffer = l .buffer; calls = (l .calls ++ (c ∷ [])) ++ cs; answers = (l .answers ++ (r ∷ [])) ++ rs })
+        (record { buffer = l .buffer; calls = l .calls ++ (c ∷ cs); answers = l .answers ++ (r ∷ rs) })
+    regrouped =
+        λ i. record {
+          buffer = l .buffer;
+          calls = append-assoc (l .calls) (c ∷ []) cs i;
+          answers = append-assoc (l .answers) (r ∷ []) rs i;
+        }
+
+calls-back : (cs : List Call) → callsOf (map call cs) ≡ cs
+calls-back [] = refl
+calls-back (c ∷ cs) = ap (λ (l : List Call). c ∷ l) (calls-back cs)
 
 -- ---- from a fresh record
 
+module _ (mode : Mode) (repeats : Repeats) (buffer words : List ℕ) (rs : List ℕ) (t : State) (words′ : List ℕ) (room : headSize ≤ length buffer)
+    (right : Right (fresh mode repeats buffer) words) where
+  -- no call yet
+  abbrev none-yet : Plain
+  none-yet = record { buffer = buffer; calls = []; answers = [] }
+
+  fresh-left : Left mode repeats none-yet [] (fresh mode repeats buffer)
+  unfolding after answers accepted acceptedFrom
+  fresh-left = record { state = refl; answers = refl; room = room; word = tt; puts = refl }
+
+  by-index : (cs : List Step) → WordIds mode (callsOf cs) → Run (fresh mode repeats buffer) words cs rs t words′
+      → RunByIndex mode repeats buffer words cs rs t words′
+  by-index cs word run =
+      let a = along mode repeats cs (slotCount words) none-yet [] (fresh mode repeats buffer) words fresh-left right refl word rs t words′ run in
+      record {
+        answered = a .answered;
+        otherwise = a .comes .otherwise;
+        leaves = a .comes .leaves;
+        right = a .right;
+        enough = λ few. subst NoneFull (sym (a .answered)) (enough-none mode repeats cs (slotCount words) (length buffer) [] few);
+      }
+
+  of-calls : (cs : List Call) → WordIds mode cs → Run (fresh mode repeats buffer) words (map call cs) rs t words′
+      → length (acceptedPuts mode repeats buffer cs) ≤ slotCount words → RunOfCalls mode repeats buffer cs rs t
+  unfolding accepted imageOf
+  of-calls cs word run few =
+      let n = length buffer in
+      let a = by-index (map call cs) (subst (WordIds mode) (sym (calls-back cs)) word) run in
+      let some : length (acceptedFrom mode repeats n [] cs) ≤ slotCount words =
+      omega (arith, few, ap length (list-accepted mode repeats buffer room cs word)) in
+      let none = a .enough (enough-calls mode repeats n (slotCount words) cs [] some) in
+      let whole = plain-calls none-yet cs rs (ap length (a .answered) ∙ length-due mode repeats n (slotCount words) cs []) none in
+      let left : t ≡ afterList mode repeats buffer cs = a .leaves ∙ ap (λ (l : Plain). afterList mode repeats (l .buffer) (l .calls)) whole in
+      let answers-are : rs ≡ answersOf mode repeats buffer cs =
+      sym (sym (ap (λ (l : Plain). answersOf mode repeats (l .buffer) (l .calls)) whole) ∙ a .otherwise ∙ ap (λ (l : Plain). l .answers) whole) in
+      record {
+        due-is = answers-are ∙ list-answers mode repeats buffer room cs word;
+        answers = answers-are;
+        leaves = left;
+        image = ap closedImage left;
+      }
+
 pub lists-by-index : ListsByIndex
-unfolding due accepted imageOf
 lists-by-index =
     record {
-      runs = λ mode repeats buffer words cs rs t words′ room word right run. one mode repeats buffer words cs rs t words′ room word right run;
-      from-then = λ m mode repeats n es cs l. each-full m mode repeats n cs es l;
+      runs = λ mode repeats buffer words cs rs t words′ room word right run. by-index mode repeats buffer words rs t words′ room right cs word run;
+      calls = λ mode repeats buffer words cs rs t words′ room word right run few.
+          of-calls mode repeats buffer words rs t words′ room right cs word run few;
+      from-then = λ m mode repeats n es cs l. each-full mode repeats n m cs es l;
     }
-  where
-    one : (mode : Mode) (repeats : Repeats) (buffer words : List ℕ) (cs : List Call) (rs : List ℕ) (t : State) (words′ : List ℕ)
-        → headSize ≤ length buffer → WordIds mode cs → Right (fresh mode repeats buffer) words
-        → Run (fresh mode repeats buffer) words cs rs t words′ → RunByIndex mode repeats buffer words cs rs t words′
-    one mode repeats buffer words cs rs t words′ room word right run =
-        let n = length buffer in
-        let w = fresh-written mode repeats buffer room in
-        let a = along (slotCount words) mode repeats n cs [] (fresh mode repeats buffer) words w right refl word rs t words′ run in
-        record {
-          answered = a .answered;
-          otherwise = a .otherwise;
-          leaves = a .leaves;
-          right = a .right;
-          enough =
-              λ few.
-              let some : length (acceptedFrom mode repeats n [] cs) ≤ slotCount words =
-              omega (arith, few, ap length (list-accepted mode repeats buffer room cs word)) in
-              let is : rs ≡ dueFrom mode repeats n [] cs = a .answered ∙ enough-due (slotCount words) mode repeats n cs [] some in
-              let left : t ≡ afterList mode repeats buffer cs =
-              a .leaves
-              ∙ ap (λ (l : List ℕ). after (fresh mode repeats buffer) (withoutFull cs l)) is
-              ∙ ap (after (fresh mode repeats buffer)) (none-full (slotCount words) mode repeats n cs []) in
-              (is, is ∙ sym (list-answers mode repeats buffer room cs word), left, ap closedImage left);
-        }

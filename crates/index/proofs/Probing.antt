@@ -119,17 +119,17 @@ module _ (words : List ℕ) (h : ℕ) (v : ℕ → Bool) where
   along : (ks : List ℕ) → All (λ (k : ℕ). k < slotCount words) ks → Result ks
   unfolding probeAlong hasMatch firstEmpty
   along [] all = inr (inr (record { is = refl; matching = refl; full = tt }))
-  along (k ∷ ks) all = go (eqb (slotAt words k .at) 0) refl (eqb (slotAt words k .hash) h && v (slotAt words k .at)) refl (along ks (all .1))
+  along (k ∷ ks) all = by-bucket (eqb (slotAt words k .at) 0) refl (eqb (slotAt words k .hash) h && v (slotAt words k .at)) refl (along ks (all .1))
     where
-      go : (t : Bool) → eqb (slotAt words k .at) 0 ≡ t → (u : Bool) → (eqb (slotAt words k .hash) h && v (slotAt words k .at)) ≡ u
+      by-bucket : (t : Bool) → eqb (slotAt words k .at) 0 ≡ t → (u : Bool) → (eqb (slotAt words k .hash) h && v (slotAt words k .at)) ≡ u
           → Result ks → Result (k ∷ ks)
-      go true p u q rest =
+      by-bucket true p u q rest =
           inr (inl (record { below = rw p (all .0); matching = rw p refl; is = rw p refl; some = λ full. full .0 (eqb-true (slotAt words k .at) 0 p) }))
-      go false p true q rest = inl (record { is = rw (p, q) refl; matching = rw (p, q) refl })
-      go false p false q (inl r) = inl (record { is = rw (p, q) (r .is); matching = rw (p, q) (r .matching) })
-      go false p false q (inr (inl r)) =
+      by-bucket false p true q rest = inl (record { is = rw (p, q) refl; matching = rw (p, q) refl })
+      by-bucket false p false q (inl r) = inl (record { is = rw (p, q) (r .is); matching = rw (p, q) (r .matching) })
+      by-bucket false p false q (inr (inl r)) =
           inr (inl (record { below = rw (p, q) (r .below); matching = rw (p, q) (r .matching); is = rw (p, q) (r .is); some = λ full. r .some (full .1) }))
-      go false p false q (inr (inr r)) =
+      by-bucket false p false q (inr (inr r)) =
           inr (inr (record { is = rw (p, q) (r .is); matching = rw (p, q) (r .matching); full = (eqb-false (slotAt words k .at) 0 p, r .full) }))
 
   pub result : Result (slotSequence words h)
@@ -137,12 +137,12 @@ module _ (words : List ℕ) (h : ℕ) (v : ℕ → Bool) where
 
   -- a result below the number of slots is the first empty slot
   pub probe-first : probeSlots words h v < slotCount words → probeSlots words h v ≡ firstEmptySlot words h
-  probe-first l = go result
+  probe-first l = by-result result
     where
-      go : Result (slotSequence words h) → probeSlots words h v ≡ firstEmptySlot words h
-      go (inl o) = absurd (omega (arith, l, o .is))
-      go (inr (inl o)) = o .is
-      go (inr (inr o)) = absurd (omega (arith, l, o .is))
+      by-result : Result (slotSequence words h) → probeSlots words h v ≡ firstEmptySlot words h
+      by-result (inl o) = absurd (omega (arith, l, o .is))
+      by-result (inr (inl o)) = o .is
+      by-result (inr (inr o)) = absurd (omega (arith, l, o .is))
 
 -- ---- a probe that asks for no name
 
@@ -152,9 +152,9 @@ never a = false
 pub never-matches : (b : ℕ → Bucket) (h : ℕ) (ks : List ℕ) → hasMatch b h never ks ≡ false
 unfolding hasMatch
 never-matches b h [] = refl
-never-matches b h (k ∷ ks) = go (eqb (b k .at) 0) (eqb (b k .hash) h) (never-matches b h ks)
+never-matches b h (k ∷ ks) = by-tests (eqb (b k .at) 0) (eqb (b k .hash) h) (never-matches b h ks)
   where
-    go : (p q : Bool) → hasMatch b h never ks ≡ false → cond p false (cond (q && false) true (hasMatch b h never ks)) ≡ false
-    go true q rest = refl
-    go false true rest = rest
-    go false false rest = rest
+    by-tests : (p q : Bool) → hasMatch b h never ks ≡ false → cond p false (cond (q && false) true (hasMatch b h never ks)) ≡ false
+    by-tests true q rest = refl
+    by-tests false true rest = rest
+    by-tests false false rest = rest

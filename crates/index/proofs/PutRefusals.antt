@@ -33,11 +33,11 @@ pub record EarlyPassed (w : CQDBWriter) (buf name : List ℕ) : Type 0 where
 
 pub early-passed : (w : CQDBWriter) (buf name : List ℕ) → earlyRefusal w buf name ≡ 0 → EarlyPassed w buf name
 unfolding earlyRefusal
-early-passed w buf name h = go (inBuffer w buf) (hasZero name) (ltb 4294967294 (length name)) refl refl refl h
+early-passed w buf name h = by-checks (inBuffer w buf) (hasZero name) (ltb 4294967294 (length name)) refl refl refl h
   where
-    go : (b z l : Bool) → inBuffer w buf ≡ b → hasZero name ≡ z → ltb 4294967294 (length name) ≡ l
+    by-checks : (b z l : Bool) → inBuffer w buf ≡ b → hasZero name ≡ z → ltb 4294967294 (length name) ≡ l
         → _≡_ {A = ℕ} (cond (not b) 2 (cond z 13 (cond l 3 0))) 0 → EarlyPassed w buf name
-    go true false false p q r h =
+    by-checks true false false p q r h =
         let same = eqb (w .length) (length buf) in
         let low = leb headSize (w .end) in
         let high = leb (w .end) (w .length) in
@@ -50,9 +50,9 @@ early-passed w buf name h = go (inBuffer w buf) (hasZero name) (ltb 4294967294 (
           zero-free = q;
           short = omega (arith, long);
         }
-    go true false true p q r h = absurd (omega arith)
-    go true true l p q r h = absurd (omega arith)
-    go false z l p q r h = absurd (omega arith)
+    by-checks true false true p q r h = absurd (omega arith)
+    by-checks true true l p q r h = absurd (omega arith)
+    by-checks false z l p q r h = absurd (omega arith)
 
 -- those after it
 pub record LatePassed (w : CQDBWriter) (counts : List ℕ) (n id h : ℕ) : Type 0 where
@@ -62,29 +62,29 @@ pub record LatePassed (w : CQDBWriter) (counts : List ℕ) (n id h : ℕ) : Type
 pub late-passed : (w : CQDBWriter) (counts : List ℕ) (n id h : ℕ) → lateRefusal w counts n id h ≡ 0 → LatePassed w counts n id h
 unfolding lateRefusal
 late-passed w counts n id h e =
-    go (tooLarge (w .length) (finishedSize (writerAfterPut w n id))) (ltb 4294967294 (getD counts (tableOf h) 0)) refl refl e
+    by-checks (tooLarge (w .length) (finishedSize (writerAfterPut w n id))) (ltb 4294967294 (getD counts (tableOf h) 0)) refl refl e
   where
-    go : (t c : Bool) → tooLarge (w .length) (finishedSize (writerAfterPut w n id)) ≡ t → ltb 4294967294 (getD counts (tableOf h) 0) ≡ c
+    by-checks : (t c : Bool) → tooLarge (w .length) (finishedSize (writerAfterPut w n id)) ≡ t → ltb 4294967294 (getD counts (tableOf h) 0) ≡ c
         → _≡_ {A = ℕ} (cond t 3 (cond c 2 0)) 0 → LatePassed w counts n id h
-    go false false p q e =
+    by-checks false false p q e =
         let small = ltb-false 4294967294 (getD counts (tableOf h) 0) q in
         record { fine = p; count = omega (arith, small) }
-    go false true p q e = absurd (omega arith)
-    go true c p q e = absurd (omega arith)
+    by-checks false true p q e = absurd (omega arith)
+    by-checks true c p q e = absurd (omega arith)
 
 -- both
 pub new-passed : (s : State) (e : Entry) (h : ℕ) → newRefusal s e h ≡ 0
     → EarlyPassed (s .writer) (s .buffer) (e .name) × LatePassed (s .writer) (s .counts) (length (e .name)) (e .id) h
-new-passed s e h none = go (eqb (earlyRefusal (s .writer) (s .buffer) (e .name)) 0) refl none
+new-passed s e h none = by-early (eqb (earlyRefusal (s .writer) (s .buffer) (e .name)) 0) refl none
   where
-    go : (b : Bool) → eqb (earlyRefusal (s .writer) (s .buffer) (e .name)) 0 ≡ b
+    by-early : (b : Bool) → eqb (earlyRefusal (s .writer) (s .buffer) (e .name)) 0 ≡ b
         → cond b (lateRefusal (s .writer) (s .counts) (length (e .name)) (e .id) h) (earlyRefusal (s .writer) (s .buffer) (e .name)) ≡ 0
         → EarlyPassed (s .writer) (s .buffer) (e .name) × LatePassed (s .writer) (s .counts) (length (e .name)) (e .id) h
-    go true p z = (
+    by-early true p z = (
       early-passed (s .writer) (s .buffer) (e .name) (eqb-true (earlyRefusal (s .writer) (s .buffer) (e .name)) 0 p),
       late-passed (s .writer) (s .counts) (length (e .name)) (e .id) h z,
     )
-    go false p z = absurd (eqb-false (earlyRefusal (s .writer) (s .buffer) (e .name)) 0 p z)
+    by-early false p z = absurd (eqb-false (earlyRefusal (s .writer) (s .buffer) (e .name)) 0 p z)
 
 -- ---- a record that closes
 
@@ -111,11 +111,11 @@ module _ {s : State} (closable : Closable s) (e : Entry) where
 
   late-by-size : (h : ℕ) → lateRefusal w (s .counts) (length (e .name)) (e .id) h ≡ cond large 3 0
   unfolding lateRefusal writerAfterEntry
-  late-by-size h = go large refl
+  late-by-size h = by-size large refl
     where
-      go : (t : Bool) → large ≡ t → _≡_ {A = ℕ} (cond t 3 (cond (ltb 4294967294 (getD (s .counts) (tableOf h) 0)) 2 0)) (cond t 3 0)
-      go true p = refl
-      go false p =
+      by-size : (t : Bool) → large ≡ t → _≡_ {A = ℕ} (cond t 3 (cond (ltb 4294967294 (getD (s .counts) (tableOf h) 0)) 2 0)) (cond t 3 0)
+      by-size true p = refl
+      by-size false p =
           let few = count-small w (s .counts) (s .buffer) (length (e .name)) (e .id) (a .fit) p h in
           ap (λ (b : Bool). cond {A = ℕ} b 2 0) (le-ltb 4294967294 (getD (s .counts) (tableOf h) 0) (omega (arith, few)))
 
@@ -123,15 +123,15 @@ module _ {s : State} (closable : Closable s) (e : Entry) where
   pub early-due : (4294967295 ≤ length (e .name) → repeated s (e .name) ≡ false) → (earlyRefusal (s .writer) (s .buffer) (e .name) ≡ 0 → ⊥)
       → earlyRefusal (s .writer) (s .buffer) (e .name) ≡ putRefusal s e
   early-due absent some =
-      early-by-name ∙ go (hasZero (e .name)) (ltb 4294967294 (length (e .name))) refl (λ z. some (early-by-name ∙ z)) ∙ sym by-name
+      early-by-name ∙ by-name-checks (hasZero (e .name)) (ltb 4294967294 (length (e .name))) refl (λ z. some (early-by-name ∙ z)) ∙ sym by-name
     where
-      go : (z l : Bool) → ltb 4294967294 (length (e .name)) ≡ l → (_≡_ {A = ℕ} (cond z 13 (cond l 3 0)) 0 → ⊥)
+      by-name-checks : (z l : Bool) → ltb 4294967294 (length (e .name)) ≡ l → (_≡_ {A = ℕ} (cond z 13 (cond l 3 0)) 0 → ⊥)
           → _≡_ {A = ℕ} (cond z 13 (cond l 3 0)) (cond z 13 (cond (repeated s (e .name)) 16 (cond large 3 0)))
-      go true l p n = refl
-      go false true p n =
+      by-name-checks true l p n = refl
+      by-name-checks false true p n =
           let long = ltb-true 4294967294 (length (e .name)) p in
           rw (absent (omega (arith, long)), long-name w (e .name) (e .id) (omega (arith, long))) refl
-      go false false p n = absurd (n refl)
+      by-name-checks false false p n = absurd (n refl)
 
   module _ (free : hasZero (e .name) ≡ false) where
     pub duplicate-due : repeated s (e .name) ≡ true → 16 ≡ putRefusal s e
@@ -142,12 +142,12 @@ module _ {s : State} (closable : Closable s) (e : Entry) where
 
   -- a put whose name is no duplicate
   pub new-due : (h : ℕ) → repeated s (e .name) ≡ false → newRefusal s e h ≡ putRefusal s e
-  new-due h r = go (eqb (earlyRefusal w (s .buffer) (e .name)) 0) refl
+  new-due h r = by-early (eqb (earlyRefusal w (s .buffer) (e .name)) 0) refl
     where
-      go : (b : Bool) → eqb (earlyRefusal w (s .buffer) (e .name)) 0 ≡ b
+      by-early : (b : Bool) → eqb (earlyRefusal w (s .buffer) (e .name)) 0 ≡ b
           → cond b (lateRefusal w (s .counts) (length (e .name)) (e .id) h) (earlyRefusal w (s .buffer) (e .name)) ≡ putRefusal s e
-      go true p = late-due (early-passed w (s .buffer) (e .name) (eqb-true (earlyRefusal w (s .buffer) (e .name)) 0 p) .zero-free) h r
-      go false p = early-due (λ long. r) (eqb-false (earlyRefusal w (s .buffer) (e .name)) 0 p)
+      by-early true p = late-due (early-passed w (s .buffer) (e .name) (eqb-true (earlyRefusal w (s .buffer) (e .name)) 0 p) .zero-free) h r
+      by-early false p = early-due (λ long. r) (eqb-false (earlyRefusal w (s .buffer) (e .name)) 0 p)
 
 -- ---- by an index
 
@@ -171,11 +171,11 @@ module _ (stored : ℕ) (s : State) (words : List ℕ) (e : Entry) where
 
   -- an accepted put by the index is an accepted put
   pub none-refused : 0 ≡ refusalBy stored s words e → (putRefusal s e ≡ 0) × (stored < slotCount words)
-  none-refused p = go (eqb (putRefusal s e) 0) refl (leb (slotCount words) stored) refl p
+  none-refused p = by-tests (eqb (putRefusal s e) 0) refl (leb (slotCount words) stored) refl p
     where
-      go : (a : Bool) → eqb (putRefusal s e) 0 ≡ a → (b : Bool) → leb (slotCount words) stored ≡ b
+      by-tests : (a : Bool) → eqb (putRefusal s e) 0 ≡ a → (b : Bool) → leb (slotCount words) stored ≡ b
           → _≡_ {A = ℕ} 0 (cond (a && b) 24 (putRefusal s e))
           → (putRefusal s e ≡ 0) × (stored < slotCount words)
-      go true q true r z = absurd (omega arith)
-      go true q false r z = (eqb-true (putRefusal s e) 0 q, leb-false (slotCount words) stored r)
-      go false q b r z = absurd (eqb-false (putRefusal s e) 0 q (sym z))
+      by-tests true q true r z = absurd (omega arith)
+      by-tests true q false r z = (eqb-true (putRefusal s e) 0 q, leb-false (slotCount words) stored r)
+      by-tests false q b r z = absurd (eqb-false (putRefusal s e) 0 q (sym z))

@@ -127,11 +127,11 @@ module _ {s : State} (bytes : AllBytes (s .buffer)) (closable : Closable s) (e :
 module _ {s : State} (bytes : AllBytes (s .buffer)) (closable : Closable s) (e : Entry) (word : e .id < 2 ^ 32) where
   either : (P : State → Type 0) → P s → (putRefusal s e ≡ 0 → P (appended s e)) → P (afterPut s e)
   unfolding afterPut
-  either P same more = go (eqb (putRefusal s e) 0) refl
+  either P same more = by-answer (eqb (putRefusal s e) 0) refl
     where
-      go : (b : Bool) → eqb (putRefusal s e) 0 ≡ b → P (cond b (appended s e) s)
-      go true p = more (eqb-true (putRefusal s e) 0 p)
-      go false p = same
+      by-answer : (b : Bool) → eqb (putRefusal s e) 0 ≡ b → P (cond b (appended s e) s)
+      by-answer true p = more (eqb-true (putRefusal s e) 0 p)
+      by-answer false p = same
 
   pub closable-put : Closable (afterPut s e)
   closable-put = either Closable closable (closable-after bytes closable e word)

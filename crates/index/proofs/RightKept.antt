@@ -65,6 +65,13 @@ part-fresh from mode repeats buffer words room clear =
           (right .slots);
     }
 
+-- where the entries stand in a longer buffer
+pub right-moved : {s : State} {words : List ℕ} {mode : Mode} {repeats : Repeats} {n : ℕ} {es : List Entry} → Right s words
+    → Written mode repeats n es s → (longer : List ℕ) → Longer longer s → Right (movedTo longer s) words
+right-moved {s} {words} {mode} {repeats} {n} {es} right w longer l =
+    subst (λ (x : CQDBWriter). Right (stateWith x (s .counts) longer) words) (longer-accepted (s .writer) (length longer) (l .long) .1)
+    (right-written right (written-recorded mode repeats n es s w) (w .entries) (written-there mode repeats n es s w longer l))
+
 module _ (s : State) (words : List ℕ) (bytes : AllBytes (s .buffer)) (right : Right s words) where
   was : Written (s .writer .mode) (s .writer .repeats) (s .writer .length) (recorded s) s
   was = written s bytes (right .closes) (right .tables)
@@ -74,10 +81,7 @@ module _ (s : State) (words : List ℕ) (bytes : AllBytes (s .buffer)) (right : 
       right-written right refl (was .entries) (close-written (s .writer .mode) (s .writer .repeats) (s .writer .length) (recorded s) s was)
 
   right-longer : (longer : List ℕ) → Longer longer s → Right (movedTo longer s) words
-  right-longer longer l =
-      subst (λ (w : CQDBWriter). Right (stateWith w (s .counts) longer) words) (longer-accepted (s .writer) (length longer) (l .long) .1)
-      (right-written right refl (was .entries)
-      (written-there (s .writer .mode) (s .writer .repeats) (s .writer .length) (recorded s) s was longer l))
+  right-longer longer l = right-moved right was longer l
 
 pub kept-right : KeptRight
 kept-right =

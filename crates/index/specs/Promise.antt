@@ -29,4 +29,5 @@ pub record Indexed (s : State) (words : List ℕ) (refusal : ℕ) (words′ : Li
   pub answer : refusal ≡ indexRefusal s words
   pub refused : (refusal ≡ 0 → ⊥) → words′ ≡ words
   pub right : refusal ≡ 0 → length (s .counts) ≡ 256 → Right s words′
+  pub long : length words′ ≡ length words
   pub last : (i : ℕ) → 2 * slotCount words ≤ i → getD words′ i 0 ≡ getD words i 0

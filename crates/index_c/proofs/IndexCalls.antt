@@ -127,14 +127,14 @@ module _ (h : CState) {words : List ℕ} {e : Entry} {v w' : CQDBWriter} {counts
 
   stay : Stay w'
   unfolding appended writerAfterEntry
-  stay = go (eqb k 0) refl
+  stay = by-answer (eqb k 0) refl
     where
       stays : (s : State) → stateWith w' counts buffer ≡ s → Stay (s .writer) → Stay w'
       stays s e = subst (λ (t : State). Stay (t .writer)) (sym e)
 
-      go : (b : Bool) → eqb k 0 ≡ b → Stay w'
-      go true x = stays _ (given .accepted (eqb-true k 0 x) .0) (record { modes = refl; choices = refl; lengths = refl })
-      go false x = stays _ (given .refused (eqb-false k 0 x) .0) (record { modes = refl; choices = refl; lengths = refl })
+      by-answer : (b : Bool) → eqb k 0 ≡ b → Stay w'
+      by-answer true x = stays _ (given .accepted (eqb-true k 0 x) .0) (record { modes = refl; choices = refl; lengths = refl })
+      by-answer false x = stays _ (given .refused (eqb-false k 0 x) .0) (record { modes = refl; choices = refl; lengths = refl })
 
   known-back : recordOf (writerOf (h .writer)) ≡ h .writer
   known-back = ap (λ (x : CState). x .writer) (back-and-forth h fine)
@@ -162,6 +162,7 @@ index-unknown h words over =
       answer = is;
       refused = λ n. refl;
       right = λ z. absurd (omega (arith, z));
+      long = refl;
       last = λ i l. refl;
     }
   where
@@ -183,6 +184,7 @@ module _ (h : CState) {words words′ : List ℕ} {v : CQDBWriter} {k : ℕ} (fi
         answer = index-is;
         refused = q .refused;
         right = λ z tables. record { known = fine; index = q .right z tables };
+        long = q .long;
         last = q .last;
       }
 

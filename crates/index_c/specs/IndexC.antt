@@ -70,4 +70,5 @@ pub record IndexedHeld (h : CState) (words : List ℕ) (refusal : ℕ) (words′
   pub answer : refusal ≡ indexNumber h words
   pub refused : (refusal ≡ 0 → ⊥) → words′ ≡ words
   pub right : refusal ≡ 0 → length (h .counts) ≡ 256 → RightHeld h words′
+  pub long : length words′ ≡ length words
   pub last : (i : ℕ) → 2 * slotCount words ≤ i → getD words′ i 0 ≡ getD words i 0

@@ -72,9 +72,8 @@ hashed c = begun c .pre .hash (passed (early c) .short)
 probed : (c : tie.After-probe) → let s = begun c in c .probe .result ≡ probedFor (S s) (s .args .slots .now) (E s)
 probed c =
     let s = begun c in
-    c .probe .ensures
-    ∙ ap (λ (h : ℕ). probeSlots (s .args .slots .now) h (duplicateAt (refusesRepeats (S s .writer .repeats)) (take (S s .writer .end) (S s .buffer)) (E s .name)))
-    (hashed c)
+    let duplicate = duplicateAt (refusesRepeats (S s .writer .repeats)) (take (S s .writer .end) (S s .buffer)) (E s .name) in
+    c .probe .ensures ∙ ap (λ (h : ℕ). probeSlots (s .args .slots .now) h duplicate) (hashed c)
 
 returns-2 : tie.Need-returns-2
 returns-2 c =

@@ -22,7 +22,8 @@ returns c =
     let early = earlyRefusal (a .w) (a .buf .now) (a .name .now) in
     let is = c .before .early-refusal .ensures in
     is
-    ∙ sym (ap (λ (b : Bool). cond b (lateRefusal (a .w) (a .counts .now) (length (a .name .now)) (a .id) (a .facts .hash)) early) (ne-eqb early 0 (λ z. c .if1 .taken (is ∙ z))))
+    ∙ sym (ap (λ (b : Bool). cond b (lateRefusal (a .w) (a .counts .now) (length (a .name .now)) (a .id) (a .facts .hash)) early)
+    (ne-eqb early 0 (λ z. c .if1 .taken (is ∙ z))))
 
 late-refusal-requires : tie.Need-late-refusal-requires
 late-refusal-requires c κs =
@@ -36,7 +37,8 @@ returns-2 c =
     let a = start (c .before .before) .args in
     let early = earlyRefusal (a .w) (a .buf .now) (a .name .now) in
     c .late-refusal .ensures
-    ∙ sym (ap (λ (b : Bool). cond b (lateRefusal (a .w) (a .counts .now) (length (a .name .now)) (a .id) (a .facts .hash)) early) (eq-eqb early 0 (none (c .before))))
+    ∙ sym (ap (λ (b : Bool). cond b (lateRefusal (a .w) (a .counts .now) (length (a .name .now)) (a .id) (a .facts .hash)) early)
+    (eq-eqb early 0 (none (c .before))))
 
 pub new-refusal-spec : {M : Type 1} → statement M
 new-refusal-spec = tie.close (tie.spec (λ c κs. search needs) returns late-refusal-requires returns-2)
