@@ -14,7 +14,7 @@ from cqdb.entries import first_puts, id_at, name_at
 from cqdb.ids import Ids
 from cqdb.library import calls
 from cqdb.memory import Image, Path, mapped
-from cqdb.names import Bytes, Name, Text, id_number, plain
+from cqdb.names import NAMES, Bytes, Name, Text, id_number, plain
 from cqdb.one_to_one import OneToOne, first_mismatch
 from cqdb.pickles import digest, from_bytes, from_file
 from cqdb.refusal import accept
@@ -135,7 +135,7 @@ class Catalogue(Mapping[str, int]):
     def _find(self, name: Any) -> Optional[int]:
         """The id of a name; None where it has none, and for what is no name."""
         image = self._lent()
-        if not isinstance(name, (str, bytes, bytearray, memoryview)):
+        if not isinstance(name, NAMES):
             # As a dict does, which takes any key that can be hashed.
             hash(name)
             return None
@@ -217,7 +217,7 @@ class Catalogue(Mapping[str, int]):
         [1, None, 0]
         """
         image = self._lent()
-        if isinstance(names, (str, bytes, bytearray, memoryview)):
+        if isinstance(names, NAMES):
             raise TypeError("round takes several names, not one")
         wanted = [self._text.encode(name) for name in names]
         found: List[Optional[int]] = []

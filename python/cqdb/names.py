@@ -7,6 +7,7 @@ from typing import Any, Union
 
 Bytes = Union[bytes, bytearray, memoryview]
 Name = Union[str, bytes, bytearray, memoryview]
+NAMES = (str, bytes, bytearray, memoryview)
 
 LAST_ID = 4_294_967_295
 
@@ -44,10 +45,10 @@ class Text:
     def encode(self, name: Name) -> bytes:
         """The bytes of a name that is text or bytes."""
         if isinstance(name, str):
-            return plain(str.encode(name, self.encoding, self.errors))
-        if isinstance(name, (bytes, bytearray, memoryview)):
-            return plain(name)
-        raise TypeError(f"a name is str or bytes, not {type(name).__name__}")
+            name = str.encode(name, self.encoding, self.errors)
+        elif not isinstance(name, NAMES):
+            raise TypeError(f"a name is str or bytes, not {type(name).__name__}")
+        return name if type(name) is bytes else plain(name)
 
     def decode(self, name: bytes) -> str:
         """The text of a name's bytes."""
