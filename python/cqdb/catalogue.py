@@ -139,7 +139,11 @@ class Catalogue(Mapping[str, int]):
             # As a dict does, which takes any key that can be hashed.
             hash(name)
             return None
-        wanted = self._text.encode(name)
+        try:
+            wanted = self._text.encode(name)
+        except UnicodeError:
+            # No bytes are this text, so no name is.
+            return None
         answer = calls.cqdb_to_id(image, len(image), wanted, len(wanted))
         return answer.id if answer.found else None
 

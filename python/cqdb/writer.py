@@ -42,14 +42,17 @@ class Writer:
 
     With `one_way` the image names no ids. With `repeats` a name may be put again, as for a prism that is renewed under another
     id; otherwise that is refused. A put takes the same time however many names the writer holds; `cqdb.build` takes a whole list
-    in one call. Threads may put in turn. A writer is neither copied nor pickled: its image is what others are given.
+    in one call. Threads may put in turn, and the handler of a signal may close a writer, but not put. A writer is neither copied nor
+    pickled: its image is what others are given.
     """
 
     def __init__(
         self, *, one_way: bool = False, repeats: bool = False, encoding: str = "utf-8", errors: str = "surrogateescape"
     ) -> None:
         self._text = Text(encoding, errors)
-        self._lock = threading.Lock()
+        # A signal's handler runs inside a call of its thread, so the thread may take the lock again.
+        self._lock = threading.RLock()
+        self._busy = False
         mode, again = choice("one_way", one_way), choice("repeats", repeats)
         # Words that are all 0 are the index of a writer without entries.
         self._held = _Held(Record(), Counts(), zeros(FIRST_LENGTH), _words(FIRST_NAMES), FIRST_NAMES)
@@ -77,9 +80,15 @@ class Writer:
         """
         encoded, number = self._text.encode(name), id_number(id)
         with self._lock:
-            refusal = self._put(encoded, number)
-            if refusal == Refusal.NO_ROOM and self._grow(len(encoded), number):
+            if self._busy:
+                raise RuntimeError("a call of this writer is under way: a signal's handler may close it, but not put")
+            try:
+                self._busy = True
                 refusal = self._put(encoded, number)
+                if refusal == Refusal.NO_ROOM and self._grow(len(encoded), number):
+                    refusal = self._put(encoded, number)
+            finally:
+                self._busy = False
         accept(refusal)
 
     def _put(self, name: bytes, id: int) -> int:
@@ -114,10 +123,14 @@ class Writer:
     def close(self) -> bytes:
         """The image of the names so far. Further names may be put, and it may be closed again."""
         with self._lock:
-            held = self._held
-            answer = calls.cqdb_close_parts(held.record, held.counts, held.buffer, len(held.buffer))
-            accept(answer.refusal)
-            return held.buffer[: answer.size]
+            busy, held = self._busy, self._held
+            try:
+                self._busy = True
+                answer = calls.cqdb_close_parts(held.record, held.counts, held.buffer, len(held.buffer))
+                accept(answer.refusal)
+                return held.buffer[: answer.size]
+            finally:
+                self._busy = busy
 
     def write(self, path: Path) -> int:
         """Closes, and writes the image to a file, whose size it gives. A reader sees the old file or the new one, never a part;

@@ -120,6 +120,33 @@ class Interrupted(unittest.TestCase):
                 writer = cqdb.Writer(repeats=number % 2 == 1)
         self.assertGreater(stopped, 500)
 
+    def test_a_handler_that_closes_or_puts(self) -> None:
+        saved, refused = [], 0
+        writer = cqdb.Writer()
+
+        def save(*_: Any) -> None:
+            nonlocal refused
+            saved.append(writer.close())
+            try:
+                writer.put(b"handler %d" % len(saved), 7)
+            except RuntimeError as error:
+                self.assertIn("under way", str(error))
+                refused += 1
+
+        before = signal.signal(signal.SIGALRM, save)
+        self.addCleanup(signal.signal, signal.SIGALRM, before)
+        signal.setitimer(signal.ITIMER_REAL, 1e-4, 1e-4)
+        number, end = 0, time.monotonic() + 20
+        while (refused < 5 or len(saved) < 50) and time.monotonic() < end:
+            writer.put(f"prism {number}", number % 4_000)
+            number += 1
+            if number % 50 == 0:
+                self.assertTrue(cqdb.Catalogue(writer.close()).check().canonical)
+        signal.setitimer(signal.ITIMER_REAL, 0)
+        self.assertGreater(refused, 0)
+        self.assertTrue(all(cqdb.Catalogue(image).check().canonical for image in saved[-50:]))
+        self.assertEqual(len(writer), number + len(saved) - refused)
+
     def test_at_every_line(self) -> None:
         """Line by line of the functions that change the writer, with a put that makes buffer and index anew."""
 

@@ -69,7 +69,7 @@ class Beside(unittest.TestCase):
     def test_names_and_ids(self) -> None:
         for entries in ([], PRISMS, many(2_000), RENEWED):
             catalogue = cqdb.Catalogue(image_of(entries, repeats=True))
-            self.same(catalogue, by_name(entries), ["nobody", b"nobody", 1, None, 2.5, (1, 2)])
+            self.same(catalogue, by_name(entries), ["nobody", b"nobody", "\ud800", 1, None, 2.5, (1, 2)])
             self.equal(catalogue, by_name(entries))
             self.same(catalogue.ids, by_id(entries), ["crane", -1, 5_000, 2**32, 2**40, None, 2.5])
             self.equal(catalogue.ids, by_id(entries))
